@@ -1,0 +1,4 @@
+pub mod ReadBack
+pub mod DigitLemmas
+pub mod EntryLemmas
+mod Examples

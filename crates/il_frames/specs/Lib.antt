@@ -1,0 +1,5 @@
+pub mod Frames
+pub mod Messages
+pub mod Texts
+pub mod Names
+pub mod Entries

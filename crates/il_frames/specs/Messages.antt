@@ -1,0 +1,85 @@
+-- The messages of command and ready frames, as the two tables of the HP-IL Interface Specification,
+-- HP 82166-90017, print them.
+use Rattle.std.specs.Prelude.{ℕ, ◌+◌, ◌-◌, ◌&&◌, ◌==◌, if◌then◌else◌, nat_lt, nat_le, List, [], ◌∷◌}
+use Rattle.il_frames.specs.declared.frame.Class.{Class}
+use Rattle.il_frames.specs.declared.frame.Class.TheVariants as class
+use Rattle.il_frames.specs.declared.frame.Frame.{Frame}
+use Rattle.il_frames.specs.declared.message.Message.{Message}
+use Rattle.il_frames.specs.declared.message.Message.TheVariants as msg
+use Rattle.il_frames.specs.Frames.{class_of, byte_of}
+
+-- a row of a table: a byte and its message; or a first byte, how many bytes from there on, and the
+-- message of each, which carries the byte's place among them, from 0
+pub data Row : Type 0 where
+  One : ℕ → Message → Row
+  Group : ℕ → ℕ → (ℕ → Message) → Row
+
+-- the commands
+abbrev pub commands : List Row
+commands =
+    One 0x00 msg.Nul
+    ∷ One 0x01 msg.Gtl
+    ∷ One 0x04 msg.Sdc
+    ∷ One 0x05 msg.Ppd
+    ∷ One 0x08 msg.Get
+    ∷ One 0x0F msg.Eln
+    ∷ One 0x10 msg.Nop
+    ∷ One 0x11 msg.Llo
+    ∷ One 0x14 msg.Dcl
+    ∷ One 0x15 msg.Ppu
+    ∷ One 0x18 msg.Ear
+    ∷ Group 0x20 31 msg.Lad
+    ∷ One 0x3F msg.Unl
+    ∷ Group 0x40 31 msg.Tad
+    ∷ One 0x5F msg.Unt
+    ∷ Group 0x60 31 msg.Sad
+    ∷ Group 0x80 16 msg.Ppe
+    ∷ One 0x90 msg.Ifc
+    ∷ One 0x92 msg.Ren
+    ∷ One 0x93 msg.Nre
+    ∷ One 0x9A msg.Aau
+    ∷ One 0x9B msg.Lpd
+    ∷ Group 0xA0 32 msg.Ddl
+    ∷ Group 0xC0 32 msg.Ddt
+    ∷ []
+
+-- the ready messages
+abbrev pub ready_messages : List Row
+ready_messages =
+    One 0x00 msg.Rfc
+    ∷ One 0x40 msg.Eto
+    ∷ One 0x41 msg.Ete
+    ∷ One 0x42 msg.Nrd
+    ∷ One 0x60 msg.Sda
+    ∷ One 0x61 msg.Sst
+    ∷ One 0x62 msg.Sdi
+    ∷ One 0x63 msg.Sai
+    ∷ One 0x64 msg.Tct
+    ∷ Group 0x80 31 msg.Aad
+    ∷ One 0x9F msg.Iaa
+    ∷ []
+
+-- the message of the row that has the byte, or the last argument at the byte where no row has it
+abbrev pub message_in : List Row → ℕ → (ℕ → Message) → Message
+message_in [] byte other = other byte
+message_in (One at message ∷ rows) byte other =
+    if byte == at then message else message_in rows byte other
+message_in (Group first count message ∷ rows) byte other =
+    if nat_le first byte && nat_lt byte (first + count) then message (byte - first)
+    else message_in rows byte other
+
+-- the message of a class and a byte: data and identify frames carry their byte, and so do commands
+-- and ready frames that have no row
+abbrev pub message_at : Class → ℕ → Message
+message_at class.Dab byte = msg.Dab byte
+message_at class.Dsr byte = msg.Dsr byte
+message_at class.End byte = msg.End byte
+message_at class.Esr byte = msg.Esr byte
+message_at class.Cmd byte = message_in commands byte msg.OtherCmd
+message_at class.Rdy byte = message_in ready_messages byte msg.OtherRdy
+message_at class.Idy byte = msg.Idy byte
+message_at class.Isr byte = msg.Isr byte
+
+-- what a frame says
+abbrev pub message_of : Frame → Message
+message_of f = message_at (class_of f) (byte_of f)
