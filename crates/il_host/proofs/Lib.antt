@@ -1,0 +1,12 @@
+pub mod Cuts
+pub mod Scans
+pub mod Gives
+pub mod Falls
+pub mod Digits
+pub mod Spaces
+pub mod Known
+pub mod Runs
+pub mod Dir
+pub mod Wholes
+pub mod Listings
+pub mod Answered

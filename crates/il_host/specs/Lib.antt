@@ -1,0 +1,15 @@
+pub mod Cut
+pub mod Told
+pub mod Progress
+pub mod Sheet
+pub mod Listing
+pub mod Replies
+pub mod Items
+pub mod Events
+pub mod Writing
+pub mod Run
+pub mod Words
+pub mod Entries
+pub mod Reading
+pub mod HostView
+pub mod Whole

@@ -1,0 +1,4 @@
+pub mod Images
+pub mod Shelves
+pub mod Fronts
+pub mod Examples

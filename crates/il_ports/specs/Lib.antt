@@ -1,0 +1,9 @@
+pub mod Taking
+pub mod Inserting
+pub mod Trouble
+pub mod Counted
+pub mod MemoryStream
+pub mod Drive
+pub mod InDrive
+pub mod MemoryMedium
+pub mod FileMedium

@@ -1,0 +1,22 @@
+//! The outside of the program: where bytes come from and go to, a medium with its tape, and what the volume sees
+//! of a tape. Each port counts its faults.
+#![tactic(auto)]
+
+mod adapters;
+mod file_medium;
+mod image;
+mod medium;
+mod memory_medium;
+mod memory_stream;
+mod records;
+mod stream;
+#[cfg(test)]
+mod tests;
+
+pub use adapters::{StdSink, StdSource};
+pub use file_medium::FileMedium;
+pub use medium::{Inserted, Medium};
+pub use memory_medium::MemoryMedium;
+pub use memory_stream::{MemorySink, MemorySource};
+pub use records::{Records, Trouble};
+pub use stream::{Failed, Sink, Source};

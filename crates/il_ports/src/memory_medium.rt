@@ -1,0 +1,274 @@
+ghost use Rattle.std.specs.Prelude.{◌≡◌, ◌<◌, ◌≤◌, ℕ, [], length, get_or, vec_len, MatchOption, Some, None};
+ghost use Rattle.std.specs.Vec.{vec_capacity};
+ghost use Rattle.std.specs.String.{string_capacity};
+ghost use Rattle.lif_model.specs.Shelf.{image_of, cassette_records};
+ghost use Rattle.il_ports.specs.Drive.{images_of, place_of, IsOffer, longest_name};
+
+use crate::image::{self, lay_in};
+use crate::medium::{Inserted, Medium};
+use crate::stream::Failed;
+use std::alloc::{AllocError, Global};
+
+const LONGEST_NAME: usize = 4096;
+
+// Which image is in the drive.
+#[derive(Clone, Copy)]
+enum Drive {
+    Empty,
+    /// The one at this place of the shelf.
+    Shelved(usize),
+    /// One that was made.
+    Made,
+}
+
+// What an insert finds.
+enum Offer<'a> {
+    /// An image, its place on the shelf and its bytes.
+    Take(usize, &'a [u8]),
+    /// An image with too many bytes.
+    BadSize(u64),
+    NoSuch,
+    /// No image, but one is to be made.
+    Make,
+    /// The same, and its name is too long.
+    TooLong,
+}
+
+// The place and the bytes of the first image of that name.
+fn find<'a>(images: &'a [(String, Vec<u8>)], name: &str) -> Option<(usize, &'a [u8])>
+    ensures place { MatchOption result (place_of name.now (images_of images.now) ≡ None)
+        (λ found. place_of name.now (images_of images.now) ≡ Some found.0) }
+    ensures bytes { MatchOption result (image_of name.now (images_of images.now) ≡ None)
+        (λ found. image_of name.now (images_of images.now) ≡ Some found.1.now) }
+{
+    for (place, image) in images.iter().enumerate() {
+        if image.0.as_str() == name {
+            return Some((place, &image.1));
+        }
+    }
+    None
+}
+
+fn offered<'a>(images: &'a [(String, Vec<u8>)], name: &str, new: bool) -> Offer<'a>
+    ensures { IsOffer name.now new (images_of images.now) result }
+{
+    match find(images, name) {
+        Some((_, bytes)) if bytes.len() > image::BYTES => Offer::BadSize(bytes.len() as u64),
+        Some((place, bytes)) => Offer::Take(place, bytes),
+        None if !new => Offer::NoSuch,
+        None if name.len() > LONGEST_NAME => Offer::TooLong,
+        None => Offer::Make,
+    }
+}
+
+/// A shelf in memory, with a drive. Calls of each kind are counted from 1; those that the lists name fail. So does
+/// an insert that would make an image with a name of more than 4,096 bytes.
+#[derive(Drop)]
+pub struct MemoryMedium {
+    images: Vec<(String, Vec<u8>)>,
+    drive: Drive,
+    // The name of the image that was made, in room that was reserved.
+    made: String,
+    // What the tape holds while one is in the drive.
+    tape: Vec<[u8; 256]>,
+    reads: Vec<u64>,
+    writes: Vec<(u64, [u8; 256])>,
+    inserts: Vec<u64>,
+    reads_made: u64,
+    writes_made: u64,
+    inserts_made: u64,
+    faults: u64,
+    // Every write, in room that was reserved.
+    history: Vec<(u16, [u8; 256])>,
+    room: usize,
+    ghost size: { length tape.items ≡ cassette_records },
+    ghost shaped: { (k : ℕ) → k < length tape.items → length (get_or tape.items k []) ≡ 256 },
+    ghost name_room: { longest_name ≤ string_capacity made },
+    ghost history_room: { (vec_len history ≤ room) × (room ≤ vec_capacity history) },
+}
+
+impl MemoryMedium {
+    ghost use Rattle.std.specs.Prelude.{◌≡◌, [], IfOk, None, string_bytes};
+    ghost use Rattle.std.specs.Option.{option_copied};
+    ghost use Rattle.lif_model.specs.Shelf.{image_of};
+    ghost use Rattle.il_ports.specs.Drive.{images_of, is_made, is_inside};
+    ghost use Rattle.il_ports.specs.MemoryMedium.{state_of};
+
+    /// A medium with these images, the first of each name counting, and no tape in the drive. `reads` and `inserts`
+    /// list the calls that fail, `writes` the calls that fail and what they leave. There is room for `room` writes.
+    /// All memory is taken here: a blank tape, the room for the writes, and room for a made image's name of 4,096
+    /// bytes.
+    pub fn new(
+        alloc: Global,
+        shelf: Vec<(String, Vec<u8>)>,
+        reads: Vec<u64>,
+        writes: Vec<(u64, [u8; 256])>,
+        inserts: Vec<u64>,
+        room: usize,
+    ) -> Result<MemoryMedium, AllocError>
+        ensures { IfOk result (λ m. state_of m ≡ record {
+          shelf = images_of shelf.items;
+          tape = None;
+          reads = reads.items;
+          writes = writes.items;
+          inserts = inserts.items;
+          reads_made = 0;
+          writes_made = 0;
+          inserts_made = 0;
+          faults = 0;
+          history = [];
+          room = room;
+        }) }
+    {
+        let made = String::with_capacity(alloc, LONGEST_NAME)?;
+        let history = Vec::with_capacity(alloc, room)?;
+        let mut tape = vec![in alloc; [0; 256]; image::RECORDS]?;
+        lay_in(&[], &mut tape);
+        Ok(MemoryMedium {
+            images: shelf,
+            drive: Drive::Empty,
+            made,
+            tape,
+            reads,
+            writes,
+            inserts,
+            reads_made: 0,
+            writes_made: 0,
+            inserts_made: 0,
+            faults: 0,
+            history,
+            room,
+        })
+    }
+
+    /// The bytes of the first image of that name, for the one in the drive those of its tape. None comes exactly
+    /// where there is no such image.
+    pub fn image(&self, name: &str) -> Option<&[u8]>
+        ensures { option_copied result ≡ image_of name.now (state_of self.now).shelf }
+    {
+        if self.has_made(name) {
+            return Some(self.tape.as_flattened());
+        }
+        let (place, bytes) = find(&self.images, name)?;
+        if self.has_inside(place) {
+            return Some(self.tape.as_flattened());
+        }
+        Some(bytes)
+    }
+
+    // Whether an image of that name was made. It is in the drive.
+    fn has_made(&self, name: &str) -> bool
+        ensures { result ≡ is_made self.now.drive (string_bytes self.now.made) name.now }
+    {
+        match self.drive {
+            Drive::Made => self.made.as_str() == name,
+            Drive::Empty | Drive::Shelved(_) => false,
+        }
+    }
+
+    // Whether the image at that place of the shelf is in the drive.
+    fn has_inside(&self, place: usize) -> bool
+        ensures { result ≡ is_inside self.now.drive place }
+    {
+        match self.drive {
+            Drive::Shelved(inside) => inside == place,
+            Drive::Empty | Drive::Made => false,
+        }
+    }
+}
+
+impl Medium for MemoryMedium {
+    ghost use Rattle.std.specs.Prelude.{◌≡◌, ◌<◌, ◌↔◌, ◌⊎◌, ℕ, Some, None, true, length, is_some, Contains, IsErr};
+    ghost use Rattle.lif_model.specs.Tape.{DidRead};
+    ghost use Rattle.lif_model.specs.Shelf.{image_of};
+    ghost use Rattle.lif_model.specs.Causes.{HasCause, next_count};
+    ghost use Rattle.il_ports.specs.Inserting.{DidInsert, IsSize};
+    ghost use Rattle.il_ports.specs.Counted.{faults_after};
+    ghost use Rattle.il_ports.specs.Drive.{records_in, longest_name};
+    ghost use Rattle.il_ports.specs.MemoryMedium.{state_of};
+    ghost use Rattle.il_ports.specs.InDrive.{tape_is};
+
+    ghost shelf = { λ m. Some (state_of m).shelf };
+
+    ghost tape = { λ m. (state_of m).tape };
+
+    ghost record_count = { λ m. records_in (state_of m).tape };
+
+    ghost faults = { λ m. (state_of m).faults };
+
+    ghost is_tape = { λ m t is. tape_is m.drive m.tape.items m.shaped t is };
+
+    fn insert(&mut self, name: &str, new: bool) -> Result<Inserted, Failed>
+        requires { records_in (state_of self.old).tape ≡ 0 }
+        ensures answer { DidInsert name.now new (Some (state_of self.old).shelf) (Some (state_of self.new).shelf)
+            (state_of self.new).tape (records_in (state_of self.new).tape) result }
+        ensures told { is_some (Some (state_of self.new).shelf) ≡ is_some (Some (state_of self.old).shelf) }
+        ensures cause { HasCause (state_of self.old).faults (state_of self.new).faults result }
+        ensures listed { IsErr result ↔ (Contains (state_of self.old).inserts (next_count (state_of self.old).inserts_made)
+            ⊎ ((image_of name.now (state_of self.old).shelf ≡ None) × (new ≡ true) × (longest_name < length name.now))) }
+        ensures counts { state_of self.new ≡ record (state_of self.old) {
+          shelf = (state_of self.new).shelf;
+          tape = (state_of self.new).tape;
+          inserts_made = next_count (state_of self.old).inserts_made;
+          faults = faults_after (state_of self.old).faults result;
+        } }
+    {
+        self.inserts_made = self.inserts_made.saturating_add(1);
+        if self.inserts.contains(&self.inserts_made) {
+            self.faults = self.faults.saturating_add(1);
+            return Err(Failed);
+        }
+        match offered(&self.images, name, new) {
+            Offer::Take(place, bytes) => {
+                lay_in(bytes, &mut self.tape);
+                self.drive = Drive::Shelved(place);
+                Ok(Inserted::Tape)
+            }
+            Offer::BadSize(size) => Ok(Inserted::BadSize(size)),
+            Offer::NoSuch => Ok(Inserted::NoSuch),
+            Offer::Make => {
+                lay_in(&[], &mut self.tape);
+                self.made.clear();
+                self.made.push_str(name).unwrap();
+                self.drive = Drive::Made;
+                Ok(Inserted::Tape)
+            }
+            Offer::TooLong => {
+                self.faults = self.faults.saturating_add(1);
+                Err(Failed)
+            }
+        }
+    }
+
+    fn size(&self) -> u16
+        ensures count { result ≡ records_in (state_of self.now).tape }
+        ensures sizes { 0 < result → IsSize result }
+    {
+        match self.drive {
+            Drive::Empty => 0,
+            Drive::Shelved(_) | Drive::Made => image::RECORDS as u16,
+        }
+    }
+
+    fn read(&mut self, n: u16, into: &mut [u8; 256]) -> Result<(), Failed>
+        requires { n < records_in (state_of self.old).tape }
+        ensures content { DidRead n into.new (state_of self.old).tape result }
+        ensures tape { (state_of self.new).tape ≡ (state_of self.old).tape }
+        ensures shelf { Some (state_of self.new).shelf ≡ Some (state_of self.old).shelf }
+        ensures size { records_in (state_of self.new).tape ≡ records_in (state_of self.old).tape }
+        ensures cause { HasCause (state_of self.old).faults (state_of self.new).faults result }
+        ensures listed { IsErr result ↔ Contains (state_of self.old).reads (next_count (state_of self.old).reads_made) }
+        ensures counts { state_of self.new ≡ record (state_of self.old) {
+          reads_made = next_count (state_of self.old).reads_made;
+          faults = faults_after (state_of self.old).faults result;
+        } }
+    {
+        self.reads_made = self.reads_made.saturating_add(1);
+        if self.reads.contains(&self.reads_made) {
+            self.faults = self.faults.saturating_add(1);
+            return Err(Failed);
+        }
+        *into = self.tape[n as usize];
+        Ok(())
+    }
+}

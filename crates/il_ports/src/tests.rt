@@ -1,0 +1,197 @@
+use crate::{
+    Failed, FileMedium, Inserted, Medium, MemoryMedium, MemorySink, MemorySource, Sink, Source,
+    StdSink, StdSource,
+};
+use std::alloc::{AllocError, Global};
+use std::test::Fail;
+use std::{fs, io};
+
+const TAPE_BYTES: usize = 131_072;
+
+#[test]
+fn streams_in_memory(rt: HostRuntime) -> Result<(), Fail> {
+    let alloc = rt.alloc();
+    let mut source = MemorySource::new(b"HP82161A".to_vec(alloc)?, 3, vec![in alloc; 2]?);
+    let mut got = Vec::new(alloc);
+    let mut buffer = [0; 16];
+    for want in [Ok(3), Err(Failed), Ok(3), Ok(2), Ok(0)] {
+        let answer = source.read(&mut buffer);
+        assert_eq!(rt; answer, want);
+        if let Ok(count) = answer {
+            got.extend_from_slice(&buffer[..count])?;
+        }
+    }
+    assert_eq!(rt; got.as_slice(), b"HP82161A".as_slice());
+    assert_eq!(rt; source.left(), b"".as_slice());
+
+    let mut sink = MemorySink::new(alloc, 8, vec![in alloc; 2]?)?;
+    for (piece, want) in [
+        (b"HP82".as_slice(), Ok(4)),
+        (b"161A".as_slice(), Err(Failed)),
+        (b"161AB".as_slice(), Err(Failed)),
+        (b"161A".as_slice(), Ok(4)),
+        (b"B".as_slice(), Err(Failed)),
+    ] {
+        assert!(rt; !piece.is_empty());
+        assert_eq!(rt; sink.write(piece), want);
+    }
+    assert_eq!(rt; sink.written(), b"HP82161A".as_slice());
+    Ok(())
+}
+
+// The image A has a record of ones, and one byte more.
+fn shelf(alloc: Global) -> Result<Vec<(String, Vec<u8>)>, AllocError> {
+    let mut image = vec![in alloc; 1; 256]?;
+    image.push(2)?;
+    let mut shelf = Vec::new(alloc);
+    shelf.push((String::from_str(alloc, "A")?, image))?;
+    shelf.push((
+        String::from_str(alloc, "LONG")?,
+        vec![in alloc; 0; TAPE_BYTES + 1]?,
+    ))?;
+    shelf.push((String::from_str(alloc, "A")?, vec![in alloc; 9]?))?;
+    Ok(shelf)
+}
+
+#[test]
+fn a_shelf_in_memory(rt: HostRuntime) -> Result<(), Fail> {
+    let alloc = rt.alloc();
+    let reads = vec![in alloc; 2]?;
+    let inserts = vec![in alloc; 2]?;
+    let mut medium = MemoryMedium::new(alloc, shelf(alloc)?, reads, Vec::new(alloc), inserts, 0)?;
+    for (name, new, want) in [
+        ("B", false, Ok(Inserted::NoSuch)),
+        ("A", false, Err(Failed)),
+        ("LONG", true, Ok(Inserted::BadSize(131_073))),
+        ("A", true, Ok(Inserted::Tape)),
+    ] {
+        assert_eq!(rt; medium.size(), 0);
+        assert_eq!(rt; medium.insert(name, new), want, "{name}");
+    }
+    let mut last = [0; 256];
+    last[0] = 2;
+    for (n, want, record) in [
+        (0, Ok(()), [1; 256]),
+        (0, Err(Failed), [0; 256]),
+        (1, Ok(()), last),
+        (511, Ok(()), [0; 256]),
+    ] {
+        let mut into = [0; 256];
+        assert!(rt; n < medium.size());
+        assert_eq!(rt; medium.read(n, &mut into), want);
+        assert_eq!(rt; into.as_slice(), record.as_slice(), "record {n}");
+    }
+    let size = |name| medium.image(name).map(|image| image.len());
+    assert_eq!(rt; size("A"), Some(TAPE_BYTES));
+    assert_eq!(rt; size("LONG"), Some(TAPE_BYTES + 1));
+    assert_eq!(rt; size("B"), None);
+    Ok(())
+}
+
+#[test]
+fn a_new_image_in_memory(rt: HostRuntime) -> Result<(), Fail> {
+    let alloc = rt.alloc();
+    let nothing = Vec::new(alloc);
+    let mut medium = MemoryMedium::new(
+        alloc,
+        shelf(alloc)?,
+        Vec::new(alloc),
+        Vec::new(alloc),
+        nothing,
+        0,
+    )?;
+    let longest = String::from_utf8(vec![in alloc; b'N'; 4096]?)?;
+    let longer = String::from_utf8(vec![in alloc; b'N'; 4097]?)?;
+    assert_eq!(rt; medium.size(), 0);
+    assert_eq!(rt; medium.insert(longer.as_str(), true), Err(Failed));
+    assert_eq!(rt; medium.size(), 0);
+    assert_eq!(rt; medium.insert(longest.as_str(), true), Ok(Inserted::Tape));
+    assert_eq!(rt; medium.size(), 512);
+    let mut into = [1; 256];
+    assert_eq!(rt; medium.read(511, &mut into), Ok(()));
+    assert_eq!(rt; into.as_slice(), [0; 256].as_slice());
+    let size = |name| medium.image(name).map(|image| image.len());
+    assert_eq!(rt; size(longest.as_str()), Some(TAPE_BYTES));
+    assert_eq!(rt; size("A"), Some(257));
+    Ok(())
+}
+
+#[test]
+fn images_in_files(rt: HostRuntime) -> Result<(), Fail> {
+    let alloc = rt.alloc();
+    let _ = fs::remove_dir_all(&rt, "tapes");
+    fs::create_dir(&rt, "tapes")?;
+    let mut short = vec![in alloc; 5; 1536]?;
+    short.extend_from_slice(&[6, 7])?;
+    fs::write(&rt, "tapes/SHORT", short.as_slice())?;
+    fs::write(
+        &rt,
+        "tapes/LONG",
+        vec![in alloc; 0; TAPE_BYTES + 1]?.as_slice(),
+    )?;
+    let mut permissions = fs::metadata(&rt, "tapes/SHORT")?.permissions();
+    permissions.set_readonly(true);
+    fs::set_permissions(&rt, "tapes/SHORT", permissions)?;
+
+    let mut medium = FileMedium::new(&rt);
+    for (name, new, want) in [
+        ("tapes/NONE", false, Ok(Inserted::NoSuch)),
+        ("tapes/LONG", false, Ok(Inserted::BadSize(131_073))),
+        ("tapes", true, Err(Failed)),
+        ("tapes/SHORT/NEW", true, Err(Failed)),
+        ("tapes/NONE/NEW", true, Err(Failed)),
+        ("tapes/SHORT", true, Ok(Inserted::Tape)),
+    ] {
+        assert_eq!(rt; medium.size(), 0);
+        assert_eq!(rt; medium.insert(name, new), want, "{name}");
+    }
+    let mut last = [0; 256];
+    last[..2].copy_from_slice(&[6, 7]);
+    for (n, record) in [(5, [5; 256]), (6, last), (511, [0; 256])] {
+        let mut into = [1; 256];
+        assert!(rt; n < medium.size());
+        assert_eq!(rt; medium.read(n, &mut into), Ok(()));
+        assert_eq!(rt; into.as_slice(), record.as_slice(), "record {n}");
+    }
+
+    let mut medium = FileMedium::new(&rt);
+    assert_eq!(rt; medium.insert("tapes/NEW", true), Ok(Inserted::Tape));
+    let made = fs::read(&rt, "tapes/NEW")?;
+    assert_eq!(rt; made.len(), TAPE_BYTES);
+    assert!(rt; made.iter().all(|byte| *byte == 0));
+    fs::remove_dir_all(&rt, "tapes")?;
+    Ok(())
+}
+
+#[test]
+fn streams_over_files(rt: HostRuntime) -> Result<(), Fail> {
+    let mut sink = StdSink::new(fs::create(&rt, "stream")?);
+    assert_eq!(rt; sink.write(b"HP82161A"), Ok(8));
+    let mut source = StdSource::new(fs::open(&rt, "stream")?);
+    let mut into = [0; 6];
+    assert_eq!(rt; source.read(&mut into), Ok(6));
+    assert_eq!(rt; into.as_slice(), b"HP8216".as_slice());
+    assert_eq!(rt; source.read(&mut into), Ok(2));
+    assert_eq!(rt; source.read(&mut into), Ok(0));
+    let mut sink = StdSink::new(fs::open(&rt, "stream")?);
+    assert_eq!(rt; sink.write(b"not for writing"), Err(Failed));
+    let mut source = StdSource::new(fs::open(&rt, ".")?);
+    assert_eq!(rt; source.read(&mut into), Err(Failed));
+    fs::remove_file(&rt, "stream")?;
+    Ok(())
+}
+
+#[test]
+fn streams_over_a_pipe(rt: HostRuntime) -> Result<(), Fail> {
+    let (reader, writer) = io::pipe(&rt)?;
+    let mut source = StdSource::new(reader);
+    let mut into = [0; 6];
+    {
+        let mut sink = StdSink::new(writer);
+        assert_eq!(rt; sink.write(b"dir"), Ok(3));
+        assert_eq!(rt; source.read(&mut into), Ok(3));
+        assert_eq!(rt; into.as_slice(), b"dir\0\0\0".as_slice());
+    }
+    assert_eq!(rt; source.read(&mut into), Ok(0));
+    Ok(())
+}

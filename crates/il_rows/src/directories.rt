@@ -1,0 +1,93 @@
+//! What `dir` answers, by the bytes of the tape.
+
+use crate::images::{END_ENTRY, REDO_ENTRY, foreign, formatted, with_entries, with_open_gate};
+use crate::runs::{Given, run};
+use std::test::Fail;
+
+const FORMATTED: &[u8] = b"volume HPTAPE 2 2 1 16\nfile REDOFILE E0D0 508 4 00000000\nok\n";
+
+#[test]
+fn dir_lists_the_volume(rt: HostRuntime) -> Result<(), Fail> {
+    let alloc = rt.alloc();
+    let formatted = formatted(alloc)?;
+    let foreign = foreign(alloc)?;
+    let open = with_open_gate(alloc)?;
+    let zeros = vec![in alloc; 0; 768]?;
+    let none = b"volume HPTAPE 2 2 0 16\nok\n".as_slice();
+    let ended = with_entries(alloc, &[END_ENTRY, REDO_ENTRY])?;
+    let cases: [(&[u8], &[u8], u8, &[u8]); 9] = [
+        (&formatted, b"dir\n", 0, FORMATTED),
+        (&formatted, b"", 0, b""),
+        (&formatted, b"\n\ndir", 0, FORMATTED),
+        (
+            &formatted,
+            b"list\n dir\n",
+            1,
+            b"error 1 BadLine\nerror 1 BadLine\n",
+        ),
+        (
+            &foreign,
+            b"dir\n",
+            0,
+            b"volume %20 2 2 1 16\nfile PROG1 E080 4 2 00000180\nok\n",
+        ),
+        (&zeros, b"dir\n", 1, b"error 3 NotLif\n"),
+        (&open, b"dir\n", 1, b"error 8 NoRedo\n"),
+        (&ended, b"dir\n", 0, none),
+        (&[], b"dir\n", 1, b"error 3 NotLif\n"),
+    ];
+    for (image, script, status, output) in cases {
+        let left = run(alloc, &Given::script(image, script))?;
+        assert_eq!(rt; left.status, status);
+        assert_eq!(rt; left.output.as_slice(), output);
+    }
+    Ok(())
+}
+
+// A live entry of one record, by its first name byte and its number.
+fn entry(letter: u8, number: u8) -> [u8; 32] {
+    let mut bytes = *b"?         \0\x01\0\0\0?\0\0\0\x01\0\0\0\0\0\0\x80\x01\0\0\0\0";
+    bytes[0] = letter;
+    bytes[15] = number;
+    bytes
+}
+
+#[test]
+fn a_full_directory_needs_no_end(rt: HostRuntime) -> Result<(), Fail> {
+    let alloc = rt.alloc();
+    let mut image = with_entries(alloc, &[])?;
+    image.truncate(512);
+    let mut wanted = Vec::from_slice(alloc, b"volume HPTAPE 2 2 16 16\n")?;
+    for k in 0..16u8 {
+        image.extend_from_slice(&entry(b'A' + k, 10 + k))?;
+        wanted.extend_from_slice(b"file ")?;
+        wanted.push(b'A' + k)?;
+        wanted.extend_from_slice(b" 0001 ")?;
+        wanted.push(b'1' + k / 10)?;
+        wanted.push(b'0' + k % 10)?;
+        wanted.extend_from_slice(b" 1 00000000\n")?;
+    }
+    wanted.extend_from_slice(b"ok\n")?;
+    let left = run(alloc, &Given::script(&image, b"dir\n"))?;
+    assert_eq!(rt; left.status, 0);
+    assert_eq!(rt; left.output.as_slice(), wanted.as_slice());
+    Ok(())
+}
+
+#[test]
+fn names_are_spelt_out_and_purged_slots_count(rt: HostRuntime) -> Result<(), Fail> {
+    let alloc = rt.alloc();
+    let purged =
+        b"GONE      \0\0\xFF\xFF\xFF\xFF\xFF\xFF\xFF\xFF\0\0\0\0\0\0\x80\x01\xFF\xFF\xFF\xFF";
+    let odd =
+        b" A%\x01\xFF~z   \xAB\xCD\xFF\xFF\xFF\xFF\0\0\0\x09\0\0\0\0\0\0\x80\x01\xDE\xAD\xBE\xEF";
+    let spaces = b"          \0\x01\0\0\0\x04\0\0\0\0\0\0\0\0\0\0\x80\x01\0\0\0\0";
+    let image = with_entries(alloc, &[purged, odd, spaces, END_ENTRY])?;
+    let left = run(alloc, &Given::script(&image, b"dir\n"))?;
+    assert_eq!(rt; left.status, 0);
+    assert_eq!(rt;
+        left.output.as_slice(),
+        b"volume HPTAPE 2 2 3 16\nfile %20A%25%01%FF~z ABCD 4294967295 9 DEADBEEF\nfile %20 0001 4 0 00000000\nok\n".as_slice()
+    );
+    Ok(())
+}

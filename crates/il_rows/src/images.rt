@@ -1,0 +1,56 @@
+//! Images of tapes.
+
+use std::alloc::{AllocError, Global};
+
+/// The entry of the redo file on a tape of 512 records.
+pub const REDO_ENTRY: &[u8] =
+    b"REDOFILE  \xE0\xD0\0\0\x01\xFC\0\0\0\x04\0\0\0\0\0\0\x80\x01\0\0\0\0";
+
+/// An entry that ends a directory.
+pub const END_ENTRY: &[u8] =
+    b"\0\0\0\0\0\0\0\0\0\0\xFF\xFF\0\0\0\0\0\0\0\0\0\0\0\0\0\0\0\0\0\0\0\0";
+
+/// The header of a volume HPTAPE with room for sixteen entries in records 2 and 3.
+const HEADER: &[u8] =
+    b"\x80\0HPTAPE\0\0\0\x02\x10\0\0\0\0\0\0\x02\0\x01\0\0\0\0\0\x02\0\0\0\x01\0\0\x01\0\0\0\0\0\0\0";
+
+/// The header of a volume without a label, as an HP-41 leaves it.
+const FOREIGN_HEADER: &[u8] = b"\x80\0      \0\0\0\x02\x10\0\0\0\0\0\0\x02";
+
+const FOREIGN_ENTRY: &[u8] =
+    b"PROG1     \xE0\x80\0\0\0\x04\0\0\0\x02\0\0\0\0\0\0\x80\x01\0\0\x01\x80";
+
+/// An image of four records: a header, and a directory of these entries.
+pub fn with_entries(alloc: Global, entries: &[&[u8]]) -> Result<Vec<u8>, AllocError> {
+    let mut image = Vec::from_slice(alloc, HEADER)?;
+    image.resize(512, 0)?;
+    for entry in entries {
+        image.extend_from_slice(entry)?;
+    }
+    image.resize(1024, 0)?;
+    Ok(image)
+}
+
+/// A volume as it is formatted: the redo file alone.
+pub fn formatted(alloc: Global) -> Result<Vec<u8>, AllocError> {
+    with_entries(alloc, &[REDO_ENTRY, END_ENTRY])
+}
+
+/// A volume of another make: one program, and no redo file.
+pub fn foreign(alloc: Global) -> Result<Vec<u8>, AllocError> {
+    let mut image = Vec::from_slice(alloc, FOREIGN_HEADER)?;
+    image.resize(512, 0)?;
+    image.extend_from_slice(FOREIGN_ENTRY)?;
+    image.extend_from_slice(END_ENTRY)?;
+    image.resize(1024, 0)?;
+    image.resize(256 * 6, 0x11)?;
+    Ok(image)
+}
+
+/// A formatted volume whose redo file has an open gate.
+pub fn with_open_gate(alloc: Global) -> Result<Vec<u8>, AllocError> {
+    let mut image = formatted(alloc)?;
+    image.resize(256 * 508, 0)?;
+    image.extend_from_slice(b"LIFREDO1 OPEN   ")?;
+    Ok(image)
+}

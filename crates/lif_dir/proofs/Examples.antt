@@ -1,0 +1,68 @@
+-- Worked examples, computed by the checker.
+use Rattle.std.proofs.Common.{◌≡◌, ◌++◌, ℕ, List, [], ◌∷◌, refl, true, false, codes, replicate, lit≤, rules}
+use Rattle.lif_model.specs.Numbers.{two_at, four_at}
+use Rattle.lif_model.specs.Directory.{name_of, date_of, implementation_of}
+use Rattle.lif_dir.specs.declared.entries.FileEntry.{FileEntry}
+use Rattle.lif_dir.specs.declared.entries.Slot.TheVariants.{Live, Purged, End}
+use Rattle.lif_dir.specs.Entries.{spaced, name_bytes, entry_bytes, entry_from, slot_of, slot_from, slot_bytes, is_entry}
+use Rattle.lif_dir.specs.Tables.{IsInRoom}
+
+two_letters : spaced (codes "AB") ≡ codes "AB        "
+two_letters = refl
+
+ten_letters : spaced (codes "TENLETTERS") ≡ codes "TENLETTERS"
+ten_letters = refl
+
+-- the redo file of a tape of 512 records
+abbrev redo : FileEntry
+redo = record {
+  name = record { bytes = codes "REDOFILE  " };
+  kind = 0xE0D0;
+  start = 508;
+  length = 4;
+  date = replicate 6 0;
+  volume = 0x8001;
+  implementation = replicate 4 0;
+}
+
+abbrev redo_text : List ℕ
+redo_text = codes "REDOFILE  " ++ 0xE0 ∷ 0xD0 ∷ 0 ∷ 0 ∷ 1 ∷ 0xFC ∷ 0 ∷ 0 ∷ 0 ∷ 4 ∷ 0 ∷ 0 ∷ 0 ∷ 0 ∷ 0 ∷ 0 ∷ 0x80 ∷ 1 ∷ 0 ∷ 0 ∷ 0 ∷ 0 ∷ []
+
+redo_name : name_bytes redo.name ≡ codes "REDOFILE  "
+redo_name = refl
+
+redo_written : entry_bytes redo ≡ redo_text
+redo_written = refl
+
+redo_read : entry_from redo_text ≡ redo
+unfolding name_of date_of implementation_of four_at two_at
+redo_read = refl
+
+redo_is_live : slot_from redo_text ≡ Live redo
+unfolding name_of date_of implementation_of four_at two_at
+redo_is_live = refl
+
+-- a purged file whose numbers are junk
+abbrev junk : FileEntry
+junk = record redo { kind = 0; start = 0xFFFFFFFF; length = 0xFFFFFFFF }
+
+junk_is_purged : slot_from (entry_bytes junk) ≡ Purged junk
+unfolding name_of date_of implementation_of four_at two_at
+junk_is_purged = refl
+
+kinds : (slot_of junk ≡ Purged junk) × (slot_of redo ≡ Live redo)
+kinds = (refl, refl)
+
+junk_written : slot_bytes (Purged junk) ≡ entry_bytes junk
+junk_written = refl
+
+-- only the type counts
+last_is_end : slot_from (entry_bytes (record redo { kind = 0xFFFF })) ≡ End
+unfolding two_at
+last_is_end = refl
+
+entries : (is_entry (Live redo) ≡ true) × (is_entry (Purged junk) ≡ true) × (is_entry End ≡ false)
+entries = (refl, refl, refl)
+
+one_of_two : IsInRoom 1 2 2 (Live redo ∷ [])
+one_of_two = record { within = lit≤ tt; reserved = lit≤ tt; entries = search rules }

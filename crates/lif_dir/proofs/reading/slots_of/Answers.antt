@@ -1,0 +1,50 @@
+use Rattle.std.proofs.Common.{◌≡◌, ℕ, ◌<◌, ◌-◌, ◌+◌, map, Some, sym, ◌∙◌, arith}
+use Rattle.lif_model.specs.Tape.{Tape}
+use Rattle.lif_model.specs.Directory.{entries_of, before_end, slots_from}
+use Rattle.lif_dir.specs.Entries.{slot_from, slot_bytes}
+use Rattle.lif_dir.proofs.Slots.{slots_end, slots_more, last_part, mapped_last, parts_step, mapped_step}
+use Rattle.lif_dir.proofs.reading.slots_of.Goals as goal
+
+pub returns-then-append_slots-clause-done : goal.returns-then-append_slots-clause-done
+returns-then-append_slots-clause-done g c = λ t told.
+    let v = c.loop-n.invariant in
+    let left : ℕ = c.args.header.now.start + c.args.header.now.length - c.loop-n.n in
+    let within : 0 < left = omega arith in
+    let last : slots_from t c.loop-n.n left ≡ before_end (entries_of c.read.new.into) =
+    slots_end t c.read.new.into c.loop-n.n left within (c.in_ok-read.ensures.content t (v.tape ∙ told))
+    (sym c.append_slots.ensures.ended ∙ c.if-append_slots.true) in
+    mapped_last slot_from _ c.loop-n.table.slots c.append_slots.new.table.slots _ _ (v.slots t told) last c.append_slots.ensures.slots
+
+pub returns-then-append_slots-clause-bytes : goal.returns-then-append_slots-clause-bytes
+returns-then-append_slots-clause-bytes g c = λ t told.
+    let v = c.loop-n.invariant in
+    let left : ℕ = c.args.header.now.start + c.args.header.now.length - c.loop-n.n in
+    let within : 0 < left = omega arith in
+    let last : slots_from t c.loop-n.n left ≡ before_end (entries_of c.read.new.into) =
+    slots_end t c.read.new.into c.loop-n.n left within (c.in_ok-read.ensures.content t (v.tape ∙ told))
+    (sym c.append_slots.ensures.ended ∙ c.if-append_slots.true) in
+    last_part _ (map slot_bytes c.loop-n.table.slots) (map slot_bytes c.append_slots.new.table.slots) _ _ (v.bytes t told) last c.append_slots.ensures.bytes
+
+pub loop-n-preserved : goal.loop-n-preserved
+loop-n-preserved g c =
+    let v = c.loop-n.invariant in
+    let r = c.in_ok-read.ensures in
+    let a = c.append_slots.ensures in
+    let m : ℕ = c.args.header.now.start + c.args.header.now.length - c.loop-n.n in
+    let k : ℕ = c.args.header.now.start + c.args.header.now.length - (c.loop-n.n + 1) in
+    let later : m ≡ k + 1 = omega arith in
+    let more = λ (t : Tape) (told : g.R.Records.tape c.args.records.now ≡ Some t).
+    slots_more t c.read.new.into c.loop-n.n m k later (r.content t (v.tape ∙ told)) (sym a.ended ∙ c.if-append_slots.false) in
+    record {
+      valid = r.valid;
+      sound = r.sound;
+      tape = r.tape ∙ v.tape;
+      size = r.size ∙ v.size;
+      left = omega (arith, r.left, v.left);
+      frames = r.cause.0 ∙ v.frames;
+      medium = r.cause.1 ∙ v.medium;
+      room = a.room ∙ v.room;
+      count = omega (arith, a.count, v.count);
+      slots = λ t told. mapped_step slot_from _ c.loop-n.table.slots c.append_slots.new.table.slots _ _ _ (v.slots t told) (more t told) a.slots;
+      bytes = λ t told. parts_step _ (map slot_bytes c.loop-n.table.slots) (map slot_bytes c.append_slots.new.table.slots) _ _ _ (v.bytes t told) (more t told) a.bytes;
+    }

@@ -1,0 +1,129 @@
+ghost use Rattle.std.specs.Prelude.{◌≡◌, ◌≢◌, ◌≤◌, ◌+◌, ◌++◌, ◌↔◌, false, length, take, IsSome, IfSome};
+ghost use Rattle.lif_model.specs.Directory.{is_end};
+ghost use Rattle.lif_dir.specs.Entries.{spaced, name_bytes, entry_bytes, entry_from, slot_of, slot_from, slot_bytes};
+
+use lif_header::{bytes_at, four_at, two_at};
+
+/// The type of an entry that ends its directory.
+const END: u16 = 0xFFFF;
+
+/// The type of a purged file.
+const PURGED: u16 = 0;
+
+/// The name of a file: ten bytes, those behind the name being spaces.
+#[derive(Clone, Copy, Debug, PartialEq, Eq)]
+pub struct Name {
+    bytes: [u8; 10],
+}
+
+/// An entry of a directory, by the LIF directory format.
+#[derive(Clone, Copy, Debug, PartialEq, Eq)]
+pub struct FileEntry {
+    /// The name.
+    pub name: Name,
+    /// The type: 0 is a purged file, FFFF hex ends the directory.
+    pub kind: u16,
+    /// The first record of the file.
+    pub start: u32,
+    /// How many records the file has.
+    pub length: u32,
+    /// The date and time, two decimal digits a byte.
+    pub date: [u8; 6],
+    /// The volume word: 8001 hex for a file on one volume.
+    pub volume: u16,
+    /// The implementation field, whose meaning depends on the type.
+    pub implementation: [u8; 4],
+}
+
+/// What 32 bytes of a directory tell of.
+#[derive(Clone, Copy, Debug, PartialEq, Eq)]
+pub enum Slot {
+    /// A file.
+    Live(FileEntry),
+    /// A file that was purged. Its numbers may be anything.
+    Purged(FileEntry),
+    /// The end of the directory.
+    End,
+}
+
+impl Name {
+    /// The name of these bytes, filled up with spaces. `None` where there are no bytes or more than ten.
+    pub fn of(bytes: &[u8]) -> Option<Name>
+        ensures fits { IsSome result ↔ ((1 ≤ length bytes.now) × (length bytes.now ≤ 10)) }
+        ensures name { IfSome result (λ name. name_bytes name ≡ spaced bytes.now) }
+    {
+        if bytes.is_empty() || bytes.len() > 10 {
+            return None;
+        }
+        let mut name = [b' '; 10];
+        name[..bytes.len()].copy_from_slice(bytes);
+        Some(Name { bytes: name })
+    }
+
+    /// The ten bytes of the name, with its spaces.
+    pub fn bytes(&self) -> [u8; 10]
+        ensures { result ≡ name_bytes self.now }
+    {
+        self.bytes
+    }
+}
+
+/// Writes `part` into an entry, from place `at` on.
+fn put(entry: &mut [u8; 32], at: usize, part: &[u8])
+    requires { at + length part.now ≤ 32 }
+    ensures { take (at + length part.now) entry.new ≡ take at entry.old ++ part.now }
+{
+    entry[at..at + part.len()].copy_from_slice(part);
+}
+
+impl FileEntry {
+    #[tactic(auto, unfolding(lif_model::specs::Directory::name_of, lif_model::specs::Directory::date_of, lif_model::specs::Directory::implementation_of))]
+    fn of(bytes: &[u8; 32]) -> FileEntry
+        ensures entry { result ≡ entry_from bytes.now }
+        ensures bytes { entry_bytes result ≡ bytes.now }
+    {
+        FileEntry {
+            name: Name {
+                bytes: bytes_at(bytes, 0),
+            },
+            kind: two_at(bytes, 10),
+            start: four_at(bytes, 12),
+            length: four_at(bytes, 16),
+            date: bytes_at(bytes, 20),
+            volume: two_at(bytes, 26),
+            implementation: bytes_at(bytes, 28),
+        }
+    }
+
+    /// The 32 bytes of the entry. Where its type does not end a directory, they tell of this entry.
+    pub fn bytes(&self) -> [u8; 32]
+        ensures bytes { result ≡ entry_bytes self.now }
+        ensures slot { self.now.kind ≢ 0xFFFF → slot_from result ≡ slot_of self.now }
+    {
+        let mut bytes = [0; 32];
+        put(&mut bytes, 0, &self.name.bytes);
+        put(&mut bytes, 10, &self.kind.to_be_bytes());
+        put(&mut bytes, 12, &self.start.to_be_bytes());
+        put(&mut bytes, 16, &self.length.to_be_bytes());
+        put(&mut bytes, 20, &self.date);
+        put(&mut bytes, 26, &self.volume.to_be_bytes());
+        put(&mut bytes, 28, &self.implementation);
+        bytes
+    }
+}
+
+impl Slot {
+    /// What 32 bytes of a directory tell of: its end where the type is FFFF hex, a purged file where it is 0, and a
+    /// live one otherwise.
+    pub fn of(bytes: &[u8; 32]) -> Slot
+        ensures slot { result ≡ slot_from bytes.now }
+        ensures bytes { is_end bytes.now ≡ false → slot_bytes result ≡ bytes.now }
+    {
+        let entry = FileEntry::of(bytes);
+        match entry.kind {
+            END => Slot::End,
+            PURGED => Slot::Purged(entry),
+            _ => Slot::Live(entry),
+        }
+    }
+}

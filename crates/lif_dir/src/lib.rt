@@ -1,0 +1,13 @@
+//! The directory of a LIF volume: names, entries, the table of its slots, and how it is read.
+#![tactic(auto)]
+
+mod entries;
+mod reading;
+mod table;
+
+pub use entries::{FileEntry, Name, Slot};
+pub use reading::slots_of;
+pub use table::SlotTable;
+
+#[cfg(test)]
+mod tests;

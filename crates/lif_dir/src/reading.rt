@@ -1,0 +1,75 @@
+ghost use Rattle.std.specs.Prelude.{◌≡◌, ◌≤◌, ◌+◌, ◌*◌, ◌++◌, true, length, map, Some, OnOk};
+ghost use Rattle.std.specs.List.{list_any};
+ghost use Rattle.lif_model.specs.Tape.{Tape};
+ghost use Rattle.lif_model.specs.Directory.{is_end, entries_of, before_end, slots_from};
+ghost use Rattle.il_ports.specs.Trouble.{HasTroubleCause, answers_ok};
+ghost use Rattle.lif_dir.specs.Entries.{slot_from, slot_bytes};
+
+use crate::entries::Slot;
+use crate::table::SlotTable;
+use il_ports::{Records, Trouble};
+use lif_header::{Header, bytes_at};
+
+/// How many bytes an entry has.
+const ENTRY: usize = 32;
+
+/// How many entries a record of the directory has.
+const ENTRIES: usize = 8;
+
+/// Appends the slots of one record of the directory, as far as its end, and says whether the end is in it.
+fn append_slots(bytes: &[u8; 256], table: &mut SlotTable) -> bool
+    requires { length table.old.slots + 8 ≤ table.old.room }
+    ensures slots { table.new.slots ≡ table.old.slots ++ map slot_from (before_end (entries_of bytes.now)) }
+    ensures bytes { map slot_bytes table.new.slots ≡ map slot_bytes table.old.slots ++ before_end (entries_of bytes.now) }
+    ensures ended { result ≡ list_any is_end (entries_of bytes.now) }
+    ensures room { table.new.room ≡ table.old.room }
+    ensures count { length table.new.slots ≤ length table.old.slots + 8 }
+{
+    for k in 0..ENTRIES {
+        match Slot::of(&bytes_at(bytes, ENTRY * k)) {
+            Slot::End => return true,
+            slot => table.push(slot),
+        }
+    }
+    false
+}
+
+/// Reads the directory of a volume into `table`, one record at a time and no further than its end: the entries before
+/// the first of type FFFF hex, or all of them. After a trouble the table holds any slots.
+pub fn slots_of<R: Records>(
+    records: &mut R,
+    header: &Header,
+    table: &mut SlotTable,
+) -> Result<(), Trouble>
+    requires valid { R.valid records.old }
+    requires sound { R.sound records.old ≡ true }
+    requires within { header.now.start + header.now.length ≤ R.record_count records.old }
+    requires left { header.now.length ≤ R.calls_left records.old }
+    requires room { 8 * header.now.length ≤ table.old.room }
+
+    // What was read, where the records tell the tape: as slots, and as the bytes of each.
+    ensures done { OnOk result ((t : Tape) → R.tape records.old ≡ Some t →
+        table.new.slots ≡ map slot_from (slots_from t header.now.start header.now.length)) }
+    ensures bytes { OnOk result ((t : Tape) → R.tape records.old ≡ Some t →
+        map slot_bytes table.new.slots ≡ slots_from t header.now.start header.now.length) }
+
+    // No record changes, and each record is read once at most.
+    ensures valid { R.valid records.new }
+    ensures tape { R.tape records.new ≡ R.tape records.old }
+    ensures size { R.record_count records.new ≡ R.record_count records.old }
+    ensures sound { R.sound records.new ≡ answers_ok result }
+    ensures left { R.calls_left records.old ≤ R.calls_left records.new + header.now.length }
+    ensures cause { HasTroubleCause (R.frame_faults records.old) (R.frame_faults records.new)
+        (R.medium_faults records.old) (R.medium_faults records.new) result }
+    ensures room { table.new.room ≡ table.old.room }
+{
+    table.clear();
+    let mut bytes = [0; 256];
+    for n in header.start()..header.end() {
+        records.read(n, &mut bytes)?;
+        if append_slots(&bytes, table) {
+            return Ok(());
+        }
+    }
+    Ok(())
+}

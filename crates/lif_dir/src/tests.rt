@@ -1,0 +1,286 @@
+ghost use Rattle.std.specs.Prelude.{◌≡◌, ◌<◌, ◌≤◌, true, IfOk};
+
+use crate::{FileEntry, Name, Slot, SlotTable, slots_of};
+use il_ports::{Records, Trouble};
+use lif_header::Header;
+use std::process::Abort;
+use std::test::Fail;
+
+/// A store of four records, one of which may fail.
+#[derive(Drop)]
+struct FourRecords {
+    records: [[u8; 256]; 4],
+    bad: Option<u16>,
+    left: u32,
+    is_sound: bool,
+    faults: u64,
+}
+
+impl Records for FourRecords {
+    ghost use Rattle.std.specs.Prelude.{None};
+    ghost use Rattle.std.proofs.lemmas.Option.{none-some};
+
+    ghost valid = { λ _. Unit {0} };
+
+    ghost tape = { λ _. None };
+
+    ghost record_count = { λ _. 4 };
+
+    ghost sound = { λ store. store.is_sound };
+
+    ghost calls_left = { λ store. store.left };
+
+    ghost frame_faults = { λ _. 0 };
+
+    ghost medium_faults = { λ store. store.faults };
+
+    ghost is_tape = { λ _ t told. absurd (none-some t told) };
+
+    fn size(&self) -> u16 {
+        4
+    }
+
+    fn is_sound(&self) -> bool {
+        self.is_sound
+    }
+
+    fn left(&self) -> u32 {
+        self.left
+    }
+
+    fn resume(&mut self) -> Result<(), Trouble> {
+        self.left -= 1;
+        self.is_sound = true;
+        Ok(())
+    }
+
+    fn read(&mut self, n: u16, into: &mut [u8; 256]) -> Result<(), Trouble> {
+        self.left -= 1;
+        if self.bad == Some(n) {
+            self.is_sound = false;
+            self.faults = self.faults.saturating_add(1);
+            return Err(Trouble::Medium);
+        }
+        *into = self.records[n as usize];
+        Ok(())
+    }
+}
+
+/// The entry of the redo file on a tape of 512 records, as the LIF format has it.
+const REDO: &[u8; 32] =
+    b"REDOFILE  \xE0\xD0\x00\x00\x01\xFC\x00\x00\x00\x04\x00\x00\x00\x00\x00\x00\x80\x01\x00\x00\x00\x00";
+
+/// The end of a directory, with other bytes round its type.
+const END: &[u8; 32] =
+    b"NOT A NAME\xFF\xFF\x00\x00\x00\x01\x00\x00\x00\x01\x00\x00\x00\x00\x00\x00\x80\x01\x00\x00\x00\x00";
+
+/// A purged file whose numbers are junk.
+const PURGED: &[u8; 32] =
+    b"A %\x0A\x00\xFF B  \x00\x00\xFF\xFF\xFF\xFF\xFF\xFF\xFF\xFF\x26\x01\x31\x23\x59\x59\x80\x02\x01\x02\x03\x04";
+
+/// The file in slot `k` of the full directory below.
+fn file_bytes(k: u8) -> [u8; 32]
+    requires { k < 16 }
+{
+    let mut bytes = *REDO;
+    bytes[..10].copy_from_slice(b"F         ");
+    bytes[1] = b'A' + k;
+    bytes[15] = k;
+    bytes
+}
+
+/// Writes slot `k` of the directory in records 2 and 3.
+fn put_slot(records: &mut [[u8; 256]; 4], k: usize, bytes: &[u8; 32])
+    requires { k < 16 }
+{
+    let at = 32 * (k % 8);
+    records[2 + k / 8][at..at + 32].copy_from_slice(bytes);
+}
+
+fn blank() -> [u8; 256] {
+    [0; 256]
+}
+
+/// Records of which the last two are a directory of sixteen files.
+fn full_directory() -> [[u8; 256]; 4] {
+    let mut records = [blank(), blank(), blank(), blank()];
+    for k in 0..16u8 {
+        put_slot(&mut records, usize::from(k), &file_bytes(k));
+    }
+    records
+}
+
+/// A sound store in which two reads are left.
+fn store_of(records: [[u8; 256]; 4], bad: Option<u16>) -> FourRecords
+    ensures sound { result.is_sound ≡ true }
+    ensures left { result.left ≡ 2 }
+{
+    FourRecords {
+        records,
+        bad,
+        left: 2,
+        is_sound: true,
+        faults: 0,
+    }
+}
+
+/// The mark of a volume, a directory that begins in record 2, and its two records.
+fn header_record() -> [u8; 256] {
+    let mut record = blank();
+    record[0] = 0x80;
+    record[11] = 2;
+    record[19] = 2;
+    record
+}
+
+/// The header of a volume whose directory has records 2 and 3.
+fn header(rt: &impl Abort) -> Result<Header, Fail>
+    ensures { IfOk result (λ header. (header.start ≡ 2) × (header.length ≡ 2)) }
+{
+    let header = Header::read(&header_record(), 8)?;
+    assert_eq!(rt; header.start(), 2);
+    assert_eq!(rt; header.length(), 2);
+    Ok(header)
+}
+
+/// The redo file of a tape of 512 records.
+fn redo_file() -> Result<FileEntry, Fail> {
+    Ok(FileEntry {
+        name: Name::of(b"REDOFILE").ok_or("a name")?,
+        kind: 0xE0D0,
+        start: 508,
+        length: 4,
+        date: [0; 6],
+        volume: 0x8001,
+        implementation: [0; 4],
+    })
+}
+
+/// Reads the directory of a sound store, in which two reads are left, into a table with room for sixteen slots.
+fn read_all(rt: &(impl Abort + AllocGlobal), store: &mut FourRecords) -> Result<SlotTable, Fail>
+    requires sound { store.old.is_sound ≡ true }
+    requires left { 2 ≤ store.old.left }
+{
+    let mut table = SlotTable::new(rt.alloc(), 16)?;
+    slots_of(store, &header(rt)?, &mut table)?;
+    Ok(table)
+}
+
+#[test]
+fn full_directory_needs_no_end(rt: HostRuntime) -> Result<(), Fail> {
+    let mut store = store_of(full_directory(), None);
+    let table = read_all(&rt, &mut store)?;
+    assert_eq!(rt; table.len(), 16);
+    for k in 0..16u8 {
+        let file = FileEntry {
+            name: Name::of(&[b'F', b'A' + k]).ok_or("a name")?,
+            start: 256 + u32::from(k),
+            ..redo_file()?
+        };
+        assert_eq!(rt; *table.get(usize::from(k)), Slot::Live(file), "slot {k}");
+        assert_eq!(rt;
+            file.bytes().as_slice(),
+            file_bytes(k).as_slice(),
+            "slot {k}"
+        );
+    }
+    assert_eq!(rt; store.left(), 0);
+    Ok(())
+}
+
+/// How many slots come before an end in slot `end`. The second record cannot be read where the end is in the first.
+fn slots_before(rt: &(impl Abort + AllocGlobal), end: u8) -> Result<usize, Fail>
+    requires { end < 16 }
+{
+    let mut records = full_directory();
+    put_slot(&mut records, usize::from(end), END);
+    let mut store = store_of(records, if end < 8 { Some(3) } else { None });
+    Ok(read_all(rt, &mut store)?.len())
+}
+
+#[test]
+fn directory_stops_at_its_end(rt: HostRuntime) -> Result<(), Fail> {
+    for end in 0..16u8 {
+        assert_eq!(rt; slots_before(&rt, end)?, usize::from(end));
+    }
+    Ok(())
+}
+
+#[test]
+fn purged_slots_keep_their_junk(rt: HostRuntime) -> Result<(), Fail> {
+    let mut records = full_directory();
+    put_slot(&mut records, 0, PURGED);
+    put_slot(&mut records, 1, REDO);
+    put_slot(&mut records, 2, END);
+    let mut store = store_of(records, None);
+    let table = read_all(&rt, &mut store)?;
+    let junk = FileEntry {
+        name: Name::of(b"A %\x0A\x00\xFF B").ok_or("a name")?,
+        kind: 0,
+        start: 0xFFFF_FFFF,
+        length: 0xFFFF_FFFF,
+        date: [0x26, 0x01, 0x31, 0x23, 0x59, 0x59],
+        volume: 0x8002,
+        implementation: [1, 2, 3, 4],
+    };
+    let redo = redo_file()?;
+    assert_eq!(rt; table.len(), 2);
+    assert_eq!(rt; *table.get(0), Slot::Purged(junk));
+    assert_eq!(rt; *table.get(1), Slot::Live(redo));
+    assert_eq!(rt; junk.bytes().as_slice(), PURGED.as_slice());
+    assert_eq!(rt; redo.bytes().as_slice(), REDO.as_slice());
+    assert_eq!(rt; Slot::of(END), Slot::End);
+    Ok(())
+}
+
+#[test]
+fn names_are_filled_up_with_spaces(rt: HostRuntime) {
+    let names = [
+        (b"".as_slice(), None),
+        (b"A".as_slice(), Some(b"A         ".as_slice())),
+        (
+            b" %\x00\x7F\xFF ".as_slice(),
+            Some(b" %\x00\x7F\xFF     ".as_slice()),
+        ),
+        (b"TENLETTERS".as_slice(), Some(b"TENLETTERS".as_slice())),
+        (b"ELEVENCHARS".as_slice(), None),
+    ];
+    for (bytes, filled) in names {
+        match (Name::of(bytes), filled) {
+            (Some(name), Some(filled)) => assert_eq!(rt; name.bytes().as_slice(), filled),
+            (name, filled) => assert_eq!(rt; name.is_some(), filled.is_some()),
+        }
+    }
+}
+
+#[test]
+fn table_keeps_its_room(rt: HostRuntime) -> Result<(), Fail> {
+    let mut table = SlotTable::new(rt.alloc(), 3)?;
+    let redo = redo_file()?;
+    let (live, purged) = (Slot::Live(redo), Slot::Purged(redo));
+    table.push(live);
+    table.push(live);
+    table.push(live);
+    table.set(1, purged);
+    assert_eq!(rt; table.len(), 3);
+    assert_eq!(rt; *table.get(0), live);
+    assert_eq!(rt; *table.get(1), purged);
+    assert_eq!(rt; *table.get(2), live);
+    table.clear();
+    assert_eq!(rt; table.is_empty(), true);
+    assert_eq!(rt; table.room(), 3);
+    Ok(())
+}
+
+#[test]
+fn trouble_is_passed_on(rt: HostRuntime) -> Result<(), Fail> {
+    let mut store = store_of(full_directory(), Some(3));
+    let mut table = SlotTable::new(rt.alloc(), 16)?;
+    assert_eq!(rt;
+        slots_of(&mut store, &header(&rt)?, &mut table),
+        Err(Trouble::Medium)
+    );
+    assert_eq!(rt; store.is_sound, false);
+    assert_eq!(rt; table.room(), 16);
+    Ok(())
+}

@@ -1,0 +1,191 @@
+ghost use Rattle.std.specs.Prelude.{◌≡◌, ◌+◌, ◌≤◌, length, IfOk, IfErr, is_ok};
+ghost use Rattle.lif_model.specs.Header.{is_readable, header_of};
+
+use crate::fields::{bytes_at, four_at, two_at};
+use std::marker::Model;
+use thiserror::Error;
+
+/// What bytes 0 and 1 of a LIF volume hold.
+const VOLUME_MARK: u16 = 0x8000;
+
+/// How many records at the end of the medium no directory may reach: those of the redo file.
+const REDO_RECORDS: u16 = 4;
+
+/// What the header of a LIF volume says: the label, and where its directory lies.
+#[derive(Clone, Copy, Debug, PartialEq, Eq)]
+pub struct Header {
+    label: [u8; 6],
+    start: u16,
+    length: u16,
+}
+
+impl Model for Header {
+    ghost use Rattle.std.specs.Prelude.{◌+◌, ◌<◌, ◌^◌};
+    ghost use Rattle.lif_model.specs.Header.{HeaderParts};
+
+    ghost Value = { HeaderParts };
+
+    ghost view = { λ h. record { label = h.label; start = h.start; length = h.length } };
+
+    ghost invariant = { λ h. h.start + h.length < 2 ^ 16 };
+
+    ghost inverse = { λ h. record { label = h.label; start = h.start; length = h.length } };
+}
+
+/// Why record 0 is not the header of a volume: the first of these tests that fails, in this order.
+#[derive(Clone, Copy, Debug, PartialEq, Eq, Error)]
+pub enum HeaderFault {
+    /// Bytes 0 and 1 are not 8000 hex, but this.
+    #[error("Id")]
+    Id(u16),
+    /// The directory's first record is this one, record 0.
+    #[error("Start")]
+    Start(u32),
+    /// The directory has this many records, none.
+    #[error("Length")]
+    Length(u32),
+    /// The directory ends at this record, which lies behind the first of the last four.
+    #[error("Past")]
+    Past(u64),
+}
+
+impl Header {
+    ghost use Rattle.lif_header.specs.Reading.{IsFault, LiesWithin};
+    ghost use Rattle.lif_header.specs.declared.header.HeaderFault.{HeaderFault};
+
+    /// Reads record 0 of a medium of `size` records, by the LIF volume header: the mark in bytes 0 and 1, the label
+    /// in bytes 2 to 7, the directory's first record in bytes 8 to 11 and its number of records in bytes 16 to 19.
+    #[tactic(auto, unfolding(lif_model::specs::Header::label_of))]
+    pub fn read(bytes: &[u8; 256], size: u16) -> Result<Header, HeaderFault>
+        requires { 4 ≤ size }
+        ensures readable { is_ok result ≡ is_readable size bytes.now }
+        ensures header { IfOk result (λ header. header ≡ header_of bytes.now) }
+        ensures within { IfOk result (LiesWithin size) }
+        ensures fault { IfErr result (IsFault size bytes.now) }
+        ensures exactly { (fault : HeaderFault) → IsFault size bytes.now fault → result ≡ Err fault }
+    {
+        let mark = two_at(bytes, 0);
+        if mark != VOLUME_MARK {
+            return Err(HeaderFault::Id(mark));
+        }
+        let start = four_at(bytes, 8);
+        if start == 0 {
+            return Err(HeaderFault::Start(start));
+        }
+        let length = four_at(bytes, 16);
+        if length == 0 {
+            return Err(HeaderFault::Length(length));
+        }
+        let end = u64::from(start) + u64::from(length);
+        if end > u64::from(size - REDO_RECORDS) {
+            return Err(HeaderFault::Past(end));
+        }
+        Ok(Header {
+            label: bytes_at(bytes, 2),
+            start: start as u16,
+            length: length as u16,
+        })
+    }
+
+    /// The label, filled up with spaces.
+    pub fn label(&self) -> [u8; 6]
+        ensures { result ≡ self.now.label }
+    {
+        self.label
+    }
+
+    /// The first record of the directory.
+    pub fn start(&self) -> u16
+        ensures { result ≡ self.now.start }
+    {
+        self.start
+    }
+
+    /// How many records the directory has.
+    pub fn length(&self) -> u16
+        ensures { result ≡ self.now.length }
+    {
+        self.length
+    }
+
+    /// The first record behind the directory.
+    pub fn end(&self) -> u16
+        ensures { result ≡ self.now.start + self.now.length }
+    {
+        self.start + self.length
+    }
+}
+
+#[cfg(test)]
+mod tests {
+    use super::*;
+    use std::test::Fail;
+
+    /// The header of a volume HPTAPE whose directory has records 2 and 3, as the LIF format has it.
+    const FORMATTED: &[u8; 42] =
+        b"\x80\x00HPTAPE\x00\x00\x00\x02\x10\x00\x00\x00\x00\x00\x00\x02\x00\x01\x00\x00\x00\x00\x00\x02\x00\x00\x00\x01\x00\x00\x01\x00\x00\x00\x00\x00\x00\x00";
+
+    /// Record 0 with that header, but for these bytes from place `at` on.
+    fn record_with(at: usize, bytes: &[u8]) -> [u8; 256]
+        requires { at + length bytes.now ≤ 256 }
+    {
+        let mut record = [0; 256];
+        record[..42].copy_from_slice(FORMATTED);
+        record[at..at + bytes.len()].copy_from_slice(bytes);
+        record
+    }
+
+    #[test]
+    fn reads_a_header(rt: HostRuntime) -> Result<(), Fail> {
+        // The directory ends at record 4, so a medium of 8 records is the smallest that has room for it.
+        for size in [8, 512, u16::MAX] {
+            let header = Header::read(&record_with(0, b""), size)?;
+            assert_eq!(rt; header.label().as_slice(), b"HPTAPE".as_slice());
+            assert_eq!(rt; header.start(), 2);
+            assert_eq!(rt; header.length(), 2);
+            assert_eq!(rt; header.end(), 4);
+        }
+        let odd = Header::read(&record_with(2, b"\x00\xFF A%b"), 512)?;
+        assert_eq!(rt; odd.label().as_slice(), b"\x00\xFF A%b".as_slice());
+        let far = Header::read(&record_with(8, b"\x00\x00\x01\x02"), 512)?;
+        assert_eq!(rt; far.start(), 258);
+        Ok(())
+    }
+
+    #[test]
+    fn tells_the_first_fault(rt: HostRuntime) -> Result<(), Fail> {
+        let faults = [
+            (
+                record_with(0, b"\x00\x80"),
+                512,
+                HeaderFault::Id(0x0080),
+                "Id",
+            ),
+            (record_with(0, &[0; 20]), 512, HeaderFault::Id(0), "Id"),
+            (
+                record_with(8, &[0; 12]),
+                512,
+                HeaderFault::Start(0),
+                "Start",
+            ),
+            (
+                record_with(16, &[0; 4]),
+                512,
+                HeaderFault::Length(0),
+                "Length",
+            ),
+            (record_with(0, b""), 7, HeaderFault::Past(4), "Past"),
+            (
+                record_with(8, &[0xFF; 4]),
+                512,
+                HeaderFault::Past(0x1_0000_0001),
+                "Past",
+            ),
+        ];
+        for (record, size, fault, name) in faults {
+            assert_eq!(rt; Header::read(&record, size), Err(fault), "{name}");
+            assert_eq!(rt; fault.to_string(rt.alloc())?.as_str(), name);
+        }
+        Ok(())
+    }
+}
