@@ -277,14 +277,14 @@ given-last script old new left given item empty ended state some t g =
     }
 
 pub turn-lasts : (script : List ℕ) (old new : Progress) (left : Option (List ℕ)) (given : List (Option (List ℕ))) (line : Line)
-    → old.held ≡ [] → old.ended ≡ true → Lasts old new line → Given script old left given → Turn script new left given line
-turn-lasts script old new left given End empty ended s g =
+    → old.held ≡ [] → old.ended ≡ true → old.taken ≤ 16777216 → Lasts old new line → Given script old left given → Turn script new left given line
+turn-lasts script old new left given End empty ended limit s g =
     let all : g.behind ≡ script = script-all script g.behind old.held g.rest g.whole empty (g.ended ended) in
-    (given-all g.behind old given s.0 g.lines ∙ ap (λ l. map told (lines_of l)) all, at-end-of left g.rest g.known (g.ended ended))
-turn-lasts script old new left given Text empty ended s g = subst (λ t. Given script new left (given ++ Some t ∷ [])) (sym (ap (λ (v : Progress). v.text) s.1)) (given-last script old new left given (Some old.begun) empty ended s.1 s.0 (λ l e. told-text l old.begun e s.2) g)
-turn-lasts script old new left given TooLong empty ended s g = given-last script old new left given None empty ended s.1 s.0 (λ l e. told-long l old.begun e s.2) g
-turn-lasts script old new left given Over empty ended s g = absurd s
-turn-lasts script old new left given Fault empty ended s g = absurd (not-fault _ s.2)
+    (given-all g.behind old given s.0 g.lines ∙ ap (λ l. map told (lines_of l)) all, at-end-of left g.rest g.known (g.ended ended), omega (arith, g.count, ap length all))
+turn-lasts script old new left given Text empty ended limit s g = subst (λ t. Given script new left (given ++ Some t ∷ [])) (sym (ap (λ (v : Progress). v.text) s.1)) (given-last script old new left given (Some old.begun) empty ended s.1 s.0 (λ l e. told-text l old.begun e s.2) g)
+turn-lasts script old new left given TooLong empty ended limit s g = given-last script old new left given None empty ended s.1 s.0 (λ l e. told-long l old.begun e s.2) g
+turn-lasts script old new left given Over empty ended limit s g = absurd s
+turn-lasts script old new left given Fault empty ended limit s g = absurd (not-fault _ s.2)
 
 -- ---- what was given comes first
 

@@ -10,3 +10,4 @@ pub mod Dir
 pub mod Wholes
 pub mod Listings
 pub mod Answered
+pub mod Examples

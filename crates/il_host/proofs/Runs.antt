@@ -162,6 +162,7 @@ ends-all bytes old new v w left left' before now ok all s g e =
       events = s.events;
       answered = subst (λ (l : List (Option (List ℕ))). Answered v (items_in l) s.events w) t.0 s.answered;
       read = t.1;
+      short = t.2;
       written = s.written;
       replies = s.replies ∙ e;
     }

@@ -46,7 +46,7 @@ pub record Given (script : List ℕ) (progress : Progress) (left : Option (List 
 abbrev pub Turn : List ℕ → Progress → Option (List ℕ) → List (Option (List ℕ)) → Line → Type 0
 Turn script new left given Text = Given script new left (given ++ Some new.text ∷ [])
 Turn script new left given TooLong = Given script new left (given ++ None ∷ [])
-Turn script new left given End = (given ≡ map told (lines_of script)) × IsAtEnd left
+Turn script new left given End = (given ≡ map told (lines_of script)) × IsAtEnd left × (length script ≤ 16777216)
 Turn script new left given Fault = Given script new left given
 Turn script new left given Over = Given script new left given
 

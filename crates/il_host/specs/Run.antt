@@ -9,11 +9,16 @@ use Rattle.il_host.specs.declared.item.Item.{Item}
 use Rattle.il_host.specs.declared.ending.Ending.{Ending}
 use Rattle.il_host.specs.declared.ending.Ending.TheVariants as ending
 
+-- how many bytes a script may have
+abbrev pub longest_script : ℕ
+longest_script = 16777216
+
 -- the script was read to its end and all its items were answered
 pub record AnswersAll (script : List ℕ) (start finish : State) (left written_before written_now : Option (List ℕ)) (ok : Bool) : Type 0 where
   pub events : List Event
   pub answered : Answered start (items_of script) events finish
   pub read : IsAtEnd left
+  pub short : length script ≤ longest_script
   pub written : Appends written_before written_now (output_of events)
   pub replies : all_ok events ≡ ok
 
@@ -26,10 +31,6 @@ pub record AnswersTaken (script : List ℕ) (start finish : State) (left written
   pub whole : script ≡ taken ++ rest
   pub answered : Answered start (items_in (map told (cut taken).whole)) events finish
   pub written : Appends written_before written_now (output_of events)
-
--- how many bytes a script may have
-abbrev pub longest_script : ℕ
-longest_script = 16777216
 
 -- the script has more bytes, and the items of the complete lines up to there were answered
 pub record AnswersLongest (script : List ℕ) (start finish : State) (written_before written_now : Option (List ℕ)) : Type 0 where

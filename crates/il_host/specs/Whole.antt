@@ -16,6 +16,14 @@ IsEarly ending.OutOfMemory = Unit {0}
 IsEarly ending.InsertFailed = Unit {0}
 IsEarly other = ⊥
 
+-- the endings at which no tape is in the drive
+abbrev pub HasNoTape : Ending → Type 0
+HasNoTape ending.BadWords = Unit {0}
+HasNoTape ending.NoImage = Unit {0}
+HasNoTape ending.ImageTooLarge = Unit {0}
+HasNoTape ending.InsertFailed = Unit {0}
+HasNoTape other = ⊥
+
 -- The script was answered over this tape, which is still as it was; or there was no memory for it.
 abbrev pub RunsOver : Ending → List ℕ → Tape → ℕ → Option Tape → ℕ → Option (List ℕ) → Option (List ℕ) → Option (List ℕ) → Type 0
 RunsOver ending.OutOfMemory script tape faults tape_now faults_now left before now = tape_now ≡ Some tape

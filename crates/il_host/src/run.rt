@@ -2,7 +2,7 @@ ghost use Rattle.std.specs.Prelude.{◌≡◌, ◌≢◌, ◌≤◌, ◌↔◌, 
 ghost use Rattle.lif_model.specs.Tape.{Tape};
 ghost use Rattle.lif_model.specs.Shelf.{Shelf};
 ghost use Rattle.il_host.specs.Run.{HasEndingCause, status_of};
-ghost use Rattle.il_host.specs.Whole.{Leaves, RunsOver, IsEarly};
+ghost use Rattle.il_host.specs.Whole.{Leaves, RunsOver, IsEarly, HasNoTape};
 ghost use Rattle.il_host.specs.Words.{image_in};
 ghost use Rattle.il_host.specs.declared.ending.Ending.{Ending};
 
@@ -37,6 +37,7 @@ fn run_script<S: Source, K: Sink, M: Medium>(
     ensures cause { HasEndingCause result.0 (S.faults script.old) (S.faults script.new)
         (K.faults out.old) (K.faults out.new) (M.faults rig.medium) (M.faults result.1.medium) }
     ensures untouched { IsEarly result.0 → (script.new ≡ script.old) × (out.new ≡ out.old) }
+    ensures inserted { HasNoTape result.0 → ⊥ }
     ensures named { result.0 ≢ Ending.BadWords }
 {
     let Ok(lines) = Lines::new(alloc) else {
@@ -67,6 +68,7 @@ fn run<S: Source, K: Sink, M: Medium>(
     ensures cause { HasEndingCause result.0 (S.faults script.old) (S.faults script.new)
         (K.faults out.old) (K.faults out.new) (M.faults rig.medium) (M.faults result.1.medium) }
     ensures untouched { IsEarly result.0 → (script.new ≡ script.old) × (out.new ≡ out.old) }
+    ensures empty { HasNoTape result.0 → (M.record_count result.1.medium ≡ 0) × (M.shelf result.1.medium ≡ M.shelf rig.medium) }
 {
     let Some(name) = read_words(words) else {
         return (Ending::BadWords, rig);
@@ -99,6 +101,8 @@ pub fn run_il<S: Source, K: Sink, M: Medium>(
         (K.faults out.old) (K.faults out.new) (M.faults rig.medium) (M.faults result.rig.medium) }
     ensures untouched { (ending : Ending) → result.status ≡ status_of ending → IsEarly ending
         → (script.new ≡ script.old) × (out.new ≡ out.old) }
+    ensures empty { (ending : Ending) → result.status ≡ status_of ending → HasNoTape ending
+        → (M.record_count result.rig.medium ≡ 0) × (M.shelf result.rig.medium ≡ M.shelf rig.medium) }
     ensures status { result.status ≤ 9 }
 {
     let (ending, rig) = run(alloc, words, script, out, rig);

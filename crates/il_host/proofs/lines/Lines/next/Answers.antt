@@ -20,7 +20,7 @@ returns-then-is_ended-clause-lowers g c =
 
 pub returns-then-is_ended-clause-gives : goal.returns-then-is_ended-clause-gives
 returns-then-is_ended-clause-gives g c = λ script given h.
-    turn-lasts script c.scan.new.self c.last.new.self _ given c.last.result c.in-None.ensures.scans.1 (sym c.is_ended.ensures ∙ c.if-is_ended.true) c.last.ensures
+    turn-lasts script c.scan.new.self c.last.new.self _ given c.last.result c.in-None.ensures.scans.1 (sym c.is_ended.ensures ∙ c.if-is_ended.true) c.in-None.ensures.limit c.last.ensures
     (given-moves script c.pieces.self c.scan.new.self _ given c.pieces.self.held c.in-None.ensures.scans.0 (c.pieces.invariant.gives script given h))
 
 pub returns-in-Err-clause-gives : goal.returns-in-Err-clause-gives
