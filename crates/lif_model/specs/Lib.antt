@@ -6,3 +6,13 @@ pub mod Gate
 pub mod Header
 pub mod Directory
 pub mod Printed
+pub mod Stops
+pub mod Pairs
+pub mod Made
+pub mod Redo
+pub mod Legal
+pub mod Volume
+pub mod Fit
+pub mod Apply
+pub mod Commit
+pub mod Plain

@@ -1,0 +1,414 @@
+-- The next volume of each command: a refused command leaves the volume, and any other leaves a legal one, with its redo file.
+use Rattle.std.proofs.Common.{◌≡◌, ◌≢◌, ◌⊎◌, ◌<◌, ◌≤◌, ◌+◌, ◌-◌, ◌*◌, ◌++◌, ◌&&◌, ◌==◌, ℕ, zero, suc, List, [], ◌∷◌, Bool, true, false, not, if◌then◌else◌, Option, Some, None, length, map, get_or, set, insert, replicate, inl, inr, refl, sym, ◌∙◌, ap, subst, arith, nat_lt, length-set, get_or-set_other}
+use Rattle.std.specs.Str.{bytes_eq}
+use Rattle.std.proofs.lemmas.Bool.{cases_lt, and_parts, and_from, and_cases, or_left, or_parts, ltb-true, ltb-false, leb-false, eqb-true, eq-eqb, ne_eqb, not_from_true, not_from_false}
+use Rattle.std.proofs.lemmas.List.{length_push, length-map, get_or-map}
+use Rattle.std.proofs.lemmas.List.Edits.{length-insert, get_or-insert_below, get_or-insert_above}
+use Rattle.std.proofs.lemmas.Slice.Eq.{bytes_eq-Decides}
+use Rattle.lif_model.specs.Gate.{gate_of}
+use Rattle.lif_model.specs.Header.{directory_start, directory_length, directory_end, capacity_of}
+use Rattle.lif_model.specs.Directory.{name_of, type_of, start_of, length_of, is_end, is_purged}
+use Rattle.lif_model.specs.Made.{new_entry, with_name, with_type, fresh_header, records_for_slots, file_length}
+use Rattle.lif_model.specs.Redo.{One, versions, redo_start}
+use Rattle.lif_model.specs.Legal.{is_live, has_records, occupies, end_of, is_live_named, has_file}
+use Rattle.lif_model.specs.Volume.{redo_name, redo_type, redo_entry, is_redo_entry, is_redo_file, is_adopted, Volume, IsVolume, IsAdopted}
+use Rattle.lif_model.specs.Fit.{Place, At, redo_place, can_append, fit_in}
+use Rattle.lif_model.specs.Apply.{VolumeCommand, Dir, Label, Fetch, Store, Rename, Purge, Adopt, Format, IsWellFormed, Refusal, lacks_redo, is_protected, lacks_slot, lacks_room, is_full, runs_past_gate, is_too_long, first_met, checks_of, refusal_of, stored, with_slot, renamed, fresh_volume, volume_after, volume_made, next_unless, apply}
+use Rattle.lif_model.proofs.Lists.{any_at, any_from, none_at, none_of_filter}
+use Rattle.lif_model.proofs.Made.{new_name, new_type, new_start, new_length, new_size, named_name, named_type, named_start, named_length, named_size, typed_type, typed_start, typed_length, typed_size, fresh_start, fresh_length, fresh_readable}
+use Rattle.lif_model.proofs.Fit.{IsPlace, fit_tells, place_is_free}
+use Rattle.lif_model.proofs.Slots.{readable_tells, occupies_tells, live_named_tells, other_name, HasNew, set_new, before_insert, insert_new, push_new, each_with_new, legal_with_new, StaysPut, legal_map, each_map, slot_cases}
+
+-- ---- replies
+
+-- a refused command leaves the volume
+pub refused_stays : (n : ℕ) (command : VolumeCommand) (volume : Option Volume) (refusal : Refusal) → refusal_of n command volume ≡ Some refusal → apply n command volume ≡ (Some refusal, volume)
+refused_stays n command volume refusal is = λ i. (is i, next_unless n command volume (is i))
+
+made_is : (n : ℕ) (command : VolumeCommand) (v : Volume) → volume_made n command (Some v) ≡ Some (volume_after n command v)
+made_is n Dir v = refl
+made_is n Label v = refl
+made_is n (Fetch name) v = refl
+made_is n (Store name kind implementation bytes) v = refl
+made_is n (Rename old new) v = refl
+made_is n (Purge name) v = refl
+made_is n Adopt v = refl
+made_is n (Format label slots) v = refl
+
+pub accepted : (n : ℕ) (command : VolumeCommand) (v : Volume) → refusal_of n command (Some v) ≡ None → apply n command (Some v) ≡ (None, Some (volume_after n command v))
+accepted n command v is = (λ i. (is i, next_unless n command (Some v) (is i))) ∙ (λ i. (None, made_is n command v i))
+
+-- no test of a command is met
+abbrev pub NoneMet : List (Bool × Refusal) → Type 0
+NoneMet [] = Unit {0}
+NoneMet (check ∷ checks) = (check.0 ≡ false) × NoneMet checks
+
+met_none : (checks : List (Bool × Refusal)) → first_met checks ≡ None → NoneMet checks
+met_none [] is = tt
+met_none (check ∷ checks) is = go check.0 refl is (λ rest. met_none checks rest)
+  where
+    go : (b : Bool) → check.0 ≡ b → (if b then Some check.1 else first_met checks) ≡ None → (first_met checks ≡ None → NoneMet checks) → (check.0 ≡ false) × NoneMet checks
+    go true e is rest = cc
+    go false e is rest = (e, rest is)
+
+-- where a command is not refused, none of its tests is met
+pub none_met : (n : ℕ) (command : VolumeCommand) (v : Volume) → refusal_of n command (Some v) ≡ None → NoneMet (checks_of n command v)
+none_met n command v is = met_none (checks_of n command v) is
+
+-- ---- the redo file
+
+pub redo_file_tells : (n : ℕ) (slot : List ℕ) → is_redo_file n slot ≡ true → (name_of slot ≡ redo_name) × (type_of slot ≡ redo_type)
+redo_file_tells n slot is =
+    let found = any_at One (λ version. is_redo_entry n version slot) versions is in
+    let both = and_parts (bytes_eq (name_of slot) redo_name) _ found.2 in
+    ((bytes_eq-Decides (name_of slot) redo_name).0 both.0, eqb-true (type_of slot) redo_type (and_parts _ _ both.1).0)
+
+pub redo_file_is_live : (n : ℕ) (slot : List ℕ) → is_redo_file n slot ≡ true → is_live slot ≡ true
+redo_file_is_live n slot is = not_from_false _ (ne_eqb (type_of slot) 0 (λ e. let both : redo_type ≡ 0 = sym (redo_file_tells n slot is).1 ∙ e in omega (arith, both)))
+
+-- the entry that this project makes
+pub made_redo_file : (n : ℕ) → is_redo_file n (redo_entry One n) ≡ true
+made_redo_file n =
+    let zeros : List ℕ = replicate 4 0 in
+    or_left _ _ (and_from _ _ ((bytes_eq-Decides (name_of (redo_entry One n)) redo_name).1 (new_name redo_name redo_type (redo_start One n) 4 zeros refl))
+    (and_from _ _ (eq-eqb (type_of (redo_entry One n)) redo_type (new_type redo_name redo_type (redo_start One n) 4 zeros refl))
+    (and_from _ _ (eq-eqb (start_of (redo_entry One n)) (redo_start One n) (new_start redo_name redo_type (redo_start One n) 4 zeros refl))
+    (eq-eqb (length_of (redo_entry One n)) 4 (new_length redo_name redo_type (redo_start One n) 4 zeros refl)))))
+
+-- ---- a new file
+
+not_end : (slot : List ℕ) (kind : ℕ) → type_of slot ≡ kind → kind ≢ 0xFFFF → is_end slot ≡ false
+not_end slot kind is ne = ne_eqb (type_of slot) 0xFFFF (λ e. ne (sym is ∙ e))
+
+no_file : (slots : List (List ℕ)) (name : List ℕ) (k : ℕ) → has_file slots name ≡ false → k < length slots → is_live (get_or slots k []) ≡ true → name_of (get_or slots k []) ≢ name
+no_file slots name k none lt live = other_name name (get_or slots k []) (none_at [] (is_live_named name) slots k none lt) live
+
+module _ (n : ℕ) (v : Volume) (name : List ℕ) (kind : ℕ) (implementation bytes : List ℕ) (i start : ℕ) where
+  abbrev new : List ℕ
+  new = new_entry name kind start (file_length bytes) implementation
+
+  -- the directory with the new entry in some place
+  with_file : (later : List (List ℕ)) (old : ℕ → ℕ) → IsAdopted n v → IsWellFormed (Store name kind implementation bytes) → has_file v.slots name ≡ false
+      → IsPlace n (directory_end v.header) (capacity_of v.header) v.slots (file_length bytes) i start → HasNew v.slots later i new old
+      → ((k : ℕ) → k < length later → k ≢ i → old k ≡ i → i ≡ redo_place v.slots) → length later ≤ capacity_of v.header → is_adopted n later ≡ true
+      → (files : Volume) → IsAdopted n (record files { header = v.header; slots = later })
+  with_file later old is formed none place has own room adopted files =
+      let legal = is.volume.legal in
+      let ten : length name ≡ 10 = formed.0 in
+      let starts : start_of new ≡ start = new_start name kind start (file_length bytes) implementation ten in
+      let longs : length_of new ≡ file_length bytes = new_length name kind start (file_length bytes) implementation ten in
+      let readable = readable_tells n v.header legal.readable in
+      record {
+        volume = record {
+          legal = legal_with_new n v.header v.slots later i new old legal has
+              (omega (arith, place.low, starts)) (omega (arith, place.high, starts, longs, readable.0, readable.2))
+              (λ k lt ne on.
+              let found = has.others k lt ne in
+              let records = (occupies_tells (get_or later k []) on).1 in
+              elim (place_is_free n (directory_end v.header) (capacity_of v.header) v.slots (file_length bytes) i start (old k) place found.0 (λ e. own k lt ne e) (sym (ap has_records found.1) ∙ records)) [
+                | inl le ↦ inl (omega (arith, le, starts, ap end_of found.1))
+                | inr le ↦ inr (omega (arith, le, starts, longs, ap start_of found.1))
+              ])
+              (λ k lt ne live same.
+              let found = has.others k lt ne in
+              no_file v.slots name (old k) none found.0 (sym (ap is_live found.1) ∙ live)
+              (sym (ap name_of found.1) ∙ same ∙ new_name name kind start (file_length bytes) implementation ten));
+          room = room;
+          entries = each_with_new (λ slot. length slot ≡ 32) v.slots later i new old has (new_size name kind start (file_length bytes) implementation ten formed.3) is.volume.entries;
+          kinds = each_with_new (λ slot. is_end slot ≡ false) v.slots later i new old has
+              (not_end new kind (new_type name kind start (file_length bytes) implementation ten) formed.2) is.volume.kinds;
+        };
+        adopted = adopted;
+      }
+
+  -- in a purged slot
+  pub set_is_adopted : IsAdopted n v → IsWellFormed (Store name kind implementation bytes) → has_file v.slots name ≡ false
+      → IsPlace n (directory_end v.header) (capacity_of v.header) v.slots (file_length bytes) i start → i < length v.slots → is_purged (get_or v.slots i []) ≡ true → i ≢ redo_place v.slots
+      → (files : Volume) → IsAdopted n (record files { header = v.header; slots = set v.slots i new })
+  set_is_adopted is formed none place lt purged other files =
+      let found = any_at [] (is_redo_file n) v.slots is.adopted in
+      let off : found.0 ≢ i = λ e.
+      let live : is_live (get_or v.slots i []) ≡ true = subst (λ (k : ℕ). is_live (get_or v.slots k []) ≡ true) e (redo_file_is_live n (get_or v.slots found.0 []) found.2) in
+      let both : true ≡ false = sym live ∙ not_from_true _ purged in cc in
+      with_file (set v.slots i new) (λ k. k) is formed none place (set_new v.slots i new lt) (λ k long ne e. absurd (ne e)) (omega (arith, length-set v.slots i new, is.volume.room))
+      (any_from [] (is_redo_file n) (set v.slots i new) found.0 (omega (arith, found.1, length-set v.slots i new)) (ap (is_redo_file n) (get_or-set_other v.slots i found.0 new [] off) ∙ found.2)) files
+
+  -- before the redo entry
+  pub insert_is_adopted : IsAdopted n v → IsWellFormed (Store name kind implementation bytes) → has_file v.slots name ≡ false
+      → IsPlace n (directory_end v.header) (capacity_of v.header) v.slots (file_length bytes) i start → i ≡ redo_place v.slots → can_append (capacity_of v.header) v.slots ≡ true
+      → (files : Volume) → IsAdopted n (record files { header = v.header; slots = insert v.slots i new })
+  insert_is_adopted is formed none place own append files =
+      let both = and_parts _ _ append in
+      let last : suc (redo_place v.slots) ≡ length v.slots = eqb-true (suc (redo_place v.slots)) (length v.slots) both.0 in
+      let fits : length v.slots < capacity_of v.header = ltb-true (length v.slots) (capacity_of v.header) both.1 in
+      let le : i ≤ length v.slots = omega (arith, last, own) in
+      let found = any_at [] (is_redo_file n) v.slots is.adopted in
+      with_file (insert v.slots i new) (before_insert i) is formed none place (insert_new v.slots i new le) (λ k long ne e. own) (omega (arith, length-insert v.slots i new le, fits))
+      (elim (cases_lt found.0 i) [
+        | inl lt ↦ any_from [] (is_redo_file n) (insert v.slots i new) found.0 (omega (arith, found.1, length-insert v.slots i new le)) (ap (is_redo_file n) (get_or-insert_below v.slots i new [] found.0 lt le) ∙ found.2)
+        | inr ge ↦ any_from [] (is_redo_file n) (insert v.slots i new) (found.0 + 1) (omega (arith, found.1, length-insert v.slots i new le)) (ap (is_redo_file n) (get_or-insert_above v.slots i new [] found.0 ge le) ∙ found.2)
+      ]) files
+
+pub store_is_adopted : (n : ℕ) (v : Volume) (name : List ℕ) (kind : ℕ) (implementation bytes : List ℕ) → IsAdopted n v → IsWellFormed (Store name kind implementation bytes)
+    → refusal_of n (Store name kind implementation bytes) (Some v) ≡ None → IsAdopted n (volume_after n (Store name kind implementation bytes) v)
+store_is_adopted n v name kind implementation bytes is formed none = go (fit_in n v (file_length bytes)) refl unmet.1.1.1.0 unmet.1.1.1.1.0
+  where
+    unmet : NoneMet (checks_of n (Store name kind implementation bytes) v)
+    unmet = none_met n (Store name kind implementation bytes) v none
+
+    go : (place : Place) → fit_in n v (file_length bytes) ≡ place → lacks_slot place ≡ false → lacks_room place ≡ false → IsAdopted n (stored v name kind implementation bytes place)
+    go Place.NoSlot e slot room = cc
+    go Place.NoRoom e slot room = cc
+    go (At i start) e slot room =
+        let place = fit_tells n (directory_end v.header) (capacity_of v.header) v.slots (file_length bytes) i start e in
+        let entry : List ℕ = new_entry name kind start (file_length bytes) implementation in
+        let later : Volume = stored v name kind implementation bytes (At i start) in
+        elim place.candidate [
+          | inl purged ↦ subst (λ (b : Bool). IsAdopted n (record later { slots = if b then insert v.slots i entry else set v.slots i entry })) (sym (ne_eqb i (redo_place v.slots) (λ e. absurd (omega (arith, e, purged.0)))))
+              (set_is_adopted n v name kind implementation bytes i start is formed unmet.1.1.0 place purged.1 purged.2 (λ e. absurd (omega (arith, e, purged.0))) later)
+          | inr own ↦ subst (λ (b : Bool). IsAdopted n (record later { slots = if b then insert v.slots i entry else set v.slots i entry })) (sym (eq-eqb i (redo_place v.slots) own.0))
+              (insert_is_adopted n v name kind implementation bytes i start is formed unmet.1.1.0 place own.0 own.1 later)
+        ]
+
+-- ---- a slot changed in place
+
+-- the redo file keeps its slot where a change leaves it
+map_keeps_redo : (n : ℕ) (slots : List (List ℕ)) (change : List ℕ → List ℕ) → is_adopted n slots ≡ true
+    → ((k : ℕ) → k < length slots → is_redo_file n (get_or slots k []) ≡ true → change (get_or slots k []) ≡ get_or slots k []) → is_adopted n (map change slots) ≡ true
+map_keeps_redo n slots change adopted keeps =
+    let found = any_at [] (is_redo_file n) slots adopted in
+    any_from [] (is_redo_file n) (map change slots) found.0 (omega (arith, found.1, length-map slots change))
+    (ap (is_redo_file n) (get_or-map change slots found.0 [] [] found.1 ∙ keeps found.0 found.1 found.2) ∙ found.2)
+
+-- no command names the redo file
+pub not_redo_name : (n : ℕ) (v : Volume) (name : List ℕ) → is_adopted n v.slots ≡ true → is_protected n v name ≡ false → name ≢ redo_name
+not_redo_name n v name adopted off same =
+    let both : true ≡ false = sym (and_from _ _ adopted ((bytes_eq-Decides name redo_name).1 same)) ∙ off in cc
+
+module _ (n : ℕ) (v : Volume) (name : List ℕ) (change : List ℕ → List ℕ) where
+  abbrev changed_slot : List ℕ → List ℕ
+  changed_slot slot = if is_live_named name slot then change slot else slot
+
+  -- of the slot of a name, where the change keeps to its place and makes no purged slot live
+  pub change_is_adopted : IsAdopted n v → name ≢ redo_name
+      → ((slot : List ℕ) → length slot ≡ 32 → is_end slot ≡ false → is_live_named name slot ≡ true → StaysPut slot (change slot) × (length (change slot) ≡ 32) × (is_end (change slot) ≡ false))
+      → ((j k : ℕ) → j < k → k < length v.slots → is_live (changed_slot (get_or v.slots j [])) ≡ true → is_live (changed_slot (get_or v.slots k [])) ≡ true
+      → name_of (changed_slot (get_or v.slots j [])) ≢ name_of (changed_slot (get_or v.slots k [])))
+      → (files : Volume) → IsAdopted n (record files { header = v.header; slots = with_slot name change v.slots })
+  change_is_adopted is other each names files = record {
+    volume = record {
+      legal = legal_map n v.header v.slots changed_slot is.volume.legal (λ k lt. (all_of k lt).0) names;
+      room = omega (arith, length-map v.slots changed_slot, is.volume.room);
+      entries = each_map (λ slot. length slot ≡ 32) v.slots changed_slot (λ k lt. (all_of k lt).1);
+      kinds = each_map (λ slot. is_end slot ≡ false) v.slots changed_slot (λ k lt. (all_of k lt).2);
+    };
+    adopted = map_keeps_redo n v.slots changed_slot is.adopted (λ k lt redo. elim (slot_cases name change (get_or v.slots k [])) [
+      | inl both ↦ absurd (other (sym (live_named_tells name (get_or v.slots k []) both.0).1 ∙ (redo_file_tells n (get_or v.slots k []) redo).0))
+      | inr both ↦ both.1
+    ]);
+  }
+    where
+      all_of : (k : ℕ) → k < length v.slots → StaysPut (get_or v.slots k []) (changed_slot (get_or v.slots k [])) × (length (changed_slot (get_or v.slots k [])) ≡ 32) × (is_end (changed_slot (get_or v.slots k [])) ≡ false)
+      all_of k lt =
+          let slot = get_or v.slots k [] in
+          let size = is.volume.entries k lt in
+          let kind = is.volume.kinds k lt in
+          elim (slot_cases name change slot) [
+            | inl both ↦ subst (λ (s : List ℕ). StaysPut slot s × (length s ≡ 32) × (is_end s ≡ false)) (sym both.1) (each slot size kind both.0)
+            | inr both ↦ subst (λ (s : List ℕ). StaysPut slot s × (length s ≡ 32) × (is_end s ≡ false)) (sym both.1) (record { live = λ on. on; start = refl; long = refl }, size, kind)
+          ]
+
+-- ---- purge
+
+pub purged_is_dead : (slot : List ℕ) → length slot ≡ 32 → is_live (with_type 0 slot) ≡ false
+purged_is_dead slot size = not_from_true _ (eq-eqb (type_of (with_type 0 slot)) 0 (typed_type 0 slot (omega (arith, size))))
+
+pub purge_is_adopted : (n : ℕ) (v : Volume) (name : List ℕ) → IsAdopted n v → refusal_of n (Purge name) (Some v) ≡ None → IsAdopted n (volume_after n (Purge name) v)
+purge_is_adopted n v name is none =
+    let protected = (none_met n (Purge name) v none).1.0 in
+    change_is_adopted n v name (with_type 0) is (not_redo_name n v name is.adopted protected)
+    (λ slot size kind on. (
+      record {
+        live = λ alive. let both : true ≡ false = sym alive ∙ purged_is_dead slot size in cc;
+        start = typed_start 0 slot;
+        long = typed_length 0 slot;
+      },
+      typed_size 0 slot ∙ size,
+      not_end (with_type 0 slot) 0 (typed_type 0 slot (omega (arith, size))) (λ e. absurd (omega (arith, e))),
+    ))
+    (λ j k less lt first second same.
+    let one = alive_stays j (omega (arith, less, lt)) first in
+    let two = alive_stays k lt second in
+    is.volume.legal.distinct j k less lt (sym (ap is_live one) ∙ first) (sym (ap is_live two) ∙ second) (sym (ap name_of one) ∙ same ∙ ap name_of two))
+    (volume_after n (Purge name) v)
+  where
+    alive_stays : (k : ℕ) → k < length v.slots → is_live (if is_live_named name (get_or v.slots k []) then with_type 0 (get_or v.slots k []) else get_or v.slots k []) ≡ true
+        → (if is_live_named name (get_or v.slots k []) then with_type 0 (get_or v.slots k []) else get_or v.slots k []) ≡ get_or v.slots k []
+    alive_stays k lt alive = elim (slot_cases name (with_type 0) (get_or v.slots k [])) [
+      | inl both ↦ let no : true ≡ false = sym alive ∙ ap is_live both.1 ∙ purged_is_dead (get_or v.slots k []) (is.volume.entries k lt) in cc
+      | inr both ↦ both.1
+    ]
+
+-- ---- rename
+
+-- slot k is renamed, or it is not and had another name than the new one
+abbrev NamedAt : Volume → List ℕ → List ℕ → ℕ → Type 0
+NamedAt v old later k =
+    ((name_of (get_or v.slots k []) ≡ old) × (name_of (if is_live_named old (get_or v.slots k []) then with_name later (get_or v.slots k []) else get_or v.slots k []) ≡ later))
+    ⊎ ((name_of (get_or v.slots k []) ≢ later) × (name_of (if is_live_named old (get_or v.slots k []) then with_name later (get_or v.slots k []) else get_or v.slots k []) ≡ name_of (get_or v.slots k [])))
+
+pub rename_is_adopted : (n : ℕ) (v : Volume) (old later : List ℕ) → IsAdopted n v → IsWellFormed (Rename old later) → refusal_of n (Rename old later) (Some v) ≡ None → IsAdopted n (volume_after n (Rename old later) v)
+rename_is_adopted n v old later is formed none = go (bytes_eq old later) refl
+  where
+    unmet : NoneMet (checks_of n (Rename old later) v)
+    unmet = none_met n (Rename old later) v none
+
+    -- what a slot that is live after the change was called before, and is called then
+    named : (k : ℕ) → k < length v.slots → bytes_eq old later ≡ false → is_live (if is_live_named old (get_or v.slots k []) then with_name later (get_or v.slots k []) else get_or v.slots k []) ≡ true
+        → (is_live (get_or v.slots k []) ≡ true) × NamedAt v old later k
+    named k lt other alive = elim (slot_cases old (with_name later) (get_or v.slots k [])) [
+      | inl both ↦ let tells = live_named_tells old (get_or v.slots k []) both.0 in (tells.0, inl (tells.1, ap name_of both.1 ∙ named_name later (get_or v.slots k []) formed.1))
+      | inr both ↦
+          let live : is_live (get_or v.slots k []) ≡ true = sym (ap is_live both.1) ∙ alive in
+          let none_later : has_file v.slots later ≡ false = elim (and_cases (has_file v.slots later) (not (bytes_eq old later)) unmet.1.1.1.0) [
+            | inl e ↦ e
+            | inr e ↦ let no : true ≡ false = sym (not_from_false _ other) ∙ e in cc
+          ] in
+          (live, inr (no_file v.slots later k none_later lt live, ap name_of both.1))
+    ]
+
+    go : (b : Bool) → bytes_eq old later ≡ b → IsAdopted n (volume_after n (Rename old later) v)
+    go true e = subst (λ (b : Bool). IsAdopted n (if b then v else renamed v old later)) (sym e) is
+    go false e = subst (λ (b : Bool). IsAdopted n (if b then v else renamed v old later)) (sym e)
+        (change_is_adopted n v old (with_name later) is (not_redo_name n v old is.adopted (or_parts (is_protected n v old) (is_protected n v later) unmet.1.0).0)
+        (λ slot size kind on. (
+          record {
+            live = λ alive. sym (ap (λ (t : ℕ). not (t == 0)) (named_type later slot formed.1)) ∙ alive;
+            start = named_start later slot formed.1;
+            long = named_length later slot formed.1;
+          },
+          named_size later slot formed.1 size,
+          ap (λ (t : ℕ). t == 0xFFFF) (named_type later slot formed.1) ∙ kind,
+        ))
+        (λ j k less lt first second same.
+        let one = named j (omega (arith, less, lt)) e first in
+        let two = named k lt e second in
+        two_names j k less lt one.0 two.0 same one.1 two.1)
+        (renamed v old later))
+      where
+        two_names : (j k : ℕ) → j < k → k < length v.slots → is_live (get_or v.slots j []) ≡ true → is_live (get_or v.slots k []) ≡ true
+            → name_of (if is_live_named old (get_or v.slots j []) then with_name later (get_or v.slots j []) else get_or v.slots j []) ≡ name_of (if is_live_named old (get_or v.slots k []) then with_name later (get_or v.slots k []) else get_or v.slots k [])
+            → NamedAt v old later j → NamedAt v old later k → ⊥
+        two_names j k less lt first second same (inl a) (inl b) = is.volume.legal.distinct j k less lt first second (a.0 ∙ sym b.0)
+        two_names j k less lt first second same (inl a) (inr b) = b.0 (sym b.1 ∙ sym same ∙ a.1)
+        two_names j k less lt first second same (inr a) (inl b) = a.0 (sym a.1 ∙ same ∙ b.1)
+        two_names j k less lt first second same (inr a) (inr b) = is.volume.legal.distinct j k less lt first second (sym a.1 ∙ same ∙ b.1)
+
+-- ---- adopt
+
+adopted_room : (n : ℕ) (v : Volume) → is_full v ≡ false → length v.slots < capacity_of v.header
+adopted_room n v room = leb-false (capacity_of v.header) (length v.slots) room
+
+-- a volume without a redo file gets one
+pub adopt_is_adopted : (n : ℕ) (v : Volume) → IsVolume n v → refusal_of n Adopt (Some v) ≡ None → IsAdopted n (volume_after n Adopt v)
+adopt_is_adopted n v is none = go (is_adopted n v.slots) refl
+  where
+    unmet : NoneMet (checks_of n Adopt v)
+    unmet = none_met n Adopt v none
+
+    go : (b : Bool) → is_adopted n v.slots ≡ b → IsAdopted n (volume_after n Adopt v)
+    go true e = subst (λ (b : Bool). IsAdopted n (if b then v else record v { slots = v.slots ++ redo_entry One n ∷ [] })) (sym e) (record { volume = is; adopted = e })
+    go false e =
+        let lacks : lacks_redo n v ≡ true = not_from_false _ e in
+        let none_named : has_file v.slots redo_name ≡ false = unmet_after _ _ lacks unmet.0 in
+        let fits : is_full v ≡ false = unmet_after _ _ lacks unmet.1.0 in
+        let clear : runs_past_gate n v ≡ false = unmet_after _ _ lacks unmet.1.1.0 in
+        subst (λ (b : Bool). IsAdopted n (if b then v else record v { slots = v.slots ++ redo_entry One n ∷ [] })) (sym e) (with_redo none_named fits clear)
+      where
+        unmet_after : (a b : Bool) → a ≡ true → (a && b) ≡ false → b ≡ false
+        unmet_after a b is off = sym (ap (λ (c : Bool). c && b) is) ∙ off
+
+        with_redo : has_file v.slots redo_name ≡ false → is_full v ≡ false → runs_past_gate n v ≡ false → IsAdopted n (record v { slots = v.slots ++ redo_entry One n ∷ [] })
+        with_redo none_named fits clear =
+            let zeros : List ℕ = replicate 4 0 in
+            let redo : List ℕ = redo_entry One n in
+            let starts : start_of redo ≡ n - 4 = new_start redo_name redo_type (n - 4) 4 zeros refl in
+            let longs : length_of redo ≡ 4 = new_length redo_name redo_type (n - 4) 4 zeros refl in
+            let has = push_new v.slots redo in
+            let readable = readable_tells n v.header is.legal.readable in
+            record {
+              volume = record {
+                legal = legal_with_new n v.header v.slots (v.slots ++ redo ∷ []) (length v.slots) redo (λ k. k) is.legal has
+                    (omega (arith, starts, readable.2)) (omega (arith, starts, longs, readable.0, readable.2))
+                    (λ k lt ne on.
+                    let found = has.others k lt ne in
+                    inl (omega (arith, ap end_of found.1, starts, ends_before k found.0 (sym (ap occupies found.1) ∙ on))))
+                    (λ k lt ne live same.
+                    let found = has.others k lt ne in
+                    no_file v.slots redo_name k none_named found.0 (sym (ap is_live found.1) ∙ live) (sym (ap name_of found.1) ∙ same ∙ new_name redo_name redo_type (n - 4) 4 zeros refl));
+                room = omega (arith, length_push v.slots redo, adopted_room n v fits);
+                entries = each_with_new (λ slot. length slot ≡ 32) v.slots (v.slots ++ redo ∷ []) (length v.slots) redo (λ k. k) has (new_size redo_name redo_type (n - 4) 4 zeros refl refl) is.entries;
+                kinds = each_with_new (λ slot. is_end slot ≡ false) v.slots (v.slots ++ redo ∷ []) (length v.slots) redo (λ k. k) has
+                    (not_end redo redo_type (new_type redo_name redo_type (n - 4) 4 zeros refl) (λ e. absurd (omega (arith, e)))) is.kinds;
+              };
+              adopted = any_from [] (is_redo_file n) (v.slots ++ redo ∷ []) (length v.slots) (omega (arith, length_push v.slots redo)) (ap (is_redo_file n) has.here ∙ made_redo_file n);
+            }
+          where
+            ends_before : (k : ℕ) → k < length v.slots → occupies (get_or v.slots k []) ≡ true → end_of (get_or v.slots k []) ≤ gate_of n
+            ends_before k lt on = ltb-false (gate_of n) (end_of (get_or v.slots k [])) (none_of_filter [] occupies (λ slot. nat_lt (gate_of n) (end_of slot)) v.slots k clear lt on)
+
+-- ---- format
+
+-- what `format` makes of any tape
+pub format_is_adopted : (n : ℕ) (label : List ℕ) (slots : ℕ) → IsWellFormed (Format label slots) → is_too_long n slots ≡ false → IsAdopted n (fresh_volume n label slots)
+format_is_adopted n label slots formed fits =
+    let count : ℕ = records_for_slots slots in
+    let header : List ℕ = fresh_header n label count in
+    let zeros : List ℕ = replicate 4 0 in
+    let redo : List ℕ = redo_entry One n in
+    let starts : start_of redo ≡ n - 4 = new_start redo_name redo_type (n - 4) 4 zeros refl in
+    let longs : length_of redo ≡ 4 = new_length redo_name redo_type (n - 4) 4 zeros refl in
+    let begins : directory_start header ≡ 2 = fresh_start n label count formed.0 in
+    let takes : directory_length header ≡ count = fresh_length n label count formed.0 in
+    let short : slots ≤ 8 * (n - 6) = ltb-false (8 * (n - 6)) slots fits in
+    let some : 0 < count = omega (arith, formed.1) in
+    let below : 2 + count ≤ gate_of n = omega (arith, formed.1, short) in
+    record {
+      volume = record {
+        legal = record {
+          readable = fresh_readable n label count formed.0 some below;
+          within = λ i lt on. one i lt (λ slot. (directory_end header ≤ start_of slot) × (end_of slot ≤ n)) (omega (arith, starts, begins, takes, below), omega (arith, starts, longs, some, below));
+          apart = λ i j less lt first second. absurd (omega (arith, less, lt));
+          distinct = λ i j less lt first second. absurd (omega (arith, less, lt));
+        };
+        room = omega (arith, takes, some);
+        entries = λ i lt. one i lt (λ slot. length slot ≡ 32) (new_size redo_name redo_type (n - 4) 4 zeros refl refl);
+        kinds = λ i lt. one i lt (λ slot. is_end slot ≡ false) (not_end redo redo_type (new_type redo_name redo_type (n - 4) 4 zeros refl) (λ e. absurd (omega (arith, e))));
+      };
+      adopted = any_from [] (is_redo_file n) (redo ∷ []) 0 (omega arith) (made_redo_file n);
+    }
+  where
+    one : (i : ℕ) → i < 1 → (P : List ℕ → Type 0) → P (redo_entry One n) → P (get_or (redo_entry One n ∷ []) i [])
+    one zero lt P here = here
+    one (suc i) lt P here = absurd (omega arith)
+
+-- ---- every command
+
+-- the next volume of a command on a legal adopted volume is again legal and adopted
+pub next_is_adopted : (n : ℕ) (command : VolumeCommand) (v : Volume) → IsAdopted n v → IsWellFormed command → refusal_of n command (Some v) ≡ None → IsAdopted n (volume_after n command v)
+next_is_adopted n Dir v is formed none = is
+next_is_adopted n Label v is formed none = is
+next_is_adopted n (Fetch name) v is formed none = is
+next_is_adopted n (Store name kind implementation bytes) v is formed none = store_is_adopted n v name kind implementation bytes is formed none
+next_is_adopted n (Rename old later) v is formed none = rename_is_adopted n v old later is formed none
+next_is_adopted n (Purge name) v is formed none = purge_is_adopted n v name is none
+next_is_adopted n Adopt v is formed none = adopt_is_adopted n v is.volume none
+next_is_adopted n (Format label slots) v is formed none = format_is_adopted n label slots formed (none_met n (Format label slots) v none).0
+
+-- as a pair of reply and volume
+pub apply_is_adopted : (n : ℕ) (command : VolumeCommand) (v : Volume) → IsAdopted n v → IsWellFormed command → (w : Volume) × ((apply n command (Some v)).1 ≡ Some w) × IsAdopted n w
+apply_is_adopted n command v is formed = go (refusal_of n command (Some v)) refl
+  where
+    go : (r : Option Refusal) → refusal_of n command (Some v) ≡ r → (w : Volume) × ((apply n command (Some v)).1 ≡ Some w) × IsAdopted n w
+    go None e = (volume_after n command v, ap (λ (p : Option Refusal × Option Volume). p.1) (accepted n command v e), next_is_adopted n command v is formed e)
+    go (Some refusal) e = (v, ap (λ (p : Option Refusal × Option Volume). p.1) (refused_stays n command (Some v) refusal e), is)
