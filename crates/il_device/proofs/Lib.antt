@@ -1,0 +1,6 @@
+pub mod NumberLemmas
+pub mod StandingLemmas
+pub mod TurnLemmas
+pub mod WalkLemmas
+pub mod Laws
+mod Examples

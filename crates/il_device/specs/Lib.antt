@@ -1,0 +1,8 @@
+pub mod Roles
+pub mod State
+pub mod Passing
+pub mod Takes
+pub mod Interfaces
+pub mod Printers
+pub mod Walks
+pub mod Numbers

@@ -1,0 +1,224 @@
+-- The exchanges of a controller as values, and the entries that each stands for. Which exchanges there
+-- are, and how one can break off, is this project's own; the frames of each and their order follow the
+-- HP-IL Interface Specification, HP 82166-90017.
+use Rattle.std.specs.Prelude.{◌≡◌, ℕ, zero, suc, ◌==◌, nat_lt, nat_le, Bool, true, false, not, ◌&&◌, ◌||◌, List, [], ◌∷◌, ◌++◌, map, flat_map, Option, Some, None}
+use Rattle.std.specs.List.{list_all}
+use Rattle.il_frames.specs.declared.frame.Class.TheVariants as class
+use Rattle.il_frames.specs.declared.frame.Frame.{Frame}
+use Rattle.il_frames.specs.declared.message.Message.{Message}
+use Rattle.il_frames.specs.declared.message.Message.TheVariants as msg
+use Rattle.il_frames.specs.declared.entry.Entry.{Entry}
+use Rattle.il_frames.specs.declared.entry.Outcome.{Outcome}
+use Rattle.il_frames.specs.declared.entry.Outcome.TheVariants as outcome
+use Rattle.il_frames.specs.Frames.{framed, class_of, same_class, is_data, same_but_service}
+use Rattle.il_frames.specs.Messages.{message_of}
+use Rattle.loop_model.specs.Entries.{entry, ready, unl, unt, lad, tad, ddl, ddt, rfc, eto, ete, nrd, aad}
+
+-- ---- values
+
+-- a data or end frame as its source sent it and as it came back
+pub record Echo : Type 0 where
+  pub sent : Frame
+  pub back : Frame
+
+-- start messages: send data, send status, send device ID, send accessory ID
+pub data Start : Type 0 where
+  Sda : Start
+  Sst : Start
+  Sdi : Start
+  Sai : Start
+
+-- what came of a start message: it came back; or a device took it and sent frames to its end; or the
+-- host stopped that device, and one more frame, the last, ended after that
+pub data Answer : Type 0 where
+  NotTaken : Answer
+  ToItsEnd : ℕ → List Echo → Answer
+  Stopped : ℕ → List Echo → Echo → Answer
+
+-- An exchange. Send: a listen address, a DDL number if one is given, data. Receive: a talk address, a
+-- DDT number if one is given, a start message and what came of it. Address: the number of devices.
+-- Identify: the frame that came back.
+pub data Exchange : Type 0 where
+  Command : Frame → Exchange
+  Address : ℕ → Exchange
+  Send : ℕ → Option ℕ → List Echo → Exchange
+  Receive : ℕ → Option ℕ → Start → Answer → Exchange
+  Identify : Frame → Exchange
+
+-- ---- entries
+
+-- the frame of a start message
+abbrev pub start_frame : Start → Frame
+start_frame Sda = ready 0x60
+start_frame Sst = ready 0x61
+start_frame Sdi = ready 0x62
+start_frame Sai = ready 0x63
+
+-- a frame of the host that came back as it was
+abbrev pub returned : Frame → Entry
+returned f = entry 0 f (outcome.Back f)
+
+-- a command, and the handshake after it
+abbrev pub commanded : Frame → List Entry
+commanded f = returned f ∷ returned rfc ∷ []
+
+-- a data or end frame of a party
+abbrev pub echoed : ℕ → Echo → Entry
+echoed party d = entry party d.sent (outcome.Back d.back)
+
+-- the command of a number, if one is given
+abbrev pub numbered : (ℕ → Frame) → Option ℕ → List Entry
+numbered frame None = []
+numbered frame (Some n) = commanded (frame n)
+
+-- the start message and what came of it
+abbrev pub answer_entries : Frame → Answer → List Entry
+answer_entries start NotTaken = returned start ∷ []
+answer_entries start (ToItsEnd p data_frames) =
+    entry 0 start (outcome.Taken p) ∷ map (echoed p) data_frames ++ entry p eto (outcome.Taken 0) ∷ []
+answer_entries start (Stopped p data_frames last) =
+    entry 0 start (outcome.Taken p) ∷ map (echoed p) data_frames
+    ++ returned nrd ∷ echoed p last ∷ entry p eto (outcome.Taken 0) ∷ []
+
+-- the entries of an exchange
+abbrev pub entries_of : Exchange → List Entry
+entries_of (Command f) = commanded f
+entries_of (Address devices) = entry 0 (aad 1) (outcome.Back (aad (suc devices))) ∷ []
+entries_of (Send a number data_frames) =
+    commanded unl ++ commanded (lad a) ++ numbered ddl number ++ map (echoed 0) data_frames
+entries_of (Receive a number start answer) =
+    commanded unl ++ commanded (tad a) ++ numbered ddt number ++ answer_entries (start_frame start) answer ++ commanded unt
+entries_of (Identify f) = entry 0 (framed class.Idy 0x00) (outcome.Back f) ∷ []
+
+-- ---- which values are exchanges
+
+-- the message gives a talk address
+abbrev pub is_talk_address : Message → Bool
+is_talk_address (msg.Tad a) = true
+is_talk_address m = false
+
+-- a data or end frame that came back the same apart from the service bit
+abbrev pub is_echo : Echo → Bool
+is_echo d = is_data d.sent && same_but_service d.sent d.back
+
+-- the same of a frame DAB, which is what the host sends
+abbrev pub is_host_echo : Echo → Bool
+is_host_echo d = same_class (class_of d.sent) class.Dab && is_echo d
+
+-- a listen or talk address
+abbrev pub is_address : ℕ → Bool
+is_address a = nat_le a 30
+
+-- the number of a DDL or DDT, if one is given
+abbrev pub is_number : Option ℕ → Bool
+is_number None = true
+is_number (Some n) = nat_lt n 32
+
+-- at least one
+abbrev pub is_some_data : List Echo → Bool
+is_some_data [] = false
+is_some_data (d ∷ ds) = true
+
+-- a device, not the host, took the start message and sent data or end frames, at least one
+abbrev pub is_answer : Answer → Bool
+is_answer NotTaken = true
+is_answer (ToItsEnd p data_frames) = nat_lt 0 p && (is_some_data data_frames && list_all is_echo data_frames)
+is_answer (Stopped p data_frames last) = nat_lt 0 p && (list_all is_echo data_frames && is_echo last)
+
+-- the value is an exchange: among others, no command gives a talk address outside a receive
+abbrev pub is_exchange : Exchange → Bool
+is_exchange (Command f) = same_class (class_of f) class.Cmd && not (is_talk_address (message_of f))
+is_exchange (Address devices) = nat_le devices 30
+is_exchange (Send a number data_frames) = is_address a && (is_number number && list_all is_host_echo data_frames)
+is_exchange (Receive a number start answer) = is_address a && (is_number number && is_answer answer)
+is_exchange (Identify f) = same_class (class_of f) class.Idy || same_class (class_of f) class.Isr
+
+-- ---- broken exchanges
+
+-- how an exchange broke off: the frame that was due did not reach a party; the host's data frame came
+-- back as another; a device's did, and that device's ETE ended so
+pub data Break : Type 0 where
+  FrameLost : ℕ → Break
+  HostAltered : Frame → Break
+  TalkerAltered : Frame → Outcome → Break
+
+-- the entries of a break in the place of this one
+abbrev pub break_entries : Entry → Break → List Entry
+break_entries due (FrameLost q) = entry due.source due.frame (outcome.Lost q) ∷ []
+break_entries due (HostAltered f) = entry due.source due.frame (outcome.Back f) ∷ []
+break_entries due (TalkerAltered f end) =
+    entry due.source due.frame (outcome.Back f) ∷ entry due.source ete end ∷ []
+
+-- ETE came to the host, or was lost
+abbrev pub is_end : Outcome → Bool
+is_end (outcome.Back f) = false
+is_end (outcome.Taken q) = q == 0
+is_end (outcome.Lost q) = true
+
+-- a data or end frame that comes back so is another than the one sent
+abbrev pub is_altered : Frame → Frame → Bool
+is_altered f g = is_data f && not (same_but_service f g)
+
+-- the break can stand in the place of this entry
+abbrev pub is_break : Entry → Break → Bool
+is_break due (FrameLost q) = true
+is_break due (HostAltered f) = (due.source == 0) && is_altered due.frame f
+is_break due (TalkerAltered f end) = nat_lt 0 due.source && (is_altered due.frame f && is_end end)
+
+-- the first n entries, and then a break in the place of the next
+abbrev pub cut_at : List Entry → ℕ → Break → List Entry
+cut_at [] n b = []
+cut_at (e ∷ es) zero b = break_entries e b
+cut_at (e ∷ es) (suc n) b = e ∷ cut_at es n b
+
+-- there is a next entry, and the break can stand in its place
+abbrev pub can_cut : List Entry → ℕ → Break → Bool
+can_cut [] n b = false
+can_cut (e ∷ es) zero b = is_break e b
+can_cut (e ∷ es) (suc n) b = can_cut es n b
+
+-- ---- logs
+
+-- a whole exchange; or one of which n entries stand, with a break in the place of the next
+pub data Piece : Type 0 where
+  Whole : Exchange → Piece
+  Cut : Exchange → ℕ → Break → Piece
+
+-- the entries of a whole or broken exchange
+abbrev pub piece_entries : Piece → List Entry
+piece_entries (Whole x) = entries_of x
+piece_entries (Cut x n b) = cut_at (entries_of x) n b
+
+-- the value is a whole or broken exchange
+abbrev pub is_piece : Piece → Bool
+is_piece (Whole x) = is_exchange x
+is_piece (Cut x n b) = is_exchange x && can_cut (entries_of x) n b
+
+-- none is broken
+abbrev pub are_whole : List Piece → Bool
+are_whole [] = true
+are_whole (Whole x ∷ ps) = are_whole ps
+are_whole (Cut x n b ∷ ps) = false
+
+-- the last is broken, and no other
+abbrev pub breaks_off : List Piece → Bool
+breaks_off [] = false
+breaks_off (Whole x ∷ ps) = breaks_off ps
+breaks_off (Cut x n b ∷ []) = true
+breaks_off (Cut x n b ∷ p ∷ ps) = false
+
+-- the log is a list of whole and broken exchanges
+pub record Reading (log : List Entry) : Type 0 where
+  pub pieces : List Piece
+  pub legal : list_all is_piece pieces ≡ true
+  pub entries : log ≡ flat_map piece_entries pieces
+
+-- the log is a list of whole exchanges
+pub record IsWhole (log : List Entry) : Type 0 where
+  pub reading : Reading log
+  pub whole : are_whole reading.pieces ≡ true
+
+-- the log is a list of whole exchanges followed by one broken exchange
+pub record IsBroken (log : List Entry) : Type 0 where
+  pub reading : Reading log
+  pub broken : breaks_off reading.pieces ≡ true
