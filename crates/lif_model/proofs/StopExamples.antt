@@ -65,6 +65,7 @@ time_of_write = record { later = omega arith; nothing_else = nothing_else; keeps
         same : (t : Tape) → Some before ≡ Some t → before ≡ t
         same t is = cc
     nothing_else t is (suc m) c le left = absurd (omega (arith, le))
+
     keeps : (m : ℕ) (c : Tape) → m ≤ 0 → past m c → since m c
     keeps zero c le was = inl was
     keeps (suc m) c le was = absurd (omega (arith, le))
@@ -80,6 +81,7 @@ leaves_the_rest = record { later = omega arith; each = each; earlier = earlier }
     each : (c : Tape) → since 0 c → record_at c 0 ≡ ones
     each c (inl was) = ap (λ (t : Tape). record_at t 0) was
     each c (inr left) = left.elsewhere 0 (λ e. absurd (omega (arith, e)))
+
     earlier : (m : ℕ) (c : Tape) → m ≤ 0 → since m c → past m c ⊎ (record_at c 0 ≡ ones)
     earlier zero c le left = inr (each c left)
     earlier (suc m) c le left = absurd (omega (arith, le))
