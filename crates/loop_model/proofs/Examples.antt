@@ -10,7 +10,9 @@ use Rattle.il_frames.specs.Frames.{framed}
 use Rattle.il_frames.specs.Messages.{message_of}
 use Rattle.loop_model.specs.Entries.{entry, ifc, aau, unl, unt, lad, tad, ddl, ddt, rfc, eto, ete, nrd, aad, is_lost_nrd}
 use Rattle.loop_model.specs.Reach.{is_reached, distance, links_of, brings_to, held_at_end, links, passes, met}
-use Rattle.loop_model.specs.Roles.{Roles, no_roles, all_without_roles, roles_by, passed_on, roles_after, talkers, has_one_talker, OneTalker}
+use Rattle.il_device.specs.declared.roles.Roles.{Roles}
+use Rattle.il_device.specs.Roles.{no_roles}
+use Rattle.loop_model.specs.Roles.{all_without_roles, roles_by, passed_on, roles_after, talkers, has_one_talker, OneTalker}
 use Rattle.loop_model.specs.Exchanges.{Echo, Sda, Sst, Sai, NotTaken, ToItsEnd, Stopped, Exchange, Command, Address, Send, Receive, Identify, FrameLost, HostAltered, TalkerAltered, Piece, Whole, Cut, is_exchange, is_piece, entries_of, start_frame, returned, are_whole, breaks_off, piece_entries, Reading, IsWhole, IsBroken}
 use Rattle.loop_model.proofs.ExchangeLaws.{not_both}
 use Rattle.loop_model.proofs.RoleLaws.{talkers-whole}

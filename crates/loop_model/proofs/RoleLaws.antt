@@ -14,7 +14,9 @@ use Rattle.il_frames.specs.Frames.{framed, class_of, same_class, is_data, is_dat
 use Rattle.il_frames.specs.Messages.{message_of, message_at}
 use Rattle.loop_model.specs.Entries.{unl, unt, lad, tad, ddl, ddt}
 use Rattle.loop_model.specs.Reach.{is_reached}
-use Rattle.loop_model.specs.Roles.{Roles, is_own, takes_address, roles_by, passed_on, roles_along, roles_after_entry, roles_after, talkers_from, talkers, is_at_most_one, is_in_turn, has_one_talker, OneTalker}
+use Rattle.il_device.specs.declared.roles.Roles.{Roles}
+use Rattle.il_device.specs.Roles.{is_own, takes_address}
+use Rattle.loop_model.specs.Roles.{roles_by, passed_on, roles_along, roles_after_entry, roles_after, talkers_from, talkers, is_at_most_one, is_in_turn, has_one_talker, OneTalker}
 use Rattle.loop_model.specs.Exchanges.{Echo, Exchange, Command, Address, Send, Receive, Identify, start_frame, answer_entries, returned, commanded, echoed, numbered, entries_of, is_echo, is_host_echo, is_number, is_address, is_talk_address, is_exchange, Piece, Whole, Cut, piece_entries, is_piece, are_whole, IsWhole}
 
 -- ---- appended logs
@@ -71,10 +73,10 @@ quiet_if false r s a c = c
 pub quiet_by : (m : Message) (r : Roles) → is_talk_address m ≡ false → is_quiet r ≡ true → is_quiet (roles_by m r) ≡ true
 quiet_by msg.Ifc r e q = refl
 quiet_by msg.Aau r e q = refl
-quiet_by (msg.Aad a) r e q = quiet_if (takes_address a r) _ r q q
+quiet_by (msg.Aad a) r e q = quiet_if (takes_address r.address a) _ r q q
 quiet_by (msg.Tad a) r e q = cc
 quiet_by msg.Unt r e q = refl
-quiet_by (msg.Lad a) r e q = quiet_if (is_own a r.address) _ r refl q
+quiet_by (msg.Lad a) r e q = quiet_if (is_own r.address a) _ r refl q
 quiet_by msg.Unl r e q = q
 quiet_by m r e q = q
 
@@ -83,7 +85,7 @@ no_talk_if true m n a c = a
 no_talk_if false m n a c = c
 
 pub no_talk_on : (m : Message) (r : Roles) → is_talk_address m ≡ false → is_talk_address (passed_on m r) ≡ false
-no_talk_on (msg.Aad a) r e = no_talk_if (takes_address a r) _ _ (no_talk_if (a == 30) msg.Iaa (msg.Aad (suc a)) refl refl) refl
+no_talk_on (msg.Aad a) r e = no_talk_if (takes_address r.address a) _ _ (no_talk_if (a == 30) msg.Iaa (msg.Aad (suc a)) refl refl) refl
 no_talk_on m r e = e
 
 quiet_along : (o : Outcome) (party : ℕ) (m : Message) (rs : List Roles) → is_talk_address m ≡ false → list_all is_quiet rs ≡ true → list_all is_quiet (roles_along o party m rs) ≡ true

@@ -1,7 +1,7 @@
 -- Laws for following roles and talkers along a log, a few entries at a time.
 use Rattle.std.proofs.Common.{◌≡◌, ◌≤◌, ◌<◌, ◌⊎◌, inl, inr, lit<, ℕ, suc, ◌+◌, ◌++◌, ◌&&◌, ◌==◌, ◌∙◌, Bool, true, false, not, if◌then◌else◌, List, [], ◌∷◌, map, length, Option, Some, None, refl, sym, ap, ap₂, arith, le_trans}
 use Rattle.std.specs.List.{list_all}
-use Rattle.std.proofs.lemmas.Bool.{and_parts, and_from, not-true, lt-ltb, ne_eqb, eq-eqb, eqb-true, cases_eq}
+use Rattle.std.proofs.lemmas.Bool.{and_parts, and_from, not-true, lt-ltb, le-leb, ne_eqb, eq-eqb, eqb-true, cases_eq}
 use Rattle.il_frames.specs.declared.message.Message.{Message}
 use Rattle.il_frames.specs.declared.message.Message.TheVariants as msg
 use Rattle.il_frames.specs.declared.frame.Frame.{Frame}
@@ -11,7 +11,9 @@ use Rattle.il_frames.specs.declared.entry.Outcome.TheVariants as outcome
 use Rattle.il_frames.specs.Messages.{message_of}
 use Rattle.loop_model.specs.Entries.{aau, rfc, aad}
 use Rattle.loop_model.specs.Reach.{is_reached}
-use Rattle.loop_model.specs.Roles.{Roles, no_roles, is_own, roles_by, passed_on, roles_along, roles_after_entry, roles_after, talkers_from, talkers, is_at_most_one, is_in_turn, has_one_talker, OneTalker}
+use Rattle.il_device.specs.declared.roles.Roles.{Roles}
+use Rattle.il_device.specs.Roles.{no_roles, is_own}
+use Rattle.loop_model.specs.Roles.{roles_by, passed_on, roles_along, roles_after_entry, roles_after, talkers_from, talkers, is_at_most_one, is_in_turn, has_one_talker, OneTalker}
 use Rattle.loop_model.specs.Exchanges.{is_talk_address, Command, Address, entries_of}
 use Rattle.loop_model.proofs.RoleLaws.{gives_no_talk, is_quiet, quiet_if, quiet_by, no_talk_if, no_talk_on, quiet_log, no_talkers, all_quiet}
 
@@ -103,12 +105,16 @@ cleared_along party (r ∷ rs) = ap (λ (ss : List Roles). no_roles ∷ ss) (cle
 -- AAD a along devices without address gives them the addresses from a on
 aad_along : (f : Frame) (party a : ℕ) (rs : List Roles) → 0 < a → a + length rs ≤ 31 → roles_along (outcome.Back f) party (msg.Aad a) (cleared rs) ≡ addressed_from a rs
 aad_along f party a [] low room = refl
-aad_along f party a (r ∷ []) low room = let takes = lt-ltb 0 a low in rw takes refl
+aad_along f party a (r ∷ []) low room =
+    let takes = lt-ltb 0 a low in
+    let in_range = le-leb a 30 (omega arith) in
+    rw (takes, in_range) refl
 aad_along f party a (r ∷ s ∷ rs) low room =
     let takes = lt-ltb 0 a low in
+    let in_range = le-leb a 30 (omega arith) in
     let below = ne_eqb a 30 (λ e. omega arith) in
     let rest = aad_along f (suc party) (suc a) (s ∷ rs) (omega arith) (omega arith) in
-    rw (takes, below) (ap (λ (ss : List Roles). record { address = Some a; talks = false; listens = false } ∷ ss) rest)
+    rw (takes, in_range, below) (ap (λ (ss : List Roles). record { address = Some a; talks = false; listens = false } ∷ ss) rest)
 
 -- after AAU and AAD each device has its number as address, and no role, whatever it had before
 pub roles_after-addressing : (rs : List Roles) (devices : ℕ) → length rs ≤ 30 → roles_after rs (entries_of (Command aau) ++ entries_of (Address devices)) ≡ addressed_from 1 rs
@@ -156,24 +162,24 @@ one_talker-kept rs e one calm = by_source (e.source == 0)
 -- the devices from this party on have their numbers as addresses
 abbrev pub are_numbered : ℕ → List Roles → Bool
 are_numbered party [] = true
-are_numbered party (r ∷ rs) = is_own party r.address && are_numbered (suc party) rs
+are_numbered party (r ∷ rs) = is_own r.address party && are_numbered (suc party) rs
 
 pub are_numbered-addressed : (a : ℕ) (rs : List Roles) → are_numbered a (addressed_from a rs) ≡ true
 are_numbered-addressed a [] = refl
 are_numbered-addressed a (r ∷ rs) = and_from (a == a) _ (eq-eqb a a refl) (are_numbered-addressed (suc a) rs)
 
-not_own : (a party : ℕ) (r : Roles) → (party ≡ a → ⊥) → is_own party r.address ≡ true → is_own a r.address ≡ false
+not_own : (a party : ℕ) (r : Roles) → (party ≡ a → ⊥) → is_own r.address party ≡ true → is_own r.address a ≡ false
 not_own a party r other own = by_address r.address own
   where
-    by_address : (o : Option ℕ) → is_own party o ≡ true → is_own a o ≡ false
+    by_address : (o : Option ℕ) → is_own o party ≡ true → is_own o a ≡ false
     by_address None e = cc
-    by_address (Some b) e = let same = eqb-true party b e in ne_eqb a b (λ x. other (same ∙ sym x))
+    by_address (Some b) e = let same = eqb-true b party e in ne_eqb b a (λ x. other (sym same ∙ x))
 
-silenced : (a : ℕ) (r : Roles) → is_own a r.address ≡ false → is_quiet (roles_by (msg.Tad a) r) ≡ true
+silenced : (a : ℕ) (r : Roles) → is_own r.address a ≡ false → is_quiet (roles_by (msg.Tad a) r) ≡ true
 silenced a r other = rw other refl
 
 -- a device with another number does not talk after TAD a
-quiet_other : (o : Outcome) (party a : ℕ) (r : Roles) → (party ≡ a → ⊥) → is_own party r.address ≡ true → is_quiet r ≡ true → is_quiet (if is_reached o party then roles_by (msg.Tad a) r else r) ≡ true
+quiet_other : (o : Outcome) (party a : ℕ) (r : Roles) → (party ≡ a → ⊥) → is_own r.address party ≡ true → is_quiet r ≡ true → is_quiet (if is_reached o party then roles_by (msg.Tad a) r else r) ≡ true
 quiet_other o party a r other own quiet = quiet_if (is_reached o party) (roles_by (msg.Tad a) r) r (silenced a r (not_own a party r other own)) quiet
 
 -- TAD passes each device as it is
@@ -187,7 +193,7 @@ no_head party false ps qs quiet e = e
 none_behind : (o : Outcome) (party a : ℕ) (rs : List Roles) → a < party → are_numbered party rs ≡ true → list_all is_quiet rs ≡ true → talkers_from party (roles_along o party (msg.Tad a) rs) ≡ []
 none_behind o party a [] below numbers quiet = refl
 none_behind o party a (r ∷ rs) below numbers quiet =
-    let own = and_parts (is_own party r.address) (are_numbered (suc party) rs) numbers in
+    let own = and_parts (is_own r.address party) (are_numbered (suc party) rs) numbers in
     let silent = and_parts (is_quiet r) (list_all is_quiet rs) quiet in
     no_head party _ _ [] (quiet_other o party a r (λ e. omega arith) own.0 silent.0)
     (tad_passes o party (suc party) a rs ∙ none_behind o (suc party) a rs (omega arith) own.1 silent.1)
@@ -199,12 +205,12 @@ alone party false ps e = rw e refl
 one_along : (o : Outcome) (party a : ℕ) (rs : List Roles) → are_numbered party rs ≡ true → list_all is_quiet rs ≡ true → is_at_most_one (talkers_from party (roles_along o party (msg.Tad a) rs)) ≡ true
 one_along o party a [] numbers quiet = refl
 one_along o party a (r ∷ rs) numbers quiet =
-    let own = and_parts (is_own party r.address) (are_numbered (suc party) rs) numbers in
+    let own = and_parts (is_own r.address party) (are_numbered (suc party) rs) numbers in
     let silent = and_parts (is_quiet r) (list_all is_quiet rs) quiet in
     let rest = one_along o (suc party) a rs own.1 silent.1 in
     by_place own silent (cases_eq party a) rest
   where
-    by_place : (is_own party r.address ≡ true) × (are_numbered (suc party) rs ≡ true) → (is_quiet r ≡ true) × (list_all is_quiet rs ≡ true) → (party ≡ a) ⊎ (party ≡ a → ⊥) → is_at_most_one (talkers_from (suc party) (roles_along o (suc party) (msg.Tad a) rs)) ≡ true → is_at_most_one (talkers_from party (roles_along o party (msg.Tad a) (r ∷ rs))) ≡ true
+    by_place : (is_own r.address party ≡ true) × (are_numbered (suc party) rs ≡ true) → (is_quiet r ≡ true) × (list_all is_quiet rs ≡ true) → (party ≡ a) ⊎ (party ≡ a → ⊥) → is_at_most_one (talkers_from (suc party) (roles_along o (suc party) (msg.Tad a) rs)) ≡ true → is_at_most_one (talkers_from party (roles_along o party (msg.Tad a) (r ∷ rs))) ≡ true
     by_place own silent (inl here) rest = alone party _ _ (tad_passes o party (suc party) a rs ∙ none_behind o (suc party) a rs (omega arith) own.1 silent.1)
     by_place own silent (inr other) rest =
         ap is_at_most_one (no_head party _ _ _ (quiet_other o party a r other own.0 silent.0) (tad_passes o party (suc party) a rs)) ∙ rest

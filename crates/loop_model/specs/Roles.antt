@@ -1,46 +1,23 @@
 -- The roles of all devices by a log. Source: HP-IL Interface Specification, HP 82166-90017, the
 -- talker, listener and auto-address functions. That AAU ends talking and listening is this project's own.
-use Rattle.std.specs.Prelude.{◌≡◌, ℕ, suc, ◌==◌, nat_lt, Bool, true, false, not, ◌&&◌, ◌||◌, if◌then◌else◌, List, [], ◌∷◌, ◌++◌, replicate, Option, Some, None, is_none}
+use Rattle.std.specs.Prelude.{◌≡◌, ℕ, suc, ◌==◌, Bool, true, false, not, ◌&&◌, ◌||◌, if◌then◌else◌, List, [], ◌∷◌, ◌++◌, replicate}
 use Rattle.il_frames.specs.declared.message.Message.{Message}
 use Rattle.il_frames.specs.declared.message.Message.TheVariants as msg
 use Rattle.il_frames.specs.declared.entry.Entry.{Entry}
 use Rattle.il_frames.specs.declared.entry.Outcome.{Outcome}
 use Rattle.il_frames.specs.Messages.{message_of}
+use Rattle.il_device.specs.declared.roles.Roles.{Roles}
+use Rattle.il_device.specs.Roles.{no_roles}
+use Rattle.il_device.specs.Roles as device
 use Rattle.loop_model.specs.Reach.{is_reached}
-
--- what a device is on the loop
-pub record Roles : Type 0 where
-  pub address : Option ℕ
-  pub talks : Bool
-  pub listens : Bool
-
--- a device without address, talk or listen role
-abbrev pub no_roles : Roles
-no_roles = record { address = None; talks = false; listens = false }
 
 -- k such devices
 abbrev pub all_without_roles : ℕ → List Roles
 all_without_roles k = replicate k no_roles
 
--- the address is a
-abbrev pub is_own : ℕ → Option ℕ → Bool
-is_own a None = false
-is_own a (Some own) = a == own
-
--- a device takes AAD a, a from 1 to 30, where it has no address
-abbrev pub takes_address : ℕ → Roles → Bool
-takes_address a r = nat_lt 0 a && is_none r.address
-
--- the roles of a device after a message has passed it
+-- the roles of a device after a message has passed it: what every device does with its roles
 abbrev pub roles_by : Message → Roles → Roles
-roles_by msg.Ifc r = record r { talks = false; listens = false }
-roles_by msg.Aau r = no_roles
-roles_by (msg.Aad a) r = if takes_address a r then record r { address = Some a } else r
-roles_by (msg.Tad a) r = if is_own a r.address then record r { talks = true; listens = false } else record r { talks = false }
-roles_by msg.Unt r = record r { talks = false }
-roles_by (msg.Lad a) r = if is_own a r.address then record r { talks = false; listens = true } else r
-roles_by msg.Unl r = record r { listens = false }
-roles_by m r = r
+roles_by m r = device.roles_after r m
 
 -- the AAD after AAD a; after AAD 30 it is IAA
 abbrev pub next_address : ℕ → Message
@@ -48,7 +25,7 @@ next_address a = if a == 30 then msg.Iaa else msg.Aad (suc a)
 
 -- the message as the device passes it on: an AAD that it takes goes up by one
 abbrev pub passed_on : Message → Roles → Message
-passed_on (msg.Aad a) r = if takes_address a r then next_address a else msg.Aad a
+passed_on (msg.Aad a) r = if device.takes_address r.address a then next_address a else msg.Aad a
 passed_on m r = m
 
 -- the roles of the devices from this party on after a message of the host that ended so
