@@ -56,14 +56,6 @@ ddt n = command (0xC0 + n)
 abbrev pub rfc : Frame
 rfc = ready 0x00
 
--- end of transmission, without an error
-abbrev pub eto : Frame
-eto = ready 0x40
-
--- end of transmission, with an error
-abbrev pub ete : Frame
-ete = ready 0x41
-
 -- not ready for data
 abbrev pub nrd : Frame
 nrd = ready 0x42

@@ -12,7 +12,8 @@ use Rattle.il_frames.specs.declared.entry.Outcome.{Outcome}
 use Rattle.il_frames.specs.declared.entry.Outcome.TheVariants as outcome
 use Rattle.il_frames.specs.Frames.{framed, class_of, same_class, is_data, same_but_service}
 use Rattle.il_frames.specs.Messages.{message_of}
-use Rattle.loop_model.specs.Entries.{entry, ready, unl, unt, lad, tad, ddl, ddt, rfc, eto, ete, nrd, aad}
+use Rattle.il_device.specs.Takes.{eto, ete}
+use Rattle.loop_model.specs.Entries.{entry, ready, unl, unt, lad, tad, ddl, ddt, rfc, nrd, aad}
 
 -- ---- values
 
