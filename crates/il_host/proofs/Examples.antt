@@ -1,15 +1,14 @@
 -- Worked examples, computed by the checker, on the tapes of `lif_model`'s examples.
-use Rattle.std.proofs.Common.{◌≡◌, ◌++◌, ℕ, List, [], ◌∷◌, Option, Some, None, true, false, refl, codes, replicate, map}
+use Rattle.std.proofs.Common.{◌≡◌, ◌++◌, ℕ, List, [], ◌∷◌, Some, None, refl, codes, replicate}
 use Rattle.std.specs.Fmt.{digits}
 use Rattle.hex.specs.Hex.{encode_with}
 use Rattle.lif_model.specs.Numbers.{two_at, four_at}
-use Rattle.lif_model.specs.Tape.{Tape}
 use Rattle.lif_model.specs.Gate.{is_open}
 use Rattle.lif_model.specs.Header.{label_of}
 use Rattle.lif_model.specs.Directory.{name_of, implementation_of, entry_at, entries_of}
 use Rattle.lif_model.specs.Printed.{printed}
-use Rattle.lif_model.proofs.Examples.{header, blank, filled, redo_entry, end_entry, formatted, tape_with}
-use Rattle.il_host.specs.Cut.{Cut, cut, lines_of}
+use Rattle.lif_model.proofs.Examples.{blank, filled, redo_entry, end_entry, formatted, tape_with}
+use Rattle.il_host.specs.Cut.{cut, lines_of}
 use Rattle.il_host.specs.Items.{items_of}
 use Rattle.il_host.specs.Listing.{text_line, volume_line, file_line, listing}
 use Rattle.il_host.specs.Replies.{dir_reply, last_line, reply_text}

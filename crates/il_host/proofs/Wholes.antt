@@ -73,13 +73,13 @@ found-image None bytes h = absurd (false-not-true h.0)
 found-image (Some image) bytes h = (ap Some (sym h.0), subst (λ (b : List ℕ). length b ≤ cassette_bytes) (sym h.0) h.1)
 
 -- the tape that an insert put into the drive
-pub taken : (name : List ℕ) (old new : Option Shelf) (tape : Option Tape) (count : ℕ) (answer : Inserted) (s : Shelf)
-    → answer ≡ inserted.Tape → InsertAnswers name false old new tape count answer → old ≡ Some s → TakesImage name false s new tape
-taken name old new tape count answer s is h told = (subst (λ (a : Inserted). InsertAnswers name false old new tape count a) is h).1 s told
+pub taken : (name : List ℕ) (old new : Option Shelf) (inside : Option (List ℕ)) (tape : Option Tape) (count : ℕ) (answer : Inserted) (s : Shelf)
+    → answer ≡ inserted.Tape → InsertAnswers name false old new inside tape count answer → old ≡ Some s → TakesImage name false s new inside tape
+taken name old new inside tape count answer s is h told = (subst (λ (a : Inserted). InsertAnswers name false old new inside tape count a) is h).1 s told
 
-pub inserts : (words : List (List ℕ)) (name : List ℕ) (s : Shelf) (new : Option Shelf) (tape : Option Tape) → image_in words ≡ Some name
-    → (h : TakesImage name false s new tape) → Inserts words s h.bytes
-inserts words name s new tape named h =
+pub inserts : (words : List (List ℕ)) (name : List ℕ) (s : Shelf) (new : Option Shelf) (inside : Option (List ℕ)) (tape : Option Tape) → image_in words ≡ Some name
+    → (h : TakesImage name false s new inside tape) → Inserts words s h.bytes
+inserts words name s new inside tape named h =
     let f = found-image (image_of name s) h.bytes h.inserted in
     record { name = name; named = named; found = f.0; fits = f.1 }
 

@@ -91,7 +91,7 @@ pub fn answer_all<S: Source, P: Performer, K: Sink>(
                     Ok(()) => {}
                     Err(_) => return Ending::SinkFailed,
                 }
-                all_ok = all_ok & reply.is_ok();
+                all_ok &= reply.is_ok();
             }
         }
     }

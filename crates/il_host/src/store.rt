@@ -1,6 +1,6 @@
 use il_ports::{Medium, Records, Trouble};
 
-// The records of the tape in the drive, read straight from the medium. It grants so many calls before each command.
+// The records of the tape in the drive, read from the medium and written to it. It grants so many calls before each command.
 #[derive(Drop)]
 pub struct Store<M> {
     pub medium: M,
@@ -38,7 +38,9 @@ impl<M: Medium> Store<M> {
 }
 
 impl<M: Medium> Records for Store<M> {
-    ghost use Rattle.std.specs.Prelude.{◌≡◌};
+    ghost use Rattle.std.specs.Prelude.{true, None};
+
+    type Start = ();
 
     ghost valid = { λ s. Unit {0} };
 
@@ -54,7 +56,23 @@ impl<M: Medium> Records for Store<M> {
 
     ghost medium_faults = { λ s. M.faults s.medium };
 
+    ghost moment = { λ s. M.moment s.medium };
+
+    ghost left_since = { λ s. M.left_since s.medium };
+
+    ghost transfers = { λ s. None };
+
+    ghost stood = { λ s start. Unit {0} };
+
+    ghost unbroken = { λ s. true };
+
+    ghost resumes = { λ s. 0 };
+
     ghost is_tape = { λ s t is. M.is_tape s.medium t is };
+
+    ghost leaves_now = { λ s m t le is. M.leaves_now s.medium m t le is };
+
+    ghost leaves_only = { λ s t c is left. M.leaves_only s.medium t c is left };
 
     fn size(&self) -> u16 {
         self.medium.size()
@@ -77,6 +95,17 @@ impl<M: Medium> Records for Store<M> {
     fn read(&mut self, n: u16, into: &mut [u8; 256]) -> Result<(), Trouble> {
         self.left -= 1;
         match self.medium.read(n, into) {
+            Ok(()) => Ok(()),
+            Err(_) => {
+                self.is_sound = false;
+                Err(Trouble::Medium)
+            }
+        }
+    }
+
+    fn write(&mut self, n: u16, from: &[u8; 256]) -> Result<(), Trouble> {
+        self.left -= 1;
+        match self.medium.write(n, from) {
             Ok(()) => Ok(()),
             Err(_) => {
                 self.is_sound = false;

@@ -1,4 +1,6 @@
 pub mod Images
 pub mod Shelves
+pub mod Kept
 pub mod Fronts
 pub mod Examples
+pub mod Transfers

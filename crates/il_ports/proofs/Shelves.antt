@@ -11,6 +11,7 @@ use Rattle.lif_model.specs.Tape.{Tape}
 use Rattle.lif_model.specs.Shelf.{Shelf, image_of, bytes_of, tape_of, IsInserted, cassette_records, cassette_bytes}
 use Rattle.il_ports.specs.Drive.{place_of, with_bytes, shelf_with, is_made, is_inside, tape_in, records_in, longest_name}
 use Rattle.il_ports.specs.Inserting.{TakesImage, IsSize}
+use Rattle.il_ports.specs.InDrive.{behind, not_behind, step_back, image_at_place}
 use Rattle.il_ports.specs.declared.memory_medium.Drive.{Drive}
 use Rattle.il_ports.specs.declared.memory_medium.Drive.TheVariants.{Empty, Shelved, Made}
 
@@ -20,38 +21,7 @@ use Rattle.il_ports.specs.declared.memory_medium.Drive.TheVariants.{Empty, Shelv
 abbrev pub place_from : ℕ → Option ℕ → Option ℕ
 place_from i place = option_map (λ k. i + k) place
 
--- the place behind a first image, whose name is that or not
-abbrev behind : Bool → Option ℕ → Option ℕ
-behind first place = if first then Some 0 else option_map suc place
-
-not_behind : (place : Option ℕ) → behind false place ≡ Some 0 → ⊥
-not_behind None is = cc
-not_behind (Some k) is = cc
-
-step_back : (place : Option ℕ) (k : ℕ) → behind false place ≡ Some (suc k) → place ≡ Some k
-step_back None k is = cc
-step_back (Some j) k is = cc
-
-none_behind : (place : Option ℕ) → behind false place ≡ None → place ≡ None
-none_behind None is = refl
-none_behind (Some k) is = cc
-
 -- ---- other bytes at a place
-
-pub image_at_place : (name : List ℕ) (shelf : Shelf) (place : ℕ) (bytes : List ℕ) → place_of name shelf ≡ Some place
-    → image_of name (with_bytes place bytes shelf) ≡ Some bytes
-image_at_place name [] place bytes is = cc
-image_at_place name (image ∷ images) zero bytes is = here (bytes_eq image.0 name) is
-  where
-    here : (first : Bool) → behind first (place_of name images) ≡ Some 0 → (if first then Some bytes else image_of name images) ≡ Some bytes
-    here true is = refl
-    here false is = absurd (not_behind (place_of name images) is)
-image_at_place name (image ∷ images) (suc place) bytes is = there (bytes_eq image.0 name) is (image_at_place name images place bytes)
-  where
-    there : (first : Bool) → behind first (place_of name images) ≡ Some (suc place) → (place_of name images ≡ Some place → image_of name (with_bytes place bytes images) ≡ Some bytes)
-        → (if first then Some image.1 else image_of name (with_bytes place bytes images)) ≡ Some bytes
-    there true is next = cc
-    there false is next = next (step_back (place_of name images) place is)
 
 pub image_elsewhere : (name : List ℕ) (shelf : Shelf) (place : ℕ) (bytes : List ℕ) → (place_of name shelf ≡ Some place → ⊥)
     → image_of name (with_bytes place bytes shelf) ≡ image_of name shelf
@@ -70,7 +40,7 @@ image_elsewhere name (image ∷ images) (suc place) bytes not = there (bytes_eq 
     there false not next = next (λ is. not (ap (option_map suc) is))
 
 -- the name of the image at a place
-name_at : (name : List ℕ) (shelf : Shelf) (place : ℕ) → place_of name shelf ≡ Some place → (get_or shelf place ([], [])).0 ≡ name
+pub name_at : (name : List ℕ) (shelf : Shelf) (place : ℕ) → place_of name shelf ≡ Some place → (get_or shelf place ([], [])).0 ≡ name
 name_at name [] place is = cc
 name_at name (image ∷ images) zero is = here (bytes_eq image.0 name) refl is
   where
@@ -122,25 +92,27 @@ written_back n new old whole = take-append-le n new (drop (length new) old) (ome
 
 pub takes_shelved : (name bytes : List ℕ) (is_new : Bool) (tape : Tape) (shelf : Shelf) (place : ℕ) → tape ≡ tape_of bytes
     → place_of name shelf ≡ Some place → image_of name shelf ≡ Some bytes → length bytes ≤ cassette_bytes
-    → TakesImage name is_new shelf (Some (with_bytes place (bytes_of tape) shelf)) (Some tape)
+    → TakesImage name is_new shelf (Some (with_bytes place (bytes_of tape) shelf)) (Some (get_or shelf place ([], [])).0) (Some tape)
 takes_shelved name bytes is_new tape shelf place is found image fits = record {
   bytes = bytes;
   inserted = subst (λ (o : Option (List ℕ)). IsInserted o is_new bytes) (sym image) (refl, fits);
   tape_is = ap Some is;
   shelf = with_bytes place (bytes_of tape) shelf;
   shelf_is = refl;
+  inside_is = ap Some (name_at name shelf place found);
   image = image_at_place name shelf place (bytes_of tape) found ∙ ap (λ (t : Tape). Some (bytes_of t)) is;
   others = λ other ne. image_elsewhere other shelf place (bytes_of tape) (λ there. ne (sym (name_at other shelf place there) ∙ name_at name shelf place found));
 }
 
 pub takes_made : (name made : List ℕ) (is_new : Bool) (tape : Tape) (shelf : Shelf) → tape ≡ tape_of [] → made ≡ name
-    → image_of name shelf ≡ None → is_new ≡ true → TakesImage name is_new shelf (Some ((made, bytes_of tape) ∷ shelf)) (Some tape)
+    → image_of name shelf ≡ None → is_new ≡ true → TakesImage name is_new shelf (Some ((made, bytes_of tape) ∷ shelf)) (Some made) (Some tape)
 takes_made name made is_new tape shelf is named missing new = record {
   bytes = [];
   inserted = subst (λ (o : Option (List ℕ)). IsInserted o is_new []) (sym missing) (new, refl);
   tape_is = ap Some is;
   shelf = (made, bytes_of tape) ∷ shelf;
   shelf_is = refl;
+  inside_is = ap Some named;
   image = ap (λ (b : Bool). if b then Some (bytes_of tape) else image_of name shelf) ((bytes_eq-Decides made name).1 named) ∙ ap (λ (t : Tape). Some (bytes_of t)) is;
   others = λ other ne. other_test (bytes_eq made other) refl (λ same. ne (sym same ∙ named));
 }
@@ -156,29 +128,29 @@ shelf_of_empty Empty made tape shelf out size = refl
 shelf_of_empty (Shelved place) made tape shelf out size = absurd (omega arith)
 shelf_of_empty Made made tape shelf out size = absurd (omega arith)
 
-abbrev Taken : List ℕ → Bool → Shelf → Shelf → Tape → Type 0
-Taken name is_new before after tape = IsSize (length tape) × ((s : Shelf) → Some before ≡ Some s → TakesImage name is_new s (Some after) (Some tape))
+abbrev Taken : List ℕ → Bool → Shelf → Shelf → List ℕ → Tape → Type 0
+Taken name is_new before after inside tape = IsSize (length tape) × ((s : Shelf) → Some before ≡ Some s → TakesImage name is_new s (Some after) (Some inside) (Some tape))
 
-taken : (name : List ℕ) (is_new : Bool) (before shelf after : Shelf) (tape : Tape) → before ≡ shelf → length tape ≡ cassette_records
-    → TakesImage name is_new shelf (Some after) (Some tape) → Taken name is_new before after tape
-taken name is_new before shelf after tape same size takes =
-    (size, λ s is. subst (λ (x : Shelf). TakesImage name is_new x (Some after) (Some tape)) (sym same ∙ ap (λ (o : Option Shelf). unwrap_or o before) is) takes)
+taken : (name : List ℕ) (is_new : Bool) (before shelf after : Shelf) (inside : List ℕ) (tape : Tape) → before ≡ shelf → length tape ≡ cassette_records
+    → TakesImage name is_new shelf (Some after) (Some inside) (Some tape) → Taken name is_new before after inside tape
+taken name is_new before shelf after inside tape same size takes =
+    (size, λ s is. subst (λ (x : Shelf). TakesImage name is_new x (Some after) (Some inside) (Some tape)) (sym same ∙ ap (λ (o : Option Shelf). unwrap_or o before) is) takes)
 
 -- the answer `Tape`, for an image of the shelf
 pub answer_shelved : (name bytes : List ℕ) (is_new : Bool) (drive : Drive) (made : List ℕ) (before tape : Tape) (shelf : Shelf) (place : ℕ)
     → records_in (tape_in drive before) ≡ 0 → length before ≡ cassette_records → length tape ≡ cassette_records → tape ≡ tape_of bytes
     → (place_of name shelf ≡ Some place) × (image_of name shelf ≡ Some bytes) × (length bytes ≤ cassette_bytes)
-    → Taken name is_new (shelf_with drive made before shelf) (with_bytes place (bytes_of tape) shelf) tape
+    → Taken name is_new (shelf_with drive made before shelf) (with_bytes place (bytes_of tape) shelf) (get_or shelf place ([], [])).0 tape
 answer_shelved name bytes is_new drive made before tape shelf place out size whole is offer =
-    taken name is_new _ shelf _ tape (shelf_of_empty drive made before shelf out size) whole (takes_shelved name bytes is_new tape shelf place is offer.0 offer.1 offer.2)
+    taken name is_new _ shelf _ _ tape (shelf_of_empty drive made before shelf out size) whole (takes_shelved name bytes is_new tape shelf place is offer.0 offer.1 offer.2)
 
 -- the answer `Tape`, for one that is made
 pub answer_made : (name made : List ℕ) (is_new : Bool) (drive : Drive) (made_before : List ℕ) (before tape : Tape) (shelf : Shelf)
     → records_in (tape_in drive before) ≡ 0 → length before ≡ cassette_records → length tape ≡ cassette_records → tape ≡ tape_of [] → made ≡ name
     → (image_of name shelf ≡ None) × (is_new ≡ true) × (length name ≤ longest_name)
-    → Taken name is_new (shelf_with drive made_before before shelf) ((made, bytes_of tape) ∷ shelf) tape
+    → Taken name is_new (shelf_with drive made_before before shelf) ((made, bytes_of tape) ∷ shelf) made tape
 answer_made name made is_new drive made_before before tape shelf out size whole is named offer =
-    taken name is_new _ shelf _ tape (shelf_of_empty drive made_before before shelf out size) whole (takes_made name made is_new tape shelf is named offer.0 offer.1)
+    taken name is_new _ shelf _ _ tape (shelf_of_empty drive made_before before shelf out size) whole (takes_made name made is_new tape shelf is named offer.0 offer.1)
 
 pub missing_place : (place : Option ℕ) (k : ℕ) → place ≡ None → place ≡ Some k → ⊥
 missing_place place k none some = cc

@@ -1,10 +1,11 @@
 -- A shelf in memory and the drive beside it.
-use Rattle.std.specs.Prelude.{◌≡◌, ◌==◌, ◌<◌, ◌≤◌, ℕ, zero, suc, Bool, true, false, List, [], ◌∷◌, if◌then◌else◌, length, map, Option, Some, None, Vec, String, string_bytes}
+use Rattle.std.specs.Prelude.{◌≡◌, ◌==◌, ◌<◌, ◌≤◌, ℕ, zero, suc, Bool, true, false, List, [], ◌∷◌, if◌then◌else◌, length, get_or, map, Option, Some, None, Vec, String, string_bytes}
 use Rattle.std.specs.Option.{option_map}
 use Rattle.std.specs.Str.{bytes_eq}
 use Rattle.std.specs.declared.alloc.Global.{Global}
 use Rattle.lif_model.specs.Tape.{Tape}
 use Rattle.lif_model.specs.Shelf.{Shelf, bytes_of, image_of, cassette_bytes}
+use Rattle.lif_model.specs.Redo.{Changes}
 use Rattle.il_ports.specs.declared.memory_medium.Drive.{Drive}
 use Rattle.il_ports.specs.declared.memory_medium.Drive.TheVariants.{Empty, Shelved, Made}
 use Rattle.il_ports.specs.declared.memory_medium.Offer.{Offer}
@@ -46,6 +47,26 @@ abbrev pub is_inside : Drive → ℕ → Bool
 is_inside (Shelved inside) place = inside == place
 is_inside Empty place = false
 is_inside Made place = false
+
+-- the name of the image in the drive
+abbrev pub name_in : Drive → List ℕ → Shelf → Option (List ℕ)
+name_in Empty made images = None
+name_in (Shelved place) made images = Some (get_or images place ([], [])).0
+name_in Made made images = Some made
+
+-- no tape is in
+abbrev pub is_empty : Drive → Bool
+is_empty Empty = true
+is_empty (Shelved place) = false
+is_empty Made = false
+
+-- while no tape is in, no write is kept
+abbrev pub IsUnwritten : Drive → Changes → Type 0
+IsUnwritten drive history = is_empty drive ≡ true → history ≡ []
+
+-- an image of the shelf that is in the drive is the first of its name
+abbrev pub IsFirst : Drive → Shelf → Type 0
+IsFirst drive images = (place : ℕ) → is_inside drive place ≡ true → place_of (get_or images place ([], [])).0 images ≡ Some place
 
 -- the tape in the drive
 abbrev pub tape_in : Drive → Tape → Option Tape

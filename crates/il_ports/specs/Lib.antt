@@ -1,9 +1,11 @@
 pub mod Taking
 pub mod Inserting
 pub mod Trouble
+pub mod Transfers
 pub mod Counted
 pub mod MemoryStream
 pub mod Drive
-pub mod InDrive
 pub mod MemoryMedium
+pub mod InDrive
 pub mod FileMedium
+pub mod MemoryRecords

@@ -1,4 +1,6 @@
-ghost use Rattle.std.specs.Prelude.{◌≡◌, ◌<◌, ◌≤◌, ℕ, List, length, None, Some, IfOk, OnOk};
+ghost use Rattle.std.specs.Prelude.{◌≡◌, ◌*◌, ◌<◌, ◌≤◌, ℕ, List, length, None, Some, IfOk, OnOk};
+ghost use Rattle.std.specs.Io.KnownBytes.{Appends};
+ghost use Rattle.std.specs.Io.Seek.{MovesTo};
 ghost use Rattle.lif_model.specs.Shelf.{piece};
 ghost use Rattle.il_ports.specs.FileMedium.{IsFront, IsFound};
 
@@ -6,7 +8,7 @@ use crate::image;
 use crate::medium::{Inserted, Medium};
 use crate::stream::Failed;
 use std::fs::{self, File, OpenFile, OpenOptions};
-use std::io::{self, ErrorKind, Read, Seek, SeekFrom};
+use std::io::{self, ErrorKind, Read, Seek, SeekFrom, Write};
 use std::marker::Model;
 use std::rt::Files;
 
@@ -36,9 +38,35 @@ fn read_record<F: Read>(file: &mut F, into: &mut [u8; 256]) -> io::Result<()>
     Ok(())
 }
 
-fn read_record_at<F: Read + Seek>(file: &mut F, n: u16, into: &mut [u8; 256]) -> io::Result<()> {
+// Goes to where record n begins.
+fn seek_record<F: Seek>(file: &mut F, n: u16) -> io::Result<()>
+    ensures { MovesTo (F.stream_position file.old) (F.stream_position file.new) (256 * n) result }
+{
     file.seek(SeekFrom::Start(256 * u64::from(n)))?;
+    Ok(())
+}
+
+fn read_record_at<F: Read + Seek>(file: &mut F, n: u16, into: &mut [u8; 256]) -> io::Result<()> {
+    seek_record(file, n)?;
     read_record(file, into)
+}
+
+// Writes a record, and waits until the disk has it.
+fn write_record<F: Write + OpenFile>(file: &mut F, from: &[u8; 256]) -> io::Result<()>
+    ensures { OnOk result (Appends (F.contents file.old) (F.contents file.new) from.now) }
+{
+    file.write_all(from)?;
+    file.sync_data()
+}
+
+// A file that ends before the record grows up to its end, with zeros in between.
+fn write_record_at<F: Write + Seek + OpenFile>(
+    file: &mut F,
+    n: u16,
+    from: &[u8; 256],
+) -> io::Result<()> {
+    seek_record(file, n)?;
+    write_record(file, from)
 }
 
 // The length of the file of that name, or None where there is none. What is no file, such as a folder, is an error.
@@ -106,7 +134,9 @@ fn find<R: Files>(files: &R, name: &str, new: bool) -> io::Result<Found<R::File>
 ///
 /// A missing file is `NoSuch`, or with `new` is made of 131,072 zeros; a longer file is `BadSize`. What is no file,
 /// such as a folder, a missing folder above a new image and any other error are counted faults. A file that may
-/// not be written is opened for reading alone. No memory is taken.
+/// not be written is opened for reading alone, and each write to it is a fault. A write is on the disk before it
+/// answers Ok. One past the file's end makes the file longer, up to the end of the record and with zeros in between;
+/// no file grows past 131,072 bytes or becomes shorter. No memory is taken.
 #[derive(Drop)]
 pub struct FileMedium<R: Files + Drop> {
     files: R,
@@ -136,7 +166,8 @@ impl<R: Files + Drop> FileMedium<R> {
 }
 
 impl<R: Files + Drop> Medium for FileMedium<R> {
-    ghost use Rattle.std.specs.Prelude.{◌≡◌, ℕ, None, is_some, IfOk};
+    ghost use Rattle.std.specs.Prelude.{◌≡◌, ◌⊎◌, ◌≤◌, ℕ, None, Some, is_some, IfOk};
+    ghost use Rattle.lif_model.specs.Tape.{Tape};
     ghost use Rattle.lif_model.specs.Shelf.{Shelf};
     ghost use Rattle.lif_model.specs.Causes.{HasCause};
     ghost use Rattle.il_ports.specs.Inserting.{DidInsert};
@@ -145,18 +176,34 @@ impl<R: Files + Drop> Medium for FileMedium<R> {
 
     ghost shelf = { λ _. None };
 
+    ghost inside = { λ _. None };
+
     ghost tape = { λ _. None };
 
     ghost record_count = { λ m. m.records };
 
     ghost faults = { λ m. m.faults };
 
+    ghost moment = { λ _. 0 };
+
+    ghost left_since = { λ _ _ _. Unit {0} };
+
     ghost is_tape = { λ m t is. untold t is };
+
+    ghost is_image = { λ m s name t is named told. untold t told };
+
+    ghost leaves_now = { λ m k t le is. tt };
+
+    ghost leaves_only = { λ m t c is left. untold t is };
+
+    ghost leaves_none = { λ m s c is none left. untold s is };
 
     fn insert(&mut self, name: &str, new: bool) -> Result<Inserted, Failed>
         requires { self.old.records ≡ 0 }
-        ensures answer { DidInsert name.now new None None None self.new.records result }
+        ensures answer { DidInsert name.now new None None None None self.new.records result }
         ensures told { is_some {T = Shelf} None ≡ is_some {T = Shelf} None }
+        ensures moment { 0 ≤ 0 }
+        ensures since { (m : ℕ) (c : Tape) → Unit {0} → Unit {0} ⊎ (None ≡ Some c) }
         ensures cause { HasCause self.old.faults self.new.faults result }
         ensures possible { IfOk result (λ answer. IsAnswer new answer) }
         ensures counts { self.new.faults ≡ faults_after self.old.faults result }
@@ -187,6 +234,19 @@ impl<R: Files + Drop> Medium for FileMedium<R> {
             unreachable!()
         };
         match read_record_at(file, n, into) {
+            Ok(()) => Ok(()),
+            Err(_) => {
+                self.faults = self.faults.saturating_add(1);
+                Err(Failed)
+            }
+        }
+    }
+
+    fn write(&mut self, n: u16, from: &[u8; 256]) -> Result<(), Failed> {
+        let Some(file) = &mut self.file else {
+            unreachable!()
+        };
+        match write_record_at(file, n, from) {
             Ok(()) => Ok(()),
             Err(_) => {
                 self.faults = self.faults.saturating_add(1);

@@ -7,8 +7,11 @@ mod file_medium;
 mod image;
 mod medium;
 mod memory_medium;
+mod memory_records;
 mod memory_stream;
 mod records;
+#[cfg(test)]
+mod records_tests;
 mod stream;
 #[cfg(test)]
 mod tests;
@@ -17,6 +20,7 @@ pub use adapters::{StdSink, StdSource};
 pub use file_medium::FileMedium;
 pub use medium::{Inserted, Medium};
 pub use memory_medium::MemoryMedium;
+pub use memory_records::MemoryRecords;
 pub use memory_stream::{MemorySink, MemorySource};
 pub use records::{Records, Trouble};
 pub use stream::{Failed, Sink, Source};

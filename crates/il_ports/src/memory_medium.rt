@@ -1,8 +1,9 @@
-ghost use Rattle.std.specs.Prelude.{◌≡◌, ◌<◌, ◌≤◌, ℕ, [], length, get_or, vec_len, MatchOption, Some, None};
+ghost use Rattle.std.specs.Prelude.{◌≡◌, ◌<◌, ◌≤◌, ℕ, [], length, get_or, vec_len, MatchOption, Some, None, string_bytes};
 ghost use Rattle.std.specs.Vec.{vec_capacity};
 ghost use Rattle.std.specs.String.{string_capacity};
-ghost use Rattle.lif_model.specs.Shelf.{image_of, cassette_records};
-ghost use Rattle.il_ports.specs.Drive.{images_of, place_of, IsOffer, longest_name};
+ghost use Rattle.lif_model.specs.Shelf.{image_of, tape_of, cassette_records};
+ghost use Rattle.lif_model.specs.Redo.{changed};
+ghost use Rattle.il_ports.specs.Drive.{images_of, place_of, IsOffer, IsFirst, IsUnwritten, longest_name};
 
 use crate::image::{self, lay_in};
 use crate::medium::{Inserted, Medium};
@@ -61,16 +62,42 @@ fn offered<'a>(images: &'a [(String, Vec<u8>)], name: &str, new: bool) -> Offer<
     }
 }
 
+// A copy, which is known to be a whole record.
+fn copy_of(bytes: &[u8; 256]) -> [u8; 256]
+    ensures content { result ≡ bytes.now }
+    ensures whole { length result ≡ 256 }
+{
+    *bytes
+}
+
+// Makes two equal tapes of what the image reads as.
+fn lay_in_twice(bytes: &[u8], tape: &mut [[u8; 256]], first: &mut [[u8; 256]])
+    requires tape { length tape.old ≡ cassette_records }
+    requires first { length first.old ≡ cassette_records }
+    ensures content { tape.new ≡ tape_of bytes.now }
+    ensures same { first.new ≡ tape.new }
+    ensures shaped { (k : ℕ) → k < cassette_records → length (get_or tape.new k []) ≡ 256 }
+{
+    lay_in(bytes, tape);
+    first.copy_from_slice(tape);
+}
+
 /// A shelf in memory, with a drive. Calls of each kind are counted from 1; those that the lists name fail. So does
-/// an insert that would make an image with a name of more than 4,096 bytes.
+/// an insert that would make an image with a name of more than 4,096 bytes, and a write for which no room is left.
+/// A failing write that is listed leaves the bytes that the list gives; where no room is left, it leaves the tape
+/// as it was.
+///
+/// Every write that reached the tape is kept, with the bytes that it left. A power stop leaves the tape as it is
+/// between two writes, or with any bytes in the record of the next.
 #[derive(Drop)]
 pub struct MemoryMedium {
     images: Vec<(String, Vec<u8>)>,
     drive: Drive,
     // The name of the image that was made, in room that was reserved.
     made: String,
-    // What the tape holds while one is in the drive.
+    // What the tape holds while one is in the drive, and what it held when it was inserted.
     tape: Vec<[u8; 256]>,
+    first: Vec<[u8; 256]>,
     reads: Vec<u64>,
     writes: Vec<(u64, [u8; 256])>,
     inserts: Vec<u64>,
@@ -78,26 +105,30 @@ pub struct MemoryMedium {
     writes_made: u64,
     inserts_made: u64,
     faults: u64,
-    // Every write, in room that was reserved.
+    // Every write that reached the tape, with the bytes that it left, in room that was reserved.
     history: Vec<(u16, [u8; 256])>,
     room: usize,
     ghost size: { length tape.items ≡ cassette_records },
     ghost shaped: { (k : ℕ) → k < length tape.items → length (get_or tape.items k []) ≡ 256 },
+    ghost first_size: { length first.items ≡ cassette_records },
+    ghost replays: { tape.items ≡ changed history.items first.items },
+    ghost in_place: { IsFirst drive (images_of images.items) },
+    ghost unwritten: { IsUnwritten drive history.items },
     ghost name_room: { longest_name ≤ string_capacity made },
     ghost history_room: { (vec_len history ≤ room) × (room ≤ vec_capacity history) },
 }
 
 impl MemoryMedium {
-    ghost use Rattle.std.specs.Prelude.{◌≡◌, [], IfOk, None, string_bytes};
+    ghost use Rattle.std.specs.Prelude.{◌≡◌, ◌<◌, [], length, IfOk, IfSome, None, string_bytes};
     ghost use Rattle.std.specs.Option.{option_copied};
     ghost use Rattle.lif_model.specs.Shelf.{image_of};
-    ghost use Rattle.il_ports.specs.Drive.{images_of, is_made, is_inside};
-    ghost use Rattle.il_ports.specs.MemoryMedium.{state_of};
+    ghost use Rattle.il_ports.specs.Drive.{images_of, is_made, is_inside, records_in};
+    ghost use Rattle.il_ports.specs.MemoryMedium.{state_of, listed_bytes, holding};
 
     /// A medium with these images, the first of each name counting, and no tape in the drive. `reads` and `inserts`
-    /// list the calls that fail, `writes` the calls that fail and what they leave. There is room for `room` writes.
-    /// All memory is taken here: a blank tape, the room for the writes, and room for a made image's name of 4,096
-    /// bytes.
+    /// list the calls that fail, `writes` the calls that fail and what they leave in the record, the first entry of a
+    /// number counting. There is room for `room` writes. All memory is taken here: two blank tapes, the room for the
+    /// writes, and room for a made image's name of 4,096 bytes.
     pub fn new(
         alloc: Global,
         shelf: Vec<(String, Vec<u8>)>,
@@ -108,7 +139,9 @@ impl MemoryMedium {
     ) -> Result<MemoryMedium, AllocError>
         ensures { IfOk result (λ m. state_of m ≡ record {
           shelf = images_of shelf.items;
+          inside = None;
           tape = None;
+          first = None;
           reads = reads.items;
           writes = writes.items;
           inserts = inserts.items;
@@ -123,12 +156,14 @@ impl MemoryMedium {
         let made = String::with_capacity(alloc, LONGEST_NAME)?;
         let history = Vec::with_capacity(alloc, room)?;
         let mut tape = vec![in alloc; [0; 256]; image::RECORDS]?;
-        lay_in(&[], &mut tape);
+        let mut first = vec![in alloc; [0; 256]; image::RECORDS]?;
+        lay_in_twice(&[], &mut tape, &mut first);
         Ok(MemoryMedium {
             images: shelf,
             drive: Drive::Empty,
             made,
             tape,
+            first,
             reads,
             writes,
             inserts,
@@ -156,6 +191,29 @@ impl MemoryMedium {
         Some(bytes)
     }
 
+    // What the first entry of this write's number says that it leaves.
+    fn listed(&self) -> Option<[u8; 256]>
+        ensures content { result ≡ listed_bytes (state_of self.now).writes_made (state_of self.now).writes }
+        ensures whole { IfSome result (λ bytes. length bytes ≡ 256) }
+    {
+        for write in &self.writes {
+            if write.0 == self.writes_made {
+                return Some(copy_of(&write.1));
+            }
+        }
+        None
+    }
+
+    // Writes a record of the tape in the drive, and keeps the write.
+    fn keep(&mut self, n: u16, bytes: &[u8; 256])
+        requires within { n < records_in (state_of self.old).tape }
+        requires room { length (state_of self.old).history < (state_of self.old).room }
+        ensures { state_of self.new ≡ holding n bytes.now (state_of self.old) }
+    {
+        self.tape[n as usize] = *bytes;
+        self.history.push((n, *bytes)).unwrap();
+    }
+
     // Whether an image of that name was made. It is in the drive.
     fn has_made(&self, name: &str) -> bool
         ensures { result ≡ is_made self.now.drive (string_bytes self.now.made) name.now }
@@ -178,17 +236,20 @@ impl MemoryMedium {
 }
 
 impl Medium for MemoryMedium {
-    ghost use Rattle.std.specs.Prelude.{◌≡◌, ◌<◌, ◌↔◌, ◌⊎◌, ℕ, Some, None, true, length, is_some, Contains, IsErr};
-    ghost use Rattle.lif_model.specs.Tape.{DidRead};
+    ghost use Rattle.std.specs.Prelude.{◌≡◌, ◌<◌, ◌≤◌, ◌↔◌, ◌⊎◌, ℕ, Some, None, true, length, is_some, Contains, IsErr, IsSome, string_bytes};
+    ghost use Rattle.lif_model.specs.Tape.{Tape, DidRead};
     ghost use Rattle.lif_model.specs.Shelf.{image_of};
+    ghost use Rattle.lif_model.specs.Stops.{Torn, Wrote, Elapses, StandsStill};
     ghost use Rattle.lif_model.specs.Causes.{HasCause, next_count};
-    ghost use Rattle.il_ports.specs.Inserting.{DidInsert, IsSize};
+    ghost use Rattle.il_ports.specs.Inserting.{DidInsert, IsSize, OthersAreKept};
     ghost use Rattle.il_ports.specs.Counted.{faults_after};
-    ghost use Rattle.il_ports.specs.Drive.{records_in, longest_name};
-    ghost use Rattle.il_ports.specs.MemoryMedium.{state_of};
-    ghost use Rattle.il_ports.specs.InDrive.{tape_is};
+    ghost use Rattle.il_ports.specs.Drive.{images_of, records_in, longest_name};
+    ghost use Rattle.il_ports.specs.MemoryMedium.{state_of, IsLeft, inside_after, listed_bytes, bytes_left, holding};
+    ghost use Rattle.il_ports.specs.InDrive.{tape_is, image_is, left_now, left_only, left_none};
 
     ghost shelf = { λ m. Some (state_of m).shelf };
+
+    ghost inside = { λ m. (state_of m).inside };
 
     ghost tape = { λ m. (state_of m).tape };
 
@@ -196,19 +257,36 @@ impl Medium for MemoryMedium {
 
     ghost faults = { λ m. (state_of m).faults };
 
+    ghost moment = { λ m. length (state_of m).history };
+
+    ghost left_since = { λ m k c. IsLeft (state_of m).first (state_of m).history k c };
+
     ghost is_tape = { λ m t is. tape_is m.drive m.tape.items m.shaped t is };
+
+    ghost is_image = { λ m s name t same named told. image_is m.drive (string_bytes m.made) m.tape.items (images_of m.images.items) m.in_place s name t same named told };
+
+    ghost leaves_now = { λ m k t le told. left_now m.drive m.first.items m.tape.items m.history.items m.replays k t le told };
+
+    ghost leaves_only = { λ m t c told left. left_only m.drive m.first.items m.tape.items m.history.items m.replays t c told left };
+
+    ghost leaves_none = { λ m s c _ none left. left_none m.drive m.first.items m.tape.items m.history.items m.size (length m.history.items) c none left };
 
     fn insert(&mut self, name: &str, new: bool) -> Result<Inserted, Failed>
         requires { records_in (state_of self.old).tape ≡ 0 }
         ensures answer { DidInsert name.now new (Some (state_of self.old).shelf) (Some (state_of self.new).shelf)
-            (state_of self.new).tape (records_in (state_of self.new).tape) result }
+            (state_of self.new).inside (state_of self.new).tape (records_in (state_of self.new).tape) result }
         ensures told { is_some (Some (state_of self.new).shelf) ≡ is_some (Some (state_of self.old).shelf) }
+        ensures moment { length (state_of self.old).history ≤ length (state_of self.new).history }
+        ensures since { (m : ℕ) (c : Tape) → IsLeft (state_of self.new).first (state_of self.new).history m c
+            → IsLeft (state_of self.old).first (state_of self.old).history m c ⊎ ((state_of self.new).tape ≡ Some c) }
         ensures cause { HasCause (state_of self.old).faults (state_of self.new).faults result }
         ensures listed { IsErr result ↔ (Contains (state_of self.old).inserts (next_count (state_of self.old).inserts_made)
             ⊎ ((image_of name.now (state_of self.old).shelf ≡ None) × (new ≡ true) × (longest_name < length name.now))) }
         ensures counts { state_of self.new ≡ record (state_of self.old) {
           shelf = (state_of self.new).shelf;
+          inside = inside_after name.now result;
           tape = (state_of self.new).tape;
+          first = (state_of self.new).tape;
           inserts_made = next_count (state_of self.old).inserts_made;
           faults = faults_after (state_of self.old).faults result;
         } }
@@ -220,14 +298,14 @@ impl Medium for MemoryMedium {
         }
         match offered(&self.images, name, new) {
             Offer::Take(place, bytes) => {
-                lay_in(bytes, &mut self.tape);
+                lay_in_twice(bytes, &mut self.tape, &mut self.first);
                 self.drive = Drive::Shelved(place);
                 Ok(Inserted::Tape)
             }
             Offer::BadSize(size) => Ok(Inserted::BadSize(size)),
             Offer::NoSuch => Ok(Inserted::NoSuch),
             Offer::Make => {
-                lay_in(&[], &mut self.tape);
+                lay_in_twice(&[], &mut self.tape, &mut self.first);
                 self.made.clear();
                 self.made.push_str(name).unwrap();
                 self.drive = Drive::Made;
@@ -255,7 +333,11 @@ impl Medium for MemoryMedium {
         ensures content { DidRead n into.new (state_of self.old).tape result }
         ensures tape { (state_of self.new).tape ≡ (state_of self.old).tape }
         ensures shelf { Some (state_of self.new).shelf ≡ Some (state_of self.old).shelf }
+        ensures inside { (state_of self.new).inside ≡ (state_of self.old).inside }
         ensures size { records_in (state_of self.new).tape ≡ records_in (state_of self.old).tape }
+        ensures moment { length (state_of self.new).history ≡ length (state_of self.old).history }
+        ensures since { StandsStill (IsLeft (state_of self.old).first (state_of self.old).history)
+            (IsLeft (state_of self.new).first (state_of self.new).history) }
         ensures cause { HasCause (state_of self.old).faults (state_of self.new).faults result }
         ensures listed { IsErr result ↔ Contains (state_of self.old).reads (next_count (state_of self.old).reads_made) }
         ensures counts { state_of self.new ≡ record (state_of self.old) {
@@ -270,5 +352,47 @@ impl Medium for MemoryMedium {
         }
         *into = self.tape[n as usize];
         Ok(())
+    }
+
+    fn write(&mut self, n: u16, from: &[u8; 256]) -> Result<(), Failed>
+        requires { n < records_in (state_of self.old).tape }
+        ensures content { Wrote n from.now (state_of self.old).tape (state_of self.new).tape result }
+        ensures told { is_some (state_of self.new).tape ≡ is_some (state_of self.old).tape }
+        ensures shelf { is_some (Some (state_of self.new).shelf) ≡ is_some (Some (state_of self.old).shelf) }
+        ensures others { OthersAreKept (state_of self.old).inside (Some (state_of self.old).shelf) (Some (state_of self.new).shelf) }
+        ensures inside { (state_of self.new).inside ≡ (state_of self.old).inside }
+        ensures size { records_in (state_of self.new).tape ≡ records_in (state_of self.old).tape }
+        ensures time { Elapses (length (state_of self.old).history) (length (state_of self.new).history)
+            (IsLeft (state_of self.old).first (state_of self.old).history) (IsLeft (state_of self.new).first (state_of self.new).history)
+            (state_of self.old).tape (Torn n) }
+        ensures cause { HasCause (state_of self.old).faults (state_of self.new).faults result }
+        ensures listed { IsErr result ↔ (((state_of self.old).room ≤ length (state_of self.old).history)
+            ⊎ IsSome (listed_bytes (next_count (state_of self.old).writes_made) (state_of self.old).writes)) }
+        ensures full { (state_of self.old).room ≤ length (state_of self.old).history → state_of self.new ≡ record (state_of self.old) {
+          writes_made = next_count (state_of self.old).writes_made;
+          faults = next_count (state_of self.old).faults;
+        } }
+        ensures kept { length (state_of self.old).history < (state_of self.old).room →
+            state_of self.new ≡ record (holding n (bytes_left (next_count (state_of self.old).writes_made) (state_of self.old).writes from.now) (state_of self.old)) {
+              writes_made = next_count (state_of self.old).writes_made;
+              faults = faults_after (state_of self.old).faults result;
+            } }
+    {
+        self.writes_made = self.writes_made.saturating_add(1);
+        if self.history.len() == self.room {
+            self.faults = self.faults.saturating_add(1);
+            return Err(Failed);
+        }
+        match self.listed() {
+            Some(bytes) => {
+                self.keep(n, &bytes);
+                self.faults = self.faults.saturating_add(1);
+                Err(Failed)
+            }
+            None => {
+                self.keep(n, from);
+                Ok(())
+            }
+        }
     }
 }

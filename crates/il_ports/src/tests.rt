@@ -116,6 +116,49 @@ fn a_new_image_in_memory(rt: HostRuntime) -> Result<(), Fail> {
     Ok(())
 }
 
+// Writes of A: the second is listed twice, the first entry counting, and there is room for three.
+#[test]
+fn writes_in_memory(rt: HostRuntime) -> Result<(), Fail> {
+    let alloc = rt.alloc();
+    let mut listed = Vec::new(alloc);
+    listed.push((2, [9; 256]))?;
+    listed.push((2, [8; 256]))?;
+    let mut medium = MemoryMedium::new(
+        alloc,
+        shelf(alloc)?,
+        Vec::new(alloc),
+        listed,
+        Vec::new(alloc),
+        3,
+    )?;
+    assert_eq!(rt; medium.size(), 0);
+    assert_eq!(rt; medium.insert("A", false), Ok(Inserted::Tape));
+    for (n, byte, want, left) in [
+        (1, 3, Ok(()), 3),
+        (2, 4, Err(Failed), 9),
+        (1, 5, Ok(()), 5),
+        (0, 6, Err(Failed), 1),
+    ] {
+        assert!(rt; n < medium.size());
+        assert_eq!(rt; medium.write(n, &[byte; 256]), want, "{byte}");
+        assert!(rt; n < medium.size());
+        let mut into = [0; 256];
+        assert_eq!(rt; medium.read(n, &mut into), Ok(()));
+        assert_eq!(rt; into.as_slice(), [left; 256].as_slice(), "{byte}");
+    }
+    let image = medium.image("A").unwrap_or(&[]);
+    assert_eq!(rt; image.len(), TAPE_BYTES);
+    assert!(rt; image.len() > 768);
+    for (n, byte) in [1, 5, 9].into_iter().enumerate() {
+        assert_eq!(rt; &image[256 * n..256 * n + 256], [byte; 256].as_slice());
+    }
+    assert!(rt; image[768..].iter().all(|byte| *byte == 0));
+    let long = medium.image("LONG").unwrap_or(&[1]);
+    assert_eq!(rt; long.len(), TAPE_BYTES + 1);
+    assert!(rt; long.iter().all(|byte| *byte == 0));
+    Ok(())
+}
+
 #[test]
 fn images_in_files(rt: HostRuntime) -> Result<(), Fail> {
     let alloc = rt.alloc();
@@ -160,6 +203,42 @@ fn images_in_files(rt: HostRuntime) -> Result<(), Fail> {
     assert_eq!(rt; made.len(), TAPE_BYTES);
     assert!(rt; made.iter().all(|byte| *byte == 0));
     fs::remove_dir_all(&rt, "tapes")?;
+    Ok(())
+}
+
+// A file of six records and two bytes grows by each write behind its end, and by no other.
+#[test]
+fn writes_in_files(rt: HostRuntime) -> Result<(), Fail> {
+    let alloc = rt.alloc();
+    let mut want = vec![in alloc; 5; 1538]?;
+    fs::write(&rt, "WRITES", want.as_slice())?;
+    let mut medium = FileMedium::new(&rt);
+    assert_eq!(rt; medium.insert("WRITES", false), Ok(Inserted::Tape));
+    for (n, byte, length) in [
+        (2, 7, 1538),
+        (6, 8, 1792),
+        (9, 9, 2560),
+        (511, 6, TAPE_BYTES),
+    ] {
+        assert!(rt; n < medium.size());
+        assert_eq!(rt; medium.write(n, &[byte; 256]), Ok(()));
+        want.resize(length, 0)?;
+        let start = 256 * usize::from(n);
+        assert!(rt; start + 256 <= want.len());
+        want[start..start + 256].fill(byte);
+        assert_eq!(rt;
+            fs::read(&rt, "WRITES")?.as_slice(),
+            want.as_slice(),
+            "record {n}"
+        );
+    }
+    fs::remove_file(&rt, "WRITES")?;
+
+    // Nobody may write to this one.
+    let mut medium = FileMedium::new(&rt);
+    assert_eq!(rt; medium.insert("/proc/version", false), Ok(Inserted::Tape));
+    assert!(rt; 0 < medium.size());
+    assert_eq!(rt; medium.write(0, &[1; 256]), Err(Failed));
     Ok(())
 }
 

@@ -1,8 +1,10 @@
 ghost use Rattle.std.specs.Prelude.{◌≡◌, ◌≤◌, ◌+◌, ◌*◌, ◌++◌, true, length, map, Some, OnOk};
 ghost use Rattle.std.specs.List.{list_any};
 ghost use Rattle.lif_model.specs.Tape.{Tape};
+ghost use Rattle.lif_model.specs.Stops.{StandsStill};
 ghost use Rattle.lif_model.specs.Directory.{is_end, entries_of, before_end, slots_from};
 ghost use Rattle.il_ports.specs.Trouble.{HasTroubleCause, answers_ok};
+ghost use Rattle.il_ports.specs.Transfers.{AddsOnly};
 ghost use Rattle.lif_dir.specs.Entries.{slot_from, slot_bytes};
 
 use crate::entries::Slot;
@@ -53,12 +55,18 @@ pub fn slots_of<R: Records>(
     ensures bytes { OnOk result ((t : Tape) → R.tape records.old ≡ Some t →
         map slot_bytes table.new.slots ≡ slots_from t header.now.start header.now.length) }
 
-    // No record changes, and each record is read once at most.
+    // No record changes, and each record is read once at most. There are reads alone, and no call of `resume`.
     ensures valid { R.valid records.new }
     ensures tape { R.tape records.new ≡ R.tape records.old }
     ensures size { R.record_count records.new ≡ R.record_count records.old }
     ensures sound { R.sound records.new ≡ answers_ok result }
     ensures left { R.calls_left records.old ≤ R.calls_left records.new + header.now.length }
+    ensures moment { R.moment records.new ≡ R.moment records.old }
+    ensures since { StandsStill (R.left_since records.old) (R.left_since records.new) }
+    ensures transfers { AddsOnly (λ n. ⊥) (R.transfers records.old) (R.transfers records.new) result }
+    ensures stood { (s : R.Start) → R.stood records.old s → R.stood records.new s }
+    ensures unbroken { R.unbroken records.old ≡ true → answers_ok result ≡ true → R.unbroken records.new ≡ true }
+    ensures resumes { R.resumes records.new ≡ R.resumes records.old }
     ensures cause { HasTroubleCause (R.frame_faults records.old) (R.frame_faults records.new)
         (R.medium_faults records.old) (R.medium_faults records.new) result }
     ensures room { table.new.room ≡ table.old.room }

@@ -1,70 +1,12 @@
-ghost use Rattle.std.specs.Prelude.{◌≡◌, ◌<◌, ◌≤◌, true, IfOk};
+ghost use Rattle.std.specs.Prelude.{◌≡◌, ◌<◌, ◌≤◌, true, length, IfOk};
+ghost use Rattle.il_ports.specs.MemoryRecords.{state_of};
 
 use crate::{FileEntry, Name, Slot, SlotTable, slots_of};
-use il_ports::{Records, Trouble};
+use il_ports::{MemoryRecords, Records, Trouble};
 use lif_header::Header;
+use std::alloc::{AllocError, Global};
 use std::process::Abort;
 use std::test::Fail;
-
-/// A store of four records, one of which may fail.
-#[derive(Drop)]
-struct FourRecords {
-    records: [[u8; 256]; 4],
-    bad: Option<u16>,
-    left: u32,
-    is_sound: bool,
-    faults: u64,
-}
-
-impl Records for FourRecords {
-    ghost use Rattle.std.specs.Prelude.{None};
-    ghost use Rattle.std.proofs.lemmas.Option.{none-some};
-
-    ghost valid = { λ _. Unit {0} };
-
-    ghost tape = { λ _. None };
-
-    ghost record_count = { λ _. 4 };
-
-    ghost sound = { λ store. store.is_sound };
-
-    ghost calls_left = { λ store. store.left };
-
-    ghost frame_faults = { λ _. 0 };
-
-    ghost medium_faults = { λ store. store.faults };
-
-    ghost is_tape = { λ _ t told. absurd (none-some t told) };
-
-    fn size(&self) -> u16 {
-        4
-    }
-
-    fn is_sound(&self) -> bool {
-        self.is_sound
-    }
-
-    fn left(&self) -> u32 {
-        self.left
-    }
-
-    fn resume(&mut self) -> Result<(), Trouble> {
-        self.left -= 1;
-        self.is_sound = true;
-        Ok(())
-    }
-
-    fn read(&mut self, n: u16, into: &mut [u8; 256]) -> Result<(), Trouble> {
-        self.left -= 1;
-        if self.bad == Some(n) {
-            self.is_sound = false;
-            self.faults = self.faults.saturating_add(1);
-            return Err(Trouble::Medium);
-        }
-        *into = self.records[n as usize];
-        Ok(())
-    }
-}
 
 /// The entry of the redo file on a tape of 512 records, as the LIF format has it.
 const REDO: &[u8; 32] =
@@ -110,18 +52,17 @@ fn full_directory() -> [[u8; 256]; 4] {
     records
 }
 
-/// A sound store in which two reads are left.
-fn store_of(records: [[u8; 256]; 4], bad: Option<u16>) -> FourRecords
-    ensures sound { result.is_sound ≡ true }
-    ensures left { result.left ≡ 2 }
+/// A sound store of four records, in which two reads are left and the listed ones fail.
+fn store_of(
+    alloc: Global,
+    records: [[u8; 256]; 4],
+    fails: Vec<(u64, Trouble)>,
+) -> Result<MemoryRecords, AllocError>
+    ensures size { IfOk result (λ store. length (state_of store).records ≡ 4) }
+    ensures sound { IfOk result (λ store. (state_of store).sound ≡ true) }
+    ensures left { IfOk result (λ store. (state_of store).left ≡ 2) }
 {
-    FourRecords {
-        records,
-        bad,
-        left: 2,
-        is_sound: true,
-        faults: 0,
-    }
+    MemoryRecords::new(alloc, Vec::from_array(alloc, records)?, fails, 2)
 }
 
 /// The mark of a volume, a directory that begins in record 2, and its two records.
@@ -157,9 +98,10 @@ fn redo_file() -> Result<FileEntry, Fail> {
 }
 
 /// Reads the directory of a sound store, in which two reads are left, into a table with room for sixteen slots.
-fn read_all(rt: &(impl Abort + AllocGlobal), store: &mut FourRecords) -> Result<SlotTable, Fail>
-    requires sound { store.old.is_sound ≡ true }
-    requires left { 2 ≤ store.old.left }
+fn read_all(rt: &(impl Abort + AllocGlobal), store: &mut MemoryRecords) -> Result<SlotTable, Fail>
+    requires size { length (state_of store.old).records ≡ 4 }
+    requires sound { (state_of store.old).sound ≡ true }
+    requires left { 2 ≤ (state_of store.old).left }
 {
     let mut table = SlotTable::new(rt.alloc(), 16)?;
     slots_of(store, &header(rt)?, &mut table)?;
@@ -168,7 +110,8 @@ fn read_all(rt: &(impl Abort + AllocGlobal), store: &mut FourRecords) -> Result<
 
 #[test]
 fn full_directory_needs_no_end(rt: HostRuntime) -> Result<(), Fail> {
-    let mut store = store_of(full_directory(), None);
+    let alloc = rt.alloc();
+    let mut store = store_of(alloc, full_directory(), Vec::new(alloc))?;
     let table = read_all(&rt, &mut store)?;
     assert_eq!(rt; table.len(), 16);
     for k in 0..16u8 {
@@ -194,7 +137,9 @@ fn slots_before(rt: &(impl Abort + AllocGlobal), end: u8) -> Result<usize, Fail>
 {
     let mut records = full_directory();
     put_slot(&mut records, usize::from(end), END);
-    let mut store = store_of(records, if end < 8 { Some(3) } else { None });
+    let second: u64 = if end < 8 { 2 } else { 3 };
+    let fails = vec![in rt.alloc(); (second, Trouble::Medium); 1]?;
+    let mut store = store_of(rt.alloc(), records, fails)?;
     Ok(read_all(rt, &mut store)?.len())
 }
 
@@ -212,7 +157,8 @@ fn purged_slots_keep_their_junk(rt: HostRuntime) -> Result<(), Fail> {
     put_slot(&mut records, 0, PURGED);
     put_slot(&mut records, 1, REDO);
     put_slot(&mut records, 2, END);
-    let mut store = store_of(records, None);
+    let alloc = rt.alloc();
+    let mut store = store_of(alloc, records, Vec::new(alloc))?;
     let table = read_all(&rt, &mut store)?;
     let junk = FileEntry {
         name: Name::of(b"A %\x0A\x00\xFF B").ok_or("a name")?,
@@ -274,13 +220,17 @@ fn table_keeps_its_room(rt: HostRuntime) -> Result<(), Fail> {
 
 #[test]
 fn trouble_is_passed_on(rt: HostRuntime) -> Result<(), Fail> {
-    let mut store = store_of(full_directory(), Some(3));
-    let mut table = SlotTable::new(rt.alloc(), 16)?;
+    let alloc = rt.alloc();
+    let fails = vec![in alloc; (2, Trouble::Frame); 1]?;
+    let mut store = store_of(alloc, full_directory(), fails)?;
+    let mut table = SlotTable::new(alloc, 16)?;
     assert_eq!(rt;
         slots_of(&mut store, &header(&rt)?, &mut table),
-        Err(Trouble::Medium)
+        Err(Trouble::Frame)
     );
-    assert_eq!(rt; store.is_sound, false);
+    assert_eq!(rt; store.is_sound(), false);
+    assert_eq!(rt; store.left(), 0);
+    assert!(rt; store.writes().is_empty());
     assert_eq!(rt; table.room(), 16);
     Ok(())
 }

@@ -1,5 +1,6 @@
 pub mod Examples
 pub mod Moments
+pub mod History
 pub mod Redo
 pub mod Commit
 pub mod Texts

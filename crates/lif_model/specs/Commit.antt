@@ -70,3 +70,8 @@ IsTarget (c ∷ cs) k = (k ≡ c.0) ⊎ IsTarget cs k
 -- a record of the redo file, or one of its targets
 abbrev pub IsRedoWrite : Version → ℕ → Changes → ℕ → Type 0
 IsRedoWrite version n changes k = (redo_start version n ≤ k) ⊎ IsTarget changes k
+
+-- a record that settling writes: a target of the open redo, or the gate, and none where no redo is open
+abbrev pub IsSettleWrite : ℕ → Changes → ℕ → Type 0
+IsSettleWrite n [] k = ⊥
+IsSettleWrite n (c ∷ cs) k = (k ≡ gate_of n) ⊎ IsTarget (c ∷ cs) k

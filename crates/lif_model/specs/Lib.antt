@@ -15,4 +15,5 @@ pub mod Volume
 pub mod Fit
 pub mod Apply
 pub mod Commit
+pub mod History
 pub mod Plain

@@ -1,7 +1,8 @@
-use Rattle.std.proofs.Common.{◌≡◌, ℕ, ◌<◌, ◌-◌, ◌+◌, map, Some, sym, ◌∙◌, arith}
+use Rattle.std.proofs.Common.{◌≡◌, ℕ, ◌<◌, ◌-◌, ◌+◌, map, Some, refl, sym, ◌∙◌, arith}
 use Rattle.lif_model.specs.Tape.{Tape}
 use Rattle.lif_model.specs.Directory.{entries_of, before_end, slots_from}
 use Rattle.lif_dir.specs.Entries.{slot_from, slot_bytes}
+use Rattle.il_ports.proofs.Transfers.{one_more, then_more}
 use Rattle.lif_dir.proofs.Slots.{slots_end, slots_more, last_part, mapped_last, parts_step, mapped_step}
 use Rattle.lif_dir.proofs.reading.slots_of.Goals as goal
 
@@ -25,6 +26,9 @@ returns-then-append_slots-clause-bytes g c = λ t told.
     (sym c.append_slots.ensures.ended ∙ c.if-append_slots.true) in
     last_part _ (map slot_bytes c.loop-n.table.slots) (map slot_bytes c.append_slots.new.table.slots) _ _ (v.bytes t told) last c.append_slots.ensures.bytes
 
+pub returns-then-append_slots-clause-transfers : goal.returns-then-append_slots-clause-transfers
+returns-then-append_slots-clause-transfers g c = then_more (λ n. ⊥) _ _ _ c.loop-n.invariant.transfers (one_more (λ n. ⊥) _ _ _ c.in_ok-read.ensures.transfers (λ writes. cc))
+
 pub loop-n-preserved : goal.loop-n-preserved
 loop-n-preserved g c =
     let v = c.loop-n.invariant in
@@ -41,6 +45,12 @@ loop-n-preserved g c =
       tape = r.tape ∙ v.tape;
       size = r.size ∙ v.size;
       left = omega (arith, r.left, v.left);
+      moment = r.moment ∙ v.moment;
+      since = record { nothing_else = λ m t left. v.since.nothing_else m t (r.since.nothing_else m t left); keeps = λ m t left. r.since.keeps m t (v.since.keeps m t left) };
+      transfers = then_more (λ n. ⊥) _ _ _ v.transfers (one_more (λ n. ⊥) _ _ _ r.transfers (λ writes. cc));
+      stood = λ s from. r.stood s (v.stood s from);
+      unbroken = λ was. r.unbroken (v.unbroken was) refl;
+      resumes = r.resumes ∙ v.resumes;
       frames = r.cause.0 ∙ v.frames;
       medium = r.cause.1 ∙ v.medium;
       room = a.room ∙ v.room;

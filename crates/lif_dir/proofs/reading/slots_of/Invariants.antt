@@ -1,5 +1,7 @@
 use Rattle.std.proofs.Common.{◌≡◌, ◌≤◌, ◌+◌, ◌-◌, ◌*◌, ◌++◌, true, length, map, Some}
 use Rattle.lif_model.specs.Tape.{Tape}
+use Rattle.lif_model.specs.Stops.{StandsStill}
+use Rattle.il_ports.specs.Transfers.{GoesOnBy}
 use Rattle.lif_model.specs.Directory.{slots_from}
 use Rattle.lif_dir.specs.Entries.{slot_from, slot_bytes}
 use Rattle.lif_dir.proofs.reading.slots_of.Given as goal
@@ -12,6 +14,12 @@ invariant-loop-n g l = record {
   tape : g.R.Records.tape l.records ≡ g.R.Records.tape l.fn.records;
   size : g.R.Records.record_count l.records ≡ g.R.Records.record_count l.fn.records;
   left : g.R.Records.calls_left l.fn.records ≤ g.R.Records.calls_left l.records + (l.n - l.header.start);
+  moment : g.R.Records.moment l.records ≡ g.R.Records.moment l.fn.records;
+  since : StandsStill (g.R.Records.left_since l.fn.records) (g.R.Records.left_since l.records);
+  transfers : GoesOnBy (λ n. ⊥) (g.R.Records.transfers l.fn.records) (g.R.Records.transfers l.records);
+  stood : (s : g.row.R-Start.Denot) → g.R.Records.stood l.fn.records s → g.R.Records.stood l.records s;
+  unbroken : g.R.Records.unbroken l.fn.records ≡ true → g.R.Records.unbroken l.records ≡ true;
+  resumes : g.R.Records.resumes l.records ≡ g.R.Records.resumes l.fn.records;
   frames : g.R.Records.frame_faults l.records ≡ g.R.Records.frame_faults l.fn.records;
   medium : g.R.Records.medium_faults l.records ≡ g.R.Records.medium_faults l.fn.records;
   room : l.table.room ≡ l.fn.table.room;
