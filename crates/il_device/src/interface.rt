@@ -120,6 +120,13 @@ impl Interface {
         self.service.wants()
     }
 
+    /// The status, 0 to 63.
+    pub fn status(&self) -> u8
+        ensures { result ≡ self.now.service.status }
+    {
+        self.service.status()
+    }
+
     /// The byte that answers SST.
     pub fn status_byte(&self) -> u8
         ensures { result ≡ status_byte_of self.now.service.status }

@@ -50,6 +50,13 @@ impl ServiceState {
         self.status != 0
     }
 
+    /// The status, 0 to 63.
+    pub fn status(&self) -> u8
+        ensures { result ≡ self.now.status }
+    {
+        self.status
+    }
+
     /// Sets the status, a number below 64.
     pub fn set(&mut self, status: u8)
         requires { status < 64 }

@@ -1,0 +1,139 @@
+-- Transmissions: the bytes of a record in their order, and the status, which its right echo clears.
+use Rattle.std.proofs.Common.{◌≡◌, ◌≢◌, ◌<◌, ◌≤◌, ◌+◌, ◌%◌, ℕ, List, [], ◌∷◌, length, get_or, true, false, refl, sym, ap, subst, ◌∙◌, arith}
+use Rattle.std.specs.Prelude.{Option, Some, None, if◌then◌else◌, ◌||◌}
+use Rattle.std.proofs.Math.Nat.{mod-eq_of_lt}
+use Rattle.std.proofs.lemmas.Bool.{ne_eqb, eq-eqb}
+use Rattle.lif_model.specs.Tape.{Tape}
+use Rattle.lif_model.specs.Shelf.{Shelf}
+use Rattle.il_frames.specs.declared.frame.Class.TheVariants as class
+use Rattle.il_frames.specs.declared.frame.Frame.{Frame}
+use Rattle.il_frames.specs.Frames.{framed, is_data, same_but_service}
+use Rattle.il_poll.specs.Service.{status_byte_of}
+use Rattle.il_device.specs.declared.device.Out.{Out}
+use Rattle.il_device.specs.declared.device.Out.TheVariants.{Source}
+use Rattle.il_device.specs.declared.interface.OwnFrame.{OwnFrame}
+use Rattle.il_device.specs.declared.interface.Turn.TheVariants as turn
+use Rattle.il_device.specs.declared.roles.Roles.{Roles}
+use Rattle.il_device.specs.Takes.{turn_at_data, turn_at_start, just_sent, eto}
+use Rattle.il_device.specs.Interfaces.{turn_on}
+use Rattle.il_device.proofs.Laws.{turn_of-data, roles_after-data}
+use Rattle.il_drive.specs.declared.mode.Mode.TheVariants as mode
+use Rattle.il_drive.specs.declared.mode.Start.TheVariants as start
+use Rattle.il_drive.specs.State.{DriveState, DriveView, status_of, device_of}
+use Rattle.il_drive.specs.Steps.{Step, Now, Reads, then_by, Did}
+use Rattle.il_drive.specs.Table as table
+use Rattle.il_drive.specs.Runs.{Ran, AllData, IsReading, AreEchoes, sent_from, sent_all}
+
+-- the start messages SDA and SST
+abbrev pub sda : Frame
+sda = framed class.Rdy 0x60
+
+abbrev pub sst : Frame
+sst = framed class.Rdy 0x61
+
+-- ---- SDA in mode Read
+
+-- the record at the position is read, and its first byte sent
+pub step_reads : (n : ℕ) (s : DriveState) → s.interface.roles.talks ≡ true → s.interface.own ≡ None → s.mode ≡ mode.Read → s.pointer ≡ 0 → s.position ≢ n
+    → table.drive_step n s sda ≡ Reads s.position (λ bytes. table.sends start.Data false (get_or bytes s.pointer 0) (table.advanced (record (table.behind_effect sda s) { first = bytes; position = s.position + 1 })))
+    (table.passes s.interface.roles sda (table.faulty 1 (table.behind_effect sda s)))
+step_reads n s talks silent in_mode empty on =
+    let u = table.behind_effect sda s in
+    let r = s.interface.roles in
+    ap (λ asked. table.answered asked n r sda u) (ap (λ own. turn_at_start own r.talks turn.Begin) silent ∙ ap (λ talks. turn_at_start None talks turn.Begin) talks)
+    ∙ ap (λ m. then_by (table.first_or_pass r sda) (table.due_in m n u)) in_mode
+    ∙ ap (λ b. then_by (table.first_or_pass r sda) (if b then then_by table.first_of_record (table.loaded n u) else Now (table.byte_of_record u))) (eq-eqb s.pointer 0 empty)
+    ∙ ap (λ b. then_by (table.first_or_pass r sda) (then_by table.first_of_record (if b then Now (table.faulty 3 u, false) else Reads u.position (λ bytes. (record u { first = bytes }, true)) (table.faulty 1 u, false)))) (ne_eqb s.position n on)
+
+-- ---- behind the right echo
+
+-- a frame that comes in the place of the own frame is compared with it
+compares : (s : DriveState) (f : Frame) (own : OwnFrame) → s.interface.own ≡ Some own → is_data f ≡ true → turn_on s.interface f ≡ turn.Compare own
+compares s f own is h = turn_of-data (device_of s) f h ∙ ap (λ own. turn_at_data own s.interface.roles.listens) is
+
+step_compares : (n : ℕ) (s : DriveState) (f : Frame) (own : OwnFrame) → s.interface.own ≡ Some own → is_data f ≡ true → same_but_service own.frame f ≡ true
+    → table.drive_step n s f ≡ table.went_on (own.stopped || own.last) n (table.behind_effect f s)
+step_compares n s f own is h right =
+    ap (λ asked. table.answered asked n s.interface.roles f (table.behind_effect f s)) (compares s f own is h) ∙ ap (λ b. table.compared b own n (table.behind_effect f s)) right
+
+-- the next byte of the record is sent
+pub step_sends : (n last : ℕ) (s : DriveState) (f : Frame) → IsReading last s → is_data f ≡ true → same_but_service (framed class.Dab (get_or s.first last 0)) f ≡ true
+    → table.drive_step n s f ≡ Now (table.sends start.Data false (get_or s.first s.pointer 0) (table.advanced (table.behind_effect f s)))
+step_sends n last s f reading h right =
+    let u = table.behind_effect f s in
+    step_compares n s f (just_sent (framed class.Dab (get_or s.first last 0)) false) reading.sent h right
+    ∙ ap (λ m. then_by table.next_or_end (table.due_in m n u)) reading.mode
+    ∙ ap (λ b. then_by table.next_or_end (if b then then_by table.first_of_record (table.loaded n u) else Now (table.byte_of_record u))) (ne_eqb s.pointer 0 (λ e. absurd (omega (arith, e, reading.pointer))))
+
+-- Behind NRD no byte is asked for, and behind a last byte neither: the transmission ends, and a status that was sent is
+-- cleared.
+pub step_ends : (n : ℕ) (s : DriveState) (f : Frame) (own : OwnFrame) → s.interface.own ≡ Some own → is_data f ≡ true → same_but_service own.frame f ≡ true → (own.stopped || own.last) ≡ true
+    → table.drive_step n s f ≡ Now (table.ends eto (table.acknowledged s.begun (table.behind_effect f s)))
+step_ends n s f own is h right over = step_compares n s f own is h right ∙ ap (λ b. table.went_on b n (table.behind_effect f s)) over
+
+-- ---- the status
+
+-- SST to the talker sends the status
+pub step_status : (n : ℕ) (s : DriveState) → s.interface.roles.talks ≡ true → s.interface.own ≡ None
+    → table.drive_step n s sst ≡ Now (table.sends start.Status true (status_byte_of (status_of s)) (table.behind_effect sst s))
+step_status n s talks silent =
+    ap (λ asked. table.answered asked n s.interface.roles sst (table.behind_effect sst s))
+    (ap (λ own. turn_at_start own s.interface.roles.talks turn.Begin) silent ∙ ap (λ talks. turn_at_start None talks turn.Begin) talks)
+
+-- and its right echo clears it
+pub step_clears : (n : ℕ) (s : DriveState) (f : Frame) (byte : ℕ) → s.interface.own ≡ Some (just_sent (framed class.Dab byte) true) → s.begun ≡ start.Status → is_data f ≡ true
+    → same_but_service (framed class.Dab byte) f ≡ true → table.drive_step n s f ≡ Now (table.ends eto (table.in_status 0 (table.behind_effect f s)))
+step_clears n s f byte is by h right =
+    step_ends n s f (just_sent (framed class.Dab byte) true) is h right refl ∙ ap (λ start. Now (table.ends eto (table.acknowledged start (table.behind_effect f s)))) by
+
+-- ---- all bytes of a record
+
+-- the drive that has sent one more
+abbrev later : DriveState → Frame → DriveState
+later s f = (table.sends start.Data false (get_or s.first s.pointer 0) (table.advanced (table.behind_effect f s))).0
+
+later_reading : (last : ℕ) (s : DriveState) (f : Frame) → IsReading last s → is_data f ≡ true → s.pointer < 255 → IsReading s.pointer (later s f)
+later_reading last s f reading h lt = record {
+  talks = ap (λ (r : Roles). r.talks) (roles_after-data s.interface.roles f h) ∙ reading.talks;
+  mode = reading.mode;
+  pointer = mod-eq_of_lt (omega (arith, lt));
+  sent = refl;
+}
+
+module _ {M : Type 0} (tape : M → Option Tape) (shelf : M → Option Shelf) (inside : M → Option (List ℕ)) (size faults moment : M → ℕ) (since : M → ℕ → Tape → Type 0) where
+  abbrev Runs : DriveView M → List Frame → List Out → DriveView M → Type 0
+  Runs v fs outs w = Ran tape shelf inside size faults moment since v fs outs w
+
+  abbrev Does : {X : Type 0} → Step X → X → M → M → Type 0
+  Does step x m n = Did tape shelf inside size faults moment since step x m n
+
+  -- what came of frames from that state on
+  abbrev Sent : List Frame → List Out → DriveState → M → DriveView M → Type 0
+  Sent fs outs s m w = (outs ≡ sent_from s.first s.pointer fs) × (w.state ≡ sent_all fs s) × (w.medium ≡ m)
+
+  -- one byte more
+  one_sent : (last : ℕ) (f : Frame) (out : Out) (v u : DriveView M) → IsReading last v.state → is_data f ≡ true → same_but_service (framed class.Dab (get_or v.state.first last 0)) f ≡ true
+      → Does (table.drive_step (size v.medium) v.state f) (u.state, out) v.medium u.medium → (out ≡ Source (framed class.Dab (get_or v.state.first v.state.pointer 0))) × (u ≡ record { state = later v.state f; medium = v.medium })
+  one_sent last f out v u reading h right did =
+      let sent : Does (Now (table.sends start.Data false (get_or v.state.first v.state.pointer 0) (table.advanced (table.behind_effect f v.state)))) (u.state, out) v.medium u.medium =
+      subst (λ step. Does step (u.state, out) v.medium u.medium) (step_sends (size v.medium) last v.state f reading h right) did in
+      (ap (λ x. x.1) sent.0, λ i. record { state = (sent.0 i).0; medium = sent.1 i })
+
+  -- while the echoes are right the bytes of the record follow each other, and the medium stays
+  pub sends_record : (fs : List Frame) (outs : List Out) (last : ℕ) (v w : DriveView M) → IsReading last v.state → AllData fs → v.state.pointer + length fs ≤ 256
+      → AreEchoes v.state.first last fs → Runs v fs outs w → Sent fs outs v.state v.medium w
+  sends_record [] [] last v w reading all fits echoes ran = (refl, ap (λ v. v.state) ran, ap (λ v. v.medium) ran)
+  sends_record [] (out ∷ outs) last v w reading all fits echoes ran = absurd ran
+  sends_record (f ∷ fs) [] last v w reading all fits echoes ran = absurd ran
+  sends_record (f ∷ []) (out ∷ other ∷ outs) last v w reading all fits echoes ran = absurd ran.2
+  sends_record (f ∷ []) (out ∷ []) last v w reading all fits echoes ran =
+      let one = one_sent last f out v ran.0 reading all.0 echoes.0 ran.1 in
+      (ap (λ out. out ∷ []) one.0, ap (λ v. v.state) (ran.2 ∙ one.1), ap (λ v. v.medium) (ran.2 ∙ one.1))
+  sends_record (f ∷ g ∷ fs) (out ∷ outs) last v w reading all fits echoes ran =
+      let s = v.state in
+      let one = one_sent last f out v ran.0 reading all.0 echoes.0 ran.1 in
+      let up : (s.pointer + 1) % 256 ≡ s.pointer + 1 = mod-eq_of_lt (omega (arith, fits)) in
+      let more =
+      sends_record (g ∷ fs) outs s.pointer (record { state = later s f; medium = v.medium }) w (later_reading last s f reading all.0 (omega (arith, fits))) all.1 (omega (arith, fits, up))
+      (subst (λ k. AreEchoes s.first k (g ∷ fs)) (sym reading.pointer) echoes.1) (subst (λ u. Runs u (g ∷ fs) outs w) one.1 ran.2) in
+      (λ i. one.0 i ∷ (more.0 ∙ ap (λ p. sent_from s.first p (g ∷ fs)) up) i, more.1, more.2)

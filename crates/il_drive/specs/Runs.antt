@@ -1,0 +1,81 @@
+-- A drive that takes one frame after the other, and what whole records come to.
+use Rattle.std.specs.Prelude.{◌≡◌, ◌+◌, ℕ, true, false, List, [], ◌∷◌, get_or, set, map, Option, Some, None}
+use Rattle.il_frames.specs.declared.frame.Class.TheVariants as class
+use Rattle.il_frames.specs.declared.frame.Frame.{Frame}
+use Rattle.il_frames.specs.Frames.{byte_of, framed, is_data, same_but_service}
+use Rattle.il_device.specs.declared.device.Out.{Out}
+use Rattle.il_device.specs.declared.device.Out.TheVariants.{Source}
+use Rattle.il_device.specs.Interfaces.{InterfaceState, interface_after}
+use Rattle.il_device.specs.Takes.{just_sent}
+use Rattle.lif_model.specs.Tape.{Tape}
+use Rattle.lif_model.specs.Shelf.{Shelf}
+use Rattle.il_drive.specs.declared.mode.Mode.TheVariants as mode
+use Rattle.il_drive.specs.declared.mode.Start.TheVariants as start
+use Rattle.il_drive.specs.State.{DriveState, DriveView}
+use Rattle.il_drive.specs.Steps.{Did}
+use Rattle.il_drive.specs.Table.{drive_step, behind_effect, faulty, emptied, advanced, sends}
+
+-- These frames came, oldest first, and the drive gave these answers.
+abbrev pub Ran : {M : Type 0} → (M → Option Tape) → (M → Option Shelf) → (M → Option (List ℕ)) → (M → ℕ) → (M → ℕ) → (M → ℕ) → (M → ℕ → Tape → Type 0)
+    → DriveView M → List Frame → List Out → DriveView M → Type 0
+Ran tape shelf inside size faults moment since v [] [] w = w ≡ v
+Ran {M} tape shelf inside size faults moment since v (f ∷ fs) (out ∷ outs) w =
+    (u : DriveView M) × Did tape shelf inside size faults moment since (drive_step (size v.medium) v.state f) (u.state, out) v.medium u.medium
+    × Ran tape shelf inside size faults moment since u fs outs w
+Ran tape shelf inside size faults moment since v _ _ w = ⊥
+
+abbrev pub AllData : List Frame → Type 0
+AllData [] = Unit {0}
+AllData (f ∷ fs) = (is_data f ≡ true) × AllData fs
+
+-- ---- writing
+
+-- the drive listens for the bytes of a record
+pub record IsWriting (s : DriveState) : Type 0 where
+  pub listens : s.interface.roles.listens ≡ true
+  pub silent : s.interface.own ≡ None
+  pub mode : s.mode ≡ mode.Write
+
+-- the interface behind frames that it heard
+abbrev pub through : List Frame → InterfaceState → InterfaceState
+through [] i = i
+through (f ∷ fs) i = through fs (interface_after i f)
+
+abbrev pub bytes_of : List Frame → List ℕ
+bytes_of fs = map byte_of fs
+
+-- the drive with bytes in buffer 0 that do not fill it
+abbrev pub buffered : List Frame → DriveState → DriveState
+buffered [] s = s
+buffered (f ∷ fs) s = buffered fs (record s { interface = interface_after s.interface f; first = set s.first s.pointer (byte_of f); pointer = s.pointer + 1; filled = true })
+
+-- the drive that has put the record of these bytes, and the one that could not, with that interface
+abbrev pub put_well : List ℕ → InterfaceState → DriveState → DriveState
+put_well bytes i s = emptied (record s { interface = i; first = bytes; position = s.position + 1 })
+
+abbrev pub put_badly : List ℕ → InterfaceState → DriveState → DriveState
+put_badly bytes i s = emptied (faulty 2 (record s { interface = i; first = bytes }))
+
+-- ---- reading
+
+-- the drive talks, with the bytes of a record in buffer 0, and the one at this place, before the pointer, is on the loop
+pub record IsReading (last : ℕ) (s : DriveState) : Type 0 where
+  pub talks : s.interface.roles.talks ≡ true
+  pub mode : s.mode ≡ mode.Read
+  pub pointer : s.pointer ≡ last + 1
+  pub sent : s.interface.own ≡ Some (just_sent (framed class.Dab (get_or s.first last 0)) false)
+
+-- the frames that came back are the bytes of the buffer from that place on
+abbrev pub AreEchoes : List ℕ → ℕ → List Frame → Type 0
+AreEchoes buffer place [] = Unit {0}
+AreEchoes buffer place (f ∷ fs) = (same_but_service (framed class.Dab (get_or buffer place 0)) f ≡ true) × AreEchoes buffer (place + 1) fs
+
+-- for each frame one data frame, of the bytes of the buffer from that place on
+abbrev pub sent_from : List ℕ → ℕ → List Frame → List Out
+sent_from buffer place [] = []
+sent_from buffer place (f ∷ fs) = Source (framed class.Dab (get_or buffer place 0)) ∷ sent_from buffer (place + 1) fs
+
+-- the drive that has sent them
+abbrev pub sent_all : List Frame → DriveState → DriveState
+sent_all [] s = s
+sent_all (f ∷ fs) s = sent_all fs (sends start.Data false (get_or s.first s.pointer 0) (advanced (behind_effect f s))).0

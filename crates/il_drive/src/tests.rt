@@ -1,0 +1,445 @@
+use crate::Drive;
+use il_device::Out;
+use il_frames::{Class, Frame};
+use il_ports::{Inserted, Medium, MemoryMedium};
+use std::process::Abort;
+use std::test::Fail;
+
+/// What a frame is to be answered by: `=` for passed on as it came, `> F` for F passed on, `< F` for F sent.
+fn answer_to(frame: Frame, text: &[u8]) -> Option<Out> {
+    match text {
+        b"=" => Some(Out::Pass(frame)),
+        [b'>', b' ', rest @ ..] => Some(Out::Pass(Frame::read_text(rest)?)),
+        [b'<', b' ', rest @ ..] => Some(Out::Source(Frame::read_text(rest)?)),
+        _ => None,
+    }
+}
+
+/// Sends each frame to the drive, and compares its answer.
+fn talk(
+    rt: &impl Abort,
+    drive: &mut Drive<MemoryMedium>,
+    lines: &[(&str, &str)],
+) -> Result<(), Fail> {
+    for (frame, answer) in lines {
+        let frame_read = Frame::read_text(frame.as_bytes()).expect(rt, "a frame");
+        let want = answer_to(frame_read, answer.as_bytes()).expect(rt, "an answer");
+        assert_eq!(rt; drive.take(frame_read), want, "{frame}");
+    }
+    Ok(())
+}
+
+/// A drive at address 1 over a tape whose record 0 holds the bytes 0 to 255, record 1 bytes 11 hex and all others zeros.
+/// The listed reads fail, and so do the listed writes, which leave zeros.
+fn drive_with(
+    rt: &(impl Abort + AllocGlobal),
+    reads: Vec<u64>,
+    writes: Vec<(u64, [u8; 256])>,
+) -> Result<Drive<MemoryMedium>, Fail> {
+    let alloc = rt.alloc();
+    let mut image = Vec::new(alloc);
+    for byte in 0..=255 {
+        image.push(byte)?;
+    }
+    image.extend_from_slice(&[0x11; 256])?;
+    let mut shelf = Vec::new(alloc);
+    shelf.push((String::from_str(alloc, "TAPE")?, image))?;
+    let mut medium = MemoryMedium::new(alloc, shelf, reads, writes, Vec::new(alloc), 8)?;
+    assert_eq!(rt; medium.size(), 0);
+    assert_eq!(rt; medium.insert("TAPE", false), Ok(Inserted::Tape));
+    assert!(rt; medium.size() > 0);
+    let mut drive = Drive::new(medium);
+    talk(rt, &mut drive, &[("AAD 01", "> AAD 02")])?;
+    Ok(drive)
+}
+
+/// Hears a record of 256 bytes that are all the same.
+fn hear_record(rt: &impl Abort, drive: &mut Drive<MemoryMedium>, byte: u8) -> Result<(), Fail> {
+    let frame = Frame::new(Class::Dab, byte);
+    for _ in 0..256 {
+        assert_eq!(rt; drive.take(frame), Out::Pass(frame));
+    }
+    Ok(())
+}
+
+fn record_of(drive: &Drive<MemoryMedium>, n: usize) -> Option<&[u8]> {
+    drive.medium().image("TAPE")?.chunks(256).nth(n)
+}
+
+#[test]
+fn a_seek_past_the_end(rt: HostRuntime) -> Result<(), Fail> {
+    let alloc = rt.alloc();
+    let mut drive = drive_with(&rt, Vec::new(alloc), Vec::new(alloc))?;
+    talk(
+        &rt,
+        &mut drive,
+        &[
+            ("LAD 01", "="),
+            ("DDL 04", "="),
+            ("DAB 02", "="),
+            ("DAB 00", "> DSR 00"),
+            ("UNL", "="),
+            ("TAD 01", "="),
+            ("SST", "< DAB 43"),
+            ("DAB 43", "< ETO"),
+            ("SST", "< DAB 00"),
+        ],
+    )?;
+    assert_eq!(rt; drive.status(), 0);
+    Ok(())
+}
+
+// Each DDL and DDT, each with the frames before it that matter. After each case the drive is silent.
+const COMMANDS: [(&str, &[(&str, &str)]); 15] = [
+    (
+        "DDL 0 and DDT 0, with DDL 3",
+        &[
+            ("LAD 01", "="),
+            ("DDL 03", "="),
+            ("DAB FF", "="),
+            ("DDL 00", "="),
+            ("DAB AA", "="),
+            ("END BB", "="),
+            ("DDL 03", "="),
+            ("DAB FF", "="),
+            ("TAD 01", "="),
+            ("DDT 00", "="),
+            ("SDA", "< DAB AA"),
+            ("DAB AA", "< ETO"),
+            ("DDT 00", "="),
+            ("SDA", "< DAB BB"),
+            ("NRD", "="),
+            ("DAB BB", "< ETO"),
+            ("UNT", "="),
+        ],
+    ),
+    (
+        "DDL 1 and DDT 1",
+        &[
+            ("LAD 01", "="),
+            ("DDL 03", "="),
+            ("DAB 05", "="),
+            ("DDL 01", "="),
+            ("DAB CC", "="),
+            ("DDL 03", "="),
+            ("DAB 05", "="),
+            ("UNL", "="),
+            ("TAD 01", "="),
+            ("DDT 01", "="),
+            ("SDA", "< DAB CC"),
+            ("DAB CC", "< DAB 00"),
+            ("NRD", "="),
+            ("DAB 00", "< ETO"),
+            ("UNT", "="),
+        ],
+    ),
+    (
+        "DDL 4 and DDT 3",
+        &[
+            ("LAD 01", "="),
+            ("DDL 04", "="),
+            ("DAB 01", "="),
+            ("DAB FF", "="),
+            ("TAD 01", "="),
+            ("DDT 03", "="),
+            ("SDA", "< DAB 01"),
+            ("DAB 01", "< DAB FF"),
+            ("DAB FF", "< ETO"),
+            ("SDA", "="),
+            ("UNT", "="),
+        ],
+    ),
+    (
+        "DDL 5 and DDL 9 have no effect: the seek goes on",
+        &[
+            ("LAD 01", "="),
+            ("DDL 04", "="),
+            ("DAB 00", "="),
+            ("DDL 05", "="),
+            ("DDL 09", "="),
+            ("DAB 02", "="),
+            ("TAD 01", "="),
+            ("DDT 03", "="),
+            ("DDT 05", "="),
+            ("SDA", "< DAB 00"),
+            ("DAB 00", "< DAB 02"),
+            ("DAB 02", "< ETO"),
+            ("UNT", "="),
+        ],
+    ),
+    (
+        "DDL 7",
+        &[
+            ("LAD 01", "="),
+            ("DDL 04", "="),
+            ("DAB 00", "="),
+            ("DAB 07", "="),
+            ("DDL 07", "="),
+            ("TAD 01", "="),
+            ("DDT 03", "="),
+            ("SDA", "< DAB 00"),
+            ("DAB 00", "< DAB 00"),
+            ("DAB 00", "< ETO"),
+            ("UNT", "="),
+        ],
+    ),
+    (
+        "DDT 2: the record, and NRD behind its second byte",
+        &[
+            ("LAD 01", "="),
+            ("DDL 07", "="),
+            ("TAD 01", "="),
+            ("DDT 02", "="),
+            ("SDA", "< DAB 00"),
+            ("DAB 00", "< DAB 01"),
+            ("NRD", "="),
+            ("DAB 01", "< ETO"),
+            ("DDT 03", "="),
+            ("SDA", "< DAB 00"),
+            ("DAB 00", "< DAB 01"),
+            ("DAB 01", "< ETO"),
+            ("UNT", "="),
+        ],
+    ),
+    (
+        "DDT 2 again: pointer 0, the next record; a wrong echo",
+        &[
+            ("TAD 01", "="),
+            ("DDT 02", "="),
+            ("SDA", "< DAB 11"),
+            ("DAB 10", "< ETE"),
+            ("SDA", "="),
+            ("UNT", "="),
+        ],
+    ),
+    (
+        "DDL 10: buffer 1 is a copy of buffer 0",
+        &[
+            ("LAD 01", "="),
+            ("DDL 0A", "="),
+            ("DDL 03", "="),
+            ("DAB FF", "="),
+            ("TAD 01", "="),
+            ("DDT 01", "="),
+            ("SDA", "< DAB 11"),
+            ("DAB 11", "< ETO"),
+            ("UNT", "="),
+        ],
+    ),
+    (
+        "DDT 4: the buffers are exchanged",
+        &[
+            ("LAD 01", "="),
+            ("DDL 03", "="),
+            ("DAB FE", "="),
+            ("DDL 00", "="),
+            ("DAB 77", "="),
+            ("DDL 03", "="),
+            ("DAB FE", "="),
+            ("TAD 01", "="),
+            ("DDT 04", "="),
+            ("SDA", "="),
+            ("DDT 01", "="),
+            ("SDA", "< DAB 77"),
+            ("NRD", "="),
+            ("DAB 77", "< ETO"),
+            ("UNT", "="),
+            ("LAD 01", "="),
+            ("DDL 03", "="),
+            ("DAB FE", "="),
+            ("TAD 01", "="),
+            ("DDT 00", "="),
+            ("SDA", "< DAB 11"),
+            ("NRD", "="),
+            ("DAB 11", "< ETO"),
+            ("UNT", "="),
+        ],
+    ),
+    (
+        "DDL 6 and DDL 8: one byte of record 1 is revised",
+        &[
+            ("LAD 01", "="),
+            ("DDL 04", "="),
+            ("DAB 00", "="),
+            ("DAB 01", "="),
+            ("DDL 03", "="),
+            ("DAB 02", "="),
+            ("DDL 06", "="),
+            ("DAB EE", "="),
+            ("DDL 08", "="),
+            ("TAD 01", "="),
+            ("DDT 03", "="),
+            ("SDA", "< DAB 00"),
+            ("DAB 00", "< DAB 02"),
+            ("DAB 02", "< ETO"),
+            ("UNT", "="),
+        ],
+    ),
+    (
+        "DDL 2 and DDL 8 without a byte: nothing is put",
+        &[
+            ("LAD 01", "="),
+            ("DDL 02", "="),
+            ("DDL 08", "="),
+            ("TAD 01", "="),
+            ("DDT 03", "="),
+            ("SDA", "< DAB 00"),
+            ("DAB 00", "< DAB 02"),
+            ("DAB 02", "< ETO"),
+            ("UNT", "="),
+        ],
+    ),
+    (
+        "DDL 2 and one byte, ended by UNL: nothing is put",
+        &[
+            ("LAD 01", "="),
+            ("DDL 02", "="),
+            ("DAB 99", "="),
+            ("UNL", "="),
+            ("LAD 01", "="),
+            ("DDL 08", "="),
+            ("TAD 01", "="),
+            ("DDT 03", "="),
+            ("SDA", "< DAB 00"),
+            ("DAB 00", "< DAB 02"),
+            ("DAB 02", "< ETO"),
+            ("UNT", "="),
+        ],
+    ),
+    (
+        "the last record is read, and none behind it",
+        &[
+            ("LAD 01", "="),
+            ("DDL 04", "="),
+            ("DAB 01", "="),
+            ("DAB FF", "="),
+            ("TAD 01", "="),
+            ("DDT 02", "="),
+            ("SDA", "< DAB 00"),
+            ("NRD", "="),
+            ("DAB 00", "< ETO"),
+            ("DDT 02", "="),
+            ("SDA", "="),
+            ("DAB 00", "> DSR 00"),
+            ("DDT 02", "="),
+            ("SDA", "="),
+            ("SST", "< DAB 43"),
+            ("DAB 42", "< ETE"),
+            ("SST", "< DAB 43"),
+            ("DSR 43", "< ETO"),
+            ("SST", "< DAB 00"),
+            ("DAB 00", "< ETO"),
+            ("UNT", "="),
+        ],
+    ),
+    (
+        "DDL 6 behind the last record; SDC clears the status, and SAI is answered by 16",
+        &[
+            ("LAD 01", "="),
+            ("DDL 06", "="),
+            ("DAB 00", "> DSR 00"),
+            ("SDC", "="),
+            ("TAD 01", "="),
+            ("SAI", "< DAB 10"),
+            ("DAB 10", "< ETO"),
+            ("SST", "< DAB 00"),
+            ("DAB 00", "< ETO"),
+            ("SDI", "="),
+            ("UNT", "="),
+        ],
+    ),
+    (
+        "with a status DDL 2 and DDT 2 rest",
+        &[
+            ("LAD 01", "="),
+            ("DDL 04", "="),
+            ("DAB FF", "="),
+            ("DAB 00", "> DSR 00"),
+            ("DDL 02", "="),
+            ("DAB 55", "> DSR 55"),
+            ("DDL 08", "="),
+            ("TAD 01", "="),
+            ("DDT 02", "="),
+            ("SDA", "="),
+            ("DCL", "="),
+            ("DDT 02", "="),
+            ("SDA", "="),
+            ("SST", "< DAB 43"),
+            ("DAB 43", "< ETO"),
+            ("UNT", "="),
+        ],
+    ),
+];
+
+#[test]
+fn every_command(rt: HostRuntime) -> Result<(), Fail> {
+    let alloc = rt.alloc();
+    let mut drive = drive_with(&rt, Vec::new(alloc), Vec::new(alloc))?;
+    for (what, lines) in COMMANDS {
+        assert!(rt; !drive.roles().talks, "{what}");
+        talk(&rt, &mut drive, lines)?;
+    }
+    let mut revised = [0x11; 256];
+    revised[2] = 0xEE;
+    assert_eq!(rt; record_of(&drive, 1), Some(revised.as_slice()));
+    assert_eq!(rt; record_of(&drive, 2), Some([0; 256].as_slice()));
+    Ok(())
+}
+
+#[test]
+fn records_are_put(rt: HostRuntime) -> Result<(), Fail> {
+    let alloc = rt.alloc();
+    let mut failing = Vec::new(alloc);
+    failing.push((3, [0xFE; 256]))?;
+    let mut drive = drive_with(&rt, vec![in alloc; 1]?, failing)?;
+    talk(
+        &rt,
+        &mut drive,
+        &[
+            ("LAD 01", "="),
+            ("DDL 04", "="),
+            ("DAB 00", "="),
+            ("DAB 03", "="),
+            ("DDL 02", "="),
+        ],
+    )?;
+    hear_record(&rt, &mut drive, 0xA3)?;
+    hear_record(&rt, &mut drive, 0xA4)?;
+    assert_eq!(rt; record_of(&drive, 3), Some([0xA3; 256].as_slice()));
+    assert_eq!(rt; record_of(&drive, 4), Some([0xA4; 256].as_slice()));
+    assert_eq!(rt; drive.status(), 0);
+
+    // The third write fails, and leaves its bytes; the first read fails.
+    for _ in 0..255 {
+        drive.take(Frame::new(Class::Dab, 0xA5));
+    }
+    talk(
+        &rt,
+        &mut drive,
+        &[
+            ("DAB A5", "> DSR A5"),
+            ("TAD 01", "="),
+            ("SST", "< DAB 42"),
+            ("DAB 42", "< ETO"),
+            ("DDT 03", "="),
+            ("SDA", "< DAB 00"),
+            ("DAB 00", "< DAB 05"),
+            ("DAB 05", "< ETO"),
+            ("DDT 02", "="),
+            ("SDA", "="),
+            ("SST", "< DAB 41"),
+            ("DAB 41", "< ETO"),
+            ("DDT 02", "="),
+            ("SDA", "< DAB FE"),
+            ("DAB FE", "< DAB FE"),
+        ],
+    )?;
+    assert_eq!(rt; record_of(&drive, 5), Some([0xFE; 256].as_slice()));
+    assert_eq!(rt; record_of(&drive, 6), Some([0; 256].as_slice()));
+    let mut medium = drive.into_medium();
+    let mut record = [0; 256];
+    assert!(rt; medium.size() > 5);
+    assert_eq!(rt; medium.read(5, &mut record), Ok(()));
+    assert_eq!(rt; record.as_slice(), [0xFE; 256].as_slice());
+    Ok(())
+}
