@@ -1,0 +1,6 @@
+pub mod Examples
+pub mod ReadTargets
+pub mod Told
+pub mod Staged
+pub mod Replayed
+pub mod Run
