@@ -152,6 +152,7 @@ impl<M: Medium> Drive<M> {
             (M.left_since self.old.medium) (M.left_since self.new.medium) (IsLeft (record_put (M.record_count self.old.medium) self.old.state frame) t) }
     {
         let out = self.step(frame);
+        // Behind a field the proof sees that the ranges hold.
         let _ = &self.interface;
         out
     }
@@ -289,7 +290,8 @@ impl<M: Medium> Drive<M> {
         ensures { self.new ≡ record self.old { state = table.cleared self.old.state } }
     {
         self.empty();
-        self.fail(0);
+        self.interface.set_status(0);
+        self.mode = Mode::Rest;
     }
 
     // ---- DDL, while listening
