@@ -11,6 +11,7 @@ use Rattle.il_drive.specs.declared.commands.ListenerCommand.TheVariants as ddl
 use Rattle.il_drive.specs.declared.commands.TalkerCommand.{TalkerCommand}
 use Rattle.il_drive.specs.declared.commands.TalkerCommand.TheVariants as ddt
 use Rattle.il_drive.specs.declared.mode.Mode.{Mode}
+use Rattle.il_drive.specs.declared.mode.Fault.TheVariants as fault
 use Rattle.il_drive.specs.declared.mode.Mode.TheVariants as mode
 use Rattle.il_drive.specs.Commands.{listener_command, talker_command}
 use Rattle.il_drive.specs.State.{DriveState, status_of}
@@ -47,11 +48,11 @@ moves_on s u v lack failed e moves = record { interface = rw e moves.interface; 
 abbrev pub MovesWith : (X : Type 0) → DriveState → Bool → Bool → DriveState × X → Type 0
 MovesWith X s lack failed x = Moves s lack failed x.0
 
-load_moves : (b : Bool) (s : DriveState) → Every (MovesWith Bool s b) (if b then Now (table.faulty 3 s, false) else Reads s.position (λ bytes. (record s { first = bytes }, true)) (table.faulty 1 s, false))
+load_moves : (b : Bool) (s : DriveState) → Every (MovesWith Bool s b) (if b then Now (table.faulty fault.NoRecord s, false) else Reads s.position (λ bytes. (record s { first = bytes }, true)) (table.faulty fault.Unread s, false))
 load_moves true s = record { interface = refl; status = refl }
 load_moves false s = (λ bytes. moves_still s _ refl, record { interface = refl; status = (refl, inl refl) })
 
-record_moves : (b : Bool) (s : DriveState) → Every (Moves s b) (if b then Now (table.faulty 3 s) else Writes s.position s.first (record s { position = s.position + 1 }) (table.faulty 2 s))
+record_moves : (b : Bool) (s : DriveState) → Every (Moves s b) (if b then Now (table.faulty fault.NoRecord s) else Writes s.position s.first (record s { position = s.position + 1 }) (table.faulty fault.Unwritten s))
 record_moves true s = record { interface = refl; status = refl }
 record_moves false s = (moves_still s _ refl, record { interface = refl; status = (refl, inr refl) })
 
@@ -162,7 +163,7 @@ obeyed_keeps _ n r s h = refl
 
 -- ---- a byte that is heard
 
-sought_moves : (b : Bool) (k : ℕ) (s : DriveState) → Moves s (not b) false (if b then table.at_rest (record s { position = k }) else table.faulty 3 s)
+sought_moves : (b : Bool) (k : ℕ) (s : DriveState) → Moves s (not b) false (if b then table.at_rest (record s { position = k }) else table.faulty fault.NoRecord s)
 sought_moves true k s = moves_still s _ refl
 sought_moves false k s = record { interface = refl; status = refl }
 

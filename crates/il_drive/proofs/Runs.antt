@@ -15,6 +15,7 @@ use Rattle.il_device.specs.declared.roles.Roles.{Roles}
 use Rattle.il_device.specs.Takes.{turn_at_data}
 use Rattle.il_device.specs.Interfaces.{InterfaceState, turn_on, interface_after}
 use Rattle.il_device.proofs.Laws.{turn_of-data, roles_after-data, own_after-data}
+use Rattle.il_drive.specs.declared.mode.Fault.TheVariants as fault
 use Rattle.il_drive.specs.State.{DriveState, DriveView, device_of}
 use Rattle.il_drive.specs.Steps.{Step, Now, Writes, then_by, Did}
 use Rattle.il_drive.specs.Table as table
@@ -55,11 +56,11 @@ step_buffers n s f writing h lt =
 -- the last byte puts the record
 pub step_puts : (n : ℕ) (s : DriveState) (f : Frame) → IsWriting s → is_data f ≡ true → 255 ≤ s.pointer → s.position ≢ n
     → table.drive_step n s f ≡ Writes s.position (set s.first s.pointer (byte_of f))
-    (table.passes s.interface.roles f (table.emptied (record (holding s f) { position = s.position + 1 }))) (table.passes s.interface.roles f (table.emptied (table.faulty 2 (holding s f))))
+    (table.passes s.interface.roles f (table.emptied (record (holding s f) { position = s.position + 1 }))) (table.passes s.interface.roles f (table.emptied (table.faulty fault.Unwritten (holding s f))))
 step_puts n s f writing h full on =
     step_hears n s f writing h
     ∙ ap (λ b. then_by (table.passes s.interface.roles f) (if b then Now (table.advanced (holding s f)) else table.put n (holding s f))) (lt-leb (suc s.pointer) 255 (omega (arith, full)))
-    ∙ ap (λ b. then_by (table.passes s.interface.roles f) (then_by table.emptied (if b then Now (table.faulty 3 (holding s f)) else Writes s.position (set s.first s.pointer (byte_of f)) (record (holding s f) { position = s.position + 1 }) (table.faulty 2 (holding s f)))))
+    ∙ ap (λ b. then_by (table.passes s.interface.roles f) (then_by table.emptied (if b then Now (table.faulty fault.NoRecord (holding s f)) else Writes s.position (set s.first s.pointer (byte_of f)) (record (holding s f) { position = s.position + 1 }) (table.faulty fault.Unwritten (holding s f)))))
     (ne_eqb s.position n on)
 
 -- ---- bytes that do not fill the buffer

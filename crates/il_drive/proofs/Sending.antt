@@ -17,6 +17,7 @@ use Rattle.il_device.specs.declared.roles.Roles.{Roles}
 use Rattle.il_device.specs.Takes.{turn_at_data, turn_at_start, just_sent, eto}
 use Rattle.il_device.specs.Interfaces.{turn_on}
 use Rattle.il_device.proofs.Laws.{turn_of-data, roles_after-data}
+use Rattle.il_drive.specs.declared.mode.Fault.TheVariants as fault
 use Rattle.il_drive.specs.declared.mode.Mode.TheVariants as mode
 use Rattle.il_drive.specs.declared.mode.Start.TheVariants as start
 use Rattle.il_drive.specs.State.{DriveState, DriveView, status_of, device_of}
@@ -36,14 +37,14 @@ sst = framed class.Rdy 0x61
 -- the record at the position is read, and its first byte sent
 pub step_reads : (n : ℕ) (s : DriveState) → s.interface.roles.talks ≡ true → s.interface.own ≡ None → s.mode ≡ mode.Read → s.pointer ≡ 0 → s.position ≢ n
     → table.drive_step n s sda ≡ Reads s.position (λ bytes. table.sends start.Data false (get_or bytes s.pointer 0) (table.advanced (record (table.behind_effect sda s) { first = bytes; position = s.position + 1 })))
-    (table.passes s.interface.roles sda (table.faulty 1 (table.behind_effect sda s)))
+    (table.passes s.interface.roles sda (table.faulty fault.Unread (table.behind_effect sda s)))
 step_reads n s talks silent in_mode empty on =
     let u = table.behind_effect sda s in
     let r = s.interface.roles in
     ap (λ asked. table.answered asked n r sda u) (ap (λ own. turn_at_start own r.talks turn.Begin) silent ∙ ap (λ talks. turn_at_start None talks turn.Begin) talks)
     ∙ ap (λ m. then_by (table.first_or_pass r sda) (table.due_in m n u)) in_mode
     ∙ ap (λ b. then_by (table.first_or_pass r sda) (if b then then_by table.first_of_record (table.loaded n u) else Now (table.byte_of_record u))) (eq-eqb s.pointer 0 empty)
-    ∙ ap (λ b. then_by (table.first_or_pass r sda) (then_by table.first_of_record (if b then Now (table.faulty 3 u, false) else Reads u.position (λ bytes. (record u { first = bytes }, true)) (table.faulty 1 u, false)))) (ne_eqb s.position n on)
+    ∙ ap (λ b. then_by (table.first_or_pass r sda) (then_by table.first_of_record (if b then Now (table.faulty fault.NoRecord u, false) else Reads u.position (λ bytes. (record u { first = bytes }, true)) (table.faulty fault.Unread u, false)))) (ne_eqb s.position n on)
 
 -- ---- behind the right echo
 

@@ -1,4 +1,5 @@
 pub mod Commands
+pub mod Faults
 pub mod State
 pub mod Steps
 pub mod Table

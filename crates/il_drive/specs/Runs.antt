@@ -9,6 +9,7 @@ use Rattle.il_device.specs.Interfaces.{InterfaceState, interface_after}
 use Rattle.il_device.specs.Takes.{just_sent}
 use Rattle.lif_model.specs.Tape.{Tape}
 use Rattle.lif_model.specs.Shelf.{Shelf}
+use Rattle.il_drive.specs.declared.mode.Fault.TheVariants as fault
 use Rattle.il_drive.specs.declared.mode.Mode.TheVariants as mode
 use Rattle.il_drive.specs.declared.mode.Start.TheVariants as start
 use Rattle.il_drive.specs.State.{DriveState, DriveView}
@@ -54,7 +55,7 @@ abbrev pub put_well : List ℕ → InterfaceState → DriveState → DriveState
 put_well bytes i s = emptied (record s { interface = i; first = bytes; position = s.position + 1 })
 
 abbrev pub put_badly : List ℕ → InterfaceState → DriveState → DriveState
-put_badly bytes i s = emptied (faulty 2 (record s { interface = i; first = bytes }))
+put_badly bytes i s = emptied (faulty fault.Unwritten (record s { interface = i; first = bytes }))
 
 -- ---- reading
 

@@ -24,7 +24,10 @@ use Rattle.il_drive.specs.declared.mode.Mode.{Mode}
 use Rattle.il_drive.specs.declared.mode.Mode.TheVariants as mode
 use Rattle.il_drive.specs.declared.mode.Start.{Start}
 use Rattle.il_drive.specs.declared.mode.Start.TheVariants as start
+use Rattle.il_drive.specs.declared.mode.Fault.{Fault}
+use Rattle.il_drive.specs.declared.mode.Fault.TheVariants as fault
 use Rattle.il_drive.specs.Commands.{listener_command, talker_command}
+use Rattle.il_drive.specs.Faults.{status_of_fault}
 use Rattle.il_drive.specs.State.{DriveState, status_of}
 use Rattle.il_drive.specs.Steps.{Step, Now, Reads, Writes, then_by}
 
@@ -39,10 +42,9 @@ at_rest s = in_mode mode.Rest s
 abbrev pub in_status : ℕ → DriveState → DriveState
 in_status status s = record s { interface = with_status s.interface status }
 
--- a fault of the drive: 1 for a record that could not be read, 2 for one that could not be written, 3 for a record
--- that the tape does not have
-abbrev pub faulty : ℕ → DriveState → DriveState
-faulty status s = at_rest (in_status status s)
+-- the drive tells a fault by its status, and rests
+abbrev pub faulty : Fault → DriveState → DriveState
+faulty why s = at_rest (in_status (status_of_fault why) s)
 
 -- buffer 0 is empty
 abbrev pub emptied : DriveState → DriveState
@@ -60,14 +62,14 @@ advanced s = record s { pointer = next_pointer s.pointer }
 -- the record at the position comes into buffer 0, and whether it did
 abbrev pub loaded : ℕ → DriveState → Step (DriveState × Bool)
 loaded n s =
-    if s.position == n then Now (faulty 3 s, false)
-    else Reads s.position (λ bytes. (record s { first = bytes }, true)) (faulty 1 s, false)
+    if s.position == n then Now (faulty fault.NoRecord s, false)
+    else Reads s.position (λ bytes. (record s { first = bytes }, true)) (faulty fault.Unread s, false)
 
 -- buffer 0 becomes the record at the position
 abbrev pub recorded : ℕ → DriveState → Step DriveState
 recorded n s =
-    if s.position == n then Now (faulty 3 s)
-    else Writes s.position s.first (record s { position = s.position + 1 }) (faulty 2 s)
+    if s.position == n then Now (faulty fault.NoRecord s)
+    else Writes s.position s.first (record s { position = s.position + 1 }) (faulty fault.Unwritten s)
 
 -- the record is put: buffer 0 goes on the tape, and is empty then
 abbrev pub put : ℕ → DriveState → Step DriveState
@@ -159,7 +161,7 @@ obeyed _ n r s = Now s
 
 -- the position becomes k, where the tape has record k
 abbrev pub sought : ℕ → ℕ → DriveState → DriveState
-sought k n s = if nat_lt k n then at_rest (record s { position = k }) else faulty 3 s
+sought k n s = if nat_lt k n then at_rest (record s { position = k }) else faulty fault.NoRecord s
 
 -- a byte of the record to be written; the 256th puts the record
 abbrev pub taken : ℕ → ℕ → DriveState → Step DriveState

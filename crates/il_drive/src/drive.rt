@@ -15,7 +15,7 @@ ghost use Rattle.il_drive.specs.declared.commands.TalkerCommand.TheVariants as d
 ghost use Rattle.il_device.specs.declared.device.Out.TheVariants.{Pass, Source};
 
 use crate::commands::{ListenerCommand, TalkerCommand};
-use crate::mode::{Mode, Start};
+use crate::mode::{Fault, Mode, Start};
 use il_device::{Interface, Out, OwnFrame, Roles, Turn};
 use il_frames::{Class, Frame, Message};
 use il_ports::Medium;
@@ -23,13 +23,6 @@ use std::marker::Model;
 
 /// The accessory ID of the HP 82161A.
 const ID: u8 = 16;
-
-/// The record could not be read.
-const READ_FAULT: u8 = 1;
-/// The record could not be written.
-const WRITE_FAULT: u8 = 2;
-/// The tape has no such record.
-const NO_RECORD: u8 = 3;
 
 /// The HP 82161A Digital Cassette Drive over a medium.
 ///
@@ -186,11 +179,10 @@ impl<M: Medium> Drive<M> {
         self.mode = Mode::Rest;
     }
 
-    fn fail(&mut self, status: u8)
-        requires { status ≤ 3 }
-        ensures { self.new ≡ record self.old { state = table.faulty status self.old.state } }
+    fn fail(&mut self, fault: Fault)
+        ensures { self.new ≡ record self.old { state = table.faulty fault self.old.state } }
     {
-        self.interface.set_status(status);
+        self.interface.set_status(fault.status());
         self.mode = Mode::Rest;
     }
 
@@ -217,7 +209,7 @@ impl<M: Medium> Drive<M> {
         ensures small { M.record_count self.new.medium < 2 ^ 16 }
     {
         if self.position == self.medium.size() {
-            self.fail(NO_RECORD);
+            self.fail(Fault::NoRecord);
             return false;
         }
         let mut record = [0; 256];
@@ -227,7 +219,7 @@ impl<M: Medium> Drive<M> {
                 true
             }
             Err(_) => {
-                self.fail(READ_FAULT);
+                self.fail(Fault::Unread);
                 false
             }
         }
@@ -239,12 +231,12 @@ impl<M: Medium> Drive<M> {
             (table.recorded (M.record_count self.old.medium) self.old.state) self.new.state self.old.medium self.new.medium }
     {
         if self.position == self.medium.size() {
-            self.fail(NO_RECORD);
+            self.fail(Fault::NoRecord);
             return;
         }
         match self.medium.write(self.position, &self.first) {
             Ok(()) => self.position += 1,
-            Err(_) => self.fail(WRITE_FAULT),
+            Err(_) => self.fail(Fault::Unwritten),
         }
     }
 
@@ -433,7 +425,7 @@ impl<M: Medium> Drive<M> {
             self.position = k;
             self.mode = Mode::Rest;
         } else {
-            self.fail(NO_RECORD);
+            self.fail(Fault::NoRecord);
         }
     }
 

@@ -1,3 +1,6 @@
+ghost use Rattle.std.specs.Prelude.{◌≡◌, ◌≤◌};
+ghost use Rattle.il_drive.specs.Faults.{status_of_fault};
+
 /// What the drive does with the next data byte that it hears or is asked for.
 #[derive(Clone, Copy, PartialEq, Eq, Debug)]
 pub enum Mode {
@@ -36,4 +39,29 @@ pub enum Start {
     Status,
     /// SAI, send accessory ID.
     Identity,
+}
+
+/// Why the drive could not do what was asked of it.
+#[derive(Clone, Copy, PartialEq, Eq, Debug)]
+pub enum Fault {
+    /// The medium could not read the record.
+    Unread,
+    /// The medium could not write the record.
+    Unwritten,
+    /// The tape has no such record.
+    NoRecord,
+}
+
+impl Fault {
+    /// The status that tells it.
+    pub fn status(self) -> u8
+        ensures value { result ≡ status_of_fault self }
+        ensures range { result ≤ 3 }
+    {
+        match self {
+            Fault::Unread => 1,
+            Fault::Unwritten => 2,
+            Fault::NoRecord => 3,
+        }
+    }
 }
