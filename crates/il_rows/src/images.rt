@@ -21,7 +21,7 @@ const FOREIGN_ENTRY: &[u8] =
     b"PROG1     \xE0\x80\0\0\0\x04\0\0\0\x02\0\0\0\0\0\0\x80\x01\0\0\x01\x80";
 
 /// An image of four records: a header, and a directory of these entries.
-pub fn with_entries(alloc: Global, entries: &[&[u8]]) -> Result<Vec<u8>, AllocError> {
+pub(crate) fn with_entries(alloc: Global, entries: &[&[u8]]) -> Result<Vec<u8>, AllocError> {
     let mut image = Vec::from_slice(alloc, HEADER)?;
     image.resize(512, 0)?;
     for entry in entries {
@@ -32,12 +32,12 @@ pub fn with_entries(alloc: Global, entries: &[&[u8]]) -> Result<Vec<u8>, AllocEr
 }
 
 /// A volume as it is formatted: the redo file alone.
-pub fn formatted(alloc: Global) -> Result<Vec<u8>, AllocError> {
+pub(crate) fn formatted(alloc: Global) -> Result<Vec<u8>, AllocError> {
     with_entries(alloc, &[REDO_ENTRY, END_ENTRY])
 }
 
 /// A volume of another make: one program, and no redo file.
-pub fn foreign(alloc: Global) -> Result<Vec<u8>, AllocError> {
+pub(crate) fn foreign(alloc: Global) -> Result<Vec<u8>, AllocError> {
     let mut image = Vec::from_slice(alloc, FOREIGN_HEADER)?;
     image.resize(512, 0)?;
     image.extend_from_slice(FOREIGN_ENTRY)?;
@@ -48,7 +48,7 @@ pub fn foreign(alloc: Global) -> Result<Vec<u8>, AllocError> {
 }
 
 /// A formatted volume whose redo file has an open gate.
-pub fn with_open_gate(alloc: Global) -> Result<Vec<u8>, AllocError> {
+pub(crate) fn with_open_gate(alloc: Global) -> Result<Vec<u8>, AllocError> {
     let mut image = formatted(alloc)?;
     image.resize(256 * 508, 0)?;
     image.extend_from_slice(b"LIFREDO1 OPEN   ")?;

@@ -31,7 +31,7 @@ pub struct Left {
 
 impl<'a> Given<'a> {
     /// A script over an image, without a fault.
-    pub fn script(image: &'a [u8], script: &'a [u8]) -> Given<'a> {
+    pub(crate) fn script(image: &'a [u8], script: &'a [u8]) -> Given<'a> {
         Given {
             words: &["TAPE"],
             image: Some(image),
@@ -65,7 +65,7 @@ fn shelf_of(alloc: Global, image: Option<&[u8]>) -> Result<Vec<(String, Vec<u8>)
 }
 
 /// Runs `il` over the ports in memory. The script comes in pieces of seven bytes.
-pub fn run(alloc: Global, given: &Given) -> Result<Left, AllocError> {
+pub(crate) fn run(alloc: Global, given: &Given) -> Result<Left, AllocError> {
     let words = words_of(alloc, given.words)?;
     let mut script = MemorySource::new(
         Vec::from_slice(alloc, given.script)?,
