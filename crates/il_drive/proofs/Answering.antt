@@ -16,7 +16,7 @@ use Rattle.il_device.specs.declared.interface.OwnFrame.{OwnFrame}
 use Rattle.il_device.specs.declared.interface.Turn.{Turn}
 use Rattle.il_device.specs.declared.interface.Turn.TheVariants as turn
 use Rattle.il_device.specs.declared.roles.Roles.{Roles}
-use Rattle.il_device.specs.Takes.{Takes, Answers, Ends, Sends, may_change_service, turn_at, turn_at_data, just_sent, eto, ete}
+use Rattle.il_device.specs.Takes.{Takes, Answers, Ends, Sends, may_change_service, turn_at, just_sent, eto, ete}
 use Rattle.il_device.specs.Interfaces.{InterfaceState, turn_on, interface_after, with_status, sending}
 use Rattle.il_device.proofs.TurnLemmas.{Takes-on, MayPass, Answers-pass, heard_after-roomless}
 use Rattle.il_drive.specs.declared.mode.Start.{Start}
@@ -31,9 +31,6 @@ use Rattle.il_drive.proofs.Moves.{Moves, moves_still, MovesWith, StatusFact, Kee
 -- ---- what is asked
 
 -- where the device is asked for more than to pass the frame on, the wish for service may change
-at_data : (own : Option OwnFrame) (listens : Bool) → (turn_at_data own listens ≡ turn.Pass) ⊎ (true ≡ true)
-at_data own listens = inr refl
-
 pub asked_changes : (r : Roles) (own : Option OwnFrame) (accessory : Option ℕ) (m : Message) → (turn_at r own accessory m ≡ turn.Pass) ⊎ (may_change_service m ≡ true)
 asked_changes r own accessory (msg.Dab b) = inr refl
 asked_changes r own accessory (msg.Dsr b) = inr refl

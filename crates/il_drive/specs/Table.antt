@@ -7,7 +7,7 @@ use Rattle.il_frames.specs.declared.message.Message.{Message}
 use Rattle.il_frames.specs.declared.message.Message.TheVariants as msg
 use Rattle.il_frames.specs.Frames.{byte_of, framed, same_but_service}
 use Rattle.il_frames.specs.Messages.{message_of}
-use Rattle.il_poll.specs.Service.{status_byte_of}
+use Rattle.il_poll.specs.Service.{status_byte_of, agree}
 use Rattle.il_device.specs.declared.device.Out.{Out}
 use Rattle.il_device.specs.declared.device.Out.TheVariants.{Pass, Source}
 use Rattle.il_device.specs.declared.interface.OwnFrame.{OwnFrame}
@@ -129,15 +129,10 @@ talked_by (Some command) s = talked command s
 
 -- ---- messages
 
-abbrev pub agrees : Bool → Bool → Bool
-agrees true b = b
-agrees false true = false
-agrees false false = true
-
 -- talking or listening begins or ends: before the message the roles were r
 abbrev pub at_rest_if_changed : Roles → DriveState → DriveState
 at_rest_if_changed r s =
-    if agrees r.talks s.interface.roles.talks && agrees r.listens s.interface.roles.listens then s else at_rest s
+    if agree r.talks s.interface.roles.talks && agree r.listens s.interface.roles.listens then s else at_rest s
 
 -- SDC while listening, and DCL
 abbrev pub cleared : DriveState → DriveState
