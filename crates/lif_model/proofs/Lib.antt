@@ -1,4 +1,5 @@
 pub mod Examples
+pub mod TransferExamples
 pub mod Moments
 pub mod History
 pub mod Redo
