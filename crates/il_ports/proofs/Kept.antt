@@ -5,12 +5,14 @@ use Rattle.std.specs.Str.{bytes_eq}
 use Rattle.std.specs.Cmp.{unsigned_Decides}
 use Rattle.std.proofs.lemmas.Slice.Eq.{bytes_eq-Decides}
 use Rattle.lif_model.specs.Tape.{Tape}
-use Rattle.lif_model.specs.Shelf.{Shelf, image_of, bytes_of, OthersStay, cassette_records}
+use Rattle.lif_model.specs.Shelf.{Shelf, image_of, bytes_of, OthersStay, disc_records}
+use Rattle.lif_model.proofs.Sizes.{size_bounds}
+use Rattle.std.proofs.lemmas.Bool.{eqb-true}
 use Rattle.lif_model.specs.Redo.{Changes, changed}
 use Rattle.lif_model.specs.History.{LeftBy}
 use Rattle.lif_model.specs.Stops.{Torn, Elapses}
 use Rattle.lif_model.proofs.History.{tape_later, told_only, elapses_write}
-use Rattle.il_ports.specs.Drive.{place_of, with_bytes, shelf_with, name_in, IsFirst, is_empty, tape_in, records_in}
+use Rattle.il_ports.specs.Drive.{place_of, with_bytes, shelf_with, name_in, IsFirst, is_empty, has_size, tape_in, records_in}
 use Rattle.il_ports.specs.InDrive.{behind, not_behind, step_back}
 use Rattle.il_ports.specs.Inserting.{OthersAreKept}
 use Rattle.il_ports.specs.MemoryMedium.{IsLeft, with_image, shelf_holding, tape_holding}
@@ -84,10 +86,11 @@ first_of_name name images place found other is =
     let P : ℕ → Type 0 = λ k. place_of (get_or images k ([], [])).0 images ≡ Some k in
     subst P ((unsigned_Decides place other).0 is) (ap (λ (l : List ℕ). place_of l images) (name_at name images place found) ∙ found)
 
-pub drive_empty : (drive : Drive) (tape : Tape) → length tape ≡ cassette_records → records_in (tape_in drive tape) ≡ 0 → is_empty drive ≡ true
-drive_empty Empty tape size out = refl
-drive_empty (Shelved place) tape size out = absurd (omega (arith, size, out))
-drive_empty Made tape size out = absurd (omega (arith, size, out))
+-- while no tape is in, a disc is laid in
+pub drive_empty : (drive : Drive) (tape : Tape) → has_size drive (length tape) ≡ true → records_in (tape_in drive tape) ≡ 0 → (is_empty drive ≡ true) × (length tape ≡ disc_records)
+drive_empty Empty tape size out = (refl, eqb-true (length tape) disc_records size)
+drive_empty (Shelved place) tape size out = absurd (omega (arith, (size_bounds (length tape) size).0, out))
+drive_empty Made tape size out = absurd (omega (arith, (size_bounds (length tape) size).0, out))
 
 pub replays_none : (history : Changes) (first tape : Tape) → history ≡ [] → first ≡ tape → tape ≡ changed history first
 replays_none history first tape none same = sym (ap (λ (ws : Changes). changed ws first) none ∙ same)

@@ -4,3 +4,4 @@ pub mod Kept
 pub mod Fronts
 pub mod Examples
 pub mod Transfers
+pub mod Stores

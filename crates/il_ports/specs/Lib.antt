@@ -2,6 +2,8 @@ pub mod Taking
 pub mod Inserting
 pub mod Trouble
 pub mod Transfers
+pub mod Stores
+pub mod Media
 pub mod Counted
 pub mod MemoryStream
 pub mod Drive

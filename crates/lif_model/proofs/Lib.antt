@@ -10,6 +10,7 @@ pub mod StopExamples
 pub mod VolumeExamples
 pub mod CommandExamples
 pub mod Lists
+pub mod Sizes
 pub mod Legal
 pub mod Volume
 pub mod Fit

@@ -1,5 +1,5 @@
 -- A shelf of named images, and the tape that an image reads as.
-use Rattle.std.specs.Prelude.{◌≡◌, ◌≢◌, ◌⊎◌, ◌++◌, ◌-◌, ◌*◌, nat_le, ℕ, zero, suc, List, [], ◌∷◌, if◌then◌else◌, length, take, drop, replicate, Option, Some, None}
+use Rattle.std.specs.Prelude.{◌≡◌, ◌≢◌, ◌==◌, ◌||◌, ◌++◌, ◌-◌, ◌*◌, nat_le, ℕ, zero, suc, Bool, true, List, [], ◌∷◌, if◌then◌else◌, length, take, drop, replicate, Option, Some, None}
 use Rattle.std.specs.List.{flat_map}
 use Rattle.std.specs.Str.{bytes_eq}
 use Rattle.lif_model.specs.Tape.{Tape}
@@ -33,9 +33,13 @@ largest_image = image_bytes disc_records
 abbrev pub records_for : ℕ → ℕ
 records_for size = if nat_le size (image_bytes cassette_records) then cassette_records else disc_records
 
--- the number of records of a medium
+-- a medium has one of these two numbers of records
+abbrev pub is_size : ℕ → Bool
+is_size n = n == cassette_records || n == disc_records
+
+-- the same as a fact
 abbrev pub IsSize : ℕ → Type 0
-IsSize n = (n ≡ cassette_records) ⊎ (n ≡ disc_records)
+IsSize n = is_size n ≡ true
 
 -- 256 bytes from the front, followed by zeros where there are fewer
 unfoldable pub piece : List ℕ → List ℕ
