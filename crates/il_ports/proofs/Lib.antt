@@ -5,3 +5,4 @@ pub mod Fronts
 pub mod Examples
 pub mod Transfers
 pub mod Stores
+pub mod RunsInMemory

@@ -1,27 +1,22 @@
 -- A medium whose images are files. It tells no content.
 use Rattle.std.specs.Prelude.{◌≡◌, ◌<◌, ◌++◌, ◌⊎◌, ℕ, List, [], take, Option, Some, None}
 use Rattle.std.proofs.Common.{subst}
-use Rattle.lif_model.specs.Shelf.{IsSize, largest_image}
+use Rattle.lif_model.specs.Shelf.{largest_image}
+use Rattle.il_ports.specs.declared.image.Size.{Size}
 use Rattle.il_ports.specs.declared.file_medium.Found.{Found}
 use Rattle.il_ports.specs.declared.file_medium.Found.TheVariants as found
-use Rattle.il_ports.specs.declared.file_medium.Tape.{Tape}
 use Rattle.il_ports.specs.declared.medium.New.{New}
 use Rattle.il_ports.specs.declared.medium.New.TheVariants as new
 
 pub record FileState : Type 0 where
-  -- the number of records of the tape in the drive, 0 where none is in
-  pub records : ℕ
+  -- the size of the tape in the drive, if one is in
+  pub size : Option Size
   -- how many calls failed
   pub faults : ℕ
 
--- the number of records of a drive with that tape, if one is in
-abbrev pub records_in_drive : {F : Type 0} → Option (Tape F) → ℕ
-records_in_drive None = 0
-records_in_drive (Some tape) = tape.records
-
 -- what was found, by what is to be made
 abbrev pub IsFound : {F : Type 0} → New → Found F → Type 0
-IsFound made (found.Tape tape) = IsSize tape.records
+IsFound made (found.Tape file size) = Unit {0}
 IsFound made found.NoSuch = made ≡ new.No
 IsFound made (found.BadSize size) = largest_image < size
 
@@ -39,7 +34,3 @@ IsUntold (Some value) = ⊥
 pub untold : {T P : Type 0} (value : T) → None ≡ Some value → P
 unfolding IsUntold
 untold value is = absurd (subst IsUntold is tt)
-
--- none is in, or one of the two sizes
-abbrev pub IsCount : ℕ → Type 0
-IsCount n = 0 < n → IsSize n

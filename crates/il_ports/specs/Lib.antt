@@ -1,4 +1,5 @@
 pub mod Taking
+pub mod Sizes
 pub mod Inserting
 pub mod Trouble
 pub mod Transfers

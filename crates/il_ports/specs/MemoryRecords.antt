@@ -96,11 +96,15 @@ pub record RanReads {T : Type 0} (count : ℕ) (old new : RecordsState) (answer 
   pub ends : RunEnds count done old answer
   pub state : new ≡ counted_run done old answer
 
+-- the state behind a run of writes, of which so many pieces are written
+abbrev pub written_run : {T : Type 0} → ℕ → List (List ℕ) → ℕ → RecordsState → Result T Trouble → RecordsState
+written_run first pieces done state answer = record (counted_run done state answer) {
+  records = changed (placed first (take done pieces)) state.records;
+  writes = state.writes ++ placed first (take done pieces);
+}
+
 -- the first of these pieces were written, from record `first` on, and all of them at Ok
 pub record RanWrites {T : Type 0} (first : ℕ) (pieces : List (List ℕ)) (old new : RecordsState) (answer : Result T Trouble) : Type 0 where
   pub done : ℕ
   pub ends : RunEnds (length pieces) done old answer
-  pub state : new ≡ record (counted_run done old answer) {
-    records = changed (placed first (take done pieces)) old.records;
-    writes = old.writes ++ placed first (take done pieces);
-  }
+  pub state : new ≡ written_run first pieces done old answer

@@ -4,7 +4,7 @@ ghost use Rattle.std.specs.Io.Seek.{MovesTo};
 ghost use Rattle.lif_model.specs.Shelf.{piece};
 ghost use Rattle.il_ports.specs.FileMedium.{IsFront, IsFound};
 
-use crate::image;
+use crate::image::Size;
 use crate::medium::{Inserted, Medium, New};
 use crate::stream::Failed;
 use std::fs::{self, File, OpenFile, OpenOptions};
@@ -90,10 +90,10 @@ fn open<R: Files>(files: &R, name: &str) -> io::Result<R::File> {
     }
 }
 
-// A new file of zeros, which has the size of so many records at once. It is removed again where it cannot have that.
-fn make<R: Files>(files: &R, name: &str, records: u16) -> io::Result<R::File> {
+// A new file of zeros, which has its full size at once. It is removed again where it cannot have that.
+fn make<R: Files>(files: &R, name: &str, size: Size) -> io::Result<R::File> {
     let file = File::create_new(files, name)?;
-    match file.set_len(image::bytes_in(records)) {
+    match file.set_len(size.bytes()) {
         Ok(()) => Ok(file),
         Err(error) => {
             let _ = fs::remove_file(files, name);
@@ -111,16 +111,10 @@ fn apart<F: OpenFile + Drop>(file: F) -> io::Result<F> {
     }
 }
 
-// The file of the image in the drive, and how many records it reads as.
-#[derive(Drop)]
-struct Tape<F> {
-    file: F,
-    records: u16,
-}
-
 // What an insert finds.
 enum Found<F> {
-    Tape(Tape<F>),
+    /// A file, and the size that it reads as.
+    Tape(F, Size),
     NoSuch,
     /// The file has more bytes than a disc.
     BadSize(u64),
@@ -130,17 +124,15 @@ fn find<R: Files>(files: &R, name: &str, new: New) -> io::Result<Found<R::File>>
     ensures { IfOk result (λ found. IsFound new found) }
 {
     let Some(length) = length_of(files, name)? else {
-        let Some(records) = new.records() else {
+        let Some(size) = new.size() else {
             return Ok(Found::NoSuch);
         };
-        let file = apart(make(files, name, records)?)?;
-        return Ok(Found::Tape(Tape { file, records }));
+        return Ok(Found::Tape(apart(make(files, name, size)?)?, size));
     };
-    let Some(records) = image::records_for(length) else {
+    let Some(size) = Size::of(length) else {
         return Ok(Found::BadSize(length));
     };
-    let file = apart(open(files, name)?)?;
-    Ok(Found::Tape(Tape { file, records }))
+    Ok(Found::Tape(apart(open(files, name)?)?, size))
 }
 
 /// Images as files, with a drive: an image is named by its path. What a file holds is not told.
@@ -153,28 +145,31 @@ fn find<R: Files>(files: &R, name: &str, new: New) -> io::Result<Found<R::File>>
 #[derive(Drop)]
 pub struct FileMedium<R: Files + Drop> {
     files: R,
-    tape: Option<Tape<R::File>>,
+    file: Option<R::File>,
+    size: Option<Size>,
     faults: u64,
 }
 
 impl<R: Files + Drop> Model for FileMedium<R> {
-    ghost use Rattle.il_ports.specs.FileMedium.{FileState, records_in_drive, IsCount};
+    ghost use Rattle.std.specs.Prelude.{◌≡◌, is_some};
+    ghost use Rattle.il_ports.specs.FileMedium.{FileState};
 
     ghost Value = { FileState };
 
-    ghost view = { λ m. record { records = records_in_drive m.tape; faults = m.faults } };
+    ghost view = { λ m. record { size = m.size; faults = m.faults } };
 
-    ghost invariant = { λ m. IsCount (records_in_drive m.tape) };
+    ghost invariant = { λ m. is_some m.size ≡ is_some m.file };
 }
 
 impl<R: Files + Drop> FileMedium<R> {
     /// An empty drive over the files that the runtime gives.
     pub fn new(files: R) -> FileMedium<R>
-        ensures { result ≡ record { records = 0; faults = 0 } }
+        ensures { result ≡ record { size = None; faults = 0 } }
     {
         FileMedium {
             files,
-            tape: None,
+            file: None,
+            size: None,
             faults: 0,
         }
     }
@@ -186,20 +181,21 @@ impl<R: Files + Drop> Medium for FileMedium<R> {
     ghost use Rattle.il_ports.specs.Media.{MediumView};
     ghost use Rattle.il_ports.specs.Inserting.{InsertResult};
     ghost use Rattle.il_ports.specs.FileMedium.{untold};
+    ghost use Rattle.il_ports.specs.Sizes.{records_of_any, any_is_size};
     ghost use Rattle.il_ports.specs.Counted.{faults_after};
 
     ghost view = { λ m. record {
       shelf = None;
       inside = None;
       tape = None;
-      record_count = m.records;
+      record_count = records_of_any m.size;
       faults = m.faults;
       moment = 0;
       left_since = λ k c. Unit {0};
     } };
 
     ghost is_medium = { λ m. record {
-      sizes = λ some. m.ok some;
+      sizes = λ some. any_is_size m.size some;
       is_tape = λ t is. untold t is;
       is_image = λ s name t is named told. untold t told;
       leaves_now = λ k t le is. tt;
@@ -208,14 +204,15 @@ impl<R: Files + Drop> Medium for FileMedium<R> {
     } };
 
     fn insert(&mut self, name: &str, new: New) -> Result<Inserted, Failed>
-        requires { self.old.records ≡ 0 }
-        ensures answer { InsertResult name.now new None None None None self.new.records result }
+        requires { records_of_any self.old.size ≡ 0 }
+        ensures answer { InsertResult name.now new None None None None (records_of_any self.new.size) result }
         ensures cause { HasCause self.old.faults self.new.faults result }
         ensures counts { self.new.faults ≡ faults_after self.old.faults result }
     {
         match find(&self.files, name, new) {
-            Ok(Found::Tape(tape)) => {
-                self.tape = Some(tape);
+            Ok(Found::Tape(file, size)) => {
+                self.file = Some(file);
+                self.size = Some(size);
                 Ok(Inserted::Tape)
             }
             Ok(Found::NoSuch) => Ok(Inserted::NoSuch),
@@ -228,17 +225,17 @@ impl<R: Files + Drop> Medium for FileMedium<R> {
     }
 
     fn size(&self) -> u16 {
-        match &self.tape {
-            Some(tape) => tape.records,
+        match self.size {
+            Some(size) => size.records(),
             None => 0,
         }
     }
 
     fn read(&mut self, n: u16, into: &mut [u8; 256]) -> Result<(), Failed> {
-        let Some(tape) = &mut self.tape else {
+        let Some(file) = &mut self.file else {
             unreachable!()
         };
-        match read_record_at(&mut tape.file, n, into) {
+        match read_record_at(file, n, into) {
             Ok(()) => Ok(()),
             Err(_) => {
                 self.faults = self.faults.saturating_add(1);
@@ -248,10 +245,10 @@ impl<R: Files + Drop> Medium for FileMedium<R> {
     }
 
     fn write(&mut self, n: u16, from: &[u8; 256]) -> Result<(), Failed> {
-        let Some(tape) = &mut self.tape else {
+        let Some(file) = &mut self.file else {
             unreachable!()
         };
-        match write_record_at(&mut tape.file, n, from) {
+        match write_record_at(file, n, from) {
             Ok(()) => Ok(()),
             Err(_) => {
                 self.faults = self.faults.saturating_add(1);

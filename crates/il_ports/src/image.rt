@@ -1,30 +1,46 @@
 // Images of tapes: bytes that are read as records, as if followed by zeros.
-ghost use Rattle.std.specs.Prelude.{◌≡◌, ◌<◌, ◌≤◌, ℕ, [], length, get_or, drop, MatchOption};
+ghost use Rattle.std.specs.Prelude.{◌≡◌, ◌<◌, ◌≤◌, ◌+◌, ◌*◌, ◌++◌, ℕ, [], length, get_or, take, drop, MatchOption};
 ghost use Rattle.lif_model.specs.Shelf.{piece, cut, image_bytes, largest_image, records_for};
+ghost use Rattle.il_ports.specs.Sizes.{records_of_size};
 
 use lif_model::RECORD;
 
-/// The records of a tape of the HP 82161A.
-pub const TAPE_RECORDS: u16 = 512;
-
-/// The records of a disc of the HP 9114.
-pub const DISC_RECORDS: u16 = 2464;
-
-/// The bytes of an image of so many records.
-pub fn bytes_in(records: u16) -> u64
-    ensures { result ≡ image_bytes records }
-{
-    RECORD as u64 * u64::from(records)
+/// The size of a medium.
+#[derive(Clone, Copy, Debug, PartialEq, Eq)]
+pub enum Size {
+    /// A tape of the HP 82161A.
+    Tape,
+    /// A disc of the HP 9114.
+    Disc,
 }
 
-/// The number of records that an image of so many bytes reads as: a tape's, or a disc's where a tape has fewer bytes.
-/// None comes exactly where a disc has fewer, too.
-pub fn records_for(bytes: u64) -> Option<u16>
-    ensures { MatchOption result (largest_image < bytes) (λ n. (n ≡ records_for bytes) × (bytes ≤ largest_image)) }
-{
-    [TAPE_RECORDS, DISC_RECORDS]
-        .into_iter()
-        .find(|records| bytes <= bytes_in(*records))
+impl Size {
+    /// The number of records.
+    pub const fn records(self) -> u16
+        ensures { result ≡ records_of_size self }
+    {
+        match self {
+            Size::Tape => 512,
+            Size::Disc => 2464,
+        }
+    }
+
+    /// The bytes of an image.
+    pub fn bytes(self) -> u64
+        ensures { result ≡ image_bytes (records_of_size self) }
+    {
+        RECORD as u64 * u64::from(self.records())
+    }
+
+    /// The size that an image of so many bytes reads as: a tape's, or a disc's where a tape has fewer bytes. None comes
+    /// exactly where a disc has fewer, too.
+    pub fn of(bytes: u64) -> Option<Size>
+        ensures { MatchOption result (largest_image < bytes) (λ size. (records_of_size size ≡ records_for bytes) × (bytes ≤ largest_image)) }
+    {
+        [Size::Tape, Size::Disc]
+            .into_iter()
+            .find(|size| bytes <= size.bytes())
+    }
 }
 
 /// A copy of a record, which is known to have 256 bytes.
@@ -67,4 +83,13 @@ pub fn lay_in(bytes: &[u8], tape: &mut [[u8; 256]])
         *record = next_record(rest);
         rest = after_record(rest);
     }
+}
+
+/// Puts a record into its place among the bytes of records.
+pub fn lay_out(content: &[u8; 256], place: usize, bytes: &mut [u8])
+    requires { 256 * (place + 1) ≤ length bytes.old }
+    ensures size { length bytes.new ≡ length bytes.old }
+    ensures front { take (256 * (place + 1)) bytes.new ≡ take (256 * place) bytes.old ++ content.now }
+{
+    bytes[RECORD * place..RECORD * (place + 1)].copy_from_slice(content);
 }

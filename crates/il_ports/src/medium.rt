@@ -1,7 +1,9 @@
 ghost use Rattle.std.specs.Prelude.{◌≡◌};
+ghost use Rattle.std.specs.Option.{option_map};
 ghost use Rattle.il_ports.specs.Inserting.{records_made};
+ghost use Rattle.il_ports.specs.Sizes.{records_of_size};
 
-use crate::image::{DISC_RECORDS, TAPE_RECORDS};
+use crate::image::Size;
 use crate::stream::Failed;
 
 /// What an insert found.
@@ -27,14 +29,14 @@ pub enum New {
 }
 
 impl New {
-    /// The number of records of the medium that is made, if one is.
-    pub fn records(self) -> Option<u16>
-        ensures { result ≡ records_made self }
+    /// The size of the medium that is made, if one is.
+    pub fn size(self) -> Option<Size>
+        ensures { option_map records_of_size result ≡ records_made self }
     {
         match self {
             New::No => None,
-            New::Tape => Some(TAPE_RECORDS),
-            New::Disc => Some(DISC_RECORDS),
+            New::Tape => Some(Size::Tape),
+            New::Disc => Some(Size::Disc),
         }
     }
 }

@@ -5,7 +5,7 @@ ghost use Rattle.lif_model.specs.Shelf.{image_of, cut};
 ghost use Rattle.lif_model.specs.Redo.{changed};
 ghost use Rattle.il_ports.specs.Drive.{images_of, place_of, IsOffer, IsFirst, IsUnwritten, has_size, longest_name};
 
-use crate::image::{self, copy_of, lay_in};
+use crate::image::{Size, copy_of, lay_in};
 use crate::medium::{Inserted, Medium, New};
 use crate::stream::Failed;
 use std::alloc::{AllocError, Global};
@@ -54,14 +54,14 @@ fn offered<'a>(images: &'a [(String, Vec<u8>)], name: &str, new: New) -> Offer<'
     ensures { IsOffer name.now new (images_of images.now) result }
 {
     match find(images, name) {
-        Some((place, bytes)) => match image::records_for(bytes.len() as u64) {
-            Some(records) => Offer::Take(place, bytes, records),
+        Some((place, bytes)) => match Size::of(bytes.len() as u64) {
+            Some(size) => Offer::Take(place, bytes, size.records()),
             None => Offer::BadSize(bytes.len() as u64),
         },
-        None => match new.records() {
+        None => match new.size() {
             None => Offer::NoSuch,
             Some(_) if name.len() > LONGEST_NAME => Offer::TooLong,
-            Some(records) => Offer::Make(records),
+            Some(size) => Offer::Make(size.records()),
         },
     }
 }
@@ -159,9 +159,9 @@ impl MemoryMedium {
     {
         let made = String::with_capacity(alloc, LONGEST_NAME)?;
         let history = Vec::with_capacity(alloc, room)?;
-        let mut tape = vec![in alloc; [0; 256]; image::DISC_RECORDS as usize]?;
-        let mut first = vec![in alloc; [0; 256]; image::DISC_RECORDS as usize]?;
-        put_in(&[], image::DISC_RECORDS, &mut tape, &mut first);
+        let mut tape = vec![in alloc; [0; 256]; Size::Disc.records() as usize]?;
+        let mut first = vec![in alloc; [0; 256]; Size::Disc.records() as usize]?;
+        put_in(&[], Size::Disc.records(), &mut tape, &mut first);
         Ok(MemoryMedium {
             images: shelf,
             drive: Drive::Empty,

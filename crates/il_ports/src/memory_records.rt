@@ -5,7 +5,7 @@ ghost use Rattle.lif_model.specs.Redo.{changed};
 ghost use Rattle.il_ports.specs.Counted.{failing};
 ghost use Rattle.il_ports.specs.Trouble.{HasTroubleCause};
 
-use crate::image::{after_record, copy_of, next_record};
+use crate::image::{after_record, copy_of, lay_out, next_record};
 use crate::records::{Records, Trouble};
 use lif_model::RECORD;
 use std::alloc::{AllocError, Global};
@@ -258,8 +258,7 @@ impl Records for MemoryRecords {
     {
         for i in 0..into.len() / RECORD {
             self.count()?;
-            let record = &self.records[usize::from(first) + i];
-            into[RECORD * i..RECORD * (i + 1)].copy_from_slice(record);
+            lay_out(&self.records[usize::from(first) + i], i, into);
         }
         Ok(())
     }
@@ -279,9 +278,9 @@ impl Records for MemoryRecords {
         ensures ran { RanWrites first (cut count from.now) (state_of self.old) (state_of self.new) result }
     {
         let mut rest = from;
-        for n in first..first + count {
+        for i in 0..count {
             self.count()?;
-            self.put(n, &next_record(rest));
+            self.put(first + i, &next_record(rest));
             rest = after_record(rest);
         }
         Ok(())

@@ -11,6 +11,7 @@ pub mod VolumeExamples
 pub mod CommandExamples
 pub mod Lists
 pub mod Sizes
+pub mod Runs
 pub mod Legal
 pub mod Volume
 pub mod Fit
