@@ -3,9 +3,13 @@
 use Rattle.std.specs.Prelude.{◌≡◌, ◌<◌, ◌*◌, ◌+◌, ◌++◌, ℕ, List, [], ◌∷◌, true, length, Result, Ok, Err}
 use Rattle.lif_model.specs.Transfers.{Transfer}
 
--- A call with Ok adds itself at the end. After a trouble nothing is said.
+-- the transfer comes at the end of the list
+pub record Added (transfer : Transfer) (old new : List Transfer → Type 0) : Type 0 where
+  pub at_end : (list : List Transfer) → old list → new (list ++ transfer ∷ [])
+
+-- A call with Ok adds itself. After a trouble nothing is said.
 abbrev pub Adds : {T E : Type 0} → Transfer → (List Transfer → Type 0) → (List Transfer → Type 0) → Result T E → Type 0
-Adds transfer old new (Ok _) = (list : List Transfer) → old list → new (list ++ transfer ∷ [])
+Adds transfer old new (Ok _) = Added transfer old new
 Adds transfer old new (Err _) = Unit {0}
 
 -- a write of whole records, each of which has P
@@ -20,8 +24,8 @@ WritesOnly P [] = Unit {0}
 WritesOnly P (transfer ∷ list) = (transfer.writes ≡ true → CoversOnly P transfer) × WritesOnly P list
 
 -- the list goes on by transfers that write only such records
-abbrev pub GoesOnBy : (ℕ → Type 0) → (List Transfer → Type 0) → (List Transfer → Type 0) → Type 0
-GoesOnBy P old new = (list : List Transfer) → old list → (more : List Transfer) × new (list ++ more) × WritesOnly P more
+pub record GoesOnBy (P : ℕ → Type 0) (old new : List Transfer → Type 0) : Type 0 where
+  pub goes_on : (list : List Transfer) → old list → (more : List Transfer) × new (list ++ more) × WritesOnly P more
 
 -- So it does at Ok. After a trouble nothing is said.
 abbrev pub AddsOnly : {T E : Type 0} → (ℕ → Type 0) → (List Transfer → Type 0) → (List Transfer → Type 0) → Result T E → Type 0
