@@ -30,7 +30,7 @@ pub enum New {
 
 impl New {
     /// The size of the medium that is made, if one is.
-    pub fn size(self) -> Option<Size>
+    pub(crate) fn size(self) -> Option<Size>
         ensures { option_map records_of_size result ≡ records_made self }
     {
         match self {

@@ -1,7 +1,7 @@
 -- Runs of records that are read or written one after the other: their bytes, what they leave of a tape, and what a power
 -- stop leaves meanwhile.
 use Rattle.std.proofs.Common.{◌≡◌, ◌≢◌, ◌<◌, ◌≤◌, ◌+◌, ◌*◌, ◌++◌, ◌⊎◌, ⊎_elim, ℕ, zero, suc, List, [], ◌∷◌, Bool, true, false, inl, inr, length, get_or, set, take, drop, refl, sym, ◌∙◌, ap, subst, arith, length-set, get_or-set_same, get_or-set_other, append_assoc, append-nil}
-use Rattle.std.specs.Prelude.{Some, MatchBool, nat_lt}
+use Rattle.std.specs.Prelude.{Option, Some, MatchBool, nat_lt}
 use Rattle.std.proofs.lemmas.Bool.{cases_eq, cases_lt, cases_Bool, lt-ltb, ltb-true, ltb-false}
 use Rattle.std.proofs.lemmas.List.{length-take-le, get_or-take, take_all}
 use Rattle.std.proofs.Math.Seq.{take-length, drop-drop}
@@ -114,12 +114,18 @@ pub same_tape : (t u : Tape) → Some t ≡ Some u → t ≡ u
 same_tape t u is = cc
 
 -- one call more, which leaves what the calls so far may leave
-pub elapses_further : (m₀ m₁ m₂ : ℕ) (s₀ s₁ s₂ : Since) (t u : Tape) (P Q : Tape → Tape → Type 0)
-    → Elapses m₀ m₁ s₀ s₁ (Some t) P → Elapses m₁ m₂ s₁ s₂ (Some u) Q → ((c : Tape) → Q u c → P t c) → Elapses m₀ m₂ s₀ s₂ (Some t) P
-elapses_further m₀ m₁ m₂ s₀ s₁ s₂ t u P Q so_far next here = record {
+pub elapses_then : (m₀ m₁ m₂ : ℕ) (s₀ s₁ s₂ : Since) (tape mid : Option Tape) (P Q : Tape → Tape → Type 0) → Elapses m₀ m₁ s₀ s₁ tape P → Elapses m₁ m₂ s₁ s₂ mid Q
+    → ((t : Tape) → tape ≡ Some t → (u : Tape) × (mid ≡ Some u) × ((c : Tape) → Q u c → P t c)) → Elapses m₀ m₂ s₀ s₂ tape P
+elapses_then m₀ m₁ m₂ s₀ s₁ s₂ tape mid P Q so_far next here = record {
   later = omega (arith, so_far.later, next.later);
-  nothing_else = λ x told m c le left. ⊎_elim
-      (λ past. so_far.nothing_else x told m c le past) (λ now. inr (subst (λ (y : Tape). P y c) (same_tape t x told) (here c now)))
-      (next.nothing_else u refl m c (omega (arith, le, so_far.later)) left);
+  nothing_else = λ t told m c le left.
+      let now = here t told in
+      ⊎_elim (λ past. so_far.nothing_else t told m c le past) (λ torn. inr (now.2 c torn)) (next.nothing_else now.0 now.1 m c (omega (arith, le, so_far.later)) left);
   keeps = λ m c le past. next.keeps m c (omega (arith, le, so_far.later)) (so_far.keeps m c le past);
 }
+
+-- the same of tapes that are told
+pub elapses_further : (m₀ m₁ m₂ : ℕ) (s₀ s₁ s₂ : Since) (t u : Tape) (P Q : Tape → Tape → Type 0)
+    → Elapses m₀ m₁ s₀ s₁ (Some t) P → Elapses m₁ m₂ s₁ s₂ (Some u) Q → ((c : Tape) → Q u c → P t c) → Elapses m₀ m₂ s₀ s₂ (Some t) P
+elapses_further m₀ m₁ m₂ s₀ s₁ s₂ t u P Q so_far next here =
+    elapses_then m₀ m₁ m₂ s₀ s₁ s₂ (Some t) (Some u) P Q so_far next (λ x told. (u, refl, λ c torn. subst (λ (y : Tape). P y c) (same_tape t x told) (here c torn)))
