@@ -1,11 +1,11 @@
-ghost use Rattle.std.specs.Prelude.{◌≡◌, ◌<◌, ◌≤◌, ℕ, [], length, get_or, vec_len, MatchOption, Some, None, true, string_bytes};
+ghost use Rattle.std.specs.Prelude.{◌≡◌, ◌==◌, ◌<◌, ◌≤◌, if◌then◌else◌, ℕ, [], length, get_or, vec_len, MatchOption, Some, None, true, string_bytes};
 ghost use Rattle.std.specs.Vec.{vec_capacity};
 ghost use Rattle.std.specs.String.{string_capacity};
 ghost use Rattle.lif_model.specs.Shelf.{image_of, cut};
 ghost use Rattle.lif_model.specs.Redo.{changed};
 ghost use Rattle.il_ports.specs.Drive.{images_of, place_of, IsOffer, IsFirst, IsUnwritten, has_size, longest_name};
 
-use crate::image::{Size, copy_of, lay_in};
+use crate::image::{Size, copy_of, lay_in, lay_out};
 use crate::medium::{Inserted, Medium, New};
 use crate::stream::Failed;
 use std::alloc::{AllocError, Global};
@@ -66,6 +66,13 @@ fn offered<'a>(images: &'a [(String, Vec<u8>)], name: &str, new: New) -> Offer<'
     }
 }
 
+// What record n holds behind a write at that place.
+fn behind_write<'a>(n: usize, place: u16, new: &'a [u8; 256], old: &'a [u8; 256]) -> &'a [u8; 256]
+    ensures { result.now ≡ (if place == n then new.now else old.now) }
+{
+    if usize::from(place) == n { new } else { old }
+}
+
 // Makes two equal tapes, of so many records, of what the image reads as.
 fn put_in(
     bytes: &[u8],
@@ -123,9 +130,11 @@ pub struct MemoryMedium {
 }
 
 impl MemoryMedium {
-    ghost use Rattle.std.specs.Prelude.{◌≡◌, ◌<◌, [], length, IfOk, IfSome, None, string_bytes};
+    ghost use Rattle.std.specs.Prelude.{◌≡◌, ◌<◌, ◌≤◌, ◌*◌, [], length, IfOk, IfSome, IsSome, Some, None, string_bytes};
     ghost use Rattle.std.specs.Option.{option_copied};
-    ghost use Rattle.lif_model.specs.Shelf.{image_of};
+    ghost use Rattle.lif_model.specs.Tape.{Tape, record_at};
+    ghost use Rattle.lif_model.specs.Shelf.{image_of, bytes_of};
+    ghost use Rattle.lif_model.specs.History.{stopped_at};
     ghost use Rattle.il_ports.specs.Drive.{images_of, is_made, is_inside, records_in};
     ghost use Rattle.il_ports.specs.MemoryMedium.{state_of, listed_bytes, holding};
 
@@ -193,6 +202,37 @@ impl MemoryMedium {
             return Some(self.tape.as_flattened());
         }
         Some(bytes)
+    }
+
+    /// Fills `into` with the tape as it was behind the first `writes` writes since it was inserted. With `torn` the record
+    /// of the next write holds these bytes: so a power stop within that write may leave it.
+    pub fn image_at(&self, writes: u64, torn: Option<&[u8; 256]>, into: &mut [u8])
+        requires inside { IsSome (state_of self.now).tape }
+        requires size { length into.old ≡ 256 * records_in (state_of self.now).tape }
+        requires made { writes ≤ length (state_of self.now).history }
+        requires next { IsSome torn → writes < length (state_of self.now).history }
+        ensures { (first : Tape) → (state_of self.now).first ≡ Some first → into.new ≡ bytes_of (stopped_at first (state_of self.now).history writes (option_copied torn.entry)) }
+    {
+        for n in 0..self.tape.len() {
+            lay_out(self.record_at(n, writes as usize, torn), n, into);
+        }
+    }
+
+    // The record as it was behind these writes, or within the next one.
+    fn record_at<'a>(&'a self, n: usize, writes: usize, torn: Option<&'a [u8; 256]>) -> &'a [u8; 256]
+        requires within { n < length self.now.first.items }
+        requires made { writes ≤ length self.now.history.items }
+        requires next { IsSome torn → writes < length self.now.history.items }
+        ensures { result.now ≡ record_at (stopped_at self.now.first.items self.now.history.items writes (option_copied torn.entry)) n }
+    {
+        let mut bytes = &self.first[n];
+        for write in &self.history[..writes] {
+            bytes = behind_write(n, write.0, &write.1, bytes);
+        }
+        match torn {
+            Some(torn) => behind_write(n, self.history[writes].0, torn, bytes),
+            None => bytes,
+        }
     }
 
     // What the first entry of this write's number says that it leaves.

@@ -6,7 +6,7 @@ use Rattle.std.proofs.lemmas.Bool.{cases_eq, cases_lt, cases_Bool, lt-ltb, ltb-t
 use Rattle.std.proofs.lemmas.List.{length-take-le, get_or-take, take_all}
 use Rattle.std.proofs.Math.Seq.{take-length, drop-drop}
 use Rattle.lif_model.specs.Tape.{Tape, record_at, bytes_from}
-use Rattle.lif_model.specs.Shelf.{piece, cut}
+use Rattle.lif_model.specs.Shelf.{piece, cut, bytes_of}
 use Rattle.lif_model.specs.Stops.{Torn, Elapses}
 use Rattle.lif_model.specs.Transfers.{Replaced, PartlyReplaced}
 
@@ -22,6 +22,15 @@ bytes_from_more t k (suc n) =
 -- the bytes of one record
 pub bytes_from_one : (t : Tape) (k : ℕ) → bytes_from t k 1 ≡ record_at t k
 bytes_from_one t k = append-nil (record_at t k)
+
+bytes_from_behind : (x : List ℕ) (t : Tape) (k n : ℕ) → bytes_from (x ∷ t) (suc k) n ≡ bytes_from t k n
+bytes_from_behind x t k zero = refl
+bytes_from_behind x t k (suc n) = ap (λ (bytes : List ℕ). record_at t k ++ bytes) (bytes_from_behind x t (suc k) n)
+
+-- the bytes of all records
+pub bytes_from_all : (t : Tape) → bytes_from t 0 (length t) ≡ bytes_of t
+bytes_from_all [] = refl
+bytes_from_all (x ∷ t) = ap (λ (bytes : List ℕ). x ++ bytes) (bytes_from_behind x t 0 (length t) ∙ bytes_from_all t)
 
 -- piece i of a run begins 256 * i bytes behind its front
 pub piece_at : (n i : ℕ) (bytes : List ℕ) → i < n → record_at (cut n bytes) i ≡ piece (drop (256 * i) bytes)
