@@ -5,4 +5,5 @@ pub mod Fronts
 pub mod Examples
 pub mod Transfers
 pub mod Stores
+pub mod OneRecord
 pub mod RunsInMemory

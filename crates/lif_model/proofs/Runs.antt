@@ -2,13 +2,14 @@
 -- stop leaves meanwhile.
 use Rattle.std.proofs.Common.{◌≡◌, ◌≢◌, ◌<◌, ◌≤◌, ◌+◌, ◌*◌, ◌++◌, ◌⊎◌, ⊎_elim, ℕ, zero, suc, List, [], ◌∷◌, Bool, true, false, inl, inr, length, get_or, set, take, drop, refl, sym, ◌∙◌, ap, subst, arith, length-set, get_or-set_same, get_or-set_other, append_assoc, append-nil}
 use Rattle.std.specs.Prelude.{Option, Some, MatchBool, nat_lt}
-use Rattle.std.proofs.lemmas.Bool.{cases_eq, cases_lt, cases_Bool, lt-ltb, ltb-true, ltb-false}
-use Rattle.std.proofs.lemmas.List.{length-take-le, get_or-take, take_all}
+use Rattle.std.proofs.lemmas.Bool.{cases_eq, cases_lt, cases_order, cases_Bool, lt-ltb, ltb-true, ltb-false}
+use Rattle.std.proofs.lemmas.List.{length-take-le, get_or-take, take_all, ext_get_or}
 use Rattle.std.proofs.Math.Seq.{take-length, drop-drop}
 use Rattle.lif_model.specs.Tape.{Tape, record_at, bytes_from}
 use Rattle.lif_model.specs.Shelf.{piece, cut, bytes_of}
 use Rattle.lif_model.specs.Stops.{Torn, Elapses}
 use Rattle.lif_model.specs.Transfers.{Replaced, PartlyReplaced}
+use Rattle.lif_model.proofs.History.{torn_by}
 
 -- ---- bytes
 
@@ -110,6 +111,53 @@ partly_replaced first j pieces t u done = elim (cases_lt j (length pieces)) [
       | inl is ↦ absurd (omega (arith, ltb-true (length pieces) (length pieces) is))
       | inr is ↦ is
     ]
+
+-- ---- one record
+
+-- a run of one piece replaces that record
+pub one_replaced : (n : ℕ) (bytes : List ℕ) (t : Tape) → n < length t → Replaced n (bytes ∷ []) t (set t n bytes)
+one_replaced n bytes t within = record {
+  records = length-set t n bytes;
+  within = λ i lt.
+      let first : i ≡ 0 = omega (arith, lt) in
+      let here : n + i ≡ n = omega (arith, lt) in
+      ap (record_at (set t n bytes)) here ∙ get_or-set_same t n bytes [] within ∙ sym (ap (λ (j : ℕ). get_or (bytes ∷ []) j []) first);
+  before = λ k lt. get_or-set_other t n k bytes [] (λ e. absurd (omega (arith, e, lt)));
+  behind = λ k le. get_or-set_other t n k bytes [] (λ e. absurd (omega (arith, e, le)));
+}
+
+pub replaced_one : (n : ℕ) (bytes : List ℕ) (t u : Tape) → n < length t → Replaced n (bytes ∷ []) t u → u ≡ set t n bytes
+replaced_one n bytes t u within done = ext_get_or [] u (set t n bytes) (done.records ∙ sym (length-set t n bytes)) (λ k lt. at k (cases_order k n))
+  where
+    at : (k : ℕ) → (k ≡ n) ⊎ ((k < n) ⊎ (n < k)) → record_at u k ≡ record_at (set t n bytes) k
+    at k (inl e) =
+        let here : n + 0 ≡ n = omega arith in
+        ap (record_at u) (e ∙ sym here) ∙ done.within 0 (omega arith) ∙ sym (get_or-set_same t n bytes [] within) ∙ ap (record_at (set t n bytes)) (sym e)
+    at k (inr (inl less)) = done.before k less ∙ sym (get_or-set_other t n k bytes [] (λ e. absurd (omega (arith, e, less))))
+    at k (inr (inr more)) = done.behind k (omega (arith, more)) ∙ sym (get_or-set_other t n k bytes [] (λ e. absurd (omega (arith, e, more))))
+
+-- one that is torn may hold any bytes in that record
+pub one_torn : (n : ℕ) (bytes : List ℕ) (t c : Tape) → n < length t → Torn n t c → PartlyReplaced n (bytes ∷ []) t c
+one_torn n bytes t c within torn =
+    let here : n + 0 ≡ n = omega arith in
+    torn_next n 0 (bytes ∷ []) t t (omega arith) (replaced_none n t) c (subst (λ (k : ℕ). Torn k t c) (sym here) torn)
+
+-- other bytes in one record, of the same number, are what may be torn of it
+set_torn : (n : ℕ) (bytes : List ℕ) (t : Tape) → length bytes ≡ length (record_at t n) → n < length t → Torn n t (set t n bytes)
+set_torn n bytes t size within = torn_by t n bytes size within
+
+none_replaced : (n : ℕ) (t u : Tape) → Replaced n [] t u → u ≡ t
+none_replaced n t u done = ext_get_or [] u t done.records (λ k lt. elim (cases_lt k n) [ | inl less ↦ done.before k less | inr more ↦ done.behind k (omega (arith, more)) ])
+
+pub torn_one : (n : ℕ) (bytes : List ℕ) (t c : Tape) → length bytes ≡ length (record_at t n) → n < length t → PartlyReplaced n (bytes ∷ []) t c → Torn n t c
+torn_one n bytes t c size within partly = go partly.count partly.in_range partly.written partly.replaced partly.torn
+  where
+    go : (count : ℕ) → count ≤ 1 → (written : Tape) → Replaced n (take count (bytes ∷ [])) t written → MatchBool (nat_lt count 1) (Torn (n + count) written c) (c ≡ written) → Torn n t c
+    go zero le written done torn =
+        let here : n + 0 ≡ n = omega arith in
+        subst (λ (k : ℕ). Torn k t c) here (subst (λ (u : Tape). Torn (n + 0) u c) (none_replaced n t written done) torn)
+    go (suc zero) le written done is = subst (Torn n t) (sym (is ∙ replaced_one n bytes t written within done)) (set_torn n bytes t size within)
+    go (suc (suc count)) le written done torn = absurd (omega (arith, le))
 
 -- ---- power stops
 
