@@ -2,10 +2,11 @@
 use Rattle.std.proofs.Common.{◌≡◌, ◌⊎◌, inl, inr, ℕ, List, Bool, true, false, refl, sym, subst, ap}
 use Rattle.std.specs.Prelude.{Option, Some, None}
 use Rattle.lif_model.specs.Tape.{Tape}
-use Rattle.lif_model.specs.Shelf.{Shelf}
+use Rattle.il_ports.specs.Media.{MediumView}
 use Rattle.lif_model.specs.Stops.{Torn, LeavesOnly}
 use Rattle.lif_model.specs.Causes.{Rose}
 use Rattle.lif_model.proofs.Moments.{started, goes_on, still}
+use Rattle.lif_model.proofs.Runs.{torn_nothing}
 use Rattle.il_drive.specs.Steps.{Step, Now, Reads, Writes, then_by, Did}
 use Rattle.il_drive.specs.Facts.{IsTapeAfter, IsLeft}
 
@@ -47,36 +48,33 @@ written_then g (Now x) = refl
 written_then g (Reads k good bad) = refl
 written_then g (Writes k bytes good bad) = refl
 
-torn_self : (k : ℕ) (t : Tape) → Torn k t t
-torn_self k t = record { records = refl; bytes = refl; elsewhere = λ j ne. refl }
-
-module _ {M : Type 0} (tape : M → Option Tape) (shelf : M → Option Shelf) (inside : M → Option (List ℕ)) (size faults moment : M → ℕ) (since : M → ℕ → Tape → Type 0) where
+module _ {M : Type 0} (view : M → MediumView) where
   -- what holds of each value holds of the one that it came to, and where the medium has failed its count rose
-  pub every_did : {X : Type 0} (P : Bool → X → Type 0) (st : Step X) (x : X) (m n : M) → Every P st → Did tape shelf inside size faults moment since st x m n
-      → P false x ⊎ (P true x × Rose (faults m) (faults n))
+  pub every_did : {X : Type 0} (P : Bool → X → Type 0) (st : Step X) (x : X) (m n : M) → Every P st → Did view st x m n
+      → P false x ⊎ (P true x × Rose (view m).faults (view n).faults)
   every_did P (Now value) x m n all did = inl (subst (P false) (sym did.0) all)
   every_did P (Reads k good bad) x m n all (still, inl gave) = inl (subst (P false) (sym gave.value) (all.0 gave.bytes))
   every_did P (Reads k good bad) x m n all (still, inr failed) = inr (subst (P true) (sym failed.0) all.1, failed.1)
   every_did P (Writes k bytes good bad) x m n all (has, inl took) = inl (subst (P false) (sym took.0) all.0)
   every_did P (Writes k bytes good bad) x m n all (has, inr torn) = inr (subst (P true) (sym torn.0) all.1, torn.2)
 
-  pub did_size : {X : Type 0} (st : Step X) (x : X) (m n : M) → Did tape shelf inside size faults moment since st x m n → size n ≡ size m
-  did_size (Now value) x m n did = ap size did.1
-  did_size (Reads k good bad) x m n did = did.0.size_is
-  did_size (Writes k bytes good bad) x m n did = did.0.size_is
+  pub did_size : {X : Type 0} (st : Step X) (x : X) (m n : M) → Did view st x m n → (view n).record_count ≡ (view m).record_count
+  did_size (Now value) x m n did = ap (λ k. (view k).record_count) did.1
+  did_size (Reads k good bad) x m n did = did.0.stays_in.size
+  did_size (Writes k bytes good bad) x m n did = did.0.stays_in.size
 
-  pub did_tape : {X : Type 0} (st : Step X) (x : X) (m n : M) → Did tape shelf inside size faults moment since st x m n → IsTapeAfter (written st) (tape m) (tape n)
-  did_tape (Now value) x m n did = ap tape did.1
-  did_tape (Reads k good bad) x m n did = did.0.tape_is
+  pub did_tape : {X : Type 0} (st : Step X) (x : X) (m n : M) → Did view st x m n → IsTapeAfter (written st) (view m).tape (view n).tape
+  did_tape (Now value) x m n did = ap (λ k. (view k).tape) did.1
+  did_tape (Reads k good bad) x m n did = did.0.tape
   did_tape (Writes k bytes good bad) x m n (has, inl took) = λ t is. inl (took.1 t is)
   did_tape (Writes k bytes good bad) x m n (has, inr torn) = λ t is. inr (torn.1 t is)
 
   -- a stop now leaves the tape as it reads, and no other
-  pub did_stops : {X : Type 0} (st : Step X) (x : X) (m n : M) (t : Tape) → Did tape shelf inside size faults moment since st x m n → tape m ≡ Some t
-      → ((c : Tape) → since m (moment m) c → c ≡ t) → LeavesOnly (moment m) (moment n) (since m) (since n) (IsLeft (written st) t)
+  pub did_stops : {X : Type 0} (st : Step X) (x : X) (m n : M) (t : Tape) → Did view st x m n → (view m).tape ≡ Some t
+      → ((c : Tape) → (view m).left_since (view m).moment c → c ≡ t) → LeavesOnly (view m).moment (view n).moment (view m).left_since (view n).left_since (IsLeft (written st) t)
   did_stops (Now value) x m n t did is only =
-      subst (λ (k : M). LeavesOnly (moment m) (moment k) (since m) (since k) (λ c. c ≡ t)) (sym did.1) (started (moment m) (since m) (λ c. c ≡ t) t only refl)
+      subst (λ (k : M). LeavesOnly (view m).moment (view k).moment (view m).left_since (view k).left_since (λ c. c ≡ t)) (sym did.1) (started (view m).moment (view m).left_since (λ c. c ≡ t) t only refl)
   did_stops (Reads k good bad) x m n t did is only =
-      still (moment m) (moment m) (moment n) (since m) (since m) (since n) (λ c. c ≡ t) did.0.moment_is did.0.still (started (moment m) (since m) (λ c. c ≡ t) t only refl)
+      still (view m).moment (view m).moment (view n).moment (view m).left_since (view m).left_since (view n).left_since (λ c. c ≡ t) did.0.moment did.0.since (started (view m).moment (view m).left_since (λ c. c ≡ t) t only refl)
   did_stops (Writes k bytes good bad) x m n t did is only =
-      goes_on (moment m) (moment m) (moment n) (since m) (since m) (since n) (Torn k t) (tape m) (Torn k) t is (started (moment m) (since m) (Torn k t) t only (torn_self k t)) did.0.time (λ c torn. torn)
+      goes_on (view m).moment (view m).moment (view n).moment (view m).left_since (view m).left_since (view n).left_since (Torn k t) (view m).tape (Torn k) t is (started (view m).moment (view m).left_since (Torn k t) t only (torn_nothing k t)) did.0.time (λ c torn. torn)

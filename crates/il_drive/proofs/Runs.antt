@@ -6,7 +6,7 @@ use Rattle.std.proofs.Common.{append_assoc, length-set}
 use Rattle.std.proofs.lemmas.List.{take_more_set, take_all}
 use Rattle.std.proofs.lemmas.Bool.{ne_eqb, lt-ltb, lt-leb}
 use Rattle.lif_model.specs.Tape.{Tape}
-use Rattle.lif_model.specs.Shelf.{Shelf}
+use Rattle.il_ports.specs.Media.{MediumView}
 use Rattle.il_frames.specs.declared.frame.Frame.{Frame}
 use Rattle.il_frames.specs.Frames.{byte_of, is_data}
 use Rattle.il_device.specs.declared.device.Out.{Out}
@@ -78,12 +78,12 @@ step_next n s f writing h lt = step_buffers n s f writing h lt ∙ ap (λ u. Now
 next_writing : (s : DriveState) (f : Frame) → IsWriting s → is_data f ≡ true → IsWriting (next s f)
 next_writing s f writing h = still_writing s f (next s f) writing h refl refl
 
-module _ {M : Type 0} (tape : M → Option Tape) (shelf : M → Option Shelf) (inside : M → Option (List ℕ)) (size faults moment : M → ℕ) (since : M → ℕ → Tape → Type 0) where
+module _ {M : Type 0} (view : M → MediumView) where
   abbrev Runs : DriveView M → List Frame → List Out → DriveView M → Type 0
-  Runs v fs outs w = Ran tape shelf inside size faults moment since v fs outs w
+  Runs v fs outs w = Ran view v fs outs w
 
   abbrev Does : {X : Type 0} → Step X → X → M → M → Type 0
-  Does step x m n = Did tape shelf inside size faults moment since step x m n
+  Does step x m n = Did view step x m n
 
   -- fewer bytes than fill the buffer leave the medium
   pub buffers : (fs : List Frame) (outs : List Out) (v w : DriveView M) → IsWriting v.state → AllData fs → v.state.pointer + length fs ≤ 255 → Runs v fs outs w → (w.state ≡ buffered fs v.state) × (w.medium ≡ v.medium)
@@ -93,7 +93,7 @@ module _ {M : Type 0} (tape : M → Option Tape) (shelf : M → Option Shelf) (i
   buffers (f ∷ fs) (out ∷ outs) v w writing all fits ran =
       let u = ran.0 in
       let did : Does (Now (table.passes v.state.interface.roles f (next v.state f))) (u.state, out) v.medium u.medium =
-      subst (λ step. Does step (u.state, out) v.medium u.medium) (step_next (size v.medium) v.state f writing all.0 (omega (arith, fits))) ran.1 in
+      subst (λ step. Does step (u.state, out) v.medium u.medium) (step_next (view v.medium).record_count v.state f writing all.0 (omega (arith, fits))) ran.1 in
       let is : u.state ≡ next v.state f = ap (λ x. x.0) did.0 in
       let more =
       buffers fs outs u w (subst IsWriting (sym is) (next_writing v.state f writing all.0)) all.1 (omega (arith, fits, ap (λ (s : DriveState). s.pointer) is)) ran.2 in
@@ -115,13 +115,13 @@ module _ {M : Type 0} (tape : M → Option Tape) (shelf : M → Option Shelf) (i
   wrote_first k bytes r f good bad t out m n (has, inr torn) = (has, inr (ap (λ x. x.0) torn.0, torn.1, torn.2))
 
   -- the byte that fills the buffer puts the record
-  pub puts_last : (f : Frame) (out : Out) (v w : DriveView M) → IsWriting v.state → is_data f ≡ true → v.state.pointer ≡ 255 → v.state.position ≢ size v.medium
-      → Does (table.drive_step (size v.medium) v.state f) (w.state, out) v.medium w.medium → Puts (f ∷ []) (set v.state.first v.state.pointer (byte_of f)) v w
+  pub puts_last : (f : Frame) (out : Out) (v w : DriveView M) → IsWriting v.state → is_data f ≡ true → v.state.pointer ≡ 255 → v.state.position ≢ (view v.medium).record_count
+      → Does (table.drive_step (view v.medium).record_count v.state f) (w.state, out) v.medium w.medium → Puts (f ∷ []) (set v.state.first v.state.pointer (byte_of f)) v w
   puts_last f out v w writing h full on did =
       let s = v.state in
       let bytes = set s.first s.pointer (byte_of f) in
       wrote_first s.position bytes s.interface.roles f (put_well bytes (interface_after s.interface f) s) (put_badly bytes (interface_after s.interface f) s) w.state out v.medium w.medium
-      (subst (λ step. Does step (w.state, out) v.medium w.medium) (step_puts (size v.medium) s f writing h (omega (arith, full)) on) did)
+      (subst (λ step. Does step (w.state, out) v.medium w.medium) (step_puts (view v.medium).record_count s f writing h (omega (arith, full)) on) did)
 
   -- what the buffer holds before its pointer, and then these bytes
   abbrev joined : DriveState → List Frame → List ℕ
@@ -136,7 +136,7 @@ module _ {M : Type 0} (tape : M → Option Tape) (shelf : M → Option Shelf) (i
 
   -- the bytes that fill the buffer are put on the tape by one write, as the last one comes
   pub puts : (f : Frame) (fs : List Frame) (outs : List Out) (v w : DriveView M) → IsWriting v.state → AllData (f ∷ fs) → v.state.pointer + length (f ∷ fs) ≡ 256 → length v.state.first ≡ 256
-      → v.state.position ≢ size v.medium → Runs v (f ∷ fs) outs w → Puts (f ∷ fs) (joined v.state (f ∷ fs)) v w
+      → v.state.position ≢ (view v.medium).record_count → Runs v (f ∷ fs) outs w → Puts (f ∷ fs) (joined v.state (f ∷ fs)) v w
   puts f fs [] v w writing all fits long on ran = absurd ran
   puts f [] (out ∷ other ∷ outs) v w writing all fits long on ran = absurd ran.2
   puts f [] (out ∷ []) v w writing all fits long on ran =
@@ -148,10 +148,10 @@ module _ {M : Type 0} (tape : M → Option Tape) (shelf : M → Option Shelf) (i
       let s = v.state in
       let u = ran.0 in
       let did : Does (Now (table.passes s.interface.roles f (next s f))) (u.state, out) v.medium u.medium =
-      subst (λ step. Does step (u.state, out) v.medium u.medium) (step_next (size v.medium) s f writing all.0 (omega (arith, fits))) ran.1 in
+      subst (λ step. Does step (u.state, out) v.medium u.medium) (step_next (view v.medium).record_count s f writing all.0 (omega (arith, fits))) ran.1 in
       let is : u.state ≡ next s f = ap (λ x. x.0) did.0 in
       let pointer : u.state.pointer ≡ s.pointer + 1 = ap (λ (s : DriveState). s.pointer) is in
-      let same_size : size u.medium ≡ size v.medium = ap size did.1 in
+      let same_size : (view u.medium).record_count ≡ (view v.medium).record_count = ap (λ m. (view m).record_count) did.1 in
       let put =
       puts g fs outs u w (subst IsWriting (sym is) (next_writing s f writing all.0)) all.1 (omega (arith, fits, pointer))
       (ap (λ (s : DriveState). length s.first) is ∙ length-set s.first s.pointer (byte_of f) ∙ long) (λ e. on (sym (ap (λ (s : DriveState). s.position) is) ∙ e ∙ same_size)) ran.2 in
@@ -161,6 +161,6 @@ module _ {M : Type 0} (tape : M → Option Tape) (shelf : M → Option Shelf) (i
 
   -- from pointer 0 these are the bytes that were heard
   pub puts_record : (f : Frame) (fs : List Frame) (outs : List Out) (v w : DriveView M) → IsWriting v.state → AllData (f ∷ fs) → v.state.pointer ≡ 0 → length (f ∷ fs) ≡ 256 → length v.state.first ≡ 256
-      → v.state.position ≢ size v.medium → Runs v (f ∷ fs) outs w → Puts (f ∷ fs) (bytes_of (f ∷ fs)) v w
+      → v.state.position ≢ (view v.medium).record_count → Runs v (f ∷ fs) outs w → Puts (f ∷ fs) (bytes_of (f ∷ fs)) v w
   puts_record f fs outs v w writing all empty fits long on ran =
       subst (λ bytes. Puts (f ∷ fs) bytes v w) (ap (λ k. take k v.state.first ++ bytes_of (f ∷ fs)) empty) (puts f fs outs v w writing all (omega (arith, empty, fits)) long on ran)

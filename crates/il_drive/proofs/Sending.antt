@@ -4,7 +4,7 @@ use Rattle.std.specs.Prelude.{Option, Some, None, if◌then◌else◌, ◌||◌}
 use Rattle.std.proofs.Math.Nat.{mod-eq_of_lt}
 use Rattle.std.proofs.lemmas.Bool.{ne_eqb, eq-eqb}
 use Rattle.lif_model.specs.Tape.{Tape}
-use Rattle.lif_model.specs.Shelf.{Shelf}
+use Rattle.il_ports.specs.Media.{MediumView}
 use Rattle.il_frames.specs.declared.frame.Class.TheVariants as class
 use Rattle.il_frames.specs.declared.frame.Frame.{Frame}
 use Rattle.il_frames.specs.Frames.{framed, is_data, same_but_service}
@@ -101,12 +101,12 @@ later_reading last s f reading h lt = record {
   sent = refl;
 }
 
-module _ {M : Type 0} (tape : M → Option Tape) (shelf : M → Option Shelf) (inside : M → Option (List ℕ)) (size faults moment : M → ℕ) (since : M → ℕ → Tape → Type 0) where
+module _ {M : Type 0} (view : M → MediumView) where
   abbrev Runs : DriveView M → List Frame → List Out → DriveView M → Type 0
-  Runs v fs outs w = Ran tape shelf inside size faults moment since v fs outs w
+  Runs v fs outs w = Ran view v fs outs w
 
   abbrev Does : {X : Type 0} → Step X → X → M → M → Type 0
-  Does step x m n = Did tape shelf inside size faults moment since step x m n
+  Does step x m n = Did view step x m n
 
   -- what came of frames from that state on
   abbrev Sent : List Frame → List Out → DriveState → M → DriveView M → Type 0
@@ -114,10 +114,10 @@ module _ {M : Type 0} (tape : M → Option Tape) (shelf : M → Option Shelf) (i
 
   -- one byte more
   one_sent : (last : ℕ) (f : Frame) (out : Out) (v u : DriveView M) → IsReading last v.state → is_data f ≡ true → same_but_service (framed class.Dab (get_or v.state.first last 0)) f ≡ true
-      → Does (table.drive_step (size v.medium) v.state f) (u.state, out) v.medium u.medium → (out ≡ Source (framed class.Dab (get_or v.state.first v.state.pointer 0))) × (u ≡ record { state = later v.state f; medium = v.medium })
+      → Does (table.drive_step (view v.medium).record_count v.state f) (u.state, out) v.medium u.medium → (out ≡ Source (framed class.Dab (get_or v.state.first v.state.pointer 0))) × (u ≡ record { state = later v.state f; medium = v.medium })
   one_sent last f out v u reading h right did =
       let sent : Does (Now (table.sends start.Data false (get_or v.state.first v.state.pointer 0) (table.advanced (table.behind_effect f v.state)))) (u.state, out) v.medium u.medium =
-      subst (λ step. Does step (u.state, out) v.medium u.medium) (step_sends (size v.medium) last v.state f reading h right) did in
+      subst (λ step. Does step (u.state, out) v.medium u.medium) (step_sends (view v.medium).record_count last v.state f reading h right) did in
       (ap (λ x. x.1) sent.0, λ i. record { state = (sent.0 i).0; medium = sent.1 i })
 
   -- while the echoes are right the bytes of the record follow each other, and the medium stays

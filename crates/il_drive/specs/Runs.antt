@@ -8,7 +8,7 @@ use Rattle.il_device.specs.declared.device.Out.TheVariants.{Source}
 use Rattle.il_device.specs.Interfaces.{InterfaceState, interface_after}
 use Rattle.il_device.specs.Takes.{just_sent}
 use Rattle.lif_model.specs.Tape.{Tape}
-use Rattle.lif_model.specs.Shelf.{Shelf}
+use Rattle.il_ports.specs.Media.{MediumView}
 use Rattle.il_drive.specs.declared.mode.Fault.TheVariants as fault
 use Rattle.il_drive.specs.declared.mode.Mode.TheVariants as mode
 use Rattle.il_drive.specs.declared.mode.Start.TheVariants as start
@@ -17,13 +17,12 @@ use Rattle.il_drive.specs.Steps.{Did}
 use Rattle.il_drive.specs.Table.{drive_step, behind_effect, faulty, emptied, advanced, sends}
 
 -- These frames came, oldest first, and the drive gave these answers.
-abbrev pub Ran : {M : Type 0} → (M → Option Tape) → (M → Option Shelf) → (M → Option (List ℕ)) → (M → ℕ) → (M → ℕ) → (M → ℕ) → (M → ℕ → Tape → Type 0)
-    → DriveView M → List Frame → List Out → DriveView M → Type 0
-Ran tape shelf inside size faults moment since v [] [] w = w ≡ v
-Ran {M} tape shelf inside size faults moment since v (f ∷ fs) (out ∷ outs) w =
-    (u : DriveView M) × Did tape shelf inside size faults moment since (drive_step (size v.medium) v.state f) (u.state, out) v.medium u.medium
-    × Ran tape shelf inside size faults moment since u fs outs w
-Ran tape shelf inside size faults moment since v _ _ w = ⊥
+abbrev pub Ran : {M : Type 0} → (M → MediumView) → DriveView M → List Frame → List Out → DriveView M → Type 0
+Ran view v [] [] w = w ≡ v
+Ran {M} view v (f ∷ fs) (out ∷ outs) w =
+    (u : DriveView M) × Did view (drive_step (view v.medium).record_count v.state f) (u.state, out) v.medium u.medium
+    × Ran view u fs outs w
+Ran view v _ _ w = ⊥
 
 abbrev pub AllData : List Frame → Type 0
 AllData [] = Unit {0}

@@ -1,10 +1,10 @@
 -- What a step of the drive asks of its medium, and how it goes on by the answer.
-use Rattle.std.specs.Prelude.{◌≡◌, ◌⊎◌, ℕ, List, set, Option, Some, is_some}
+use Rattle.std.specs.Prelude.{◌≡◌, ◌⊎◌, ℕ, List, set, Some, is_some}
 use Rattle.lif_model.specs.Tape.{Tape, record_at}
-use Rattle.lif_model.specs.Shelf.{Shelf}
 use Rattle.lif_model.specs.Stops.{Torn, Elapses, StandsStill}
 use Rattle.lif_model.specs.Causes.{Rose}
 use Rattle.il_ports.specs.Inserting.{OthersAreKept}
+use Rattle.il_ports.specs.Media.{MediumView, KeepsIn}
 
 -- a value that is reached without the medium, by reading a record, or by writing one
 pub data Step (X : Type 0) : Type 0 where
@@ -20,52 +20,41 @@ then_by g (Now x) = Now (g x)
 then_by g (Reads k good bad) = Reads k (λ bytes. g (good bytes)) (g bad)
 then_by g (Writes k bytes good bad) = Writes k bytes (g good) (g bad)
 
--- In what follows a medium of the type M tells its tape, its shelf, the name of the image in the drive, the number of
--- records, how many calls failed, the time, and what a power stop since a moment may have left.
+-- In what follows contracts see the medium before the step as v, and behind it as w.
 
 -- a read, with success or without, leaves all as it was
-pub record IsStill (M : Type 0) (tape : M → Option Tape) (shelf : M → Option Shelf) (inside : M → Option (List ℕ)) (size moment : M → ℕ) (since : M → ℕ → Tape → Type 0) (m n : M) : Type 0 where
-  pub tape_is : tape n ≡ tape m
-  pub shelf_is : shelf n ≡ shelf m
-  pub inside_is : inside n ≡ inside m
-  pub size_is : size n ≡ size m
-  pub moment_is : moment n ≡ moment m
-  pub still : StandsStill (since m) (since n)
+pub record IsStill (v w : MediumView) : Type 0 where
+  pub stays_in : KeepsIn v w
+  pub tape : w.tape ≡ v.tape
+  pub shelf : w.shelf ≡ v.shelf
+  pub moment : w.moment ≡ v.moment
+  pub since : StandsStill v.left_since w.left_since
 
 -- with success it gives the record
-pub record GaveRecord (X : Type 0) (k : ℕ) (good : List ℕ → X) (x : X) (tape : Option Tape) (faults faults₂ : ℕ) : Type 0 where
+pub record GaveRecord {X : Type 0} (k : ℕ) (good : List ℕ → X) (x : X) (v w : MediumView) : Type 0 where
   pub bytes : List ℕ
-  pub content : (t : Tape) → tape ≡ Some t → bytes ≡ record_at t k
+  pub content : (t : Tape) → v.tape ≡ Some t → bytes ≡ record_at t k
   pub value : x ≡ good bytes
-  pub count : faults₂ ≡ faults
+  pub count : w.faults ≡ v.faults
 
 -- a write of record k, with success or without, leaves all else as it was
-pub record HasWritten (M : Type 0) (k : ℕ) (tape : M → Option Tape) (shelf : M → Option Shelf) (inside : M → Option (List ℕ)) (size moment : M → ℕ) (since : M → ℕ → Tape → Type 0) (m n : M) : Type 0 where
-  pub told : is_some (tape n) ≡ is_some (tape m)
-  pub shelf_told : is_some (shelf n) ≡ is_some (shelf m)
-  pub others : OthersAreKept (inside m) (shelf m) (shelf n)
-  pub inside_is : inside n ≡ inside m
-  pub size_is : size n ≡ size m
-  pub time : Elapses (moment m) (moment n) (since m) (since n) (tape m) (Torn k)
+pub record HasWritten (k : ℕ) (v w : MediumView) : Type 0 where
+  pub stays_in : KeepsIn v w
+  pub shelf_told : is_some w.shelf ≡ is_some v.shelf
+  pub others : OthersAreKept v.inside v.shelf w.shelf
+  pub time : Elapses v.moment w.moment v.left_since w.left_since v.tape (Torn k)
 
 -- with success the record holds the bytes
-abbrev pub TookRecord : {X : Type 0} → ℕ → List ℕ → X → X → Option Tape → Option Tape → ℕ → ℕ → Type 0
-TookRecord k bytes good x tape tape₂ faults faults₂ =
-    (x ≡ good) × ((t : Tape) → tape ≡ Some t → tape₂ ≡ Some (set t k bytes)) × (faults₂ ≡ faults)
+abbrev pub TookRecord : {X : Type 0} → ℕ → List ℕ → X → X → MediumView → MediumView → Type 0
+TookRecord k bytes good x v w = (x ≡ good) × ((t : Tape) → v.tape ≡ Some t → w.tape ≡ Some (set t k bytes)) × (w.faults ≡ v.faults)
 
 -- without success it holds any bytes
-abbrev pub TornRecord : {X : Type 0} → ℕ → X → X → Option Tape → Option Tape → ℕ → ℕ → Type 0
-TornRecord k bad x tape tape₂ faults faults₂ =
-    (x ≡ bad) × ((t : Tape) → tape ≡ Some t → (u : Tape) × (tape₂ ≡ Some u) × Torn k t u) × Rose faults faults₂
+abbrev pub TornRecord : {X : Type 0} → ℕ → X → X → MediumView → MediumView → Type 0
+TornRecord k bad x v w = (x ≡ bad) × ((t : Tape) → v.tape ≡ Some t → (u : Tape) × (w.tape ≡ Some u) × Torn k t u) × Rose v.faults w.faults
 
--- The step came to the value x, and the medium m to the medium n. A call of the medium fails only where its count of
--- faults rises.
-abbrev pub Did : {M X : Type 0} → (M → Option Tape) → (M → Option Shelf) → (M → Option (List ℕ)) → (M → ℕ) → (M → ℕ) → (M → ℕ) → (M → ℕ → Tape → Type 0) → Step X → X → M → M → Type 0
-Did tape shelf inside size faults moment since (Now value) x m n = (x ≡ value) × (n ≡ m)
-Did {M} {X} tape shelf inside size faults moment since (Reads k good bad) x m n =
-    IsStill M tape shelf inside size moment since m n
-    × (GaveRecord X k good x (tape m) (faults m) (faults n) ⊎ ((x ≡ bad) × Rose (faults m) (faults n)))
-Did {M} {X} tape shelf inside size faults moment since (Writes k bytes good bad) x m n =
-    HasWritten M k tape shelf inside size moment since m n
-    × (TookRecord k bytes good x (tape m) (tape n) (faults m) (faults n)
-    ⊎ TornRecord k bad x (tape m) (tape n) (faults m) (faults n))
+-- The step came to the value x, and the medium m, which contracts see by that view, to the medium n. A call of the
+-- medium fails only where its count of faults rises.
+abbrev pub Did : {M X : Type 0} → (M → MediumView) → Step X → X → M → M → Type 0
+Did view (Now value) x m n = (x ≡ value) × (n ≡ m)
+Did view (Reads k good bad) x m n = IsStill (view m) (view n) × (GaveRecord k good x (view m) (view n) ⊎ ((x ≡ bad) × Rose (view m).faults (view n).faults))
+Did view (Writes k bytes good bad) x m n = HasWritten k (view m) (view n) × (TookRecord k bytes good x (view m) (view n) ⊎ TornRecord k bad x (view m) (view n))

@@ -61,7 +61,7 @@ impl<M: Medium> Model for Drive<M> {
       medium = d.medium;
     } };
 
-    ghost invariant = { λ d. IsDrive (M.record_count d.medium) (record {
+    ghost invariant = { λ d. IsDrive (M.view d.medium).record_count (record {
       interface = d.interface;
       first = d.first;
       second = d.second;
@@ -77,7 +77,7 @@ impl<M: Medium> Drive<M> {
     /// A drive that nothing has come to yet, over a medium whose tape is in: buffers of zeros, pointer 0, position 0,
     /// not filled, status 0, mode Rest.
     pub fn new(medium: M) -> Drive<M>
-        requires { 0 < M.record_count medium }
+        requires { 0 < (M.view medium).record_count }
         ensures { result ≡ record { state = fresh_drive; medium = medium } }
     {
         Drive {
@@ -127,22 +127,21 @@ impl<M: Medium> Drive<M> {
         // What every device does.
         ensures takes { Takes (device_of self.old.state) frame result (device_of self.new.state) }
         // What the drive's table says.
-        ensures did { Did M.tape M.shelf M.inside M.record_count M.faults M.moment M.left_since
-            (table.drive_step (M.record_count self.old.medium) self.old.state frame) (self.new.state, result) self.old.medium self.new.medium }
-        ensures before { IsDrive (M.record_count self.old.medium) self.old.state }
-        ensures after { IsDrive (M.record_count self.new.medium) self.new.state }
-        ensures size { M.record_count self.new.medium ≡ M.record_count self.old.medium }
+        ensures did { Did M.view (table.drive_step (M.view self.old.medium).record_count self.old.state frame) (self.new.state, result) self.old.medium self.new.medium }
+        ensures before { IsDrive (M.view self.old.medium).record_count self.old.state }
+        ensures after { IsDrive (M.view self.new.medium).record_count self.new.state }
+        ensures size { (M.view self.new.medium).record_count ≡ (M.view self.old.medium).record_count }
         // A transmission ends by ETE exactly where the echo is wrong.
         ensures ete { (result ≡ Source ete) ↔ (has_wrong_echo self.old.state frame ≡ true) }
         // Status 1 and 2 come only where the medium failed in this call, and 3 exactly where the tape has no such record.
-        ensures unread { status_of self.new.state ≡ 1 → (status_of self.old.state ≡ 1) ⊎ Rose (M.faults self.old.medium) (M.faults self.new.medium) }
-        ensures unwritten { status_of self.new.state ≡ 2 → (status_of self.old.state ≡ 2) ⊎ Rose (M.faults self.old.medium) (M.faults self.new.medium) }
-        ensures lacks { lacks_record (M.record_count self.old.medium) self.old.state frame ≡ true → status_of self.new.state ≡ 3 }
-        ensures lacked { status_of self.new.state ≡ 3 → (status_of self.old.state ≡ 3) ⊎ (lacks_record (M.record_count self.old.medium) self.old.state frame ≡ true) }
+        ensures unread { status_of self.new.state ≡ 1 → (status_of self.old.state ≡ 1) ⊎ Rose (M.view self.old.medium).faults (M.view self.new.medium).faults }
+        ensures unwritten { status_of self.new.state ≡ 2 → (status_of self.old.state ≡ 2) ⊎ Rose (M.view self.old.medium).faults (M.view self.new.medium).faults }
+        ensures lacks { lacks_record (M.view self.old.medium).record_count self.old.state frame ≡ true → status_of self.new.state ≡ 3 }
+        ensures lacked { status_of self.new.state ≡ 3 → (status_of self.old.state ≡ 3) ⊎ (lacks_record (M.view self.old.medium).record_count self.old.state frame ≡ true) }
         // The tape changes only where a record is put, and then by that record alone.
-        ensures tape { IsTapeAfter (record_put (M.record_count self.old.medium) self.old.state frame) (M.tape self.old.medium) (M.tape self.new.medium) }
-        ensures stops { (t : Tape) → M.tape self.old.medium ≡ Some t → LeavesOnly (M.moment self.old.medium) (M.moment self.new.medium)
-            (M.left_since self.old.medium) (M.left_since self.new.medium) (IsLeft (record_put (M.record_count self.old.medium) self.old.state frame) t) }
+        ensures tape { IsTapeAfter (record_put (M.view self.old.medium).record_count self.old.state frame) (M.view self.old.medium).tape (M.view self.new.medium).tape }
+        ensures stops { (t : Tape) → (M.view self.old.medium).tape ≡ Some t → LeavesOnly (M.view self.old.medium).moment (M.view self.new.medium).moment
+            (M.view self.old.medium).left_since (M.view self.new.medium).left_since (IsLeft (record_put (M.view self.old.medium).record_count self.old.state frame) t) }
     {
         let out = self.step(frame);
         // Behind a field the proof sees that the ranges hold.
@@ -151,9 +150,8 @@ impl<M: Medium> Drive<M> {
     }
 
     fn step(&mut self, frame: Frame) -> Out
-        ensures did { Did M.tape M.shelf M.inside M.record_count M.faults M.moment M.left_since
-            (table.drive_step (M.record_count self.old.medium) self.old.state frame) (self.new.state, result) self.old.medium self.new.medium }
-        ensures before { IsDrive (M.record_count self.old.medium) self.old.state }
+        ensures did { Did M.view (table.drive_step (M.view self.old.medium).record_count self.old.state frame) (self.new.state, result) self.old.medium self.new.medium }
+        ensures before { IsDrive (M.view self.old.medium).record_count self.old.state }
     {
         let before = self.interface.roles();
         match self.interface.effect(frame) {
@@ -203,10 +201,10 @@ impl<M: Medium> Drive<M> {
 
     // The record at the position comes into buffer 0. It says whether it did.
     fn load(&mut self) -> bool
-        ensures did { Did M.tape M.shelf M.inside M.record_count M.faults M.moment M.left_since (table.loaded (M.record_count self.old.medium) self.old.state) (self.new.state, result)
+        ensures did { Did M.view (table.loaded (M.view self.old.medium).record_count self.old.state) (self.new.state, result)
             self.old.medium self.new.medium }
-        ensures within { result ≡ true → self.new.state.position < M.record_count self.new.medium }
-        ensures small { M.record_count self.new.medium < 2 ^ 16 }
+        ensures within { result ≡ true → self.new.state.position < (M.view self.new.medium).record_count }
+        ensures small { (M.view self.new.medium).record_count < 2 ^ 16 }
     {
         if self.position == self.medium.size() {
             self.fail(Fault::NoRecord);
@@ -227,8 +225,7 @@ impl<M: Medium> Drive<M> {
 
     // Buffer 0 becomes the record at the position.
     fn write_record(&mut self)
-        ensures did { Did M.tape M.shelf M.inside M.record_count M.faults M.moment M.left_since
-            (table.recorded (M.record_count self.old.medium) self.old.state) self.new.state self.old.medium self.new.medium }
+        ensures did { Did M.view (table.recorded (M.view self.old.medium).record_count self.old.state) self.new.state self.old.medium self.new.medium }
     {
         if self.position == self.medium.size() {
             self.fail(Fault::NoRecord);
@@ -242,8 +239,7 @@ impl<M: Medium> Drive<M> {
 
     // The record is put: buffer 0 goes on the tape, and is empty then.
     fn put(&mut self)
-        ensures did { Did M.tape M.shelf M.inside M.record_count M.faults M.moment M.left_since
-            (table.put (M.record_count self.old.medium) self.old.state) self.new.state self.old.medium self.new.medium }
+        ensures did { Did M.view (table.put (M.view self.old.medium).record_count self.old.state) self.new.state self.old.medium self.new.medium }
     {
         self.write_record();
         self.empty();
@@ -253,8 +249,7 @@ impl<M: Medium> Drive<M> {
 
     // What a message does that no data come with. Before it the roles were `before`.
     fn obey(&mut self, before: Roles, message: Message)
-        ensures { Did M.tape M.shelf M.inside M.record_count M.faults M.moment M.left_since
-            (table.obeyed message (M.record_count self.old.medium) before self.old.state) self.new.state self.old.medium self.new.medium }
+        ensures { Did M.view (table.obeyed message (M.view self.old.medium).record_count before self.old.state) self.new.state self.old.medium self.new.medium }
     {
         match message {
             Message::Ifc | Message::Aau => self.rest(),
@@ -289,8 +284,7 @@ impl<M: Medium> Drive<M> {
     // ---- DDL, while listening
 
     fn listen(&mut self, number: u8)
-        ensures { Did M.tape M.shelf M.inside M.record_count M.faults M.moment M.left_since
-            (table.listened_to (listener_command number) (M.record_count self.old.medium) self.old.state) self.new.state self.old.medium self.new.medium }
+        ensures { Did M.view (table.listened_to (listener_command number) (M.view self.old.medium).record_count self.old.state) self.new.state self.old.medium self.new.medium }
     {
         let Some(command) = ListenerCommand::of(number) else {
             return;
@@ -320,8 +314,7 @@ impl<M: Medium> Drive<M> {
     }
 
     fn partial_write(&mut self)
-        ensures { Did M.tape M.shelf M.inside M.record_count M.faults M.moment M.left_since
-            (table.partial_write (M.record_count self.old.medium) self.old.state) self.new.state self.old.medium self.new.medium }
+        ensures { Did M.view (table.partial_write (M.view self.old.medium).record_count self.old.state) self.new.state self.old.medium self.new.medium }
     {
         if self.status() != 0 {
             self.rest();
@@ -339,8 +332,7 @@ impl<M: Medium> Drive<M> {
     }
 
     fn close_record(&mut self)
-        ensures { Did M.tape M.shelf M.inside M.record_count M.faults M.moment M.left_since
-            (table.close_record (M.record_count self.old.medium) self.old.state) self.new.state self.old.medium self.new.medium }
+        ensures { Did M.view (table.close_record (M.view self.old.medium).record_count self.old.state) self.new.state self.old.medium self.new.medium }
     {
         if self.mode == Mode::Write && self.filled {
             self.put();
@@ -394,8 +386,7 @@ impl<M: Medium> Drive<M> {
     // ---- a data byte that is heard
 
     fn hear(&mut self, byte: u8)
-        ensures { Did M.tape M.shelf M.inside M.record_count M.faults M.moment M.left_since
-            (table.heard_in self.old.state.mode byte (M.record_count self.old.medium) self.old.state) self.new.state self.old.medium self.new.medium }
+        ensures { Did M.view (table.heard_in self.old.state.mode byte (M.view self.old.medium).record_count self.old.state) self.new.state self.old.medium self.new.medium }
     {
         match self.mode {
             Mode::FillFirst => {
@@ -419,7 +410,7 @@ impl<M: Medium> Drive<M> {
 
     // The position becomes `k`, where the tape has that record.
     fn seek(&mut self, k: u16)
-        ensures { self.new ≡ record self.old { state = table.sought k (M.record_count self.old.medium) self.old.state } }
+        ensures { self.new ≡ record self.old { state = table.sought k (M.view self.old.medium).record_count self.old.state } }
     {
         if k < self.medium.size() {
             self.position = k;
@@ -431,8 +422,7 @@ impl<M: Medium> Drive<M> {
 
     // A byte of the record to be written. The last one puts the record.
     fn take_byte(&mut self, byte: u8)
-        ensures { Did M.tape M.shelf M.inside M.record_count M.faults M.moment M.left_since
-            (table.taken byte (M.record_count self.old.medium) self.old.state) self.new.state self.old.medium self.new.medium }
+        ensures { Did M.view (table.taken byte (M.view self.old.medium).record_count self.old.state) self.new.state self.old.medium self.new.medium }
     {
         self.first[usize::from(self.pointer)] = byte;
         self.filled = true;
@@ -446,8 +436,7 @@ impl<M: Medium> Drive<M> {
     // ---- the byte that is due
 
     fn due(&mut self) -> Option<u8>
-        ensures { Did M.tape M.shelf M.inside M.record_count M.faults M.moment M.left_since
-            (table.due (M.record_count self.old.medium) self.old.state) (self.new.state, result) self.old.medium self.new.medium }
+        ensures { Did M.view (table.due (M.view self.old.medium).record_count self.old.state) (self.new.state, result) self.old.medium self.new.medium }
     {
         match self.mode {
             Mode::SendFirst => {
@@ -485,8 +474,7 @@ impl<M: Medium> Drive<M> {
 
     // At pointer 0 the record at the position is read first.
     fn due_of_record(&mut self) -> Option<u8>
-        ensures { Did M.tape M.shelf M.inside M.record_count M.faults M.moment M.left_since
-            (table.due_of_record (M.record_count self.old.medium) self.old.state) (self.new.state, result) self.old.medium self.new.medium }
+        ensures { Did M.view (table.due_of_record (M.view self.old.medium).record_count self.old.state) (self.new.state, result) self.old.medium self.new.medium }
     {
         if self.pointer == 0 {
             if !self.load() {
@@ -521,8 +509,7 @@ impl<M: Medium> Drive<M> {
     // A start message to a talker.
     fn begin(&mut self, before: Roles, frame: Frame) -> Out
         requires { self.old.state.interface.roles.talks ≡ true }
-        ensures { Did M.tape M.shelf M.inside M.record_count M.faults M.moment M.left_since
-            (table.began (message_of frame) (M.record_count self.old.medium) before frame self.old.state) (self.new.state, result) self.old.medium self.new.medium }
+        ensures { Did M.view (table.began (message_of frame) (M.view self.old.medium).record_count before frame self.old.state) (self.new.state, result) self.old.medium self.new.medium }
     {
         match frame.message() {
             Message::Sda => match self.due() {
@@ -540,8 +527,7 @@ impl<M: Medium> Drive<M> {
     // Data behind an own frame: the echo is right where the two are equal apart from the service bit.
     fn compare(&mut self, own: OwnFrame, frame: Frame) -> Out
         requires { self.old.state.interface.roles.talks ≡ true }
-        ensures { Did M.tape M.shelf M.inside M.record_count M.faults M.moment M.left_since
-            (table.compared (frames.same_but_service own.frame frame) own (M.record_count self.old.medium) self.old.state) (self.new.state, result) self.old.medium self.new.medium }
+        ensures { Did M.view (table.compared (frames.same_but_service own.frame frame) own (M.view self.old.medium).record_count self.old.state) (self.new.state, result) self.old.medium self.new.medium }
     {
         if own.is_echo(frame) {
             if own.stopped || own.last {

@@ -1,10 +1,14 @@
 -- How the parts of a run make the whole.
-use Rattle.std.proofs.Common.{◌≡◌, ◌==◌, ℕ, ◌≤◌, true, false, List, [], ◌∷◌, ◌++◌, Option, Some, None, if◌then◌else◌, length, refl, sym, ap, subst, ◌∙◌}
+use Rattle.std.proofs.Common.{◌≡◌, ◌==◌, ℕ, ◌≤◌, Bool, true, false, List, [], ◌∷◌, ◌++◌, Option, Some, None, if◌then◌else◌, length, refl, sym, ap, subst, ◌∙◌}
 use Rattle.lif_model.specs.Tape.{Tape}
-use Rattle.lif_model.specs.Shelf.{Shelf, image_of, tape_of, IsInserted, cassette_bytes}
+use Rattle.std.specs.Prelude.{nat_le, Ok}
+use Rattle.std.proofs.lemmas.Bool.{leb-true}
+use Rattle.lif_model.specs.Shelf.{Shelf, image_of, tape_of, inserted, largest_image}
 use Rattle.il_ports.specs.Inserting.{TakesImage, InsertAnswers}
+use Rattle.il_ports.specs.Media.{MediumView, DidInsert}
 use Rattle.il_ports.specs.declared.medium.Inserted.{Inserted}
-use Rattle.il_ports.specs.declared.medium.Inserted.TheVariants as inserted
+use Rattle.il_ports.specs.declared.medium.Inserted.TheVariants as answers
+use Rattle.il_ports.specs.declared.medium.New.TheVariants.{No}
 use Rattle.il_host.specs.Words.{image_in}
 use Rattle.il_host.specs.Events.{State, Event, Step, Chained}
 use Rattle.il_host.specs.Run.{Answers, status_of}
@@ -65,23 +69,27 @@ runs-over e script t u f f' tape_now left before now told a =
 
 -- ---- the image that was inserted
 
-false-not-true : false ≡ true → ⊥
-false-not-true h = cc
+abbrev Found : Option (List ℕ) → Tape → Type 0
+Found o tape = (image : List ℕ) × (o ≡ Some image) × (length image ≤ largest_image) × (tape ≡ tape_of image)
 
-found-image : (o : Option (List ℕ)) (bytes : List ℕ) → IsInserted o false bytes → (o ≡ Some bytes) × (length bytes ≤ cassette_bytes)
-found-image None bytes h = absurd (false-not-true h.0)
-found-image (Some image) bytes h = (ap Some (sym h.0), subst (λ (b : List ℕ). length b ≤ cassette_bytes) (sym h.0) h.1)
+found-image : (o : Option (List ℕ)) (tape : Tape) → inserted o None ≡ Some tape → Found o tape
+found-image None tape is = cc
+found-image (Some image) tape is = go (nat_le (length image) largest_image) refl is
+  where
+    go : (b : Bool) → nat_le (length image) largest_image ≡ b → (if b then Some (tape_of image) else None) ≡ Some tape → Found (Some image) tape
+    go true fits is = (image, refl, leb-true (length image) largest_image fits, cc)
+    go false fits is = cc
 
 -- the tape that an insert put into the drive
-pub taken : (name : List ℕ) (old new : Option Shelf) (inside : Option (List ℕ)) (tape : Option Tape) (count : ℕ) (answer : Inserted) (s : Shelf)
-    → answer ≡ inserted.Tape → InsertAnswers name false old new inside tape count answer → old ≡ Some s → TakesImage name false s new inside tape
-taken name old new inside tape count answer s is h told = (subst (λ (a : Inserted). InsertAnswers name false old new inside tape count a) is h).1 s told
+pub taken : (name : List ℕ) (v w : MediumView) (answer : Inserted) (s : Shelf) → answer ≡ answers.Tape → DidInsert name No v w (Ok answer) → v.shelf ≡ Some s → TakesImage name No s w.shelf w.inside w.tape
+taken name v w answer s is did told = (subst (λ (a : Inserted). InsertAnswers name No v.shelf w.shelf w.inside w.tape w.record_count a) is did.answer_is).1 s told
 
+-- the words name an image, which reads as the tape in the drive
 pub inserts : (words : List (List ℕ)) (name : List ℕ) (s : Shelf) (new : Option Shelf) (inside : Option (List ℕ)) (tape : Option Tape) → image_in words ≡ Some name
-    → (h : TakesImage name false s new inside tape) → Inserts words s h.bytes
+    → TakesImage name No s new inside tape → (image : List ℕ) × Inserts words s image × (tape ≡ Some (tape_of image))
 inserts words name s new inside tape named h =
-    let f = found-image (image_of name s) h.bytes h.inserted in
-    record { name = name; named = named; found = f.0; fits = f.1 }
+    let f = found-image (image_of name s) h.content h.inserted_is in
+    (f.0, record { name = name; named = named; found = f.1; fits = f.2 }, h.tape_is ∙ ap Some f.3)
 
 pub leaves-run : (e : Ending) (words : List (List ℕ)) (shelf : Shelf) (image script : List ℕ) (f f' : ℕ) (tape_now : Option Tape) (left before now : Option (List ℕ))
     → Inserts words shelf image → RunsOver e script (tape_of image) f tape_now f' left before now → Leaves e words shelf script f tape_now f' left before now

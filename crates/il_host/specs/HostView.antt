@@ -1,6 +1,7 @@
 -- What contracts see of a host.
 use Rattle.std.specs.Prelude.{ℕ, ◌≡◌, ◌+◌, ◌*◌, List}
-use Rattle.il_ports.specs.Inserting.{IsSize}
+use Rattle.lif_model.specs.Shelf.{IsSize}
+use Rattle.il_ports.specs.Media.{MediumView}
 
 pub record HostView (M : Type 0) : Type 0 where
   pub medium : M
@@ -11,7 +12,7 @@ pub record HostView (M : Type 0) : Type 0 where
   pub text_room : ℕ
 
 -- A tape is in the drive, and the host has room for its directory and for every reply.
-pub record IsReady {M : Type 0} (record_count : M → ℕ) (view : HostView M) : Type 0 where
-  pub size : IsSize (record_count view.medium)
-  pub slots : view.table_room ≡ 8 * record_count view.medium
-  pub text : view.text_room ≡ 600 * record_count view.medium + 20000
+pub record IsReady {M : Type 0} (view : M → MediumView) (host : HostView M) : Type 0 where
+  pub size : IsSize (view host.medium).record_count
+  pub slots : host.table_room ≡ 8 * (view host.medium).record_count
+  pub text : host.text_room ≡ 600 * (view host.medium).record_count + 20000

@@ -1,7 +1,7 @@
 -- What a whole run leaves, by how it ends.
 use Rattle.std.specs.Prelude.{◌≡◌, ℕ, ◌≤◌, ◌<◌, List, length, Option, Some, None}
 use Rattle.lif_model.specs.Tape.{Tape}
-use Rattle.lif_model.specs.Shelf.{Shelf, image_of, tape_of, cassette_bytes}
+use Rattle.lif_model.specs.Shelf.{Shelf, image_of, tape_of, largest_image}
 use Rattle.il_host.specs.Words.{image_in}
 use Rattle.il_host.specs.Run.{Answers}
 use Rattle.il_host.specs.declared.ending.Ending.{Ending}
@@ -39,14 +39,14 @@ pub record Inserts (words : List (List ℕ)) (shelf : Shelf) (image : List ℕ) 
   pub name : List ℕ
   pub named : Names words name
   pub found : image_of name shelf ≡ Some image
-  pub fits : length image ≤ cassette_bytes
+  pub fits : length image ≤ largest_image
 
 abbrev pub Leaves : Ending → List (List ℕ) → Shelf → List ℕ → ℕ → Option Tape → ℕ → Option (List ℕ) → Option (List ℕ) → Option (List ℕ) → Type 0
 Leaves ending.BadWords words shelf script faults tape_now faults_now left before now = image_in words ≡ None
 Leaves ending.NoImage words shelf script faults tape_now faults_now left before now =
     (name : List ℕ) × Names words name × (image_of name shelf ≡ None)
 Leaves ending.ImageTooLarge words shelf script faults tape_now faults_now left before now =
-    (name image : List ℕ) × Names words name × (image_of name shelf ≡ Some image) × (cassette_bytes < length image)
+    (name image : List ℕ) × Names words name × (image_of name shelf ≡ Some image) × (largest_image < length image)
 Leaves ending.InsertFailed words shelf script faults tape_now faults_now left before now = (name : List ℕ) × Names words name
 Leaves other words shelf script faults tape_now faults_now left before now =
     (image : List ℕ) × Inserts words shelf image × RunsOver other script (tape_of image) faults tape_now faults_now left before now

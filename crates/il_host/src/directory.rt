@@ -1,7 +1,7 @@
 ghost use Rattle.std.specs.Prelude.{◌≡◌, ◌+◌, ◌*◌, ◌≤◌, true, Some};
 ghost use Rattle.lif_model.specs.Tape.{Tape};
 ghost use Rattle.lif_model.specs.Gate.{is_open};
-ghost use Rattle.il_ports.specs.Trouble.{HasTroubleCause, answers_ok};
+ghost use Rattle.il_ports.specs.Stores.{Continues, IsQuiet};
 ghost use Rattle.il_host.specs.Reading.{IsDirectory, HasStopCause, troubled};
 
 use il_ports::{Records, Trouble};
@@ -37,15 +37,10 @@ fn is_open_gate(gate: &[u8; 256]) -> bool
 
 // Resumes the store where it is not sound.
 fn make_sound<R: Records>(records: &mut R) -> Result<(), Trouble>
-    requires valid { R.valid records.old }
-    requires left { 1 ≤ R.calls_left records.old }
-    ensures valid { R.valid records.new }
-    ensures tape { R.tape records.new ≡ R.tape records.old }
-    ensures size { R.record_count records.new ≡ R.record_count records.old }
-    ensures sound { R.sound records.new ≡ answers_ok result }
-    ensures left { R.calls_left records.old ≤ R.calls_left records.new + 1 }
-    ensures cause { HasTroubleCause (R.frame_faults records.old) (R.frame_faults records.new)
-        (R.medium_faults records.old) (R.medium_faults records.new) result }
+    requires valid { (R.view records.old).valid }
+    requires left { 1 ≤ (R.view records.old).calls_left }
+    ensures continues { Continues 1 (R.view records.old) (R.view records.new) result }
+    ensures quiet { IsQuiet (R.view records.old) (R.view records.new) }
 {
     if records.is_sound() {
         return Ok(());
@@ -55,17 +50,17 @@ fn make_sound<R: Records>(records: &mut R) -> Result<(), Trouble>
 
 // Reads the header of the volume, and its slots into the table.
 pub fn read_directory<R: Records>(records: &mut R, table: &mut SlotTable) -> Result<Header, Stop>
-    requires valid { R.valid records.old }
-    requires size { 4 ≤ R.record_count records.old }
-    requires left { R.record_count records.old + 3 ≤ R.calls_left records.old }
-    requires room { 8 * R.record_count records.old ≤ table.old.room }
-    ensures valid { R.valid records.new }
-    ensures directory { (t : Tape) → R.tape records.old ≡ Some t → IsDirectory t result table.new.slots }
-    ensures tape { R.tape records.new ≡ R.tape records.old }
-    ensures size { R.record_count records.new ≡ R.record_count records.old }
+    requires valid { (R.view records.old).valid }
+    requires size { 4 ≤ (R.view records.old).record_count }
+    requires left { (R.view records.old).record_count + 3 ≤ (R.view records.old).calls_left }
+    requires room { 8 * (R.view records.old).record_count ≤ table.old.room }
+    ensures valid { (R.view records.new).valid }
+    ensures directory { (t : Tape) → (R.view records.old).tape ≡ Some t → IsDirectory t result table.new.slots }
+    ensures tape { (R.view records.new).tape ≡ (R.view records.old).tape }
+    ensures size { (R.view records.new).record_count ≡ (R.view records.old).record_count }
     ensures room { table.new.room ≡ table.old.room }
-    ensures cause { HasStopCause (R.frame_faults records.old) (R.frame_faults records.new)
-        (R.medium_faults records.old) (R.medium_faults records.new) result }
+    ensures cause { HasStopCause (R.view records.old).frame_faults (R.view records.new).frame_faults
+        (R.view records.old).medium_faults (R.view records.new).medium_faults result }
 {
     make_sound(records)?;
     let count = records.size();

@@ -67,10 +67,10 @@ impl<M: Medium> Host<M> {
     /// A host for the tape that is in the drive. All memory of the host is taken here; where there is none the rig
     /// is handed back.
     pub fn open(alloc: Global, rig: Rig<M>) -> Result<Host<M>, Refused<M>>
-        requires { 1 ≤ M.record_count rig.medium }
+        requires { 1 ≤ (M.view rig.medium).record_count }
         ensures medium { IfOk result (λ host. (⟦<Host<M> as Seen<M>>⟧.seen host).medium ≡ rig.medium) }
         ensures text { IfOk result (λ host. (⟦<Host<M> as Seen<M>>⟧.seen host).text ≡ []) }
-        ensures ready { IfOk result (λ host. IsReady M.record_count (⟦<Host<M> as Seen<M>>⟧.seen host)) }
+        ensures ready { IfOk result (λ host. IsReady M.view (⟦<Host<M> as Seen<M>>⟧.seen host)) }
         ensures refused { IfErr result (λ refused. refused.rig ≡ rig) }
     {
         let size = rig.medium.size();
@@ -86,15 +86,15 @@ impl<M: Medium> Host<M> {
 
     /// Performs a command, and makes the text of its reply.
     pub fn perform(&mut self, command: &Command) -> Reply
-        requires { IsReady M.record_count (⟦<Host<M> as Seen<M>>⟧.seen self.old) }
-        ensures ready { IsReady M.record_count (⟦<Host<M> as Seen<M>>⟧.seen self.new) }
-        ensures performs { (t : Tape) → M.tape (⟦<Host<M> as Seen<M>>⟧.seen self.old).medium ≡ Some t
-            → (u : Tape) × (M.tape (⟦<Host<M> as Seen<M>>⟧.seen self.new).medium ≡ Some u)
-            × Performs (record { tape = t; faults = M.faults (⟦<Host<M> as Seen<M>>⟧.seen self.old).medium }) command.now result
-            (record { tape = u; faults = M.faults (⟦<Host<M> as Seen<M>>⟧.seen self.new).medium }) }
-        ensures cause { HasReplyCause (M.faults (⟦<Host<M> as Seen<M>>⟧.seen self.old).medium)
-            (M.faults (⟦<Host<M> as Seen<M>>⟧.seen self.new).medium) result }
-        ensures text { (t : Tape) → M.tape (⟦<Host<M> as Seen<M>>⟧.seen self.old).medium ≡ Some t
+        requires { IsReady M.view (⟦<Host<M> as Seen<M>>⟧.seen self.old) }
+        ensures ready { IsReady M.view (⟦<Host<M> as Seen<M>>⟧.seen self.new) }
+        ensures performs { (t : Tape) → (M.view (⟦<Host<M> as Seen<M>>⟧.seen self.old).medium).tape ≡ Some t
+            → (u : Tape) × ((M.view (⟦<Host<M> as Seen<M>>⟧.seen self.new).medium).tape ≡ Some u)
+            × Performs (record { tape = t; faults = (M.view (⟦<Host<M> as Seen<M>>⟧.seen self.old).medium).faults }) command.now result
+            (record { tape = u; faults = (M.view (⟦<Host<M> as Seen<M>>⟧.seen self.new).medium).faults }) }
+        ensures cause { HasReplyCause (M.view (⟦<Host<M> as Seen<M>>⟧.seen self.old).medium).faults
+            (M.view (⟦<Host<M> as Seen<M>>⟧.seen self.new).medium).faults result }
+        ensures text { (t : Tape) → (M.view (⟦<Host<M> as Seen<M>>⟧.seen self.old).medium).tape ≡ Some t
             → (⟦<Host<M> as Seen<M>>⟧.seen self.new).text ≡ reply_text command.now t result }
     {
         self.page.clear();
@@ -105,16 +105,16 @@ impl<M: Medium> Host<M> {
 
     // Lists the volume and its files.
     fn dir(&mut self) -> Reply
-        requires ready { IsReady M.record_count (⟦<Host<M> as Seen<M>>⟧.seen self.old) }
+        requires ready { IsReady M.view (⟦<Host<M> as Seen<M>>⟧.seen self.old) }
         requires blank { (⟦<Host<M> as Seen<M>>⟧.seen self.old).text ≡ [] }
-        ensures ready { IsReady M.record_count (⟦<Host<M> as Seen<M>>⟧.seen self.new) }
-        ensures performs { (t : Tape) → M.tape (⟦<Host<M> as Seen<M>>⟧.seen self.old).medium ≡ Some t
-            → (u : Tape) × (M.tape (⟦<Host<M> as Seen<M>>⟧.seen self.new).medium ≡ Some u)
-            × Performs (record { tape = t; faults = M.faults (⟦<Host<M> as Seen<M>>⟧.seen self.old).medium }) Command.Dir result
-            (record { tape = u; faults = M.faults (⟦<Host<M> as Seen<M>>⟧.seen self.new).medium }) }
-        ensures cause { HasReplyCause (M.faults (⟦<Host<M> as Seen<M>>⟧.seen self.old).medium)
-            (M.faults (⟦<Host<M> as Seen<M>>⟧.seen self.new).medium) result }
-        ensures text { (t : Tape) → M.tape (⟦<Host<M> as Seen<M>>⟧.seen self.old).medium ≡ Some t
+        ensures ready { IsReady M.view (⟦<Host<M> as Seen<M>>⟧.seen self.new) }
+        ensures performs { (t : Tape) → (M.view (⟦<Host<M> as Seen<M>>⟧.seen self.old).medium).tape ≡ Some t
+            → (u : Tape) × ((M.view (⟦<Host<M> as Seen<M>>⟧.seen self.new).medium).tape ≡ Some u)
+            × Performs (record { tape = t; faults = (M.view (⟦<Host<M> as Seen<M>>⟧.seen self.old).medium).faults }) Command.Dir result
+            (record { tape = u; faults = (M.view (⟦<Host<M> as Seen<M>>⟧.seen self.new).medium).faults }) }
+        ensures cause { HasReplyCause (M.view (⟦<Host<M> as Seen<M>>⟧.seen self.old).medium).faults
+            (M.view (⟦<Host<M> as Seen<M>>⟧.seen self.new).medium).faults result }
+        ensures text { (t : Tape) → (M.view (⟦<Host<M> as Seen<M>>⟧.seen self.old).medium).tape ≡ Some t
             → (⟦<Host<M> as Seen<M>>⟧.seen self.new).text ≡ reply_text Command.Dir t result }
     {
         self.store.grant(2 * u32::from(self.store.size()) + 40);
@@ -168,16 +168,16 @@ fn reserve(alloc: Global, records: u16) -> Result<(SlotTable, Page), AllocError>
 impl<M: Medium> Performer for Host<M> {
     ghost use Rattle.il_host.specs.HostView.{HostView, IsReady};
 
-    ghost valid = { λ h. IsReady M.record_count (record {
+    ghost valid = { λ h. IsReady M.view (record {
       medium = h.store.medium;
       text = h.page.text;
       table_room = h.table.room;
       text_room = h.page.room;
     }) };
 
-    ghost tape = { λ h. M.tape h.store.medium };
+    ghost tape = { λ h. (M.view h.store.medium).tape };
 
-    ghost faults = { λ h. M.faults h.store.medium };
+    ghost faults = { λ h. (M.view h.store.medium).faults };
 
     ghost shown = { λ h. h.page.text };
 

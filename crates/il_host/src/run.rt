@@ -10,7 +10,7 @@ use crate::ending::Ending;
 use crate::host::{Host, Rig};
 use crate::running::answer_all;
 use crate::words::read_words;
-use il_ports::{Inserted, Medium, Sink, Source};
+use il_ports::{Inserted, Medium, New, Sink, Source};
 use il_script::Lines;
 use std::alloc::Global;
 
@@ -30,12 +30,12 @@ fn run_script<S: Source, K: Sink, M: Medium>(
     out: &mut K,
     rig: Rig<M>,
 ) -> (Ending, Rig<M>)
-    requires { 1 ≤ M.record_count rig.medium }
-    ensures runs { (bytes : List ℕ) (t : Tape) → S.left script.old ≡ Some bytes → M.tape rig.medium ≡ Some t
-        → RunsOver result.0 bytes t (M.faults rig.medium) (M.tape result.1.medium) (M.faults result.1.medium)
+    requires { 1 ≤ (M.view rig.medium).record_count }
+    ensures runs { (bytes : List ℕ) (t : Tape) → S.left script.old ≡ Some bytes → (M.view rig.medium).tape ≡ Some t
+        → RunsOver result.0 bytes t (M.view rig.medium).faults (M.view result.1.medium).tape (M.view result.1.medium).faults
         (S.left script.new) (K.written out.old) (K.written out.new) }
     ensures cause { HasEndingCause result.0 (S.faults script.old) (S.faults script.new)
-        (K.faults out.old) (K.faults out.new) (M.faults rig.medium) (M.faults result.1.medium) }
+        (K.faults out.old) (K.faults out.new) (M.view rig.medium).faults (M.view result.1.medium).faults }
     ensures untouched { IsEarly result.0 → (script.new ≡ script.old) × (out.new ≡ out.old) }
     ensures inserted { HasNoTape result.0 → ⊥ }
     ensures named { result.0 ≢ Ending.BadWords }
@@ -60,20 +60,20 @@ fn run<S: Source, K: Sink, M: Medium>(
     out: &mut K,
     mut rig: Rig<M>,
 ) -> (Ending, Rig<M>)
-    requires { M.record_count rig.medium ≡ 0 }
-    ensures leaves { (bytes : List ℕ) (shelf : Shelf) → S.left script.old ≡ Some bytes → M.shelf rig.medium ≡ Some shelf
-        → Leaves result.0 (map string_bytes words.now) shelf bytes (M.faults rig.medium)
-        (M.tape result.1.medium) (M.faults result.1.medium) (S.left script.new) (K.written out.old) (K.written out.new) }
+    requires { (M.view rig.medium).record_count ≡ 0 }
+    ensures leaves { (bytes : List ℕ) (shelf : Shelf) → S.left script.old ≡ Some bytes → (M.view rig.medium).shelf ≡ Some shelf
+        → Leaves result.0 (map string_bytes words.now) shelf bytes (M.view rig.medium).faults
+        (M.view result.1.medium).tape (M.view result.1.medium).faults (S.left script.new) (K.written out.old) (K.written out.new) }
     ensures words { (result.0 ≡ Ending.BadWords) ↔ (image_in (map string_bytes words.now) ≡ None) }
     ensures cause { HasEndingCause result.0 (S.faults script.old) (S.faults script.new)
-        (K.faults out.old) (K.faults out.new) (M.faults rig.medium) (M.faults result.1.medium) }
+        (K.faults out.old) (K.faults out.new) (M.view rig.medium).faults (M.view result.1.medium).faults }
     ensures untouched { IsEarly result.0 → (script.new ≡ script.old) × (out.new ≡ out.old) }
-    ensures empty { HasNoTape result.0 → (M.record_count result.1.medium ≡ 0) × (M.shelf result.1.medium ≡ M.shelf rig.medium) }
+    ensures empty { HasNoTape result.0 → ((M.view result.1.medium).record_count ≡ 0) × ((M.view result.1.medium).shelf ≡ (M.view rig.medium).shelf) }
 {
     let Some(name) = read_words(words) else {
         return (Ending::BadWords, rig);
     };
-    match rig.medium.insert(name, false) {
+    match rig.medium.insert(name, New::No) {
         Ok(Inserted::Tape) => run_script(alloc, script, out, rig),
         Ok(Inserted::NoSuch) => (Ending::NoImage, rig),
         Ok(Inserted::BadSize(_)) => (Ending::ImageTooLarge, rig),
@@ -90,19 +90,19 @@ pub fn run_il<S: Source, K: Sink, M: Medium>(
     out: &mut K,
     rig: Rig<M>,
 ) -> Ended<M>
-    requires { M.record_count rig.medium ≡ 0 }
-    ensures leaves { (bytes : List ℕ) (shelf : Shelf) (ending : Ending) → S.left script.old ≡ Some bytes → M.shelf rig.medium ≡ Some shelf
+    requires { (M.view rig.medium).record_count ≡ 0 }
+    ensures leaves { (bytes : List ℕ) (shelf : Shelf) (ending : Ending) → S.left script.old ≡ Some bytes → (M.view rig.medium).shelf ≡ Some shelf
         → result.status ≡ status_of ending
-        → Leaves ending (map string_bytes words.now) shelf bytes (M.faults rig.medium)
-        (M.tape result.rig.medium) (M.faults result.rig.medium) (S.left script.new) (K.written out.old) (K.written out.new) }
+        → Leaves ending (map string_bytes words.now) shelf bytes (M.view rig.medium).faults
+        (M.view result.rig.medium).tape (M.view result.rig.medium).faults (S.left script.new) (K.written out.old) (K.written out.new) }
     ensures words { (result.status ≡ 2) ↔ (image_in (map string_bytes words.now) ≡ None) }
     ensures cause { (ending : Ending) → result.status ≡ status_of ending
         → HasEndingCause ending (S.faults script.old) (S.faults script.new)
-        (K.faults out.old) (K.faults out.new) (M.faults rig.medium) (M.faults result.rig.medium) }
+        (K.faults out.old) (K.faults out.new) (M.view rig.medium).faults (M.view result.rig.medium).faults }
     ensures untouched { (ending : Ending) → result.status ≡ status_of ending → IsEarly ending
         → (script.new ≡ script.old) × (out.new ≡ out.old) }
     ensures empty { (ending : Ending) → result.status ≡ status_of ending → HasNoTape ending
-        → (M.record_count result.rig.medium ≡ 0) × (M.shelf result.rig.medium ≡ M.shelf rig.medium) }
+        → ((M.view result.rig.medium).record_count ≡ 0) × ((M.view result.rig.medium).shelf ≡ (M.view rig.medium).shelf) }
     ensures status { result.status ≤ 9 }
 {
     let (ending, rig) = run(alloc, words, script, out, rig);

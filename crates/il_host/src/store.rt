@@ -1,4 +1,10 @@
-use il_ports::{Medium, Records, Trouble};
+ghost use Rattle.std.specs.Prelude.{◌≡◌, ◌<◌, ◌≤◌, ◌+◌, ◌&&◌, IfErr};
+ghost use Rattle.il_ports.specs.Media.{DidReadRecord, DidWriteRecord};
+ghost use Rattle.il_ports.specs.Trouble.{answers_ok};
+ghost use Rattle.il_ports.specs.declared.records.Trouble.TheVariants as trouble;
+
+use il_ports::{Medium, Records, Trouble, after_record, lay_out, next_record};
+use lif_model::RECORD;
 
 // The records of the tape in the drive, read from the medium and written to it. It grants so many calls before each command.
 #[derive(Drop)]
@@ -9,8 +15,6 @@ pub struct Store<M> {
 }
 
 impl<M: Medium> Store<M> {
-    ghost use Rattle.std.specs.Prelude.{◌≡◌};
-
     // A store that is not sound yet and grants no call.
     pub fn new(medium: M) -> Store<M>
         ensures { result.medium ≡ medium }
@@ -35,44 +39,76 @@ impl<M: Medium> Store<M> {
     {
         self.left = calls;
     }
+
+    // Reads record n of the tape.
+    fn get(&mut self, n: u16, into: &mut [u8; 256]) -> Result<(), Trouble>
+        requires left { 1 ≤ self.old.left }
+        requires within { n < (M.view self.old.medium).record_count }
+        ensures did { DidReadRecord n into.new (M.view self.old.medium) (M.view self.new.medium) result }
+        ensures trouble { IfErr result (λ why. why ≡ trouble.Medium) }
+        ensures left { self.new.left + 1 ≡ self.old.left }
+        ensures sound { self.new.is_sound ≡ (self.old.is_sound && answers_ok result) }
+    {
+        self.left -= 1;
+        match self.medium.read(n, into) {
+            Ok(()) => Ok(()),
+            Err(_) => {
+                self.is_sound = false;
+                Err(Trouble::Medium)
+            }
+        }
+    }
+
+    // Writes record n of the tape.
+    fn put(&mut self, n: u16, from: &[u8; 256]) -> Result<(), Trouble>
+        requires left { 1 ≤ self.old.left }
+        requires within { n < (M.view self.old.medium).record_count }
+        ensures did { DidWriteRecord n from.now (M.view self.old.medium) (M.view self.new.medium) result }
+        ensures trouble { IfErr result (λ why. why ≡ trouble.Medium) }
+        ensures left { self.new.left + 1 ≡ self.old.left }
+        ensures sound { self.new.is_sound ≡ (self.old.is_sound && answers_ok result) }
+    {
+        self.left -= 1;
+        match self.medium.write(n, from) {
+            Ok(()) => Ok(()),
+            Err(_) => {
+                self.is_sound = false;
+                Err(Trouble::Medium)
+            }
+        }
+    }
 }
 
 impl<M: Medium> Records for Store<M> {
-    ghost use Rattle.std.specs.Prelude.{true, None};
+    ghost use Rattle.std.specs.Prelude.{true};
+    ghost use Rattle.il_ports.specs.Stores.{RecordsView};
 
     type Start = ();
 
-    ghost valid = { λ s. Unit {0} };
+    ghost view = { λ s. record {
+      valid = Unit {0};
+      tape = (M.view s.medium).tape;
+      record_count = (M.view s.medium).record_count;
+      sound = s.is_sound;
+      calls_left = s.left;
+      room = 0;
+      frame_faults = 0;
+      medium_faults = (M.view s.medium).faults;
+      moment = (M.view s.medium).moment;
+      left_since = (M.view s.medium).left_since;
+      transferred = λ list. Unit {0};
+      present = tt;
+      emptied = λ old new. Unit {0};
+      stood = λ start. Unit {0};
+      unbroken = true;
+      resumed = λ k. Unit {0};
+    } };
 
-    ghost tape = { λ s. M.tape s.medium };
-
-    ghost record_count = { λ s. M.record_count s.medium };
-
-    ghost sound = { λ s. s.is_sound };
-
-    ghost calls_left = { λ s. s.left };
-
-    ghost frame_faults = { λ s. 0 };
-
-    ghost medium_faults = { λ s. M.faults s.medium };
-
-    ghost moment = { λ s. M.moment s.medium };
-
-    ghost left_since = { λ s. M.left_since s.medium };
-
-    ghost transfers = { λ s. None };
-
-    ghost stood = { λ s start. Unit {0} };
-
-    ghost unbroken = { λ s. true };
-
-    ghost resumes = { λ s. 0 };
-
-    ghost is_tape = { λ s t is. M.is_tape s.medium t is };
-
-    ghost leaves_now = { λ s m t le is. M.leaves_now s.medium m t le is };
-
-    ghost leaves_only = { λ s t c is left. M.leaves_only s.medium t c is left };
+    ghost is_store = { λ s. record {
+      is_tape = (M.is_medium s.medium).is_tape;
+      leaves_now = (M.is_medium s.medium).leaves_now;
+      leaves_only = (M.is_medium s.medium).leaves_only;
+    } };
 
     fn size(&self) -> u16 {
         self.medium.size()
@@ -86,6 +122,8 @@ impl<M: Medium> Records for Store<M> {
         self.left
     }
 
+    fn begin(&mut self) {}
+
     fn resume(&mut self) -> Result<(), Trouble> {
         self.left -= 1;
         self.is_sound = true;
@@ -93,24 +131,28 @@ impl<M: Medium> Records for Store<M> {
     }
 
     fn read(&mut self, n: u16, into: &mut [u8; 256]) -> Result<(), Trouble> {
-        self.left -= 1;
-        match self.medium.read(n, into) {
-            Ok(()) => Ok(()),
-            Err(_) => {
-                self.is_sound = false;
-                Err(Trouble::Medium)
-            }
-        }
+        self.get(n, into)
     }
 
     fn write(&mut self, n: u16, from: &[u8; 256]) -> Result<(), Trouble> {
-        self.left -= 1;
-        match self.medium.write(n, from) {
-            Ok(()) => Ok(()),
-            Err(_) => {
-                self.is_sound = false;
-                Err(Trouble::Medium)
-            }
+        self.put(n, from)
+    }
+
+    fn read_run(&mut self, first: u16, into: &mut [u8]) -> Result<(), Trouble> {
+        let mut bytes = [0; RECORD];
+        for i in 0..into.len() / RECORD {
+            self.get(first + i as u16, &mut bytes)?;
+            lay_out(&bytes, i, into);
         }
+        Ok(())
+    }
+
+    fn write_run(&mut self, first: u16, count: u16, from: &[u8]) -> Result<(), Trouble> {
+        let mut rest = from;
+        for i in 0..count {
+            self.put(first + i, &next_record(rest))?;
+            rest = after_record(rest);
+        }
+        Ok(())
     }
 }

@@ -2,7 +2,7 @@
 use Rattle.std.proofs.Common.{◌≡◌, ◌<◌, ◌+◌, ◌-◌, ◌++◌, ℕ, suc, List, [], ◌∷◌, length, get_or, get_or-set_same, get_or-set_other, set, take, drop, sym, ◌∙◌, ap, arith, append_assoc, below_more}
 use Rattle.std.proofs.lemmas.List.{take_more_set, take_all, append-nil}
 use Rattle.lif_model.specs.Tape.{Tape}
-use Rattle.lif_model.specs.Shelf.{piece, cut, tape_of}
+use Rattle.lif_model.specs.Shelf.{piece, cut}
 
 -- one more record is laid in
 pub cut_step : (n i : ℕ) (xs : Tape) (rest : List ℕ) (whole : Tape) → i < length xs → i < n
@@ -30,7 +30,3 @@ pub cut_end : (n i : ℕ) (xs : Tape) (rest : List ℕ) (whole : Tape) → i ≡
 cut_end n i xs rest whole last size so_far =
     let none : n - i ≡ 0 = omega arith in
     sym (append-nil xs) ∙ ap (λ (l : Tape). l ++ []) (sym (take_all i xs (omega arith))) ∙ sym (ap (λ (m : ℕ). take i xs ++ cut m rest) none) ∙ so_far
-
-pub whole_tape : (bytes : List ℕ) (t : Tape) → t ≡ cut 512 bytes → t ≡ tape_of bytes
-unfolding tape_of
-whole_tape bytes t is = is

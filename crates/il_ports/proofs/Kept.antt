@@ -1,16 +1,24 @@
 -- The writes of a medium in memory, which it keeps.
-use Rattle.std.proofs.Common.{◌≡◌, ◌≢◌, ◌<◌, ◌≤◌, ◌++◌, ℕ, zero, suc, List, [], ◌∷◌, Bool, true, false, length, get_or, set, refl, sym, ap, subst, ◌∙◌, arith}
+use Rattle.std.proofs.Common.{◌≡◌, ◌≢◌, ◌<◌, ◌≤◌, ◌+◌, ◌++◌, ℕ, zero, suc, List, [], ◌∷◌, Bool, true, false, length, get_or, set, take, length-set, refl, sym, ap, subst, ◌∙◌, arith}
 use Rattle.std.specs.Prelude.{Option, Some, None, Result, Ok, Err, OnErr, is_ok, if◌then◌else◌, unwrap_or}
 use Rattle.std.specs.Str.{bytes_eq}
 use Rattle.std.specs.Cmp.{unsigned_Decides}
 use Rattle.std.proofs.lemmas.Slice.Eq.{bytes_eq-Decides}
 use Rattle.lif_model.specs.Tape.{Tape}
-use Rattle.lif_model.specs.Shelf.{Shelf, image_of, bytes_of, OthersStay, cassette_records}
+use Rattle.lif_model.specs.Shelf.{Shelf, image_of, bytes_of, OthersStay, disc_records}
+use Rattle.lif_model.proofs.Sizes.{size_bounds}
+use Rattle.std.proofs.lemmas.Bool.{eqb-true}
 use Rattle.lif_model.specs.Redo.{Changes, changed}
 use Rattle.lif_model.specs.History.{LeftBy}
 use Rattle.lif_model.specs.Stops.{Torn, Elapses}
-use Rattle.lif_model.proofs.History.{tape_later, told_only, elapses_write}
-use Rattle.il_ports.specs.Drive.{place_of, with_bytes, shelf_with, name_in, IsFirst, is_empty, tape_in, records_in}
+use Rattle.std.specs.Prelude.{◌==◌, IsSome}
+use Rattle.std.proofs.lemmas.List.{length-take, get_or-take, get_or_default}
+use Rattle.lif_model.specs.Tape.{record_at}
+use Rattle.lif_model.specs.History.{stopped_at}
+use Rattle.lif_model.proofs.Commit.{changed_take}
+use Rattle.lif_model.proofs.Redo.{length_changed}
+use Rattle.lif_model.proofs.History.{record_behind, tape_later, told_only, elapses_write}
+use Rattle.il_ports.specs.Drive.{place_of, with_bytes, shelf_with, name_in, IsFirst, is_empty, has_size, tape_in, records_in}
 use Rattle.il_ports.specs.InDrive.{behind, not_behind, step_back}
 use Rattle.il_ports.specs.Inserting.{OthersAreKept}
 use Rattle.il_ports.specs.MemoryMedium.{IsLeft, with_image, shelf_holding, tape_holding}
@@ -84,10 +92,11 @@ first_of_name name images place found other is =
     let P : ℕ → Type 0 = λ k. place_of (get_or images k ([], [])).0 images ≡ Some k in
     subst P ((unsigned_Decides place other).0 is) (ap (λ (l : List ℕ). place_of l images) (name_at name images place found) ∙ found)
 
-pub drive_empty : (drive : Drive) (tape : Tape) → length tape ≡ cassette_records → records_in (tape_in drive tape) ≡ 0 → is_empty drive ≡ true
-drive_empty Empty tape size out = refl
-drive_empty (Shelved place) tape size out = absurd (omega (arith, size, out))
-drive_empty Made tape size out = absurd (omega (arith, size, out))
+-- while no tape is in, a disc is laid in
+pub drive_empty : (drive : Drive) (tape : Tape) → has_size drive (length tape) ≡ true → records_in (tape_in drive tape) ≡ 0 → (is_empty drive ≡ true) × (length tape ≡ disc_records)
+drive_empty Empty tape size out = (refl, eqb-true (length tape) disc_records size)
+drive_empty (Shelved place) tape size out = absurd (omega (arith, (size_bounds (length tape) size).0, out))
+drive_empty Made tape size out = absurd (omega (arith, (size_bounds (length tape) size).0, out))
 
 pub replays_none : (history : Changes) (first tape : Tape) → history ≡ [] → first ≡ tape → tape ≡ changed history first
 replays_none history first tape none same = sym (ap (λ (ws : Changes). changed ws first) none ∙ same)
@@ -106,3 +115,41 @@ module _ (first tape : Tape) (history : Changes) (n : ℕ) (bytes : List ℕ) wh
   time_goes_on Empty replays whole shaped within = absurd (omega (arith, within))
   time_goes_on (Shelved place) replays whole shaped within = elapses_write first history (history ++ (n, bytes) ∷ []) (n, bytes) refl tape replays (whole ∙ sym (shaped n within)) within
   time_goes_on Made replays whole shaped within = elapses_write first history (history ++ (n, bytes) ∷ []) (n, bytes) refl tape replays (whole ∙ sym (shaped n within)) within
+
+-- ---- the tape at an earlier moment
+
+module _ (first : Tape) (history : Changes) (n : ℕ) (within : n < length first) where
+  written_in : (i : ℕ) → n < length (changed (take i history) first)
+  written_in i = omega (arith, within, length_changed (take i history) first)
+
+  -- what a record holds behind one write more
+  pub held_next : (writes i : ℕ) (items : Changes) (old now : List ℕ) → items ≡ history → i < length (take writes items) → old ≡ record_at (changed (take i history) first) n
+      → now ≡ (if (get_or (take writes items) i (0, [])).0 == n then (get_or (take writes items) i (0, [])).1 else old) → now ≡ record_at (changed (take (i + 1) history) first) n
+  held_next writes i items old now same more was is =
+      let below : (i < writes) × (i < length items) = (omega (arith, more, length-take writes items), omega (arith, more, length-take writes items)) in
+      let this : get_or (take writes items) i (0, []) ≡ get_or history i (0, []) = get_or-take writes items i (0, []) below.0 ∙ ap (λ (cs : Changes). get_or cs i (0, [])) same in
+      let long : i < length history = omega (arith, below.1, ap (λ (cs : Changes). length cs) same) in
+      is ∙ (λ j. if (this j).0 == n then (this j).1 else was j)
+      ∙ sym (record_behind (changed (take i history) first) (get_or history i (0, [])).0 n (get_or history i (0, [])).1 (written_in i)) ∙ ap (λ (t : Tape). record_at t n) (sym (changed_take history i first long))
+
+  -- and within the next one
+  pub held_torn : (writes : ℕ) (w : ℕ × List ℕ) (torn old now : List ℕ) → w ≡ get_or history writes w → writes < length history → old ≡ record_at (changed (take writes history) first) n
+      → now ≡ (if w.0 == n then torn else old) → now ≡ record_at (stopped_at first history writes (Some torn)) n
+  held_torn writes w torn old now this more was is =
+      let here : w ≡ get_or history writes (0, []) = this ∙ get_or_default history writes w (0, []) more in
+      is ∙ (λ j. if (here j).0 == n then torn else was j) ∙ sym (record_behind (changed (take writes history) first) (get_or history writes (0, [])).0 n torn (written_in writes))
+
+-- a tape that is told is the one that is in
+pub first_told : (drive : Drive) (first t : Tape) → tape_in drive first ≡ Some t → t ≡ first
+first_told Empty first t is = cc
+first_told (Shelved place) first t is = cc
+first_told Made first t is = cc
+
+pub records_here : (drive : Drive) (tape : Tape) → IsSome (tape_in drive tape) → records_in (tape_in drive tape) ≡ length tape
+records_here Empty tape some = cc
+records_here (Shelved place) tape some = refl
+records_here Made tape some = refl
+
+pub stopped_long : (first : Tape) (history : Changes) (writes : ℕ) (torn : Option (List ℕ)) → length (stopped_at first history writes torn) ≡ length first
+stopped_long first history writes None = length_changed (take writes history) first
+stopped_long first history writes (Some bytes) = length-set (changed (take writes history) first) (get_or history writes (0, [])).0 bytes ∙ length_changed (take writes history) first

@@ -4,3 +4,6 @@ pub mod Kept
 pub mod Fronts
 pub mod Examples
 pub mod Transfers
+pub mod Stores
+pub mod OneRecord
+pub mod RunsInMemory

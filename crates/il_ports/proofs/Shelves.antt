@@ -4,13 +4,15 @@ use Rattle.std.specs.Prelude.{Option, Some, None, if◌then◌else◌, nat_eq, u
 use Rattle.std.specs.Option.{option_map}
 use Rattle.std.specs.Str.{bytes_eq}
 use Rattle.std.specs.Cmp.{unsigned_Decides}
-use Rattle.std.proofs.lemmas.List.{take-append-le}
+use Rattle.std.proofs.lemmas.Bool.{le-leb}
 use Rattle.std.proofs.lemmas.Slice.Eq.{bytes_eq-Decides}
-use Rattle.std.proofs.Math.Seq.{take-length}
 use Rattle.lif_model.specs.Tape.{Tape}
-use Rattle.lif_model.specs.Shelf.{Shelf, image_of, bytes_of, tape_of, IsInserted, cassette_records, cassette_bytes}
-use Rattle.il_ports.specs.Drive.{place_of, with_bytes, shelf_with, is_made, is_inside, tape_in, records_in, longest_name}
-use Rattle.il_ports.specs.Inserting.{TakesImage, IsSize}
+use Rattle.lif_model.specs.Shelf.{Shelf, image_of, bytes_of, cut, tape_of, blank, inserted, IsSize, cassette_records, records_for, largest_image}
+use Rattle.lif_model.proofs.Sizes.{size_for, cut_nothing}
+use Rattle.il_ports.specs.Drive.{place_of, with_bytes, shelf_with, is_made, is_inside, is_empty, longest_name}
+use Rattle.il_ports.specs.Inserting.{records_made, TakesImage}
+use Rattle.il_ports.specs.declared.medium.New.{New}
+use Rattle.il_ports.specs.declared.medium.New.TheVariants as making
 use Rattle.il_ports.specs.InDrive.{behind, not_behind, step_back, image_at_place}
 use Rattle.il_ports.specs.declared.memory_medium.Drive.{Drive}
 use Rattle.il_ports.specs.declared.memory_medium.Drive.TheVariants.{Empty, Shelved, Made}
@@ -86,71 +88,80 @@ image_beside (Shelved inside) made name tape shelf is outside =
 
 -- ---- inserting
 
--- what was laid into a whole vector
-pub written_back : (n : ℕ) (new old : Tape) → n ≡ length new → take n (new ++ drop (length new) old) ≡ new
-written_back n new old whole = take-append-le n new (drop (length new) old) (omega arith) ∙ ap (λ (k : ℕ). take k new) whole ∙ take-length new
+-- what is laid in reads as the image
+pub read_as : (n : ℕ) (bytes : List ℕ) → n ≡ records_for (length bytes) → cut n bytes ≡ tape_of bytes
+unfolding tape_of
+read_as n bytes is = ap (λ (m : ℕ). cut m bytes) is
 
-pub takes_shelved : (name bytes : List ℕ) (is_new : Bool) (tape : Tape) (shelf : Shelf) (place : ℕ) → tape ≡ tape_of bytes
-    → place_of name shelf ≡ Some place → image_of name shelf ≡ Some bytes → length bytes ≤ cassette_bytes
-    → TakesImage name is_new shelf (Some (with_bytes place (bytes_of tape) shelf)) (Some (get_or shelf place ([], [])).0) (Some tape)
-takes_shelved name bytes is_new tape shelf place is found image fits = record {
-  bytes = bytes;
-  inserted = subst (λ (o : Option (List ℕ)). IsInserted o is_new bytes) (sym image) (refl, fits);
-  tape_is = ap Some is;
+pub takes_shelved : (name bytes : List ℕ) (made : New) (tape : Tape) (shelf : Shelf) (place : ℕ) → tape ≡ tape_of bytes
+    → place_of name shelf ≡ Some place → image_of name shelf ≡ Some bytes → length bytes ≤ largest_image
+    → TakesImage name made shelf (Some (with_bytes place (bytes_of tape) shelf)) (Some (get_or shelf place ([], [])).0) (Some tape)
+takes_shelved name bytes made tape shelf place is found image fits = record {
+  content = tape;
+  inserted_is = subst (λ (o : Option (List ℕ)). inserted o (records_made made) ≡ Some tape) (sym image)
+      (ap (λ (b : Bool). if b then Some (tape_of bytes) else None) (le-leb (length bytes) largest_image fits) ∙ ap Some (sym is));
+  tape_is = refl;
   shelf = with_bytes place (bytes_of tape) shelf;
   shelf_is = refl;
   inside_is = ap Some (name_at name shelf place found);
-  image = image_at_place name shelf place (bytes_of tape) found ∙ ap (λ (t : Tape). Some (bytes_of t)) is;
+  image = image_at_place name shelf place (bytes_of tape) found;
   others = λ other ne. image_elsewhere other shelf place (bytes_of tape) (λ there. ne (sym (name_at other shelf place there) ∙ name_at name shelf place found));
 }
 
-pub takes_made : (name made : List ℕ) (is_new : Bool) (tape : Tape) (shelf : Shelf) → tape ≡ tape_of [] → made ≡ name
-    → image_of name shelf ≡ None → is_new ≡ true → TakesImage name is_new shelf (Some ((made, bytes_of tape) ∷ shelf)) (Some made) (Some tape)
-takes_made name made is_new tape shelf is named missing new = record {
-  bytes = [];
-  inserted = subst (λ (o : Option (List ℕ)). IsInserted o is_new []) (sym missing) (new, refl);
-  tape_is = ap Some is;
-  shelf = (made, bytes_of tape) ∷ shelf;
+pub takes_made : (name named : List ℕ) (made : New) (n : ℕ) (tape : Tape) (shelf : Shelf) → tape ≡ blank n → named ≡ name
+    → image_of name shelf ≡ None → records_made made ≡ Some n → TakesImage name made shelf (Some ((named, bytes_of tape) ∷ shelf)) (Some named) (Some tape)
+takes_made name named made n tape shelf is same missing new = record {
+  content = tape;
+  inserted_is = (λ i. inserted (missing i) (new i)) ∙ ap Some (sym is);
+  tape_is = refl;
+  shelf = (named, bytes_of tape) ∷ shelf;
   shelf_is = refl;
-  inside_is = ap Some named;
-  image = ap (λ (b : Bool). if b then Some (bytes_of tape) else image_of name shelf) ((bytes_eq-Decides made name).1 named) ∙ ap (λ (t : Tape). Some (bytes_of t)) is;
-  others = λ other ne. other_test (bytes_eq made other) refl (λ same. ne (sym same ∙ named));
+  inside_is = ap Some same;
+  image = ap (λ (b : Bool). if b then Some (bytes_of tape) else image_of name shelf) ((bytes_eq-Decides named name).1 same);
+  others = λ other ne. other_test (bytes_eq named other) refl (λ found. ne (sym found ∙ same));
 }
   where
-    other_test : {other : List ℕ} (first : Bool) → bytes_eq made other ≡ first → (made ≡ other → ⊥) → (if first then Some (bytes_of tape) else image_of other shelf) ≡ image_of other shelf
-    other_test {other} true same ne = absurd (ne ((bytes_eq-Decides made other).0 same))
+    other_test : {other : List ℕ} (first : Bool) → bytes_eq named other ≡ first → (named ≡ other → ⊥) → (if first then Some (bytes_of tape) else image_of other shelf) ≡ image_of other shelf
+    other_test {other} true same ne = absurd (ne ((bytes_eq-Decides named other).0 same))
     other_test {other} false same ne = refl
 
 -- no tape is in, so every image reads as it was given
-pub shelf_of_empty : (drive : Drive) (made : List ℕ) (tape : Tape) (shelf : Shelf) → records_in (tape_in drive tape) ≡ 0 → length tape ≡ cassette_records
-    → shelf_with drive made tape shelf ≡ shelf
-shelf_of_empty Empty made tape shelf out size = refl
-shelf_of_empty (Shelved place) made tape shelf out size = absurd (omega arith)
-shelf_of_empty Made made tape shelf out size = absurd (omega arith)
+pub shelf_of_empty : (drive : Drive) (made : List ℕ) (tape : Tape) (shelf : Shelf) → is_empty drive ≡ true → shelf_with drive made tape shelf ≡ shelf
+shelf_of_empty Empty made tape shelf out = refl
+shelf_of_empty (Shelved place) made tape shelf out = cc
+shelf_of_empty Made made tape shelf out = cc
 
-abbrev Taken : List ℕ → Bool → Shelf → Shelf → List ℕ → Tape → Type 0
-Taken name is_new before after inside tape = IsSize (length tape) × ((s : Shelf) → Some before ≡ Some s → TakesImage name is_new s (Some after) (Some inside) (Some tape))
+abbrev Taken : List ℕ → New → Shelf → Shelf → List ℕ → Tape → Type 0
+Taken name made before after inside tape = IsSize (length tape) × ((s : Shelf) → Some before ≡ Some s → TakesImage name made s (Some after) (Some inside) (Some tape))
 
-taken : (name : List ℕ) (is_new : Bool) (before shelf after : Shelf) (inside : List ℕ) (tape : Tape) → before ≡ shelf → length tape ≡ cassette_records
-    → TakesImage name is_new shelf (Some after) (Some inside) (Some tape) → Taken name is_new before after inside tape
-taken name is_new before shelf after inside tape same size takes =
-    (size, λ s is. subst (λ (x : Shelf). TakesImage name is_new x (Some after) (Some inside) (Some tape)) (sym same ∙ ap (λ (o : Option Shelf). unwrap_or o before) is) takes)
+taken : (name : List ℕ) (made : New) (before shelf after : Shelf) (inside : List ℕ) (tape : Tape) → before ≡ shelf → IsSize (length tape)
+    → TakesImage name made shelf (Some after) (Some inside) (Some tape) → Taken name made before after inside tape
+taken name made before shelf after inside tape same size takes =
+    (size, λ s is. subst (λ (x : Shelf). TakesImage name made x (Some after) (Some inside) (Some tape)) (sym same ∙ ap (λ (o : Option Shelf). unwrap_or o before) is) takes)
 
 -- the answer `Tape`, for an image of the shelf
-pub answer_shelved : (name bytes : List ℕ) (is_new : Bool) (drive : Drive) (made : List ℕ) (before tape : Tape) (shelf : Shelf) (place : ℕ)
-    → records_in (tape_in drive before) ≡ 0 → length before ≡ cassette_records → length tape ≡ cassette_records → tape ≡ tape_of bytes
-    → (place_of name shelf ≡ Some place) × (image_of name shelf ≡ Some bytes) × (length bytes ≤ cassette_bytes)
-    → Taken name is_new (shelf_with drive made before shelf) (with_bytes place (bytes_of tape) shelf) (get_or shelf place ([], [])).0 tape
-answer_shelved name bytes is_new drive made before tape shelf place out size whole is offer =
-    taken name is_new _ shelf _ _ tape (shelf_of_empty drive made before shelf out size) whole (takes_shelved name bytes is_new tape shelf place is offer.0 offer.1 offer.2)
+pub answer_shelved : (name bytes : List ℕ) (made : New) (drive : Drive) (named : List ℕ) (before tape : Tape) (shelf : Shelf) (place records : ℕ)
+    → is_empty drive ≡ true → length tape ≡ records → tape ≡ cut records bytes
+    → (place_of name shelf ≡ Some place) × (image_of name shelf ≡ Some bytes) × (length bytes ≤ largest_image) × (records ≡ records_for (length bytes))
+    → Taken name made (shelf_with drive named before shelf) (with_bytes place (bytes_of tape) shelf) (get_or shelf place ([], [])).0 tape
+answer_shelved name bytes made drive named before tape shelf place records out long is offer =
+    taken name made _ shelf _ _ tape (shelf_of_empty drive named before shelf out) (subst IsSize (sym (long ∙ offer.3)) (size_for (length bytes)))
+    (takes_shelved name bytes made tape shelf place (is ∙ read_as records bytes offer.3) offer.0 offer.1 offer.2)
+
+-- the records that are made are those of a medium
+made_size : (made : New) (n : ℕ) → records_made made ≡ Some n → IsSize n
+made_size making.No n is = cc
+made_size making.Tape n is = subst (λ (o : Option ℕ). IsSize (unwrap_or o cassette_records)) is refl
+made_size making.Disc n is = subst (λ (o : Option ℕ). IsSize (unwrap_or o cassette_records)) is refl
 
 -- the answer `Tape`, for one that is made
-pub answer_made : (name made : List ℕ) (is_new : Bool) (drive : Drive) (made_before : List ℕ) (before tape : Tape) (shelf : Shelf)
-    → records_in (tape_in drive before) ≡ 0 → length before ≡ cassette_records → length tape ≡ cassette_records → tape ≡ tape_of [] → made ≡ name
-    → (image_of name shelf ≡ None) × (is_new ≡ true) × (length name ≤ longest_name)
-    → Taken name is_new (shelf_with drive made_before before shelf) ((made, bytes_of tape) ∷ shelf) made tape
-answer_made name made is_new drive made_before before tape shelf out size whole is named offer =
-    taken name is_new _ shelf _ _ tape (shelf_of_empty drive made_before before shelf out size) whole (takes_made name made is_new tape shelf is named offer.0 offer.1)
+pub answer_made : (name named : List ℕ) (made : New) (drive : Drive) (named_before : List ℕ) (before tape : Tape) (shelf : Shelf) (records : ℕ)
+    → is_empty drive ≡ true → length tape ≡ records → tape ≡ cut records [] → named ≡ name
+    → (image_of name shelf ≡ None) × (records_made made ≡ Some records) × (length name ≤ longest_name)
+    → Taken name made (shelf_with drive named_before before shelf) ((named, bytes_of tape) ∷ shelf) named tape
+answer_made name named made drive named_before before tape shelf records out long is same offer =
+    taken name made _ shelf _ _ tape (shelf_of_empty drive named_before before shelf out) (subst IsSize (sym long) (made_size made records offer.1))
+    (takes_made name named made records tape shelf (is ∙ cut_nothing records) same offer.0 offer.1)
 
 pub missing_place : (place : Option ℕ) (k : ℕ) → place ≡ None → place ≡ Some k → ⊥
 missing_place place k none some = cc

@@ -1,13 +1,16 @@
 -- A shelf in memory and the drive beside it.
-use Rattle.std.specs.Prelude.{◌≡◌, ◌==◌, ◌<◌, ◌≤◌, ℕ, zero, suc, Bool, true, false, List, [], ◌∷◌, if◌then◌else◌, length, get_or, map, Option, Some, None, Vec, String, string_bytes}
+use Rattle.std.specs.Prelude.{◌≡◌, ◌≢◌, ◌==◌, ◌<◌, ◌≤◌, ℕ, zero, suc, Bool, true, false, List, [], ◌∷◌, if◌then◌else◌, length, get_or, map, Option, Some, None, Vec, String, string_bytes}
 use Rattle.std.specs.Option.{option_map}
 use Rattle.std.specs.Str.{bytes_eq}
 use Rattle.std.specs.declared.alloc.Global.{Global}
 use Rattle.lif_model.specs.Tape.{Tape}
-use Rattle.lif_model.specs.Shelf.{Shelf, bytes_of, image_of, cassette_bytes}
+use Rattle.lif_model.specs.Shelf.{Shelf, bytes_of, image_of, is_size, disc_records, records_for, largest_image}
 use Rattle.lif_model.specs.Redo.{Changes}
 use Rattle.il_ports.specs.declared.memory_medium.Drive.{Drive}
 use Rattle.il_ports.specs.declared.memory_medium.Drive.TheVariants.{Empty, Shelved, Made}
+use Rattle.il_ports.specs.Inserting.{records_made}
+use Rattle.il_ports.specs.declared.medium.New.{New}
+use Rattle.il_ports.specs.declared.medium.New.TheVariants as new
 use Rattle.il_ports.specs.declared.memory_medium.Offer.{Offer}
 use Rattle.il_ports.specs.declared.memory_medium.Offer.TheVariants as offer
 
@@ -79,10 +82,17 @@ abbrev pub records_in : Option Tape → ℕ
 records_in None = 0
 records_in (Some tape) = length tape
 
+-- A disc is laid in while no tape is in, and a medium of one of the two sizes afterwards.
+abbrev pub has_size : Drive → ℕ → Bool
+has_size Empty n = n == disc_records
+has_size (Shelved place) n = is_size n
+has_size Made n = is_size n
+
 -- what an insert of that name finds
-abbrev pub IsOffer : List ℕ → Bool → Shelf → Offer → Type 0
-IsOffer name is_new shelf (offer.Take place bytes) = (place_of name shelf ≡ Some place) × (image_of name shelf ≡ Some bytes.now) × (length bytes.now ≤ cassette_bytes)
-IsOffer name is_new shelf (offer.BadSize size) = (bytes : List ℕ) × (image_of name shelf ≡ Some bytes) × (length bytes ≡ size) × (cassette_bytes < size)
-IsOffer name is_new shelf offer.NoSuch = (image_of name shelf ≡ None) × (is_new ≡ false)
-IsOffer name is_new shelf offer.Make = (image_of name shelf ≡ None) × (is_new ≡ true) × (length name ≤ longest_name)
-IsOffer name is_new shelf offer.TooLong = (image_of name shelf ≡ None) × (is_new ≡ true) × (longest_name < length name)
+abbrev pub IsOffer : List ℕ → New → Shelf → Offer → Type 0
+IsOffer name made shelf (offer.Take place bytes records) =
+    (place_of name shelf ≡ Some place) × (image_of name shelf ≡ Some bytes.now) × (length bytes.now ≤ largest_image) × (records ≡ records_for (length bytes.now))
+IsOffer name made shelf (offer.BadSize size) = (bytes : List ℕ) × (image_of name shelf ≡ Some bytes) × (length bytes ≡ size) × (largest_image < size)
+IsOffer name made shelf offer.NoSuch = (image_of name shelf ≡ None) × (made ≡ new.No)
+IsOffer name made shelf (offer.Make records) = (image_of name shelf ≡ None) × (records_made made ≡ Some records) × (length name ≤ longest_name)
+IsOffer name made shelf offer.TooLong = (image_of name shelf ≡ None) × (made ≢ new.No) × (longest_name < length name)

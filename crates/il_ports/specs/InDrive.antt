@@ -3,14 +3,15 @@
 use Rattle.std.specs.Prelude.{◌≡◌, ◌<◌, ◌≤◌, ℕ, zero, suc, List, [], ◌∷◌, Bool, true, false, if◌then◌else◌, length, get_or, refl, Option, Some, None, unwrap_or}
 use Rattle.std.specs.Option.{option_map}
 use Rattle.std.specs.Str.{bytes_eq}
-use Rattle.std.proofs.Common.{ap, sym, ◌∙◌}
+use Rattle.std.proofs.Common.{ap, sym, ◌∙◌, arith}
 use Rattle.std.specs.Cmp.{unsigned_Decides}
 use Rattle.std.proofs.lemmas.Slice.Eq.{bytes_eq-Decides}
 use Rattle.lif_model.specs.Tape.{Tape, IsTape}
-use Rattle.lif_model.specs.Shelf.{Shelf, image_of, bytes_of, cassette_records}
+use Rattle.lif_model.specs.Shelf.{Shelf, image_of, bytes_of, IsSize}
+use Rattle.lif_model.proofs.Sizes.{size_bounds}
 use Rattle.lif_model.specs.Redo.{Changes, changed}
 use Rattle.lif_model.proofs.History.{told_shape, told_now, told_only}
-use Rattle.il_ports.specs.Drive.{place_of, with_bytes, shelf_with, name_in, IsFirst, tape_in, records_in}
+use Rattle.il_ports.specs.Drive.{place_of, with_bytes, shelf_with, name_in, IsFirst, has_size, tape_in, records_in}
 use Rattle.il_ports.specs.MemoryMedium.{IsLeft}
 use Rattle.il_ports.specs.declared.memory_medium.Drive.{Drive}
 use Rattle.il_ports.specs.declared.memory_medium.Drive.TheVariants.{Empty, Shelved, Made}
@@ -20,6 +21,11 @@ pub tape_is : (drive : Drive) (tape : Tape) → ((k : ℕ) → k < length tape �
 tape_is Empty tape shaped t is = cc
 tape_is (Shelved place) tape shaped t is = told_shape tape shaped t is
 tape_is Made tape shaped t is = told_shape tape shaped t is
+
+pub size_is : (drive : Drive) (tape : Tape) → has_size drive (length tape) ≡ true → 0 < records_in (tape_in drive tape) → IsSize (records_in (tape_in drive tape))
+size_is Empty tape size some = absurd (omega (arith, some))
+size_is (Shelved place) tape size some = size
+size_is Made tape size some = size
 
 -- ---- the image in the drive
 
@@ -84,12 +90,12 @@ left_only Empty first tape history replays t c told left = absurd left
 left_only (Shelved place) first tape history replays t c told left = told_only first tape history replays t c told left
 left_only Made first tape history replays t c told left = told_only first tape history replays t c told left
 
-no_size : cassette_records ≡ 0 → ⊥
-no_size is = cc
+no_size : (n : ℕ) → n ≡ 0 → IsSize n → ⊥
+no_size n none is = omega (arith, none, (size_bounds n is).0)
 
 -- nor any where no tape is in
-pub left_none : (drive : Drive) (first tape : Tape) (history : Changes) → length tape ≡ cassette_records
+pub left_none : (drive : Drive) (first tape : Tape) (history : Changes) → has_size drive (length tape) ≡ true
     → (m : ℕ) (c : Tape) → records_in (tape_in drive tape) ≡ 0 → IsLeft (tape_in drive first) history m c → ⊥
 left_none Empty first tape history size m c none left = left
-left_none (Shelved place) first tape history size m c none left = no_size (sym size ∙ none)
-left_none Made first tape history size m c none left = no_size (sym size ∙ none)
+left_none (Shelved place) first tape history size m c none left = no_size (length tape) none size
+left_none Made first tape history size m c none left = no_size (length tape) none size

@@ -1,7 +1,10 @@
 pub mod Taking
+pub mod Sizes
 pub mod Inserting
 pub mod Trouble
 pub mod Transfers
+pub mod Stores
+pub mod Media
 pub mod Counted
 pub mod MemoryStream
 pub mod Drive

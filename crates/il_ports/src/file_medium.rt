@@ -4,8 +4,8 @@ ghost use Rattle.std.specs.Io.Seek.{MovesTo};
 ghost use Rattle.lif_model.specs.Shelf.{piece};
 ghost use Rattle.il_ports.specs.FileMedium.{IsFront, IsFound};
 
-use crate::image;
-use crate::medium::{Inserted, Medium};
+use crate::image::Size;
+use crate::medium::{Inserted, Medium, New};
 use crate::stream::Failed;
 use std::fs::{self, File, OpenFile, OpenOptions};
 use std::io::{self, ErrorKind, Read, Seek, SeekFrom, Write};
@@ -90,10 +90,10 @@ fn open<R: Files>(files: &R, name: &str) -> io::Result<R::File> {
     }
 }
 
-// A new file of zeros, which has the size of a tape at once. It is removed again where it cannot have that.
-fn make<R: Files>(files: &R, name: &str) -> io::Result<R::File> {
+// A new file of zeros, which has its full size at once. It is removed again where it cannot have that.
+fn make<R: Files>(files: &R, name: &str, size: Size) -> io::Result<R::File> {
     let file = File::create_new(files, name)?;
-    match file.set_len(image::BYTES as u64) {
+    match file.set_len(size.bytes()) {
         Ok(()) => Ok(file),
         Err(error) => {
             let _ = fs::remove_file(files, name);
@@ -113,104 +113,106 @@ fn apart<F: OpenFile + Drop>(file: F) -> io::Result<F> {
 
 // What an insert finds.
 enum Found<F> {
-    Tape(F),
+    /// A file, and the size that it reads as.
+    Tape(F, Size),
     NoSuch,
-    /// The file has more bytes than a tape.
+    /// The file has more bytes than a disc.
     BadSize(u64),
 }
 
-fn find<R: Files>(files: &R, name: &str, new: bool) -> io::Result<Found<R::File>>
+fn find<R: Files>(files: &R, name: &str, new: New) -> io::Result<Found<R::File>>
     ensures { IfOk result (λ found. IsFound new found) }
 {
-    match length_of(files, name)? {
-        Some(length) if length > image::BYTES as u64 => Ok(Found::BadSize(length)),
-        Some(_) => Ok(Found::Tape(apart(open(files, name)?)?)),
-        None if new => Ok(Found::Tape(apart(make(files, name)?)?)),
-        None => Ok(Found::NoSuch),
-    }
+    let Some(length) = length_of(files, name)? else {
+        let Some(size) = new.size() else {
+            return Ok(Found::NoSuch);
+        };
+        return Ok(Found::Tape(apart(make(files, name, size)?)?, size));
+    };
+    let Some(size) = Size::of(length) else {
+        return Ok(Found::BadSize(length));
+    };
+    Ok(Found::Tape(apart(open(files, name)?)?, size))
 }
 
 /// Images as files, with a drive: an image is named by its path. What a file holds is not told.
 ///
-/// A missing file is `NoSuch`, or with `new` is made of 131,072 zeros; a longer file is `BadSize`. What is no file,
-/// such as a folder, a missing folder above a new image and any other error are counted faults. A file that may
-/// not be written is opened for reading alone, and each write to it is a fault. A write is on the disk before it
-/// answers Ok. One past the file's end makes the file longer, up to the end of the record and with zeros in between;
-/// no file grows past 131,072 bytes or becomes shorter. No memory is taken.
+/// A missing file is `NoSuch`, or with `new` is made of 131,072 or of 630,784 zeros; a file of more bytes than a disc is
+/// `BadSize`. What is no file, such as a folder or a device, a missing folder above a new image and any other error are
+/// counted faults. A file that may not be written is opened for reading alone, and each write to it is a fault. A write
+/// is on the disk before it answers Ok. One past the file's end makes the file longer, up to the end of the record and
+/// with zeros in between; no file grows past the bytes of its tape or disc, or becomes shorter. No memory is taken.
 #[derive(Drop)]
 pub struct FileMedium<R: Files + Drop> {
     files: R,
     file: Option<R::File>,
+    size: Option<Size>,
     faults: u64,
 }
 
 impl<R: Files + Drop> Model for FileMedium<R> {
-    ghost use Rattle.il_ports.specs.FileMedium.{FileState, records_in_drive};
+    ghost use Rattle.std.specs.Prelude.{◌≡◌, is_some};
+    ghost use Rattle.il_ports.specs.FileMedium.{FileState};
 
     ghost Value = { FileState };
 
-    ghost view = { λ m. record { records = records_in_drive m.file; faults = m.faults } };
+    ghost view = { λ m. record { size = m.size; faults = m.faults } };
+
+    ghost invariant = { λ m. is_some m.size ≡ is_some m.file };
 }
 
 impl<R: Files + Drop> FileMedium<R> {
     /// An empty drive over the files that the runtime gives.
     pub fn new(files: R) -> FileMedium<R>
-        ensures { result ≡ record { records = 0; faults = 0 } }
+        ensures { result ≡ record { size = None; faults = 0 } }
     {
         FileMedium {
             files,
             file: None,
+            size: None,
             faults: 0,
         }
     }
 }
 
 impl<R: Files + Drop> Medium for FileMedium<R> {
-    ghost use Rattle.std.specs.Prelude.{◌≡◌, ◌⊎◌, ◌≤◌, ℕ, None, Some, is_some, IfOk};
-    ghost use Rattle.lif_model.specs.Tape.{Tape};
-    ghost use Rattle.lif_model.specs.Shelf.{Shelf};
+    ghost use Rattle.std.specs.Prelude.{◌≡◌, None, IfOk};
     ghost use Rattle.lif_model.specs.Causes.{HasCause};
-    ghost use Rattle.il_ports.specs.Inserting.{DidInsert};
-    ghost use Rattle.il_ports.specs.FileMedium.{IsAnswer, untold};
+    ghost use Rattle.il_ports.specs.Media.{MediumView};
+    ghost use Rattle.il_ports.specs.Inserting.{InsertResult};
+    ghost use Rattle.il_ports.specs.FileMedium.{untold};
+    ghost use Rattle.il_ports.specs.Sizes.{records_of_any, any_is_size};
     ghost use Rattle.il_ports.specs.Counted.{faults_after};
 
-    ghost shelf = { λ _. None };
+    ghost view = { λ m. record {
+      shelf = None;
+      inside = None;
+      tape = None;
+      record_count = records_of_any m.size;
+      faults = m.faults;
+      moment = 0;
+      left_since = λ k c. Unit {0};
+    } };
 
-    ghost inside = { λ _. None };
+    ghost is_medium = { λ m. record {
+      sizes = λ some. any_is_size m.size some;
+      is_tape = λ t is. untold t is;
+      is_image = λ s name t is named told. untold t told;
+      leaves_now = λ k t le is. tt;
+      leaves_only = λ t c is left. untold t is;
+      leaves_none = λ s c is none left. untold s is;
+    } };
 
-    ghost tape = { λ _. None };
-
-    ghost record_count = { λ m. m.records };
-
-    ghost faults = { λ m. m.faults };
-
-    ghost moment = { λ _. 0 };
-
-    ghost left_since = { λ _ _ _. Unit {0} };
-
-    ghost is_tape = { λ m t is. untold t is };
-
-    ghost is_image = { λ m s name t is named told. untold t told };
-
-    ghost leaves_now = { λ m k t le is. tt };
-
-    ghost leaves_only = { λ m t c is left. untold t is };
-
-    ghost leaves_none = { λ m s c is none left. untold s is };
-
-    fn insert(&mut self, name: &str, new: bool) -> Result<Inserted, Failed>
-        requires { self.old.records ≡ 0 }
-        ensures answer { DidInsert name.now new None None None None self.new.records result }
-        ensures told { is_some {T = Shelf} None ≡ is_some {T = Shelf} None }
-        ensures moment { 0 ≤ 0 }
-        ensures since { (m : ℕ) (c : Tape) → Unit {0} → Unit {0} ⊎ (None ≡ Some c) }
+    fn insert(&mut self, name: &str, new: New) -> Result<Inserted, Failed>
+        requires { records_of_any self.old.size ≡ 0 }
+        ensures answer { InsertResult name.now new None None None None (records_of_any self.new.size) result }
         ensures cause { HasCause self.old.faults self.new.faults result }
-        ensures possible { IfOk result (λ answer. IsAnswer new answer) }
         ensures counts { self.new.faults ≡ faults_after self.old.faults result }
     {
         match find(&self.files, name, new) {
-            Ok(Found::Tape(file)) => {
+            Ok(Found::Tape(file, size)) => {
                 self.file = Some(file);
+                self.size = Some(size);
                 Ok(Inserted::Tape)
             }
             Ok(Found::NoSuch) => Ok(Inserted::NoSuch),
@@ -223,8 +225,8 @@ impl<R: Files + Drop> Medium for FileMedium<R> {
     }
 
     fn size(&self) -> u16 {
-        match self.file {
-            Some(_) => image::RECORDS as u16,
+        match self.size {
+            Some(size) => size.records(),
             None => 0,
         }
     }

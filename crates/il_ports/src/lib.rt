@@ -18,7 +18,8 @@ mod tests;
 
 pub use adapters::{StdSink, StdSource};
 pub use file_medium::FileMedium;
-pub use medium::{Inserted, Medium};
+pub use image::{after_record, lay_out, next_record};
+pub use medium::{Inserted, Medium, New};
 pub use memory_medium::MemoryMedium;
 pub use memory_records::MemoryRecords;
 pub use memory_stream::{MemorySink, MemorySource};

@@ -1,12 +1,12 @@
-ghost use Rattle.std.specs.Prelude.{◌≡◌, ◌<◌, ◌≤◌, ℕ, [], length, get_or, vec_len, MatchOption, Some, None, string_bytes};
+ghost use Rattle.std.specs.Prelude.{◌≡◌, ◌==◌, ◌<◌, ◌≤◌, if◌then◌else◌, ℕ, [], length, get_or, vec_len, MatchOption, Some, None, true, string_bytes};
 ghost use Rattle.std.specs.Vec.{vec_capacity};
 ghost use Rattle.std.specs.String.{string_capacity};
-ghost use Rattle.lif_model.specs.Shelf.{image_of, tape_of, cassette_records};
+ghost use Rattle.lif_model.specs.Shelf.{image_of, cut};
 ghost use Rattle.lif_model.specs.Redo.{changed};
-ghost use Rattle.il_ports.specs.Drive.{images_of, place_of, IsOffer, IsFirst, IsUnwritten, longest_name};
+ghost use Rattle.il_ports.specs.Drive.{images_of, place_of, IsOffer, IsFirst, IsUnwritten, has_size, longest_name};
 
-use crate::image::{self, lay_in};
-use crate::medium::{Inserted, Medium};
+use crate::image::{Size, copy_of, lay_in, lay_out};
+use crate::medium::{Inserted, Medium, New};
 use crate::stream::Failed;
 use std::alloc::{AllocError, Global};
 
@@ -24,13 +24,13 @@ enum Drive {
 
 // What an insert finds.
 enum Offer<'a> {
-    /// An image, its place on the shelf and its bytes.
-    Take(usize, &'a [u8]),
+    /// An image: its place on the shelf, its bytes, and how many records it reads as.
+    Take(usize, &'a [u8], u16),
     /// An image with too many bytes.
     BadSize(u64),
     NoSuch,
-    /// No image, but one is to be made.
-    Make,
+    /// No image, but one of so many records is to be made.
+    Make(u16),
     /// The same, and its name is too long.
     TooLong,
 }
@@ -50,39 +50,50 @@ fn find<'a>(images: &'a [(String, Vec<u8>)], name: &str) -> Option<(usize, &'a [
     None
 }
 
-fn offered<'a>(images: &'a [(String, Vec<u8>)], name: &str, new: bool) -> Offer<'a>
+fn offered<'a>(images: &'a [(String, Vec<u8>)], name: &str, new: New) -> Offer<'a>
     ensures { IsOffer name.now new (images_of images.now) result }
 {
     match find(images, name) {
-        Some((_, bytes)) if bytes.len() > image::BYTES => Offer::BadSize(bytes.len() as u64),
-        Some((place, bytes)) => Offer::Take(place, bytes),
-        None if !new => Offer::NoSuch,
-        None if name.len() > LONGEST_NAME => Offer::TooLong,
-        None => Offer::Make,
+        Some((place, bytes)) => match Size::of(bytes.len() as u64) {
+            Some(size) => Offer::Take(place, bytes, size.records()),
+            None => Offer::BadSize(bytes.len() as u64),
+        },
+        None => match new.size() {
+            None => Offer::NoSuch,
+            Some(_) if name.len() > LONGEST_NAME => Offer::TooLong,
+            Some(size) => Offer::Make(size.records()),
+        },
     }
 }
 
-// A copy, which is known to be a whole record.
-fn copy_of(bytes: &[u8; 256]) -> [u8; 256]
-    ensures content { result ≡ bytes.now }
-    ensures whole { length result ≡ 256 }
+// What record n holds behind a write at that place.
+fn behind_write<'a>(n: usize, place: u16, new: &'a [u8; 256], old: &'a [u8; 256]) -> &'a [u8; 256]
+    ensures { result.now ≡ (if place == n then new.now else old.now) }
 {
-    *bytes
+    if usize::from(place) == n { new } else { old }
 }
 
-// Makes two equal tapes of what the image reads as.
-fn lay_in_twice(bytes: &[u8], tape: &mut [[u8; 256]], first: &mut [[u8; 256]])
-    requires tape { length tape.old ≡ cassette_records }
-    requires first { length first.old ≡ cassette_records }
-    ensures content { tape.new ≡ tape_of bytes.now }
-    ensures same { first.new ≡ tape.new }
-    ensures shaped { (k : ℕ) → k < cassette_records → length (get_or tape.new k []) ≡ 256 }
+// Makes two equal tapes, of so many records, of what the image reads as.
+fn put_in(
+    bytes: &[u8],
+    records: u16,
+    tape: &mut Vec<[u8; 256]>,
+    first: &mut Vec<[u8; 256]>,
+)
+    requires tape { records ≤ length tape.old.items }
+    requires first { length first.old.items ≡ length tape.old.items }
+    ensures content { tape.new.items ≡ cut records bytes.now }
+    ensures same { first.new.items ≡ tape.new.items }
+    ensures size { length tape.new.items ≡ records }
+    ensures shaped { (k : ℕ) → k < records → length (get_or tape.new.items k []) ≡ 256 }
 {
+    tape.truncate(records as usize);
+    first.truncate(records as usize);
     lay_in(bytes, tape);
     first.copy_from_slice(tape);
 }
 
-/// A shelf in memory, with a drive. Calls of each kind are counted from 1; those that the lists name fail. So does
+/// A shelf in memory, with a drive that takes tapes and discs. Calls of each kind are counted from 1; those that the lists name fail. So does
 /// an insert that would make an image with a name of more than 4,096 bytes, and a write for which no room is left.
 /// A failing write that is listed leaves the bytes that the list gives; where no room is left, it leaves the tape
 /// as it was.
@@ -108,9 +119,9 @@ pub struct MemoryMedium {
     // Every write that reached the tape, with the bytes that it left, in room that was reserved.
     history: Vec<(u16, [u8; 256])>,
     room: usize,
-    ghost size: { length tape.items ≡ cassette_records },
+    ghost size: { has_size drive (length tape.items) ≡ true },
     ghost shaped: { (k : ℕ) → k < length tape.items → length (get_or tape.items k []) ≡ 256 },
-    ghost first_size: { length first.items ≡ cassette_records },
+    ghost first_size: { length first.items ≡ length tape.items },
     ghost replays: { tape.items ≡ changed history.items first.items },
     ghost in_place: { IsFirst drive (images_of images.items) },
     ghost unwritten: { IsUnwritten drive history.items },
@@ -119,15 +130,17 @@ pub struct MemoryMedium {
 }
 
 impl MemoryMedium {
-    ghost use Rattle.std.specs.Prelude.{◌≡◌, ◌<◌, [], length, IfOk, IfSome, None, string_bytes};
+    ghost use Rattle.std.specs.Prelude.{◌≡◌, ◌<◌, ◌≤◌, ◌*◌, [], length, IfOk, IfSome, IsSome, Some, None, string_bytes};
     ghost use Rattle.std.specs.Option.{option_copied};
-    ghost use Rattle.lif_model.specs.Shelf.{image_of};
+    ghost use Rattle.lif_model.specs.Tape.{Tape, record_at};
+    ghost use Rattle.lif_model.specs.Shelf.{image_of, bytes_of};
+    ghost use Rattle.lif_model.specs.History.{stopped_at};
     ghost use Rattle.il_ports.specs.Drive.{images_of, is_made, is_inside, records_in};
     ghost use Rattle.il_ports.specs.MemoryMedium.{state_of, listed_bytes, holding};
 
     /// A medium with these images, the first of each name counting, and no tape in the drive. `reads` and `inserts`
     /// list the calls that fail, `writes` the calls that fail and what they leave in the record, the first entry of a
-    /// number counting. There is room for `room` writes. All memory is taken here: two blank tapes, the room for the
+    /// number counting. There is room for `room` writes. All memory is taken here: two blank discs, the room for the
     /// writes, and room for a made image's name of 4,096 bytes.
     pub fn new(
         alloc: Global,
@@ -155,9 +168,9 @@ impl MemoryMedium {
     {
         let made = String::with_capacity(alloc, LONGEST_NAME)?;
         let history = Vec::with_capacity(alloc, room)?;
-        let mut tape = vec![in alloc; [0; 256]; image::RECORDS]?;
-        let mut first = vec![in alloc; [0; 256]; image::RECORDS]?;
-        lay_in_twice(&[], &mut tape, &mut first);
+        let mut tape = vec![in alloc; [0; 256]; Size::Disc.records() as usize]?;
+        let mut first = vec![in alloc; [0; 256]; Size::Disc.records() as usize]?;
+        put_in(&[], Size::Disc.records(), &mut tape, &mut first);
         Ok(MemoryMedium {
             images: shelf,
             drive: Drive::Empty,
@@ -189,6 +202,37 @@ impl MemoryMedium {
             return Some(self.tape.as_flattened());
         }
         Some(bytes)
+    }
+
+    /// Fills `into` with the tape as it was behind the first `writes` writes since it was inserted. With `torn` the record
+    /// of the next write holds these bytes: so a power stop within that write may leave it.
+    pub fn image_at(&self, writes: u64, torn: Option<&[u8; 256]>, into: &mut [u8])
+        requires inside { IsSome (state_of self.now).tape }
+        requires size { length into.old ≡ 256 * records_in (state_of self.now).tape }
+        requires made { writes ≤ length (state_of self.now).history }
+        requires next { IsSome torn → writes < length (state_of self.now).history }
+        ensures { (first : Tape) → (state_of self.now).first ≡ Some first → into.new ≡ bytes_of (stopped_at first (state_of self.now).history writes (option_copied torn.entry)) }
+    {
+        for n in 0..self.tape.len() {
+            lay_out(self.record_at(n, writes as usize, torn), n, into);
+        }
+    }
+
+    // The record as it was behind these writes, or within the next one.
+    fn record_at<'a>(&'a self, n: usize, writes: usize, torn: Option<&'a [u8; 256]>) -> &'a [u8; 256]
+        requires within { n < length self.now.first.items }
+        requires made { writes ≤ length self.now.history.items }
+        requires next { IsSome torn → writes < length self.now.history.items }
+        ensures { result.now ≡ record_at (stopped_at self.now.first.items self.now.history.items writes (option_copied torn.entry)) n }
+    {
+        let mut bytes = &self.first[n];
+        for write in &self.history[..writes] {
+            bytes = behind_write(n, write.0, &write.1, bytes);
+        }
+        match torn {
+            Some(torn) => behind_write(n, self.history[writes].0, torn, bytes),
+            None => bytes,
+        }
     }
 
     // What the first entry of this write's number says that it leaves.
@@ -236,52 +280,48 @@ impl MemoryMedium {
 }
 
 impl Medium for MemoryMedium {
-    ghost use Rattle.std.specs.Prelude.{◌≡◌, ◌<◌, ◌≤◌, ◌↔◌, ◌⊎◌, ℕ, Some, None, true, length, is_some, Contains, IsErr, IsSome, string_bytes};
+    ghost use Rattle.std.specs.Prelude.{◌≡◌, ◌≢◌, ◌<◌, ◌≤◌, ◌↔◌, ◌⊎◌, ℕ, Some, None, length, Contains, IsErr, IsSome, string_bytes};
     ghost use Rattle.lif_model.specs.Tape.{Tape, DidRead};
     ghost use Rattle.lif_model.specs.Shelf.{image_of};
-    ghost use Rattle.lif_model.specs.Stops.{Torn, Wrote, Elapses, StandsStill};
+    ghost use Rattle.lif_model.specs.Stops.{Torn, Wrote, Elapses};
     ghost use Rattle.lif_model.specs.Causes.{HasCause, next_count};
-    ghost use Rattle.il_ports.specs.Inserting.{DidInsert, IsSize, OthersAreKept};
+    ghost use Rattle.il_ports.specs.Media.{MediumView};
+    ghost use Rattle.il_ports.specs.Inserting.{InsertResult, OthersAreKept};
     ghost use Rattle.il_ports.specs.Counted.{faults_after};
     ghost use Rattle.il_ports.specs.Drive.{images_of, records_in, longest_name};
     ghost use Rattle.il_ports.specs.MemoryMedium.{state_of, IsLeft, inside_after, listed_bytes, bytes_left, holding};
-    ghost use Rattle.il_ports.specs.InDrive.{tape_is, image_is, left_now, left_only, left_none};
+    ghost use Rattle.il_ports.specs.declared.medium.New.TheVariants.{No};
+    ghost use Rattle.il_ports.specs.InDrive.{size_is, tape_is, image_is, left_now, left_only, left_none};
 
-    ghost shelf = { λ m. Some (state_of m).shelf };
+    ghost view = { λ m. record {
+      shelf = Some (state_of m).shelf;
+      inside = (state_of m).inside;
+      tape = (state_of m).tape;
+      record_count = records_in (state_of m).tape;
+      faults = (state_of m).faults;
+      moment = length (state_of m).history;
+      left_since = IsLeft (state_of m).first (state_of m).history;
+    } };
 
-    ghost inside = { λ m. (state_of m).inside };
+    ghost is_medium = { λ m. record {
+      sizes = λ some. size_is m.drive m.tape.items m.size some;
+      is_tape = λ t is. tape_is m.drive m.tape.items m.shaped t is;
+      is_image = λ s name t same named told. image_is m.drive (string_bytes m.made) m.tape.items (images_of m.images.items) m.in_place s name t same named told;
+      leaves_now = λ k t le told. left_now m.drive m.first.items m.tape.items m.history.items m.replays k t le told;
+      leaves_only = λ t c told left. left_only m.drive m.first.items m.tape.items m.history.items m.replays t c told left;
+      leaves_none = λ s c _ none left. left_none m.drive m.first.items m.tape.items m.history.items m.size (length m.history.items) c none left;
+    } };
 
-    ghost tape = { λ m. (state_of m).tape };
-
-    ghost record_count = { λ m. records_in (state_of m).tape };
-
-    ghost faults = { λ m. (state_of m).faults };
-
-    ghost moment = { λ m. length (state_of m).history };
-
-    ghost left_since = { λ m k c. IsLeft (state_of m).first (state_of m).history k c };
-
-    ghost is_tape = { λ m t is. tape_is m.drive m.tape.items m.shaped t is };
-
-    ghost is_image = { λ m s name t same named told. image_is m.drive (string_bytes m.made) m.tape.items (images_of m.images.items) m.in_place s name t same named told };
-
-    ghost leaves_now = { λ m k t le told. left_now m.drive m.first.items m.tape.items m.history.items m.replays k t le told };
-
-    ghost leaves_only = { λ m t c told left. left_only m.drive m.first.items m.tape.items m.history.items m.replays t c told left };
-
-    ghost leaves_none = { λ m s c _ none left. left_none m.drive m.first.items m.tape.items m.history.items m.size (length m.history.items) c none left };
-
-    fn insert(&mut self, name: &str, new: bool) -> Result<Inserted, Failed>
+    fn insert(&mut self, name: &str, new: New) -> Result<Inserted, Failed>
         requires { records_in (state_of self.old).tape ≡ 0 }
-        ensures answer { DidInsert name.now new (Some (state_of self.old).shelf) (Some (state_of self.new).shelf)
+        ensures answer { InsertResult name.now new (Some (state_of self.old).shelf) (Some (state_of self.new).shelf)
             (state_of self.new).inside (state_of self.new).tape (records_in (state_of self.new).tape) result }
-        ensures told { is_some (Some (state_of self.new).shelf) ≡ is_some (Some (state_of self.old).shelf) }
         ensures moment { length (state_of self.old).history ≤ length (state_of self.new).history }
         ensures since { (m : ℕ) (c : Tape) → IsLeft (state_of self.new).first (state_of self.new).history m c
             → IsLeft (state_of self.old).first (state_of self.old).history m c ⊎ ((state_of self.new).tape ≡ Some c) }
         ensures cause { HasCause (state_of self.old).faults (state_of self.new).faults result }
         ensures listed { IsErr result ↔ (Contains (state_of self.old).inserts (next_count (state_of self.old).inserts_made)
-            ⊎ ((image_of name.now (state_of self.old).shelf ≡ None) × (new ≡ true) × (longest_name < length name.now))) }
+            ⊎ ((image_of name.now (state_of self.old).shelf ≡ None) × (new ≢ No) × (longest_name < length name.now))) }
         ensures counts { state_of self.new ≡ record (state_of self.old) {
           shelf = (state_of self.new).shelf;
           inside = inside_after name.now result;
@@ -297,15 +337,15 @@ impl Medium for MemoryMedium {
             return Err(Failed);
         }
         match offered(&self.images, name, new) {
-            Offer::Take(place, bytes) => {
-                lay_in_twice(bytes, &mut self.tape, &mut self.first);
+            Offer::Take(place, bytes, records) => {
+                put_in(bytes, records, &mut self.tape, &mut self.first);
                 self.drive = Drive::Shelved(place);
                 Ok(Inserted::Tape)
             }
             Offer::BadSize(size) => Ok(Inserted::BadSize(size)),
             Offer::NoSuch => Ok(Inserted::NoSuch),
-            Offer::Make => {
-                lay_in_twice(&[], &mut self.tape, &mut self.first);
+            Offer::Make(records) => {
+                put_in(&[], records, &mut self.tape, &mut self.first);
                 self.made.clear();
                 self.made.push_str(name).unwrap();
                 self.drive = Drive::Made;
@@ -318,26 +358,16 @@ impl Medium for MemoryMedium {
         }
     }
 
-    fn size(&self) -> u16
-        ensures count { result ≡ records_in (state_of self.now).tape }
-        ensures sizes { 0 < result → IsSize result }
-    {
+    fn size(&self) -> u16 {
         match self.drive {
             Drive::Empty => 0,
-            Drive::Shelved(_) | Drive::Made => image::RECORDS as u16,
+            Drive::Shelved(_) | Drive::Made => self.tape.len() as u16,
         }
     }
 
     fn read(&mut self, n: u16, into: &mut [u8; 256]) -> Result<(), Failed>
         requires { n < records_in (state_of self.old).tape }
         ensures content { DidRead n into.new (state_of self.old).tape result }
-        ensures tape { (state_of self.new).tape ≡ (state_of self.old).tape }
-        ensures shelf { Some (state_of self.new).shelf ≡ Some (state_of self.old).shelf }
-        ensures inside { (state_of self.new).inside ≡ (state_of self.old).inside }
-        ensures size { records_in (state_of self.new).tape ≡ records_in (state_of self.old).tape }
-        ensures moment { length (state_of self.new).history ≡ length (state_of self.old).history }
-        ensures since { StandsStill (IsLeft (state_of self.old).first (state_of self.old).history)
-            (IsLeft (state_of self.new).first (state_of self.new).history) }
         ensures cause { HasCause (state_of self.old).faults (state_of self.new).faults result }
         ensures listed { IsErr result ↔ Contains (state_of self.old).reads (next_count (state_of self.old).reads_made) }
         ensures counts { state_of self.new ≡ record (state_of self.old) {
@@ -357,8 +387,6 @@ impl Medium for MemoryMedium {
     fn write(&mut self, n: u16, from: &[u8; 256]) -> Result<(), Failed>
         requires { n < records_in (state_of self.old).tape }
         ensures content { Wrote n from.now (state_of self.old).tape (state_of self.new).tape result }
-        ensures told { is_some (state_of self.new).tape ≡ is_some (state_of self.old).tape }
-        ensures shelf { is_some (Some (state_of self.new).shelf) ≡ is_some (Some (state_of self.old).shelf) }
         ensures others { OthersAreKept (state_of self.old).inside (Some (state_of self.old).shelf) (Some (state_of self.new).shelf) }
         ensures inside { (state_of self.new).inside ≡ (state_of self.old).inside }
         ensures size { records_in (state_of self.new).tape ≡ records_in (state_of self.old).tape }

@@ -1,12 +1,13 @@
-ghost use Rattle.std.specs.Prelude.{◌≡◌, ◌<◌, ◌≤◌, ◌+◌, ◌^◌, ◌&&◌, ℕ, [], true, length, get_or, IfOk};
+ghost use Rattle.std.specs.Prelude.{◌≡◌, ◌<◌, ◌≤◌, ◌+◌, ◌++◌, ◌∷◌, ◌^◌, ℕ, [], true, length, get_or, set, IfOk};
 ghost use Rattle.std.specs.Vec.{vec_capacity};
 ghost use Rattle.std.specs.Result.{result_err};
-ghost use Rattle.lif_model.specs.Causes.{next_count};
 ghost use Rattle.lif_model.specs.Redo.{changed};
-ghost use Rattle.il_ports.specs.Counted.{frame_faults_after, medium_faults_after, failing};
-ghost use Rattle.il_ports.specs.Trouble.{HasTroubleCause, answers_ok};
+ghost use Rattle.il_ports.specs.Counted.{failing};
+ghost use Rattle.il_ports.specs.Trouble.{HasTroubleCause};
 
+use crate::image::{after_record, copy_of, lay_out, next_record};
 use crate::records::{Records, Trouble};
+use lif_model::RECORD;
 use std::alloc::{AllocError, Global};
 
 // What the first entry of that call says.
@@ -21,16 +22,9 @@ fn listed(fails: &[(u64, Trouble)], call: u64) -> Option<Trouble>
     None
 }
 
-// A copy. It shows a proof that each record has 256 bytes.
-fn copy_of(bytes: &[u8; 256]) -> [u8; 256]
-    ensures same { result ≡ bytes.now }
-    ensures whole { length bytes.now ≡ 256 }
-{
-    *bytes
-}
-
-/// The records of one tape in memory. Reads and writes are counted together from 1, and those that a list names fail
-/// with its trouble and change no record. Every write with Ok is kept.
+/// The records of one tape in memory. The records that are read and written are counted together from 1, those of a run
+/// one by one, and those that a list names fail with its trouble: a run ends at the first of them, and the failing one is
+/// not changed. Every write with Ok is kept.
 #[derive(Drop)]
 pub struct MemoryRecords {
     records: Vec<[u8; 256]>,
@@ -47,16 +41,17 @@ pub struct MemoryRecords {
     ghost replays: { records.items ≡ changed writes.items first.items },
     ghost shaped: { (k : ℕ) → k < length records.items → length (get_or records.items k []) ≡ 256 },
     ghost few: { length records.items < 2 ^ 16 },
+    ghost few_calls: { calls + left < 2 ^ 32 },
     ghost room: { length writes.items + left ≤ vec_capacity writes },
 }
 
 impl MemoryRecords {
-    ghost use Rattle.il_ports.specs.MemoryRecords.{state_of};
+    ghost use Rattle.il_ports.specs.MemoryRecords.{state_of, counted};
 
     /// A sound store with these records, of which there are fewer than 65,536. `fails` has the numbers of the reads and
     /// writes that fail; where one stands more than once, its first entry counts. `left` calls of `resume`, `read` and
-    /// `write` may be made: each takes one, whatever it answers. All memory is taken here: a copy of the tape, and room
-    /// for `left` writes. An error comes only where there is none.
+    /// `write` may be made, each record of a run counting as one: each takes one, whatever it answers. All memory is
+    /// taken here: a copy of the tape, and room for `left` writes. An error comes only where there is none.
     pub fn new(
         alloc: Global,
         records: Vec<[u8; 256]>,
@@ -108,20 +103,18 @@ impl MemoryRecords {
         &self.writes
     }
 
-    // Counts a read or a write, which fails where the list says so.
+    // Counts a record that is read or written, which fails where the list says so.
     fn count(&mut self) -> Result<(), Trouble>
-        ensures cause { HasTroubleCause self.old.frame_faults self.new.frame_faults
-            self.old.medium_faults self.new.medium_faults result }
-        ensures listed { result_err result ≡ failing (next_count self.old.calls) self.old.fails.items }
+        requires sound { (state_of self.old).sound ≡ true }
+        requires left { 1 ≤ (state_of self.old).left }
+        ensures cause { HasTroubleCause (state_of self.old).frame_faults (state_of self.new).frame_faults
+            (state_of self.old).medium_faults (state_of self.new).medium_faults result }
+        ensures listed { result_err result ≡ failing ((state_of self.old).calls + 1) (state_of self.old).fails }
+        ensures counts { state_of self.new ≡ counted (state_of self.old) result }
         ensures kept { (self.new.first ≡ self.old.first) × (self.new.writes ≡ self.old.writes) }
-        ensures counts { self.new ≡ record self.old {
-          calls = next_count self.old.calls;
-          frame_faults = frame_faults_after self.old.frame_faults result;
-          medium_faults = medium_faults_after self.old.medium_faults result;
-          sound = self.old.sound && answers_ok result;
-        } }
     {
-        self.calls = self.calls.saturating_add(1);
+        self.left -= 1;
+        self.calls += 1;
         let Some(trouble) = listed(&self.fails, self.calls) else {
             return Ok(());
         };
@@ -132,53 +125,61 @@ impl MemoryRecords {
         }
         Err(trouble)
     }
+
+    // Writes a record, and keeps the write. Its room is that of the call that was counted.
+    fn put(&mut self, n: u16, bytes: &[u8; 256])
+        requires room { length self.old.writes.items + self.old.left < vec_capacity self.old.writes }
+        requires within { n < length (state_of self.old).records }
+        ensures { state_of self.new ≡ record (state_of self.old) {
+          records = set (state_of self.old).records n bytes.now;
+          writes = (state_of self.old).writes ++ (n, bytes.now) ∷ [];
+        } }
+    {
+        self.records[n as usize] = *bytes;
+        self.writes.push((n, *bytes)).unwrap();
+    }
 }
 
 impl Records for MemoryRecords {
-    ghost use Rattle.std.specs.Prelude.{◌≡◌, ◌<◌, ◌≤◌, ◌+◌, ◌-◌, ℕ, Some, None, true, is_some, length};
+    ghost use Rattle.std.specs.Prelude.{◌≡◌, ◌<◌, ◌≤◌, ◌-◌, ◌+◌, ◌*◌, ◌/◌, Some, true, length};
     ghost use Rattle.std.specs.Result.{result_err};
-    ghost use Rattle.lif_model.specs.Tape.{DidRead};
-    ghost use Rattle.lif_model.specs.Stops.{Torn, Wrote, Elapses, StandsStill};
+    ghost use Rattle.lif_model.specs.Tape.{DidRead, DidReadRun};
+    ghost use Rattle.lif_model.specs.Shelf.{cut};
+    ghost use Rattle.lif_model.specs.Stops.{Torn, Elapses};
+    ghost use Rattle.lif_model.specs.Transfers.{PartlyReplaced, WroteRun};
     ghost use Rattle.lif_model.specs.History.{LeftBy};
-    ghost use Rattle.lif_model.specs.Causes.{next_count};
     ghost use Rattle.lif_model.proofs.History.{told_shape, told_now, told_only};
     ghost use Rattle.il_ports.specs.Counted.{failing};
     ghost use Rattle.il_ports.specs.Trouble.{HasTroubleCause, answers_ok};
-    ghost use Rattle.il_ports.specs.MemoryRecords.{state_of, counted, records_after, writes_after};
+    ghost use Rattle.il_ports.specs.Stores.{RecordsView, AreRecords};
+    ghost use Rattle.il_ports.specs.MemoryRecords.{state_of, counted, records_after, writes_after, RanReads, RanWrites};
 
     type Start = ();
 
-    ghost valid = { λ r. Unit {0} };
+    ghost view = { λ r. record {
+      valid = Unit {0};
+      tape = Some (state_of r).records;
+      record_count = length (state_of r).records;
+      sound = (state_of r).sound;
+      calls_left = (state_of r).left;
+      room = 0;
+      frame_faults = (state_of r).frame_faults;
+      medium_faults = (state_of r).medium_faults;
+      moment = length (state_of r).writes;
+      left_since = LeftBy (state_of r).first (state_of r).writes;
+      transferred = λ list. Unit {0};
+      present = tt;
+      emptied = λ old new. Unit {0};
+      stood = λ start. Unit {0};
+      unbroken = true;
+      resumed = λ k. Unit {0};
+    } };
 
-    ghost tape = { λ r. Some (state_of r).records };
-
-    ghost record_count = { λ r. length (state_of r).records };
-
-    ghost sound = { λ r. (state_of r).sound };
-
-    ghost calls_left = { λ r. (state_of r).left };
-
-    ghost frame_faults = { λ r. (state_of r).frame_faults };
-
-    ghost medium_faults = { λ r. (state_of r).medium_faults };
-
-    ghost moment = { λ r. length (state_of r).writes };
-
-    ghost left_since = { λ r. LeftBy (state_of r).first (state_of r).writes };
-
-    ghost transfers = { λ r. None };
-
-    ghost stood = { λ r s. Unit {0} };
-
-    ghost unbroken = { λ r. true };
-
-    ghost resumes = { λ r. 0 };
-
-    ghost is_tape = { λ r t is. told_shape r.records.items r.shaped t is };
-
-    ghost leaves_now = { λ r m t le is. told_now r.first.items r.records.items r.writes.items r.replays m t le is };
-
-    ghost leaves_only = { λ r t c is left. told_only r.first.items r.records.items r.writes.items r.replays t c is left };
+    ghost is_store = { λ r. record {
+      is_tape = λ t is. told_shape r.records.items r.shaped t is;
+      leaves_now = λ m t le is. told_now r.first.items r.records.items r.writes.items r.replays m t le is;
+      leaves_only = λ t c is left. told_only r.first.items r.records.items r.writes.items r.replays t c is left;
+    } };
 
     fn size(&self) -> u16 {
         self.records.len() as u16
@@ -190,6 +191,11 @@ impl Records for MemoryRecords {
 
     fn left(&self) -> u32 {
         self.left
+    }
+
+    fn begin(&mut self)
+        ensures state { state_of self.new ≡ state_of self.old }
+    {
     }
 
     fn resume(&mut self) -> Result<(), Trouble>
@@ -212,10 +218,9 @@ impl Records for MemoryRecords {
         ensures content { DidRead n into.new (Some (state_of self.old).records) result }
         ensures cause { HasTroubleCause (state_of self.old).frame_faults (state_of self.new).frame_faults
             (state_of self.old).medium_faults (state_of self.new).medium_faults result }
-        ensures listed { result_err result ≡ failing (next_count (state_of self.old).calls) (state_of self.old).fails }
+        ensures listed { result_err result ≡ failing ((state_of self.old).calls + 1) (state_of self.old).fails }
         ensures state { state_of self.new ≡ counted (state_of self.old) result }
     {
-        self.left -= 1;
         self.count()?;
         *into = self.records[n as usize];
         Ok(())
@@ -230,16 +235,54 @@ impl Records for MemoryRecords {
             (Some (state_of self.old).records) (Torn n) }
         ensures cause { HasTroubleCause (state_of self.old).frame_faults (state_of self.new).frame_faults
             (state_of self.old).medium_faults (state_of self.new).medium_faults result }
-        ensures listed { result_err result ≡ failing (next_count (state_of self.old).calls) (state_of self.old).fails }
+        ensures listed { result_err result ≡ failing ((state_of self.old).calls + 1) (state_of self.old).fails }
         ensures state { state_of self.new ≡ record (counted (state_of self.old) result) {
           records = records_after n from.now (state_of self.old).records result;
           writes = writes_after n from.now (state_of self.old).writes result;
         } }
     {
-        self.left -= 1;
         self.count()?;
-        self.records[n as usize] = *from;
-        self.writes.push((n, *from)).unwrap();
+        self.put(n, from);
+        Ok(())
+    }
+
+    fn read_run(&mut self, first: u16, into: &mut [u8]) -> Result<(), Trouble>
+        requires records { AreRecords (length into.old) }
+        requires sound { (state_of self.old).sound ≡ true }
+        requires within { first + length into.old / 256 ≤ length (state_of self.old).records }
+        requires left { length into.old / 256 ≤ (state_of self.old).left }
+        ensures content { DidReadRun first (length into.old / 256) into.new (Some (state_of self.old).records) result }
+        ensures cause { HasTroubleCause (state_of self.old).frame_faults (state_of self.new).frame_faults
+            (state_of self.old).medium_faults (state_of self.new).medium_faults result }
+        ensures ran { RanReads (length into.old / 256) (state_of self.old) (state_of self.new) result }
+    {
+        for i in 0..into.len() / RECORD {
+            self.count()?;
+            lay_out(&self.records[usize::from(first) + i], i, into);
+        }
+        Ok(())
+    }
+
+    fn write_run(&mut self, first: u16, count: u16, from: &[u8]) -> Result<(), Trouble>
+        requires some { 1 ≤ count }
+        requires fits { length from.now ≤ 256 * count }
+        requires sound { (state_of self.old).sound ≡ true }
+        requires within { first + count ≤ length (state_of self.old).records }
+        requires left { count ≤ (state_of self.old).left }
+        ensures content { WroteRun first (cut count from.now) (Some (state_of self.old).records) (Some (state_of self.new).records) result }
+        ensures time { Elapses (length (state_of self.old).writes) (length (state_of self.new).writes)
+            (LeftBy (state_of self.old).first (state_of self.old).writes) (LeftBy (state_of self.new).first (state_of self.new).writes)
+            (Some (state_of self.old).records) (PartlyReplaced first (cut count from.now)) }
+        ensures cause { HasTroubleCause (state_of self.old).frame_faults (state_of self.new).frame_faults
+            (state_of self.old).medium_faults (state_of self.new).medium_faults result }
+        ensures ran { RanWrites first (cut count from.now) (state_of self.old) (state_of self.new) result }
+    {
+        let mut rest = from;
+        for i in 0..count {
+            self.count()?;
+            self.put(first + i, &next_record(rest));
+            rest = after_record(rest);
+        }
         Ok(())
     }
 }

@@ -1,9 +1,8 @@
-ghost use Rattle.std.specs.Prelude.{◌≡◌, ◌≤◌, ◌+◌, ◌*◌, ◌++◌, true, length, map, Some, OnOk};
+ghost use Rattle.std.specs.Prelude.{◌≡◌, ◌≤◌, ◌+◌, ◌*◌, ◌++◌, length, map, Some, OnOk};
 ghost use Rattle.std.specs.List.{list_any};
 ghost use Rattle.lif_model.specs.Tape.{Tape};
-ghost use Rattle.lif_model.specs.Stops.{StandsStill};
 ghost use Rattle.lif_model.specs.Directory.{is_end, entries_of, before_end, slots_from};
-ghost use Rattle.il_ports.specs.Trouble.{HasTroubleCause, answers_ok};
+ghost use Rattle.il_ports.specs.Stores.{IsReady, GoesOn, IsQuiet};
 ghost use Rattle.il_ports.specs.Transfers.{AddsOnly};
 ghost use Rattle.lif_dir.specs.Entries.{slot_from, slot_bytes};
 
@@ -43,32 +42,20 @@ pub fn slots_of<R: Records>(
     header: &Header,
     table: &mut SlotTable,
 ) -> Result<(), Trouble>
-    requires valid { R.valid records.old }
-    requires sound { R.sound records.old ≡ true }
-    requires within { header.now.start + header.now.length ≤ R.record_count records.old }
-    requires left { header.now.length ≤ R.calls_left records.old }
+    requires within { header.now.start + header.now.length ≤ (R.view records.old).record_count }
+    requires ready { IsReady header.now.length (R.view records.old) }
     requires room { 8 * header.now.length ≤ table.old.room }
 
     // What was read, where the records tell the tape: as slots, and as the bytes of each.
-    ensures done { OnOk result ((t : Tape) → R.tape records.old ≡ Some t →
+    ensures done { OnOk result ((t : Tape) → (R.view records.old).tape ≡ Some t →
         table.new.slots ≡ map slot_from (slots_from t header.now.start header.now.length)) }
-    ensures bytes { OnOk result ((t : Tape) → R.tape records.old ≡ Some t →
+    ensures bytes { OnOk result ((t : Tape) → (R.view records.old).tape ≡ Some t →
         map slot_bytes table.new.slots ≡ slots_from t header.now.start header.now.length) }
 
     // No record changes, and each record is read once at most. There are reads alone, and no call of `resume`.
-    ensures valid { R.valid records.new }
-    ensures tape { R.tape records.new ≡ R.tape records.old }
-    ensures size { R.record_count records.new ≡ R.record_count records.old }
-    ensures sound { R.sound records.new ≡ answers_ok result }
-    ensures left { R.calls_left records.old ≤ R.calls_left records.new + header.now.length }
-    ensures moment { R.moment records.new ≡ R.moment records.old }
-    ensures since { StandsStill (R.left_since records.old) (R.left_since records.new) }
-    ensures transfers { AddsOnly (λ n. ⊥) (R.transfers records.old) (R.transfers records.new) result }
-    ensures stood { (s : R.Start) → R.stood records.old s → R.stood records.new s }
-    ensures unbroken { R.unbroken records.old ≡ true → answers_ok result ≡ true → R.unbroken records.new ≡ true }
-    ensures resumes { R.resumes records.new ≡ R.resumes records.old }
-    ensures cause { HasTroubleCause (R.frame_faults records.old) (R.frame_faults records.new)
-        (R.medium_faults records.old) (R.medium_faults records.new) result }
+    ensures goes_on { GoesOn header.now.length (R.view records.old) (R.view records.new) result }
+    ensures quiet { IsQuiet (R.view records.old) (R.view records.new) }
+    ensures transfers { AddsOnly (λ n. ⊥) (R.view records.old).transferred (R.view records.new).transferred result }
     ensures room { table.new.room ≡ table.old.room }
 {
     table.clear();

@@ -2,7 +2,7 @@
 use Rattle.std.proofs.Common.{◌≡◌, ◌++◌, ◌-◌, ℕ, List, [], ◌∷◌, Some, None, true, false, refl, length, replicate, codes}
 use Rattle.lif_model.specs.Numbers.{two_at, four_at}
 use Rattle.lif_model.specs.Tape.{Tape}
-use Rattle.lif_model.specs.Shelf.{image_of, piece, cut}
+use Rattle.lif_model.specs.Shelf.{image_of, piece, cut, records_for, largest_image}
 use Rattle.lif_model.specs.Gate.{is_open, has_open_gate}
 use Rattle.lif_model.specs.Header.{label_of, capacity_of, is_readable, header_of}
 use Rattle.lif_model.specs.Directory.{name_of, type_of, start_of, length_of, date_of, volume_word_of, implementation_of, entry_at, entries_of, slots_of}
@@ -135,3 +135,13 @@ only_spaces = refl
 spelt_out : printed (65 ∷ 32 ∷ 37 ∷ 10 ∷ 0xFF ∷ 0x7E ∷ 32 ∷ []) ≡ codes "A%20%25%0A%FF~"
 unfolding printed encode_with
 spelt_out = refl
+
+-- an image of at most 131,072 bytes is a tape, and one of a byte more a disc, which has 630,784 bytes
+tape_at_most : records_for 131072 ≡ 512
+tape_at_most = refl
+
+disc_beyond : records_for 131073 ≡ 2464
+disc_beyond = refl
+
+disc_size : largest_image ≡ 630784
+disc_size = refl

@@ -7,11 +7,11 @@ use Rattle.std.specs.Cmp.{unsigned_ties}
 use Rattle.std.specs.Cmp.Lexicographic.{slice_cmp, lists_ties, nat_list_cmp_total}
 use Rattle.std.specs.FinMap.{empty, get, insert, remove, get-empty, get-insert, get-remove, get-from_entries, same_map, slice_cmp-IsAntisymmetric, nat_cmp-IsAntisymmetric}
 use Rattle.std.specs.FinMap.Entries as entries
-use Rattle.lif_model.specs.Tape.{Tape, record_at}
+use Rattle.lif_model.specs.Tape.{Tape, record_at, bytes_from}
 use Rattle.lif_model.specs.Shelf.{bytes_of}
 use Rattle.lif_model.specs.Made.{file_length, filled, file_records}
 use Rattle.lif_model.specs.Directory.{name_of, start_of, length_of}
-use Rattle.lif_model.specs.Volume.{Files, is_file, file_named, bytes_from, content_of, files_of, Volume}
+use Rattle.lif_model.specs.Volume.{Files, is_file, file_named, content_of, files_of, Volume}
 use Rattle.lif_model.specs.Apply.{moved_key}
 use Rattle.lif_model.proofs.Made.{length_cut, file_bytes}
 

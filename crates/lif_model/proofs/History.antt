@@ -1,9 +1,9 @@
 -- A tape that keeps its writes keeps the laws of moments: a stop now leaves the tape as it reads, and a write, whatever
 -- it answers, lets time go on by what is torn of its record.
 use Rattle.std.proofs.Common.{◌≡◌, ◌⊎◌, ◌<◌, ◌≤◌, ◌+◌, ◌++◌, ℕ, List, [], ◌∷◌, length, get_or, set, take, inl, inr, refl, sym, ◌∙◌, ap, subst, arith, length-set, get_or-set_other, get_or-set_same}
-use Rattle.std.specs.Prelude.{Some}
+use Rattle.std.specs.Prelude.{◌==◌, if◌then◌else◌, Bool, true, false, Some}
 use Rattle.std.proofs.lemmas.List.{take_all, take-append-le, get_or_append_left, get_or_push, length_push}
-use Rattle.std.proofs.lemmas.Bool.{cases_eq, cases_lt}
+use Rattle.std.proofs.lemmas.Bool.{cases_eq, cases_lt, cases_Bool, eqb-true, eq-eqb}
 use Rattle.lif_model.specs.Tape.{Tape, IsTape, record_at}
 use Rattle.lif_model.specs.Stops.{Torn, Elapses}
 use Rattle.lif_model.specs.Redo.{Changes, changed}
@@ -26,6 +26,15 @@ pub set_shaped : (t : Tape) (n : ℕ) (bytes : List ℕ) → length bytes ≡ 25
 set_shaped t n bytes whole shaped k lt = elim (cases_eq k n) [
   | inl e ↦ subst (λ (m : ℕ). length (record_at (set t n bytes) m) ≡ 256) (sym e) (ap (λ (r : List ℕ). length r) (get_or-set_same t n bytes [] (omega (arith, e, lt, length-set t n bytes))) ∙ whole)
   | inr ne ↦ ap (λ (r : List ℕ). length r) (get_or-set_other t n k bytes [] ne) ∙ shaped k (omega (arith, lt, length-set t n bytes))
+]
+
+-- what a record holds behind a change
+pub record_behind : (t : Tape) (k n : ℕ) (bytes : List ℕ) → n < length t → record_at (set t k bytes) n ≡ (if k == n then bytes else record_at t n)
+record_behind t k n bytes within = elim (cases_Bool (k == n)) [
+  | inl same ↦
+      let e : k ≡ n = eqb-true k n same in
+      ap (λ (j : ℕ). record_at (set t j bytes) n) e ∙ get_or-set_same t n bytes [] within ∙ sym (ap (λ (b : Bool). if b then bytes else record_at t n) same)
+  | inr other ↦ get_or-set_other t k n bytes [] (λ e. let both : true ≡ false = sym (eq-eqb k n (sym e)) ∙ other in cc) ∙ sym (ap (λ (b : Bool). if b then bytes else record_at t n) other)
 ]
 
 -- other bytes in one record are what may be torn of it

@@ -1,4 +1,5 @@
 pub mod Examples
+pub mod TransferExamples
 pub mod Moments
 pub mod History
 pub mod Redo
@@ -9,6 +10,8 @@ pub mod StopExamples
 pub mod VolumeExamples
 pub mod CommandExamples
 pub mod Lists
+pub mod Sizes
+pub mod Runs
 pub mod Legal
 pub mod Volume
 pub mod Fit

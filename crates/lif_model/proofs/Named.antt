@@ -7,12 +7,12 @@ use Rattle.std.proofs.lemmas.Bool.{cases_eq, cases_lt, cases_Bool, and_parts, an
 use Rattle.std.proofs.lemmas.List.{length_push, get_or_append_left, length-map, get_or-map}
 use Rattle.std.proofs.lemmas.List.Edits.{length-insert, get_or-insert_below, get_or-insert_above}
 use Rattle.std.proofs.lemmas.Slice.Eq.{bytes_eq-Decides}
-use Rattle.lif_model.specs.Tape.{Tape, IsTape, record_at}
+use Rattle.lif_model.specs.Tape.{Tape, IsTape, record_at, bytes_from}
 use Rattle.lif_model.specs.Directory.{name_of, type_of, start_of, length_of, is_purged, slots_of}
 use Rattle.lif_model.specs.Made.{new_entry, with_name, with_type, file_length, filled}
 use Rattle.lif_model.specs.Redo.{One, settled}
 use Rattle.lif_model.specs.Legal.{is_live, has_records, is_live_named, has_file, is_legal, IsLegal}
-use Rattle.lif_model.specs.Volume.{redo_name, redo_entry, is_redo_file, is_adopted, is_file, file_named, bytes_from, content_of, files_of, Volume, volume_if, volume_in, volume_of, IsVolume, IsAdopted, HasBytes, HasFiles}
+use Rattle.lif_model.specs.Volume.{redo_name, redo_entry, is_redo_file, is_adopted, is_file, file_named, content_of, files_of, Volume, volume_if, volume_in, volume_of, IsVolume, IsAdopted, HasBytes, HasFiles}
 use Rattle.lif_model.specs.Fit.{Place, At, redo_place, fit_in}
 use Rattle.lif_model.specs.Apply.{VolumeCommand, Dir, Label, Fetch, Store, Rename, Purge, Adopt, Format, IsWellFormed, checks_of, refusal_of, lacks_slot, lacks_room, stored, with_slot, moved_key, renamed, fresh_volume, volume_after}
 use Rattle.lif_model.proofs.Made.{new_name, new_type, new_length, named_name, named_type, named_length, length_filled}

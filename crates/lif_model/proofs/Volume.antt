@@ -3,13 +3,13 @@ use Rattle.std.proofs.Common.{◌≡◌, ◌≢◌, ◌<◌, ◌≤◌, ◌+◌,
 use Rattle.std.specs.FinMap.{from_entries}
 use Rattle.std.specs.List.{list_any}
 use Rattle.std.proofs.lemmas.Bool.{and_from, or_left, or_right, le-leb, lt-ltb, cases_Bool}
-use Rattle.lif_model.specs.Tape.{Tape, record_at}
+use Rattle.lif_model.specs.Tape.{Tape, record_at, bytes_from}
 use Rattle.lif_model.specs.Gate.{gate_of, has_open_gate}
 use Rattle.lif_model.specs.Header.{directory_start, directory_length, directory_end}
 use Rattle.lif_model.specs.Directory.{name_of, start_of, length_of, entries_of, entries_from, before_end, slots_of}
 use Rattle.lif_model.specs.Redo.{targets_place, Invalid, targets_of, held_by, redo_of, IsSettled}
 use Rattle.lif_model.specs.Legal.{end_of, holds, is_legal_with, is_legal}
-use Rattle.lif_model.specs.Volume.{is_file, bytes_from, content_of, files_of, volume_if, volume_in, volume_of, is_used}
+use Rattle.lif_model.specs.Volume.{is_file, content_of, files_of, volume_if, volume_in, volume_of, is_used}
 use Rattle.lif_model.proofs.Redo.{named_at, redo_closed, redo_open, settled_none, settled_has_none, settled_gate_or_targets, same_gate}
 
 -- ---- slots

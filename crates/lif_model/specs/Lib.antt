@@ -7,6 +7,7 @@ pub mod Header
 pub mod Directory
 pub mod Printed
 pub mod Stops
+pub mod Transfers
 pub mod Pairs
 pub mod Made
 pub mod Redo

@@ -1,7 +1,7 @@
 -- The bytes that are written: numbers, entries, headers, a directory's first record and the records of a file.
 use Rattle.std.specs.Prelude.{◌+◌, ◌-◌, ◌*◌, ◌/◌, ◌%◌, ◌++◌, ◌==◌, if◌then◌else◌, ℕ, List, [], ◌∷◌, length, drop, set, max, replicate}
 use Rattle.lif_model.specs.Tape.{Tape}
-use Rattle.lif_model.specs.Shelf.{piece, cut}
+use Rattle.lif_model.specs.Shelf.{piece, cut, disc_records}
 
 -- ---- numbers, high byte first
 
@@ -39,7 +39,7 @@ first_directory_record entry = piece (entry ++ end_entry)
 -- The medium's tracks per surface, surfaces and records per track: 77, 2 and 16 of an HP 9114 disc, and 2, 1 and 256
 -- of an HP 82161A tape.
 abbrev pub geometry : ℕ → List ℕ
-geometry n = if n == 2464 then in_four 77 ++ (in_four 2 ++ in_four 16) else in_four 2 ++ (in_four 1 ++ in_four 256)
+geometry n = if n == disc_records then in_four 77 ++ (in_four 2 ++ in_four 16) else in_four 2 ++ (in_four 1 ++ in_four 256)
 
 -- record 0 as `format` writes it for n records: a directory of so many records from record 2 on, LIF version 1, no date
 unfoldable pub fresh_header : ℕ → List ℕ → ℕ → List ℕ

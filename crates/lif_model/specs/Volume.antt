@@ -1,11 +1,11 @@
 -- Volumes: what a tape stands for.
-use Rattle.std.specs.Prelude.{◌≡◌, ◌<◌, ◌≤◌, ◌*◌, ◌++◌, ◌&&◌, ◌||◌, ◌==◌, nat_lt, nat_le, not, ℕ, zero, suc, Bool, true, false, List, [], length, get_or, map, filter, find, codes, replicate, Option, Some, None}
+use Rattle.std.specs.Prelude.{◌≡◌, ◌<◌, ◌≤◌, ◌*◌, ◌&&◌, ◌||◌, ◌==◌, nat_lt, nat_le, not, ℕ, Bool, true, false, List, [], length, get_or, map, filter, find, codes, replicate, Option, Some, None}
 use Rattle.std.specs.List.{list_any}
 use Rattle.std.specs.Ordering.{nat_cmp}
 use Rattle.std.specs.Cmp.Lexicographic.{slice_cmp}
 use Rattle.std.specs.FinMap.{FinMap, get, from_entries}
 use Rattle.std.specs.Str.{bytes_eq}
-use Rattle.lif_model.specs.Tape.{Tape, record_at}
+use Rattle.lif_model.specs.Tape.{Tape, record_at, bytes_from}
 use Rattle.lif_model.specs.Gate.{gate_of}
 use Rattle.lif_model.specs.Header.{directory_start, directory_end, capacity_of}
 use Rattle.lif_model.specs.Directory.{name_of, type_of, start_of, length_of, is_end, slots_of}
@@ -45,11 +45,6 @@ is_adopted n slots = list_any (is_redo_file n) slots
 -- finite maps from names of ten bytes to bytes; two maps with equal look-ups are equal
 abbrev pub Files : Type 0
 Files = FinMap (slice_cmp nat_cmp) (List ℕ)
-
--- the bytes of so many records, the first of which is record k
-abbrev pub bytes_from : Tape → ℕ → ℕ → List ℕ
-bytes_from tape k zero = []
-bytes_from tape k (suc count) = record_at tape k ++ bytes_from tape (suc k) count
 
 -- all bytes of a slot's extent
 abbrev pub content_of : Tape → List ℕ → List ℕ

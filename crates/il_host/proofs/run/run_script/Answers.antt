@@ -5,6 +5,6 @@ use Rattle.il_host.proofs.run.run_script.Goals as goal
 pub returns-in-Ok-open-clause-runs : goal.returns-in-Ok-open-clause-runs
 returns-in-Ok-open-clause-runs g c = λ bytes t k told.
     let medium = c.in-Ok-open.ensures.medium in
-    let a = c.answer_all-ending.ensures.answers bytes t k (ap g.M.Medium.tape medium ∙ told) in
+    let a = c.answer_all-ending.ensures.answers bytes t k (ap (λ m. (g.M.Medium.view m).tape) medium ∙ told) in
     runs-over-from c.answer_all-ending.result bytes t a.0 _ _ _ _ _ _ _ _
-    (ap g.M.Medium.tape c.close.ensures ∙ a.1) (ap g.M.Medium.faults medium) (ap g.M.Medium.faults c.close.ensures) a.2
+    (ap (λ m. (g.M.Medium.view m).tape) c.close.ensures ∙ a.1) (ap (λ m. (g.M.Medium.view m).faults) medium) (ap (λ m. (g.M.Medium.view m).faults) c.close.ensures) a.2

@@ -1,10 +1,24 @@
-use Rattle.std.proofs.Common.{◌≡◌, ℕ, ◌<◌, ◌-◌, ◌+◌, map, Some, refl, sym, ◌∙◌, arith}
+use Rattle.std.proofs.Common.{◌≡◌, ℕ, ◌<◌, ◌-◌, ◌+◌, map, sym, ◌∙◌, arith, rules}
+use Rattle.std.specs.Prelude.{Some, Ok}
 use Rattle.lif_model.specs.Tape.{Tape}
 use Rattle.lif_model.specs.Directory.{entries_of, before_end, slots_from}
+use Rattle.il_ports.specs.Stores.{GoesOn}
 use Rattle.lif_dir.specs.Entries.{slot_from, slot_bytes}
-use Rattle.il_ports.proofs.Transfers.{one_more, then_more}
+use Rattle.il_ports.proofs.Stores.{goes_nowhere, goes_further, goes_within, quiet_nowhere, quiet_longer}
+use Rattle.il_ports.proofs.Transfers.{nothing_yet, one_read, then_more}
 use Rattle.lif_dir.proofs.Slots.{slots_end, slots_more, last_part, mapped_last, parts_step, mapped_step}
 use Rattle.lif_dir.proofs.reading.slots_of.Goals as goal
+
+pub loop-n-init : goal.loop-n-init
+loop-n-init g c = record {
+  goes_on = goes_within 0 _ _ _ _ (omega arith) (goes_nowhere _ _ c.requires.ready);
+  quiet = quiet_nowhere _;
+  transfers = nothing_yet _ _;
+  room = search rules;
+  count = search rules;
+  slots = search rules;
+  bytes = search rules;
+}
 
 pub returns-then-append_slots-clause-done : goal.returns-then-append_slots-clause-done
 returns-then-append_slots-clause-done g c = λ t told.
@@ -12,7 +26,7 @@ returns-then-append_slots-clause-done g c = λ t told.
     let left : ℕ = c.args.header.now.start + c.args.header.now.length - c.loop-n.n in
     let within : 0 < left = omega arith in
     let last : slots_from t c.loop-n.n left ≡ before_end (entries_of c.read.new.into) =
-    slots_end t c.read.new.into c.loop-n.n left within (c.in_ok-read.ensures.content t (v.tape ∙ told))
+    slots_end t c.read.new.into c.loop-n.n left within (c.in_ok-read.ensures.content t (v.quiet.tape ∙ told))
     (sym c.append_slots.ensures.ended ∙ c.if-append_slots.true) in
     mapped_last slot_from _ c.loop-n.table.slots c.append_slots.new.table.slots _ _ (v.slots t told) last c.append_slots.ensures.slots
 
@@ -22,12 +36,12 @@ returns-then-append_slots-clause-bytes g c = λ t told.
     let left : ℕ = c.args.header.now.start + c.args.header.now.length - c.loop-n.n in
     let within : 0 < left = omega arith in
     let last : slots_from t c.loop-n.n left ≡ before_end (entries_of c.read.new.into) =
-    slots_end t c.read.new.into c.loop-n.n left within (c.in_ok-read.ensures.content t (v.tape ∙ told))
+    slots_end t c.read.new.into c.loop-n.n left within (c.in_ok-read.ensures.content t (v.quiet.tape ∙ told))
     (sym c.append_slots.ensures.ended ∙ c.if-append_slots.true) in
     last_part _ (map slot_bytes c.loop-n.table.slots) (map slot_bytes c.append_slots.new.table.slots) _ _ (v.bytes t told) last c.append_slots.ensures.bytes
 
 pub returns-then-append_slots-clause-transfers : goal.returns-then-append_slots-clause-transfers
-returns-then-append_slots-clause-transfers g c = then_more (λ n. ⊥) _ _ _ c.loop-n.invariant.transfers (one_more (λ n. ⊥) _ _ _ c.in_ok-read.ensures.transfers (λ writes. cc))
+returns-then-append_slots-clause-transfers g c = then_more (λ n. ⊥) _ _ _ c.loop-n.invariant.transfers (one_read (λ n. ⊥) _ _ _ _ c.in_ok-read.ensures.transfers)
 
 pub loop-n-preserved : goal.loop-n-preserved
 loop-n-preserved g c =
@@ -37,22 +51,12 @@ loop-n-preserved g c =
     let m : ℕ = c.args.header.now.start + c.args.header.now.length - c.loop-n.n in
     let k : ℕ = c.args.header.now.start + c.args.header.now.length - (c.loop-n.n + 1) in
     let later : m ≡ k + 1 = omega arith in
-    let more = λ (t : Tape) (told : g.R.Records.tape c.args.records.now ≡ Some t).
-    slots_more t c.read.new.into c.loop-n.n m k later (r.content t (v.tape ∙ told)) (sym a.ended ∙ c.if-append_slots.false) in
+    let more = λ (t : Tape) (told : (g.R.Records.view c.args.records.now).tape ≡ Some t).
+    slots_more t c.read.new.into c.loop-n.n m k later (r.content t (v.quiet.tape ∙ told)) (sym a.ended ∙ c.if-append_slots.false) in
     record {
-      valid = r.valid;
-      sound = r.sound;
-      tape = r.tape ∙ v.tape;
-      size = r.size ∙ v.size;
-      left = omega (arith, r.left, v.left);
-      moment = r.moment ∙ v.moment;
-      since = record { nothing_else = λ m t left. v.since.nothing_else m t (r.since.nothing_else m t left); keeps = λ m t left. r.since.keeps m t (v.since.keeps m t left) };
-      transfers = then_more (λ n. ⊥) _ _ _ v.transfers (one_more (λ n. ⊥) _ _ _ r.transfers (λ writes. cc));
-      stood = λ s from. r.stood s (v.stood s from);
-      unbroken = λ was. r.unbroken (v.unbroken was) refl;
-      resumes = r.resumes ∙ v.resumes;
-      frames = r.cause.0 ∙ v.frames;
-      medium = r.cause.1 ∙ v.medium;
+      goes_on = goes_within _ _ _ _ _ (omega arith) (goes_further _ 1 _ _ _ _ _ v.goes_on r.goes_on);
+      quiet = quiet_longer _ _ _ v.quiet r.quiet;
+      transfers = then_more (λ n. ⊥) _ _ _ v.transfers (one_read (λ n. ⊥) _ _ _ _ r.transfers);
       room = a.room ∙ v.room;
       count = omega (arith, a.count, v.count);
       slots = λ t told. mapped_step slot_from _ c.loop-n.table.slots c.append_slots.new.table.slots _ _ _ (v.slots t told) (more t told) a.slots;

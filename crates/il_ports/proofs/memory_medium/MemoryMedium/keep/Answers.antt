@@ -1,4 +1,4 @@
-use Rattle.std.proofs.Common.{◌≡◌, ◌++◌, ◌∷◌, [], arith}
+use Rattle.std.proofs.Common.{◌≡◌, ◌∙◌, ◌++◌, ◌∷◌, [], sym, arith, length-set}
 use Rattle.std.specs.Prelude.{string_bytes}
 use Rattle.lif_model.proofs.History.{set_shaped}
 use Rattle.il_ports.specs.Drive.{images_of}
@@ -24,3 +24,6 @@ returns c =
       tape = tape_held self.drive self.tape.items c.args.n c.args.bytes.now i;
       history = is i;
     }
+
+pub invariant_of-self-clause-first_size : goal.invariant_of-self-clause-first_size
+invariant_of-self-clause-first_size c = c.args.self.now.first_size ∙ sym (length-set c.args.self.now.tape.items c.args.n c.args.bytes.now)
