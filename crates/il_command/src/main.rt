@@ -1,35 +1,39 @@
 //! `il IMAGE`: answers the script on standard input over the image of a tape.
 #![tactic(auto)]
 
+mod messages;
+
+ghost use Rattle.std.specs.Prelude.{◌≡◌, ◌≢◌};
+ghost use Rattle.std.specs.IoError.{error_kind};
+ghost use Rattle.std.specs.declared.io.ErrorKind.TheVariants.{OutOfMemory};
+
 use il_host::{Rig, run_il};
 use il_ports::{FileMedium, StdSink, StdSource};
+use messages::message;
 use std::env;
-use std::io::{self, BufReader};
+use std::io::{self, BufReader, ErrorKind};
 use std::process::ExitCode;
+
+const BAD_WORDS: u8 = 2;
 
 const OUT_OF_MEMORY: u8 = 7;
 
-// What is printed on standard error for an exit status.
-fn message(status: u8) -> Option<&'static str> {
-    match status {
-        2 => Some(
-            "il: usage: il [--new] [--quiet] [--lose LIST] [--alter LIST] [--generate SEED:COUNT] IMAGE",
-        ),
-        3 => Some("il: no such image"),
-        4 => Some("il: image too large"),
-        5 => Some("il: script could not be read"),
-        6 => Some("il: output could not be written"),
-        7 => Some("il: out of memory"),
-        8 => Some("il: script too long"),
-        9 => Some("il: image could not be opened"),
-        _ => None,
+// The exit status where the words of the command line were not read. One that is not UTF-8 is no word of the program.
+fn unread_words(error: &io::Error) -> u8
+    ensures memory { error_kind error.now ≡ OutOfMemory → result ≡ 7 }
+    ensures words { error_kind error.now ≢ OutOfMemory → result ≡ 2 }
+{
+    match error.kind() {
+        ErrorKind::OutOfMemory => OUT_OF_MEMORY,
+        _ => BAD_WORDS,
     }
 }
 
 // Runs the script, and gives the exit status.
 fn run(rt: &HostRuntime) -> u8 {
-    let Ok(args) = env::args(rt) else {
-        return OUT_OF_MEMORY;
+    let args = match env::args(rt) {
+        Ok(args) => args,
+        Err(error) => return unread_words(&error),
     };
     let Ok(words) = args.skip(1).collect::<Vec<String>>(rt.alloc()) else {
         return OUT_OF_MEMORY;

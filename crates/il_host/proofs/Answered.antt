@@ -8,14 +8,15 @@ use Rattle.lif_dir.specs.Entries.{slot_from}
 use Rattle.lif_dir.specs.declared.entries.Slot.{Slot}
 use Rattle.il_host.specs.Listing.{volume_line, listing}
 use Rattle.il_host.specs.Entries.{slot_text}
-use Rattle.il_host.specs.Sheet.{Sheet}
-use Rattle.il_host.specs.Replies.{last_line, reply_text}
+use Rattle.il_script.specs.Sheet.{Sheet}
+use Rattle.il_script.specs.Replies.{reply_line}
+use Rattle.il_host.specs.Replies.{reply_text}
 use Rattle.il_host.specs.Reading.{IsDirectory, HasStopCause}
 use Rattle.il_host.specs.Events.{State, Performs}
-use Rattle.il_host.specs.declared.reply.Code.{Code}
-use Rattle.il_host.specs.declared.reply.Command.TheVariants.{Dir}
-use Rattle.il_host.specs.declared.reply.Reply.{Reply}
-use Rattle.il_host.specs.declared.reply.Reply.TheVariants as reply
+use Rattle.il_script.specs.declared.reply.Code.{Code}
+use Rattle.il_host.specs.declared.item.Command.TheVariants.{Dir}
+use Rattle.il_script.specs.declared.reply.Reply.{Reply}
+use Rattle.il_script.specs.declared.reply.Reply.TheVariants as reply
 use Rattle.il_host.specs.declared.directory.Stop.{Stop}
 use Rattle.il_host.specs.declared.directory.Stop.TheVariants as stop
 use Rattle.il_host.proofs.Listings.{listing-read}
@@ -26,11 +27,11 @@ with_text sheet text = record { text = text; room = sheet.room }
 -- a directory that was listed on a blank page
 pub listed : (t : Tape) (header : HeaderParts) (slots : List Slot) (blank lines page : Sheet) (r : Reply) → blank.text ≡ []
     → lines ≡ with_text blank (blank.text ++ volume_line header (length slots) ++ flat_map slot_text slots)
-    → page ≡ with_text lines (lines.text ++ last_line reply.Ok) → r ≡ reply.Ok
+    → page ≡ with_text lines (lines.text ++ reply_line reply.Ok) → r ≡ reply.Ok
     → header ≡ header_of (record_at t 0) → slots ≡ map slot_from (slots_of t) → page.text ≡ reply_text Dir t r
 listed t header slots blank lines page r empty put ends is h s =
     let text : lines.text ≡ listing t = ap (λ (p : Sheet). p.text) put ∙ ap (λ l. l ++ volume_line header (length slots) ++ flat_map slot_text slots) empty ∙ listing-read t header slots h s in
-    ap (λ (p : Sheet). p.text) ends ∙ ap (λ l. l ++ last_line reply.Ok) text ∙ sym (ap (reply_text Dir t) is)
+    ap (λ (p : Sheet). p.text) ends ∙ ap (λ l. l ++ reply_line reply.Ok) text ∙ sym (ap (reply_text Dir t) is)
 
 abbrev pub state : Tape → ℕ → State
 state tape faults = record { tape = tape; faults = faults }

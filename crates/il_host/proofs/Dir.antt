@@ -4,9 +4,9 @@ use Rattle.lif_model.specs.Tape.{Tape, record_at}
 use Rattle.lif_model.specs.Gate.{is_open, has_open_gate}
 use Rattle.lif_model.specs.Header.{is_readable}
 use Rattle.il_host.specs.Replies.{dir_reply}
-use Rattle.il_host.specs.declared.reply.Reply.{Reply}
-use Rattle.il_host.specs.declared.reply.Reply.TheVariants as reply
-use Rattle.il_host.specs.declared.reply.Code.TheVariants as code
+use Rattle.il_script.specs.declared.reply.Reply.{Reply}
+use Rattle.il_script.specs.declared.reply.Reply.TheVariants as reply
+use Rattle.il_script.specs.declared.reply.Code.TheVariants as code
 
 -- the gate of a tape of n records, as it was read
 pub gate-read : (t : Tape) (n : ℕ) (bytes : List ℕ) (b : Bool) → length t ≡ n → bytes ≡ record_at t (n - 4) → is_open bytes ≡ b → has_open_gate t ≡ b

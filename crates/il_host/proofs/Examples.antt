@@ -8,24 +8,17 @@ use Rattle.lif_model.specs.Header.{label_of}
 use Rattle.lif_model.specs.Directory.{name_of, implementation_of, entry_at, entries_of}
 use Rattle.lif_model.specs.Printed.{printed}
 use Rattle.lif_model.proofs.Examples.{blank, filled, redo_entry, end_entry, formatted, tape_with}
-use Rattle.il_host.specs.Cut.{cut, lines_of}
 use Rattle.il_host.specs.Items.{items_of}
-use Rattle.il_host.specs.Listing.{text_line, volume_line, file_line, listing}
-use Rattle.il_host.specs.Replies.{dir_reply, last_line, reply_text}
+use Rattle.il_script.specs.Replies.{text_line, reply_line}
+use Rattle.il_host.specs.Listing.{volume_line, file_line, listing}
+use Rattle.il_host.specs.Replies.{dir_reply, reply_text}
 use Rattle.il_host.specs.Words.{image_in}
-use Rattle.il_host.specs.declared.reply.Command.TheVariants.{Dir}
-use Rattle.il_host.specs.declared.reply.Code.TheVariants as code
-use Rattle.il_host.specs.declared.reply.Reply.TheVariants as reply
+use Rattle.il_host.specs.declared.item.Command.TheVariants.{Dir}
+use Rattle.il_script.specs.declared.reply.Code.TheVariants as code
+use Rattle.il_script.specs.declared.reply.Reply.TheVariants as reply
 use Rattle.il_host.specs.declared.item.Item.TheVariants as item
 
--- ---- lines and items
-
--- a last line without a line feed
-lines_cut : cut (codes "dir" ++ 10 ∷ 10 ∷ codes "list") ≡ record { whole = codes "dir" ∷ [] ∷ []; open_line = codes "list" }
-lines_cut = refl
-
-lines : lines_of (codes "dir" ++ 10 ∷ 10 ∷ codes "list") ≡ codes "dir" ∷ [] ∷ codes "list" ∷ []
-lines = refl
+-- ---- items
 
 -- an empty line asks for nothing
 items : items_of (codes "dir" ++ 10 ∷ 10 ∷ codes "list") ≡ item.Command Dir ∷ item.Fault code.BadLine ∷ []
@@ -83,5 +76,5 @@ refused_text : reply_text Dir formatted (reply.No code.NotLif) ≡ text_line (co
 unfolding digits
 refused_text = refl
 
-fault_text : last_line reply.FaultMedium ≡ text_line (codes "fault medium")
+fault_text : reply_line reply.FaultMedium ≡ text_line (codes "fault medium")
 fault_text = refl

@@ -1,9 +1,3 @@
-pub mod Cuts
-pub mod Scans
-pub mod Gives
-pub mod Falls
-pub mod Digits
-pub mod Spaces
 pub mod Known
 pub mod Runs
 pub mod Dir

@@ -4,19 +4,20 @@ use Rattle.std.proofs.lemmas.List.{take-append-le, take_all}
 use Rattle.std.specs.List.{cons_option}
 use Rattle.std.specs.Io.KnownBytes.{Appends}
 use Rattle.lif_model.specs.Tape.{Tape}
-use Rattle.il_host.specs.Cut.{cut, told}
-use Rattle.il_host.specs.Progress.{Progress, Given, GivesWhole, GivesAll, Turn, line_given}
-use Rattle.il_host.specs.declared.lines.Line.{Line}
-use Rattle.il_host.specs.declared.lines.Line.TheVariants.{Text, TooLong, End, Fault, Over}
-use Rattle.il_host.proofs.Gives.{given-front}
+use Rattle.il_script.specs.declared.limits.TheConstants.{LONGEST_SCRIPT}
+use Rattle.il_script.specs.LineCut.{line_cut, line_told}
+use Rattle.il_script.specs.Progress.{Progress, Given, GivesWhole, GivesAll, Turn, line_given}
+use Rattle.il_script.specs.declared.lines.Line.{Line}
+use Rattle.il_script.specs.declared.lines.Line.TheVariants.{Text, TooLong, End, Fault, Over}
+use Rattle.il_script.proofs.Gives.{given-front}
 use Rattle.il_host.proofs.Known.{appends-trans, appends-none}
 use Rattle.il_host.specs.Items.{item_of, items_in}
-use Rattle.il_host.specs.Replies.{is_ok}
-use Rattle.il_host.specs.declared.reply.Reply.TheVariants as reply
+use Rattle.il_script.specs.Replies.{is_ok}
+use Rattle.il_script.specs.declared.reply.Reply.TheVariants as reply
 use Rattle.il_host.specs.Events.{State, Event, HasReplyCause, Step, Answered, Chained, item_text, event_text, output_of, all_ok}
-use Rattle.il_host.specs.Run.{AnswersAll, AnswersTaken, AnswersLongest, AnswersFront, longest_script}
+use Rattle.il_host.specs.Run.{AnswersAll, AnswersTaken, AnswersLongest, AnswersFront}
 use Rattle.il_host.specs.declared.item.Item.{Item}
-use Rattle.il_host.specs.declared.reply.Reply.{Reply}
+use Rattle.il_script.specs.declared.reply.Reply.{Reply}
 
 -- ---- lists
 
@@ -167,7 +168,7 @@ ends-all bytes old new v w left left' before now ok all s g e =
       replies = s.replies ∙ e;
     }
 
-going-whole : (behind : List ℕ) (new : Progress) (given : List (Option (List ℕ))) → new.ended ≡ false → GivesWhole behind new.begun given ⊎ GivesAll behind new given → given ≡ map told (cut behind).whole
+going-whole : (behind : List ℕ) (new : Progress) (given : List (Option (List ℕ))) → new.ended ≡ false → GivesWhole behind new.begun given ⊎ GivesAll behind new given → given ≡ map line_told (line_cut behind).whole
 going-whole behind new given e (inl w) = w.lines
 going-whole behind new given e (inr w) = absurd (false-not-true (sym e ∙ w.ended))
 
@@ -185,20 +186,20 @@ ends-taken bytes old new v w left left' before now ok s g e =
       written = s.written;
     }
 
-held-whole : (behind : List ℕ) (new : Progress) (given : List (Option (List ℕ))) → 0 < length new.held → GivesWhole behind new.begun given ⊎ GivesAll behind new given → given ≡ map told (cut behind).whole
+held-whole : (behind : List ℕ) (new : Progress) (given : List (Option (List ℕ))) → 0 < length new.held → GivesWhole behind new.begun given ⊎ GivesAll behind new given → given ≡ map line_told (line_cut behind).whole
 held-whole behind new given e (inl w) = w.lines
 held-whole behind new given e (inr w) = absurd (omega (arith, ap length w.held))
 
 pub ends-longest : (bytes : List ℕ) (old new : Progress) (v w : State) (left left' before now : Option (List ℕ)) (ok : Bool)
-    → Sofar bytes old v w left before now ok → GivesLine old left new left' Over → (new.taken ≡ 16777216) × (0 < length new.held) → AnswersLongest bytes v w before now
+    → Sofar bytes old v w left before now ok → GivesLine old left new left' Over → (new.taken ≡ LONGEST_SCRIPT) × (0 < length new.held) → AnswersLongest bytes v w before now
 ends-longest bytes old new v w left left' before now ok s g e =
     let t = g bytes s.given s.stands in
-    let size : length t.behind ≡ 16777216 = sym t.count ∙ e.0 in
-    let front : take longest_script bytes ≡ t.behind = ap (take longest_script) t.whole ∙ take-append-le longest_script t.behind (new.held ++ t.rest) (omega arith) ∙ take_all longest_script t.behind (omega arith) in
+    let size : length t.behind ≡ LONGEST_SCRIPT = sym t.count ∙ e.0 in
+    let front : take LONGEST_SCRIPT bytes ≡ t.behind = ap (take LONGEST_SCRIPT) t.whole ∙ take-append-le LONGEST_SCRIPT t.behind (new.held ++ t.rest) (omega arith) ∙ take_all LONGEST_SCRIPT t.behind (omega arith) in
     record {
       events = s.events;
       long = omega (arith, ap length t.whole, length-append t.behind (new.held ++ t.rest), length-append new.held t.rest);
-      answered = subst (λ (l : List (Option (List ℕ))). Answered v (items_in l) s.events w) (held-whole t.behind new s.given e.1 t.lines ∙ ap (λ l. map told (cut l).whole) (sym front)) s.answered;
+      answered = subst (λ (l : List (Option (List ℕ))). Answered v (items_in l) s.events w) (held-whole t.behind new s.given e.1 t.lines ∙ ap (λ l. map line_told (line_cut l).whole) (sym front)) s.answered;
       written = s.written;
     }
 

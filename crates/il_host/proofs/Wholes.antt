@@ -13,8 +13,8 @@ use Rattle.il_host.specs.Words.{image_in}
 use Rattle.il_host.specs.Events.{State, Event, Step, Chained}
 use Rattle.il_host.specs.Run.{Answers, status_of}
 use Rattle.il_host.specs.Whole.{RunsOver, Leaves, Inserts}
-use Rattle.il_host.specs.declared.reply.Reply.{Reply}
-use Rattle.il_host.specs.declared.reply.Reply.TheVariants as reply
+use Rattle.il_script.specs.declared.reply.Reply.{Reply}
+use Rattle.il_script.specs.declared.reply.Reply.TheVariants as reply
 use Rattle.il_host.specs.declared.item.Item.{Item}
 use Rattle.il_host.specs.declared.item.Item.TheVariants as item
 use Rattle.il_host.specs.declared.ending.Ending.{Ending}

@@ -8,7 +8,7 @@ use Rattle.lif_dir.specs.Entries.{name_bytes}
 use Rattle.lif_dir.specs.declared.entries.FileEntry.{FileEntry}
 use Rattle.lif_dir.specs.declared.entries.Slot.{Slot}
 use Rattle.lif_dir.specs.declared.entries.Slot.TheVariants.{Live, Purged, End}
-use Rattle.il_host.specs.Listing.{text_line, next}
+use Rattle.il_script.specs.Replies.{text_line, next}
 
 -- the line of an entry: that of its 32 bytes, told by its parts
 unfoldable pub entry_line : FileEntry → List ℕ

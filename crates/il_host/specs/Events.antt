@@ -3,10 +3,11 @@ use Rattle.std.specs.Prelude.{ℕ, ◌≡◌, Bool, List, [], ◌∷◌, map}
 use Rattle.std.specs.List.{flat_map, list_all}
 use Rattle.lif_model.specs.Tape.{Tape}
 use Rattle.lif_model.specs.Causes.{Rose}
-use Rattle.il_host.specs.Replies.{last_line, is_ok, reply_to, reply_text}
-use Rattle.il_host.specs.declared.reply.Command.{Command}
-use Rattle.il_host.specs.declared.reply.Reply.{Reply}
-use Rattle.il_host.specs.declared.reply.Reply.TheVariants as reply
+use Rattle.il_script.specs.Replies.{reply_line, is_ok}
+use Rattle.il_host.specs.Replies.{reply_to, reply_text}
+use Rattle.il_host.specs.declared.item.Command.{Command}
+use Rattle.il_script.specs.declared.reply.Reply.{Reply}
+use Rattle.il_script.specs.declared.reply.Reply.TheVariants as reply
 use Rattle.il_host.specs.declared.item.Item.{Item}
 use Rattle.il_host.specs.declared.item.Item.TheVariants as item
 
@@ -54,7 +55,7 @@ pub record Answered (start : State) (asked : List Item) (events : List Event) (f
 -- the text of an item's reply, by the tape before it
 abbrev pub item_text : Tape → Item → Reply → List ℕ
 item_text tape (item.Command command) r = reply_text command tape r
-item_text tape (item.Fault c) r = last_line r
+item_text tape (item.Fault c) r = reply_line r
 
 abbrev pub event_text : Event → List ℕ
 event_text e = item_text e.before.tape e.item e.reply

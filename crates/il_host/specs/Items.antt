@@ -2,9 +2,9 @@
 use Rattle.std.specs.Prelude.{ℕ, List, [], ◌∷◌, Option, Some, None, if◌then◌else◌, map, codes}
 use Rattle.std.specs.List.{filter_map}
 use Rattle.std.specs.Str.{bytes_eq}
-use Rattle.il_host.specs.Cut.{lines_of, told}
-use Rattle.il_host.specs.declared.reply.Command.TheVariants.{Dir}
-use Rattle.il_host.specs.declared.reply.Code.TheVariants as code
+use Rattle.il_script.specs.LineCut.{lines_of, line_told}
+use Rattle.il_host.specs.declared.item.Command.TheVariants.{Dir}
+use Rattle.il_script.specs.declared.reply.Code.TheVariants as code
 use Rattle.il_host.specs.declared.item.Item.{Item}
 use Rattle.il_host.specs.declared.item.Item.TheVariants as item
 
@@ -23,4 +23,4 @@ items_in lines = filter_map item_of lines
 
 -- the items of a script
 abbrev pub items_of : List ℕ → List Item
-items_of script = items_in (map told (lines_of script))
+items_of script = items_in (map line_told (lines_of script))

@@ -1,7 +1,3 @@
-pub mod Cut
-pub mod Told
-pub mod Progress
-pub mod Sheet
 pub mod Listing
 pub mod Replies
 pub mod Items

@@ -7,14 +7,7 @@ use Rattle.lif_model.specs.Tape.{Tape, record_at}
 use Rattle.lif_model.specs.Header.{HeaderParts, header_of}
 use Rattle.lif_model.specs.Directory.{name_of, type_of, start_of, length_of, implementation_of, is_purged, slots_of}
 use Rattle.lif_model.specs.Printed.{printed}
-
--- a line of text
-abbrev pub text_line : List ℕ → List ℕ
-text_line text = text ++ 10 ∷ []
-
--- a part that follows another
-abbrev pub next : List ℕ → List ℕ
-next part = 32 ∷ part
+use Rattle.il_script.specs.Replies.{text_line, next}
 
 -- `volume LABEL START LENGTH USED CAPACITY`: USED counts the slots, live and purged, and CAPACITY those that there is room for
 unfoldable pub volume_line : HeaderParts → ℕ → List ℕ

@@ -8,7 +8,7 @@ use Rattle.il_ports.specs.declared.records.Trouble.{Trouble}
 use Rattle.lif_dir.specs.Entries.{slot_from}
 use Rattle.lif_dir.specs.declared.entries.Slot.{Slot}
 use Rattle.il_host.specs.Replies.{dir_reply}
-use Rattle.il_host.specs.declared.reply.Reply.TheVariants as reply
+use Rattle.il_script.specs.declared.reply.Reply.TheVariants as reply
 use Rattle.il_host.specs.declared.directory.Stop.{Stop}
 use Rattle.il_host.specs.declared.directory.Stop.TheVariants as stop
 

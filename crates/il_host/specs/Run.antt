@@ -2,23 +2,20 @@
 use Rattle.std.specs.Prelude.{◌≡◌, ℕ, ◌≤◌, ◌<◌, Bool, true, false, List, [], ◌∷◌, ◌++◌, length, take, map, Option, Some}
 use Rattle.std.specs.Io.KnownBytes.{Appends, IsAtEnd}
 use Rattle.lif_model.specs.Causes.{Rose}
-use Rattle.il_host.specs.Cut.{cut, told}
+use Rattle.il_script.specs.declared.limits.TheConstants.{LONGEST_SCRIPT}
+use Rattle.il_script.specs.LineCut.{line_cut, line_told}
 use Rattle.il_host.specs.Items.{items_in, items_of}
 use Rattle.il_host.specs.Events.{State, Event, Answered, event_text, output_of, all_ok}
 use Rattle.il_host.specs.declared.item.Item.{Item}
 use Rattle.il_host.specs.declared.ending.Ending.{Ending}
 use Rattle.il_host.specs.declared.ending.Ending.TheVariants as ending
 
--- how many bytes a script may have
-abbrev pub longest_script : ℕ
-longest_script = 16777216
-
 -- the script was read to its end and all its items were answered
 pub record AnswersAll (script : List ℕ) (start finish : State) (left written_before written_now : Option (List ℕ)) (ok : Bool) : Type 0 where
   pub events : List Event
   pub answered : Answered start (items_of script) events finish
   pub read : IsAtEnd left
-  pub short : length script ≤ longest_script
+  pub short : length script ≤ LONGEST_SCRIPT
   pub written : Appends written_before written_now (output_of events)
   pub replies : all_ok events ≡ ok
 
@@ -29,14 +26,14 @@ pub record AnswersTaken (script : List ℕ) (start finish : State) (left written
   pub rest : List ℕ
   pub known : left ≡ Some rest
   pub whole : script ≡ taken ++ rest
-  pub answered : Answered start (items_in (map told (cut taken).whole)) events finish
+  pub answered : Answered start (items_in (map line_told (line_cut taken).whole)) events finish
   pub written : Appends written_before written_now (output_of events)
 
 -- the script has more bytes, and the items of the complete lines up to there were answered
 pub record AnswersLongest (script : List ℕ) (start finish : State) (written_before written_now : Option (List ℕ)) : Type 0 where
   pub events : List Event
-  pub long : longest_script < length script
-  pub answered : Answered start (items_in (map told (cut (take longest_script script)).whole)) events finish
+  pub long : LONGEST_SCRIPT < length script
+  pub answered : Answered start (items_in (map line_told (line_cut (take LONGEST_SCRIPT script)).whole)) events finish
   pub written : Appends written_before written_now (output_of events)
 
 -- the first items were answered, and of the text of the last of them a front was written

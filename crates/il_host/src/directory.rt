@@ -4,9 +4,9 @@ ghost use Rattle.lif_model.specs.Gate.{is_open};
 ghost use Rattle.il_ports.specs.Stores.{Continues, IsQuiet};
 ghost use Rattle.il_host.specs.Reading.{IsDirectory, HasStopCause, troubled};
 
-use crate::reply::Code;
 use il_ports::{Records, Trouble};
 use lif_dir::{SlotTable, slots_of};
+use il_script::Code;
 use lif_header::Header;
 
 /// Why a directory was not read.

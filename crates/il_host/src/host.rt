@@ -1,12 +1,12 @@
 ghost use Rattle.std.specs.Prelude.{◌≡◌, ◌≤◌, ◌+◌, ◌*◌, ◌++◌, [], length, IfOk};
-ghost use Rattle.il_host.specs.Replies.{last_line};
+ghost use Rattle.il_script.specs.Replies.{reply_line};
 
 use crate::directory::{Stop, read_directory};
+use crate::item::Command;
 use crate::listing::put_listing;
-use crate::page::Page;
 use crate::performer::Performer;
-use crate::reply::{Command, Reply};
 use crate::store::Store;
+use il_script::{Page, Reply};
 use il_ports::{Medium, Records, Trouble};
 use lif_dir::SlotTable;
 use std::alloc::{AllocError, Global};
@@ -150,7 +150,7 @@ impl<M: Medium> Host<M> {
 fn answered(page: &mut Page, reply: Reply) -> Reply
     requires { length page.old.text + 20 ≤ page.old.room }
     ensures reply { result ≡ reply }
-    ensures text { page.new ≡ record page.old { text = page.old.text ++ last_line reply } }
+    ensures text { page.new ≡ record page.old { text = page.old.text ++ reply_line reply } }
 {
     page.put(reply.last_line());
     reply

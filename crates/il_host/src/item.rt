@@ -1,7 +1,14 @@
 ghost use Rattle.std.specs.Prelude.{◌≡◌};
 ghost use Rattle.il_host.specs.Items.{item_of_line};
 
-use crate::reply::{Code, Command};
+use il_script::Code;
+
+/// What a host performs.
+#[derive(Clone, Copy, Debug, PartialEq, Eq)]
+pub enum Command {
+    /// Lists the volume and its files.
+    Dir,
+}
 
 /// What a line of the script asks for.
 #[derive(Clone, Copy, Debug, PartialEq, Eq)]

@@ -2,10 +2,11 @@ ghost use Rattle.std.specs.Prelude.{◌≡◌, ◌+◌, ◌*◌, ◌≤◌, ◌<
 ghost use Rattle.std.specs.List.{flat_map};
 ghost use Rattle.lif_model.specs.Printed.{printed};
 ghost use Rattle.hex.specs.Hex.{encode_upper};
-ghost use Rattle.il_host.specs.Listing.{next, volume_line};
+ghost use Rattle.il_script.specs.Replies.{next};
+ghost use Rattle.il_host.specs.Listing.{volume_line};
 ghost use Rattle.il_host.specs.Entries.{entry_line, slot_text};
 
-use crate::page::Page;
+use il_script::Page;
 use lif_dir::{FileEntry, Slot, SlotTable};
 use lif_header::Header;
 

@@ -1,4 +1,5 @@
-use crate::reply::{Command, Reply};
+use crate::item::Command;
+use il_script::Reply;
 
 // What performs commands, one after the other. The loop over a script is proved for every performer, and the host is one.
 pub trait Performer {

@@ -8,10 +8,10 @@ ghost use Rattle.il_host.specs.declared.ending.Ending.{Ending};
 
 use crate::ending::Ending;
 use crate::host::{Host, Rig};
-use crate::lines::Lines;
 use crate::running::answer_all;
 use crate::words::read_words;
 use il_ports::{Inserted, Medium, New, Sink, Source};
+use il_script::Lines;
 use std::alloc::Global;
 
 /// How a run ended, and what it hands back.

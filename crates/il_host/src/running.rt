@@ -3,18 +3,17 @@ ghost use Rattle.lif_model.specs.Tape.{Tape};
 ghost use Rattle.lif_model.specs.Causes.{HasCause};
 ghost use Rattle.il_host.specs.Events.{State, Step, HasReplyCause, item_text};
 ghost use Rattle.il_host.specs.Items.{item_of};
-ghost use Rattle.il_host.specs.Progress.{line_given};
+ghost use Rattle.il_script.specs.Progress.{line_given};
 ghost use Rattle.il_host.specs.Run.{Answers, HasEndingCause};
 ghost use Rattle.il_host.specs.Whole.{IsEarly};
 ghost use Rattle.il_host.specs.Writing.{WritesAll};
 
 use crate::ending::Ending;
 use crate::item::{Item, read_line};
-use crate::lines::{Line, Lines};
 use crate::performer::Performer;
-use crate::reply::{Code, Reply};
 use crate::write::write_all;
 use il_ports::{Failed, Sink, Source};
+use il_script::{Code, Line, Lines, Reply};
 
 // What the line that was given last asks for. A line that is too long is no command.
 fn item(lines: &Lines, line: Line) -> Option<Item>

@@ -1,3 +1,4 @@
 mod Bytes
+mod Spaces
 mod Slots
 mod Examples

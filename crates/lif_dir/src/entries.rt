@@ -47,10 +47,13 @@ pub enum Slot {
 }
 
 impl Name {
+    ghost use Rattle.lif_dir.specs.Names.{name_of_bytes};
+
     /// The name of these bytes, filled up with spaces. `None` where there are no bytes or more than ten.
     pub fn of(bytes: &[u8]) -> Option<Name>
         ensures fits { IsSome result ↔ ((1 ≤ length bytes.now) × (length bytes.now ≤ 10)) }
         ensures name { IfSome result (λ name. name_bytes name ≡ spaced bytes.now) }
+        ensures value { result ≡ name_of_bytes bytes.now }
     {
         if bytes.is_empty() || bytes.len() > 10 {
             return None;

@@ -2,10 +2,12 @@
 #![tactic(auto)]
 
 mod entries;
+mod names;
 mod reading;
 mod table;
 
 pub use entries::{FileEntry, Name, Slot};
+pub use names::{NewLabel, NewName, without_end_spaces};
 pub use reading::slots_of;
 pub use table::SlotTable;
 

@@ -1,7 +1,7 @@
 ghost use Rattle.std.specs.Prelude.{◌≡◌, ◌<◌, ◌≤◌, true, length, IfOk};
 ghost use Rattle.il_ports.specs.MemoryRecords.{state_of};
 
-use crate::{FileEntry, Name, Slot, SlotTable, slots_of};
+use crate::{FileEntry, Name, NewLabel, NewName, Slot, SlotTable, slots_of, without_end_spaces};
 use il_ports::{MemoryRecords, Records, Trouble};
 use lif_header::Header;
 use std::alloc::{AllocError, Global};
@@ -232,5 +232,42 @@ fn trouble_is_passed_on(rt: HostRuntime) -> Result<(), Fail> {
     assert_eq!(rt; store.left(), 0);
     assert!(rt; store.writes().is_empty());
     assert_eq!(rt; table.room(), 16);
+    Ok(())
+}
+
+/// What a name and a label of these bytes are taken as.
+fn taken(bytes: &[u8]) -> (bool, bool, bool) {
+    let name = Name::of(bytes);
+    let new = name.and_then(|name| NewName::of(&name));
+    (name.is_some(), new.is_some(), NewLabel::of(bytes).is_some())
+}
+
+#[test]
+fn names_and_labels_that_may_be_made(rt: HostRuntime) -> Result<(), Fail> {
+    let rows = [
+        (b"".as_slice(), (false, false, false)),
+        (b"A".as_slice(), (true, true, true)),
+        (b"Z_0".as_slice(), (true, true, true)),
+        (b"A ".as_slice(), (true, true, false)),
+        (b" A".as_slice(), (true, false, false)),
+        (b" ".as_slice(), (true, false, false)),
+        (b"a".as_slice(), (true, false, false)),
+        (b"1A".as_slice(), (true, false, false)),
+        (b"A-B".as_slice(), (true, false, false)),
+        (b"A\x00".as_slice(), (true, false, false)),
+        (b"SIXSIX".as_slice(), (true, true, true)),
+        (b"SEVENTH".as_slice(), (true, true, false)),
+        (b"TENLETTERS".as_slice(), (true, true, false)),
+        (b"ELEVENCHARS".as_slice(), (false, false, false)),
+    ];
+    for (k, (bytes, made)) in rows.iter().enumerate() {
+        assert_eq!(rt; taken(bytes), *made, "row {k}");
+    }
+    let name = Name::of(b"DATA_1").ok_or("a name")?;
+    let new = NewName::of(&name).ok_or("a new name")?;
+    assert_eq!(rt; new.name(), name);
+    let label = NewLabel::of(b"TAPE").ok_or("a label")?;
+    assert_eq!(rt; label.bytes().as_slice(), b"TAPE  ".as_slice());
+    assert_eq!(rt; without_end_spaces(b" A  "), b" A".as_slice());
     Ok(())
 }

@@ -5,7 +5,7 @@ use Rattle.std.specs.List.{flat_map}
 use Rattle.lif_dir.specs.declared.entries.Slot.{Slot}
 use Rattle.il_host.specs.Listing.{volume_line}
 use Rattle.il_host.specs.Entries.{slot_text}
-use Rattle.il_host.specs.Sheet.{Sheet}
+use Rattle.il_script.specs.Sheet.{Sheet}
 use Rattle.il_host.proofs.listing.put_listing.Goals as goal
 
 pub loop-k-preserved : goal.loop-k-preserved

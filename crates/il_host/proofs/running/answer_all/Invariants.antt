@@ -1,6 +1,6 @@
 use Rattle.std.proofs.Common.{◌≡◌, ◌≤◌, ℕ, List, Some}
 use Rattle.lif_model.specs.Tape.{Tape}
-use Rattle.il_host.specs.Progress.{turns_left}
+use Rattle.il_script.specs.Progress.{turns_left}
 use Rattle.il_host.proofs.Runs.{Going}
 use Rattle.il_host.proofs.running.answer_all.Given as goal
 

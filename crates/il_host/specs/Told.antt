@@ -1,8 +1,0 @@
--- What is said of a line.
-use Rattle.std.specs.Prelude.{ℕ, if◌then◌else◌, nat_le}
-use Rattle.il_host.specs.declared.lines.Line.{Line}
-use Rattle.il_host.specs.declared.lines.Line.TheVariants.{Text, TooLong}
-
--- a line of so many bytes
-abbrev pub line_of_length : ℕ → Line
-line_of_length n = if nat_le n 262144 then Text else TooLong

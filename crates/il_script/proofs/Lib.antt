@@ -1,0 +1,11 @@
+pub mod Cuts
+pub mod Scans
+pub mod Gives
+pub mod Falls
+pub mod WordCuts
+pub mod Numerals
+pub mod Spellings
+pub mod Names
+pub mod Readings
+pub mod UpperDigits
+pub mod Spaces

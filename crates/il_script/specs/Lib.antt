@@ -1,0 +1,9 @@
+pub mod LineCut
+pub mod Told
+pub mod Progress
+pub mod Words
+pub mod Digits
+pub mod Spelling
+pub mod Commands
+pub mod Replies
+pub mod Sheet
