@@ -185,6 +185,14 @@ fn sizes_in_memory(rt: HostRuntime) -> Result<(), Fail> {
     Ok(())
 }
 
+// The image has these two records, and zeros behind them.
+fn assert_begins_with(rt: &impl Abort, image: &[u8], first: &[u8; 256], second: &[u8; 256]) {
+    assert!(rt; image.len() > 512);
+    assert_eq!(rt; &image[..256], first.as_slice());
+    assert_eq!(rt; &image[256..512], second.as_slice());
+    assert!(rt; image[512..].iter().all(|byte| *byte == 0));
+}
+
 // Fills the image with the tape at that moment.
 fn image_at(
     rt: &impl Abort,
@@ -226,10 +234,7 @@ fn earlier_moments(rt: HostRuntime) -> Result<(), Fail> {
     ] {
         let mut image = vec![in alloc; 5; TAPE_BYTES]?;
         image_at(&rt, &medium, writes, torn, &mut image);
-        assert!(rt; image.len() > 512);
-        assert_eq!(rt; &image[..256], first.as_slice());
-        assert_eq!(rt; &image[256..512], second.as_slice());
-        assert!(rt; image[512..].iter().all(|byte| *byte == 0));
+        assert_begins_with(&rt, &image, &first, &second);
     }
     Ok(())
 }
