@@ -43,7 +43,7 @@ fn store(
 }
 
 fn settle_now<R: Records>(rt: &impl Abort, records: &mut R) -> Result<bool, Trouble>
-    requires { R.valid records.old }
+    requires { (R.view records.old).valid }
 {
     assert!(rt; records.is_sound());
     assert!(rt; 4 <= records.size());
@@ -57,8 +57,8 @@ fn commit_now<R: Records>(
     records: &mut R,
     changes: &[(u16, [u8; 256])],
 ) -> Result<(), Trouble>
-    requires valid { R.valid records.old }
-    requires changes { AreChanges One (R.record_count records.old) changes.now }
+    requires valid { (R.view records.old).valid }
+    requires changes { AreChanges One (R.view records.old).record_count changes.now }
 {
     assert!(rt; records.is_sound());
     assert!(rt; 4 <= records.size());
