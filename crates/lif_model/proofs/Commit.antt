@@ -161,7 +161,7 @@ elsewhere_at [] k i out lt = absurd (omega arith)
 elsewhere_at (c ∷ cs) k zero out lt = out.0
 elsewhere_at (c ∷ cs) k (suc i) out lt = elsewhere_at cs k i out.1 (omega arith)
 
-elsewhere_take : (cs : Changes) (k i : ℕ) → Elsewhere cs k → Elsewhere (take i cs) k
+pub elsewhere_take : (cs : Changes) (k i : ℕ) → Elsewhere cs k → Elsewhere (take i cs) k
 elsewhere_take cs k zero out = tt
 elsewhere_take [] k (suc i) out = tt
 elsewhere_take (c ∷ cs) k (suc i) out = (out.0, elsewhere_take cs k i out.1)

@@ -165,7 +165,7 @@ pub changed_shape : (n : ℕ) (cs : Changes) (t : Tape) → IsTape n t → AreWh
 changed_shape n [] t is whole = is
 changed_shape n (c ∷ cs) t is whole = changed_shape n cs (set t c.0 c.1) (set_shape n t c.0 c.1 is whole.0) whole.1
 
-data_within : (version : Version) (n i : ℕ) → redo_length version < n → i < most_targets version → data_record version n i < n
+pub data_within : (version : Version) (n i : ℕ) → redo_length version < n → i < most_targets version → data_record version n i < n
 data_within One n i long lt = omega arith
 data_within Two n i long lt = elim (cases_lt i 30) [
   | inl few ↦ rw (lt-ltb i 30 few) (omega arith)

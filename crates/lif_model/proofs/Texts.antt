@@ -37,11 +37,11 @@ numbers_back (t ∷ ts) rest =
     let more : numbers_at (in_two t ++ (flat_map in_two ts ++ rest)) 2 (length ts) ≡ ts = numbers_behind (in_two t) (flat_map in_two ts ++ rest) 2 0 (length ts) refl ∙ numbers_back ts rest in
     λ d. two_first t (flat_map in_two ts ++ rest) d ∷ more d
 
-numbers_size : (ts : List ℕ) → length (flat_map in_two ts) ≡ 2 * length ts
+pub numbers_size : (ts : List ℕ) → length (flat_map in_two ts) ≡ 2 * length ts
 numbers_size [] = refl
 numbers_size (t ∷ ts) = omega (arith, numbers_size ts)
 
-text_size : (version : Version) → length (redo_text version) ≡ 8
+pub text_size : (version : Version) → length (redo_text version) ≡ 8
 text_size One = refl
 text_size Two = refl
 
@@ -50,10 +50,10 @@ most_fit One = omega arith
 most_fit Two = omega arith
 
 -- a targets record by its parts: the text, the count, the numbers and zeros
-abbrev in_parts : Version → List ℕ → List ℕ
+abbrev pub in_parts : Version → List ℕ → List ℕ
 in_parts version ts = redo_text version ++ (in_two (length ts) ++ (flat_map in_two ts ++ replicate (246 - 2 * length ts) 0))
 
-record_parts : (version : Version) (ts : List ℕ) → length ts ≤ most_targets version → targets_record version ts ≡ in_parts version ts
+pub record_parts : (version : Version) (ts : List ℕ) → length ts ≤ most_targets version → targets_record version ts ≡ in_parts version ts
 unfolding targets_record
 record_parts version ts le =
     let numbers : List ℕ = flat_map in_two ts in
