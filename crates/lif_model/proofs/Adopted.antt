@@ -8,7 +8,7 @@ use Rattle.lif_model.specs.Tape.{Tape, record_at}
 use Rattle.lif_model.specs.Gate.{gate_of}
 use Rattle.lif_model.specs.Header.{directory_start, directory_end, is_readable}
 use Rattle.lif_model.specs.Directory.{name_of, type_of, start_of, length_of, slots_of}
-use Rattle.lif_model.specs.Redo.{Version, One, versions, redo_start, redo_length, Changes, redo_of, is_none, settled}
+use Rattle.lif_model.specs.Redo.{Version, One, Two, versions, redo_start, redo_length, Changes, redo_of, is_none, settled}
 use Rattle.lif_model.specs.Commit.{SettlesAs, SettlesBelow}
 use Rattle.lif_model.specs.Legal.{is_live, occupies, end_of, holds, is_live_named, is_legal_with, is_legal, IsLegal}
 use Rattle.lif_model.specs.Volume.{redo_name, redo_type, is_redo_entry, is_adopted_with, is_redo_file, is_adopted, is_file, Volume, volume_if, volume_in, volume_of, IsAdopted, is_used, is_gate_held, is_foreign_gated}
@@ -77,6 +77,7 @@ redo_entry_tells n version slot is =
   where
     some_version : (version : Version) → is_redo_entry n version slot ≡ true → is_redo_file n slot ≡ true
     some_version One e = any_from One (λ w. is_redo_entry n w slot) versions 0 (omega arith) e
+    some_version Two e = any_from One (λ w. is_redo_entry n w slot) versions 1 (omega arith) e
 
 is_file_tells : (n : ℕ) (slot : List ℕ) → is_file n slot ≡ true → (is_live slot ≡ true) × (is_redo_file n slot ≡ false)
 is_file_tells n slot is = let both = and_parts (is_live slot) _ is in (both.0, not-true (is_redo_file n slot) both.1)
@@ -264,6 +265,15 @@ settles_as_same t x c cs is off settles =
     let both = volume_below (settled t) (settled x) long (length_settled x ∙ settles.records) (λ k lt. settles.same k (λ e. absurd (omega (arith, e, lt))))
     (λ legal k used. settles.same k (λ at. let no : true ≡ false = sym used ∙ ap (is_used (settled t)) at ∙ gate_unused (settled t) legal off_gate in cc)) in
     (both.0, and_false (not (is_none (redo_of x))) (is_gate_held (settled x)) (both.1 ∙ off_gate))
+
+-- A tape that is not foreign-gated, whether a redo is open on it or not: what settles as it does, and is that very tape
+-- where no redo is open, has its volume, and is not foreign-gated.
+pub settling_same : (t x : Tape) → is_foreign_gated t ≡ false → SettlesAs (settled t) x → (redo_of t ≡ [] → x ≡ t) → (volume_of x ≡ volume_of t) × (is_foreign_gated x ≡ false)
+settling_same t x off settles idle = go (redo_of t) refl
+  where
+    go : (cs : Changes) → redo_of t ≡ cs → (volume_of x ≡ volume_of t) × (is_foreign_gated x ≡ false)
+    go [] none = (ap volume_of (idle none), ap is_foreign_gated (idle none) ∙ off)
+    go (c ∷ cs) is = settles_as_same t x c cs is off settles
 
 -- A tape that settles to u below the redo file has the volume of u and is not foreign-gated, where u is legal and
 -- adopted with that version ..

@@ -15,7 +15,7 @@ use Rattle.lif_model.specs.Volume.{redo_name, redo_type, redo_entry, is_redo_ent
 use Rattle.lif_model.specs.Fit.{Place, At, redo_place, can_append, fit_in}
 use Rattle.lif_model.specs.Apply.{VolumeCommand, Dir, Label, Fetch, Store, Rename, Purge, Adopt, Format, IsWellFormed, Refusal, lacks_redo, is_protected, lacks_slot, lacks_room, is_full, runs_past_gate, is_too_long, first_met, checks_of, refusal_of, stored, with_slot, renamed, fresh_volume, volume_after, volume_made, next_unless, apply}
 use Rattle.lif_model.proofs.Lists.{any_at, any_from, none_at, none_of_filter}
-use Rattle.lif_model.proofs.Made.{new_name, new_type, new_start, new_length, new_size, named_name, named_type, named_start, named_length, named_size, typed_type, typed_start, typed_length, typed_size, fresh_start, fresh_length, fresh_readable}
+use Rattle.lif_model.proofs.Made.{new_name, new_type, new_start, new_length, new_size, named_name, named_type, named_start, named_length, named_size, typed_type, typed_start, typed_length, typed_size, fresh_size, fresh_start, fresh_length, fresh_readable}
 use Rattle.lif_model.proofs.Fit.{IsPlace, fit_tells, place_is_free}
 use Rattle.lif_model.proofs.Slots.{readable_tells, occupies_tells, live_named_tells, other_name, HasNew, set_new, before_insert, insert_new, push_new, each_with_new, legal_with_new, StaysPut, legal_map, each_map, slot_cases}
 
@@ -100,6 +100,7 @@ module _ (n : ℕ) (v : Volume) (name : List ℕ) (kind : ℕ) (implementation b
       let readable = readable_tells n v.header legal.readable in
       record {
         volume = record {
+          header = is.volume.header;
           legal = legal_with_new n v.header v.slots later i new old legal has
               (omega (arith, place.low, starts)) (omega (arith, place.high, starts, longs, readable.0, readable.2))
               (λ k lt ne on.
@@ -197,6 +198,7 @@ module _ (n : ℕ) (v : Volume) (name : List ℕ) (change : List ℕ → List �
       → (files : Volume) → IsAdopted n (record files { header = v.header; slots = with_slot name change v.slots })
   change_is_adopted is other each names files = record {
     volume = record {
+      header = is.volume.header;
       legal = legal_map n v.header v.slots changed_slot is.volume.legal (λ k lt. (all_of k lt).0) names;
       room = omega (arith, length-map v.slots changed_slot, is.volume.room);
       entries = each_map (λ slot. length slot ≡ 32) v.slots changed_slot (λ k lt. (all_of k lt).1);
@@ -338,6 +340,7 @@ adopt_is_adopted n v is none = go (is_adopted n v.slots) refl
             let readable = readable_tells n v.header is.legal.readable in
             record {
               volume = record {
+                header = is.header;
                 legal = legal_with_new n v.header v.slots (v.slots ++ redo ∷ []) (length v.slots) redo (λ k. k) is.legal has
                     (omega (arith, starts, readable.2)) (omega (arith, starts, longs, readable.0, readable.2))
                     (λ k lt ne on.
@@ -375,6 +378,7 @@ format_is_adopted n label slots formed fits =
     let below : 2 + count ≤ gate_of n = omega (arith, formed.1, short) in
     record {
       volume = record {
+        header = fresh_size n label count;
         legal = record {
           readable = fresh_readable n label count formed.0 some below;
           within = λ i lt on. one i lt (λ slot. (directory_end header ≤ start_of slot) × (end_of slot ≤ n)) (omega (arith, starts, begins, takes, below), omega (arith, starts, longs, some, below));

@@ -74,6 +74,10 @@ below_too version cs t x y armed size same new =
           ∙ changed_agree (λ k. k < redo_start version n) (redo_start version n) cs x t (changes_below version n cs are) (omega (arith, size, long.1)) (omega (arith, long.1)) (λ k d out. same k d) k under;
     }
 
+-- what lies below the redo file of one version lies below that of another that begins no later
+pub settles_below_less : (version other : Version) (t x : Tape) → redo_start other (length t) ≤ redo_start version (length t) → SettlesBelow version t x → SettlesBelow other t x
+settles_below_less version other t x earlier settles = record { records = settles.records; same = λ k lt. settles.same k (omega (arith, lt, earlier)) }
+
 -- ---- quiet and shut tapes
 
 pub quiet_settles : (version : Version) (t x : Tape) → Quiet version t x → SettlesBelow version t x
@@ -157,7 +161,7 @@ elsewhere_at [] k i out lt = absurd (omega arith)
 elsewhere_at (c ∷ cs) k zero out lt = out.0
 elsewhere_at (c ∷ cs) k (suc i) out lt = elsewhere_at cs k i out.1 (omega arith)
 
-elsewhere_take : (cs : Changes) (k i : ℕ) → Elsewhere cs k → Elsewhere (take i cs) k
+pub elsewhere_take : (cs : Changes) (k i : ℕ) → Elsewhere cs k → Elsewhere (take i cs) k
 elsewhere_take cs k zero out = tt
 elsewhere_take [] k (suc i) out = tt
 elsewhere_take (c ∷ cs) k (suc i) out = (out.0, elsewhere_take cs k i out.1)

@@ -1,13 +1,13 @@
 -- The slots of a tape: each has 32 bytes, none ends the directory, and they fit into it.
 use Rattle.std.proofs.Common.{◌≡◌, ◌<◌, ◌≤◌, ◌+◌, ◌-◌, ◌*◌, ◌/◌, ◌%◌, ◌++◌, ℕ, zero, suc, List, [], ◌∷◌, Bool, true, false, not, if◌then◌else◌, Some, length, get_or, set, take, drop, inl, inr, refl, sym, ◌∙◌, ap, subst, arith, length-append, length-take, length-drop, length-set, get_or-set_other, get_or-set_same, get_or-take}
 use Rattle.std.specs.List.{prefix_len}
-use Rattle.std.proofs.lemmas.Bool.{cases_eq, cases_lt}
+use Rattle.std.proofs.lemmas.Bool.{cases_eq, cases_lt, lt-ltb, le-ltb}
 use Rattle.std.proofs.lemmas.List.{get_or_append_left, get_or-append_right}
 use Rattle.lif_model.specs.Tape.{Tape, IsTape, record_at}
 use Rattle.lif_model.specs.Gate.{gate_of}
 use Rattle.lif_model.specs.Header.{directory_start, directory_length, directory_end, capacity_of}
 use Rattle.lif_model.specs.Directory.{is_end, entry_at, entries_of, entries_from, before_end, slots_of}
-use Rattle.lif_model.specs.Redo.{Version, One, redo_length, most_targets, data_record, zeros, Changes, targets_in, held_from, held_by, redo_of, changed, settled_by, settled}
+use Rattle.lif_model.specs.Redo.{Version, One, Two, redo_length, most_targets, data_record, zeros, Changes, targets_in, held_from, held_by, redo_of, changed, settled_by, settled}
 use Rattle.lif_model.specs.Legal.{is_legal, IsLegal}
 use Rattle.lif_model.specs.Volume.{files_of, Volume, IsVolume, volume_if, volume_in, volume_of}
 use Rattle.lif_model.proofs.Legal.{legal_tells}
@@ -165,8 +165,12 @@ pub changed_shape : (n : ℕ) (cs : Changes) (t : Tape) → IsTape n t → AreWh
 changed_shape n [] t is whole = is
 changed_shape n (c ∷ cs) t is whole = changed_shape n cs (set t c.0 c.1) (set_shape n t c.0 c.1 is whole.0) whole.1
 
-data_within : (version : Version) (n i : ℕ) → redo_length version < n → i < most_targets version → data_record version n i < n
+pub data_within : (version : Version) (n i : ℕ) → redo_length version < n → i < most_targets version → data_record version n i < n
 data_within One n i long lt = omega arith
+data_within Two n i long lt = elim (cases_lt i 30) [
+  | inl few ↦ rw (lt-ltb i 30 few) (omega arith)
+  | inr more ↦ rw (le-ltb i 30 more) (omega arith)
+]
 
 held_whole : (version : Version) (n : ℕ) (t : Tape) (i : ℕ) (ts : List ℕ) → IsTape n t → redo_length version < n → i + length ts ≤ most_targets version → AreWhole (held_from version n t i ts)
 held_whole version n t i [] is long le = tt
@@ -219,6 +223,7 @@ volume_in_is n u v is e = go (is_legal u) refl e
         let reads : IsLegal (length u) (record_at u 0) (slots_of u) = legal_tells (length u) (record_at u 0) (slots_of u) legal in
         let readable = readable_tells (length u) (record_at u 0) reads.readable in
         subst (IsVolume n) (same_some (record { header = record_at u 0; slots = slots_of u; files = files_of u (slots_of u) }) v some) (record {
+          header = is.bytes 0 (omega (arith, readable.0, readable.2, is.records));
           legal = subst (λ (m : ℕ). IsLegal m (record_at u 0) (slots_of u)) is.records reads;
           room = slots_room u;
           entries = λ i lt. slots_sizes n u i is (omega (arith, readable.2, is.records)) lt;

@@ -1,10 +1,10 @@
 -- Laws of the redo file: what settling does, and what it depends on.
 use Rattle.std.proofs.Common.{◌≡◌, ◌≢◌, ◌<◌, ◌≤◌, ◌⊎◌, ◌↔◌, ℕ, suc, List, [], ◌∷◌, Bool, true, false, if◌then◌else◌, length, set, inl, inr, refl, sym, ◌∙◌, ap, subst, arith, length-set, get_or-set_other, get_or-set_same, nat_lt}
-use Rattle.std.proofs.lemmas.Bool.{cases_eq, cases_Bool, and_parts, ltb-true, leb-true}
+use Rattle.std.proofs.lemmas.Bool.{cases_eq, cases_lt, cases_Bool, and_parts, ltb-true, leb-true, lt-ltb, le-ltb}
 use Rattle.std.specs.List.{list_all}
 use Rattle.lif_model.specs.Tape.{Tape, record_at}
 use Rattle.lif_model.specs.Gate.{gate_of, is_open, has_open_gate}
-use Rattle.lif_model.specs.Redo.{Version, One, versions, redo_length, redo_start, most_targets, data_record, zeros, targets_place, are_targets, named_by, is_valid, Targets, Invalid, Valid, targets_among, targets_of, Changes, targets_in, held_from, held_by, behind, redo_of, changed, settled_by, settled, IsSettled, is_none, is_settled}
+use Rattle.lif_model.specs.Redo.{Version, One, Two, versions, redo_length, redo_start, most_targets, data_record, zeros, targets_place, are_targets, named_by, is_valid, Targets, Invalid, Valid, targets_among, targets_of, Changes, targets_in, held_from, held_by, behind, redo_of, changed, settled_by, settled, IsSettled, is_none, is_settled}
 use Rattle.lif_model.specs.Commit.{AreChanges, IsLoaded, IsArmed}
 
 -- ---- the gate
@@ -86,6 +86,7 @@ changes_below version n cs are = all_below (redo_start version n) cs (and_parts 
 -- a redo file has a gate, a targets record and a record for each of two targets at least
 pub four_at_least : (version : Version) → 4 ≤ redo_length version
 four_at_least One = omega arith
+four_at_least Two = omega arith
 
 -- a tape on which targets are valid is longer than the redo file
 pub changes_long : (version : Version) (n : ℕ) (cs : Changes) → AreChanges version n cs → (4 < n) × (redo_length version < n)
@@ -114,9 +115,14 @@ valid_are n bytes version ts is = subst (Are n) is (among_are versions n bytes)
 -- the data records are apart from the gate and the targets record, and in the redo file
 pub data_place : (version : Version) (n i : ℕ) → redo_length version < n → (redo_start version n ≤ data_record version n i) × (gate_of n ≢ data_record version n i) × (targets_place n ≢ data_record version n i)
 data_place One n i long = (omega arith, omega arith, omega arith)
+data_place Two n i long = elim (cases_lt i 30) [
+  | inl lt ↦ rw (lt-ltb i 30 lt) (omega arith, omega arith, omega arith)
+  | inr ge ↦ rw (le-ltb i 30 ge) (omega arith, omega arith, omega arith)
+]
 
 pub redo_places : (version : Version) (n : ℕ) → (redo_start version n ≤ gate_of n) × (redo_start version n ≤ targets_place n)
 redo_places One n = (omega arith, omega arith)
+redo_places Two n = (omega arith, omega arith)
 
 pub held_targets : (version : Version) (n : ℕ) (t : Tape) (i : ℕ) (ts : List ℕ) → targets_in (held_from version n t i ts) ≡ ts
 held_targets version n t i [] = refl

@@ -6,7 +6,8 @@ use Rattle.lif_model.specs.Stops.{Torn}
 use Rattle.lif_model.specs.Tape.{Tape, record_at}
 use Rattle.lif_model.specs.Shelf.{piece}
 use Rattle.lif_model.specs.Gate.{is_open}
-use Rattle.lif_model.specs.Redo.{One, are_targets, open_gate, zeros, targets_record, is_valid, Invalid, Valid, targets_of, changed, settled, is_settled}
+use Rattle.lif_model.specs.Redo.{One, Two, redo_start, data_record, are_targets, open_gate, zeros, targets_record, is_valid, Invalid, Valid, targets_of, changed, redo_of, settled, is_settled}
+use Rattle.lif_model.specs.Commit.{settle_writes, commit_writes}
 use Rattle.lif_model.proofs.Examples.{filled, blank}
 
 -- ---- the records as they are written
@@ -70,7 +71,7 @@ equal_targets : targets_of 12 (named (0 ∷ 2 ∷ 0 ∷ 2 ∷ 0 ∷ 2 ∷ [])) �
 unfolding is_valid targets_record piece two_at
 equal_targets = refl
 
-other_text : targets_of 12 (filled (codes "LIFREDO2" ++ 0 ∷ 1 ∷ 0 ∷ 2 ∷ [])) ≡ Invalid
+other_text : targets_of 12 (filled (codes "LIFREDO3" ++ 0 ∷ 1 ∷ 0 ∷ 2 ∷ [])) ≡ Invalid
 unfolding is_valid targets_record piece two_at
 other_text = refl
 
@@ -138,3 +139,75 @@ not_torn torn = let first : twos ≡ ones = torn.elsewhere 0 (λ e. absurd (omeg
 commits : (are_targets One 12 (2 ∷ []) ≡ true) × (are_targets One 12 (0 ∷ 2 ∷ []) ≡ true) × (are_targets One 12 [] ≡ false) × (are_targets One 12 (0 ∷ 1 ∷ 2 ∷ []) ≡ false)
     × (are_targets One 12 (8 ∷ []) ≡ false) × (are_targets One 12 (2 ∷ 2 ∷ []) ≡ false)
 commits = (refl, refl, refl, refl, refl, refl)
+
+-- ---- the order of writes
+
+-- one change, where the gate reads open
+writes_one : commit_writes One 12 true ((2, ones) ∷ [])
+    ≡ (8, zeros) ∷ (10, ones) ∷ (9, targets_record One (2 ∷ [])) ∷ (8, open_gate) ∷ (2, ones) ∷ (8, zeros) ∷ []
+writes_one = refl
+
+-- two changes, where it reads closed
+writes_two : commit_writes One 12 false ((7, ones) ∷ (2, twos) ∷ [])
+    ≡ (10, ones) ∷ (11, twos) ∷ (9, targets_record One (7 ∷ 2 ∷ [])) ∷ (8, open_gate) ∷ (7, ones) ∷ (2, twos) ∷ (8, zeros) ∷ []
+writes_two = refl
+
+-- the same changes with version 2, on a tape of 512 records
+writes_with_two : commit_writes Two 512 false ((7, ones) ∷ (2, twos) ∷ [])
+    ≡ (478, ones) ∷ (479, twos) ∷ (509, targets_record Two (7 ∷ 2 ∷ [])) ∷ (508, open_gate) ∷ (7, ones) ∷ (2, twos) ∷ (508, zeros) ∷ []
+writes_with_two = refl
+
+-- settling writes the targets in the order in which they are named, and nothing where no redo is open
+settling_writes : (settle_writes 12 ((7, ones) ∷ (2, twos) ∷ []) ≡ (7, ones) ∷ (2, twos) ∷ (8, zeros) ∷ []) × (settle_writes 12 [] ≡ [])
+settling_writes = (refl, refl)
+
+-- ---- version 2
+
+-- on a tape of 512 records it has records 478 to 511; the first thirty contents stand before the gate, and two at the end
+places_of_two : (redo_start Two 512 ≡ 478) × (data_record Two 512 0 ≡ 478) × (data_record Two 512 29 ≡ 507) × (data_record Two 512 30 ≡ 510) × (data_record Two 512 31 ≡ 511)
+places_of_two = (refl, refl, refl, refl, refl)
+
+-- the text of version 2, and these bytes and zeros
+abbrev named_two : List ℕ → List ℕ
+named_two bytes = filled (codes "LIFREDO2" ++ bytes)
+
+two_of_two : targets_record Two (7 ∷ 2 ∷ []) ≡ named_two (0 ∷ 2 ∷ 0 ∷ 7 ∷ 0 ∷ 2 ∷ [])
+unfolding targets_record piece
+two_of_two = refl
+
+-- three targets are valid of version 2, below its redo file
+reads_three : (targets_of 40 (named_two (0 ∷ 3 ∷ 0 ∷ 2 ∷ 0 ∷ 5 ∷ 0 ∷ 3 ∷ [])) ≡ Valid Two (2 ∷ 5 ∷ 3 ∷ [])) × (targets_of 40 (named_two (0 ∷ 1 ∷ 0 ∷ 6 ∷ [])) ≡ Invalid)
+unfolding is_valid targets_record piece two_at
+reads_three = (refl, refl)
+
+-- k record numbers from n on
+abbrev numbers_from : ℕ → ℕ → List ℕ
+numbers_from n zero = []
+numbers_from n (suc k) = n ∷ numbers_from (suc n) k
+
+-- it takes 32 targets and no more, and version 1 two
+most : (are_targets Two 512 (numbers_from 100 32) ≡ true) × (are_targets Two 512 (numbers_from 100 33) ≡ false) × (are_targets One 512 (numbers_from 100 3) ≡ false)
+most = (refl, refl, refl)
+
+-- records 478 to 507 are targets of version 1 alone
+only_of_one : (are_targets One 512 (507 ∷ []) ≡ true) × (are_targets Two 512 (477 ∷ []) ≡ true) × (are_targets Two 512 (478 ∷ []) ≡ false)
+only_of_one = (refl, refl, refl)
+
+-- A tape of 36 records, of which the first two may be targets of version 2: the contents stand in records 2 and 3, and
+-- for version 1 in records 34 and 35. Record 32 is the gate, and 33 has the targets.
+abbrev long_tape : List ℕ → List ℕ → List ℕ → List ℕ → Tape
+long_tape first second gate targets = first ∷ second ∷ ones ∷ twos ∷ replicate 28 [] ++ gate ∷ targets ∷ (3 ∷ []) ∷ (4 ∷ []) ∷ []
+
+settles_with_two : settled (long_tape [] [] opened (named_two (0 ∷ 2 ∷ 0 ∷ 1 ∷ 0 ∷ 0 ∷ []))) ≡ long_tape twos ones blank (named_two (0 ∷ 2 ∷ 0 ∷ 1 ∷ 0 ∷ 0 ∷ []))
+unfolding is_open is_valid targets_record piece two_at zeros
+settles_with_two = refl
+
+-- the targets record tells the version: with the text of version 1 the same places change to other contents
+settles_with_one : settled (long_tape [] [] opened (named (0 ∷ 2 ∷ 0 ∷ 1 ∷ 0 ∷ 0 ∷ []))) ≡ long_tape (4 ∷ []) (3 ∷ []) blank (named (0 ∷ 2 ∷ 0 ∷ 1 ∷ 0 ∷ 0 ∷ []))
+unfolding is_open is_valid targets_record piece two_at zeros
+settles_with_one = refl
+
+-- a record of its own redo file is no target of version 2
+not_with_two : redo_of (long_tape [] [] opened (named_two (0 ∷ 1 ∷ 0 ∷ 2 ∷ []))) ≡ []
+unfolding is_open is_valid targets_record piece two_at zeros
+not_with_two = refl

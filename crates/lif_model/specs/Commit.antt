@@ -1,12 +1,33 @@
--- What settling and a commit may leave of a tape, at any moment.
-use Rattle.std.specs.Prelude.{◌≡◌, ◌≢◌, ◌⊎◌, ◌<◌, ◌≤◌, ℕ, [], ◌∷◌, true, false, length}
+-- What settling and a commit write, and what they may leave of a tape at any moment.
+use Rattle.std.specs.Prelude.{◌≡◌, ◌≢◌, ◌⊎◌, ◌<◌, ◌≤◌, ◌++◌, ℕ, suc, Bool, [], ◌∷◌, true, false, if◌then◌else◌, length}
 use Rattle.lif_model.specs.Tape.{Tape, record_at}
 use Rattle.lif_model.specs.Gate.{gate_of, has_open_gate}
-use Rattle.lif_model.specs.Redo.{Version, Valid, Changes, zeros, redo_start, targets_place, are_targets, targets_of, targets_in, behind, redo_of, changed, settled}
+use Rattle.lif_model.specs.Redo.{Version, Valid, Changes, open_gate, zeros, redo_start, data_record, targets_place, targets_record, are_targets, targets_of, targets_in, behind, redo_of, changed, settled}
 
 -- changes that one commit of that version takes, on a tape of n records
 abbrev pub AreChanges : Version → ℕ → Changes → Type 0
 AreChanges version n changes = are_targets version n (targets_in changes) ≡ true
+
+-- ---- the writes in their order, each the number of a record and its bytes
+
+-- settling: the changes in the order of the targets, and then a gate of zeros
+abbrev pub settle_writes : ℕ → Changes → Changes
+settle_writes n [] = []
+settle_writes n (c ∷ cs) = (c ∷ cs) ++ (gate_of n, zeros) ∷ []
+
+-- the new contents, each at its data record, the first of them that of target i
+abbrev pub content_writes : Version → ℕ → ℕ → Changes → Changes
+content_writes version n i [] = []
+content_writes version n i (c ∷ cs) = (data_record version n i, c.1) ∷ content_writes version n (suc i) cs
+
+-- a gate of zeros where the gate reads open
+abbrev pub close_writes : ℕ → Bool → Changes
+close_writes n was_open = if was_open then (gate_of n, zeros) ∷ [] else []
+
+-- a commit: that gate, the contents, the targets record, the open gate, and then what settling writes
+abbrev pub commit_writes : Version → ℕ → Bool → Changes → Changes
+commit_writes version n was_open changes = close_writes n was_open ++ (content_writes version n 0 changes
+    ++ (targets_place n, targets_record version (targets_in changes)) ∷ (gate_of n, open_gate) ∷ settle_writes n changes)
 
 -- ---- at any moment
 

@@ -10,30 +10,35 @@ use Rattle.lif_model.specs.Pairs.{all_pairs}
 use Rattle.lif_model.specs.Gate.{gate_of, open_text, has_open_gate}
 use Rattle.lif_model.specs.Made.{in_two}
 
--- ---- versions: one differs from another in what the first four functions say of it
+-- ---- versions: they differ in what the next four functions say of them, and in nothing else
 
 pub data Version : Type 0 where
   One : Version
+  Two : Version
 
 -- those that a targets record may be of
 abbrev pub versions : List Version
-versions = One ∷ []
+versions = One ∷ Two ∷ []
 
 -- how many records its redo file has
 abbrev pub redo_length : Version → ℕ
 redo_length One = 4
+redo_length Two = 34
 
 -- how many targets it takes at most
 abbrev pub most_targets : Version → ℕ
 most_targets One = 2
+most_targets Two = 32
 
 -- the first eight bytes of its targets record
 abbrev pub redo_text : Version → List ℕ
 redo_text One = codes "LIFREDO1"
+redo_text Two = codes "LIFREDO2"
 
--- the record that holds what target i, counted from 0, is to become
+-- the record that holds what target i, counted from 0, is to become: version 2 has thirty of them before the gate
 abbrev pub data_record : Version → ℕ → ℕ → ℕ
 data_record One n i = n - 2 + i
+data_record Two n i = if nat_lt i 30 then n - 34 + i else n - 2 + (i - 30)
 
 -- the first record of its redo file
 abbrev pub redo_start : Version → ℕ → ℕ

@@ -68,9 +68,10 @@ pub record Volume : Type 0 where
   pub slots : List (List ℕ)
   pub files : Files
 
--- what every volume of a tape of n records keeps: it is legal, its slots fit into the directory, each has 32 bytes, and
--- none ends the directory
+-- what every volume of a tape of n records keeps: its header is a record, it is legal, its slots fit into the directory,
+-- each has 32 bytes, and none ends the directory
 pub record IsVolume (n : ℕ) (v : Volume) : Type 0 where
+  pub header : length v.header ≡ 256
   pub legal : IsLegal n v.header v.slots
   pub room : length v.slots ≤ capacity_of v.header
   pub entries : (i : ℕ) → i < length v.slots → length (get_or v.slots i []) ≡ 32

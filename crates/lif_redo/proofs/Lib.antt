@@ -1,6 +1,10 @@
 pub mod Examples
+pub mod Numbers
 pub mod ReadTargets
 pub mod Told
-pub mod Staged
-pub mod Replayed
 pub mod Run
+pub mod Writes
+pub mod Calls
+pub mod Held
+pub mod Filled
+pub mod Order

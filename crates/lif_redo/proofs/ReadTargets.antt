@@ -1,28 +1,25 @@
 -- What the tests of a targets record tell.
-use Rattle.std.proofs.Common.{◌≡◌, ◌-◌, ◌&&◌, ℕ, List, [], ◌∷◌, Bool, true, false, if◌then◌else◌, not, sym, ◌∙◌, ap, nat_lt, nat_eq}
+use Rattle.std.proofs.Common.{◌≡◌, ◌&&◌, ℕ, List, Bool, true, false, if◌then◌else◌, sym, ◌∙◌, ap}
 use Rattle.std.specs.Str.{bytes_eq}
-use Rattle.lif_model.specs.Numbers.{two_at}
-use Rattle.lif_model.specs.Redo.{One, targets_record, Invalid, Valid, targets_of}
-use Rattle.lif_model.proofs.Texts.{one_or_two, targets_by_number}
+use Rattle.lif_model.specs.Redo.{Version, One, Two, targets_record, are_targets, named_by, is_valid, Targets, Invalid, Valid, targets_of}
 
-module _ (n : ℕ) (bytes : List ℕ) (a b : ℕ) (first : a ≡ two_at bytes 10) (second : b ≡ two_at bytes 12) where
-  abbrev test_one : Bool
-  test_one = bytes_eq bytes (targets_record One (a ∷ [])) && nat_lt a (n - 4)
+module _ (n : ℕ) (bytes : List ℕ) where
+  -- the tests of these targets, which are those that the record names
+  abbrev pub tests : Version → List ℕ → Bool
+  tests version ts = bytes_eq bytes (targets_record version ts) && are_targets version n ts
 
-  abbrev test_two : Bool
-  test_two = bytes_eq bytes (targets_record One (a ∷ b ∷ [])) && (nat_lt a (n - 4) && (nat_lt b (n - 4) && not (nat_eq a b)))
+  pub tests_valid : (version : Version) (ts : List ℕ) → ts ≡ named_by version bytes → tests version ts ≡ is_valid version n bytes
+  unfolding is_valid
+  tests_valid version ts is = ap (tests version) is
 
-  by_number : targets_of n bytes ≡ one_or_two n bytes a b
-  by_number = targets_by_number n bytes ∙ sym (ap (λ (i : ℕ). one_or_two n bytes i b) first ∙ ap (λ (j : ℕ). one_or_two n bytes (two_at bytes 10) j) second)
+  abbrev by_tests : Bool → Bool → Targets
+  by_tests one two = if one then Valid One (named_by One bytes) else (if two then Valid Two (named_by Two bytes) else Invalid)
 
-  pub names_one : test_one ≡ true → targets_of n bytes ≡ Valid One (a ∷ [])
-  names_one is = by_number ∙ ap (λ (x : Bool). if x then Valid One (a ∷ []) else (if test_two then Valid One (a ∷ b ∷ []) else Invalid)) is
+  pub reads_one : (ts : List ℕ) → ts ≡ named_by One bytes → tests One ts ≡ true → targets_of n bytes ≡ Valid One ts
+  reads_one ts is on = ap (λ (b : Bool). by_tests b (is_valid Two n bytes)) (sym (tests_valid One ts is) ∙ on) ∙ ap (Valid One) (sym is)
 
-  not_one : test_one ≡ false → targets_of n bytes ≡ (if test_two then Valid One (a ∷ b ∷ []) else Invalid)
-  not_one is = by_number ∙ ap (λ (x : Bool). if x then Valid One (a ∷ []) else (if test_two then Valid One (a ∷ b ∷ []) else Invalid)) is
+  pub reads_two : (ts us : List ℕ) → ts ≡ named_by One bytes → tests One ts ≡ false → us ≡ named_by Two bytes → tests Two us ≡ true → targets_of n bytes ≡ Valid Two us
+  reads_two ts us is off named on = (λ d. by_tests ((sym (tests_valid One ts is) ∙ off) d) ((sym (tests_valid Two us named) ∙ on) d)) ∙ ap (Valid Two) (sym named)
 
-  pub names_two : test_one ≡ false → test_two ≡ true → targets_of n bytes ≡ Valid One (a ∷ b ∷ [])
-  names_two out is = not_one out ∙ ap (λ (x : Bool). if x then Valid One (a ∷ b ∷ []) else Invalid) is
-
-  pub names_none : test_one ≡ false → test_two ≡ false → targets_of n bytes ≡ Invalid
-  names_none out is = not_one out ∙ ap (λ (x : Bool). if x then Valid One (a ∷ b ∷ []) else Invalid) is
+  pub reads_none : (ts us : List ℕ) → ts ≡ named_by One bytes → tests One ts ≡ false → us ≡ named_by Two bytes → tests Two us ≡ false → targets_of n bytes ≡ Invalid
+  reads_none ts us is off named none = λ d. by_tests ((sym (tests_valid One ts is) ∙ off) d) ((sym (tests_valid Two us named) ∙ none) d)

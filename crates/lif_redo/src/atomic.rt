@@ -1,86 +1,81 @@
-ghost use Rattle.std.specs.Prelude.{◌≡◌, ◌≢◌, ◌↔◌, ◌≤◌, ◌+◌, [], IsTrue, IfOk, OnOk, true, Some, is_some};
+ghost use Rattle.std.specs.Prelude.{◌≡◌, ◌≢◌, ◌↔◌, ◌≤◌, ◌+◌, ◌*◌, Bool, [], length, IsTrue, IfOk, OnOk, true, Some};
 ghost use Rattle.lif_model.specs.Tape.{Tape};
-ghost use Rattle.lif_model.specs.Stops.{LeavesOnly};
-ghost use Rattle.lif_model.specs.Redo.{One, redo_of, settled, IsSettled};
-ghost use Rattle.lif_model.specs.Commit.{AreChanges, IsCommitted, IsOldOrNew, IsRedoWrite, IsSettleWrite, SettlesAs};
+ghost use Rattle.lif_model.specs.Gate.{has_open_gate};
+ghost use Rattle.lif_model.specs.Redo.{Changes, redo_of, settled, IsSettled};
+ghost use Rattle.lif_model.specs.Commit.{AreChanges, IsCommitted, IsOldOrNew, IsRedoWrite, IsSettleWrite, SettlesAs, commit_writes, settle_writes};
 ghost use Rattle.il_ports.specs.Transfers.{AddsOnly};
-ghost use Rattle.il_ports.specs.Trouble.{answers_ok, HasTroubleCause};
+ghost use Rattle.il_ports.specs.Stores.{IsReady, GoesOn, RunLeaves};
+ghost use Rattle.lif_redo.specs.Reading.{version_of};
+ghost use Rattle.lif_redo.specs.Writing.{AddsWrites};
 
-use crate::steps::{close, finish, look, replay, stage};
+use crate::steps::{close, finish, look, put, replay, stage};
 use crate::texts::{GATE, open_gate_record};
+use crate::versions::Version;
 use il_ports::{Records, Trouble};
 
-/// Changes one or two records of a settled tape at once: each pair is the number of a record and its new content.
+/// Changes some records of a settled tape at once, with a redo file of that version: each pair is the number of a record
+/// and its new content. They are one or two with version 1, and up to 32 with version 2, and none lies in the redo file.
 /// A power stop at any moment, and a trouble, leave a tape that settles to the one before or to the one with all the
-/// changes, but for the four records of the redo file. At most ten calls of the store are made.
-pub fn commit<R: Records>(records: &mut R, changes: &[(u16, [u8; 256])]) -> Result<(), Trouble>
-    requires valid { R.valid records.old }
-    requires sound { R.sound records.old ≡ true }
-    requires left { 10 ≤ R.calls_left records.old }
-    requires changes { AreChanges One (R.record_count records.old) changes.now }
-    requires settled { (t : Tape) → R.tape records.old ≡ Some t → IsSettled t }
+/// changes, but for the records of the redo file. For k changes at most 2 k + 6 calls of the store are made.
+pub fn commit<R: Records>(records: &mut R, version: Version, changes: &[(u16, [u8; 256])]) -> Result<(), Trouble>
+    requires ready { IsReady (2 * length changes.now + 6) (R.view records.old) }
+    requires changes { AreChanges (version_of version) (R.view records.old).record_count changes.now }
+    requires settled { (t : Tape) → (R.view records.old).tape ≡ Some t → IsSettled t }
 
     // At Ok the changes stand, the gate record is zero, and all else below the redo file is as before.
-    ensures done { OnOk result ((t : Tape) → R.tape records.old ≡ Some t → (u : Tape) × (R.tape records.new ≡ Some u) × IsCommitted One changes.now t u) }
+    ensures done { OnOk result ((t : Tape) → (R.view records.old).tape ≡ Some t → (u : Tape) × ((R.view records.new).tape ≡ Some u) × IsCommitted (version_of version) changes.now t u) }
     // Then no redo is open.
-    ensures settled { OnOk result ((t : Tape) → R.tape records.new ≡ Some t → IsSettled t) }
+    ensures settled { OnOk result ((t : Tape) → (R.view records.new).tape ≡ Some t → IsSettled t) }
     // A stop at any moment leaves a tape that settles to the old one or to the one with all the changes.
-    ensures any_moment { (t : Tape) → R.tape records.old ≡ Some t
-        → LeavesOnly (R.moment records.old) (R.moment records.new) (R.left_since records.old) (R.left_since records.new) (IsOldOrNew One changes.now t) }
+    ensures any_moment { (t : Tape) → (R.view records.old).tape ≡ Some t
+        → RunLeaves (R.view records.old) (R.view records.new) (IsOldOrNew (version_of version) changes.now t) }
     // So does the tape as it reads behind the call.
-    ensures after { (t : Tape) → R.tape records.old ≡ Some t → (u : Tape) × (R.tape records.new ≡ Some u) × IsOldOrNew One changes.now t u }
+    ensures after { (t : Tape) → (R.view records.old).tape ≡ Some t → (u : Tape) × ((R.view records.new).tape ≡ Some u) × IsOldOrNew (version_of version) changes.now t u }
 
-    ensures valid { R.valid records.new }
-    ensures told { is_some (R.tape records.new) ≡ is_some (R.tape records.old) }
-    ensures size { R.record_count records.new ≡ R.record_count records.old }
-    ensures sound { R.sound records.new ≡ answers_ok result }
-    ensures left { R.calls_left records.old ≤ R.calls_left records.new + 10 }
-    ensures transfers { AddsOnly (IsRedoWrite One (R.record_count records.old) changes.now) (R.transfers records.old) (R.transfers records.new) result }
-    ensures stood { (s : R.Start) → R.stood records.old s → R.stood records.new s }
-    ensures unbroken { R.unbroken records.old ≡ true → answers_ok result ≡ true → R.unbroken records.new ≡ true }
-    ensures resumes { R.resumes records.new ≡ R.resumes records.old }
-    ensures cause { HasTroubleCause (R.frame_faults records.old) (R.frame_faults records.new) (R.medium_faults records.old) (R.medium_faults records.new) result }
+    ensures goes_on { GoesOn (2 * length changes.now + 6) (R.view records.old) (R.view records.new) result }
+    // At Ok these are the writes, in their order; whether the gate read open decides on the first of them.
+    ensures writes { OnOk result ((was_open : Bool) × ((t : Tape) → (R.view records.old).tape ≡ Some t → was_open ≡ has_open_gate t)
+        × AddsWrites (commit_writes (version_of version) (R.view records.old).record_count was_open changes.now) (R.view records.old).transferred (R.view records.new).transferred) }
+    // So each is one of a target or of a record of the redo file.
+    ensures transfers { AddsOnly (IsRedoWrite (version_of version) (R.view records.old).record_count changes.now) (R.view records.old).transferred (R.view records.new).transferred result }
 {
     close(records)?;
-    stage(records, changes)?;
+    stage(records, version, changes)?;
     let gate = records.size() - GATE;
-    records.write(gate, &open_gate_record())?;
+    put(records, gate, &open_gate_record())?;
     finish(records, changes)?;
     Ok(())
 }
 
-/// Carries out the redo that is open, if one is, and answers whether one was. A power stop at any moment, and a
-/// trouble, leave a tape that settles to the same in all records but the gate. At most ten calls of the store are made.
+/// Carries out the redo that is open, of either version, if one is, and answers whether one was. A power stop at any
+/// moment, and a trouble, leave a tape that settles to the same in all records but the gate, and the very same tape where
+/// no redo is open. At most 70 calls of the store are made.
 pub fn settle<R: Records>(records: &mut R) -> Result<bool, Trouble>
-    requires valid { R.valid records.old }
-    requires sound { R.sound records.old ≡ true }
-    requires size { 4 ≤ R.record_count records.old }
-    requires left { 10 ≤ R.calls_left records.old }
+    requires size { 4 ≤ (R.view records.old).record_count }
+    requires ready { IsReady 70 (R.view records.old) }
 
-    ensures done { OnOk result ((t : Tape) → R.tape records.old ≡ Some t → R.tape records.new ≡ Some (settled t)) }
-    ensures settled { OnOk result ((t : Tape) → R.tape records.new ≡ Some t → IsSettled t) }
+    ensures done { OnOk result ((t : Tape) → (R.view records.old).tape ≡ Some t → (R.view records.new).tape ≡ Some (settled t)) }
+    ensures settled { OnOk result ((t : Tape) → (R.view records.new).tape ≡ Some t → IsSettled t) }
     // It answers true exactly where the gate was open with valid targets.
-    ensures applied { IfOk result (λ applied. (t : Tape) → R.tape records.old ≡ Some t → (IsTrue applied ↔ (redo_of t ≢ []))) }
-    ensures any_moment { (t : Tape) → R.tape records.old ≡ Some t
-        → LeavesOnly (R.moment records.old) (R.moment records.new) (R.left_since records.old) (R.left_since records.new) (SettlesAs (settled t)) }
-    ensures after { (t : Tape) → R.tape records.old ≡ Some t → (u : Tape) × (R.tape records.new ≡ Some u) × SettlesAs (settled t) u }
+    ensures applied { IfOk result (λ applied. (t : Tape) → (R.view records.old).tape ≡ Some t → (IsTrue applied ↔ (redo_of t ≢ []))) }
+    ensures any_moment { (t : Tape) → (R.view records.old).tape ≡ Some t
+        → RunLeaves (R.view records.old) (R.view records.new) (SettlesAs (settled t)) }
+    ensures after { (t : Tape) → (R.view records.old).tape ≡ Some t → (u : Tape) × ((R.view records.new).tape ≡ Some u) × SettlesAs (settled t) u }
+    // Where no redo is open the tape stays as it is, at any moment and behind the call.
+    ensures idle { (t : Tape) → (R.view records.old).tape ≡ Some t → redo_of t ≡ []
+        → ((R.view records.new).tape ≡ Some t) × RunLeaves (R.view records.old) (R.view records.new) (λ x. x ≡ t) }
 
-    ensures valid { R.valid records.new }
-    ensures told { is_some (R.tape records.new) ≡ is_some (R.tape records.old) }
-    ensures size { R.record_count records.new ≡ R.record_count records.old }
-    ensures sound { R.sound records.new ≡ answers_ok result }
-    ensures left { R.calls_left records.old ≤ R.calls_left records.new + 10 }
-    ensures transfers { (t : Tape) → R.tape records.old ≡ Some t
-        → AddsOnly (IsSettleWrite (R.record_count records.old) (redo_of t)) (R.transfers records.old) (R.transfers records.new) result }
-    ensures stood { (s : R.Start) → R.stood records.old s → R.stood records.new s }
-    ensures unbroken { R.unbroken records.old ≡ true → answers_ok result ≡ true → R.unbroken records.new ≡ true }
-    ensures resumes { R.resumes records.new ≡ R.resumes records.old }
-    ensures cause { HasTroubleCause (R.frame_faults records.old) (R.frame_faults records.new) (R.medium_faults records.old) (R.medium_faults records.new) result }
+    ensures goes_on { GoesOn 70 (R.view records.old) (R.view records.new) result }
+    // At Ok the writes are those of some redo, in their order, and where the tape is told those of the one that was open.
+    ensures writes { OnOk result ((changes : Changes) × ((t : Tape) → (R.view records.old).tape ≡ Some t → changes ≡ redo_of t)
+        × AddsWrites (settle_writes (R.view records.old).record_count changes) (R.view records.old).transferred (R.view records.new).transferred) }
+    ensures transfers { (t : Tape) → (R.view records.old).tape ≡ Some t
+        → AddsOnly (IsSettleWrite (R.view records.old).record_count (redo_of t)) (R.view records.old).transferred (R.view records.new).transferred result }
 {
     match look(records)? {
         None => Ok(false),
         Some(named) => {
-            replay(records, named)?;
+            replay(records, named.version, named.targets.as_slice())?;
             Ok(true)
         }
     }

@@ -1,176 +1,188 @@
 // The steps of settling and of a commit, in the order in which they are made.
-ghost use Rattle.std.specs.Prelude.{◌≡◌, ◌<◌, ◌≤◌, ◌+◌, ◌⊎◌, [], true, false, Some, is_some, length, set, OnOk, IfOk};
-ghost use Rattle.lif_model.specs.Tape.{Tape};
-ghost use Rattle.lif_model.specs.Stops.{LeavesOnly, StandsStill};
+ghost use Rattle.std.specs.Prelude.{◌≡◌, ◌<◌, ◌≤◌, ◌+◌, ◌*◌, ◌++◌, ℕ, List, Bool, [], ◌∷◌, true, false, Some, length, set, OnOk, IfOk};
+ghost use Rattle.lif_model.specs.Tape.{Tape, record_at};
 ghost use Rattle.lif_model.specs.Gate.{gate_of, has_open_gate};
-ghost use Rattle.lif_model.specs.Redo.{One, redo_start, are_targets, zeros, redo_of, changed, settled};
-ghost use Rattle.lif_model.specs.Commit.{AreChanges, SettlesAs, Quiet, IsShut, IsStaged, IsArmed, IsTarget, IsSettleWrite};
-ghost use Rattle.il_ports.specs.Transfers.{AddsOnly};
-ghost use Rattle.il_ports.specs.Trouble.{answers_ok, HasTroubleCause};
-ghost use Rattle.lif_redo.specs.Reading.{targets_named, MayBeNamed, IsFound};
+ghost use Rattle.lif_model.specs.Stops.{Torn, Elapses};
+ghost use Rattle.lif_model.specs.Redo as redo;
+ghost use Rattle.lif_model.specs.Redo.{are_targets, zeros, Changes, redo_of, changed, settled, targets_place, targets_record, targets_in};
+ghost use Rattle.lif_model.specs.Commit.{AreChanges, SettlesAs, Quiet, IsShut, IsStaged, IsArmed, settle_writes, close_writes, content_writes};
+ghost use Rattle.il_ports.specs.Stores.{IsReady, GoesOn, IsQuiet, RunLeaves, Fetched, Stored};
+ghost use Rattle.lif_redo.specs.Reading.{version_of, MayBeNamed, IsOpenWith, IsFound};
+ghost use Rattle.lif_redo.specs.Writing.{AddsWrites};
+ghost use Rattle.lif_redo.specs.Filling.{IsFilled};
 
 use crate::texts::{
-    FIRST_CONTENT, GATE, Named, SECOND_CONTENT, TARGETS, is_open_gate, one_target_record,
-    read_targets, two_targets_record, zero_record,
+    GATE, MOST, Named, TARGETS, is_open_gate, open_gate_record, read_targets, targets_record,
+    zero_record,
 };
+use crate::versions::Version;
+use arrayvec::ArrayVec;
 use il_ports::{Records, Trouble};
 use lif_model::RECORD;
 
+// ---- one record
+
+// Reads a record.
+fn get<R: Records>(records: &mut R, n: u16, into: &mut [u8; 256]) -> Result<(), Trouble>
+    requires ready { IsReady 1 (R.view records.old) }
+    requires within { n < (R.view records.old).record_count }
+    ensures fetched { Fetched n into.new (R.view records.old) (R.view records.new) result }
+    ensures writes { OnOk result (AddsWrites [] (R.view records.old).transferred (R.view records.new).transferred) }
+{
+    records.read(n, into)
+}
+
+// Writes a record.
+pub fn put<R: Records>(records: &mut R, n: u16, bytes: &[u8; 256]) -> Result<(), Trouble>
+    requires ready { IsReady 1 (R.view records.old) }
+    requires within { n < (R.view records.old).record_count }
+    ensures stored { Stored n bytes.now (R.view records.old) (R.view records.new) result }
+    ensures writes { OnOk result (AddsWrites ((n, bytes.now) ∷ []) (R.view records.old).transferred (R.view records.new).transferred) }
+{
+    records.write(n, bytes)
+}
+
+// Writes to record `to` what record `from` holds.
+fn copy<R: Records>(records: &mut R, from: u16, to: u16) -> Result<(), Trouble>
+    requires ready { IsReady 2 (R.view records.old) }
+    requires from { from < (R.view records.old).record_count }
+    requires to { to < (R.view records.old).record_count }
+    ensures goes_on { GoesOn 2 (R.view records.old) (R.view records.new) result }
+    ensures content { OnOk result ((t : Tape) → (R.view records.old).tape ≡ Some t → (R.view records.new).tape ≡ Some (set t to (record_at t from))) }
+    ensures time { Elapses (R.view records.old).moment (R.view records.new).moment (R.view records.old).left_since (R.view records.new).left_since (R.view records.old).tape (Torn to) }
+    ensures writes { OnOk result ((bytes : List ℕ) × ((t : Tape) → (R.view records.old).tape ≡ Some t → bytes ≡ record_at t from)
+        × AddsWrites ((to, bytes) ∷ []) (R.view records.old).transferred (R.view records.new).transferred) }
+{
+    let mut bytes = [0; RECORD];
+    get(records, from, &mut bytes)?;
+    put(records, to, &bytes)?;
+    Ok(())
+}
+
+// ---- settling
+
 /// Reads which redo is open, if one is.
 pub fn look<R: Records>(records: &mut R) -> Result<Option<Named>, Trouble>
-    requires valid { R.valid records.old }
-    requires sound { R.sound records.old ≡ true }
-    requires size { 4 ≤ R.record_count records.old }
-    requires left { 2 ≤ R.calls_left records.old }
-    ensures found { IfOk result (λ found. (t : Tape) → R.tape records.old ≡ Some t → IsFound t found) }
-    ensures may_be { IfOk result (MayBeNamed (R.record_count records.old)) }
-    ensures valid { R.valid records.new }
-    ensures tape { R.tape records.new ≡ R.tape records.old }
-    ensures moment { R.moment records.new ≡ R.moment records.old }
-    ensures since { StandsStill (R.left_since records.old) (R.left_since records.new) }
-    ensures size { R.record_count records.new ≡ R.record_count records.old }
-    ensures sound { R.sound records.new ≡ answers_ok result }
-    ensures left { R.calls_left records.old ≤ R.calls_left records.new + 2 }
-    ensures transfers { AddsOnly (λ k. ⊥) (R.transfers records.old) (R.transfers records.new) result }
-    ensures stood { (s : R.Start) → R.stood records.old s → R.stood records.new s }
-    ensures unbroken { R.unbroken records.old ≡ true → answers_ok result ≡ true → R.unbroken records.new ≡ true }
-    ensures resumes { R.resumes records.new ≡ R.resumes records.old }
-    ensures cause { HasTroubleCause (R.frame_faults records.old) (R.frame_faults records.new) (R.medium_faults records.old) (R.medium_faults records.new) result }
+    requires size { 4 ≤ (R.view records.old).record_count }
+    requires ready { IsReady 2 (R.view records.old) }
+    ensures found { IfOk result (λ found. (t : Tape) → (R.view records.old).tape ≡ Some t → IsFound t found) }
+    ensures may_be { IfOk result (MayBeNamed (R.view records.old).record_count) }
+    ensures quiet { IsQuiet (R.view records.old) (R.view records.new) }
+    ensures goes_on { GoesOn 2 (R.view records.old) (R.view records.new) result }
+    ensures writes { OnOk result (AddsWrites [] (R.view records.old).transferred (R.view records.new).transferred) }
 {
     let size = records.size();
     let mut bytes = [0; RECORD];
-    records.read(size - GATE, &mut bytes)?;
+    get(records, size - GATE, &mut bytes)?;
     if !is_open_gate(&bytes) {
         return Ok(None);
     }
-    records.read(size - TARGETS, &mut bytes)?;
+    get(records, size - TARGETS, &mut bytes)?;
     Ok(read_targets(size, &bytes))
 }
 
 /// Carries out the redo that is open with these targets.
-pub fn replay<R: Records>(records: &mut R, named: Named) -> Result<(), Trouble>
-    requires valid { R.valid records.old }
-    requires sound { R.sound records.old ≡ true }
-    requires left { 5 ≤ R.calls_left records.old }
-    requires may_be { are_targets One (R.record_count records.old) (targets_named named) ≡ true }
-    requires found { (t : Tape) → R.tape records.old ≡ Some t → IsFound t (Some named) }
-    ensures done { OnOk result ((t : Tape) → R.tape records.old ≡ Some t → R.tape records.new ≡ Some (settled t)) }
-    ensures any_moment { (t : Tape) → R.tape records.old ≡ Some t → LeavesOnly (R.moment records.old) (R.moment records.new) (R.left_since records.old) (R.left_since records.new) (SettlesAs (settled t)) }
-    ensures valid { R.valid records.new }
-    ensures told { is_some (R.tape records.new) ≡ is_some (R.tape records.old) }
-    ensures size { R.record_count records.new ≡ R.record_count records.old }
-    ensures sound { R.sound records.new ≡ answers_ok result }
-    ensures left { R.calls_left records.old ≤ R.calls_left records.new + 5 }
-    ensures transfers { (t : Tape) → R.tape records.old ≡ Some t → AddsOnly (IsSettleWrite (R.record_count records.old) (redo_of t)) (R.transfers records.old) (R.transfers records.new) result }
-    ensures stood { (s : R.Start) → R.stood records.old s → R.stood records.new s }
-    ensures unbroken { R.unbroken records.old ≡ true → answers_ok result ≡ true → R.unbroken records.new ≡ true }
-    ensures resumes { R.resumes records.new ≡ R.resumes records.old }
-    ensures cause { HasTroubleCause (R.frame_faults records.old) (R.frame_faults records.new) (R.medium_faults records.old) (R.medium_faults records.new) result }
+pub fn replay<R: Records>(records: &mut R, version: Version, targets: &[u16]) -> Result<(), Trouble>
+    requires ready { IsReady (2 * length targets.now + 1) (R.view records.old) }
+    requires may_be { are_targets (version_of version) (R.view records.old).record_count targets.now ≡ true }
+    requires found { (t : Tape) → (R.view records.old).tape ≡ Some t → IsOpenWith (version_of version) targets.now t }
+    ensures done { OnOk result ((t : Tape) → (R.view records.old).tape ≡ Some t → (R.view records.new).tape ≡ Some (settled t)) }
+    ensures any_moment { (t : Tape) → (R.view records.old).tape ≡ Some t → RunLeaves (R.view records.old) (R.view records.new) (SettlesAs (settled t)) }
+    ensures goes_on { GoesOn (2 * length targets.now + 1) (R.view records.old) (R.view records.new) result }
+    ensures writes { OnOk result ((changes : Changes) × ((t : Tape) → (R.view records.old).tape ≡ Some t → changes ≡ redo_of t)
+        × AddsWrites (settle_writes (R.view records.old).record_count changes) (R.view records.old).transferred (R.view records.new).transferred) }
 {
     let size = records.size();
-    let mut first = [0; RECORD];
-    records.read(size - FIRST_CONTENT, &mut first)?;
-    match named {
-        Named::One(target) => finish(records, &[(target, first)])?,
-        Named::Two(target, next) => {
-            let mut second = [0; RECORD];
-            records.read(size - SECOND_CONTENT, &mut second)?;
-            finish(records, &[(target, first), (next, second)])?;
-        }
+    for i in 0..targets.len() {
+        copy(records, version.data_record(size, i as u16), targets[i])?;
     }
+    put(records, size - GATE, &zero_record())?;
     Ok(())
 }
+
+// ---- a commit
 
 /// Closes a gate that reads open though no redo is.
 pub fn close<R: Records>(records: &mut R) -> Result<(), Trouble>
-    requires valid { R.valid records.old }
-    requires sound { R.sound records.old ≡ true }
-    requires size { 4 < R.record_count records.old }
-    requires left { 2 ≤ R.calls_left records.old }
-    requires none { (t : Tape) → R.tape records.old ≡ Some t → redo_of t ≡ [] }
-    ensures closed { OnOk result ((t : Tape) → R.tape records.old ≡ Some t → (u : Tape) × (R.tape records.new ≡ Some u) × IsShut One t u) }
-    ensures any_moment { (t : Tape) → R.tape records.old ≡ Some t → LeavesOnly (R.moment records.old) (R.moment records.new) (R.left_since records.old) (R.left_since records.new) (Quiet One t) }
-    ensures valid { R.valid records.new }
-    ensures told { is_some (R.tape records.new) ≡ is_some (R.tape records.old) }
-    ensures size { R.record_count records.new ≡ R.record_count records.old }
-    ensures sound { R.sound records.new ≡ answers_ok result }
-    ensures left { R.calls_left records.old ≤ R.calls_left records.new + 2 }
-    ensures transfers { AddsOnly (λ k. redo_start One (R.record_count records.old) ≤ k) (R.transfers records.old) (R.transfers records.new) result }
-    ensures stood { (s : R.Start) → R.stood records.old s → R.stood records.new s }
-    ensures unbroken { R.unbroken records.old ≡ true → answers_ok result ≡ true → R.unbroken records.new ≡ true }
-    ensures resumes { R.resumes records.new ≡ R.resumes records.old }
-    ensures cause { HasTroubleCause (R.frame_faults records.old) (R.frame_faults records.new) (R.medium_faults records.old) (R.medium_faults records.new) result }
+    requires size { 4 < (R.view records.old).record_count }
+    requires ready { IsReady 2 (R.view records.old) }
+    requires none { (t : Tape) → (R.view records.old).tape ≡ Some t → redo_of t ≡ [] }
+    ensures closed { OnOk result ((t : Tape) → (R.view records.old).tape ≡ Some t → (u : Tape) × ((R.view records.new).tape ≡ Some u) × ((version : redo.Version) → IsShut version t u)) }
+    ensures any_moment { (version : redo.Version) (t : Tape) → (R.view records.old).tape ≡ Some t → RunLeaves (R.view records.old) (R.view records.new) (Quiet version t) }
+    ensures goes_on { GoesOn 2 (R.view records.old) (R.view records.new) result }
+    ensures writes { OnOk result ((was_open : Bool) × ((t : Tape) → (R.view records.old).tape ≡ Some t → was_open ≡ has_open_gate t)
+        × AddsWrites (close_writes (R.view records.old).record_count was_open) (R.view records.old).transferred (R.view records.new).transferred) }
 {
-    let size = records.size();
+    let gate = records.size() - GATE;
     let mut bytes = [0; RECORD];
-    records.read(size - GATE, &mut bytes)?;
+    get(records, gate, &mut bytes)?;
     if is_open_gate(&bytes) {
-        records.write(size - GATE, &zero_record())?;
+        put(records, gate, &zero_record())?;
     }
     Ok(())
 }
 
-/// Writes the new contents, and then the targets, behind the closed gate.
-pub fn stage<R: Records>(records: &mut R, changes: &[(u16, [u8; 256])]) -> Result<(), Trouble>
-    requires valid { R.valid records.old }
-    requires sound { R.sound records.old ≡ true }
-    requires size { 4 < R.record_count records.old }
-    requires left { 3 ≤ R.calls_left records.old }
-    requires changes { AreChanges One (R.record_count records.old) changes.now }
-    requires shut { (t : Tape) → R.tape records.old ≡ Some t → has_open_gate t ≡ false }
-    ensures staged { OnOk result ((t : Tape) → R.tape records.old ≡ Some t → (u : Tape) × (R.tape records.new ≡ Some u) × IsStaged One changes.now t u) }
-    ensures any_moment { (t : Tape) → R.tape records.old ≡ Some t → LeavesOnly (R.moment records.old) (R.moment records.new) (R.left_since records.old) (R.left_since records.new) (IsShut One t) }
-    ensures valid { R.valid records.new }
-    ensures told { is_some (R.tape records.new) ≡ is_some (R.tape records.old) }
-    ensures size { R.record_count records.new ≡ R.record_count records.old }
-    ensures sound { R.sound records.new ≡ answers_ok result }
-    ensures left { R.calls_left records.old ≤ R.calls_left records.new + 3 }
-    ensures transfers { AddsOnly (λ k. redo_start One (R.record_count records.old) ≤ k) (R.transfers records.old) (R.transfers records.new) result }
-    ensures stood { (s : R.Start) → R.stood records.old s → R.stood records.new s }
-    ensures unbroken { R.unbroken records.old ≡ true → answers_ok result ≡ true → R.unbroken records.new ≡ true }
-    ensures resumes { R.resumes records.new ≡ R.resumes records.old }
-    ensures cause { HasTroubleCause (R.frame_faults records.old) (R.frame_faults records.new) (R.medium_faults records.old) (R.medium_faults records.new) result }
+/// Writes the new contents, each at its data record, behind the closed gate.
+pub fn fill<R: Records>(records: &mut R, version: Version, changes: &[(u16, [u8; 256])]) -> Result<(), Trouble>
+    requires ready { IsReady (length changes.now) (R.view records.old) }
+    requires changes { AreChanges (version_of version) (R.view records.old).record_count changes.now }
+    requires shut { (t : Tape) → (R.view records.old).tape ≡ Some t → has_open_gate t ≡ false }
+    ensures filled { OnOk result ((t : Tape) → (R.view records.old).tape ≡ Some t → (u : Tape) × ((R.view records.new).tape ≡ Some u) × IsFilled (version_of version) (length changes.now) changes.now t u) }
+    ensures any_moment { (t : Tape) → (R.view records.old).tape ≡ Some t → RunLeaves (R.view records.old) (R.view records.new) (IsShut (version_of version) t) }
+    ensures goes_on { GoesOn (length changes.now) (R.view records.old) (R.view records.new) result }
+    ensures writes { OnOk result (AddsWrites (content_writes (version_of version) (R.view records.old).record_count 0 changes.now) (R.view records.old).transferred (R.view records.new).transferred) }
 {
     let size = records.size();
-    match changes {
-        [only] => {
-            records.write(size - FIRST_CONTENT, &only.1)?;
-            records.write(size - TARGETS, &one_target_record(only.0))?;
-        }
-        [first, second] => {
-            records.write(size - FIRST_CONTENT, &first.1)?;
-            records.write(size - SECOND_CONTENT, &second.1)?;
-            records.write(size - TARGETS, &two_targets_record(first.0, second.0))?;
-        }
-        _ => unreachable!(),
+    for i in 0..changes.len() {
+        put(records, version.data_record(size, i as u16), &changes[i].1)?;
     }
+    Ok(())
+}
+
+/// The numbers of the records that change.
+pub fn numbers(changes: &[(u16, [u8; 256])]) -> ArrayVec<u16, MOST>
+    requires { length changes.now ≤ 32 }
+    ensures { result.items ≡ targets_in changes.now }
+{
+    let mut numbers = ArrayVec::new();
+    for change in changes {
+        numbers.push(change.0);
+    }
+    numbers
+}
+
+/// Writes the new contents, and then the targets, behind the closed gate.
+pub fn stage<R: Records>(records: &mut R, version: Version, changes: &[(u16, [u8; 256])]) -> Result<(), Trouble>
+    requires ready { IsReady (length changes.now + 1) (R.view records.old) }
+    requires changes { AreChanges (version_of version) (R.view records.old).record_count changes.now }
+    requires shut { (t : Tape) → (R.view records.old).tape ≡ Some t → has_open_gate t ≡ false }
+    ensures staged { OnOk result ((t : Tape) → (R.view records.old).tape ≡ Some t → (u : Tape) × ((R.view records.new).tape ≡ Some u) × IsStaged (version_of version) changes.now t u) }
+    ensures any_moment { (t : Tape) → (R.view records.old).tape ≡ Some t → RunLeaves (R.view records.old) (R.view records.new) (IsShut (version_of version) t) }
+    ensures goes_on { GoesOn (length changes.now + 1) (R.view records.old) (R.view records.new) result }
+    ensures writes { OnOk result (AddsWrites (content_writes (version_of version) (R.view records.old).record_count 0 changes.now
+        ++ (targets_place (R.view records.old).record_count, targets_record (version_of version) (targets_in changes.now)) ∷ []) (R.view records.old).transferred (R.view records.new).transferred) }
+{
+    fill(records, version, changes)?;
+    let targets = records.size() - TARGETS;
+    let numbers = numbers(changes);
+    put(records, targets, &targets_record(version, numbers.as_slice()))?;
     Ok(())
 }
 
 /// Writes the targets in place, in their order, and then closes the gate.
 pub fn finish<R: Records>(records: &mut R, changes: &[(u16, [u8; 256])]) -> Result<(), Trouble>
-    requires valid { R.valid records.old }
-    requires sound { R.sound records.old ≡ true }
-    requires left { 3 ≤ R.calls_left records.old }
-    requires changes { AreChanges One (R.record_count records.old) changes.now }
-    requires armed { (t : Tape) → R.tape records.old ≡ Some t → IsArmed One changes.now t }
-    ensures done { OnOk result ((t : Tape) → R.tape records.old ≡ Some t → R.tape records.new ≡ Some (set (changed changes.now t) (gate_of (length t)) zeros)) }
-    ensures any_moment { (t : Tape) → R.tape records.old ≡ Some t → LeavesOnly (R.moment records.old) (R.moment records.new) (R.left_since records.old) (R.left_since records.new) (SettlesAs (changed changes.now t)) }
-    ensures valid { R.valid records.new }
-    ensures told { is_some (R.tape records.new) ≡ is_some (R.tape records.old) }
-    ensures size { R.record_count records.new ≡ R.record_count records.old }
-    ensures sound { R.sound records.new ≡ answers_ok result }
-    ensures left { R.calls_left records.old ≤ R.calls_left records.new + 3 }
-    ensures transfers { AddsOnly (λ k. (k ≡ gate_of (R.record_count records.old)) ⊎ IsTarget changes.now k) (R.transfers records.old) (R.transfers records.new) result }
-    ensures stood { (s : R.Start) → R.stood records.old s → R.stood records.new s }
-    ensures unbroken { R.unbroken records.old ≡ true → answers_ok result ≡ true → R.unbroken records.new ≡ true }
-    ensures resumes { R.resumes records.new ≡ R.resumes records.old }
-    ensures cause { HasTroubleCause (R.frame_faults records.old) (R.frame_faults records.new) (R.medium_faults records.old) (R.medium_faults records.new) result }
+    requires ready { IsReady (length changes.now + 1) (R.view records.old) }
+    requires changes { (version : redo.Version) × AreChanges version (R.view records.old).record_count changes.now }
+    requires armed { (t : Tape) → (R.view records.old).tape ≡ Some t → (version : redo.Version) × IsArmed version changes.now t }
+    ensures done { OnOk result ((t : Tape) → (R.view records.old).tape ≡ Some t → (R.view records.new).tape ≡ Some (set (changed changes.now t) (gate_of (length t)) zeros)) }
+    ensures any_moment { (t : Tape) → (R.view records.old).tape ≡ Some t → RunLeaves (R.view records.old) (R.view records.new) (SettlesAs (changed changes.now t)) }
+    ensures goes_on { GoesOn (length changes.now + 1) (R.view records.old) (R.view records.new) result }
+    ensures writes { OnOk result (AddsWrites (changes.now ++ (gate_of (R.view records.old).record_count, zeros) ∷ []) (R.view records.old).transferred (R.view records.new).transferred) }
 {
     for change in changes {
-        records.write(change.0, &change.1)?;
+        put(records, change.0, &change.1)?;
     }
     let gate = records.size() - GATE;
-    records.write(gate, &zero_record())?;
+    put(records, gate, &zero_record())?;
     Ok(())
 }

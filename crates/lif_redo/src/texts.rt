@@ -1,39 +1,38 @@
 // The records of the redo file: the gate, and the record that names the targets.
-ghost use Rattle.std.specs.Prelude.{◌≡◌, ◌+◌, ◌/◌, ◌%◌, ◌-◌, ◌≤◌, ◌&&◌, [], ◌∷◌, length, set, nat_lt, nat_eq, not};
+ghost use Rattle.std.specs.Prelude.{◌≡◌, ◌+◌, ◌/◌, ◌%◌, ◌≤◌, ◌&&◌, set, length, nat_lt, nat_eq, not};
 ghost use Rattle.std.specs.Str.{bytes_eq};
+ghost use Rattle.std.specs.List.{list_all};
 ghost use Rattle.lif_model.specs.Numbers.{two_at};
+ghost use Rattle.lif_model.specs.Pairs.{all_pairs};
 ghost use Rattle.lif_model.specs.Gate.{is_open};
-ghost use Rattle.lif_model.specs.Redo.{One, zeros, open_gate, targets_record, targets_of};
-ghost use Rattle.lif_redo.specs.Reading.{targets_read, MayBeNamed};
+ghost use Rattle.lif_model.specs.Redo.{most_targets, zeros, open_gate, targets_record, are_targets, named_by, targets_of};
+ghost use Rattle.lif_redo.specs.Reading.{version_of, targets_read, MayBeNamed};
 
+use crate::versions::Version;
+use arrayvec::ArrayVec;
 use lif_model::RECORD;
 
-// Where the records of the redo file stand, counted back from the tape's end.
+// Where the gate and the targets record stand, counted back from the tape's end.
 pub const GATE: u16 = 4;
 
 pub const TARGETS: u16 = 3;
 
-pub const FIRST_CONTENT: u16 = 2;
+/// How many targets there are at most, of any version.
+pub const MOST: usize = 32;
 
-pub const SECOND_CONTENT: u16 = 1;
-
-// What an open gate and a targets record begin with.
+// What an open gate begins with.
 const OPEN_TEXT: &[u8; 16] = b"LIFREDO1 OPEN   ";
 
-const TARGETS_TEXT: &[u8; 8] = b"LIFREDO1";
-
-// Where the numbers stand in a targets record: how many targets there are, and which.
+// Where the numbers stand in a targets record: how many targets there are, and from where on which.
 const COUNT: usize = 8;
 
 const FIRST_TARGET: usize = 10;
 
-const SECOND_TARGET: usize = 12;
-
 /// The targets that a record names, in their order.
-#[derive(Clone, Copy, Debug, PartialEq, Eq, Drop)]
-pub enum Named {
-    One(u16),
-    Two(u16, u16),
+#[derive(Debug, Drop)]
+pub struct Named {
+    pub version: Version,
+    pub targets: ArrayVec<u16, MOST>,
 }
 
 /// The record that closes the gate.
@@ -62,62 +61,100 @@ pub fn is_open_gate(bytes: &[u8; 256]) -> bool
     bytes.starts_with(OPEN_TEXT)
 }
 
-/// The targets record that names one target.
-#[tactic(auto, unfolding(lif_model::specs::Redo::targets_record, lif_model::specs::Shelf::piece))]
-pub fn one_target_record(target: u16) -> [u8; 256]
-    ensures { result ≡ targets_record One (target ∷ []) }
+/// The targets record that names these targets.
+pub fn targets_record(version: Version, targets: &[u16]) -> [u8; 256]
+    requires { length targets.now ≤ most_targets (version_of version) }
+    ensures { result ≡ targets_record (version_of version) targets.now }
 {
     let mut bytes = [0; RECORD];
-    bytes[..TARGETS_TEXT.len()].copy_from_slice(TARGETS_TEXT);
-    put_number(&mut bytes, COUNT, 1);
-    put_number(&mut bytes, FIRST_TARGET, target);
+    bytes[..COUNT].copy_from_slice(&version.text());
+    put_number(&mut bytes, COUNT, targets.len() as u16);
+    for i in 0..targets.len() {
+        put_number(&mut bytes, FIRST_TARGET + 2 * i, targets[i]);
+    }
     bytes
 }
 
-/// The targets record that names two targets.
-#[tactic(auto, unfolding(lif_model::specs::Redo::targets_record, lif_model::specs::Shelf::piece))]
-pub fn two_targets_record(first: u16, second: u16) -> [u8; 256]
-    ensures { result ≡ targets_record One (first ∷ second ∷ []) }
-{
-    let mut bytes = [0; RECORD];
-    bytes[..TARGETS_TEXT.len()].copy_from_slice(TARGETS_TEXT);
-    put_number(&mut bytes, COUNT, 2);
-    put_number(&mut bytes, FIRST_TARGET, first);
-    put_number(&mut bytes, SECOND_TARGET, second);
-    bytes
-}
-
-/// Reads the targets record of a tape of `size` records: none where it is not valid.
+/// Reads the targets record of a tape of `size` records: none where it is valid of no version.
 pub fn read_targets(size: u16, bytes: &[u8; 256]) -> Option<Named>
-    requires { 4 ≤ size }
     ensures read { targets_of size bytes.now ≡ targets_read result }
     ensures may_be { MayBeNamed size result }
 {
-    let first = number_at(bytes, FIRST_TARGET);
-    let second = number_at(bytes, SECOND_TARGET);
-    let gate = size - GATE;
-    if names_one(gate, bytes, first) {
-        Some(Named::One(first))
-    } else if names_two(gate, bytes, first, second) {
-        Some(Named::Two(first, second))
-    } else {
-        None
+    let one = named_numbers(Version::One, bytes);
+    if is_valid(Version::One, size, bytes, one.as_slice()) {
+        return Some(Named { version: Version::One, targets: one });
     }
+    let two = named_numbers(Version::Two, bytes);
+    if is_valid(Version::Two, size, bytes, two.as_slice()) {
+        return Some(Named { version: Version::Two, targets: two });
+    }
+    None
 }
 
-// Whether the record names this one target, which lies below the gate.
-fn names_one(gate: u16, bytes: &[u8; 256], target: u16) -> bool
-    ensures { result ≡ (bytes_eq bytes.now (targets_record One (target ∷ [])) && nat_lt target gate) }
+// Whether this is the very record that names these targets, and they may be targets.
+fn is_valid(version: Version, size: u16, bytes: &[u8; 256], targets: &[u16]) -> bool
+    requires { length targets.now ≤ most_targets (version_of version) }
+    ensures { result ≡ (bytes_eq bytes.now (targets_record (version_of version) targets.now) && are_targets (version_of version) size targets.now) }
 {
-    *bytes == one_target_record(target) && target < gate
+    *bytes == targets_record(version, targets) && are_targets(version, size, targets)
 }
 
-// Whether the record names these two targets, which lie below the gate and are distinct.
-fn names_two(gate: u16, bytes: &[u8; 256], first: u16, second: u16) -> bool
-    ensures { result ≡ (bytes_eq bytes.now (targets_record One (first ∷ second ∷ [])) && (nat_lt first gate && (nat_lt second gate && not (nat_eq first second)))) }
+// The numbers that a record of that version names.
+fn named_numbers(version: Version, bytes: &[u8; 256]) -> ArrayVec<u16, MOST>
+    ensures numbers { result.items ≡ named_by (version_of version) bytes.now }
+    ensures few { length result.items ≤ most_targets (version_of version) }
 {
-    *bytes == two_targets_record(first, second)
-        && (first < gate && (second < gate && first != second))
+    let count = usize::from(number_at(bytes, COUNT)).min(version.most_targets());
+    let mut numbers = ArrayVec::new();
+    for i in 0..count {
+        numbers.push(number_at(bytes, FIRST_TARGET + 2 * i));
+    }
+    numbers
+}
+
+// Whether they may be the targets of a redo file on a tape of `size` records.
+fn are_targets(version: Version, size: u16, targets: &[u16]) -> bool
+    ensures { result ≡ are_targets (version_of version) size targets.now }
+{
+    !targets.is_empty()
+        && (targets.len() <= version.most_targets()
+            && (all_below(version.start(size), targets) && are_distinct(targets)))
+}
+
+// Whether each of these is below the limit.
+fn all_below(limit: u16, targets: &[u16]) -> bool
+    ensures { result ≡ list_all (λ k. nat_lt k limit) targets.now }
+{
+    for target in targets {
+        if *target >= limit {
+            return false;
+        }
+    }
+    true
+}
+
+// Whether a target is none of these.
+fn is_none_of(target: u16, others: &[u16]) -> bool
+    ensures { result ≡ list_all (λ k. not (nat_eq target k)) others.now }
+{
+    for other in others {
+        if target == *other {
+            return false;
+        }
+    }
+    true
+}
+
+// Whether no two of these are equal.
+fn are_distinct(targets: &[u16]) -> bool
+    ensures { result ≡ all_pairs (λ j k. not (nat_eq j k)) targets.now }
+{
+    for i in 0..targets.len() {
+        if !is_none_of(targets[i], &targets[i + 1..]) {
+            return false;
+        }
+    }
+    true
 }
 
 // The number in the two bytes from place `at`, high byte first.

@@ -1,93 +1,110 @@
-use Rattle.std.proofs.Common.{List, ◌∙◌, ap, subst, sym, arith, ℕ, [], ◌∷◌}
+use Rattle.std.proofs.Common.{◌≡◌, ◌<◌, ◌≤◌, ◌-◌, ◌+◌, ◌*◌, ◌++◌, ◌∷◌, [], ◌∙◌, ap, subst, refl, sym, arith, ℕ, List, take, length, get_or, set, length-append}
 use Rattle.std.specs.Prelude.{Some}
-use Rattle.lif_model.specs.Redo.{One, Changes}
-use Rattle.lif_model.specs.Commit.{IsArmed, IsSettleWrite}
-use Rattle.lif_model.proofs.Moments.{started, still, after_still, weaker}
-use Rattle.lif_model.proofs.Commit.{armed_redo, settles_self, settles_too}
-use Rattle.il_ports.specs.Transfers.{GoesOnBy}
-use Rattle.lif_redo.proofs.Replayed.{armed_one, armed_two, armed_settled}
-use Rattle.il_ports.proofs.Transfers.{one_more, then_more}
+use Rattle.std.proofs.lemmas.List.{take_more, take_all}
+use Rattle.lif_model.specs.Tape.{Tape, record_at}
+use Rattle.lif_model.specs.Gate.{gate_of}
+use Rattle.lif_model.specs.Stops.{Torn}
+use Rattle.lif_model.specs.Redo.{data_record, Changes, redo_of, changed}
+use Rattle.lif_model.proofs.Moments.{started, goes_on}
+use Rattle.lif_redo.specs.Reading.{version_of}
+use Rattle.lif_redo.proofs.Told.{written}
+use Rattle.lif_redo.proofs.Held.{targets_long, redo_count, copied, copied_bytes, settles_at_first, settles_in_place, settles_closing, settled_is, settle_some}
+use Rattle.lif_redo.proofs.Writes.{no_write, then_writes, same_writes}
+use Rattle.il_ports.proofs.Stores.{goes_nowhere, goes_further, goes_within}
 use Rattle.lif_redo.proofs.steps.replay.Goals as goal
 
-pub returns-in_err-read-clause-any_moment : goal.returns-in_err-read-clause-any_moment
-returns-in_err-read-clause-any_moment g c t is =
-    still _ _ _ _ _ _ _ c.read.ensures.moment c.read.ensures.since (started _ _ _ t (λ x left. g.met.R.Records.leaves_only _ t x is left) (settles_self t))
+pub loop-i-init : goal.loop-i-init
+loop-i-init g c =
+    let n = (g.R.Records.view c.args.records.now).record_count in
+    record {
+      goes_on = goes_nowhere _ _ c.requires.ready;
+      writes = ([], λ t is. refl, refl, no_write _);
+      tape = λ t is. is;
+      moments = λ t is. started _ _ _ t (λ x left. (g.met.R.Records.is_store _).leaves_only t x is left)
+          (settles_at_first t n ((g.met.R.Records.is_store _).is_tape t is).records (version_of c.args.version) c.args.targets.now c.requires.may_be (c.requires.found t is));
+    }
 
-pub returns-in_err-read-in-Two-clause-any_moment : goal.returns-in_err-read-in-Two-clause-any_moment
-returns-in_err-read-in-Two-clause-any_moment g c t is =
-    still _ _ _ _ _ _ _ c.read-in-Two.ensures.moment c.read-in-Two.ensures.since
-    (still _ _ _ _ _ _ _ c.read.ensures.moment c.read.ensures.since (started _ _ _ t (λ x left. g.met.R.Records.leaves_only _ t x is left) (settles_self t)))
+pub data_record-requires-clause-long : goal.data_record-requires-clause-long
+data_record-requires-clause-long g c =
+    omega (arith, (targets_long (version_of c.args.version) (g.R.Records.view c.args.records.now).record_count c.args.targets.now c.requires.may_be).1, c.size-size.ensures)
 
-pub returns-in_err-finish-in-One-clause-any_moment : goal.returns-in_err-finish-in-One-clause-any_moment
-returns-in_err-finish-in-One-clause-any_moment g c t is =
-    let first : ℕ × List ℕ = (c.in-One.target, c.read.new.into) in
-    let armed : IsArmed One (first ∷ []) t =
-    armed_one t (g.R.Records.record_count c.args.records.now) c.args.named (g.met.R.Records.is_tape _ t is).records c.requires.may_be (c.requires.found t is) _ _ _ c.in-One.is (omega (arith, c.size-size.ensures)) (c.in_ok-read.ensures.content t is) in
-    after_still _ _ _ _ _ _ _ c.read.ensures.moment c.read.ensures.since
-    (weaker _ _ _ _ _ _ (c.finish.ensures.any_moment t (c.read.ensures.tape ∙ is)) (λ x new. settles_too t x first [] (armed_redo One (first ∷ []) t armed) new))
+pub returns-in_err-copy-clause-any_moment : goal.returns-in_err-copy-clause-any_moment
+returns-in_err-copy-clause-any_moment g c t is =
+    let n = (g.R.Records.view c.args.records.now).record_count in
+    goes_on _ _ _ _ _ _ _ _ _ _ (c.loop-i.invariant.tape t is) (c.loop-i.invariant.moments t is) c.copy.ensures.time
+    (λ x torn. settles_in_place t n ((g.met.R.Records.is_store _).is_tape t is).records (version_of c.args.version) c.args.targets.now c.requires.may_be (c.requires.found t is) x c.loop-i.i c.loop-i-test.true torn)
 
-pub returns-in_ok-finish-in-One-clause-any_moment : goal.returns-in_ok-finish-in-One-clause-any_moment
-returns-in_ok-finish-in-One-clause-any_moment g c t is =
-    let first : ℕ × List ℕ = (c.in-One.target, c.read.new.into) in
-    let armed : IsArmed One (first ∷ []) t =
-    armed_one t (g.R.Records.record_count c.args.records.now) c.args.named (g.met.R.Records.is_tape _ t is).records c.requires.may_be (c.requires.found t is) _ _ _ c.in-One.is (omega (arith, c.size-size.ensures)) (c.in_ok-read.ensures.content t is) in
-    after_still _ _ _ _ _ _ _ c.read.ensures.moment c.read.ensures.since
-    (weaker _ _ _ _ _ _ (c.finish.ensures.any_moment t (c.read.ensures.tape ∙ is)) (λ x new. settles_too t x first [] (armed_redo One (first ∷ []) t armed) new))
+pub loop-i-preserved : goal.loop-i-preserved
+loop-i-preserved g c =
+    let version = version_of c.args.version in
+    let n = (g.R.Records.view c.args.records.now).record_count in
+    let ts = c.args.targets.now in
+    let place : c.data_record.result ≡ data_record version n c.loop-i.i = c.data_record.ensures ∙ ap (λ (m : ℕ). data_record version m c.loop-i.i) c.size-size.ensures in
+    let inv = c.loop-i.invariant in
+    let now = c.in_ok-copy.ensures.writes in
+    record {
+      goes_on = goes_within (2 * c.loop-i.i + 2) (2 * (c.loop-i.i + 1)) _ _ _ (omega arith) (goes_further (2 * c.loop-i.i) 2 _ _ _ _ _ inv.goes_on c.in_ok-copy.ensures.goes_on);
+      writes = (
+        inv.writes.0 ++ (get_or ts c.loop-i.i 0, now.0) ∷ [],
+        λ t is.
+            let size = ((g.met.R.Records.is_store _).is_tape t is).records in
+            let bytes : now.0 ≡ record_at (changed (take c.loop-i.i (redo_of t)) t) (data_record version n c.loop-i.i) = now.1 _ (inv.tape t is) ∙ ap (record_at (changed (take c.loop-i.i (redo_of t)) t)) place in
+            let change = ap (λ (bs : List ℕ). (get_or ts c.loop-i.i 0, bs)) bytes ∙ copied_bytes t n size version ts c.requires.may_be (c.requires.found t is) c.loop-i.i c.loop-i-test.true in
+            (λ d. inv.writes.1 t is d ++ change d ∷ [])
+            ∙ sym (take_more (redo_of t) c.loop-i.i (0, []) (omega (arith, c.loop-i-test.true, redo_count t n size version ts c.requires.may_be (c.requires.found t is)))),
+        length-append inv.writes.0 _ ∙ omega (arith, inv.writes.2),
+        then_writes _ _ _ _ _ inv.writes.3 now.2,
+      );
+      tape = λ t is.
+          let size = ((g.met.R.Records.is_store _).is_tape t is).records in
+          c.in_ok-copy.ensures.content _ (inv.tape t is)
+          ∙ ap (λ (k : ℕ). Some (set (changed (take c.loop-i.i (redo_of t)) t) (get_or ts c.loop-i.i 0) (record_at (changed (take c.loop-i.i (redo_of t)) t) k))) place
+          ∙ ap Some (copied t n size version ts c.requires.may_be (c.requires.found t is) c.loop-i.i c.loop-i-test.true);
+      moments = λ t is.
+          goes_on _ _ _ _ _ _ _ _ _ _ (inv.tape t is) (inv.moments t is) c.copy.ensures.time
+          (λ x torn. settles_in_place t n ((g.met.R.Records.is_store _).is_tape t is).records version ts c.requires.may_be (c.requires.found t is) x c.loop-i.i c.loop-i-test.true torn);
+    }
 
-pub returns-in_ok-finish-in-One-clause-done : goal.returns-in_ok-finish-in-One-clause-done
-returns-in_ok-finish-in-One-clause-done g c t is =
-    let first : ℕ × List ℕ = (c.in-One.target, c.read.new.into) in
-    let armed : IsArmed One (first ∷ []) t =
-    armed_one t (g.R.Records.record_count c.args.records.now) c.args.named (g.met.R.Records.is_tape _ t is).records c.requires.may_be (c.requires.found t is) _ _ _ c.in-One.is (omega (arith, c.size-size.ensures)) (c.in_ok-read.ensures.content t is) in
-    c.in_ok-finish-in-One.ensures.done t (c.read.ensures.tape ∙ is) ∙ ap Some (sym (armed_settled first [] t armed))
+pub overflow_sub-size : goal.overflow_sub-size
+overflow_sub-size g c =
+    omega (arith, (targets_long (version_of c.args.version) (g.R.Records.view c.args.records.now).record_count c.args.targets.now c.requires.may_be).0, c.size-size.ensures)
 
-pub returns-in_ok-finish-in-One-clause-transfers : goal.returns-in_ok-finish-in-One-clause-transfers
-returns-in_ok-finish-in-One-clause-transfers g c t is =
-    let first : ℕ × List ℕ = (c.in-One.target, c.read.new.into) in
-    let armed : IsArmed One (first ∷ []) t =
-    armed_one t (g.R.Records.record_count c.args.records.now) c.args.named (g.met.R.Records.is_tape _ t is).records c.requires.may_be (c.requires.found t is) _ _ _ c.in-One.is (omega (arith, c.size-size.ensures)) (c.in_ok-read.ensures.content t is) in
-    let n = g.R.Records.record_count c.args.records.now in
-    let P : ℕ → Type 0 = IsSettleWrite n (first ∷ []) in
-    let finished : GoesOnBy P (g.R.Records.transfers c.read.new.self) (g.R.Records.transfers c.finish.new.records) =
-    subst (λ (m : ℕ). GoesOnBy (IsSettleWrite m (first ∷ [])) (g.R.Records.transfers c.read.new.self) (g.R.Records.transfers c.finish.new.records)) c.read.ensures.size c.in_ok-finish-in-One.ensures.transfers in
-    subst (λ (cs : Changes). GoesOnBy (IsSettleWrite n cs) (g.R.Records.transfers c.args.records.now) (g.R.Records.transfers c.finish.new.records)) (sym (armed_redo One (first ∷ []) t armed))
-    (then_more P _ _ _ (one_more P _ _ _ c.in_ok-read.ensures.transfers (λ e. cc)) finished)
+pub put-requires-clause-within : goal.put-requires-clause-within
+put-requires-clause-within g c =
+    omega (arith, (targets_long (version_of c.args.version) (g.R.Records.view c.args.records.now).record_count c.args.targets.now c.requires.may_be).0, c.size-size.ensures, c.loop-i.invariant.goes_on.continues.size)
 
-pub returns-in_err-finish-in-Two-clause-any_moment : goal.returns-in_err-finish-in-Two-clause-any_moment
-returns-in_err-finish-in-Two-clause-any_moment g c t is =
-    let first : ℕ × List ℕ = (c.in-Two.target, c.read.new.into) in
-    let second : ℕ × List ℕ = (c.in-Two.next, c.read-in-Two.new.into) in
-    let armed : IsArmed One (first ∷ second ∷ []) t =
-    armed_two t (g.R.Records.record_count c.args.records.now) c.args.named (g.met.R.Records.is_tape _ t is).records c.requires.may_be (c.requires.found t is) _ _ _ _ _ _ c.in-Two.is (omega (arith, c.size-size.ensures)) (c.in_ok-read.ensures.content t is) (omega (arith, c.size-size.ensures)) (c.in_ok-read-in-Two.ensures.content t (c.read.ensures.tape ∙ is)) in
-    after_still _ _ _ _ _ _ _ c.read.ensures.moment c.read.ensures.since
-    (after_still _ _ _ _ _ _ _ c.read-in-Two.ensures.moment c.read-in-Two.ensures.since (weaker _ _ _ _ _ _ (c.finish-in-Two.ensures.any_moment t (c.read-in-Two.ensures.tape ∙ c.read.ensures.tape ∙ is)) (λ x new. settles_too t x first (second ∷ []) (armed_redo One (first ∷ second ∷ []) t armed) new)))
+pub returns-in_err-put-clause-any_moment : goal.returns-in_err-put-clause-any_moment
+returns-in_err-put-clause-any_moment g c t is =
+    let n = (g.R.Records.view c.args.records.now).record_count in
+    let place : c.size-size.result - 4 ≡ gate_of n = omega (arith, c.size-size.ensures) in
+    goes_on _ _ _ _ _ _ _ _ _ _ (c.loop-i.invariant.tape t is) (c.loop-i.invariant.moments t is) c.put.ensures.stored.time
+    (λ x torn. settles_closing t n ((g.met.R.Records.is_store _).is_tape t is).records (version_of c.args.version) c.args.targets.now c.requires.may_be (c.requires.found t is) x c.loop-i.i c.loop-i-test.false
+    (subst (λ (k : ℕ). Torn k (changed (take c.loop-i.i (redo_of t)) t) x) place torn))
 
-pub returns-in_ok-finish-in-Two-clause-any_moment : goal.returns-in_ok-finish-in-Two-clause-any_moment
-returns-in_ok-finish-in-Two-clause-any_moment g c t is =
-    let first : ℕ × List ℕ = (c.in-Two.target, c.read.new.into) in
-    let second : ℕ × List ℕ = (c.in-Two.next, c.read-in-Two.new.into) in
-    let armed : IsArmed One (first ∷ second ∷ []) t =
-    armed_two t (g.R.Records.record_count c.args.records.now) c.args.named (g.met.R.Records.is_tape _ t is).records c.requires.may_be (c.requires.found t is) _ _ _ _ _ _ c.in-Two.is (omega (arith, c.size-size.ensures)) (c.in_ok-read.ensures.content t is) (omega (arith, c.size-size.ensures)) (c.in_ok-read-in-Two.ensures.content t (c.read.ensures.tape ∙ is)) in
-    after_still _ _ _ _ _ _ _ c.read.ensures.moment c.read.ensures.since
-    (after_still _ _ _ _ _ _ _ c.read-in-Two.ensures.moment c.read-in-Two.ensures.since (weaker _ _ _ _ _ _ (c.finish-in-Two.ensures.any_moment t (c.read-in-Two.ensures.tape ∙ c.read.ensures.tape ∙ is)) (λ x new. settles_too t x first (second ∷ []) (armed_redo One (first ∷ second ∷ []) t armed) new)))
+pub returns-clause-any_moment : goal.returns-clause-any_moment
+returns-clause-any_moment g c t is =
+    let n = (g.R.Records.view c.args.records.now).record_count in
+    let place : c.size-size.result - 4 ≡ gate_of n = omega (arith, c.size-size.ensures) in
+    goes_on _ _ _ _ _ _ _ _ _ _ (c.loop-i.invariant.tape t is) (c.loop-i.invariant.moments t is) c.put.ensures.stored.time
+    (λ x torn. settles_closing t n ((g.met.R.Records.is_store _).is_tape t is).records (version_of c.args.version) c.args.targets.now c.requires.may_be (c.requires.found t is) x c.loop-i.i c.loop-i-test.false
+    (subst (λ (k : ℕ). Torn k (changed (take c.loop-i.i (redo_of t)) t) x) place torn))
 
-pub returns-in_ok-finish-in-Two-clause-done : goal.returns-in_ok-finish-in-Two-clause-done
-returns-in_ok-finish-in-Two-clause-done g c t is =
-    let first : ℕ × List ℕ = (c.in-Two.target, c.read.new.into) in
-    let second : ℕ × List ℕ = (c.in-Two.next, c.read-in-Two.new.into) in
-    let armed : IsArmed One (first ∷ second ∷ []) t =
-    armed_two t (g.R.Records.record_count c.args.records.now) c.args.named (g.met.R.Records.is_tape _ t is).records c.requires.may_be (c.requires.found t is) _ _ _ _ _ _ c.in-Two.is (omega (arith, c.size-size.ensures)) (c.in_ok-read.ensures.content t is) (omega (arith, c.size-size.ensures)) (c.in_ok-read-in-Two.ensures.content t (c.read.ensures.tape ∙ is)) in
-    c.in_ok-finish-in-Two.ensures.done t (c.read-in-Two.ensures.tape ∙ c.read.ensures.tape ∙ is) ∙ ap Some (sym (armed_settled first (second ∷ []) t armed))
+pub returns-clause-done : goal.returns-clause-done
+returns-clause-done g c t is =
+    let n = (g.R.Records.view c.args.records.now).record_count in
+    let place : c.size-size.result - 4 ≡ gate_of n = omega (arith, c.size-size.ensures) in
+    written _ _ _ _ _ _ (c.in_ok-put.ensures.stored.content _ (c.loop-i.invariant.tape t is)) place c.zero_record.ensures
+    ∙ ap Some (settled_is t n ((g.met.R.Records.is_store _).is_tape t is).records (version_of c.args.version) c.args.targets.now c.requires.may_be (c.requires.found t is) c.loop-i.i c.loop-i-test.false)
 
-pub returns-in_ok-finish-in-Two-clause-transfers : goal.returns-in_ok-finish-in-Two-clause-transfers
-returns-in_ok-finish-in-Two-clause-transfers g c t is =
-    let first : ℕ × List ℕ = (c.in-Two.target, c.read.new.into) in
-    let second : ℕ × List ℕ = (c.in-Two.next, c.read-in-Two.new.into) in
-    let armed : IsArmed One (first ∷ second ∷ []) t =
-    armed_two t (g.R.Records.record_count c.args.records.now) c.args.named (g.met.R.Records.is_tape _ t is).records c.requires.may_be (c.requires.found t is) _ _ _ _ _ _ c.in-Two.is (omega (arith, c.size-size.ensures)) (c.in_ok-read.ensures.content t is) (omega (arith, c.size-size.ensures)) (c.in_ok-read-in-Two.ensures.content t (c.read.ensures.tape ∙ is)) in
-    let n = g.R.Records.record_count c.args.records.now in
-    let P : ℕ → Type 0 = IsSettleWrite n (first ∷ second ∷ []) in
-    let finished : GoesOnBy P (g.R.Records.transfers c.read-in-Two.new.self) (g.R.Records.transfers c.finish-in-Two.new.records) =
-    subst (λ (m : ℕ). GoesOnBy (IsSettleWrite m (first ∷ second ∷ [])) (g.R.Records.transfers c.read-in-Two.new.self) (g.R.Records.transfers c.finish-in-Two.new.records)) (c.read-in-Two.ensures.size ∙ c.read.ensures.size) c.in_ok-finish-in-Two.ensures.transfers in
-    subst (λ (cs : Changes). GoesOnBy (IsSettleWrite n cs) (g.R.Records.transfers c.args.records.now) (g.R.Records.transfers c.finish-in-Two.new.records)) (sym (armed_redo One (first ∷ second ∷ []) t armed))
-    (then_more P _ _ _ (one_more P _ _ _ c.in_ok-read.ensures.transfers (λ e. cc)) (then_more P _ _ _ (one_more P _ _ _ c.in_ok-read-in-Two.ensures.transfers (λ e. cc)) finished))
+pub returns-clause-writes : goal.returns-clause-writes
+returns-clause-writes g c =
+    let version = version_of c.args.version in
+    let n = (g.R.Records.view c.args.records.now).record_count in
+    let ts = c.args.targets.now in
+    let done = c.loop-i.invariant.writes in
+    let place : c.size-size.result - 4 ≡ gate_of n = omega (arith, c.size-size.ensures) in
+    let some : 0 < length done.0 = omega (arith, done.2, c.loop-i-test.false, (targets_long version n ts c.requires.may_be).2) in (
+      done.0,
+      λ t is. done.1 t is ∙ take_all c.loop-i.i (redo_of t) (omega (arith, c.loop-i-test.false, redo_count t n ((g.met.R.Records.is_store _).is_tape t is).records version ts c.requires.may_be (c.requires.found t is))),
+      same_writes _ _ _ _ ((λ d. done.0 ++ (place d, c.zero_record.ensures d) ∷ []) ∙ sym (settle_some n done.0 some)) (then_writes _ _ _ _ _ done.3 c.in_ok-put.ensures.writes),
+    )

@@ -1,105 +1,51 @@
-use Rattle.std.proofs.Common.{◌≡◌, ◌≤◌, ◌∙◌, ap, refl, sym, arith, ◌-◌, ℕ, length, set}
-use Rattle.lif_model.specs.Redo.{One, redo_start, targets_record}
-use Rattle.lif_model.proofs.Commit.{shut_here, shut_start, shut_write, set_shut}
-use Rattle.lif_redo.proofs.Staged.{is_one, is_two, staged_one, staged_two}
+use Rattle.std.proofs.Common.{◌≡◌, ◌-◌, ◌++◌, ◌∷◌, [], ◌∙◌, ap, refl, sym, arith, ℕ, List, length}
+use Rattle.lif_model.specs.Redo.{targets_place, targets_record, targets_in}
+use Rattle.lif_model.specs.Commit.{content_writes}
+use Rattle.lif_model.proofs.Redo.{changes_long}
+use Rattle.lif_redo.specs.Reading.{version_of}
 use Rattle.lif_redo.proofs.Told.{written}
-use Rattle.il_ports.proofs.Transfers.{one_more, then_more}
+use Rattle.lif_redo.proofs.Filled.{filled_staged, targets_write}
+use Rattle.lif_redo.proofs.Writes.{then_writes, same_writes}
 use Rattle.lif_redo.proofs.steps.stage.Goals as goal
 
--- one change
+pub overflow_sub-targets : goal.overflow_sub-targets
+overflow_sub-targets g c =
+    omega (arith, (changes_long (version_of c.args.version) (g.R.Records.view c.args.records.now).record_count c.args.changes.now c.requires.changes).0, c.size-targets.ensures, c.fill.ensures.goes_on.continues.size)
 
-pub returns-in_err-write-in-len1-clause-any_moment : goal.returns-in_err-write-in-len1-clause-any_moment
-returns-in_err-write-in-len1-clause-any_moment g c t is =
-    let size = (g.met.R.Records.is_tape _ t is).records in
-    let shut = c.requires.shut t is in
-    let at_start = shut_start One t _ _ (λ x left. g.met.R.Records.leaves_only _ t x is left) shut in
-    shut_write One t _ _ _ _ _ _ _ _ t (omega (arith, size, c.size-size.ensures)) (omega (arith, size, c.size-size.ensures, c.requires.size)) is (shut_here One t shut) at_start c.write.ensures.time
+pub returns-in_err-put-clause-any_moment : goal.returns-in_err-put-clause-any_moment
+returns-in_err-put-clause-any_moment g c t is =
+    let n = (g.R.Records.view c.args.records.now).record_count in
+    let filled = c.in_ok-fill.ensures.filled t is in
+    let place : c.size-targets.result - 3 ≡ targets_place n = omega (arith, c.size-targets.ensures, c.fill.ensures.goes_on.continues.size) in
+    targets_write (version_of c.args.version) n c.args.changes.now t ((g.met.R.Records.is_store _).is_tape t is).records c.requires.changes _ _ _ _ _ _ _ _ _ filled.0 place filled.1 filled.2
+    (c.fill.ensures.any_moment t is) c.put.ensures.stored.time
 
-pub returns-in_err-write-in-len1-2-clause-any_moment : goal.returns-in_err-write-in-len1-2-clause-any_moment
-returns-in_err-write-in-len1-2-clause-any_moment g c t is =
-    let size = (g.met.R.Records.is_tape _ t is).records in
-    let shut = c.requires.shut t is in
-    let at_start = shut_start One t _ _ (λ x left. g.met.R.Records.leaves_only _ t x is left) shut in
-    let first = shut_write One t _ _ _ _ _ _ _ _ t (omega (arith, size, c.size-size.ensures)) (omega (arith, size, c.size-size.ensures, c.requires.size)) is (shut_here One t shut) at_start c.write.ensures.time in
-    let shut_1 = set_shut One (c.size-size.result - 2) t t _ (omega (arith, size, c.size-size.ensures)) (omega (arith, size, c.size-size.ensures, c.requires.size)) (shut_here One t shut) in
-    shut_write One t _ _ _ _ _ _ _ _ _ (omega (arith, size, c.size-size.ensures)) (omega (arith, size, c.size-size.ensures, c.requires.size)) (c.in_ok-write-in-len1.ensures.content t is) shut_1 first c.write-in-len1.ensures.time
+pub returns-clause-any_moment : goal.returns-clause-any_moment
+returns-clause-any_moment g c t is =
+    let n = (g.R.Records.view c.args.records.now).record_count in
+    let filled = c.in_ok-fill.ensures.filled t is in
+    let place : c.size-targets.result - 3 ≡ targets_place n = omega (arith, c.size-targets.ensures, c.fill.ensures.goes_on.continues.size) in
+    targets_write (version_of c.args.version) n c.args.changes.now t ((g.met.R.Records.is_store _).is_tape t is).records c.requires.changes _ _ _ _ _ _ _ _ _ filled.0 place filled.1 filled.2
+    (c.fill.ensures.any_moment t is) c.put.ensures.stored.time
 
-pub returns-in_ok-write-in-len1-2-clause-any_moment : goal.returns-in_ok-write-in-len1-2-clause-any_moment
-returns-in_ok-write-in-len1-2-clause-any_moment g c t is =
-    let size = (g.met.R.Records.is_tape _ t is).records in
-    let shut = c.requires.shut t is in
-    let at_start = shut_start One t _ _ (λ x left. g.met.R.Records.leaves_only _ t x is left) shut in
-    let first = shut_write One t _ _ _ _ _ _ _ _ t (omega (arith, size, c.size-size.ensures)) (omega (arith, size, c.size-size.ensures, c.requires.size)) is (shut_here One t shut) at_start c.write.ensures.time in
-    let shut_1 = set_shut One (c.size-size.result - 2) t t _ (omega (arith, size, c.size-size.ensures)) (omega (arith, size, c.size-size.ensures, c.requires.size)) (shut_here One t shut) in
-    shut_write One t _ _ _ _ _ _ _ _ _ (omega (arith, size, c.size-size.ensures)) (omega (arith, size, c.size-size.ensures, c.requires.size)) (c.in_ok-write-in-len1.ensures.content t is) shut_1 first c.write-in-len1.ensures.time
-
-pub returns-in_ok-write-in-len1-2-clause-staged : goal.returns-in_ok-write-in-len1-2-clause-staged
-returns-in_ok-write-in-len1-2-clause-staged g c t is =
-    let size = (g.met.R.Records.is_tape _ t is).records in
-    let n = g.R.Records.record_count c.args.records.now in
+pub returns-clause-staged : goal.returns-clause-staged
+returns-clause-staged g c t is =
+    let version = version_of c.args.version in
+    let n = (g.R.Records.view c.args.records.now).record_count in
     let cs = c.args.changes.now in
-    let count : length cs ≡ 1 = omega arith in
-    let first = written _ t _ (n - 2) _ _ (c.in_ok-write-in-len1.ensures.content t is) (omega (arith, c.size-size.ensures)) refl in
-    let names = c.one_target_record.ensures ∙ ap (targets_record One) (sym (is_one cs count)) in
-    (_, written _ _ _ (n - 3) _ _ (c.in_ok-write-in-len1-2.ensures.content _ first) (omega (arith, c.size-size.ensures)) names, staged_one n cs t size c.requires.changes (c.requires.shut t is) count)
+    let filled = c.in_ok-fill.ensures.filled t is in
+    let place : c.size-targets.result - 3 ≡ targets_place n = omega (arith, c.size-targets.ensures, c.fill.ensures.goes_on.continues.size) in
+    let names = c.targets_record.ensures ∙ ap (targets_record version) (c.as_slice.ensures.value ∙ c.numbers-numbers.ensures) in (
+      _,
+      written _ filled.0 _ _ _ _ (c.in_ok-put.ensures.stored.content filled.0 filled.1) place names,
+      filled_staged version n cs t ((g.met.R.Records.is_store _).is_tape t is).records c.requires.changes (length cs) filled.0 (omega arith) filled.2,
+    )
 
-pub returns-in_ok-write-in-len1-2-clause-transfers : goal.returns-in_ok-write-in-len1-2-clause-transfers
-returns-in_ok-write-in-len1-2-clause-transfers g c =
-    let P : ℕ → Type 0 = λ k. redo_start One (g.R.Records.record_count c.args.records.now) ≤ k in
-    then_more P _ _ _ (one_more P _ _ _ c.in_ok-write-in-len1.ensures.transfers (λ e. omega (arith, c.size-size.ensures))) (one_more P _ _ _ c.in_ok-write-in-len1-2.ensures.transfers (λ e. omega (arith, c.size-size.ensures)))
-
--- two changes
-
-pub returns-in_err-write-in-len2-clause-any_moment : goal.returns-in_err-write-in-len2-clause-any_moment
-returns-in_err-write-in-len2-clause-any_moment g c t is =
-    let size = (g.met.R.Records.is_tape _ t is).records in
-    let shut = c.requires.shut t is in
-    let at_start = shut_start One t _ _ (λ x left. g.met.R.Records.leaves_only _ t x is left) shut in
-    shut_write One t _ _ _ _ _ _ _ _ t (omega (arith, size, c.size-size.ensures)) (omega (arith, size, c.size-size.ensures, c.requires.size)) is (shut_here One t shut) at_start c.write-in-len2.ensures.time
-
-pub returns-in_err-write-in-len2-2-clause-any_moment : goal.returns-in_err-write-in-len2-2-clause-any_moment
-returns-in_err-write-in-len2-2-clause-any_moment g c t is =
-    let size = (g.met.R.Records.is_tape _ t is).records in
-    let shut = c.requires.shut t is in
-    let at_start = shut_start One t _ _ (λ x left. g.met.R.Records.leaves_only _ t x is left) shut in
-    let first = shut_write One t _ _ _ _ _ _ _ _ t (omega (arith, size, c.size-size.ensures)) (omega (arith, size, c.size-size.ensures, c.requires.size)) is (shut_here One t shut) at_start c.write-in-len2.ensures.time in
-    let shut_1 = set_shut One (c.size-size.result - 2) t t _ (omega (arith, size, c.size-size.ensures)) (omega (arith, size, c.size-size.ensures, c.requires.size)) (shut_here One t shut) in
-    shut_write One t _ _ _ _ _ _ _ _ _ (omega (arith, size, c.size-size.ensures)) (omega (arith, size, c.size-size.ensures, c.requires.size)) (c.in_ok-write-in-len2.ensures.content t is) shut_1 first c.write-in-len2-2.ensures.time
-
-pub returns-in_err-write-in-len2-3-clause-any_moment : goal.returns-in_err-write-in-len2-3-clause-any_moment
-returns-in_err-write-in-len2-3-clause-any_moment g c t is =
-    let size = (g.met.R.Records.is_tape _ t is).records in
-    let shut = c.requires.shut t is in
-    let at_start = shut_start One t _ _ (λ x left. g.met.R.Records.leaves_only _ t x is left) shut in
-    let first = shut_write One t _ _ _ _ _ _ _ _ t (omega (arith, size, c.size-size.ensures)) (omega (arith, size, c.size-size.ensures, c.requires.size)) is (shut_here One t shut) at_start c.write-in-len2.ensures.time in
-    let shut_1 = set_shut One (c.size-size.result - 2) t t _ (omega (arith, size, c.size-size.ensures)) (omega (arith, size, c.size-size.ensures, c.requires.size)) (shut_here One t shut) in
-    let second = shut_write One t _ _ _ _ _ _ _ _ _ (omega (arith, size, c.size-size.ensures)) (omega (arith, size, c.size-size.ensures, c.requires.size)) (c.in_ok-write-in-len2.ensures.content t is) shut_1 first c.write-in-len2-2.ensures.time in
-    let shut_2 = set_shut One (c.size-size.result - 1) t (set t (c.size-size.result - 2) _) _ (omega (arith, size, c.size-size.ensures)) (omega (arith, size, c.size-size.ensures, c.requires.size)) shut_1 in
-    shut_write One t _ _ _ _ _ _ _ _ _ (omega (arith, size, c.size-size.ensures)) (omega (arith, size, c.size-size.ensures, c.requires.size)) (c.in_ok-write-in-len2-2.ensures.content _ (c.in_ok-write-in-len2.ensures.content t is)) shut_2 second c.write-in-len2-3.ensures.time
-
-pub returns-in_ok-write-in-len2-3-clause-any_moment : goal.returns-in_ok-write-in-len2-3-clause-any_moment
-returns-in_ok-write-in-len2-3-clause-any_moment g c t is =
-    let size = (g.met.R.Records.is_tape _ t is).records in
-    let shut = c.requires.shut t is in
-    let at_start = shut_start One t _ _ (λ x left. g.met.R.Records.leaves_only _ t x is left) shut in
-    let first = shut_write One t _ _ _ _ _ _ _ _ t (omega (arith, size, c.size-size.ensures)) (omega (arith, size, c.size-size.ensures, c.requires.size)) is (shut_here One t shut) at_start c.write-in-len2.ensures.time in
-    let shut_1 = set_shut One (c.size-size.result - 2) t t _ (omega (arith, size, c.size-size.ensures)) (omega (arith, size, c.size-size.ensures, c.requires.size)) (shut_here One t shut) in
-    let second = shut_write One t _ _ _ _ _ _ _ _ _ (omega (arith, size, c.size-size.ensures)) (omega (arith, size, c.size-size.ensures, c.requires.size)) (c.in_ok-write-in-len2.ensures.content t is) shut_1 first c.write-in-len2-2.ensures.time in
-    let shut_2 = set_shut One (c.size-size.result - 1) t (set t (c.size-size.result - 2) _) _ (omega (arith, size, c.size-size.ensures)) (omega (arith, size, c.size-size.ensures, c.requires.size)) shut_1 in
-    shut_write One t _ _ _ _ _ _ _ _ _ (omega (arith, size, c.size-size.ensures)) (omega (arith, size, c.size-size.ensures, c.requires.size)) (c.in_ok-write-in-len2-2.ensures.content _ (c.in_ok-write-in-len2.ensures.content t is)) shut_2 second c.write-in-len2-3.ensures.time
-
-pub returns-in_ok-write-in-len2-3-clause-staged : goal.returns-in_ok-write-in-len2-3-clause-staged
-returns-in_ok-write-in-len2-3-clause-staged g c t is =
-    let size = (g.met.R.Records.is_tape _ t is).records in
-    let n = g.R.Records.record_count c.args.records.now in
+pub returns-clause-writes : goal.returns-clause-writes
+returns-clause-writes g c =
+    let version = version_of c.args.version in
+    let n = (g.R.Records.view c.args.records.now).record_count in
     let cs = c.args.changes.now in
-    let count : length cs ≡ 2 = omega arith in
-    let first = written _ t _ (n - 2) _ _ (c.in_ok-write-in-len2.ensures.content t is) (omega (arith, c.size-size.ensures)) refl in
-    let second = written _ _ _ (n - 1) _ _ (c.in_ok-write-in-len2-2.ensures.content _ first) (omega (arith, c.size-size.ensures)) refl in
-    let names = c.two_targets_record.ensures ∙ ap (targets_record One) (sym (is_two cs count)) in
-    (_, written _ _ _ (n - 3) _ _ (c.in_ok-write-in-len2-3.ensures.content _ second) (omega (arith, c.size-size.ensures)) names, staged_two n cs t size c.requires.changes (c.requires.shut t is) count)
-
-pub returns-in_ok-write-in-len2-3-clause-transfers : goal.returns-in_ok-write-in-len2-3-clause-transfers
-returns-in_ok-write-in-len2-3-clause-transfers g c =
-    let P : ℕ → Type 0 = λ k. redo_start One (g.R.Records.record_count c.args.records.now) ≤ k in
-    then_more P _ _ _ (one_more P _ _ _ c.in_ok-write-in-len2.ensures.transfers (λ e. omega (arith, c.size-size.ensures))) (then_more P _ _ _ (one_more P _ _ _ c.in_ok-write-in-len2-2.ensures.transfers (λ e. omega (arith, c.size-size.ensures))) (one_more P _ _ _ c.in_ok-write-in-len2-3.ensures.transfers (λ e. omega (arith, c.size-size.ensures))))
+    let place : c.size-targets.result - 3 ≡ targets_place n = omega (arith, c.size-targets.ensures, c.fill.ensures.goes_on.continues.size) in
+    let names = c.targets_record.ensures ∙ ap (targets_record version) (c.as_slice.ensures.value ∙ c.numbers-numbers.ensures) in
+    same_writes _ _ _ _ (λ d. content_writes version n 0 cs ++ (place d, names d) ∷ []) (then_writes _ _ _ _ _ c.in_ok-fill.ensures.writes c.in_ok-put.ensures.writes)
