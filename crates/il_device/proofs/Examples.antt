@@ -11,13 +11,12 @@ use Rattle.il_device.specs.declared.interface.OwnFrame.{OwnFrame}
 use Rattle.il_device.specs.declared.interface.Turn.TheVariants as turn
 use Rattle.il_device.specs.declared.roles.Roles.{Roles}
 use Rattle.il_device.specs.Roles.{no_roles, is_own, takes_address, roles_after, stopped, own_after, assignment_after}
-use Rattle.il_device.specs.State.{DeviceState, fresh, IsIdle, IsSent, IsDevice, risen}
+use Rattle.il_device.specs.State.{DeviceState, fresh, IsIdle, IsSent, IsCount, IsDevice, risen}
 use Rattle.il_device.specs.Passing.{served, identified, counted_on, passed}
 use Rattle.il_device.specs.Takes.{eto, ete, turn_of, heard_after, count_after, may_change_service, identity, AnswersEcho, Takes}
 use Rattle.il_device.specs.Interfaces.{fresh_interface, turn_on, interface_after, device_on}
 use Rattle.il_device.specs.Printers.{status_answer, printer_answer}
 use Rattle.il_device.specs.Walks.{sent_on, Walk}
-use Rattle.il_device.specs.Numbers.{is_in_range}
 
 -- a talker, a listener and an idle device, all with address 2
 abbrev talker : Roles
@@ -211,20 +210,25 @@ fresh_device = record {
   standing = record { address = tt; one_role = refl; sender = tt; in_poll = tt };
   heard = lit≤ tt;
   room = lit≤ tt;
+  heard_count = lit≤ tt;
+  frames = lit≤ tt;
 }
 
-standing_device : (own : Option OwnFrame) (frames : ℕ) → IsSent own true → IsDevice (record (standing talker own) { frames = frames })
-standing_device own frames h = record {
+standing_device : (own : Option OwnFrame) (frames : ℕ) → IsSent own true → IsCount frames →
+    IsDevice (record (standing talker own) { frames = frames })
+standing_device own frames h le = record {
   standing = record { address = (lit≤ tt, lit≤ tt); one_role = refl; sender = h; in_poll = tt };
   heard = lit≤ tt;
   room = lit≤ tt;
+  heard_count = lit≤ tt;
+  frames = le;
 }
 
 -- SAI to a talker: its accessory ID goes on in place of SAI, and is then its own frame
 identifies : Takes (standing talker None) (framed class.Rdy 0x63) (Source (framed class.Dab 0x20)) (record (standing talker (Some (identity 0x20))) { frames = 1 })
 identifies = record {
-  before = standing_device None 0 tt;
-  after = standing_device (Some (identity 0x20)) 1 (refl, refl);
+  before = standing_device None 0 tt (lit≤ tt);
+  after = standing_device (Some (identity 0x20)) 1 (refl, refl) (lit≤ tt);
   roles = refl;
   assignment = refl;
   wants = λ h. refl;
@@ -270,9 +274,3 @@ sent = refl
 
 nobody : Walk [] eto [] eto
 nobody = refl
-
-ppe_range : is_in_range (msg.Ppe 15) ≡ true
-ppe_range = refl
-
-ppe_no_range : is_in_range (msg.Ppe 16) ≡ false
-ppe_no_range = refl

@@ -53,8 +53,20 @@ pub Takes-on :
     Answers (turn_on i f) (device_on i heard room) f out (device_on k now room) →
     Takes (device_on i heard room) f out (device_on k now room)
 Takes-on i k heard now room f out before after fits small behind kept_is answer = record {
-  before = record { standing = before; heard = fits; room = small };
-  after = record { standing = after; heard = rw kept_is (length-heard_after (turn_on i f) room heard (byte_of f) fits); room = small };
+  before = record {
+    standing = before.standing;
+    heard = fits;
+    room = small;
+    heard_count = before.heard_count;
+    frames = before.frames;
+  };
+  after = record {
+    standing = after.standing;
+    heard = rw kept_is (length-heard_after (turn_on i f) room heard (byte_of f) fits);
+    room = small;
+    heard_count = after.heard_count;
+    frames = after.frames;
+  };
   roles = ap (λ (x : InterfaceState). x.roles) behind.rest;
   assignment = ap (λ (x : InterfaceState). x.service.assignment) behind.rest;
   wants = λ h. ap wants_service (behind.status h);

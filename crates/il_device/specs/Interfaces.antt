@@ -8,7 +8,7 @@ use Rattle.il_device.specs.declared.roles.Roles.{Roles}
 use Rattle.il_device.specs.declared.interface.OwnFrame.{OwnFrame}
 use Rattle.il_device.specs.declared.interface.Turn.{Turn}
 use Rattle.il_device.specs.Roles.{no_roles, roles_after, own_after, assignment_after}
-use Rattle.il_device.specs.State.{DeviceState, IsStanding, risen}
+use Rattle.il_device.specs.State.{DeviceState, IsStanding, IsCount, risen}
 use Rattle.il_device.specs.Passing.{identified, passed}
 use Rattle.il_device.specs.Takes.{turn_at, count_after}
 
@@ -34,8 +34,10 @@ fresh_interface accessory = record {
 }
 
 -- what holds of it at every moment
-abbrev pub IsInterface : InterfaceState → Type 0
-IsInterface i = IsStanding i.roles i.own i.service.assignment
+pub record IsInterface (i : InterfaceState) : Type 0 where
+  pub standing : IsStanding i.roles i.own i.service.assignment
+  pub heard_count : IsCount i.heard_count
+  pub frames : IsCount i.frames
 
 -- no address, no role, no place in a poll and no frame of its own on the loop
 abbrev pub IsIdleInterface : InterfaceState → Type 0

@@ -5,4 +5,3 @@ pub mod Takes
 pub mod Interfaces
 pub mod Printers
 pub mod Walks
-pub mod Numbers

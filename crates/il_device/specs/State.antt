@@ -59,11 +59,17 @@ pub record IsStanding (roles : Roles) (own : Option OwnFrame) (place : Option As
   pub sender : IsSent own roles.talks
   pub in_poll : IsPlace place
 
+-- a count of 64 bits
+abbrev pub IsCount : ℕ → Type 0
+IsCount n = n ≤ 18446744073709551615
+
 -- what holds of every device at every moment
 pub record IsDevice (s : DeviceState) : Type 0 where
   pub standing : IsStanding s.roles s.own s.assignment
   pub heard : length s.heard ≤ s.room
   pub room : s.room ≤ 8192
+  pub heard_count : IsCount s.heard_count
+  pub frames : IsCount s.frames
 
 -- one more, in a count that stays at the greatest 64-bit number
 abbrev pub risen : ℕ → ℕ

@@ -54,6 +54,7 @@ impl Heard {
         }
     }
 
+    /// Keeps the byte where there is room.
     fn keep(&mut self, byte: u8)
         ensures { self.new ≡ kept 8192 self.old byte }
     {

@@ -2,23 +2,31 @@
 
 ghost use Rattle.std.specs.Prelude.{◌≡◌, ◌↔◌, ◌<◌, IsTrue, Some, None, true, if◌then◌else◌};
 ghost use Rattle.il_frames.specs.Frames as frames;
-ghost use Rattle.il_frames.specs.Messages.{message_of};
+ghost use Rattle.il_frames.specs.Messages.{message_of, is_in_range};
 ghost use Rattle.il_poll.specs.Service.{wants_service, status_byte_of};
 ghost use Rattle.il_device.specs.Interfaces.{InterfaceState, IsInterface, IsIdleInterface, fresh_interface};
 ghost use Rattle.il_device.specs.Interfaces.{interface_after, turn_on, placed, with_status};
 ghost use Rattle.il_device.specs.Interfaces.{passed_on, identified_on, sending};
-ghost use Rattle.il_device.specs.Numbers.{is_in_range};
+ghost use Rattle.il_device.specs.Passing as passing;
 ghost use Rattle.il_device.specs.Roles.{own_after, assignment_after};
 ghost use Rattle.il_device.specs.Takes.{count_after, turn_at_data, turn_at_start};
 ghost use Rattle.il_device.specs.Takes.{just_sent, eto, ete};
 ghost use Rattle.il_device.specs.declared.device.Out.TheVariants.{Source};
 
 use crate::device::Out;
-use crate::frames::{same_but_service, served};
 use crate::roles::Roles;
 use il_frames::{Class, Frame, Message};
 use il_poll::ServiceState;
 use std::marker::Model;
+
+/// The byte of ETO, end of transmission, OK.
+const ETO: u8 = 0x40;
+
+/// The byte of ETE, end of transmission, error.
+const ETE: u8 = 0x41;
+
+/// The byte of AAD 00. The frame behind AAD 30 is IAA.
+const FIRST_AAD: u8 = 0x80;
 
 /// A data or end frame that a device sent, and that has not come back to it.
 #[derive(Clone, Copy, PartialEq, Eq, Debug)]
@@ -59,8 +67,7 @@ pub struct Interface {
 }
 
 impl Model for Interface {
-    ghost use Rattle.il_device.specs.State.{IsStanding};
-    ghost use Rattle.il_device.specs.Interfaces.{InterfaceState};
+    ghost use Rattle.il_device.specs.Interfaces.{InterfaceState, IsInterface};
 
     ghost Value = { InterfaceState };
 
@@ -73,7 +80,14 @@ impl Model for Interface {
       accessory = i.accessory;
     } };
 
-    ghost invariant = { λ i. IsStanding i.roles i.own i.service.assignment };
+    ghost invariant = { λ i. IsInterface (record {
+      roles = i.roles;
+      own = i.own;
+      service = i.service;
+      heard_count = i.heard_count;
+      frames = i.frames;
+      accessory = i.accessory;
+    }) };
 }
 
 impl Interface {
@@ -122,7 +136,8 @@ impl Interface {
 
     /// The status, 0 to 63.
     pub fn status(&self) -> u8
-        ensures { result ≡ self.now.service.status }
+        ensures value { result ≡ self.now.service.status }
+        ensures range { result < 64 }
     {
         self.service.status()
     }
@@ -180,6 +195,7 @@ impl Interface {
         }
     }
 
+    /// What a data or end frame asks.
     fn turn_at_data(&self) -> Turn
         ensures { result ≡ turn_at_data self.now.own self.now.roles.listens }
     {
@@ -190,6 +206,7 @@ impl Interface {
         }
     }
 
+    /// What a start message asks.
     fn turn_at_start(&self, asked: Turn) -> Turn
         ensures { result ≡ turn_at_start self.now.own self.now.roles.talks asked }
     {
@@ -208,7 +225,7 @@ impl Interface {
         ensures standing { IsInterface self.new }
     {
         let turn = self.turn(frame);
-        let message = message_in(frame);
+        let message = frame.message();
         let roles = self.roles;
         self.own = own_behind(roles, self.own, message);
         self.roles = roles.after(message);
@@ -228,7 +245,7 @@ impl Interface {
             }
             Message::Idy(_) | Message::Isr(_) => self.identified(frame),
             Message::Aad(address) if before.takes_address(address) => {
-                Frame::new(Class::Rdy, 0x81 + address)
+                Frame::new(Class::Rdy, FIRST_AAD + address + 1)
             }
             _ => frame,
         }
@@ -267,7 +284,7 @@ impl Interface {
         ensures standing { IsInterface self.new }
     {
         self.own = None;
-        let end = if own.is_echo(echo) { 0x40 } else { 0x41 };
+        let end = if own.is_echo(echo) { ETO } else { ETE };
         Out::Source(Frame::new(Class::Rdy, end))
     }
 }
@@ -277,17 +294,15 @@ impl OwnFrame {
     pub fn is_echo(self, frame: Frame) -> bool
         ensures { result ≡ frames.same_but_service self.frame frame }
     {
-        same_but_service(self.frame, frame)
+        self.frame.same_but_service(frame)
     }
 }
 
-/// What the frame says, by its parts: reading the byte shows the proof the range of the number.
-fn message_in(frame: Frame) -> Message
-    ensures value { result ≡ message_of frame }
-    ensures range { is_in_range result ≡ true }
+/// The frame as it goes on, its service bit set where service is wanted.
+fn served(wants: bool, frame: Frame) -> Frame
+    ensures { result ≡ passing.served wants frame }
 {
-    let _byte = frame.byte();
-    frame.message()
+    if wants { frame.with_service() } else { frame }
 }
 
 /// The own frame behind a message.

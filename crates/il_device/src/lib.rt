@@ -3,7 +3,6 @@
 #![tactic(auto)]
 
 mod device;
-mod frames;
 mod heard;
 mod interface;
 mod printer;
@@ -12,12 +11,10 @@ mod roles;
 mod walk;
 
 pub use device::{Device, Out};
-pub use frames::{is_data, same_but_service};
 pub use interface::{Interface, OwnFrame, Turn};
 pub use printer::Printer;
 pub use quiet::Quiet;
 pub use roles::Roles;
-pub use walk::pass_along;
 
 #[cfg(test)]
 mod tests;

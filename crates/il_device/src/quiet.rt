@@ -27,7 +27,9 @@ impl Model for Quiet {
 
     ghost view = { λ q. device_on q.interface [] 0 };
 
-    ghost invariant = { λ q. (q.interface.service.status ≡ 0) × (q.interface.accessory ≡ None) × (q.interface.own ≡ None) };
+    ghost invariant = { λ q. (q.interface.service.status ≡ 0)
+        × (q.interface.accessory ≡ None)
+        × (q.interface.own ≡ None) };
 }
 
 impl Quiet {
@@ -76,6 +78,7 @@ impl Device for Quiet {
     fn take(&mut self, frame: Frame) -> Out
         ensures takes { Takes self.old frame result self.new }
         ensures passes { result ≡ Pass (passed self.old.roles self.new.assignment false frame) }
+        ensures wants { self.new.wants ≡ false }
     {
         let before = self.interface.roles();
         let _ = self.interface.effect(frame);

@@ -25,21 +25,21 @@ impl Roles {
     };
 
     /// Whether this is the device's address.
-    pub fn is_own(self, address: u8) -> bool
+    pub(crate) fn is_own(self, address: u8) -> bool
         ensures { result ≡ is_own self.address address }
     {
         self.address == Some(address)
     }
 
     /// Whether the device takes this address at AAD: it has none, and the address is 1 to 30.
-    pub fn takes_address(self, address: u8) -> bool
+    pub(crate) fn takes_address(self, address: u8) -> bool
         ensures { result ≡ takes_address self.address address }
     {
         self.address.is_none() && 1 <= address && address <= 30
     }
 
     /// The roles that a message leaves.
-    pub fn after(self, message: Message) -> Roles
+    pub(crate) fn after(self, message: Message) -> Roles
         ensures { result ≡ roles_after self message }
     {
         match message {

@@ -1,4 +1,5 @@
 use super::*;
+use crate::walk::pass_along;
 use il_frames::Frame;
 use std::test::Fail;
 

@@ -9,13 +9,14 @@ use il_frames::Frame;
 
 /// A frame passes the devices, each of which takes what the one before sent on. The frame behind the
 /// last one.
-pub fn pass_along<D: Device>(devices: &mut Vec<D>, frame: Frame) -> Frame
+pub(crate) fn pass_along<D: Device>(devices: &mut Vec<D>, frame: Frame) -> Frame
     ensures walk { Walk (map D.state devices.old.items) frame (map D.state devices.new.items) result }
     ensures len { length devices.new.items ≡ length devices.old.items }
 {
     past(devices, frame)
 }
 
+/// The same of a slice.
 fn past<D: Device>(devices: &mut [D], frame: Frame) -> Frame
     ensures { Walk (map D.state devices.old) frame (map D.state devices.new) result }
 {

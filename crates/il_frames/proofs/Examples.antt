@@ -7,7 +7,7 @@ use Rattle.il_frames.specs.declared.message.Message.TheVariants as msg
 use Rattle.il_frames.specs.declared.entry.Entry.{Entry}
 use Rattle.il_frames.specs.declared.entry.Outcome.TheVariants as outcome
 use Rattle.il_frames.specs.Frames.{class_of, byte_of, framed, IsFrame, number_of_class, bits_of, is_data, has_service, with_service, same_but_service}
-use Rattle.il_frames.specs.Messages.{commands, ready_messages, message_in, message_of}
+use Rattle.il_frames.specs.Messages.{commands, ready_messages, message_in, message_of, is_in_range}
 use Rattle.il_frames.specs.Texts.{name_of, number_of, hex_pair, number_text, message_text, text_of}
 use Rattle.il_frames.specs.Names.{candidate_of}
 use Rattle.il_frames.specs.Entries.{outcome_text, entry_text, IsEntry}
@@ -80,6 +80,16 @@ ready_a0 = refl
 
 ddl_2 : message_of (framed class.Cmd 0xA2) ≡ msg.Ddl 2
 ddl_2 = refl
+
+-- PPE has 16 numbers, and an address is at most 30
+ppe_range : is_in_range (msg.Ppe 15) ≡ true
+ppe_range = refl
+
+ppe_no_range : is_in_range (msg.Ppe 16) ≡ false
+ppe_no_range = refl
+
+address_no_range : is_in_range (msg.Tad 31) ≡ false
+address_no_range = refl
 
 talk_name : name_of (msg.Tad 5) ≡ codes "TAD"
 talk_name = refl

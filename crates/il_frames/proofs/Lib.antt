@@ -1,4 +1,5 @@
 pub mod ReadBack
 pub mod DigitLemmas
+pub mod NumberLemmas
 pub mod EntryLemmas
 mod Examples

@@ -1,6 +1,6 @@
 -- The messages of command and ready frames, as the two tables of the HP-IL Interface Specification,
 -- HP 82166-90017, print them.
-use Rattle.std.specs.Prelude.{ℕ, ◌+◌, ◌-◌, ◌&&◌, ◌==◌, if◌then◌else◌, nat_lt, nat_le, List, [], ◌∷◌}
+use Rattle.std.specs.Prelude.{ℕ, ◌+◌, ◌-◌, ◌&&◌, ◌==◌, Bool, true, if◌then◌else◌, nat_lt, nat_le, List, [], ◌∷◌}
 use Rattle.il_frames.specs.declared.frame.Class.{Class}
 use Rattle.il_frames.specs.declared.frame.Class.TheVariants as class
 use Rattle.il_frames.specs.declared.frame.Frame.{Frame}
@@ -83,3 +83,23 @@ message_at class.Isr byte = msg.Isr byte
 -- what a frame says
 abbrev pub message_of : Frame → Message
 message_of f = message_at (class_of f) (byte_of f)
+
+-- the number that a message carries is in its range: an address is at most 30, PPE has 16 numbers, DDL
+-- and DDT have 32, and every other number is a byte
+abbrev pub is_in_range : Message → Bool
+is_in_range (msg.Dab n) = nat_lt n 256
+is_in_range (msg.Dsr n) = nat_lt n 256
+is_in_range (msg.End n) = nat_lt n 256
+is_in_range (msg.Esr n) = nat_lt n 256
+is_in_range (msg.Idy n) = nat_lt n 256
+is_in_range (msg.Isr n) = nat_lt n 256
+is_in_range (msg.Lad n) = nat_le n 30
+is_in_range (msg.Tad n) = nat_le n 30
+is_in_range (msg.Sad n) = nat_le n 30
+is_in_range (msg.Aad n) = nat_le n 30
+is_in_range (msg.Ppe n) = nat_lt n 16
+is_in_range (msg.Ddl n) = nat_lt n 32
+is_in_range (msg.Ddt n) = nat_lt n 32
+is_in_range (msg.OtherCmd n) = nat_lt n 256
+is_in_range (msg.OtherRdy n) = nat_lt n 256
+is_in_range m = true

@@ -3,6 +3,7 @@
 ghost use Rattle.std.specs.Prelude.{◌≡◌, ◌<◌, ◌↔◌, IfSome, IsSome, Some};
 ghost use Rattle.il_frames.specs.declared.frame.Frame.{Frame};
 ghost use Rattle.il_frames.specs.Frames.{number_of_class, bits_of, framed, class_of, byte_of, IsFrame};
+ghost use Rattle.il_frames.specs.Frames as frames;
 
 /// The class of a frame: its three control bits, by the HP-IL Interface Specification
 /// (HP 82166-90017).
@@ -35,6 +36,7 @@ pub struct Frame {
 }
 
 impl Class {
+    /// The three control bits, as a number.
     fn number(self) -> u16
         ensures { result ≡ number_of_class self }
     {
@@ -50,6 +52,7 @@ impl Class {
         }
     }
 
+    /// The class with these control bits.
     fn of_number(number: u16) -> Option<Class>
         ensures known { IsSome result ↔ (number < 8) }
         ensures found { IfSome result (λ class. number_of_class class ≡ number) }
@@ -64,6 +67,39 @@ impl Class {
             6 => Some(Class::Idy),
             7 => Some(Class::Isr),
             _ => None,
+        }
+    }
+
+    /// Whether the first control bit is 0.
+    fn is_data(self) -> bool
+        ensures { result ≡ frames.is_data_class self }
+    {
+        match self {
+            Class::Dab | Class::Dsr | Class::End | Class::Esr => true,
+            Class::Cmd | Class::Rdy | Class::Idy | Class::Isr => false,
+        }
+    }
+
+    /// Whether the class has its service bit set.
+    fn requests_service(self) -> bool
+        ensures { result ≡ frames.requests_service self }
+    {
+        match self {
+            Class::Dsr | Class::Esr | Class::Isr => true,
+            Class::Dab | Class::End | Class::Cmd | Class::Rdy | Class::Idy => false,
+        }
+    }
+
+    /// The class with its service bit set, where it has one.
+    fn with_service(self) -> Class
+        ensures { result ≡ frames.class_with_service self }
+    {
+        match self {
+            Class::Dab | Class::Dsr => Class::Dsr,
+            Class::End | Class::Esr => Class::Esr,
+            Class::Cmd => Class::Cmd,
+            Class::Rdy => Class::Rdy,
+            Class::Idy | Class::Isr => Class::Isr,
         }
     }
 }
@@ -107,5 +143,36 @@ impl Frame {
         let class = Class::of_number(bits / 256)?;
         let byte = (bits % 256) as u8;
         Some(Frame { class, byte })
+    }
+
+    /// Whether the frame is a data or end frame, with or without a request for service.
+    pub fn is_data(&self) -> bool
+        ensures { result ≡ frames.is_data self.now }
+    {
+        self.class.is_data()
+    }
+
+    /// Whether the service bit is set. Commands and ready frames have none.
+    pub fn has_service(&self) -> bool
+        ensures { result ≡ frames.has_service self.now }
+    {
+        self.class.requests_service()
+    }
+
+    /// The frame with its service bit set, where it has one.
+    pub fn with_service(&self) -> Frame
+        ensures { result ≡ frames.with_service self.now }
+    {
+        Frame {
+            class: self.class.with_service(),
+            byte: self.byte,
+        }
+    }
+
+    /// Whether the two frames are equal apart from the service bit.
+    pub fn same_but_service(&self, other: Frame) -> bool
+        ensures { result ≡ frames.same_but_service self.now other }
+    {
+        self.with_service() == other.with_service()
     }
 }

@@ -1,9 +1,9 @@
 #![tactic(auto)]
 
-ghost use Rattle.std.specs.Prelude.{◌≡◌};
+ghost use Rattle.std.specs.Prelude.{◌≡◌, true};
 ghost use Rattle.il_frames.specs.declared.message.Message.TheVariants as msg;
 ghost use Rattle.il_frames.specs.Frames.{IsFrame};
-ghost use Rattle.il_frames.specs.Messages.{commands, ready_messages, message_in, message_of};
+ghost use Rattle.il_frames.specs.Messages.{commands, ready_messages, message_in, message_of, is_in_range};
 ghost use Rattle.il_frames.specs.Messages as spec;
 ghost use Rattle.il_frames.specs.declared.frame.Frame.{Frame};
 
@@ -104,6 +104,7 @@ pub enum Message {
     OtherRdy(u8),
 }
 
+/// The command of that byte.
 fn command(byte: u8) -> Message
     ensures { result ≡ message_in commands byte msg.OtherCmd }
 {
@@ -136,6 +137,7 @@ fn command(byte: u8) -> Message
     }
 }
 
+/// The ready message of that byte.
 fn ready(byte: u8) -> Message
     ensures { result ≡ message_in ready_messages byte msg.OtherRdy }
 {
@@ -175,6 +177,7 @@ impl Frame {
     /// What the frame says. No other frame says the same.
     pub fn message(&self) -> Message
         ensures value { result ≡ message_of self.now }
+        ensures range { is_in_range result ≡ true }
         ensures distinct { (other : Frame) → IsFrame other → message_of other ≡ result → other ≡ self.now }
     {
         message_at(self.class(), self.byte())

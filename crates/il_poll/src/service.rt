@@ -52,7 +52,8 @@ impl ServiceState {
 
     /// The status, 0 to 63.
     pub fn status(&self) -> u8
-        ensures { result ≡ self.now.status }
+        ensures value { result ≡ self.now.status }
+        ensures range { result < 64 }
     {
         self.status
     }
@@ -67,7 +68,8 @@ impl ServiceState {
 
     /// The byte that answers SST: the status, plus 64 where the device wants service.
     pub fn status_byte(&self) -> u8
-        ensures { result ≡ status_byte_of self.now.status }
+        ensures value { result ≡ status_byte_of self.now.status }
+        ensures range { result < 128 }
     {
         if self.wants() {
             self.status + 64

@@ -60,7 +60,7 @@ fn write_record<F: Write + OpenFile>(file: &mut F, from: &[u8; 256]) -> io::Resu
 }
 
 // A file that ends before the record grows up to its end, with zeros in between.
-fn write_record_at<F: Write + Seek + OpenFile>(
+pub(crate) fn write_record_at<F: Write + Seek + OpenFile>(
     file: &mut F,
     n: u16,
     from: &[u8; 256],

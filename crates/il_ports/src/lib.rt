@@ -4,6 +4,8 @@
 
 mod adapters;
 mod file_medium;
+#[cfg(test)]
+mod file_tests;
 mod image;
 mod medium;
 mod memory_medium;

@@ -204,6 +204,13 @@ impl MemoryMedium {
         Some(bytes)
     }
 
+    /// Every write that reached the tape, oldest first: the number of the record, and the bytes that it left.
+    pub fn writes(&self) -> &[(u16, [u8; 256])]
+        ensures { result.now ≡ (state_of self.now).history }
+    {
+        &self.history
+    }
+
     /// Fills `into` with the tape as it was behind the first `writes` writes since it was inserted. With `torn` the record
     /// of the next write holds these bytes: so a power stop within that write may leave it.
     pub fn image_at(&self, writes: u64, torn: Option<&[u8; 256]>, into: &mut [u8])

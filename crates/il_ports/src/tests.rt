@@ -1,12 +1,23 @@
 use crate::{
-    Failed, FileMedium, Inserted, Medium, MemoryMedium, MemorySink, MemorySource, Sink, Source,
+    Failed, FileMedium, Inserted, Medium, MemoryMedium, MemorySink, MemorySource, New, Sink, Source,
     StdSink, StdSource,
 };
 use std::alloc::{AllocError, Global};
+use std::process::Abort;
 use std::test::Fail;
 use std::{fs, io};
 
 const TAPE_BYTES: usize = 131_072;
+const DISC_BYTES: usize = 630_784;
+
+// How many bytes an image has, and what an insert of it answers, with how many records.
+const SIZES: [(usize, Inserted, u16); 5] = [
+    (0, Inserted::Tape, 512),
+    (131_072, Inserted::Tape, 512),
+    (131_073, Inserted::Tape, 2464),
+    (630_784, Inserted::Tape, 2464),
+    (630_785, Inserted::BadSize(630_785), 0),
+];
 
 #[test]
 fn streams_in_memory(rt: HostRuntime) -> Result<(), Fail> {
@@ -47,7 +58,7 @@ fn shelf(alloc: Global) -> Result<Vec<(String, Vec<u8>)>, AllocError> {
     shelf.push((String::from_str(alloc, "A")?, image))?;
     shelf.push((
         String::from_str(alloc, "LONG")?,
-        vec![in alloc; 0; TAPE_BYTES + 1]?,
+        vec![in alloc; 0; DISC_BYTES + 1]?,
     ))?;
     shelf.push((String::from_str(alloc, "A")?, vec![in alloc; 9]?))?;
     Ok(shelf)
@@ -60,10 +71,10 @@ fn a_shelf_in_memory(rt: HostRuntime) -> Result<(), Fail> {
     let inserts = vec![in alloc; 2]?;
     let mut medium = MemoryMedium::new(alloc, shelf(alloc)?, reads, Vec::new(alloc), inserts, 0)?;
     for (name, new, want) in [
-        ("B", false, Ok(Inserted::NoSuch)),
-        ("A", false, Err(Failed)),
-        ("LONG", true, Ok(Inserted::BadSize(131_073))),
-        ("A", true, Ok(Inserted::Tape)),
+        ("B", New::No, Ok(Inserted::NoSuch)),
+        ("A", New::No, Err(Failed)),
+        ("LONG", New::Tape, Ok(Inserted::BadSize(630_785))),
+        ("A", New::Disc, Ok(Inserted::Tape)),
     ] {
         assert_eq!(rt; medium.size(), 0);
         assert_eq!(rt; medium.insert(name, new), want, "{name}");
@@ -83,7 +94,7 @@ fn a_shelf_in_memory(rt: HostRuntime) -> Result<(), Fail> {
     }
     let size = |name| medium.image(name).map(|image| image.len());
     assert_eq!(rt; size("A"), Some(TAPE_BYTES));
-    assert_eq!(rt; size("LONG"), Some(TAPE_BYTES + 1));
+    assert_eq!(rt; size("LONG"), Some(DISC_BYTES + 1));
     assert_eq!(rt; size("B"), None);
     Ok(())
 }
@@ -103,15 +114,15 @@ fn a_new_image_in_memory(rt: HostRuntime) -> Result<(), Fail> {
     let longest = String::from_utf8(vec![in alloc; b'N'; 4096]?)?;
     let longer = String::from_utf8(vec![in alloc; b'N'; 4097]?)?;
     assert_eq!(rt; medium.size(), 0);
-    assert_eq!(rt; medium.insert(longer.as_str(), true), Err(Failed));
+    assert_eq!(rt; medium.insert(longer.as_str(), New::Disc), Err(Failed));
     assert_eq!(rt; medium.size(), 0);
-    assert_eq!(rt; medium.insert(longest.as_str(), true), Ok(Inserted::Tape));
-    assert_eq!(rt; medium.size(), 512);
+    assert_eq!(rt; medium.insert(longest.as_str(), New::Disc), Ok(Inserted::Tape));
+    assert_eq!(rt; medium.size(), 2464);
     let mut into = [1; 256];
-    assert_eq!(rt; medium.read(511, &mut into), Ok(()));
+    assert_eq!(rt; medium.read(2463, &mut into), Ok(()));
     assert_eq!(rt; into.as_slice(), [0; 256].as_slice());
     let size = |name| medium.image(name).map(|image| image.len());
-    assert_eq!(rt; size(longest.as_str()), Some(TAPE_BYTES));
+    assert_eq!(rt; size(longest.as_str()), Some(DISC_BYTES));
     assert_eq!(rt; size("A"), Some(257));
     Ok(())
 }
@@ -132,7 +143,7 @@ fn writes_in_memory(rt: HostRuntime) -> Result<(), Fail> {
         3,
     )?;
     assert_eq!(rt; medium.size(), 0);
-    assert_eq!(rt; medium.insert("A", false), Ok(Inserted::Tape));
+    assert_eq!(rt; medium.insert("A", New::No), Ok(Inserted::Tape));
     for (n, byte, want, left) in [
         (1, 3, Ok(()), 3),
         (2, 4, Err(Failed), 9),
@@ -154,8 +165,72 @@ fn writes_in_memory(rt: HostRuntime) -> Result<(), Fail> {
     }
     assert!(rt; image[768..].iter().all(|byte| *byte == 0));
     let long = medium.image("LONG").unwrap_or(&[1]);
-    assert_eq!(rt; long.len(), TAPE_BYTES + 1);
+    assert_eq!(rt; long.len(), DISC_BYTES + 1);
     assert!(rt; long.iter().all(|byte| *byte == 0));
+    Ok(())
+}
+
+#[test]
+fn sizes_in_memory(rt: HostRuntime) -> Result<(), Fail> {
+    let alloc = rt.alloc();
+    for (length, want, records) in SIZES {
+        let mut shelf = Vec::new(alloc);
+        shelf.push((String::from_str(alloc, "IMAGE")?, vec![in alloc; 3; length]?))?;
+        let [reads, inserts] = [Vec::new(alloc), Vec::new(alloc)];
+        let mut medium = MemoryMedium::new(alloc, shelf, reads, Vec::new(alloc), inserts, 0)?;
+        assert_eq!(rt; medium.size(), 0);
+        assert_eq!(rt; medium.insert("IMAGE", New::No), Ok(want), "{length}");
+        assert_eq!(rt; medium.size(), records, "{length}");
+    }
+    Ok(())
+}
+
+// Fills the image with the tape at that moment.
+fn image_at(
+    rt: &impl Abort,
+    medium: &MemoryMedium,
+    writes: u64,
+    torn: Option<&[u8; 256]>,
+    image: &mut [u8],
+) {
+    assert!(rt; 0 < medium.size());
+    assert_eq!(rt; image.len(), 256 * usize::from(medium.size()));
+    let made = medium.writes().len() as u64;
+    assert!(rt; writes <= made);
+    assert!(rt; torn.is_none() || writes < made);
+    medium.image_at(writes, torn, image);
+}
+
+// Two writes, of records 1 and 0. Between them, and within each of them, the tape is as it was before, but for the
+// record that is written.
+#[test]
+fn earlier_moments(rt: HostRuntime) -> Result<(), Fail> {
+    let alloc = rt.alloc();
+    let [reads, inserts] = [Vec::new(alloc), Vec::new(alloc)];
+    let mut medium = MemoryMedium::new(alloc, shelf(alloc)?, reads, Vec::new(alloc), inserts, 2)?;
+    assert_eq!(rt; medium.size(), 0);
+    assert_eq!(rt; medium.insert("A", New::No), Ok(Inserted::Tape));
+    for n in [1, 0] {
+        assert!(rt; n < medium.size());
+        assert_eq!(rt; medium.write(n, &[7; 256]), Ok(()));
+    }
+    let mut last = [0; 256];
+    last[0] = 2;
+    let torn = [9; 256];
+    for (writes, torn, first, second) in [
+        (0, None, [1; 256], last),
+        (0, Some(&torn), [1; 256], torn),
+        (1, None, [1; 256], [7; 256]),
+        (1, Some(&torn), torn, [7; 256]),
+        (2, None, [7; 256], [7; 256]),
+    ] {
+        let mut image = vec![in alloc; 5; TAPE_BYTES]?;
+        image_at(&rt, &medium, writes, torn, &mut image);
+        assert!(rt; image.len() > 512);
+        assert_eq!(rt; &image[..256], first.as_slice());
+        assert_eq!(rt; &image[256..512], second.as_slice());
+        assert!(rt; image[512..].iter().all(|byte| *byte == 0));
+    }
     Ok(())
 }
 
@@ -167,23 +242,18 @@ fn images_in_files(rt: HostRuntime) -> Result<(), Fail> {
     let mut short = vec![in alloc; 5; 1536]?;
     short.extend_from_slice(&[6, 7])?;
     fs::write(&rt, "tapes/SHORT", short.as_slice())?;
-    fs::write(
-        &rt,
-        "tapes/LONG",
-        vec![in alloc; 0; TAPE_BYTES + 1]?.as_slice(),
-    )?;
     let mut permissions = fs::metadata(&rt, "tapes/SHORT")?.permissions();
     permissions.set_readonly(true);
     fs::set_permissions(&rt, "tapes/SHORT", permissions)?;
 
     let mut medium = FileMedium::new(&rt);
     for (name, new, want) in [
-        ("tapes/NONE", false, Ok(Inserted::NoSuch)),
-        ("tapes/LONG", false, Ok(Inserted::BadSize(131_073))),
-        ("tapes", true, Err(Failed)),
-        ("tapes/SHORT/NEW", true, Err(Failed)),
-        ("tapes/NONE/NEW", true, Err(Failed)),
-        ("tapes/SHORT", true, Ok(Inserted::Tape)),
+        ("tapes/NONE", New::No, Ok(Inserted::NoSuch)),
+        ("tapes", New::Tape, Err(Failed)),
+        ("/dev/null", New::No, Err(Failed)),
+        ("tapes/SHORT/NEW", New::Tape, Err(Failed)),
+        ("tapes/NONE/NEW", New::Tape, Err(Failed)),
+        ("tapes/SHORT", New::Disc, Ok(Inserted::Tape)),
     ] {
         assert_eq!(rt; medium.size(), 0);
         assert_eq!(rt; medium.insert(name, new), want, "{name}");
@@ -197,12 +267,37 @@ fn images_in_files(rt: HostRuntime) -> Result<(), Fail> {
         assert_eq!(rt; into.as_slice(), record.as_slice(), "record {n}");
     }
 
-    let mut medium = FileMedium::new(&rt);
-    assert_eq!(rt; medium.insert("tapes/NEW", true), Ok(Inserted::Tape));
-    let made = fs::read(&rt, "tapes/NEW")?;
-    assert_eq!(rt; made.len(), TAPE_BYTES);
-    assert!(rt; made.iter().all(|byte| *byte == 0));
     fs::remove_dir_all(&rt, "tapes")?;
+    Ok(())
+}
+
+#[test]
+fn files_that_are_made(rt: HostRuntime) -> Result<(), Fail> {
+    for (name, new, length) in [
+        ("MADE_TAPE", New::Tape, TAPE_BYTES),
+        ("MADE_DISC", New::Disc, DISC_BYTES),
+    ] {
+        let mut medium = FileMedium::new(&rt);
+        assert_eq!(rt; medium.insert(name, new), Ok(Inserted::Tape));
+        let made = fs::read(&rt, name)?;
+        assert_eq!(rt; made.len(), length);
+        assert!(rt; made.iter().all(|byte| *byte == 0));
+        fs::remove_file(&rt, name)?;
+    }
+    Ok(())
+}
+
+#[test]
+fn sizes_in_files(rt: HostRuntime) -> Result<(), Fail> {
+    let alloc = rt.alloc();
+    for (length, want, records) in SIZES {
+        let image = vec![in alloc; 3; length]?;
+        fs::write(&rt, "IMAGE", image.as_slice())?;
+        let mut medium = FileMedium::new(&rt);
+        assert_eq!(rt; medium.insert("IMAGE", New::No), Ok(want), "{length}");
+        assert_eq!(rt; medium.size(), records, "{length}");
+    }
+    fs::remove_file(&rt, "IMAGE")?;
     Ok(())
 }
 
@@ -213,7 +308,7 @@ fn writes_in_files(rt: HostRuntime) -> Result<(), Fail> {
     let mut want = vec![in alloc; 5; 1538]?;
     fs::write(&rt, "WRITES", want.as_slice())?;
     let mut medium = FileMedium::new(&rt);
-    assert_eq!(rt; medium.insert("WRITES", false), Ok(Inserted::Tape));
+    assert_eq!(rt; medium.insert("WRITES", New::No), Ok(Inserted::Tape));
     for (n, byte, length) in [
         (2, 7, 1538),
         (6, 8, 1792),
@@ -236,7 +331,7 @@ fn writes_in_files(rt: HostRuntime) -> Result<(), Fail> {
 
     // Nobody may write to this one.
     let mut medium = FileMedium::new(&rt);
-    assert_eq!(rt; medium.insert("/proc/version", false), Ok(Inserted::Tape));
+    assert_eq!(rt; medium.insert("/proc/version", New::No), Ok(Inserted::Tape));
     assert!(rt; 0 < medium.size());
     assert_eq!(rt; medium.write(0, &[1; 256]), Err(Failed));
     Ok(())

@@ -1,0 +1,166 @@
+use crate::file_medium::write_record_at;
+use crate::{Failed, FileMedium, Inserted, Medium, New};
+use std::alloc::Allocator;
+use std::cell::Cell;
+use std::fs::{File, Metadata, OpenFile, OpenOptions};
+use std::io::{self, ErrorKind, Seek, SeekFrom, Write};
+use std::rt::Files;
+use std::test::Fail;
+
+// What was asked of a file, oldest first.
+#[derive(Clone, Copy, Debug, PartialEq, Eq)]
+enum Asked {
+    Nothing,
+    Seek(u64),
+    Write(usize),
+    Sync,
+}
+
+// A file that notes what is asked of it, up to four calls, and fails at the call of that number.
+#[derive(Drop)]
+struct Noting {
+    asked: Cell<[Asked; 4]>,
+    calls: Cell<usize>,
+    fails: usize,
+}
+
+impl Noting {
+    fn note(&self, what: Asked) -> io::Result<()> {
+        let call = self.calls.get();
+        let mut asked = self.asked.get();
+        if call < 4 {
+            asked[call] = what;
+            self.asked.set(asked);
+            self.calls.set(call + 1);
+        }
+        if call == self.fails {
+            return Err(ErrorKind::Other.into());
+        }
+        Ok(())
+    }
+}
+
+impl Write for Noting {
+    fn write(&mut self, buf: &[u8]) -> io::Result<usize> {
+        self.note(Asked::Write(buf.len()))?;
+        Ok(buf.len())
+    }
+
+    fn flush(&mut self) -> io::Result<()> {
+        Ok(())
+    }
+}
+
+impl Seek for Noting {
+    fn seek(&mut self, to: SeekFrom) -> io::Result<u64> {
+        match to {
+            SeekFrom::Start(place) => {
+                self.note(Asked::Seek(place))?;
+                Ok(place)
+            }
+            _ => Err(ErrorKind::Unsupported.into()),
+        }
+    }
+}
+
+impl OpenFile for Noting {
+    fn metadata(&self) -> io::Result<Metadata> {
+        Err(ErrorKind::Unsupported.into())
+    }
+
+    fn set_len(&self, _: u64) -> io::Result<()> {
+        Err(ErrorKind::Unsupported.into())
+    }
+
+    fn sync_all(&self) -> io::Result<()> {
+        Err(ErrorKind::Unsupported.into())
+    }
+
+    fn sync_data(&self) -> io::Result<()> {
+        self.note(Asked::Sync)
+    }
+}
+
+// A write is a seek, the bytes and a sync, and fails where one of them does.
+#[test]
+fn a_write_is_synced(rt: HostRuntime) -> Result<(), Fail> {
+    let all = [Asked::Seek(768), Asked::Write(256), Asked::Sync, Asked::Nothing];
+    for fails in 0..4 {
+        let mut file = Noting {
+            asked: Cell::new([Asked::Nothing; 4]),
+            calls: Cell::new(0),
+            fails,
+        };
+        let answer = write_record_at(&mut file, 3, &[7; 256]);
+        assert_eq!(rt; answer.is_ok(), fails == 3, "{fails}");
+        let calls = file.calls.get();
+        assert_eq!(rt; calls, 3.min(fails + 1), "{fails}");
+        assert!(rt; calls <= 4);
+        assert_eq!(rt; &file.asked.get()[..calls], &all[..calls]);
+    }
+    Ok(())
+}
+
+// Files that cannot be looked at, by an error of that kind.
+#[derive(Drop)]
+struct Hidden(ErrorKind);
+
+impl Files for Hidden {
+    type File = File;
+    type Dir = File;
+
+    fn open_file(&self, _: &OpenOptions, _: &str) -> io::Result<File> {
+        Err(self.0.into())
+    }
+
+    fn open_dir(&self, _: &str) -> io::Result<File> {
+        Err(self.0.into())
+    }
+
+    fn metadata(&self, _: &str) -> io::Result<Metadata> {
+        Err(self.0.into())
+    }
+
+    fn symlink_metadata(&self, _: &str) -> io::Result<Metadata> {
+        Err(self.0.into())
+    }
+
+    fn copy(&self, _: &str, _: &str) -> io::Result<u64> {
+        Err(self.0.into())
+    }
+
+    fn rename(&self, _: &str, _: &str) -> io::Result<()> {
+        Err(self.0.into())
+    }
+
+    fn remove_file(&self, _: &str) -> io::Result<()> {
+        Err(self.0.into())
+    }
+
+    fn create_dir(&self, _: &str) -> io::Result<()> {
+        Err(self.0.into())
+    }
+
+    fn remove_dir(&self, _: &str) -> io::Result<()> {
+        Err(self.0.into())
+    }
+
+    fn remove_dir_all<B: Allocator>(&self, _: B, _: &str) -> io::Result<()> {
+        Err(self.0.into())
+    }
+}
+
+// Only a file that is not there is no such image.
+#[test]
+fn a_hidden_file_is_a_fault(rt: HostRuntime) -> Result<(), Fail> {
+    for (kind, want) in [
+        (ErrorKind::NotFound, Ok(Inserted::NoSuch)),
+        (ErrorKind::PermissionDenied, Err(Failed)),
+        (ErrorKind::Other, Err(Failed)),
+    ] {
+        let mut medium = FileMedium::new(Hidden(kind));
+        assert_eq!(rt; medium.insert("TAPE", New::No), want);
+        assert_eq!(rt; medium.size(), 0);
+    }
+    Ok(())
+}
