@@ -9,3 +9,5 @@ pub mod Names
 pub mod Readings
 pub mod UpperDigits
 pub mod Spaces
+pub mod ReadBack
+pub mod Examples

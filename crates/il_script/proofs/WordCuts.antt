@@ -1,9 +1,9 @@
 -- Laws of words.
-use Rattle.std.proofs.Common.{◌≡◌, ℕ, zero, suc, ◌+◌, ◌≤◌, ◌==◌, Bool, true, false, cond, not, List, [], ◌∷◌, ◌++◌, length, take, drop, refl, sym, subst, ap, ap₂, ◌∙◌, arith, length-drop, ◌-◌}
+use Rattle.std.proofs.Common.{◌≡◌, ℕ, suc, ◌+◌, ◌≤◌, ◌==◌, Bool, true, false, cond, not, List, [], ◌∷◌, length, take, drop, refl, sym, ap, ap₂, ◌∙◌, arith, length-drop, ◌-◌}
 use Rattle.std.proofs.Math.Seq.{take-length}
 use Rattle.std.proofs.lemmas.List.{length-take-le}
 use Rattle.std.specs.List.{prefix_len, take_while}
-use Rattle.il_script.specs.Words.{WordCut, word_cut, word_before, dark_before, words_of, is_space, is_dark, IsNext}
+use Rattle.il_script.specs.Words.{WordCut, word_cut, word_before, words_of, is_space, is_dark, IsNext}
 
 -- how many members at the front pass
 abbrev pub front : Bool → ℕ → ℕ

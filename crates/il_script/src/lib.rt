@@ -19,3 +19,6 @@ pub use page::Page;
 pub use payload::Payload;
 pub use reading::read_line;
 pub use reply::{Code, Reply};
+
+#[cfg(test)]
+mod tests;

@@ -1,7 +1,3 @@
-ghost use Rattle.std.specs.Prelude.{◌≡◌, ◌+◌, ◌*◌, ◌≤◌, ◌<◌, ◌++◌, ◌∷◌, [], length, decimal, IfOk};
-ghost use Rattle.hex.specs.Hex.{encode_upper};
-ghost use Rattle.lif_model.specs.Printed.{printed, printed_byte};
-
 use crate::spelling::is_plain;
 use itoa::Buffer;
 use lif_dir::without_end_spaces;
@@ -28,6 +24,14 @@ impl Model for Page {
 }
 
 impl Page {
+    ghost use Rattle.std.specs.Prelude.{◌≡◌, ◌+◌, ◌*◌, ◌≤◌, ◌<◌, ◌++◌, ◌∷◌, [], Some, length, decimal, IfOk};
+    ghost use Rattle.hex.specs.Hex.{encode_upper};
+    ghost use Rattle.lif_model.specs.Printed.{printed, printed_byte};
+    ghost use Rattle.lif_dir.specs.Entries.{name_bytes};
+    ghost use Rattle.lif_dir.specs.Names.{name_of_bytes};
+    ghost use Rattle.lif_dir.specs.declared.entries.Name.{Name};
+    ghost use Rattle.il_script.specs.Commands.{spelt_as};
+
     /// An empty text with room for so many bytes.
     pub fn new(alloc: Global, room: usize) -> Result<Page, AllocError>
         ensures { IfOk result (λ p. p ≡ record { text = []; room = room }) }
@@ -107,12 +111,15 @@ impl Page {
         }
     }
 
-    /// Appends a name or a label as it is printed, at most three bytes for each of its bytes.
+    /// Appends a name or a label as it is printed, at most three bytes for each of its bytes. What is printed of the name
+    /// of a file spells this name in a script.
     pub fn put_name(&mut self, name: &[u8])
         requires some { 0 < length name.now }
         requires room { length self.old.text + 3 * length name.now ≤ self.old.room }
         ensures text { self.new ≡ record self.old { text = self.old.text ++ printed name.now } }
         ensures size { length self.new.text ≤ length self.old.text + 3 * length name.now }
+        ensures read_back { (file : Name) → name_bytes file ≡ name.now → length name.now ≡ 10
+            → spelt_as name_of_bytes (printed name.now) ≡ Some (Some file) }
     {
         let kept = without_end_spaces(name);
         if kept.is_empty() {

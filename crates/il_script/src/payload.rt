@@ -62,7 +62,7 @@ impl Payload {
                 true
             }
             None => {
-                self.count = 0;
+                self.clear();
                 false
             }
         }

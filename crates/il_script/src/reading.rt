@@ -1,6 +1,6 @@
 ghost use Rattle.std.specs.Prelude.{◌≡◌, ◌≤◌, [], length};
 ghost use Rattle.il_script.specs.Words.{words_of};
-ghost use Rattle.il_script.specs.Commands.{fetch_of, purge_of, rename_of, format_of, store_of, say_of, word_command, lone_of, command_of, asked_of, reading_of, command_in, bytes_in, command_read, bytes_read, name_of_part};
+ghost use Rattle.il_script.specs.Commands.{is_comment, fetch_of, purge_of, rename_of, format_of, store_of, say_of, word_command, lone_of, command_of, asked_of, reading_of, command_in, bytes_in, command_read, bytes_read, name_of_part};
 
 use crate::command::{Command, LineFault};
 use crate::digits::{read_hex, read_number, read_type};
@@ -20,13 +20,20 @@ pub fn read_line(line: &[u8], payload: &mut Payload) -> Result<Option<Command>, 
 {
     payload.clear();
     let (word, rest) = next_word(without_return(line));
-    if word.is_empty() || word[0] == b'#' {
+    if word.is_empty() || is_note(word) {
         return Ok(None);
     }
     match read_command(word, rest, payload) {
         Ok(command) => Ok(Some(command)),
         Err(fault) => Err(fault),
     }
+}
+
+// Whether the first word begins a comment.
+fn is_note(word: &[u8]) -> bool
+    ensures { result ≡ is_comment word.now }
+{
+    word.starts_with(b"#")
 }
 
 // What the first word and the rest of a line ask for.

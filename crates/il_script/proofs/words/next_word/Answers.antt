@@ -1,5 +1,5 @@
-use Rattle.std.proofs.Common.{rules, ◌≡◌, ℕ, ◌-◌, List, take, drop, length, sym, ap, ap₂, ◌∙◌}
-use Rattle.il_script.specs.Words.{word_cut, words_of, is_space, is_dark}
+use Rattle.std.proofs.Common.{◌≡◌, ◌-◌, take, drop, length, ap, ap₂, ◌∙◌}
+use Rattle.il_script.specs.Words.{words_of, is_space, is_dark}
 use Rattle.il_script.proofs.WordCuts.{reach_of, length-front, spaces-dropped, dark-start, first-word, words-behind, is-next, rest_whole}
 use Rattle.il_script.proofs.words.next_word.Goals as goal
 

@@ -3,6 +3,7 @@ use Rattle.std.proofs.lemmas.List.{nil_from_length, take_all}
 use Rattle.std.specs.List.{flat_map}
 use Rattle.lif_model.specs.Printed.{printed_byte}
 use Rattle.il_script.specs.Sheet.{Sheet}
+use Rattle.il_script.proofs.ReadBack.{printed-read}
 use Rattle.il_script.proofs.Spaces.{printed-spaces, printed-bytes}
 use Rattle.il_script.proofs.page.Page.put_name.Goals as goal
 
@@ -21,3 +22,9 @@ returns-clause-text c =
     let text = c.loop-byte.invariant.text ∙ ap (λ l. c.args.self.now.text ++ flat_map printed_byte l) all
     ∙ ap (λ l. c.args.self.now.text ++ l) (sym (printed-bytes c.args.name.now kept c.without_end_spaces-kept.ensures.text some)) in
     ap₂ (λ (l : List ℕ) (n : ℕ). let s : Sheet = record { text = l; room = n } in s) text c.loop-byte.invariant.room
+
+pub returns-then-is_empty-clause-read_back : goal.returns-then-is_empty-clause-read_back
+returns-then-is_empty-clause-read_back c = λ file is size. printed-read c.args.name.now file (λ i. (c.type_inv.name i).fits) is size
+
+pub returns-clause-read_back : goal.returns-clause-read_back
+returns-clause-read_back c = λ file is size. printed-read c.args.name.now file (λ i. (c.type_inv.name i).fits) is size
