@@ -1,8 +1,8 @@
 pub mod ExchangeLaws
 pub mod RoleLaws
+pub mod RoleSteps
 pub mod ReachLaws
 pub mod EffectLaws
 pub mod ReadingLaws
-pub mod RoleSteps
 mod Examples
 mod TransferExamples
