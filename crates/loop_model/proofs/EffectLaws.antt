@@ -1,5 +1,5 @@
 -- Laws of what logs do to a tape and of what they carry.
-use Rattle.std.proofs.Common.{◌≡◌, ◌↔◌, ℕ, ◌++◌, ◌+◌, ◌&&◌, ◌||◌, ◌==◌, ◌∙◌, Bool, true, false, not, nat_eq, List, [], ◌∷◌, length, drop, Option, Some, None, option_and_then, option_to_list, is_some, refl, sym, ap, subst, eq-eqb, append_assoc}
+use Rattle.std.proofs.Common.{map, ◌≡◌, ◌↔◌, ℕ, ◌++◌, ◌+◌, ◌&&◌, ◌||◌, ◌==◌, ◌∙◌, Bool, true, false, not, nat_eq, List, [], ◌∷◌, length, drop, Option, Some, None, option_and_then, option_to_list, is_some, refl, sym, ap, subst, eq-eqb, append_assoc}
 use Rattle.std.specs.Cmp.Lexicographic.{pointwise}
 use Rattle.std.specs.List.{list_all, list_any, starts_with}
 use Rattle.std.proofs.Math.Seq.{drop-append_seam, take-append_seam}
@@ -8,9 +8,10 @@ use Rattle.std.proofs.lemmas.Bool.Decides.{when_false}
 use Rattle.il_frames.specs.declared.entry.Entry.{Entry}
 use Rattle.lif_model.specs.Tape.{Tape}
 use Rattle.loop_model.specs.Loops.{Loop}
-use Rattle.loop_model.specs.Exchanges.{Exchange, entries_of, Piece, Whole, Cut, breaks_off}
+use Rattle.loop_model.specs.Exchanges.{Exchange, entries_of, Piece, Whole, Cut, are_whole, breaks_off, IsWhole, IsBroken}
 use Rattle.loop_model.specs.Units.{RecordUnit, sent_bytes, is_transfer, told_status, unit_of, unit_after_seek, unit_at, units_of, sought, is_open, ends_within}
-use Rattle.loop_model.specs.Effect.{UnitsEffect, Effect}
+use Rattle.loop_model.specs.Effect.{UnitsEffect, Effect, is_good, is_out, is_in, transfer_of, ends_as, IsLogOf}
+use Rattle.lif_model.specs.Transfers.{Transfer, records_of, is_overwritten_by, carries, are_carried_out, are_carried_in}
 use Rattle.loop_model.proofs.ExchangeLaws.{Reading-append}
 
 -- ---- units of joined logs
@@ -84,3 +85,96 @@ no_writes (w ∷ ws) old new reads e =
 -- a log without write units leaves the tape
 pub Effect-no_writes : {l : Loop} {old new : Tape} {log : List Entry} → (e : Effect l old log new) → list_all (λ w. not w.writes) (units_of l e.reading.pieces) ≡ true → new ≡ old
 Effect-no_writes {l} {old} {new} e reads = no_writes (units_of l e.reading.pieces) old new reads e.effect
+
+-- ---- the log of a command
+
+shut_behind : (l : Loop) (ps qs : List Piece) → is_open l ps ≡ false → is_open l (ps ++ qs) ≡ false
+shut_behind l [] qs e = cc
+shut_behind l (Whole x ∷ []) [] e = e
+shut_behind l (Whole x ∷ []) (q ∷ qs) e = refl
+shut_behind l (Whole x ∷ p ∷ ps) qs e = refl
+shut_behind l (Cut x n b ∷ ps) qs e = refl
+
+sought_shut : (sought_one : Bool) (l : Loop) (ps qs : List Piece) → (sought_one && is_open l ps) ≡ false → (sought_one && is_open l (ps ++ qs)) ≡ false
+sought_shut true l ps qs e = shut_behind l ps qs e
+sought_shut false l ps qs e = refl
+
+both_false : (a b : Bool) → a ≡ false → b ≡ false → (a || b) ≡ false
+both_false true b p q = cc
+both_false false b p q = q
+
+-- joined exchanges end outside a unit where both parts do
+pub ends_within-append : (l : Loop) (ps qs : List Piece) → ends_within l ps ≡ false → ends_within l qs ≡ false → ends_within l (ps ++ qs) ≡ false
+ends_within-append l [] qs a b = b
+ends_within-append l (p ∷ ps) qs a b =
+    let parts = or_parts (is_some (sought l p) && is_open l ps) (ends_within l ps) a in
+    both_false (is_some (sought l p) && is_open l (ps ++ qs)) (ends_within l (ps ++ qs))
+    (sought_shut (is_some (sought l p)) l ps qs parts.0) (ends_within-append l ps qs parts.1 b)
+
+ends_as-append : (whole : Bool) (ps qs : List Piece) → are_whole ps ≡ true → ends_as whole qs ≡ true → ends_as whole (ps ++ qs) ≡ true
+ends_as-append whole [] qs a b = b
+ends_as-append true (Whole x ∷ ps) qs a b = ends_as-append true ps qs a b
+ends_as-append false (Whole x ∷ ps) qs a b = ends_as-append false ps qs a b
+ends_as-append whole (Cut x n c ∷ ps) qs a b = cc
+
+-- no entries are a log that leaves the tape
+pub IsLogOf-nothing : (l : Loop) (t : Tape) → IsLogOf l true t [] t
+IsLogOf-nothing l t = record { reading = record { pieces = []; legal = refl; entries = refl }; ends = refl; outside = refl; effect = refl }
+
+-- a whole log and one that follows it, whole or broken
+pub IsLogOf-append : {l : Loop} {whole : Bool} {old between new : Tape} {first second : List Entry} →
+    IsLogOf l true old first between → IsLogOf l whole between second new → IsLogOf l whole old (first ++ second) new
+IsLogOf-append {l} {whole} {old} {between} {new} a b = record {
+  reading = Reading-append l a.reading b.reading;
+  ends = ends_as-append whole a.reading.pieces b.reading.pieces a.ends b.ends;
+  outside = ends_within-append l a.reading.pieces b.reading.pieces a.outside b.outside;
+  effect =
+      subst (λ (ws : List RecordUnit). UnitsEffect ws old new) (sym (units_of-append l a.reading.pieces b.reading.pieces a.outside))
+      ((UnitsEffect-append (units_of l a.reading.pieces) (units_of l b.reading.pieces) old new).1 (between, a.effect, b.effect));
+}
+
+-- what it says
+pub IsLogOf-whole : {l : Loop} {old new : Tape} {log : List Entry} → IsLogOf l true old log new → IsWhole l log
+IsLogOf-whole a = record { reading = a.reading; whole = a.ends }
+
+pub IsLogOf-broken : {l : Loop} {old new : Tape} {log : List Entry} → IsLogOf l false old log new → IsBroken l log
+IsLogOf-broken a = record { reading = a.reading; broken = a.ends }
+
+pub IsLogOf-effect : {l : Loop} {whole : Bool} {old new : Tape} {log : List Entry} → IsLogOf l whole old log new → Effect l old log new
+IsLogOf-effect a = record { reading = a.reading; effect = a.effect }
+
+-- ---- transfers
+
+-- the status of each unit is 0
+abbrev pub all_good : List RecordUnit → Bool
+all_good ws = list_all (λ w. is_good w.status) ws
+
+any_mapped : (test : Transfer → Bool) (ws : List RecordUnit) → list_any (λ w. test (transfer_of w)) ws ≡ list_any test (map transfer_of ws)
+any_mapped test [] = refl
+any_mapped test (w ∷ ws) = ap (λ (b : Bool). test (transfer_of w) || b) (any_mapped test ws)
+
+same_test : (a b : Bool) → b ≡ true → (a && b) ≡ a
+same_test true b e = e
+same_test false b e = refl
+
+-- a step of both definitions, part by part
+same_step : (t u : Bool) (f s : Bool) (a b : Bool) (c d : Bool) (x y : Bool) → t ≡ u → a ≡ b → c ≡ d → x ≡ y →
+    ((t && (f && (s && (not a && c)))) || x) ≡ ((u && (f && (s && (not b && d)))) || y)
+same_step t u f s a b c d x y p q r z = rw (p, q, r, z) refl
+
+carries_by : (test : RecordUnit → Bool) (known : Transfer → Bool) → ((w : RecordUnit) → is_good w.status ≡ true → test w ≡ known (transfer_of w)) →
+    (ws : List RecordUnit) (n : ℕ) (bytes : List ℕ) → all_good ws ≡ true → carries transfer_of test ws n bytes ≡ carries (λ t. t) known (map transfer_of ws) n bytes
+carries_by test known same [] n bytes good = refl
+carries_by test known same (w ∷ ws) n bytes good =
+    let parts = and_parts (is_good w.status) (all_good ws) good in
+    same_step (test w) (known (transfer_of w)) (w.first == n) (starts_with nat_eq bytes w.bytes)
+    (list_any (λ y. is_overwritten_by (transfer_of w) (transfer_of y)) ws) (list_any (λ y. is_overwritten_by (transfer_of w) y) (map transfer_of ws)) _ _ _ _
+    (same w parts.0) (any_mapped (λ y. is_overwritten_by (transfer_of w) y) ws)
+    (carries_by test known same ws (n + records_of w.bytes) (drop (length w.bytes) bytes) parts.1) (carries_by test known same ws n bytes parts.1)
+
+-- where each status is 0, units carry what their transfers carry, out and in
+pub carries-out : (ws : List RecordUnit) (n : ℕ) (bytes : List ℕ) → all_good ws ≡ true → carries transfer_of is_out ws n bytes ≡ are_carried_out (map transfer_of ws) n bytes
+carries-out = carries_by is_out (λ t. t.writes) (λ w good. same_test w.writes (is_good w.status) good)
+
+pub carries-in : (ws : List RecordUnit) (n : ℕ) (bytes : List ℕ) → all_good ws ≡ true → carries transfer_of is_in ws n bytes ≡ are_carried_in (map transfer_of ws) n bytes
+carries-in = carries_by is_in (λ t. not t.writes) (λ w good. same_test (not w.writes) (is_good w.status) good)

@@ -3,6 +3,7 @@ pub mod RoleLaws
 pub mod RoleSteps
 pub mod ReachLaws
 pub mod EffectLaws
+pub mod HearLaws
 pub mod ReadingLaws
 mod Examples
 mod TransferExamples

@@ -4,8 +4,8 @@ use Rattle.il_frames.specs.declared.entry.Entry.{Entry}
 use Rattle.lif_model.specs.Tape.{Tape}
 use Rattle.lif_model.specs.Transfers.{Transfer, all_pieces, full_pieces, Replaced, PartlyReplaced, carries}
 use Rattle.loop_model.specs.Loops.{Loop}
-use Rattle.loop_model.specs.Exchanges.{Reading}
-use Rattle.loop_model.specs.Units.{RecordUnit, units_of}
+use Rattle.loop_model.specs.Exchanges.{Piece, are_whole, breaks_off, Reading}
+use Rattle.loop_model.specs.Units.{RecordUnit, units_of, ends_within}
 
 -- ---- effect
 
@@ -55,3 +55,18 @@ pub record CarriesOut (l : Loop) (log : List Entry) (n : ℕ) (bytes : List ℕ)
 pub record CarriesIn (l : Loop) (log : List Entry) (n : ℕ) (bytes : List ℕ) : Type 0 where
   pub reading : Reading l log
   pub carried : carries transfer_of is_in (units_of l reading.pieces) n bytes ≡ true
+
+-- ---- the log of a command
+
+-- the exchanges are all whole, or else the last of them broke off
+abbrev pub ends_as : Bool → List Piece → Bool
+ends_as true ps = are_whole ps
+ends_as false ps = breaks_off ps
+
+-- by one reading the log is whole, or else broken; it ends outside a unit; and it made the old tape into
+-- the new one
+pub record IsLogOf (l : Loop) (whole : Bool) (old : Tape) (log : List Entry) (new : Tape) : Type 0 where
+  pub reading : Reading l log
+  pub ends : ends_as whole reading.pieces ≡ true
+  pub outside : ends_within l reading.pieces ≡ false
+  pub effect : UnitsEffect (units_of l reading.pieces) old new
