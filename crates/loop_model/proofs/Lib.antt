@@ -1,6 +1,8 @@
 pub mod ExchangeLaws
 pub mod RoleLaws
 pub mod RoleSteps
+pub mod TalkLaws
+pub mod UnitLaws
 pub mod ReachLaws
 pub mod EffectLaws
 pub mod HearLaws

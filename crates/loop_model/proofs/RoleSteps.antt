@@ -179,18 +179,18 @@ silenced : (a : ℕ) (r : Roles) → is_own r.address a ≡ false → is_quiet (
 silenced a r other = rw other refl
 
 -- a device with another number does not talk after TAD a
-quiet_other : (o : Outcome) (party a : ℕ) (r : Roles) → (party ≡ a → ⊥) → is_own r.address party ≡ true → is_quiet r ≡ true → is_quiet (if is_reached 0 o party then roles_by (msg.Tad a) r else r) ≡ true
+pub quiet_other : (o : Outcome) (party a : ℕ) (r : Roles) → (party ≡ a → ⊥) → is_own r.address party ≡ true → is_quiet r ≡ true → is_quiet (if is_reached 0 o party then roles_by (msg.Tad a) r else r) ≡ true
 quiet_other o party a r other own quiet = quiet_if (is_reached 0 o party) (roles_by (msg.Tad a) r) r (silenced a r (not_own a party r other own)) quiet
 
 -- TAD passes each device as it is
-tad_passes : (o : Outcome) (party q a : ℕ) (rs : List Roles) → talkers_from q (roles_along 0 o q (if is_reached 0 o party then msg.Tad a else msg.Tad a) rs) ≡ talkers_from q (roles_along 0 o q (msg.Tad a) rs)
+pub tad_passes : (o : Outcome) (party q a : ℕ) (rs : List Roles) → talkers_from q (roles_along 0 o q (if is_reached 0 o party then msg.Tad a else msg.Tad a) rs) ≡ talkers_from q (roles_along 0 o q (msg.Tad a) rs)
 tad_passes o party q a rs = ap (λ (n : Message). talkers_from q (roles_along 0 o q n rs)) (if_equal (is_reached 0 o party) (msg.Tad a) (msg.Tad a) refl)
 
-no_head : (party : ℕ) (b : Bool) (ps qs : List ℕ) → not b ≡ true → ps ≡ qs → ((if b then party ∷ [] else []) ++ ps) ≡ qs
+pub no_head : (party : ℕ) (b : Bool) (ps qs : List ℕ) → not b ≡ true → ps ≡ qs → ((if b then party ∷ [] else []) ++ ps) ≡ qs
 no_head party true ps qs quiet e = cc
 no_head party false ps qs quiet e = e
 
-none_behind : (o : Outcome) (party a : ℕ) (rs : List Roles) → a < party → are_numbered party rs ≡ true → list_all is_quiet rs ≡ true → talkers_from party (roles_along 0 o party (msg.Tad a) rs) ≡ []
+pub none_behind : (o : Outcome) (party a : ℕ) (rs : List Roles) → a < party → are_numbered party rs ≡ true → list_all is_quiet rs ≡ true → talkers_from party (roles_along 0 o party (msg.Tad a) rs) ≡ []
 none_behind o party a [] below numbers quiet = refl
 none_behind o party a (r ∷ rs) below numbers quiet =
     let own = and_parts (is_own r.address party) (are_numbered (suc party) rs) numbers in
