@@ -3,6 +3,7 @@ pub mod RoleLaws
 pub mod RoleSteps
 pub mod TalkLaws
 pub mod UnitLaws
+pub mod RecordLaws
 pub mod ReachLaws
 pub mod EffectLaws
 pub mod HearLaws

@@ -101,7 +101,7 @@ sent_bytes-append first second = flat_map-append (λ e. if is_data e.frame then 
 abbrev pub bytes_of : List Echo → List ℕ
 bytes_of ds = map (λ d. byte_of d.sent) ds
 
-one_byte : (b : Bool) (byte : ℕ) (bytes : List ℕ) → b ≡ true → (if b then byte ∷ [] else []) ++ bytes ≡ byte ∷ bytes
+pub one_byte : (b : Bool) (byte : ℕ) (bytes : List ℕ) → b ≡ true → (if b then byte ∷ [] else []) ++ bytes ≡ byte ∷ bytes
 one_byte true byte bytes e = refl
 one_byte false byte bytes e = cc
 
