@@ -4,6 +4,7 @@ pub mod RoleSteps
 pub mod TalkLaws
 pub mod UnitLaws
 pub mod RecordLaws
+pub mod RoundLaws
 pub mod ReachLaws
 pub mod EffectLaws
 pub mod HearLaws

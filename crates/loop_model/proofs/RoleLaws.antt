@@ -123,14 +123,14 @@ pub ddl_no_talk : (number : Option ℕ) → is_number number ≡ true → list_a
 ddl_no_talk None e = refl
 ddl_no_talk (Some n) e = and_from _ _ (agree_below_at (λ b. gives_no_talk (returned 0 (ddl b))) (λ b. true) 32 n refl (ltb-true n 32 e)) refl
 
-data_no_talk : (k : Class) (byte : ℕ) → is_data_class k ≡ true → is_talk_address (message_at k byte) ≡ false
+pub data_no_talk : (k : Class) (byte : ℕ) → is_data_class k ≡ true → is_talk_address (message_at k byte) ≡ false
 data_no_talk class.Dab byte e = refl
 data_no_talk class.Dsr byte e = refl
 data_no_talk class.End byte e = refl
 data_no_talk class.Esr byte e = refl
 data_no_talk k byte e = cc
 
-echoes_no_talk : (ds : List Echo) → list_all is_host_echo ds ≡ true → list_all gives_no_talk (map (echoed 0) ds) ≡ true
+pub echoes_no_talk : (ds : List Echo) → list_all is_host_echo ds ≡ true → list_all gives_no_talk (map (echoed 0) ds) ≡ true
 echoes_no_talk [] e = refl
 echoes_no_talk (d ∷ ds) e =
     let parts = and_parts (is_host_echo d) (list_all is_host_echo ds) e in

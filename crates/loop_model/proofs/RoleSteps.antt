@@ -56,7 +56,7 @@ kept_along o party m (r ∷ rs) e =
     let passed = if_equal (is_reached 0 o party) (passed_on m r) m kept.1 in
     ap₂ (λ x xs. x ∷ xs) here (ap (λ (n : Message). roles_along 0 o (suc party) n rs) passed ∙ kept_along o (suc party) m rs e)
 
-kept_entry : (rs : List Roles) (e : Entry) → keeps_roles e ≡ true → roles_after_entry rs e ≡ rs
+pub kept_entry : (rs : List Roles) (e : Entry) → keeps_roles e ≡ true → roles_after_entry rs e ≡ rs
 kept_entry rs e keeps = if_equal (e.source == 0) _ rs (kept_along e.outcome 1 (message_of e.frame) rs (not-true _ keeps))
 
 -- a log without role messages keeps all roles
