@@ -12,6 +12,7 @@ pub mod CommandExamples
 pub mod Lists
 pub mod Sizes
 pub mod Runs
+pub mod Transfers
 pub mod Legal
 pub mod Volume
 pub mod Fit

@@ -1,5 +1,5 @@
 -- Laws of what logs do to a tape and of what they carry.
-use Rattle.std.proofs.Common.{◌≡◌, ◌↔◌, ℕ, ◌++◌, ◌+◌, ◌&&◌, ◌||◌, ◌==◌, ◌∙◌, Bool, true, false, not, nat_eq, List, [], ◌∷◌, length, drop, Option, Some, None, option_and_then, option_to_list, is_some, refl, sym, ap, subst, eq-eqb, append_assoc}
+use Rattle.std.proofs.Common.{map, ◌≡◌, ◌↔◌, ℕ, ◌++◌, ◌+◌, ◌&&◌, ◌||◌, ◌==◌, ◌∙◌, Bool, true, false, not, nat_eq, List, [], ◌∷◌, length, drop, Option, Some, None, option_and_then, option_to_list, is_some, refl, sym, ap, subst, eq-eqb, append_assoc}
 use Rattle.std.specs.Cmp.Lexicographic.{pointwise}
 use Rattle.std.specs.List.{list_all, list_any, starts_with}
 use Rattle.std.proofs.Math.Seq.{drop-append_seam, take-append_seam}
@@ -7,9 +7,11 @@ use Rattle.std.proofs.lemmas.Bool.{and_parts, and_from, not-true, or_left, or_ri
 use Rattle.std.proofs.lemmas.Bool.Decides.{when_false}
 use Rattle.il_frames.specs.declared.entry.Entry.{Entry}
 use Rattle.lif_model.specs.Tape.{Tape}
-use Rattle.loop_model.specs.Exchanges.{Exchange, entries_of, Piece, Whole, Cut, breaks_off}
+use Rattle.loop_model.specs.Loops.{Loop}
+use Rattle.loop_model.specs.Exchanges.{Exchange, entries_of, Piece, Whole, Cut, are_whole, breaks_off, IsWhole, IsBroken}
 use Rattle.loop_model.specs.Units.{RecordUnit, sent_bytes, is_transfer, told_status, unit_of, unit_after_seek, unit_at, units_of, sought, is_open, ends_within}
-use Rattle.loop_model.specs.Effect.{UnitsEffect, Effect, records_of, is_overwritten_by, carries}
+use Rattle.loop_model.specs.Effect.{UnitsEffect, Effect, is_good, is_out, is_in, transfer_of, ends_as, IsLogOf}
+use Rattle.lif_model.specs.Transfers.{Transfer, records_of, is_overwritten_by, carries, are_carried_out, are_carried_in}
 use Rattle.loop_model.proofs.ExchangeLaws.{Reading-append}
 
 -- ---- units of joined logs
@@ -18,42 +20,42 @@ no_unit : (d k : ℕ) (x : Exchange) (bytes : List ℕ) (o : Option (Option ℕ)
 no_unit d k x bytes None other = refl
 no_unit d k x bytes (Some status) other = rw other refl
 
-after_seek : (d k : ℕ) (ps qs : List Piece) → is_open d ps ≡ false → unit_after_seek d (ps ++ qs) k ≡ unit_after_seek d ps k
-after_seek d k [] qs shut = cc
-after_seek d k (Whole x ∷ []) [] shut = refl
-after_seek d k (Whole x ∷ []) (q ∷ qs) shut = no_unit d k x (sent_bytes (entries_of x)) (told_status d q) shut
-after_seek d k (Whole x ∷ p ∷ ps) qs shut = refl
-after_seek d k (Cut x n b ∷ ps) qs shut = refl
+after_seek : (l : Loop) (k : ℕ) (ps qs : List Piece) → is_open l ps ≡ false → unit_after_seek l (ps ++ qs) k ≡ unit_after_seek l ps k
+after_seek l k [] qs shut = cc
+after_seek l k (Whole x ∷ []) [] shut = refl
+after_seek l k (Whole x ∷ []) (q ∷ qs) shut = no_unit l.drive k x (sent_bytes (entries_of l.controller x)) (told_status l q) shut
+after_seek l k (Whole x ∷ p ∷ ps) qs shut = refl
+after_seek l k (Cut x n b ∷ ps) qs shut = refl
 
-same_unit : (d : ℕ) (ps qs : List Piece) (o : Option ℕ) → (is_some o && is_open d ps) ≡ false → option_and_then (unit_after_seek d (ps ++ qs)) o ≡ option_and_then (unit_after_seek d ps) o
-same_unit d ps qs None shut = refl
-same_unit d ps qs (Some k) shut = after_seek d k ps qs shut
+same_unit : (l : Loop) (ps qs : List Piece) (o : Option ℕ) → (is_some o && is_open l ps) ≡ false → option_and_then (unit_after_seek l (ps ++ qs)) o ≡ option_and_then (unit_after_seek l ps) o
+same_unit l ps qs None shut = refl
+same_unit l ps qs (Some k) shut = after_seek l k ps qs shut
 
 -- the units of joined exchanges are those of both parts, where the first does not end within a unit
-pub units_of-append : (d : ℕ) (ps qs : List Piece) → ends_within d ps ≡ false → units_of d (ps ++ qs) ≡ units_of d ps ++ units_of d qs
-units_of-append d [] qs e = refl
-units_of-append d (p ∷ ps) qs e =
-    let parts = or_parts (is_some (sought d p) && is_open d ps) (ends_within d ps) e in
-    let here : unit_at d (p ∷ (ps ++ qs)) ≡ unit_at d (p ∷ ps) = same_unit d ps qs (sought d p) parts.0 in
-    let later = units_of-append d ps qs parts.1 in
-    rw (here, later) (sym (append_assoc (option_to_list (unit_at d (p ∷ ps))) (units_of d ps) (units_of d qs)))
+pub units_of-append : (l : Loop) (ps qs : List Piece) → ends_within l ps ≡ false → units_of l (ps ++ qs) ≡ units_of l ps ++ units_of l qs
+units_of-append l [] qs e = refl
+units_of-append l (p ∷ ps) qs e =
+    let parts = or_parts (is_some (sought l p) && is_open l ps) (ends_within l ps) e in
+    let here : unit_at l (p ∷ (ps ++ qs)) ≡ unit_at l (p ∷ ps) = same_unit l ps qs (sought l p) parts.0 in
+    let later = units_of-append l ps qs parts.1 in
+    rw (here, later) (sym (append_assoc (option_to_list (unit_at l (p ∷ ps))) (units_of l ps) (units_of l qs)))
 
-shut_by_break : (d : ℕ) (ps : List Piece) → breaks_off ps ≡ true → is_open d ps ≡ false
-shut_by_break d [] e = cc
-shut_by_break d (Cut x n b ∷ ps) e = refl
-shut_by_break d (Whole x ∷ []) e = cc
-shut_by_break d (Whole x ∷ p ∷ ps) e = refl
+shut_by_break : (l : Loop) (ps : List Piece) → breaks_off ps ≡ true → is_open l ps ≡ false
+shut_by_break l [] e = cc
+shut_by_break l (Cut x n b ∷ ps) e = refl
+shut_by_break l (Whole x ∷ []) e = cc
+shut_by_break l (Whole x ∷ p ∷ ps) e = refl
 
 neither : (a b c : Bool) → b ≡ false → c ≡ false → ((a && b) || c) ≡ false
 neither true b c p q = rw (p, q) refl
 neither false b c p q = q
 
 -- a log that a broken exchange ends does not end within a unit
-pub ends_within-broken : (d : ℕ) (ps : List Piece) → breaks_off ps ≡ true → ends_within d ps ≡ false
-ends_within-broken d [] e = refl
-ends_within-broken d (Cut x n b ∷ []) e = refl
-ends_within-broken d (Cut x n b ∷ p ∷ ps) e = cc
-ends_within-broken d (Whole x ∷ ps) e = neither (is_some (sought d (Whole x))) (is_open d ps) (ends_within d ps) (shut_by_break d ps e) (ends_within-broken d ps e)
+pub ends_within-broken : (l : Loop) (ps : List Piece) → breaks_off ps ≡ true → ends_within l ps ≡ false
+ends_within-broken l [] e = refl
+ends_within-broken l (Cut x n b ∷ []) e = refl
+ends_within-broken l (Cut x n b ∷ p ∷ ps) e = cc
+ends_within-broken l (Whole x ∷ ps) e = neither (is_some (sought l (Whole x))) (is_open l ps) (ends_within l ps) (shut_by_break l ps e) (ends_within-broken l ps e)
 
 -- ---- effects of joined logs
 
@@ -66,12 +68,12 @@ UnitsEffect-append (u ∷ us) ws old new = (
 )
 
 -- the effect of an appended log is one effect after the other
-pub Effect-append : {d : ℕ} {old between new : Tape} {first second : List Entry} → (a : Effect d old first between) → ends_within d a.reading.pieces ≡ false → Effect d between second new → Effect d old (first ++ second) new
-Effect-append {d} {old} {between} {new} a outside b = record {
-  reading = Reading-append a.reading b.reading;
+pub Effect-append : {l : Loop} {old between new : Tape} {first second : List Entry} → (a : Effect l old first between) → ends_within l a.reading.pieces ≡ false → Effect l between second new → Effect l old (first ++ second) new
+Effect-append {l} {old} {between} {new} a outside b = record {
+  reading = Reading-append l a.reading b.reading;
   effect =
-      subst (λ (ws : List RecordUnit). UnitsEffect ws old new) (sym (units_of-append d a.reading.pieces b.reading.pieces outside))
-      ((UnitsEffect-append (units_of d a.reading.pieces) (units_of d b.reading.pieces) old new).1 (between, a.effect, b.effect));
+      subst (λ (ws : List RecordUnit). UnitsEffect ws old new) (sym (units_of-append l a.reading.pieces b.reading.pieces outside))
+      ((UnitsEffect-append (units_of l a.reading.pieces) (units_of l b.reading.pieces) old new).1 (between, a.effect, b.effect));
 }
 
 no_writes : (ws : List RecordUnit) (old new : Tape) → list_all (λ w. not w.writes) ws ≡ true → UnitsEffect ws old new → new ≡ old
@@ -81,32 +83,98 @@ no_writes (w ∷ ws) old new reads e =
     no_writes ws e.0 new parts.1 e.2 ∙ when_false _ _ (not-true w.writes parts.0) e.1
 
 -- a log without write units leaves the tape
-pub Effect-no_writes : {d : ℕ} {old new : Tape} {log : List Entry} → (e : Effect d old log new) → list_all (λ w. not w.writes) (units_of d e.reading.pieces) ≡ true → new ≡ old
-Effect-no_writes {d} {old} {new} e reads = no_writes (units_of d e.reading.pieces) old new reads e.effect
+pub Effect-no_writes : {l : Loop} {old new : Tape} {log : List Entry} → (e : Effect l old log new) → list_all (λ w. not w.writes) (units_of l e.reading.pieces) ≡ true → new ≡ old
+Effect-no_writes {l} {old} {new} e reads = no_writes (units_of l e.reading.pieces) old new reads e.effect
+
+-- ---- the log of a command
+
+shut_behind : (l : Loop) (ps qs : List Piece) → is_open l ps ≡ false → is_open l (ps ++ qs) ≡ false
+shut_behind l [] qs e = cc
+shut_behind l (Whole x ∷ []) [] e = e
+shut_behind l (Whole x ∷ []) (q ∷ qs) e = refl
+shut_behind l (Whole x ∷ p ∷ ps) qs e = refl
+shut_behind l (Cut x n b ∷ ps) qs e = refl
+
+sought_shut : (sought_one : Bool) (l : Loop) (ps qs : List Piece) → (sought_one && is_open l ps) ≡ false → (sought_one && is_open l (ps ++ qs)) ≡ false
+sought_shut true l ps qs e = shut_behind l ps qs e
+sought_shut false l ps qs e = refl
+
+both_false : (a b : Bool) → a ≡ false → b ≡ false → (a || b) ≡ false
+both_false true b p q = cc
+both_false false b p q = q
+
+-- joined exchanges end outside a unit where both parts do
+pub ends_within-append : (l : Loop) (ps qs : List Piece) → ends_within l ps ≡ false → ends_within l qs ≡ false → ends_within l (ps ++ qs) ≡ false
+ends_within-append l [] qs a b = b
+ends_within-append l (p ∷ ps) qs a b =
+    let parts = or_parts (is_some (sought l p) && is_open l ps) (ends_within l ps) a in
+    both_false (is_some (sought l p) && is_open l (ps ++ qs)) (ends_within l (ps ++ qs))
+    (sought_shut (is_some (sought l p)) l ps qs parts.0) (ends_within-append l ps qs parts.1 b)
+
+ends_as-append : (whole : Bool) (ps qs : List Piece) → are_whole ps ≡ true → ends_as whole qs ≡ true → ends_as whole (ps ++ qs) ≡ true
+ends_as-append whole [] qs a b = b
+ends_as-append true (Whole x ∷ ps) qs a b = ends_as-append true ps qs a b
+ends_as-append false (Whole x ∷ ps) qs a b = ends_as-append false ps qs a b
+ends_as-append whole (Cut x n c ∷ ps) qs a b = cc
+
+-- no entries are a log that leaves the tape
+pub IsLogOf-nothing : (l : Loop) (t : Tape) → IsLogOf l true t [] t
+IsLogOf-nothing l t = record { reading = record { pieces = []; legal = refl; entries = refl }; ends = refl; outside = refl; effect = refl }
+
+-- a whole log and one that follows it, whole or broken
+pub IsLogOf-append : {l : Loop} {whole : Bool} {old between new : Tape} {first second : List Entry} →
+    IsLogOf l true old first between → IsLogOf l whole between second new → IsLogOf l whole old (first ++ second) new
+IsLogOf-append {l} {whole} {old} {between} {new} a b = record {
+  reading = Reading-append l a.reading b.reading;
+  ends = ends_as-append whole a.reading.pieces b.reading.pieces a.ends b.ends;
+  outside = ends_within-append l a.reading.pieces b.reading.pieces a.outside b.outside;
+  effect =
+      subst (λ (ws : List RecordUnit). UnitsEffect ws old new) (sym (units_of-append l a.reading.pieces b.reading.pieces a.outside))
+      ((UnitsEffect-append (units_of l a.reading.pieces) (units_of l b.reading.pieces) old new).1 (between, a.effect, b.effect));
+}
+
+-- what it says
+pub IsLogOf-whole : {l : Loop} {old new : Tape} {log : List Entry} → IsLogOf l true old log new → IsWhole l log
+IsLogOf-whole a = record { reading = a.reading; whole = a.ends }
+
+pub IsLogOf-broken : {l : Loop} {old new : Tape} {log : List Entry} → IsLogOf l false old log new → IsBroken l log
+IsLogOf-broken a = record { reading = a.reading; broken = a.ends }
+
+pub IsLogOf-effect : {l : Loop} {whole : Bool} {old new : Tape} {log : List Entry} → IsLogOf l whole old log new → Effect l old log new
+IsLogOf-effect a = record { reading = a.reading; effect = a.effect }
 
 -- ---- transfers
 
--- no bytes need no unit
-pub carries-nothing : (test : RecordUnit → Bool) (ws : List RecordUnit) (n : ℕ) → carries test ws n [] ≡ true
-carries-nothing test [] n = refl
-carries-nothing test (w ∷ ws) n = or_right _ _ (carries-nothing test ws n)
+-- the status of each unit is 0
+abbrev pub all_good : List RecordUnit → Bool
+all_good ws = list_all (λ w. is_good w.status) ws
 
--- units before a transfer do not matter
-pub carries-later : (test : RecordUnit → Bool) (us ws : List RecordUnit) (n : ℕ) (bytes : List ℕ) → carries test ws n bytes ≡ true → carries test (us ++ ws) n bytes ≡ true
-carries-later test [] ws n bytes e = e
-carries-later test (u ∷ us) ws n bytes e = or_right _ _ (carries-later test us ws n bytes e)
+any_mapped : (test : Transfer → Bool) (ws : List RecordUnit) → list_any (λ w. test (transfer_of w)) ws ≡ list_any test (map transfer_of ws)
+any_mapped test [] = refl
+any_mapped test (w ∷ ws) = ap (λ (b : Bool). test (transfer_of w) || b) (any_mapped test ws)
 
-same_list : (bytes : List ℕ) → pointwise nat_eq bytes bytes ≡ true
-same_list [] = refl
-same_list (b ∷ bytes) = and_from (nat_eq b b) _ (eq-eqb b b refl) (same_list bytes)
+same_test : (a b : Bool) → b ≡ true → (a && b) ≡ a
+same_test true b e = e
+same_test false b e = refl
 
-same_start : (bytes rest : List ℕ) → starts_with nat_eq (bytes ++ rest) bytes ≡ true
-same_start bytes rest =
-    ap (pointwise nat_eq bytes) (take-append_seam bytes rest) ∙ same_list bytes
+-- a step of both definitions, part by part
+same_step : (t u : Bool) (f s : Bool) (a b : Bool) (c d : Bool) (x y : Bool) → t ≡ u → a ≡ b → c ≡ d → x ≡ y →
+    ((t && (f && (s && (not a && c)))) || x) ≡ ((u && (f && (s && (not b && d)))) || y)
+same_step t u f s a b c d x y p q r z = rw (p, q, r, z) refl
 
--- a unit that passes the test carries its bytes, and what follows carries the rest, if nothing writes over them
-pub carries-first : (test : RecordUnit → Bool) (w : RecordUnit) (ws : List RecordUnit) (rest : List ℕ) → test w ≡ true → list_any (is_overwritten_by w) ws ≡ false → carries test ws (w.first + records_of w.bytes) rest ≡ true → carries test (w ∷ ws) w.first (w.bytes ++ rest) ≡ true
-carries-first test w ws rest passes kept e =
-    let rest_is : carries test ws (w.first + records_of w.bytes) (drop (length w.bytes) (w.bytes ++ rest)) ≡ true = rw (drop-append_seam w.bytes rest) e in
-    or_left _ _ (and_from (test w) _ passes (and_from (w.first == w.first) _ (eq-eqb w.first w.first refl)
-    (and_from (starts_with nat_eq (w.bytes ++ rest) w.bytes) _ (same_start w.bytes rest) (and_from (not (list_any (is_overwritten_by w) ws)) _ (ap not kept) rest_is))))
+carries_by : (test : RecordUnit → Bool) (known : Transfer → Bool) → ((w : RecordUnit) → is_good w.status ≡ true → test w ≡ known (transfer_of w)) →
+    (ws : List RecordUnit) (n : ℕ) (bytes : List ℕ) → all_good ws ≡ true → carries transfer_of test ws n bytes ≡ carries (λ t. t) known (map transfer_of ws) n bytes
+carries_by test known same [] n bytes good = refl
+carries_by test known same (w ∷ ws) n bytes good =
+    let parts = and_parts (is_good w.status) (all_good ws) good in
+    same_step (test w) (known (transfer_of w)) (w.first == n) (starts_with nat_eq bytes w.bytes)
+    (list_any (λ y. is_overwritten_by (transfer_of w) (transfer_of y)) ws) (list_any (λ y. is_overwritten_by (transfer_of w) y) (map transfer_of ws)) _ _ _ _
+    (same w parts.0) (any_mapped (λ y. is_overwritten_by (transfer_of w) y) ws)
+    (carries_by test known same ws (n + records_of w.bytes) (drop (length w.bytes) bytes) parts.1) (carries_by test known same ws n bytes parts.1)
+
+-- where each status is 0, units carry what their transfers carry, out and in
+pub carries-out : (ws : List RecordUnit) (n : ℕ) (bytes : List ℕ) → all_good ws ≡ true → carries transfer_of is_out ws n bytes ≡ are_carried_out (map transfer_of ws) n bytes
+carries-out = carries_by is_out (λ t. t.writes) (λ w good. same_test w.writes (is_good w.status) good)
+
+pub carries-in : (ws : List RecordUnit) (n : ℕ) (bytes : List ℕ) → all_good ws ≡ true → carries transfer_of is_in ws n bytes ≡ are_carried_in (map transfer_of ws) n bytes
+carries-in = carries_by is_in (λ t. not t.writes) (λ w good. same_test (not w.writes) (is_good w.status) good)

@@ -9,14 +9,20 @@ use Rattle.il_frames.specs.declared.entry.Outcome.TheVariants as outcome
 use Rattle.il_frames.specs.Frames.{framed}
 use Rattle.il_frames.specs.Messages.{message_of}
 use Rattle.il_device.specs.Takes.{eto, ete}
+use Rattle.loop_model.specs.Loops.{Loop, host_loop}
 use Rattle.loop_model.specs.Entries.{entry, ifc, aau, unl, unt, lad, tad, ddl, ddt, rfc, nrd, aad, is_lost_nrd}
 use Rattle.loop_model.specs.Reach.{is_reached, distance, links_of, brings_to, held_at_end, links, passes, met}
 use Rattle.il_device.specs.declared.roles.Roles.{Roles}
 use Rattle.il_device.specs.Roles.{no_roles}
 use Rattle.loop_model.specs.Roles.{all_without_roles, roles_by, passed_on, roles_after, talkers, has_one_talker, OneTalker}
-use Rattle.loop_model.specs.Exchanges.{Echo, Sda, Sst, Sai, NotTaken, ToItsEnd, Stopped, Exchange, Command, Address, Send, Receive, Identify, FrameLost, HostAltered, TalkerAltered, Piece, Whole, Cut, is_exchange, is_piece, entries_of, start_frame, returned, are_whole, breaks_off, piece_entries, Reading, IsWhole, IsBroken}
+use Rattle.loop_model.specs.Exchanges.{Echo, Sda, Sst, Sai, NotTaken, ToItsEnd, Stopped, Exchange, Command, Address, Send, Receive, Identify, FrameLost, HostAltered, TalkerAltered, Piece, Whole, Cut, cut_at, is_exchange, is_piece, entries_of, start_frame, returned, are_whole, breaks_off, piece_entries, Reading, IsWhole, IsBroken}
+use Rattle.loop_model.specs.Hearing.{heard_by}
 use Rattle.loop_model.proofs.ExchangeLaws.{not_both}
 use Rattle.loop_model.proofs.RoleLaws.{talkers-whole}
+
+-- the host, a drive and a printer
+abbrev pub ring : Loop
+ring = host_loop 2 1
 
 -- ---- the frames by name
 
@@ -47,15 +53,15 @@ dab byte = framed class.Dab byte
 -- the frames as the host prints them, up to the start message: `0 SST > 1`
 abbrev pub asked : List Entry
 asked =
-    returned ifc ∷ returned rfc ∷ returned aau ∷ returned rfc ∷ entry 0 (aad 1) (outcome.Back (aad 3))
-    ∷ returned unl ∷ returned rfc ∷ returned (tad 1) ∷ returned rfc ∷ entry 0 (start_frame Sst) (outcome.Taken 1) ∷ []
+    returned 0 ifc ∷ returned 0 rfc ∷ returned 0 aau ∷ returned 0 rfc ∷ entry 0 (aad 1) (outcome.Back (aad 3))
+    ∷ returned 0 unl ∷ returned 0 rfc ∷ returned 0 (tad 1) ∷ returned 0 rfc ∷ entry 0 (start_frame Sst) (outcome.Taken 1) ∷ []
 
 -- `0 NRD = NRD`, `1 DAB 00 = DAB 00`, `1 ETO > 0`, and the end of the exchange
 abbrev pub answered : List Entry
-answered = returned nrd ∷ entry 1 (dab 0) (outcome.Back (dab 0)) ∷ entry 1 eto (outcome.Taken 0) ∷ []
+answered = returned 0 nrd ∷ entry 1 (dab 0) (outcome.Back (dab 0)) ∷ entry 1 eto (outcome.Taken 0) ∷ []
 
 abbrev pub status_log : List Entry
-status_log = asked ++ answered ++ returned unt ∷ returned rfc ∷ []
+status_log = asked ++ answered ++ returned 0 unt ∷ returned 0 rfc ∷ []
 
 fifteen : length status_log ≡ 15
 fifteen = refl
@@ -68,7 +74,7 @@ addressing = Whole (Command ifc) ∷ Whole (Command aau) ∷ Whole (Address 2) �
 abbrev pub asking : Exchange
 asking = Receive 1 None Sst (Stopped 1 [] (record { sent = dab 0; back = dab 0 }))
 
-status_is_whole : IsWhole status_log
+status_is_whole : IsWhole ring status_log
 status_is_whole = record { reading = record { pieces = addressing ++ Whole asking ∷ []; legal = refl; entries = refl }; whole = refl }
 
 -- after it the devices have their addresses, and none talks
@@ -89,7 +95,7 @@ status_one_talker = refl
 asked_links : links 2 asked ≡ 28
 asked_links = refl
 
-held_links_34 : links 2 (asked ++ returned nrd ∷ entry 1 (dab 0) (outcome.Back (dab 0)) ∷ []) ≡ 34
+held_links_34 : links 2 (asked ++ returned 0 nrd ∷ entry 1 (dab 0) (outcome.Back (dab 0)) ∷ []) ≡ 34
 held_links_34 = refl
 
 status_links : links 2 status_log ≡ 42
@@ -119,7 +125,7 @@ stop_lost_passes = refl
 stop_lost_drive : passes 2 1 stop_lost ≡ 10
 stop_lost_drive = refl
 
-stop_lost_is_broken : IsBroken stop_lost
+stop_lost_is_broken : IsBroken ring stop_lost
 stop_lost_is_broken = record { reading = record { pieces = addressing ++ Cut asking 5 (FrameLost 1) ∷ []; legal = refl; entries = refl }; broken = refl }
 
 -- ---- planned faults
@@ -130,54 +136,54 @@ met_30 = refl
 
 -- a loss at crossing 6 takes RFC on its link to the host
 abbrev pub sixth_lost : List Entry
-sixth_lost = returned ifc ∷ entry 0 rfc (outcome.Lost 0) ∷ []
+sixth_lost = returned 0 ifc ∷ entry 0 rfc (outcome.Lost 0) ∷ []
 
 sixth_lost_links : links 2 sixth_lost ≡ 6
 sixth_lost_links = refl
 
-sixth_lost_is_broken : IsBroken sixth_lost
+sixth_lost_is_broken : IsBroken ring sixth_lost
 sixth_lost_is_broken = record { reading = record { pieces = Cut (Command ifc) 1 (FrameLost 0) ∷ []; legal = refl; entries = refl }; broken = refl }
 
 -- an alteration at crossing 30 lets the byte come back as 01, and the drive says ETE
 abbrev pub byte_altered : List Entry
 byte_altered =
-    asked ++ returned nrd ∷ entry 1 (dab 0) (outcome.Back (dab 1)) ∷ entry 1 ete (outcome.Taken 0) ∷ []
+    asked ++ returned 0 nrd ∷ entry 1 (dab 0) (outcome.Back (dab 1)) ∷ entry 1 ete (outcome.Taken 0) ∷ []
 
-byte_altered_is_broken : IsBroken byte_altered
+byte_altered_is_broken : IsBroken ring byte_altered
 byte_altered_is_broken = record { reading = record { pieces = addressing ++ Cut asking 6 (TalkerAltered (dab 1) (outcome.Taken 0)) ∷ []; legal = refl; entries = refl }; broken = refl }
 
 -- a second one at crossing 34 loses the byte before it comes back to the drive
 abbrev pub byte_lost : List Entry
-byte_lost = asked ++ returned nrd ∷ entry 1 (dab 0) (outcome.Lost 1) ∷ []
+byte_lost = asked ++ returned 0 nrd ∷ entry 1 (dab 0) (outcome.Lost 1) ∷ []
 
 byte_lost_links : links 2 byte_lost ≡ 34
 byte_lost_links = refl
 
-byte_lost_is_broken : IsBroken byte_lost
+byte_lost_is_broken : IsBroken ring byte_lost
 byte_lost_is_broken = record { reading = record { pieces = addressing ++ Cut asking 6 (FrameLost 1) ∷ []; legal = refl; entries = refl }; broken = refl }
 
 -- a broken log is not whole
-byte_lost_is_not_whole : IsWhole byte_lost → ⊥
-byte_lost_is_not_whole whole = not_both byte_lost whole byte_lost_is_broken
+byte_lost_is_not_whole : IsWhole ring byte_lost → ⊥
+byte_lost_is_not_whole whole = not_both ring byte_lost whole byte_lost_is_broken
 
-sixth_lost_is_not_whole : IsWhole sixth_lost → ⊥
-sixth_lost_is_not_whole whole = not_both sixth_lost whole sixth_lost_is_broken
+sixth_lost_is_not_whole : IsWhole ring sixth_lost → ⊥
+sixth_lost_is_not_whole whole = not_both ring sixth_lost whole sixth_lost_is_broken
 
-byte_altered_is_not_whole : IsWhole byte_altered → ⊥
-byte_altered_is_not_whole whole = not_both byte_altered whole byte_altered_is_broken
+byte_altered_is_not_whole : IsWhole ring byte_altered → ⊥
+byte_altered_is_not_whole whole = not_both ring byte_altered whole byte_altered_is_broken
 
 -- without UNT the drive would go on talking: such a log is not whole
-no_untalk_is_not_whole : IsWhole (asked ++ answered) → ⊥
-no_untalk_is_not_whole whole = let silent = talkers-whole (all_without_roles 2) (asked ++ answered) refl whole in cc
+no_untalk_is_not_whole : IsWhole ring (asked ++ answered) → ⊥
+no_untalk_is_not_whole whole = let silent = talkers-whole 2 1 (all_without_roles 2) (asked ++ answered) refl whole in cc
 
 -- ---- reach
 
 -- a loss before device 2 reached device 1 alone; one on the last link reached all
-lost_before_2 : (is_reached (outcome.Lost 2) 1 ≡ true) × (is_reached (outcome.Lost 2) 2 ≡ false) × (is_reached (outcome.Lost 0) 2 ≡ true)
+lost_before_2 : (is_reached 0 (outcome.Lost 2) 1 ≡ true) × (is_reached 0 (outcome.Lost 2) 2 ≡ false) × (is_reached 0 (outcome.Lost 0) 2 ≡ true)
 lost_before_2 = (refl, refl, refl)
 
 -- what device 1 took has not reached device 2
-taken_by_1 : (is_reached (outcome.Taken 1) 1 ≡ true) × (is_reached (outcome.Taken 1) 2 ≡ false)
+taken_by_1 : (is_reached 0 (outcome.Taken 1) 1 ≡ true) × (is_reached 0 (outcome.Taken 1) 2 ≡ false)
 taken_by_1 = (refl, refl)
 
 -- of two devices, the first is one link behind the host, two before it, and three links from itself
@@ -266,58 +272,79 @@ abbrev pub echo : ℕ → Echo
 echo byte = record { sent = dab byte; back = dab byte }
 
 -- two bytes for the printer
-to_printer : entries_of (Send 2 None (echo 0x48 ∷ echo 0x49 ∷ [])) ≡
-    returned unl ∷ returned rfc ∷ returned (lad 2) ∷ returned rfc
+to_printer : entries_of 0 (Send 2 None (echo 0x48 ∷ echo 0x49 ∷ [])) ≡
+    returned 0 unl ∷ returned 0 rfc ∷ returned 0 (lad 2) ∷ returned 0 rfc
     ∷ entry 0 (dab 0x48) (outcome.Back (dab 0x48)) ∷ entry 0 (dab 0x49) (outcome.Back (dab 0x49)) ∷ []
 to_printer = refl
 
 -- nobody takes SDA
-nobody : entries_of (Receive 7 (Some 2) Sda NotTaken) ≡
-    returned unl ∷ returned rfc ∷ returned (tad 7) ∷ returned rfc ∷ returned (ddt 2) ∷ returned rfc
-    ∷ returned (start_frame Sda) ∷ returned unt ∷ returned rfc ∷ []
+nobody : entries_of 0 (Receive 7 (Some 2) Sda NotTaken) ≡
+    returned 0 unl ∷ returned 0 rfc ∷ returned 0 (tad 7) ∷ returned 0 rfc ∷ returned 0 (ddt 2) ∷ returned 0 rfc
+    ∷ returned 0 (start_frame Sda) ∷ returned 0 unt ∷ returned 0 rfc ∷ []
 nobody = refl
 
 -- a transmission of one byte to its end has no NRD
-one_byte : entries_of (Receive 2 None Sst (ToItsEnd 2 (echo 0 ∷ []))) ≡
-    returned unl ∷ returned rfc ∷ returned (tad 2) ∷ returned rfc
+one_byte : entries_of 0 (Receive 2 None Sst (ToItsEnd 2 (echo 0 ∷ []))) ≡
+    returned 0 unl ∷ returned 0 rfc ∷ returned 0 (tad 2) ∷ returned 0 rfc
     ∷ entry 0 (start_frame Sst) (outcome.Taken 2) ∷ entry 2 (dab 0) (outcome.Back (dab 0)) ∷ entry 2 eto (outcome.Taken 0)
-    ∷ returned unt ∷ returned rfc ∷ []
+    ∷ returned 0 unt ∷ returned 0 rfc ∷ []
 one_byte = refl
 
 -- a poll in which nobody answers
-poll : entries_of (Identify (framed class.Idy 0)) ≡ returned (framed class.Idy 0) ∷ []
+poll : entries_of 0 (Identify (framed class.Idy 0)) ≡ returned 0 (framed class.Idy 0) ∷ []
 poll = refl
 
--- and one in which a device asks for service; there are at most thirty devices
-edges : (is_exchange (Identify (framed class.Isr 1)) ≡ true) × (is_exchange (Address 30) ≡ true) × (is_exchange (Address 31) ≡ false)
-edges = (refl, refl, refl)
+-- and one in which a device asks for service
+poll_asks : is_exchange ring (Identify (framed class.Isr 1)) ≡ true
+poll_asks = refl
+
+-- AAD comes back behind as many numbers as there are devices: on two devices AAD 01 does not come back
+-- as AAD 04, nor as AAD 02
+counts_devices : (is_exchange ring (Address 2) ≡ true) × (is_exchange ring (Address 3) ≡ false) × (is_exchange ring (Address 1) ≡ false)
+counts_devices = (refl, refl, refl)
+
+address_of_three : entries_of 0 (Address 3) ≡ entry 0 (aad 1) (outcome.Back (aad 4)) ∷ []
+address_of_three = refl
+
+-- a controller that is device 2 has its own number in place of the host's
+abbrev pub guest_ring : Loop
+guest_ring = record ring { controller = 2 }
+
+by_guest : entries_of 2 asking ≡
+    returned 2 unl ∷ returned 2 rfc ∷ returned 2 (tad 1) ∷ returned 2 rfc ∷ entry 2 (start_frame Sst) (outcome.Taken 1)
+    ∷ returned 2 nrd ∷ entry 1 (dab 0) (outcome.Back (dab 0)) ∷ entry 1 eto (outcome.Taken 2) ∷ returned 2 unt ∷ returned 2 rfc ∷ []
+by_guest = refl
+
+-- of its frames some reach no other device, where the host took them or did not get them
+guest_reach : (is_reached 2 (outcome.Taken 0) 2 ≡ true) × (is_reached 2 (outcome.Taken 0) 1 ≡ false) × (is_reached 2 (outcome.Lost 0) 1 ≡ false) × (is_reached 2 (outcome.Lost 1) 1 ≡ false) × (is_reached 2 (outcome.Taken 1) 1 ≡ true) × (is_reached 2 (outcome.Back unt) 1 ≡ true)
+guest_reach = (refl, refl, refl, refl, refl, refl)
 
 -- a data frame may come back with the service bit, and with no other change
-service : is_exchange (Send 1 None (record { sent = dab 5; back = framed class.Dsr 5 } ∷ [])) ≡ true
+service : is_exchange ring (Send 1 None (record { sent = dab 5; back = framed class.Dsr 5 } ∷ [])) ≡ true
 service = refl
 
-another_byte : is_exchange (Send 1 None (record { sent = dab 5; back = dab 6 } ∷ [])) ≡ false
+another_byte : is_exchange ring (Send 1 None (record { sent = dab 5; back = dab 6 } ∷ [])) ≡ false
 another_byte = refl
 
 -- a talk address belongs to a receive; a number has its range; a host sends DAB; a transmission has data
-not_exchanges : (is_exchange (Command (tad 1)) ≡ false) × (is_exchange (Send 31 None []) ≡ false) × (is_exchange (Receive 1 (Some 32) Sst NotTaken) ≡ false) × (is_exchange (Send 1 None (record { sent = framed class.End 5; back = framed class.End 5 } ∷ [])) ≡ false) × (is_exchange (Receive 1 None Sst (ToItsEnd 1 [])) ≡ false) × (is_exchange (Identify (dab 0)) ≡ false)
+not_exchanges : (is_exchange ring (Command (tad 1)) ≡ false) × (is_exchange ring (Send 31 None []) ≡ false) × (is_exchange ring (Receive 1 (Some 32) Sst NotTaken) ≡ false) × (is_exchange ring (Send 1 None (record { sent = framed class.End 5; back = framed class.End 5 } ∷ [])) ≡ false) × (is_exchange ring (Receive 1 None Sst (ToItsEnd 1 [])) ≡ false) × (is_exchange ring (Identify (dab 0)) ≡ false)
 not_exchanges = (refl, refl, refl, refl, refl, refl)
 
 -- the very first frame may be lost
-first_lost : IsBroken (entry 0 ifc (outcome.Lost 1) ∷ [])
+first_lost : IsBroken ring (entry 0 ifc (outcome.Lost 1) ∷ [])
 first_lost = record { reading = record { pieces = Cut (Command ifc) 0 (FrameLost 1) ∷ []; legal = refl; entries = refl }; broken = refl }
 
 -- a byte of the host came back as another
-host_altered : IsBroken (returned unl ∷ returned rfc ∷ returned (lad 2) ∷ returned rfc ∷ entry 0 (dab 5) (outcome.Back (dab 4)) ∷ [])
+host_altered : IsBroken ring (returned 0 unl ∷ returned 0 rfc ∷ returned 0 (lad 2) ∷ returned 0 rfc ∷ entry 0 (dab 5) (outcome.Back (dab 4)) ∷ [])
 host_altered = record { reading = record { pieces = Cut (Send 2 None (echo 5 ∷ [])) 4 (HostAltered (dab 4)) ∷ []; legal = refl; entries = refl }; broken = refl }
 
 -- the ETE after an altered byte may be lost too
-ete_lost : is_piece (Cut asking 6 (TalkerAltered (dab 1) (outcome.Lost 2))) ≡ true
+ete_lost : is_piece ring (Cut asking 6 (TalkerAltered (dab 1) (outcome.Lost 2))) ≡ true
 ete_lost = refl
 
 -- no break stands behind the last entry; a command that came back altered, a byte that came back the
 -- same, ETE that comes back or that a device takes, and ETE after a byte of the host are none
-no_breaks : (is_piece (Cut (Command ifc) 2 (FrameLost 1)) ≡ false) × (is_piece (Cut (Command ifc) 0 (HostAltered aau)) ≡ false) × (is_piece (Cut asking 6 (TalkerAltered (framed class.Dsr 0) (outcome.Taken 0))) ≡ false) × (is_piece (Cut asking 6 (TalkerAltered (dab 1) (outcome.Back ete))) ≡ false) × (is_piece (Cut asking 6 (TalkerAltered (dab 1) (outcome.Taken 2))) ≡ false) × (is_piece (Cut (Send 2 None (echo 5 ∷ [])) 4 (TalkerAltered (dab 4) (outcome.Taken 0))) ≡ false)
+no_breaks : (is_piece ring (Cut (Command ifc) 2 (FrameLost 1)) ≡ false) × (is_piece ring (Cut (Command ifc) 0 (HostAltered aau)) ≡ false) × (is_piece ring (Cut asking 6 (TalkerAltered (framed class.Dsr 0) (outcome.Taken 0))) ≡ false) × (is_piece ring (Cut asking 6 (TalkerAltered (dab 1) (outcome.Back ete))) ≡ false) × (is_piece ring (Cut asking 6 (TalkerAltered (dab 1) (outcome.Taken 2))) ≡ false) × (is_piece ring (Cut (Send 2 None (echo 5 ∷ [])) 4 (TalkerAltered (dab 4) (outcome.Taken 0))) ≡ false)
 no_breaks = (refl, refl, refl, refl, refl, refl)
 
 -- nothing follows a broken exchange in its log
@@ -327,7 +354,7 @@ goes_on = refl
 -- ---- longer logs
 
 abbrev pub log_of : List Piece → List Entry
-log_of pieces = flat_map piece_entries pieces
+log_of pieces = flat_map (piece_entries 0) pieces
 
 -- asks a device for its accessory ID
 abbrev pub accessory : ℕ → ℕ → Exchange
@@ -344,7 +371,7 @@ session =
     ∷ Whole (Command unl) ∷ Whole (Identify (framed class.Idy 0)) ∷ Whole (Command (framed class.Cmd 0x15))
     ∷ Whole (Send 2 None (echo 0x48 ∷ echo 0x49 ∷ [])) ∷ []
 
-session_is_whole : IsWhole (log_of session)
+session_is_whole : IsWhole ring (log_of session)
 session_is_whole = record { reading = record { pieces = session; legal = refl; entries = refl }; whole = refl }
 
 -- the drive talks, and then the printer, and at last the host
@@ -360,7 +387,7 @@ session_roles = refl
 abbrev pub two_commands : List Entry
 two_commands = byte_altered ++ status_log
 
-two_commands_reading : Reading two_commands
+two_commands_reading : Reading ring two_commands
 two_commands_reading = record { pieces = addressing ++ Cut asking 6 (TalkerAltered (dab 1) (outcome.Taken 0)) ∷ addressing ++ Whole asking ∷ []; legal = refl; entries = refl }
 
 two_commands_one_talker : OneTalker (all_without_roles 2) two_commands
@@ -375,5 +402,35 @@ two_commands_links : links 2 two_commands ≡ links 2 byte_altered + links 2 sta
 two_commands_links = refl
 
 -- ETO of the wrong party in the log of the status
-wrong_eto : has_one_talker (all_without_roles 2) (asked ++ returned nrd ∷ entry 1 (dab 0) (outcome.Back (dab 0)) ∷ entry 2 eto (outcome.Taken 0) ∷ returned unt ∷ returned rfc ∷ []) ≡ false
+wrong_eto : has_one_talker (all_without_roles 2) (asked ++ returned 0 nrd ∷ entry 1 (dab 0) (outcome.Back (dab 0)) ∷ entry 2 eto (outcome.Taken 0) ∷ returned 0 unt ∷ returned 0 rfc ∷ []) ≡ false
 wrong_eto = refl
+
+-- ---- what the printer hears
+
+abbrev pub ready_roles : List Roles
+ready_roles = addressed 1 ∷ addressed 2 ∷ []
+
+-- two bytes by a send to it
+heard_whole : heard_by 2 2 ready_roles (entries_of 0 (Send 2 None (echo 0x48 ∷ echo 0x49 ∷ []))) ≡ 0x48 ∷ 0x49 ∷ []
+heard_whole = refl
+
+-- the drive hears nothing of it, and the printer nothing of a send to the drive
+unheard : (heard_by 2 1 ready_roles (entries_of 0 (Send 2 None (echo 0x48 ∷ []))) ≡ []) × (heard_by 2 2 ready_roles (entries_of 0 (Send 1 None (echo 0x48 ∷ []))) ≡ [])
+unheard = (refl, refl)
+
+-- a byte that was lost behind it, or altered before it, is none of a whole entry
+heard_lost : heard_by 2 2 ready_roles (cut_at (entries_of 0 (Send 2 None (echo 0x48 ∷ echo 0x49 ∷ []))) 5 (FrameLost 0)) ≡ 0x48 ∷ []
+heard_lost = refl
+
+heard_altered : heard_by 2 2 ready_roles (cut_at (entries_of 0 (Send 2 None (echo 0x48 ∷ echo 0x49 ∷ []))) 5 (HostAltered (dab 0x4B))) ≡ 0x48 ∷ []
+heard_altered = refl
+
+-- while it listens it hears what the drive sends too, but a device does not hear its own bytes
+abbrev pub both_ready : List Roles
+both_ready = record { address = Some 1; talks = true; listens = false } ∷ record { address = Some 2; talks = false; listens = true } ∷ []
+
+heard_drive : heard_by 2 2 both_ready (entry 1 (dab 7) (outcome.Back (dab 7)) ∷ []) ≡ 7 ∷ []
+heard_drive = refl
+
+own_unheard : heard_by 2 2 both_ready (entry 2 (dab 7) (outcome.Back (dab 7)) ∷ []) ≡ []
+own_unheard = refl

@@ -1,8 +1,13 @@
 pub mod ExchangeLaws
 pub mod RoleLaws
+pub mod RoleSteps
+pub mod TalkLaws
+pub mod UnitLaws
+pub mod RecordLaws
+pub mod RoundLaws
 pub mod ReachLaws
 pub mod EffectLaws
+pub mod HearLaws
 pub mod ReadingLaws
-pub mod RoleSteps
 mod Examples
 mod TransferExamples

@@ -1,5 +1,5 @@
 -- Laws of the crossings that a log stands for and of the frames that it brings to a party.
-use Rattle.std.proofs.Common.{◌≡◌, ℕ, zero, suc, ◌++◌, ◌+◌, ◌&&◌, ◌||◌, ◌⊎◌, inl, inr, ◌==◌, ◌∙◌, Bool, true, false, not, cond, nat_lt, nat_le, filter, ◌≤◌, ◌↔◌, if◌then◌else◌, List, [], ◌∷◌, map, flat_map, Option, Some, None, refl, sym, ap, arith, subst, append_assoc, append-nil}
+use Rattle.std.proofs.Common.{sum_by, count_by, length, ◌≡◌, ℕ, zero, suc, ◌++◌, ◌+◌, ◌&&◌, ◌||◌, ◌⊎◌, inl, inr, ◌==◌, ◌∙◌, Bool, true, false, not, cond, nat_lt, nat_le, filter, ◌≤◌, ◌↔◌, if◌then◌else◌, List, [], ◌∷◌, map, flat_map, Option, Some, None, refl, sym, ap, arith, subst, append_assoc, append-nil}
 use Rattle.std.specs.List.{list_all}
 use Rattle.std.proofs.lemmas.Bool.{and_parts, and_from, and_left, and_right, not-true, or_right, or_cases, or_parts}
 use Rattle.std.proofs.lemmas.Bool.Decides.{nat_tests}
@@ -12,8 +12,9 @@ use Rattle.il_frames.specs.declared.entry.Outcome.{Outcome}
 use Rattle.il_frames.specs.declared.entry.Outcome.TheVariants as outcome
 use Rattle.il_frames.specs.Frames.{framed, class_of, same_class}
 use Rattle.il_device.specs.Takes.{ete}
+use Rattle.loop_model.specs.Loops.{host_loop}
 use Rattle.loop_model.specs.Entries.{entry, unl, unt, lad, tad, ddl, ddt, nrd, is_frame, is_lost, is_lost_nrd}
-use Rattle.loop_model.specs.Reach.{links_of, brings_to, met, taken_by, sourcing_after, held_at_end, links, passes}
+use Rattle.loop_model.specs.Reach.{links_of, brings_to, met, taken_by, sourcing_after, held_at_end, held_links, held_passes, links_so_far, passes_so_far, links, passes, TellsHeld}
 use Rattle.loop_model.specs.Exchanges.{Echo, Exchange, Command, Address, Send, Receive, Identify, Start, Sda, Sst, Sdi, Sai, Answer, NotTaken, ToItsEnd, Stopped, start_frame, answer_entries, commanded, echoed, numbered, entries_of, is_host_echo, is_echo, is_number, is_address, is_exchange, Break, FrameLost, HostAltered, TalkerAltered, break_entries, cut_at, Piece, Whole, Cut, piece_entries, is_piece, Reading, IsWhole}
 use Rattle.loop_model.proofs.ExchangeLaws.{stands, stands_as, exchange_stands, whole_stands}
 
@@ -30,10 +31,6 @@ pub held_at_end-append : (before : Option ℕ) (first : List Entry) (e : Entry) 
 held_at_end-append before [] e rest = refl
 held_at_end-append before (x ∷ []) e rest = refl
 held_at_end-append before (x ∷ y ∷ first) e rest = held_at_end-append (sourcing_after before x) (y ∷ first) e rest
-
--- a log tells it by itself: no device need be known that sourced data before
-abbrev pub TellsHeld : List Entry → Type 0
-TellsHeld log = (before : Option ℕ) → held_at_end before log ≡ held_at_end None log
 
 not_lost_nrd : (e : Entry) → is_lost e.outcome ≡ false → is_lost_nrd e ≡ false
 not_lost_nrd e kept = and_right (e.source == 0) _ (and_right (is_frame e.frame nrd) _ kept)
@@ -52,10 +49,10 @@ none_held before (e ∷ []) s =
 none_held before (e ∷ next ∷ log) s = none_held (sourcing_after before e) (next ∷ log) ((and_parts (stands e) _ s).1)
 
 -- after a whole log no frame is held
-pub held_at_end-whole : (log : List Entry) → IsWhole log → held_at_end None log ≡ None
-held_at_end-whole log w =
+pub held_at_end-whole : (size drive : ℕ) (log : List Entry) → IsWhole (host_loop size drive) log → held_at_end None log ≡ None
+held_at_end-whole size drive log w =
     ap (held_at_end None) w.reading.entries
-    ∙ none_held None (flat_map piece_entries w.reading.pieces) (whole_stands w.reading.pieces w.reading.legal w.whole)
+    ∙ none_held None (flat_map (piece_entries 0) w.reading.pieces) (whole_stands (host_loop size drive) w.reading.pieces w.reading.legal w.whole)
 
 -- a device took a frame of the host
 abbrev pub is_taken : Outcome → Bool
@@ -126,11 +123,11 @@ starts-append (e ∷ front) rest others starts =
     let parts = and_parts (is_no_nrd e) (list_all is_no_nrd front) others in
     and_from (is_no_nrd e) _ parts.0 (or_right ((e.source == 0) && is_taken e.outcome) _ (starts-append front rest parts.1 starts))
 
-command_no_nrd : (k : Class) (byte : ℕ) → same_class k class.Cmd ≡ true → list_all is_no_nrd (commanded (framed k byte)) ≡ true
+command_no_nrd : (k : Class) (byte : ℕ) → same_class k class.Cmd ≡ true → list_all is_no_nrd (commanded 0 (framed k byte)) ≡ true
 command_no_nrd class.Cmd byte e = refl
 command_no_nrd k byte e = cc
 
-numbered_no_nrd : (frame : ℕ → Frame) (number : Option ℕ) → ((n : ℕ) → same_class (class_of (frame n)) class.Cmd ≡ true) → list_all is_no_nrd (numbered frame number) ≡ true
+numbered_no_nrd : (frame : ℕ → Frame) (number : Option ℕ) → ((n : ℕ) → same_class (class_of (frame n)) class.Cmd ≡ true) → list_all is_no_nrd (numbered 0 frame number) ≡ true
 numbered_no_nrd frame None e = refl
 numbered_no_nrd frame (Some n) e = command_no_nrd (frame n).class (frame n).byte (e n)
 
@@ -151,25 +148,25 @@ start_no_nrd Sst = refl
 start_no_nrd Sdi = refl
 start_no_nrd Sai = refl
 
-answer_starts : (start : Start) (answer : Answer) → starts_before_nrd (answer_entries (start_frame start) answer ++ commanded unt) ≡ true
+answer_starts : (start : Start) (answer : Answer) → starts_before_nrd (answer_entries 0 (start_frame start) answer ++ commanded 0 unt) ≡ true
 answer_starts start NotTaken = rw (start_no_nrd start) refl
 answer_starts start (ToItsEnd p ds) = rw (start_no_nrd start) refl
 answer_starts start (Stopped p ds last) = rw (start_no_nrd start) refl
 
-exchange_starts : (x : Exchange) → is_exchange x ≡ true → starts_before_nrd (entries_of x) ≡ true
-exchange_starts (Command f) e = starts-append (commanded f) [] (command_no_nrd f.class f.byte ((and_parts (same_class (class_of f) class.Cmd) _ e).0)) refl
-exchange_starts (Address devices) e = refl
-exchange_starts (Send a number ds) e =
+exchange_starts : (size drive : ℕ) (x : Exchange) → is_exchange (host_loop size drive) x ≡ true → starts_before_nrd (entries_of 0 x) ≡ true
+exchange_starts size drive (Command f) e = starts-append (commanded 0 f) [] (command_no_nrd f.class f.byte ((and_parts (same_class (class_of f) class.Cmd) _ e).0)) refl
+exchange_starts size drive (Address devices) e = refl
+exchange_starts size drive (Send a number ds) e =
     let numbers = and_parts (is_number number) (list_all is_host_echo ds) ((and_parts (is_address a) _ e).1) in
-    starts-append (commanded unl ++ commanded (lad a) ++ numbered ddl number) (map (echoed 0) ds)
+    starts-append (commanded 0 unl ++ commanded 0 (lad a) ++ numbered 0 ddl number) (map (echoed 0) ds)
     (numbered_no_nrd ddl number (λ n. refl))
     (subst (λ (es : List Entry). starts_before_nrd es ≡ true) (append-nil (map (echoed 0) ds)) (starts-append (map (echoed 0) ds) [] (echoes_no_nrd ds numbers.1) refl))
-exchange_starts (Receive a number start answer) e =
+exchange_starts size drive (Receive a number start answer) e =
     subst (λ (es : List Entry). starts_before_nrd es ≡ true)
-    (sym (append_assoc (commanded unl ++ commanded (tad a) ++ numbered ddt number) (answer_entries (start_frame start) answer) (commanded unt)))
-    (starts-append (commanded unl ++ commanded (tad a) ++ numbered ddt number) (answer_entries (start_frame start) answer ++ commanded unt)
+    (sym (append_assoc (commanded 0 unl ++ commanded 0 (tad a) ++ numbered 0 ddt number) (answer_entries 0 (start_frame start) answer) (commanded 0 unt)))
+    (starts-append (commanded 0 unl ++ commanded 0 (tad a) ++ numbered 0 ddt number) (answer_entries 0 (start_frame start) answer ++ commanded 0 unt)
     (numbered_no_nrd ddt number (λ n. refl)) (answer_starts start answer))
-exchange_starts (Identify f) e = refl
+exchange_starts size drive (Identify f) e = refl
 
 -- ---- whole and broken logs tell by themselves
 
@@ -178,19 +175,19 @@ joined_tells first [] a b = subst TellsHeld (sym (append-nil first)) a
 joined_tells first (e ∷ rest) a b = λ before.
     held_at_end-append before first e rest ∙ (b (sourcing before first) ∙ (sym (b (sourcing None first)) ∙ sym (held_at_end-append None first e rest)))
 
-piece_tells : (p : Piece) → is_piece p ≡ true → TellsHeld (piece_entries p)
-piece_tells (Whole x) legal = λ before. none_held before (entries_of x) (exchange_stands x legal) ∙ sym (none_held None (entries_of x) (exchange_stands x legal))
-piece_tells (Cut x n b) legal = cut_tells (entries_of x) n b (exchange_starts x ((and_parts (is_exchange x) _ legal).0))
+piece_tells : (size drive : ℕ) (p : Piece) → is_piece (host_loop size drive) p ≡ true → TellsHeld (piece_entries 0 p)
+piece_tells size drive (Whole x) legal = λ before. none_held before (entries_of 0 x) (exchange_stands (host_loop size drive) x legal) ∙ sym (none_held None (entries_of 0 x) (exchange_stands (host_loop size drive) x legal))
+piece_tells size drive (Cut x n b) legal = cut_tells (entries_of 0 x) n b (exchange_starts size drive x ((and_parts (is_exchange (host_loop size drive) x) _ legal).0))
 
-pieces_tell : (ps : List Piece) → list_all is_piece ps ≡ true → TellsHeld (flat_map piece_entries ps)
-pieces_tell [] legal = λ before. refl
-pieces_tell (p ∷ ps) legal =
-    let parts = and_parts (is_piece p) (list_all is_piece ps) legal in
-    joined_tells (piece_entries p) (flat_map piece_entries ps) (piece_tells p parts.0) (pieces_tell ps parts.1)
+pieces_tell : (size drive : ℕ) (ps : List Piece) → list_all (is_piece (host_loop size drive)) ps ≡ true → TellsHeld (flat_map (piece_entries 0) ps)
+pieces_tell size drive [] legal = λ before. refl
+pieces_tell size drive (p ∷ ps) legal =
+    let parts = and_parts (is_piece (host_loop size drive) p) (list_all (is_piece (host_loop size drive)) ps) legal in
+    joined_tells (piece_entries 0 p) (flat_map (piece_entries 0) ps) (piece_tells size drive p parts.0) (pieces_tell size drive ps parts.1)
 
 -- a list of whole and broken exchanges tells by itself whether a frame was held
-pub reading_tells : (log : List Entry) → Reading log → TellsHeld log
-reading_tells log r = subst TellsHeld (sym r.entries) (pieces_tell r.pieces r.legal)
+pub reading_tells : (size drive : ℕ) (log : List Entry) → Reading (host_loop size drive) log → TellsHeld log
+reading_tells size drive log r = subst TellsHeld (sym r.entries) (pieces_tell size drive r.pieces r.legal)
 
 -- ---- appended logs
 
@@ -199,16 +196,16 @@ held-append first [] none tells = ap (held_at_end None) (append-nil first) ∙ n
 held-append first (e ∷ rest) none tells = held_at_end-append None first e rest ∙ tells (sourcing None first)
 
 -- the crossings of an appended log add up, where the first part leaves no frame held
-pub links-append : (k : ℕ) (first second : List Entry) → held_at_end None first ≡ None → Reading second → links k (first ++ second) ≡ links k first + links k second
-links-append k first second none r =
-    let held = held-append first second none (reading_tells second r) in
+pub links-append : (k : ℕ) (first second : List Entry) → held_at_end None first ≡ None → TellsHeld second → links k (first ++ second) ≡ links k first + links k second
+links-append k first second none tells =
+    let held = held-append first second none tells in
     let sums = sum_by-append (links_of k) first second in
     rw (held, none, sums) (omega arith)
 
 -- and so do the frames that it brings to a party
-pub passes-append : (k party : ℕ) (first second : List Entry) → held_at_end None first ≡ None → Reading second → passes k party (first ++ second) ≡ passes k party first + passes k party second
-passes-append k party first second none r =
-    let held = held-append first second none (reading_tells second r) in
+pub passes-append : (k party : ℕ) (first second : List Entry) → held_at_end None first ≡ None → TellsHeld second → passes k party (first ++ second) ≡ passes k party first + passes k party second
+passes-append k party first second none tells =
+    let held = held-append first second none tells in
     let sums = sum_by-append (λ e. cond (brings_to k party e) 1 0) first second in
     rw (held, none, sums) (omega arith)
 
@@ -251,3 +248,42 @@ met-split (hop ∷ hops) a b c ab bc =
           let second = nothing_kept (is_met b c) hop hops e.1 in
           kept_nothing (is_met a c) hop hops (here ∙ or_false (is_met a b hop) (is_met b c hop) first.0 second.0) (rest.1 (first.1, second.1)),
     )
+
+-- ---- the counts of a ring
+
+-- an entry that is no lost NRD of the host tells that no frame was held
+pub entry_tells : (e : Entry) → is_lost_nrd e ≡ false → TellsHeld (e ∷ [])
+entry_tells e other before = last_tells e before None other
+
+-- more entries add their crossings, whatever frame is held behind them
+pub links_so_far-append : (k : ℕ) (first second : List Entry) (held : Option ℕ) → links_so_far k (first ++ second) held ≡ sum_by (links_of k) first + links_so_far k second held
+links_so_far-append k first second held = let sums = sum_by-append (links_of k) first second in rw sums (omega arith)
+
+-- and their passes
+pub passes_so_far-append : (k party : ℕ) (first second : List Entry) (held : Option ℕ) → passes_so_far k party (first ++ second) held ≡ count_by (brings_to k party) first + passes_so_far k party second held
+passes_so_far-append k party first second held = let sums = sum_by-append (λ e. cond (brings_to k party e) 1 0) first second in rw sums (omega arith)
+
+length_met : (test : Bool) (hop : ℕ) (hops : List ℕ) → length (cond test (hop ∷ hops) hops) ≡ cond test 1 0 + length hops
+length_met true hop hops = omega arith
+length_met false hop hops = omega arith
+
+split_met : (first second : Bool) → (first && second) ≡ false → cond (first || second) 1 0 ≡ cond first 1 0 + cond second 1 0
+split_met true true e = cc
+split_met true false e = refl
+split_met false true e = refl
+split_met false false e = refl
+
+met_once : (a b c hop : ℕ) → (is_met a b hop && is_met b c hop) ≡ false
+met_once a b c hop = grind (arith, nat_tests)
+
+-- the planned hops that are met over a span are as many as those over both parts of it
+pub length-met : (hops : List ℕ) (a b c : ℕ) → a ≤ b → b ≤ c → length (met hops a c) ≡ length (met hops a b) + length (met hops b c)
+length-met [] a b c ab bc = refl
+length-met (hop ∷ hops) a b c ab bc =
+    let rest = length-met hops a b c ab bc in
+    let here = met_or_not a b c hop ab bc in
+    let outer = length_met (is_met a c hop) hop (met hops a c) in
+    let first = length_met (is_met a b hop) hop (met hops a b) in
+    let second = length_met (is_met b c hop) hop (met hops b c) in
+    let split = ap (λ (t : Bool). cond t 1 0) here ∙ split_met (is_met a b hop) (is_met b c hop) (met_once a b c hop) in
+    outer ∙ omega (arith, rest, first, second, split)

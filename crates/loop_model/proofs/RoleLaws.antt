@@ -12,6 +12,7 @@ use Rattle.il_frames.specs.declared.entry.Outcome.{Outcome}
 use Rattle.il_frames.specs.declared.entry.Outcome.TheVariants as outcome
 use Rattle.il_frames.specs.Frames.{framed, class_of, same_class, is_data, is_data_class, same_but_service}
 use Rattle.il_frames.specs.Messages.{message_of, message_at}
+use Rattle.loop_model.specs.Loops.{host_loop}
 use Rattle.loop_model.specs.Entries.{unl, unt, lad, tad, ddl, ddt}
 use Rattle.loop_model.specs.Reach.{is_reached}
 use Rattle.il_device.specs.declared.roles.Roles.{Roles}
@@ -88,12 +89,12 @@ pub no_talk_on : (m : Message) (r : Roles) → is_talk_address m ≡ false → i
 no_talk_on (msg.Aad a) r e = no_talk_if (takes_address r.address a) _ _ (no_talk_if (a == 30) msg.Iaa (msg.Aad (suc a)) refl refl) refl
 no_talk_on m r e = e
 
-quiet_along : (o : Outcome) (party : ℕ) (m : Message) (rs : List Roles) → is_talk_address m ≡ false → list_all is_quiet rs ≡ true → list_all is_quiet (roles_along o party m rs) ≡ true
+quiet_along : (o : Outcome) (party : ℕ) (m : Message) (rs : List Roles) → is_talk_address m ≡ false → list_all is_quiet rs ≡ true → list_all is_quiet (roles_along 0 o party m rs) ≡ true
 quiet_along o party m [] e q = refl
 quiet_along o party m (r ∷ rs) e q =
     let parts = and_parts (is_quiet r) (list_all is_quiet rs) q in
-    and_from _ _ (quiet_if (is_reached o party) _ r (quiet_by m r e parts.0) parts.0)
-    (quiet_along o (suc party) _ rs (no_talk_if (is_reached o party) _ m (no_talk_on m r e) e) parts.1)
+    and_from _ _ (quiet_if (is_reached 0 o party) _ r (quiet_by m r e parts.0) parts.0)
+    (quiet_along o (suc party) _ rs (no_talk_if (is_reached 0 o party) _ m (no_talk_on m r e) e) parts.1)
 
 lists_if : (b : Bool) (rs ss : List Roles) → list_all is_quiet rs ≡ true → list_all is_quiet ss ≡ true → list_all is_quiet (if b then rs else ss) ≡ true
 lists_if true rs ss a c = a
@@ -108,28 +109,28 @@ quiet_log rs (x ∷ log) e q =
     (lists_if (x.source == 0) _ rs (quiet_along x.outcome 1 (message_of x.frame) rs (not-true _ parts.0) q) q)
 
 -- an UNT that came back leaves no talker
-untalked : (party : ℕ) (rs : List Roles) → list_all is_quiet (roles_along (outcome.Back unt) party msg.Unt rs) ≡ true
+untalked : (party : ℕ) (rs : List Roles) → list_all is_quiet (roles_along 0 (outcome.Back unt) party msg.Unt rs) ≡ true
 untalked party [] = refl
 untalked party (r ∷ rs) = untalked (suc party) rs
 
-untalked_log : (rs : List Roles) → list_all is_quiet (roles_after rs (commanded unt)) ≡ true
-untalked_log rs = quiet_log (roles_along (outcome.Back unt) 1 msg.Unt rs) (returned (framed class.Rdy 0) ∷ []) refl (untalked 1 rs)
+untalked_log : (rs : List Roles) → list_all is_quiet (roles_after rs (commanded 0 unt)) ≡ true
+untalked_log rs = quiet_log (roles_along 0 (outcome.Back unt) 1 msg.Unt rs) (returned 0 (framed class.Rdy 0) ∷ []) refl (untalked 1 rs)
 
-pub lad_no_talk : (a : ℕ) → is_address a ≡ true → gives_no_talk (returned (lad a)) ≡ true
-lad_no_talk a e = agree_below_at (λ b. gives_no_talk (returned (lad b))) (λ b. true) 31 a refl (omega (arith, leb-true a 30 e))
+pub lad_no_talk : (a : ℕ) → is_address a ≡ true → gives_no_talk (returned 0 (lad a)) ≡ true
+lad_no_talk a e = agree_below_at (λ b. gives_no_talk (returned 0 (lad b))) (λ b. true) 31 a refl (omega (arith, leb-true a 30 e))
 
-pub ddl_no_talk : (number : Option ℕ) → is_number number ≡ true → list_all gives_no_talk (numbered ddl number) ≡ true
+pub ddl_no_talk : (number : Option ℕ) → is_number number ≡ true → list_all gives_no_talk (numbered 0 ddl number) ≡ true
 ddl_no_talk None e = refl
-ddl_no_talk (Some n) e = and_from _ _ (agree_below_at (λ b. gives_no_talk (returned (ddl b))) (λ b. true) 32 n refl (ltb-true n 32 e)) refl
+ddl_no_talk (Some n) e = and_from _ _ (agree_below_at (λ b. gives_no_talk (returned 0 (ddl b))) (λ b. true) 32 n refl (ltb-true n 32 e)) refl
 
-data_no_talk : (k : Class) (byte : ℕ) → is_data_class k ≡ true → is_talk_address (message_at k byte) ≡ false
+pub data_no_talk : (k : Class) (byte : ℕ) → is_data_class k ≡ true → is_talk_address (message_at k byte) ≡ false
 data_no_talk class.Dab byte e = refl
 data_no_talk class.Dsr byte e = refl
 data_no_talk class.End byte e = refl
 data_no_talk class.Esr byte e = refl
 data_no_talk k byte e = cc
 
-echoes_no_talk : (ds : List Echo) → list_all is_host_echo ds ≡ true → list_all gives_no_talk (map (echoed 0) ds) ≡ true
+pub echoes_no_talk : (ds : List Echo) → list_all is_host_echo ds ≡ true → list_all gives_no_talk (map (echoed 0) ds) ≡ true
 echoes_no_talk [] e = refl
 echoes_no_talk (d ∷ ds) e =
     let parts = and_parts (is_host_echo d) (list_all is_host_echo ds) e in
@@ -138,28 +139,28 @@ echoes_no_talk (d ∷ ds) e =
     and_from _ _ (ap not (data_no_talk d.sent.class d.sent.byte sent)) (echoes_no_talk ds parts.1)
 
 -- a whole exchange leaves quiet devices quiet
-quiet_exchange : (rs : List Roles) (x : Exchange) → is_exchange x ≡ true → list_all is_quiet rs ≡ true → list_all is_quiet (roles_after rs (entries_of x)) ≡ true
-quiet_exchange rs (Command f) e q = quiet_log rs (commanded f) (and_from _ _ ((and_parts (same_class (class_of f) class.Cmd) _ e).1) refl) q
-quiet_exchange rs (Address devices) e q = quiet_log rs (entries_of (Address devices)) refl q
-quiet_exchange rs (Send a number ds) e q =
+quiet_exchange : (size drive : ℕ) (rs : List Roles) (x : Exchange) → is_exchange (host_loop size drive) x ≡ true → list_all is_quiet rs ≡ true → list_all is_quiet (roles_after rs (entries_of 0 x)) ≡ true
+quiet_exchange size drive rs (Command f) e q = quiet_log rs (commanded 0 f) (and_from _ _ ((and_parts (same_class (class_of f) class.Cmd) _ e).1) refl) q
+quiet_exchange size drive rs (Address devices) e q = quiet_log rs (entries_of 0 (Address devices)) refl q
+quiet_exchange size drive rs (Send a number ds) e q =
     let parts = and_parts (is_address a) _ e in
     let numbers = and_parts (is_number number) (list_all is_host_echo ds) parts.1 in
-    quiet_log rs (entries_of (Send a number ds))
+    quiet_log rs (entries_of 0 (Send a number ds))
     (and_from _ _ (lad_no_talk a parts.0)
-    (list_all-append gives_no_talk (numbered ddl number) (map (echoed 0) ds)
+    (list_all-append gives_no_talk (numbered 0 ddl number) (map (echoed 0) ds)
     ∙ and_from _ _ (ddl_no_talk number numbers.0) (echoes_no_talk ds numbers.1))) q
-quiet_exchange rs (Receive a number start answer) e q =
-    let front = commanded unl ++ commanded (tad a) ++ numbered ddt number ++ answer_entries (start_frame start) answer in
-    ap (list_all is_quiet) (roles_after-append rs front (commanded unt)) ∙ untalked_log (roles_after rs front)
-quiet_exchange rs (Identify f) e q = quiet_log rs (entries_of (Identify f)) refl q
+quiet_exchange size drive rs (Receive a number start answer) e q =
+    let front = commanded 0 unl ++ commanded 0 (tad a) ++ numbered 0 ddt number ++ answer_entries 0 (start_frame start) answer in
+    ap (list_all is_quiet) (roles_after-append rs front (commanded 0 unt)) ∙ untalked_log (roles_after rs front)
+quiet_exchange size drive rs (Identify f) e q = quiet_log rs (entries_of 0 (Identify f)) refl q
 
-quiet_whole : (rs : List Roles) (ps : List Piece) → list_all is_piece ps ≡ true → are_whole ps ≡ true → list_all is_quiet rs ≡ true → list_all is_quiet (roles_after rs (flat_map piece_entries ps)) ≡ true
-quiet_whole rs [] legal whole q = q
-quiet_whole rs (Whole x ∷ ps) legal whole q =
-    let parts = and_parts (is_exchange x) (list_all is_piece ps) legal in
-    ap (list_all is_quiet) (roles_after-append rs (entries_of x) (flat_map piece_entries ps))
-    ∙ quiet_whole (roles_after rs (entries_of x)) ps parts.1 whole (quiet_exchange rs x parts.0 q)
-quiet_whole rs (Cut x n b ∷ ps) legal whole q = cc
+quiet_whole : (size drive : ℕ) (rs : List Roles) (ps : List Piece) → list_all (is_piece (host_loop size drive)) ps ≡ true → are_whole ps ≡ true → list_all is_quiet rs ≡ true → list_all is_quiet (roles_after rs (flat_map (piece_entries 0) ps)) ≡ true
+quiet_whole size drive rs [] legal whole q = q
+quiet_whole size drive rs (Whole x ∷ ps) legal whole q =
+    let parts = and_parts (is_exchange (host_loop size drive) x) (list_all (is_piece (host_loop size drive)) ps) legal in
+    ap (list_all is_quiet) (roles_after-append rs (entries_of 0 x) (flat_map (piece_entries 0) ps))
+    ∙ quiet_whole size drive (roles_after rs (entries_of 0 x)) ps parts.1 whole (quiet_exchange size drive rs x parts.0 q)
+quiet_whole size drive rs (Cut x n b ∷ ps) legal whole q = cc
 
 pub no_talkers : (party : ℕ) (rs : List Roles) → list_all is_quiet rs ≡ true → talkers_from party rs ≡ []
 no_talkers party [] q = refl
@@ -178,8 +179,8 @@ all_quiet party (r ∷ rs) e =
     and_from _ _ parts.0 (all_quiet (suc party) rs parts.1)
 
 -- where no device talks before a whole log, none talks after it
-pub talkers-whole : (rs : List Roles) (log : List Entry) → talkers rs ≡ [] → IsWhole log → talkers (roles_after rs log) ≡ []
-talkers-whole rs log silent w =
+pub talkers-whole : (size drive : ℕ) (rs : List Roles) (log : List Entry) → talkers rs ≡ [] → IsWhole (host_loop size drive) log → talkers (roles_after rs log) ≡ []
+talkers-whole size drive rs log silent w =
     no_talkers 1 (roles_after rs log)
     (ap (λ (l : List Entry). list_all is_quiet (roles_after rs l)) w.reading.entries
-    ∙ quiet_whole rs w.reading.pieces w.reading.legal w.whole (all_quiet 1 rs silent))
+    ∙ quiet_whole size drive rs w.reading.pieces w.reading.legal w.whole (all_quiet 1 rs silent))

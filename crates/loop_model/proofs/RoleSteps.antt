@@ -48,15 +48,15 @@ if_equal : {A : Type 0} (b : Bool) (x y : A) → x ≡ y → (if b then x else y
 if_equal true x y e = e
 if_equal false x y e = refl
 
-kept_along : (o : Outcome) (party : ℕ) (m : Message) (rs : List Roles) → changes_roles m ≡ false → roles_along o party m rs ≡ rs
+kept_along : (o : Outcome) (party : ℕ) (m : Message) (rs : List Roles) → changes_roles m ≡ false → roles_along 0 o party m rs ≡ rs
 kept_along o party m [] e = refl
 kept_along o party m (r ∷ rs) e =
     let kept = kept_by m r e in
-    let here = if_equal (is_reached o party) (roles_by m r) r kept.0 in
-    let passed = if_equal (is_reached o party) (passed_on m r) m kept.1 in
-    ap₂ (λ x xs. x ∷ xs) here (ap (λ (n : Message). roles_along o (suc party) n rs) passed ∙ kept_along o (suc party) m rs e)
+    let here = if_equal (is_reached 0 o party) (roles_by m r) r kept.0 in
+    let passed = if_equal (is_reached 0 o party) (passed_on m r) m kept.1 in
+    ap₂ (λ x xs. x ∷ xs) here (ap (λ (n : Message). roles_along 0 o (suc party) n rs) passed ∙ kept_along o (suc party) m rs e)
 
-kept_entry : (rs : List Roles) (e : Entry) → keeps_roles e ≡ true → roles_after_entry rs e ≡ rs
+pub kept_entry : (rs : List Roles) (e : Entry) → keeps_roles e ≡ true → roles_after_entry rs e ≡ rs
 kept_entry rs e keeps = if_equal (e.source == 0) _ rs (kept_along e.outcome 1 (message_of e.frame) rs (not-true _ keeps))
 
 -- a log without role messages keeps all roles
@@ -98,12 +98,12 @@ addressed_from a (r ∷ rs) = record { address = Some a; talks = false; listens 
 abbrev pub cleared : List Roles → List Roles
 cleared rs = map (λ r. no_roles) rs
 
-cleared_along : (party : ℕ) (rs : List Roles) → roles_along (outcome.Back aau) party msg.Aau rs ≡ cleared rs
+cleared_along : (party : ℕ) (rs : List Roles) → roles_along 0 (outcome.Back aau) party msg.Aau rs ≡ cleared rs
 cleared_along party [] = refl
 cleared_along party (r ∷ rs) = ap (λ (ss : List Roles). no_roles ∷ ss) (cleared_along (suc party) rs)
 
 -- AAD a along devices without address gives them the addresses from a on
-aad_along : (f : Frame) (party a : ℕ) (rs : List Roles) → 0 < a → a + length rs ≤ 31 → roles_along (outcome.Back f) party (msg.Aad a) (cleared rs) ≡ addressed_from a rs
+aad_along : (f : Frame) (party a : ℕ) (rs : List Roles) → 0 < a → a + length rs ≤ 31 → roles_along 0 (outcome.Back f) party (msg.Aad a) (cleared rs) ≡ addressed_from a rs
 aad_along f party a [] low room = refl
 aad_along f party a (r ∷ []) low room =
     let takes = lt-ltb 0 a low in
@@ -117,10 +117,10 @@ aad_along f party a (r ∷ s ∷ rs) low room =
     rw (takes, in_range, below) (ap (λ (ss : List Roles). record { address = Some a; talks = false; listens = false } ∷ ss) rest)
 
 -- after AAU and AAD each device has its number as address, and no role, whatever it had before
-pub roles_after-addressing : (rs : List Roles) (devices : ℕ) → length rs ≤ 30 → roles_after rs (entries_of (Command aau) ++ entries_of (Address devices)) ≡ addressed_from 1 rs
+pub roles_after-addressing : (rs : List Roles) (devices : ℕ) → length rs ≤ 30 → roles_after rs (entries_of 0 (Command aau) ++ entries_of 0 (Address devices)) ≡ addressed_from 1 rs
 roles_after-addressing rs devices room =
-    ap (λ (ss : List Roles). roles_after ss (entries_of (Address devices)))
-    (kept_along (outcome.Back rfc) 1 msg.Rfc (roles_along (outcome.Back aau) 1 msg.Aau rs) refl ∙ cleared_along 1 rs)
+    ap (λ (ss : List Roles). roles_after ss (entries_of 0 (Address devices)))
+    (kept_along (outcome.Back rfc) 1 msg.Rfc (roles_along 0 (outcome.Back aau) 1 msg.Aau rs) refl ∙ cleared_along 1 rs)
     ∙ aad_along (aad (suc devices)) 1 1 rs (lit< tt) (omega arith)
 
 -- ---- at most one device talks
@@ -141,21 +141,21 @@ fewer_first party true false ps qs quiet few = omega arith
 fewer_first party false false ps qs quiet few = few
 fewer_first party false true ps qs quiet few = let silent = quiet refl in cc
 
-fewer_along : (o : Outcome) (party q : ℕ) (m : Message) (rs : List Roles) → is_talk_address m ≡ false → length (talkers_from q (roles_along o party m rs)) ≤ length (talkers_from q rs)
+fewer_along : (o : Outcome) (party q : ℕ) (m : Message) (rs : List Roles) → is_talk_address m ≡ false → length (talkers_from q (roles_along 0 o party m rs)) ≤ length (talkers_from q rs)
 fewer_along o party q m [] calm = omega arith
 fewer_along o party q m (r ∷ rs) calm =
-    fewer_first q r.talks ((if is_reached o party then roles_by m r else r).talks) (talkers_from (suc q) rs) _
-    (λ quiet. quiet_if (is_reached o party) (roles_by m r) r (quiet_by m r calm quiet) quiet)
-    (fewer_along o (suc party) (suc q) _ rs (no_talk_if (is_reached o party) _ m (no_talk_on m r calm) calm))
+    fewer_first q r.talks ((if is_reached 0 o party then roles_by m r else r).talks) (talkers_from (suc q) rs) _
+    (λ quiet. quiet_if (is_reached 0 o party) (roles_by m r) r (quiet_by m r calm quiet) quiet)
+    (fewer_along o (suc party) (suc q) _ rs (no_talk_if (is_reached 0 o party) _ m (no_talk_on m r calm) calm))
 
 -- an entry without talk address leaves at most one talker where there was at most one
 pub one_talker-kept : (rs : List Roles) (e : Entry) → is_at_most_one (talkers rs) ≡ true → gives_no_talk e ≡ true → is_at_most_one (talkers (roles_after_entry rs e)) ≡ true
 one_talker-kept rs e one calm = by_source (e.source == 0)
   where
-    fewer : length (talkers (roles_along e.outcome 1 (message_of e.frame) rs)) ≤ length (talkers rs)
+    fewer : length (talkers (roles_along 0 e.outcome 1 (message_of e.frame) rs)) ≤ length (talkers rs)
     fewer = fewer_along e.outcome 1 1 (message_of e.frame) rs (not-true _ calm)
 
-    by_source : (b : Bool) → is_at_most_one (talkers (if b then roles_along e.outcome 1 (message_of e.frame) rs else rs)) ≡ true
+    by_source : (b : Bool) → is_at_most_one (talkers (if b then roles_along 0 e.outcome 1 (message_of e.frame) rs else rs)) ≡ true
     by_source true = at_most_one _ (le_trans fewer (few_of (talkers rs) one))
     by_source false = one
 
@@ -179,18 +179,18 @@ silenced : (a : ℕ) (r : Roles) → is_own r.address a ≡ false → is_quiet (
 silenced a r other = rw other refl
 
 -- a device with another number does not talk after TAD a
-quiet_other : (o : Outcome) (party a : ℕ) (r : Roles) → (party ≡ a → ⊥) → is_own r.address party ≡ true → is_quiet r ≡ true → is_quiet (if is_reached o party then roles_by (msg.Tad a) r else r) ≡ true
-quiet_other o party a r other own quiet = quiet_if (is_reached o party) (roles_by (msg.Tad a) r) r (silenced a r (not_own a party r other own)) quiet
+pub quiet_other : (o : Outcome) (party a : ℕ) (r : Roles) → (party ≡ a → ⊥) → is_own r.address party ≡ true → is_quiet r ≡ true → is_quiet (if is_reached 0 o party then roles_by (msg.Tad a) r else r) ≡ true
+quiet_other o party a r other own quiet = quiet_if (is_reached 0 o party) (roles_by (msg.Tad a) r) r (silenced a r (not_own a party r other own)) quiet
 
 -- TAD passes each device as it is
-tad_passes : (o : Outcome) (party q a : ℕ) (rs : List Roles) → talkers_from q (roles_along o q (if is_reached o party then msg.Tad a else msg.Tad a) rs) ≡ talkers_from q (roles_along o q (msg.Tad a) rs)
-tad_passes o party q a rs = ap (λ (n : Message). talkers_from q (roles_along o q n rs)) (if_equal (is_reached o party) (msg.Tad a) (msg.Tad a) refl)
+pub tad_passes : (o : Outcome) (party q a : ℕ) (rs : List Roles) → talkers_from q (roles_along 0 o q (if is_reached 0 o party then msg.Tad a else msg.Tad a) rs) ≡ talkers_from q (roles_along 0 o q (msg.Tad a) rs)
+tad_passes o party q a rs = ap (λ (n : Message). talkers_from q (roles_along 0 o q n rs)) (if_equal (is_reached 0 o party) (msg.Tad a) (msg.Tad a) refl)
 
-no_head : (party : ℕ) (b : Bool) (ps qs : List ℕ) → not b ≡ true → ps ≡ qs → ((if b then party ∷ [] else []) ++ ps) ≡ qs
+pub no_head : (party : ℕ) (b : Bool) (ps qs : List ℕ) → not b ≡ true → ps ≡ qs → ((if b then party ∷ [] else []) ++ ps) ≡ qs
 no_head party true ps qs quiet e = cc
 no_head party false ps qs quiet e = e
 
-none_behind : (o : Outcome) (party a : ℕ) (rs : List Roles) → a < party → are_numbered party rs ≡ true → list_all is_quiet rs ≡ true → talkers_from party (roles_along o party (msg.Tad a) rs) ≡ []
+pub none_behind : (o : Outcome) (party a : ℕ) (rs : List Roles) → a < party → are_numbered party rs ≡ true → list_all is_quiet rs ≡ true → talkers_from party (roles_along 0 o party (msg.Tad a) rs) ≡ []
 none_behind o party a [] below numbers quiet = refl
 none_behind o party a (r ∷ rs) below numbers quiet =
     let own = and_parts (is_own r.address party) (are_numbered (suc party) rs) numbers in
@@ -202,7 +202,7 @@ alone : (party : ℕ) (b : Bool) (ps : List ℕ) → ps ≡ [] → is_at_most_on
 alone party true ps e = rw e refl
 alone party false ps e = rw e refl
 
-one_along : (o : Outcome) (party a : ℕ) (rs : List Roles) → are_numbered party rs ≡ true → list_all is_quiet rs ≡ true → is_at_most_one (talkers_from party (roles_along o party (msg.Tad a) rs)) ≡ true
+one_along : (o : Outcome) (party a : ℕ) (rs : List Roles) → are_numbered party rs ≡ true → list_all is_quiet rs ≡ true → is_at_most_one (talkers_from party (roles_along 0 o party (msg.Tad a) rs)) ≡ true
 one_along o party a [] numbers quiet = refl
 one_along o party a (r ∷ rs) numbers quiet =
     let own = and_parts (is_own r.address party) (are_numbered (suc party) rs) numbers in
@@ -210,7 +210,7 @@ one_along o party a (r ∷ rs) numbers quiet =
     let rest = one_along o (suc party) a rs own.1 silent.1 in
     by_place own silent (cases_eq party a) rest
   where
-    by_place : (is_own r.address party ≡ true) × (are_numbered (suc party) rs ≡ true) → (is_quiet r ≡ true) × (list_all is_quiet rs ≡ true) → (party ≡ a) ⊎ (party ≡ a → ⊥) → is_at_most_one (talkers_from (suc party) (roles_along o (suc party) (msg.Tad a) rs)) ≡ true → is_at_most_one (talkers_from party (roles_along o party (msg.Tad a) (r ∷ rs))) ≡ true
+    by_place : (is_own r.address party ≡ true) × (are_numbered (suc party) rs ≡ true) → (is_quiet r ≡ true) × (list_all is_quiet rs ≡ true) → (party ≡ a) ⊎ (party ≡ a → ⊥) → is_at_most_one (talkers_from (suc party) (roles_along 0 o (suc party) (msg.Tad a) rs)) ≡ true → is_at_most_one (talkers_from party (roles_along 0 o party (msg.Tad a) (r ∷ rs))) ≡ true
     by_place own silent (inl here) rest = alone party _ _ (tad_passes o party (suc party) a rs ∙ none_behind o (suc party) a rs (omega arith) own.1 silent.1)
     by_place own silent (inr other) rest =
         ap is_at_most_one (no_head party _ _ _ (quiet_other o party a r other own.0 silent.0) (tad_passes o party (suc party) a rs)) ∙ rest
@@ -219,6 +219,6 @@ one_along o party a (r ∷ rs) numbers quiet =
 pub one_talker-addressed : (rs : List Roles) (a : ℕ) (e : Entry) → are_numbered 1 rs ≡ true → talkers rs ≡ [] → message_of e.frame ≡ msg.Tad a → is_at_most_one (talkers (roles_after_entry rs e)) ≡ true
 one_talker-addressed rs a e numbers silent tad = by_source (e.source == 0)
   where
-    by_source : (b : Bool) → is_at_most_one (talkers (if b then roles_along e.outcome 1 (message_of e.frame) rs else rs)) ≡ true
-    by_source true = ap (λ (m : Message). is_at_most_one (talkers (roles_along e.outcome 1 m rs))) tad ∙ one_along e.outcome 1 a rs numbers (all_quiet 1 rs silent)
+    by_source : (b : Bool) → is_at_most_one (talkers (if b then roles_along 0 e.outcome 1 (message_of e.frame) rs else rs)) ≡ true
+    by_source true = ap (λ (m : Message). is_at_most_one (talkers (roles_along 0 e.outcome 1 m rs))) tad ∙ one_along e.outcome 1 a rs numbers (all_quiet 1 rs silent)
     by_source false = ap is_at_most_one silent

@@ -4,11 +4,17 @@ use Rattle.il_frames.specs.declared.frame.Class.TheVariants as class
 use Rattle.il_frames.specs.declared.entry.Entry.{Entry}
 use Rattle.il_frames.specs.Frames.{framed}
 use Rattle.lif_model.specs.Tape.{Tape, record_at}
+use Rattle.loop_model.specs.Loops.{Loop, host_loop}
 use Rattle.loop_model.specs.Entries.{ifc}
 use Rattle.loop_model.specs.Exchanges.{Echo, Sda, Sst, NotTaken, Stopped, Exchange, Command, Send, Receive, FrameLost, HostAltered, Piece, Whole, Cut, piece_entries}
 use Rattle.loop_model.specs.Units.{RecordUnit, number_of, units_of, ends_within}
 use Rattle.lif_model.specs.Stops.{Torn}
-use Rattle.loop_model.specs.Effect.{Replaced, PartlyReplaced, UnitEffect, Effect, records_of, all_pieces, full_pieces, carries, is_out, is_in, CarriesOut, CarriesIn}
+use Rattle.lif_model.specs.Transfers.{Replaced, PartlyReplaced, records_of, all_pieces, full_pieces, carries}
+use Rattle.loop_model.specs.Effect.{UnitEffect, Effect, transfer_of, is_out, is_in, CarriesOut, CarriesIn}
+
+-- the host, a drive and a printer
+abbrev pub ring : Loop
+ring = host_loop 2 1
 
 -- ---- units
 
@@ -50,45 +56,45 @@ read_unit k bytes s = record { writes = false; first = k; bytes = bytes; status 
 record_258 : number_of (1 ∷ 2 ∷ []) ≡ Some 258
 record_258 = refl
 
-one_write : units_of 1 (writing 2 (7 ∷ 8 ∷ []) 0) ≡ write_unit 2 (7 ∷ 8 ∷ []) 0 ∷ []
+one_write : units_of ring (writing 2 (7 ∷ 8 ∷ []) 0) ≡ write_unit 2 (7 ∷ 8 ∷ []) 0 ∷ []
 one_write = refl
 
-one_read : units_of 1 (reading 2 (7 ∷ []) 8 3) ≡ read_unit 2 (7 ∷ 8 ∷ []) 3 ∷ []
+one_read : units_of ring (reading 2 (7 ∷ []) 8 3) ≡ read_unit 2 (7 ∷ 8 ∷ []) 3 ∷ []
 one_read = refl
 
 -- a receive that was not taken brought no byte
-empty_read : units_of 1 (Whole (seek 2) ∷ Whole (Receive 1 (Some 2) Sda NotTaken) ∷ Whole (status 1) ∷ []) ≡ read_unit 2 [] 1 ∷ []
+empty_read : units_of ring (Whole (seek 2) ∷ Whole (Receive 1 (Some 2) Sda NotTaken) ∷ Whole (status 1) ∷ []) ≡ read_unit 2 [] 1 ∷ []
 empty_read = refl
 
 -- in order, and other exchanges between
-two_units : units_of 1 (writing 2 (7 ∷ []) 0 ++ Whole (Command ifc) ∷ reading 2 [] 7 0) ≡ write_unit 2 (7 ∷ []) 0 ∷ read_unit 2 (7 ∷ []) 0 ∷ []
+two_units : units_of ring (writing 2 (7 ∷ []) 0 ++ Whole (Command ifc) ∷ reading 2 [] 7 0) ≡ write_unit 2 (7 ∷ []) 0 ∷ read_unit 2 (7 ∷ []) 0 ∷ []
 two_units = refl
 
 -- the drive is another party; a command stands between; the status was not asked for, or not told
-no_units : (units_of 2 (writing 2 (7 ∷ []) 0) ≡ []) × (units_of 1 (Whole (seek 2) ∷ Whole (Command ifc) ∷ Whole (put (7 ∷ [])) ∷ Whole (status 0) ∷ []) ≡ []) × (units_of 1 (Whole (seek 2) ∷ Whole (put (7 ∷ [])) ∷ []) ≡ []) × (units_of 1 (Whole (seek 2) ∷ Whole (put (7 ∷ [])) ∷ Whole (Receive 1 None Sst NotTaken) ∷ []) ≡ [])
+no_units : (units_of (host_loop 2 2) (writing 2 (7 ∷ []) 0) ≡ []) × (units_of ring (Whole (seek 2) ∷ Whole (Command ifc) ∷ Whole (put (7 ∷ [])) ∷ Whole (status 0) ∷ []) ≡ []) × (units_of ring (Whole (seek 2) ∷ Whole (put (7 ∷ [])) ∷ []) ≡ []) × (units_of ring (Whole (seek 2) ∷ Whole (put (7 ∷ [])) ∷ Whole (Receive 1 None Sst NotTaken) ∷ []) ≡ [])
 no_units = (refl, refl, refl, refl)
 
 -- nor is it one where another device is asked for its status
-other_status : units_of 1 (Whole (seek 2) ∷ Whole (put (7 ∷ [])) ∷ Whole (Receive 2 None Sst (Stopped 2 [] (echo 0))) ∷ []) ≡ []
+other_status : units_of ring (Whole (seek 2) ∷ Whole (put (7 ∷ [])) ∷ Whole (Receive 2 None Sst (Stopped 2 [] (echo 0))) ∷ []) ≡ []
 other_status = refl
 
 -- the second byte came back as another: it counts as sent, and the unit is unfinished
 abbrev pub unfinished : ℕ → List ℕ → RecordUnit
 unfinished k bytes = record { writes = true; first = k; bytes = bytes; status = None }
 
-cut_short : units_of 1 (Whole (seek 2) ∷ Cut (put (7 ∷ 8 ∷ 9 ∷ [])) 7 (HostAltered (framed class.Dab 0)) ∷ []) ≡ unfinished 2 (7 ∷ 8 ∷ []) ∷ []
+cut_short : units_of ring (Whole (seek 2) ∷ Cut (put (7 ∷ 8 ∷ 9 ∷ [])) 7 (HostAltered (framed class.Dab 0)) ∷ []) ≡ unfinished 2 (7 ∷ 8 ∷ []) ∷ []
 cut_short = refl
 
 -- it broke off before the first byte
-no_byte_sent : units_of 1 (Whole (seek 2) ∷ Cut (put (7 ∷ [])) 4 (FrameLost 2) ∷ []) ≡ []
+no_byte_sent : units_of ring (Whole (seek 2) ∷ Cut (put (7 ∷ [])) 4 (FrameLost 2) ∷ []) ≡ []
 no_byte_sent = refl
 
 -- all bytes were sent, and then the status was not told
-status_lost : units_of 1 (Whole (seek 2) ∷ Whole (put (7 ∷ [])) ∷ Cut (status 0) 0 (FrameLost 1) ∷ []) ≡ unfinished 2 (7 ∷ []) ∷ []
+status_lost : units_of ring (Whole (seek 2) ∷ Whole (put (7 ∷ [])) ∷ Cut (status 0) 0 (FrameLost 1) ∷ []) ≡ unfinished 2 (7 ∷ []) ∷ []
 status_lost = refl
 
 -- whether what follows could go on with a unit
-within : (ends_within 1 (Whole (seek 2) ∷ []) ≡ true) × (ends_within 1 (Whole (seek 2) ∷ Whole (put (7 ∷ [])) ∷ []) ≡ true) × (ends_within 1 (writing 2 (7 ∷ []) 0) ≡ false)
+within : (ends_within ring (Whole (seek 2) ∷ []) ≡ true) × (ends_within ring (Whole (seek 2) ∷ Whole (put (7 ∷ [])) ∷ []) ≡ true) × (ends_within ring (writing 2 (7 ∷ []) 0) ≡ false)
 within = (refl, refl, refl)
 
 -- ---- effect
@@ -128,13 +134,13 @@ replaced_1 old new = record {
 
 -- the log of a write of record 1
 abbrev pub log_of : List Piece → List Entry
-log_of pieces = flat_map piece_entries pieces
+log_of pieces = flat_map (piece_entries 0) pieces
 
 write_log_length : length (log_of (writing 1 sevens 0)) ≡ 280
 write_log_length = refl
 
 -- with status 0 it has its effect
-written : Effect 1 (tape_with blank) (log_of (writing 1 sevens 0)) (tape_with sevens)
+written : Effect ring (tape_with blank) (log_of (writing 1 sevens 0)) (tape_with sevens)
 written = record {
   reading = record { pieces = writing 1 sevens 0; legal = refl; entries = refl };
   effect = (tape_with sevens, replaced_1 blank sevens, refl);
@@ -147,7 +153,7 @@ not_written r =
     omega (arith, first)
 
 -- with status 2 the record may hold any bytes
-torn : (any : List ℕ) → length any ≡ 256 → Effect 1 (tape_with blank) (log_of (writing 1 sevens 2)) (tape_with any)
+torn : (any : List ℕ) → length any ≡ 256 → Effect ring (tape_with blank) (log_of (writing 1 sevens 2)) (tape_with any)
 torn any full = record {
   reading = record { pieces = writing 1 sevens 2; legal = refl; entries = refl };
   effect = (tape_with any, partly, refl);
@@ -188,37 +194,53 @@ abbrev pub ones : List ℕ
 ones = replicate 256 1
 
 -- two units of a record each carry out both records' bytes
-by_two : carries is_out (write_unit 4 sevens 0 ∷ write_unit 5 ones 0 ∷ []) 4 (sevens ++ ones) ≡ true
+by_two : carries transfer_of is_out (write_unit 4 sevens 0 ∷ write_unit 5 ones 0 ∷ []) 4 (sevens ++ ones) ≡ true
 by_two = refl
 
 -- and so does one unit of two records, after an earlier write of one of them
-by_one : carries is_out (write_unit 5 blank 0 ∷ write_unit 4 (sevens ++ ones) 0 ∷ []) 4 (sevens ++ ones) ≡ true
+by_one : carries transfer_of is_out (write_unit 5 blank 0 ∷ write_unit 4 (sevens ++ ones) 0 ∷ []) 4 (sevens ++ ones) ≡ true
 by_one = refl
 
 -- a later write of one of them, a failed one too, spoils it; so does the other order, or one byte less
-spoilt : (carries is_out (write_unit 4 sevens 0 ∷ write_unit 4 blank 2 ∷ []) 4 sevens ≡ false) × (carries is_out (write_unit 5 ones 0 ∷ write_unit 4 sevens 0 ∷ []) 4 (sevens ++ ones) ≡ false) × (carries is_out (write_unit 4 sevens 0 ∷ []) 4 (replicate 255 7) ≡ false) × (carries is_out (write_unit 4 sevens 1 ∷ []) 4 sevens ≡ false)
+spoilt : (carries transfer_of is_out (write_unit 4 sevens 0 ∷ write_unit 4 blank 2 ∷ []) 4 sevens ≡ false) × (carries transfer_of is_out (write_unit 5 ones 0 ∷ write_unit 4 sevens 0 ∷ []) 4 (sevens ++ ones) ≡ false) × (carries transfer_of is_out (write_unit 4 sevens 0 ∷ []) 4 (replicate 255 7) ≡ false) × (carries transfer_of is_out (write_unit 4 sevens 1 ∷ []) 4 sevens ≡ false)
 spoilt = (refl, refl, refl, refl)
 
 -- a later write beside the record, before it or behind it, and a later read of it do not
-unspoilt : (carries is_out (write_unit 4 sevens 0 ∷ write_unit 3 blank 0 ∷ write_unit 5 blank 0 ∷ []) 4 sevens ≡ true) × (carries is_out (write_unit 4 sevens 0 ∷ read_unit 4 ones 0 ∷ []) 4 sevens ≡ true)
+unspoilt : (carries transfer_of is_out (write_unit 4 sevens 0 ∷ write_unit 3 blank 0 ∷ write_unit 5 blank 0 ∷ []) 4 sevens ≡ true) × (carries transfer_of is_out (write_unit 4 sevens 0 ∷ read_unit 4 ones 0 ∷ []) 4 sevens ≡ true)
 unspoilt = (refl, refl)
 
 -- a read with another status than 0 carries nothing
-failed_read : carries is_in (read_unit 4 sevens 1 ∷ []) 4 sevens ≡ false
+failed_read : carries transfer_of is_in (read_unit 4 sevens 1 ∷ []) 4 sevens ≡ false
 failed_read = refl
 
 -- a read carries in; no bytes need no unit
-by_read : carries is_in (read_unit 4 sevens 0 ∷ []) 4 sevens ≡ true
+by_read : carries transfer_of is_in (read_unit 4 sevens 0 ∷ []) 4 sevens ≡ true
 by_read = refl
 
-no_bytes : carries is_in [] 4 [] ≡ true
+no_bytes : carries transfer_of is_in [] 4 [] ≡ true
 no_bytes = refl
 
-carried_out : CarriesOut 1 (log_of (writing 1 sevens 0)) 1 sevens
+carried_out : CarriesOut ring (log_of (writing 1 sevens 0)) 1 sevens
 carried_out = record { reading = record { pieces = writing 1 sevens 0; legal = refl; entries = refl }; carried = refl }
 
-carried_in : CarriesIn 1 (log_of (reading 1 (replicate 255 7) 7 0)) 1 sevens
+carried_in : CarriesIn ring (log_of (reading 1 (replicate 255 7) 7 0)) 1 sevens
 carried_in = record { reading = record { pieces = reading 1 (replicate 255 7) 7 0; legal = refl; entries = refl }; carried = refl }
 
 read_log_length : length (log_of (reading 1 (replicate 255 7) 7 0)) ≡ 285
 read_log_length = refl
+
+-- a run of two records is written, and read, as one unit each
+abbrev pub two_records : List ℕ
+two_records = sevens ++ ones
+
+run_written : units_of ring (writing 4 two_records 0) ≡ write_unit 4 two_records 0 ∷ []
+run_written = refl
+
+run_read : units_of ring (reading 4 (sevens ++ replicate 255 1) 1 0) ≡ read_unit 4 two_records 0 ∷ []
+run_read = refl
+
+run_carried : CarriesOut ring (log_of (writing 4 two_records 0)) 4 two_records
+run_carried = record { reading = record { pieces = writing 4 two_records 0; legal = refl; entries = refl }; carried = refl }
+
+run_carried_in : CarriesIn ring (log_of (reading 4 (sevens ++ replicate 255 1) 1 0)) 4 two_records
+run_carried_in = record { reading = record { pieces = reading 4 (sevens ++ replicate 255 1) 1 0; legal = refl; entries = refl }; carried = refl }

@@ -13,6 +13,7 @@ use Rattle.il_frames.specs.declared.entry.Outcome.TheVariants as outcome
 use Rattle.il_frames.specs.Frames.{framed, class_of, same_class, is_data, same_but_service}
 use Rattle.il_frames.specs.Messages.{message_of}
 use Rattle.il_device.specs.Takes.{eto, ete}
+use Rattle.loop_model.specs.Loops.{Loop}
 use Rattle.loop_model.specs.Entries.{entry, ready, unl, unt, lad, tad, ddl, ddt, rfc, nrd, aad}
 
 -- ---- values
@@ -30,7 +31,7 @@ pub data Start : Type 0 where
   Sai : Start
 
 -- what came of a start message: it came back; or a device took it and sent frames to its end; or the
--- host stopped that device, and one more frame, the last, ended after that
+-- controller stopped that device, and one more frame, the last, ended after that
 pub data Answer : Type 0 where
   NotTaken : Answer
   ToItsEnd : ℕ → List Echo → Answer
@@ -55,41 +56,42 @@ start_frame Sst = ready 0x61
 start_frame Sdi = ready 0x62
 start_frame Sai = ready 0x63
 
--- a frame of the host that came back as it was
-abbrev pub returned : Frame → Entry
-returned f = entry 0 f (outcome.Back f)
+-- a frame of controller c that came back as it was
+abbrev pub returned : ℕ → Frame → Entry
+returned c f = entry c f (outcome.Back f)
 
--- a command, and the handshake after it
-abbrev pub commanded : Frame → List Entry
-commanded f = returned f ∷ returned rfc ∷ []
+-- a command of controller c, and the handshake after it
+abbrev pub commanded : ℕ → Frame → List Entry
+commanded c f = returned c f ∷ returned c rfc ∷ []
 
 -- a data or end frame of a party
 abbrev pub echoed : ℕ → Echo → Entry
 echoed party d = entry party d.sent (outcome.Back d.back)
 
 -- the command of a number, if one is given
-abbrev pub numbered : (ℕ → Frame) → Option ℕ → List Entry
-numbered frame None = []
-numbered frame (Some n) = commanded (frame n)
+abbrev pub numbered : ℕ → (ℕ → Frame) → Option ℕ → List Entry
+numbered c frame None = []
+numbered c frame (Some n) = commanded c (frame n)
 
 -- the start message and what came of it
-abbrev pub answer_entries : Frame → Answer → List Entry
-answer_entries start NotTaken = returned start ∷ []
-answer_entries start (ToItsEnd p data_frames) =
-    entry 0 start (outcome.Taken p) ∷ map (echoed p) data_frames ++ entry p eto (outcome.Taken 0) ∷ []
-answer_entries start (Stopped p data_frames last) =
-    entry 0 start (outcome.Taken p) ∷ map (echoed p) data_frames
-    ++ returned nrd ∷ echoed p last ∷ entry p eto (outcome.Taken 0) ∷ []
+abbrev pub answer_entries : ℕ → Frame → Answer → List Entry
+answer_entries c start NotTaken = returned c start ∷ []
+answer_entries c start (ToItsEnd p data_frames) =
+    entry c start (outcome.Taken p) ∷ map (echoed p) data_frames ++ entry p eto (outcome.Taken c) ∷ []
+answer_entries c start (Stopped p data_frames last) =
+    entry c start (outcome.Taken p) ∷ map (echoed p) data_frames
+    ++ returned c nrd ∷ echoed p last ∷ entry p eto (outcome.Taken c) ∷ []
 
--- the entries of an exchange
-abbrev pub entries_of : Exchange → List Entry
-entries_of (Command f) = commanded f
-entries_of (Address devices) = entry 0 (aad 1) (outcome.Back (aad (suc devices))) ∷ []
-entries_of (Send a number data_frames) =
-    commanded unl ++ commanded (lad a) ++ numbered ddl number ++ map (echoed 0) data_frames
-entries_of (Receive a number start answer) =
-    commanded unl ++ commanded (tad a) ++ numbered ddt number ++ answer_entries (start_frame start) answer ++ commanded unt
-entries_of (Identify f) = entry 0 (framed class.Idy 0x00) (outcome.Back f) ∷ []
+-- the entries of an exchange of controller c
+abbrev pub entries_of : ℕ → Exchange → List Entry
+entries_of c (Command f) = commanded c f
+entries_of c (Address devices) = entry c (aad 1) (outcome.Back (aad (suc devices))) ∷ []
+entries_of c (Send a number data_frames) =
+    commanded c unl ++ commanded c (lad a) ++ numbered c ddl number ++ map (echoed c) data_frames
+entries_of c (Receive a number start answer) =
+    commanded c unl ++ commanded c (tad a) ++ numbered c ddt number
+    ++ answer_entries c (start_frame start) answer ++ commanded c unt
+entries_of c (Identify f) = entry c (framed class.Idy 0x00) (outcome.Back f) ∷ []
 
 -- ---- which values are exchanges
 
@@ -102,7 +104,7 @@ is_talk_address m = false
 abbrev pub is_echo : Echo → Bool
 is_echo d = is_data d.sent && same_but_service d.sent d.back
 
--- the same of a frame DAB, which is what the host sends
+-- the same of a frame DAB, which is what a controller sends
 abbrev pub is_host_echo : Echo → Bool
 is_host_echo d = same_class (class_of d.sent) class.Dab && is_echo d
 
@@ -120,24 +122,28 @@ abbrev pub is_some_data : List Echo → Bool
 is_some_data [] = false
 is_some_data (d ∷ ds) = true
 
--- a device, not the host, took the start message and sent data or end frames, at least one
-abbrev pub is_answer : Answer → Bool
-is_answer NotTaken = true
-is_answer (ToItsEnd p data_frames) = nat_lt 0 p && (is_some_data data_frames && list_all is_echo data_frames)
-is_answer (Stopped p data_frames last) = nat_lt 0 p && (list_all is_echo data_frames && is_echo last)
+-- another party than controller c took the start message and sent data or end frames, at least one
+abbrev pub is_answer : ℕ → Answer → Bool
+is_answer c NotTaken = true
+is_answer c (ToItsEnd p data_frames) =
+    not (p == c) && (is_some_data data_frames && list_all is_echo data_frames)
+is_answer c (Stopped p data_frames last) = not (p == c) && (list_all is_echo data_frames && is_echo last)
 
--- the value is an exchange: among others, no command gives a talk address outside a receive
-abbrev pub is_exchange : Exchange → Bool
-is_exchange (Command f) = same_class (class_of f) class.Cmd && not (is_talk_address (message_of f))
-is_exchange (Address devices) = nat_le devices 30
-is_exchange (Send a number data_frames) = is_address a && (is_number number && list_all is_host_echo data_frames)
-is_exchange (Receive a number start answer) = is_address a && (is_number number && is_answer answer)
-is_exchange (Identify f) = same_class (class_of f) class.Idy || same_class (class_of f) class.Isr
+-- the value is an exchange on this ring: among others, no command gives a talk address outside a
+-- receive, and AAD comes back behind as many numbers as the ring has devices
+abbrev pub is_exchange : Loop → Exchange → Bool
+is_exchange l (Command f) = same_class (class_of f) class.Cmd && not (is_talk_address (message_of f))
+is_exchange l (Address devices) = devices == l.devices
+is_exchange l (Send a number data_frames) =
+    is_address a && (is_number number && list_all is_host_echo data_frames)
+is_exchange l (Receive a number start answer) =
+    is_address a && (is_number number && is_answer l.controller answer)
+is_exchange l (Identify f) = same_class (class_of f) class.Idy || same_class (class_of f) class.Isr
 
 -- ---- broken exchanges
 
--- how an exchange broke off: the frame that was due did not reach a party; the host's data frame came
--- back as another; a device's did, and that device's ETE ended so
+-- how an exchange broke off: the frame that was due did not reach a party; the controller's data frame
+-- came back as another; a device's did, and that device's ETE ended so
 pub data Break : Type 0 where
   FrameLost : ℕ → Break
   HostAltered : Frame → Break
@@ -150,21 +156,21 @@ break_entries due (HostAltered f) = entry due.source due.frame (outcome.Back f) 
 break_entries due (TalkerAltered f end) =
     entry due.source due.frame (outcome.Back f) ∷ entry due.source ete end ∷ []
 
--- ETE came to the host, or was lost
-abbrev pub is_end : Outcome → Bool
-is_end (outcome.Back f) = false
-is_end (outcome.Taken q) = q == 0
-is_end (outcome.Lost q) = true
+-- ETE came to controller c, or was lost
+abbrev pub is_end : ℕ → Outcome → Bool
+is_end c (outcome.Back f) = false
+is_end c (outcome.Taken q) = q == c
+is_end c (outcome.Lost q) = true
 
 -- a data or end frame that comes back so is another than the one sent
 abbrev pub is_altered : Frame → Frame → Bool
 is_altered f g = is_data f && not (same_but_service f g)
 
--- the break can stand in the place of this entry
-abbrev pub is_break : Entry → Break → Bool
-is_break due (FrameLost q) = true
-is_break due (HostAltered f) = (due.source == 0) && is_altered due.frame f
-is_break due (TalkerAltered f end) = nat_lt 0 due.source && (is_altered due.frame f && is_end end)
+-- the break of an exchange of controller c can stand in the place of this entry
+abbrev pub is_break : ℕ → Entry → Break → Bool
+is_break c due (FrameLost q) = true
+is_break c due (HostAltered f) = (due.source == c) && is_altered due.frame f
+is_break c due (TalkerAltered f end) = not (due.source == c) && (is_altered due.frame f && is_end c end)
 
 -- the first n entries, and then a break in the place of the next
 abbrev pub cut_at : List Entry → ℕ → Break → List Entry
@@ -173,10 +179,10 @@ cut_at (e ∷ es) zero b = break_entries e b
 cut_at (e ∷ es) (suc n) b = e ∷ cut_at es n b
 
 -- there is a next entry, and the break can stand in its place
-abbrev pub can_cut : List Entry → ℕ → Break → Bool
-can_cut [] n b = false
-can_cut (e ∷ es) zero b = is_break e b
-can_cut (e ∷ es) (suc n) b = can_cut es n b
+abbrev pub can_cut : ℕ → List Entry → ℕ → Break → Bool
+can_cut c [] n b = false
+can_cut c (e ∷ es) zero b = is_break c e b
+can_cut c (e ∷ es) (suc n) b = can_cut c es n b
 
 -- ---- logs
 
@@ -185,15 +191,15 @@ pub data Piece : Type 0 where
   Whole : Exchange → Piece
   Cut : Exchange → ℕ → Break → Piece
 
--- the entries of a whole or broken exchange
-abbrev pub piece_entries : Piece → List Entry
-piece_entries (Whole x) = entries_of x
-piece_entries (Cut x n b) = cut_at (entries_of x) n b
+-- the entries of a whole or broken exchange of controller c
+abbrev pub piece_entries : ℕ → Piece → List Entry
+piece_entries c (Whole x) = entries_of c x
+piece_entries c (Cut x n b) = cut_at (entries_of c x) n b
 
--- the value is a whole or broken exchange
-abbrev pub is_piece : Piece → Bool
-is_piece (Whole x) = is_exchange x
-is_piece (Cut x n b) = is_exchange x && can_cut (entries_of x) n b
+-- the value is a whole or broken exchange on this ring
+abbrev pub is_piece : Loop → Piece → Bool
+is_piece l (Whole x) = is_exchange l x
+is_piece l (Cut x n b) = is_exchange l x && can_cut l.controller (entries_of l.controller x) n b
 
 -- none is broken
 abbrev pub are_whole : List Piece → Bool
@@ -208,18 +214,18 @@ breaks_off (Whole x ∷ ps) = breaks_off ps
 breaks_off (Cut x n b ∷ []) = true
 breaks_off (Cut x n b ∷ p ∷ ps) = false
 
--- the log is a list of whole and broken exchanges
-pub record Reading (log : List Entry) : Type 0 where
+-- the log is a list of whole and broken exchanges of the controller
+pub record Reading (l : Loop) (log : List Entry) : Type 0 where
   pub pieces : List Piece
-  pub legal : list_all is_piece pieces ≡ true
-  pub entries : log ≡ flat_map piece_entries pieces
+  pub legal : list_all (is_piece l) pieces ≡ true
+  pub entries : log ≡ flat_map (piece_entries l.controller) pieces
 
 -- the log is a list of whole exchanges
-pub record IsWhole (log : List Entry) : Type 0 where
-  pub reading : Reading log
+pub record IsWhole (l : Loop) (log : List Entry) : Type 0 where
+  pub reading : Reading l log
   pub whole : are_whole reading.pieces ≡ true
 
 -- the log is a list of whole exchanges followed by one broken exchange
-pub record IsBroken (log : List Entry) : Type 0 where
-  pub reading : Reading log
+pub record IsBroken (l : Loop) (log : List Entry) : Type 0 where
+  pub reading : Reading l log
   pub broken : breaks_off reading.pieces ≡ true

@@ -1,17 +1,20 @@
 -- How far the frames of a log came, on a ring of k devices. The host is party 0 and the devices are
 -- parties 1 to k; link s goes from party s to the next, and link k back to the host. Lost frames and
 -- the counting of links are this project's own.
-use Rattle.std.specs.Prelude.{ℕ, suc, ◌+◌, ◌-◌, ◌==◌, nat_lt, nat_le, Bool, true, ◌&&◌, ◌||◌, if◌then◌else◌, List, [], ◌∷◌, Option, Some, None, sum_by, count_by, filter}
+use Rattle.std.specs.Prelude.{◌≡◌, ℕ, suc, ◌+◌, ◌-◌, ◌==◌, nat_lt, nat_le, Bool, true, ◌&&◌, ◌||◌, if◌then◌else◌, List, [], ◌∷◌, Option, Some, None, sum_by, count_by, filter}
 use Rattle.il_frames.specs.declared.entry.Entry.{Entry}
 use Rattle.il_frames.specs.declared.entry.Outcome.{Outcome}
 use Rattle.il_frames.specs.declared.entry.Outcome.TheVariants as outcome
 use Rattle.loop_model.specs.Entries.{is_lost_nrd}
 
--- a frame of the host that ended so reached this device
-abbrev pub is_reached : Outcome → ℕ → Bool
-is_reached (outcome.Back f) party = true
-is_reached (outcome.Taken q) party = nat_le party q
-is_reached (outcome.Lost q) party = (q == 0) || nat_lt party q
+-- a controller's frame of this source that ended so reached this device: its source, and of the others
+-- those on its way. The way of a frame of the host ends at the host; that of a device's, which is the
+-- last of the ring, begins there
+abbrev pub is_reached : ℕ → Outcome → ℕ → Bool
+is_reached source (outcome.Back f) party = true
+is_reached source (outcome.Taken q) party = (party == source) || nat_le party q
+is_reached source (outcome.Lost q) party =
+    (party == source) || (((source == 0) && (q == 0)) || nat_lt party q)
 
 -- how many links lie from one party to another in the ring's direction: 1 to k + 1
 abbrev pub distance : ℕ → ℕ → ℕ → ℕ
@@ -64,13 +67,26 @@ abbrev pub held_passes : ℕ → Option ℕ → ℕ
 held_passes party None = 0
 held_passes party (Some p) = if nat_lt p party then 1 else 0
 
+-- the crossings of links that entries stand for, with those of a frame that is still held
+abbrev pub links_so_far : ℕ → List Entry → Option ℕ → ℕ
+links_so_far k log held = sum_by (links_of k) log + held_links k held
+
+-- the number of frames that entries brought to a party, with one that is still held
+abbrev pub passes_so_far : ℕ → ℕ → List Entry → Option ℕ → ℕ
+passes_so_far k party log held = count_by (brings_to k party) log + held_passes party held
+
 -- the crossings of links that a log stands for
 abbrev pub links : ℕ → List Entry → ℕ
-links k log = sum_by (links_of k) log + held_links k (held_at_end None log)
+links k log = links_so_far k log (held_at_end None log)
 
 -- the number of frames that a log brought to a party
 abbrev pub passes : ℕ → ℕ → List Entry → ℕ
-passes k party log = count_by (brings_to k party) log + held_passes party (held_at_end None log)
+passes k party log = passes_so_far k party log (held_at_end None log)
+
+-- a log tells by itself whether a frame was held at its end: no device that sourced data before it
+-- matters
+abbrev pub TellsHeld : List Entry → Type 0
+TellsHeld log = (before : Option ℕ) → held_at_end before log ≡ held_at_end None log
 
 -- the planned hops, numbers of crossings, after the count `before` and up to the count `now`
 abbrev pub met : List ℕ → ℕ → ℕ → List ℕ

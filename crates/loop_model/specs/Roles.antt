@@ -28,16 +28,17 @@ abbrev pub passed_on : Message → Roles → Message
 passed_on (msg.Aad a) r = if device.takes_address r.address a then next_address a else msg.Aad a
 passed_on m r = m
 
--- the roles of the devices from this party on after a message of the host that ended so
-abbrev pub roles_along : Outcome → ℕ → Message → List Roles → List Roles
-roles_along o party m [] = []
-roles_along o party m (r ∷ rs) =
-    (if is_reached o party then roles_by m r else r)
-    ∷ roles_along o (suc party) (if is_reached o party then passed_on m r else m) rs
+-- the roles of the devices from this party on after a controller's message of this source that ended so
+abbrev pub roles_along : ℕ → Outcome → ℕ → Message → List Roles → List Roles
+roles_along source o party m [] = []
+roles_along source o party m (r ∷ rs) =
+    (if is_reached source o party then roles_by m r else r)
+    ∷ roles_along source o (suc party) (if is_reached source o party then passed_on m r else m) rs
 
 -- the roles of all devices after an entry: only the host's change them
 abbrev pub roles_after_entry : List Roles → Entry → List Roles
-roles_after_entry rs e = if e.source == 0 then roles_along e.outcome 1 (message_of e.frame) rs else rs
+roles_after_entry rs e =
+    if e.source == 0 then roles_along 0 e.outcome 1 (message_of e.frame) rs else rs
 
 -- the roles of all devices, in the order of the ring, after a log
 abbrev pub roles_after : List Roles → List Entry → List Roles

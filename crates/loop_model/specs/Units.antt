@@ -1,9 +1,10 @@
--- Transfers of records between the host and a drive, party d: three exchanges directly after each
--- other, which seek a record, move bytes and ask for the drive's status. The numbers of DDL and DDT
+-- Transfers of records between the controller and the drive: three exchanges directly after each other,
+-- which seek a record, move bytes and ask for the drive's status. The numbers of DDL and DDT
 -- are this project's own.
 use Rattle.std.specs.Prelude.{ℕ, ◌+◌, ◌*◌, ◌==◌, nat_lt, Bool, true, false, ◌&&◌, ◌||◌, if◌then◌else◌, List, [], ◌∷◌, ◌++◌, length, flat_map, Option, Some, None, is_some, option_map, option_and_then, option_to_list}
 use Rattle.il_frames.specs.declared.entry.Entry.{Entry}
 use Rattle.il_frames.specs.Frames.{is_data, byte_of}
+use Rattle.loop_model.specs.Loops.{Loop}
 use Rattle.loop_model.specs.Exchanges.{Exchange, Send, Receive, Sda, Sst, entries_of, cut_at, Piece, Whole, Cut}
 
 -- a write or else a read: its first record, its bytes as they were sent, and the status byte. Where
@@ -44,9 +45,9 @@ only_byte (byte ∷ []) = Some byte
 only_byte bytes = None
 
 -- the record that a whole seek, a send under DDL 4, names
-abbrev pub sought : ℕ → Piece → Option ℕ
-sought d (Whole x) = if is_send d 4 x then number_of (sent_bytes (entries_of x)) else None
-sought d (Cut x n b) = None
+abbrev pub sought : Loop → Piece → Option ℕ
+sought l (Whole x) = if is_send l.drive 4 x then number_of (sent_bytes (entries_of l.controller x)) else None
+sought l (Cut x n b) = None
 
 -- the exchange moves these bytes of a unit: out under DDL 2, in under DDT 2. A send of no byte is none:
 -- its entries are those of three commands
@@ -54,9 +55,9 @@ abbrev pub is_transfer : ℕ → Exchange → List ℕ → Bool
 is_transfer d x bytes = (is_send d 2 x && nat_lt 0 (length bytes)) || is_read d 2 x
 
 -- what the receive of the status says: the one byte, or that it broke off
-abbrev pub told_status : ℕ → Piece → Option (Option ℕ)
-told_status d (Whole x) = if is_status d x then option_map Some (only_byte (sent_bytes (entries_of x))) else None
-told_status d (Cut x n b) = if is_status d x then Some None else None
+abbrev pub told_status : Loop → Piece → Option (Option ℕ)
+told_status l (Whole x) = if is_status l.drive x then option_map Some (only_byte (sent_bytes (entries_of l.controller x))) else None
+told_status l (Cut x n b) = if is_status l.drive x then Some None else None
 
 -- the unit on record k whose second exchange moved these bytes, with this status
 abbrev pub unit_of : ℕ → ℕ → Exchange → List ℕ → Option ℕ → Option RecordUnit
@@ -64,30 +65,30 @@ unit_of d k x bytes status =
     if is_transfer d x bytes then Some (record { writes = is_send d 2 x; first = k; bytes = bytes; status = status }) else None
 
 -- the unit on record k whose second and third exchange stand first here; a broken second is its last
-abbrev pub unit_after_seek : ℕ → List Piece → ℕ → Option RecordUnit
-unit_after_seek d [] k = None
-unit_after_seek d (Cut x n b ∷ ps) k = unit_of d k x (sent_bytes (cut_at (entries_of x) n b)) None
-unit_after_seek d (Whole x ∷ []) k = None
-unit_after_seek d (Whole x ∷ p ∷ ps) k = option_and_then (unit_of d k x (sent_bytes (entries_of x))) (told_status d p)
+abbrev pub unit_after_seek : Loop → List Piece → ℕ → Option RecordUnit
+unit_after_seek l [] k = None
+unit_after_seek l (Cut x n b ∷ ps) k = unit_of l.drive k x (sent_bytes (cut_at (entries_of l.controller x) n b)) None
+unit_after_seek l (Whole x ∷ []) k = None
+unit_after_seek l (Whole x ∷ p ∷ ps) k = option_and_then (unit_of l.drive k x (sent_bytes (entries_of l.controller x))) (told_status l p)
 
 -- the unit whose first exchange stands first here
-abbrev pub unit_at : ℕ → List Piece → Option RecordUnit
-unit_at d [] = None
-unit_at d (p ∷ ps) = option_and_then (unit_after_seek d ps) (sought d p)
+abbrev pub unit_at : Loop → List Piece → Option RecordUnit
+unit_at l [] = None
+unit_at l (p ∷ ps) = option_and_then (unit_after_seek l ps) (sought l p)
 
 -- the units of a log, in order; a unit's second and third exchange begin no other unit
-abbrev pub units_of : ℕ → List Piece → List RecordUnit
-units_of d [] = []
-units_of d (p ∷ ps) = option_to_list (unit_at d (p ∷ ps)) ++ units_of d ps
+abbrev pub units_of : Loop → List Piece → List RecordUnit
+units_of l [] = []
+units_of l (p ∷ ps) = option_to_list (unit_at l (p ∷ ps)) ++ units_of l ps
 
 -- after a seek these exchanges are the rest of the log, and leave the unit open
-abbrev pub is_open : ℕ → List Piece → Bool
-is_open d [] = true
-is_open d (Whole x ∷ []) = is_transfer d x (sent_bytes (entries_of x))
-is_open d (Whole x ∷ p ∷ ps) = false
-is_open d (Cut x n b ∷ ps) = false
+abbrev pub is_open : Loop → List Piece → Bool
+is_open l [] = true
+is_open l (Whole x ∷ []) = is_transfer l.drive x (sent_bytes (entries_of l.controller x))
+is_open l (Whole x ∷ p ∷ ps) = false
+is_open l (Cut x n b ∷ ps) = false
 
 -- the exchanges end within a unit, though none of them broke off: what follows could go on with it
-abbrev pub ends_within : ℕ → List Piece → Bool
-ends_within d [] = false
-ends_within d (p ∷ ps) = (is_some (sought d p) && is_open d ps) || ends_within d ps
+abbrev pub ends_within : Loop → List Piece → Bool
+ends_within l [] = false
+ends_within l (p ∷ ps) = (is_some (sought l p) && is_open l ps) || ends_within l ps

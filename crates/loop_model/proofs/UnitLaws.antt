@@ -1,0 +1,166 @@
+-- Laws of the entries of sends and receives, of the bytes that they moved, and of the units that they are.
+use Rattle.std.proofs.Common.{◌≡◌, ◌≤◌, ◌<◌, ◌∙◌, ◌+◌, ◌-◌, ◌*◌, ◌++◌, ◌&&◌, ◌||◌, ◌==◌, ℕ, zero, suc, Bool, true, false, not, List, [], ◌∷◌, Option, Some, None, map, flat_map, length, refl, sym, ap, arith, eq-eqb, append_assoc, append-nil, length-append}
+use Rattle.std.specs.Prelude.{if◌then◌else◌, nat_lt}
+use Rattle.std.specs.List.{list_all}
+use Rattle.std.proofs.lemmas.Bool.{and_parts, and_from}
+use Rattle.std.proofs.lemmas.Bool.Decides.{nat_tests}
+use Rattle.std.proofs.lemmas.List.{map-append, length-map}
+use Rattle.std.proofs.lemmas.Grind.{flat_map-append}
+use Rattle.il_frames.specs.declared.frame.Frame.{Frame}
+use Rattle.il_frames.specs.declared.entry.Entry.{Entry}
+use Rattle.il_frames.specs.declared.entry.Outcome.TheVariants as outcome
+use Rattle.il_frames.specs.Frames.{byte_of, is_data, same_but_service}
+use Rattle.il_device.specs.Takes.{eto}
+use Rattle.loop_model.specs.Loops.{Loop}
+use Rattle.loop_model.specs.Entries.{entry, unl, unt, tad, ddt, nrd}
+use Rattle.loop_model.specs.Reach.{distance}
+use Rattle.loop_model.specs.Exchanges.{Echo, Exchange, Send, Receive, Start, Sda, Sst, Sdi, Sai, Answer, NotTaken, ToItsEnd, Stopped, Break, Piece, Whole, Cut, start_frame, returned, commanded, echoed, numbered, answer_entries, entries_of, cut_at, is_echo}
+use Rattle.loop_model.specs.Units.{RecordUnit, sent_bytes, units_of}
+
+-- ---- distances
+
+-- a frame that comes back to its source has gone round
+pub distance-self : (k s : ℕ) → distance k s s ≡ suc k
+distance-self k s = grind (arith, nat_tests)
+
+-- the next party is one link away, and each further one is one link more
+pub distance-first : (k s : ℕ) → distance k s (suc s) ≡ 1
+distance-first k s = grind (arith, nat_tests)
+
+pub distance-next : (k s p : ℕ) → s ≤ k → (p ≡ s → ⊥) → distance k s (suc p) ≡ suc (distance k s p)
+distance-next k s p on other = grind (arith, nat_tests)
+
+-- behind the last device comes the host
+pub distance-home : (k s : ℕ) → s < k → distance k s 0 ≡ suc (distance k s k)
+distance-home k s on = grind (arith, nat_tests)
+
+pub distance-range : (k s p : ℕ) → s ≤ k → p ≤ k → (1 ≤ distance k s p) × (distance k s p ≤ suc k)
+distance-range k s p on there = (grind (arith, nat_tests), grind (arith, nat_tests))
+
+-- ---- the entries of a receive
+
+-- up to its start message
+abbrev pub receive_front : ℕ → ℕ → Option ℕ → List Entry
+receive_front c a number = commanded c unl ++ commanded c (tad a) ++ numbered c ddt number
+
+-- up to the data frames so far
+abbrev pub receive_open : ℕ → ℕ → Option ℕ → Frame → ℕ → List Echo → List Entry
+receive_open c a number start p ds = receive_front c a number ++ entry c start (outcome.Taken p) ∷ map (echoed p) ds
+
+pub entries_of-receive : (c a : ℕ) (number : Option ℕ) (s : Start) (answer : Answer) →
+    entries_of c (Receive a number s answer) ≡ receive_front c a number ++ (answer_entries c (start_frame s) answer ++ commanded c unt)
+entries_of-receive c a number s answer = append_assoc (receive_front c a number) (answer_entries c (start_frame s) answer) (commanded c unt)
+
+-- one more data frame
+pub receive_open-more : (c a : ℕ) (number : Option ℕ) (start : Frame) (p : ℕ) (ds : List Echo) (d : Echo) →
+    receive_open c a number start p (ds ++ d ∷ []) ≡ receive_open c a number start p ds ++ echoed p d ∷ []
+receive_open-more c a number start p ds d =
+    ap (λ (es : List Entry). receive_front c a number ++ entry c start (outcome.Taken p) ∷ es) (map-append (echoed p) ds (d ∷ []))
+    ∙ sym (append_assoc (receive_front c a number) (entry c start (outcome.Taken p) ∷ map (echoed p) ds) (echoed p d ∷ []))
+
+-- the end
+pub entries_of-to_its_end : (c a : ℕ) (number : Option ℕ) (s : Start) (p : ℕ) (ds : List Echo) →
+    entries_of c (Receive a number s (ToItsEnd p ds)) ≡ receive_open c a number (start_frame s) p ds ++ entry p eto (outcome.Taken c) ∷ commanded c unt
+entries_of-to_its_end c a number s p ds =
+    entries_of-receive c a number s (ToItsEnd p ds)
+    ∙ ap (λ (es : List Entry). receive_front c a number ++ entry c (start_frame s) (outcome.Taken p) ∷ es) (append_assoc (map (echoed p) ds) (entry p eto (outcome.Taken c) ∷ []) (commanded c unt))
+    ∙ sym (append_assoc (receive_front c a number) (entry c (start_frame s) (outcome.Taken p) ∷ map (echoed p) ds) (entry p eto (outcome.Taken c) ∷ commanded c unt))
+
+pub entries_of-stopped : (c a : ℕ) (number : Option ℕ) (s : Start) (p : ℕ) (ds : List Echo) (last : Echo) →
+    entries_of c (Receive a number s (Stopped p ds last)) ≡
+    receive_open c a number (start_frame s) p ds ++ returned c nrd ∷ echoed p last ∷ entry p eto (outcome.Taken c) ∷ commanded c unt
+entries_of-stopped c a number s p ds last =
+    entries_of-receive c a number s (Stopped p ds last)
+    ∙ ap (λ (es : List Entry). receive_front c a number ++ entry c (start_frame s) (outcome.Taken p) ∷ es)
+    (append_assoc (map (echoed p) ds) (returned c nrd ∷ echoed p last ∷ entry p eto (outcome.Taken c) ∷ []) (commanded c unt))
+    ∙ sym (append_assoc (receive_front c a number) (entry c (start_frame s) (outcome.Taken p) ∷ map (echoed p) ds) (returned c nrd ∷ echoed p last ∷ entry p eto (outcome.Taken c) ∷ commanded c unt))
+
+-- ---- lengths
+
+length-numbered : (c : ℕ) (frame : ℕ → Frame) (number : Option ℕ) → length (numbered c frame number) ≤ 2
+length-numbered c frame None = omega arith
+length-numbered c frame (Some n) = omega arith
+
+-- a send has an entry for each byte, and at most six before them
+pub length-send : (c a : ℕ) (number : Option ℕ) (ds : List Echo) → length (entries_of c (Send a number ds)) ≤ length ds + 6
+length-send c a None ds = let n = length-map ds (echoed c) in omega (arith, n)
+length-send c a (Some m) ds = let n = length-map ds (echoed c) in omega (arith, n)
+
+length-answer : (c : ℕ) (start : Frame) (p : ℕ) (ds : List Echo) (last : Echo) → length (answer_entries c start (Stopped p ds last)) ≡ length ds + 4
+length-answer c start p ds last =
+    let more = length-append (map (echoed p) ds) (returned c nrd ∷ echoed p last ∷ entry p eto (outcome.Taken c) ∷ []) in
+    let n = length-map ds (echoed p) in
+    omega (arith, more, n)
+
+-- ---- the bytes that were sent
+
+pub sent_bytes-append : (first second : List Entry) → sent_bytes (first ++ second) ≡ sent_bytes first ++ sent_bytes second
+sent_bytes-append first second = flat_map-append (λ e. if is_data e.frame then byte_of e.frame ∷ [] else []) first second
+
+-- the bytes of data frames
+abbrev pub bytes_of : List Echo → List ℕ
+bytes_of ds = map (λ d. byte_of d.sent) ds
+
+pub one_byte : (b : Bool) (byte : ℕ) (bytes : List ℕ) → b ≡ true → (if b then byte ∷ [] else []) ++ bytes ≡ byte ∷ bytes
+one_byte true byte bytes e = refl
+one_byte false byte bytes e = cc
+
+sent_data : (d : Echo) → is_echo d ≡ true → is_data d.sent ≡ true
+sent_data d e = (and_parts (is_data d.sent) (same_but_service d.sent d.back) e).0
+
+-- data frames sent their bytes
+pub sent_bytes-echoed : (p : ℕ) (ds : List Echo) → list_all is_echo ds ≡ true → sent_bytes (map (echoed p) ds) ≡ bytes_of ds
+sent_bytes-echoed p [] e = refl
+sent_bytes-echoed p (d ∷ ds) e =
+    let parts = and_parts (is_echo d) (list_all is_echo ds) e in
+    one_byte (is_data d.sent) (byte_of d.sent) (sent_bytes (map (echoed p) ds)) (sent_data d parts.0)
+    ∙ ap (λ (bytes : List ℕ). byte_of d.sent ∷ bytes) (sent_bytes-echoed p ds parts.1)
+
+-- a send sent its bytes
+pub sent_bytes-send : (c a : ℕ) (number : Option ℕ) (ds : List Echo) → list_all is_echo ds ≡ true → sent_bytes (entries_of c (Send a number ds)) ≡ bytes_of ds
+sent_bytes-send c a None ds e = sent_bytes-echoed c ds e
+sent_bytes-send c a (Some n) ds e = sent_bytes-echoed c ds e
+
+no_data_front : (c a : ℕ) (number : Option ℕ) (rest : List Entry) → sent_bytes (receive_front c a number ++ rest) ≡ sent_bytes rest
+no_data_front c a None rest = refl
+no_data_front c a (Some n) rest = refl
+
+start_no_data : (s : Start) → is_data (start_frame s) ≡ false
+start_no_data Sda = refl
+start_no_data Sst = refl
+start_no_data Sdi = refl
+start_no_data Sai = refl
+
+no_byte : (b : Bool) (byte : ℕ) (bytes : List ℕ) → b ≡ false → (if b then byte ∷ [] else []) ++ bytes ≡ bytes
+no_byte true byte bytes e = cc
+no_byte false byte bytes e = refl
+
+-- the data frames of a receive so far
+pub sent_bytes-open : (c a : ℕ) (number : Option ℕ) (s : Start) (p : ℕ) (ds : List Echo) → list_all is_echo ds ≡ true →
+    sent_bytes (receive_open c a number (start_frame s) p ds) ≡ bytes_of ds
+sent_bytes-open c a number s p ds e =
+    no_data_front c a number _ ∙ no_byte (is_data (start_frame s)) (byte_of (start_frame s)) (sent_bytes (map (echoed p) ds)) (start_no_data s) ∙ sent_bytes-echoed p ds e
+
+-- a receive to its end brought its bytes
+pub sent_bytes-to_its_end : (c a : ℕ) (number : Option ℕ) (s : Start) (p : ℕ) (ds : List Echo) → list_all is_echo ds ≡ true →
+    sent_bytes (entries_of c (Receive a number s (ToItsEnd p ds))) ≡ bytes_of ds
+sent_bytes-to_its_end c a number s p ds e =
+    ap sent_bytes (entries_of-to_its_end c a number s p ds)
+    ∙ sent_bytes-append (receive_open c a number (start_frame s) p ds) (entry p eto (outcome.Taken c) ∷ commanded c unt)
+    ∙ ap (λ (bytes : List ℕ). bytes ++ []) (sent_bytes-open c a number s p ds e) ∙ append-nil (bytes_of ds)
+
+-- and so did one that was stopped
+pub sent_bytes-stopped : (c a : ℕ) (number : Option ℕ) (s : Start) (p : ℕ) (ds : List Echo) (last : Echo) → list_all is_echo ds ≡ true → is_echo last ≡ true →
+    sent_bytes (entries_of c (Receive a number s (Stopped p ds last))) ≡ bytes_of ds ++ byte_of last.sent ∷ []
+sent_bytes-stopped c a number s p ds last e f =
+    ap sent_bytes (entries_of-stopped c a number s p ds last)
+    ∙ sent_bytes-append (receive_open c a number (start_frame s) p ds) (returned c nrd ∷ echoed p last ∷ entry p eto (outcome.Taken c) ∷ commanded c unt)
+    ∙ ap (λ (bytes : List ℕ). bytes ++ sent_bytes (returned c nrd ∷ echoed p last ∷ entry p eto (outcome.Taken c) ∷ commanded c unt)) (sent_bytes-open c a number s p ds e)
+    ∙ ap (λ (bytes : List ℕ). bytes_of ds ++ bytes) (one_byte (is_data last.sent) (byte_of last.sent) [] (sent_data last f))
+
+-- one that was not taken brought none
+pub sent_bytes-not_taken : (c a : ℕ) (number : Option ℕ) (s : Start) → sent_bytes (entries_of c (Receive a number s NotTaken)) ≡ []
+sent_bytes-not_taken c a number s =
+    ap sent_bytes (entries_of-receive c a number s NotTaken)
+    ∙ no_data_front c a number (returned c (start_frame s) ∷ commanded c unt)
+    ∙ no_byte (is_data (start_frame s)) (byte_of (start_frame s)) [] (start_no_data s)
