@@ -1,9 +1,9 @@
 -- A read and a write of one record are runs of one record.
-use Rattle.std.proofs.Common.{◌≡◌, ◌<◌, ◌≤◌, ◌∙◌, ◌⊎◌, ⊎_elim, inl, inr, ℕ, List, [], ◌∷◌, ◌++◌, length, set, refl, sym, ap, subst, arith, append-nil}
+use Rattle.std.proofs.Common.{◌≡◌, ◌<◌, ◌∙◌, ⊎_elim, inl, inr, ℕ, List, [], ◌∷◌, ◌++◌, length, set, sym, ap, subst, arith, append-nil}
 use Rattle.std.specs.Prelude.{Option, Some, Result, Ok, Err, true}
 use Rattle.lif_model.specs.Tape.{Tape, IsTape, DidRead, DidReadRun, record_at}
-use Rattle.lif_model.specs.Stops.{Torn, Wrote, Elapses}
-use Rattle.lif_model.specs.Transfers.{Transfer, PartlyReplaced, WroteRun}
+use Rattle.lif_model.specs.Stops.{Wrote, Elapses}
+use Rattle.lif_model.specs.Transfers.{Transfer, WroteRun}
 use Rattle.lif_model.proofs.Runs.{bytes_from_one, one_replaced, replaced_one, one_torn, torn_one}
 use Rattle.il_ports.specs.Transfers.{Added, Adds}
 use Rattle.il_ports.specs.Stores.{RecordsView, IsStore, Fetched, Stored, FetchedRun, StoredRun}

@@ -1,7 +1,7 @@
 -- Runs of records in memory.
 use Rattle.std.proofs.Common.{◌≡◌, ◌<◌, ◌≤◌, ◌+◌, ◌-◌, ◌*◌, ◌++◌, ℕ, zero, suc, List, [], ◌∷◌, true, length, get_or, set, take, refl, sym, ◌∙◌, ap, subst, arith, below_more, append_assoc, append-nil}
 use Rattle.std.proofs.lemmas.List.{get_or_default}
-use Rattle.std.specs.Prelude.{Option, Some, None, Result, Ok, Err}
+use Rattle.std.specs.Prelude.{Some, None, Result, Ok, Err}
 use Rattle.lif_model.specs.Tape.{Tape, record_at, bytes_from}
 use Rattle.lif_model.specs.Transfers.{Replaced, PartlyReplaced, WroteRun}
 use Rattle.lif_model.proofs.Runs.{bytes_from_more, replaced_more, same_tape}

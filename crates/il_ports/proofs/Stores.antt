@@ -1,5 +1,5 @@
 -- How a store goes on over calls.
-use Rattle.std.proofs.Common.{◌≡◌, ◌∙◌, ◌+◌, ◌≤◌, ℕ, true, refl, subst, arith}
+use Rattle.std.proofs.Common.{◌≡◌, ◌∙◌, ◌+◌, ◌≤◌, ℕ, refl, subst, arith}
 use Rattle.std.specs.Prelude.{Result, Some, Ok}
 use Rattle.lif_model.specs.Tape.{Tape}
 use Rattle.lif_model.proofs.Moments.{started, still}

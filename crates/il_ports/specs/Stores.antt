@@ -1,5 +1,5 @@
 -- What contracts see of a store of records, and what its calls do.
-use Rattle.std.specs.Prelude.{◌≡◌, ◌<◌, ◌≤◌, ◌+◌, ◌/◌, ◌%◌, ℕ, List, [], ◌∷◌, Bool, true, false, length, Option, Some, Result, is_some}
+use Rattle.std.specs.Prelude.{◌≡◌, ◌<◌, ◌≤◌, ◌+◌, ◌%◌, ℕ, List, [], Bool, true, false, length, Option, Some, Result, is_some}
 use Rattle.lif_model.specs.Tape.{Tape, IsTape, DidRead, DidReadRun}
 use Rattle.lif_model.specs.Shelf.{bytes_of}
 use Rattle.lif_model.specs.Stops.{Torn, Wrote, Elapses, StandsStill, LeavesOnly}

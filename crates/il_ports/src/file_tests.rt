@@ -84,7 +84,12 @@ impl OpenFile for Noting {
 // A write is a seek, the bytes and a sync, and fails where one of them does.
 #[test]
 fn a_write_is_synced(rt: HostRuntime) -> Result<(), Fail> {
-    let all = [Asked::Seek(768), Asked::Write(256), Asked::Sync, Asked::Nothing];
+    let all = [
+        Asked::Seek(768),
+        Asked::Write(256),
+        Asked::Sync,
+        Asked::Nothing,
+    ];
     for fails in 0..4 {
         let mut file = Noting {
             asked: Cell::new([Asked::Nothing; 4]),
@@ -107,6 +112,7 @@ struct Hidden(ErrorKind);
 
 impl Files for Hidden {
     type File = File;
+
     type Dir = File;
 
     fn open_file(&self, _: &OpenOptions, _: &str) -> io::Result<File> {

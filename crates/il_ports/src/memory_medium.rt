@@ -74,12 +74,7 @@ fn behind_write<'a>(n: usize, place: u16, new: &'a [u8; 256], old: &'a [u8; 256]
 }
 
 // Makes two equal tapes, of so many records, of what the image reads as.
-fn put_in(
-    bytes: &[u8],
-    records: u16,
-    tape: &mut Vec<[u8; 256]>,
-    first: &mut Vec<[u8; 256]>,
-)
+fn put_in(bytes: &[u8], records: u16, tape: &mut Vec<[u8; 256]>, first: &mut Vec<[u8; 256]>)
     requires tape { records ≤ length tape.old.items }
     requires first { length first.old.items ≡ length tape.old.items }
     ensures content { tape.new.items ≡ cut records bytes.now }
@@ -226,7 +221,12 @@ impl MemoryMedium {
     }
 
     // The record as it was behind these writes, or within the next one.
-    fn record_at<'a>(&'a self, n: usize, writes: usize, torn: Option<&'a [u8; 256]>) -> &'a [u8; 256]
+    fn record_at<'a>(
+        &'a self,
+        n: usize,
+        writes: usize,
+        torn: Option<&'a [u8; 256]>,
+    ) -> &'a [u8; 256]
         requires within { n < length self.now.first.items }
         requires made { writes ≤ length self.now.history.items }
         requires next { IsSome torn → writes < length self.now.history.items }

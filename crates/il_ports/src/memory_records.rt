@@ -195,8 +195,7 @@ impl Records for MemoryRecords {
 
     fn begin(&mut self)
         ensures state { state_of self.new ≡ state_of self.old }
-    {
-    }
+    {}
 
     fn resume(&mut self) -> Result<(), Trouble>
         requires left { 1 ≤ (state_of self.old).left }

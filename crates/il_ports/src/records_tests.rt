@@ -103,7 +103,11 @@ fn runs_end_at_a_failing_record(rt: HostRuntime) -> Result<(), Fail> {
                     want[255] = 0;
                 }
                 assert!(rt; usize::from(n) < store.records().len());
-                assert_eq!(rt; store.records()[usize::from(n)].as_slice(), want.as_slice(), "{count} {fails} {n}");
+                assert_eq!(rt;
+                    store.records()[usize::from(n)].as_slice(),
+                    want.as_slice(),
+                    "{count} {fails} {n}"
+                );
             }
         }
     }

@@ -1,6 +1,6 @@
 use crate::{
-    Failed, FileMedium, Inserted, Medium, MemoryMedium, MemorySink, MemorySource, New, Sink, Source,
-    StdSink, StdSource,
+    Failed, FileMedium, Inserted, Medium, MemoryMedium, MemorySink, MemorySource, New, Sink,
+    Source, StdSink, StdSource,
 };
 use std::alloc::{AllocError, Global};
 use std::process::Abort;
@@ -8,6 +8,7 @@ use std::test::Fail;
 use std::{fs, io};
 
 const TAPE_BYTES: usize = 131_072;
+
 const DISC_BYTES: usize = 630_784;
 
 // How many bytes an image has, and what an insert of it answers, with how many records.
@@ -116,7 +117,10 @@ fn a_new_image_in_memory(rt: HostRuntime) -> Result<(), Fail> {
     assert_eq!(rt; medium.size(), 0);
     assert_eq!(rt; medium.insert(longer.as_str(), New::Disc), Err(Failed));
     assert_eq!(rt; medium.size(), 0);
-    assert_eq!(rt; medium.insert(longest.as_str(), New::Disc), Ok(Inserted::Tape));
+    assert_eq!(rt;
+        medium.insert(longest.as_str(), New::Disc),
+        Ok(Inserted::Tape)
+    );
     assert_eq!(rt; medium.size(), 2464);
     let mut into = [1; 256];
     assert_eq!(rt; medium.read(2463, &mut into), Ok(()));
@@ -175,7 +179,10 @@ fn sizes_in_memory(rt: HostRuntime) -> Result<(), Fail> {
     let alloc = rt.alloc();
     for (length, want, records) in SIZES {
         let mut shelf = Vec::new(alloc);
-        shelf.push((String::from_str(alloc, "IMAGE")?, vec![in alloc; 3; length]?))?;
+        shelf.push((
+            String::from_str(alloc, "IMAGE")?,
+            vec![in alloc; 3; length]?,
+        ))?;
         let [reads, inserts] = [Vec::new(alloc), Vec::new(alloc)];
         let mut medium = MemoryMedium::new(alloc, shelf, reads, Vec::new(alloc), inserts, 0)?;
         assert_eq!(rt; medium.size(), 0);

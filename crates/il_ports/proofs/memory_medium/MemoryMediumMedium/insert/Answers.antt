@@ -1,4 +1,4 @@
-use Rattle.std.proofs.Common.{◌≡◌, ◌≤◌, ℕ, [], length, get_or, subst, rules, sym, ◌∙◌}
+use Rattle.std.proofs.Common.{◌≡◌, ◌≤◌, [], length, get_or, subst, rules}
 use Rattle.std.specs.Prelude.{Some, None}
 use Rattle.std.specs.String.{string_bytes}
 use Rattle.lif_model.specs.Shelf.{image_of, bytes_of, largest_image, records_for}

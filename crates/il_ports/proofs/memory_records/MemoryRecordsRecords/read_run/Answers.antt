@@ -1,4 +1,4 @@
-use Rattle.std.proofs.Common.{◌≡◌, ◌∙◌, ◌+◌, ◌*◌, ◌++◌, take, ap, sym, arith}
+use Rattle.std.proofs.Common.{◌∙◌, ◌+◌, ◌*◌, ◌++◌, take, ap, sym, arith}
 use Rattle.std.specs.Prelude.{Ok}
 use Rattle.il_ports.specs.Counted.{failing}
 use Rattle.il_ports.specs.MemoryRecords.{state_of, counted}

@@ -1,4 +1,4 @@
-use Rattle.std.proofs.Common.{◌≡◌, ◌<◌, ◌+◌, ◌-◌, ◌*◌, ℕ, true, length, take}
+use Rattle.std.proofs.Common.{◌≡◌, ◌<◌, ◌+◌, ◌*◌, ℕ, length, take}
 use Rattle.std.specs.Prelude.{None, Ok}
 use Rattle.lif_model.specs.Tape.{bytes_from}
 use Rattle.il_ports.specs.Counted.{failing}

@@ -1,4 +1,4 @@
-use Rattle.std.proofs.Common.{◌≡◌, ◌<◌, ◌++◌, ℕ, List, [], ◌∷◌, sym, ap, length, ◌∙◌}
+use Rattle.std.proofs.Common.{◌<◌, ◌++◌, ℕ, List, [], ◌∷◌, sym, ap, length, ◌∙◌}
 use Rattle.lif_model.proofs.History.{elapses_same_first}
 use Rattle.il_ports.proofs.memory_records.MemoryRecordsRecords.write.Goals as goal
 

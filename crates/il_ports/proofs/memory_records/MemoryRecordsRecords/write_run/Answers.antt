@@ -1,5 +1,5 @@
-use Rattle.std.proofs.Common.{◌≡◌, ◌<◌, ◌∙◌, ◌+◌, ◌*◌, ◌++◌, ℕ, List, [], ◌∷◌, ap, sym, subst, rules, arith, length, get_or, set, take, drop}
-use Rattle.std.specs.Prelude.{Some, Ok, Err, Result}
+use Rattle.std.proofs.Common.{◌≡◌, ◌<◌, ◌∙◌, ◌+◌, ◌++◌, ℕ, List, [], ◌∷◌, ap, sym, subst, rules, arith, length, get_or, set, drop}
+use Rattle.std.specs.Prelude.{Some, Err, Result}
 use Rattle.lif_model.specs.Shelf.{piece, cut}
 use Rattle.lif_model.specs.Stops.{Torn}
 use Rattle.lif_model.specs.Transfers.{PartlyReplaced}
