@@ -147,7 +147,7 @@ set_torn : (n : ℕ) (bytes : List ℕ) (t : Tape) → length bytes ≡ length (
 set_torn n bytes t size within = torn_by t n bytes size within
 
 none_replaced : (n : ℕ) (t u : Tape) → Replaced n [] t u → u ≡ t
-none_replaced n t u done = ext_get_or [] u t done.records (λ k lt. elim (cases_lt k n) [ | inl less ↦ done.before k less | inr more ↦ done.behind k (omega (arith, more)) ])
+none_replaced n t u done = ext_get_or [] u t done.records (λ k lt. elim (cases_lt k n) [ inl less ↦ done.before k less | inr more ↦ done.behind k (omega (arith, more)) ])
 
 pub torn_one : (n : ℕ) (bytes : List ℕ) (t c : Tape) → length bytes ≡ length (record_at t n) → n < length t → PartlyReplaced n (bytes ∷ []) t c → Torn n t c
 torn_one n bytes t c size within partly = go partly.count partly.in_range partly.written partly.replaced partly.torn
