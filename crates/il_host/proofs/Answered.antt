@@ -11,14 +11,14 @@ use Rattle.il_host.specs.Entries.{slot_text}
 use Rattle.il_script.specs.Sheet.{Sheet}
 use Rattle.il_script.specs.Replies.{reply_line}
 use Rattle.il_host.specs.Replies.{reply_text}
-use Rattle.il_host.specs.Reading.{IsDirectory, HasStopCause}
+use Rattle.il_host.specs.Reading.{IsDirectory, HasUnreadCause}
 use Rattle.il_host.specs.Events.{State, Performs}
 use Rattle.il_script.specs.declared.reply.Code.{Code}
 use Rattle.il_host.specs.declared.item.Command.TheVariants.{Dir}
 use Rattle.il_script.specs.declared.reply.Reply.{Reply}
 use Rattle.il_script.specs.declared.reply.Reply.TheVariants as reply
-use Rattle.il_host.specs.declared.directory.Stop.{Stop}
-use Rattle.il_host.specs.declared.directory.Stop.TheVariants as stop
+use Rattle.il_host.specs.declared.directory.Unread.{Unread}
+use Rattle.il_host.specs.declared.directory.Unread.TheVariants as unread
 use Rattle.il_host.proofs.Listings.{listing-read}
 
 abbrev pub with_text : Sheet → List ℕ → Sheet
@@ -36,16 +36,16 @@ listed t header slots blank lines page r empty put ends is h s =
 abbrev pub state : Tape → ℕ → State
 state tape faults = record { tape = tape; faults = faults }
 
-refusal : (t : Tape) (c : Code) (f g : ℕ) (slots : List Slot) → IsDirectory t (Err (stop.Refused c)) slots → g ≡ f → Performs (state t f) Dir (reply.No c) (state t g)
+refusal : (t : Tape) (c : Code) (f g : ℕ) (slots : List Slot) → IsDirectory t (Err (unread.Refused c)) slots → g ≡ f → Performs (state t f) Dir (reply.No c) (state t g)
 refusal t c f g slots directory same = (ap (state t) same, sym directory)
 
-abbrev pub stopped : Stop → Result HeaderParts Stop
+abbrev pub stopped : Unread → Result HeaderParts Unread
 stopped why = Err why
 
 -- a directory that was refused
-pub refused : (t : Tape) (c : Code) (why : Stop) (slots : List Slot) (f h g : ℕ) (r : Reply) → why ≡ stop.Refused c
-    → IsDirectory t (Err why) slots → HasStopCause 0 0 h g (stopped why) → h ≡ f → r ≡ reply.No c → Performs (state t f) Dir r (state t g)
+pub refused : (t : Tape) (c : Code) (why : Unread) (slots : List Slot) (f h g : ℕ) (r : Reply) → why ≡ unread.Refused c
+    → IsDirectory t (Err why) slots → HasUnreadCause 0 0 h g (stopped why) → h ≡ f → r ≡ reply.No c → Performs (state t f) Dir r (state t g)
 refused t c why slots f h g r is directory cause count replied =
-    let d = subst (λ (w : Stop). IsDirectory t (Err w) slots) is directory in
-    let k = subst (λ (w : Stop). HasStopCause 0 0 h g (stopped w)) is cause in
+    let d = subst (λ (w : Unread). IsDirectory t (Err w) slots) is directory in
+    let k = subst (λ (w : Unread). HasUnreadCause 0 0 h g (stopped w)) is cause in
     subst (λ (x : Reply). Performs (state t f) Dir x (state t g)) (sym replied) (refusal t c f g slots d (k.1 ∙ count))

@@ -11,7 +11,7 @@ use Rattle.il_ports.specs.declared.medium.Inserted.TheVariants as answers
 use Rattle.il_ports.specs.declared.medium.New.TheVariants.{No}
 use Rattle.il_host.specs.Words.{image_in}
 use Rattle.il_host.specs.Events.{State, Event, Step, Chained}
-use Rattle.il_host.specs.Run.{Answers, status_of}
+use Rattle.il_host.specs.Run.{AnswersScript, exit_status}
 use Rattle.il_host.specs.Whole.{RunsOver, Leaves, Inserts}
 use Rattle.il_script.specs.declared.reply.Reply.{Reply}
 use Rattle.il_script.specs.declared.reply.Reply.TheVariants as reply
@@ -34,7 +34,7 @@ chain-tape start [] finish h = ap (λ (s : State). s.tape) h
 chain-tape start (e ∷ events) finish h =
     chain-tape e.after events finish h.2 ∙ step-tape e.before e.after e.item e.reply h.1 ∙ ap (λ (s : State). s.tape) h.0
 
-answers-tape : (e : Ending) (script : List ℕ) (start finish : State) (left before now : Option (List ℕ)) → Answers e script start finish left before now → finish.tape ≡ start.tape
+answers-tape : (e : Ending) (script : List ℕ) (start finish : State) (left before now : Option (List ℕ)) → AnswersScript e script start finish left before now → finish.tape ≡ start.tape
 answers-tape ending.AllOk script start finish left before now h = chain-tape start h.events finish h.answered.chain
 answers-tape ending.SomeNotOk script start finish left before now h = chain-tape start h.events finish h.answered.chain
 answers-tape ending.SourceFailed script start finish left before now h = chain-tape start h.events finish h.answered.chain
@@ -50,12 +50,12 @@ abbrev pub state : Tape → ℕ → State
 state tape faults = record { tape = tape; faults = faults }
 
 pub runs-over : (e : Ending) (script : List ℕ) (t u : Tape) (f f' : ℕ) (tape_now : Option Tape) (left before now : Option (List ℕ))
-    → tape_now ≡ Some u → Answers e script (state t f) (state u f') left before now → RunsOver e script t f tape_now f' left before now
+    → tape_now ≡ Some u → AnswersScript e script (state t f) (state u f') left before now → RunsOver e script t f tape_now f' left before now
 runs-over e script t u f f' tape_now left before now told a =
     let same : u ≡ t = answers-tape e script (state t f) (state u f') left before now a in
-    over e (told ∙ ap Some same) (subst (λ (v : Tape). Answers e script (state t f) (state v f') left before now) same a)
+    over e (told ∙ ap Some same) (subst (λ (v : Tape). AnswersScript e script (state t f) (state v f') left before now) same a)
   where
-    over : (e : Ending) → tape_now ≡ Some t → Answers e script (state t f) (state t f') left before now → RunsOver e script t f tape_now f' left before now
+    over : (e : Ending) → tape_now ≡ Some t → AnswersScript e script (state t f) (state t f') left before now → RunsOver e script t f tape_now f' left before now
     over ending.OutOfMemory told a = absurd a
     over ending.AllOk told a = (told, a)
     over ending.SomeNotOk told a = (told, a)
@@ -112,36 +112,36 @@ ending_of n = if n == 0 then Some ending.AllOk else (if n == 1 then Some ending.
     else (if n == 6 then Some ending.SinkFailed else (if n == 7 then Some ending.OutOfMemory else (if n == 8 then Some ending.ScriptTooLong
     else (if n == 9 then Some ending.InsertFailed else None)))))))))
 
-ending_of-status_of : (e : Ending) → ending_of (status_of e) ≡ Some e
+ending_of-exit_status : (e : Ending) → ending_of (exit_status e) ≡ Some e
 unfolding ending_of
-ending_of-status_of ending.AllOk = refl
-ending_of-status_of ending.SomeNotOk = refl
-ending_of-status_of ending.BadWords = refl
-ending_of-status_of ending.NoImage = refl
-ending_of-status_of ending.ImageTooLarge = refl
-ending_of-status_of ending.SourceFailed = refl
-ending_of-status_of ending.SinkFailed = refl
-ending_of-status_of ending.OutOfMemory = refl
-ending_of-status_of ending.ScriptTooLong = refl
-ending_of-status_of ending.InsertFailed = refl
+ending_of-exit_status ending.AllOk = refl
+ending_of-exit_status ending.SomeNotOk = refl
+ending_of-exit_status ending.BadWords = refl
+ending_of-exit_status ending.NoImage = refl
+ending_of-exit_status ending.ImageTooLarge = refl
+ending_of-exit_status ending.SourceFailed = refl
+ending_of-exit_status ending.SinkFailed = refl
+ending_of-exit_status ending.OutOfMemory = refl
+ending_of-exit_status ending.ScriptTooLong = refl
+ending_of-exit_status ending.InsertFailed = refl
 
 -- no two endings have one number
-pub same-ending : (a b : Ending) (n : ℕ) → n ≡ status_of a → n ≡ status_of b → a ≡ b
+pub same-ending : (a b : Ending) (n : ℕ) → n ≡ exit_status a → n ≡ exit_status b → a ≡ b
 same-ending a b n x y =
-    let e : Some a ≡ Some b = sym (ending_of-status_of a) ∙ ap ending_of (sym x ∙ y) ∙ ending_of-status_of b in
+    let e : Some a ≡ Some b = sym (ending_of-exit_status a) ∙ ap ending_of (sym x ∙ y) ∙ ending_of-exit_status b in
     cc
 
 pub runs-over-from : (e : Ending) (script : List ℕ) (t u : Tape) (f g f' g' : ℕ) (tape_now : Option Tape) (left before now : Option (List ℕ))
-    → tape_now ≡ Some u → f ≡ g → g' ≡ f' → Answers e script (state t f) (state u f') left before now → RunsOver e script t g tape_now g' left before now
+    → tape_now ≡ Some u → f ≡ g → g' ≡ f' → AnswersScript e script (state t f) (state u f') left before now → RunsOver e script t g tape_now g' left before now
 runs-over-from e script t u f g f' g' tape_now left before now told first last a =
     subst (λ (n : ℕ). RunsOver e script t n tape_now g' left before now) first
-    (runs-over e script t u f g' tape_now left before now told (subst (λ (n : ℕ). Answers e script (state t f) (state u n) left before now) (sym last) a))
+    (runs-over e script t u f g' tape_now left before now told (subst (λ (n : ℕ). AnswersScript e script (state t f) (state u n) left before now) (sym last) a))
 
 pub over-from : (e : Ending) (script : List ℕ) (t : Tape) (f g f' : ℕ) (tape_now : Option Tape) (left before now : Option (List ℕ))
     → f ≡ g → RunsOver e script t f tape_now f' left before now → RunsOver e script t g tape_now f' left before now
 over-from e script t f g f' tape_now left before now same r = subst (λ (n : ℕ). RunsOver e script t n tape_now f' left before now) same r
 
 pub leaves-as : (a b : Ending) (n : ℕ) (words : List (List ℕ)) (shelf : Shelf) (script : List ℕ) (f : ℕ) (tape_now : Option Tape) (f' : ℕ) (left before now : Option (List ℕ))
-    → n ≡ status_of a → n ≡ status_of b → Leaves a words shelf script f tape_now f' left before now → Leaves b words shelf script f tape_now f' left before now
+    → n ≡ exit_status a → n ≡ exit_status b → Leaves a words shelf script f tape_now f' left before now → Leaves b words shelf script f tape_now f' left before now
 leaves-as a b n words shelf script f tape_now f' left before now x y h =
     subst (λ (e : Ending). Leaves e words shelf script f tape_now f' left before now) (same-ending a b n x y) h

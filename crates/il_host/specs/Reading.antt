@@ -9,20 +9,20 @@ use Rattle.lif_dir.specs.Entries.{slot_from}
 use Rattle.lif_dir.specs.declared.entries.Slot.{Slot}
 use Rattle.il_host.specs.Replies.{dir_reply}
 use Rattle.il_script.specs.declared.reply.Reply.TheVariants as reply
-use Rattle.il_host.specs.declared.directory.Stop.{Stop}
-use Rattle.il_host.specs.declared.directory.Stop.TheVariants as stop
+use Rattle.il_host.specs.declared.directory.Unread.{Unread}
+use Rattle.il_host.specs.declared.directory.Unread.TheVariants as unread
 
-abbrev pub troubled : Trouble → Stop
-troubled trouble = stop.Trouble trouble
+abbrev pub troubled : Trouble → Unread
+troubled trouble = unread.Trouble trouble
 
 -- the header and the slots are those of the tape, or `dir` is refused by this code
-abbrev pub IsDirectory : Tape → Result HeaderParts Stop → List Slot → Type 0
+abbrev pub IsDirectory : Tape → Result HeaderParts Unread → List Slot → Type 0
 IsDirectory tape (Ok header) slots =
     (dir_reply tape ≡ reply.Ok) × (header ≡ header_of (record_at tape 0)) × (slots ≡ map slot_from (slots_of tape))
-IsDirectory tape (Err (stop.Refused code)) slots = dir_reply tape ≡ reply.No code
-IsDirectory tape (Err (stop.Trouble trouble)) slots = Unit {0}
+IsDirectory tape (Err (unread.Refused code)) slots = dir_reply tape ≡ reply.No code
+IsDirectory tape (Err (unread.Trouble trouble)) slots = Unit {0}
 
 -- a refusal moves no count of faults
-abbrev pub HasStopCause : {T : Type 0} → ℕ → ℕ → ℕ → ℕ → Result T Stop → Type 0
-HasStopCause frames_before frames_now medium_before medium_now (Err (stop.Trouble trouble)) = TroubleIs frames_before frames_now medium_before medium_now trouble
-HasStopCause frames_before frames_now medium_before medium_now other = (frames_now ≡ frames_before) × (medium_now ≡ medium_before)
+abbrev pub HasUnreadCause : {T : Type 0} → ℕ → ℕ → ℕ → ℕ → Result T Unread → Type 0
+HasUnreadCause frames_before frames_now medium_before medium_now (Err (unread.Trouble trouble)) = TroubleIs frames_before frames_now medium_before medium_now trouble
+HasUnreadCause frames_before frames_now medium_before medium_now other = (frames_now ≡ frames_before) × (medium_now ≡ medium_before)

@@ -49,13 +49,13 @@ pub record AnswersFront (script : List ℕ) (start finish : State) (written_befo
   pub written : Appends written_before written_now (output_of done ++ take size (event_text last))
 
 -- what is left of the script, and what was written, where both are told
-abbrev pub Answers : Ending → List ℕ → State → State → Option (List ℕ) → Option (List ℕ) → Option (List ℕ) → Type 0
-Answers ending.AllOk script start finish left before now = AnswersAll script start finish left before now true
-Answers ending.SomeNotOk script start finish left before now = AnswersAll script start finish left before now false
-Answers ending.SourceFailed script start finish left before now = AnswersTaken script start finish left before now
-Answers ending.SinkFailed script start finish left before now = AnswersFront script start finish before now
-Answers ending.ScriptTooLong script start finish left before now = AnswersLongest script start finish before now
-Answers other script start finish left before now = ⊥
+abbrev pub AnswersScript : Ending → List ℕ → State → State → Option (List ℕ) → Option (List ℕ) → Option (List ℕ) → Type 0
+AnswersScript ending.AllOk script start finish left before now = AnswersAll script start finish left before now true
+AnswersScript ending.SomeNotOk script start finish left before now = AnswersAll script start finish left before now false
+AnswersScript ending.SourceFailed script start finish left before now = AnswersTaken script start finish left before now
+AnswersScript ending.SinkFailed script start finish left before now = AnswersFront script start finish before now
+AnswersScript ending.ScriptTooLong script start finish left before now = AnswersLongest script start finish before now
+AnswersScript other script start finish left before now = ⊥
 
 -- ---- counts of faults
 
@@ -85,14 +85,14 @@ pub record HasEndingCause (ending : Ending) (source_before source_now sink_befor
 
 -- ---- the number of an ending
 
-abbrev pub status_of : Ending → ℕ
-status_of ending.AllOk = 0
-status_of ending.SomeNotOk = 1
-status_of ending.BadWords = 2
-status_of ending.NoImage = 3
-status_of ending.ImageTooLarge = 4
-status_of ending.SourceFailed = 5
-status_of ending.SinkFailed = 6
-status_of ending.OutOfMemory = 7
-status_of ending.ScriptTooLong = 8
-status_of ending.InsertFailed = 9
+abbrev pub exit_status : Ending → ℕ
+exit_status ending.AllOk = 0
+exit_status ending.SomeNotOk = 1
+exit_status ending.BadWords = 2
+exit_status ending.NoImage = 3
+exit_status ending.ImageTooLarge = 4
+exit_status ending.SourceFailed = 5
+exit_status ending.SinkFailed = 6
+exit_status ending.OutOfMemory = 7
+exit_status ending.ScriptTooLong = 8
+exit_status ending.InsertFailed = 9

@@ -3,7 +3,7 @@ use Rattle.std.specs.Prelude.{◌≡◌, ℕ, ◌≤◌, ◌<◌, List, length, 
 use Rattle.lif_model.specs.Tape.{Tape}
 use Rattle.lif_model.specs.Shelf.{Shelf, image_of, tape_of, largest_image}
 use Rattle.il_host.specs.Words.{image_in}
-use Rattle.il_host.specs.Run.{Answers}
+use Rattle.il_host.specs.Run.{AnswersScript}
 use Rattle.il_host.specs.declared.ending.Ending.{Ending}
 use Rattle.il_host.specs.declared.ending.Ending.TheVariants as ending
 
@@ -28,7 +28,7 @@ HasNoTape other = ⊥
 abbrev pub RunsOver : Ending → List ℕ → Tape → ℕ → Option Tape → ℕ → Option (List ℕ) → Option (List ℕ) → Option (List ℕ) → Type 0
 RunsOver ending.OutOfMemory script tape faults tape_now faults_now left before now = tape_now ≡ Some tape
 RunsOver other script tape faults tape_now faults_now left before now =
-    (tape_now ≡ Some tape) × Answers other script (record { tape = tape; faults = faults }) (record { tape = tape; faults = faults_now }) left before now
+    (tape_now ≡ Some tape) × AnswersScript other script (record { tape = tape; faults = faults }) (record { tape = tape; faults = faults_now }) left before now
 
 -- the words name an image
 abbrev pub Names : List (List ℕ) → List ℕ → Type 0

@@ -2,28 +2,28 @@ ghost use Rattle.std.specs.Prelude.{◌≡◌, ◌+◌, ◌*◌, ◌≤◌, true
 ghost use Rattle.lif_model.specs.Tape.{Tape};
 ghost use Rattle.lif_model.specs.Gate.{is_open};
 ghost use Rattle.il_ports.specs.Stores.{Continues, IsQuiet};
-ghost use Rattle.il_host.specs.Reading.{IsDirectory, HasStopCause, troubled};
+ghost use Rattle.il_host.specs.Reading.{IsDirectory, HasUnreadCause, troubled};
 
 use il_ports::{Records, Trouble};
-use lif_dir::{SlotTable, slots_of};
 use il_script::Code;
+use lif_dir::{SlotTable, slots_of};
 use lif_header::Header;
 
 /// Why a directory was not read.
 #[derive(Clone, Copy, Debug, PartialEq, Eq)]
-pub enum Stop {
+pub enum Unread {
     Refused(Code),
     Trouble(Trouble),
 }
 
-impl From<Trouble> for Stop {
+impl From<Trouble> for Unread {
     ghost use Rattle.std.specs.Prelude.{◌≡◌};
     ghost use Rattle.il_host.specs.Reading.{troubled};
 
     ghost from_gives = { λ trouble stop. stop ≡ troubled trouble };
 
-    fn from(trouble: Trouble) -> Stop {
-        Stop::Trouble(trouble)
+    fn from(trouble: Trouble) -> Unread {
+        Unread::Trouble(trouble)
     }
 }
 
@@ -49,7 +49,7 @@ fn make_sound<R: Records>(records: &mut R) -> Result<(), Trouble>
 }
 
 // Reads the header of the volume, and its slots into the table.
-pub fn read_directory<R: Records>(records: &mut R, table: &mut SlotTable) -> Result<Header, Stop>
+pub fn read_directory<R: Records>(records: &mut R, table: &mut SlotTable) -> Result<Header, Unread>
     requires valid { (R.view records.old).valid }
     requires size { 4 ≤ (R.view records.old).record_count }
     requires left { (R.view records.old).record_count + 3 ≤ (R.view records.old).calls_left }
@@ -59,7 +59,7 @@ pub fn read_directory<R: Records>(records: &mut R, table: &mut SlotTable) -> Res
     ensures tape { (R.view records.new).tape ≡ (R.view records.old).tape }
     ensures size { (R.view records.new).record_count ≡ (R.view records.old).record_count }
     ensures room { table.new.room ≡ table.old.room }
-    ensures cause { HasStopCause (R.view records.old).frame_faults (R.view records.new).frame_faults
+    ensures cause { HasUnreadCause (R.view records.old).frame_faults (R.view records.new).frame_faults
         (R.view records.old).medium_faults (R.view records.new).medium_faults result }
 {
     make_sound(records)?;
@@ -67,11 +67,11 @@ pub fn read_directory<R: Records>(records: &mut R, table: &mut SlotTable) -> Res
     let mut bytes = [0; 256];
     records.read(count - 4, &mut bytes)?;
     if is_open_gate(&bytes) {
-        return Err(Stop::Refused(Code::NoRedo));
+        return Err(Unread::Refused(Code::NoRedo));
     }
     records.read(0, &mut bytes)?;
     let Ok(header) = Header::read(&bytes, count) else {
-        return Err(Stop::Refused(Code::NotLif));
+        return Err(Unread::Refused(Code::NotLif));
     };
     slots_of(records, &header, table)?;
     Ok(header)

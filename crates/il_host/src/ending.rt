@@ -26,11 +26,11 @@ pub enum Ending {
 }
 
 impl Ending {
-    ghost use Rattle.il_host.specs.Run.{status_of};
+    ghost use Rattle.il_host.specs.Run.{exit_status};
 
     /// The exit status of the program, 0 to 9 in the order above.
     pub fn status(self) -> u8
-        ensures { result ≡ status_of self }
+        ensures { result ≡ exit_status self }
     {
         match self {
             Ending::AllOk => 0,

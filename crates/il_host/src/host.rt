@@ -1,13 +1,13 @@
 ghost use Rattle.std.specs.Prelude.{◌≡◌, ◌≤◌, ◌+◌, ◌*◌, ◌++◌, [], length, IfOk};
 ghost use Rattle.il_script.specs.Replies.{reply_line};
 
-use crate::directory::{Stop, read_directory};
+use crate::directory::{Unread, read_directory};
 use crate::item::Command;
 use crate::listing::put_listing;
 use crate::performer::Performer;
 use crate::store::Store;
-use il_script::{Page, Reply};
 use il_ports::{Medium, Records, Trouble};
+use il_script::{Page, Reply};
 use lif_dir::SlotTable;
 use std::alloc::{AllocError, Global};
 
@@ -123,9 +123,9 @@ impl<M: Medium> Host<M> {
                 put_listing(&mut self.page, &header, &self.table);
                 answered(&mut self.page, Reply::Ok)
             }
-            Err(Stop::Refused(code)) => answered(&mut self.page, Reply::No(code)),
-            Err(Stop::Trouble(Trouble::Frame)) => answered(&mut self.page, Reply::FaultFrame),
-            Err(Stop::Trouble(Trouble::Medium)) => answered(&mut self.page, Reply::FaultMedium),
+            Err(Unread::Refused(code)) => answered(&mut self.page, Reply::No(code)),
+            Err(Unread::Trouble(Trouble::Frame)) => answered(&mut self.page, Reply::FaultFrame),
+            Err(Unread::Trouble(Trouble::Medium)) => answered(&mut self.page, Reply::FaultMedium),
         }
     }
 

@@ -1,7 +1,7 @@
 ghost use Rattle.std.specs.Prelude.{◌≡◌, ◌≢◌, ◌≤◌, ◌↔◌, ℕ, List, Some, None, map, string_bytes};
 ghost use Rattle.lif_model.specs.Tape.{Tape};
 ghost use Rattle.lif_model.specs.Shelf.{Shelf};
-ghost use Rattle.il_host.specs.Run.{HasEndingCause, status_of};
+ghost use Rattle.il_host.specs.Run.{HasEndingCause, exit_status};
 ghost use Rattle.il_host.specs.Whole.{Leaves, RunsOver, IsEarly, HasNoTape};
 ghost use Rattle.il_host.specs.Words.{image_in};
 ghost use Rattle.il_host.specs.declared.ending.Ending.{Ending};
@@ -81,7 +81,7 @@ fn run<S: Source, K: Sink, M: Medium>(
     }
 }
 
-/// Answers the script of a run: reads the words, inserts the image that they name, opens a host on it, and answers
+/// AnswersScript the script of a run: reads the words, inserts the image that they name, opens a host on it, and answers
 /// line after line.
 pub fn run_il<S: Source, K: Sink, M: Medium>(
     alloc: Global,
@@ -92,16 +92,16 @@ pub fn run_il<S: Source, K: Sink, M: Medium>(
 ) -> Ended<M>
     requires { (M.view rig.medium).record_count ≡ 0 }
     ensures leaves { (bytes : List ℕ) (shelf : Shelf) (ending : Ending) → S.left script.old ≡ Some bytes → (M.view rig.medium).shelf ≡ Some shelf
-        → result.status ≡ status_of ending
+        → result.status ≡ exit_status ending
         → Leaves ending (map string_bytes words.now) shelf bytes (M.view rig.medium).faults
         (M.view result.rig.medium).tape (M.view result.rig.medium).faults (S.left script.new) (K.written out.old) (K.written out.new) }
     ensures words { (result.status ≡ 2) ↔ (image_in (map string_bytes words.now) ≡ None) }
-    ensures cause { (ending : Ending) → result.status ≡ status_of ending
+    ensures cause { (ending : Ending) → result.status ≡ exit_status ending
         → HasEndingCause ending (S.faults script.old) (S.faults script.new)
         (K.faults out.old) (K.faults out.new) (M.view rig.medium).faults (M.view result.rig.medium).faults }
-    ensures untouched { (ending : Ending) → result.status ≡ status_of ending → IsEarly ending
+    ensures untouched { (ending : Ending) → result.status ≡ exit_status ending → IsEarly ending
         → (script.new ≡ script.old) × (out.new ≡ out.old) }
-    ensures empty { (ending : Ending) → result.status ≡ status_of ending → HasNoTape ending
+    ensures empty { (ending : Ending) → result.status ≡ exit_status ending → HasNoTape ending
         → ((M.view result.rig.medium).record_count ≡ 0) × ((M.view result.rig.medium).shelf ≡ (M.view rig.medium).shelf) }
     ensures status { result.status ≤ 9 }
 {

@@ -4,7 +4,7 @@ ghost use Rattle.lif_model.specs.Causes.{HasCause};
 ghost use Rattle.il_host.specs.Events.{State, Step, HasReplyCause, item_text};
 ghost use Rattle.il_host.specs.Items.{item_of};
 ghost use Rattle.il_script.specs.Progress.{line_given};
-ghost use Rattle.il_host.specs.Run.{Answers, HasEndingCause};
+ghost use Rattle.il_host.specs.Run.{AnswersScript, HasEndingCause};
 ghost use Rattle.il_host.specs.Whole.{IsEarly};
 ghost use Rattle.il_host.specs.Writing.{WritesAll};
 
@@ -25,7 +25,7 @@ fn item(lines: &Lines, line: Line) -> Option<Item>
     }
 }
 
-// Answers an item, and writes the text of the reply.
+// AnswersScript an item, and writes the text of the reply.
 fn answer<P: Performer, K: Sink>(
     host: &mut P,
     item: Item,
@@ -52,7 +52,7 @@ fn answer<P: Performer, K: Sink>(
     }
 }
 
-// Answers the lines of a script, one by one.
+// AnswersScript the lines of a script, one by one.
 pub fn answer_all<S: Source, P: Performer, K: Sink>(
     mut lines: Lines,
     script: &mut S,
@@ -64,7 +64,7 @@ pub fn answer_all<S: Source, P: Performer, K: Sink>(
     ensures valid { P.valid host.new }
     ensures answers { (bytes : List ℕ) (t : Tape) → S.left script.old ≡ Some bytes → P.tape host.old ≡ Some t
         → (u : Tape) × (P.tape host.new ≡ Some u)
-        × Answers result bytes (record { tape = t; faults = P.faults host.old }) (record { tape = u; faults = P.faults host.new })
+        × AnswersScript result bytes (record { tape = t; faults = P.faults host.old }) (record { tape = u; faults = P.faults host.new })
         (S.left script.new) (K.written out.old) (K.written out.new) }
     ensures cause { HasEndingCause result (S.faults script.old) (S.faults script.new)
         (K.faults out.old) (K.faults out.new) (P.faults host.old) (P.faults host.new) }

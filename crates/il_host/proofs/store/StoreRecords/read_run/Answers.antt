@@ -1,4 +1,4 @@
-use Rattle.std.proofs.Common.{◌∙◌, ◌&&◌, ◌+◌, ◌*◌, ◌++◌, true, take, ap, arith}
+use Rattle.std.proofs.Common.{◌∙◌, ◌&&◌, ◌*◌, ◌++◌, true, take, ap, arith}
 use Rattle.il_ports.proofs.RunsInMemory.{bytes_more}
 use Rattle.il_host.proofs.store.StoreRecords.read_run.Goals as goal
 

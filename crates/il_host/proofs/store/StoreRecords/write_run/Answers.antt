@@ -1,11 +1,10 @@
-use Rattle.std.proofs.Common.{◌≡◌, ◌<◌, ◌∙◌, subst, ◌&&◌, ◌+◌, ◌*◌, List, ℕ, [], true, false, length, get_or, set, drop, refl, sym, ap, arith, rules}
-use Rattle.std.specs.Prelude.{Some, Err, Result}
+use Rattle.std.proofs.Common.{◌≡◌, ◌<◌, ◌∙◌, subst, ◌&&◌, ◌+◌, List, ℕ, [], true, false, length, get_or, set, drop, refl, sym, ap, arith, rules}
+use Rattle.std.specs.Prelude.{Err, Result}
 use Rattle.lif_model.specs.Causes.{Rose}
 use Rattle.il_ports.specs.Trouble.{HasTroubleCause, TroubleIs, answers_ok}
 use Rattle.il_ports.specs.Transfers.{Adds}
 use Rattle.il_ports.specs.declared.records.Trouble.{Trouble}
 use Rattle.il_ports.specs.declared.records.Trouble.TheVariants.{Medium}
-use Rattle.lif_model.specs.Tape.{Tape}
 use Rattle.lif_model.specs.Shelf.{piece, cut, bytes_of}
 use Rattle.lif_model.specs.Stops.{Torn}
 use Rattle.lif_model.specs.Transfers.{PartlyReplaced, WroteRun}
@@ -66,8 +65,7 @@ loop-i-preserved g c =
       rest = c.after_record-rest.ensures ∙ ap (λ (l : List ℕ). drop 256 l) v.rest ∙ drop_next c.loop-i.i c.args.from.now;
       replaced = λ t told.
           let u = v.replaced t told in
-          let size = (g.met.M.Medium.is_medium c.args.self.now.medium).is_tape t told in
-          (
+          let size = (g.met.M.Medium.is_medium c.args.self.now.medium).is_tape t told in (
             set u.0 (c.args.first + c.loop-i.i) c.next_record.result,
             r.content u.0 u.1,
             replaced_next c.args.first c.loop-i.i pieces t u.0 _ c.next_record.result more bytes refl (omega (arith, c.requires.within, long, size.records)) u.2,
