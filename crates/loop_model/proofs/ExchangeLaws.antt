@@ -46,7 +46,7 @@ module _ (l : Loop) where
       let parts = and_parts (is_echo d) (list_all is_echo ds) e in
       and_from (stands (echoed p d)) (list_all stands (map (echoed p) ds)) (echo_stands p d parts.0) (echoes_stand p ds parts.1)
 
-  host_echoes : (ds : List Echo) → list_all is_host_echo ds ≡ true → list_all is_echo ds ≡ true
+  pub host_echoes : (ds : List Echo) → list_all is_host_echo ds ≡ true → list_all is_echo ds ≡ true
   host_echoes [] e = refl
   host_echoes (d ∷ ds) e =
       let parts = and_parts (is_host_echo d) (list_all is_host_echo ds) e in

@@ -23,7 +23,9 @@ use Rattle.loop_model.specs.Roles.{roles_along, roles_after_entry, roles_after, 
 use Rattle.loop_model.specs.Exchanges.{Echo, Exchange, Command, Address, Send, Receive, Identify, Start, Sda, Sst, Sdi, Sai, Answer, NotTaken, ToItsEnd, Stopped, Break, FrameLost, HostAltered, TalkerAltered, Piece, Whole, Cut, start_frame, returned, commanded, echoed, numbered, answer_entries, entries_of, break_entries, cut_at, can_cut, is_break, is_altered, is_echo, is_host_echo, is_number, is_address, is_talk_address, is_answer, is_some_data, is_exchange, is_piece, piece_entries, is_end}
 use Rattle.loop_model.proofs.RoleLaws.{gives_no_talk, quiet_log, no_talkers, all_quiet, roles_after-append, lad_no_talk, ddl_no_talk, echoes_no_talk, data_no_talk}
 use Rattle.loop_model.proofs.RoleSteps.{changes_roles, keeps_roles, kept_entry, one_talker-kept, are_numbered, one_talker-addressed}
-use Rattle.loop_model.proofs.TalkLaws.{gives_no_aau, are_numbered-log, talkers-tad, length-roles_after}
+use Rattle.loop_model.proofs.ExchangeLaws.{host_echoes}
+use Rattle.loop_model.proofs.UnitLaws.{entries_of-receive}
+use Rattle.loop_model.proofs.TalkLaws.{is_aau, gives_no_aau, are_numbered-log, talkers-tad, length-roles_after}
 
 -- ---- logs that may break off anywhere
 
@@ -343,3 +345,167 @@ safe_unanswered rs number s one low =
     safe_mute rs (returned 0 rfc ∷ (numbered 0 ddt number ++ (returned 0 (start_frame s) ∷ commanded 0 unt))) one
     (list_all-append gives_no_talk (numbered 0 ddt number) (returned 0 (start_frame s) ∷ commanded 0 unt) ∙ and_from _ _ ddts.0 (and_from _ _ start.0 refl))
     (list_all-append is_mute (numbered 0 ddt number) (returned 0 (start_frame s) ∷ commanded 0 unt) ∙ and_from _ _ ddts.1 (and_from _ _ start.1 refl))
+
+-- ---- exchanges
+
+-- the device that takes a start message is the one that was asked for, and is on the ring of k devices
+abbrev pub is_asked_for : ℕ → ℕ → ℕ → Bool
+is_asked_for k a p = (p == a) && (nat_le 1 a && nat_le a k)
+
+abbrev pub answers_as_asked : ℕ → Exchange → Bool
+answers_as_asked k (Receive a number s (ToItsEnd p ds)) = is_asked_for k a p
+answers_as_asked k (Receive a number s (Stopped p ds last)) = is_asked_for k a p
+answers_as_asked k x = true
+
+safe_taken : (rs : List Roles) (a p : ℕ) (number : Option ℕ) (s : Start) (answer : Answer) → are_numbered 1 rs ≡ true → talkers rs ≡ [] →
+    is_address a ≡ true → is_number number ≡ true → is_answer 0 answer ≡ true → answering answer ≡ Some p → is_asked_for (length rs) a p ≡ true →
+    IsSafe rs (entries_of 0 (Receive a number s answer))
+safe_taken rs a p number s answer numbers silent low small legal who asked =
+    let parts = and_parts (p == a) (nat_le 1 a && nat_le a (length rs)) asked in
+    let range = and_parts (nat_le 1 a) (nat_le a (length rs)) parts.1 in
+    let between = roles_after rs (commanded 0 unl) in
+    let many = length-roles_after rs (commanded 0 unl) in
+    let talks =
+    talkers-tad between a (returned 0 (tad a)) (are_numbered-log rs (commanded 0 unl) refl numbers) (quiet_front rs silent) refl (message_of-tad a low)
+    (leb-true 1 a range.0) (omega (arith, many, leb-true a (length rs) range.1)) refl in
+    subst (IsSafe rs) (sym (entries_of-receive 0 a number s answer))
+    (safe_receive rs a (returned 0 rfc ∷ (numbered 0 ddt number ++ (answer_entries 0 (start_frame s) answer ++ commanded 0 unt))) numbers silent low
+    (safe_answer (roles_after rs (talk_front a)) number s answer p (talks ∙ ap (λ (q : ℕ). q ∷ []) (sym (eqb-true p a parts.0))) who small legal))
+
+receive_legal : (size drive a : ℕ) (number : Option ℕ) (s : Start) (answer : Answer) → is_exchange (host_loop size drive) (Receive a number s answer) ≡ true →
+    (is_address a ≡ true) × (is_number number ≡ true) × (is_answer 0 answer ≡ true)
+receive_legal size drive a number s answer e =
+    let parts = and_parts (is_address a) (is_number number && is_answer 0 answer) e in
+    let more = and_parts (is_number number) (is_answer 0 answer) parts.1 in
+    (parts.0, more.0, more.1)
+
+-- a legal exchange of numbered devices of which none talks, whose device answers by its own address, is
+-- safe
+pub safe_exchange : (size drive : ℕ) (rs : List Roles) (x : Exchange) → is_exchange (host_loop size drive) x ≡ true → answers_as_asked (length rs) x ≡ true →
+    are_numbered 1 rs ≡ true → talkers rs ≡ [] → IsSafe rs (entries_of 0 x)
+safe_exchange size drive rs (Command f) legal asked numbers silent =
+    let parts = and_parts (same_class f.class class.Cmd) (not (is_talk_address (message_of f))) legal in
+    safe_silent rs (commanded 0 f) silent (and_from _ _ parts.1 refl) (and_from _ _ (mute_turn [] (returned 0 f) (is_mute-command f parts.0)) refl)
+safe_exchange size drive rs (Address devices) legal asked numbers silent = safe_silent rs (entries_of 0 (Address devices)) silent refl refl
+safe_exchange size drive rs (Send a number ds) legal asked numbers silent = safe_send size drive rs a number ds legal silent
+safe_exchange size drive rs (Receive a number s NotTaken) legal asked numbers silent =
+    let parts = receive_legal size drive a number s NotTaken legal in
+    let between = roles_after rs (commanded 0 unl) in
+    let one = one_talker-addressed between a (returned 0 (tad a)) (are_numbered-log rs (commanded 0 unl) refl numbers) (quiet_front rs silent) (message_of-tad a parts.0) in
+    subst (IsSafe rs) (sym (entries_of-receive 0 a number s NotTaken))
+    (safe_receive rs a (returned 0 rfc ∷ (numbered 0 ddt number ++ (returned 0 (start_frame s) ∷ commanded 0 unt))) numbers silent parts.0
+    (safe_unanswered (roles_after rs (talk_front a)) number s one parts.1))
+safe_exchange size drive rs (Receive a number s (ToItsEnd p ds)) legal asked numbers silent =
+    let parts = receive_legal size drive a number s (ToItsEnd p ds) legal in
+    safe_taken rs a p number s (ToItsEnd p ds) numbers silent parts.0 parts.1 parts.2 refl asked
+safe_exchange size drive rs (Receive a number s (Stopped p ds last)) legal asked numbers silent =
+    let parts = receive_legal size drive a number s (Stopped p ds last) legal in
+    safe_taken rs a p number s (Stopped p ds last) numbers silent parts.0 parts.1 parts.2 refl asked
+safe_exchange size drive rs (Identify f) legal asked numbers silent = safe_silent rs (entries_of 0 (Identify f)) silent refl refl
+
+-- the exchange of a piece
+abbrev pub exchange_in : Piece → Exchange
+exchange_in (Whole x) = x
+exchange_in (Cut x n b) = x
+
+-- so a whole or broken exchange has one talker
+pub OneTalker-piece : (size drive : ℕ) (rs : List Roles) (p : Piece) → is_piece (host_loop size drive) p ≡ true → answers_as_asked (length rs) (exchange_in p) ≡ true →
+    are_numbered 1 rs ≡ true → talkers rs ≡ [] → OneTalker rs (piece_entries 0 p)
+OneTalker-piece size drive rs (Whole x) legal asked numbers silent =
+    OneTalker-safe rs (entries_of 0 x) (safe_exchange size drive rs x legal asked numbers silent)
+OneTalker-piece size drive rs (Cut x n b) legal asked numbers silent =
+    let parts = and_parts (is_exchange (host_loop size drive) x) (can_cut 0 (entries_of 0 x) n b) legal in
+    OneTalker-cut rs (entries_of 0 x) n b (safe_exchange size drive rs x parts.0 asked numbers silent) parts.1
+
+-- ---- addresses behind an exchange
+
+-- the exchange is not the command AAU
+abbrev pub keeps_addresses : Exchange → Bool
+keeps_addresses (Command f) = gives_no_aau (returned 0 f)
+keeps_addresses x = true
+
+data_no_aau : (k : Class) (byte : ℕ) → is_data_class k ≡ true → is_aau (message_at k byte) ≡ false
+data_no_aau class.Dab byte e = refl
+data_no_aau class.Dsr byte e = refl
+data_no_aau class.End byte e = refl
+data_no_aau class.Esr byte e = refl
+data_no_aau k byte e = cc
+
+echo_no_aau : (p : ℕ) (d : Echo) → is_echo d ≡ true → gives_no_aau (echoed p d) ≡ true
+echo_no_aau p d e = ap not (data_no_aau d.sent.class d.sent.byte ((and_parts (is_data d.sent) (same_but_service d.sent d.back) e).0))
+
+echoes_no_aau : (p : ℕ) (ds : List Echo) → list_all is_echo ds ≡ true → list_all gives_no_aau (map (echoed p) ds) ≡ true
+echoes_no_aau p [] e = refl
+echoes_no_aau p (d ∷ ds) e =
+    let parts = and_parts (is_echo d) (list_all is_echo ds) e in
+    and_from _ _ (echo_no_aau p d parts.0) (echoes_no_aau p ds parts.1)
+
+lad_no_aau : (a : ℕ) → is_address a ≡ true → gives_no_aau (returned 0 (lad a)) ≡ true
+lad_no_aau a low = let small = leb-true a 30 low in agree_below_at (λ b. gives_no_aau (returned 0 (lad b))) (λ b. true) 31 a refl (omega (arith, small))
+
+tad_no_aau : (a : ℕ) → is_address a ≡ true → gives_no_aau (returned 0 (tad a)) ≡ true
+tad_no_aau a low = ap (λ (m : Message). not (is_aau m)) (message_of-tad a low)
+
+ddl_no_aau : (number : Option ℕ) → is_number number ≡ true → list_all gives_no_aau (numbered 0 ddl number) ≡ true
+ddl_no_aau None e = refl
+ddl_no_aau (Some n) e = and_from _ _ (agree_below_at (λ b. gives_no_aau (returned 0 (ddl b))) (λ b. true) 32 n refl (ltb-true n 32 e)) refl
+
+ddt_no_aau : (number : Option ℕ) → is_number number ≡ true → list_all gives_no_aau (numbered 0 ddt number) ≡ true
+ddt_no_aau None e = refl
+ddt_no_aau (Some n) e = and_from _ _ (agree_below_at (λ b. gives_no_aau (returned 0 (ddt b))) (λ b. true) 32 n refl (ltb-true n 32 e)) refl
+
+start_no_aau : (s : Start) (o : Outcome) → gives_no_aau (entry 0 (start_frame s) o) ≡ true
+start_no_aau Sda o = refl
+start_no_aau Sst o = refl
+start_no_aau Sdi o = refl
+start_no_aau Sai o = refl
+
+answer_no_aau : (s : Start) (answer : Answer) → is_answer 0 answer ≡ true → list_all gives_no_aau (answer_entries 0 (start_frame s) answer) ≡ true
+answer_no_aau s NotTaken legal = and_from _ _ (start_no_aau s (outcome.Back (start_frame s))) refl
+answer_no_aau s (ToItsEnd p ds) legal =
+    let echoes = (and_parts (is_some_data ds) (list_all is_echo ds) ((and_parts (not (p == 0)) _ legal).1)).1 in
+    and_from _ _ (start_no_aau s (outcome.Taken p))
+    (list_all-append gives_no_aau (map (echoed p) ds) (entry p eto (outcome.Taken 0) ∷ []) ∙ and_from _ _ (echoes_no_aau p ds echoes) refl)
+answer_no_aau s (Stopped p ds last) legal =
+    let echoes = and_parts (list_all is_echo ds) (is_echo last) ((and_parts (not (p == 0)) _ legal).1) in
+    and_from _ _ (start_no_aau s (outcome.Taken p))
+    (list_all-append gives_no_aau (map (echoed p) ds) (returned 0 nrd ∷ echoed p last ∷ entry p eto (outcome.Taken 0) ∷ [])
+    ∙ and_from _ _ (echoes_no_aau p ds echoes.0) (and_from _ _ (echo_no_aau p last echoes.1) refl))
+
+exchange_no_aau : (size drive : ℕ) (x : Exchange) → is_exchange (host_loop size drive) x ≡ true → keeps_addresses x ≡ true → list_all gives_no_aau (entries_of 0 x) ≡ true
+exchange_no_aau size drive (Command f) legal keeps = and_from _ _ keeps refl
+exchange_no_aau size drive (Address devices) legal keeps = refl
+exchange_no_aau size drive (Send a number ds) legal keeps =
+    let parts = and_parts (is_address a) (is_number number && list_all is_host_echo ds) legal in
+    let numbers = and_parts (is_number number) (list_all is_host_echo ds) parts.1 in
+    and_from _ _ (lad_no_aau a parts.0)
+    (list_all-append gives_no_aau (numbered 0 ddl number) (map (echoed 0) ds)
+    ∙ and_from _ _ (ddl_no_aau number numbers.0) (echoes_no_aau 0 ds (host_echoes (host_loop size drive) ds numbers.1)))
+exchange_no_aau size drive (Receive a number s answer) legal keeps =
+    let parts = receive_legal size drive a number s answer legal in
+    ap (list_all gives_no_aau) (entries_of-receive 0 a number s answer)
+    ∙ and_from _ _ (tad_no_aau a parts.0)
+    (list_all-append gives_no_aau (numbered 0 ddt number) (answer_entries 0 (start_frame s) answer ++ commanded 0 unt)
+    ∙ and_from _ _ (ddt_no_aau number parts.1)
+    (list_all-append gives_no_aau (answer_entries 0 (start_frame s) answer) (commanded 0 unt) ∙ and_from _ _ (answer_no_aau s answer parts.2) refl))
+exchange_no_aau size drive (Identify f) legal keeps = refl
+
+break_no_aau : (due : Entry) (b : Break) → gives_no_aau due ≡ true → list_all gives_no_aau (break_entries due b) ≡ true
+break_no_aau due (FrameLost q) e = and_from (gives_no_aau due) true e refl
+break_no_aau due (HostAltered f) e = and_from (gives_no_aau due) true e refl
+break_no_aau due (TalkerAltered f end) e = and_from (gives_no_aau due) true e refl
+
+cut_no_aau : (es : List Entry) (n : ℕ) (b : Break) → list_all gives_no_aau es ≡ true → list_all gives_no_aau (cut_at es n b) ≡ true
+cut_no_aau [] n b e = refl
+cut_no_aau (x ∷ es) zero b e = break_no_aau x b ((and_parts (gives_no_aau x) (list_all gives_no_aau es) e).0)
+cut_no_aau (x ∷ es) (suc n) b e =
+    let parts = and_parts (gives_no_aau x) (list_all gives_no_aau es) e in
+    and_from _ _ parts.0 (cut_no_aau es n b parts.1)
+
+-- a whole or broken exchange other than the command AAU leaves numbered devices numbered
+pub are_numbered-piece : (size drive : ℕ) (rs : List Roles) (p : Piece) → is_piece (host_loop size drive) p ≡ true → keeps_addresses (exchange_in p) ≡ true →
+    are_numbered 1 rs ≡ true → are_numbered 1 (roles_after rs (piece_entries 0 p)) ≡ true
+are_numbered-piece size drive rs (Whole x) legal keeps numbers = are_numbered-log rs (entries_of 0 x) (exchange_no_aau size drive x legal keeps) numbers
+are_numbered-piece size drive rs (Cut x n b) legal keeps numbers =
+    let parts = and_parts (is_exchange (host_loop size drive) x) (can_cut 0 (entries_of 0 x) n b) legal in
+    are_numbered-log rs (cut_at (entries_of 0 x) n b) (cut_no_aau (entries_of 0 x) n b (exchange_no_aau size drive x parts.0 keeps)) numbers
