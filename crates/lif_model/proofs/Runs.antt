@@ -1,8 +1,8 @@
 -- Runs of records that are read or written one after the other: their bytes, what they leave of a tape, and what a power
 -- stop leaves meanwhile.
-use Rattle.std.proofs.Common.{◌≡◌, ◌≢◌, ◌<◌, ◌≤◌, ◌+◌, ◌*◌, ◌++◌, ◌⊎◌, ⊎_elim, ℕ, zero, suc, List, [], ◌∷◌, Bool, true, false, inl, inr, length, get_or, set, take, drop, refl, sym, ◌∙◌, ap, subst, arith, length-set, get_or-set_same, get_or-set_other, append_assoc, append-nil}
+use Rattle.std.proofs.Common.{◌≡◌, ◌<◌, ◌≤◌, ◌+◌, ◌*◌, ◌++◌, ⊎_elim, ℕ, zero, suc, List, [], Bool, false, inl, inr, length, get_or, set, take, drop, refl, sym, ◌∙◌, ap, subst, arith, length-set, get_or-set_same, get_or-set_other, append_assoc, append-nil}
 use Rattle.std.specs.Prelude.{Some, MatchBool, nat_lt}
-use Rattle.std.proofs.lemmas.Bool.{cases_eq, cases_lt, cases_Bool, lt-ltb, ltb-true, ltb-false}
+use Rattle.std.proofs.lemmas.Bool.{cases_eq, cases_lt, cases_Bool, lt-ltb, ltb-true}
 use Rattle.std.proofs.lemmas.List.{length-take-le, get_or-take, take_all}
 use Rattle.std.proofs.Math.Seq.{take-length, drop-drop}
 use Rattle.lif_model.specs.Tape.{Tape, record_at, bytes_from}

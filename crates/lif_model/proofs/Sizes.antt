@@ -1,9 +1,8 @@
 -- The sizes of media.
-use Rattle.std.proofs.Common.{◌≡◌, ◌<◌, ◌≤◌, ◌⊎◌, ◌==◌, ℕ, zero, suc, List, [], ◌∷◌, Bool, true, false, if◌then◌else◌, length, replicate, inl, inr, refl, ap, arith}
+use Rattle.std.proofs.Common.{◌≡◌, ◌≤◌, ◌⊎◌, ◌==◌, ℕ, zero, suc, [], ◌∷◌, Bool, true, false, if◌then◌else◌, replicate, inl, inr, refl, arith}
 use Rattle.std.specs.Prelude.{nat_le}
 use Rattle.std.proofs.lemmas.Bool.{or_cases, eqb-true}
-use Rattle.lif_model.specs.Tape.{Tape}
-use Rattle.lif_model.specs.Shelf.{cassette_records, disc_records, image_bytes, records_for, is_size, IsSize, piece, cut, blank}
+use Rattle.lif_model.specs.Shelf.{cassette_records, disc_records, image_bytes, records_for, IsSize, piece, cut, blank}
 
 -- one of the two
 pub sizes_are : (n : ℕ) → IsSize n → (n ≡ cassette_records) ⊎ (n ≡ disc_records)

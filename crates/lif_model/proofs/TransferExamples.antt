@@ -1,5 +1,5 @@
 -- Worked examples of transfers, computed by the checker.
-use Rattle.std.proofs.Common.{◌≡◌, ◌++◌, ℕ, List, [], ◌∷◌, Bool, true, false, refl, replicate}
+use Rattle.std.proofs.Common.{◌≡◌, ◌++◌, ℕ, List, [], ◌∷◌, true, false, refl, replicate}
 use Rattle.lif_model.specs.Transfers.{Transfer, records_of, all_pieces, full_pieces, are_carried_out, are_carried_in}
 
 -- a record of a byte

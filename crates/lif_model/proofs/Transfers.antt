@@ -1,5 +1,5 @@
 -- Laws of what transfers leave of a tape and of what they carry.
-use Rattle.std.proofs.Common.{inl, inr, ◌≡◌, ◌≢◌, ◌<◌, ◌≤◌, ◌∙◌, ◌+◌, ◌++◌, ◌&&◌, ◌||◌, ◌==◌, ℕ, zero, suc, List, [], ◌∷◌, Bool, true, false, not, nat_eq, nat_lt, refl, sym, ap, subst, length, set, take, drop, arith, eq-eqb, length-set, get_or}
+use Rattle.std.proofs.Common.{inl, inr, ◌≡◌, ◌<◌, ◌≤◌, ◌∙◌, ◌+◌, ◌++◌, ◌==◌, ℕ, zero, suc, List, [], ◌∷◌, Bool, true, false, not, nat_eq, nat_lt, refl, ap, subst, length, set, take, drop, arith, eq-eqb, length-set, get_or}
 use Rattle.std.specs.Prelude.{MatchBool}
 use Rattle.std.specs.Cmp.Lexicographic.{pointwise}
 use Rattle.std.specs.List.{list_any, starts_with}

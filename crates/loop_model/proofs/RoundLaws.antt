@@ -274,7 +274,7 @@ held_mute p (e ∷ es) keeps mute =
     let silent = and_parts (is_mute e) (list_all is_mute es) mute in
     and_from _ _ (and_from _ _ kept.0 (mute_turn (p ∷ []) e silent.0)) (held_mute p es kept.1 silent.1)
 
-data_keeps : (k : Class) (byte : ℕ) → is_data_class k ≡ true → changes_roles (message_at k byte) ≡ false
+pub data_keeps : (k : Class) (byte : ℕ) → is_data_class k ≡ true → changes_roles (message_at k byte) ≡ false
 data_keeps class.Dab byte e = refl
 data_keeps class.Dsr byte e = refl
 data_keeps class.End byte e = refl
