@@ -1,5 +1,5 @@
 -- Laws of whole and broken logs.
-use Rattle.std.proofs.Common.{◌≡◌, ℕ, zero, suc, ◌++◌, ◌&&◌, ◌==◌, ◌∙◌, Bool, true, false, not, nat_lt, List, [], ◌∷◌, map, flat_map, Option, Some, None, refl, sym, ap, ◌+◌, length, zero-add, suc-add, append_assoc, append-nil}
+use Rattle.std.proofs.Common.{◌≡◌, ℕ, zero, suc, ◌++◌, ◌&&◌, ◌==◌, ◌∙◌, Bool, true, false, not, List, [], ◌∷◌, map, flat_map, Option, Some, None, refl, sym, ap, ◌+◌, length, zero-add, suc-add, append_assoc, append-nil}
 use Rattle.std.specs.List.{list_all}
 use Rattle.std.proofs.lemmas.Bool.{and_parts, and_from, and_left, and_right, both_ways}
 use Rattle.std.proofs.lemmas.List.{map-append}

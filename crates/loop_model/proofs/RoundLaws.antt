@@ -1,6 +1,6 @@
 -- From numbered devices of which none talks, each whole or broken exchange whose device answers by its own
 -- address has one talker.
-use Rattle.std.proofs.Common.{◌≡◌, ◌≤◌, ◌∙◌, ◌+◌, ◌-◌, ◌++◌, ◌&&◌, ◌||◌, ◌==◌, ℕ, zero, suc, Bool, true, false, not, List, [], ◌∷◌, Option, Some, None, map, length, refl, sym, ap, subst, arith, append_assoc, eqb-true, eq-eqb}
+use Rattle.std.proofs.Common.{◌≡◌, ◌∙◌, ◌-◌, ◌++◌, ◌&&◌, ◌||◌, ◌==◌, ℕ, zero, suc, Bool, true, false, not, List, [], ◌∷◌, Option, Some, None, map, length, refl, sym, ap, subst, arith, append_assoc, eqb-true, eq-eqb}
 use Rattle.std.specs.Prelude.{if◌then◌else◌, nat_le}
 use Rattle.std.specs.List.{list_all}
 use Rattle.std.proofs.lemmas.Bool.{and_parts, and_from, or_right, not-true, leb-true, ltb-true, agree_below_at}
@@ -21,7 +21,7 @@ use Rattle.loop_model.specs.Loops.{host_loop}
 use Rattle.loop_model.specs.Entries.{entry, unl, unt, lad, tad, ddl, ddt, rfc, nrd}
 use Rattle.loop_model.specs.Roles.{roles_along, roles_after_entry, roles_after, talkers, is_at_most_one, is_end_of_talk, is_spoken, may_speak, is_in_turn, has_one_talker, OneTalker}
 use Rattle.loop_model.specs.Exchanges.{Echo, Exchange, Command, Address, Send, Receive, Identify, Start, Sda, Sst, Sdi, Sai, Answer, NotTaken, ToItsEnd, Stopped, Break, FrameLost, HostAltered, TalkerAltered, Piece, Whole, Cut, start_frame, returned, commanded, echoed, numbered, answer_entries, entries_of, break_entries, cut_at, can_cut, is_break, is_altered, is_echo, is_host_echo, is_number, is_address, is_talk_address, is_answer, is_some_data, is_exchange, is_piece, piece_entries, is_end}
-use Rattle.loop_model.proofs.RoleLaws.{gives_no_talk, quiet_log, no_talkers, all_quiet, roles_after-append, lad_no_talk, ddl_no_talk, echoes_no_talk, data_no_talk}
+use Rattle.loop_model.proofs.RoleLaws.{gives_no_talk, quiet_log, no_talkers, all_quiet, lad_no_talk, ddl_no_talk, echoes_no_talk}
 use Rattle.loop_model.proofs.RoleSteps.{changes_roles, keeps_roles, kept_entry, one_talker-kept, are_numbered, one_talker-addressed}
 use Rattle.loop_model.proofs.ExchangeLaws.{host_echoes}
 use Rattle.loop_model.proofs.UnitLaws.{entries_of-receive}
@@ -173,9 +173,74 @@ mute_in (Group first count m ∷ rows) byte other mute rest =
 
 commands_mute : AllMute commands
 commands_mute = (
-  refl, (refl, (refl, (refl, (refl, (refl, (refl, (refl, (refl, (refl, (refl,
-  (λ n. refl, (refl, (λ n. refl, (refl, (λ n. refl, (λ n. refl, (refl, (refl, (refl, (refl, (refl, (λ n. refl, (λ n. refl, tt)
-  ))))))))))))))))))))))
+  refl,
+  (
+    refl,
+    (
+      refl,
+      (
+        refl,
+        (
+          refl,
+          (
+            refl,
+            (
+              refl,
+              (
+                refl,
+                (
+                  refl,
+                  (
+                    refl,
+                    (
+                      refl,
+                      (
+                        λ n. refl,
+                        (
+                          refl,
+                          (
+                            λ n. refl,
+                            (
+                              refl,
+                              (
+                                λ n. refl,
+                                (
+                                  λ n. refl,
+                                  (
+                                    refl,
+                                    (
+                                      refl,
+                                      (
+                                        refl,
+                                        (
+                                          refl,
+                                          (
+                                            refl,
+                                            (
+                                              λ n. refl,
+                                              (λ n. refl, tt),
+                                            ),
+                                          ),
+                                        ),
+                                      ),
+                                    ),
+                                  ),
+                                ),
+                              ),
+                            ),
+                          ),
+                        ),
+                      ),
+                    ),
+                  ),
+                ),
+              ),
+            ),
+          ),
+        ),
+      ),
+    ),
+  ),
 )
 
 mute_command : (k : Class) (byte : ℕ) → same_class k class.Cmd ≡ true → is_spoken (message_at k byte) ≡ false

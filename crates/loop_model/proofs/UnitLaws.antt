@@ -1,8 +1,8 @@
 -- Laws of the entries of sends and receives, of the bytes that they moved, and of the units that they are.
-use Rattle.std.proofs.Common.{◌≡◌, ◌≤◌, ◌<◌, ◌∙◌, ◌+◌, ◌-◌, ◌*◌, ◌++◌, ◌&&◌, ◌||◌, ◌==◌, ℕ, zero, suc, Bool, true, false, not, List, [], ◌∷◌, Option, Some, None, map, flat_map, length, refl, sym, ap, arith, eq-eqb, append_assoc, append-nil, length-append}
-use Rattle.std.specs.Prelude.{if◌then◌else◌, nat_lt}
+use Rattle.std.proofs.Common.{◌≡◌, ◌≤◌, ◌<◌, ◌∙◌, ◌+◌, ◌++◌, ◌==◌, ℕ, zero, suc, Bool, true, false, not, List, [], ◌∷◌, Option, Some, None, map, length, refl, sym, ap, arith, append_assoc, append-nil, length-append}
+use Rattle.std.specs.Prelude.{if◌then◌else◌}
 use Rattle.std.specs.List.{list_all}
-use Rattle.std.proofs.lemmas.Bool.{and_parts, and_from, not-true}
+use Rattle.std.proofs.lemmas.Bool.{and_parts, not-true}
 use Rattle.std.proofs.lemmas.Bool.Decides.{nat_tests}
 use Rattle.std.proofs.lemmas.List.{map-append, length-map}
 use Rattle.std.proofs.lemmas.Grind.{flat_map-append}
@@ -11,12 +11,11 @@ use Rattle.il_frames.specs.declared.entry.Entry.{Entry}
 use Rattle.il_frames.specs.declared.entry.Outcome.TheVariants as outcome
 use Rattle.il_frames.specs.Frames.{byte_of, is_data, same_but_service}
 use Rattle.il_device.specs.Takes.{eto}
-use Rattle.loop_model.specs.Loops.{Loop}
 use Rattle.loop_model.specs.Entries.{entry, unl, unt, tad, ddt, nrd}
 use Rattle.loop_model.specs.Reach.{distance}
-use Rattle.loop_model.specs.Exchanges.{Echo, Exchange, Send, Receive, Start, Sda, Sst, Sdi, Sai, Answer, NotTaken, ToItsEnd, Stopped, Break, FrameLost, HostAltered, TalkerAltered, Piece, Whole, Cut, start_frame, returned, commanded, echoed, numbered, answer_entries, entries_of, cut_at, is_echo}
+use Rattle.loop_model.specs.Exchanges.{Echo, Send, Receive, Start, Sda, Sst, Sdi, Sai, Answer, NotTaken, ToItsEnd, Stopped, Break, FrameLost, HostAltered, TalkerAltered, start_frame, returned, commanded, echoed, numbered, answer_entries, entries_of, cut_at, is_echo}
 use Rattle.loop_model.proofs.ReachLaws.{sourcing}
-use Rattle.loop_model.specs.Units.{RecordUnit, sent_bytes, units_of}
+use Rattle.loop_model.specs.Units.{sent_bytes}
 
 -- ---- distances
 
