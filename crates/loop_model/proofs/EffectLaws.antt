@@ -1,9 +1,7 @@
 -- Laws of what logs do to a tape and of what they carry.
-use Rattle.std.proofs.Common.{map, ◌≡◌, ◌↔◌, ℕ, ◌++◌, ◌+◌, ◌&&◌, ◌||◌, ◌==◌, ◌∙◌, Bool, true, false, not, nat_eq, List, [], ◌∷◌, length, drop, Option, Some, None, option_and_then, option_to_list, is_some, refl, sym, ap, subst, eq-eqb, append_assoc}
-use Rattle.std.specs.Cmp.Lexicographic.{pointwise}
+use Rattle.std.proofs.Common.{map, ◌≡◌, ◌↔◌, ℕ, ◌++◌, ◌+◌, ◌&&◌, ◌||◌, ◌==◌, ◌∙◌, Bool, true, false, not, nat_eq, List, [], ◌∷◌, length, drop, Option, Some, None, option_and_then, option_to_list, is_some, refl, sym, ap, subst, append_assoc}
 use Rattle.std.specs.List.{list_all, list_any, starts_with}
-use Rattle.std.proofs.Math.Seq.{drop-append_seam, take-append_seam}
-use Rattle.std.proofs.lemmas.Bool.{and_parts, and_from, not-true, or_left, or_right, or_parts}
+use Rattle.std.proofs.lemmas.Bool.{and_parts, not-true, or_parts}
 use Rattle.std.proofs.lemmas.Bool.Decides.{when_false}
 use Rattle.il_frames.specs.declared.entry.Entry.{Entry}
 use Rattle.lif_model.specs.Tape.{Tape}

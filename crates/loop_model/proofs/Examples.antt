@@ -11,7 +11,7 @@ use Rattle.il_frames.specs.Messages.{message_of}
 use Rattle.il_device.specs.Takes.{eto, ete}
 use Rattle.loop_model.specs.Loops.{Loop, host_loop}
 use Rattle.loop_model.specs.Entries.{entry, ifc, aau, unl, unt, lad, tad, ddl, ddt, rfc, nrd, aad, is_lost_nrd}
-use Rattle.loop_model.specs.Reach.{is_reached, distance, links_of, brings_to, held_at_end, links, passes, met}
+use Rattle.loop_model.specs.Reach.{is_reached, distance, links_of, brings_to, held_at_end, links_so_far, passes_so_far, links, passes, met}
 use Rattle.il_device.specs.declared.roles.Roles.{Roles}
 use Rattle.il_device.specs.Roles.{no_roles}
 use Rattle.loop_model.specs.Roles.{all_without_roles, roles_by, passed_on, roles_after, talkers, has_one_talker, OneTalker}
@@ -127,6 +127,10 @@ stop_lost_drive = refl
 
 stop_lost_is_broken : IsBroken ring stop_lost
 stop_lost_is_broken = record { reading = record { pieces = addressing ++ Cut asking 5 (FrameLost 1) ∷ []; legal = refl; entries = refl }; broken = refl }
+
+-- while the host holds the byte, 2 links of it count, and the printer has passed it on
+held_so_far : (links_so_far 2 asked (Some 1) ≡ 30) × (passes_so_far 2 2 asked (Some 1) ≡ passes 2 2 asked + 1) × (passes_so_far 2 1 asked (Some 1) ≡ passes 2 1 asked)
+held_so_far = (refl, refl, refl)
 
 -- ---- planned faults
 

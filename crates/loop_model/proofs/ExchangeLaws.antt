@@ -1,5 +1,5 @@
 -- Laws of whole and broken logs.
-use Rattle.std.proofs.Common.{◌≡◌, ℕ, zero, suc, ◌++◌, ◌&&◌, ◌==◌, ◌∙◌, Bool, true, false, not, nat_lt, List, [], ◌∷◌, map, flat_map, Option, Some, None, refl, sym, ap, ◌+◌, length, zero-add, suc-add, append_assoc, append-nil}
+use Rattle.std.proofs.Common.{◌≡◌, ℕ, zero, suc, ◌++◌, ◌&&◌, ◌==◌, ◌∙◌, Bool, true, false, not, List, [], ◌∷◌, map, flat_map, Option, Some, None, refl, sym, ap, ◌+◌, length, zero-add, suc-add, append_assoc, append-nil}
 use Rattle.std.specs.List.{list_all}
 use Rattle.std.proofs.lemmas.Bool.{and_parts, and_from, and_left, and_right, both_ways}
 use Rattle.std.proofs.lemmas.List.{map-append}
@@ -46,7 +46,7 @@ module _ (l : Loop) where
       let parts = and_parts (is_echo d) (list_all is_echo ds) e in
       and_from (stands (echoed p d)) (list_all stands (map (echoed p) ds)) (echo_stands p d parts.0) (echoes_stand p ds parts.1)
 
-  host_echoes : (ds : List Echo) → list_all is_host_echo ds ≡ true → list_all is_echo ds ≡ true
+  pub host_echoes : (ds : List Echo) → list_all is_host_echo ds ≡ true → list_all is_echo ds ≡ true
   host_echoes [] e = refl
   host_echoes (d ∷ ds) e =
       let parts = and_parts (is_host_echo d) (list_all is_host_echo ds) e in

@@ -5,6 +5,7 @@ pub mod TalkLaws
 pub mod UnitLaws
 pub mod RecordLaws
 pub mod RoundLaws
+pub mod SendLaws
 pub mod ReachLaws
 pub mod EffectLaws
 pub mod HearLaws

@@ -14,7 +14,7 @@ use Rattle.il_frames.specs.Frames.{framed, class_of, same_class}
 use Rattle.il_device.specs.Takes.{ete}
 use Rattle.loop_model.specs.Loops.{host_loop}
 use Rattle.loop_model.specs.Entries.{entry, unl, unt, lad, tad, ddl, ddt, nrd, is_frame, is_lost, is_lost_nrd}
-use Rattle.loop_model.specs.Reach.{links_of, brings_to, met, taken_by, sourcing_after, held_at_end, held_links, held_passes, links_so_far, passes_so_far, links, passes, TellsHeld}
+use Rattle.loop_model.specs.Reach.{links_of, brings_to, met, taken_by, sourcing_after, held_at_end, links_so_far, passes_so_far, links, passes, TellsHeld}
 use Rattle.loop_model.specs.Exchanges.{Echo, Exchange, Command, Address, Send, Receive, Identify, Start, Sda, Sst, Sdi, Sai, Answer, NotTaken, ToItsEnd, Stopped, start_frame, answer_entries, commanded, echoed, numbered, entries_of, is_host_echo, is_echo, is_number, is_address, is_exchange, Break, FrameLost, HostAltered, TalkerAltered, break_entries, cut_at, Piece, Whole, Cut, piece_entries, is_piece, Reading, IsWhole}
 use Rattle.loop_model.proofs.ExchangeLaws.{stands, stands_as, exchange_stands, whole_stands}
 
@@ -287,3 +287,29 @@ length-met (hop ∷ hops) a b c ab bc =
     let second = length_met (is_met b c hop) hop (met hops b c) in
     let split = ap (λ (t : Bool). cond t 1 0) here ∙ split_met (is_met a b hop) (is_met b c hop) (met_once a b c hop) in
     outer ∙ omega (arith, rest, first, second, split)
+
+-- ---- a lost NRD
+
+held_where : (b : Bool) (before : Option ℕ) → b ≡ true → (if b then before else None) ≡ before
+held_where true before e = refl
+held_where false before e = cc
+
+-- behind a lost NRD the frame counts that was held, of the device that sourced data before it
+pub links-lost_nrd : (k : ℕ) (first : List Entry) (e : Entry) → is_lost_nrd e ≡ true → links k (first ++ e ∷ []) ≡ links_so_far k (first ++ e ∷ []) (sourcing None first)
+links-lost_nrd k first e lost =
+    ap (links_so_far k (first ++ e ∷ [])) (held_at_end-append None first e [] ∙ held_where (is_lost_nrd e) (sourcing None first) lost)
+
+pub passes-lost_nrd : (k party : ℕ) (first : List Entry) (e : Entry) → is_lost_nrd e ≡ true →
+    passes k party (first ++ e ∷ []) ≡ passes_so_far k party (first ++ e ∷ []) (sourcing None first)
+passes-lost_nrd k party first e lost =
+    ap (passes_so_far k party (first ++ e ∷ [])) (held_at_end-append None first e [] ∙ held_where (is_lost_nrd e) (sourcing None first) lost)
+
+-- behind any other entry none was held
+pub links-no_lost_nrd : (k : ℕ) (first : List Entry) (e : Entry) → is_lost_nrd e ≡ false → links k (first ++ e ∷ []) ≡ links_so_far k (first ++ e ∷ []) None
+links-no_lost_nrd k first e kept =
+    ap (links_so_far k (first ++ e ∷ [])) (held_at_end-append None first e [] ∙ held_if (is_lost_nrd e) (sourcing None first) kept)
+
+pub passes-no_lost_nrd : (k party : ℕ) (first : List Entry) (e : Entry) → is_lost_nrd e ≡ false →
+    passes k party (first ++ e ∷ []) ≡ passes_so_far k party (first ++ e ∷ []) None
+passes-no_lost_nrd k party first e kept =
+    ap (passes_so_far k party (first ++ e ∷ [])) (held_at_end-append None first e [] ∙ held_if (is_lost_nrd e) (sourcing None first) kept)

@@ -1,5 +1,5 @@
 -- A whole log is made of exchanges in one way alone, apart from sends of no byte, which are commands.
-use Rattle.std.proofs.Common.{◌≡◌, ℕ, suc, ◌++◌, ◌+◌, ◌&&◌, ◌||◌, ◌==◌, ◌∙◌, Bool, true, false, not, nat_lt, if◌then◌else◌, option_and_then, option_to_list, List, [], ◌∷◌, map, flat_map, Option, Some, None, refl, sym, ap, ap₂, arith, subst, append_assoc, append-nil}
+use Rattle.std.proofs.Common.{◌≡◌, ℕ, suc, ◌++◌, ◌+◌, ◌&&◌, ◌||◌, ◌==◌, ◌∙◌, Bool, true, false, not, if◌then◌else◌, option_and_then, option_to_list, List, [], ◌∷◌, map, flat_map, Option, Some, None, refl, sym, ap, ap₂, arith, subst, append_assoc, append-nil}
 use Rattle.std.specs.List.{list_all}
 use Rattle.std.proofs.lemmas.Grind.{flat_map-append}
 use Rattle.std.proofs.lemmas.List.Folds.{list_all-append}

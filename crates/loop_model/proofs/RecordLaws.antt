@@ -1,6 +1,5 @@
 -- The units of a seek, a transfer and a poll of the status, whole and cut.
-use Rattle.std.proofs.Common.{◌≡◌, ◌<◌, ◌∙◌, ◌+◌, ◌*◌, ◌++◌, ◌&&◌, ◌||◌, ◌==◌, ℕ, Bool, true, false, List, [], ◌∷◌, Option, Some, None, length, map, option_map, option_and_then, option_to_list, refl, sym, ap, eq-eqb, append_assoc}
-use Rattle.std.specs.Prelude.{if◌then◌else◌, nat_lt}
+use Rattle.std.proofs.Common.{◌≡◌, ◌<◌, ◌∙◌, ◌+◌, ◌*◌, ◌++◌, ◌==◌, ℕ, Bool, true, false, List, [], ◌∷◌, Option, Some, None, length, map, option_map, option_and_then, option_to_list, refl, sym, ap, eq-eqb, append_assoc}
 use Rattle.std.specs.List.{list_all}
 use Rattle.std.proofs.lemmas.Bool.{and_from, lt-ltb}
 use Rattle.std.proofs.lemmas.List.{map-append}
@@ -10,7 +9,7 @@ use Rattle.il_frames.specs.Frames.{byte_of, is_data}
 use Rattle.loop_model.specs.Loops.{Loop}
 use Rattle.loop_model.specs.Entries.{unl, lad, ddl}
 use Rattle.loop_model.specs.Exchanges.{Echo, Exchange, Send, Receive, Sda, Sst, Answer, Break, FrameLost, HostAltered, Piece, Whole, Cut, commanded, numbered, echoed, entries_of, break_entries, cut_at, is_echo}
-use Rattle.loop_model.specs.Units.{RecordUnit, sent_bytes, is_send, is_read, is_transfer, number_of, only_byte, sought, told_status, unit_of, unit_after_seek, units_of}
+use Rattle.loop_model.specs.Units.{RecordUnit, sent_bytes, number_of, only_byte, sought, told_status, unit_of, unit_after_seek, units_of}
 use Rattle.loop_model.proofs.ExchangeLaws.{cut_at-here}
 use Rattle.loop_model.proofs.UnitLaws.{bytes_of, sent_bytes-send, sent_bytes-append, one_byte}
 

@@ -1,6 +1,6 @@
 -- Laws of numbered devices: each has its number as address, whatever comes but AAU, and the one that is
 -- told to talk talks alone.
-use Rattle.std.proofs.Common.{◌≡◌, ◌≤◌, ◌<◌, ◌⊎◌, inl, inr, ◌∙◌, ◌+◌, ◌++◌, ◌&&◌, ◌||◌, ◌==◌, ℕ, zero, suc, Bool, true, false, not, List, [], ◌∷◌, Option, Some, None, length, refl, sym, ap, ap₂, subst, arith}
+use Rattle.std.proofs.Common.{◌≡◌, ◌≤◌, ◌<◌, inl, inr, ◌∙◌, ◌+◌, ◌++◌, ◌==◌, ℕ, suc, Bool, true, false, not, List, [], ◌∷◌, Option, Some, None, length, refl, sym, ap, arith}
 use Rattle.std.specs.Prelude.{if◌then◌else◌}
 use Rattle.std.specs.List.{list_all}
 use Rattle.std.proofs.lemmas.Bool.{and_parts, and_from, not-true, cases_eq, eq-eqb}
@@ -12,7 +12,7 @@ use Rattle.il_frames.specs.Messages.{message_of}
 use Rattle.il_device.specs.declared.roles.Roles.{Roles}
 use Rattle.il_device.specs.Roles.{is_own, takes_address}
 use Rattle.loop_model.specs.Reach.{is_reached}
-use Rattle.loop_model.specs.Roles.{roles_by, passed_on, next_address, roles_along, roles_after_entry, roles_after, talkers_from, talkers}
+use Rattle.loop_model.specs.Roles.{roles_by, passed_on, roles_along, roles_after_entry, roles_after, talkers_from, talkers}
 use Rattle.loop_model.proofs.RoleLaws.{is_quiet, all_quiet}
 use Rattle.loop_model.proofs.RoleSteps.{are_numbered, none_behind, no_head, quiet_other, tad_passes}
 

@@ -10,7 +10,7 @@ use Rattle.loop_model.specs.Exchanges.{Echo, Sda, Sst, NotTaken, Stopped, Exchan
 use Rattle.loop_model.specs.Units.{RecordUnit, number_of, units_of, ends_within}
 use Rattle.lif_model.specs.Stops.{Torn}
 use Rattle.lif_model.specs.Transfers.{Replaced, PartlyReplaced, records_of, all_pieces, full_pieces, carries}
-use Rattle.loop_model.specs.Effect.{UnitEffect, Effect, transfer_of, is_out, is_in, CarriesOut, CarriesIn}
+use Rattle.loop_model.specs.Effect.{UnitEffect, Effect, IsLogOf, transfer_of, is_out, is_in, CarriesOut, CarriesIn}
 
 -- the host, a drive and a printer
 abbrev pub ring : Loop
@@ -143,6 +143,15 @@ write_log_length = refl
 written : Effect ring (tape_with blank) (log_of (writing 1 sevens 0)) (tape_with sevens)
 written = record {
   reading = record { pieces = writing 1 sevens 0; legal = refl; entries = refl };
+  effect = (tape_with sevens, replaced_1 blank sevens, refl);
+}
+
+-- it is the whole log of a command
+logged : IsLogOf ring true (tape_with blank) (log_of (writing 1 sevens 0)) (tape_with sevens)
+logged = record {
+  reading = record { pieces = writing 1 sevens 0; legal = refl; entries = refl };
+  ends = refl;
+  outside = refl;
   effect = (tape_with sevens, replaced_1 blank sevens, refl);
 }
 

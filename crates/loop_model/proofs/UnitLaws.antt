@@ -1,8 +1,8 @@
 -- Laws of the entries of sends and receives, of the bytes that they moved, and of the units that they are.
-use Rattle.std.proofs.Common.{◌≡◌, ◌≤◌, ◌<◌, ◌∙◌, ◌+◌, ◌-◌, ◌*◌, ◌++◌, ◌&&◌, ◌||◌, ◌==◌, ℕ, zero, suc, Bool, true, false, not, List, [], ◌∷◌, Option, Some, None, map, flat_map, length, refl, sym, ap, arith, eq-eqb, append_assoc, append-nil, length-append}
-use Rattle.std.specs.Prelude.{if◌then◌else◌, nat_lt}
+use Rattle.std.proofs.Common.{◌≡◌, ◌≤◌, ◌<◌, ◌∙◌, ◌+◌, ◌++◌, ◌==◌, ℕ, zero, suc, Bool, true, false, not, List, [], ◌∷◌, Option, Some, None, map, length, refl, sym, ap, arith, append_assoc, append-nil, length-append}
+use Rattle.std.specs.Prelude.{if◌then◌else◌}
 use Rattle.std.specs.List.{list_all}
-use Rattle.std.proofs.lemmas.Bool.{and_parts, and_from}
+use Rattle.std.proofs.lemmas.Bool.{and_parts, not-true}
 use Rattle.std.proofs.lemmas.Bool.Decides.{nat_tests}
 use Rattle.std.proofs.lemmas.List.{map-append, length-map}
 use Rattle.std.proofs.lemmas.Grind.{flat_map-append}
@@ -11,11 +11,11 @@ use Rattle.il_frames.specs.declared.entry.Entry.{Entry}
 use Rattle.il_frames.specs.declared.entry.Outcome.TheVariants as outcome
 use Rattle.il_frames.specs.Frames.{byte_of, is_data, same_but_service}
 use Rattle.il_device.specs.Takes.{eto}
-use Rattle.loop_model.specs.Loops.{Loop}
 use Rattle.loop_model.specs.Entries.{entry, unl, unt, tad, ddt, nrd}
 use Rattle.loop_model.specs.Reach.{distance}
-use Rattle.loop_model.specs.Exchanges.{Echo, Exchange, Send, Receive, Start, Sda, Sst, Sdi, Sai, Answer, NotTaken, ToItsEnd, Stopped, Break, Piece, Whole, Cut, start_frame, returned, commanded, echoed, numbered, answer_entries, entries_of, cut_at, is_echo}
-use Rattle.loop_model.specs.Units.{RecordUnit, sent_bytes, units_of}
+use Rattle.loop_model.specs.Exchanges.{Echo, Send, Receive, Start, Sda, Sst, Sdi, Sai, Answer, NotTaken, ToItsEnd, Stopped, Break, FrameLost, HostAltered, TalkerAltered, start_frame, returned, commanded, echoed, numbered, answer_entries, entries_of, cut_at, is_echo}
+use Rattle.loop_model.proofs.ReachLaws.{sourcing}
+use Rattle.loop_model.specs.Units.{sent_bytes}
 
 -- ---- distances
 
@@ -164,3 +164,44 @@ sent_bytes-not_taken c a number s =
     ap sent_bytes (entries_of-receive c a number s NotTaken)
     ∙ no_data_front c a number (returned c (start_frame s) ∷ commanded c unt)
     ∙ no_byte (is_data (start_frame s)) (byte_of (start_frame s)) [] (start_no_data s)
+
+-- ---- more lengths
+
+-- a receive has an entry for each data byte, and at most twelve more
+pub length-receive : (c a : ℕ) (number : Option ℕ) (s : Start) (p : ℕ) (ds : List Echo) (last : Echo) →
+    length (entries_of c (Receive a number s (Stopped p ds last))) ≤ length ds + 12
+length-receive c a number s p ds last =
+    let spread = ap (λ (es : List Entry). length es) (entries_of-receive c a number s (Stopped p ds last)) in
+    let front = length-append (receive_front c a number) (answer_entries c (start_frame s) (Stopped p ds last) ++ commanded c unt) in
+    let back = length-append (answer_entries c (start_frame s) (Stopped p ds last)) (commanded c unt) in
+    let answer = length-answer c (start_frame s) p ds last in
+    let head = length-front c a number in
+    omega (arith, spread, front, back, answer, head)
+  where
+    length-front : (c a : ℕ) (number : Option ℕ) → length (receive_front c a number) ≤ 6
+    length-front c a None = omega arith
+    length-front c a (Some n) = omega arith
+
+-- a broken exchange has at most one entry more than the whole one
+pub length-cut : (es : List Entry) (n : ℕ) (b : Break) → length (cut_at es n b) ≤ length es + 1
+length-cut [] n b = omega arith
+length-cut (e ∷ es) zero (FrameLost q) = omega arith
+length-cut (e ∷ es) zero (HostAltered f) = omega arith
+length-cut (e ∷ es) zero (TalkerAltered f end) = omega arith
+length-cut (e ∷ es) (suc n) b = let rest = length-cut es n b in omega (arith, rest)
+
+-- ---- who sources data
+
+taken_stays : (p : ℕ) (ds : List Echo) → not (p == 0) ≡ true → sourcing (Some p) (map (echoed p) ds) ≡ Some p
+taken_stays p [] other = refl
+taken_stays p (d ∷ ds) other = ap (λ (o : Option ℕ). sourcing o (map (echoed p) ds)) (kept_source (p == 0) (not-true (p == 0) other)) ∙ taken_stays p ds other
+  where
+    kept_source : (b : Bool) → b ≡ false → (if b then Some p else Some p) ≡ Some p
+    kept_source true e = refl
+    kept_source false e = refl
+
+-- in a receive so far it is the device that took the start message
+pub sourcing-open : (before : Option ℕ) (a : ℕ) (number : Option ℕ) (start : Frame) (p : ℕ) (ds : List Echo) → not (p == 0) ≡ true →
+    sourcing before (receive_open 0 a number start p ds) ≡ Some p
+sourcing-open before a None start p ds other = taken_stays p ds other
+sourcing-open before a (Some n) start p ds other = taken_stays p ds other
