@@ -41,7 +41,7 @@ contents_more version n k [] c = ap (λ (j : ℕ). (data_record version n j, c.1
 contents_more version n k (d ∷ cs) c =
     let place : suc k + length cs ≡ k + length (d ∷ cs) = omega arith in
     let rest : content_writes version n (suc k) (cs ++ c ∷ []) ≡ content_writes version n (suc k) cs ++ (data_record version n (k + length (d ∷ cs)), c.1) ∷ [] =
-        contents_more version n (suc k) cs c ∙ ap (λ (j : ℕ). content_writes version n (suc k) cs ++ (data_record version n j, c.1) ∷ []) place in
+    contents_more version n (suc k) cs c ∙ ap (λ (j : ℕ). content_writes version n (suc k) cs ++ (data_record version n j, c.1) ∷ []) place in
     ap (λ (ws : Changes). (data_record version n k, d.1) ∷ ws) rest
 
 pub contents_next : (version : Version) (n i : ℕ) (cs : Changes) → i < length cs

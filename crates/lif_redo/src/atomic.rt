@@ -17,7 +17,11 @@ use il_ports::{Records, Trouble};
 /// and its new content. They are one or two with version 1, and up to 32 with version 2, and none lies in the redo file.
 /// A power stop at any moment, and a trouble, leave a tape that settles to the one before or to the one with all the
 /// changes, but for the records of the redo file. For k changes at most 2 k + 6 calls of the store are made.
-pub fn commit<R: Records>(records: &mut R, version: Version, changes: &[(u16, [u8; 256])]) -> Result<(), Trouble>
+pub fn commit<R: Records>(
+    records: &mut R,
+    version: Version,
+    changes: &[(u16, [u8; 256])],
+) -> Result<(), Trouble>
     requires ready { IsReady (2 * length changes.now + 6) (R.view records.old) }
     requires changes { AreChanges (version_of version) (R.view records.old).record_count changes.now }
     requires settled { (t : Tape) → (R.view records.old).tape ≡ Some t → IsSettled t }

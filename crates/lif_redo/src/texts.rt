@@ -82,11 +82,17 @@ pub fn read_targets(size: u16, bytes: &[u8; 256]) -> Option<Named>
 {
     let one = named_numbers(Version::One, bytes);
     if is_valid(Version::One, size, bytes, one.as_slice()) {
-        return Some(Named { version: Version::One, targets: one });
+        return Some(Named {
+            version: Version::One,
+            targets: one,
+        });
     }
     let two = named_numbers(Version::Two, bytes);
     if is_valid(Version::Two, size, bytes, two.as_slice()) {
-        return Some(Named { version: Version::Two, targets: two });
+        return Some(Named {
+            version: Version::Two,
+            targets: two,
+        });
     }
     None
 }

@@ -7,7 +7,7 @@ returns-in-Ok g c =
     let r = c.in-Ok.ensures in
     rw (← c.self.view_is)
     (record {
-      did = on_tape _ _ _ _ _ _ _ _ _ c.if-self-size.false c.size.ensures 
+      did = on_tape _ _ _ _ _ _ _ _ _ c.if-self-size.false c.size.ensures
           (record { stays_in = r.stays_in; tape = r.tape; shelf = r.shelf; moment = r.moment; since = r.since }, inl (record { bytes = c.read.new.into; content = r.content; value = refl; count = r.goes_on.cause }));
       within = λ e. omega (arith, r.stays_in.size, c.size.ensures, c.if-self-size.false, c.self.invariant.position);
       small = omega (arith, r.stays_in.size, c.size.ensures, c.size.type_inv);
