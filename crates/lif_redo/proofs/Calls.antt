@@ -1,5 +1,5 @@
 -- Calls that change nothing, in time.
-use Rattle.std.proofs.Common.{◌≡◌, ◌≤◌, ◌⊎◌, ◌∙◌, ℕ, inl, inr, arith}
+use Rattle.std.proofs.Common.{◌∙◌, inl, inr, arith}
 use Rattle.lif_model.specs.Tape.{Tape}
 use Rattle.lif_model.specs.Stops.{Elapses}
 use Rattle.il_ports.specs.Stores.{RecordsView, IsQuiet}

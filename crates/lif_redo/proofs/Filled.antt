@@ -1,5 +1,5 @@
 -- The redo file as its contents and its targets are written.
-use Rattle.std.proofs.Common.{◌≡◌, ◌≢◌, ◌<◌, ◌≤◌, ◌+◌, ◌++◌, ◌∙◌, ℕ, zero, suc, List, [], ◌∷◌, false, length, get_or, set, take, inl, inr, refl, sym, ap, subst, arith, length-set, length-take, get_or-set_other, get_or-set_same, nat_lt}
+use Rattle.std.proofs.Common.{◌≡◌, ◌≢◌, ◌<◌, ◌≤◌, ◌+◌, ◌++◌, ◌∙◌, ℕ, suc, List, [], ◌∷◌, false, length, get_or, set, take, inl, inr, sym, ap, subst, arith, length-set, length-take, get_or-set_other, get_or-set_same}
 use Rattle.std.proofs.lemmas.Bool.{cases_eq, cases_lt, lt-ltb, le-ltb}
 use Rattle.std.proofs.lemmas.List.{take_more, take_all, length-map}
 use Rattle.lif_model.specs.Tape.{Tape, record_at}
@@ -41,7 +41,7 @@ contents_more version n k [] c = ap (λ (j : ℕ). (data_record version n j, c.1
 contents_more version n k (d ∷ cs) c =
     let place : suc k + length cs ≡ k + length (d ∷ cs) = omega arith in
     let rest : content_writes version n (suc k) (cs ++ c ∷ []) ≡ content_writes version n (suc k) cs ++ (data_record version n (k + length (d ∷ cs)), c.1) ∷ [] =
-        contents_more version n (suc k) cs c ∙ ap (λ (j : ℕ). content_writes version n (suc k) cs ++ (data_record version n j, c.1) ∷ []) place in
+    contents_more version n (suc k) cs c ∙ ap (λ (j : ℕ). content_writes version n (suc k) cs ++ (data_record version n j, c.1) ∷ []) place in
     ap (λ (ws : Changes). (data_record version n k, d.1) ∷ ws) rest
 
 pub contents_next : (version : Version) (n i : ℕ) (cs : Changes) → i < length cs

@@ -1,11 +1,11 @@
 -- How a targets record is written and read, number by number.
 use Rattle.std.proofs.Common.{◌≡◌, ◌<◌, ◌≤◌, ◌+◌, ◌-◌, ◌*◌, ◌/◌, ◌%◌, ◌++◌, ℕ, zero, suc, List, [], ◌∷◌, length, get_or, set, take, replicate, refl, sym, ◌∙◌, ap, arith, length-append, length-take, append_assoc}
 use Rattle.std.specs.List.{flat_map}
-use Rattle.std.proofs.lemmas.List.{take_more, take_all, set-append_right, append-nil}
+use Rattle.std.proofs.lemmas.List.{take_more, take_all, set-append_right}
 use Rattle.lif_model.specs.Numbers.{two_at}
 use Rattle.lif_model.specs.Made.{in_two}
 use Rattle.lif_model.specs.Redo.{Version, redo_text, most_targets, numbers_at, targets_record}
-use Rattle.lif_model.proofs.Texts.{in_parts, record_parts, text_size, numbers_size, most_fit}
+use Rattle.lif_model.proofs.Texts.{record_parts, text_size, numbers_size, most_fit}
 
 -- ---- written
 
@@ -38,7 +38,7 @@ partly_more version count i ts lt le =
     let more : 246 - 2 * length (take i ts) ≡ suc (suc (244 - 2 * i)) = omega (arith, taken, lt, le, most_fit version) in
     let zeros : replicate (246 - 2 * length (take i ts)) 0 ≡ 0 ∷ 0 ∷ rest = ap (λ (k : ℕ). replicate k 0) more in
     let here : partly version count (take i ts) ≡ front ++ 0 ∷ 0 ∷ rest =
-        ap (λ (bs : List ℕ). redo_text version ++ (in_two count ++ (some ++ bs))) zeros ∙ sym (append_assoc (redo_text version) (in_two count ++ some) (0 ∷ 0 ∷ rest)) in
+    ap (λ (bs : List ℕ). redo_text version ++ (in_two count ++ (some ++ bs))) zeros ∙ sym (append_assoc (redo_text version) (in_two count ++ some) (0 ∷ 0 ∷ rest)) in
     let later : take (i + 1) ts ≡ take i ts ++ t ∷ [] = take_more ts i 0 lt in
     let left : 246 - 2 * length (take i ts ++ t ∷ []) ≡ 244 - 2 * i = omega (arith, length-append (take i ts) (t ∷ []), taken) in
     ap (λ (bs : List ℕ). set (set bs (10 + 2 * i) (t / 256)) (10 + 2 * i + 1) (t % 256)) here
@@ -59,5 +59,5 @@ numbers_next bytes k (suc i) =
     let same : suc i + 1 ≡ suc (i + 1) = omega arith in
     let place : k + 2 + 2 * i ≡ k + 2 * suc i = omega arith in
     let rest : numbers_at bytes (k + 2) (i + 1) ≡ numbers_at bytes (k + 2) i ++ two_at bytes (k + 2 * suc i) ∷ [] =
-        numbers_next bytes (k + 2) i ∙ ap (λ (j : ℕ). numbers_at bytes (k + 2) i ++ two_at bytes j ∷ []) place in
+    numbers_next bytes (k + 2) i ∙ ap (λ (j : ℕ). numbers_at bytes (k + 2) i ++ two_at bytes j ∷ []) place in
     ap (numbers_at bytes k) same ∙ ap (λ (ns : List ℕ). two_at bytes k ∷ ns) rest

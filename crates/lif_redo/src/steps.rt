@@ -123,7 +123,11 @@ pub fn close<R: Records>(records: &mut R) -> Result<(), Trouble>
 }
 
 /// Writes the new contents, each at its data record, behind the closed gate.
-pub fn fill<R: Records>(records: &mut R, version: Version, changes: &[(u16, [u8; 256])]) -> Result<(), Trouble>
+pub fn fill<R: Records>(
+    records: &mut R,
+    version: Version,
+    changes: &[(u16, [u8; 256])],
+) -> Result<(), Trouble>
     requires ready { IsReady (length changes.now) (R.view records.old) }
     requires changes { AreChanges (version_of version) (R.view records.old).record_count changes.now }
     requires shut { (t : Tape) → (R.view records.old).tape ≡ Some t → has_open_gate t ≡ false }
@@ -152,7 +156,11 @@ pub fn numbers(changes: &[(u16, [u8; 256])]) -> ArrayVec<u16, MOST>
 }
 
 /// Writes the new contents, and then the targets, behind the closed gate.
-pub fn stage<R: Records>(records: &mut R, version: Version, changes: &[(u16, [u8; 256])]) -> Result<(), Trouble>
+pub fn stage<R: Records>(
+    records: &mut R,
+    version: Version,
+    changes: &[(u16, [u8; 256])],
+) -> Result<(), Trouble>
     requires ready { IsReady (length changes.now + 1) (R.view records.old) }
     requires changes { AreChanges (version_of version) (R.view records.old).record_count changes.now }
     requires shut { (t : Tape) → (R.view records.old).tape ≡ Some t → has_open_gate t ≡ false }
@@ -165,7 +173,11 @@ pub fn stage<R: Records>(records: &mut R, version: Version, changes: &[(u16, [u8
     fill(records, version, changes)?;
     let targets = records.size() - TARGETS;
     let numbers = numbers(changes);
-    put(records, targets, &targets_record(version, numbers.as_slice()))?;
+    put(
+        records,
+        targets,
+        &targets_record(version, numbers.as_slice()),
+    )?;
     Ok(())
 }
 

@@ -82,11 +82,17 @@ pub fn read_targets(size: u16, bytes: &[u8; 256]) -> Option<Named>
 {
     let one = named_numbers(Version::One, bytes);
     if is_valid(Version::One, size, bytes, one.as_slice()) {
-        return Some(Named { version: Version::One, targets: one });
+        return Some(Named {
+            version: Version::One,
+            targets: one,
+        });
     }
     let two = named_numbers(Version::Two, bytes);
     if is_valid(Version::Two, size, bytes, two.as_slice()) {
-        return Some(Named { version: Version::Two, targets: two });
+        return Some(Named {
+            version: Version::Two,
+            targets: two,
+        });
     }
     None
 }
@@ -112,8 +118,8 @@ fn named_numbers(version: Version, bytes: &[u8; 256]) -> ArrayVec<u16, MOST>
     numbers
 }
 
-// Whether they may be the targets of a redo file on a tape of `size` records.
-fn are_targets(version: Version, size: u16, targets: &[u16]) -> bool
+/// Whether they may be the targets of a redo file on a tape of `size` records.
+pub fn are_targets(version: Version, size: u16, targets: &[u16]) -> bool
     ensures { result ≡ are_targets (version_of version) size targets.now }
 {
     !targets.is_empty()
