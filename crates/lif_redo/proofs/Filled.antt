@@ -1,5 +1,5 @@
 -- The redo file as its contents and its targets are written.
-use Rattle.std.proofs.Common.{◌≡◌, ◌≢◌, ◌<◌, ◌≤◌, ◌+◌, ◌++◌, ◌∙◌, ℕ, zero, suc, List, [], ◌∷◌, false, length, get_or, set, take, inl, inr, refl, sym, ap, subst, arith, length-set, length-take, get_or-set_other, get_or-set_same, nat_lt}
+use Rattle.std.proofs.Common.{◌≡◌, ◌≢◌, ◌<◌, ◌≤◌, ◌+◌, ◌++◌, ◌∙◌, ℕ, suc, List, [], ◌∷◌, false, length, get_or, set, take, inl, inr, sym, ap, subst, arith, length-set, length-take, get_or-set_other, get_or-set_same}
 use Rattle.std.proofs.lemmas.Bool.{cases_eq, cases_lt, lt-ltb, le-ltb}
 use Rattle.std.proofs.lemmas.List.{take_more, take_all, length-map}
 use Rattle.lif_model.specs.Tape.{Tape, record_at}

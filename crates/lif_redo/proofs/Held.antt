@@ -1,5 +1,5 @@
 -- The changes that an open redo stands for, one after the other.
-use Rattle.std.proofs.Common.{◌≡◌, ◌<◌, ◌≤◌, ◌+◌, ◌++◌, ◌∙◌, ℕ, zero, suc, List, [], ◌∷◌, true, length, get_or, set, take, map, refl, sym, ap, subst, arith, length-set}
+use Rattle.std.proofs.Common.{◌≡◌, ◌<◌, ◌≤◌, ◌+◌, ◌++◌, ◌∙◌, ℕ, zero, suc, List, [], ◌∷◌, true, length, get_or, set, take, map, refl, sym, ap, subst, arith}
 use Rattle.lif_model.specs.Tape.{Tape, record_at}
 use Rattle.lif_model.specs.Gate.{gate_of}
 use Rattle.lif_model.specs.Stops.{Torn}

@@ -4,7 +4,6 @@ pub mod ReadTargets
 pub mod Told
 pub mod Run
 pub mod Writes
-pub mod Calls
 pub mod Held
 pub mod Filled
 pub mod Order

@@ -1,11 +1,11 @@
 -- How a targets record is written and read, number by number.
 use Rattle.std.proofs.Common.{◌≡◌, ◌<◌, ◌≤◌, ◌+◌, ◌-◌, ◌*◌, ◌/◌, ◌%◌, ◌++◌, ℕ, zero, suc, List, [], ◌∷◌, length, get_or, set, take, replicate, refl, sym, ◌∙◌, ap, arith, length-append, length-take, append_assoc}
 use Rattle.std.specs.List.{flat_map}
-use Rattle.std.proofs.lemmas.List.{take_more, take_all, set-append_right, append-nil}
+use Rattle.std.proofs.lemmas.List.{take_more, take_all, set-append_right}
 use Rattle.lif_model.specs.Numbers.{two_at}
 use Rattle.lif_model.specs.Made.{in_two}
 use Rattle.lif_model.specs.Redo.{Version, redo_text, most_targets, numbers_at, targets_record}
-use Rattle.lif_model.proofs.Texts.{in_parts, record_parts, text_size, numbers_size, most_fit}
+use Rattle.lif_model.proofs.Texts.{record_parts, text_size, numbers_size, most_fit}
 
 -- ---- written
 

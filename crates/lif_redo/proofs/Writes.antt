@@ -1,10 +1,10 @@
 -- How writes are added to the list of a store.
-use Rattle.std.proofs.Common.{◌≡◌, ◌<◌, ◌≤◌, ◌+◌, ◌++◌, ◌∙◌, ℕ, List, [], ◌∷◌, Bool, true, false, if◌then◌else◌, length, get_or, take, refl, sym, ap, subst, append_assoc}
+use Rattle.std.proofs.Common.{◌≡◌, ◌<◌, ◌+◌, ◌++◌, ◌∙◌, ℕ, List, [], ◌∷◌, Bool, true, false, if◌then◌else◌, length, get_or, take, refl, sym, ap, subst, append_assoc}
 use Rattle.std.proofs.lemmas.List.{append-nil, take_more}
 use Rattle.std.specs.Prelude.{Result, Ok, Err, OnOk}
 use Rattle.lif_model.specs.Transfers.{Transfer}
 use Rattle.lif_model.specs.Redo.{Changes}
-use Rattle.il_ports.specs.Transfers.{Added, Adds, CoversOnly, WritesOnly, GoesOnBy}
+use Rattle.il_ports.specs.Transfers.{Adds, WritesOnly, GoesOnBy}
 use Rattle.il_ports.proofs.Transfers.{covers_one}
 use Rattle.lif_redo.specs.Writing.{writes_among, AreSingle, AddsWrites}
 

@@ -8,13 +8,21 @@ ghost use Rattle.il_ports.specs.Stores.{IsReady, GoesOn, RunLeaves};
 ghost use Rattle.lif_redo.specs.Reading.{version_of};
 ghost use Rattle.lif_redo.specs.Writing.{AddsWrites};
 
-use crate::steps::{close, finish, look, put, replay, stage};
-use crate::texts::{GATE, open_gate_record};
+use crate::steps::{close, finish, look, numbers, put, replay, stage};
+use crate::texts::{GATE, MOST, are_targets, open_gate_record};
 use crate::versions::Version;
 use il_ports::{Records, Trouble};
 
+/// Whether a redo file of that version, on a tape of `size` records, takes these changes: one or two with version 1, and
+/// up to 32 with version 2, of distinct records that lie before the redo file.
+pub fn are_changes(version: Version, size: u16, changes: &[(u16, [u8; 256])]) -> bool
+    ensures { IsTrue result ↔ AreChanges (version_of version) size changes.now }
+{
+    changes.len() <= MOST && are_targets(version, size, numbers(changes).as_slice())
+}
+
 /// Changes some records of a settled tape at once, with a redo file of that version: each pair is the number of a record
-/// and its new content. They are one or two with version 1, and up to 32 with version 2, and none lies in the redo file.
+/// and its new content. They are such as `are_changes` takes.
 /// A power stop at any moment, and a trouble, leave a tape that settles to the one before or to the one with all the
 /// changes, but for the records of the redo file. For k changes at most 2 k + 6 calls of the store are made.
 pub fn commit<R: Records>(

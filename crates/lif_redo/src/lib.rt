@@ -12,5 +12,8 @@ mod steps;
 mod texts;
 mod versions;
 
-pub use atomic::{commit, settle};
+pub use atomic::{are_changes, commit, settle};
 pub use versions::Version;
+
+#[cfg(test)]
+mod tests;

@@ -118,8 +118,8 @@ fn named_numbers(version: Version, bytes: &[u8; 256]) -> ArrayVec<u16, MOST>
     numbers
 }
 
-// Whether they may be the targets of a redo file on a tape of `size` records.
-fn are_targets(version: Version, size: u16, targets: &[u16]) -> bool
+/// Whether they may be the targets of a redo file on a tape of `size` records.
+pub fn are_targets(version: Version, size: u16, targets: &[u16]) -> bool
     ensures { result ≡ are_targets (version_of version) size targets.now }
 {
     !targets.is_empty()

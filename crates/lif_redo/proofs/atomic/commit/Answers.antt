@@ -1,4 +1,4 @@
-use Rattle.std.proofs.Common.{◌++◌, ◌∷◌, [], false, ◌≡◌, ◌<◌, ◌≤◌, ◌-◌, ◌∙◌, ap, sym, subst, arith, ℕ, length, set}
+use Rattle.std.proofs.Common.{◌++◌, ◌∷◌, [], false, ◌≡◌, ◌-◌, ◌∙◌, ap, subst, arith, ℕ, length, set}
 use Rattle.std.specs.Prelude.{Some}
 use Rattle.lif_model.specs.Tape.{Tape}
 use Rattle.lif_model.specs.Gate.{gate_of, has_open_gate}

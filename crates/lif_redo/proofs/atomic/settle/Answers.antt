@@ -1,12 +1,10 @@
-use Rattle.std.proofs.Common.{◌≡◌, ◌<◌, ◌∙◌, [], ℕ, sym, ap, subst, arith, length}
-use Rattle.lif_model.specs.Tape.{Tape}
-use Rattle.lif_model.specs.Redo.{Changes, redo_of, settled, IsSettled}
+use Rattle.std.proofs.Common.{◌∙◌, [], ℕ, sym, ap, subst}
+use Rattle.lif_model.specs.Redo.{redo_of, settled, IsSettled}
 use Rattle.lif_model.specs.Commit.{IsSettleWrite, settle_writes}
 use Rattle.lif_model.proofs.Moments.{reads_too}
 use Rattle.lif_model.proofs.Redo.{settled_none, settled_twice}
 use Rattle.lif_model.proofs.Commit.{settles_self}
 use Rattle.lif_redo.specs.Reading.{IsFound, MayBeNamed}
-use Rattle.lif_redo.specs.Writing.{AddsWrites}
 use Rattle.lif_redo.proofs.Told.{was_told, still_told, same_tape}
 use Rattle.lif_redo.proofs.Held.{redo_is_open}
 use Rattle.lif_redo.proofs.Order.{settling_is}

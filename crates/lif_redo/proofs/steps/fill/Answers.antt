@@ -1,4 +1,4 @@
-use Rattle.std.proofs.Common.{◌≡◌, ◌<◌, ◌≤◌, ◌++◌, ◌∷◌, [], ◌∙◌, ap, subst, sym, arith, ℕ, List, take, length, get_or}
+use Rattle.std.proofs.Common.{◌≡◌, ◌++◌, ◌∷◌, [], ◌∙◌, ap, arith, ℕ, List, take, get_or}
 use Rattle.lif_model.specs.Redo.{data_record}
 use Rattle.lif_model.specs.Commit.{content_writes}
 use Rattle.lif_model.proofs.Redo.{changes_long}
@@ -6,7 +6,7 @@ use Rattle.lif_model.proofs.Directory.{data_within}
 use Rattle.lif_model.proofs.Commit.{shut_start}
 use Rattle.lif_redo.specs.Reading.{version_of}
 use Rattle.lif_redo.proofs.Told.{written}
-use Rattle.lif_redo.proofs.Filled.{changes_few, contents_next, contents_all, filled_first, filled_more, filled_write}
+use Rattle.lif_redo.proofs.Filled.{changes_few, contents_next, filled_first, filled_more, filled_write}
 use Rattle.lif_redo.proofs.Writes.{no_write, then_writes, same_writes}
 use Rattle.il_ports.proofs.Stores.{goes_nowhere, goes_further}
 use Rattle.lif_redo.proofs.steps.fill.Goals as goal

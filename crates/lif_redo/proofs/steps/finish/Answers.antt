@@ -1,14 +1,13 @@
-use Rattle.std.proofs.Common.{◌≡◌, ◌<◌, ◌-◌, ◌++◌, ◌∷◌, [], ◌∙◌, ap, subst, sym, arith, ℕ, take, set, length}
+use Rattle.std.proofs.Common.{◌≡◌, ◌-◌, ◌++◌, ◌∷◌, [], ◌∙◌, ap, subst, sym, arith, ℕ, take, length}
 use Rattle.std.specs.Prelude.{Some}
 use Rattle.std.proofs.lemmas.List.{take_all}
 use Rattle.lif_model.specs.Tape.{Tape, record_at}
 use Rattle.lif_model.specs.Gate.{gate_of}
 use Rattle.lif_model.specs.Stops.{Torn}
-use Rattle.lif_model.specs.Redo.{redo_start, zeros, changed}
+use Rattle.lif_model.specs.Redo.{redo_start, changed}
 use Rattle.lif_model.proofs.Moments.{started, goes_on}
 use Rattle.lif_model.proofs.Redo.{length_changed, changes_below}
 use Rattle.lif_model.proofs.Commit.{armed_settles, in_place, closing, changed_take, changed_all, below_at}
-use Rattle.lif_redo.proofs.Told.{written}
 use Rattle.lif_redo.proofs.Writes.{no_write, then_writes, same_writes, take_writes}
 use Rattle.il_ports.proofs.Stores.{goes_nowhere, goes_further}
 use Rattle.lif_redo.proofs.steps.finish.Goals as goal

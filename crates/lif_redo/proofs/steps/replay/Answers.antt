@@ -1,10 +1,10 @@
-use Rattle.std.proofs.Common.{◌≡◌, ◌<◌, ◌≤◌, ◌-◌, ◌+◌, ◌*◌, ◌++◌, ◌∷◌, [], ◌∙◌, ap, subst, refl, sym, arith, ℕ, List, take, length, get_or, set, length-append}
+use Rattle.std.proofs.Common.{◌≡◌, ◌<◌, ◌-◌, ◌+◌, ◌*◌, ◌++◌, ◌∷◌, [], ◌∙◌, ap, subst, refl, sym, arith, ℕ, List, take, length, get_or, set, length-append}
 use Rattle.std.specs.Prelude.{Some}
 use Rattle.std.proofs.lemmas.List.{take_more, take_all}
-use Rattle.lif_model.specs.Tape.{Tape, record_at}
+use Rattle.lif_model.specs.Tape.{record_at}
 use Rattle.lif_model.specs.Gate.{gate_of}
 use Rattle.lif_model.specs.Stops.{Torn}
-use Rattle.lif_model.specs.Redo.{data_record, Changes, redo_of, changed}
+use Rattle.lif_model.specs.Redo.{data_record, redo_of, changed}
 use Rattle.lif_model.proofs.Moments.{started, goes_on}
 use Rattle.lif_redo.specs.Reading.{version_of}
 use Rattle.lif_redo.proofs.Told.{written}

@@ -1,5 +1,5 @@
-use Rattle.std.proofs.Common.{◌≡◌, ◌-◌, ◌++◌, ◌∷◌, [], ◌∙◌, ap, refl, sym, arith, ℕ, List, length}
-use Rattle.lif_model.specs.Redo.{targets_place, targets_record, targets_in}
+use Rattle.std.proofs.Common.{◌≡◌, ◌-◌, ◌++◌, ◌∷◌, [], ◌∙◌, ap, arith, length}
+use Rattle.lif_model.specs.Redo.{targets_place, targets_record}
 use Rattle.lif_model.specs.Commit.{content_writes}
 use Rattle.lif_model.proofs.Redo.{changes_long}
 use Rattle.lif_redo.specs.Reading.{version_of}

@@ -1,4 +1,4 @@
-use Rattle.std.proofs.Common.{◌∙◌, ◌++◌, ◌∷◌, [], ℕ, List, ap, sym, arith}
+use Rattle.std.proofs.Common.{◌∙◌, ◌++◌, ◌∷◌, [], sym, arith}
 use Rattle.lif_redo.proofs.Numbers.{numbers_next}
 use Rattle.lif_redo.proofs.texts.named_numbers.Goals as goal
 

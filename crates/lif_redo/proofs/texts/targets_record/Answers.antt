@@ -1,4 +1,4 @@
-use Rattle.std.proofs.Common.{◌∙◌, ◌/◌, ◌%◌, ◌+◌, ◌*◌, ℕ, List, get_or, set, ap, sym, arith}
+use Rattle.std.proofs.Common.{◌∙◌, ◌/◌, ◌%◌, ◌+◌, ◌*◌, ℕ, List, get_or, set, ap}
 use Rattle.lif_redo.specs.Reading.{version_of}
 use Rattle.lif_redo.proofs.Numbers.{partly_more, partly_all}
 use Rattle.lif_redo.proofs.texts.targets_record.Goals as goal
