@@ -1,7 +1,7 @@
 use crate::Drive;
 use il_device::Out;
 use il_frames::{Class, Frame};
-use il_ports::{Inserted, Medium, MemoryMedium};
+use il_ports::{Inserted, Medium, MemoryMedium, New};
 use std::process::Abort;
 use std::test::Fail;
 
@@ -46,7 +46,7 @@ fn drive_with(
     shelf.push((String::from_str(alloc, "TAPE")?, image))?;
     let mut medium = MemoryMedium::new(alloc, shelf, reads, writes, Vec::new(alloc), 8)?;
     assert_eq!(rt; medium.size(), 0);
-    assert_eq!(rt; medium.insert("TAPE", false), Ok(Inserted::Tape));
+    assert_eq!(rt; medium.insert("TAPE", New::No), Ok(Inserted::Tape));
     assert!(rt; medium.size() > 0);
     let mut drive = Drive::new(medium);
     talk(rt, &mut drive, &[("AAD 01", "> AAD 02")])?;

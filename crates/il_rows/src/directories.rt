@@ -9,18 +9,21 @@ const FORMATTED: &[u8] = b"volume HPTAPE 2 2 1 16\nfile REDOFILE E0D0 508 4 0000
 #[test]
 fn dir_lists_the_volume(rt: HostRuntime) -> Result<(), Fail> {
     let alloc = rt.alloc();
-    let formatted = formatted(alloc)?;
+    let tape = formatted(alloc)?;
     let foreign = foreign(alloc)?;
     let open = with_open_gate(alloc)?;
+    let mut disc = formatted(alloc)?;
+    disc.resize(131_073, 0)?;
     let zeros = vec![in alloc; 0; 768]?;
     let none = b"volume HPTAPE 2 2 0 16\nok\n".as_slice();
     let ended = with_entries(alloc, &[END_ENTRY, REDO_ENTRY])?;
-    let cases: [(&[u8], &[u8], u8, &[u8]); 9] = [
-        (&formatted, b"dir\n", 0, FORMATTED),
-        (&formatted, b"", 0, b""),
-        (&formatted, b"\n\ndir", 0, FORMATTED),
+    let cases: [(&[u8], &[u8], u8, &[u8]); 10] = [
+        (&tape, b"dir\n", 0, FORMATTED),
+        (&disc, b"dir\n", 0, FORMATTED),
+        (&tape, b"", 0, b""),
+        (&tape, b"\n\ndir", 0, FORMATTED),
         (
-            &formatted,
+            &tape,
             b"list\n dir\n",
             1,
             b"error 1 BadLine\nerror 1 BadLine\n",

@@ -17,7 +17,7 @@ fn ending_of(alloc: Global, given: &Given) -> Result<(u8, usize), AllocError> {
 fn each_early_ending_has_its_status_and_writes_nothing(rt: HostRuntime) -> Result<(), Fail> {
     let alloc = rt.alloc();
     let image = formatted(alloc)?;
-    let long = vec![in alloc; 0; 131_073]?;
+    let long = vec![in alloc; 0; 630_785]?;
     let dir = Given::script(&image, b"dir\n");
     assert_eq!(rt; ending_of(alloc, &Given { words: &[], ..dir })?, (2, 0));
     assert_eq!(rt;
