@@ -5,3 +5,5 @@ pub mod Answering
 pub mod Taking
 pub mod Runs
 pub mod Sending
+pub mod Beginning
+pub mod Records

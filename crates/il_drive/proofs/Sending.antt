@@ -1,9 +1,8 @@
 -- Transmissions: the bytes of a record in their order, and the status, which its right echo clears.
 use Rattle.std.proofs.Common.{◌≡◌, ◌≢◌, ◌<◌, ◌≤◌, ◌+◌, ◌%◌, ℕ, List, [], ◌∷◌, length, get_or, true, false, refl, sym, ap, subst, ◌∙◌, arith}
-use Rattle.std.specs.Prelude.{Option, Some, None, if◌then◌else◌, ◌||◌}
+use Rattle.std.specs.Prelude.{Some, None, if◌then◌else◌, ◌||◌}
 use Rattle.std.proofs.Math.Nat.{mod-eq_of_lt}
 use Rattle.std.proofs.lemmas.Bool.{ne_eqb, eq-eqb}
-use Rattle.lif_model.specs.Tape.{Tape}
 use Rattle.il_ports.specs.Media.{MediumView}
 use Rattle.il_frames.specs.declared.frame.Class.TheVariants as class
 use Rattle.il_frames.specs.declared.frame.Frame.{Frame}
@@ -65,6 +64,35 @@ step_sends n last s f reading h right =
     step_compares n s f (just_sent (framed class.Dab (get_or s.first last 0)) false) reading.sent h right
     ∙ ap (λ m. then_by table.next_or_end (table.due_in m n u)) reading.mode
     ∙ ap (λ b. then_by table.next_or_end (if b then then_by table.first_of_record (table.loaded n u) else Now (table.byte_of_record u))) (ne_eqb s.pointer 0 (λ e. absurd (omega (arith, e, reading.pointer))))
+
+-- behind the last byte of a record the next one is due
+step_asks : (n byte : ℕ) (s : DriveState) (f : Frame) → s.interface.own ≡ Some (just_sent (framed class.Dab byte) false) → s.mode ≡ mode.Read → s.pointer ≡ 0 → is_data f ≡ true
+    → same_but_service (framed class.Dab byte) f ≡ true
+    → table.drive_step n s f ≡ then_by table.next_or_end (then_by table.first_of_record (table.loaded n (table.behind_effect f s)))
+step_asks n byte s f is in_mode empty h right =
+    let u = table.behind_effect f s in
+    step_compares n s f (just_sent (framed class.Dab byte) false) is h right
+    ∙ ap (λ m. then_by table.next_or_end (table.due_in m n u)) in_mode
+    ∙ ap (λ b. then_by table.next_or_end (if b then then_by table.first_of_record (table.loaded n u) else Now (table.byte_of_record u))) (eq-eqb s.pointer 0 empty)
+
+-- it is read, and its first byte sent; where it could not be read, the transmission ends with status 1
+pub step_reads_on : (n byte : ℕ) (s : DriveState) (f : Frame) → s.interface.own ≡ Some (just_sent (framed class.Dab byte) false) → s.mode ≡ mode.Read → s.pointer ≡ 0 → is_data f ≡ true
+    → same_but_service (framed class.Dab byte) f ≡ true → s.position ≢ n
+    → table.drive_step n s f ≡ Reads s.position (λ bytes. table.sends start.Data false (get_or bytes s.pointer 0) (table.advanced (record (table.behind_effect f s) { first = bytes; position = s.position + 1 })))
+    (table.ends eto (table.faulty fault.Unread (table.behind_effect f s)))
+step_reads_on n byte s f is in_mode empty h right on =
+    let u = table.behind_effect f s in
+    step_asks n byte s f is in_mode empty h right
+    ∙ ap (λ b. then_by table.next_or_end (then_by table.first_of_record (if b then Now (table.faulty fault.NoRecord u, false) else Reads u.position (λ bytes. (record u { first = bytes }, true)) (table.faulty fault.Unread u, false)))) (ne_eqb s.position n on)
+
+-- behind the last record of the tape there is none: the transmission ends with status 3
+pub step_reads_past : (n byte : ℕ) (s : DriveState) (f : Frame) → s.interface.own ≡ Some (just_sent (framed class.Dab byte) false) → s.mode ≡ mode.Read → s.pointer ≡ 0 → is_data f ≡ true
+    → same_but_service (framed class.Dab byte) f ≡ true → s.position ≡ n
+    → table.drive_step n s f ≡ Now (table.ends eto (table.faulty fault.NoRecord (table.behind_effect f s)))
+step_reads_past n byte s f is in_mode empty h right at_end =
+    let u = table.behind_effect f s in
+    step_asks n byte s f is in_mode empty h right
+    ∙ ap (λ b. then_by table.next_or_end (then_by table.first_of_record (if b then Now (table.faulty fault.NoRecord u, false) else Reads u.position (λ bytes. (record u { first = bytes }, true)) (table.faulty fault.Unread u, false)))) (eq-eqb s.position n at_end)
 
 -- Behind NRD no byte is asked for, and behind a last byte neither: the transmission ends, and a status that was sent is
 -- cleared.

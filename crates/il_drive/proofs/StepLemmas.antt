@@ -1,8 +1,7 @@
 -- Steps of the drive and its medium.
-use Rattle.std.proofs.Common.{◌≡◌, ℕ, List, sym, subst, ◌∙◌}
-use Rattle.std.specs.Prelude.{◌==◌, if◌then◌else◌, Option}
+use Rattle.std.proofs.Common.{◌≡◌, ℕ, sym, subst, ◌∙◌}
+use Rattle.std.specs.Prelude.{◌==◌, if◌then◌else◌}
 use Rattle.std.proofs.lemmas.Bool.{ne_eqb, cond-false}
-use Rattle.lif_model.specs.Tape.{Tape}
 use Rattle.il_ports.specs.Media.{MediumView}
 use Rattle.il_drive.specs.Steps.{Step, Did}
 

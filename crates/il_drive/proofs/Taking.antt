@@ -1,6 +1,6 @@
 -- What a step by the table comes to: for the loop, for the status, for the tape and for a power stop.
-use Rattle.std.proofs.Common.{◌≡◌, ◌≢◌, ◌⊎◌, inl, inr, ⊎_elim, ℕ, List, true, false, subst, arith}
-use Rattle.std.specs.Prelude.{◌↔◌, Option, Some}
+use Rattle.std.proofs.Common.{◌≡◌, ◌≢◌, ◌⊎◌, inl, inr, ⊎_elim, ℕ, true, false, subst, arith}
+use Rattle.std.specs.Prelude.{◌↔◌, Some}
 use Rattle.il_frames.specs.declared.frame.Frame.{Frame}
 use Rattle.il_device.specs.declared.device.Out.{Out}
 use Rattle.il_device.specs.declared.device.Out.TheVariants.{Source}

@@ -1,5 +1,5 @@
 -- A drive that takes one frame after the other, and what whole records come to.
-use Rattle.std.specs.Prelude.{◌≡◌, ◌+◌, ℕ, true, false, List, [], ◌∷◌, get_or, set, map, Option, Some, None}
+use Rattle.std.specs.Prelude.{◌≡◌, ◌+◌, ℕ, true, false, List, [], ◌∷◌, get_or, set, map, Some, None}
 use Rattle.il_frames.specs.declared.frame.Class.TheVariants as class
 use Rattle.il_frames.specs.declared.frame.Frame.{Frame}
 use Rattle.il_frames.specs.Frames.{byte_of, framed, is_data, same_but_service}
@@ -7,7 +7,6 @@ use Rattle.il_device.specs.declared.device.Out.{Out}
 use Rattle.il_device.specs.declared.device.Out.TheVariants.{Source}
 use Rattle.il_device.specs.Interfaces.{InterfaceState, interface_after}
 use Rattle.il_device.specs.Takes.{just_sent}
-use Rattle.lif_model.specs.Tape.{Tape}
 use Rattle.il_ports.specs.Media.{MediumView}
 use Rattle.il_drive.specs.declared.mode.Fault.TheVariants as fault
 use Rattle.il_drive.specs.declared.mode.Mode.TheVariants as mode

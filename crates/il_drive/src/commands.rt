@@ -5,14 +5,23 @@ ghost use Rattle.il_drive.specs.Commands.{listener_command, talker_command};
 /// and effects are this project's own.
 #[derive(Clone, Copy, PartialEq, Eq, Debug)]
 pub enum ListenerCommand {
+    /// DDL 0: the bytes that follow fill buffer 0.
     FillFirst,
+    /// DDL 1: the bytes that follow fill buffer 1.
     FillSecond,
+    /// DDL 2: the bytes that follow are written on the tape, record after record.
     Write,
+    /// DDL 3: the next byte is the pointer.
     SetPointer,
+    /// DDL 4: the next two bytes are the record to seek, high byte first.
     Seek,
+    /// DDL 6: the record at the position is read, and the bytes that follow are written over it from the pointer on.
     PartialWrite,
+    /// DDL 7: the position is record 0.
     Rewind,
+    /// DDL 8: a record that has some of its bytes is put on the tape.
     CloseRecord,
+    /// DDL 10: buffer 1 becomes a copy of buffer 0.
     CopyBuffer,
 }
 
@@ -39,10 +48,15 @@ impl ListenerCommand {
 /// What a DDT message asks of the drive while it talks.
 #[derive(Clone, Copy, PartialEq, Eq, Debug)]
 pub enum TalkerCommand {
+    /// DDT 0: the bytes of buffer 0 are due.
     SendFirst,
+    /// DDT 1: the bytes of buffer 1 are due.
     SendSecond,
+    /// DDT 2: the bytes of the tape's records are due, from the position on.
     Read,
+    /// DDT 3: the two bytes of the position are due, high byte first.
     SendPosition,
+    /// DDT 4: the two buffers are exchanged.
     ExchangeBuffers,
 }
 

@@ -103,6 +103,7 @@ impl<M: Medium> Drive<M> {
     /// The status, 0 to 3.
     pub fn status(&self) -> u8
         ensures value { result ≡ status_of self.now.state }
+        ensures range { result ≤ 3 }
     {
         self.interface.status()
     }
@@ -181,7 +182,7 @@ impl<M: Medium> Drive<M> {
         ensures { self.new ≡ record self.old { state = table.faulty fault self.old.state } }
     {
         self.interface.set_status(fault.status());
-        self.mode = Mode::Rest;
+        self.rest();
     }
 
     fn empty(&mut self)
@@ -269,7 +270,7 @@ impl<M: Medium> Drive<M> {
     {
         let now = self.interface.roles();
         if before.talks != now.talks || before.listens != now.listens {
-            self.mode = Mode::Rest;
+            self.rest();
         }
     }
 
@@ -278,7 +279,7 @@ impl<M: Medium> Drive<M> {
     {
         self.empty();
         self.interface.set_status(0);
-        self.mode = Mode::Rest;
+        self.rest();
     }
 
     // ---- DDL, while listening
@@ -292,7 +293,7 @@ impl<M: Medium> Drive<M> {
         match command {
             ListenerCommand::FillFirst => self.mode = Mode::FillFirst,
             ListenerCommand::FillSecond => self.mode = Mode::FillSecond,
-            ListenerCommand::Write => self.write(),
+            ListenerCommand::Write => self.begin_writing(),
             ListenerCommand::SetPointer => self.mode = Mode::SetPointer,
             ListenerCommand::Seek => self.mode = Mode::SeekHigh,
             ListenerCommand::PartialWrite => self.partial_write(),
@@ -302,14 +303,14 @@ impl<M: Medium> Drive<M> {
         }
     }
 
-    fn write(&mut self)
+    fn begin_writing(&mut self)
         ensures { self.new ≡ record self.old { state = table.write self.old.state } }
     {
         if self.status() == 0 {
             self.empty();
             self.mode = Mode::Write;
         } else {
-            self.mode = Mode::Rest;
+            self.rest();
         }
     }
 
@@ -328,7 +329,7 @@ impl<M: Medium> Drive<M> {
         ensures { self.new ≡ record self.old { state = table.at_rest (record self.old.state { position = 0 }) } }
     {
         self.position = 0;
-        self.mode = Mode::Rest;
+        self.rest();
     }
 
     fn close_record(&mut self)
@@ -338,14 +339,14 @@ impl<M: Medium> Drive<M> {
             self.put();
         }
         self.empty();
-        self.mode = Mode::Rest;
+        self.rest();
     }
 
     fn copy_buffer(&mut self)
         ensures { self.new ≡ record self.old { state = table.at_rest (record self.old.state { second = self.old.state.first }) } }
     {
         self.second = self.first;
-        self.mode = Mode::Rest;
+        self.rest();
     }
 
     // ---- DDT, while talking
@@ -359,20 +360,20 @@ impl<M: Medium> Drive<M> {
         match command {
             TalkerCommand::SendFirst => self.mode = Mode::SendFirst,
             TalkerCommand::SendSecond => self.mode = Mode::SendSecond,
-            TalkerCommand::Read => self.read(),
+            TalkerCommand::Read => self.begin_reading(),
             TalkerCommand::SendPosition => self.mode = Mode::PositionHigh,
             TalkerCommand::ExchangeBuffers => self.exchange_buffers(),
         }
     }
 
-    fn read(&mut self)
+    fn begin_reading(&mut self)
         ensures { self.new ≡ record self.old { state = table.read self.old.state } }
     {
         if self.status() == 0 {
             self.pointer = 0;
             self.mode = Mode::Read;
         } else {
-            self.mode = Mode::Rest;
+            self.rest();
         }
     }
 
@@ -380,7 +381,7 @@ impl<M: Medium> Drive<M> {
         ensures { self.new ≡ record self.old { state = table.talked ddt.ExchangeBuffers self.old.state } }
     {
         std::mem::swap(&mut self.first, &mut self.second);
-        self.mode = Mode::Rest;
+        self.rest();
     }
 
     // ---- a data byte that is heard
@@ -399,7 +400,7 @@ impl<M: Medium> Drive<M> {
             }
             Mode::SetPointer => {
                 self.pointer = byte;
-                self.mode = Mode::Rest;
+                self.rest();
             }
             Mode::SeekHigh => self.mode = Mode::SeekLow(byte),
             Mode::SeekLow(high) => self.seek(u16::from(high) * 256 + u16::from(byte)),
@@ -414,7 +415,7 @@ impl<M: Medium> Drive<M> {
     {
         if k < self.medium.size() {
             self.position = k;
-            self.mode = Mode::Rest;
+            self.rest();
         } else {
             self.fail(Fault::NoRecord);
         }
@@ -455,7 +456,7 @@ impl<M: Medium> Drive<M> {
                 Some((self.position / 256) as u8)
             }
             Mode::PositionLow => {
-                self.mode = Mode::Rest;
+                self.rest();
                 Some((self.position % 256) as u8)
             }
             _ => None,
@@ -467,7 +468,7 @@ impl<M: Medium> Drive<M> {
         ensures { self.new ≡ record self.old { state = table.after_byte self.old.state } }
     {
         if self.pointer == 255 {
-            self.mode = Mode::Rest;
+            self.rest();
         }
         self.advance();
     }
@@ -536,7 +537,7 @@ impl<M: Medium> Drive<M> {
                 return self.send(Start::Data, false, byte);
             }
         }
-        self.mode = Mode::Rest;
+        self.rest();
         self.interface.finish(own, frame)
     }
 
