@@ -1,4 +1,5 @@
 pub mod StepLemmas
+pub mod OwnFrames
 pub mod Outcomes
 pub mod Moves
 pub mod Answering

@@ -1,5 +1,8 @@
 -- What contracts see of a drive.
-use Rattle.std.specs.Prelude.{◌≡◌, ◌<◌, ◌≤◌, ℕ, Bool, false, List, [], length, replicate, Some}
+use Rattle.std.specs.Prelude.{◌≡◌, ◌<◌, ◌≤◌, ℕ, Bool, true, false, List, [], length, replicate, Option, Some, None}
+use Rattle.il_frames.specs.declared.frame.Class.TheVariants as class
+use Rattle.il_frames.specs.Frames.{class_of}
+use Rattle.il_device.specs.declared.interface.OwnFrame.{OwnFrame}
 use Rattle.il_device.specs.State.{DeviceState}
 use Rattle.il_device.specs.Interfaces.{InterfaceState, IsInterface, fresh_interface, device_on}
 use Rattle.il_drive.specs.declared.mode.Mode.{Mode}
@@ -54,6 +57,17 @@ abbrev pub IsMode : Mode → Type 0
 IsMode (mode.SeekLow high) = high < 256
 IsMode _ = Unit {0}
 
+-- a byte that answers SDA is one of many, a status or an accessory ID the only one
+abbrev pub is_single : Start → Bool
+is_single start.Data = false
+is_single start.Status = true
+is_single start.Identity = true
+
+-- the drive's own frame on the loop is of class DAB, and the last one exactly where it does not answer SDA
+abbrev pub IsSending : Start → Option OwnFrame → Type 0
+IsSending by None = Unit {0}
+IsSending by (Some own) = (class_of own.frame ≡ class.Dab) × (own.last ≡ is_single by)
+
 -- what holds of a drive over a tape of n records at every moment
 pub record IsDrive (n : ℕ) (s : DriveState) : Type 0 where
   pub standing : IsInterface s.interface
@@ -64,3 +78,4 @@ pub record IsDrive (n : ℕ) (s : DriveState) : Type 0 where
   pub pointer : s.pointer < 256
   pub position : s.position ≤ n
   pub mode : IsMode s.mode
+  pub sending : IsSending s.begun s.interface.own

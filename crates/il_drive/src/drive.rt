@@ -6,7 +6,7 @@ ghost use Rattle.il_device.specs.Takes.{Takes, ete};
 ghost use Rattle.lif_model.specs.Tape.{Tape};
 ghost use Rattle.lif_model.specs.Stops.{LeavesOnly};
 ghost use Rattle.lif_model.specs.Causes.{Rose};
-ghost use Rattle.il_drive.specs.State.{fresh_drive, status_of, device_of, IsDrive};
+ghost use Rattle.il_drive.specs.State.{fresh_drive, status_of, device_of, is_single, IsDrive};
 ghost use Rattle.il_drive.specs.Steps.{Did};
 ghost use Rattle.il_drive.specs.Facts.{has_wrong_echo, lacks_record, record_put, IsTapeAfter, IsLeft};
 ghost use Rattle.il_drive.specs.Commands.{listener_command, talker_command};
@@ -499,7 +499,8 @@ impl<M: Medium> Drive<M> {
 
     // Sends a byte as an answer to that start message.
     fn send(&mut self, start: Start, last: bool, byte: u8) -> Out
-        requires { self.old.state.interface.roles.talks ≡ true }
+        requires talks { self.old.state.interface.roles.talks ≡ true }
+        requires single { last ≡ is_single start }
         ensures sends { (self.new.state, result) ≡ table.sends start last byte self.old.state }
         ensures medium { self.new.medium ≡ self.old.medium }
     {
