@@ -48,11 +48,11 @@ moves_on s u v lack failed e moves = record { interface = rw e moves.interface; 
 abbrev pub MovesWith : (X : Type 0) → DriveState → Bool → Bool → DriveState × X → Type 0
 MovesWith X s lack failed x = Moves s lack failed x.0
 
-load_moves : (b : Bool) (s : DriveState) → Every (MovesWith Bool s b) (if b then Now (table.faulty fault.NoRecord s, false) else Reads s.position (λ bytes. (record s { first = bytes }, true)) (table.faulty fault.Unread s, false))
+load_moves : (b : Bool) (s : DriveState) → Every (MovesWith Bool s b) (if b then Now (table.faulty fault.NoRecord s, false) else Reads s.position (λ bytes. (record s { buffer_0 = bytes }, true)) (table.faulty fault.Unread s, false))
 load_moves true s = record { interface = refl; status = refl }
 load_moves false s = (λ bytes. moves_still s _ refl, record { interface = refl; status = (refl, inl refl) })
 
-record_moves : (b : Bool) (s : DriveState) → Every (Moves s b) (if b then Now (table.faulty fault.NoRecord s) else Writes s.position s.first (record s { position = s.position + 1 }) (table.faulty fault.Unwritten s))
+record_moves : (b : Bool) (s : DriveState) → Every (Moves s b) (if b then Now (table.faulty fault.NoRecord s) else Writes s.position s.buffer_0 (record s { position = s.position + 1 }) (table.faulty fault.Unwritten s))
 record_moves true s = record { interface = refl; status = refl }
 record_moves false s = (moves_still s _ refl, record { interface = refl; status = (refl, inr refl) })
 
@@ -79,8 +79,8 @@ close_moves false n s = moves_still s _ refl
 
 listened_moves : (command : Option ListenerCommand) (n : ℕ) (s : DriveState) → Every (Moves s (lacks_for command n s)) (table.listened_to command n s)
 listened_moves None n s = moves_still s _ refl
-listened_moves (Some ddl.FillFirst) n s = moves_still s _ refl
-listened_moves (Some ddl.FillSecond) n s = moves_still s _ refl
+listened_moves (Some ddl.FillBuffer0) n s = moves_still s _ refl
+listened_moves (Some ddl.FillBuffer1) n s = moves_still s _ refl
 listened_moves (Some ddl.Write) n s = write_moves (status_of s == 0) s
 listened_moves (Some ddl.SetPointer) n s = moves_still s _ refl
 listened_moves (Some ddl.Seek) n s = moves_still s _ refl
@@ -100,8 +100,8 @@ read_moves false s = moves_still s _ refl
 
 talked_moves : (command : Option TalkerCommand) (s : DriveState) → Moves s false false (table.talked_by command s)
 talked_moves None s = moves_still s _ refl
-talked_moves (Some ddt.SendFirst) s = moves_still s _ refl
-talked_moves (Some ddt.SendSecond) s = moves_still s _ refl
+talked_moves (Some ddt.SendBuffer0) s = moves_still s _ refl
+talked_moves (Some ddt.SendBuffer1) s = moves_still s _ refl
 talked_moves (Some ddt.Read) s = read_moves (status_of s == 0) s
 talked_moves (Some ddt.SendPosition) s = moves_still s _ refl
 talked_moves (Some ddt.ExchangeBuffers) s = moves_still s _ refl
@@ -172,12 +172,12 @@ taken_moves true n s u e = moves_still s _ e
 taken_moves false n s u e = every_weaker (Moves u (u.position == n)) (Moves s (u.position == n)) (table.put n u) (λ failed v moves. record { interface = moves.interface ∙ ap (λ (i : InterfaceState). with_status i (status_of v)) e; status = rw (← e) moves.status }) (put_moves n u)
 
 pub heard_moves : (m : Mode) (byte n : ℕ) (s : DriveState) → Every (Moves s (lacks_at_byte m byte n s)) (table.heard_in m byte n s)
-heard_moves mode.FillFirst byte n s = moves_still s _ refl
-heard_moves mode.FillSecond byte n s = moves_still s _ refl
+heard_moves mode.FillBuffer0 byte n s = moves_still s _ refl
+heard_moves mode.FillBuffer1 byte n s = moves_still s _ refl
 heard_moves mode.SetPointer byte n s = moves_still s _ refl
 heard_moves mode.SeekHigh byte n s = moves_still s _ refl
 heard_moves (mode.SeekLow high) byte n s = sought_moves (nat_lt (256 * high + byte) n) (256 * high + byte) s
-heard_moves mode.Write byte n s = taken_moves (nat_lt s.pointer 255) n s (record s { first = set s.first s.pointer byte; filled = true }) refl
+heard_moves mode.Write byte n s = taken_moves (nat_lt s.pointer 255) n s (record s { buffer_0 = set s.buffer_0 s.pointer byte; filled = true }) refl
 heard_moves _ byte n s = moves_still s s refl
 
 -- ---- the byte that is due
@@ -195,8 +195,8 @@ record_due_moves true n s = every_then (MovesWith Bool s (s.position == n)) (Mov
 record_due_moves false n s = moves_still s _ refl
 
 pub due_moves : (m : Mode) (n : ℕ) (s : DriveState) → Every (MovesWith (Option ℕ) s (lacks_due m n s)) (table.due_in m n s)
-due_moves mode.SendFirst n s = left_moves (nat_lt s.pointer 255) s
-due_moves mode.SendSecond n s = left_moves (nat_lt s.pointer 255) s
+due_moves mode.SendBuffer0 n s = left_moves (nat_lt s.pointer 255) s
+due_moves mode.SendBuffer1 n s = left_moves (nat_lt s.pointer 255) s
 due_moves mode.Read n s = record_due_moves (s.pointer == 0) n s
 due_moves mode.PositionHigh n s = moves_still s _ refl
 due_moves mode.PositionLow n s = moves_still s _ refl
@@ -216,21 +216,21 @@ load_written : {X : Type 0} (b : Bool) (k : ℕ) (off bad : X) (good : List ℕ 
 load_written true k off bad good = refl
 load_written false k off bad good = refl
 
-put_written : (n : ℕ) (s : DriveState) → written (table.put n s) ≡ placed_on (s.position == n) s.position (Some s.first)
-put_written n s = written_then table.emptied (table.recorded n s) ∙ record_written (s.position == n) s.position s.first _ _ _
+put_written : (n : ℕ) (s : DriveState) → written (table.put n s) ≡ placed_on (s.position == n) s.position (Some s.buffer_0)
+put_written n s = written_then table.emptied (table.recorded n s) ∙ record_written (s.position == n) s.position s.buffer_0 _ _ _
 
 partial_written : (c : Bool) (n : ℕ) (s : DriveState) → written (if c then then_by table.revising (table.loaded n s) else Now (table.at_rest s)) ≡ None
 partial_written true n s = written_then table.revising (table.loaded n s) ∙ load_written (s.position == n) s.position _ _ _
 partial_written false n s = refl
 
-close_written : (c : Bool) (n : ℕ) (s : DriveState) → written (if c then table.put n s else Now s) ≡ placed_on (s.position == n) s.position (if c then Some s.first else None)
+close_written : (c : Bool) (n : ℕ) (s : DriveState) → written (if c then table.put n s else Now s) ≡ placed_on (s.position == n) s.position (if c then Some s.buffer_0 else None)
 close_written true n s = put_written n s
 close_written false n s = nothing_placed (s.position == n) s.position
 
 listened_written : (command : Option ListenerCommand) (n : ℕ) (s : DriveState) → written (table.listened_to command n s) ≡ placed_on (s.position == n) s.position (closed_by command s)
 listened_written None n s = nothing_placed (s.position == n) s.position
-listened_written (Some ddl.FillFirst) n s = nothing_placed (s.position == n) s.position
-listened_written (Some ddl.FillSecond) n s = nothing_placed (s.position == n) s.position
+listened_written (Some ddl.FillBuffer0) n s = nothing_placed (s.position == n) s.position
+listened_written (Some ddl.FillBuffer1) n s = nothing_placed (s.position == n) s.position
 listened_written (Some ddl.Write) n s = nothing_placed (s.position == n) s.position
 listened_written (Some ddl.SetPointer) n s = nothing_placed (s.position == n) s.position
 listened_written (Some ddl.Seek) n s = nothing_placed (s.position == n) s.position
@@ -257,14 +257,14 @@ obeyed_written (msg.Ddl k) n r s = listened_written_if r.listens (listener_comma
 obeyed_written (msg.Ddt k) n r s = nothing_placed (s.position == n) s.position
 obeyed_written _ n r s = nothing_placed (s.position == n) s.position
 
-taken_written : (b : Bool) (n : ℕ) (u : DriveState) → written (if b then Now (table.advanced u) else table.put n u) ≡ placed_on (u.position == n) u.position (if b then None else Some u.first)
+taken_written : (b : Bool) (n : ℕ) (u : DriveState) → written (if b then Now (table.advanced u) else table.put n u) ≡ placed_on (u.position == n) u.position (if b then None else Some u.buffer_0)
 taken_written true n u = nothing_placed (u.position == n) u.position
 taken_written false n u = put_written n u
 
 pub heard_written : (m : Mode) (byte n : ℕ) (s : DriveState) → written (table.heard_in m byte n s) ≡ placed_on (s.position == n) s.position (full_by m byte s)
-heard_written mode.Write byte n s = taken_written (nat_lt s.pointer 255) n (record s { first = set s.first s.pointer byte; filled = true })
-heard_written mode.FillFirst byte n s = nothing_placed (s.position == n) s.position
-heard_written mode.FillSecond byte n s = nothing_placed (s.position == n) s.position
+heard_written mode.Write byte n s = taken_written (nat_lt s.pointer 255) n (record s { buffer_0 = set s.buffer_0 s.pointer byte; filled = true })
+heard_written mode.FillBuffer0 byte n s = nothing_placed (s.position == n) s.position
+heard_written mode.FillBuffer1 byte n s = nothing_placed (s.position == n) s.position
 heard_written mode.SetPointer byte n s = nothing_placed (s.position == n) s.position
 heard_written mode.SeekHigh byte n s = nothing_placed (s.position == n) s.position
 heard_written (mode.SeekLow high) byte n s = nothing_placed (s.position == n) s.position
@@ -276,8 +276,8 @@ record_due_written false n s = refl
 
 pub due_written : (m : Mode) (n : ℕ) (s : DriveState) → written (table.due_in m n s) ≡ None
 due_written mode.Read n s = record_due_written (s.pointer == 0) n s
-due_written mode.SendFirst n s = refl
-due_written mode.SendSecond n s = refl
+due_written mode.SendBuffer0 n s = refl
+due_written mode.SendBuffer1 n s = refl
 due_written mode.PositionHigh n s = refl
 due_written mode.PositionLow n s = refl
 due_written _ n s = refl

@@ -114,7 +114,7 @@ module _ {M : Type 0} (view : M → MediumView) where
       (u : DriveView M) × Did view (Writes v.state.position (bytes_of fs) (well fs v.state) (badly fs v.state)) u.state v.medium u.medium
       × (((u.state ≡ well fs v.state) × Wrote more u w) ⊎ ((u.state ≡ badly fs v.state) × Unheeded (frames_of more) u w))
 
-  pub writes_records : (records : List (List Frame)) (outs : List Out) (v w : DriveView M) → IsWriting v.state → AreRecords records → v.state.pointer ≡ 0 → length v.state.first ≡ 256
+  pub writes_records : (records : List (List Frame)) (outs : List Out) (v w : DriveView M) → IsWriting v.state → AreRecords records → v.state.pointer ≡ 0 → length v.state.buffer_0 ≡ 256
       → v.state.position + length records ≤ (view v.medium).record_count → Ran view v (frames_of records) outs w → Wrote records v w
   writes_records [] [] v w writing are empty long within ran = ran
   writes_records [] (out ∷ outs) v w writing are empty long within ran = absurd ran
@@ -130,7 +130,7 @@ module _ {M : Type 0} (view : M → MediumView) where
             (λ took. inl (
               took.0,
               writes_records more parts.more u w (subst IsWriting (sym took.0) (well_writing (f ∷ fs) s writing are.0.0)) are.1 (ap (λ (s : DriveState). s.pointer) took.0)
-                  (ap (λ (s : DriveState). length s.first) took.0 ∙ length-map (f ∷ fs) byte_of ∙ are.0.1) (omega (arith, within, ap (λ (s : DriveState). s.position) took.0, put.0.stays_in.size)) parts.behind,
+                  (ap (λ (s : DriveState). length s.buffer_0) took.0 ∙ length-map (f ∷ fs) byte_of ∙ are.0.1) (omega (arith, within, ap (λ (s : DriveState). s.position) took.0, put.0.stays_in.size)) parts.behind,
             ))
             (λ torn. inr (torn.0, unheeded (frames_of more) parts.more u w (subst (IsListening mode.Rest) (sym torn.0) (badly_rests (f ∷ fs) s writing are.0.0)) (all_frames more are.1) parts.behind))
             put.1,

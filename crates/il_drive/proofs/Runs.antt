@@ -36,7 +36,7 @@ step_hears n s f writing h =
 
 -- the drive that has heard the byte
 abbrev holding : DriveState → Frame → DriveState
-holding s f = record (table.behind_effect f s) { first = set s.first s.pointer (byte_of f); filled = true }
+holding s f = record (table.behind_effect f s) { buffer_0 = set s.buffer_0 s.pointer (byte_of f); filled = true }
 
 still_writing : (s : DriveState) (f : Frame) (u : DriveState) → IsWriting s → is_data f ≡ true → u.interface ≡ interface_after s.interface f → u.mode ≡ s.mode → IsWriting u
 still_writing s f u writing h i m = record {
@@ -54,19 +54,19 @@ step_buffers n s f writing h lt =
 
 -- the last byte puts the record
 pub step_puts : (n : ℕ) (s : DriveState) (f : Frame) → IsWriting s → is_data f ≡ true → 255 ≤ s.pointer → s.position ≢ n
-    → table.drive_step n s f ≡ Writes s.position (set s.first s.pointer (byte_of f))
+    → table.drive_step n s f ≡ Writes s.position (set s.buffer_0 s.pointer (byte_of f))
     (table.passes s.interface.roles f (table.emptied (record (holding s f) { position = s.position + 1 }))) (table.passes s.interface.roles f (table.emptied (table.faulty fault.Unwritten (holding s f))))
 step_puts n s f writing h full on =
     step_hears n s f writing h
     ∙ ap (λ b. then_by (table.passes s.interface.roles f) (if b then Now (table.advanced (holding s f)) else table.put n (holding s f))) (lt-leb (suc s.pointer) 255 (omega (arith, full)))
-    ∙ ap (λ b. then_by (table.passes s.interface.roles f) (then_by table.emptied (if b then Now (table.faulty fault.NoRecord (holding s f)) else Writes s.position (set s.first s.pointer (byte_of f)) (record (holding s f) { position = s.position + 1 }) (table.faulty fault.Unwritten (holding s f)))))
+    ∙ ap (λ b. then_by (table.passes s.interface.roles f) (then_by table.emptied (if b then Now (table.faulty fault.NoRecord (holding s f)) else Writes s.position (set s.buffer_0 s.pointer (byte_of f)) (record (holding s f) { position = s.position + 1 }) (table.faulty fault.Unwritten (holding s f)))))
     (ne_eqb s.position n on)
 
 -- ---- bytes that do not fill the buffer
 
 -- the drive that has heard one more
 abbrev next : DriveState → Frame → DriveState
-next s f = record s { interface = interface_after s.interface f; first = set s.first s.pointer (byte_of f); pointer = s.pointer + 1; filled = true }
+next s f = record s { interface = interface_after s.interface f; buffer_0 = set s.buffer_0 s.pointer (byte_of f); pointer = s.pointer + 1; filled = true }
 
 next_is : (s : DriveState) (f : Frame) → s.pointer < 255 → table.advanced (holding s f) ≡ next s f
 next_is s f lt = ap (λ p. record (holding s f) { pointer = p }) (mod-eq_of_lt (omega (arith, lt)))
@@ -115,26 +115,26 @@ module _ {M : Type 0} (view : M → MediumView) where
 
   -- the byte that fills the buffer puts the record
   pub puts_last : (f : Frame) (out : Out) (v w : DriveView M) → IsWriting v.state → is_data f ≡ true → v.state.pointer ≡ 255 → v.state.position ≢ (view v.medium).record_count
-      → Does (table.drive_step (view v.medium).record_count v.state f) (w.state, out) v.medium w.medium → Puts (f ∷ []) (set v.state.first v.state.pointer (byte_of f)) v w
+      → Does (table.drive_step (view v.medium).record_count v.state f) (w.state, out) v.medium w.medium → Puts (f ∷ []) (set v.state.buffer_0 v.state.pointer (byte_of f)) v w
   puts_last f out v w writing h full on did =
       let s = v.state in
-      let bytes = set s.first s.pointer (byte_of f) in
+      let bytes = set s.buffer_0 s.pointer (byte_of f) in
       wrote_first s.position bytes s.interface.roles f (put_well bytes (interface_after s.interface f) s) (put_badly bytes (interface_after s.interface f) s) w.state out v.medium w.medium
       (subst (λ step. Does step (w.state, out) v.medium w.medium) (step_puts (view v.medium).record_count s f writing h (omega (arith, full)) on) did)
 
   -- what the buffer holds before its pointer, and then these bytes
   abbrev joined : DriveState → List Frame → List ℕ
-  joined s fs = take s.pointer s.first ++ bytes_of fs
+  joined s fs = take s.pointer s.buffer_0 ++ bytes_of fs
 
-  joined_next : (s : DriveState) (f : Frame) (fs : List Frame) → s.pointer < length s.first → joined (next s f) fs ≡ joined s (f ∷ fs)
-  joined_next s f fs within = ap (λ xs. xs ++ bytes_of fs) (take_more_set s.first s.pointer (byte_of f) within) ∙ append_assoc (take s.pointer s.first) (byte_of f ∷ []) (bytes_of fs)
+  joined_next : (s : DriveState) (f : Frame) (fs : List Frame) → s.pointer < length s.buffer_0 → joined (next s f) fs ≡ joined s (f ∷ fs)
+  joined_next s f fs within = ap (λ xs. xs ++ bytes_of fs) (take_more_set s.buffer_0 s.pointer (byte_of f) within) ∙ append_assoc (take s.pointer s.buffer_0) (byte_of f ∷ []) (bytes_of fs)
 
-  joined_last : (s : DriveState) (f : Frame) → s.pointer ≡ 255 → length s.first ≡ 256 → set s.first s.pointer (byte_of f) ≡ joined s (f ∷ [])
+  joined_last : (s : DriveState) (f : Frame) → s.pointer ≡ 255 → length s.buffer_0 ≡ 256 → set s.buffer_0 s.pointer (byte_of f) ≡ joined s (f ∷ [])
   joined_last s f full long =
-      sym (take_all (s.pointer + 1) (set s.first s.pointer (byte_of f)) (omega (arith, full, long, length-set s.first s.pointer (byte_of f)))) ∙ take_more_set s.first s.pointer (byte_of f) (omega (arith, full, long))
+      sym (take_all (s.pointer + 1) (set s.buffer_0 s.pointer (byte_of f)) (omega (arith, full, long, length-set s.buffer_0 s.pointer (byte_of f)))) ∙ take_more_set s.buffer_0 s.pointer (byte_of f) (omega (arith, full, long))
 
   -- the bytes that fill the buffer are put on the tape by one write, as the last one comes
-  pub puts : (f : Frame) (fs : List Frame) (outs : List Out) (v w : DriveView M) → IsWriting v.state → AllData (f ∷ fs) → v.state.pointer + length (f ∷ fs) ≡ 256 → length v.state.first ≡ 256
+  pub puts : (f : Frame) (fs : List Frame) (outs : List Out) (v w : DriveView M) → IsWriting v.state → AllData (f ∷ fs) → v.state.pointer + length (f ∷ fs) ≡ 256 → length v.state.buffer_0 ≡ 256
       → v.state.position ≢ (view v.medium).record_count → Runs v (f ∷ fs) outs w → Puts (f ∷ fs) (joined v.state (f ∷ fs)) v w
   puts f fs [] v w writing all fits long on ran = absurd ran
   puts f [] (out ∷ other ∷ outs) v w writing all fits long on ran = absurd ran.2
@@ -153,13 +153,13 @@ module _ {M : Type 0} (view : M → MediumView) where
       let same_size : (view u.medium).record_count ≡ (view v.medium).record_count = ap (λ m. (view m).record_count) did.1 in
       let put =
       puts g fs outs u w (subst IsWriting (sym is) (next_writing s f writing all.0)) all.1 (omega (arith, fits, pointer))
-      (ap (λ (s : DriveState). length s.first) is ∙ length-set s.first s.pointer (byte_of f) ∙ long) (λ e. on (sym (ap (λ (s : DriveState). s.position) is) ∙ e ∙ same_size)) ran.2 in
+      (ap (λ (s : DriveState). length s.buffer_0) is ∙ length-set s.buffer_0 s.pointer (byte_of f) ∙ long) (λ e. on (sym (ap (λ (s : DriveState). s.position) is) ∙ e ∙ same_size)) ran.2 in
       let from_state : PutsFrom (g ∷ fs) (joined (next s f) (g ∷ fs)) (next s f) u.medium w = subst (λ s₂. PutsFrom (g ∷ fs) (joined s₂ (g ∷ fs)) s₂ u.medium w) is put in
       let from_medium = subst (λ m. PutsFrom (g ∷ fs) (joined (next s f) (g ∷ fs)) (next s f) m w) did.1 from_state in
       subst (λ bytes. PutsFrom (g ∷ fs) bytes (next s f) v.medium w) (joined_next s f (g ∷ fs) (omega (arith, fits, long))) from_medium
 
   -- from pointer 0 these are the bytes that were heard
-  pub puts_record : (f : Frame) (fs : List Frame) (outs : List Out) (v w : DriveView M) → IsWriting v.state → AllData (f ∷ fs) → v.state.pointer ≡ 0 → length (f ∷ fs) ≡ 256 → length v.state.first ≡ 256
+  pub puts_record : (f : Frame) (fs : List Frame) (outs : List Out) (v w : DriveView M) → IsWriting v.state → AllData (f ∷ fs) → v.state.pointer ≡ 0 → length (f ∷ fs) ≡ 256 → length v.state.buffer_0 ≡ 256
       → v.state.position ≢ (view v.medium).record_count → Runs v (f ∷ fs) outs w → Puts (f ∷ fs) (bytes_of (f ∷ fs)) v w
   puts_record f fs outs v w writing all empty fits long on ran =
-      subst (λ bytes. Puts (f ∷ fs) bytes v w) (ap (λ k. take k v.state.first ++ bytes_of (f ∷ fs)) empty) (puts f fs outs v w writing all (omega (arith, empty, fits)) long on ran)
+      subst (λ bytes. Puts (f ∷ fs) bytes v w) (ap (λ k. take k v.state.buffer_0 ++ bytes_of (f ∷ fs)) empty) (puts f fs outs v w writing all (omega (arith, empty, fits)) long on ran)

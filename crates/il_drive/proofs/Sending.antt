@@ -35,7 +35,7 @@ sst = framed class.Rdy 0x61
 
 -- the record at the position is read, and its first byte sent
 pub step_reads : (n : ℕ) (s : DriveState) → s.interface.roles.talks ≡ true → s.interface.own ≡ None → s.mode ≡ mode.Read → s.pointer ≡ 0 → s.position ≢ n
-    → table.drive_step n s sda ≡ Reads s.position (λ bytes. table.sends start.Data false (get_or bytes s.pointer 0) (table.advanced (record (table.behind_effect sda s) { first = bytes; position = s.position + 1 })))
+    → table.drive_step n s sda ≡ Reads s.position (λ bytes. table.sends start.Data false (get_or bytes s.pointer 0) (table.advanced (record (table.behind_effect sda s) { buffer_0 = bytes; position = s.position + 1 })))
     (table.passes s.interface.roles sda (table.faulty fault.Unread (table.behind_effect sda s)))
 step_reads n s talks silent in_mode empty on =
     let u = table.behind_effect sda s in
@@ -43,7 +43,7 @@ step_reads n s talks silent in_mode empty on =
     ap (λ asked. table.answered asked n r sda u) (ap (λ own. turn_at_start own r.talks turn.Begin) silent ∙ ap (λ talks. turn_at_start None talks turn.Begin) talks)
     ∙ ap (λ m. then_by (table.first_or_pass r sda) (table.due_in m n u)) in_mode
     ∙ ap (λ b. then_by (table.first_or_pass r sda) (if b then then_by table.first_of_record (table.loaded n u) else Now (table.byte_of_record u))) (eq-eqb s.pointer 0 empty)
-    ∙ ap (λ b. then_by (table.first_or_pass r sda) (then_by table.first_of_record (if b then Now (table.faulty fault.NoRecord u, false) else Reads u.position (λ bytes. (record u { first = bytes }, true)) (table.faulty fault.Unread u, false)))) (ne_eqb s.position n on)
+    ∙ ap (λ b. then_by (table.first_or_pass r sda) (then_by table.first_of_record (if b then Now (table.faulty fault.NoRecord u, false) else Reads u.position (λ bytes. (record u { buffer_0 = bytes }, true)) (table.faulty fault.Unread u, false)))) (ne_eqb s.position n on)
 
 -- ---- behind the right echo
 
@@ -57,11 +57,11 @@ step_compares n s f own is h right =
     ap (λ asked. table.answered asked n s.interface.roles f (table.behind_effect f s)) (compares s f own is h) ∙ ap (λ b. table.compared b own n (table.behind_effect f s)) right
 
 -- the next byte of the record is sent
-pub step_sends : (n last : ℕ) (s : DriveState) (f : Frame) → IsReading last s → is_data f ≡ true → same_but_service (framed class.Dab (get_or s.first last 0)) f ≡ true
-    → table.drive_step n s f ≡ Now (table.sends start.Data false (get_or s.first s.pointer 0) (table.advanced (table.behind_effect f s)))
+pub step_sends : (n last : ℕ) (s : DriveState) (f : Frame) → IsReading last s → is_data f ≡ true → same_but_service (framed class.Dab (get_or s.buffer_0 last 0)) f ≡ true
+    → table.drive_step n s f ≡ Now (table.sends start.Data false (get_or s.buffer_0 s.pointer 0) (table.advanced (table.behind_effect f s)))
 step_sends n last s f reading h right =
     let u = table.behind_effect f s in
-    step_compares n s f (just_sent (framed class.Dab (get_or s.first last 0)) false) reading.sent h right
+    step_compares n s f (just_sent (framed class.Dab (get_or s.buffer_0 last 0)) false) reading.sent h right
     ∙ ap (λ m. then_by table.next_or_end (table.due_in m n u)) reading.mode
     ∙ ap (λ b. then_by table.next_or_end (if b then then_by table.first_of_record (table.loaded n u) else Now (table.byte_of_record u))) (ne_eqb s.pointer 0 (λ e. absurd (omega (arith, e, reading.pointer))))
 
@@ -78,12 +78,12 @@ step_asks n byte s f is in_mode empty h right =
 -- it is read, and its first byte sent; where it could not be read, the transmission ends with status 1
 pub step_reads_on : (n byte : ℕ) (s : DriveState) (f : Frame) → s.interface.own ≡ Some (just_sent (framed class.Dab byte) false) → s.mode ≡ mode.Read → s.pointer ≡ 0 → is_data f ≡ true
     → same_but_service (framed class.Dab byte) f ≡ true → s.position ≢ n
-    → table.drive_step n s f ≡ Reads s.position (λ bytes. table.sends start.Data false (get_or bytes s.pointer 0) (table.advanced (record (table.behind_effect f s) { first = bytes; position = s.position + 1 })))
+    → table.drive_step n s f ≡ Reads s.position (λ bytes. table.sends start.Data false (get_or bytes s.pointer 0) (table.advanced (record (table.behind_effect f s) { buffer_0 = bytes; position = s.position + 1 })))
     (table.ends eto (table.faulty fault.Unread (table.behind_effect f s)))
 step_reads_on n byte s f is in_mode empty h right on =
     let u = table.behind_effect f s in
     step_asks n byte s f is in_mode empty h right
-    ∙ ap (λ b. then_by table.next_or_end (then_by table.first_of_record (if b then Now (table.faulty fault.NoRecord u, false) else Reads u.position (λ bytes. (record u { first = bytes }, true)) (table.faulty fault.Unread u, false)))) (ne_eqb s.position n on)
+    ∙ ap (λ b. then_by table.next_or_end (then_by table.first_of_record (if b then Now (table.faulty fault.NoRecord u, false) else Reads u.position (λ bytes. (record u { buffer_0 = bytes }, true)) (table.faulty fault.Unread u, false)))) (ne_eqb s.position n on)
 
 -- behind the last record of the tape there is none: the transmission ends with status 3
 pub step_reads_past : (n byte : ℕ) (s : DriveState) (f : Frame) → s.interface.own ≡ Some (just_sent (framed class.Dab byte) false) → s.mode ≡ mode.Read → s.pointer ≡ 0 → is_data f ≡ true
@@ -92,7 +92,7 @@ pub step_reads_past : (n byte : ℕ) (s : DriveState) (f : Frame) → s.interfac
 step_reads_past n byte s f is in_mode empty h right at_end =
     let u = table.behind_effect f s in
     step_asks n byte s f is in_mode empty h right
-    ∙ ap (λ b. then_by table.next_or_end (then_by table.first_of_record (if b then Now (table.faulty fault.NoRecord u, false) else Reads u.position (λ bytes. (record u { first = bytes }, true)) (table.faulty fault.Unread u, false)))) (eq-eqb s.position n at_end)
+    ∙ ap (λ b. then_by table.next_or_end (then_by table.first_of_record (if b then Now (table.faulty fault.NoRecord u, false) else Reads u.position (λ bytes. (record u { buffer_0 = bytes }, true)) (table.faulty fault.Unread u, false)))) (eq-eqb s.position n at_end)
 
 -- Behind NRD no byte is asked for, and behind a last byte neither: the transmission ends, and a status that was sent is
 -- cleared.
@@ -119,7 +119,7 @@ step_clears n s f byte is by h right =
 
 -- the drive that has sent one more
 abbrev later : DriveState → Frame → DriveState
-later s f = (table.sends start.Data false (get_or s.first s.pointer 0) (table.advanced (table.behind_effect f s))).0
+later s f = (table.sends start.Data false (get_or s.buffer_0 s.pointer 0) (table.advanced (table.behind_effect f s))).0
 
 later_reading : (last : ℕ) (s : DriveState) (f : Frame) → IsReading last s → is_data f ≡ true → s.pointer < 255 → IsReading s.pointer (later s f)
 later_reading last s f reading h lt = record {
@@ -138,19 +138,19 @@ module _ {M : Type 0} (view : M → MediumView) where
 
   -- what came of frames from that state on
   abbrev Sent : List Frame → List Out → DriveState → M → DriveView M → Type 0
-  Sent fs outs s m w = (outs ≡ sent_from s.first s.pointer fs) × (w.state ≡ sent_all fs s) × (w.medium ≡ m)
+  Sent fs outs s m w = (outs ≡ sent_from s.buffer_0 s.pointer fs) × (w.state ≡ sent_all fs s) × (w.medium ≡ m)
 
   -- one byte more
-  one_sent : (last : ℕ) (f : Frame) (out : Out) (v u : DriveView M) → IsReading last v.state → is_data f ≡ true → same_but_service (framed class.Dab (get_or v.state.first last 0)) f ≡ true
-      → Does (table.drive_step (view v.medium).record_count v.state f) (u.state, out) v.medium u.medium → (out ≡ Source (framed class.Dab (get_or v.state.first v.state.pointer 0))) × (u ≡ record { state = later v.state f; medium = v.medium })
+  one_sent : (last : ℕ) (f : Frame) (out : Out) (v u : DriveView M) → IsReading last v.state → is_data f ≡ true → same_but_service (framed class.Dab (get_or v.state.buffer_0 last 0)) f ≡ true
+      → Does (table.drive_step (view v.medium).record_count v.state f) (u.state, out) v.medium u.medium → (out ≡ Source (framed class.Dab (get_or v.state.buffer_0 v.state.pointer 0))) × (u ≡ record { state = later v.state f; medium = v.medium })
   one_sent last f out v u reading h right did =
-      let sent : Does (Now (table.sends start.Data false (get_or v.state.first v.state.pointer 0) (table.advanced (table.behind_effect f v.state)))) (u.state, out) v.medium u.medium =
+      let sent : Does (Now (table.sends start.Data false (get_or v.state.buffer_0 v.state.pointer 0) (table.advanced (table.behind_effect f v.state)))) (u.state, out) v.medium u.medium =
       subst (λ step. Does step (u.state, out) v.medium u.medium) (step_sends (view v.medium).record_count last v.state f reading h right) did in
       (ap (λ x. x.1) sent.0, λ i. record { state = (sent.0 i).0; medium = sent.1 i })
 
   -- while the echoes are right the bytes of the record follow each other, and the medium stays
   pub sends_record : (fs : List Frame) (outs : List Out) (last : ℕ) (v w : DriveView M) → IsReading last v.state → AllData fs → v.state.pointer + length fs ≤ 256
-      → AreEchoes v.state.first last fs → Runs v fs outs w → Sent fs outs v.state v.medium w
+      → AreEchoes v.state.buffer_0 last fs → Runs v fs outs w → Sent fs outs v.state v.medium w
   sends_record [] [] last v w reading all fits echoes ran = (refl, ap (λ v. v.state) ran, ap (λ v. v.medium) ran)
   sends_record [] (out ∷ outs) last v w reading all fits echoes ran = absurd ran
   sends_record (f ∷ fs) [] last v w reading all fits echoes ran = absurd ran
@@ -164,5 +164,5 @@ module _ {M : Type 0} (view : M → MediumView) where
       let up : (s.pointer + 1) % 256 ≡ s.pointer + 1 = mod-eq_of_lt (omega (arith, fits)) in
       let more =
       sends_record (g ∷ fs) outs s.pointer (record { state = later s f; medium = v.medium }) w (later_reading last s f reading all.0 (omega (arith, fits))) all.1 (omega (arith, fits, up))
-      (subst (λ k. AreEchoes s.first k (g ∷ fs)) (sym reading.pointer) echoes.1) (subst (λ u. Runs u (g ∷ fs) outs w) one.1 ran.2) in
-      (λ i. one.0 i ∷ (more.0 ∙ ap (λ p. sent_from s.first p (g ∷ fs)) up) i, more.1, more.2)
+      (subst (λ k. AreEchoes s.buffer_0 k (g ∷ fs)) (sym reading.pointer) echoes.1) (subst (λ u. Runs u (g ∷ fs) outs w) one.1 ran.2) in
+      (λ i. one.0 i ∷ (more.0 ∙ ap (λ p. sent_from s.buffer_0 p (g ∷ fs)) up) i, more.1, more.2)

@@ -9,8 +9,8 @@ use Rattle.il_drive.specs.declared.commands.TalkerCommand.TheVariants as ddt
 -- DDL, to a listener
 abbrev pub listener_command : ℕ → Option ListenerCommand
 listener_command n =
-    if n == 0 then Some ddl.FillFirst
-    else (if n == 1 then Some ddl.FillSecond
+    if n == 0 then Some ddl.FillBuffer0
+    else (if n == 1 then Some ddl.FillBuffer1
     else (if n == 2 then Some ddl.Write
     else (if n == 3 then Some ddl.SetPointer
     else (if n == 4 then Some ddl.Seek
@@ -23,8 +23,8 @@ listener_command n =
 -- DDT, to a talker
 abbrev pub talker_command : ℕ → Option TalkerCommand
 talker_command n =
-    if n == 0 then Some ddt.SendFirst
-    else (if n == 1 then Some ddt.SendSecond
+    if n == 0 then Some ddt.SendBuffer0
+    else (if n == 1 then Some ddt.SendBuffer1
     else (if n == 2 then Some ddt.Read
     else (if n == 3 then Some ddt.SendPosition
     else (if n == 4 then Some ddt.ExchangeBuffers

@@ -39,11 +39,11 @@ has_wrong_echo s f = is_wrong_echo (turn_on s.interface f) f
 
 -- what buffer 0 holds as it is put, by a byte that is heard and by DDL 8
 abbrev pub full_by : Mode → ℕ → DriveState → Option (List ℕ)
-full_by mode.Write byte s = if nat_lt s.pointer 255 then None else Some (set s.first s.pointer byte)
+full_by mode.Write byte s = if nat_lt s.pointer 255 then None else Some (set s.buffer_0 s.pointer byte)
 full_by _ byte s = None
 
 abbrev pub closed_by : Option ListenerCommand → DriveState → Option (List ℕ)
-closed_by (Some ddl.CloseRecord) s = if is_write s.mode && s.filled then Some s.first else None
+closed_by (Some ddl.CloseRecord) s = if is_write s.mode && s.filled then Some s.buffer_0 else None
 closed_by _ s = None
 
 abbrev pub put_at_message : Message → Roles → DriveState → Option (List ℕ)

@@ -46,14 +46,14 @@ bytes_of fs = map byte_of fs
 -- the drive with bytes in buffer 0 that do not fill it
 abbrev pub buffered : List Frame → DriveState → DriveState
 buffered [] s = s
-buffered (f ∷ fs) s = buffered fs (record s { interface = interface_after s.interface f; first = set s.first s.pointer (byte_of f); pointer = s.pointer + 1; filled = true })
+buffered (f ∷ fs) s = buffered fs (record s { interface = interface_after s.interface f; buffer_0 = set s.buffer_0 s.pointer (byte_of f); pointer = s.pointer + 1; filled = true })
 
 -- the drive that has put the record of these bytes, and the one that could not, with that interface
 abbrev pub put_well : List ℕ → InterfaceState → DriveState → DriveState
-put_well bytes i s = emptied (record s { interface = i; first = bytes; position = s.position + 1 })
+put_well bytes i s = emptied (record s { interface = i; buffer_0 = bytes; position = s.position + 1 })
 
 abbrev pub put_badly : List ℕ → InterfaceState → DriveState → DriveState
-put_badly bytes i s = emptied (faulty fault.Unwritten (record s { interface = i; first = bytes }))
+put_badly bytes i s = emptied (faulty fault.Unwritten (record s { interface = i; buffer_0 = bytes }))
 
 -- ---- reading
 
@@ -62,7 +62,7 @@ pub record IsReading (last : ℕ) (s : DriveState) : Type 0 where
   pub talks : s.interface.roles.talks ≡ true
   pub mode : s.mode ≡ mode.Read
   pub pointer : s.pointer ≡ last + 1
-  pub sent : s.interface.own ≡ Some (just_sent (framed class.Dab (get_or s.first last 0)) false)
+  pub sent : s.interface.own ≡ Some (just_sent (framed class.Dab (get_or s.buffer_0 last 0)) false)
 
 -- the frames that came back are the bytes of the buffer from that place on
 abbrev pub AreEchoes : List ℕ → ℕ → List Frame → Type 0
@@ -77,4 +77,4 @@ sent_from buffer place (f ∷ fs) = Source (framed class.Dab (get_or buffer plac
 -- the drive that has sent them
 abbrev pub sent_all : List Frame → DriveState → DriveState
 sent_all [] s = s
-sent_all (f ∷ fs) s = sent_all fs (sends start.Data false (get_or s.first s.pointer 0) (advanced (behind_effect f s))).0
+sent_all (f ∷ fs) s = sent_all fs (sends start.Data false (get_or s.buffer_0 s.pointer 0) (advanced (behind_effect f s))).0

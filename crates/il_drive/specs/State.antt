@@ -14,8 +14,8 @@ use Rattle.il_drive.specs.declared.mode.Start.TheVariants as start
 -- whether buffer 0 was filled; the mode; and by which start message it last began to send
 pub record DriveState : Type 0 where
   pub interface : InterfaceState
-  pub first : List ℕ
-  pub second : List ℕ
+  pub buffer_0 : List ℕ
+  pub buffer_1 : List ℕ
   pub pointer : ℕ
   pub position : ℕ
   pub filled : Bool
@@ -35,8 +35,8 @@ drive_id = 16
 abbrev pub fresh_drive : DriveState
 fresh_drive = record {
   interface = fresh_interface (Some drive_id);
-  first = replicate 256 0;
-  second = replicate 256 0;
+  buffer_0 = replicate 256 0;
+  buffer_1 = replicate 256 0;
   pointer = 0;
   position = 0;
   filled = false;
@@ -73,8 +73,8 @@ pub record IsDrive (n : ℕ) (s : DriveState) : Type 0 where
   pub standing : IsInterface s.interface
   pub accessory : s.interface.accessory ≡ Some drive_id
   pub status : status_of s ≤ 3
-  pub first : length s.first ≡ 256
-  pub second : length s.second ≡ 256
+  pub buffer_0 : length s.buffer_0 ≡ 256
+  pub buffer_1 : length s.buffer_1 ≡ 256
   pub pointer : s.pointer < 256
   pub position : s.position ≤ n
   pub mode : IsMode s.mode

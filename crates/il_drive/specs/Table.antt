@@ -63,13 +63,13 @@ advanced s = record s { pointer = next_pointer s.pointer }
 abbrev pub loaded : ℕ → DriveState → Step (DriveState × Bool)
 loaded n s =
     if s.position == n then Now (faulty fault.NoRecord s, false)
-    else Reads s.position (λ bytes. (record s { first = bytes }, true)) (faulty fault.Unread s, false)
+    else Reads s.position (λ bytes. (record s { buffer_0 = bytes }, true)) (faulty fault.Unread s, false)
 
 -- buffer 0 becomes the record at the position
 abbrev pub recorded : ℕ → DriveState → Step DriveState
 recorded n s =
     if s.position == n then Now (faulty fault.NoRecord s)
-    else Writes s.position s.first (record s { position = s.position + 1 }) (faulty fault.Unwritten s)
+    else Writes s.position s.buffer_0 (record s { position = s.position + 1 }) (faulty fault.Unwritten s)
 
 -- the record is put: buffer 0 goes on the tape, and is empty then
 abbrev pub put : ℕ → DriveState → Step DriveState
@@ -96,15 +96,15 @@ close_record n s =
     then_by (λ u. at_rest (emptied u)) (if is_write s.mode && s.filled then put n s else Now s)
 
 abbrev pub listened : ListenerCommand → ℕ → DriveState → Step DriveState
-listened ddl.FillFirst n s = Now (in_mode mode.FillFirst s)
-listened ddl.FillSecond n s = Now (in_mode mode.FillSecond s)
+listened ddl.FillBuffer0 n s = Now (in_mode mode.FillBuffer0 s)
+listened ddl.FillBuffer1 n s = Now (in_mode mode.FillBuffer1 s)
 listened ddl.Write n s = Now (write s)
 listened ddl.SetPointer n s = Now (in_mode mode.SetPointer s)
 listened ddl.Seek n s = Now (in_mode mode.SeekHigh s)
 listened ddl.PartialWrite n s = partial_write n s
 listened ddl.Rewind n s = Now (at_rest (record s { position = 0 }))
 listened ddl.CloseRecord n s = close_record n s
-listened ddl.CopyBuffer n s = Now (at_rest (record s { second = s.first }))
+listened ddl.CopyBuffer n s = Now (at_rest (record s { buffer_1 = s.buffer_0 }))
 
 -- a number that the drive does not have has no effect
 abbrev pub listened_to : Option ListenerCommand → ℕ → DriveState → Step DriveState
@@ -117,11 +117,11 @@ abbrev pub read : DriveState → DriveState
 read s = if status_of s == 0 then in_mode mode.Read (record s { pointer = 0 }) else at_rest s
 
 abbrev pub talked : TalkerCommand → DriveState → DriveState
-talked ddt.SendFirst s = in_mode mode.SendFirst s
-talked ddt.SendSecond s = in_mode mode.SendSecond s
+talked ddt.SendBuffer0 s = in_mode mode.SendBuffer0 s
+talked ddt.SendBuffer1 s = in_mode mode.SendBuffer1 s
 talked ddt.Read s = read s
 talked ddt.SendPosition s = in_mode mode.PositionHigh s
-talked ddt.ExchangeBuffers s = at_rest (record s { first = s.second; second = s.first })
+talked ddt.ExchangeBuffers s = at_rest (record s { buffer_0 = s.buffer_1; buffer_1 = s.buffer_0 })
 
 abbrev pub talked_by : Option TalkerCommand → DriveState → DriveState
 talked_by None s = s
@@ -161,12 +161,12 @@ sought k n s = if nat_lt k n then at_rest (record s { position = k }) else fault
 -- a byte of the record to be written; the 256th puts the record
 abbrev pub taken : ℕ → ℕ → DriveState → Step DriveState
 taken byte n s =
-    if nat_lt s.pointer 255 then Now (advanced (record s { first = set s.first s.pointer byte; filled = true }))
-    else put n (record s { first = set s.first s.pointer byte; filled = true })
+    if nat_lt s.pointer 255 then Now (advanced (record s { buffer_0 = set s.buffer_0 s.pointer byte; filled = true }))
+    else put n (record s { buffer_0 = set s.buffer_0 s.pointer byte; filled = true })
 
 abbrev pub heard_in : Mode → ℕ → ℕ → DriveState → Step DriveState
-heard_in mode.FillFirst byte n s = Now (advanced (record s { first = set s.first s.pointer byte }))
-heard_in mode.FillSecond byte n s = Now (advanced (record s { second = set s.second s.pointer byte }))
+heard_in mode.FillBuffer0 byte n s = Now (advanced (record s { buffer_0 = set s.buffer_0 s.pointer byte }))
+heard_in mode.FillBuffer1 byte n s = Now (advanced (record s { buffer_1 = set s.buffer_1 s.pointer byte }))
 heard_in mode.SetPointer byte n s = Now (at_rest (record s { pointer = byte }))
 heard_in mode.SeekHigh byte n s = Now (in_mode (mode.SeekLow byte) s)
 heard_in (mode.SeekLow high) byte n s = Now (sought (256 * high + byte) n s)
@@ -181,7 +181,7 @@ after_byte s = if nat_lt s.pointer 255 then advanced s else at_rest (advanced s)
 
 -- the byte of a record in buffer 0
 abbrev pub byte_of_record : DriveState → DriveState × Option ℕ
-byte_of_record s = (advanced s, Some (get_or s.first s.pointer 0))
+byte_of_record s = (advanced s, Some (get_or s.buffer_0 s.pointer 0))
 
 abbrev pub first_of_record : DriveState × Bool → DriveState × Option ℕ
 first_of_record (s, true) = byte_of_record (record s { position = s.position + 1 })
@@ -192,8 +192,8 @@ abbrev pub due_of_record : ℕ → DriveState → Step (DriveState × Option ℕ
 due_of_record n s = if s.pointer == 0 then then_by first_of_record (loaded n s) else Now (byte_of_record s)
 
 abbrev pub due_in : Mode → ℕ → DriveState → Step (DriveState × Option ℕ)
-due_in mode.SendFirst n s = Now (after_byte s, Some (get_or s.first s.pointer 0))
-due_in mode.SendSecond n s = Now (after_byte s, Some (get_or s.second s.pointer 0))
+due_in mode.SendBuffer0 n s = Now (after_byte s, Some (get_or s.buffer_0 s.pointer 0))
+due_in mode.SendBuffer1 n s = Now (after_byte s, Some (get_or s.buffer_1 s.pointer 0))
 due_in mode.Read n s = due_of_record n s
 due_in mode.PositionHigh n s = Now (in_mode mode.PositionLow s, Some (s.position / 256))
 due_in mode.PositionLow n s = Now (at_rest s, Some (s.position % 256))

@@ -6,9 +6,9 @@ ghost use Rattle.il_drive.specs.Commands.{listener_command, talker_command};
 #[derive(Clone, Copy, PartialEq, Eq, Debug)]
 pub enum ListenerCommand {
     /// DDL 0: the bytes that follow fill buffer 0.
-    FillFirst,
+    FillBuffer0,
     /// DDL 1: the bytes that follow fill buffer 1.
-    FillSecond,
+    FillBuffer1,
     /// DDL 2: the bytes that follow are written on the tape, record after record.
     Write,
     /// DDL 3: the next byte is the pointer.
@@ -31,8 +31,8 @@ impl ListenerCommand {
         ensures { result ≡ listener_command number }
     {
         match number {
-            0 => Some(ListenerCommand::FillFirst),
-            1 => Some(ListenerCommand::FillSecond),
+            0 => Some(ListenerCommand::FillBuffer0),
+            1 => Some(ListenerCommand::FillBuffer1),
             2 => Some(ListenerCommand::Write),
             3 => Some(ListenerCommand::SetPointer),
             4 => Some(ListenerCommand::Seek),
@@ -49,9 +49,9 @@ impl ListenerCommand {
 #[derive(Clone, Copy, PartialEq, Eq, Debug)]
 pub enum TalkerCommand {
     /// DDT 0: the bytes of buffer 0 are due.
-    SendFirst,
+    SendBuffer0,
     /// DDT 1: the bytes of buffer 1 are due.
-    SendSecond,
+    SendBuffer1,
     /// DDT 2: the bytes of the tape's records are due, from the position on.
     Read,
     /// DDT 3: the two bytes of the position are due, high byte first.
@@ -66,8 +66,8 @@ impl TalkerCommand {
         ensures { result ≡ talker_command number }
     {
         match number {
-            0 => Some(TalkerCommand::SendFirst),
-            1 => Some(TalkerCommand::SendSecond),
+            0 => Some(TalkerCommand::SendBuffer0),
+            1 => Some(TalkerCommand::SendBuffer1),
             2 => Some(TalkerCommand::Read),
             3 => Some(TalkerCommand::SendPosition),
             4 => Some(TalkerCommand::ExchangeBuffers),

@@ -32,8 +32,8 @@ const ID: u8 = 16;
 #[derive(Drop)]
 pub struct Drive<M: Medium> {
     interface: Interface,
-    first: [u8; 256],
-    second: [u8; 256],
+    buffer_0: [u8; 256],
+    buffer_1: [u8; 256],
     pointer: u8,
     position: u16,
     filled: bool,
@@ -50,8 +50,8 @@ impl<M: Medium> Model for Drive<M> {
     ghost view = { λ d. record {
       state = record {
         interface = d.interface;
-        first = d.first;
-        second = d.second;
+        buffer_0 = d.buffer_0;
+        buffer_1 = d.buffer_1;
         pointer = d.pointer;
         position = d.position;
         filled = d.filled;
@@ -63,8 +63,8 @@ impl<M: Medium> Model for Drive<M> {
 
     ghost invariant = { λ d. IsDrive (M.view d.medium).record_count (record {
       interface = d.interface;
-      first = d.first;
-      second = d.second;
+      buffer_0 = d.buffer_0;
+      buffer_1 = d.buffer_1;
       pointer = d.pointer;
       position = d.position;
       filled = d.filled;
@@ -82,8 +82,8 @@ impl<M: Medium> Drive<M> {
     {
         Drive {
             interface: Interface::new(Some(ID)),
-            first: [0; 256],
-            second: [0; 256],
+            buffer_0: [0; 256],
+            buffer_1: [0; 256],
             pointer: 0,
             position: 0,
             filled: false,
@@ -214,7 +214,7 @@ impl<M: Medium> Drive<M> {
         let mut record = [0; 256];
         match self.medium.read(self.position, &mut record) {
             Ok(()) => {
-                self.first = record;
+                self.buffer_0 = record;
                 true
             }
             Err(_) => {
@@ -232,7 +232,7 @@ impl<M: Medium> Drive<M> {
             self.fail(Fault::NoRecord);
             return;
         }
-        match self.medium.write(self.position, &self.first) {
+        match self.medium.write(self.position, &self.buffer_0) {
             Ok(()) => self.position += 1,
             Err(_) => self.fail(Fault::Unwritten),
         }
@@ -291,8 +291,8 @@ impl<M: Medium> Drive<M> {
             return;
         };
         match command {
-            ListenerCommand::FillFirst => self.mode = Mode::FillFirst,
-            ListenerCommand::FillSecond => self.mode = Mode::FillSecond,
+            ListenerCommand::FillBuffer0 => self.mode = Mode::FillBuffer0,
+            ListenerCommand::FillBuffer1 => self.mode = Mode::FillBuffer1,
             ListenerCommand::Write => self.begin_writing(),
             ListenerCommand::SetPointer => self.mode = Mode::SetPointer,
             ListenerCommand::Seek => self.mode = Mode::SeekHigh,
@@ -343,9 +343,9 @@ impl<M: Medium> Drive<M> {
     }
 
     fn copy_buffer(&mut self)
-        ensures { self.new ≡ record self.old { state = table.at_rest (record self.old.state { second = self.old.state.first }) } }
+        ensures { self.new ≡ record self.old { state = table.at_rest (record self.old.state { buffer_1 = self.old.state.buffer_0 }) } }
     {
-        self.second = self.first;
+        self.buffer_1 = self.buffer_0;
         self.rest();
     }
 
@@ -358,8 +358,8 @@ impl<M: Medium> Drive<M> {
             return;
         };
         match command {
-            TalkerCommand::SendFirst => self.mode = Mode::SendFirst,
-            TalkerCommand::SendSecond => self.mode = Mode::SendSecond,
+            TalkerCommand::SendBuffer0 => self.mode = Mode::SendBuffer0,
+            TalkerCommand::SendBuffer1 => self.mode = Mode::SendBuffer1,
             TalkerCommand::Read => self.begin_reading(),
             TalkerCommand::SendPosition => self.mode = Mode::PositionHigh,
             TalkerCommand::ExchangeBuffers => self.exchange_buffers(),
@@ -380,7 +380,7 @@ impl<M: Medium> Drive<M> {
     fn exchange_buffers(&mut self)
         ensures { self.new ≡ record self.old { state = table.talked ddt.ExchangeBuffers self.old.state } }
     {
-        std::mem::swap(&mut self.first, &mut self.second);
+        std::mem::swap(&mut self.buffer_0, &mut self.buffer_1);
         self.rest();
     }
 
@@ -390,12 +390,12 @@ impl<M: Medium> Drive<M> {
         ensures { Did M.view (table.heard_in self.old.state.mode byte (M.view self.old.medium).record_count self.old.state) self.new.state self.old.medium self.new.medium }
     {
         match self.mode {
-            Mode::FillFirst => {
-                self.first[usize::from(self.pointer)] = byte;
+            Mode::FillBuffer0 => {
+                self.buffer_0[usize::from(self.pointer)] = byte;
                 self.advance();
             }
-            Mode::FillSecond => {
-                self.second[usize::from(self.pointer)] = byte;
+            Mode::FillBuffer1 => {
+                self.buffer_1[usize::from(self.pointer)] = byte;
                 self.advance();
             }
             Mode::SetPointer => {
@@ -425,7 +425,7 @@ impl<M: Medium> Drive<M> {
     fn take_byte(&mut self, byte: u8)
         ensures { Did M.view (table.taken byte (M.view self.old.medium).record_count self.old.state) self.new.state self.old.medium self.new.medium }
     {
-        self.first[usize::from(self.pointer)] = byte;
+        self.buffer_0[usize::from(self.pointer)] = byte;
         self.filled = true;
         if self.pointer < 255 {
             self.advance();
@@ -440,13 +440,13 @@ impl<M: Medium> Drive<M> {
         ensures { Did M.view (table.due (M.view self.old.medium).record_count self.old.state) (self.new.state, result) self.old.medium self.new.medium }
     {
         match self.mode {
-            Mode::SendFirst => {
-                let byte = self.first[usize::from(self.pointer)];
+            Mode::SendBuffer0 => {
+                let byte = self.buffer_0[usize::from(self.pointer)];
                 self.leave_byte();
                 Some(byte)
             }
-            Mode::SendSecond => {
-                let byte = self.second[usize::from(self.pointer)];
+            Mode::SendBuffer1 => {
+                let byte = self.buffer_1[usize::from(self.pointer)];
                 self.leave_byte();
                 Some(byte)
             }
@@ -483,7 +483,7 @@ impl<M: Medium> Drive<M> {
             }
             self.position += 1;
         }
-        let byte = self.first[usize::from(self.pointer)];
+        let byte = self.buffer_0[usize::from(self.pointer)];
         self.advance();
         Some(byte)
     }

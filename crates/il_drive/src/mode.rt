@@ -7,9 +7,9 @@ pub enum Mode {
     /// It hears no byte, and none is due.
     Rest,
     /// A byte goes into buffer 0.
-    FillFirst,
+    FillBuffer0,
     /// A byte goes into buffer 1.
-    FillSecond,
+    FillBuffer1,
     /// A byte becomes the pointer.
     SetPointer,
     /// A byte is the high byte of the record to seek.
@@ -19,9 +19,9 @@ pub enum Mode {
     /// A byte goes into buffer 0, and each full buffer is put on the tape.
     Write,
     /// The bytes of buffer 0 are due.
-    SendFirst,
+    SendBuffer0,
     /// The bytes of buffer 1 are due.
-    SendSecond,
+    SendBuffer1,
     /// The bytes of the tape's records are due, one record after the other.
     Read,
     /// The high byte of the position is due, and then its low byte.
