@@ -276,15 +276,14 @@ impl Interface {
         Out::Source(frame)
     }
 
-    /// Ends the transmission: by ETO where the frame that came is the right echo of the own frame, and
-    /// else by ETE.
-    pub fn finish(&mut self, own: OwnFrame, echo: Frame) -> Out
-        ensures answer { result ≡ Source (if frames.same_but_service own.frame echo then eto else ete) }
+    /// Ends the transmission: by ETO where the echo of the own frame was right, and else by ETE.
+    pub fn finish(&mut self, echoed: bool) -> Out
+        ensures answer { result ≡ Source (if echoed then eto else ete) }
         ensures state { self.new ≡ sending self.old None }
         ensures standing { IsInterface self.new }
     {
         self.own = None;
-        let end = if own.is_echo(echo) { ETO } else { ETE };
+        let end = if echoed { ETO } else { ETE };
         Out::Source(Frame::new(Class::Rdy, end))
     }
 }

@@ -90,7 +90,7 @@ impl Device for Printer {
                 _ => Out::Pass(frame),
             },
             Turn::Identify(id) => self.interface.source(one_byte(id), true),
-            Turn::Compare(own) => self.interface.finish(own, frame),
+            Turn::Compare(own) => self.interface.finish(own.is_echo(frame)),
         }
     }
 }

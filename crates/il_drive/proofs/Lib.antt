@@ -8,3 +8,4 @@ pub mod Runs
 pub mod Sending
 pub mod Beginning
 pub mod Records
+pub mod Reading

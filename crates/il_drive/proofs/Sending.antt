@@ -118,7 +118,7 @@ step_clears n s f byte is by h right =
 -- ---- all bytes of a record
 
 -- the drive that has sent one more
-abbrev later : DriveState → Frame → DriveState
+abbrev pub later : DriveState → Frame → DriveState
 later s f = (table.sends start.Data false (get_or s.buffer_0 s.pointer 0) (table.advanced (table.behind_effect f s))).0
 
 later_reading : (last : ℕ) (s : DriveState) (f : Frame) → IsReading last s → is_data f ≡ true → s.pointer < 255 → IsReading s.pointer (later s f)
@@ -141,7 +141,7 @@ module _ {M : Type 0} (view : M → MediumView) where
   Sent fs outs s m w = (outs ≡ sent_from s.buffer_0 s.pointer fs) × (w.state ≡ sent_all fs s) × (w.medium ≡ m)
 
   -- one byte more
-  one_sent : (last : ℕ) (f : Frame) (out : Out) (v u : DriveView M) → IsReading last v.state → is_data f ≡ true → same_but_service (framed class.Dab (get_or v.state.buffer_0 last 0)) f ≡ true
+  pub one_sent : (last : ℕ) (f : Frame) (out : Out) (v u : DriveView M) → IsReading last v.state → is_data f ≡ true → same_but_service (framed class.Dab (get_or v.state.buffer_0 last 0)) f ≡ true
       → Does (table.drive_step (view v.medium).record_count v.state f) (u.state, out) v.medium u.medium → (out ≡ Source (framed class.Dab (get_or v.state.buffer_0 v.state.pointer 0))) × (u ≡ record { state = later v.state f; medium = v.medium })
   one_sent last f out v u reading h right did =
       let sent : Does (Now (table.sends start.Data false (get_or v.state.buffer_0 v.state.pointer 0) (table.advanced (table.behind_effect f v.state)))) (u.state, out) v.medium u.medium =

@@ -1,8 +1,8 @@
 ghost use Rattle.std.specs.Prelude.{◌≡◌};
 ghost use Rattle.il_drive.specs.Commands.{listener_command, talker_command};
 
-/// What a DDL message asks of the drive while it listens. The names follow the HP 82161A Owner's Manual; the numbers
-/// and effects are this project's own.
+/// What a DDL message asks of the drive while it listens. The names follow the HP 82161A Owner's
+/// Manual; the numbers and effects are this project's own.
 #[derive(Clone, Copy, PartialEq, Eq, Debug)]
 pub enum ListenerCommand {
     /// DDL 0: the bytes that follow fill buffer 0.
@@ -15,7 +15,8 @@ pub enum ListenerCommand {
     SetPointer,
     /// DDL 4: the next two bytes are the record to seek, high byte first.
     Seek,
-    /// DDL 6: the record at the position is read, and the bytes that follow are written over it from the pointer on.
+    /// DDL 6: the record at the position is read, and the bytes that follow are written over it
+    /// from the pointer on.
     PartialWrite,
     /// DDL 7: the position is record 0.
     Rewind,

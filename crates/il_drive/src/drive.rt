@@ -1,8 +1,8 @@
-ghost use Rattle.std.specs.Prelude.{◌≡◌, ◌⊎◌, ◌↔◌, ◌<◌, ◌≤◌, ◌^◌, true, Some};
+ghost use Rattle.std.specs.Prelude.{◌≡◌, ◌⊎◌, ◌↔◌, ◌<◌, ◌≤◌, ◌^◌, if◌then◌else◌, true, Some};
 ghost use Rattle.il_frames.specs.Frames as frames;
 ghost use Rattle.il_frames.specs.Messages.{message_of};
 ghost use Rattle.il_device.specs.Interfaces.{IsInterface, passed_on};
-ghost use Rattle.il_device.specs.Takes.{Takes, ete};
+ghost use Rattle.il_device.specs.Takes.{Takes, eto, ete};
 ghost use Rattle.lif_model.specs.Tape.{Tape};
 ghost use Rattle.lif_model.specs.Stops.{LeavesOnly};
 ghost use Rattle.lif_model.specs.Causes.{Rose};
@@ -26,9 +26,10 @@ const ID: u8 = 16;
 
 /// The HP 82161A Digital Cassette Drive over a medium.
 ///
-/// Beside what every device has, it has two buffers of 256 bytes, a byte pointer 0 to 255, a position 0 to N on the
-/// tape of N records, a mark that buffer 0 was filled, a mode and a status: 0, 1 where a record could not be read, 2
-/// where one could not be written, 3 where the tape has no such record. It wants service while the status is not 0.
+/// Beside what every device has, it has two buffers of 256 bytes, a byte pointer 0 to 255, a
+/// position 0 to N on the tape of N records, a mark that buffer 0 was filled, a mode and a status:
+/// 0, 1 where a record could not be read, 2 where one could not be written, 3 where the tape has no
+/// such record. It wants service while the status is not 0.
 #[derive(Drop)]
 pub struct Drive<M: Medium> {
     interface: Interface,
@@ -74,8 +75,8 @@ impl<M: Medium> Model for Drive<M> {
 }
 
 impl<M: Medium> Drive<M> {
-    /// A drive that nothing has come to yet, over a medium whose tape is in: buffers of zeros, pointer 0, position 0,
-    /// not filled, status 0, mode Rest.
+    /// A drive that nothing has come to yet, over a medium whose tape is in: buffers of zeros,
+    /// pointer 0, position 0, not filled, status 0, mode Rest.
     pub fn new(medium: M) -> Drive<M>
         requires { 0 < (M.view medium).record_count }
         ensures { result ≡ record { state = fresh_drive; medium = medium } }
@@ -122,8 +123,8 @@ impl<M: Medium> Drive<M> {
         self.medium
     }
 
-    /// The frame comes to the drive: its effect comes first, and the answer after it. A record is put on the tape
-    /// before the byte that fills it goes on.
+    /// The frame comes to the drive: its effect comes first, and the answer after it. A record is
+    /// put on the tape before the byte that fills it goes on.
     pub fn take(&mut self, frame: Frame) -> Out
         // What every device does.
         ensures takes { Takes (device_of self.old.state) frame result (device_of self.new.state) }
@@ -134,7 +135,8 @@ impl<M: Medium> Drive<M> {
         ensures size { (M.view self.new.medium).record_count ≡ (M.view self.old.medium).record_count }
         // A transmission ends by ETE exactly where the echo is wrong.
         ensures ete { (result ≡ Source ete) ↔ (has_wrong_echo self.old.state frame ≡ true) }
-        // Status 1 and 2 come only where the medium failed in this call, and 3 exactly where the tape has no such record.
+        // Status 1 and 2 come only where the medium failed in this call, and 3 exactly where the
+        // tape has no such record.
         ensures unread { status_of self.new.state ≡ 1 → (status_of self.old.state ≡ 1) ⊎ Rose (M.view self.old.medium).faults (M.view self.new.medium).faults }
         ensures unwritten { status_of self.new.state ≡ 2 → (status_of self.old.state ≡ 2) ⊎ Rose (M.view self.old.medium).faults (M.view self.new.medium).faults }
         ensures lacks { lacks_record (M.view self.old.medium).record_count self.old.state frame ≡ true → status_of self.new.state ≡ 3 }
@@ -526,20 +528,32 @@ impl<M: Medium> Drive<M> {
         }
     }
 
-    // Data behind an own frame: the echo is right where the two are equal apart from the service bit.
+    // Data behind an own frame: the echo is right where the two are equal apart from the service
+    // bit.
     fn compare(&mut self, own: OwnFrame, frame: Frame) -> Out
         requires { self.old.state.interface.roles.talks ≡ true }
         ensures { Did M.view (table.compared (frames.same_but_service own.frame frame) own (M.view self.old.medium).record_count self.old.state) (self.new.state, result) self.old.medium self.new.medium }
     {
-        if own.is_echo(frame) {
-            if own.stopped || own.last {
-                self.acknowledge();
-            } else if let Some(byte) = self.due() {
-                return self.send(Start::Data, false, byte);
-            }
+        if !own.is_echo(frame) {
+            return self.end(false);
         }
+        if own.stopped || own.last {
+            self.acknowledge();
+            return self.end(true);
+        }
+        match self.due() {
+            Some(byte) => self.send(Start::Data, false, byte),
+            None => self.end(true),
+        }
+    }
+
+    // The transmission ends: by ETO behind the right echo, and else by ETE.
+    fn end(&mut self, echoed: bool) -> Out
+        ensures ends { (self.new.state, result) ≡ table.ends (if echoed then eto else ete) self.old.state }
+        ensures medium { self.new.medium ≡ self.old.medium }
+    {
         self.rest();
-        self.interface.finish(own, frame)
+        self.interface.finish(echoed)
     }
 
     // The status that was sent is cleared.

@@ -5,7 +5,8 @@ use il_ports::{Inserted, Medium, MemoryMedium, New};
 use std::process::Abort;
 use std::test::Fail;
 
-/// What a frame is to be answered by: `=` for passed on as it came, `> F` for F passed on, `< F` for F sent.
+/// What a frame is to be answered by: `=` for passed on as it came, `> F` for F passed on, `< F`
+/// for F sent.
 fn answer_to(frame: Frame, text: &[u8]) -> Option<Out> {
     match text {
         b"=" => Some(Out::Pass(frame)),
@@ -29,8 +30,8 @@ fn talk(
     Ok(())
 }
 
-/// A drive at address 1 over a tape whose record 0 holds the bytes 0 to 255, record 1 bytes 11 hex and all others zeros.
-/// The listed reads fail, and so do the listed writes, which leave zeros.
+/// A drive at address 1 over a tape whose record 0 holds the bytes 0 to 255, record 1 bytes 11 hex
+/// and all others zeros. The listed reads fail, and so do the listed writes, which leave zeros.
 fn drive_with(
     rt: &(impl Abort + AllocGlobal),
     reads: Vec<u64>,
@@ -53,10 +54,15 @@ fn drive_with(
     Ok(drive)
 }
 
-/// Hears a record of 256 bytes that are all the same.
-fn hear_record(rt: &impl Abort, drive: &mut Drive<MemoryMedium>, byte: u8) -> Result<(), Fail> {
+/// Hears so many bytes that are all the same.
+fn hear(
+    rt: &impl Abort,
+    drive: &mut Drive<MemoryMedium>,
+    count: u16,
+    byte: u8,
+) -> Result<(), Fail> {
     let frame = Frame::new(Class::Dab, byte);
-    for _ in 0..256 {
+    for _ in 0..count {
         assert_eq!(rt; drive.take(frame), Out::Pass(frame));
     }
     Ok(())
@@ -89,7 +95,7 @@ fn a_seek_past_the_end(rt: HostRuntime) -> Result<(), Fail> {
     Ok(())
 }
 
-// Each DDL and DDT, each with the frames before it that matter. After each case the drive is silent.
+// Each DDL and DDT, each with the frames before it that matter: each case has a drive of its own.
 const COMMANDS: [(&str, &[(&str, &str)]); 15] = [
     (
         "DDL 0 and DDT 0, with DDL 3",
@@ -206,6 +212,11 @@ const COMMANDS: [(&str, &[(&str, &str)]); 15] = [
         &[
             ("TAD 01", "="),
             ("DDT 02", "="),
+            ("SDA", "< DAB 00"),
+            ("DAB 00", "< DAB 01"),
+            ("NRD", "="),
+            ("DAB 01", "< ETO"),
+            ("DDT 02", "="),
             ("SDA", "< DAB 11"),
             ("DAB 10", "< ETE"),
             ("SDA", "="),
@@ -216,13 +227,14 @@ const COMMANDS: [(&str, &[(&str, &str)]); 15] = [
         "DDL 10: buffer 1 is a copy of buffer 0",
         &[
             ("LAD 01", "="),
+            ("DDL 06", "="),
             ("DDL 0A", "="),
             ("DDL 03", "="),
             ("DAB FF", "="),
             ("TAD 01", "="),
             ("DDT 01", "="),
-            ("SDA", "< DAB 11"),
-            ("DAB 11", "< ETO"),
+            ("SDA", "< DAB FF"),
+            ("DAB FF", "< ETO"),
             ("UNT", "="),
         ],
     ),
@@ -249,9 +261,9 @@ const COMMANDS: [(&str, &[(&str, &str)]); 15] = [
             ("DAB FE", "="),
             ("TAD 01", "="),
             ("DDT 00", "="),
-            ("SDA", "< DAB 11"),
+            ("SDA", "< DAB 00"),
             ("NRD", "="),
-            ("DAB 11", "< ETO"),
+            ("DAB 00", "< ETO"),
             ("UNT", "="),
         ],
     ),
@@ -272,6 +284,16 @@ const COMMANDS: [(&str, &[(&str, &str)]); 15] = [
             ("SDA", "< DAB 00"),
             ("DAB 00", "< DAB 02"),
             ("DAB 02", "< ETO"),
+            ("LAD 01", "="),
+            ("DDL 04", "="),
+            ("DAB 00", "="),
+            ("DAB 01", "="),
+            ("TAD 01", "="),
+            ("DDT 02", "="),
+            ("SDA", "< DAB 11"),
+            ("DAB 11", "< DAB 11"),
+            ("DAB 11", "< DAB EE"),
+            ("DAB EE", "< DAB 11"),
             ("UNT", "="),
         ],
     ),
@@ -284,8 +306,11 @@ const COMMANDS: [(&str, &[(&str, &str)]); 15] = [
             ("TAD 01", "="),
             ("DDT 03", "="),
             ("SDA", "< DAB 00"),
-            ("DAB 00", "< DAB 02"),
-            ("DAB 02", "< ETO"),
+            ("DAB 00", "< DAB 00"),
+            ("DAB 00", "< ETO"),
+            ("DDT 02", "="),
+            ("SDA", "< DAB 00"),
+            ("DAB 00", "< DAB 01"),
             ("UNT", "="),
         ],
     ),
@@ -301,8 +326,11 @@ const COMMANDS: [(&str, &[(&str, &str)]); 15] = [
             ("TAD 01", "="),
             ("DDT 03", "="),
             ("SDA", "< DAB 00"),
-            ("DAB 00", "< DAB 02"),
-            ("DAB 02", "< ETO"),
+            ("DAB 00", "< DAB 00"),
+            ("DAB 00", "< ETO"),
+            ("DDT 02", "="),
+            ("SDA", "< DAB 00"),
+            ("DAB 00", "< DAB 01"),
             ("UNT", "="),
         ],
     ),
@@ -336,6 +364,15 @@ const COMMANDS: [(&str, &[(&str, &str)]); 15] = [
         "DDL 6 behind the last record; SDC clears the status, and SAI is answered by 16",
         &[
             ("LAD 01", "="),
+            ("DDL 04", "="),
+            ("DAB 01", "="),
+            ("DAB FF", "="),
+            ("TAD 01", "="),
+            ("DDT 02", "="),
+            ("SDA", "< DAB 00"),
+            ("NRD", "="),
+            ("DAB 00", "< ETO"),
+            ("LAD 01", "="),
             ("DDL 06", "="),
             ("DAB 00", "> DSR 00"),
             ("SDC", "="),
@@ -363,10 +400,100 @@ const COMMANDS: [(&str, &[(&str, &str)]); 15] = [
             ("SDA", "="),
             ("DCL", "="),
             ("DDT 02", "="),
+            ("SDA", "< DAB 00"),
+            ("NRD", "="),
+            ("DAB 00", "< ETO"),
+            ("UNT", "="),
+        ],
+    ),
+];
+
+// What meets an own frame on the loop, a place in the parallel poll, and the end of the tape.
+const MEETINGS: [(&str, &[(&str, &str)]); 6] = [
+    (
+        "SST stopped by NRD: the right echo clears the status all the same",
+        &[
+            ("LAD 01", "="),
+            ("DDL 04", "="),
+            ("DAB 02", "="),
+            ("DAB 00", "> DSR 00"),
+            ("TAD 01", "="),
+            ("SST", "< DAB 43"),
+            ("NRD", "="),
+            ("DAB 43", "< ETO"),
+            ("SST", "< DAB 00"),
+            ("DAB 00", "< ETO"),
+        ],
+    ),
+    (
+        "DCL with an own frame on the loop: the transmission ends behind its echo",
+        &[
+            ("TAD 01", "="),
+            ("DDT 02", "="),
+            ("SDA", "< DAB 00"),
+            ("DCL", "="),
+            ("DAB 00", "< ETO"),
             ("SDA", "="),
+            ("SST", "< DAB 00"),
+        ],
+    ),
+    (
+        "IFC with an own frame on the loop: its echo is no longer the drive's",
+        &[
+            ("TAD 01", "="),
+            ("DDT 02", "="),
+            ("SDA", "< DAB 00"),
+            ("IFC", "="),
+            ("DAB 00", "="),
+            ("SST", "="),
+        ],
+    ),
+    (
+        "IDY with a place and a status: the place's bit where the status has its sense",
+        &[
+            ("LAD 01", "="),
+            ("PPE 0A", "="),
+            ("IDY 00", "="),
+            ("DDL 04", "="),
+            ("DAB FF", "="),
+            ("DAB FF", "> DSR FF"),
+            ("IDY 80", "> ISR 84"),
+            ("PPE 03", "="),
+            ("IDY 80", "> ISR 80"),
+            ("SDC", "="),
+            ("IDY 80", "> IDY 88"),
+        ],
+    ),
+    (
+        "put behind the last record, by DDL 8",
+        &[
+            ("LAD 01", "="),
+            ("DDL 04", "="),
+            ("DAB 01", "="),
+            ("DAB FF", "="),
+            ("DDL 03", "="),
+            ("DAB FF", "="),
+            ("DDL 06", "="),
+            ("DAB A1", "="),
+            ("DAB A2", "="),
+            ("DDL 08", "="),
+            ("DAB A3", "> DSR A3"),
+            ("TAD 01", "="),
             ("SST", "< DAB 43"),
             ("DAB 43", "< ETO"),
-            ("UNT", "="),
+            ("DDT 03", "="),
+            ("SDA", "< DAB 02"),
+            ("DAB 02", "< DAB 00"),
+        ],
+    ),
+    (
+        "SAI while a byte is awaited back goes on",
+        &[
+            ("TAD 01", "="),
+            ("DDT 03", "="),
+            ("SDA", "< DAB 00"),
+            ("SAI", "="),
+            ("DAB 00", "< DAB 00"),
         ],
     ),
 ];
@@ -374,15 +501,11 @@ const COMMANDS: [(&str, &[(&str, &str)]); 15] = [
 #[test]
 fn every_command(rt: HostRuntime) -> Result<(), Fail> {
     let alloc = rt.alloc();
-    let mut drive = drive_with(&rt, Vec::new(alloc), Vec::new(alloc))?;
-    for (what, lines) in COMMANDS {
+    for (what, lines) in COMMANDS.iter().chain(MEETINGS.iter()) {
+        let mut drive = drive_with(&rt, Vec::new(alloc), Vec::new(alloc))?;
         assert!(rt; !drive.roles().talks, "{what}");
         talk(&rt, &mut drive, lines)?;
     }
-    let mut revised = [0x11; 256];
-    revised[2] = 0xEE;
-    assert_eq!(rt; record_of(&drive, 1), Some(revised.as_slice()));
-    assert_eq!(rt; record_of(&drive, 2), Some([0; 256].as_slice()));
     Ok(())
 }
 
@@ -403,16 +526,14 @@ fn records_are_put(rt: HostRuntime) -> Result<(), Fail> {
             ("DDL 02", "="),
         ],
     )?;
-    hear_record(&rt, &mut drive, 0xA3)?;
-    hear_record(&rt, &mut drive, 0xA4)?;
+    hear(&rt, &mut drive, 256, 0xA3)?;
+    hear(&rt, &mut drive, 256, 0xA4)?;
     assert_eq!(rt; record_of(&drive, 3), Some([0xA3; 256].as_slice()));
     assert_eq!(rt; record_of(&drive, 4), Some([0xA4; 256].as_slice()));
     assert_eq!(rt; drive.status(), 0);
 
     // The third write fails, and leaves its bytes; the first read fails.
-    for _ in 0..255 {
-        drive.take(Frame::new(Class::Dab, 0xA5));
-    }
+    hear(&rt, &mut drive, 255, 0xA5)?;
     talk(
         &rt,
         &mut drive,
@@ -441,5 +562,54 @@ fn records_are_put(rt: HostRuntime) -> Result<(), Fail> {
     assert!(rt; medium.size() > 5);
     assert_eq!(rt; medium.read(5, &mut record), Ok(()));
     assert_eq!(rt; record.as_slice(), [0xFE; 256].as_slice());
+    Ok(())
+}
+
+#[test]
+fn a_record_is_put_behind_the_last(rt: HostRuntime) -> Result<(), Fail> {
+    let alloc = rt.alloc();
+    let mut drive = drive_with(&rt, Vec::new(alloc), Vec::new(alloc))?;
+    talk(
+        &rt,
+        &mut drive,
+        &[
+            ("LAD 01", "="),
+            ("DDL 04", "="),
+            ("DAB 01", "="),
+            ("DAB FF", "="),
+            ("DDL 02", "="),
+        ],
+    )?;
+    hear(&rt, &mut drive, 256, 0xA1)?;
+    hear(&rt, &mut drive, 255, 0xA2)?;
+    assert_eq!(rt; drive.status(), 0);
+    let behind = [("DAB A2", "> DSR A2"), ("DAB A3", "> DSR A3")];
+    talk(&rt, &mut drive, &behind)?;
+    assert_eq!(rt; drive.status(), 3);
+    assert_eq!(rt; record_of(&drive, 511), Some([0xA1; 256].as_slice()));
+    Ok(())
+}
+
+#[test]
+fn a_record_to_revise_is_not_read(rt: HostRuntime) -> Result<(), Fail> {
+    let alloc = rt.alloc();
+    let mut drive = drive_with(&rt, vec![in alloc; 1]?, Vec::new(alloc))?;
+    talk(
+        &rt,
+        &mut drive,
+        &[
+            ("LAD 01", "="),
+            ("DDL 06", "="),
+            ("DAB 77", "> DSR 77"),
+            ("DDL 08", "="),
+            ("TAD 01", "="),
+            ("SST", "< DAB 41"),
+            ("DAB 41", "< ETO"),
+            ("DDT 02", "="),
+            ("SDA", "< DAB 00"),
+            ("DAB 00", "< DAB 01"),
+        ],
+    )?;
+    assert_eq!(rt; drive.status(), 0);
     Ok(())
 }

@@ -1,12 +1,12 @@
 use Rattle.std.proofs.Common.{◌≡◌, lit≤, refl, ap, ◌∙◌, sym, subst, None, false, ℕ, List}
-use Rattle.std.specs.Prelude.{◌⊎◌}
+use Rattle.std.specs.Prelude.{◌⊎◌, if◌then◌else◌}
 use Rattle.il_frames.specs.declared.frame.Frame.{Frame}
 use Rattle.il_frames.specs.Frames.{byte_of}
 use Rattle.il_poll.specs.Service.{wants_service}
 use Rattle.il_device.specs.Passing.{passed}
-use Rattle.il_device.specs.Takes.{heard_after}
+use Rattle.il_device.specs.Takes.{heard_after, eto, ete}
 use Rattle.il_device.specs.Interfaces.{turn_on, device_on, passed_on}
-use Rattle.il_device.specs.declared.device.Out.TheVariants.{Pass}
+use Rattle.il_device.specs.declared.device.Out.TheVariants.{Pass, Source}
 use Rattle.il_device.specs.declared.interface.Turn.{Turn}
 use Rattle.il_device.specs.declared.interface.Turn.TheVariants as turn
 use Rattle.il_device.proofs.TurnLemmas.{Takes-on, Behind-effect, Behind-own, Answers-pass, Answers-ended, MayPass-or, printer_answer-pass}
@@ -79,7 +79,8 @@ returns-in-Compare-clause-takes c =
     Behind-own i c.effect-turn.new.self k f None c.effect-turn.ensures.state c.finish.ensures.state in
     let answers =
     Answers-ended (turn_on i f) c.in-Compare.own (device_on i heard 8192) f out (device_on k now 8192)
-    (sym c.effect-turn.ensures.turn ∙ c.in-Compare.is) c.finish.ensures.answer
+    (sym c.effect-turn.ensures.turn ∙ c.in-Compare.is)
+    (c.finish.ensures.answer ∙ ap (λ right. Source (if right then eto else ete)) c.is_echo.ensures)
     (ap (λ x. x.own) c.finish.ensures.state) in
     rw (← c.self.view_is)
     (Takes-on i k heard now 8192 f out c.roles-before.ensures.standing c.finish.ensures.standing
