@@ -168,7 +168,7 @@ pub are_numbered-addressed : (a : ℕ) (rs : List Roles) → are_numbered a (add
 are_numbered-addressed a [] = refl
 are_numbered-addressed a (r ∷ rs) = and_from (a == a) _ (eq-eqb a a refl) (are_numbered-addressed (suc a) rs)
 
-not_own : (a party : ℕ) (r : Roles) → (party ≡ a → ⊥) → is_own r.address party ≡ true → is_own r.address a ≡ false
+pub not_own : (a party : ℕ) (r : Roles) → (party ≡ a → ⊥) → is_own r.address party ≡ true → is_own r.address a ≡ false
 not_own a party r other own = by_address r.address own
   where
     by_address : (o : Option ℕ) → is_own o party ≡ true → is_own o a ≡ false
