@@ -1,0 +1,36 @@
+-- A round of three walks and the way home.
+use Rattle.std.proofs.Common.{◌≡◌, ℕ, ◌+◌, List, length, refl, sym, ap, subst, ◌∙◌, arith}
+use Rattle.std.specs.Prelude.{Option, Some}
+use Rattle.il_device.specs.State.{DeviceState}
+use Rattle.il_ports.specs.Media.{MediumView}
+use Rattle.il_drive.specs.State.{DriveView}
+use Rattle.il_ring.specs.declared.flight.Flight.{Flight}
+use Rattle.il_ring.specs.declared.plan.Arrival.{Arrival}
+use Rattle.il_ring.specs.Books.{BooksView, KeepsBooks}
+use Rattle.il_ring.specs.Journeys.{Journey, Passage, DriveTakes, trip_of}
+use Rattle.il_ring.specs.Rings.{RingView, Round, home, arrived, arriving, books_at}
+
+pub from_walks : {M : Type 0} (view : M → MediumView) (before before_then : List DeviceState) (drive drive_then : DriveView M) (after after_then : List DeviceState) (party i j k : ℕ)
+    (b₀ b₁ b₂ b₃ b₄ : BooksView) (f : Flight) (one two three : Option Flight) (answer : Arrival)
+    → KeepsBooks i b₀ b₁ → KeepsBooks j b₁ b₂ → KeepsBooks k b₂ b₃ → party ≡ length before + 1
+    → Journey b₀.plan 1 (trip_of b₀ (Some f)) before (trip_of b₁ one) before_then
+    → Passage (DriveTakes view) b₁.plan party (trip_of b₁ one) drive (trip_of b₂ two) drive_then
+    → Journey b₂.plan (party + 1) (trip_of b₂ two) after (trip_of b₃ three) after_then
+    → b₄ ≡ home b₃ three → answer ≡ arrived (arriving b₃.plan b₃.crossings three)
+    → Round view (record { before = before; drive = drive; after = after; books = b₀ }) b₀.held f answer (record { before = before_then; drive = drive_then; after = after_then; books = b₄ })
+from_walks view before before_then drive drive_then after after_then party i j k b₀ b₁ b₂ b₃ b₄ f one two three answer k₁ k₂ k₃ at first middle last homed answered = record {
+  at_drive = trip_of b₁ one;
+  past_drive = trip_of b₂ two;
+  behind = trip_of b₃ three;
+  to_drive = first;
+  at = subst (λ k. Passage (DriveTakes view) b₀.plan k (trip_of b₁ one) drive (trip_of b₂ two) drive_then) at (subst (λ plan. Passage (DriveTakes view) plan party (trip_of b₁ one) drive (trip_of b₂ two) drive_then) k₁.plan middle);
+  from_drive =
+      let next : party + 1 ≡ length before + 2 = omega (arith, at) in
+      subst (λ k. Journey b₀.plan k (trip_of b₂ two) after (trip_of b₃ three) after_then) next (subst (λ plan. Journey plan (party + 1) (trip_of b₂ two) after (trip_of b₃ three) after_then) (k₂.plan ∙ k₁.plan) last);
+  books =
+      homed
+      ∙ ap (λ plan. home (record b₃ { plan = plan }) three) (k₃.plan ∙ k₂.plan ∙ k₁.plan)
+      ∙ ap (λ room. home (record b₃ { plan = b₀.plan; room = room }) three) (k₃.room ∙ k₂.room ∙ k₁.room)
+      ∙ ap (λ held. home (record b₃ { plan = b₀.plan; room = b₀.room; held = held }) three) (k₃.held ∙ k₂.held ∙ k₁.held);
+  answer_is = answered ∙ ap (λ plan. arrived (arriving plan b₃.crossings three)) (k₃.plan ∙ k₂.plan ∙ k₁.plan);
+}

@@ -1,0 +1,15 @@
+use Rattle.std.proofs.Common.{◌≡◌, ◌<◌, ◌+◌, ◌∙◌, length, arith}
+use Rattle.il_ring.specs.Journeys.{trip_of}
+use Rattle.il_ring.proofs.Journeys.{Journey-more, rest_more}
+use Rattle.il_ring.proofs.walk.walk.Goals as goal
+
+pub loop-device-preserved : goal.loop-device-preserved
+loop-device-preserved g c =
+    let inv = c.loop-device.invariant in
+    let kept = c.pass-on.ensures.books in (
+      Journey-more g.D.Device.state c.args.books.now.plan c.loop-device.books.plan c.args.first c.loop-device.party c.loop-device.device-index _ (trip_of c.loop-device.books c.loop-device.on) (trip_of c.pass-on.new.books c.pass-on.result)
+          c.args.devices.now c.loop-device.devices c.device-item.result c.pass-on.new.device inv.2.plan (omega arith) (omega arith) (omega arith) inv.1 inv.0 c.pass-on.ensures.passage,
+      rest_more c.loop-device.device-index c.args.devices.now c.loop-device.devices c.pass-on.new.device inv.1,
+      record { plan = kept.plan ∙ inv.2.plan; room = kept.room ∙ inv.2.room; held = kept.held ∙ inv.2.held; grows = omega (arith, kept.grows, inv.2.grows) },
+      omega arith,
+    )

@@ -1,0 +1,35 @@
+-- What a ring keeps beside its devices.
+use Rattle.std.specs.Prelude.{◌≡◌, ◌≢◌, ◌≤◌, ◌+◌, ℕ, true, List, length, Option, Some, None}
+use Rattle.il_frames.specs.declared.entry.Entry.{Entry}
+use Rattle.il_frames.specs.Frames.{is_data}
+use Rattle.il_ring.specs.declared.plan.Planned.{Planned}
+use Rattle.il_ring.specs.declared.flight.Flight.{Flight}
+use Rattle.il_ring.specs.Plans.{IsPlan, last_crossing}
+
+-- the planned faults; how many crossings of links there were; the log, oldest entry first; how many entries it has room
+-- for; and a data or end frame of a device that stands at the host
+pub record BooksView : Type 0 where
+  pub plan : List Planned
+  pub crossings : ℕ
+  pub log : List Entry
+  pub room : ℕ
+  pub held : Option Flight
+
+-- only data and end frames of devices are held
+abbrev pub IsHeld : Option Flight → Type 0
+IsHeld None = Unit {0}
+IsHeld (Some f) = (f.source ≢ 0) × (is_data f.now ≡ true)
+
+-- what holds of the books at every moment, with so many entries in memory for so many
+pub record IsBooks (count capacity : ℕ) (b : BooksView) : Type 0 where
+  pub within : count ≤ b.room
+  pub reserved : b.room ≤ capacity
+  pub crossings : b.crossings ≤ last_crossing
+  pub held : IsHeld b.held
+
+-- a frame went past so many parties: plan, room and held frame are as before, and the log grew by so many entries at most
+pub record KeepsBooks (parties : ℕ) (old new : BooksView) : Type 0 where
+  pub plan : new.plan ≡ old.plan
+  pub room : new.room ≡ old.room
+  pub held : new.held ≡ old.held
+  pub grows : length new.log ≤ length old.log + parties

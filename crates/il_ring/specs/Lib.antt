@@ -1,0 +1,5 @@
+pub mod Plans
+pub mod Flights
+pub mod Books
+pub mod Journeys
+pub mod Rings

@@ -1,0 +1,102 @@
+-- What contracts see of a ring, and what becomes of a frame that goes round.
+use Rattle.std.specs.Prelude.{◌≡◌, ◌≢◌, ◌+◌, ◌-◌, ◌≤◌, ◌==◌, ℕ, Bool, true, false, if◌then◌else◌, List, [], ◌∷◌, ◌++◌, length, Option, Some, None, find, option_map}
+use Rattle.il_frames.specs.declared.entry.Entry.{Entry}
+use Rattle.il_frames.specs.Frames.{is_data}
+use Rattle.il_device.specs.declared.device.Out.{Out}
+use Rattle.il_device.specs.State.{DeviceState, IsIdle, risen}
+use Rattle.il_ports.specs.Media.{MediumView}
+use Rattle.il_drive.specs.State.{DriveView, device_of, drive_id}
+use Rattle.il_ring.specs.declared.plan.Planned.{Planned}
+use Rattle.il_ring.specs.declared.flight.Flight.{Flight}
+use Rattle.il_ring.specs.declared.plan.Arrival.{Arrival}
+use Rattle.il_ring.specs.declared.plan.Arrival.TheVariants as arrival
+use Rattle.il_ring.specs.Plans.{next_fault}
+use Rattle.il_ring.specs.Flights.{hit, lost_at, ended_at}
+use Rattle.il_ring.specs.Books.{BooksView}
+use Rattle.il_ring.specs.Journeys.{Trip, trip_of, Passage, Journey, DriveTakes}
+
+-- the devices before the drive, the drive with its medium, the devices behind it, and the books
+pub record RingView (M : Type 0) : Type 0 where
+  pub before : List DeviceState
+  pub drive : DriveView M
+  pub after : List DeviceState
+  pub books : BooksView
+
+-- all devices in the order of the ring: the first is party 1
+abbrev pub devices_of : {M : Type 0} → RingView M → List DeviceState
+devices_of r = r.before ++ device_of r.drive.state ∷ r.after
+
+-- the drive's party
+abbrev pub drive_party : {M : Type 0} → RingView M → ℕ
+drive_party r = length r.before + 1
+
+-- how many more entries the log has room for
+abbrev pub spare_of : {M : Type 0} → RingView M → ℕ
+spare_of r = r.books.room - length r.books.log
+
+-- ---- a new ring
+
+-- a device that may stand on a new ring: nothing has come to it, and it is no second drive
+abbrev pub MayStand : DeviceState → Type 0
+MayStand d = IsIdle d × (d.accessory ≢ Some drive_id)
+
+-- nothing has happened yet
+abbrev pub fresh_books : List Planned → ℕ → BooksView
+fresh_books plan room = record { plan = plan; crossings = 0; log = []; room = room; held = None }
+
+-- ---- the printer
+
+-- the accessory ID of a printer
+abbrev pub printer_id : ℕ
+printer_id = 32
+
+abbrev pub has_id : ℕ → Option ℕ → Bool
+has_id id None = false
+has_id id (Some other) = other == id
+
+-- what the first device that is a printer has kept of what it heard, and how many bytes it heard
+abbrev pub paper_of : List DeviceState → Option (List ℕ × ℕ)
+paper_of devices = option_map (λ d. (d.heard, d.heard_count)) (find (λ d. has_id printer_id d.accessory) devices)
+
+-- ---- one round
+
+-- The frame has come to the host. Its own ends there; a data or end frame of a device is held there, and any other frame
+-- of a device is taken.
+abbrev pub comes : BooksView → Flight → Bool → Bool → BooksView
+comes b f true is_data_frame = record b { log = b.log ++ ended_at f 0 ∷ [] }
+comes b f false true = record b { held = Some f }
+comes b f false false = record b { log = b.log ++ ended_at f 0 ∷ []; held = None }
+
+-- behind the last link, which leads to the host; a loss drops the held frame
+abbrev pub over_last_link : BooksView → Flight → Option Flight → BooksView
+over_last_link b f None = record b { log = b.log ++ lost_at f 0 ∷ []; held = None }
+over_last_link b f (Some g) = comes b g (g.source == 0) (is_data g.now)
+
+-- the frame that arrives at the host
+abbrev pub arriving : List Planned → ℕ → Option Flight → Option Flight
+arriving plan n None = None
+arriving plan n (Some f) = hit (next_fault plan n) f
+
+abbrev pub home : BooksView → Option Flight → BooksView
+home b None = record b { held = None }
+home b (Some f) = over_last_link (record b { crossings = risen b.crossings }) f (hit (next_fault b.plan b.crossings) f)
+
+abbrev pub arrived : Option Flight → Arrival
+arrived None = arrival.Lost
+arrived (Some f) = arrival.Frame f.now
+
+-- the books as a trip stands
+abbrev pub books_at : BooksView → Trip → BooksView
+books_at b t = record b { crossings = t.crossings; log = t.log }
+
+-- A frame goes past the devices before the drive, the drive and the devices behind it, and comes home to the host, or is
+-- lost on its way. The ring is r before and s then, and `held` was at the host meanwhile.
+pub record Round {M : Type 0} (view : M → MediumView) (r : RingView M) (held : Option Flight) (f : Flight) (answer : Arrival) (s : RingView M) : Type 0 where
+  pub at_drive : Trip
+  pub past_drive : Trip
+  pub behind : Trip
+  pub to_drive : Journey r.books.plan 1 (trip_of r.books (Some f)) r.before at_drive s.before
+  pub at : Passage (DriveTakes view) r.books.plan (length r.before + 1) at_drive r.drive past_drive s.drive
+  pub from_drive : Journey r.books.plan (length r.before + 2) past_drive r.after behind s.after
+  pub books : s.books ≡ home (books_at (record r.books { held = held }) behind) behind.flight
+  pub answer_is : answer ≡ arrived (arriving r.books.plan behind.crossings behind.flight)

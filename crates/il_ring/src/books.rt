@@ -1,0 +1,167 @@
+ghost use Rattle.std.specs.Prelude.{◌≡◌, ◌+◌, ◌-◌, ◌<◌, ◌≤◌, [], ◌∷◌, ◌++◌, IfOk, OnSome, IfNone, IfSome, Some, None, length, vec_len, vec_capacity};
+ghost use Rattle.il_device.specs.State.{risen};
+ghost use Rattle.il_ring.specs.Plans.{next_fault};
+ghost use Rattle.il_ring.specs.Flights.{hit, lost_at, ended_at};
+ghost use Rattle.il_ring.specs.Books.{IsHeld};
+ghost use Rattle.il_ring.specs.Rings.{fresh_books, home, arrived, arriving};
+
+use crate::flight::Flight;
+use crate::plan::{Arrival, PlanFault, Planned, fault_at};
+use il_frames::Entry;
+use std::alloc::{AllocError, Global};
+use std::marker::Model;
+
+/// What a ring keeps beside its devices: the planned faults, the count of crossings, the log in the room that was reserved
+/// for it, and the frame that is held at the host.
+#[derive(Drop)]
+pub(crate) struct Books {
+    plan: Vec<Planned>,
+    crossings: u64,
+    log: Vec<Entry>,
+    room: usize,
+    held: Option<Flight>,
+}
+
+impl Model for Books {
+    ghost use Rattle.std.specs.Vec.{vec_len, vec_capacity};
+    ghost use Rattle.il_ring.specs.Books.{BooksView, IsBooks};
+
+    ghost Value = { BooksView };
+
+    ghost view = { λ b. record { plan = b.plan.items; crossings = b.crossings; log = b.log.items; room = b.room; held = b.held } };
+
+    ghost invariant = { λ b. IsBooks (vec_len b.log) (vec_capacity b.log) (record { plan = b.plan.items; crossings = b.crossings; log = b.log.items; room = b.room; held = b.held }) };
+}
+
+impl Books {
+    /// Nothing has happened yet. All memory is taken here: a copy of the plan, and room for the log.
+    pub fn new(alloc: Global, plan: &[Planned], room: usize) -> Result<Books, AllocError>
+        ensures { IfOk result (λ books. books ≡ fresh_books plan.now room) }
+    {
+        Ok(Books {
+            plan: plan.to_vec(alloc)?,
+            crossings: 0,
+            log: Vec::with_capacity(alloc, room)?,
+            room,
+            held: None,
+        })
+    }
+
+    /// How many more entries the log has room for.
+    pub fn spare(&self) -> usize
+        ensures { result ≡ self.now.room - length self.now.log }
+    {
+        self.room - self.log.len()
+    }
+
+    /// The log, oldest entry first.
+    pub fn log(&self) -> &[Entry]
+        ensures { result.now ≡ self.now.log }
+    {
+        &self.log
+    }
+
+    /// Empties the log.
+    pub fn clear_log(&mut self)
+        ensures { self.new ≡ record self.old { log = [] } }
+    {
+        self.log.clear();
+    }
+
+    /// How many crossings of links there were.
+    pub fn crossings(&self) -> u64
+        ensures { result ≡ self.now.crossings }
+    {
+        self.crossings
+    }
+
+    /// The frame that is held at the host.
+    pub fn held(&self) -> Option<Flight>
+        ensures value { result ≡ self.now.held }
+        ensures held { IsHeld result }
+    {
+        self.held
+    }
+
+    /// Holds no frame any more.
+    pub fn release(&mut self)
+        ensures { self.new ≡ record self.old { held = None } }
+    {
+        self.held = None;
+    }
+
+    /// Appends the entry of a frame that ended at a party.
+    pub fn finish(&mut self, flight: Flight, party: u8)
+        requires { length self.old.log < self.old.room }
+        ensures { self.new ≡ record self.old { log = self.old.log ++ ended_at flight party ∷ [] } }
+    {
+        self.note(flight.ended_at(party));
+    }
+
+    /// The frame crosses the link to a party. `None` where it is lost there, which its entry says.
+    pub fn cross(&mut self, flight: Flight, party: u8) -> Option<Flight>
+        requires { length self.old.log < self.old.room }
+        ensures behind { result ≡ hit (next_fault self.old.plan self.old.crossings) flight }
+        ensures passed { OnSome result (self.new ≡ record self.old { crossings = risen self.old.crossings }) }
+        ensures lost { IfNone result (self.new ≡ record self.old { crossings = risen self.old.crossings; log = self.old.log ++ lost_at flight party ∷ [] }) }
+    {
+        let behind = flight.struck(self.next_fault());
+        self.crossings = self.crossings.saturating_add(1);
+        if behind.is_none() {
+            self.note(flight.lost_at(party));
+        }
+        behind
+    }
+
+    /// What is planned at the next crossing.
+    fn next_fault(&self) -> Option<PlanFault>
+        ensures { result ≡ next_fault self.now.plan self.now.crossings }
+    {
+        let crossing = self.crossings.checked_add(1)?;
+        fault_at(&self.plan, crossing)
+    }
+
+    /// Appends an entry, which takes no memory.
+    fn note(&mut self, entry: Entry)
+        requires { length self.old.log < self.old.room }
+        ensures { self.new ≡ record self.old { log = self.old.log ++ entry ∷ [] } }
+    {
+        append(&mut self.log, entry);
+    }
+
+    /// The frame crosses the last link and comes to the host: its own ends there, a data or end frame of a device is held
+    /// there, and any other frame of a device is taken.
+    pub fn home(&mut self, flight: Option<Flight>) -> Arrival
+        requires { length self.old.log < self.old.room }
+        ensures books { self.new ≡ home self.old flight }
+        ensures answer { result ≡ arrived (arriving self.old.plan self.old.crossings flight) }
+    {
+        let Some(flight) = flight else {
+            self.held = None;
+            return Arrival::Lost;
+        };
+        let Some(flight) = self.cross(flight, 0) else {
+            self.held = None;
+            return Arrival::Lost;
+        };
+        if flight.source == 0 {
+            self.finish(flight, 0);
+        } else if flight.now.is_data() {
+            self.held = Some(flight);
+        } else {
+            self.finish(flight, 0);
+            self.held = None;
+        }
+        Arrival::Frame(flight.now)
+    }
+}
+
+/// With room an append takes no memory.
+fn append<T: Drop>(list: &mut Vec<T>, item: T)
+    requires { vec_len list.old < vec_capacity list.old }
+    ensures items { list.new.items ≡ list.old.items ++ item ∷ [] }
+    ensures len { vec_len list.new ≡ vec_len list.old + 1 }
+    ensures capacity { vec_capacity list.old ≤ vec_capacity list.new }
+{
+    let _ = list.push(item);
+}

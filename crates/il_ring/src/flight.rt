@@ -1,0 +1,85 @@
+ghost use Rattle.std.specs.Prelude.{◌≡◌, Some};
+ghost use Rattle.il_ring.specs.declared.plan.PlanFault.TheVariants.{Alter};
+ghost use Rattle.il_ring.specs.Flights.{sourced, altered_by, hit, lost_at, ended_at};
+
+use crate::plan::PlanFault;
+use il_frames::{Entry, Frame, Outcome};
+
+/// A frame on its way.
+#[derive(Clone, Copy, PartialEq, Eq, Debug)]
+pub struct Flight {
+    /// The party that sent it: 0 is the host, and k the k-th device.
+    pub source: u8,
+    /// The frame as it was sent.
+    pub sent: Frame,
+    /// The frame as it is now.
+    pub now: Frame,
+    /// Whether a planned fault has altered it.
+    pub altered: bool,
+}
+
+impl Flight {
+    /// A frame that a party has just sent.
+    pub(crate) fn sourced(source: u8, frame: Frame) -> Flight
+        ensures { result ≡ sourced source frame }
+    {
+        Flight {
+            source,
+            sent: frame,
+            now: frame,
+            altered: false,
+        }
+    }
+
+    /// The frame behind a link where this is planned. `None` where it is lost.
+    pub(crate) fn struck(self, fault: Option<PlanFault>) -> Option<Flight>
+        ensures { result ≡ hit fault self }
+    {
+        match fault {
+            None => Some(self),
+            Some(PlanFault::Lose) => None,
+            Some(PlanFault::Alter(change)) => self.altered_by(change),
+        }
+    }
+
+    /// The same with another byte, where it can be altered.
+    fn altered_by(self, change: u8) -> Option<Flight>
+        ensures { result ≡ hit (Some (Alter change)) self }
+    {
+        if !self.now.is_data() || self.altered {
+            return None;
+        }
+        Some(Flight {
+            now: Frame::new(self.now.class(), self.now.byte() ^ change),
+            altered: true,
+            ..self
+        })
+    }
+
+    /// Its entry where it did not reach a party.
+    pub(crate) fn lost_at(self, party: u8) -> Entry
+        ensures { result ≡ lost_at self party }
+    {
+        Entry {
+            source: self.source,
+            frame: self.sent,
+            outcome: Outcome::Lost(party),
+        }
+    }
+
+    /// Its entry where it ended at a party: it came back to its source, or another took it.
+    pub(crate) fn ended_at(self, party: u8) -> Entry
+        ensures { result ≡ ended_at self party }
+    {
+        let outcome = if self.source == party {
+            Outcome::Back(self.now)
+        } else {
+            Outcome::Taken(party)
+        };
+        Entry {
+            source: self.source,
+            frame: self.sent,
+            outcome,
+        }
+    }
+}

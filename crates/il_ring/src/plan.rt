@@ -1,0 +1,44 @@
+ghost use Rattle.std.specs.Prelude.{◌≡◌, ◌<◌};
+ghost use Rattle.il_ring.specs.Plans.{fault_at};
+
+use il_frames::Frame;
+
+/// A fault that is planned at the crossing of that number. Crossings of links are counted from 1 over the life of a ring.
+#[derive(Clone, Copy, PartialEq, Eq, Debug)]
+pub struct Planned {
+    /// The crossing, at least 1.
+    pub hop: u64,
+    /// What happens there.
+    pub fault: PlanFault,
+}
+
+/// What happens to a frame at a crossing.
+#[derive(Clone, Copy, PartialEq, Eq, Debug)]
+pub enum PlanFault {
+    /// It is lost.
+    Lose,
+    /// The byte of a data or end frame becomes another, by exclusive or with this one, which is not 0. A second time on one
+    /// trip from its source back to its source it is lost, and so is every other frame.
+    Alter(u8),
+}
+
+/// What arrives at the host.
+#[derive(Clone, Copy, PartialEq, Eq, Debug)]
+pub enum Arrival {
+    /// This frame.
+    Frame(Frame),
+    /// Nothing: a planned fault lost the frame that was on its way.
+    Lost,
+}
+
+/// What is planned at a crossing.
+pub(crate) fn fault_at(plan: &[Planned], crossing: u64) -> Option<PlanFault>
+    ensures { result ≡ fault_at plan.now crossing }
+{
+    for planned in plan {
+        if planned.hop == crossing {
+            return Some(planned.fault);
+        }
+    }
+    None
+}

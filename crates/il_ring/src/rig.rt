@@ -1,0 +1,57 @@
+ghost use Rattle.std.specs.Prelude.{◌≡◌, ◌↔◌, ◌+◌, ◌≤◌, IsTrue, length};
+ghost use Rattle.std.specs.List.{All};
+ghost use Rattle.il_ring.specs.Rings.{MayStand};
+
+use il_device::Device;
+use il_ports::Medium;
+
+/// The accessory ID of the drive, which no other device may have.
+const DRIVE_ID: u8 = 16;
+
+/// How many devices may stand beside the drive.
+const MOST_BOXED: usize = 29;
+
+/// What a ring is made of. The drive, over the medium, stands between `before` and `after`: the first device of `before`
+/// is party 1.
+#[derive(Drop)]
+pub struct Rig<M: Medium> {
+    /// The medium of the drive.
+    pub medium: M,
+    /// The devices between the host's output and the drive.
+    pub before: Vec<Box<dyn Device>>,
+    /// The devices between the drive and the host's input.
+    pub after: Vec<Box<dyn Device>>,
+}
+
+/// Want of memory, with what was handed in.
+#[derive(Drop)]
+pub struct Refused<M: Medium> {
+    /// The rig as it was.
+    pub rig: Rig<M>,
+}
+
+impl<M: Medium> Rig<M> {
+    /// Whether a ring can be made of it: at most 29 devices stand beside the drive, nothing has come to any of them yet (no
+    /// address, role, place in a parallel poll or own frame on the loop), and none has the accessory ID 16 of the drive.
+    pub fn fits(&self) -> bool
+        ensures { IsTrue result ↔ ((length self.now.before.items + length self.now.after.items ≤ 29)
+            × All (λ b. MayStand (state b)) self.now.before.items × All (λ b. MayStand (state b)) self.now.after.items) }
+    {
+        self.before.len() <= MOST_BOXED
+            && self.after.len() <= MOST_BOXED - self.before.len()
+            && all_may_stand(&self.before)
+            && all_may_stand(&self.after)
+    }
+}
+
+fn may_stand<D: Device>(device: &D) -> bool
+    ensures { IsTrue result ↔ MayStand (D.state device.now) }
+{
+    device.is_idle() && device.accessory() != Some(DRIVE_ID)
+}
+
+fn all_may_stand<D: Device>(devices: &[D]) -> bool
+    ensures { IsTrue result ↔ All (λ d. MayStand (D.state d)) devices.now }
+{
+    devices.iter().all(|device| may_stand(device))
+}

@@ -1,0 +1,184 @@
+ghost use Rattle.std.specs.Prelude.{◌≡◌, ◌≢◌, ◌+◌, ◌<◌, ◌≤◌, ◌++◌, ◌∷◌, [], map, length, Some, None, IsSome, IfSome, IfOk, IfErr, option_map};
+ghost use Rattle.il_frames.specs.Frames.{is_data};
+ghost use Rattle.il_drive.specs.State.{fresh_drive};
+ghost use Rattle.il_ring.specs.Plans.{IsPlan};
+ghost use Rattle.il_ring.specs.Flights.{sourced};
+ghost use Rattle.il_ring.specs.Rings.{RingView, Round, drive_party, spare_of, fresh_books, paper_of};
+
+use crate::books::Books;
+use crate::flight::Flight;
+use crate::plan::{Arrival, Planned};
+use crate::rig::{Refused, Rig};
+use crate::walk::{pass_drive, walk_past};
+use il_device::Device;
+use il_drive::Drive;
+use il_frames::{Entry, Frame};
+use il_ports::Medium;
+use std::alloc::Global;
+
+/// What contracts see of a ring, and of whatever owns one.
+pub trait Seen<M> {
+    ghost seen: { Self → RingView M };
+}
+
+/// The devices beside the drive.
+#[derive(Drop)]
+pub(crate) struct Boxes {
+    pub before: Vec<Box<dyn Device>>,
+    pub after: Vec<Box<dyn Device>>,
+    ghost few: { length before.items + length after.items ≤ 29 },
+}
+
+/// The simulated loop.
+#[derive(Drop)]
+pub struct Ring<M: Medium> {
+    boxes: Boxes,
+    drive: Drive<M>,
+    books: Books,
+}
+
+impl<M: Medium> Seen<M> for Ring<M> {
+    ghost use Rattle.std.specs.Prelude.{map};
+    ghost use Rattle.il_ring.specs.Rings.{RingView};
+
+    ghost seen = { λ r. record {
+      before = map (λ b. (Device-box b).state b.value) r.boxes.before.items;
+      drive = r.drive;
+      after = map (λ b. (Device-box b).state b.value) r.boxes.after.items;
+      books = r.books;
+    } };
+}
+
+impl<M: Medium> Ring<M> {
+    /// A ring of these devices, with room for `room` entries in its log: all memory that a ring needs is taken here. The
+    /// error is want of memory, and hands the rig back.
+    pub fn new(
+        alloc: Global,
+        rig: Rig<M>,
+        plan: &[Planned],
+        room: usize,
+    ) -> Result<Ring<M>, Refused<M>>
+        requires few { length rig.before.items + length rig.after.items ≤ 29 }
+        requires tape { 0 < (M.view rig.medium).record_count }
+        requires plan { IsPlan plan.now }
+        ensures books { IfOk result (λ ring. (⟦<Ring<M> as Seen<M>>⟧.seen ring).books ≡ fresh_books plan.now room) }
+        ensures drive { IfOk result (λ ring. (⟦<Ring<M> as Seen<M>>⟧.seen ring).drive ≡ record { state = fresh_drive; medium = rig.medium }) }
+        ensures before { IfOk result (λ ring. (⟦<Ring<M> as Seen<M>>⟧.seen ring).before ≡ map (λ b. state b) rig.before.items) }
+        ensures after { IfOk result (λ ring. (⟦<Ring<M> as Seen<M>>⟧.seen ring).after ≡ map (λ b. state b) rig.after.items) }
+        ensures refused { IfErr result (λ refused. refused.rig ≡ rig) }
+    {
+        match Books::new(alloc, plan, room) {
+            Err(_) => Err(Refused { rig }),
+            Ok(books) => {
+                let Rig {
+                    medium,
+                    before,
+                    after,
+                } = rig;
+                Ok(Ring {
+                    boxes: Boxes { before, after },
+                    drive: Drive::new(medium),
+                    books,
+                })
+            }
+        }
+    }
+
+    /// The frame of a device that is held at the host.
+    pub fn held(&self) -> Option<Frame>
+        ensures { result ≡ option_map (λ f. f.now) (⟦<Ring<M> as Seen<M>>⟧.seen self.now).books.held }
+    {
+        self.books.held().map(|flight| flight.now)
+    }
+
+    /// How many more entries the log has room for.
+    pub fn spare(&self) -> usize
+        ensures { result ≡ spare_of (⟦<Ring<M> as Seen<M>>⟧.seen self.now) }
+    {
+        self.books.spare()
+    }
+
+    /// The log, oldest entry first.
+    pub fn log(&self) -> &[Entry]
+        ensures { result.now ≡ (⟦<Ring<M> as Seen<M>>⟧.seen self.now).books.log }
+    {
+        self.books.log()
+    }
+
+    /// Empties the log.
+    pub fn clear_log(&mut self)
+        ensures { ⟦<Ring<M> as Seen<M>>⟧.seen self.new ≡ record (⟦<Ring<M> as Seen<M>>⟧.seen self.old) { books = record (⟦<Ring<M> as Seen<M>>⟧.seen self.old).books { log = [] } } }
+    {
+        self.books.clear_log();
+    }
+
+    /// How many crossings of links there were since the ring was made. The count stays at its greatest value.
+    pub fn crossings(&self) -> u64
+        ensures { result ≡ (⟦<Ring<M> as Seen<M>>⟧.seen self.now).books.crossings }
+    {
+        self.books.crossings()
+    }
+
+    /// The medium of the drive.
+    pub fn medium(&self) -> &M
+        ensures { result.now ≡ (⟦<Ring<M> as Seen<M>>⟧.seen self.now).drive.medium }
+    {
+        self.drive.medium()
+    }
+
+    /// The drive's party, 1 to 30.
+    pub fn party(&self) -> u8
+        ensures party { result ≡ drive_party (⟦<Ring<M> as Seen<M>>⟧.seen self.now) }
+        ensures range { result ≤ 30 }
+    {
+        self.boxes.before.len() as u8 + 1
+    }
+
+    /// The devices and the medium, as the ring leaves them.
+    pub fn into_rig(self) -> Rig<M>
+        ensures medium { result.medium ≡ (⟦<Ring<M> as Seen<M>>⟧.seen self).drive.medium }
+        ensures before { map (λ b. state b) result.before.items ≡ (⟦<Ring<M> as Seen<M>>⟧.seen self).before }
+        ensures after { map (λ b. state b) result.after.items ≡ (⟦<Ring<M> as Seen<M>>⟧.seen self).after }
+    {
+        let Ring { boxes, drive, .. } = self;
+        Rig {
+            medium: drive.into_medium(),
+            before: boxes.before,
+            after: boxes.after,
+        }
+    }
+
+    /// The host sends a frame, which goes round the loop. What arrives at the host: the frame as it came back; or one that
+    /// a device sent in its place, which is held where it is a data or end frame; or nothing, where a planned fault lost
+    /// the frame that was on its way.
+    pub fn send(&mut self, frame: Frame) -> Arrival
+        requires room { 32 ≤ spare_of (⟦<Ring<M> as Seen<M>>⟧.seen self.old) }
+        ensures round { Round M.view (⟦<Ring<M> as Seen<M>>⟧.seen self.old) (⟦<Ring<M> as Seen<M>>⟧.seen self.old).books.held (sourced 0 frame) result (⟦<Ring<M> as Seen<M>>⟧.seen self.new) }
+    {
+        self.round(Flight::sourced(0, frame))
+    }
+
+    /// The held frame goes on from the host. What arrives at the host then: what its source sent behind it, or nothing,
+    /// where a planned fault lost the frame that was on its way.
+    pub fn relay(&mut self) -> Arrival
+        requires held { IsSome (⟦<Ring<M> as Seen<M>>⟧.seen self.old).books.held }
+        requires room { 32 ≤ spare_of (⟦<Ring<M> as Seen<M>>⟧.seen self.old) }
+        ensures { IfSome (⟦<Ring<M> as Seen<M>>⟧.seen self.old).books.held (λ f. Round M.view (⟦<Ring<M> as Seen<M>>⟧.seen self.old) None f result (⟦<Ring<M> as Seen<M>>⟧.seen self.new)) }
+    {
+        let flight = self.books.held().unwrap();
+        self.books.release();
+        self.round(flight)
+    }
+
+    /// A frame goes round, with the held frame at the host meanwhile.
+    fn round(&mut self, flight: Flight) -> Arrival
+        requires { 32 ≤ spare_of (⟦<Ring<M> as Seen<M>>⟧.seen self.old) }
+        ensures { Round M.view (⟦<Ring<M> as Seen<M>>⟧.seen self.old) (⟦<Ring<M> as Seen<M>>⟧.seen self.old).books.held flight result (⟦<Ring<M> as Seen<M>>⟧.seen self.new) }
+    {
+        let on = walk_past(&mut self.boxes.before, 1, &mut self.books, Some(flight));
+        let party = self.boxes.before.len() as u8 + 1;
+        let on = pass_drive(&mut self.drive, party, &mut self.books, on);
+        let on = walk_past(&mut self.boxes.after, party + 1, &mut self.books, on);
+        self.books.home(on)
+    }
+}

@@ -1,0 +1,97 @@
+ghost use Rattle.std.specs.Prelude.{◌≡◌, ◌+◌, ◌<◌, ◌≤◌, length, map, Some};
+ghost use Rattle.il_device.specs.Takes.{Takes};
+ghost use Rattle.il_ring.specs.Books.{KeepsBooks};
+ghost use Rattle.il_ring.specs.Journeys.{Passage, Journey, DriveTakes, trip_of, answered};
+
+use crate::books::Books;
+use crate::flight::Flight;
+use il_device::{Device, Out};
+use il_drive::Drive;
+use il_ports::Medium;
+
+/// A frame crosses a link and is taken by the device behind it, or it is lost.
+fn pass<D: Device>(
+    device: &mut D,
+    party: u8,
+    books: &mut Books,
+    flight: Option<Flight>,
+) -> Option<Flight>
+    requires { length books.old.log < books.old.room }
+    ensures passage { Passage Takes books.old.plan party (trip_of books.old flight) (D.state device.old) (trip_of books.new result) (D.state device.new) }
+    ensures books { KeepsBooks 1 books.old books.new }
+{
+    let flight = books.cross(flight?, party)?;
+    let out = device.take(flight.now);
+    Some(go_on(books, flight, party, out))
+}
+
+/// The same at the drive.
+pub(crate) fn pass_drive<M: Medium>(
+    drive: &mut Drive<M>,
+    party: u8,
+    books: &mut Books,
+    flight: Option<Flight>,
+) -> Option<Flight>
+    requires { length books.old.log < books.old.room }
+    ensures passage { Passage (DriveTakes M.view) books.old.plan party (trip_of books.old flight) drive.old (trip_of books.new result) drive.new }
+    ensures books { KeepsBooks 1 books.old books.new }
+{
+    let flight = books.cross(flight?, party)?;
+    let out = drive.take(flight.now);
+    Some(go_on(books, flight, party, out))
+}
+
+/// What goes on behind a party that has answered.
+fn go_on(books: &mut Books, flight: Flight, party: u8, out: Out) -> Flight
+    requires { length books.old.log < books.old.room }
+    ensures trip { trip_of books.new (Some result) ≡ answered books.old.crossings books.old.log party flight out }
+    ensures books { KeepsBooks 1 books.old books.new }
+{
+    match out {
+        Out::Pass(frame) => Flight {
+            now: frame,
+            ..flight
+        },
+        Out::Source(frame) => {
+            books.finish(flight, party);
+            Flight::sourced(party, frame)
+        }
+    }
+}
+
+/// A frame goes past devices, the first of which is the party `first`.
+fn walk<D: Device>(
+    devices: &mut [D],
+    first: u8,
+    books: &mut Books,
+    flight: Option<Flight>,
+) -> Option<Flight>
+    requires room { length books.old.log + length devices.old ≤ books.old.room }
+    requires parties { first + length devices.old < 256 }
+    ensures journey { Journey books.old.plan first (trip_of books.old flight) (map D.state devices.old) (trip_of books.new result) (map D.state devices.new) }
+    ensures books { KeepsBooks (length devices.old) books.old books.new }
+{
+    let mut on = flight;
+    let mut party = first;
+    for device in devices.iter_mut() {
+        on = pass(device, party, books, on);
+        party += 1;
+    }
+    on
+}
+
+/// The same of a list.
+pub(crate) fn walk_past<D: Device>(
+    devices: &mut Vec<D>,
+    first: u8,
+    books: &mut Books,
+    flight: Option<Flight>,
+) -> Option<Flight>
+    requires room { length books.old.log + length devices.old.items ≤ books.old.room }
+    requires parties { first + length devices.old.items < 256 }
+    ensures journey { Journey books.old.plan first (trip_of books.old flight) (map D.state devices.old.items) (trip_of books.new result) (map D.state devices.new.items) }
+    ensures books { KeepsBooks (length devices.old.items) books.old books.new }
+    ensures len { length devices.new.items ≡ length devices.old.items }
+{
+    walk(devices, first, books, flight)
+}
