@@ -1,2 +1,7 @@
 pub mod Journeys
 pub mod Rounds
+pub mod Ways
+pub mod Counts
+pub mod Takings
+pub mod CountSteps
+pub mod RoundCounts

@@ -3,3 +3,5 @@ pub mod Flights
 pub mod Books
 pub mod Journeys
 pub mod Rings
+pub mod Ways
+pub mod Rounded
