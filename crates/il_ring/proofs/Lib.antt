@@ -5,3 +5,7 @@ pub mod Counts
 pub mod Takings
 pub mod CountSteps
 pub mod RoundCounts
+pub mod Passing
+pub mod RoundRoles
+pub mod HostRoles
+pub mod RolesHome

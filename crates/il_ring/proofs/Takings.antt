@@ -22,7 +22,7 @@ sends_on own out e true h ends is = let clash = sym is ∙ ends.answer in cc
 sends_on own out e false h (inl ends) is = let clash = sym is ∙ ends.answer in cc
 sends_on own out e false h (inr sends) is = let clash = sym is ∙ sends.1.answer in cc
 
-echo_sends : (own : OwnFrame) (out : Out) (e : DeviceState) (right : Bool) (h : Frame) → AnswersEcho right own out e → out ≡ Pass h → ⊥
+pub echo_sends : (own : OwnFrame) (out : Out) (e : DeviceState) (right : Bool) (h : Frame) → AnswersEcho right own out e → out ≡ Pass h → ⊥
 echo_sends own out e false h ends is = let clash = sym is ∙ ends.answer in cc
 echo_sends own out e true h on is = sends_on own out e (own.stopped || own.last) h on is
 
@@ -59,7 +59,7 @@ pub data_passes : (d e : DeviceState) (f : Frame) (out : Out) → is_data f ≡ 
 data_passes d e f out data_frame none takes =
     passes_by d.roles.listens d e f out data_frame (turn_of-data d f data_frame ∙ ap (λ own. turn_at_data own d.roles.listens) none) takes
 
-passed_frame : (g h : Frame) → Pass g ≡ Pass h → g ≡ h
+pub passed_frame : (g h : Frame) → Pass g ≡ Pass h → g ≡ h
 passed_frame g h e = ap (λ out. elim out [ Pass f ↦ f | Source f ↦ f ]) e
 
 -- what goes on behind a device that passes a data frame is one

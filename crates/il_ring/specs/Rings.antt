@@ -1,8 +1,9 @@
 -- What contracts see of a ring, and what becomes of a frame that goes round.
-use Rattle.std.specs.Prelude.{◌≡◌, ◌≢◌, ◌+◌, ◌-◌, ◌≤◌, ◌==◌, ℕ, Bool, true, false, if◌then◌else◌, List, [], ◌∷◌, ◌++◌, length, Option, Some, None, find, option_map}
+use Rattle.std.specs.Prelude.{◌≡◌, ◌≢◌, ◌+◌, ◌-◌, ◌≤◌, ◌==◌, ℕ, Bool, true, false, if◌then◌else◌, List, [], ◌∷◌, ◌++◌, length, map, Option, Some, None, find, option_map}
 use Rattle.il_frames.specs.declared.entry.Entry.{Entry}
 use Rattle.il_frames.specs.Frames.{is_data}
 use Rattle.il_device.specs.declared.device.Out.{Out}
+use Rattle.il_device.specs.declared.roles.Roles.{Roles}
 use Rattle.il_device.specs.State.{DeviceState, IsIdle, risen}
 use Rattle.il_ports.specs.Media.{MediumView}
 use Rattle.il_drive.specs.State.{DriveView, device_of, drive_id}
@@ -25,6 +26,10 @@ pub record RingView (M : Type 0) : Type 0 where
 -- all devices in the order of the ring: the first is party 1
 abbrev pub devices_of : {M : Type 0} → RingView M → List DeviceState
 devices_of r = r.before ++ device_of r.drive.state ∷ r.after
+
+-- their roles
+abbrev pub roles_of : List DeviceState → List Roles
+roles_of devices = map (λ d. d.roles) devices
 
 -- the drive's party
 abbrev pub drive_party : {M : Type 0} → RingView M → ℕ
