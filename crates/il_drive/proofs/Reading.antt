@@ -3,7 +3,6 @@
 use Rattle.std.proofs.Common.{◌≡◌, ◌<◌, ◌≤◌, ◌+◌, ◌*◌, ◌++◌, ◌⊎◌, inl, inr, ℕ, suc, List, [], ◌∷◌, length, get_or, map, take, true, false, refl, sym, ap, subst, ◌∙◌, arith, ⊎_elim, append_assoc, append-nil}
 use Rattle.std.specs.Prelude.{Some, None}
 use Rattle.std.proofs.Math.Nat.{mod-eq_of_lt, eq-or-lt_of_le}
-
 use Rattle.std.proofs.lemmas.List.{take_all, take_more}
 use Rattle.lif_model.specs.Tape.{Tape, record_at, bytes_from}
 use Rattle.lif_model.specs.Causes.{Rose}
@@ -154,27 +153,33 @@ module _ {M : Type 0} (view : M → MediumView) where
       let is : w.state ≡ sends.0 = ap (λ x. x.0) gave.value in
       let zero_place : get_or gave.bytes s.pointer 0 ≡ get_or w.state.buffer_0 0 0 =
       ap (λ p. get_or gave.bytes p 0) empty ∙ ap (λ (s : DriveState). get_or s.buffer_0 0 0) (sym is) in
-      inl (record {
-        place = omega arith;
-        record_there = there;
-        talks = ap (λ (s : DriveState). s.interface.roles.talks) is ∙ talks;
-        mode = ap (λ (s : DriveState). s.mode) is ∙ in_mode;
-        begun = ap (λ (s : DriveState). s.begun) is;
-        status = ap status_of is ∙ good;
-        pointer = ap (λ (s : DriveState). s.pointer) is ∙ ap table.next_pointer empty;
-        position = omega (arith, ap (λ (s : DriveState). s.position) is, at);
-        own = ap (λ (s : DriveState). s.interface.own) is ∙ ap (λ byte. Some (just_sent (framed class.Dab byte) false)) zero_place;
-        buffer = λ t told. ap (λ (s : DriveState). s.buffer_0) is ∙ gave.content t (before.still.tape ∙ told) ∙ ap (record_at t) at;
-        medium = record { still = still_longer _ _ _ before.still still; count = gave.count ∙ before.count };
-      }, ap (λ x. x.1) gave.value ∙ ap sent zero_place)
+      inl (
+        record {
+          place = omega arith;
+          record_there = there;
+          talks = ap (λ (s : DriveState). s.interface.roles.talks) is ∙ talks;
+          mode = ap (λ (s : DriveState). s.mode) is ∙ in_mode;
+          begun = ap (λ (s : DriveState). s.begun) is;
+          status = ap status_of is ∙ good;
+          pointer = ap (λ (s : DriveState). s.pointer) is ∙ ap table.next_pointer empty;
+          position = omega (arith, ap (λ (s : DriveState). s.position) is, at);
+          own = ap (λ (s : DriveState). s.interface.own) is ∙ ap (λ byte. Some (just_sent (framed class.Dab byte) false)) zero_place;
+          buffer = λ t told. ap (λ (s : DriveState). s.buffer_0) is ∙ gave.content t (before.still.tape ∙ told) ∙ ap (record_at t) at;
+          medium = record { still = still_longer _ _ _ before.still still; count = gave.count ∙ before.count };
+        },
+        ap (λ x. x.1) gave.value ∙ ap sent zero_place,
+      )
   opened first whole instead s u out m v w talks in_mode good empty at there before silent rests unread (still, inr (is, rose)) =
       let now : w.state ≡ u = ap (λ x. x.0) is in
-      inr (record {
-        rests = ap (λ (s : DriveState). s.mode) now ∙ rests;
-        silent = ap (λ (s : DriveState). s.interface.own) now ∙ silent;
-        still = still_longer _ _ _ before.still still;
-        why = inl (ap status_of now ∙ unread, subst (λ n. Rose n (view w.medium).faults) before.count rose);
-      }, ap (λ x. x.1) is)
+      inr (
+        record {
+          rests = ap (λ (s : DriveState). s.mode) now ∙ rests;
+          silent = ap (λ (s : DriveState). s.interface.own) now ∙ silent;
+          still = still_longer _ _ _ before.still still;
+          why = inl (ap status_of now ∙ unread, subst (λ n. Rose n (view w.medium).faults) before.count rose);
+        },
+        ap (λ x. x.1) is,
+      )
 
   -- SDA, behind DDT 2: the first record is read
   pub opens : (v w : DriveView M) (out : Out) → v.state.interface.roles.talks ≡ true → v.state.interface.own ≡ None → v.state.mode ≡ mode.Read → status_of v.state ≡ 0 → v.state.pointer ≡ 0
@@ -210,8 +215,7 @@ module _ {M : Type 0} (view : M → MediumView) where
         buffer = has.buffer;
         medium = has.medium;
       } in
-      let is : w ≡ record { state = later s f; medium = v.medium } = one.1 in
-      (
+      let is : w ≡ record { state = later s f; medium = v.medium } = one.1 in (
         subst (HasSent view first whole (last + 1) m) (sym is) sending,
         one.0 ∙ ap (λ p. sent (get_or s.buffer_0 p 0)) pointer ∙ ap (λ (w : DriveView M). sent (get_or w.state.buffer_0 (last + 1) 0)) (sym is),
       )
@@ -226,20 +230,23 @@ module _ {M : Type 0} (view : M → MediumView) where
       let n = (view v.medium).record_count in
       let size : n ≡ (view m).record_count = has.medium.still.stays_in.size in
       ⊎_elim
-          (λ e.
-              let past : Did view (Now (table.ends eto (table.faulty fault.NoRecord (table.behind_effect f s)))) (w.state, out) v.medium w.medium =
-              subst (λ step. Did view step (w.state, out) v.medium w.medium) (step_reads_past n byte s f has.own has.mode has.pointer is_byte right (omega (arith, has.position, e))) did in
-              let is : w.state ≡ (table.ends eto (table.faulty fault.NoRecord (table.behind_effect f s))).0 = ap (λ x. x.0) past.0 in
-              inr (record {
-                rests = ap (λ (s : DriveState). s.mode) is;
-                silent = ap (λ (s : DriveState). s.interface.own) is;
-                still = subst (λ m₂. IsStill (view m) (view m₂)) (sym past.1) has.medium.still;
-                why = inr (omega (arith, e, size), ap status_of is, ap (λ m₂. (view m₂).faults) past.1 ∙ has.medium.count);
-              }, ap (λ x. x.1) past.0))
-          (λ lt. opened first (suc whole) (Source eto) (table.behind_effect f s) (table.ends eto (table.faulty fault.Unread (table.behind_effect f s))).0 out m v w
-              (ap (λ (r : Roles). r.talks) (roles_after-data s.interface.roles f is_byte) ∙ has.talks) has.mode has.status has.pointer (omega (arith, has.position)) (omega (arith, lt, size)) has.medium refl refl refl
-              (subst (λ step. Did view step (w.state, out) v.medium w.medium) (step_reads_on n byte s f has.own has.mode has.pointer is_byte right (λ e. absurd (omega (arith, e, lt, has.position)))) did))
-          (eq-or-lt_of_le most)
+      (λ e.
+      let past : Did view (Now (table.ends eto (table.faulty fault.NoRecord (table.behind_effect f s)))) (w.state, out) v.medium w.medium =
+      subst (λ step. Did view step (w.state, out) v.medium w.medium) (step_reads_past n byte s f has.own has.mode has.pointer is_byte right (omega (arith, has.position, e))) did in
+      let is : w.state ≡ (table.ends eto (table.faulty fault.NoRecord (table.behind_effect f s))).0 = ap (λ x. x.0) past.0 in
+      inr (
+        record {
+          rests = ap (λ (s : DriveState). s.mode) is;
+          silent = ap (λ (s : DriveState). s.interface.own) is;
+          still = subst (λ m₂. IsStill (view m) (view m₂)) (sym past.1) has.medium.still;
+          why = inr (omega (arith, e, size), ap status_of is, ap (λ m₂. (view m₂).faults) past.1 ∙ has.medium.count);
+        },
+        ap (λ x. x.1) past.0,
+      ))
+      (λ lt. opened first (suc whole) (Source eto) (table.behind_effect f s) (table.ends eto (table.faulty fault.Unread (table.behind_effect f s))).0 out m v w
+      (ap (λ (r : Roles). r.talks) (roles_after-data s.interface.roles f is_byte) ∙ has.talks) has.mode has.status has.pointer (omega (arith, has.position)) (omega (arith, lt, size)) has.medium refl refl refl
+      (subst (λ step. Did view step (w.state, out) v.medium w.medium) (step_reads_on n byte s f has.own has.mode has.pointer is_byte right (λ e. absurd (omega (arith, e, lt, has.position)))) did))
+      (eq-or-lt_of_le most)
 
   -- ---- any number of echoes
 
@@ -317,27 +324,27 @@ module _ {M : Type 0} (view : M → MediumView) where
       let u = ran.0 in
       let size = has.medium.still.stays_in.size in
       ⊎_elim
-          (λ (e : last ≡ 255).
-              let full : HasSent view first whole 255 m v = subst (λ last. HasSent view first whole last m v) e has in
-              let right : IsEcho (sent (get_or v.state.buffer_0 255 0)) f = subst (λ last. IsEcho (sent (get_or v.state.buffer_0 last 0)) f) e echoes.0 in
-              ⊎_elim
-                  (λ went.
-                      byte_and first whole last (suc whole) 0 (get_or u.state.buffer_0 0 0) m f fs out outs w (omega (arith, e))
-                          (λ t told.
-                              let tape = medium.is_tape t told in
-                              subst (λ last. sent_bytes t first (suc whole) 0 ≡ sent_bytes t first whole last ++ get_or u.state.buffer_0 0 0 ∷ []) (sym e)
-                              (record_on t first whole (tape.bytes (first + whole) has.record_there) (omega (arith, tape.bytes (first + suc whole) went.0.record_there)) ∙ ap (λ bytes. sent_bytes t first whole 255 ++ get_or bytes 0 0 ∷ []) (sym (went.0.buffer t told))))
-                          went.1 (sends_records fs outs first (suc whole) 0 m u w medium went.0 all.1 (subst (λ out. ComeBack out fs outs) went.1 echoes.1) ran.2))
-                  (λ over. ended first whole last m f fs out outs u w e over.0 over.1 all.1 echoes.1 ran.2)
-                  (opens_next first whole f out m v u full all.0 right (omega (arith, has.record_there, size)) ran.1))
-          (λ (lt : last < 255).
-              let went = goes_on first whole last f out m v u has lt all.0 echoes.0 ran.1 in
-              byte_and first whole last whole (last + 1) (get_or u.state.buffer_0 (last + 1) 0) m f fs out outs w (omega arith)
-                  (λ t told.
-                      let tape = medium.is_tape t told in
-                      place_on t first whole last (omega (arith, lt, tape.bytes (first + whole) has.record_there)) ∙ ap (λ bytes. sent_bytes t first whole last ++ get_or bytes (last + 1) 0 ∷ []) (sym (went.0.buffer t told)))
-                  went.1 (sends_records fs outs first whole (last + 1) m u w medium went.0 all.1 (subst (λ out. ComeBack out fs outs) went.1 echoes.1) ran.2))
-          (eq-or-lt_of_le (omega (arith, has.place)))
+      (λ (e : last ≡ 255).
+      let full : HasSent view first whole 255 m v = subst (λ last. HasSent view first whole last m v) e has in
+      let right : IsEcho (sent (get_or v.state.buffer_0 255 0)) f = subst (λ last. IsEcho (sent (get_or v.state.buffer_0 last 0)) f) e echoes.0 in
+      ⊎_elim
+      (λ went.
+      byte_and first whole last (suc whole) 0 (get_or u.state.buffer_0 0 0) m f fs out outs w (omega (arith, e))
+      (λ t told.
+      let tape = medium.is_tape t told in
+      subst (λ last. sent_bytes t first (suc whole) 0 ≡ sent_bytes t first whole last ++ get_or u.state.buffer_0 0 0 ∷ []) (sym e)
+      (record_on t first whole (tape.bytes (first + whole) has.record_there) (omega (arith, tape.bytes (first + suc whole) went.0.record_there)) ∙ ap (λ bytes. sent_bytes t first whole 255 ++ get_or bytes 0 0 ∷ []) (sym (went.0.buffer t told))))
+      went.1 (sends_records fs outs first (suc whole) 0 m u w medium went.0 all.1 (subst (λ out. ComeBack out fs outs) went.1 echoes.1) ran.2))
+      (λ over. ended first whole last m f fs out outs u w e over.0 over.1 all.1 echoes.1 ran.2)
+      (opens_next first whole f out m v u full all.0 right (omega (arith, has.record_there, size)) ran.1))
+      (λ (lt : last < 255).
+      let went = goes_on first whole last f out m v u has lt all.0 echoes.0 ran.1 in
+      byte_and first whole last whole (last + 1) (get_or u.state.buffer_0 (last + 1) 0) m f fs out outs w (omega arith)
+      (λ t told.
+      let tape = medium.is_tape t told in
+      place_on t first whole last (omega (arith, lt, tape.bytes (first + whole) has.record_there)) ∙ ap (λ bytes. sent_bytes t first whole last ++ get_or bytes (last + 1) 0 ∷ []) (sym (went.0.buffer t told)))
+      went.1 (sends_records fs outs first whole (last + 1) m u w medium went.0 all.1 (subst (λ out. ComeBack out fs outs) went.1 echoes.1) ran.2))
+      (eq-or-lt_of_le (omega (arith, has.place)))
 
   -- NRD, and then the echo of the byte that is on the loop: no further byte goes out, and no record is read
   pub stops : (first whole last : ℕ) (f : Frame) (outs : List Out) (m : M) (v w : DriveView M) → HasSent view first whole last m v → is_data f ≡ true → IsEcho (sent (get_or v.state.buffer_0 last 0)) f

@@ -1,8 +1,7 @@
 -- What one party adds to the counts.
-use Rattle.std.proofs.Common.{◌≡◌, ◌≤◌, ◌<◌, ◌+◌, ◌++◌, ◌⊎◌, ◌==◌, inl, inr, ⊎_elim, ℕ, zero, suc, Bool, true, false, List, [], ◌∷◌, Option, Some, None, length, sum_by, cond, refl, sym, ap, subst, ◌∙◌, arith, append-nil, eqb-true}
+use Rattle.std.proofs.Common.{◌≡◌, ◌≤◌, ◌<◌, ◌+◌, ◌++◌, ◌⊎◌, ◌==◌, inl, inr, ⊎_elim, ℕ, zero, suc, Bool, true, false, List, [], ◌∷◌, Option, Some, None, length, cond, refl, sym, ap, subst, ◌∙◌, arith, append-nil, eqb-true}
 use Rattle.std.specs.Prelude.{if◌then◌else◌}
 use Rattle.std.proofs.lemmas.Bool.Decides.{nat_tests}
-use Rattle.std.proofs.lemmas.Bool.{eq-eqb, ne_eqb}
 use Rattle.il_frames.specs.declared.frame.Frame.{Frame}
 use Rattle.il_frames.specs.declared.entry.Entry.{Entry}
 use Rattle.il_frames.specs.declared.entry.Outcome.TheVariants as outcome
@@ -12,7 +11,7 @@ use Rattle.il_device.specs.declared.device.Out.TheVariants.{Pass, Source}
 use Rattle.il_device.specs.declared.interface.OwnFrame.{OwnFrame}
 use Rattle.il_device.specs.State.{DeviceState, risen}
 use Rattle.il_device.specs.Takes.{Takes}
-use Rattle.loop_model.specs.Reach.{distance, crossed, came_to, links_of, brings_to}
+use Rattle.loop_model.specs.Reach.{distance, crossed, came_to}
 use Rattle.loop_model.proofs.UnitLaws.{distance-self}
 use Rattle.il_ring.specs.declared.plan.Planned.{Planned}
 use Rattle.il_ring.specs.declared.plan.PlanFault.{PlanFault}
@@ -24,7 +23,7 @@ use Rattle.il_ring.specs.Journeys.{Trip, trip, answered, Meets, Passage, Journey
 use Rattle.il_ring.specs.Ways.{way, come_to, on_way, brought}
 use Rattle.il_ring.proofs.Ways.{way-next, way-distance, way-self, come-other, come-next, come-self, come-before, ended-other, back-other, lost-to}
 use Rattle.il_ring.proofs.Takings.{own_sends, stays_data}
-use Rattle.il_ring.proofs.Counts.{Counted, entries_to, counted_append}
+use Rattle.il_ring.proofs.Counts.{Counted, counted_append}
 
 -- ---- which frames can go on
 
@@ -154,12 +153,19 @@ sourced_one k j n log f g h d e on there at same took =
           let same_links = ap (λ s. distance k s (j + 1)) same in
           let none = ap (λ j₂. way k (j + 1) j₂) far ∙ way-self k (j + 1) in
           omega (arith, ended, distant, same_links, none);
-      inside = ((1, took, (
-        let ended = ended_here k g.source j g.now in
-        let none = ap (λ j₂. come_to k (j + 1) (j + 1) j₂) far ∙ come-self k (j + 1) (j + 1) (omega arith) (omega (arith, on)) (omega (arith, on)) in
-        let before = come-before k f.source j on there in
-        omega (arith, ended, none, before)
-      )), tt);
+      inside = (
+        (
+          1,
+          took,
+          (
+              let ended = ended_here k g.source j g.now in
+              let none = ap (λ j₂. come_to k (j + 1) (j + 1) j₂) far ∙ come-self k (j + 1) (j + 1) (omega arith) (omega (arith, on)) (omega (arith, on)) in
+              let before = come-before k f.source j on there in
+              omega (arith, ended, none, before)
+              ),
+        ),
+        tt,
+      );
       outside = λ q some most where_.
           let ended = ended_brings k q g.source j g.now some most (λ e. ⊎_elim (λ low. omega (arith, low, e)) (λ high. omega (arith, high, e, far)) where_) on (omega (arith, same, there)) in
           let same_come = ap (λ s. come_to k q s j) same in

@@ -1,15 +1,10 @@
 -- What a journey adds to the counts: crossings of links and frames of devices, in the words of the entries that it appends.
-use Rattle.std.proofs.Common.{◌≡◌, ◌≤◌, ◌<◌, ◌+◌, ◌++◌, ◌⊎◌, ◌==◌, inl, inr, ⊎_elim, ℕ, zero, suc, true, false, List, [], ◌∷◌, Option, Some, None, length, sum_by, count_by, cond, refl, sym, ap, subst, ◌∙◌, arith, append_assoc, append-nil, length-append}
-use Rattle.std.specs.Prelude.{if◌then◌else◌}
+use Rattle.std.proofs.Common.{◌≡◌, ◌≤◌, ◌<◌, ◌+◌, ◌++◌, ◌⊎◌, inl, inr, ⊎_elim, ℕ, zero, suc, List, [], ◌∷◌, length, sum_by, count_by, cond, sym, ap, subst, ◌∙◌, arith, append_assoc, length-append}
 use Rattle.std.proofs.lemmas.List.Sums.{sum_by-append}
-use Rattle.il_frames.specs.declared.frame.Frame.{Frame}
 use Rattle.il_frames.specs.declared.entry.Entry.{Entry}
-use Rattle.il_frames.specs.Frames.{is_data}
-use Rattle.il_device.specs.declared.interface.OwnFrame.{OwnFrame}
 use Rattle.il_device.specs.State.{DeviceState, risen}
 use Rattle.il_device.proofs.Laws.{risen_by}
 use Rattle.loop_model.specs.Reach.{links_of, brings_to}
-use Rattle.il_ring.specs.declared.flight.Flight.{Flight}
 use Rattle.il_ring.specs.Journeys.{Trip}
 use Rattle.il_ring.specs.Ways.{on_way, brought}
 
@@ -80,9 +75,9 @@ counted_append k j t m u ds es xs ys within first more =
           omega (arith, sum, same, first.linked, more.linked);
       inside = framed_append (λ q. brought k j q t.flight) (λ q. entries_to k q (first.entries ++ more.entries) + brought k (j + length (ds ++ xs)) q u.flight) j ds es xs ys
           (framed_as (λ q. brought k j q t.flight) (λ q. entries_to k q first.entries + brought k (j + length ds) q m.flight) (λ q. brought k j q t.flight) (λ q. entries_to k q (first.entries ++ more.entries) + brought k (j + length (ds ++ xs)) q u.flight) j ds es
-              (λ q c low high known. let next = more.outside q (omega (arith, low)) (omega (arith, high, within)) (inl (omega (arith, high))) in let all = brings q in omega (arith, known, next, all)) first.inside)
+          (λ q c low high known. let next = more.outside q (omega (arith, low)) (omega (arith, high, within)) (inl (omega (arith, high))) in let all = brings q in omega (arith, known, next, all)) first.inside)
           (framed_as (λ q. brought k (j + length ds) q m.flight) (λ q. entries_to k q more.entries + brought k (j + length ds + length xs) q u.flight) (λ q. brought k j q t.flight) (λ q. entries_to k q (first.entries ++ more.entries) + brought k (j + length (ds ++ xs)) q u.flight) (j + length ds) xs ys
-              (λ q c low high known. let before = first.outside q (omega (arith, low)) (omega (arith, high, within)) (inr (omega (arith, low))) in let all = brings q in omega (arith, known, before, all)) more.inside);
+          (λ q c low high known. let before = first.outside q (omega (arith, low)) (omega (arith, high, within)) (inr (omega (arith, low))) in let all = brings q in omega (arith, known, before, all)) more.inside);
       outside = λ q some most where_.
           let before = first.outside q some most (⊎_elim (λ low. inl low) (λ high. inr (omega (arith, high, far))) where_) in
           let next = more.outside q some most (⊎_elim (λ low. inl (omega (arith, low))) (λ high. inr (omega (arith, high, far))) where_) in

@@ -1,8 +1,8 @@
 -- What a frame of the host does to the devices' roles is what its entry says.
-use Rattle.std.proofs.Common.{◌≡◌, ◌≤◌, ◌<◌, ◌+◌, ◌++◌, ◌⊎◌, ◌==◌, ◌||◌, ◌&&◌, inl, inr, ⊎_elim, ℕ, zero, suc, Bool, true, false, List, [], ◌∷◌, Option, Some, None, refl, sym, ap, ap₂, subst, ◌∙◌, arith, append-nil, append_assoc, nat_le, nat_lt}
+use Rattle.std.proofs.Common.{◌≡◌, ◌≤◌, ◌<◌, ◌+◌, ◌++◌, ◌⊎◌, ◌==◌, inl, inr, ℕ, suc, true, false, List, [], ◌∷◌, Option, Some, None, refl, sym, ap, ap₂, subst, ◌∙◌, arith, append_assoc}
 use Rattle.std.specs.Prelude.{if◌then◌else◌}
 use Rattle.std.specs.List.{list_all}
-use Rattle.std.proofs.lemmas.Bool.{eq-eqb, ne_eqb}
+use Rattle.std.proofs.lemmas.Bool.{ne_eqb}
 use Rattle.std.proofs.lemmas.Bool.Decides.{nat_tests}
 use Rattle.il_frames.specs.declared.frame.Frame.{Frame}
 use Rattle.il_frames.specs.declared.message.Message.{Message}
@@ -20,10 +20,10 @@ use Rattle.loop_model.specs.Roles.{roles_by, passed_on, roles_along}
 use Rattle.il_ring.specs.declared.plan.Planned.{Planned}
 use Rattle.il_ring.specs.declared.flight.Flight.{Flight}
 use Rattle.il_ring.specs.Plans.{next_fault}
-use Rattle.il_ring.specs.Flights.{hit, lost_at, ended_at, sourced}
-use Rattle.il_ring.specs.Journeys.{Trip, trip, answered, missed, Meets, Reaches, Passage, Journey}
+use Rattle.il_ring.specs.Flights.{hit, lost_at, ended_at}
+use Rattle.il_ring.specs.Journeys.{Trip, trip, answered, missed, Meets, Journey}
 use Rattle.il_ring.specs.Rings.{roles_of}
-use Rattle.il_ring.proofs.CountSteps.{IsSame, hit_same}
+use Rattle.il_ring.proofs.CountSteps.{hit_same}
 use Rattle.il_ring.proofs.Passing.{Carries, carries_on, carried_roles}
 use Rattle.il_ring.proofs.RoundRoles.{AreQuiet, is_other, hit_carries, sent_quiet, leaves_roles}
 

@@ -9,3 +9,4 @@ pub mod Passing
 pub mod RoundRoles
 pub mod HostRoles
 pub mod RolesHome
+pub mod Faults

@@ -1,5 +1,5 @@
 -- Which frame goes on behind a device, and what it does to roles.
-use Rattle.std.proofs.Common.{◌≡◌, ◌<◌, ◌≤◌, ◌+◌, ◌⊎◌, ◌==◌, ◌&&◌, inl, inr, ⊎_elim, ℕ, suc, Bool, true, false, Option, Some, None, refl, sym, ap, subst, ◌∙◌, arith, nat_le}
+use Rattle.std.proofs.Common.{◌≡◌, ◌≤◌, ◌+◌, ◌==◌, inl, inr, ⊎_elim, ℕ, suc, Bool, true, false, Option, Some, None, refl, sym, ap, ◌∙◌, arith, nat_le}
 use Rattle.std.specs.Prelude.{if◌then◌else◌}
 use Rattle.std.proofs.lemmas.Bool.{and_parts, eq-eqb, ne_eqb, leb-true}
 use Rattle.std.proofs.Math.Nat.{eq-or-lt_of_le}
@@ -12,20 +12,18 @@ use Rattle.il_frames.specs.Frames.{byte_of, class_of, framed, is_data}
 use Rattle.il_frames.specs.Messages.{message_of}
 use Rattle.il_poll.specs.declared.service.Assignment.{Assignment}
 use Rattle.il_device.specs.declared.device.Out.{Out}
-use Rattle.il_device.specs.declared.device.Out.TheVariants.{Pass, Source}
-use Rattle.il_device.specs.declared.interface.OwnFrame.{OwnFrame}
+use Rattle.il_device.specs.declared.device.Out.TheVariants.{Pass}
 use Rattle.il_device.specs.declared.interface.Turn.{Turn}
 use Rattle.il_device.specs.declared.interface.Turn.TheVariants as turn
 use Rattle.il_device.specs.declared.roles.Roles.{Roles}
 use Rattle.il_device.specs.Roles.{takes_address}
-use Rattle.il_device.specs.Passing.{served, counted_on, passed, passed_as}
+use Rattle.il_device.specs.Passing.{counted_on, passed, passed_as}
 use Rattle.il_device.specs.State.{DeviceState}
-use Rattle.il_device.specs.Takes.{Takes, Answers, AnswersEcho, GoesOn, Ends, eto, ete, turn_of}
-use Rattle.il_device.proofs.Laws.{roles_after-data, message_of-counted_on, message_of-counted_on-last}
+use Rattle.il_device.specs.Takes.{Takes, Answers, turn_of}
+use Rattle.il_device.proofs.Laws.{roles_after-data, message_of-counted_on}
 use Rattle.loop_model.specs.Roles.{roles_by, passed_on, next_address}
 use Rattle.loop_model.proofs.RoleSteps.{changes_roles}
-use Rattle.loop_model.proofs.RoundLaws.{data_keeps}
-use Rattle.il_ring.proofs.Takings.{own_sends, passed_frame, stays_data, echo_sends}
+use Rattle.il_ring.proofs.Takings.{passed_frame, stays_data, echo_sends}
 
 -- ---- a frame that a device passes on
 
@@ -71,9 +69,9 @@ counts_on : (takes : Bool) (a : ℕ) (f : Frame) → (takes ≡ true → a ≤ 3
 counts_on false a f low is = is
 counts_on true a f low is =
     ⊎_elim
-        (λ last. ap (λ a. message_of (counted_on true a f)) last ∙ ap (λ test. if test then msg.Iaa else msg.Aad (suc a)) (sym (eq-eqb a 30 last)))
-        (λ lt. message_of-counted_on a f lt ∙ (let up : a + 1 ≡ suc a = omega arith in ap msg.Aad up) ∙ ap (λ test. if test then msg.Iaa else msg.Aad (suc a)) (sym (ne_eqb a 30 (λ e. omega (arith, e, lt)))))
-        (eq-or-lt_of_le (low refl))
+    (λ last. ap (λ a. message_of (counted_on true a f)) last ∙ ap (λ test. if test then msg.Iaa else msg.Aad (suc a)) (sym (eq-eqb a 30 last)))
+    (λ lt. message_of-counted_on a f lt ∙ (let up : a + 1 ≡ suc a = omega arith in ap msg.Aad up) ∙ ap (λ test. if test then msg.Iaa else msg.Aad (suc a)) (sym (ne_eqb a 30 (λ e. omega (arith, e, lt)))))
+    (eq-or-lt_of_le (low refl))
 
 taken_low : (address : Option ℕ) (a : ℕ) → takes_address address a ≡ true → a ≤ 30
 taken_low None a e = leb-true a 30 (and_parts (nat_le 1 a) (nat_le a 30) e).1

@@ -1,8 +1,8 @@
 -- The devices' roles behind a whole round are those that its entries give.
-use Rattle.std.proofs.Common.{◌≡◌, ◌≤◌, ◌+◌, ◌++◌, ◌⊎◌, ◌==◌, ◌||◌, ◌&&◌, inl, inr, ⊎_elim, ℕ, suc, Bool, true, false, not, List, [], ◌∷◌, Option, Some, None, refl, sym, ap, ap₂, subst, ◌∙◌, arith, append-nil, append_assoc}
+use Rattle.std.proofs.Common.{◌≡◌, ◌≤◌, ◌++◌, ◌==◌, ⊎_elim, ℕ, Bool, true, false, not, List, [], ◌∷◌, Option, Some, None, refl, sym, ap, ap₂, ◌∙◌, arith, append-nil, append_assoc}
 use Rattle.std.specs.Prelude.{if◌then◌else◌}
 use Rattle.std.specs.List.{list_all}
-use Rattle.std.proofs.lemmas.Bool.{and_parts, and_from, eq-eqb, ne_eqb}
+use Rattle.std.proofs.lemmas.Bool.{and_parts, and_from, eq-eqb}
 use Rattle.std.proofs.lemmas.Bool.Decides.{nat_tests}
 use Rattle.std.proofs.lemmas.List.Folds.{list_all-append}
 use Rattle.il_frames.specs.declared.frame.Frame.{Frame}
@@ -24,12 +24,12 @@ use Rattle.il_ring.specs.declared.flight.Flight.{Flight}
 use Rattle.il_ring.specs.Plans.{next_fault}
 use Rattle.il_ring.specs.Flights.{hit, lost_at, ended_at}
 use Rattle.il_ring.specs.Books.{BooksView}
-use Rattle.il_ring.specs.Journeys.{Trip, trip_of}
+use Rattle.il_ring.specs.Journeys.{trip_of}
 use Rattle.il_ring.specs.Rings.{RingView, Round, devices_of, roles_of, home, comes, over_last_link, books_at}
-use Rattle.il_ring.proofs.CountSteps.{IsSame, hit_same}
+use Rattle.il_ring.proofs.CountSteps.{hit_same}
 use Rattle.il_ring.proofs.Passing.{Carries}
-use Rattle.il_ring.proofs.RoundRoles.{IsQuiet, AreQuiet, is_other, other_source, quiet_hit, LeavesRoles, leaves_roles}
-use Rattle.il_ring.proofs.HostRoles.{IsOnItsWay, HasEnded, along_all, host_goes}
+use Rattle.il_ring.proofs.RoundRoles.{IsQuiet, AreQuiet, is_other, other_source, quiet_hit, leaves_roles}
+use Rattle.il_ring.proofs.HostRoles.{along_all, host_goes}
 use Rattle.il_ring.proofs.RoundCounts.{round_journey}
 
 -- ---- entries of devices
@@ -112,30 +112,30 @@ host_round view r s held f m answer host says carries round =
     let t = round.behind in
     let b = books_at (record r.books { held = held }) t in
     ⊎_elim
-        (λ on.
-            let flight = on.flight in
-            let came = link_host (record b { crossings = risen b.crossings }) flight (hit (next_fault b.plan b.crossings) flight) (next_fault b.plan b.crossings) on.source refl in
-            let log : s.books.log ≡ t.log ++ entry 0 flight.sent came.ended ∷ [] = ap (λ (b : BooksView). b.log) round.books ∙ ap (λ flight. (home b flight).log) on.on_way ∙ came.log_is in
-            record {
-              ended = came.ended;
-              rest = [];
-              log = log ∙ ap₂ (λ log sent. log ++ entry 0 sent came.ended ∷ []) on.log_is on.sent;
-              others = refl;
-              roles = on.roles ∙ sym (along_all came.ended f.sent 1 m (roles_of (devices_of r)) came.reached) ∙ along_entry f.sent came.ended m (roles_of (devices_of r)) [] says refl;
-            })
-        (λ over.
-            let more = others_home b t.flight over.quiet in
-            let others = list_all-append is_other over.rest more.entries ∙ and_from (list_all is_other over.rest) (list_all is_other more.entries) over.others more.others in
-            record {
-              ended = over.ended;
-              rest = over.rest ++ more.entries;
-              log =
-                  ap (λ (b : BooksView). b.log) round.books ∙ more.log_is ∙ ap (λ log. log ++ more.entries) over.log_is
-                  ∙ append_assoc r.books.log (entry 0 f.sent over.ended ∷ over.rest) more.entries;
-              others = others;
-              roles = over.roles ∙ along_entry f.sent over.ended m (roles_of (devices_of r)) (over.rest ++ more.entries) says others;
-            })
-        (host_goes r.books.plan 1 m f r.books.crossings r.books.log (devices_of r) (devices_of s) t (omega arith) host carries (round_journey view r s held f answer round))
+    (λ on.
+    let flight = on.flight in
+    let came = link_host (record b { crossings = risen b.crossings }) flight (hit (next_fault b.plan b.crossings) flight) (next_fault b.plan b.crossings) on.source refl in
+    let log : s.books.log ≡ t.log ++ entry 0 flight.sent came.ended ∷ [] = ap (λ (b : BooksView). b.log) round.books ∙ ap (λ flight. (home b flight).log) on.on_way ∙ came.log_is in
+    record {
+      ended = came.ended;
+      rest = [];
+      log = log ∙ ap₂ (λ log sent. log ++ entry 0 sent came.ended ∷ []) on.log_is on.sent;
+      others = refl;
+      roles = on.roles ∙ sym (along_all came.ended f.sent 1 m (roles_of (devices_of r)) came.reached) ∙ along_entry f.sent came.ended m (roles_of (devices_of r)) [] says refl;
+    })
+    (λ over.
+    let more = others_home b t.flight over.quiet in
+    let others = list_all-append is_other over.rest more.entries ∙ and_from (list_all is_other over.rest) (list_all is_other more.entries) over.others more.others in
+    record {
+      ended = over.ended;
+      rest = over.rest ++ more.entries;
+      log =
+          ap (λ (b : BooksView). b.log) round.books ∙ more.log_is ∙ ap (λ log. log ++ more.entries) over.log_is
+          ∙ append_assoc r.books.log (entry 0 f.sent over.ended ∷ over.rest) more.entries;
+      others = others;
+      roles = over.roles ∙ along_entry f.sent over.ended m (roles_of (devices_of r)) (over.rest ++ more.entries) says others;
+    })
+    (host_goes r.books.plan 1 m f r.books.crossings r.books.log (devices_of r) (devices_of s) t (omega arith) host carries (round_journey view r s held f answer round))
 
 -- The held frame of a device goes on: no role changes, and all entries are devices'.
 pub record DeviceRound {M : Type 0} (r : RingView M) (s : RingView M) : Type 0 where

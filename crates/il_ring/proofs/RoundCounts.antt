@@ -1,5 +1,5 @@
 -- What a round adds to the counts.
-use Rattle.std.proofs.Common.{◌≡◌, ◌≤◌, ◌<◌, ◌+◌, ◌++◌, ◌⊎◌, ◌==◌, inl, inr, ⊎_elim, ℕ, zero, suc, Bool, true, false, List, [], ◌∷◌, Option, Some, None, length, sum_by, cond, refl, sym, ap, subst, ◌∙◌, arith, append-nil, append_assoc, length-append, eqb-true}
+use Rattle.std.proofs.Common.{◌≡◌, ◌≤◌, ◌<◌, ◌+◌, ◌++◌, ◌⊎◌, ◌==◌, inl, inr, ⊎_elim, ℕ, suc, Bool, true, false, List, [], ◌∷◌, Option, Some, None, length, sum_by, cond, refl, sym, ap, subst, ◌∙◌, arith, append-nil, append_assoc, eqb-true}
 use Rattle.std.specs.Prelude.{if◌then◌else◌}
 use Rattle.std.proofs.lemmas.Bool.{eq-eqb}
 use Rattle.std.proofs.Math.Nat.{eq-zero-or-pos}
@@ -12,7 +12,7 @@ use Rattle.il_device.specs.Takes.{Takes}
 use Rattle.il_device.proofs.Laws.{risen_by}
 use Rattle.il_ports.specs.Media.{MediumView}
 use Rattle.il_drive.specs.State.{DriveView, device_of}
-use Rattle.loop_model.specs.Reach.{distance, crossed, came_to, links_of, brings_to, held_links, held_passes, links_so_far, passes_so_far}
+use Rattle.loop_model.specs.Reach.{distance, came_to, links_of, brings_to, held_links, held_passes, passes_so_far}
 use Rattle.loop_model.proofs.UnitLaws.{distance-self}
 use Rattle.il_ring.specs.declared.plan.Planned.{Planned}
 use Rattle.il_ring.specs.declared.plan.PlanFault.{PlanFault}
@@ -21,13 +21,13 @@ use Rattle.il_ring.specs.declared.flight.Flight.{Flight}
 use Rattle.il_ring.specs.Plans.{next_fault}
 use Rattle.il_ring.specs.Flights.{hit, lost_at, ended_at}
 use Rattle.il_ring.specs.Books.{BooksView}
-use Rattle.il_ring.specs.Journeys.{Trip, trip, trip_of, Meets, Reaches, Passage, Journey, DriveTakes}
+use Rattle.il_ring.specs.Journeys.{Trip, trip_of, Meets, Reaches, Passage, Journey, DriveTakes}
 use Rattle.il_ring.specs.Rings.{RingView, Round, devices_of, home, comes, over_last_link, books_at}
 use Rattle.il_ring.specs.Ways.{way, come_to, on_way, brought}
-use Rattle.il_ring.specs.Rounded.{Rounded, AllTook, Took, holding, device_sending}
+use Rattle.il_ring.specs.Rounded.{Rounded, AllTook, holding, device_sending}
 use Rattle.il_ring.proofs.Journeys.{Journey-append}
 use Rattle.il_ring.proofs.Ways.{way-self, way-home, home-to, back-home, home-held, come-held, start-held, start-come, start-host}
-use Rattle.il_ring.proofs.Counts.{Counted, Framed, entries_to, entries_append, risen_by-add}
+use Rattle.il_ring.proofs.Counts.{Framed, entries_to, entries_append, risen_by-add}
 use Rattle.il_ring.proofs.CountSteps.{Stands, IsAwaited, hit_same, counted_journey}
 
 -- ---- the journey of a round
@@ -217,10 +217,10 @@ round_counts view r s held f answer ready round =
           omega (arith, sum, start, end, c.linked, last.linked);
       frames = took_from (λ q. brought k 0 q (Some f)) (λ q. entries_to k q c.entries + brought k (0 + length (devices_of r)) q t.flight) k sending (c.entries ++ last.entries) (holding last.new) 0 (devices_of r) (devices_of s)
           (λ q n low high known.
-              let start = start_come k q f (f.source == 0) refl on (omega (arith, low)) (omega (arith, high)) in
-              let end = ap (λ j. brought k j q t.flight) far in
-              let home = last.passed q (omega (arith, low)) (omega (arith, high)) in
-              let sum = entries_append k q c.entries last.entries in
-              omega (arith, known, start, end, home, sum))
+          let start = start_come k q f (f.source == 0) refl on (omega (arith, low)) (omega (arith, high)) in
+          let end = ap (λ j. brought k j q t.flight) far in
+          let home = last.passed q (omega (arith, low)) (omega (arith, high)) in
+          let sum = entries_append k q c.entries last.entries in
+          omega (arith, known, start, end, home, sum))
           c.inside;
     }

@@ -1,5 +1,5 @@
 -- A round of three walks and the way home.
-use Rattle.std.proofs.Common.{◌≡◌, ℕ, ◌+◌, List, length, refl, sym, ap, subst, ◌∙◌, arith}
+use Rattle.std.proofs.Common.{◌≡◌, ℕ, ◌+◌, List, length, ap, subst, ◌∙◌, arith}
 use Rattle.std.specs.Prelude.{Option, Some}
 use Rattle.il_device.specs.State.{DeviceState}
 use Rattle.il_ports.specs.Media.{MediumView}
@@ -8,7 +8,7 @@ use Rattle.il_ring.specs.declared.flight.Flight.{Flight}
 use Rattle.il_ring.specs.declared.plan.Arrival.{Arrival}
 use Rattle.il_ring.specs.Books.{BooksView, KeepsBooks}
 use Rattle.il_ring.specs.Journeys.{Journey, Passage, DriveTakes, trip_of}
-use Rattle.il_ring.specs.Rings.{RingView, Round, home, arrived, arriving, books_at}
+use Rattle.il_ring.specs.Rings.{Round, home, arrived, arriving}
 
 pub from_walks : {M : Type 0} (view : M → MediumView) (before before_then : List DeviceState) (drive drive_then : DriveView M) (after after_then : List DeviceState) (party i j k : ℕ)
     (b₀ b₁ b₂ b₃ b₄ : BooksView) (f : Flight) (one two three : Option Flight) (answer : Arrival)

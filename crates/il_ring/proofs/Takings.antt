@@ -1,5 +1,5 @@
 -- What a device does with a frame that comes to it, as far as a journey goes on by it.
-use Rattle.std.proofs.Common.{◌≡◌, ◌⊎◌, inl, inr, ◌||◌, Bool, true, false, ℕ, Option, Some, None, refl, sym, ap, subst, ◌∙◌}
+use Rattle.std.proofs.Common.{◌≡◌, inl, inr, ◌||◌, Bool, true, false, ℕ, Option, Some, None, refl, sym, ap, subst, ◌∙◌}
 use Rattle.il_frames.specs.declared.frame.Class.{Class}
 use Rattle.il_frames.specs.declared.frame.Class.TheVariants as class
 use Rattle.il_frames.specs.declared.frame.Frame.{Frame}
@@ -7,7 +7,6 @@ use Rattle.il_frames.specs.Frames.{byte_of, class_of, framed, is_data, is_data_c
 use Rattle.il_device.specs.declared.device.Out.{Out}
 use Rattle.il_device.specs.declared.device.Out.TheVariants.{Pass, Source}
 use Rattle.il_device.specs.declared.interface.OwnFrame.{OwnFrame}
-use Rattle.il_device.specs.declared.interface.Turn.{Turn}
 use Rattle.il_device.specs.declared.interface.Turn.TheVariants as turn
 use Rattle.il_device.specs.Passing.{served}
 use Rattle.il_device.specs.State.{DeviceState}

@@ -1,6 +1,6 @@
 -- Distances and ways on a ring.
-use Rattle.std.proofs.Common.{◌≡◌, ◌≢◌, ◌<◌, ◌≤◌, ◌+◌, ◌⊎◌, ℕ, suc, cond, refl, arith}
-use Rattle.std.specs.Prelude.{nat_lt, nat_le, if◌then◌else◌, Some}
+use Rattle.std.proofs.Common.{◌≡◌, ◌<◌, ◌≤◌, ◌+◌, ◌⊎◌, ℕ, cond, arith}
+use Rattle.std.specs.Prelude.{nat_lt, nat_le, Some}
 use Rattle.std.proofs.lemmas.Bool.Decides.{nat_tests}
 use Rattle.loop_model.specs.Reach.{distance, held_links, held_passes}
 use Rattle.il_ring.specs.Ways.{way, come_to}

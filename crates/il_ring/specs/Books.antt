@@ -4,7 +4,7 @@ use Rattle.il_frames.specs.declared.entry.Entry.{Entry}
 use Rattle.il_frames.specs.Frames.{is_data}
 use Rattle.il_ring.specs.declared.plan.Planned.{Planned}
 use Rattle.il_ring.specs.declared.flight.Flight.{Flight}
-use Rattle.il_ring.specs.Plans.{IsPlan, last_crossing}
+use Rattle.il_ring.specs.Plans.{last_crossing}
 
 -- the planned faults; how many crossings of links there were; the log, oldest entry first; how many entries it has room
 -- for; and a data or end frame of a device that stands at the host

@@ -1,5 +1,5 @@
 -- A frame on its way, and how its entry in the log ends.
-use Rattle.std.specs.Prelude.{◌==◌, ◌&&◌, ℕ, Bool, true, false, not, if◌then◌else◌, Option, Some, None, bit_xor}
+use Rattle.std.specs.Prelude.{◌==◌, ◌&&◌, ℕ, true, false, not, if◌then◌else◌, Option, Some, None, bit_xor}
 use Rattle.il_frames.specs.declared.frame.Frame.{Frame}
 use Rattle.il_frames.specs.declared.entry.Entry.{Entry}
 use Rattle.il_frames.specs.declared.entry.Outcome.TheVariants as outcome

@@ -38,7 +38,6 @@ answered n log k f (Source g) = trip n (log ++ ended_at f k ∷ []) (Some (sourc
 abbrev pub missed : ℕ → List Entry → ℕ → Flight → Trip
 missed n log k f = trip n (log ++ lost_at f k ∷ []) None
 
-
 -- behind the link the frame comes to party k, or was lost
 abbrev pub Meets : {D : Type 0} → (D → Frame → Out → D → Type 0) → ℕ → Trip → Flight → Option Flight → D → Trip → D → Type 0
 Meets takes k t f None d u e = (u ≡ missed (risen t.crossings) t.log k f) × (e ≡ d)

@@ -1,5 +1,5 @@
 -- Planned faults, at crossings of links that are counted from 1 over the life of a ring: this project's own.
-use Rattle.std.specs.Prelude.{◌≡◌, ◌+◌, ◌==◌, ◌&&◌, nat_lt, ℕ, Bool, true, false, not, if◌then◌else◌, List, [], ◌∷◌, map, Option, Some, None}
+use Rattle.std.specs.Prelude.{◌≡◌, ◌+◌, ◌==◌, ◌&&◌, nat_lt, ℕ, Bool, true, not, if◌then◌else◌, List, [], ◌∷◌, map, Option, Some, None}
 use Rattle.il_ring.specs.declared.plan.Planned.{Planned}
 use Rattle.il_ring.specs.declared.plan.PlanFault.{PlanFault}
 use Rattle.il_ring.specs.declared.plan.PlanFault.TheVariants.{Lose, Alter}

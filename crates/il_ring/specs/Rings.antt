@@ -1,8 +1,6 @@
 -- What contracts see of a ring, and what becomes of a frame that goes round.
-use Rattle.std.specs.Prelude.{◌≡◌, ◌≢◌, ◌+◌, ◌-◌, ◌≤◌, ◌==◌, ℕ, Bool, true, false, if◌then◌else◌, List, [], ◌∷◌, ◌++◌, length, map, Option, Some, None, find, option_map}
-use Rattle.il_frames.specs.declared.entry.Entry.{Entry}
+use Rattle.std.specs.Prelude.{◌≡◌, ◌≢◌, ◌+◌, ◌-◌, ◌==◌, ℕ, Bool, true, false, List, [], ◌∷◌, ◌++◌, length, map, Option, Some, None, find, option_map}
 use Rattle.il_frames.specs.Frames.{is_data}
-use Rattle.il_device.specs.declared.device.Out.{Out}
 use Rattle.il_device.specs.declared.roles.Roles.{Roles}
 use Rattle.il_device.specs.State.{DeviceState, IsIdle, risen}
 use Rattle.il_ports.specs.Media.{MediumView}

@@ -1,7 +1,7 @@
 -- What a round did to the counts, in the words of the entries that it appended.
-use Rattle.std.specs.Prelude.{◌≡◌, ◌⊎◌, ◌+◌, ◌++◌, ◌==◌, ℕ, suc, if◌then◌else◌, List, [], ◌∷◌, length, Option, Some, None, option_map}
+use Rattle.std.specs.Prelude.{◌≡◌, ◌⊎◌, ◌+◌, ◌++◌, ◌==◌, ℕ, if◌then◌else◌, List, [], ◌∷◌, length, Option, Some, None, option_map}
 use Rattle.il_frames.specs.declared.entry.Entry.{Entry}
-use Rattle.il_device.specs.State.{DeviceState, risen}
+use Rattle.il_device.specs.State.{DeviceState}
 use Rattle.il_device.proofs.Laws.{risen_by}
 use Rattle.loop_model.specs.Reach.{held_links, held_passes, links_so_far, passes_so_far}
 use Rattle.il_ring.specs.declared.flight.Flight.{Flight}

@@ -1,4 +1,4 @@
-use Rattle.std.proofs.Common.{◌≡◌, ◌<◌, ◌+◌, ◌∙◌, length, arith}
+use Rattle.std.proofs.Common.{◌∙◌, arith}
 use Rattle.il_ring.specs.Journeys.{trip_of}
 use Rattle.il_ring.proofs.Journeys.{Journey-more, rest_more}
 use Rattle.il_ring.proofs.walk.walk.Goals as goal

@@ -1,8 +1,5 @@
-use Rattle.std.proofs.Common.{◌≡◌, ◌<◌, ◌+◌, ◌∙◌, length, refl, sym, ap, subst, arith, Some}
+use Rattle.std.proofs.Common.{◌≡◌, ◌+◌, ◌∙◌, length, sym, ap, arith}
 use Rattle.std.proofs.lemmas.List.{length-map}
-use Rattle.il_ring.specs.Books.{BooksView}
-use Rattle.il_ring.specs.Journeys.{Passage, Journey, DriveTakes, trip_of}
-use Rattle.il_ring.specs.Rings.{arrived, arriving, home}
 use Rattle.il_ring.proofs.Rounds.{from_walks}
 use Rattle.il_ring.proofs.ring.Ring.round.Goals as goal
 
