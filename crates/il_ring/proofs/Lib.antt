@@ -10,3 +10,4 @@ pub mod RoundRoles
 pub mod HostRoles
 pub mod RolesHome
 pub mod Faults
+pub mod Passes
