@@ -1,5 +1,5 @@
 -- Planned hops that are met, link by link.
-use Rattle.std.proofs.Common.{◌≡◌, ◌≤◌, ◌<◌, ◌+◌, ◌↔◌, ◌==◌, ◌&&◌, ⊎_elim, ℕ, zero, suc, Bool, true, false, List, [], ◌∷◌, Option, Some, None, refl, sym, ap, subst, ◌∙◌, arith, nat_lt, nat_le}
+use Rattle.std.proofs.Common.{◌≡◌, ◌≢◌, ◌≤◌, ◌<◌, ◌+◌, ◌↔◌, ◌==◌, ◌&&◌, ⊎_elim, ℕ, zero, suc, Bool, true, false, List, [], ◌∷◌, Option, Some, None, refl, sym, ap, subst, ◌∙◌, arith, nat_lt, nat_le}
 use Rattle.std.specs.Prelude.{if◌then◌else◌}
 use Rattle.std.proofs.lemmas.Bool.{lt-ltb}
 use Rattle.std.proofs.lemmas.Bool.Decides.{nat_tests}
@@ -97,3 +97,21 @@ clear_met plan (suc m) n within =
 pub clear_more : (plan : List Planned) (m j n : ℕ) → IsClear plan n m → IsClear plan (risen_by m n) j → IsClear plan n (m + j)
 clear_more plan zero j n first more = let sum : 0 + j ≡ j = omega arith in subst (IsClear plan n) (sym sum) more
 clear_more plan (suc m) j n first more = let sum : suc m + j ≡ suc (m + j) = omega arith in subst (IsClear plan n) (sym sum) (first.0, clear_more plan m j (risen n) first.1 more)
+
+-- where something is planned at one of the crossings, a planned hop is met
+clear_at : (plan : List Planned) (j m n : ℕ) → j < m → IsClear plan n m → next_fault plan (risen_by j n) ≡ None
+clear_at plan j zero n lt clear = absurd (omega (arith, lt))
+clear_at plan zero (suc m) n lt clear = clear.0
+clear_at plan (suc j) (suc m) n lt clear = clear_at plan j m (risen n) (omega (arith, lt)) clear.1
+
+pub met_at : (plan : List Planned) (j m n : ℕ) → n ≤ last_crossing → j < m → next_fault plan (risen_by j n) ≢ None → met (hops_of plan) n (risen_by m n) ≢ []
+met_at plan j m n within lt planned none = planned (clear_at plan j m n lt ((clear_met plan m n within).0 none))
+
+-- one crossing more
+pub risen_by_last : (m n : ℕ) → risen (risen_by m n) ≡ risen_by (suc m) n
+risen_by_last zero n = refl
+risen_by_last (suc m) n = risen_by_last m (risen n)
+
+pub clear_last : (plan : List Planned) (m n : ℕ) → IsClear plan n m → next_fault plan (risen_by m n) ≡ None → IsClear plan n (suc m)
+clear_last plan zero n clear none = (none, tt)
+clear_last plan (suc m) n clear none = (clear.0, clear_last plan m (risen n) clear.1 none)

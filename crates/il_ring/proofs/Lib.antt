@@ -11,3 +11,4 @@ pub mod HostRoles
 pub mod RolesHome
 pub mod Faults
 pub mod Passes
+pub mod PassRounds

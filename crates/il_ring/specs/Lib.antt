@@ -5,3 +5,4 @@ pub mod Journeys
 pub mod Rings
 pub mod Ways
 pub mod Rounded
+pub mod Outcomes

@@ -1,0 +1,57 @@
+-- What became of a frame that went round, as its kind has it.
+use Rattle.std.specs.Prelude.{◌≡◌, ◌≢◌, ◌⊎◌, ◌≤◌, ◌<◌, ◌+◌, ◌++◌, ℕ, zero, suc, Bool, true, false, if◌then◌else◌, List, [], ◌∷◌, length, Option, Some, None}
+use Rattle.il_frames.specs.declared.frame.Frame.{Frame}
+use Rattle.il_frames.specs.declared.message.Message.{Message}
+use Rattle.il_frames.specs.declared.entry.Entry.{Entry}
+use Rattle.il_frames.specs.declared.entry.Outcome.TheVariants as outcome
+use Rattle.il_device.specs.declared.device.Out.{Out}
+use Rattle.il_device.specs.Roles.{own_after, assignment_after}
+use Rattle.il_device.specs.State.{DeviceState}
+use Rattle.il_device.specs.Takes.{may_change_service}
+use Rattle.il_ports.specs.Media.{MediumView}
+use Rattle.loop_model.specs.Entries.{entry}
+use Rattle.loop_model.specs.Reach.{met}
+use Rattle.il_ring.specs.declared.plan.Arrival.{Arrival}
+use Rattle.il_ring.specs.declared.plan.Arrival.TheVariants as arrival
+use Rattle.il_ring.specs.declared.flight.Flight.{Flight}
+use Rattle.il_ring.specs.Plans.{hops_of}
+use Rattle.il_ring.specs.Journeys.{DriveTakes}
+use Rattle.il_ring.specs.Rings.{RingView, devices_of}
+
+-- the planned hops among the crossings of a call
+abbrev pub met_between : {M : Type 0} → RingView M → RingView M → List ℕ
+met_between r s = met (hops_of r.books.plan) r.books.crossings s.books.crossings
+
+-- what a device keeps that hears nothing
+pub record HearsNothing (d e : DeviceState) : Type 0 where
+  pub heard : e.heard ≡ d.heard
+  pub heard_count : e.heard_count ≡ d.heard_count
+  pub room : e.room ≡ d.room
+  pub accessory : e.accessory ≡ d.accessory
+
+-- a device that a message comes to which asks nothing of it
+pub record Obeys (m : Message) (d e : DeviceState) : Type 0 where
+  pub nothing : HearsNothing d e
+  pub own : e.own ≡ own_after d.roles d.own m
+  pub assignment : e.assignment ≡ assignment_after d.roles d.assignment m
+  pub wants : may_change_service m ≡ false → e.wants ≡ d.wants
+
+-- what became of the drive: nothing came to it, or such a frame did
+abbrev pub DriveTook : {M : Type 0} → (M → MediumView) → (Frame → Type 0) → RingView M → RingView M → Type 0
+DriveTook view P r s = (s.drive ≡ r.drive) ⊎ ((g : Frame) × P g × ((out : Out) × DriveTakes view r.drive g out s.drive))
+
+-- it came back to the host as g, and no planned hop was met
+pub record Returned {M : Type 0} (r : RingView M) (held : Option Flight) (f g : Frame) (answer : Arrival) (s : RingView M) : Type 0 where
+  pub answer_is : answer ≡ arrival.Frame g
+  pub log : s.books.log ≡ r.books.log ++ entry 0 f (outcome.Back g) ∷ []
+  pub held_is : s.books.held ≡ held
+  pub met_none : met_between r s ≡ []
+
+-- it was lost, at a planned hop
+pub record WasLost {M : Type 0} (r : RingView M) (source : ℕ) (f : Frame) (answer : Arrival) (s : RingView M) : Type 0 where
+  pub answer_is : answer ≡ arrival.Lost
+  pub party : ℕ
+  pub on_ring : party ≤ length (devices_of r)
+  pub log : s.books.log ≡ r.books.log ++ entry source f (outcome.Lost party) ∷ []
+  pub held_is : s.books.held ≡ None
+  pub met_some : met_between r s ≢ []
