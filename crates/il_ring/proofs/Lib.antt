@@ -12,3 +12,5 @@ pub mod RolesHome
 pub mod Faults
 pub mod Passes
 pub mod PassRounds
+pub mod DriveRounds
+pub mod PassKinds

@@ -36,9 +36,9 @@ pub record Obeys (m : Message) (d e : DeviceState) : Type 0 where
   pub assignment : e.assignment ≡ assignment_after d.roles d.assignment m
   pub wants : may_change_service m ≡ false → e.wants ≡ d.wants
 
--- what became of the drive: nothing came to it, or such a frame did
+-- What became of the drive: such a frame came to it, or none did, since a planned hop was met.
 abbrev pub DriveTook : {M : Type 0} → (M → MediumView) → (Frame → Type 0) → RingView M → RingView M → Type 0
-DriveTook view P r s = (s.drive ≡ r.drive) ⊎ ((g : Frame) × P g × ((out : Out) × DriveTakes view r.drive g out s.drive))
+DriveTook view P r s = ((s.drive ≡ r.drive) × (met_between r s ≢ [])) ⊎ ((g : Frame) × P g × ((out : Out) × DriveTakes view r.drive g out s.drive))
 
 -- it came back to the host as g, and no planned hop was met
 pub record Returned {M : Type 0} (r : RingView M) (held : Option Flight) (f g : Frame) (answer : Arrival) (s : RingView M) : Type 0 where
