@@ -6,8 +6,8 @@ use Rattle.il_frames.specs.declared.entry.Entry.{Entry}
 use Rattle.il_frames.specs.declared.entry.Outcome.TheVariants as outcome
 use Rattle.il_device.specs.declared.device.Out.{Out}
 use Rattle.il_device.specs.Roles.{own_after, assignment_after}
-use Rattle.il_device.specs.State.{DeviceState}
-use Rattle.il_device.specs.Takes.{may_change_service}
+use Rattle.il_device.specs.State.{DeviceState, risen}
+use Rattle.il_device.specs.Takes.{kept, may_change_service}
 use Rattle.il_ports.specs.Media.{MediumView}
 use Rattle.loop_model.specs.Entries.{entry}
 use Rattle.loop_model.specs.Reach.{met}
@@ -55,3 +55,13 @@ pub record WasLost {M : Type 0} (r : RingView M) (source : ℕ) (f : Frame) (ans
   pub log : s.books.log ≡ r.books.log ++ entry source f (outcome.Lost party) ∷ []
   pub held_is : s.books.held ≡ None
   pub met_some : met_between r s ≢ []
+
+-- a device that does not talk, to which a data or end frame of that byte comes
+pub record HearsByte (byte : ℕ) (d e : DeviceState) : Type 0 where
+  pub roles : e.roles ≡ d.roles
+  pub own : e.own ≡ None
+  pub heard : e.heard ≡ (if d.roles.listens then kept d.room d.heard byte else d.heard)
+  pub heard_count : e.heard_count ≡ (if d.roles.listens then risen d.heard_count else d.heard_count)
+  pub room : e.room ≡ d.room
+  pub accessory : e.accessory ≡ d.accessory
+  pub assignment : e.assignment ≡ d.assignment
