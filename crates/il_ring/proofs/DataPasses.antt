@@ -58,7 +58,7 @@ same_byte f g e = ap byte_of e
 -- ---- alterations
 
 -- an exclusive or with another byte than 0 makes another
-xor_other : (b change : ℕ) → change ≢ 0 → bit_xor b change ≢ b
+pub xor_other : (b change : ℕ) → change ≢ 0 → bit_xor b change ≢ b
 xor_other b change some same = some (sym (xor_back b change) ∙ ap (bit_xor b) same ∙ xor_self b)
   where
     xor_back : (b change : ℕ) → bit_xor b (bit_xor b change) ≡ change
@@ -83,7 +83,7 @@ planned_alters (p ∷ plan) low n change rises planned =
             let clash = sym (not-true (other == 0) alters) ∙ eq-eqb other 0 (same ∙ zero) in cc
     by_test false here alters rest = rest here
 
-next_alters : (plan : List Planned) (n change : ℕ) → IsPlan plan → next_fault plan n ≡ Some (Alter change) → change ≢ 0
+pub next_alters : (plan : List Planned) (n change : ℕ) → IsPlan plan → next_fault plan n ≡ Some (Alter change) → change ≢ 0
 next_alters plan n change is planned = by_test (nat_lt n last_crossing) planned
   where
     by_test : (test : Bool) → (if test then fault_at plan (n + 1) else None) ≡ Some (Alter change) → change ≢ 0
@@ -143,7 +143,7 @@ pub record GotLost (plan : List Planned) (k n : ℕ) (log : List Entry) (f : Fli
 abbrev pub DataGoes : List Planned → ℕ → ℕ → List Entry → Flight → List DeviceState → Trip → List DeviceState → Type 0
 DataGoes plan k n log f ds u es = CameClean plan n log f ds u es ⊎ (CameAltered plan n log f ds u es ⊎ GotLost plan k n log f ds u es)
 
-first_any : (b : ℕ) (j : ℕ) (ds es : List DeviceState) → First (HearsByte b) j ds es → First HearsAny j ds es
+pub first_any : (b : ℕ) (j : ℕ) (ds es : List DeviceState) → First (HearsByte b) j ds es → First HearsAny j ds es
 first_any b j [] [] took = tt
 first_any b zero (d ∷ ds) (e ∷ es) took = (took.0, first_any b zero ds es took.1)
 first_any b (suc j) (d ∷ ds) (e ∷ es) took = ((b, took.0), first_any b j ds es took.1)
