@@ -16,3 +16,4 @@ pub mod DriveRounds
 pub mod PassKinds
 pub mod DataPasses
 pub mod DataHome
+pub mod DataRounds

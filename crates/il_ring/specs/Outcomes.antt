@@ -4,6 +4,7 @@ use Rattle.il_frames.specs.declared.frame.Frame.{Frame}
 use Rattle.il_frames.specs.declared.message.Message.{Message}
 use Rattle.il_frames.specs.declared.entry.Entry.{Entry}
 use Rattle.il_frames.specs.declared.entry.Outcome.TheVariants as outcome
+use Rattle.il_frames.specs.Frames.{byte_of, is_data, with_service}
 use Rattle.il_device.specs.declared.device.Out.{Out}
 use Rattle.il_device.specs.Roles.{own_after, assignment_after}
 use Rattle.il_device.specs.State.{DeviceState, risen}
@@ -65,3 +66,17 @@ pub record HearsByte (byte : ℕ) (d e : DeviceState) : Type 0 where
   pub room : e.room ≡ d.room
   pub accessory : e.accessory ≡ d.accessory
   pub assignment : e.assignment ≡ d.assignment
+
+-- a data or end frame came, and where no planned hop was met it is f apart from the service bit
+abbrev pub IsBrought : {M : Type 0} → RingView M → RingView M → Frame → Frame → Type 0
+IsBrought r s f g = (is_data g ≡ true) × (met_between r s ≡ [] → with_service g ≡ with_service f)
+
+-- it came back to the host with another byte, since a planned hop was met
+pub record CameAltered {M : Type 0} (r : RingView M) (held : Option Flight) (f : Frame) (answer : Arrival) (s : RingView M) : Type 0 where
+  pub back : Frame
+  pub answer_is : answer ≡ arrival.Frame back
+  pub log : s.books.log ≡ r.books.log ++ entry 0 f (outcome.Back back) ∷ []
+  pub held_is : s.books.held ≡ held
+  pub data_frame : is_data back ≡ true
+  pub other : byte_of back ≢ byte_of f
+  pub met_some : met_between r s ≢ []
