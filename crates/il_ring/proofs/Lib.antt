@@ -17,3 +17,5 @@ pub mod PassKinds
 pub mod DataPasses
 pub mod DataHome
 pub mod DataRounds
+pub mod Later
+pub mod DataDrive
