@@ -19,3 +19,4 @@ pub mod DataHome
 pub mod DataRounds
 pub mod Later
 pub mod DataDrive
+pub mod Splits

@@ -6,6 +6,7 @@ use Rattle.il_frames.specs.declared.entry.Entry.{Entry}
 use Rattle.il_frames.specs.declared.entry.Outcome.TheVariants as outcome
 use Rattle.il_frames.specs.Frames.{byte_of, is_data, with_service}
 use Rattle.il_device.specs.declared.device.Out.{Out}
+use Rattle.il_device.specs.declared.interface.OwnFrame.{OwnFrame}
 use Rattle.il_device.specs.Roles.{own_after, assignment_after}
 use Rattle.il_device.specs.State.{DeviceState, risen}
 use Rattle.il_device.specs.Takes.{kept, may_change_service}
@@ -79,4 +80,42 @@ pub record CameAltered {M : Type 0} (r : RingView M) (held : Option Flight) (f :
   pub held_is : s.books.held ≡ held
   pub data_frame : is_data back ≡ true
   pub other : byte_of back ≢ byte_of f
+  pub met_some : met_between r s ≢ []
+
+-- ---- a device that sends
+
+-- none of them talks
+abbrev pub AllSilent : List DeviceState → Type 0
+AllSilent [] = Unit {0}
+AllSilent (d ∷ ds) = (d.roles.talks ≡ false) × AllSilent ds
+
+-- the device at party p talks, and has this frame of its own on the loop; no other device talks
+pub record IsTalking (p : ℕ) (own : Option OwnFrame) (devices : List DeviceState) : Type 0 where
+  pub before : List DeviceState
+  pub talker : DeviceState
+  pub behind : List DeviceState
+  pub devices_are : devices ≡ before ++ talker ∷ behind
+  pub party : p ≡ length before + 1
+  pub silent : AllSilent before
+  pub talks : talker.roles.talks ≡ true
+  pub own_is : talker.own ≡ own
+  pub silent_behind : AllSilent behind
+
+-- Behind these entries the frame that party p sent is held at the host, altered or not.
+pub record IsHeldNow {M : Type 0} (r : RingView M) (entries : List Entry) (p : ℕ) (sent : Frame) (altered : Bool) (answer : Arrival) (s : RingView M) : Type 0 where
+  pub now : Frame
+  pub answer_is : answer ≡ arrival.Frame now
+  pub log : s.books.log ≡ r.books.log ++ entries
+  pub held_is : s.books.held ≡ Some (record { source = p; sent = sent; now = now; altered = altered })
+  pub data_frame : is_data now ≡ true
+  pub same : altered ≡ false → with_service now ≡ with_service sent
+  pub other : altered ≡ true → byte_of now ≢ byte_of sent
+
+-- behind these entries it was lost
+pub record IsLostNow {M : Type 0} (r : RingView M) (entries : List Entry) (p : ℕ) (sent : Frame) (answer : Arrival) (s : RingView M) : Type 0 where
+  pub answer_is : answer ≡ arrival.Lost
+  pub party : ℕ
+  pub on_ring : party ≤ length (devices_of r)
+  pub log : s.books.log ≡ r.books.log ++ (entries ++ entry p sent (outcome.Lost party) ∷ [])
+  pub held_is : s.books.held ≡ None
   pub met_some : met_between r s ≢ []
