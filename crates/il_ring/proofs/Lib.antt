@@ -20,3 +20,4 @@ pub mod DataRounds
 pub mod Later
 pub mod DataDrive
 pub mod Splits
+pub mod Starts

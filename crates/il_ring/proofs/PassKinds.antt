@@ -25,7 +25,7 @@ use Rattle.il_ring.proofs.Passes.{PassesOn}
 -- ---- what asks nothing of a device
 
 -- a frame that is passed, and nothing else
-obeys : (d e : DeviceState) (f : Frame) (out : Out) → turn_of d f ≡ turn.Pass → Takes d f out e → Obeys (message_of f) d e
+pub obeys : (d e : DeviceState) (f : Frame) (out : Out) → turn_of d f ≡ turn.Pass → Takes d f out e → Obeys (message_of f) d e
 obeys d e f out asked takes =
     let passes : Answers turn.Pass d f out e = subst (λ u. Answers u d f out e) asked takes.answer in
     record {
@@ -40,7 +40,7 @@ obeys d e f out asked takes =
       wants = takes.wants;
     }
 
-goes_as : (d e : DeviceState) (f : Frame) (out : Out) → turn_of d f ≡ turn.Pass → Takes d f out e → out ≡ Pass (passed d.roles e.assignment e.wants f)
+pub goes_as : (d e : DeviceState) (f : Frame) (out : Out) → turn_of d f ≡ turn.Pass → Takes d f out e → out ≡ Pass (passed d.roles e.assignment e.wants f)
 goes_as d e f out asked takes = let passes : Answers turn.Pass d f out e = subst (λ u. Answers u d f out e) asked takes.answer in passes.answer
 
 -- the same frame
@@ -89,7 +89,7 @@ start_turn d msg.Sdi start own talks = ap (λ own. turn_at_start own d.roles.tal
 start_turn d msg.Sai start own talks = ap (λ own. turn_at_start own d.roles.talks (asked_for_id d.accessory)) own ∙ ap (λ talks. turn_at_start None talks (asked_for_id d.accessory)) talks
 start_turn d _ start own talks = cc
 
-start_as : (d e : DeviceState) (f : Frame) (m : Message) → is_start m ≡ true → passed_as d.roles e.assignment e.wants f m ≡ f
+pub start_as : (d e : DeviceState) (f : Frame) (m : Message) → is_start m ≡ true → passed_as d.roles e.assignment e.wants f m ≡ f
 start_as d e f msg.Sda start = refl
 start_as d e f msg.Sst start = refl
 start_as d e f msg.Sdi start = refl
@@ -148,4 +148,18 @@ aad_passes = record {
       ∙ ap (λ g. Pass g) (counted k (aad k) fits.0 fits.1) in
       let obeyed = obeys d e (aad k) out asked taken in
       (aad (k + 1), goes, refl, (obeyed.nothing, obeyed.own ∙ ap (own_after d.roles d.own) says, obeyed.assignment ∙ ap (assignment_after d.roles d.assignment) says, obeyed.wants (ap may_change_service says)));
+}
+
+-- a device that could begin to send, and does not
+pub begun_obeys : (d e : DeviceState) (f : Frame) (out : Out) → turn_of d f ≡ turn.Begin → Takes d f out e → e.own ≡ own_after d.roles d.own (message_of f) → Obeys (message_of f) d e
+begun_obeys d e f out asked takes own = record {
+  nothing = record {
+    heard = takes.heard ∙ ap (λ u. heard_after u d.room d.heard (byte_of f)) asked;
+    heard_count = takes.heard_count ∙ ap (λ u. count_after u d.heard_count) asked;
+    room = takes.room;
+    accessory = takes.accessory;
+  };
+  own = own;
+  assignment = takes.assignment;
+  wants = takes.wants;
 }
