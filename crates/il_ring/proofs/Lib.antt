@@ -21,3 +21,4 @@ pub mod Later
 pub mod DataDrive
 pub mod Splits
 pub mod Starts
+pub mod StartJourneys
