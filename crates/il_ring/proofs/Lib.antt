@@ -22,3 +22,5 @@ pub mod DataDrive
 pub mod Splits
 pub mod Starts
 pub mod StartJourneys
+pub mod Talkers
+pub mod StartRounds

@@ -31,14 +31,14 @@ use Rattle.il_ring.proofs.RoundCounts.{round_journey}
 abbrev pub RoundEnd : {M : Type 0} → (RingView M) → Option Flight → Trip → Arrival → RingView M → Type 0
 RoundEnd r held t answer s = (s.books ≡ home (books_at (record r.books { held = held }) t) t.flight) × (answer ≡ arrived (arriving r.books.plan t.crossings t.flight))
 
-round_end : {M : Type 0} (view : M → MediumView) (r s : RingView M) (held : Option Flight) (f : Flight) (answer : Arrival) (round : Round view r held f answer s) → RoundEnd r held round.behind answer s
+pub round_end : {M : Type 0} (view : M → MediumView) (r s : RingView M) (held : Option Flight) (f : Flight) (answer : Arrival) (round : Round view r held f answer s) → RoundEnd r held round.behind answer s
 round_end view r s held f answer round = (round.books, round.answer_is)
 
 -- ---- over the last link
 
 module _ {M : Type 0} (r s : RingView M) (held : Option Flight) (f : Frame) (answer : Arrival) where
   -- where the frame has passed all devices
-  at_last : (g : Frame) (t : Trip) (fault : Option PlanFault) → r.books.crossings ≤ last_crossing → is_data g ≡ false
+  pub at_last : (g : Frame) (t : Trip) (fault : Option PlanFault) → r.books.crossings ≤ last_crossing → is_data g ≡ false
       → t ≡ trip (risen_by (length (devices_of r)) r.books.crossings) r.books.log (Some (record (sourced 0 f) { now = g })) → IsClear r.books.plan r.books.crossings (length (devices_of r))
       → next_fault r.books.plan (risen_by (length (devices_of r)) r.books.crossings) ≡ fault → RoundEnd r held t answer s → Returned r held f g answer s ⊎ WasLost r 0 f answer s
   at_last g t None within plain is clear planned end =
@@ -81,7 +81,7 @@ module _ {M : Type 0} (r s : RingView M) (held : Option Flight) (f : Frame) (ans
       })
 
   -- where it was lost before
-  lost_before : (reached : ℕ) (t : Trip) → r.books.crossings ≤ last_crossing → reached < length (devices_of r)
+  pub lost_before : (reached : ℕ) (t : Trip) → r.books.crossings ≤ last_crossing → reached < length (devices_of r)
       → t ≡ trip (risen_by (suc reached) r.books.crossings) (r.books.log ++ entry 0 f (outcome.Lost (1 + reached)) ∷ []) None
       → next_fault r.books.plan (risen_by reached r.books.crossings) ≢ None → RoundEnd r held t answer s → WasLost r 0 f answer s
   lost_before reached t within on is planned end =

@@ -1,5 +1,5 @@
 -- What became of a frame that went round, as its kind has it.
-use Rattle.std.specs.Prelude.{◌≡◌, ◌≢◌, ◌⊎◌, ◌≤◌, ◌<◌, ◌+◌, ◌++◌, ℕ, zero, suc, Bool, true, false, if◌then◌else◌, List, [], ◌∷◌, length, Option, Some, None}
+use Rattle.std.specs.Prelude.{◌≡◌, ◌≢◌, ◌⊎◌, ◌≤◌, ◌<◌, ◌+◌, ◌++◌, ℕ, zero, suc, Bool, true, false, if◌then◌else◌, List, [], ◌∷◌, length, Option, Some, None, MatchBool}
 use Rattle.il_frames.specs.declared.frame.Frame.{Frame}
 use Rattle.il_frames.specs.declared.message.Message.{Message}
 use Rattle.il_frames.specs.declared.entry.Entry.{Entry}
@@ -119,3 +119,17 @@ pub record IsLostNow {M : Type 0} (r : RingView M) (entries : List Entry) (p : �
   pub log : s.books.log ≡ r.books.log ++ (entries ++ entry p sent (outcome.Lost party) ∷ [])
   pub held_is : s.books.held ≡ None
   pub met_some : met_between r s ≢ []
+
+-- a start message was taken by party p, which sent a data frame in its place; that frame is held at the host, or was lost
+pub record StartTaken {M : Type 0} (r : RingView M) (f : Frame) (answer : Arrival) (s : RingView M) : Type 0 where
+  pub party : ℕ
+  pub on_ring : (1 ≤ party) × (party ≤ length (devices_of r))
+  pub sent : Frame
+  pub data_frame : is_data sent ≡ true
+  pub own : OwnFrame
+  pub own_frame : own.frame ≡ sent
+  pub runs : own.stopped ≡ false
+  pub talking_before : IsTalking party None (devices_of r)
+  pub talking : IsTalking party (Some own) (devices_of s)
+  pub end : ((altered : Bool) × IsHeldNow r (entry 0 f (outcome.Taken party) ∷ []) party sent altered answer s × MatchBool altered (met_between r s ≢ []) (met_between r s ≡ []))
+      ⊎ IsLostNow r (entry 0 f (outcome.Taken party) ∷ []) party sent answer s
