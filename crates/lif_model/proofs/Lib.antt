@@ -9,6 +9,7 @@ pub mod RedoExamples
 pub mod StopExamples
 pub mod VolumeExamples
 pub mod CommandExamples
+pub mod WritingExamples
 pub mod Lists
 pub mod Sizes
 pub mod Runs

@@ -174,7 +174,7 @@ unfolding four_at two_at name_of
 not_adopted = (refl, refl, refl)
 
 -- the records hold their numbers in each byte
-abbrev numbered : ℕ → List ℕ
+abbrev pub numbered : ℕ → List ℕ
 numbered k = replicate 256 k
 
 abbrev with_files : List ℕ → Tape
