@@ -25,3 +25,4 @@ pub mod Directory
 pub mod Files
 pub mod Plain
 pub mod Named
+pub mod Writing
