@@ -26,3 +26,4 @@ pub mod Files
 pub mod Plain
 pub mod Named
 pub mod Writing
+pub mod Slotted
