@@ -2,20 +2,20 @@
 use Rattle.std.proofs.Common.{◌≡◌, ◌≢◌, ◌⊎◌, ◌<◌, ◌≤◌, ◌+◌, ◌-◌, ◌*◌, ◌/◌, ◌%◌, ◌++◌, ℕ, zero, suc, List, [], ◌∷◌, Bool, true, false, not, if◌then◌else◌, length, get_or, set, insert, map, take, inl, inr, refl, sym, ◌∙◌, ap, subst, arith, length-take, length-set, get_or-take, get_or-set_same, get_or-set_other}
 use Rattle.std.specs.Prelude.{◌==◌, nat_lt, Some}
 use Rattle.std.specs.List.{prefix_len}
-use Rattle.std.proofs.lemmas.Bool.{cases_eq, cases_lt, lt-ltb, le-ltb, eq-eqb, ne_eqb}
+use Rattle.std.proofs.lemmas.Bool.{cases_eq, cases_lt, lt-ltb, le-ltb, eq-eqb, ne_eqb, false_from_ne_true}
 use Rattle.std.proofs.lemmas.List.{ext_get_or, length-map, get_or-map, length_push, length-take-le}
 use Rattle.std.proofs.lemmas.List.Edits.{length-insert, get_or-insert_below, get_or-insert_at, get_or-insert_above}
 use Rattle.lif_model.specs.Tape.{Tape, IsTape, record_at}
 use Rattle.lif_model.specs.Header.{directory_start, directory_length, directory_end, capacity_of}
 use Rattle.lif_model.specs.Directory.{is_end, entry_at, entries_from, before_end, slots_of}
 use Rattle.lif_model.specs.Made.{with_type}
-use Rattle.lif_model.specs.Legal.{is_live_named, IsLegal}
+use Rattle.lif_model.specs.Legal.{is_live_named, has_file, IsLegal}
 use Rattle.lif_model.specs.Volume.{Volume, IsVolume, volume_in}
 use Rattle.lif_model.specs.Apply.{with_slot}
-use Rattle.lif_model.specs.Writing.{slot_record, entry_from, entry_on, SlotWrites, with_slots, ended_behind, last_slot}
+use Rattle.lif_model.specs.Writing.{slot_record, entry_from, entry_on, SlotWrites, with_slots, ended_behind, last_slot, place_named}
 use Rattle.lif_model.proofs.Made.{typed_type, typed_size}
-use Rattle.lif_model.proofs.Slots.{readable_tells, HasNew, insert_new, push_new}
-use Rattle.lif_model.proofs.Adopted.{one_of_name}
+use Rattle.lif_model.proofs.Slots.{readable_tells, HasNew, before_insert, insert_new, push_new}
+use Rattle.lif_model.proofs.Adopted.{position_tells, one_of_name}
 use Rattle.lif_model.proofs.Directory.{entry_size, entries_count, entry_of_all, before_end_at, slot_at, volume_tells, volume_in_is}
 use Rattle.lif_model.proofs.Writing.{AreEntries, untouched, last_written, slots_elsewhere, slots_shape, slot_written}
 
@@ -83,6 +83,47 @@ ended_entries capacity u k sizes = elim (cases_lt k capacity) [
 
 pub last_entries : (capacity : ℕ) (u : Tape) (k : ℕ) (entry : List ℕ) → ((j : ℕ) → j < capacity → length (entry_on u j) ≡ 32) → k < capacity → length entry ≡ 32 → AreEntries capacity (last_slot capacity u k entry)
 last_entries capacity u k entry sizes lt size = (lt, size, ended_entries capacity u (suc k) sizes)
+
+-- a write of the last slot
+last_before : (capacity : ℕ) (u : Tape) (k : ℕ) (entry : List ℕ) (j : ℕ) (old : List ℕ) → j < k → last_written (last_slot capacity u k entry) j old ≡ old
+last_before capacity u k entry j old lt =
+    ended_other capacity u (suc k) j (if k == j then entry else old) (λ e. absurd (omega (arith, e, lt)))
+    ∙ ap (λ (b : Bool). if b then entry else old) (ne_eqb k j (λ e. absurd (omega (arith, e, lt))))
+
+last_here : (capacity : ℕ) (u : Tape) (k : ℕ) (entry old : List ℕ) → last_written (last_slot capacity u k entry) k old ≡ entry
+last_here capacity u k entry old =
+    ended_other capacity u (suc k) k (if k == k then entry else old) (λ e. absurd (omega (arith, e)))
+    ∙ ap (λ (b : Bool). if b then entry else old) (eq-eqb k k refl)
+
+last_end : (capacity : ℕ) (u : Tape) (k m : ℕ) (entry old : List ℕ) → m ≡ suc k → m < capacity → ((j : ℕ) → j < capacity → length (entry_on u j) ≡ 32) → is_end (last_written (last_slot capacity u k entry) m old) ≡ true
+last_end capacity u k m entry old e lt sizes =
+    let same : (if k == m then entry else old) ≡ old = ap (λ (b : Bool). if b then entry else old) (ne_eqb k m (λ at. absurd (omega (arith, at, e)))) in
+    ap (λ (j : ℕ). is_end (last_written (ended_behind capacity u j) m (if k == m then entry else old))) (sym e)
+    ∙ ended_here capacity u m (if k == m then entry else old) lt (sizes m lt)
+
+-- the live slot of a name is one, and so is the change of it
+pub changed_is_set : (n : ℕ) (header : List ℕ) (slots : List (List ℕ)) (name : List ℕ) (change : List ℕ → List ℕ) → IsLegal n header slots → has_file slots name ≡ true
+    → (place_named name slots < length slots) × (is_live_named name (get_or slots (place_named name slots) []) ≡ true)
+    × (set slots (place_named name slots) (change (get_or slots (place_named name slots) [])) ≡ with_slot name change slots)
+changed_is_set n header slots name change legal there =
+    let found = position_tells [] (is_live_named name) slots there in
+    (found.0, found.1, ext_get_or [] (set slots p (change (get_or slots p []))) (with_slot name change slots)
+    (length-set slots p (change (get_or slots p [])) ∙ sym (length-map slots (λ slot. if is_live_named name slot then change slot else slot)))
+    (λ k lt.
+    let less : k < length slots = omega (arith, lt, length-set slots p (change (get_or slots p []))) in
+    each found.0 found.1 k less (cases_eq k p) ∙ sym (get_or-map (λ slot. if is_live_named name slot then change slot else slot) slots k [] [] less)))
+  where
+    p : ℕ
+    p = place_named name slots
+
+    each : p < length slots → is_live_named name (get_or slots p []) ≡ true → (k : ℕ) → k < length slots → (k ≡ p) ⊎ (k ≡ p → ⊥)
+        → get_or (set slots p (change (get_or slots p []))) k [] ≡ (if is_live_named name (get_or slots k []) then change (get_or slots k []) else get_or slots k [])
+    each within named k lt (inl e) =
+        ap (λ (j : ℕ). get_or (set slots p (change (get_or slots p []))) j []) e ∙ get_or-set_same slots p (change (get_or slots p [])) [] within
+        ∙ sym (ap (λ (j : ℕ). if is_live_named name (get_or slots j []) then change (get_or slots j []) else get_or slots j []) e ∙ ap (λ (b : Bool). if b then change (get_or slots p []) else get_or slots p []) named)
+    each within named k lt (inr ne) =
+        get_or-set_other slots p k (change (get_or slots p [])) [] ne
+        ∙ sym (ap (λ (b : Bool). if b then change (get_or slots k []) else get_or slots k []) (false_from_ne_true _ (λ here. ne (one_of_name n header slots name k p legal lt within here named))))
 
 -- ---- the slots
 
@@ -156,3 +197,72 @@ module _ (n : ℕ) (t : Tape) (v : Volume) (on : IsOn n t v) where
       live : (k : ℕ) → k < length v.slots → (k ≡ i) ⊎ (k ≡ i → ⊥) → is_end (get_or (set v.slots i entry) k []) ≡ false
       live k less (inl e) = ap (λ (j : ℕ). is_end (get_or (set v.slots i entry) j [])) e ∙ ap is_end (get_or-set_same v.slots i entry [] lt) ∙ kind
       live k less (inr ne) = ap is_end (get_or-set_other v.slots i k entry [] ne) ∙ on.volume.kinds k less
+
+  module _ (u : Tape) (sizes : (j : ℕ) → j < capacity_of v.header → length (entry_on u j) ≡ 32) (entry : List ℕ) (size : length entry ≡ 32) (kind : is_end entry ≡ false) where
+    -- one slot more
+    pub slot_push : length v.slots < capacity_of v.header → slots_of (with_slots start (last_slot (capacity_of v.header) u (length v.slots) entry) t) ≡ v.slots ++ entry ∷ []
+    slot_push lt =
+        slots_become (last_slot (capacity_of v.header) u (length v.slots) entry) (v.slots ++ entry ∷ []) (last_entries (capacity_of v.header) u (length v.slots) entry sizes lt size) (omega (arith, count, lt))
+        (λ k less. each k less (cases_eq k (length v.slots))) (λ k less. live k less (cases_eq k (length v.slots)))
+        (λ less. last_end (capacity_of v.header) u (length v.slots) (length (v.slots ++ entry ∷ [])) entry (entry_from t start (length (v.slots ++ entry ∷ []))) (omega (arith, count)) less sizes)
+      where
+        count : length (v.slots ++ entry ∷ []) ≡ length v.slots + 1
+        count = length_push v.slots entry
+
+        has : HasNew v.slots (v.slots ++ entry ∷ []) (length v.slots) entry (λ k. k)
+        has = push_new v.slots entry
+
+        each : (k : ℕ) → k < length (v.slots ++ entry ∷ []) → (k ≡ length v.slots) ⊎ (k ≡ length v.slots → ⊥)
+            → last_written (last_slot (capacity_of v.header) u (length v.slots) entry) k (entry_from t start k) ≡ get_or (v.slots ++ entry ∷ []) k []
+        each k less (inl e) =
+            ap (λ (j : ℕ). last_written (last_slot (capacity_of v.header) u (length v.slots) entry) j (entry_from t start k)) e
+            ∙ last_here (capacity_of v.header) u (length v.slots) entry (entry_from t start k) ∙ sym (ap (λ (j : ℕ). get_or (v.slots ++ entry ∷ []) j []) e ∙ has.here)
+        each k less (inr ne) =
+            let found = has.others k less ne in
+            last_before (capacity_of v.header) u (length v.slots) entry k (entry_from t start k) found.0 ∙ slot_here k found.0 ∙ sym found.1
+
+        live : (k : ℕ) → k < length (v.slots ++ entry ∷ []) → (k ≡ length v.slots) ⊎ (k ≡ length v.slots → ⊥) → is_end (get_or (v.slots ++ entry ∷ []) k []) ≡ false
+        live k less (inl e) = ap is_end (ap (λ (j : ℕ). get_or (v.slots ++ entry ∷ []) j []) e ∙ has.here) ∙ kind
+        live k less (inr ne) = let found = has.others k less ne in ap is_end found.1 ∙ on.volume.kinds k found.0
+
+    -- one slot before the last
+    pub slot_insert : (r : ℕ) → suc r ≡ length v.slots → length v.slots < capacity_of v.header
+        → slots_of (with_slots start ((r, entry) ∷ last_slot (capacity_of v.header) u (suc r) (get_or v.slots r [])) t) ≡ insert v.slots r entry
+    slot_insert r last lt =
+        slots_become ((r, entry) ∷ last_slot (capacity_of v.header) u (suc r) moved) (insert v.slots r entry)
+        (omega (arith, last, lt), size, last_entries (capacity_of v.header) u (suc r) moved sizes (omega (arith, last, lt)) (on.volume.entries r (omega (arith, last)))) (omega (arith, count, lt))
+        (λ k less. each k (omega (arith, less, count, last)) (cases_eq k r) (cases_lt k (suc r))) (λ k less. live k less (cases_eq k r))
+        (λ less. last_end (capacity_of v.header) u (suc r) (length (insert v.slots r entry)) moved (if r == length (insert v.slots r entry) then entry else entry_from t start (length (insert v.slots r entry)))
+        (omega (arith, count, last)) less sizes)
+      where
+        moved : List ℕ
+        moved = get_or v.slots r []
+
+        within : r ≤ length v.slots
+        within = omega (arith, last)
+
+        count : length (insert v.slots r entry) ≡ length v.slots + 1
+        count = length-insert v.slots r entry within
+
+        has : HasNew v.slots (insert v.slots r entry) r entry (before_insert r)
+        has = insert_new v.slots r entry within
+
+        each : (k : ℕ) → k < suc (suc r) → (k ≡ r) ⊎ (k ≡ r → ⊥) → (k < suc r) ⊎ (suc r ≤ k)
+            → last_written (last_slot (capacity_of v.header) u (suc r) moved) k (if r == k then entry else entry_from t start k) ≡ get_or (insert v.slots r entry) k []
+        each k less (inl e) under =
+            last_before (capacity_of v.header) u (suc r) moved k (if r == k then entry else entry_from t start k) (omega (arith, e))
+            ∙ ap (λ (b : Bool). if b then entry else entry_from t start k) (eq-eqb r k (sym e)) ∙ sym (ap (λ (j : ℕ). get_or (insert v.slots r entry) j []) e ∙ has.here)
+        each k less (inr ne) (inl under) =
+            let before : k < r = omega (arith, under, ne) in
+            last_before (capacity_of v.header) u (suc r) moved k (if r == k then entry else entry_from t start k) under
+            ∙ ap (λ (b : Bool). if b then entry else entry_from t start k) (ne_eqb r k (λ e. ne (sym e))) ∙ slot_here k (omega (arith, before, last))
+            ∙ sym (get_or-insert_below v.slots r entry [] k before within)
+        each k less (inr ne) (inr over) =
+            let at : k ≡ suc r = omega (arith, over, less) in
+            ap (λ (j : ℕ). last_written (last_slot (capacity_of v.header) u (suc r) moved) j (if r == k then entry else entry_from t start k)) at
+            ∙ last_here (capacity_of v.header) u (suc r) moved (if r == k then entry else entry_from t start k)
+            ∙ sym (ap (λ (j : ℕ). get_or (insert v.slots r entry) j []) (omega (arith, at)) ∙ get_or-insert_above v.slots r entry [] r (omega arith) within)
+
+        live : (k : ℕ) → k < length (insert v.slots r entry) → (k ≡ r) ⊎ (k ≡ r → ⊥) → is_end (get_or (insert v.slots r entry) k []) ≡ false
+        live k less (inl e) = ap is_end (ap (λ (j : ℕ). get_or (insert v.slots r entry) j []) e ∙ has.here) ∙ kind
+        live k less (inr ne) = let found = has.others k less ne in ap is_end found.1 ∙ on.volume.kinds (before_insert r k) found.0
