@@ -82,7 +82,7 @@ redo_entry_tells n version slot is =
 is_file_tells : (n : ℕ) (slot : List ℕ) → is_file n slot ≡ true → (is_live slot ≡ true) × (is_redo_file n slot ≡ false)
 is_file_tells n slot is = let both = and_parts (is_live slot) _ is in (both.0, not-true (is_redo_file n slot) both.1)
 
-holds_tells : (k : ℕ) (slot : List ℕ) → holds k slot ≡ true → (start_of slot ≤ k) × (k < end_of slot)
+pub holds_tells : (k : ℕ) (slot : List ℕ) → holds k slot ≡ true → (start_of slot ≤ k) × (k < end_of slot)
 holds_tells k slot is = let both = and_parts _ _ is in (leb-true (start_of slot) k both.0, ltb-true k (end_of slot) both.1)
 
 module _ (version : Version) (n : ℕ) (header : List ℕ) (slots : List (List ℕ)) (legal : IsLegal n header slots) (p : ℕ) (lt : p < length slots) (redo : is_redo_entry n version (get_or slots p []) ≡ true) where

@@ -27,3 +27,4 @@ pub mod Plain
 pub mod Named
 pub mod Writing
 pub mod Slotted
+pub mod Written

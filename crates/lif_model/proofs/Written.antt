@@ -1,0 +1,207 @@
+-- The volume of the tape that a command makes.
+use Rattle.std.proofs.Common.{◌≡◌, ◌≢◌, ◌⊎◌, ◌<◌, ◌≤◌, ◌+◌, ◌-◌, ◌*◌, ◌++◌, ◌&&◌, ◌||◌, ◌==◌, ℕ, zero, suc, nat_eq, List, [], ◌∷◌, Bool, true, false, not, if◌then◌else◌, Option, Some, None, length, get_or, set, insert, map, find, inl, inr, refl, sym, ◌∙◌, ap, subst, arith, length-set, get_or-set_same, get_or-set_other}
+use Rattle.std.specs.Prelude.{option_map}
+use Rattle.std.specs.List.{list_any}
+use Rattle.std.specs.Str.{bytes_eq}
+use Rattle.std.specs.FinMap.{get, remove}
+use Rattle.std.proofs.lemmas.Bool.{cases_eq, cases_Bool, and_parts, and_from, not-true, not-false, not_from_false, false_from_ne_true, lt-ltb}
+use Rattle.std.proofs.lemmas.List.{length-map, get_or-map}
+use Rattle.std.proofs.lemmas.Slice.Eq.{bytes_eq-Decides}
+use Rattle.lif_model.specs.Tape.{Tape, IsTape, record_at, bytes_from}
+use Rattle.lif_model.specs.Header.{directory_start, directory_length, directory_end, capacity_of}
+use Rattle.lif_model.specs.Directory.{name_of, type_of, start_of, length_of, is_end, slots_of}
+use Rattle.lif_model.specs.Made.{with_name, with_type}
+use Rattle.lif_model.specs.Redo.{Version, changed}
+use Rattle.lif_model.specs.Legal.{is_live, occupies, end_of, holds, is_live_named, has_file, is_legal_with, is_legal, IsLegal}
+use Rattle.lif_model.specs.Volume.{redo_name, is_redo_entry, is_adopted_with, is_redo_file, is_adopted, Files, is_file, content_of, file_named, files_of, Volume, volume_in, IsVolume, IsAdopted}
+use Rattle.lif_model.specs.Apply.{Purge, Rename, IsWellFormed, lacks_redo, is_protected, checks_of, refusal_of, with_slot, volume_after}
+use Rattle.lif_model.specs.Writing.{place_named, changed_slot, SlotWrites, with_slots, changes_by, written_by}
+use Rattle.lif_model.proofs.Lists.{any_at, any_from, none_at}
+use Rattle.lif_model.proofs.Legal.{legal_from}
+use Rattle.lif_model.proofs.Slots.{live_named_tells, other_name, slot_cases}
+use Rattle.lif_model.proofs.Made.{named_name, named_type, named_start, named_length, named_size, typed_type, typed_size}
+use Rattle.lif_model.proofs.Volume.{content_agree}
+use Rattle.lif_model.proofs.Files.{get_file, get_removed, get_moved, same_files}
+use Rattle.lif_model.proofs.Apply.{NoneMet, none_met, redo_file_tells, not_redo_name, purged_is_dead, purge_is_adopted, rename_is_adopted}
+use Rattle.lif_model.proofs.Adopted.{holds_tells, redo_entry_tells}
+use Rattle.lif_model.proofs.Named.{named_at_place}
+use Rattle.lif_model.proofs.Directory.{volume_tells, volume_from}
+use Rattle.lif_model.proofs.Writing.{AreEntries, untouched, slots_elsewhere, slots_shape, changes_write}
+use Rattle.lif_model.proofs.Slotted.{IsOn, is_on, changed_is_set, header_stays, slot_set}
+
+-- ---- a volume by its parts
+
+bytes_differ : (a b : List ℕ) → a ≢ b → bytes_eq a b ≡ false
+bytes_differ a b ne = false_from_ne_true _ (λ e. ne ((bytes_eq-Decides a b).0 e))
+
+-- what a file is
+file_is_live : (n : ℕ) (slot : List ℕ) → is_file n slot ≡ true → is_live slot ≡ true
+file_is_live n slot file = (and_parts (is_live slot) _ file).0
+
+-- a live slot of another name than the redo file's
+live_is_file : (n : ℕ) (slot : List ℕ) → is_live slot ≡ true → name_of slot ≢ redo_name → is_file n slot ≡ true
+live_is_file n slot live other = and_from _ _ live (not_from_false _ (false_from_ne_true _ (λ redo. other (redo_file_tells n slot redo).0)))
+
+find_none : (p : List ℕ → Bool) (xs : List (List ℕ)) → list_any p xs ≡ false → find p xs ≡ None
+find_none p [] none = refl
+find_none p (x ∷ xs) none = go (p x) none (find_none p xs)
+  where
+    go : (b : Bool) → (b || list_any p xs) ≡ false → (list_any p xs ≡ false → find p xs ≡ None) → (if b then Some x else find p xs) ≡ None
+    go true none rest = cc
+    go false none rest = rest none
+
+-- each file of these slots, and no other, is in the map, with the bytes of its extent
+pub record AreFiles (n : ℕ) (x : Tape) (slots : List (List ℕ)) (files : Files) : Type 0 where
+  pub there : (k : ℕ) → k < length slots → is_file n (get_or slots k []) ≡ true → get files (name_of (get_or slots k [])) ≡ Some (content_of x (get_or slots k []))
+  pub no_other : (name : List ℕ) → ((k : ℕ) → k < length slots → is_file n (get_or slots k []) ≡ true → name_of (get_or slots k []) ≢ name) → get files name ≡ None
+
+module _ (n : ℕ) (x : Tape) (header : List ℕ) (slots : List (List ℕ)) (size : n ≡ length x) (legal : IsLegal n header slots) where
+  pub files_are : AreFiles n x slots (files_of x slots)
+  files_are = record {
+    there = λ k lt file. get_file x slots n (name_of (get_or slots k [])) size
+        ∙ ap (option_map (content_of x)) (named_at_place n header slots legal (name_of (get_or slots k [])) k lt (and_from _ _ file ((bytes_eq-Decides (name_of (get_or slots k [])) (name_of (get_or slots k []))).1 refl)));
+    no_other = λ name none. get_file x slots n name size ∙ ap (option_map (content_of x)) (find_none (λ slot. is_file n slot && bytes_eq name (name_of slot)) slots
+        (false_from_ne_true _ (λ any.
+        let found = any_at [] (λ slot. is_file n slot && bytes_eq name (name_of slot)) slots any in
+        let both = and_parts (is_file n (get_or slots found.0 [])) _ found.2 in
+        none found.0 found.1 both.0 (sym ((bytes_eq-Decides name (name_of (get_or slots found.0 []))).0 both.1)))));
+  }
+
+  pub files_same : (files : Files) → AreFiles n x slots files → files_of x slots ≡ files
+  files_same files are = same_files (files_of x slots) files (λ name. go name (cases_Bool (list_any (λ slot. is_file n slot && bytes_eq name (name_of slot)) slots)))
+    where
+      go : (name : List ℕ) → (list_any (λ slot. is_file n slot && bytes_eq name (name_of slot)) slots ≡ true) ⊎ (list_any (λ slot. is_file n slot && bytes_eq name (name_of slot)) slots ≡ false) → get (files_of x slots) name ≡ get files name
+      go name (inl any) =
+          let found = any_at [] (λ slot. is_file n slot && bytes_eq name (name_of slot)) slots any in
+          let both = and_parts (is_file n (get_or slots found.0 [])) _ found.2 in
+          let same : name ≡ name_of (get_or slots found.0 []) = (bytes_eq-Decides name (name_of (get_or slots found.0 []))).0 both.1 in
+          ap (get (files_of x slots)) same ∙ files_are.there found.0 found.1 both.0 ∙ sym (are.there found.0 found.1 both.0) ∙ sym (ap (get files) same)
+      go name (inr none) =
+          let off : (k : ℕ) → k < length slots → is_file n (get_or slots k []) ≡ true → name_of (get_or slots k []) ≢ name = λ k lt file same.
+          let no : true ≡ false = sym (and_from _ _ file ((bytes_eq-Decides name (name_of (get_or slots k []))).1 (sym same))) ∙ none_at [] (λ slot. is_file n slot && bytes_eq name (name_of slot)) slots k none lt in cc in
+          files_are.no_other name off ∙ sym (are.no_other name off)
+
+  pub volume_by_parts : (files : Files) → record_at x 0 ≡ header → slots_of x ≡ slots → AreFiles n x slots files → volume_in x ≡ Some (record { header = header; slots = slots; files = files })
+  volume_by_parts files same_header same_slots are =
+      let legal_here : is_legal x ≡ true = (λ i. is_legal_with (sym size i) (same_header i) (same_slots i)) ∙ legal_from n header slots legal in
+      let same : files_of x (slots_of x) ≡ files = ap (files_of x) same_slots ∙ files_same files are in
+      volume_from x legal_here ∙ (λ i. Some (record { header = same_header i; slots = same_slots i; files = same i }))
+
+-- ---- what a command makes
+
+-- a tape has the later volume, which is adopted with each version with which the earlier one is
+pub record Makes (n : ℕ) (earlier later : Volume) (x : Tape) : Type 0 where
+  pub tape : IsTape n x
+  pub volume : volume_in x ≡ Some later
+  pub adopted : (version : Version) → is_adopted_with n version earlier.slots ≡ true → is_adopted_with n version later.slots ≡ true
+
+module _ (n : ℕ) (u : Tape) (v : Volume) (on : IsOn n u v) (kept : v.files ≡ files_of u v.slots) where
+  -- the files of the volume, one by one
+  pub old_files : AreFiles n u v.slots v.files
+  old_files = subst (AreFiles n u v.slots) (sym kept) (files_are n u v.header v.slots (sym on.tape.records) on.volume.legal)
+
+  -- a file whose records stay has its bytes
+  pub content_stays : (x : Tape) (k : ℕ) → k < length v.slots → is_live (get_or v.slots k []) ≡ true
+      → ((j : ℕ) → directory_end v.header ≤ j → holds j (get_or v.slots k []) ≡ true → record_at x j ≡ record_at u j) → content_of x (get_or v.slots k []) ≡ content_of u (get_or v.slots k [])
+  content_stays x k lt live same = content_agree x u (get_or v.slots k []) (λ j held.
+      let tells = holds_tells j (get_or v.slots k []) held in
+      let takes : occupies (get_or v.slots k []) ≡ true = and_from _ _ live (lt-ltb 0 (length_of (get_or v.slots k [])) (omega (arith, tells.0, tells.1))) in
+      same j (omega (arith, (on.volume.legal.within k lt takes).0, tells.0)) held)
+
+  -- writes of slots leave the records behind the directory
+  pub behind_stays : (t : Tape) (ws : SlotWrites) (j : ℕ) → AreEntries (capacity_of v.header) ws → directory_end v.header ≤ j → record_at (with_slots (directory_start v.header) ws t) j ≡ record_at t j
+  behind_stays t ws j are le = slots_elsewhere (directory_start v.header) ws t j (untouched (directory_start v.header) (directory_length v.header) ws j are (inr le))
+
+  -- the redo file's slot is not written
+  adopted_stays : (version : Version) (i : ℕ) (entry : List ℕ) → (is_redo_file n (get_or v.slots i []) ≡ true → ⊥) → is_adopted_with n version v.slots ≡ true → is_adopted_with n version (set v.slots i entry) ≡ true
+  adopted_stays version i entry other adopted =
+      let found = any_at [] (is_redo_entry n version) v.slots adopted in
+      let off : found.0 ≢ i = λ e. other (subst (λ (k : ℕ). is_redo_file n (get_or v.slots k []) ≡ true) e (redo_entry_tells n version (get_or v.slots found.0 []) found.2).0) in
+      any_from [] (is_redo_entry n version) (set v.slots i entry) found.0 (omega (arith, found.1, length-set v.slots i entry)) (ap (is_redo_entry n version) (get_or-set_other v.slots i found.0 entry [] off) ∙ found.2)
+
+  -- one slot is written, which is not the redo file's
+  set_makes : (i : ℕ) (entry : List ℕ) (later : List (List ℕ)) (files : Files) → i < length v.slots → length entry ≡ 32 → is_end entry ≡ false → set v.slots i entry ≡ later → IsLegal n v.header later
+      → (is_redo_file n (get_or v.slots i []) ≡ true → ⊥) → AreFiles n (with_slots (directory_start v.header) ((i, entry) ∷ []) u) later files
+      → Makes n v (record { header = v.header; slots = later; files = files }) (with_slots (directory_start v.header) ((i, entry) ∷ []) u)
+  set_makes i entry later files lt size kind same legal other are =
+      let ws : SlotWrites = (i, entry) ∷ [] in
+      let entries : AreEntries (capacity_of v.header) ws = (omega (arith, lt, on.volume.room), size, tt) in
+      let tape : IsTape n (with_slots (directory_start v.header) ws u) = slots_shape (directory_start v.header) n (directory_length v.header) ws u on.tape (omega (arith, on.ends)) entries in
+      record {
+        tape = tape;
+        volume = volume_by_parts n (with_slots (directory_start v.header) ws u) v.header later (sym tape.records) legal files
+            (header_stays n u v on ws entries ∙ sym on.header) (slot_set n u v on i entry lt size kind ∙ same) are;
+        adopted = λ version adopted. subst (λ (xs : List (List ℕ)). is_adopted_with n version xs ≡ true) same (adopted_stays version i entry other adopted);
+      }
+
+  -- the changes that a command makes of a tape without a file
+  changes_here : (ws : SlotWrites) → AreEntries (capacity_of v.header) ws → changed (changes_by (directory_start v.header) ws u) u ≡ with_slots (directory_start v.header) ws u
+  changes_here ws are = changes_write (directory_start v.header) (directory_length v.header) ws are n u u (omega (arith, on.ends)) on.tape.records on.tape.records (λ k low high. refl)
+
+  -- a slot that is named otherwise is not the redo file's
+  not_redo : (i : ℕ) (name : List ℕ) → is_live_named name (get_or v.slots i []) ≡ true → name ≢ redo_name → is_redo_file n (get_or v.slots i []) ≡ true → ⊥
+  not_redo i name named other redo = other (sym (live_named_tells name (get_or v.slots i []) named).1 ∙ (redo_file_tells n (get_or v.slots i []) redo).0)
+
+  is_adopted_volume : is_adopted n v.slots ≡ true → IsAdopted n v
+  is_adopted_volume adopted = record { volume = on.volume; adopted = adopted }
+
+  -- ---- purge
+
+  purge_files : (name : List ℕ) (x : Tape) → ((j : ℕ) → directory_end v.header ≤ j → record_at x j ≡ record_at u j) → AreFiles n x (with_slot name (with_type 0) v.slots) (remove v.files name)
+  purge_files name x behind = record {
+    there = λ k lt file.
+        let place = at k lt in
+        let stays = alive k place.0 (sym (ap is_live place.1) ∙ file_is_live n _ file) in
+        let same : get_or (with_slot name (with_type 0) v.slots) k [] ≡ get_or v.slots k [] = place.1 ∙ stays.0 in
+        let old_file : is_file n (get_or v.slots k []) ≡ true = sym (ap (is_file n) same) ∙ file in
+        let other : name_of (get_or v.slots k []) ≢ name = other_name name (get_or v.slots k []) stays.1 (file_is_live n _ old_file) in
+        ap (λ (slot : List ℕ). get (remove v.files name) (name_of slot)) same ∙ get_removed v.files name (name_of (get_or v.slots k []))
+        ∙ ap (λ (b : Bool). if b then None else get v.files (name_of (get_or v.slots k []))) (bytes_differ (name_of (get_or v.slots k [])) name other)
+        ∙ old_files.there k place.0 old_file ∙ ap Some (sym (content_stays x k place.0 (file_is_live n _ old_file) (λ j le held. behind j le)) ∙ sym (ap (content_of x) same));
+    no_other = λ q none. get_removed v.files name q ∙ gone q none (cases_Bool (bytes_eq q name));
+  }
+    where
+      change : List ℕ → List ℕ
+      change slot = if is_live_named name slot then with_type 0 slot else slot
+
+      at : (k : ℕ) → k < length (with_slot name (with_type 0) v.slots) → (k < length v.slots) × (get_or (with_slot name (with_type 0) v.slots) k [] ≡ (if is_live_named name (get_or v.slots k []) then with_type 0 (get_or v.slots k []) else get_or v.slots k []))
+      at k lt =
+          let less : k < length v.slots = omega (arith, lt, length-map v.slots (λ slot. if is_live_named name slot then with_type 0 slot else slot)) in
+          (less, get_or-map (λ slot. if is_live_named name slot then with_type 0 slot else slot) v.slots k [] [] less)
+
+      -- a slot that is live then was not purged
+      alive : (k : ℕ) → k < length v.slots → is_live (if is_live_named name (get_or v.slots k []) then with_type 0 (get_or v.slots k []) else get_or v.slots k []) ≡ true
+          → ((if is_live_named name (get_or v.slots k []) then with_type 0 (get_or v.slots k []) else get_or v.slots k []) ≡ get_or v.slots k []) × (is_live_named name (get_or v.slots k []) ≡ false)
+      alive k lt live = elim (slot_cases name (with_type 0) (get_or v.slots k [])) [
+        | inl both ↦ let no : true ≡ false = sym live ∙ ap is_live both.1 ∙ purged_is_dead (get_or v.slots k []) (on.volume.entries k lt) in cc
+        | inr both ↦ (both.1, both.0)
+      ]
+
+      gone : (q : List ℕ) → ((k : ℕ) → k < length (with_slot name (with_type 0) v.slots) → is_file n (get_or (with_slot name (with_type 0) v.slots) k []) ≡ true → name_of (get_or (with_slot name (with_type 0) v.slots) k []) ≢ q)
+          → (bytes_eq q name ≡ true) ⊎ (bytes_eq q name ≡ false) → (if bytes_eq q name then None else get v.files q) ≡ None
+      gone q none (inl e) = ap (λ (b : Bool). if b then None else get v.files q) e
+      gone q none (inr e) = ap (λ (b : Bool). if b then None else get v.files q) e ∙ old_files.no_other q (λ k lt file same.
+          let long : k < length (with_slot name (with_type 0) v.slots) = omega (arith, lt, length-map v.slots (λ slot. if is_live_named name slot then with_type 0 slot else slot)) in
+          elim (slot_cases name (with_type 0) (get_or v.slots k [])) [
+            | inl both ↦ let no : true ≡ false = sym ((bytes_eq-Decides q name).1 (sym same ∙ (live_named_tells name (get_or v.slots k []) both.0).1)) ∙ e in cc
+            | inr both ↦
+                let is : get_or (with_slot name (with_type 0) v.slots) k [] ≡ get_or v.slots k [] = (at k long).1 ∙ both.1 in
+                none k long (ap (is_file n) is ∙ file) (ap name_of is ∙ same)
+          ])
+
+  pub purge_makes : (name : List ℕ) → refusal_of n (Purge name) (Some v) ≡ None → Makes n v (volume_after n (Purge name) v) (written_by n (Purge name) v u)
+  purge_makes name none =
+      let unmet : NoneMet (checks_of n (Purge name) v) = none_met n (Purge name) v none in
+      let adopted : is_adopted n v.slots ≡ true = not-false (is_adopted n v.slots) unmet.0 in
+      let there : has_file v.slots name ≡ true = not-false (has_file v.slots name) unmet.1.1.0 in
+      let found = changed_is_set n v.header v.slots name (with_type 0) on.volume.legal there in
+      let slot : List ℕ = get_or v.slots (place_named name v.slots) [] in
+      let size : length (with_type 0 slot) ≡ 32 = typed_size 0 slot ∙ on.volume.entries (place_named name v.slots) found.0 in
+      let kind : is_end (with_type 0 slot) ≡ false = ap (λ (k : ℕ). k == 0xFFFF) (typed_type 0 slot (omega (arith, on.volume.entries (place_named name v.slots) found.0))) in
+      let ws : SlotWrites = changed_slot name (with_type 0) v.slots in
+      let are : AreEntries (capacity_of v.header) ws = (omega (arith, found.0, on.volume.room), size, tt) in
+      subst (Makes n v (volume_after n (Purge name) v)) (sym (changes_here ws are))
+      (set_makes (place_named name v.slots) (with_type 0 slot) (with_slot name (with_type 0) v.slots) (remove v.files name) found.0 size kind found.2
+      (purge_is_adopted n v name (is_adopted_volume adopted) none).volume.legal
+      (not_redo (place_named name v.slots) name found.1 (not_redo_name n v name adopted unmet.1.0))
+      (purge_files name (with_slots (directory_start v.header) ws u) (λ j le. behind_stays u ws j are le)))
