@@ -4,7 +4,7 @@ use Rattle.std.specs.Prelude.{option_map}
 use Rattle.std.specs.List.{list_any}
 use Rattle.std.specs.Str.{bytes_eq}
 use Rattle.std.specs.FinMap.{get, remove}
-use Rattle.std.proofs.lemmas.Bool.{cases_eq, cases_Bool, and_parts, and_from, not-true, not-false, not_from_false, false_from_ne_true, lt-ltb}
+use Rattle.std.proofs.lemmas.Bool.{cases_eq, cases_Bool, and_parts, and_from, and_cases, or_parts, not-true, not-false, not_from_false, false_from_ne_true, lt-ltb}
 use Rattle.std.proofs.lemmas.List.{length-map, get_or-map}
 use Rattle.std.proofs.lemmas.Slice.Eq.{bytes_eq-Decides}
 use Rattle.lif_model.specs.Tape.{Tape, IsTape, record_at, bytes_from}
@@ -14,7 +14,7 @@ use Rattle.lif_model.specs.Made.{with_name, with_type}
 use Rattle.lif_model.specs.Redo.{Version, changed}
 use Rattle.lif_model.specs.Legal.{is_live, occupies, end_of, holds, is_live_named, has_file, is_legal_with, is_legal, IsLegal}
 use Rattle.lif_model.specs.Volume.{redo_name, is_redo_entry, is_adopted_with, is_redo_file, is_adopted, Files, is_file, content_of, file_named, files_of, Volume, volume_in, IsVolume, IsAdopted}
-use Rattle.lif_model.specs.Apply.{Purge, Rename, IsWellFormed, lacks_redo, is_protected, checks_of, refusal_of, with_slot, volume_after}
+use Rattle.lif_model.specs.Apply.{Purge, Rename, IsWellFormed, is_protected, checks_of, refusal_of, with_slot, moved_key, renamed, volume_after}
 use Rattle.lif_model.specs.Writing.{place_named, changed_slot, SlotWrites, with_slots, changes_by, written_by}
 use Rattle.lif_model.proofs.Lists.{any_at, any_from, none_at}
 use Rattle.lif_model.proofs.Legal.{legal_from}
@@ -23,7 +23,7 @@ use Rattle.lif_model.proofs.Made.{named_name, named_type, named_start, named_len
 use Rattle.lif_model.proofs.Volume.{content_agree}
 use Rattle.lif_model.proofs.Files.{get_file, get_removed, get_moved, same_files}
 use Rattle.lif_model.proofs.Apply.{NoneMet, none_met, redo_file_tells, not_redo_name, purged_is_dead, purge_is_adopted, rename_is_adopted}
-use Rattle.lif_model.proofs.Adopted.{holds_tells, redo_entry_tells}
+use Rattle.lif_model.proofs.Adopted.{holds_tells, one_of_name, redo_entry_tells}
 use Rattle.lif_model.proofs.Named.{named_at_place}
 use Rattle.lif_model.proofs.Directory.{volume_tells, volume_from}
 use Rattle.lif_model.proofs.Writing.{AreEntries, untouched, slots_elsewhere, slots_shape, changes_write}
@@ -95,10 +95,22 @@ pub record Makes (n : ℕ) (earlier later : Volume) (x : Tape) : Type 0 where
   pub volume : volume_in x ≡ Some later
   pub adopted : (version : Version) → is_adopted_with n version earlier.slots ≡ true → is_adopted_with n version later.slots ≡ true
 
-module _ (n : ℕ) (u : Tape) (v : Volume) (on : IsOn n u v) (kept : v.files ≡ files_of u v.slots) where
+-- the slots where the one of a name is changed, one by one
+changed_at : (name : List ℕ) (change : List ℕ → List ℕ) (slots : List (List ℕ)) (k : ℕ) → k < length (with_slot name change slots)
+    → (k < length slots) × (get_or (with_slot name change slots) k [] ≡ (if is_live_named name (get_or slots k []) then change (get_or slots k []) else get_or slots k []))
+changed_at name change slots k lt =
+    let less : k < length slots = omega (arith, lt, length-map slots (λ slot. if is_live_named name slot then change slot else slot)) in
+    (less, get_or-map (λ slot. if is_live_named name slot then change slot else slot) slots k [] [] less)
+
+module _ (n : ℕ) (u : Tape) (v : Volume) (tape : IsTape n u) (is : volume_in u ≡ Some v) where
+  on : IsOn n u v
+  on = is_on n u v tape is
+
   -- the files of the volume, one by one
   pub old_files : AreFiles n u v.slots v.files
-  old_files = subst (AreFiles n u v.slots) (sym kept) (files_are n u v.header v.slots (sym on.tape.records) on.volume.legal)
+  old_files =
+      let tells = volume_tells u v is in
+      subst (AreFiles n u v.slots) (sym (tells.3 ∙ sym (ap (files_of u) tells.2))) (files_are n u v.header v.slots (sym on.tape.records) on.volume.legal)
 
   -- a file whose records stay has its bytes
   pub content_stays : (x : Tape) (k : ℕ) → k < length v.slots → is_live (get_or v.slots k []) ≡ true
@@ -150,7 +162,7 @@ module _ (n : ℕ) (u : Tape) (v : Volume) (on : IsOn n u v) (kept : v.files ≡
   purge_files : (name : List ℕ) (x : Tape) → ((j : ℕ) → directory_end v.header ≤ j → record_at x j ≡ record_at u j) → AreFiles n x (with_slot name (with_type 0) v.slots) (remove v.files name)
   purge_files name x behind = record {
     there = λ k lt file.
-        let place = at k lt in
+        let place = changed_at name (with_type 0) v.slots k lt in
         let stays = alive k place.0 (sym (ap is_live place.1) ∙ file_is_live n _ file) in
         let same : get_or (with_slot name (with_type 0) v.slots) k [] ≡ get_or v.slots k [] = place.1 ∙ stays.0 in
         let old_file : is_file n (get_or v.slots k []) ≡ true = sym (ap (is_file n) same) ∙ file in
@@ -161,14 +173,6 @@ module _ (n : ℕ) (u : Tape) (v : Volume) (on : IsOn n u v) (kept : v.files ≡
     no_other = λ q none. get_removed v.files name q ∙ gone q none (cases_Bool (bytes_eq q name));
   }
     where
-      change : List ℕ → List ℕ
-      change slot = if is_live_named name slot then with_type 0 slot else slot
-
-      at : (k : ℕ) → k < length (with_slot name (with_type 0) v.slots) → (k < length v.slots) × (get_or (with_slot name (with_type 0) v.slots) k [] ≡ (if is_live_named name (get_or v.slots k []) then with_type 0 (get_or v.slots k []) else get_or v.slots k []))
-      at k lt =
-          let less : k < length v.slots = omega (arith, lt, length-map v.slots (λ slot. if is_live_named name slot then with_type 0 slot else slot)) in
-          (less, get_or-map (λ slot. if is_live_named name slot then with_type 0 slot else slot) v.slots k [] [] less)
-
       -- a slot that is live then was not purged
       alive : (k : ℕ) → k < length v.slots → is_live (if is_live_named name (get_or v.slots k []) then with_type 0 (get_or v.slots k []) else get_or v.slots k []) ≡ true
           → ((if is_live_named name (get_or v.slots k []) then with_type 0 (get_or v.slots k []) else get_or v.slots k []) ≡ get_or v.slots k []) × (is_live_named name (get_or v.slots k []) ≡ false)
@@ -185,7 +189,7 @@ module _ (n : ℕ) (u : Tape) (v : Volume) (on : IsOn n u v) (kept : v.files ≡
           elim (slot_cases name (with_type 0) (get_or v.slots k [])) [
             | inl both ↦ let no : true ≡ false = sym ((bytes_eq-Decides q name).1 (sym same ∙ (live_named_tells name (get_or v.slots k []) both.0).1)) ∙ e in cc
             | inr both ↦
-                let is : get_or (with_slot name (with_type 0) v.slots) k [] ≡ get_or v.slots k [] = (at k long).1 ∙ both.1 in
+                let is : get_or (with_slot name (with_type 0) v.slots) k [] ≡ get_or v.slots k [] = (changed_at name (with_type 0) v.slots k long).1 ∙ both.1 in
                 none k long (ap (is_file n) is ∙ file) (ap name_of is ∙ same)
           ])
 
@@ -205,3 +209,118 @@ module _ (n : ℕ) (u : Tape) (v : Volume) (on : IsOn n u v) (kept : v.files ≡
       (purge_is_adopted n v name (is_adopted_volume adopted) none).volume.legal
       (not_redo (place_named name v.slots) name found.1 (not_redo_name n v name adopted unmet.1.0))
       (purge_files name (with_slots (directory_start v.header) ws u) (λ j le. behind_stays u ws j are le)))
+
+  -- ---- rename
+
+  rename_files : (old later : List ℕ) (x : Tape) → length later ≡ 10 → old ≢ later → old ≢ redo_name → later ≢ redo_name → has_file v.slots old ≡ true → has_file v.slots later ≡ false
+      → ((j : ℕ) → directory_end v.header ≤ j → record_at x j ≡ record_at u j) → AreFiles n x (with_slot old (with_name later) v.slots) (renamed v old later).files
+  rename_files old later x ten apart off_old off_later there none_later behind = record {
+    there = λ k lt file.
+        let place = changed_at old (with_name later) v.slots k lt in
+        ap (λ (slot : List ℕ). get (renamed v old later).files (name_of slot)) place.1
+        ∙ each k place.0 (sym (ap (is_file n) place.1) ∙ file) (slot_cases old (with_name later) (get_or v.slots k []))
+        ∙ ap Some (sym (ap (content_of x) place.1));
+    no_other = λ q none. gets q ∙ gone q none (cases_Bool (bytes_eq q later)) (cases_Bool (bytes_eq q old));
+  }
+    where
+      found : (place_named old v.slots < length v.slots) × (is_live_named old (get_or v.slots (place_named old v.slots) []) ≡ true)
+          × (set v.slots (place_named old v.slots) (with_name later (get_or v.slots (place_named old v.slots) [])) ≡ with_slot old (with_name later) v.slots)
+      found = changed_is_set n v.header v.slots old (with_name later) on.volume.legal there
+
+      slot : List ℕ
+      slot = get_or v.slots (place_named old v.slots) []
+
+      had : get v.files old ≡ Some (content_of u slot)
+      had =
+          let tells = live_named_tells old slot found.1 in
+          sym (ap (get v.files) tells.1) ∙ old_files.there (place_named old v.slots) found.0 (live_is_file n slot tells.0 (λ redo. off_old (sym tells.1 ∙ redo)))
+
+      gets : (q : List ℕ) → get (renamed v old later).files q ≡ (if bytes_eq q later then Some (content_of u slot) else (if bytes_eq q old then None else get v.files q))
+      gets q = ap (λ (o : Option (List ℕ)). get (moved_key v.files old later o) q) had ∙ get_moved v.files old later (content_of u slot) q
+
+      -- another name leaves the extent
+      content_named : (k : ℕ) → k < length v.slots → is_live (get_or v.slots k []) ≡ true → content_of x (with_name later (get_or v.slots k [])) ≡ content_of u (get_or v.slots k [])
+      content_named k lt live =
+          (λ i. bytes_from x (named_start later (get_or v.slots k []) ten i) (named_length later (get_or v.slots k []) ten i))
+          ∙ content_stays x k lt live (λ j le held. behind j le)
+
+      each : (k : ℕ) → k < length v.slots → is_file n (if is_live_named old (get_or v.slots k []) then with_name later (get_or v.slots k []) else get_or v.slots k []) ≡ true
+          → ((is_live_named old (get_or v.slots k []) ≡ true) × ((if is_live_named old (get_or v.slots k []) then with_name later (get_or v.slots k []) else get_or v.slots k []) ≡ with_name later (get_or v.slots k [])))
+          ⊎ ((is_live_named old (get_or v.slots k []) ≡ false) × ((if is_live_named old (get_or v.slots k []) then with_name later (get_or v.slots k []) else get_or v.slots k []) ≡ get_or v.slots k []))
+          → get (renamed v old later).files (name_of (if is_live_named old (get_or v.slots k []) then with_name later (get_or v.slots k []) else get_or v.slots k []))
+          ≡ Some (content_of x (if is_live_named old (get_or v.slots k []) then with_name later (get_or v.slots k []) else get_or v.slots k []))
+      each k lt file (inl both) =
+          let tells = live_named_tells old (get_or v.slots k []) both.0 in
+          let same : k ≡ place_named old v.slots = one_of_name n v.header v.slots old k (place_named old v.slots) on.volume.legal lt found.0 both.0 found.1 in
+          ap (λ (s : List ℕ). get (renamed v old later).files (name_of s)) both.1 ∙ ap (get (renamed v old later).files) (named_name later (get_or v.slots k []) ten) ∙ gets later
+          ∙ ap (λ (b : Bool). if b then Some (content_of u slot) else (if bytes_eq later old then None else get v.files later)) ((bytes_eq-Decides later later).1 refl)
+          ∙ ap Some (sym (ap (λ (j : ℕ). content_of u (get_or v.slots j [])) same) ∙ sym (content_named k lt tells.0) ∙ sym (ap (content_of x) both.1))
+      each k lt file (inr both) =
+          let old_file : is_file n (get_or v.slots k []) ≡ true = sym (ap (is_file n) both.1) ∙ file in
+          let live = file_is_live n (get_or v.slots k []) old_file in
+          ap (λ (s : List ℕ). get (renamed v old later).files (name_of s)) both.1 ∙ gets (name_of (get_or v.slots k []))
+          ∙ (λ i. if bytes_differ (name_of (get_or v.slots k [])) later (other_name later (get_or v.slots k []) (none_at [] (is_live_named later) v.slots k none_later lt) live) i then Some (content_of u slot)
+          else (if bytes_differ (name_of (get_or v.slots k [])) old (other_name old (get_or v.slots k []) both.0 live) i then None else get v.files (name_of (get_or v.slots k []))))
+          ∙ old_files.there k lt old_file ∙ ap Some (sym (content_stays x k lt live (λ j le held. behind j le)) ∙ sym (ap (content_of x) both.1))
+
+      gone : (q : List ℕ) → ((k : ℕ) → k < length (with_slot old (with_name later) v.slots) → is_file n (get_or (with_slot old (with_name later) v.slots) k []) ≡ true → name_of (get_or (with_slot old (with_name later) v.slots) k []) ≢ q)
+          → (bytes_eq q later ≡ true) ⊎ (bytes_eq q later ≡ false) → (bytes_eq q old ≡ true) ⊎ (bytes_eq q old ≡ false)
+          → (if bytes_eq q later then Some (content_of u slot) else (if bytes_eq q old then None else get v.files q)) ≡ None
+      gone q none (inl e) is_old =
+          let long : place_named old v.slots < length (with_slot old (with_name later) v.slots) = omega (arith, found.0, length-map v.slots (λ s. if is_live_named old s then with_name later s else s)) in
+          let now : get_or (with_slot old (with_name later) v.slots) (place_named old v.slots) [] ≡ with_name later slot =
+          (changed_at old (with_name later) v.slots (place_named old v.slots) long).1 ∙ ap (λ (b : Bool). if b then with_name later slot else slot) found.1 in
+          let live : is_live (with_name later slot) ≡ true = ap (λ (t : ℕ). not (t == 0)) (named_type later slot ten) ∙ (live_named_tells old slot found.1).0 in
+          let file : is_file n (with_name later slot) ≡ true = live_is_file n (with_name later slot) live (λ redo. off_later (sym (named_name later slot ten) ∙ redo)) in
+          absurd (none (place_named old v.slots) long (ap (is_file n) now ∙ file) (ap name_of now ∙ named_name later slot ten ∙ sym ((bytes_eq-Decides q later).0 e)))
+      gone q none (inr e) (inl f) = λ i. if e i then Some (content_of u slot) else (if f i then None else get v.files q)
+      gone q none (inr e) (inr f) = (λ i. if e i then Some (content_of u slot) else (if f i then None else get v.files q)) ∙ old_files.no_other q (λ k lt file same.
+          let long : k < length (with_slot old (with_name later) v.slots) = omega (arith, lt, length-map v.slots (λ s. if is_live_named old s then with_name later s else s)) in
+          elim (slot_cases old (with_name later) (get_or v.slots k [])) [
+            | inl both ↦ let no : true ≡ false = sym ((bytes_eq-Decides q old).1 (sym same ∙ (live_named_tells old (get_or v.slots k []) both.0).1)) ∙ f in cc
+            | inr both ↦
+                let here : get_or (with_slot old (with_name later) v.slots) k [] ≡ get_or v.slots k [] = (changed_at old (with_name later) v.slots k long).1 ∙ both.1 in
+                none k long (ap (is_file n) here ∙ file) (ap name_of here ∙ same)
+          ])
+
+  -- nothing is written
+  nothing_makes : (written : Tape) (later : Volume) → written ≡ u → later ≡ v → Makes n v later written
+  nothing_makes written later same_tape same = record {
+    tape = subst (IsTape n) (sym same_tape) tape;
+    volume = ap volume_in same_tape ∙ is ∙ ap Some (sym same);
+    adopted = λ version adopted. subst (λ (w : Volume). is_adopted_with n version w.slots ≡ true) (sym same) adopted;
+  }
+
+  pub rename_makes : (old later : List ℕ) → IsWellFormed (Rename old later) → refusal_of n (Rename old later) (Some v) ≡ None → Makes n v (volume_after n (Rename old later) v) (written_by n (Rename old later) v u)
+  rename_makes old later formed none = go (bytes_eq old later) refl
+    where
+      unmet : NoneMet (checks_of n (Rename old later) v)
+      unmet = none_met n (Rename old later) v none
+
+      go : (b : Bool) → bytes_eq old later ≡ b → Makes n v (volume_after n (Rename old later) v) (written_by n (Rename old later) v u)
+      go true e = nothing_makes (written_by n (Rename old later) v u) (volume_after n (Rename old later) v)
+          (ap (λ (b : Bool). changed (changes_by (directory_start v.header) (if b then [] else changed_slot old (with_name later) v.slots) u) u) e) (ap (λ (b : Bool). if b then v else renamed v old later) e)
+      go false e =
+          let adopted : is_adopted n v.slots ≡ true = not-false (is_adopted n v.slots) unmet.0 in
+          let there : has_file v.slots old ≡ true = not-false (has_file v.slots old) unmet.1.1.0 in
+          let names = or_parts (is_protected n v old) (is_protected n v later) unmet.1.0 in
+          let apart : old ≢ later = λ same. let no : true ≡ false = sym ((bytes_eq-Decides old later).1 same) ∙ e in cc in
+          let none_later : has_file v.slots later ≡ false = elim (and_cases (has_file v.slots later) (not (bytes_eq old later)) unmet.1.1.1.0) [
+            | inl off ↦ off
+            | inr off ↦ let no : true ≡ false = sym (not_from_false _ e) ∙ off in cc
+          ] in
+          let p : ℕ = place_named old v.slots in
+          let found = changed_is_set n v.header v.slots old (with_name later) on.volume.legal there in
+          let slot : List ℕ = get_or v.slots p [] in
+          let size : length (with_name later slot) ≡ 32 = named_size later slot formed.1 (on.volume.entries p found.0) in
+          let kind : is_end (with_name later slot) ≡ false = ap (λ (k : ℕ). k == 0xFFFF) (named_type later slot formed.1) ∙ on.volume.kinds p found.0 in
+          let ws : SlotWrites = changed_slot old (with_name later) v.slots in
+          let are : AreEntries (capacity_of v.header) ws = (omega (arith, found.0, on.volume.room), size, tt) in
+          let legal : IsLegal n v.header (with_slot old (with_name later) v.slots) =
+          subst (λ (b : Bool). IsLegal n (if b then v else renamed v old later).header (if b then v else renamed v old later).slots) e (rename_is_adopted n v old later (is_adopted_volume adopted) formed none).volume.legal in
+          subst (λ (b : Bool). Makes n v (if b then v else renamed v old later) (changed (changes_by (directory_start v.header) (if b then [] else changed_slot old (with_name later) v.slots) u) u)) (sym e)
+          (subst (Makes n v (renamed v old later)) (sym (changes_here ws are))
+          (set_makes p (with_name later slot) (with_slot old (with_name later) v.slots) (renamed v old later).files found.0 size kind found.2 legal
+          (not_redo p old found.1 (not_redo_name n v old adopted names.0))
+          (rename_files old later (with_slots (directory_start v.header) ws u) formed.1 apart (not_redo_name n v old adopted names.0) (not_redo_name n v later adopted names.1) there none_later
+          (λ j le. behind_stays u ws j are le))))
