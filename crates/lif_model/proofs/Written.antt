@@ -1,33 +1,33 @@
 -- The volume of the tape that a command makes.
-use Rattle.std.proofs.Common.{◌≡◌, ◌≢◌, ◌⊎◌, ◌<◌, ◌≤◌, ◌+◌, ◌-◌, ◌*◌, ◌++◌, ◌&&◌, ◌||◌, ◌==◌, ℕ, zero, suc, nat_eq, List, [], ◌∷◌, Bool, true, false, not, if◌then◌else◌, Option, Some, None, length, get_or, set, insert, map, find, inl, inr, refl, sym, ◌∙◌, ap, subst, arith, length-set, get_or-set_same, get_or-set_other}
+use Rattle.std.proofs.Common.{◌≡◌, ◌≢◌, ◌⊎◌, ◌<◌, ◌≤◌, ◌+◌, ◌-◌, ◌*◌, ◌++◌, ◌&&◌, ◌||◌, ◌==◌, ℕ, zero, suc, nat_eq, List, [], ◌∷◌, Bool, true, false, not, if◌then◌else◌, Option, Some, None, length, get_or, set, insert, map, find, replicate, inl, inr, refl, sym, ◌∙◌, ap, subst, arith, length-set, get_or-set_same, get_or-set_other}
 use Rattle.std.specs.Prelude.{option_map}
 use Rattle.std.specs.List.{list_any}
 use Rattle.std.specs.Str.{bytes_eq}
 use Rattle.std.specs.FinMap.{get, remove}
-use Rattle.std.proofs.lemmas.Bool.{cases_eq, cases_Bool, and_parts, and_from, and_cases, or_parts, not-true, not-false, not_from_false, false_from_ne_true, lt-ltb}
-use Rattle.std.proofs.lemmas.List.{length-map, get_or-map}
+use Rattle.std.proofs.lemmas.Bool.{cases_eq, cases_Bool, and_parts, and_from, and_cases, or_parts, and_right, not-true, not-false, not_from_true, not_from_false, eq-eqb, leb-false, false_from_ne_true, lt-ltb}
+use Rattle.std.proofs.lemmas.List.{length-map, get_or-map, length_push, get_or_append_left}
 use Rattle.std.proofs.lemmas.Slice.Eq.{bytes_eq-Decides}
 use Rattle.lif_model.specs.Tape.{Tape, IsTape, record_at, bytes_from}
 use Rattle.lif_model.specs.Header.{directory_start, directory_length, directory_end, capacity_of}
 use Rattle.lif_model.specs.Directory.{name_of, type_of, start_of, length_of, is_end, slots_of}
 use Rattle.lif_model.specs.Made.{with_name, with_type}
-use Rattle.lif_model.specs.Redo.{Version, changed}
+use Rattle.lif_model.specs.Redo.{Version, One, redo_start, changed}
 use Rattle.lif_model.specs.Legal.{is_live, occupies, end_of, holds, is_live_named, has_file, is_legal_with, is_legal, IsLegal}
-use Rattle.lif_model.specs.Volume.{redo_name, is_redo_entry, is_adopted_with, is_redo_file, is_adopted, Files, is_file, content_of, file_named, files_of, Volume, volume_in, IsVolume, IsAdopted}
-use Rattle.lif_model.specs.Apply.{Purge, Rename, IsWellFormed, is_protected, checks_of, refusal_of, with_slot, moved_key, renamed, volume_after}
-use Rattle.lif_model.specs.Writing.{place_named, changed_slot, SlotWrites, with_slots, changes_by, written_by}
+use Rattle.lif_model.specs.Volume.{redo_name, redo_type, redo_entry, is_redo_entry, is_adopted_with, is_redo_file, is_adopted, Files, is_file, content_of, file_named, files_of, Volume, volume_in, IsVolume, IsAdopted}
+use Rattle.lif_model.specs.Apply.{Purge, Rename, Adopt, IsWellFormed, lacks_redo, is_protected, is_full, checks_of, refusal_of, with_slot, moved_key, renamed, volume_after}
+use Rattle.lif_model.specs.Writing.{entry_on, last_slot, place_named, changed_slot, SlotWrites, with_slots, changes_by, written_by}
 use Rattle.lif_model.proofs.Lists.{any_at, any_from, none_at}
 use Rattle.lif_model.proofs.Legal.{legal_from}
-use Rattle.lif_model.proofs.Slots.{live_named_tells, other_name, slot_cases}
-use Rattle.lif_model.proofs.Made.{named_name, named_type, named_start, named_length, named_size, typed_type, typed_size}
+use Rattle.lif_model.proofs.Slots.{live_named_tells, other_name, slot_cases, push_new}
+use Rattle.lif_model.proofs.Made.{new_name, new_type, new_start, new_length, new_size, named_name, named_type, named_start, named_length, named_size, typed_type, typed_size}
 use Rattle.lif_model.proofs.Volume.{content_agree}
 use Rattle.lif_model.proofs.Files.{get_file, get_removed, get_moved, same_files}
-use Rattle.lif_model.proofs.Apply.{NoneMet, none_met, redo_file_tells, not_redo_name, purged_is_dead, purge_is_adopted, rename_is_adopted}
+use Rattle.lif_model.proofs.Apply.{NoneMet, none_met, redo_file_tells, not_redo_name, purged_is_dead, purge_is_adopted, rename_is_adopted, adopt_is_adopted, made_redo_file}
 use Rattle.lif_model.proofs.Adopted.{holds_tells, one_of_name, redo_entry_tells}
 use Rattle.lif_model.proofs.Named.{named_at_place}
 use Rattle.lif_model.proofs.Directory.{volume_tells, volume_from}
 use Rattle.lif_model.proofs.Writing.{AreEntries, untouched, slots_elsewhere, slots_shape, changes_write}
-use Rattle.lif_model.proofs.Slotted.{IsOn, is_on, changed_is_set, header_stays, slot_set}
+use Rattle.lif_model.proofs.Slotted.{IsOn, is_on, changed_is_set, last_entries, entry_on_size, header_stays, slot_set, slot_push}
 
 -- ---- a volume by its parts
 
@@ -324,3 +324,75 @@ module _ (n : ℕ) (u : Tape) (v : Volume) (tape : IsTape n u) (is : volume_in u
           (not_redo p old found.1 (not_redo_name n v old adopted names.0))
           (rename_files old later (with_slots (directory_start v.header) ws u) formed.1 apart (not_redo_name n v old adopted names.0) (not_redo_name n v later adopted names.1) there none_later
           (λ j le. behind_stays u ws j are le))))
+
+  -- ---- adopt
+
+  -- a slot more, which is no file
+  push_files : (new : List ℕ) (x : Tape) → is_file n new ≡ false → ((j : ℕ) → directory_end v.header ≤ j → record_at x j ≡ record_at u j) → AreFiles n x (v.slots ++ new ∷ []) v.files
+  push_files new x no_file behind = record {
+    there = λ k lt file. each k lt file (cases_eq k (length v.slots));
+    no_other = λ q none. old_files.no_other q (λ k lt file same.
+        let left : get_or (v.slots ++ new ∷ []) k [] ≡ get_or v.slots k [] = get_or_append_left v.slots (new ∷ []) [] k lt in
+        none k (omega (arith, lt, length_push v.slots new)) (ap (is_file n) left ∙ file) (ap name_of left ∙ same));
+  }
+    where
+      each : (k : ℕ) → k < length (v.slots ++ new ∷ []) → is_file n (get_or (v.slots ++ new ∷ []) k []) ≡ true → (k ≡ length v.slots) ⊎ (k ≡ length v.slots → ⊥)
+          → get v.files (name_of (get_or (v.slots ++ new ∷ []) k [])) ≡ Some (content_of x (get_or (v.slots ++ new ∷ []) k []))
+      each k lt file (inl e) = let no : true ≡ false = sym file ∙ ap (is_file n) (ap (λ (j : ℕ). get_or (v.slots ++ new ∷ []) j []) e ∙ (push_new v.slots new).here) ∙ no_file in cc
+      each k lt file (inr ne) =
+          let found = (push_new v.slots new).others k lt ne in
+          let old_file : is_file n (get_or v.slots k []) ≡ true = sym (ap (is_file n) found.1) ∙ file in
+          ap (λ (s : List ℕ). get v.files (name_of s)) found.1 ∙ old_files.there k found.0 old_file
+          ∙ ap Some (sym (content_stays x k found.0 (file_is_live n (get_or v.slots k []) old_file) (λ j le held. behind j le)) ∙ sym (ap (content_of x) found.1))
+
+  pub adopt_makes : refusal_of n Adopt (Some v) ≡ None → Makes n v (volume_after n Adopt v) (written_by n Adopt v u)
+  adopt_makes none = go (is_adopted n v.slots) refl
+    where
+      unmet : NoneMet (checks_of n Adopt v)
+      unmet = none_met n Adopt v none
+
+      go : (b : Bool) → is_adopted n v.slots ≡ b → Makes n v (volume_after n Adopt v) (written_by n Adopt v u)
+      go true e = nothing_makes (written_by n Adopt v u) (volume_after n Adopt v)
+          (ap (λ (b : Bool). changed (changes_by (directory_start v.header) (if b then [] else last_slot (capacity_of v.header) u (length v.slots) (redo_entry One n)) u) u) e)
+          (ap (λ (b : Bool). if b then v else record v { slots = v.slots ++ redo_entry One n ∷ [] }) e)
+      go false e =
+          let lacks : lacks_redo n v ≡ true = not_from_false _ e in
+          let fits : length v.slots < capacity_of v.header = leb-false (capacity_of v.header) (length v.slots) (sym (ap (λ (b : Bool). b && is_full v) lacks) ∙ unmet.1.0) in
+          let redo : List ℕ = redo_entry One n in
+          let later : List (List ℕ) = v.slots ++ redo ∷ [] in
+          let size : length redo ≡ 32 = new_size redo_name redo_type (redo_start One n) 4 (replicate 4 0) refl refl in
+          let kind : is_end redo ≡ false = ap (λ (k : ℕ). k == 0xFFFF) (new_type redo_name redo_type (redo_start One n) 4 (replicate 4 0) refl) in
+          let ws : SlotWrites = last_slot (capacity_of v.header) u (length v.slots) redo in
+          let sizes : (j : ℕ) → j < capacity_of v.header → length (entry_on u j) ≡ 32 = entry_on_size n u v on in
+          let are : AreEntries (capacity_of v.header) ws = last_entries (capacity_of v.header) u (length v.slots) redo sizes fits size in
+          let x : Tape = with_slots (directory_start v.header) ws u in
+          let made : IsTape n x = slots_shape (directory_start v.header) n (directory_length v.header) ws u tape (omega (arith, on.ends)) are in
+          let legal : IsLegal n v.header later =
+          subst (λ (b : Bool). IsLegal n (if b then v else record v { slots = v.slots ++ redo_entry One n ∷ [] }).header (if b then v else record v { slots = v.slots ++ redo_entry One n ∷ [] }).slots) e (adopt_is_adopted n v on.volume none).volume.legal in
+          let no_file : is_file n redo ≡ false = and_right _ _ (not_from_true _ (made_redo_file n)) in
+          subst (λ (b : Bool). Makes n v (if b then v else record v { slots = v.slots ++ redo_entry One n ∷ [] })
+          (changed (changes_by (directory_start v.header) (if b then [] else last_slot (capacity_of v.header) u (length v.slots) (redo_entry One n)) u) u)) (sym e)
+          (subst (Makes n v (record { header = v.header; slots = later; files = v.files })) (sym (changes_here ws are)) (record {
+            tape = made;
+            volume = volume_by_parts n x v.header later (sym made.records) legal v.files (header_stays n u v on ws are ∙ sym on.header) (slot_push n u v on u sizes redo size kind fits)
+                (push_files redo x no_file (λ j le. behind_stays u ws j are le));
+            adopted = λ version adopted.
+                let found = any_at [] (is_redo_entry n version) v.slots adopted in
+                any_from [] (is_redo_entry n version) later found.0 (omega (arith, found.1, length_push v.slots redo)) (ap (is_redo_entry n version) (get_or_append_left v.slots (redo ∷ []) [] found.0 found.1) ∙ found.2);
+          }))
+
+-- the entry that this project makes is one of version 1
+pub made_redo_entry : (n : ℕ) → is_redo_entry n One (redo_entry One n) ≡ true
+made_redo_entry n =
+    let zeros : List ℕ = replicate 4 0 in
+    and_from _ _ ((bytes_eq-Decides (name_of (redo_entry One n)) redo_name).1 (new_name redo_name redo_type (redo_start One n) 4 zeros refl))
+    (and_from _ _ (eq-eqb (type_of (redo_entry One n)) redo_type (new_type redo_name redo_type (redo_start One n) 4 zeros refl))
+    (and_from _ _ (eq-eqb (start_of (redo_entry One n)) (redo_start One n) (new_start redo_name redo_type (redo_start One n) 4 zeros refl))
+    (eq-eqb (length_of (redo_entry One n)) 4 (new_length redo_name redo_type (redo_start One n) 4 zeros refl))))
+
+-- a volume without a redo file is adopted with version 1 then
+pub adopt_adopts : (n : ℕ) (v : Volume) → is_adopted n v.slots ≡ false → is_adopted_with n One (volume_after n Adopt v).slots ≡ true
+adopt_adopts n v e =
+    let redo : List ℕ = redo_entry One n in
+    ap (λ (b : Bool). is_adopted_with n One (if b then v else record v { slots = v.slots ++ redo_entry One n ∷ [] }).slots) e
+    ∙ any_from [] (is_redo_entry n One) (v.slots ++ redo ∷ []) (length v.slots) (omega (arith, length_push v.slots redo)) (ap (is_redo_entry n One) (push_new v.slots redo).here ∙ made_redo_entry n)
