@@ -28,3 +28,4 @@ pub mod Named
 pub mod Writing
 pub mod Slotted
 pub mod Written
+pub mod Formatted
