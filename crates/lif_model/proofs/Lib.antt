@@ -29,3 +29,4 @@ pub mod Writing
 pub mod Slotted
 pub mod Written
 pub mod Formatted
+pub mod Recorded
