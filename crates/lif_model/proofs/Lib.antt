@@ -30,3 +30,4 @@ pub mod Slotted
 pub mod Written
 pub mod Formatted
 pub mod Recorded
+pub mod StoredFile

@@ -31,15 +31,15 @@ use Rattle.lif_model.proofs.Slotted.{IsOn, is_on, changed_is_set, last_entries, 
 
 -- ---- a volume by its parts
 
-bytes_differ : (a b : List ℕ) → a ≢ b → bytes_eq a b ≡ false
+pub bytes_differ : (a b : List ℕ) → a ≢ b → bytes_eq a b ≡ false
 bytes_differ a b ne = false_from_ne_true _ (λ e. ne ((bytes_eq-Decides a b).0 e))
 
 -- what a file is
-file_is_live : (n : ℕ) (slot : List ℕ) → is_file n slot ≡ true → is_live slot ≡ true
+pub file_is_live : (n : ℕ) (slot : List ℕ) → is_file n slot ≡ true → is_live slot ≡ true
 file_is_live n slot file = (and_parts (is_live slot) _ file).0
 
 -- a live slot of another name than the redo file's
-live_is_file : (n : ℕ) (slot : List ℕ) → is_live slot ≡ true → name_of slot ≢ redo_name → is_file n slot ≡ true
+pub live_is_file : (n : ℕ) (slot : List ℕ) → is_live slot ≡ true → name_of slot ≢ redo_name → is_file n slot ≡ true
 live_is_file n slot live other = and_from _ _ live (not_from_false _ (false_from_ne_true _ (λ redo. other (redo_file_tells n slot redo).0)))
 
 find_none : (p : List ℕ → Bool) (xs : List (List ℕ)) → list_any p xs ≡ false → find p xs ≡ None
@@ -125,7 +125,7 @@ module _ (n : ℕ) (u : Tape) (v : Volume) (tape : IsTape n u) (is : volume_in u
   behind_stays t ws j are le = slots_elsewhere (directory_start v.header) ws t j (untouched (directory_start v.header) (directory_length v.header) ws j are (inr le))
 
   -- the redo file's slot is not written
-  adopted_stays : (version : Version) (i : ℕ) (entry : List ℕ) → (is_redo_file n (get_or v.slots i []) ≡ true → ⊥) → is_adopted_with n version v.slots ≡ true → is_adopted_with n version (set v.slots i entry) ≡ true
+  pub adopted_stays : (version : Version) (i : ℕ) (entry : List ℕ) → (is_redo_file n (get_or v.slots i []) ≡ true → ⊥) → is_adopted_with n version v.slots ≡ true → is_adopted_with n version (set v.slots i entry) ≡ true
   adopted_stays version i entry other adopted =
       let found = any_at [] (is_redo_entry n version) v.slots adopted in
       let off : found.0 ≢ i = λ e. other (subst (λ (k : ℕ). is_redo_file n (get_or v.slots k []) ≡ true) e (redo_entry_tells n version (get_or v.slots found.0 []) found.2).0) in
