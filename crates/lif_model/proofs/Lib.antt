@@ -31,3 +31,4 @@ pub mod Written
 pub mod Formatted
 pub mod Recorded
 pub mod StoredFile
+pub mod Outcomes

@@ -1,0 +1,149 @@
+-- What a command leaves of a tape: what a stop in its commit may leave, and what stands after an Ok.
+use Rattle.std.proofs.Common.{◌≡◌, ◌≢◌, ◌⊎◌, ◌<◌, ◌≤◌, ◌+◌, ◌-◌, ◌*◌, ◌/◌, ◌++◌, ◌&&◌, ◌||◌, ◌==◌, ℕ, zero, suc, nat_lt, nat_le, nat_eq, List, [], ◌∷◌, Bool, true, false, not, if◌then◌else◌, Option, Some, None, length, get_or, filter, inl, inr, refl, sym, ◌∙◌, ap, subst, arith}
+use Rattle.std.specs.List.{list_any}
+use Rattle.std.specs.Str.{bytes_eq}
+use Rattle.std.proofs.lemmas.Bool.{cases_eq, cases_lt, cases_Bool, and_parts, and_from, and_left, and_right, or_cases, eqb-true, leb-true, ltb-true, ne_eqb, lt-ltb, not-false, not_from_true}
+use Rattle.lif_model.specs.Tape.{Tape, IsTape, record_at}
+use Rattle.lif_model.specs.Gate.{gate_of, is_open, has_open_gate}
+use Rattle.lif_model.specs.Header.{directory_start, directory_length, directory_end, capacity_of}
+use Rattle.lif_model.specs.Directory.{start_of, length_of, is_purged, slots_of}
+use Rattle.lif_model.specs.Made.{file_length, file_records}
+use Rattle.lif_model.specs.Redo.{Version, One, versions, redo_start, zeros, Changes, redo_of, changed, settled, IsSettled}
+use Rattle.lif_model.specs.Commit.{SettlesBelow, IsOldOrNew, IsCommitted, IsTarget}
+use Rattle.lif_model.specs.Transfers.{Replaced}
+use Rattle.lif_model.specs.Legal.{is_live, has_records, occupies, end_of, holds, is_legal}
+use Rattle.lif_model.specs.Volume.{is_redo_entry, is_adopted_with, is_redo_file, is_adopted, is_file, Volume, volume_in, volume_of, is_used, is_gate_held, is_foreign_gated}
+use Rattle.lif_model.specs.Fit.{redo_place}
+use Rattle.lif_model.specs.Writing.{entry_from, SlotWrites, with_slots, changes_by, with_records}
+use Rattle.lif_model.proofs.Lists.{any_at, any_from}
+use Rattle.lif_model.proofs.Legal.{legal_tells}
+use Rattle.lif_model.proofs.Slots.{readable_tells}
+use Rattle.lif_model.proofs.Fit.{IsPlace, place_is_free}
+use Rattle.lif_model.proofs.Redo.{Elsewhere, length_changed, changed_elsewhere, gate_at, zeros_are_shut, redo_closed, redo_places, settled_none}
+use Rattle.lif_model.proofs.Volume.{volume_agrees}
+use Rattle.lif_model.proofs.Adopted.{holds_tells, adopted_uses_below, clear_uses_below, clear_gate, settles_below_adopted, settles_below_clear}
+use Rattle.lif_model.proofs.Directory.{volume_tells}
+use Rattle.lif_model.proofs.Slotted.{IsOn, is_on}
+use Rattle.lif_model.proofs.Written.{Makes, file_is_live}
+use Rattle.lif_model.proofs.Recorded.{records_replaced, records_count, length_records}
+
+-- ---- what settles to a tape below the redo file
+
+-- has its volume, where that volume is adopted with the version of the commit
+pub settles_adopted : (version : Version) (n : ℕ) (t x : Tape) (v : Volume) → IsTape n t → volume_in t ≡ Some v → is_adopted_with n version v.slots ≡ true → SettlesBelow version t x
+    → (volume_of x ≡ Some v) × (is_foreign_gated x ≡ false)
+settles_adopted version n t x v tape is adopted settles =
+    let tells = volume_tells t v is in
+    let both = settles_below_adopted version t x tells.0 ((λ i. is_adopted_with (tape.records i) version (sym tells.2 i)) ∙ adopted) settles in
+    (both.0 ∙ is, both.1)
+
+-- or, in a commit of version 1, where no file reaches past the gate: the volume is adopted with any version, or it is
+-- clear, or there is none
+pub settles_clear : (n : ℕ) (t x : Tape) → IsTape n t → 4 < n
+    → (is_legal t ≡ true → (is_adopted n (slots_of t) ≡ true) ⊎ (list_any (λ slot. nat_lt (gate_of n) (end_of slot)) (filter occupies (slots_of t)) ≡ false))
+    → SettlesBelow One t x → (volume_of x ≡ volume_in t) × (is_foreign_gated x ≡ false)
+settles_clear n t x tape long cases settles = settles_below_clear One t x (omega (arith, tape.records, long)) refl below (held (is_legal t) refl) settles
+  where
+    adopted_below : (k : ℕ) → is_legal t ≡ true → is_adopted n (slots_of t) ≡ true → is_used t k ≡ true → k < gate_of (length t)
+    adopted_below k legal adopted used =
+        let found = any_at [] (is_redo_file n) (slots_of t) adopted in
+        let one = any_at One (λ version. is_redo_entry n version (get_or (slots_of t) found.0 [])) versions found.2 in
+        let version : Version = get_or versions one.0 One in
+        let with : is_adopted_with n version (slots_of t) ≡ true = any_from [] (is_redo_entry n version) (slots_of t) found.0 found.1 one.2 in
+        let under = adopted_uses_below version t k legal ((λ i. is_adopted_with (tape.records i) version (slots_of t)) ∙ with) used in
+        omega (arith, under, (redo_places version (length t)).0)
+
+    at_length : list_any (λ slot. nat_lt (gate_of n) (end_of slot)) (filter occupies (slots_of t)) ≡ false → list_any (λ slot. nat_lt (gate_of (length t)) (end_of slot)) (filter occupies (slots_of t)) ≡ false
+    at_length clear = (λ i. list_any (λ slot. nat_lt (gate_of (tape.records i)) (end_of slot)) (filter occupies (slots_of t))) ∙ clear
+
+    below : is_legal t ≡ true → (k : ℕ) → is_used t k ≡ true → k < gate_of (length t)
+    below legal k used = elim (cases legal) [
+      | inl adopted ↦ adopted_below k legal adopted used
+      | inr clear ↦ clear_uses_below t k legal (at_length clear) used
+    ]
+
+    held : (b : Bool) → is_legal t ≡ b → is_gate_held t ≡ false
+    held false e = and_left (is_legal t) _ e
+    held true e = elim (cases e) [
+      | inl adopted ↦ and_right (is_legal t) _ (and_left _ _ (not_from_true _ ((λ i. is_adopted (tape.records i) (slots_of t)) ∙ adopted)))
+      | inr clear ↦ clear_gate t (at_length clear)
+    ]
+
+-- ---- a commit
+
+-- A stop in the commit leaves a tape with the volume before it or with the next one.
+pub stop_leaves : (version : Version) (n : ℕ) (changes : Changes) (t x : Tape) (v w : Volume) → IsTape n t → volume_in t ≡ Some v → is_adopted_with n version v.slots ≡ true → Makes n v w (changed changes t)
+    → IsOldOrNew version changes t x → ((volume_of x ≡ Some v) ⊎ (volume_of x ≡ Some w)) × (is_foreign_gated x ≡ false)
+stop_leaves version n changes t x v w tape is adopted makes (inl old) = let both = settles_adopted version n t x v tape is adopted old in (inl both.0, both.1)
+stop_leaves version n changes t x v w tape is adopted makes (inr new) =
+    let both = settles_adopted version n (changed changes t) x w makes.tape makes.volume (makes.adopted version adopted) new in (inr both.0, both.1)
+
+-- a committed tape is settled
+pub committed_settled : (version : Version) (changes : Changes) (t x : Tape) → IsCommitted version changes t x → IsSettled x
+committed_settled version changes t x done = settled_none x (redo_closed x (gate_at (length t) x done.records ∙ ap is_open done.gate ∙ zeros_are_shut))
+
+pub committed_settles : (version : Version) (changes : Changes) (t x : Tape) → IsCommitted version changes t x → SettlesBelow version (changed changes t) x
+committed_settles version changes t x done = record {
+  records = done.records ∙ sym (length_changed changes t);
+  same = λ k lt. ap (λ (s : Tape). record_at s k) (committed_settled version changes t x done) ∙ done.below k (subst (λ (m : ℕ). k < redo_start version m) (length_changed changes t) lt);
+}
+
+-- Behind an Ok stands the next volume.
+pub commit_leaves : (version : Version) (n : ℕ) (changes : Changes) (t x : Tape) (v w : Volume) → is_adopted_with n version v.slots ≡ true → Makes n v w (changed changes t)
+    → IsCommitted version changes t x → (volume_of x ≡ Some w) × (is_foreign_gated x ≡ false)
+commit_leaves version n changes t x v w adopted makes done = settles_adopted version n (changed changes t) x w makes.tape makes.volume (makes.adopted version adopted) (committed_settles version changes t x done)
+
+-- ---- what stays
+
+not_target : (changes : Changes) (k : ℕ) → (IsTarget changes k → ⊥) → Elsewhere changes k
+not_target [] k off = tt
+not_target (c ∷ cs) k off = ((λ e. off (inl e)), not_target cs k (λ rest. off (inr rest)))
+
+-- a record below the redo file that the commit does not change
+pub committed_elsewhere : (version : Version) (changes : Changes) (t x : Tape) (k : ℕ) → IsCommitted version changes t x → k < redo_start version (length t) → (IsTarget changes k → ⊥) → record_at x k ≡ record_at t k
+committed_elsewhere version changes t x k done lt off = done.below k lt ∙ changed_elsewhere changes t k (not_target changes k off)
+
+-- ---- the file of a store
+
+-- no record of a place is used
+pub place_apart : (n : ℕ) (u : Tape) (v : Volume) (count i start k : ℕ) → IsTape n u → volume_in u ≡ Some v → IsPlace n (directory_end v.header) (capacity_of v.header) v.slots count i start → is_used u k ≡ true
+    → (k < start) ⊎ (start + count ≤ k)
+place_apart n u v count i start k tape is place used = elim (or_cases (k == 0) _ used) [
+  | inl first ↦ inl (omega (arith, eqb-true k 0 first, place.low, on.starts))
+  | inr rest ↦ elim (or_cases (nat_le (directory_start (record_at u 0)) k && nat_lt k (directory_end (record_at u 0))) _ rest) [
+    | inl directory ↦ inl (omega (arith, ltb-true k (directory_end (record_at u 0)) (and_parts _ _ directory).1, ap directory_end on.header, place.low))
+    | inr file ↦ file_apart (subst (λ (xs : List (List ℕ)). list_any (λ slot. is_file n slot && holds k slot) xs ≡ true) (sym on.slots) (sym (λ i. list_any (λ slot. is_file (tape.records i) slot && holds k slot) (slots_of u)) ∙ file))
+  ]
+]
+  where
+    on : IsOn n u v
+    on = is_on n u v tape is
+
+    file_apart : list_any (λ slot. is_file n slot && holds k slot) v.slots ≡ true → (k < start) ⊎ (start + count ≤ k)
+    file_apart any =
+        let found = any_at [] (λ slot. is_file n slot && holds k slot) v.slots any in
+        let slot : List ℕ = get_or v.slots found.0 [] in
+        let both = and_parts (is_file n slot) (holds k slot) found.2 in
+        let held = holds_tells k slot both.1 in
+        let records : has_records slot ≡ true = lt-ltb 0 (length_of slot) (omega (arith, held.0, held.1)) in
+        elim (place_is_free n (directory_end v.header) (capacity_of v.header) v.slots count i start found.0 place found.1 (own found.0 both.0) records) [
+          | inl before ↦ inl (omega (arith, before, held.1))
+          | inr behind ↦ inr (omega (arith, behind, held.0))
+        ]
+      where
+        own : (j : ℕ) → is_file n (get_or v.slots j []) ≡ true → j ≡ i → i ≡ redo_place v.slots
+        own j file e = elim place.candidate [
+          | inl purged ↦ let no : true ≡ false = sym (file_is_live n (get_or v.slots j []) file) ∙ not_from_true _ (ap (λ (m : ℕ). is_purged (get_or v.slots m [])) e ∙ purged.2) in cc
+          | inr last ↦ last.0
+        ]
+
+-- a tape with the file has the volume before it
+pub file_aside : (n : ℕ) (u : Tape) (v : Volume) (bytes : List ℕ) (i start : ℕ) → IsTape n u → volume_in u ≡ Some v → IsPlace n (directory_end v.header) (capacity_of v.header) v.slots (file_length bytes) i start
+    → volume_in (with_records start (file_records bytes) u) ≡ Some v
+file_aside n u v bytes i start tape is place =
+    let on : IsOn n u v = is_on n u v tape is in
+    let written : Replaced start (file_records bytes) u (with_records start (file_records bytes) u) = records_replaced start (file_records bytes) u (omega (arith, place.high, records_count bytes, tape.records, on.ends)) in
+    volume_agrees (with_records start (file_records bytes) u) u written.records (λ k used. elim (place_apart n u v (file_length bytes) i start k tape is place used) [
+      | inl before ↦ written.before k before
+      | inr behind ↦ written.behind k (omega (arith, behind, records_count bytes))
+    ]) ∙ is
