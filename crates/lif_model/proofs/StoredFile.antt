@@ -142,11 +142,21 @@ module _ (n : ℕ) (u : Tape) (v : Volume) (tape : IsTape n u) (is : volume_in u
   is_adopted_volume : IsAdopted n v
   is_adopted_volume = record { volume = on.volume; adopted = adopted }
 
+  set_entries : i < length v.slots → AreEntries (capacity_of v.header) ((i, entry) ∷ [])
+  set_entries lt = (omega (arith, lt, on.volume.room), entry_size, tt)
+
+  insert_entries : suc i ≡ length v.slots → length v.slots < capacity_of v.header → AreEntries (capacity_of v.header) ((i, entry) ∷ last_slot (capacity_of v.header) u (suc i) (get_or v.slots i []))
+  insert_entries last room = (
+    omega (arith, last, room),
+    entry_size,
+    last_entries (capacity_of v.header) u (suc i) (get_or v.slots i []) (entry_on_size n u v on) (omega (arith, last, room)) (on.volume.entries i (omega (arith, last))),
+  )
+
   -- a purged slot is replaced
   set_makes : i < redo_place v.slots → i < length v.slots → is_purged (get_or v.slots i []) ≡ true
       → Makes n v (record { header = v.header; slots = set v.slots i entry; files = maps.insert v.files name (filled bytes) }) (changed (changes_by (directory_start v.header) ((i, entry) ∷ []) u) t)
   set_makes before lt purged =
-      placed_makes ((i, entry) ∷ []) (set v.slots i entry) (λ k. k) (omega (arith, lt, on.volume.room), entry_size, tt) (set_new v.slots i entry lt) (λ k less ne e. absurd (ne e)) (omega (arith, lt, length-set v.slots i entry))
+      placed_makes ((i, entry) ∷ []) (set v.slots i entry) (λ k. k) (set_entries lt) (set_new v.slots i entry lt) (λ k less ne e. absurd (ne e)) (omega (arith, lt, length-set v.slots i entry))
       (λ k less file.
       let off : k ≢ i = λ e. let no : true ≡ false = sym (file_is_live n (get_or v.slots k []) file) ∙ not_from_true _ (ap (λ (j : ℕ). is_purged (get_or v.slots j [])) e ∙ purged) in cc in
       (k, omega (arith, less, length-set v.slots i entry), get_or-set_other v.slots i k entry [] off))
@@ -163,8 +173,7 @@ module _ (n : ℕ) (u : Tape) (v : Volume) (tape : IsTape n u) (is : volume_in u
       let sizes : (j : ℕ) → j < capacity_of v.header → length (entry_on u j) ≡ 32 = entry_on_size n u v on in
       let moved : List ℕ = get_or v.slots i [] in
       placed_makes ((i, entry) ∷ last_slot (capacity_of v.header) u (suc i) moved) (insert v.slots i entry) (before_insert i)
-      (omega (arith, last, room), entry_size, last_entries (capacity_of v.header) u (suc i) moved sizes (omega (arith, last, room)) (on.volume.entries i (omega (arith, last))))
-      (insert_new v.slots i entry le) (λ k less ne e. own) (omega (arith, last, length-insert v.slots i entry le))
+      (insert_entries last room) (insert_new v.slots i entry le) (λ k less ne e. own) (omega (arith, last, length-insert v.slots i entry le))
       (λ k less file. carried k less le (cases_lt k i))
       (slot_insert n t v with_file_on u sizes entry entry_size entry_kind i last room)
       (insert_is_adopted n v name kind implementation bytes i start is_adopted_volume formed none_named place own append v).volume.legal
@@ -177,14 +186,22 @@ module _ (n : ℕ) (u : Tape) (v : Volume) (tape : IsTape n u) (is : volume_in u
       carried k less le (inl under) = (k, omega (arith, less, length-insert v.slots i entry le), get_or-insert_below v.slots i entry [] k under le)
       carried k less le (inr over) = (k + 1, omega (arith, less, length-insert v.slots i entry le), get_or-insert_above v.slots i entry [] k over le)
 
-  -- A store at a place that is handed in: the tape has the volume with the file.
-  pub stored_makes : Makes n v (stored v name kind implementation bytes (At i start)) (written_at n (Store name kind implementation bytes) v (At i start) u)
-  stored_makes = elim place.candidate [
-    | inl purged ↦ by false (ne_eqb i (redo_place v.slots) (λ e. absurd (omega (arith, e, purged.0)))) (set_makes purged.0 purged.1 purged.2)
+  -- the place is that of a purged slot, or that of the redo entry, which is the last slot and moves on
+  place_cases : ((nat_eq i (redo_place v.slots) ≡ false) × (i < redo_place v.slots) × (i < length v.slots) × (is_purged (get_or v.slots i []) ≡ true))
+      ⊎ ((nat_eq i (redo_place v.slots) ≡ true) × (i ≡ redo_place v.slots) × (suc i ≡ length v.slots) × (length v.slots < capacity_of v.header) × (can_append (capacity_of v.header) v.slots ≡ true))
+  place_cases = elim place.candidate [
+    | inl purged ↦ inl (ne_eqb i (redo_place v.slots) (λ e. absurd (omega (arith, e, purged.0))), purged.0, purged.1, purged.2)
     | inr own ↦
         let both = and_parts _ _ own.1 in
         let last : suc (redo_place v.slots) ≡ length v.slots = eqb-true (suc (redo_place v.slots)) (length v.slots) both.0 in
-        by true (eq-eqb i (redo_place v.slots) own.0) (insert_makes own.0 (omega (arith, own.0, last)) (ltb-true (length v.slots) (capacity_of v.header) both.1) own.1)
+        inr (eq-eqb i (redo_place v.slots) own.0, own.0, omega (arith, own.0, last), ltb-true (length v.slots) (capacity_of v.header) both.1, own.1)
+  ]
+
+  -- A store at a place that is handed in: the tape has the volume with the file.
+  pub stored_makes : Makes n v (stored v name kind implementation bytes (At i start)) (written_at n (Store name kind implementation bytes) v (At i start) u)
+  stored_makes = elim place_cases [
+    | inl purged ↦ by false purged.0 (set_makes purged.1 purged.2 purged.3)
+    | inr own ↦ by true own.0 (insert_makes own.1 own.2 own.3 own.4)
   ]
     where
       by : (b : Bool) → nat_eq i (redo_place v.slots) ≡ b
@@ -193,6 +210,16 @@ module _ (n : ℕ) (u : Tape) (v : Volume) (tape : IsTape n u) (is : volume_in u
           → Makes n v (stored v name kind implementation bytes (At i start)) (written_at n (Store name kind implementation bytes) v (At i start) u)
       by b e makes = subst (λ (c : Bool). Makes n v (record { header = v.header; slots = if c then insert v.slots i entry else set v.slots i entry; files = maps.insert v.files name (filled bytes) })
           (changed (changes_by (directory_start v.header) (if c then (i, entry) ∷ last_slot (capacity_of v.header) u (suc i) (get_or v.slots i []) else (i, entry) ∷ []) u) t)) (sym e) makes
+
+  pub stored_entries : AreEntries (capacity_of v.header) (stored_writes v i entry u)
+  stored_entries = elim place_cases [
+    | inl purged ↦ by false purged.0 (set_entries purged.2)
+    | inr own ↦ by true own.0 (insert_entries own.2 own.3)
+  ]
+    where
+      by : (b : Bool) → nat_eq i (redo_place v.slots) ≡ b → AreEntries (capacity_of v.header) (if b then (i, entry) ∷ last_slot (capacity_of v.header) u (suc i) (get_or v.slots i []) else (i, entry) ∷ [])
+          → AreEntries (capacity_of v.header) (stored_writes v i entry u)
+      by b e are = subst (λ (c : Bool). AreEntries (capacity_of v.header) (if c then (i, entry) ∷ last_slot (capacity_of v.header) u (suc i) (get_or v.slots i []) else (i, entry) ∷ [])) (sym e) are
 
 -- at the place that is chosen
 pub store_makes : (n : ℕ) (u : Tape) (v : Volume) (name : List ℕ) (kind : ℕ) (implementation bytes : List ℕ) → IsTape n u → volume_in u ≡ Some v → IsWellFormed (Store name kind implementation bytes)

@@ -193,6 +193,11 @@ module _ (n : ℕ) (u : Tape) (v : Volume) (tape : IsTape n u) (is : volume_in u
                 none k long (ap (is_file n) is ∙ file) (ap name_of is ∙ same)
           ])
 
+  pub purge_entries : (name : List ℕ) → has_file v.slots name ≡ true → AreEntries (capacity_of v.header) (changed_slot name (with_type 0) v.slots)
+  purge_entries name there =
+      let found = changed_is_set n v.header v.slots name (with_type 0) on.volume.legal there in
+      (omega (arith, found.0, on.volume.room), typed_size 0 (get_or v.slots (place_named name v.slots) []) ∙ on.volume.entries (place_named name v.slots) found.0, tt)
+
   pub purge_makes : (name : List ℕ) → refusal_of n (Purge name) (Some v) ≡ None → Makes n v (volume_after n (Purge name) v) (written_by n (Purge name) v u)
   purge_makes name none =
       let unmet : NoneMet (checks_of n (Purge name) v) = none_met n (Purge name) v none in
@@ -203,7 +208,7 @@ module _ (n : ℕ) (u : Tape) (v : Volume) (tape : IsTape n u) (is : volume_in u
       let size : length (with_type 0 slot) ≡ 32 = typed_size 0 slot ∙ on.volume.entries (place_named name v.slots) found.0 in
       let kind : is_end (with_type 0 slot) ≡ false = ap (λ (k : ℕ). k == 0xFFFF) (typed_type 0 slot (omega (arith, on.volume.entries (place_named name v.slots) found.0))) in
       let ws : SlotWrites = changed_slot name (with_type 0) v.slots in
-      let are : AreEntries (capacity_of v.header) ws = (omega (arith, found.0, on.volume.room), size, tt) in
+      let are : AreEntries (capacity_of v.header) ws = purge_entries name there in
       subst (Makes n v (volume_after n (Purge name) v)) (sym (changes_here ws are))
       (set_makes (place_named name v.slots) (with_type 0 slot) (with_slot name (with_type 0) v.slots) (remove v.files name) found.0 size kind found.2
       (purge_is_adopted n v name (is_adopted_volume adopted) none).volume.legal
@@ -291,6 +296,11 @@ module _ (n : ℕ) (u : Tape) (v : Volume) (tape : IsTape n u) (is : volume_in u
     adopted = λ version adopted. subst (λ (w : Volume). is_adopted_with n version w.slots ≡ true) (sym same) adopted;
   }
 
+  pub rename_entries : (old later : List ℕ) → length later ≡ 10 → has_file v.slots old ≡ true → AreEntries (capacity_of v.header) (changed_slot old (with_name later) v.slots)
+  rename_entries old later ten there =
+      let found = changed_is_set n v.header v.slots old (with_name later) on.volume.legal there in
+      (omega (arith, found.0, on.volume.room), named_size later (get_or v.slots (place_named old v.slots) []) ten (on.volume.entries (place_named old v.slots) found.0), tt)
+
   pub rename_makes : (old later : List ℕ) → IsWellFormed (Rename old later) → refusal_of n (Rename old later) (Some v) ≡ None → Makes n v (volume_after n (Rename old later) v) (written_by n (Rename old later) v u)
   rename_makes old later formed none = go (bytes_eq old later) refl
     where
@@ -315,7 +325,7 @@ module _ (n : ℕ) (u : Tape) (v : Volume) (tape : IsTape n u) (is : volume_in u
           let size : length (with_name later slot) ≡ 32 = named_size later slot formed.1 (on.volume.entries p found.0) in
           let kind : is_end (with_name later slot) ≡ false = ap (λ (k : ℕ). k == 0xFFFF) (named_type later slot formed.1) ∙ on.volume.kinds p found.0 in
           let ws : SlotWrites = changed_slot old (with_name later) v.slots in
-          let are : AreEntries (capacity_of v.header) ws = (omega (arith, found.0, on.volume.room), size, tt) in
+          let are : AreEntries (capacity_of v.header) ws = rename_entries old later formed.1 there in
           let legal : IsLegal n v.header (with_slot old (with_name later) v.slots) =
           subst (λ (b : Bool). IsLegal n (if b then v else renamed v old later).header (if b then v else renamed v old later).slots) e (rename_is_adopted n v old later (is_adopted_volume adopted) formed none).volume.legal in
           subst (λ (b : Bool). Makes n v (if b then v else renamed v old later) (changed (changes_by (directory_start v.header) (if b then [] else changed_slot old (with_name later) v.slots) u) u)) (sym e)
@@ -345,26 +355,33 @@ module _ (n : ℕ) (u : Tape) (v : Volume) (tape : IsTape n u) (is : volume_in u
           ap (λ (s : List ℕ). get v.files (name_of s)) found.1 ∙ old_files.there k found.0 old_file
           ∙ ap Some (sym (content_stays x k found.0 (file_is_live n (get_or v.slots k []) old_file) (λ j le held. behind j le)) ∙ sym (ap (content_of x) found.1))
 
+  redo_entry_size : length (redo_entry One n) ≡ 32
+  redo_entry_size = new_size redo_name redo_type (redo_start One n) 4 (replicate 4 0) refl refl
+
+  pub adopt_entries : length v.slots < capacity_of v.header → AreEntries (capacity_of v.header) (last_slot (capacity_of v.header) u (length v.slots) (redo_entry One n))
+  adopt_entries fits = last_entries (capacity_of v.header) u (length v.slots) (redo_entry One n) (entry_on_size n u v on) fits redo_entry_size
+
+  -- where a volume without a redo file may be adopted, a slot is left
+  pub adopt_has_slot : refusal_of n Adopt (Some v) ≡ None → is_adopted n v.slots ≡ false → length v.slots < capacity_of v.header
+  adopt_has_slot none e =
+      let unmet : NoneMet (checks_of n Adopt v) = none_met n Adopt v none in
+      leb-false (capacity_of v.header) (length v.slots) (sym (ap (λ (b : Bool). b && is_full v) (not_from_false _ e)) ∙ unmet.1.0)
+
   pub adopt_makes : refusal_of n Adopt (Some v) ≡ None → Makes n v (volume_after n Adopt v) (written_by n Adopt v u)
   adopt_makes none = go (is_adopted n v.slots) refl
     where
-      unmet : NoneMet (checks_of n Adopt v)
-      unmet = none_met n Adopt v none
-
       go : (b : Bool) → is_adopted n v.slots ≡ b → Makes n v (volume_after n Adopt v) (written_by n Adopt v u)
       go true e = nothing_makes (written_by n Adopt v u) (volume_after n Adopt v)
           (ap (λ (b : Bool). changed (changes_by (directory_start v.header) (if b then [] else last_slot (capacity_of v.header) u (length v.slots) (redo_entry One n)) u) u) e)
           (ap (λ (b : Bool). if b then v else record v { slots = v.slots ++ redo_entry One n ∷ [] }) e)
       go false e =
-          let lacks : lacks_redo n v ≡ true = not_from_false _ e in
-          let fits : length v.slots < capacity_of v.header = leb-false (capacity_of v.header) (length v.slots) (sym (ap (λ (b : Bool). b && is_full v) lacks) ∙ unmet.1.0) in
+          let fits : length v.slots < capacity_of v.header = adopt_has_slot none e in
           let redo : List ℕ = redo_entry One n in
           let later : List (List ℕ) = v.slots ++ redo ∷ [] in
-          let size : length redo ≡ 32 = new_size redo_name redo_type (redo_start One n) 4 (replicate 4 0) refl refl in
           let kind : is_end redo ≡ false = ap (λ (k : ℕ). k == 0xFFFF) (new_type redo_name redo_type (redo_start One n) 4 (replicate 4 0) refl) in
           let ws : SlotWrites = last_slot (capacity_of v.header) u (length v.slots) redo in
           let sizes : (j : ℕ) → j < capacity_of v.header → length (entry_on u j) ≡ 32 = entry_on_size n u v on in
-          let are : AreEntries (capacity_of v.header) ws = last_entries (capacity_of v.header) u (length v.slots) redo sizes fits size in
+          let are : AreEntries (capacity_of v.header) ws = adopt_entries fits in
           let x : Tape = with_slots (directory_start v.header) ws u in
           let made : IsTape n x = slots_shape (directory_start v.header) n (directory_length v.header) ws u tape (omega (arith, on.ends)) are in
           let legal : IsLegal n v.header later =
@@ -374,7 +391,7 @@ module _ (n : ℕ) (u : Tape) (v : Volume) (tape : IsTape n u) (is : volume_in u
           (changed (changes_by (directory_start v.header) (if b then [] else last_slot (capacity_of v.header) u (length v.slots) (redo_entry One n)) u) u)) (sym e)
           (subst (Makes n v (record { header = v.header; slots = later; files = v.files })) (sym (changes_here ws are)) (record {
             tape = made;
-            volume = volume_by_parts n x v.header later (sym made.records) legal v.files (header_stays n u v on ws are ∙ sym on.header) (slot_push n u v on u sizes redo size kind fits)
+            volume = volume_by_parts n x v.header later (sym made.records) legal v.files (header_stays n u v on ws are ∙ sym on.header) (slot_push n u v on u sizes redo redo_entry_size kind fits)
                 (push_files redo x no_file (λ j le. behind_stays u ws j are le));
             adopted = λ version adopted.
                 let found = any_at [] (is_redo_entry n version) v.slots adopted in
