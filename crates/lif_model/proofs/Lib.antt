@@ -32,3 +32,4 @@ pub mod Formatted
 pub mod Recorded
 pub mod StoredFile
 pub mod Outcomes
+pub mod Commands

@@ -289,7 +289,7 @@ module _ (n : ℕ) (u : Tape) (v : Volume) (tape : IsTape n u) (is : volume_in u
           ])
 
   -- nothing is written
-  nothing_makes : (written : Tape) (later : Volume) → written ≡ u → later ≡ v → Makes n v later written
+  pub nothing_makes : (written : Tape) (later : Volume) → written ≡ u → later ≡ v → Makes n v later written
   nothing_makes written later same_tape same = record {
     tape = subst (IsTape n) (sym same_tape) tape;
     volume = ap volume_in same_tape ∙ is ∙ ap Some (sym same);

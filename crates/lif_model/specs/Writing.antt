@@ -1,6 +1,6 @@
 -- What each command writes on a tape of n records: slots of the directory, the records that these touch, and the records
 -- of a file.
-use Rattle.std.specs.Prelude.{◌+◌, ◌*◌, ◌/◌, ◌%◌, ◌++◌, nat_eq, nat_lt, not, if◌then◌else◌, ℕ, suc, List, [], ◌∷◌, length, take, drop, get_or, set, map, filter}
+use Rattle.std.specs.Prelude.{◌≡◌, ◌⊎◌, ◌<◌, ◌≤◌, ◌+◌, ◌*◌, ◌/◌, ◌%◌, ◌++◌, nat_eq, nat_lt, not, if◌then◌else◌, ℕ, suc, List, [], ◌∷◌, length, take, drop, get_or, set, map, filter}
 use Rattle.std.specs.List.{position_or_len}
 use Rattle.std.specs.Str.{bytes_eq}
 use Rattle.lif_model.specs.Tape.{Tape, record_at}
@@ -42,6 +42,11 @@ abbrev pub with_slots : ℕ → SlotWrites → Tape → Tape
 with_slots start [] tape = tape
 with_slots start (w ∷ ws) tape =
     with_slots start ws (set tape (slot_record start w.0) (with_entry (record_at tape (slot_record start w.0)) (w.0 % 8) w.1))
+
+-- slot k is one of them
+abbrev pub IsSlotWritten : SlotWrites → ℕ → Type 0
+IsSlotWritten [] k = ⊥
+IsSlotWritten (w ∷ ws) k = (k ≡ w.0) ⊎ IsSlotWritten ws k
 
 -- the records that these writes touch, each once, in the order in which they are first touched
 abbrev pub touched : ℕ → SlotWrites → List ℕ
@@ -103,6 +108,11 @@ with_records first (r ∷ rs) tape = with_records (suc first) rs (set tape first
 abbrev pub with_file : VolumeCommand → Place → Tape → Tape
 with_file (Store name kind implementation bytes) (At i start) tape = with_records start (file_records bytes) tape
 with_file command place tape = tape
+
+-- record k is one of the file of a store
+abbrev pub IsFileRecord : VolumeCommand → Place → ℕ → Type 0
+IsFileRecord (Store name kind implementation bytes) (At i start) k = (start ≤ k) × (k < start + file_length bytes)
+IsFileRecord command place k = ⊥
 
 -- what `format` writes of any tape: record 0, and the first record of a directory whose only slot is the redo entry
 abbrev pub format_changes : ℕ → List ℕ → ℕ → Changes
