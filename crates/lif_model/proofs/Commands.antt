@@ -11,22 +11,22 @@ use Rattle.lif_model.specs.Made.{new_entry, with_name, with_type, file_length, f
 use Rattle.lif_model.specs.Redo.{Version, One, Two, redo_start, redo_length, most_targets, Changes, changed}
 use Rattle.lif_model.specs.Commit.{AreChanges, SettlesBelow, IsOldOrNew, IsCommitted, IsTarget}
 use Rattle.lif_model.specs.Legal.{occupies, end_of, has_file, is_legal}
-use Rattle.lif_model.specs.Volume.{redo_name, redo_entry, is_redo_entry, is_adopted_with, is_adopted, Volume, volume_if, volume_in, volume_of, is_foreign_gated}
+use Rattle.lif_model.specs.Volume.{redo_name, redo_entry, is_redo_entry, is_redo_file, files_of, is_adopted_with, is_adopted, Volume, volume_if, volume_in, volume_of, is_foreign_gated}
 use Rattle.lif_model.specs.Fit.{Place, At, redo_place, fit_in}
-use Rattle.lif_model.specs.Apply.{VolumeCommand, Dir, Label, Fetch, Store, Rename, Purge, Adopt, Format, IsWellFormed, lacks_redo, runs_past_gate, is_too_long, is_protected, lacks_slot, lacks_room, checks_of, refusal_of, fresh_volume, stored, volume_after}
+use Rattle.lif_model.specs.Apply.{Refusal, VolumeCommand, Dir, Label, Fetch, Store, Rename, Purge, Adopt, Format, IsWellFormed, lacks_redo, runs_past_gate, is_too_long, is_protected, lacks_slot, lacks_room, checks_of, refusal_of, fresh_volume, stored, volume_after}
 use Rattle.lif_model.specs.Writing.{slot_record, entry_from, entry_on, SlotWrites, with_slots, IsSlotWritten, touched, changes_by, place_named, ended_behind, last_slot, stored_writes, changed_slot, slot_writes, with_records, with_file, IsFileRecord, format_changes, changes_at, written_at, chosen_place, changes_of, written_by}
 use Rattle.lif_model.proofs.Fit.{IsPlace, fit_tells}
 use Rattle.lif_model.proofs.Apply.{NoneMet, none_met, not_redo_name}
 use Rattle.lif_model.proofs.Adopted.{redo_behind, redo_entry_tells}
-use Rattle.lif_model.proofs.Lists.{any_at}
-use Rattle.lif_model.proofs.Directory.{AreWhole, volume_tells}
+use Rattle.lif_model.proofs.Lists.{any_at, any_from}
+use Rattle.lif_model.proofs.Directory.{AreWhole, volume_tells, volume_from}
 use Rattle.lif_model.proofs.Writing.{AreEntries, WritesWithin, touches_two, changes_are, changes_whole}
 use Rattle.lif_model.proofs.Slotted.{IsOn, is_on}
 use Rattle.lif_model.proofs.Written.{Makes, nothing_makes, purge_entries, purge_makes, rename_entries, rename_makes, adopt_entries, adopt_has_slot, adopt_makes, adopt_adopts}
 use Rattle.lif_model.proofs.Formatted.{IsFormatted, format_makes, format_changes_are}
 use Rattle.lif_model.proofs.StoredFile.{stored_entries, stored_makes, store_makes}
 use Rattle.lif_model.proofs.Recorded.{file_shape}
-use Rattle.lif_model.proofs.Outcomes.{settles_adopted, settles_clear, stop_leaves, committed_settles, file_aside}
+use Rattle.lif_model.proofs.Outcomes.{settles_adopted, settles_clear, stop_leaves, commit_leaves, committed_settles, file_aside}
 
 -- ---- what a commit takes
 
@@ -111,3 +111,198 @@ module _ (n : ℕ) (u : Tape) (v : Volume) (tape : IsTape n u) (is : volume_in u
   -- before a volume is adopted, it ends before that of version 1
   pub directory_before_gate : directory_end v.header ≤ redo_start One n
   directory_before_gate = omega (arith, on.ends)
+
+-- ---- commands
+
+-- every command but `format` keeps the redo file that is there
+abbrev pub KeepsRedoFile : VolumeCommand → Type 0
+KeepsRedoFile (Format label slots) = ⊥
+KeepsRedoFile command = Unit {0}
+
+adopted_at_all : (version : Version) (n : ℕ) (slots : List (List ℕ)) → is_adopted_with n version slots ≡ true → is_adopted n slots ≡ true
+adopted_at_all version n slots with =
+    let found = any_at [] (is_redo_entry n version) slots with in
+    any_from [] (is_redo_file n) slots found.0 found.1 (redo_entry_tells n version (get_or slots found.0 []) found.2).0
+
+-- of a volume that lacks a redo file, no live file reaches past the gate where a command that makes one is not refused
+adopted_or_clear : (n : ℕ) (v : Volume) → (lacks_redo n v && runs_past_gate n v) ≡ false → (is_adopted n v.slots ≡ true) ⊎ (runs_past_gate n v ≡ false)
+adopted_or_clear n v unmet = elim (and_cases (lacks_redo n v) (runs_past_gate n v) unmet) [
+  | inl there ↦ inl (not-false (is_adopted n v.slots) there)
+  | inr clear ↦ inr clear
+]
+
+-- what is known of a store that is not refused
+pub record IsStorable (n : ℕ) (v : Volume) (name bytes : List ℕ) : Type 0 where
+  pub adopted : is_adopted n v.slots ≡ true
+  pub other : name ≢ redo_name
+  pub none_named : has_file v.slots name ≡ false
+  pub slot : ℕ
+  pub first : ℕ
+  pub chosen : fit_in n v (file_length bytes) ≡ At slot first
+  pub place : IsPlace n (directory_end v.header) (capacity_of v.header) v.slots (file_length bytes) slot first
+
+pub storable : (n : ℕ) (v : Volume) (name : List ℕ) (kind : ℕ) (implementation bytes : List ℕ) → refusal_of n (Store name kind implementation bytes) (Some v) ≡ None → IsStorable n v name bytes
+storable n v name kind implementation bytes none = go (fit_in n v (file_length bytes)) refl unmet.1.1.1.0 unmet.1.1.1.1.0
+  where
+    unmet : NoneMet (checks_of n (Store name kind implementation bytes) v)
+    unmet = none_met n (Store name kind implementation bytes) v none
+
+    go : (place : Place) → fit_in n v (file_length bytes) ≡ place → lacks_slot place ≡ false → lacks_room place ≡ false → IsStorable n v name bytes
+    go Place.NoSlot e slot room = cc
+    go Place.NoRoom e slot room = cc
+    go (At i first) e slot room = let adopted : is_adopted n v.slots ≡ true = not-false (is_adopted n v.slots) unmet.0 in record {
+      adopted = adopted;
+      other = not_redo_name n v name adopted unmet.1.0;
+      none_named = unmet.1.1.0;
+      slot = i;
+      first = first;
+      chosen = e;
+      place = fit_tells n (directory_end v.header) (capacity_of v.header) v.slots (file_length bytes) i first e;
+    }
+
+module _ (n : ℕ) (u : Tape) (v : Volume) (tape : IsTape n u) (is : volume_in u ≡ Some v) where
+  -- ---- what is committed
+
+  -- On an adopted volume a command changes nothing at all, or what one commit of the version takes.
+  pub command_changes : (version : Version) (command : VolumeCommand) → is_adopted_with n version v.slots ≡ true → KeepsRedoFile command → IsWellFormed command → refusal_of n command (Some v) ≡ None
+      → (changes_of n command v u ≡ []) ⊎ (AreChanges version n (changes_of n command v u) × AreWhole (changes_of n command v u))
+  command_changes version Dir adopted keeps formed none = inl refl
+  command_changes version Label adopted keeps formed none = inl refl
+  command_changes version (Fetch name) adopted keeps formed none = inl refl
+  command_changes version (Store name kind implementation bytes) adopted keeps formed none =
+      let can = storable n v name kind implementation bytes none in
+      inr (subst (λ (p : Place). AreChanges version n (changes_at n (Store name kind implementation bytes) v p u) × AreWhole (changes_at n (Store name kind implementation bytes) v p u)) (sym can.chosen)
+      (writes_are_changes n u v tape is version (stored_writes v can.slot (new_entry name kind can.first (file_length bytes) implementation) u) (directory_below n u v tape is version adopted)
+      (store_writes n u v tape is can.adopted name kind implementation bytes formed can.other can.none_named can.slot can.first can.place)))
+  command_changes version (Rename old later) adopted keeps formed none = go (bytes_eq old later) refl
+    where
+      go : (b : Bool) → bytes_eq old later ≡ b → (changes_of n (Rename old later) v u ≡ []) ⊎ (AreChanges version n (changes_of n (Rename old later) v u) × AreWhole (changes_of n (Rename old later) v u))
+      go true e = inl (ap (λ (b : Bool). changes_by (directory_start v.header) (if b then [] else changed_slot old (with_name later) v.slots) u) e)
+      go false e =
+          let unmet : NoneMet (checks_of n (Rename old later) v) = none_met n (Rename old later) v none in
+          inr (subst (λ (b : Bool). AreChanges version n (changes_by (directory_start v.header) (if b then [] else changed_slot old (with_name later) v.slots) u)
+          × AreWhole (changes_by (directory_start v.header) (if b then [] else changed_slot old (with_name later) v.slots) u)) (sym e)
+          (writes_are_changes n u v tape is version (changed_slot old (with_name later) v.slots) (directory_below n u v tape is version adopted)
+          (rename_writes n u v tape is old later formed.1 (not-false (has_file v.slots old) unmet.1.1.0))))
+  command_changes version (Purge name) adopted keeps formed none =
+      let unmet : NoneMet (checks_of n (Purge name) v) = none_met n (Purge name) v none in
+      inr (writes_are_changes n u v tape is version (changed_slot name (with_type 0) v.slots) (directory_below n u v tape is version adopted)
+      (purge_writes n u v tape is name (not-false (has_file v.slots name) unmet.1.1.0)))
+  command_changes version Adopt adopted keeps formed none =
+      inl (ap (λ (b : Bool). changes_by (directory_start v.header) (if b then [] else last_slot (capacity_of v.header) u (length v.slots) (redo_entry One n)) u) (adopted_at_all version n v.slots adopted))
+  command_changes version (Format label slots) adopted keeps formed none = absurd keeps
+
+  -- `adopt` of a volume without a redo file makes what one commit of version 1 takes
+  pub adopt_changes : refusal_of n Adopt (Some v) ≡ None → is_adopted n v.slots ≡ false → AreChanges One n (changes_of n Adopt v u) × AreWhole (changes_of n Adopt v u)
+  adopt_changes none lacks =
+      subst (λ (b : Bool). AreChanges One n (changes_by (directory_start v.header) (if b then [] else last_slot (capacity_of v.header) u (length v.slots) (redo_entry One n)) u)
+      × AreWhole (changes_by (directory_start v.header) (if b then [] else last_slot (capacity_of v.header) u (length v.slots) (redo_entry One n)) u)) (sym lacks)
+      (writes_are_changes n u v tape is One (last_slot (capacity_of v.header) u (length v.slots) (redo_entry One n)) (directory_before_gate n u v tape is)
+      (adopt_writes n u v tape is (adopt_has_slot n u v tape is none lacks)))
+
+  -- ---- the file first
+
+  -- the tape with the file of a store has the volume before it
+  pub file_first : (command : VolumeCommand) → IsWellFormed command → refusal_of n command (Some v) ≡ None
+      → IsTape n (with_file command (chosen_place n command v) u) × (volume_in (with_file command (chosen_place n command v) u) ≡ Some v)
+  file_first Dir formed none = (tape, is)
+  file_first Label formed none = (tape, is)
+  file_first (Fetch name) formed none = (tape, is)
+  file_first (Store name kind implementation bytes) formed none =
+      let can = storable n v name kind implementation bytes none in
+      subst (λ (p : Place). IsTape n (with_file (Store name kind implementation bytes) p u) × (volume_in (with_file (Store name kind implementation bytes) p u) ≡ Some v)) (sym can.chosen)
+      (file_shape n can.first bytes u tape, file_aside n u v bytes can.slot can.first tape is can.place)
+  file_first (Rename old later) formed none = (tape, is)
+  file_first (Purge name) formed none = (tape, is)
+  file_first Adopt formed none = (tape, is)
+  file_first (Format label slots) formed none = (tape, is)
+
+  -- ---- the tape that a command makes
+
+  -- has the next volume, with the redo file as it was
+  pub command_makes : (command : VolumeCommand) → KeepsRedoFile command → IsWellFormed command → refusal_of n command (Some v) ≡ None → Makes n v (volume_after n command v) (written_by n command v u)
+  command_makes Dir keeps formed none = nothing_makes n u v tape is u v refl refl
+  command_makes Label keeps formed none = nothing_makes n u v tape is u v refl refl
+  command_makes (Fetch name) keeps formed none = nothing_makes n u v tape is u v refl refl
+  command_makes (Store name kind implementation bytes) keeps formed none = store_makes n u v name kind implementation bytes tape is formed none
+  command_makes (Rename old later) keeps formed none = rename_makes n u v tape is old later formed none
+  command_makes (Purge name) keeps formed none = purge_makes n u v tape is name none
+  command_makes Adopt keeps formed none = adopt_makes n u v tape is none
+  command_makes (Format label slots) keeps formed none = absurd keeps
+
+  -- every command
+  pub command_volume : (command : VolumeCommand) → IsWellFormed command → refusal_of n command (Some v) ≡ None → IsTape n (written_by n command v u) × (volume_in (written_by n command v u) ≡ Some (volume_after n command v))
+  command_volume Dir formed none = (tape, is)
+  command_volume Label formed none = (tape, is)
+  command_volume (Fetch name) formed none = (tape, is)
+  command_volume (Store name kind implementation bytes) formed none = let makes = store_makes n u v name kind implementation bytes tape is formed none in (makes.tape, makes.volume)
+  command_volume (Rename old later) formed none = let makes = rename_makes n u v tape is old later formed none in (makes.tape, makes.volume)
+  command_volume (Purge name) formed none = let makes = purge_makes n u v tape is name none in (makes.tape, makes.volume)
+  command_volume Adopt formed none = let makes = adopt_makes n u v tape is none in (makes.tape, makes.volume)
+  command_volume (Format label slots) formed none = let makes = format_makes n label slots formed (none_met n (Format label slots) v none).0 u tape in (makes.tape, makes.volume)
+
+  -- ---- stops in the commit, and its Ok
+
+  -- on an adopted volume: the volume before or the next one
+  pub command_stops : (version : Version) (command : VolumeCommand) (x : Tape) → is_adopted_with n version v.slots ≡ true → KeepsRedoFile command → IsWellFormed command → refusal_of n command (Some v) ≡ None
+      → IsOldOrNew version (changes_of n command v u) (with_file command (chosen_place n command v) u) x → ((volume_of x ≡ Some v) ⊎ (volume_of x ≡ Some (volume_after n command v))) × (is_foreign_gated x ≡ false)
+  command_stops version command x adopted keeps formed none left =
+      let first = file_first command formed none in
+      stop_leaves version n (changes_of n command v u) (with_file command (chosen_place n command v) u) x v (volume_after n command v) first.0 first.1 adopted (command_makes command keeps formed none) left
+
+  pub command_commits : (version : Version) (command : VolumeCommand) (x : Tape) → is_adopted_with n version v.slots ≡ true → KeepsRedoFile command → IsWellFormed command → refusal_of n command (Some v) ≡ None
+      → IsCommitted version (changes_of n command v u) (with_file command (chosen_place n command v) u) x → (volume_of x ≡ Some (volume_after n command v)) × (is_foreign_gated x ≡ false)
+  command_commits version command x adopted keeps formed none done =
+      commit_leaves version n (changes_of n command v u) (with_file command (chosen_place n command v) u) x v (volume_after n command v) adopted (command_makes command keeps formed none) done
+
+  -- `adopt` of a volume without a redo file, by a commit of version 1
+  adopt_new : (x : Tape) → is_adopted n v.slots ≡ false → refusal_of n Adopt (Some v) ≡ None → SettlesBelow One (written_by n Adopt v u) x → (volume_of x ≡ Some (volume_after n Adopt v)) × (is_foreign_gated x ≡ false)
+  adopt_new x lacks none settles =
+      let makes = adopt_makes n u v tape is none in
+      settles_adopted One n (written_by n Adopt v u) x (volume_after n Adopt v) makes.tape makes.volume (adopt_adopts n v lacks) settles
+
+  pub adopt_stops : (x : Tape) → is_adopted n v.slots ≡ false → refusal_of n Adopt (Some v) ≡ None → IsOldOrNew One (changes_of n Adopt v u) u x
+      → ((volume_of x ≡ Some v) ⊎ (volume_of x ≡ Some (volume_after n Adopt v))) × (is_foreign_gated x ≡ false)
+  adopt_stops x lacks none (inl old) =
+      let unmet : NoneMet (checks_of n Adopt v) = none_met n Adopt v none in
+      let tells = volume_tells u v is in
+      let both = settles_clear n u x tape (omega (arith, (is_on n u v tape is).ends, (is_on n u v tape is).starts))
+      (λ legal. subst (λ (xs : List (List ℕ)). (is_adopted n xs ≡ true) ⊎ (list_any (λ slot. nat_lt (gate_of n) (end_of slot)) (filter occupies xs) ≡ false)) tells.2 (adopted_or_clear n v unmet.1.1.0)) old in
+      (inl (both.0 ∙ is), both.1)
+  adopt_stops x lacks none (inr new) = let both = adopt_new x lacks none new in (inr both.0, both.1)
+
+  pub adopt_commits : (x : Tape) → is_adopted n v.slots ≡ false → refusal_of n Adopt (Some v) ≡ None → IsCommitted One (changes_of n Adopt v u) u x → (volume_of x ≡ Some (volume_after n Adopt v)) × (is_foreign_gated x ≡ false)
+  adopt_commits x lacks none done = adopt_new x lacks none (committed_settles One (changes_of n Adopt v u) u x done)
+
+-- ---- `format`, of any tape
+
+module _ (n : ℕ) (u : Tape) (label : List ℕ) (slots : ℕ) (tape : IsTape n u) (formed : IsWellFormed (Format label slots)) (none : refusal_of n (Format label slots) (volume_in u) ≡ None) where
+  not_too_long : is_too_long n slots ≡ false
+  not_too_long = go (volume_in u) none
+    where
+      go : (volume : Option Volume) → refusal_of n (Format label slots) volume ≡ None → is_too_long n slots ≡ false
+      go None unmet = unrefused (is_too_long n slots) unmet
+        where
+          unrefused : (b : Bool) → (if b then Some Refusal.NoRoom else None) ≡ None → b ≡ false
+          unrefused true unmet = cc
+          unrefused false unmet = refl
+      go (Some v) unmet = (none_met n (Format label slots) v unmet).0
+
+  format_new : (x : Tape) → SettlesBelow One (changed (format_changes n label slots) u) x → (volume_of x ≡ Some (fresh_volume n label slots)) × (is_foreign_gated x ≡ false)
+  format_new x settles =
+      let makes = format_makes n label slots formed not_too_long u tape in
+      settles_adopted One n (changed (format_changes n label slots) u) x (fresh_volume n label slots) makes.tape makes.volume makes.adopted settles
+
+  -- a stop leaves what the tape had before, a volume or none, or the empty volume
+  pub format_stops : (x : Tape) → IsOldOrNew One (format_changes n label slots) u x → ((volume_of x ≡ volume_in u) ⊎ (volume_of x ≡ Some (fresh_volume n label slots))) × (is_foreign_gated x ≡ false)
+  format_stops x (inr new) = let both = format_new x new in (inr both.0, both.1)
+  format_stops x (inl old) =
+      let short : slots ≤ 8 * (n - 6) = ltb-false (8 * (n - 6)) slots not_too_long in
+      let both = settles_clear n u x tape (omega (arith, short, formed.1)) (λ legal.
+      let v : Volume = record { header = record_at u 0; slots = slots_of u; files = files_of u (slots_of u) } in
+      let unmet : NoneMet (checks_of n (Format label slots) v) = none_met n (Format label slots) v (subst (λ (volume : Option Volume). refusal_of n (Format label slots) volume ≡ None) (volume_from u legal) none) in
+      adopted_or_clear n v unmet.1.0) old in
+      (inl both.0, both.1)
+
+  pub format_commits : (x : Tape) → IsCommitted One (format_changes n label slots) u x → (volume_of x ≡ Some (fresh_volume n label slots)) × (is_foreign_gated x ≡ false)
+  format_commits x done = format_new x (committed_settles One (format_changes n label slots) u x done)
