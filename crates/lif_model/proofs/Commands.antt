@@ -25,8 +25,8 @@ use Rattle.lif_model.proofs.Slotted.{IsOn, is_on}
 use Rattle.lif_model.proofs.Written.{Makes, nothing_makes, purge_entries, purge_makes, rename_entries, rename_makes, adopt_entries, adopt_has_slot, adopt_makes, adopt_adopts}
 use Rattle.lif_model.proofs.Formatted.{IsFormatted, format_makes, format_changes_are}
 use Rattle.lif_model.proofs.StoredFile.{stored_entries, stored_makes, store_makes}
-use Rattle.lif_model.proofs.Recorded.{file_shape}
-use Rattle.lif_model.proofs.Outcomes.{settles_adopted, settles_clear, stop_leaves, commit_leaves, committed_settles, file_aside}
+use Rattle.lif_model.proofs.Recorded.{length_records, records_before, records_behind, records_count, file_shape}
+use Rattle.lif_model.proofs.Outcomes.{settles_adopted, settles_clear, stop_leaves, commit_leaves, committed_settles, committed_elsewhere, file_aside}
 
 -- ---- what a commit takes
 
@@ -119,10 +119,16 @@ abbrev pub KeepsRedoFile : VolumeCommand → Type 0
 KeepsRedoFile (Format label slots) = ⊥
 KeepsRedoFile command = Unit {0}
 
-adopted_at_all : (version : Version) (n : ℕ) (slots : List (List ℕ)) → is_adopted_with n version slots ≡ true → is_adopted n slots ≡ true
-adopted_at_all version n slots with =
-    let found = any_at [] (is_redo_entry n version) slots with in
-    any_from [] (is_redo_file n) slots found.0 found.1 (redo_entry_tells n version (get_or slots found.0 []) found.2).0
+-- and changes the directory by slots alone
+pub changes_by_slots : (n : ℕ) (command : VolumeCommand) (v : Volume) (place : Place) (u : Tape) → KeepsRedoFile command → changes_at n command v place u ≡ changes_by (directory_start v.header) (slot_writes n command v place u) u
+changes_by_slots n Dir v place u keeps = refl
+changes_by_slots n Label v place u keeps = refl
+changes_by_slots n (Fetch name) v place u keeps = refl
+changes_by_slots n (Store name kind implementation bytes) v place u keeps = refl
+changes_by_slots n (Rename old later) v place u keeps = refl
+changes_by_slots n (Purge name) v place u keeps = refl
+changes_by_slots n Adopt v place u keeps = refl
+changes_by_slots n (Format label slots) v place u keeps = absurd keeps
 
 -- of a volume that lacks a redo file, no live file reaches past the gate where a command that makes one is not refused
 adopted_or_clear : (n : ℕ) (v : Volume) → (lacks_redo n v && runs_past_gate n v) ≡ false → (is_adopted n v.slots ≡ true) ⊎ (runs_past_gate n v ≡ false)
@@ -163,34 +169,45 @@ storable n v name kind implementation bytes none = go (fit_in n v (file_length b
 module _ (n : ℕ) (u : Tape) (v : Volume) (tape : IsTape n u) (is : volume_in u ≡ Some v) where
   -- ---- what is committed
 
+  -- a command writes no slot, or slots that one commit takes
+  pub command_slots : (command : VolumeCommand) → IsWellFormed command → refusal_of n command (Some v) ≡ None
+      → (slot_writes n command v (chosen_place n command v) u ≡ []) ⊎ AreWrites (directory_start v.header) (capacity_of v.header) (slot_writes n command v (chosen_place n command v) u)
+  command_slots Dir formed none = inl refl
+  command_slots Label formed none = inl refl
+  command_slots (Fetch name) formed none = inl refl
+  command_slots (Store name kind implementation bytes) formed none =
+      let can = storable n v name kind implementation bytes none in
+      inr (subst (λ (p : Place). AreWrites (directory_start v.header) (capacity_of v.header) (slot_writes n (Store name kind implementation bytes) v p u)) (sym can.chosen)
+      (store_writes n u v tape is can.adopted name kind implementation bytes formed can.other can.none_named can.slot can.first can.place))
+  command_slots (Rename old later) formed none = go (bytes_eq old later) refl
+    where
+      go : (b : Bool) → bytes_eq old later ≡ b
+          → (slot_writes n (Rename old later) v Place.NoSlot u ≡ []) ⊎ AreWrites (directory_start v.header) (capacity_of v.header) (slot_writes n (Rename old later) v Place.NoSlot u)
+      go true e = inl (ap (λ (b : Bool). if b then [] else changed_slot old (with_name later) v.slots) e)
+      go false e =
+          let unmet : NoneMet (checks_of n (Rename old later) v) = none_met n (Rename old later) v none in
+          inr (subst (λ (b : Bool). AreWrites (directory_start v.header) (capacity_of v.header) (if b then [] else changed_slot old (with_name later) v.slots)) (sym e)
+          (rename_writes n u v tape is old later formed.1 (not-false (has_file v.slots old) unmet.1.1.0)))
+  command_slots (Purge name) formed none =
+      let unmet : NoneMet (checks_of n (Purge name) v) = none_met n (Purge name) v none in
+      inr (purge_writes n u v tape is name (not-false (has_file v.slots name) unmet.1.1.0))
+  command_slots Adopt formed none = go (is_adopted n v.slots) refl
+    where
+      go : (b : Bool) → is_adopted n v.slots ≡ b → (slot_writes n Adopt v Place.NoSlot u ≡ []) ⊎ AreWrites (directory_start v.header) (capacity_of v.header) (slot_writes n Adopt v Place.NoSlot u)
+      go true e = inl (ap (λ (b : Bool). if b then [] else last_slot (capacity_of v.header) u (length v.slots) (redo_entry One n)) e)
+      go false e = inr (subst (λ (b : Bool). AreWrites (directory_start v.header) (capacity_of v.header) (if b then [] else last_slot (capacity_of v.header) u (length v.slots) (redo_entry One n))) (sym e)
+          (adopt_writes n u v tape is (adopt_has_slot n u v tape is none e)))
+  command_slots (Format label slots) formed none = inl refl
+
   -- On an adopted volume a command changes nothing at all, or what one commit of the version takes.
   pub command_changes : (version : Version) (command : VolumeCommand) → is_adopted_with n version v.slots ≡ true → KeepsRedoFile command → IsWellFormed command → refusal_of n command (Some v) ≡ None
       → (changes_of n command v u ≡ []) ⊎ (AreChanges version n (changes_of n command v u) × AreWhole (changes_of n command v u))
-  command_changes version Dir adopted keeps formed none = inl refl
-  command_changes version Label adopted keeps formed none = inl refl
-  command_changes version (Fetch name) adopted keeps formed none = inl refl
-  command_changes version (Store name kind implementation bytes) adopted keeps formed none =
-      let can = storable n v name kind implementation bytes none in
-      inr (subst (λ (p : Place). AreChanges version n (changes_at n (Store name kind implementation bytes) v p u) × AreWhole (changes_at n (Store name kind implementation bytes) v p u)) (sym can.chosen)
-      (writes_are_changes n u v tape is version (stored_writes v can.slot (new_entry name kind can.first (file_length bytes) implementation) u) (directory_below n u v tape is version adopted)
-      (store_writes n u v tape is can.adopted name kind implementation bytes formed can.other can.none_named can.slot can.first can.place)))
-  command_changes version (Rename old later) adopted keeps formed none = go (bytes_eq old later) refl
-    where
-      go : (b : Bool) → bytes_eq old later ≡ b → (changes_of n (Rename old later) v u ≡ []) ⊎ (AreChanges version n (changes_of n (Rename old later) v u) × AreWhole (changes_of n (Rename old later) v u))
-      go true e = inl (ap (λ (b : Bool). changes_by (directory_start v.header) (if b then [] else changed_slot old (with_name later) v.slots) u) e)
-      go false e =
-          let unmet : NoneMet (checks_of n (Rename old later) v) = none_met n (Rename old later) v none in
-          inr (subst (λ (b : Bool). AreChanges version n (changes_by (directory_start v.header) (if b then [] else changed_slot old (with_name later) v.slots) u)
-          × AreWhole (changes_by (directory_start v.header) (if b then [] else changed_slot old (with_name later) v.slots) u)) (sym e)
-          (writes_are_changes n u v tape is version (changed_slot old (with_name later) v.slots) (directory_below n u v tape is version adopted)
-          (rename_writes n u v tape is old later formed.1 (not-false (has_file v.slots old) unmet.1.1.0))))
-  command_changes version (Purge name) adopted keeps formed none =
-      let unmet : NoneMet (checks_of n (Purge name) v) = none_met n (Purge name) v none in
-      inr (writes_are_changes n u v tape is version (changed_slot name (with_type 0) v.slots) (directory_below n u v tape is version adopted)
-      (purge_writes n u v tape is name (not-false (has_file v.slots name) unmet.1.1.0)))
-  command_changes version Adopt adopted keeps formed none =
-      inl (ap (λ (b : Bool). changes_by (directory_start v.header) (if b then [] else last_slot (capacity_of v.header) u (length v.slots) (redo_entry One n)) u) (adopted_at_all version n v.slots adopted))
-  command_changes version (Format label slots) adopted keeps formed none = absurd keeps
+  command_changes version command adopted keeps formed none =
+      let place : Place = chosen_place n command v in
+      subst (λ (cs : Changes). (cs ≡ []) ⊎ (AreChanges version n cs × AreWhole cs)) (sym (changes_by_slots n command v place u keeps)) (elim (command_slots command formed none) [
+        | inl nothing ↦ inl (ap (λ (ws : SlotWrites). changes_by (directory_start v.header) ws u) nothing)
+        | inr writes ↦ inr (writes_are_changes n u v tape is version (slot_writes n command v place u) (directory_below n u v tape is version adopted) writes)
+      ])
 
   -- `adopt` of a volume without a redo file makes what one commit of version 1 takes
   pub adopt_changes : refusal_of n Adopt (Some v) ≡ None → is_adopted n v.slots ≡ false → AreChanges One n (changes_of n Adopt v u) × AreWhole (changes_of n Adopt v u)
@@ -306,3 +323,43 @@ module _ (n : ℕ) (u : Tape) (label : List ℕ) (slots : ℕ) (tape : IsTape n 
 
   pub format_commits : (x : Tape) → IsCommitted One (format_changes n label slots) u x → (volume_of x ≡ Some (fresh_volume n label slots)) × (is_foreign_gated x ≡ false)
   format_commits x done = format_new x (committed_settles One (format_changes n label slots) u x done)
+
+-- ---- what stays
+
+-- the file of a store is written to its own records
+pub file_elsewhere : (command : VolumeCommand) (place : Place) (u : Tape) (k : ℕ) → (IsFileRecord command place k → ⊥) → record_at (with_file command place u) k ≡ record_at u k
+file_elsewhere Dir place u k off = refl
+file_elsewhere Label place u k off = refl
+file_elsewhere (Fetch name) place u k off = refl
+file_elsewhere (Store name kind implementation bytes) (At i first) u k off = elim (cases_lt k first) [
+  | inl before ↦ records_before first (file_records bytes) u k before
+  | inr from ↦ elim (cases_lt k (first + file_length bytes)) [
+    | inl within ↦ absurd (off (from, within))
+    | inr behind ↦ records_behind first (file_records bytes) u k (omega (arith, behind, records_count bytes))
+  ]
+]
+file_elsewhere (Store name kind implementation bytes) Place.NoSlot u k off = refl
+file_elsewhere (Store name kind implementation bytes) Place.NoRoom u k off = refl
+file_elsewhere (Rename old later) place u k off = refl
+file_elsewhere (Purge name) place u k off = refl
+file_elsewhere Adopt place u k off = refl
+file_elsewhere (Format label slots) place u k off = refl
+
+pub length_with_file : (command : VolumeCommand) (place : Place) (u : Tape) → length (with_file command place u) ≡ length u
+length_with_file Dir place u = refl
+length_with_file Label place u = refl
+length_with_file (Fetch name) place u = refl
+length_with_file (Store name kind implementation bytes) (At i first) u = length_records first (file_records bytes) u
+length_with_file (Store name kind implementation bytes) Place.NoSlot u = refl
+length_with_file (Store name kind implementation bytes) Place.NoRoom u = refl
+length_with_file (Rename old later) place u = refl
+length_with_file (Purge name) place u = refl
+length_with_file Adopt place u = refl
+length_with_file (Format label slots) place u = refl
+
+-- Behind an Ok each record below the redo file stays that is neither changed nor one of the file.
+pub record_stays : (version : Version) (n : ℕ) (command : VolumeCommand) (v : Volume) (place : Place) (u x : Tape) (k : ℕ) → IsCommitted version (changes_at n command v place u) (with_file command place u) x
+    → k < redo_start version (length u) → (IsTarget (changes_at n command v place u) k → ⊥) → (IsFileRecord command place k → ⊥) → record_at x k ≡ record_at u k
+record_stays version n command v place u x k done lt off apart =
+    committed_elsewhere version (changes_at n command v place u) (with_file command place u) x k done (subst (λ (m : ℕ). k < redo_start version m) (sym (length_with_file command place u)) lt) off
+    ∙ file_elsewhere command place u k apart

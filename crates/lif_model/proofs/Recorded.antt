@@ -15,11 +15,11 @@ pub length_records : (first : ℕ) (rs : List (List ℕ)) (t : Tape) → length 
 length_records first [] t = refl
 length_records first (r ∷ rs) t = length_records (suc first) rs (set t first r) ∙ length-set t first r
 
-records_before : (first : ℕ) (rs : List (List ℕ)) (t : Tape) (k : ℕ) → k < first → record_at (with_records first rs t) k ≡ record_at t k
+pub records_before : (first : ℕ) (rs : List (List ℕ)) (t : Tape) (k : ℕ) → k < first → record_at (with_records first rs t) k ≡ record_at t k
 records_before first [] t k lt = refl
 records_before first (r ∷ rs) t k lt = records_before (suc first) rs (set t first r) k (omega (arith, lt)) ∙ get_or-set_other t first k r [] (λ e. absurd (omega (arith, e, lt)))
 
-records_behind : (first : ℕ) (rs : List (List ℕ)) (t : Tape) (k : ℕ) → first + length rs ≤ k → record_at (with_records first rs t) k ≡ record_at t k
+pub records_behind : (first : ℕ) (rs : List (List ℕ)) (t : Tape) (k : ℕ) → first + length rs ≤ k → record_at (with_records first rs t) k ≡ record_at t k
 records_behind first [] t k le = refl
 records_behind first (r ∷ rs) t k le = records_behind (suc first) rs (set t first r) k (omega (arith, le)) ∙ get_or-set_other t first k r [] (λ e. absurd (omega (arith, e, le)))
 
