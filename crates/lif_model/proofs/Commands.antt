@@ -20,13 +20,13 @@ use Rattle.lif_model.proofs.Apply.{NoneMet, none_met, not_redo_name}
 use Rattle.lif_model.proofs.Adopted.{redo_behind, redo_entry_tells}
 use Rattle.lif_model.proofs.Lists.{any_at, any_from}
 use Rattle.lif_model.proofs.Directory.{AreWhole, volume_tells, volume_from}
-use Rattle.lif_model.proofs.Writing.{AreEntries, WritesWithin, touches_two, changes_are, changes_whole}
+use Rattle.lif_model.proofs.Writing.{AreEntries, WritesWithin, last_written, touches_two, changes_are, changes_whole}
 use Rattle.lif_model.proofs.Slotted.{IsOn, is_on}
 use Rattle.lif_model.proofs.Written.{Makes, nothing_makes, purge_entries, purge_makes, rename_entries, rename_makes, adopt_entries, adopt_has_slot, adopt_makes, adopt_adopts}
 use Rattle.lif_model.proofs.Formatted.{IsFormatted, format_makes, format_changes_are}
 use Rattle.lif_model.proofs.StoredFile.{stored_entries, stored_makes, store_makes}
 use Rattle.lif_model.proofs.Recorded.{length_records, records_before, records_behind, records_count, file_shape}
-use Rattle.lif_model.proofs.Outcomes.{settles_adopted, settles_clear, stop_leaves, commit_leaves, committed_settles, committed_elsewhere, file_aside}
+use Rattle.lif_model.proofs.Outcomes.{settles_adopted, settles_clear, stop_leaves, commit_leaves, committed_settles, committed_elsewhere, committed_slot, file_aside}
 
 -- ---- what a commit takes
 
@@ -363,3 +363,32 @@ pub record_stays : (version : Version) (n : ℕ) (command : VolumeCommand) (v : 
 record_stays version n command v place u x k done lt off apart =
     committed_elsewhere version (changes_at n command v place u) (with_file command place u) x k done (subst (λ (m : ℕ). k < redo_start version m) (sym (length_with_file command place u)) lt) off
     ∙ file_elsewhere command place u k apart
+
+module _ (n : ℕ) (u : Tape) (v : Volume) (tape : IsTape n u) (is : volume_in u ≡ Some v) where
+  -- the file lies behind the directory
+  file_behind : (command : VolumeCommand) (k : ℕ) → refusal_of n command (Some v) ≡ None → k < directory_end v.header → IsFileRecord command (chosen_place n command v) k → ⊥
+  file_behind Dir k none lt file = file
+  file_behind Label k none lt file = file
+  file_behind (Fetch name) k none lt file = file
+  file_behind (Store name kind implementation bytes) k none lt file =
+      let can = storable n v name kind implementation bytes none in
+      let within = subst (λ (p : Place). IsFileRecord (Store name kind implementation bytes) p k) can.chosen file in
+      absurd (omega (arith, within.0, lt, can.place.low))
+  file_behind (Rename old later) k none lt file = file
+  file_behind (Purge name) k none lt file = file
+  file_behind Adopt k none lt file = file
+  file_behind (Format label slots) k none lt file = file
+
+  -- Behind an Ok each slot, also behind the last one, is what the command wrote of it, or else as before.
+  pub slot_after : (version : Version) (command : VolumeCommand) (x : Tape) (k : ℕ) → directory_end v.header ≤ redo_start version n → KeepsRedoFile command → IsWellFormed command → refusal_of n command (Some v) ≡ None
+      → IsCommitted version (changes_of n command v u) (with_file command (chosen_place n command v) u) x → k < capacity_of v.header
+      → entry_from x (directory_start v.header) k ≡ last_written (slot_writes n command v (chosen_place n command v) u) k (entry_from u (directory_start v.header) k)
+  slot_after version command x k below keeps formed none done lt =
+      let place : Place = chosen_place n command v in
+      committed_slot version n u (with_file command place u) x v (slot_writes n command v place u) k (is_on n u v tape is) (entries (command_slots n u v tape is command formed none)) (file_first n u v tape is command formed none).0
+      (λ j less. file_elsewhere command place u j (file_behind command j none less)) below
+      (subst (λ (cs : Changes). IsCommitted version cs (with_file command place u) x) (changes_by_slots n command v place u keeps) done) lt
+    where
+      entries : {ws : SlotWrites} → (ws ≡ []) ⊎ AreWrites (directory_start v.header) (capacity_of v.header) ws → AreEntries (capacity_of v.header) ws
+      entries (inl nothing) = subst (AreEntries (capacity_of v.header)) (sym nothing) tt
+      entries (inr writes) = writes.entries

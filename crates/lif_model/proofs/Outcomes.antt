@@ -1,12 +1,12 @@
 -- What a command leaves of a tape: what a stop in its commit may leave, and what stands after an Ok.
-use Rattle.std.proofs.Common.{◌≡◌, ◌≢◌, ◌⊎◌, ◌<◌, ◌≤◌, ◌+◌, ◌-◌, ◌*◌, ◌/◌, ◌++◌, ◌&&◌, ◌||◌, ◌==◌, ℕ, zero, suc, nat_lt, nat_le, nat_eq, List, [], ◌∷◌, Bool, true, false, not, if◌then◌else◌, Option, Some, None, length, get_or, filter, inl, inr, refl, sym, ◌∙◌, ap, subst, arith}
+use Rattle.std.proofs.Common.{◌≡◌, ◌≢◌, ◌⊎◌, ◌<◌, ◌≤◌, ◌+◌, ◌-◌, ◌*◌, ◌/◌, ◌%◌, ◌++◌, ◌&&◌, ◌||◌, ◌==◌, ℕ, zero, suc, nat_lt, nat_le, nat_eq, List, [], ◌∷◌, Bool, true, false, not, if◌then◌else◌, Option, Some, None, length, get_or, filter, inl, inr, refl, sym, ◌∙◌, ap, subst, arith}
 use Rattle.std.specs.List.{list_any}
 use Rattle.std.specs.Str.{bytes_eq}
 use Rattle.std.proofs.lemmas.Bool.{cases_eq, cases_lt, cases_Bool, and_parts, and_from, and_left, and_right, or_cases, eqb-true, leb-true, ltb-true, ne_eqb, lt-ltb, not-false, not_from_true}
 use Rattle.lif_model.specs.Tape.{Tape, IsTape, record_at}
 use Rattle.lif_model.specs.Gate.{gate_of, is_open, has_open_gate}
 use Rattle.lif_model.specs.Header.{directory_start, directory_length, directory_end, capacity_of}
-use Rattle.lif_model.specs.Directory.{start_of, length_of, is_purged, slots_of}
+use Rattle.lif_model.specs.Directory.{start_of, length_of, is_purged, entry_at, slots_of}
 use Rattle.lif_model.specs.Made.{file_length, file_records}
 use Rattle.lif_model.specs.Redo.{Version, One, versions, redo_start, zeros, Changes, redo_of, changed, settled, IsSettled}
 use Rattle.lif_model.specs.Commit.{SettlesBelow, IsOldOrNew, IsCommitted, IsTarget}
@@ -14,7 +14,7 @@ use Rattle.lif_model.specs.Transfers.{Replaced}
 use Rattle.lif_model.specs.Legal.{is_live, has_records, occupies, end_of, holds, is_legal}
 use Rattle.lif_model.specs.Volume.{is_redo_entry, is_adopted_with, is_redo_file, is_adopted, is_file, Volume, volume_in, volume_of, is_used, is_gate_held, is_foreign_gated}
 use Rattle.lif_model.specs.Fit.{redo_place}
-use Rattle.lif_model.specs.Writing.{entry_from, SlotWrites, with_slots, changes_by, with_records}
+use Rattle.lif_model.specs.Writing.{slot_record, entry_from, SlotWrites, with_slots, IsSlotWritten, touched, records_on, changes_by, with_records}
 use Rattle.lif_model.proofs.Lists.{any_at, any_from}
 use Rattle.lif_model.proofs.Legal.{legal_tells}
 use Rattle.lif_model.proofs.Slots.{readable_tells}
@@ -23,6 +23,7 @@ use Rattle.lif_model.proofs.Redo.{Elsewhere, length_changed, changed_elsewhere, 
 use Rattle.lif_model.proofs.Volume.{volume_agrees}
 use Rattle.lif_model.proofs.Adopted.{holds_tells, adopted_uses_below, clear_uses_below, clear_gate, settles_below_adopted, settles_below_clear}
 use Rattle.lif_model.proofs.Directory.{volume_tells}
+use Rattle.lif_model.proofs.Writing.{AreEntries, last_written, slot_written, changes_write}
 use Rattle.lif_model.proofs.Slotted.{IsOn, is_on}
 use Rattle.lif_model.proofs.Written.{Makes, file_is_live}
 use Rattle.lif_model.proofs.Recorded.{records_replaced, records_count, length_records}
@@ -102,6 +103,43 @@ not_target (c ∷ cs) k off = ((λ e. off (inl e)), not_target cs k (λ rest. of
 -- a record below the redo file that the commit does not change
 pub committed_elsewhere : (version : Version) (changes : Changes) (t x : Tape) (k : ℕ) → IsCommitted version changes t x → k < redo_start version (length t) → (IsTarget changes k → ⊥) → record_at x k ≡ record_at t k
 committed_elsewhere version changes t x k done lt off = done.below k lt ∙ changed_elsewhere changes t k (not_target changes k off)
+
+-- slots that are not written
+pub not_written : (ws : SlotWrites) (k : ℕ) (old : List ℕ) → (IsSlotWritten ws k → ⊥) → last_written ws k old ≡ old
+not_written [] k old off = refl
+not_written (w ∷ ws) k old off =
+    not_written ws k (if w.0 == k then w.1 else old) (λ rest. off (inr rest)) ∙ ap (λ (b : Bool). if b then w.1 else old) (ne_eqb w.0 k (λ e. off (inl (sym e))))
+
+target_filter : (y : Tape) (test : ℕ → Bool) (ks : List ℕ) (k : ℕ) → IsTarget (records_on y (filter test ks)) k → IsTarget (records_on y ks) k
+target_filter y test [] k target = target
+target_filter y test (j ∷ ks) k target = go (test j) target (λ rest. target_filter y test ks k rest)
+  where
+    go : (b : Bool) → IsTarget (records_on y (if b then j ∷ filter test ks else filter test ks)) k → (IsTarget (records_on y (filter test ks)) k → IsTarget (records_on y ks) k) → (k ≡ j) ⊎ IsTarget (records_on y ks) k
+    go true (inl e) rest = inl e
+    go true (inr more) rest = inr (rest more)
+    go false more rest = inr (rest more)
+
+-- a record that writes of slots change is that of a slot which is written
+pub target_slot : (start : ℕ) (ws : SlotWrites) (y : Tape) (k : ℕ) → IsTarget (records_on y (touched start ws)) k → (j : ℕ) × IsSlotWritten ws j × (k ≡ slot_record start j)
+target_slot start [] y k target = absurd target
+target_slot start (w ∷ ws) y k (inl e) = (w.0, inl refl, e)
+target_slot start (w ∷ ws) y k (inr more) = let found = target_slot start ws y k (target_filter y _ (touched start ws) k more) in (found.0, inr found.1, found.2)
+
+-- Behind an Ok each slot is what was written of it, or else as before, on a tape that agreed with the earlier one in the
+-- directory.
+pub committed_slot : (version : Version) (n : ℕ) (u t x : Tape) (v : Volume) (ws : SlotWrites) (k : ℕ) → IsOn n u v → AreEntries (capacity_of v.header) ws → IsTape n t
+    → ((j : ℕ) → j < directory_end v.header → record_at t j ≡ record_at u j) → directory_end v.header ≤ redo_start version n → IsCommitted version (changes_by (directory_start v.header) ws u) t x → k < capacity_of v.header
+    → entry_from x (directory_start v.header) k ≡ last_written ws k (entry_from u (directory_start v.header) k)
+committed_slot version n u t x v ws k on are tape same below done lt =
+    let start : ℕ = directory_start v.header in
+    let room : ℕ = directory_length v.header in
+    let fits : start + room ≤ n = omega (arith, on.ends) in
+    let within : slot_record start k < directory_end v.header = omega (arith, lt) in
+    let here : record_at x (slot_record start k) ≡ record_at (with_slots start ws t) (slot_record start k) =
+    done.below (slot_record start k) (omega (arith, within, below, ap (redo_start version) tape.records))
+    ∙ ap (λ (y : Tape). record_at y (slot_record start k)) (changes_write start room ws are n u t fits on.tape.records tape.records (λ j low high. same j high)) in
+    ap (λ (bytes : List ℕ). entry_at bytes (k % 8)) here ∙ slot_written start n room ws t k tape fits are lt
+    ∙ ap (λ (bytes : List ℕ). last_written ws k (entry_at bytes (k % 8))) (same (slot_record start k) within)
 
 -- ---- the file of a store
 
