@@ -1,8 +1,10 @@
 -- What each command writes, makes and leaves of a tape.
-use Rattle.std.proofs.Common.{◌≡◌, ◌≢◌, ◌⊎◌, ◌<◌, ◌≤◌, ◌+◌, ◌-◌, ◌*◌, ◌/◌, ◌++◌, ◌&&◌, ◌==◌, ℕ, zero, suc, nat_lt, nat_eq, List, [], ◌∷◌, Bool, true, false, not, if◌then◌else◌, Option, Some, None, length, get_or, filter, inl, inr, refl, sym, ◌∙◌, ap, subst, arith}
+use Rattle.std.proofs.Common.{◌≡◌, ◌≢◌, ◌⊎◌, ◌<◌, ◌≤◌, ◌+◌, ◌-◌, ◌*◌, ◌/◌, ◌++◌, ◌&&◌, ◌==◌, ℕ, zero, suc, nat_lt, nat_eq, List, [], ◌∷◌, Bool, true, false, not, if◌then◌else◌, Option, Some, None, length, get_or, set, insert, filter, length-set, inl, inr, refl, sym, ◌∙◌, ap, subst, arith}
 use Rattle.std.specs.List.{list_any}
 use Rattle.std.specs.Str.{bytes_eq}
-use Rattle.std.proofs.lemmas.Bool.{cases_lt, cases_Bool, and_cases, or_parts, lt-ltb, le-ltb, not-false, ltb-false, ne_eqb}
+use Rattle.std.proofs.lemmas.Bool.{cases_lt, cases_Bool, and_cases, or_parts, and_parts, eqb-true, not-false, ltb-false}
+use Rattle.std.proofs.lemmas.List.{length-map, length_push}
+use Rattle.std.proofs.lemmas.List.Edits.{length-insert}
 use Rattle.lif_model.specs.Tape.{Tape, IsTape, record_at}
 use Rattle.lif_model.specs.Gate.{gate_of}
 use Rattle.lif_model.specs.Header.{directory_start, directory_length, directory_end, capacity_of}
@@ -10,18 +12,18 @@ use Rattle.lif_model.specs.Directory.{slots_of}
 use Rattle.lif_model.specs.Made.{new_entry, with_name, with_type, file_length, file_records}
 use Rattle.lif_model.specs.Redo.{Version, One, Two, redo_start, redo_length, most_targets, Changes, changed}
 use Rattle.lif_model.specs.Commit.{AreChanges, SettlesBelow, IsOldOrNew, IsCommitted, IsTarget}
-use Rattle.lif_model.specs.Legal.{occupies, end_of, has_file, is_legal}
+use Rattle.lif_model.specs.Legal.{occupies, end_of, is_live_named, has_file, is_legal}
 use Rattle.lif_model.specs.Volume.{redo_name, redo_entry, is_redo_entry, is_redo_file, files_of, is_adopted_with, is_adopted, Volume, volume_if, volume_in, volume_of, is_foreign_gated}
 use Rattle.lif_model.specs.Fit.{Place, At, redo_place, fit_in}
-use Rattle.lif_model.specs.Apply.{Refusal, VolumeCommand, Dir, Label, Fetch, Store, Rename, Purge, Adopt, Format, IsWellFormed, lacks_redo, runs_past_gate, is_too_long, is_protected, lacks_slot, lacks_room, checks_of, refusal_of, fresh_volume, stored, volume_after}
+use Rattle.lif_model.specs.Apply.{Refusal, VolumeCommand, Dir, Label, Fetch, Store, Rename, Purge, Adopt, Format, IsWellFormed, lacks_redo, runs_past_gate, is_too_long, is_protected, lacks_slot, lacks_room, checks_of, refusal_of, fresh_volume, stored, renamed, volume_after}
 use Rattle.lif_model.specs.Writing.{slot_record, entry_from, entry_on, SlotWrites, with_slots, IsSlotWritten, touched, changes_by, place_named, ended_behind, last_slot, stored_writes, changed_slot, slot_writes, with_records, with_file, IsFileRecord, format_changes, changes_at, written_at, chosen_place, changes_of, written_by}
-use Rattle.lif_model.proofs.Fit.{IsPlace, fit_tells}
+use Rattle.lif_model.proofs.Fit.{IsCandidate, IsPlace, fit_tells}
 use Rattle.lif_model.proofs.Apply.{NoneMet, none_met, not_redo_name}
 use Rattle.lif_model.proofs.Adopted.{redo_behind, redo_entry_tells}
 use Rattle.lif_model.proofs.Lists.{any_at, any_from}
 use Rattle.lif_model.proofs.Directory.{AreWhole, volume_tells, volume_from}
 use Rattle.lif_model.proofs.Writing.{AreEntries, WritesWithin, last_written, touches_two, changes_are, changes_whole}
-use Rattle.lif_model.proofs.Slotted.{IsOn, is_on}
+use Rattle.lif_model.proofs.Slotted.{IsOn, is_on, last_end_is}
 use Rattle.lif_model.proofs.Written.{Makes, nothing_makes, purge_entries, purge_makes, rename_entries, rename_makes, adopt_entries, adopt_has_slot, adopt_makes, adopt_adopts}
 use Rattle.lif_model.proofs.Formatted.{IsFormatted, format_makes, format_changes_are}
 use Rattle.lif_model.proofs.StoredFile.{stored_entries, stored_makes, store_makes}
@@ -392,3 +394,50 @@ module _ (n : ℕ) (u : Tape) (v : Volume) (tape : IsTape n u) (is : volume_in u
       entries : {ws : SlotWrites} → (ws ≡ []) ⊎ AreWrites (directory_start v.header) (capacity_of v.header) ws → AreEntries (capacity_of v.header) ws
       entries (inl nothing) = subst (AreEntries (capacity_of v.header)) (sym nothing) tt
       entries (inr writes) = writes.entries
+
+  -- ---- the end behind a list of slots that grew
+
+  abbrev EndsAt : ℕ → SlotWrites → Type 0
+  EndsAt m ws = last_written ws m (entry_from u (directory_start v.header) m) ≡ with_type 0xFFFF (entry_on u m)
+
+  stored_end : (i m : ℕ) (entry : List ℕ) (b : Bool) → (b ≡ true → suc i ≡ length v.slots) → m ≡ length (if b then insert v.slots i entry else set v.slots i entry) → length v.slots < m → m < capacity_of v.header
+      → EndsAt m (if b then (i, entry) ∷ last_slot (capacity_of v.header) u (suc i) (get_or v.slots i []) else (i, entry) ∷ [])
+  stored_end i m entry true last at grown lt =
+      let own : suc i ≡ length v.slots = last refl in
+      last_end_is (capacity_of v.header) u (suc i) m (get_or v.slots i []) (if i == m then entry else entry_from u (directory_start v.header) m) (omega (arith, at, own, length-insert v.slots i entry (omega (arith, own)))) lt
+  stored_end i m entry false last at grown lt = absurd (omega (arith, at, grown, length-set v.slots i entry))
+
+  slots_end : (command : VolumeCommand) (m : ℕ) → KeepsRedoFile command → refusal_of n command (Some v) ≡ None → m ≡ length (volume_after n command v).slots → length v.slots < m → m < capacity_of v.header
+      → EndsAt m (slot_writes n command v (chosen_place n command v) u)
+  slots_end Dir m keeps none at grown lt = absurd (omega (arith, at, grown))
+  slots_end Label m keeps none at grown lt = absurd (omega (arith, at, grown))
+  slots_end (Fetch name) m keeps none at grown lt = absurd (omega (arith, at, grown))
+  slots_end (Store name kind implementation bytes) m keeps none at grown lt =
+      let can = storable n v name kind implementation bytes none in
+      let entry : List ℕ = new_entry name kind can.first (file_length bytes) implementation in
+      subst (λ (p : Place). EndsAt m (slot_writes n (Store name kind implementation bytes) v p u)) (sym can.chosen)
+      (stored_end can.slot m entry (nat_eq can.slot (redo_place v.slots)) (λ own. own_is_last can.slot can.place.candidate own)
+      (at ∙ ap (λ (p : Place). length (stored v name kind implementation bytes p).slots) can.chosen) grown lt)
+    where
+      own_is_last : (i : ℕ) → IsCandidate (capacity_of v.header) v.slots i → nat_eq i (redo_place v.slots) ≡ true → suc i ≡ length v.slots
+      own_is_last i (inl purged) own = absurd (omega (arith, purged.0, eqb-true i (redo_place v.slots) own))
+      own_is_last i (inr last) own = omega (arith, last.0, eqb-true (suc (redo_place v.slots)) (length v.slots) (and_parts _ _ last.1).0)
+  slots_end (Rename old later) m keeps none at grown lt = go (bytes_eq old later) at
+    where
+      go : (b : Bool) → m ≡ length (if b then v else renamed v old later).slots → EndsAt m (slot_writes n (Rename old later) v Place.NoSlot u)
+      go true at = absurd (omega (arith, at, grown))
+      go false at = absurd (omega (arith, at, grown, length-map v.slots (λ slot. if is_live_named old slot then with_name later slot else slot)))
+  slots_end (Purge name) m keeps none at grown lt = absurd (omega (arith, at, grown, length-map v.slots (λ slot. if is_live_named name slot then with_type 0 slot else slot)))
+  slots_end Adopt m keeps none at grown lt = go (is_adopted n v.slots) at
+    where
+      go : (b : Bool) → m ≡ length (if b then v else record v { slots = v.slots ++ redo_entry One n ∷ [] }).slots
+          → EndsAt m (if b then [] else last_slot (capacity_of v.header) u (length v.slots) (redo_entry One n))
+      go true at = absurd (omega (arith, at, grown))
+      go false at = last_end_is (capacity_of v.header) u (length v.slots) m (redo_entry One n) (entry_from u (directory_start v.header) m) (omega (arith, at, length_push v.slots (redo_entry One n))) lt
+  slots_end (Format label slots) m keeps none at grown lt = absurd keeps
+
+  -- Where the list of slots grew and a slot follows its last one, that slot has the type of an end and keeps its other bytes.
+  pub grown_ends : (version : Version) (command : VolumeCommand) (x : Tape) (m : ℕ) → directory_end v.header ≤ redo_start version n → KeepsRedoFile command → IsWellFormed command → refusal_of n command (Some v) ≡ None
+      → IsCommitted version (changes_of n command v u) (with_file command (chosen_place n command v) u) x → m ≡ length (volume_after n command v).slots → length v.slots < m → m < capacity_of v.header
+      → entry_from x (directory_start v.header) m ≡ with_type 0xFFFF (entry_on u m)
+  grown_ends version command x m below keeps formed none done at grown lt = slot_after version command x m below keeps formed none done lt ∙ slots_end command m keeps none at grown lt

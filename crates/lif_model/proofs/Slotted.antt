@@ -68,12 +68,11 @@ ended_other capacity u k j old ne = go (nat_lt k capacity)
     go false = refl
     go true = ap (λ (b : Bool). if b then with_type 0xFFFF (entry_on u k) else old) (ne_eqb k j (λ e. ne (sym e)))
 
--- and makes an end of that one
-ended_here : (capacity : ℕ) (u : Tape) (k : ℕ) (old : List ℕ) → k < capacity → length (entry_on u k) ≡ 32 → is_end (last_written (ended_behind capacity u k) k old) ≡ true
-ended_here capacity u k old lt size =
-    ap (λ (b : Bool). is_end (last_written (if b then (k, with_type 0xFFFF (entry_on u k)) ∷ [] else []) k old)) (lt-ltb k capacity lt)
-    ∙ ap (λ (b : Bool). is_end (if b then with_type 0xFFFF (entry_on u k) else old)) (eq-eqb k k refl)
-    ∙ eq-eqb _ 0xFFFF (typed_type 0xFFFF (entry_on u k) (omega (arith, size)))
+-- and gives that one the type of an end, and leaves its other bytes
+ended_is : (capacity : ℕ) (u : Tape) (k : ℕ) (old : List ℕ) → k < capacity → last_written (ended_behind capacity u k) k old ≡ with_type 0xFFFF (entry_on u k)
+ended_is capacity u k old lt =
+    ap (λ (b : Bool). last_written (if b then (k, with_type 0xFFFF (entry_on u k)) ∷ [] else []) k old) (lt-ltb k capacity lt)
+    ∙ ap (λ (b : Bool). if b then with_type 0xFFFF (entry_on u k) else old) (eq-eqb k k refl)
 
 ended_entries : (capacity : ℕ) (u : Tape) (k : ℕ) → ((j : ℕ) → j < capacity → length (entry_on u j) ≡ 32) → AreEntries capacity (ended_behind capacity u k)
 ended_entries capacity u k sizes = elim (cases_lt k capacity) [
@@ -95,11 +94,13 @@ last_here capacity u k entry old =
     ended_other capacity u (suc k) k (if k == k then entry else old) (λ e. absurd (omega (arith, e)))
     ∙ ap (λ (b : Bool). if b then entry else old) (eq-eqb k k refl)
 
-last_end : (capacity : ℕ) (u : Tape) (k m : ℕ) (entry old : List ℕ) → m ≡ suc k → m < capacity → ((j : ℕ) → j < capacity → length (entry_on u j) ≡ 32) → is_end (last_written (last_slot capacity u k entry) m old) ≡ true
-last_end capacity u k m entry old e lt sizes =
+pub last_end_is : (capacity : ℕ) (u : Tape) (k m : ℕ) (entry old : List ℕ) → m ≡ suc k → m < capacity → last_written (last_slot capacity u k entry) m old ≡ with_type 0xFFFF (entry_on u m)
+last_end_is capacity u k m entry old e lt =
     let same : (if k == m then entry else old) ≡ old = ap (λ (b : Bool). if b then entry else old) (ne_eqb k m (λ at. absurd (omega (arith, at, e)))) in
-    ap (λ (j : ℕ). is_end (last_written (ended_behind capacity u j) m (if k == m then entry else old))) (sym e)
-    ∙ ended_here capacity u m (if k == m then entry else old) lt (sizes m lt)
+    ap (λ (j : ℕ). last_written (ended_behind capacity u j) m (if k == m then entry else old)) (sym e) ∙ ended_is capacity u m (if k == m then entry else old) lt
+
+last_end : (capacity : ℕ) (u : Tape) (k m : ℕ) (entry old : List ℕ) → m ≡ suc k → m < capacity → ((j : ℕ) → j < capacity → length (entry_on u j) ≡ 32) → is_end (last_written (last_slot capacity u k entry) m old) ≡ true
+last_end capacity u k m entry old e lt sizes = ap is_end (last_end_is capacity u k m entry old e lt) ∙ eq-eqb _ 0xFFFF (typed_type 0xFFFF (entry_on u m) (omega (arith, sizes m lt)))
 
 -- the live slot of a name is one, and so is the change of it
 pub changed_is_set : (n : ℕ) (header : List ℕ) (slots : List (List ℕ)) (name : List ℕ) (change : List ℕ → List ℕ) → IsLegal n header slots → has_file slots name ≡ true
