@@ -1,8 +1,8 @@
 -- What each command writes, makes and leaves of a tape.
-use Rattle.std.proofs.Common.{◌≡◌, ◌≢◌, ◌⊎◌, ◌<◌, ◌≤◌, ◌+◌, ◌-◌, ◌*◌, ◌/◌, ◌++◌, ◌&&◌, ◌==◌, ℕ, zero, suc, nat_lt, nat_eq, List, [], ◌∷◌, Bool, true, false, not, if◌then◌else◌, Option, Some, None, length, get_or, set, insert, filter, length-set, inl, inr, refl, sym, ◌∙◌, ap, subst, arith}
+use Rattle.std.proofs.Common.{◌≡◌, ◌≢◌, ◌⊎◌, ◌<◌, ◌≤◌, ◌+◌, ◌-◌, ◌*◌, ◌++◌, ◌&&◌, ◌==◌, ℕ, suc, nat_lt, nat_eq, List, [], ◌∷◌, Bool, true, false, if◌then◌else◌, Option, Some, None, length, get_or, set, insert, filter, length-set, inl, inr, refl, sym, ◌∙◌, ap, subst, arith}
 use Rattle.std.specs.List.{list_any}
 use Rattle.std.specs.Str.{bytes_eq}
-use Rattle.std.proofs.lemmas.Bool.{cases_lt, cases_Bool, and_cases, or_parts, and_parts, eqb-true, not-false, ltb-false}
+use Rattle.std.proofs.lemmas.Bool.{cases_lt, and_cases, and_parts, eqb-true, not-false, ltb-false}
 use Rattle.std.proofs.lemmas.List.{length-map, length_push}
 use Rattle.std.proofs.lemmas.List.Edits.{length-insert}
 use Rattle.lif_model.specs.Tape.{Tape, IsTape, record_at}
@@ -10,23 +10,23 @@ use Rattle.lif_model.specs.Gate.{gate_of}
 use Rattle.lif_model.specs.Header.{directory_start, directory_length, directory_end, capacity_of}
 use Rattle.lif_model.specs.Directory.{slots_of}
 use Rattle.lif_model.specs.Made.{new_entry, with_name, with_type, file_length, file_records}
-use Rattle.lif_model.specs.Redo.{Version, One, Two, redo_start, redo_length, most_targets, Changes, changed}
+use Rattle.lif_model.specs.Redo.{Version, One, Two, redo_start, most_targets, Changes, changed}
 use Rattle.lif_model.specs.Commit.{AreChanges, SettlesBelow, IsOldOrNew, IsCommitted, IsTarget}
-use Rattle.lif_model.specs.Legal.{occupies, end_of, is_live_named, has_file, is_legal}
-use Rattle.lif_model.specs.Volume.{redo_name, redo_entry, is_redo_entry, is_redo_file, files_of, is_adopted_with, is_adopted, Volume, volume_if, volume_in, volume_of, is_foreign_gated}
+use Rattle.lif_model.specs.Legal.{occupies, end_of, is_live_named, has_file}
+use Rattle.lif_model.specs.Volume.{redo_name, redo_entry, is_redo_entry, files_of, is_adopted_with, is_adopted, Volume, volume_in, volume_of, is_foreign_gated}
 use Rattle.lif_model.specs.Fit.{Place, At, redo_place, fit_in}
-use Rattle.lif_model.specs.Apply.{Refusal, VolumeCommand, Dir, Label, Fetch, Store, Rename, Purge, Adopt, Format, IsWellFormed, lacks_redo, runs_past_gate, is_too_long, is_protected, lacks_slot, lacks_room, checks_of, refusal_of, fresh_volume, stored, renamed, volume_after}
-use Rattle.lif_model.specs.Writing.{slot_record, entry_from, entry_on, SlotWrites, with_slots, IsSlotWritten, touched, changes_by, place_named, ended_behind, last_slot, stored_writes, changed_slot, slot_writes, with_records, with_file, IsFileRecord, format_changes, changes_at, written_at, chosen_place, changes_of, written_by}
+use Rattle.lif_model.specs.Apply.{Refusal, VolumeCommand, Dir, Label, Fetch, Store, Rename, Purge, Adopt, Format, IsWellFormed, lacks_redo, runs_past_gate, is_too_long, lacks_slot, lacks_room, checks_of, refusal_of, fresh_volume, stored, renamed, volume_after}
+use Rattle.lif_model.specs.Writing.{slot_record, entry_from, entry_on, SlotWrites, touched, changes_by, last_slot, stored_writes, changed_slot, slot_writes, with_file, IsFileRecord, format_changes, changes_at, chosen_place, changes_of, written_by}
 use Rattle.lif_model.proofs.Fit.{IsCandidate, IsPlace, fit_tells}
 use Rattle.lif_model.proofs.Apply.{NoneMet, none_met, not_redo_name}
-use Rattle.lif_model.proofs.Adopted.{redo_behind, redo_entry_tells}
-use Rattle.lif_model.proofs.Lists.{any_at, any_from}
+use Rattle.lif_model.proofs.Adopted.{redo_behind}
+use Rattle.lif_model.proofs.Lists.{any_at}
 use Rattle.lif_model.proofs.Directory.{AreWhole, volume_tells, volume_from}
 use Rattle.lif_model.proofs.Writing.{AreEntries, WritesWithin, last_written, touches_two, changes_are, changes_whole}
 use Rattle.lif_model.proofs.Slotted.{IsOn, is_on, last_end_is}
 use Rattle.lif_model.proofs.Written.{Makes, nothing_makes, purge_entries, purge_makes, rename_entries, rename_makes, adopt_entries, adopt_has_slot, adopt_makes, adopt_adopts}
-use Rattle.lif_model.proofs.Formatted.{IsFormatted, format_makes, format_changes_are}
-use Rattle.lif_model.proofs.StoredFile.{stored_entries, stored_makes, store_makes}
+use Rattle.lif_model.proofs.Formatted.{format_makes}
+use Rattle.lif_model.proofs.StoredFile.{stored_entries, store_makes}
 use Rattle.lif_model.proofs.Recorded.{length_records, records_before, records_behind, records_count, file_shape}
 use Rattle.lif_model.proofs.Outcomes.{settles_adopted, settles_clear, stop_leaves, commit_leaves, committed_settles, committed_elsewhere, committed_slot, file_aside}
 

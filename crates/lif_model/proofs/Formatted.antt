@@ -1,5 +1,5 @@
 -- The tape that `format` makes of any tape.
-use Rattle.std.proofs.Common.{◌≡◌, ◌<◌, ◌≤◌, ◌+◌, ◌-◌, ◌*◌, ◌/◌, ◌%◌, ◌++◌, ◌==◌, ℕ, zero, suc, List, [], ◌∷◌, Bool, true, false, Some, length, get_or, set, take, drop, replicate, refl, sym, ◌∙◌, ap, subst, arith, length-append, length-set, append_assoc, get_or-set_same, get_or-set_other}
+use Rattle.std.proofs.Common.{◌≡◌, ◌<◌, ◌≤◌, ◌+◌, ◌-◌, ◌*◌, ◌/◌, ◌%◌, ◌++◌, ◌==◌, ℕ, zero, suc, List, [], ◌∷◌, true, false, Some, length, get_or, set, take, drop, replicate, refl, sym, ◌∙◌, ap, arith, length-append, length-set, append_assoc, get_or-set_same, get_or-set_other}
 use Rattle.std.specs.FinMap.{empty}
 use Rattle.std.proofs.lemmas.Bool.{and_from, and_right, eq-eqb, lt-ltb, not_from_true, ltb-false}
 use Rattle.std.proofs.lemmas.List.{take_at, drop_at, ext_get_or, length-take-le, get_or-take}
@@ -8,7 +8,7 @@ use Rattle.lif_model.specs.Shelf.{piece}
 use Rattle.lif_model.specs.Header.{directory_start, directory_length}
 use Rattle.lif_model.specs.Directory.{is_end, entry_at, entries_from, before_end, slots_of}
 use Rattle.lif_model.specs.Made.{end_entry, first_directory_record, fresh_header, records_for_slots}
-use Rattle.lif_model.specs.Redo.{One, redo_start, are_targets, targets_in, changed}
+use Rattle.lif_model.specs.Redo.{One, redo_start, changed}
 use Rattle.lif_model.specs.Commit.{AreChanges}
 use Rattle.lif_model.specs.Volume.{redo_name, redo_type, redo_entry, is_redo_entry, is_adopted_with, is_file, volume_in}
 use Rattle.lif_model.specs.Apply.{Format, IsWellFormed, is_too_long, fresh_volume}
@@ -34,8 +34,7 @@ unfolding first_directory_record entry_at
 first_is entry size =
     let sum : length (entry ++ end_entry) ≡ 64 = length-append entry end_entry ∙ omega (arith, size, end_size) in
     let rest : List ℕ = replicate (256 - length (entry ++ end_entry)) 0 in
-    let is : piece (entry ++ end_entry) ≡ entry ++ (end_entry ++ rest) = piece_short (entry ++ end_entry) (omega (arith, sum)) ∙ append_assoc entry end_entry rest in
-    (
+    let is : piece (entry ++ end_entry) ≡ entry ++ (end_entry ++ rest) = piece_short (entry ++ end_entry) (omega (arith, sum)) ∙ append_assoc entry end_entry rest in (
       ap (take 32) is ∙ take_at entry (end_entry ++ rest) 32 size,
       ap (λ (bytes : List ℕ). take 32 (drop 32 bytes)) is ∙ ap (take 32) (drop_at entry (end_entry ++ rest) 32 size) ∙ take_at end_entry rest 32 end_size,
     )

@@ -1,9 +1,8 @@
 -- A file's records written one after the other.
-use Rattle.std.proofs.Common.{◌≡◌, ◌<◌, ◌≤◌, ◌+◌, ◌-◌, ◌*◌, ◌++◌, ℕ, zero, suc, List, [], ◌∷◌, inl, inr, length, get_or, set, take, drop, refl, sym, ◌∙◌, ap, subst, arith, length-set, get_or-set_same, get_or-set_other}
+use Rattle.std.proofs.Common.{◌≡◌, ◌<◌, ◌≤◌, ◌+◌, ◌-◌, ◌*◌, ℕ, zero, suc, List, [], ◌∷◌, inl, inr, length, get_or, set, drop, refl, sym, ◌∙◌, ap, arith, length-set, get_or-set_same, get_or-set_other}
 use Rattle.std.proofs.lemmas.Bool.{cases_lt}
 use Rattle.std.proofs.lemmas.List.{ext_get_or}
 use Rattle.lif_model.specs.Tape.{Tape, IsTape, record_at}
-use Rattle.lif_model.specs.Shelf.{piece, cut}
 use Rattle.lif_model.specs.Made.{file_length, file_records}
 use Rattle.lif_model.specs.Transfers.{Replaced}
 use Rattle.lif_model.specs.Writing.{with_records}

@@ -1,13 +1,13 @@
 -- The slots of a tape into whose directory slots were written.
-use Rattle.std.proofs.Common.{◌≡◌, ◌≢◌, ◌⊎◌, ◌<◌, ◌≤◌, ◌+◌, ◌-◌, ◌*◌, ◌/◌, ◌%◌, ◌++◌, ℕ, zero, suc, List, [], ◌∷◌, Bool, true, false, not, if◌then◌else◌, length, get_or, set, insert, map, take, inl, inr, refl, sym, ◌∙◌, ap, subst, arith, length-take, length-set, get_or-take, get_or-set_same, get_or-set_other}
+use Rattle.std.proofs.Common.{◌≡◌, ◌≢◌, ◌⊎◌, ◌<◌, ◌≤◌, ◌+◌, ◌*◌, ◌%◌, ◌++◌, ℕ, suc, List, [], ◌∷◌, Bool, true, false, not, if◌then◌else◌, length, get_or, set, insert, take, inl, inr, refl, sym, ◌∙◌, ap, subst, arith, length-set, get_or-take, get_or-set_same, get_or-set_other}
 use Rattle.std.specs.Prelude.{◌==◌, nat_lt, Some}
 use Rattle.std.specs.List.{prefix_len}
 use Rattle.std.proofs.lemmas.Bool.{cases_eq, cases_lt, lt-ltb, le-ltb, eq-eqb, ne_eqb, false_from_ne_true}
 use Rattle.std.proofs.lemmas.List.{ext_get_or, length-map, get_or-map, length_push, length-take-le}
-use Rattle.std.proofs.lemmas.List.Edits.{length-insert, get_or-insert_below, get_or-insert_at, get_or-insert_above}
+use Rattle.std.proofs.lemmas.List.Edits.{length-insert, get_or-insert_below, get_or-insert_above}
 use Rattle.lif_model.specs.Tape.{Tape, IsTape, record_at}
 use Rattle.lif_model.specs.Header.{directory_start, directory_length, directory_end, capacity_of}
-use Rattle.lif_model.specs.Directory.{is_end, entry_at, entries_from, before_end, slots_of}
+use Rattle.lif_model.specs.Directory.{is_end, entries_from, before_end, slots_of}
 use Rattle.lif_model.specs.Made.{with_type}
 use Rattle.lif_model.specs.Legal.{is_live_named, has_file, IsLegal}
 use Rattle.lif_model.specs.Volume.{Volume, IsVolume, volume_in}
@@ -17,7 +17,7 @@ use Rattle.lif_model.proofs.Made.{typed_type, typed_size}
 use Rattle.lif_model.proofs.Slots.{readable_tells, HasNew, before_insert, insert_new, push_new}
 use Rattle.lif_model.proofs.Adopted.{position_tells, one_of_name}
 use Rattle.lif_model.proofs.Directory.{entry_size, entries_count, entry_of_all, before_end_at, slot_at, volume_tells, volume_in_is}
-use Rattle.lif_model.proofs.Writing.{AreEntries, untouched, last_written, slots_elsewhere, slots_shape, slot_written}
+use Rattle.lif_model.proofs.Writing.{AreEntries, untouched, last_written, slots_elsewhere, slot_written}
 
 -- behind the slots stands an end, or the directory is full
 stops : (xs : List (List ℕ)) → length (before_end xs) < length xs → is_end (get_or xs (length (before_end xs)) []) ≡ true
@@ -107,12 +107,15 @@ pub changed_is_set : (n : ℕ) (header : List ℕ) (slots : List (List ℕ)) (na
     → (place_named name slots < length slots) × (is_live_named name (get_or slots (place_named name slots) []) ≡ true)
     × (set slots (place_named name slots) (change (get_or slots (place_named name slots) [])) ≡ with_slot name change slots)
 changed_is_set n header slots name change legal there =
-    let found = position_tells [] (is_live_named name) slots there in
-    (found.0, found.1, ext_get_or [] (set slots p (change (get_or slots p []))) (with_slot name change slots)
-    (length-set slots p (change (get_or slots p [])) ∙ sym (length-map slots (λ slot. if is_live_named name slot then change slot else slot)))
-    (λ k lt.
-    let less : k < length slots = omega (arith, lt, length-set slots p (change (get_or slots p []))) in
-    each found.0 found.1 k less (cases_eq k p) ∙ sym (get_or-map (λ slot. if is_live_named name slot then change slot else slot) slots k [] [] less)))
+    let found = position_tells [] (is_live_named name) slots there in (
+      found.0,
+      found.1,
+      ext_get_or [] (set slots p (change (get_or slots p []))) (with_slot name change slots)
+          (length-set slots p (change (get_or slots p [])) ∙ sym (length-map slots (λ slot. if is_live_named name slot then change slot else slot)))
+          (λ k lt.
+          let less : k < length slots = omega (arith, lt, length-set slots p (change (get_or slots p []))) in
+          each found.0 found.1 k less (cases_eq k p) ∙ sym (get_or-map (λ slot. if is_live_named name slot then change slot else slot) slots k [] [] less)),
+    )
   where
     p : ℕ
     p = place_named name slots

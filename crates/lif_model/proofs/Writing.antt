@@ -1,5 +1,5 @@
 -- Slots written into a directory: what they leave of each record and of each slot, and the changes that write them.
-use Rattle.std.proofs.Common.{◌≡◌, ◌≢◌, ◌⊎◌, ◌<◌, ◌≤◌, ◌+◌, ◌-◌, ◌*◌, ◌/◌, ◌%◌, ◌++◌, ℕ, zero, suc, List, [], ◌∷◌, Bool, true, false, not, if◌then◌else◌, length, get_or, set, take, drop, map, filter, inl, inr, refl, sym, ◌∙◌, ap, subst, arith, length-append, length-drop, length-set, get_or-take, get_or-drop, get_or-set_same, get_or-set_other}
+use Rattle.std.proofs.Common.{◌≡◌, ◌≢◌, ◌⊎◌, ◌<◌, ◌≤◌, ◌+◌, ◌-◌, ◌*◌, ◌%◌, ◌++◌, ℕ, List, [], ◌∷◌, Bool, true, false, not, if◌then◌else◌, length, get_or, set, take, drop, filter, inl, inr, refl, sym, ◌∙◌, ap, subst, arith, length-append, length-drop, length-set, get_or-take, get_or-drop, get_or-set_same, get_or-set_other}
 use Rattle.std.specs.Prelude.{◌==◌, nat_eq, nat_lt}
 use Rattle.std.specs.List.{list_all}
 use Rattle.std.proofs.lemmas.Bool.{cases_eq, cases_lt, cases_Bool, and_parts, and_from, lt-ltb, le-leb, eq-eqb, ne_eqb, eqb-true, not_from_false, not_from_true}

@@ -9,7 +9,7 @@ use Rattle.lif_model.specs.Made.{new_entry, with_name, with_type, first_director
 use Rattle.lif_model.specs.Shelf.{piece}
 use Rattle.lif_model.specs.Volume.{Volume}
 use Rattle.lif_model.specs.Apply.{VolumeCommand, Dir, Store, Rename, Purge, Adopt, Format}
-use Rattle.lif_model.specs.Writing.{with_entry, entry_on, touched, changes_of, written_by}
+use Rattle.lif_model.specs.Writing.{with_entry, touched, changes_of, written_by}
 use Rattle.lif_model.proofs.Examples as base
 use Rattle.lif_model.proofs.VolumeExamples.{file, purged, a_name, b_name, numbered}
 

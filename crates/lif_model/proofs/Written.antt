@@ -1,10 +1,10 @@
 -- The volume of the tape that a command makes.
-use Rattle.std.proofs.Common.{◌≡◌, ◌≢◌, ◌⊎◌, ◌<◌, ◌≤◌, ◌+◌, ◌-◌, ◌*◌, ◌++◌, ◌&&◌, ◌||◌, ◌==◌, ℕ, zero, suc, nat_eq, List, [], ◌∷◌, Bool, true, false, not, if◌then◌else◌, Option, Some, None, length, get_or, set, insert, map, find, replicate, inl, inr, refl, sym, ◌∙◌, ap, subst, arith, length-set, get_or-set_same, get_or-set_other}
+use Rattle.std.proofs.Common.{◌≡◌, ◌≢◌, ◌⊎◌, ◌<◌, ◌≤◌, ◌++◌, ◌&&◌, ◌||◌, ◌==◌, ℕ, List, [], ◌∷◌, Bool, true, false, not, if◌then◌else◌, Option, Some, None, length, get_or, set, find, replicate, inl, inr, refl, sym, ◌∙◌, ap, subst, arith, length-set, get_or-set_other}
 use Rattle.std.specs.Prelude.{option_map}
 use Rattle.std.specs.List.{list_any}
 use Rattle.std.specs.Str.{bytes_eq}
 use Rattle.std.specs.FinMap.{get, remove}
-use Rattle.std.proofs.lemmas.Bool.{cases_eq, cases_Bool, and_parts, and_from, and_cases, or_parts, and_right, not-true, not-false, not_from_true, not_from_false, eq-eqb, leb-false, false_from_ne_true, lt-ltb}
+use Rattle.std.proofs.lemmas.Bool.{cases_eq, cases_Bool, and_parts, and_from, and_cases, or_parts, and_right, not-false, not_from_true, not_from_false, eq-eqb, leb-false, false_from_ne_true, lt-ltb}
 use Rattle.std.proofs.lemmas.List.{length-map, get_or-map, length_push, get_or_append_left}
 use Rattle.std.proofs.lemmas.Slice.Eq.{bytes_eq-Decides}
 use Rattle.lif_model.specs.Tape.{Tape, IsTape, record_at, bytes_from}
@@ -12,9 +12,9 @@ use Rattle.lif_model.specs.Header.{directory_start, directory_length, directory_
 use Rattle.lif_model.specs.Directory.{name_of, type_of, start_of, length_of, is_end, slots_of}
 use Rattle.lif_model.specs.Made.{with_name, with_type}
 use Rattle.lif_model.specs.Redo.{Version, One, redo_start, changed}
-use Rattle.lif_model.specs.Legal.{is_live, occupies, end_of, holds, is_live_named, has_file, is_legal_with, is_legal, IsLegal}
-use Rattle.lif_model.specs.Volume.{redo_name, redo_type, redo_entry, is_redo_entry, is_adopted_with, is_redo_file, is_adopted, Files, is_file, content_of, file_named, files_of, Volume, volume_in, IsVolume, IsAdopted}
-use Rattle.lif_model.specs.Apply.{Purge, Rename, Adopt, IsWellFormed, lacks_redo, is_protected, is_full, checks_of, refusal_of, with_slot, moved_key, renamed, volume_after}
+use Rattle.lif_model.specs.Legal.{is_live, occupies, holds, is_live_named, has_file, is_legal_with, is_legal, IsLegal}
+use Rattle.lif_model.specs.Volume.{redo_name, redo_type, redo_entry, is_redo_entry, is_adopted_with, is_redo_file, is_adopted, Files, is_file, content_of, files_of, Volume, volume_in, IsAdopted}
+use Rattle.lif_model.specs.Apply.{Purge, Rename, Adopt, IsWellFormed, is_protected, is_full, checks_of, refusal_of, with_slot, moved_key, renamed, volume_after}
 use Rattle.lif_model.specs.Writing.{entry_on, last_slot, place_named, changed_slot, SlotWrites, with_slots, changes_by, written_by}
 use Rattle.lif_model.proofs.Lists.{any_at, any_from, none_at}
 use Rattle.lif_model.proofs.Legal.{legal_from}
