@@ -91,8 +91,8 @@ module _ (n : ℕ) (u : Tape) (v : Volume) (tape : IsTape n u) (is : volume_in u
       entry : List ℕ
       entry = new_entry name kind first (file_length bytes) implementation
 
-      by : (b : Bool) → (0 < length (if b then (i, entry) ∷ last_slot (capacity_of v.header) u (suc i) (get_or v.slots i []) else (i, entry) ∷ []))
-          × WritesWithin start (slot_record start i) (slot_record start i + 2) (if b then (i, entry) ∷ last_slot (capacity_of v.header) u (suc i) (get_or v.slots i []) else (i, entry) ∷ [])
+      by : (b : Bool) → (0 < length ((i, entry) ∷ (if b then last_slot (capacity_of v.header) u (suc i) (get_or v.slots i []) else [])))
+          × WritesWithin start (slot_record start i) (slot_record start i + 2) ((i, entry) ∷ (if b then last_slot (capacity_of v.header) u (suc i) (get_or v.slots i []) else []))
       by true = (omega arith, (omega arith, omega arith, last_within start (slot_record start i) (capacity_of v.header) u (suc i) (get_or v.slots i []) (omega arith) (omega arith)))
       by false = (omega arith, (omega arith, omega arith, tt))
 
@@ -132,7 +132,8 @@ changes_by_slots n (Purge name) v place u keeps = refl
 changes_by_slots n Adopt v place u keeps = refl
 changes_by_slots n (Format label slots) v place u keeps = absurd keeps
 
--- of a volume that lacks a redo file, no live file reaches past the gate where a command that makes one is not refused
+-- of a volume that lacks a redo file, no live file reaches past the gate where a command that makes
+-- one is not refused
 adopted_or_clear : (n : ℕ) (v : Volume) → (lacks_redo n v && runs_past_gate n v) ≡ false → (is_adopted n v.slots ≡ true) ⊎ (runs_past_gate n v ≡ false)
 adopted_or_clear n v unmet = elim (and_cases (lacks_redo n v) (runs_past_gate n v) unmet) [
   | inl there ↦ inl (not-false (is_adopted n v.slots) there)
@@ -381,7 +382,8 @@ module _ (n : ℕ) (u : Tape) (v : Volume) (tape : IsTape n u) (is : volume_in u
   file_behind Adopt k none lt file = file
   file_behind (Format label slots) k none lt file = file
 
-  -- Behind an Ok each slot, also behind the last one, is what the command wrote of it, or else as before.
+  -- Behind an Ok each slot, also behind the last one, is what the command wrote of it, or else as
+  -- before.
   pub slot_after : (version : Version) (command : VolumeCommand) (x : Tape) (k : ℕ) → directory_end v.header ≤ redo_start version n → KeepsRedoFile command → IsWellFormed command → refusal_of n command (Some v) ≡ None
       → IsCommitted version (changes_of n command v u) (with_file command (chosen_place n command v) u) x → k < capacity_of v.header
       → entry_from x (directory_start v.header) k ≡ last_written (slot_writes n command v (chosen_place n command v) u) k (entry_from u (directory_start v.header) k)
@@ -401,7 +403,7 @@ module _ (n : ℕ) (u : Tape) (v : Volume) (tape : IsTape n u) (is : volume_in u
   EndsAt m ws = last_written ws m (entry_from u (directory_start v.header) m) ≡ with_type 0xFFFF (entry_on u m)
 
   stored_end : (i m : ℕ) (entry : List ℕ) (b : Bool) → (b ≡ true → suc i ≡ length v.slots) → m ≡ length (if b then insert v.slots i entry else set v.slots i entry) → length v.slots < m → m < capacity_of v.header
-      → EndsAt m (if b then (i, entry) ∷ last_slot (capacity_of v.header) u (suc i) (get_or v.slots i []) else (i, entry) ∷ [])
+      → EndsAt m ((i, entry) ∷ (if b then last_slot (capacity_of v.header) u (suc i) (get_or v.slots i []) else []))
   stored_end i m entry true last at grown lt =
       let own : suc i ≡ length v.slots = last refl in
       last_end_is (capacity_of v.header) u (suc i) m (get_or v.slots i []) (if i == m then entry else entry_from u (directory_start v.header) m) (omega (arith, at, own, length-insert v.slots i entry (omega (arith, own)))) lt
@@ -436,7 +438,8 @@ module _ (n : ℕ) (u : Tape) (v : Volume) (tape : IsTape n u) (is : volume_in u
       go false at = last_end_is (capacity_of v.header) u (length v.slots) m (redo_entry One n) (entry_from u (directory_start v.header) m) (omega (arith, at, length_push v.slots (redo_entry One n))) lt
   slots_end (Format label slots) m keeps none at grown lt = absurd keeps
 
-  -- Where the list of slots grew and a slot follows its last one, that slot has the type of an end and keeps its other bytes.
+  -- Where the list of slots grew and a slot follows its last one, that slot has the type of an end
+  -- and keeps its other bytes.
   pub grown_ends : (version : Version) (command : VolumeCommand) (x : Tape) (m : ℕ) → directory_end v.header ≤ redo_start version n → KeepsRedoFile command → IsWellFormed command → refusal_of n command (Some v) ≡ None
       → IsCommitted version (changes_of n command v u) (with_file command (chosen_place n command v) u) x → m ≡ length (volume_after n command v).slots → length v.slots < m → m < capacity_of v.header
       → entry_from x (directory_start v.header) m ≡ with_type 0xFFFF (entry_on u m)

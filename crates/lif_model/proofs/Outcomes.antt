@@ -1,4 +1,5 @@
--- What a command leaves of a tape: what a stop in its commit may leave, and what stands after an Ok.
+-- What a command leaves of a tape: what a stop in its commit may leave, and what stands after an
+-- Ok.
 use Rattle.std.proofs.Common.{◌≡◌, ◌⊎◌, ◌<◌, ◌≤◌, ◌+◌, ◌%◌, ◌&&◌, ◌==◌, ℕ, nat_lt, nat_le, List, [], ◌∷◌, Bool, true, false, if◌then◌else◌, Some, length, get_or, filter, inl, inr, refl, sym, ◌∙◌, ap, subst, arith}
 use Rattle.std.specs.List.{list_any}
 use Rattle.std.proofs.lemmas.Bool.{and_parts, and_left, and_right, or_cases, eqb-true, ltb-true, ne_eqb, lt-ltb, not_from_true}
@@ -35,8 +36,8 @@ settles_adopted version n t x v tape is adopted settles =
     let both = settles_below_adopted version t x tells.0 ((λ i. is_adopted_with (tape.records i) version (sym tells.2 i)) ∙ adopted) settles in
     (both.0 ∙ is, both.1)
 
--- or, in a commit of version 1, where no file reaches past the gate: the volume is adopted with any version, or it is
--- clear, or there is none
+-- or, in a commit of version 1, where no file reaches past the gate: the volume is adopted with any
+-- version, or it is clear, or there is none
 pub settles_clear : (n : ℕ) (t x : Tape) → IsTape n t → 4 < n
     → (is_legal t ≡ true → (is_adopted n (slots_of t) ≡ true) ⊎ (list_any (λ slot. nat_lt (gate_of n) (end_of slot)) (filter occupies (slots_of t)) ≡ false))
     → SettlesBelow One t x → (volume_of x ≡ volume_in t) × (is_foreign_gated x ≡ false)
@@ -122,8 +123,8 @@ target_slot start [] y k target = absurd target
 target_slot start (w ∷ ws) y k (inl e) = (w.0, inl refl, e)
 target_slot start (w ∷ ws) y k (inr more) = let found = target_slot start ws y k (target_filter y _ (touched start ws) k more) in (found.0, inr found.1, found.2)
 
--- Behind an Ok each slot is what was written of it, or else as before, on a tape that agreed with the earlier one in the
--- directory.
+-- Behind an Ok each slot is what was written of it, or else as before, on a tape that agreed with
+-- the earlier one in the directory.
 pub committed_slot : (version : Version) (n : ℕ) (u t x : Tape) (v : Volume) (ws : SlotWrites) (k : ℕ) → IsOn n u v → AreEntries (capacity_of v.header) ws → IsTape n t
     → ((j : ℕ) → j < directory_end v.header → record_at t j ≡ record_at u j) → directory_end v.header ≤ redo_start version n → IsCommitted version (changes_by (directory_start v.header) ws u) t x → k < capacity_of v.header
     → entry_from x (directory_start v.header) k ≡ last_written ws k (entry_from u (directory_start v.header) k)

@@ -165,8 +165,8 @@ module _ (n : ℕ) (t : Tape) (v : Volume) (on : IsOn n t v) where
   pub header_stays : (ws : SlotWrites) → AreEntries (capacity_of v.header) ws → record_at (with_slots start ws t) 0 ≡ record_at t 0
   header_stays ws are = slots_elsewhere start ws t 0 (untouched start room ws 0 are (inl on.starts))
 
-  -- The slots of the tape behind the writes: those that were written, and the others as before, up to an end or to the end
-  -- of the room.
+  -- The slots of the tape behind the writes: those that were written, and the others as before, up
+  -- to an end or to the end of the room.
   pub slots_become : (ws : SlotWrites) (later : List (List ℕ)) → AreEntries (capacity_of v.header) ws → length later ≤ capacity_of v.header
       → ((k : ℕ) → k < length later → last_written ws k (entry_from t start k) ≡ get_or later k [])
       → ((k : ℕ) → k < length later → is_end (get_or later k []) ≡ false)

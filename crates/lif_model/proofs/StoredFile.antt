@@ -185,7 +185,8 @@ module _ (n : ℕ) (u : Tape) (v : Volume) (tape : IsTape n u) (is : volume_in u
       carried k less le (inl under) = (k, omega (arith, less, length-insert v.slots i entry le), get_or-insert_below v.slots i entry [] k under le)
       carried k less le (inr over) = (k + 1, omega (arith, less, length-insert v.slots i entry le), get_or-insert_above v.slots i entry [] k over le)
 
-  -- the place is that of a purged slot, or that of the redo entry, which is the last slot and moves on
+  -- the place is that of a purged slot, or that of the redo entry, which is the last slot and moves
+  -- on
   place_cases : ((nat_eq i (redo_place v.slots) ≡ false) × (i < redo_place v.slots) × (i < length v.slots) × (is_purged (get_or v.slots i []) ≡ true))
       ⊎ ((nat_eq i (redo_place v.slots) ≡ true) × (i ≡ redo_place v.slots) × (suc i ≡ length v.slots) × (length v.slots < capacity_of v.header) × (can_append (capacity_of v.header) v.slots ≡ true))
   place_cases = elim place.candidate [
@@ -205,10 +206,10 @@ module _ (n : ℕ) (u : Tape) (v : Volume) (tape : IsTape n u) (is : volume_in u
     where
       by : (b : Bool) → nat_eq i (redo_place v.slots) ≡ b
           → Makes n v (record { header = v.header; slots = if b then insert v.slots i entry else set v.slots i entry; files = maps.insert v.files name (filled bytes) })
-          (changed (changes_by (directory_start v.header) (if b then (i, entry) ∷ last_slot (capacity_of v.header) u (suc i) (get_or v.slots i []) else (i, entry) ∷ []) u) t)
+          (changed (changes_by (directory_start v.header) ((i, entry) ∷ (if b then last_slot (capacity_of v.header) u (suc i) (get_or v.slots i []) else [])) u) t)
           → Makes n v (stored v name kind implementation bytes (At i start)) (written_at n (Store name kind implementation bytes) v (At i start) u)
       by b e makes = subst (λ (c : Bool). Makes n v (record { header = v.header; slots = if c then insert v.slots i entry else set v.slots i entry; files = maps.insert v.files name (filled bytes) })
-          (changed (changes_by (directory_start v.header) (if c then (i, entry) ∷ last_slot (capacity_of v.header) u (suc i) (get_or v.slots i []) else (i, entry) ∷ []) u) t)) (sym e) makes
+          (changed (changes_by (directory_start v.header) ((i, entry) ∷ (if c then last_slot (capacity_of v.header) u (suc i) (get_or v.slots i []) else [])) u) t)) (sym e) makes
 
   pub stored_entries : AreEntries (capacity_of v.header) (stored_writes v i entry u)
   stored_entries = elim place_cases [
@@ -216,9 +217,9 @@ module _ (n : ℕ) (u : Tape) (v : Volume) (tape : IsTape n u) (is : volume_in u
     | inr own ↦ by true own.0 (insert_entries own.2 own.3)
   ]
     where
-      by : (b : Bool) → nat_eq i (redo_place v.slots) ≡ b → AreEntries (capacity_of v.header) (if b then (i, entry) ∷ last_slot (capacity_of v.header) u (suc i) (get_or v.slots i []) else (i, entry) ∷ [])
+      by : (b : Bool) → nat_eq i (redo_place v.slots) ≡ b → AreEntries (capacity_of v.header) ((i, entry) ∷ (if b then last_slot (capacity_of v.header) u (suc i) (get_or v.slots i []) else []))
           → AreEntries (capacity_of v.header) (stored_writes v i entry u)
-      by b e are = subst (λ (c : Bool). AreEntries (capacity_of v.header) (if c then (i, entry) ∷ last_slot (capacity_of v.header) u (suc i) (get_or v.slots i []) else (i, entry) ∷ [])) (sym e) are
+      by b e are = subst (λ (c : Bool). AreEntries (capacity_of v.header) ((i, entry) ∷ (if c then last_slot (capacity_of v.header) u (suc i) (get_or v.slots i []) else []))) (sym e) are
 
 -- at the place that is chosen
 pub store_makes : (n : ℕ) (u : Tape) (v : Volume) (name : List ℕ) (kind : ℕ) (implementation bytes : List ℕ) → IsTape n u → volume_in u ≡ Some v → IsWellFormed (Store name kind implementation bytes)

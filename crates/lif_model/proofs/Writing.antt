@@ -1,4 +1,5 @@
--- Slots written into a directory: what they leave of each record and of each slot, and the changes that write them.
+-- Slots written into a directory: what they leave of each record and of each slot, and the changes
+-- that write them.
 use Rattle.std.proofs.Common.{◌≡◌, ◌≢◌, ◌⊎◌, ◌<◌, ◌≤◌, ◌+◌, ◌-◌, ◌*◌, ◌%◌, ◌++◌, ℕ, List, [], ◌∷◌, Bool, true, false, not, if◌then◌else◌, length, get_or, set, take, drop, filter, inl, inr, refl, sym, ◌∙◌, ap, subst, arith, length-append, length-drop, length-set, get_or-take, get_or-drop, get_or-set_same, get_or-set_other}
 use Rattle.std.specs.Prelude.{◌==◌, nat_eq, nat_lt}
 use Rattle.std.specs.List.{list_all}
@@ -309,8 +310,8 @@ whole_within n low high [] t is le within = tt
 whole_within n low high (k ∷ ks) t is le within = (is.bytes k (omega (arith, within.1, le)), whole_within n low high ks t is le within.2)
 
 module _ (start room : ℕ) (ws : SlotWrites) (are : AreEntries (8 * room) ws) where
-  -- The changes that writes of slots make, also of a tape that differs outside the directory from the one that they are
-  -- told of.
+  -- The changes that writes of slots make, also of a tape that differs outside the directory from
+  -- the one that they are told of.
   pub changes_write : (n : ℕ) (t u : Tape) → start + room ≤ n → length t ≡ n → length u ≡ n → ((k : ℕ) → start ≤ k → k < start + room → record_at u k ≡ record_at t k)
       → changed (changes_by start ws t) u ≡ with_slots start ws u
   changes_write n t u le size_t size_u same =
@@ -318,7 +319,8 @@ module _ (start room : ℕ) (ws : SlotWrites) (are : AreEntries (8 * room) ws) w
       (λ k low high. slots_record start ws t k (omega (arith, high, le, size_t)) ∙ sym (ap (rewritten start ws k) (same k low high)) ∙ sym (slots_record start ws u k (omega (arith, high, le, size_u)))))
       ∙ changed_to (touched start ws) (with_slots start ws u) u (length_slots start ws u) (λ k lt others. slots_elsewhere start ws u k (others_untouched start ws k others))
 
-  -- one commit takes them, where there are no more of them than the version takes and the directory ends before the redo file
+  -- one commit takes them, where there are no more of them than the version takes and the directory
+  -- ends before the redo file
   pub changes_are : (version : Version) (n : ℕ) (t : Tape) → 0 < length ws → length (touched start ws) ≤ most_targets version → start + room ≤ redo_start version n
       → AreChanges version n (changes_by start ws t)
   changes_are version n t some few below =

@@ -1,5 +1,6 @@
--- Worked examples of what commands write, computed by the checker, on a tape of twelve records: the directory is records 2
--- and 3 and has room for sixteen slots, files begin at record 4, and the gate is record 8.
+-- Worked examples of what commands write, computed by the checker, on a tape of twelve records: the
+-- directory is records 2 and 3 and has room for sixteen slots, files begin at record 4, and the
+-- gate is record 8.
 use Rattle.std.proofs.Common.{◌≡◌, ◌++◌, ℕ, List, [], ◌∷◌, refl, replicate, codes}
 use Rattle.std.specs.FinMap.{empty}
 use Rattle.lif_model.specs.Numbers.{two_at, four_at}
@@ -74,7 +75,8 @@ letter_a = 65 ∷ replicate 255 0
 abbrev new_a : List ℕ
 new_a = file a_name 4 1
 
--- the redo entry stands in slot 5: all three slots lie in one record, and the third keeps its bytes but for the type
+-- the redo entry stands in slot 5: all three slots lie in one record, and the third keeps its bytes
+-- but for the type
 stored_at_five : written_by 12 store_a (with (slots_of_five ++ redo ∷ [])) (tape (five ++ redo ++ base.end_entry ++ old_bytes) [] (numbered 4))
     ≡ tape (five ++ new_a ++ redo ++ old_ended) [] letter_a
 unfolding four_at two_at name_of entry_at with_entry with_type new_entry piece

@@ -1,5 +1,5 @@
--- What each command writes on a tape of n records: slots of the directory, the records that these touch, and the records
--- of a file.
+-- What each command writes on a tape of n records: slots of the directory, the records that these
+-- touch, and the records of a file.
 use Rattle.std.specs.Prelude.{◌≡◌, ◌⊎◌, ◌<◌, ◌≤◌, ◌+◌, ◌*◌, ◌/◌, ◌%◌, ◌++◌, nat_eq, nat_lt, not, if◌then◌else◌, ℕ, suc, List, [], ◌∷◌, length, take, drop, get_or, set, map, filter}
 use Rattle.std.specs.List.{position_or_len}
 use Rattle.std.specs.Str.{bytes_eq}
@@ -13,7 +13,7 @@ use Rattle.lif_model.specs.Volume.{Volume, redo_entry, is_adopted}
 use Rattle.lif_model.specs.Fit.{Place, At, NoSlot, redo_place, fit_in}
 use Rattle.lif_model.specs.Apply.{VolumeCommand, Store, Rename, Purge, Adopt, Format}
 
--- ---- slots as they stand on a tape (eight entries of 32 bytes in a record: the LIF directory format)
+-- ---- slots as they stand on a tape (the LIF directory format: eight entries in a record)
 
 -- the directory record with another entry k
 unfoldable pub with_entry : List ℕ → ℕ → List ℕ → List ℕ
@@ -41,7 +41,8 @@ SlotWrites = List (ℕ × List ℕ)
 abbrev pub with_slots : ℕ → SlotWrites → Tape → Tape
 with_slots start [] tape = tape
 with_slots start (w ∷ ws) tape =
-    with_slots start ws (set tape (slot_record start w.0) (with_entry (record_at tape (slot_record start w.0)) (w.0 % 8) w.1))
+    with_slots start ws (set tape (slot_record start w.0)
+    (with_entry (record_at tape (slot_record start w.0)) (w.0 % 8) w.1))
 
 -- slot k is one of them
 abbrev pub IsSlotWritten : SlotWrites → ℕ → Type 0
@@ -51,7 +52,8 @@ IsSlotWritten (w ∷ ws) k = (k ≡ w.0) ⊎ IsSlotWritten ws k
 -- the records that these writes touch, each once, in the order in which they are first touched
 abbrev pub touched : ℕ → SlotWrites → List ℕ
 touched start [] = []
-touched start (w ∷ ws) = slot_record start w.0 ∷ filter (λ k. not (nat_eq k (slot_record start w.0))) (touched start ws)
+touched start (w ∷ ws) =
+    slot_record start w.0 ∷ filter (λ k. not (nat_eq k (slot_record start w.0))) (touched start ws)
 
 -- each of these records, with what it holds on a tape
 abbrev pub records_on : Tape → List ℕ → Changes
@@ -69,32 +71,36 @@ place_named name slots = position_or_len (is_live_named name) slots
 
 -- slot k ends the directory and keeps its other bytes, where the directory has room for it
 abbrev pub ended_behind : ℕ → Tape → ℕ → SlotWrites
-ended_behind capacity tape k = if nat_lt k capacity then (k, with_type 0xFFFF (entry_on tape k)) ∷ [] else []
+ended_behind capacity tape k =
+    if nat_lt k capacity then (k, with_type 0xFFFF (entry_on tape k)) ∷ [] else []
 
 -- slot k and, where there is room, an end behind it
 abbrev pub last_slot : ℕ → Tape → ℕ → List ℕ → SlotWrites
 last_slot capacity tape k entry = (k, entry) ∷ ended_behind capacity tape (suc k)
 
--- A new entry replaces a purged slot; or it takes the place of the redo entry, which becomes the last slot, with the bytes
--- that it had.
+-- A new entry replaces a purged slot; or it takes the place of the redo entry, which becomes the
+-- last slot, with the bytes that it had.
 abbrev pub stored_writes : Volume → ℕ → List ℕ → Tape → SlotWrites
 stored_writes v i entry tape =
-    if nat_eq i (redo_place v.slots) then (i, entry) ∷ last_slot (capacity_of v.header) tape (suc i) (get_or v.slots i [])
-    else (i, entry) ∷ []
+    (i, entry) ∷ (if nat_eq i (redo_place v.slots)
+    then last_slot (capacity_of v.header) tape (suc i) (get_or v.slots i []) else [])
 
 -- the live slot of that name, changed
 abbrev pub changed_slot : List ℕ → (List ℕ → List ℕ) → List (List ℕ) → SlotWrites
-changed_slot name change slots = (place_named name slots, change (get_or slots (place_named name slots) [])) ∷ []
+changed_slot name change slots =
+    (place_named name slots, change (get_or slots (place_named name slots) [])) ∷ []
 
--- what a command writes of the directory; a store's place is handed in, since commands that change the directory at once
--- each have a place of their own
+-- what a command writes of the directory; a store's place is handed in, since commands that change
+-- the directory at once each have a place of their own
 abbrev pub slot_writes : ℕ → VolumeCommand → Volume → Place → Tape → SlotWrites
 slot_writes n (Store name kind implementation bytes) v (At i start) tape =
     stored_writes v i (new_entry name kind start (file_length bytes) implementation) tape
-slot_writes n (Rename old new) v place tape = if bytes_eq old new then [] else changed_slot old (with_name new) v.slots
+slot_writes n (Rename old new) v place tape =
+    if bytes_eq old new then [] else changed_slot old (with_name new) v.slots
 slot_writes n (Purge name) v place tape = changed_slot name (with_type 0) v.slots
 slot_writes n Adopt v place tape =
-    if is_adopted n v.slots then [] else last_slot (capacity_of v.header) tape (length v.slots) (redo_entry One n)
+    if is_adopted n v.slots then []
+    else last_slot (capacity_of v.header) tape (length v.slots) (redo_entry One n)
 slot_writes n command v place tape = []
 
 -- ---- the tape that a command makes
@@ -106,27 +112,33 @@ with_records first (r ∷ rs) tape = with_records (suc first) rs (set tape first
 
 -- the tape with the file of a store; every other command leaves it
 abbrev pub with_file : VolumeCommand → Place → Tape → Tape
-with_file (Store name kind implementation bytes) (At i start) tape = with_records start (file_records bytes) tape
+with_file (Store name kind implementation bytes) (At i start) tape =
+    with_records start (file_records bytes) tape
 with_file command place tape = tape
 
 -- record k is one of the file of a store
 abbrev pub IsFileRecord : VolumeCommand → Place → ℕ → Type 0
-IsFileRecord (Store name kind implementation bytes) (At i start) k = (start ≤ k) × (k < start + file_length bytes)
+IsFileRecord (Store name kind implementation bytes) (At i start) k =
+    (start ≤ k) × (k < start + file_length bytes)
 IsFileRecord command place k = ⊥
 
--- what `format` writes of any tape: record 0, and the first record of a directory whose only slot is the redo entry
+-- what `format` writes of any tape: record 0, and the first record of a directory whose only slot
+-- is the redo entry
 abbrev pub format_changes : ℕ → List ℕ → ℕ → Changes
 format_changes n label slots =
-    (0, fresh_header n label (records_for_slots slots)) ∷ (2, first_directory_record (redo_entry One n)) ∷ []
+    (0, fresh_header n label (records_for_slots slots))
+    ∷ (2, first_directory_record (redo_entry One n)) ∷ []
 
 -- the records that a command changes all at once, in this order
 abbrev pub changes_at : ℕ → VolumeCommand → Volume → Place → Tape → Changes
 changes_at n (Format label slots) v place tape = format_changes n label slots
-changes_at n command v place tape = changes_by (directory_start v.header) (slot_writes n command v place tape) tape
+changes_at n command v place tape =
+    changes_by (directory_start v.header) (slot_writes n command v place tape) tape
 
 -- the file first, and then the changes
 abbrev pub written_at : ℕ → VolumeCommand → Volume → Place → Tape → Tape
-written_at n command v place tape = changed (changes_at n command v place tape) (with_file command place tape)
+written_at n command v place tape =
+    changed (changes_at n command v place tape) (with_file command place tape)
 
 -- the place of a store
 abbrev pub chosen_place : ℕ → VolumeCommand → Volume → Place
