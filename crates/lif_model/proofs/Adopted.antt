@@ -1,8 +1,9 @@
 -- Adopted volumes: where the redo entry stands, and that no file reaches the redo file's records.
-use Rattle.std.proofs.Common.{filter, ◌≡◌, ◌<◌, ◌≤◌, ◌+◌, ◌&&◌, ◌||◌, ◌==◌, ℕ, suc, List, [], ◌∷◌, Bool, true, false, not, if◌then◌else◌, length, get_or, inl, inr, refl, sym, ◌∙◌, ap, subst, arith, nat_lt, nat_le}
+use Rattle.std.proofs.Common.{filter, ◌≡◌, ◌<◌, ◌≤◌, ◌+◌, ◌&&◌, ◌||◌, ◌==◌, ℕ, suc, List, [], ◌∷◌, Bool, true, false, not, if◌then◌else◌, length, get_or, set, inl, inr, refl, sym, ◌∙◌, ap, subst, arith, nat_lt, nat_le, length-set, get_or-set_same, get_or-set_other}
 use Rattle.std.specs.List.{list_any, position_or_len, prefix_len}
 use Rattle.std.specs.Str.{bytes_eq}
-use Rattle.std.proofs.lemmas.Bool.{cases_order, cases_Bool, and_parts, and_from, or_cases, leb-true, ltb-true, ltb-false, eqb-true, lt-ltb, not-true, not_from_false, false_from_ne_true, or_left, or_right, and_left, le-leb, not_from_true}
+use Rattle.std.proofs.lemmas.Bool.{cases_order, cases_Bool, and_parts, and_from, or_cases, leb-true, ltb-true, ltb-false, eqb-true, lt-ltb, not-true, not_from_false, false_from_ne_true, or_left, or_right, and_left, le-leb, not_from_true, ne_eqb}
+use Rattle.std.proofs.lemmas.List.{length-map, get_or-map, ext_get_or}
 use Rattle.std.proofs.lemmas.Slice.Eq.{bytes_eq-Decides}
 use Rattle.lif_model.specs.Tape.{Tape, record_at}
 use Rattle.lif_model.specs.Gate.{gate_of}
@@ -13,12 +14,23 @@ use Rattle.lif_model.specs.Commit.{SettlesAs, SettlesBelow}
 use Rattle.lif_model.specs.Legal.{is_live, occupies, end_of, holds, is_live_named, is_legal_with, is_legal, IsLegal}
 use Rattle.lif_model.specs.Volume.{redo_name, redo_type, is_redo_entry, is_adopted_with, is_redo_file, is_adopted, is_file, Volume, volume_if, volume_in, volume_of, IsAdopted, is_used, is_gate_held, is_foreign_gated}
 use Rattle.lif_model.specs.Fit.{redo_place}
+use Rattle.lif_model.specs.Apply.{with_slot}
 use Rattle.lif_model.proofs.Lists.{none_of_filter, none_from, any_at, any_from}
 use Rattle.lif_model.proofs.Legal.{legal_tells}
-use Rattle.lif_model.proofs.Slots.{readable_tells, live_named_tells}
+use Rattle.lif_model.proofs.Slots.{readable_tells, live_named_tells, slot_cases}
 use Rattle.lif_model.proofs.Redo.{four_at_least, redo_places, length_settled, armed_here, changes_long, loaded_are}
 use Rattle.lif_model.proofs.Volume.{slots_agree, volume_agrees}
-use Rattle.lif_model.proofs.Apply.{redo_file_tells, redo_file_is_live}
+
+-- ---- the redo file
+
+pub redo_file_tells : (n : ℕ) (slot : List ℕ) → is_redo_file n slot ≡ true → (name_of slot ≡ redo_name) × (type_of slot ≡ redo_type)
+redo_file_tells n slot is =
+    let found = any_at One (λ version. is_redo_entry n version slot) versions is in
+    let both = and_parts (bytes_eq (name_of slot) redo_name) _ found.2 in
+    ((bytes_eq-Decides (name_of slot) redo_name).0 both.0, eqb-true (type_of slot) redo_type (and_parts _ _ both.1).0)
+
+pub redo_file_is_live : (n : ℕ) (slot : List ℕ) → is_redo_file n slot ≡ true → is_live slot ≡ true
+redo_file_is_live n slot is = not_from_false _ (ne_eqb (type_of slot) 0 (λ e. let both : redo_type ≡ 0 = sym (redo_file_tells n slot is).1 ∙ e in omega (arith, both)))
 
 -- ---- the redo entry's place
 
@@ -46,7 +58,27 @@ one_of_name n header slots name j k legal lt_j lt_k first second =
       | inr (inr lt) ↦ absurd (legal.distinct k j lt lt_j two.0 one.0 (two.1 ∙ sym one.1))
     ]
 
-redo_file_is_named : (n : ℕ) (slot : List ℕ) → is_redo_file n slot ≡ true → is_live_named redo_name slot ≡ true
+-- to change the slot of a name is to change the slot at its place (for the slot that `rename`, `purge` and `upgrade` write)
+pub with_slot_at : (n : ℕ) (header : List ℕ) (slots : List (List ℕ)) (name : List ℕ) (change : List ℕ → List ℕ) (k : ℕ) → IsLegal n header slots → k < length slots
+    → is_live_named name (get_or slots k []) ≡ true → with_slot name change slots ≡ set slots k (change (get_or slots k []))
+with_slot_at n header slots name change k legal lt on =
+    ext_get_or [] (with_slot name change slots) (set slots k (change (get_or slots k []))) (length-map slots changed_slot ∙ sym (length-set slots k (change (get_or slots k []))))
+    (λ j long. let under : j < length slots = omega (arith, long, length-map slots changed_slot) in get_or-map changed_slot slots j [] [] under ∙ at j under)
+  where
+    changed_slot : List ℕ → List ℕ
+    changed_slot slot = if is_live_named name slot then change slot else slot
+
+    at : (j : ℕ) → j < length slots → changed_slot (get_or slots j []) ≡ get_or (set slots k (change (get_or slots k []))) j []
+    at j under = elim (slot_cases name change (get_or slots j [])) [
+      | inl both ↦
+          let same : j ≡ k = one_of_name n header slots name j k legal under lt both.0 on in
+          both.1 ∙ ap (λ (m : ℕ). change (get_or slots m [])) same ∙ sym (get_or-set_same slots k (change (get_or slots k [])) [] lt)
+          ∙ sym (ap (λ (m : ℕ). get_or (set slots k (change (get_or slots k []))) m []) same)
+      | inr both ↦ both.1 ∙ sym (get_or-set_other slots k j (change (get_or slots k [])) []
+          (λ e. let no : true ≡ false = sym on ∙ sym (ap (λ (m : ℕ). is_live_named name (get_or slots m [])) e) ∙ both.0 in cc))
+    ]
+
+pub redo_file_is_named : (n : ℕ) (slot : List ℕ) → is_redo_file n slot ≡ true → is_live_named redo_name slot ≡ true
 redo_file_is_named n slot is = and_from _ _ (redo_file_is_live n slot is) ((bytes_eq-Decides (name_of slot) redo_name).1 (redo_file_tells n slot is).0)
 
 -- on an adopted volume the slot of the redo file's name is the redo entry

@@ -2,8 +2,10 @@
 use Rattle.std.proofs.Common.{◌≡◌, ◌⊎◌, ◌<◌, ◌≤◌, ◌+◌, ◌-◌, ◌++◌, ◌==◌, ℕ, zero, suc, max, min, List, [], ◌∷◌, Bool, true, false, if◌then◌else◌, length, get_or, take, drop, inl, inr, refl, sym, ◌∙◌, ap, subst, arith, nat_le, length-take, length-drop, get_or-take, get_or-drop}
 use Rattle.std.proofs.lemmas.Bool.{cases_eq, cases_lt, cases_Bool, leb-true, eq-eqb}
 use Rattle.lif_model.specs.Gate.{gate_of}
+use Rattle.lif_model.specs.Header.{directory_end, capacity_of}
 use Rattle.lif_model.specs.Directory.{start_of, is_purged}
 use Rattle.lif_model.specs.Legal.{end_of, has_records}
+use Rattle.lif_model.specs.Volume.{Volume}
 use Rattle.lif_model.specs.Fit.{At, redo_place, purged_from, can_append, candidates, greatest_end, least_start, slots_behind, low_of, high_of, first_fit, fit_among, fit}
 
 -- ---- the bounds
@@ -118,6 +120,10 @@ pub record IsPlace (n directory_end capacity : ℕ) (slots : List (List ℕ)) (c
   pub behind : (k : ℕ) → i < k → k < length slots → has_records (get_or slots k []) ≡ true → start + count ≤ start_of (get_or slots k [])
   -- where the file takes the redo entry's slot
   pub own : i ≡ redo_place slots → i < length slots → has_records (get_or slots i []) ≡ true → start + count ≤ start_of (get_or slots i [])
+
+-- the same in the directory of a volume
+abbrev pub IsPlaceIn : ℕ → Volume → ℕ → ℕ → ℕ → Type 0
+IsPlaceIn n v count i start = IsPlace n (directory_end v.header) (capacity_of v.header) v.slots count i start
 
 behind_drop : (slots : List (List ℕ)) (high m k : ℕ) → m ≤ k → k < length slots → has_records (get_or slots k []) ≡ true → least_start high (drop m slots) ≤ start_of (get_or slots k [])
 behind_drop slots high m k le lt on =

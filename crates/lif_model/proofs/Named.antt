@@ -1,5 +1,5 @@
 -- The files of the next volume: each command leaves the map and the slots in step.
-use Rattle.std.proofs.Common.{◌≡◌, ◌≢◌, ◌<◌, ◌≤◌, ◌+◌, ◌*◌, ◌++◌, ◌&&◌, ℕ, zero, suc, nat_eq, List, [], ◌∷◌, Bool, true, false, not, if◌then◌else◌, Option, Some, None, length, get_or, set, insert, find, inl, inr, refl, sym, ◌∙◌, ap, subst, arith, length-append, length-set, get_or-set_other}
+use Rattle.std.proofs.Common.{◌≡◌, ◌≢◌, ◌<◌, ◌≤◌, ◌+◌, ◌*◌, ◌++◌, ◌&&◌, ℕ, zero, suc, nat_eq, List, [], ◌∷◌, Bool, true, false, not, if◌then◌else◌, Option, Some, None, length, get_or, set, insert, find, inl, inr, refl, sym, ◌∙◌, ap, subst, arith, length-append, length-set, get_or-set_same, get_or-set_other}
 use Rattle.std.specs.Str.{bytes_eq}
 use Rattle.std.specs.Prelude.{option_map}
 use Rattle.std.specs.FinMap.{get}
@@ -10,20 +10,20 @@ use Rattle.std.proofs.lemmas.Slice.Eq.{bytes_eq-Decides}
 use Rattle.lif_model.specs.Tape.{Tape, IsTape, record_at, bytes_from}
 use Rattle.lif_model.specs.Directory.{name_of, type_of, start_of, length_of, is_purged, slots_of}
 use Rattle.lif_model.specs.Made.{new_entry, with_name, with_type, file_length, filled}
-use Rattle.lif_model.specs.Redo.{One, settled}
+use Rattle.lif_model.specs.Redo.{One, Two, settled}
 use Rattle.lif_model.specs.Legal.{is_live, has_records, is_live_named, has_file, is_legal, IsLegal}
-use Rattle.lif_model.specs.Volume.{redo_name, redo_entry, is_redo_file, is_adopted, is_file, file_named, content_of, files_of, Volume, volume_if, volume_in, volume_of, IsVolume, IsAdopted, HasBytes, HasFiles}
+use Rattle.lif_model.specs.Volume.{redo_name, redo_entry, upgraded_entry, is_redo_file, is_adopted, is_file, file_named, content_of, files_of, Volume, volume_if, volume_in, volume_of, IsVolume, IsAdopted, HasBytes, HasFiles}
 use Rattle.lif_model.specs.Fit.{Place, At, redo_place, fit_in}
-use Rattle.lif_model.specs.Apply.{VolumeCommand, Dir, Label, Fetch, Store, Rename, Purge, Adopt, Format, IsWellFormed, checks_of, refusal_of, lacks_slot, lacks_room, stored, with_slot, moved_key, renamed, fresh_volume, volume_after}
+use Rattle.lif_model.specs.Apply.{VolumeCommand, Dir, Label, Fetch, Store, Rename, Purge, Adopt, Upgrade, Format, IsWellFormed, is_upgraded, runs_past_redo, checks_of, refusal_of, placed, stored, with_slot, moved_key, renamed, upgraded, fresh_volume, volume_after}
 use Rattle.lif_model.proofs.Made.{new_name, new_type, new_length, named_name, named_type, named_length, length_filled}
-use Rattle.lif_model.proofs.Fit.{fit_tells}
+use Rattle.lif_model.proofs.Fit.{IsPlaceIn, fit_tells}
 use Rattle.lif_model.proofs.Lists.{any_at}
 use Rattle.lif_model.proofs.Slots.{live_named_tells, other_name, HasNew, set_new, before_insert, insert_new, push_new, slot_cases}
 use Rattle.lif_model.proofs.Legal.{legal_tells}
 use Rattle.lif_model.proofs.Directory.{settled_shape}
 use Rattle.lif_model.proofs.Files.{get_file, get_none, get_stored, get_removed, get_moved}
-use Rattle.lif_model.proofs.Adopted.{one_of_name}
-use Rattle.lif_model.proofs.Apply.{NoneMet, none_met, redo_file_tells, made_redo_file, not_redo_name, purged_is_dead, next_is_adopted, adopt_is_adopted}
+use Rattle.lif_model.proofs.Adopted.{redo_file_tells, redo_entry_tells, redo_place_is, one_of_name}
+use Rattle.lif_model.proofs.Apply.{NoneMet, none_met, made_redo_file, not_redo_name, store_has_place, stored_is_adopted, moved_is_two, upgraded_at, purged_is_dead, next_is_adopted, adopt_is_adopted}
 
 -- ---- the slot of a name
 
@@ -124,70 +124,93 @@ names_of a b = elim (cases_Bool (bytes_eq a b)) [
 
 -- ---- store
 
-module _ (n : ℕ) (v w : Volume) (name bytes new : List ℕ) (i : ℕ) (old : ℕ → ℕ) where
-  -- one slot more, or another in place of one that was no file
-  stored_files : IsLegal n v.header v.slots → IsLegal n v.header w.slots → HasFiles n v → HasNew v.slots w.slots i new old → i < length w.slots
-      → is_file n new ≡ true → name_of new ≡ name → length bytes ≡ 256 * length_of new
-      → ((k : ℕ) → k < length v.slots → is_file n (get_or v.slots k []) ≡ true → (j : ℕ) × (j < length w.slots) × (get_or w.slots j [] ≡ get_or v.slots k []))
-      → ((q : List ℕ) → get w.files q ≡ (if bytes_eq q name then Some bytes else get v.files q)) → HasFiles n w
-  stored_files legal legal_later has is_new lt file named size forth gets q = go (names_of q name)
+-- one slot more, or another in place of one that was no file: the new slot has its name, and each other name its slot
+new_named : (n : ℕ) (header : List ℕ) (slots later : List (List ℕ)) (name new : List ℕ) (i : ℕ) (old : ℕ → ℕ) → IsLegal n header slots → IsLegal n header later
+    → HasNew slots later i new old → i < length later → is_file n new ≡ true → name_of new ≡ name
+    → ((k : ℕ) → k < length slots → is_file n (get_or slots k []) ≡ true → (j : ℕ) × (j < length later) × (get_or later j [] ≡ get_or slots k []))
+    → (file_named n later name ≡ Some new) × ((q : List ℕ) → q ≢ name → file_named n later q ≡ file_named n slots q)
+new_named n header slots later name new i old legal legal_later has lt file named forth = (
+  named_at_place n header later legal_later name i lt (ap (is_named n name) has.here ∙ named_from n name new file named) ∙ ap Some has.here,
+  λ q apart. same_named n header slots later q legal legal_later (λ k less on. forth k less (named_tells n q (get_or slots k []) on).0)
+      (λ j less on. elim (cases_eq j i) [
+        | inl at ↦ absurd (apart (sym (named_tells n q (get_or later j []) on).1 ∙ ap name_of (ap (λ (m : ℕ). get_or later m []) at ∙ has.here) ∙ named))
+        | inr off ↦ let found = has.others j less off in (old j, found.0, found.1)
+      ]),
+)
+
+module _ (n : ℕ) (v : Volume) (name : List ℕ) (kind : ℕ) (implementation bytes : List ℕ) (i start : ℕ) (is : IsAdopted n v) (formed : IsWellFormed (Store name kind implementation bytes))
+    (off_redo : name ≢ redo_name) (none : has_file v.slots name ≡ false) (place : IsPlaceIn n v (file_length bytes) i start) where
+  abbrev entry : List ℕ
+  entry = new_entry name kind start (file_length bytes) implementation
+
+  abbrev later : List (List ℕ)
+  later = placed v.slots i entry
+
+  entry_name : name_of entry ≡ name
+  entry_name = new_name name kind start (file_length bytes) implementation formed.0
+
+  entry_is_file : is_file n entry ≡ true
+  entry_is_file =
+      let live : is_live entry ≡ true = not_from_false _ (ne_eqb (type_of entry) 0 (λ zero_is. formed.1 (sym (new_type name kind start (file_length bytes) implementation formed.0) ∙ zero_is))) in
+      file_from n entry live (λ same. off_redo (sym entry_name ∙ same))
+
+  both_named : (file_named n later name ≡ Some entry) × ((q : List ℕ) → q ≢ name → file_named n later q ≡ file_named n v.slots q)
+  both_named = elim place.candidate [
+    | inl purged ↦
+        let is_set : later ≡ set v.slots i entry = ap (λ (b : Bool). if b then insert v.slots i entry else set v.slots i entry) (ne_eqb i (redo_place v.slots) (λ same. absurd (omega (arith, same, purged.0)))) in
+        let long : length later ≡ length v.slots = ap (λ (xs : List (List ℕ)). length xs) is_set ∙ length-set v.slots i entry in
+        new_named n v.header v.slots later name entry i (λ k. k) is.volume.legal legal_then (subst (λ (xs : List (List ℕ)). HasNew v.slots xs i entry (λ k. k)) (sym is_set) (set_new v.slots i entry purged.1))
+        (omega (arith, long, purged.1)) entry_is_file entry_name
+        (λ k lt on.
+        let off : k ≢ i = λ at. let both : true ≡ false = sym (file_tells n (get_or v.slots k []) on).0 ∙ not_from_true _ (ap (λ (j : ℕ). is_purged (get_or v.slots j [])) at ∙ purged.2) in cc in
+        (k, omega (arith, long, lt), ap (λ (xs : List (List ℕ)). get_or xs k []) is_set ∙ get_or-set_other v.slots i k entry [] off))
+    | inr own ↦
+        let is_insert : later ≡ insert v.slots i entry = ap (λ (b : Bool). if b then insert v.slots i entry else set v.slots i entry) (eq-eqb i (redo_place v.slots) own.0) in
+        let le : i ≤ length v.slots = omega (arith, own.0, eqb-true (suc (redo_place v.slots)) (length v.slots) (and_parts _ _ own.1).0) in
+        let long : length later ≡ length v.slots + 1 = ap (λ (xs : List (List ℕ)). length xs) is_insert ∙ length-insert v.slots i entry le in
+        new_named n v.header v.slots later name entry i (before_insert i) is.volume.legal legal_then (subst (λ (xs : List (List ℕ)). HasNew v.slots xs i entry (before_insert i)) (sym is_insert) (insert_new v.slots i entry le))
+        (omega (arith, long, le)) entry_is_file entry_name
+        (λ k lt on. elim (cases_lt k i) [
+          | inl less ↦ (k, omega (arith, long, lt), ap (λ (xs : List (List ℕ)). get_or xs k []) is_insert ∙ get_or-insert_below v.slots i entry [] k less le)
+          | inr more ↦ (k + 1, omega (arith, long, lt), ap (λ (xs : List (List ℕ)). get_or xs (k + 1) []) is_insert ∙ get_or-insert_above v.slots i entry [] k more le)
+        ])
+  ]
     where
-      go : Names q name → HasBytes (file_named n w.slots q) (get w.files q)
-      go (equal same e) = has_some n w q new bytes
-          (named_at_place n v.header w.slots legal_later q i lt (ap (is_named n q) is_new.here ∙ named_from n q new file (named ∙ sym same)) ∙ ap Some is_new.here)
-          (gets q ∙ ap (λ (b : Bool). if b then Some bytes else get v.files q) e) size
-      go (other apart e) = carried n v w q has
-          (same_named n v.header v.slots w.slots q legal legal_later (λ k less on. forth k less (named_tells n q (get_or v.slots k []) on).0)
-          (λ j less on. elim (cases_eq j i) [
-            | inl at ↦ absurd (apart (sym (named_tells n q (get_or w.slots j []) on).1 ∙ ap name_of (ap (λ (m : ℕ). get_or w.slots m []) at ∙ is_new.here) ∙ named))
-            | inr off ↦ let found = is_new.others j less off in (old j, found.0, found.1)
-          ]))
-          (gets q ∙ ap (λ (b : Bool). if b then Some bytes else get v.files q) e)
+      legal_then : IsLegal n v.header later
+      legal_then = (stored_is_adopted n v name kind implementation bytes i start is formed none place).volume.legal
+
+  -- the new entry is the file of its name
+  pub placed_here : file_named n later name ≡ Some entry
+  placed_here = both_named.0
+
+  -- and each other name has the slot that it had
+  pub placed_others : (q : List ℕ) → q ≢ name → file_named n later q ≡ file_named n v.slots q
+  placed_others = both_named.1
+
+  -- a file stored at a place leaves files and slots in step (for `store`, and for the parts of a batch)
+  pub stored_has_files : HasFiles n v → HasFiles n (stored v name kind implementation bytes (At i start))
+  stored_has_files has q = go (names_of q name)
+    where
+      gets : get (stored v name kind implementation bytes (At i start)).files q ≡ (if bytes_eq q name then Some (filled bytes) else get v.files q)
+      gets = get_stored v.files name (filled bytes) q
+
+      size : length (filled bytes) ≡ 256 * length_of entry
+      size = length_filled bytes ∙ sym (ap (λ (m : ℕ). 256 * m) (new_length name kind start (file_length bytes) implementation formed.0))
+
+      go : Names q name → HasBytes (file_named n later q) (get (stored v name kind implementation bytes (At i start)).files q)
+      go (equal same e) = has_some n (stored v name kind implementation bytes (At i start)) q entry (filled bytes) (ap (file_named n later) same ∙ placed_here)
+          (gets ∙ ap (λ (b : Bool). if b then Some (filled bytes) else get v.files q) e) size
+      go (other apart e) = carried n v (stored v name kind implementation bytes (At i start)) q has (placed_others q apart)
+          (gets ∙ ap (λ (b : Bool). if b then Some (filled bytes) else get v.files q) e)
 
 pub store_has_files : (n : ℕ) (v : Volume) (name : List ℕ) (kind : ℕ) (implementation bytes : List ℕ) → IsAdopted n v → HasFiles n v → IsWellFormed (Store name kind implementation bytes)
     → refusal_of n (Store name kind implementation bytes) (Some v) ≡ None → HasFiles n (volume_after n (Store name kind implementation bytes) v)
-store_has_files n v name kind implementation bytes is has formed none = go (fit_in n v (file_length bytes)) refl unmet.1.1.1.0 unmet.1.1.1.1.0 (next_is_adopted n (Store name kind implementation bytes) v is formed none).volume.legal
-  where
-    unmet : NoneMet (checks_of n (Store name kind implementation bytes) v)
-    unmet = none_met n (Store name kind implementation bytes) v none
-
-    go : (place : Place) → fit_in n v (file_length bytes) ≡ place → lacks_slot place ≡ false → lacks_room place ≡ false
-        → IsLegal n (stored v name kind implementation bytes (fit_in n v (file_length bytes))).header (stored v name kind implementation bytes (fit_in n v (file_length bytes))).slots → HasFiles n (stored v name kind implementation bytes (fit_in n v (file_length bytes)))
-    go Place.NoSlot e slot room legal = cc
-    go Place.NoRoom e slot room legal = cc
-    go (At i start) e slot room legal = subst (λ (p : Place). HasFiles n (stored v name kind implementation bytes p)) (sym e) (placed_files (subst (λ (p : Place). IsLegal n (stored v name kind implementation bytes p).header (stored v name kind implementation bytes p).slots) e legal))
-      where
-        placed_files : IsLegal n v.header (stored v name kind implementation bytes (At i start)).slots → HasFiles n (stored v name kind implementation bytes (At i start))
-        placed_files later =
-            let place = fit_tells n _ _ v.slots (file_length bytes) i start e in
-            let entry : List ℕ = new_entry name kind start (file_length bytes) implementation in
-            let w : Volume = stored v name kind implementation bytes (At i start) in
-            let ten : length name ≡ 10 = formed.0 in
-            let named : name_of entry ≡ name = new_name name kind start (file_length bytes) implementation ten in
-            let live : is_live entry ≡ true = not_from_false _ (ne_eqb (type_of entry) 0 (λ zero_is. formed.1 (sym (new_type name kind start (file_length bytes) implementation ten) ∙ zero_is))) in
-            let file : is_file n entry ≡ true = file_from n entry live (λ same. not_redo_name n v name is.adopted unmet.1.0 (sym named ∙ same)) in
-            let size : length (filled bytes) ≡ 256 * length_of entry = length_filled bytes ∙ sym (ap (λ (m : ℕ). 256 * m) (new_length name kind start (file_length bytes) implementation ten)) in
-            elim place.candidate [
-              | inl purged ↦
-                  let is_set : w.slots ≡ set v.slots i entry = ap (λ (b : Bool). if b then insert v.slots i entry else set v.slots i entry) (ne_eqb i (redo_place v.slots) (λ same. absurd (omega (arith, same, purged.0)))) in
-                  stored_files n v w name (filled bytes) entry i (λ k. k) is.volume.legal later has (subst (λ (xs : List (List ℕ)). HasNew v.slots xs i entry (λ k. k)) (sym is_set) (set_new v.slots i entry purged.1))
-                  (omega (arith, ap (λ (xs : List (List ℕ)). length xs) is_set, length-set v.slots i entry, purged.1)) file named size
-                  (λ k lt on.
-                  let off : k ≢ i = λ at. let both : true ≡ false = sym (file_tells n (get_or v.slots k []) on).0 ∙ not_from_true _ (ap (λ (j : ℕ). is_purged (get_or v.slots j [])) at ∙ purged.2) in cc in
-                  (k, omega (arith, ap (λ (xs : List (List ℕ)). length xs) is_set, length-set v.slots i entry, lt), ap (λ (xs : List (List ℕ)). get_or xs k []) is_set ∙ get_or-set_other v.slots i k entry [] off))
-                  (get_stored v.files name (filled bytes))
-              | inr own ↦
-                  let is_insert : w.slots ≡ insert v.slots i entry = ap (λ (b : Bool). if b then insert v.slots i entry else set v.slots i entry) (eq-eqb i (redo_place v.slots) own.0) in
-                  let le : i ≤ length v.slots = omega (arith, own.0, eqb-true (suc (redo_place v.slots)) (length v.slots) (and_parts _ _ own.1).0) in
-                  let long : length w.slots ≡ length v.slots + 1 = ap (λ (xs : List (List ℕ)). length xs) is_insert ∙ length-insert v.slots i entry le in
-                  stored_files n v w name (filled bytes) entry i (before_insert i) is.volume.legal later has (subst (λ (xs : List (List ℕ)). HasNew v.slots xs i entry (before_insert i)) (sym is_insert) (insert_new v.slots i entry le))
-                  (omega (arith, long, le)) file named size
-                  (λ k lt on. elim (cases_lt k i) [
-                    | inl less ↦ (k, omega (arith, long, lt), ap (λ (xs : List (List ℕ)). get_or xs k []) is_insert ∙ get_or-insert_below v.slots i entry [] k less le)
-                    | inr more ↦ (k + 1, omega (arith, long, lt), ap (λ (xs : List (List ℕ)). get_or xs (k + 1) []) is_insert ∙ get_or-insert_above v.slots i entry [] k more le)
-                  ])
-                  (get_stored v.files name (filled bytes))
-            ]
+store_has_files n v name kind implementation bytes is has formed none =
+    let unmet : NoneMet (checks_of n (Store name kind implementation bytes) v) = none_met n (Store name kind implementation bytes) v none in
+    let found = store_has_place n v name (fit_in n v (file_length bytes)) unmet in
+    subst (λ (p : Place). HasFiles n (stored v name kind implementation bytes p)) (sym found.2)
+    (stored_has_files n v name kind implementation bytes found.0 found.1 is formed (not_redo_name n v name is.adopted unmet.1.0) unmet.1.1.0
+    (fit_tells n _ _ v.slots (file_length bytes) found.0 found.1 found.2) has)
 
 -- ---- purge
 
@@ -356,6 +379,56 @@ format_has_files n label slots q = has_none n (fresh_volume n label slots) q
     one zero lt = and_left _ _ (redo_is_no_file n)
     one (suc j) lt = absurd (omega arith)
 
+-- ---- upgrade
+
+-- each name has the slot that it had
+pub upgraded_named : (n : ℕ) (v : Volume) → IsAdopted n v → IsAdopted n (upgraded n v) → runs_past_redo n v ≡ false → (q : List ℕ) → file_named n (upgraded n v).slots q ≡ file_named n v.slots q
+upgraded_named n v is is_then clear q = same_named n v.header v.slots (upgraded n v).slots q is.volume.legal is_then.volume.legal
+    (λ k lt on. (
+      k,
+      omega (arith, lt, long),
+      stays k (λ e.
+          let no : true ≡ false = sym (redo_place_is n v is).1 ∙ sym (ap (λ (m : ℕ). is_redo_file n (get_or v.slots m [])) e) ∙ (file_tells n (get_or v.slots k []) (named_tells n q (get_or v.slots k []) on).0).1 in cc),
+    ))
+    (λ j lt on. (
+      j,
+      omega (arith, lt, long),
+      stays j (λ e.
+          let moved : is_redo_file n (get_or (upgraded n v).slots j []) ≡ true = ap (is_redo_file n) (ap (λ (m : ℕ). get_or (upgraded n v).slots m []) e ∙ here) ∙ (redo_entry_tells n Two new (moved_is_two n v is clear)).0 in
+          let no : true ≡ false = sym moved ∙ (file_tells n (get_or (upgraded n v).slots j []) (named_tells n q (get_or (upgraded n v).slots j []) on).0).1 in cc),
+    ))
+  where
+    r : ℕ
+    r = redo_place v.slots
+
+    new : List ℕ
+    new = upgraded_entry n (get_or v.slots r [])
+
+    at : (upgraded n v).slots ≡ set v.slots r new
+    at = upgraded_at n v is clear
+
+    long : length (upgraded n v).slots ≡ length v.slots
+    long = ap (λ (xs : List (List ℕ)). length xs) at ∙ length-set v.slots r new
+
+    here : get_or (upgraded n v).slots r [] ≡ new
+    here = ap (λ (xs : List (List ℕ)). get_or xs r []) at ∙ get_or-set_same v.slots r new [] (redo_place_is n v is).0
+
+    stays : (k : ℕ) → k ≢ r → get_or (upgraded n v).slots k [] ≡ get_or v.slots k []
+    stays k ne = ap (λ (xs : List (List ℕ)). get_or xs k []) at ∙ get_or-set_other v.slots r k new [] ne
+
+pub upgrade_has_files : (n : ℕ) (v : Volume) → IsAdopted n v → HasFiles n v → refusal_of n Upgrade (Some v) ≡ None → HasFiles n (volume_after n Upgrade v)
+upgrade_has_files n v is has none = go (is_upgraded n v) refl (next_is_adopted n Upgrade v is tt none)
+  where
+    unmet : NoneMet (checks_of n Upgrade v)
+    unmet = none_met n Upgrade v none
+
+    go : (b : Bool) → is_upgraded n v ≡ b → IsAdopted n (volume_after n Upgrade v) → HasFiles n (volume_after n Upgrade v)
+    go true e after = subst (λ (b : Bool). HasFiles n (if b then v else upgraded n v)) (sym e) has
+    go false e after =
+        let clear : runs_past_redo n v ≡ false = sym (ap (λ (b : Bool). not b && runs_past_redo n v) e) ∙ unmet.1.0 in
+        subst (λ (b : Bool). HasFiles n (if b then v else upgraded n v)) (sym e)
+        (λ q. carried n v (upgraded n v) q has (upgraded_named n v is (subst (λ (b : Bool). IsAdopted n (if b then v else upgraded n v)) e after) clear q) refl)
+
 -- ---- every command
 
 -- the files of the next volume are those of its slots
@@ -367,6 +440,7 @@ next_has_files n (Store name kind implementation bytes) v is has formed none = s
 next_has_files n (Rename old later) v is has formed none = rename_has_files n v old later is has formed none
 next_has_files n (Purge name) v is has formed none = purge_has_files n v name is has formed none
 next_has_files n Adopt v is has formed none = adopt_has_files n v is.volume has none
+next_has_files n Upgrade v is has formed none = upgrade_has_files n v is has none
 next_has_files n (Format label slots) v is has formed none = format_has_files n label slots
 
 -- ---- the files of a tape
