@@ -111,10 +111,17 @@ redo_entry_tells n version slot is =
     some_version One e = any_from One (λ w. is_redo_entry n w slot) versions 0 (omega arith) e
     some_version Two e = any_from One (λ w. is_redo_entry n w slot) versions 1 (omega arith) e
 
-is_file_tells : (n : ℕ) (slot : List ℕ) → is_file n slot ≡ true → (is_live slot ≡ true) × (is_redo_file n slot ≡ false)
+-- an adopted volume is adopted with some version
+pub adopted_version : (n : ℕ) (slots : List (List ℕ)) → is_adopted n slots ≡ true → (version : Version) × (is_adopted_with n version slots ≡ true)
+adopted_version n slots adopted =
+    let found = any_at [] (is_redo_file n) slots adopted in
+    let one = any_at One (λ version. is_redo_entry n version (get_or slots found.0 [])) versions found.2 in
+    (get_or versions one.0 One, any_from [] (is_redo_entry n (get_or versions one.0 One)) slots found.0 found.1 one.2)
+
+pub is_file_tells : (n : ℕ) (slot : List ℕ) → is_file n slot ≡ true → (is_live slot ≡ true) × (is_redo_file n slot ≡ false)
 is_file_tells n slot is = let both = and_parts (is_live slot) _ is in (both.0, not-true (is_redo_file n slot) both.1)
 
-holds_tells : (k : ℕ) (slot : List ℕ) → holds k slot ≡ true → (start_of slot ≤ k) × (k < end_of slot)
+pub holds_tells : (k : ℕ) (slot : List ℕ) → holds k slot ≡ true → (start_of slot ≤ k) × (k < end_of slot)
 holds_tells k slot is = let both = and_parts _ _ is in (leb-true (start_of slot) k both.0, ltb-true k (end_of slot) both.1)
 
 module _ (version : Version) (n : ℕ) (header : List ℕ) (slots : List (List ℕ)) (legal : IsLegal n header slots) (p : ℕ) (lt : p < length slots) (redo : is_redo_entry n version (get_or slots p []) ≡ true) where
@@ -126,7 +133,7 @@ module _ (version : Version) (n : ℕ) (header : List ℕ) (slots : List (List �
       (omega (arith, within.0, entry.2), omega (arith, within.1, entry.2, entry.3))
 
   -- and files end before it
-  file_before : (i k : ℕ) → i < length slots → is_file n (get_or slots i []) ≡ true → holds k (get_or slots i []) ≡ true → k < redo_start version n
+  pub file_before : (i k : ℕ) → i < length slots → is_file n (get_or slots i []) ≡ true → holds k (get_or slots i []) ≡ true → k < redo_start version n
   file_before i k lt_i file on =
       let entry = redo_entry_tells n version (get_or slots p []) redo in
       let live = is_file_tells n (get_or slots i []) file in
@@ -268,11 +275,9 @@ gate_unused u legal_test off =
     let readable = readable_tells n (record_at u 0) legal.readable in
     false_from_ne_true _ (λ used. elim (cases_Bool (is_adopted n (slots_of u))) [
       | inl adopted ↦
-          let found = any_at [] (is_redo_file n) (slots_of u) adopted in
-          let one = any_at One (λ version. is_redo_entry n version (get_or (slots_of u) found.0 [])) versions found.2 in
-          let version = get_or versions one.0 One in
-          let below = adopted_uses_below version u (gate_of n) legal_test (any_from [] (is_redo_entry n version) (slots_of u) found.0 found.1 one.2) used in
-          absurd (omega (arith, below, (redo_places version n).0))
+          let version = adopted_version n (slots_of u) adopted in
+          let below = adopted_uses_below version.0 u (gate_of n) legal_test version.1 used in
+          absurd (omega (arith, below, (redo_places version.0 n).0))
       | inr foreign ↦ elim (or_cases (gate_of n == 0) _ used) [
         | inl zero_is ↦ absurd (omega (arith, eqb-true (gate_of n) 0 zero_is, readable.0, readable.2))
         | inr more ↦ elim (or_cases (nat_le (directory_start (record_at u 0)) (gate_of n) && nat_lt (gate_of n) (directory_end (record_at u 0))) _ more) [

@@ -24,3 +24,5 @@ pub mod Directory
 pub mod Files
 pub mod Plain
 pub mod Named
+pub mod Places
+pub mod Content

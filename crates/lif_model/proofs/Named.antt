@@ -28,10 +28,10 @@ use Rattle.lif_model.proofs.Apply.{NoneMet, none_met, made_redo_file, not_redo_n
 -- ---- the slot of a name
 
 -- the file of that name
-abbrev is_named : ℕ → List ℕ → List ℕ → Bool
+abbrev pub is_named : ℕ → List ℕ → List ℕ → Bool
 is_named n name slot = is_file n slot && bytes_eq name (name_of slot)
 
-named_tells : (n : ℕ) (name slot : List ℕ) → is_named n name slot ≡ true → (is_file n slot ≡ true) × (name_of slot ≡ name)
+pub named_tells : (n : ℕ) (name slot : List ℕ) → is_named n name slot ≡ true → (is_file n slot ≡ true) × (name_of slot ≡ name)
 named_tells n name slot is = let both = and_parts (is_file n slot) _ is in (both.0, sym ((bytes_eq-Decides name (name_of slot)).0 both.1))
 
 named_from : (n : ℕ) (name slot : List ℕ) → is_file n slot ≡ true → name_of slot ≡ name → is_named n name slot ≡ true
@@ -112,11 +112,11 @@ has_some : (n : ℕ) (w : Volume) (name slot bytes : List ℕ) → file_named n 
 has_some n w name slot bytes slots files size = subst (λ (o : Option (List ℕ)). HasBytes (file_named n w.slots name) o) (sym files) (subst (λ (o : Option (List ℕ)). HasBytes o (Some bytes)) (sym slots) size)
 
 -- equal names or not
-data Names (a b : List ℕ) : Type 0 where
+pub data Names (a b : List ℕ) : Type 0 where
   equal : a ≡ b → bytes_eq a b ≡ true → Names a b
   other : a ≢ b → bytes_eq a b ≡ false → Names a b
 
-names_of : (a b : List ℕ) → Names a b
+pub names_of : (a b : List ℕ) → Names a b
 names_of a b = elim (cases_Bool (bytes_eq a b)) [
   | inl e ↦ equal ((bytes_eq-Decides a b).0 e) e
   | inr e ↦ other (λ same. let both : true ≡ false = sym ((bytes_eq-Decides a b).1 same) ∙ e in cc) e
