@@ -314,27 +314,32 @@ rename_is_adopted n v old later is formed none = go (bytes_eq old later) refl
 adopted_room : (n : ℕ) (v : Volume) → is_full v ≡ false → length v.slots < capacity_of v.header
 adopted_room n v room = leb-false (capacity_of v.header) (length v.slots) room
 
--- a volume without a redo file gets one
-pub adopt_is_adopted : (n : ℕ) (v : Volume) → IsVolume n v → refusal_of n Adopt (Some v) ≡ None → IsAdopted n (volume_after n Adopt v)
-adopt_is_adopted n v is none = go (is_adopted n v.slots) refl
+-- where `adopt` is not refused and there is no redo file: no file has its name, there is a slot, and files end at or before the gate
+pub adopt_unmet : (n : ℕ) (v : Volume) → is_adopted n v.slots ≡ false → refusal_of n Adopt (Some v) ≡ None → (has_file v.slots redo_name ≡ false) × (is_full v ≡ false) × (runs_past_gate n v ≡ false)
+adopt_unmet n v foreign none = (unmet_after _ unmet.0, unmet_after _ unmet.1.0, unmet_after _ unmet.1.1.0)
   where
     unmet : NoneMet (checks_of n Adopt v)
     unmet = none_met n Adopt v none
 
+    unmet_after : (b : Bool) → (lacks_redo n v && b) ≡ false → b ≡ false
+    unmet_after b off = sym (ap (λ (a : Bool). a && b) (not_from_false _ foreign)) ∙ off
+
+pub adopt_clear : (n : ℕ) (v : Volume) → is_adopted n v.slots ≡ false → refusal_of n Adopt (Some v) ≡ None → (k : ℕ) → k < length v.slots → occupies (get_or v.slots k []) ≡ true → end_of (get_or v.slots k []) ≤ gate_of n
+adopt_clear n v foreign none k lt on = ltb-false (gate_of n) (end_of (get_or v.slots k []))
+    (none_of_filter [] occupies (λ slot. nat_lt (gate_of n) (end_of slot)) v.slots k (adopt_unmet n v foreign none).2 lt on)
+
+-- a volume without a redo file gets one
+pub adopt_is_adopted : (n : ℕ) (v : Volume) → IsVolume n v → refusal_of n Adopt (Some v) ≡ None → IsAdopted n (volume_after n Adopt v)
+adopt_is_adopted n v is none = go (is_adopted n v.slots) refl
+  where
     go : (b : Bool) → is_adopted n v.slots ≡ b → IsAdopted n (volume_after n Adopt v)
     go true e = subst (λ (b : Bool). IsAdopted n (if b then v else record v { slots = v.slots ++ redo_entry One n ∷ [] })) (sym e) (record { volume = is; adopted = e })
     go false e =
-        let lacks : lacks_redo n v ≡ true = not_from_false _ e in
-        let none_named : has_file v.slots redo_name ≡ false = unmet_after _ _ lacks unmet.0 in
-        let fits : is_full v ≡ false = unmet_after _ _ lacks unmet.1.0 in
-        let clear : runs_past_gate n v ≡ false = unmet_after _ _ lacks unmet.1.1.0 in
-        subst (λ (b : Bool). IsAdopted n (if b then v else record v { slots = v.slots ++ redo_entry One n ∷ [] })) (sym e) (with_redo none_named fits clear)
+        let unmet = adopt_unmet n v e none in
+        subst (λ (b : Bool). IsAdopted n (if b then v else record v { slots = v.slots ++ redo_entry One n ∷ [] })) (sym e) (with_redo unmet.0 unmet.1)
       where
-        unmet_after : (a b : Bool) → a ≡ true → (a && b) ≡ false → b ≡ false
-        unmet_after a b is off = sym (ap (λ (c : Bool). c && b) is) ∙ off
-
-        with_redo : has_file v.slots redo_name ≡ false → is_full v ≡ false → runs_past_gate n v ≡ false → IsAdopted n (record v { slots = v.slots ++ redo_entry One n ∷ [] })
-        with_redo none_named fits clear =
+        with_redo : has_file v.slots redo_name ≡ false → is_full v ≡ false → IsAdopted n (record v { slots = v.slots ++ redo_entry One n ∷ [] })
+        with_redo none_named fits =
             let zeros : List ℕ = replicate 4 0 in
             let redo : List ℕ = redo_entry One n in
             let starts : start_of redo ≡ n - 4 = new_start redo_name redo_type (n - 4) 4 zeros refl in
@@ -348,7 +353,7 @@ adopt_is_adopted n v is none = go (is_adopted n v.slots) refl
                     (omega (arith, starts, readable.2)) (omega (arith, starts, longs, readable.0, readable.2))
                     (λ k lt ne on.
                     let found = has.others k lt ne in
-                    inl (omega (arith, ap end_of found.1, starts, ends_before k found.0 (sym (ap occupies found.1) ∙ on))))
+                    inl (omega (arith, ap end_of found.1, starts, adopt_clear n v e none k found.0 (sym (ap occupies found.1) ∙ on))))
                     (λ k lt ne live same.
                     let found = has.others k lt ne in
                     no_file v.slots redo_name k none_named found.0 (sym (ap is_live found.1) ∙ live) (sym (ap name_of found.1) ∙ same ∙ new_name redo_name redo_type (n - 4) 4 zeros refl));
@@ -359,9 +364,6 @@ adopt_is_adopted n v is none = go (is_adopted n v.slots) refl
               };
               adopted = any_from [] (is_redo_file n) (v.slots ++ redo ∷ []) (length v.slots) (omega (arith, length_push v.slots redo)) (ap (is_redo_file n) has.here ∙ made_redo_file n);
             }
-          where
-            ends_before : (k : ℕ) → k < length v.slots → occupies (get_or v.slots k []) ≡ true → end_of (get_or v.slots k []) ≤ gate_of n
-            ends_before k lt on = ltb-false (gate_of n) (end_of (get_or v.slots k [])) (none_of_filter [] occupies (λ slot. nat_lt (gate_of n) (end_of slot)) v.slots k clear lt on)
 
 -- ---- upgrade
 

@@ -14,7 +14,7 @@ use Rattle.lif_model.specs.Redo.{One, Two, settled}
 use Rattle.lif_model.specs.Legal.{is_live, has_records, is_live_named, has_file, is_legal, IsLegal}
 use Rattle.lif_model.specs.Volume.{redo_name, redo_entry, upgraded_entry, is_redo_file, is_adopted, is_file, file_named, content_of, files_of, Volume, volume_if, volume_in, volume_of, IsVolume, IsAdopted, HasBytes, HasFiles}
 use Rattle.lif_model.specs.Fit.{Place, At, redo_place, fit_in}
-use Rattle.lif_model.specs.Apply.{VolumeCommand, Dir, Label, Fetch, Store, Rename, Purge, Adopt, Upgrade, Format, IsWellFormed, is_upgraded, runs_past_redo, checks_of, refusal_of, placed, stored, with_slot, moved_key, renamed, upgraded, fresh_volume, volume_after}
+use Rattle.lif_model.specs.Apply.{VolumeCommand, Dir, Label, Fetch, Store, Rename, Purge, Adopt, Upgrade, Format, IsWellFormed, is_protected, is_upgraded, runs_past_redo, checks_of, refusal_of, placed, stored, with_slot, moved_key, renamed, upgraded, fresh_volume, volume_after}
 use Rattle.lif_model.proofs.Made.{new_name, new_type, new_length, named_name, named_type, named_length, length_filled}
 use Rattle.lif_model.proofs.Fit.{IsPlaceIn, fit_tells}
 use Rattle.lif_model.proofs.Lists.{any_at}
@@ -23,7 +23,7 @@ use Rattle.lif_model.proofs.Legal.{legal_tells}
 use Rattle.lif_model.proofs.Directory.{settled_shape}
 use Rattle.lif_model.proofs.Files.{get_file, get_none, get_stored, get_removed, get_moved}
 use Rattle.lif_model.proofs.Adopted.{redo_file_tells, redo_entry_tells, redo_place_is, one_of_name}
-use Rattle.lif_model.proofs.Apply.{NoneMet, none_met, made_redo_file, not_redo_name, store_has_place, stored_is_adopted, moved_is_two, upgraded_at, purged_is_dead, next_is_adopted, adopt_is_adopted}
+use Rattle.lif_model.proofs.Apply.{NoneMet, none_met, made_redo_file, not_redo_name, store_has_place, stored_is_adopted, moved_is_two, upgraded_at, purged_is_dead, purge_is_adopted, rename_is_adopted, next_is_adopted, adopt_is_adopted}
 
 -- ---- the slot of a name
 
@@ -221,36 +221,49 @@ left_alone name change slot q named apart = elim (slot_cases name change slot) [
   | inr both ↦ both.1
 ]
 
-pub purge_has_files : (n : ℕ) (v : Volume) (name : List ℕ) → IsAdopted n v → HasFiles n v → IsWellFormed (Purge name) → refusal_of n (Purge name) (Some v) ≡ None → HasFiles n (volume_after n (Purge name) v)
-purge_has_files n v name is has formed none q = go (names_of q name)
+module _ (n : ℕ) (v : Volume) (name : List ℕ) (is : IsAdopted n v) (none : refusal_of n (Purge name) (Some v) ≡ None) where
+  abbrev change_purged : List ℕ → List ℕ
+  change_purged slot = if is_live_named name slot then with_type 0 slot else slot
+
+  abbrev slots_purged : List (List ℕ)
+  slots_purged = with_slot name (with_type 0) v.slots
+
+  dead : (k : ℕ) → k < length v.slots → is_live (change_purged (get_or v.slots k [])) ≡ true → (change_purged (get_or v.slots k []) ≡ get_or v.slots k []) × (name_of (get_or v.slots k []) ≢ name)
+  dead k lt alive = elim (slot_cases name (with_type 0) (get_or v.slots k [])) [
+    | inl both ↦ let no : true ≡ false = sym alive ∙ ap is_live both.1 ∙ purged_is_dead (get_or v.slots k []) (is.volume.entries k lt) in cc
+    | inr both ↦ (both.1, other_name name (get_or v.slots k []) both.0 (sym (ap is_live both.1) ∙ alive))
+  ]
+
+  at_purged : (k : ℕ) → k < length slots_purged → (k < length v.slots) × (get_or slots_purged k [] ≡ change_purged (get_or v.slots k []))
+  at_purged k lt = let under : k < length v.slots = omega (arith, length-map v.slots change_purged) in (under, get_or-map change_purged v.slots k [] [] under)
+
+  -- a slot that is a file after the purge was no slot of that name
+  stayed : (q : List ℕ) (j : ℕ) → j < length slots_purged → is_named n q (get_or slots_purged j []) ≡ true → (j < length v.slots) × (get_or slots_purged j [] ≡ get_or v.slots j []) × (q ≢ name)
+  stayed q j lt on =
+      let place = at_purged j lt in
+      let both = named_tells n q (get_or slots_purged j []) on in
+      let stays = dead j place.0 (sym (ap is_live place.1) ∙ (file_tells n (get_or slots_purged j []) both.0).0) in
+      (place.0, place.1 ∙ stays.0, λ same. stays.1 (sym (ap name_of stays.0) ∙ sym (ap name_of place.1) ∙ both.1 ∙ same))
+
+  -- a purged file is no file
+  pub purged_here : file_named n slots_purged name ≡ None
+  purged_here = not_found (is_named n name) slots_purged (λ j lt. false_from_ne_true _ (λ on. (stayed name j lt on).2 refl))
+
+  -- and each other name has the slot that it had
+  pub purged_others : (q : List ℕ) → q ≢ name → file_named n slots_purged q ≡ file_named n v.slots q
+  purged_others q apart = same_named n v.header v.slots slots_purged q is.volume.legal (purge_is_adopted n v name is none).volume.legal
+      (λ k lt on.
+      let long : k < length slots_purged = omega (arith, lt, length-map v.slots change_purged) in
+      (k, long, (at_purged k long).1 ∙ left_alone name (with_type 0) (get_or v.slots k []) q (named_tells n q (get_or v.slots k []) on).1 apart))
+      (λ j lt on. let stays = stayed q j lt on in (j, stays.0, stays.1))
+
+pub purge_has_files : (n : ℕ) (v : Volume) (name : List ℕ) → IsAdopted n v → HasFiles n v → refusal_of n (Purge name) (Some v) ≡ None → HasFiles n (volume_after n (Purge name) v)
+purge_has_files n v name is has none q = go (names_of q name)
   where
-    dead : (k : ℕ) → k < length v.slots → is_live (if is_live_named name (get_or v.slots k []) then with_type 0 (get_or v.slots k []) else get_or v.slots k []) ≡ true
-        → ((if is_live_named name (get_or v.slots k []) then with_type 0 (get_or v.slots k []) else get_or v.slots k []) ≡ get_or v.slots k []) × (name_of (get_or v.slots k []) ≢ name)
-    dead k lt alive = elim (slot_cases name (with_type 0) (get_or v.slots k [])) [
-      | inl both ↦ let no : true ≡ false = sym alive ∙ ap is_live both.1 ∙ purged_is_dead (get_or v.slots k []) (is.volume.entries k lt) in cc
-      | inr both ↦ (both.1, other_name name (get_or v.slots k []) both.0 (sym (ap is_live both.1) ∙ alive))
-    ]
-
-    at : (k : ℕ) → k < length (with_slot name (with_type 0) v.slots) → (k < length v.slots) × (get_or (with_slot name (with_type 0) v.slots) k [] ≡ (if is_live_named name (get_or v.slots k []) then with_type 0 (get_or v.slots k []) else get_or v.slots k []))
-    at k lt = let under : k < length v.slots = omega (arith, length-map v.slots (λ slot. if is_live_named name slot then with_type 0 slot else slot)) in (under, get_or-map (λ slot. if is_live_named name slot then with_type 0 slot else slot) v.slots k [] [] under)
-
     go : Names q name → HasBytes (file_named n (volume_after n (Purge name) v).slots q) (get (volume_after n (Purge name) v).files q)
-    go (equal same e) = has_none n (volume_after n (Purge name) v) q
-        (not_found (is_named n q) (with_slot name (with_type 0) v.slots) (λ j lt. false_from_ne_true _ (λ on.
-        let place = at j lt in
-        let both = named_tells n q (get_or (with_slot name (with_type 0) v.slots) j []) on in
-        let stays = dead j place.0 (sym (ap is_live place.1) ∙ (file_tells n (get_or (with_slot name (with_type 0) v.slots) j []) both.0).0) in
-        stays.1 (sym (ap name_of stays.0) ∙ sym (ap name_of place.1) ∙ both.1 ∙ same))))
+    go (equal same e) = has_none n (volume_after n (Purge name) v) q (ap (file_named n (with_slot name (with_type 0) v.slots)) same ∙ purged_here n v name is none)
         (get_removed v.files name q ∙ ap (λ (b : Bool). if b then None else get v.files q) e)
-    go (other apart e) = carried n v (volume_after n (Purge name) v) q has
-        (same_named n v.header v.slots (with_slot name (with_type 0) v.slots) q is.volume.legal (next_is_adopted n (Purge name) v is formed none).volume.legal
-        (λ k lt on.
-        let long : k < length (with_slot name (with_type 0) v.slots) = omega (arith, lt, length-map v.slots (λ slot. if is_live_named name slot then with_type 0 slot else slot)) in
-        (k, long, (at k long).1 ∙ left_alone name (with_type 0) (get_or v.slots k []) q (named_tells n q (get_or v.slots k []) on).1 apart))
-        (λ j lt on.
-        let place = at j lt in
-        let both = named_tells n q (get_or (with_slot name (with_type 0) v.slots) j []) on in
-        (j, place.0, place.1 ∙ (dead j place.0 (sym (ap is_live place.1) ∙ (file_tells n (get_or (with_slot name (with_type 0) v.slots) j []) both.0).0)).0)))
+    go (other apart e) = carried n v (volume_after n (Purge name) v) q has (purged_others n v name is none q apart)
         (get_removed v.files name q ∙ ap (λ (b : Bool). if b then None else get v.files q) e)
 
 -- ---- rename
@@ -276,100 +289,135 @@ module _ (n : ℕ) (v : Volume) (old later : List ℕ) (ten : length later ≡ 1
     | inr both ↦ (both.1, both.0)
   ]
 
-  moved_files : IsLegal n v.header v.slots → IsLegal n v.header slots_then → HasFiles n v → later ≢ redo_name → (k : ℕ) → k < length v.slots → is_live_named old (get_or v.slots k []) ≡ true
-      → (bytes : List ℕ) → get v.files old ≡ Some bytes → length bytes ≡ 256 * length_of (get_or v.slots k []) → HasFiles n (renamed v old later)
-  moved_files legal legal_then has off_later k lt on bytes is size q = go (names_of q later) (names_of q old)
+  -- the new name has the renamed slot, the old name none, and each other name the slot that it had
+  renamed_by : IsLegal n v.header v.slots → IsLegal n v.header slots_then → later ≢ redo_name → (k : ℕ) → k < length v.slots → is_live_named old (get_or v.slots k []) ≡ true
+      → (file_named n slots_then later ≡ Some (with_name later (get_or v.slots k []))) × (file_named n slots_then old ≡ None) × ((q : List ℕ) → q ≢ later → q ≢ old → file_named n slots_then q ≡ file_named n v.slots q)
+  renamed_by legal legal_then off_later k lt on = (
+    named_at_place n v.header slots_then legal_then later k long (ap (is_named n later) is_new ∙ named_from n later new file named) ∙ ap Some is_new,
+    not_found (is_named n old) slots_then (λ j less. false_from_ne_true _ (λ here.
+        let place = at_then j less in
+        let both = named_tells n old (get_or slots_then j []) here in
+        let kept = not_renamed j old (sym (ap name_of place.1) ∙ both.1) apart in
+        let live : is_live (get_or v.slots j []) ≡ true = sym (ap is_live kept.0) ∙ sym (ap is_live place.1) ∙ (file_tells n (get_or slots_then j []) both.0).0 in
+        other_name old (get_or v.slots j []) kept.1 live (sym (ap name_of kept.0) ∙ sym (ap name_of place.1) ∙ both.1))),
+    λ q off apart_old. same_named n v.header v.slots slots_then q legal legal_then
+        (λ j less here.
+        let long_j : j < length slots_then = omega (arith, less, length-map v.slots change) in
+        (j, long_j, (at_then j long_j).1 ∙ left_alone old (with_name later) (get_or v.slots j []) q (named_tells n q (get_or v.slots j []) here).1 apart_old))
+        (λ j less here.
+        let place = at_then j less in
+        (j, place.0, place.1 ∙ (not_renamed j q (sym (ap name_of place.1) ∙ (named_tells n q (get_or slots_then j []) here).1) off).0)),
+  )
     where
-      gets : get (moved_key v.files old later (get v.files old)) q ≡ (if bytes_eq q later then Some bytes else (if bytes_eq q old then None else get v.files q))
-      gets = ap (λ (o : Option (List ℕ)). get (moved_key v.files old later o) q) is ∙ get_moved v.files old later bytes q
+      new : List ℕ
+      new = with_name later (get_or v.slots k [])
 
       long : k < length slots_then
       long = omega (arith, lt, length-map v.slots change)
 
-      changed : get_or slots_then k [] ≡ with_name later (get_or v.slots k [])
-      changed = (at_then k long).1 ∙ ap (λ (b : Bool). if b then with_name later (get_or v.slots k []) else get_or v.slots k []) on
+      is_new : get_or slots_then k [] ≡ with_name later (get_or v.slots k [])
+      is_new = (at_then k long).1 ∙ ap (λ (b : Bool). if b then with_name later (get_or v.slots k []) else get_or v.slots k []) on
 
-      go : Names q later → Names q old → HasBytes (file_named n slots_then q) (get (moved_key v.files old later (get v.files old)) q)
-      go (equal same e) is_old =
-          let slot = get_or v.slots k [] in
-          let named : name_of (with_name later slot) ≡ later = named_name later slot ten in
-          let live : is_live (with_name later slot) ≡ true = ap (λ (t : ℕ). not (nat_eq t 0)) (named_type later slot ten) ∙ (live_named_tells old slot on).0 in
-          let file : is_file n (with_name later slot) ≡ true = file_from n (with_name later slot) live (λ redo. off_later (sym named ∙ redo)) in
-          has_some n (renamed v old later) q (with_name later slot) bytes
-          (named_at_place n v.header slots_then legal_then q k long (ap (is_named n q) changed ∙ named_from n q (with_name later slot) file (named ∙ sym same)) ∙ ap Some changed)
-          (gets ∙ ap (λ (b : Bool). if b then Some bytes else (if bytes_eq q old then None else get v.files q)) e)
-          (size ∙ sym (ap (λ (m : ℕ). 256 * m) (named_length later slot ten)))
-      go (other off e) (equal same f) = has_none n (renamed v old later) q
-          (not_found (is_named n q) slots_then (λ j less. false_from_ne_true _ (λ here.
-          let place = at_then j less in
-          let both = named_tells n q (get_or slots_then j []) here in
-          let kept = not_renamed j q (sym (ap name_of place.1) ∙ both.1) off in
-          let live : is_live (get_or v.slots j []) ≡ true = sym (ap is_live kept.0) ∙ sym (ap is_live place.1) ∙ (file_tells n (get_or slots_then j []) both.0).0 in
-          other_name old (get_or v.slots j []) kept.1 live (sym (ap name_of kept.0) ∙ sym (ap name_of place.1) ∙ both.1 ∙ same))))
-          (gets ∙ (λ i. if e i then Some bytes else (if f i then None else get v.files q)))
-      go (other off e) (other apart_old f) = carried n v (renamed v old later) q has
-          (same_named n v.header v.slots slots_then q legal legal_then
-          (λ j less here.
-          let long_j : j < length slots_then = omega (arith, less, length-map v.slots change) in
-          (j, long_j, (at_then j long_j).1 ∙ left_alone old (with_name later) (get_or v.slots j []) q (named_tells n q (get_or v.slots j []) here).1 apart_old))
-          (λ j less here.
-          let place = at_then j less in
-          (j, place.0, place.1 ∙ (not_renamed j q (sym (ap name_of place.1) ∙ (named_tells n q (get_or slots_then j []) here).1) off).0)))
-          (gets ∙ (λ i. if e i then Some bytes else (if f i then None else get v.files q)))
+      named : name_of (with_name later (get_or v.slots k [])) ≡ later
+      named = named_name later (get_or v.slots k []) ten
 
-  renamed_files : IsLegal n v.header v.slots → IsLegal n v.header slots_then → HasFiles n v → old ≢ redo_name → later ≢ redo_name → has_file v.slots old ≡ true → HasFiles n (renamed v old later)
-  renamed_files legal legal_then has off_old off_later there =
-      let found = any_at [] (is_live_named old) v.slots there in
-      let slot = get_or v.slots found.0 [] in
-      let tells = live_named_tells old slot found.2 in
-      let file : is_file n slot ≡ true = file_from n slot tells.0 (λ redo. off_old (sym tells.1 ∙ redo)) in
-      let is : file_named n v.slots old ≡ Some slot = named_at_place n v.header v.slots legal old found.0 found.1 (named_from n old slot file tells.1) in
-      let bytes : HasBytes (Some slot) (get v.files old) = subst (λ (o : Option (List ℕ)). HasBytes o (get v.files old)) is (has old) in
-      go found.0 found.1 found.2 (get v.files old) refl bytes
-    where
-      go : (k : ℕ) → k < length v.slots → is_live_named old (get_or v.slots k []) ≡ true → (o : Option (List ℕ)) → get v.files old ≡ o → HasBytes (Some (get_or v.slots k [])) o → HasFiles n (renamed v old later)
-      go k lt on None e bytes = absurd bytes
-      go k lt on (Some content) e bytes = moved_files legal legal_then has off_later k lt on content e bytes
+      file : is_file n (with_name later (get_or v.slots k [])) ≡ true
+      file =
+          let live : is_live (with_name later (get_or v.slots k [])) ≡ true = ap (λ (t : ℕ). not (nat_eq t 0)) (named_type later (get_or v.slots k []) ten) ∙ (live_named_tells old (get_or v.slots k []) on).0 in
+          file_from n (with_name later (get_or v.slots k [])) live (λ redo. off_later (sym named ∙ redo))
 
-pub rename_has_files : (n : ℕ) (v : Volume) (old later : List ℕ) → IsAdopted n v → HasFiles n v → IsWellFormed (Rename old later) → refusal_of n (Rename old later) (Some v) ≡ None → HasFiles n (volume_after n (Rename old later) v)
-rename_has_files n v old later is has formed none = go (names_of old later) (next_is_adopted n (Rename old later) v is formed none).volume.legal
+-- a rename that is not refused, to another name: the slot of the old name, and what each name has then
+pub record IsRenamed (n : ℕ) (v : Volume) (old later slot : List ℕ) : Type 0 where
+  pub was : file_named n v.slots old ≡ Some slot
+  pub here : file_named n (with_slot old (with_name later) v.slots) later ≡ Some (with_name later slot)
+  pub gone : file_named n (with_slot old (with_name later) v.slots) old ≡ None
+  pub others : (q : List ℕ) → q ≢ later → q ≢ old → file_named n (with_slot old (with_name later) v.slots) q ≡ file_named n v.slots q
+
+pub renamed_named : (n : ℕ) (v : Volume) (old later : List ℕ) → IsAdopted n v → IsWellFormed (Rename old later) → refusal_of n (Rename old later) (Some v) ≡ None → old ≢ later
+    → (slot : List ℕ) × IsRenamed n v old later slot
+renamed_named n v old later is formed none apart =
+    let found = any_at [] (is_live_named old) v.slots (not-false (has_file v.slots old) unmet.1.1.0) in
+    let slot : List ℕ = get_or v.slots found.0 [] in
+    let tells = live_named_tells old slot found.2 in
+    let file : is_file n slot ≡ true = file_from n slot tells.0 (λ redo. not_redo_name n v old is.adopted names.0 (sym tells.1 ∙ redo)) in
+    let all = renamed_by n v old later formed.1 apart is.volume.legal legal_then (not_redo_name n v later is.adopted names.1) found.0 found.1 found.2 in (
+      slot,
+      record {
+        was = named_at_place n v.header v.slots is.volume.legal old found.0 found.1 (named_from n old slot file tells.1);
+        here = all.0;
+        gone = all.1;
+        others = all.2;
+      },
+    )
   where
     unmet : NoneMet (checks_of n (Rename old later) v)
     unmet = none_met n (Rename old later) v none
 
-    go : Names old later → IsLegal n (volume_after n (Rename old later) v).header (volume_after n (Rename old later) v).slots → HasFiles n (volume_after n (Rename old later) v)
-    go (equal same e) legal = subst (λ (b : Bool). HasFiles n (if b then v else renamed v old later)) (sym e) has
-    go (other apart e) legal =
-        let names = or_parts _ _ unmet.1.0 in
+    names : (is_protected n v old ≡ false) × (is_protected n v later ≡ false)
+    names = or_parts _ _ unmet.1.0
+
+    differ : bytes_eq old later ≡ false
+    differ = false_from_ne_true _ (λ same. apart ((bytes_eq-Decides old later).0 same))
+
+    legal_then : IsLegal n v.header (with_slot old (with_name later) v.slots)
+    legal_then = subst (λ (b : Bool). IsLegal n (if b then v else renamed v old later).header (if b then v else renamed v old later).slots) differ (rename_is_adopted n v old later is formed none).volume.legal
+
+pub rename_has_files : (n : ℕ) (v : Volume) (old later : List ℕ) → IsAdopted n v → HasFiles n v → IsWellFormed (Rename old later) → refusal_of n (Rename old later) (Some v) ≡ None → HasFiles n (volume_after n (Rename old later) v)
+rename_has_files n v old later is has formed none = go (names_of old later)
+  where
+    go : Names old later → HasFiles n (volume_after n (Rename old later) v)
+    go (equal same e) = subst (λ (b : Bool). HasFiles n (if b then v else renamed v old later)) (sym e) has
+    go (other apart e) =
+        let found = renamed_named n v old later is formed none apart in
         subst (λ (b : Bool). HasFiles n (if b then v else renamed v old later)) (sym e)
-        (renamed_files n v old later formed.1 apart is.volume.legal (subst (λ (b : Bool). IsLegal n (if b then v else renamed v old later).header (if b then v else renamed v old later).slots) e legal) has
-        (not_redo_name n v old is.adopted names.0) (not_redo_name n v later is.adopted names.1) (not-false (has_file v.slots old) unmet.1.1.0))
+        (with_bytes found.0 found.1 (get v.files old) refl (subst (λ (o : Option (List ℕ)). HasBytes o (get v.files old)) found.1.was (has old)))
+      where
+        with_bytes : (slot : List ℕ) → IsRenamed n v old later slot → (o : Option (List ℕ)) → get v.files old ≡ o → HasBytes (Some slot) o → HasFiles n (renamed v old later)
+        with_bytes slot names None is bytes q = absurd bytes
+        with_bytes slot names (Some content) is size q = by_name (names_of q later) (names_of q old)
+          where
+            gets : get (moved_key v.files old later (get v.files old)) q ≡ (if bytes_eq q later then Some content else (if bytes_eq q old then None else get v.files q))
+            gets = ap (λ (o : Option (List ℕ)). get (moved_key v.files old later o) q) is ∙ get_moved v.files old later content q
+
+            by_name : Names q later → Names q old → HasBytes (file_named n (with_slot old (with_name later) v.slots) q) (get (moved_key v.files old later (get v.files old)) q)
+            by_name (equal same e) is_old = has_some n (renamed v old later) q (with_name later slot) content (ap (file_named n (with_slot old (with_name later) v.slots)) same ∙ names.here)
+                (gets ∙ ap (λ (b : Bool). if b then Some content else (if bytes_eq q old then None else get v.files q)) e)
+                (size ∙ sym (ap (λ (m : ℕ). 256 * m) (named_length later slot formed.1)))
+            by_name (other off e) (equal same f) = has_none n (renamed v old later) q (ap (file_named n (with_slot old (with_name later) v.slots)) same ∙ names.gone)
+                (gets ∙ (λ i. if e i then Some content else (if f i then None else get v.files q)))
+            by_name (other off e) (other apart_old f) = carried n v (renamed v old later) q has (names.others q off apart_old)
+                (gets ∙ (λ i. if e i then Some content else (if f i then None else get v.files q)))
 
 -- ---- adopt and format
 
 redo_is_no_file : (n : ℕ) → is_file n (redo_entry One n) ≡ false
 redo_is_no_file n = and_right _ _ (not_from_true _ (made_redo_file n))
 
-pub adopt_has_files : (n : ℕ) (v : Volume) → IsVolume n v → HasFiles n v → refusal_of n Adopt (Some v) ≡ None → HasFiles n (volume_after n Adopt v)
-adopt_has_files n v is has none = go (is_adopted n v.slots) refl (adopt_is_adopted n v is none).volume.legal
+-- each name has the slot that it had
+pub adopted_named : (n : ℕ) (v : Volume) → IsVolume n v → is_adopted n v.slots ≡ false → refusal_of n Adopt (Some v) ≡ None → (q : List ℕ) → file_named n (v.slots ++ redo_entry One n ∷ []) q ≡ file_named n v.slots q
+adopted_named n v is foreign none q = same_named n v.header v.slots (v.slots ++ redo_entry One n ∷ []) q is.legal legal_then
+    (λ k lt on. (k, omega (arith, lt, length_push v.slots (redo_entry One n)), get_or_append_left v.slots (redo_entry One n ∷ []) [] k lt))
+    (λ j lt on. elim (cases_eq j (length v.slots)) [
+      | inl at ↦
+          let here : get_or (v.slots ++ redo_entry One n ∷ []) j [] ≡ redo_entry One n = ap (λ (m : ℕ). get_or (v.slots ++ redo_entry One n ∷ []) m []) at ∙ is_new.here in
+          let no : true ≡ false = sym (named_tells n q (get_or (v.slots ++ redo_entry One n ∷ []) j []) on).0 ∙ ap (is_file n) here ∙ redo_is_no_file n in cc
+      | inr off ↦ let found = is_new.others j lt off in (j, found.0, found.1)
+    ])
   where
-    go : (b : Bool) → is_adopted n v.slots ≡ b → IsLegal n (volume_after n Adopt v).header (volume_after n Adopt v).slots → HasFiles n (volume_after n Adopt v)
-    go true e legal = subst (λ (b : Bool). HasFiles n (if b then v else record v { slots = v.slots ++ redo_entry One n ∷ [] })) (sym e) has
-    go false e legal = subst (λ (b : Bool). HasFiles n (if b then v else record v { slots = v.slots ++ redo_entry One n ∷ [] })) (sym e)
-        (with_redo (subst (λ (b : Bool). IsLegal n (if b then v else record v { slots = v.slots ++ redo_entry One n ∷ [] }).header (if b then v else record v { slots = v.slots ++ redo_entry One n ∷ [] }).slots) e legal))
-      where
-        with_redo : IsLegal n v.header (v.slots ++ redo_entry One n ∷ []) → HasFiles n (record v { slots = v.slots ++ redo_entry One n ∷ [] })
-        with_redo legal_later q =
-            let redo : List ℕ = redo_entry One n in
-            let is_new = push_new v.slots redo in
-            carried n v (record v { slots = v.slots ++ redo ∷ [] }) q has
-            (same_named n v.header v.slots (v.slots ++ redo ∷ []) q is.legal legal_later
-            (λ k lt on. (k, omega (arith, lt, length_push v.slots redo), get_or_append_left v.slots (redo ∷ []) [] k lt))
-            (λ j lt on. elim (cases_eq j (length v.slots)) [
-              | inl at ↦ let no : true ≡ false = sym (named_tells n q (get_or (v.slots ++ redo ∷ []) j []) on).0 ∙ ap (is_file n) (ap (λ (m : ℕ). get_or (v.slots ++ redo ∷ []) m []) at ∙ is_new.here) ∙ redo_is_no_file n in cc
-              | inr off ↦ let found = is_new.others j lt off in (j, found.0, found.1)
-            ]))
-            refl
+    is_new : HasNew v.slots (v.slots ++ redo_entry One n ∷ []) (length v.slots) (redo_entry One n) (λ k. k)
+    is_new = push_new v.slots (redo_entry One n)
+
+    legal_then : IsLegal n v.header (v.slots ++ redo_entry One n ∷ [])
+    legal_then = subst (λ (b : Bool). IsLegal n (if b then v else record v { slots = v.slots ++ redo_entry One n ∷ [] }).header (if b then v else record v { slots = v.slots ++ redo_entry One n ∷ [] }).slots)
+        foreign (adopt_is_adopted n v is none).volume.legal
+
+pub adopt_has_files : (n : ℕ) (v : Volume) → IsVolume n v → HasFiles n v → refusal_of n Adopt (Some v) ≡ None → HasFiles n (volume_after n Adopt v)
+adopt_has_files n v is has none = go (is_adopted n v.slots) refl
+  where
+    go : (b : Bool) → is_adopted n v.slots ≡ b → HasFiles n (volume_after n Adopt v)
+    go true e = subst (λ (b : Bool). HasFiles n (if b then v else record v { slots = v.slots ++ redo_entry One n ∷ [] })) (sym e) has
+    go false e = subst (λ (b : Bool). HasFiles n (if b then v else record v { slots = v.slots ++ redo_entry One n ∷ [] })) (sym e)
+        (λ q. carried n v (record v { slots = v.slots ++ redo_entry One n ∷ [] }) q has (adopted_named n v is e none q) refl)
 
 pub format_has_files : (n : ℕ) (label : List ℕ) (slots : ℕ) → HasFiles n (fresh_volume n label slots)
 format_has_files n label slots q = has_none n (fresh_volume n label slots) q
@@ -382,8 +430,8 @@ format_has_files n label slots q = has_none n (fresh_volume n label slots) q
 -- ---- upgrade
 
 -- each name has the slot that it had
-pub upgraded_named : (n : ℕ) (v : Volume) → IsAdopted n v → IsAdopted n (upgraded n v) → runs_past_redo n v ≡ false → (q : List ℕ) → file_named n (upgraded n v).slots q ≡ file_named n v.slots q
-upgraded_named n v is is_then clear q = same_named n v.header v.slots (upgraded n v).slots q is.volume.legal is_then.volume.legal
+pub upgraded_named : (n : ℕ) (v : Volume) → IsAdopted n v → is_upgraded n v ≡ false → refusal_of n Upgrade (Some v) ≡ None → (q : List ℕ) → file_named n (upgraded n v).slots q ≡ file_named n v.slots q
+upgraded_named n v is old none q = same_named n v.header v.slots (upgraded n v).slots q is.volume.legal legal_then
     (λ k lt on. (
       k,
       omega (arith, lt, long),
@@ -398,6 +446,12 @@ upgraded_named n v is is_then clear q = same_named n v.header v.slots (upgraded 
           let no : true ≡ false = sym moved ∙ (file_tells n (get_or (upgraded n v).slots j []) (named_tells n q (get_or (upgraded n v).slots j []) on).0).1 in cc),
     ))
   where
+    clear : runs_past_redo n v ≡ false
+    clear = sym (ap (λ (b : Bool). not b && runs_past_redo n v) old) ∙ (none_met n Upgrade v none).1.0
+
+    legal_then : IsLegal n v.header (upgraded n v).slots
+    legal_then = subst (λ (b : Bool). IsLegal n (if b then v else upgraded n v).header (if b then v else upgraded n v).slots) old (next_is_adopted n Upgrade v is tt none).volume.legal
+
     r : ℕ
     r = redo_place v.slots
 
@@ -417,17 +471,11 @@ upgraded_named n v is is_then clear q = same_named n v.header v.slots (upgraded 
     stays k ne = ap (λ (xs : List (List ℕ)). get_or xs k []) at ∙ get_or-set_other v.slots r k new [] ne
 
 pub upgrade_has_files : (n : ℕ) (v : Volume) → IsAdopted n v → HasFiles n v → refusal_of n Upgrade (Some v) ≡ None → HasFiles n (volume_after n Upgrade v)
-upgrade_has_files n v is has none = go (is_upgraded n v) refl (next_is_adopted n Upgrade v is tt none)
+upgrade_has_files n v is has none = go (is_upgraded n v) refl
   where
-    unmet : NoneMet (checks_of n Upgrade v)
-    unmet = none_met n Upgrade v none
-
-    go : (b : Bool) → is_upgraded n v ≡ b → IsAdopted n (volume_after n Upgrade v) → HasFiles n (volume_after n Upgrade v)
-    go true e after = subst (λ (b : Bool). HasFiles n (if b then v else upgraded n v)) (sym e) has
-    go false e after =
-        let clear : runs_past_redo n v ≡ false = sym (ap (λ (b : Bool). not b && runs_past_redo n v) e) ∙ unmet.1.0 in
-        subst (λ (b : Bool). HasFiles n (if b then v else upgraded n v)) (sym e)
-        (λ q. carried n v (upgraded n v) q has (upgraded_named n v is (subst (λ (b : Bool). IsAdopted n (if b then v else upgraded n v)) e after) clear q) refl)
+    go : (b : Bool) → is_upgraded n v ≡ b → HasFiles n (volume_after n Upgrade v)
+    go true e = subst (λ (b : Bool). HasFiles n (if b then v else upgraded n v)) (sym e) has
+    go false e = subst (λ (b : Bool). HasFiles n (if b then v else upgraded n v)) (sym e) (λ q. carried n v (upgraded n v) q has (upgraded_named n v is e none q) refl)
 
 -- ---- every command
 
@@ -438,7 +486,7 @@ next_has_files n Label v is has formed none = has
 next_has_files n (Fetch name) v is has formed none = has
 next_has_files n (Store name kind implementation bytes) v is has formed none = store_has_files n v name kind implementation bytes is has formed none
 next_has_files n (Rename old later) v is has formed none = rename_has_files n v old later is has formed none
-next_has_files n (Purge name) v is has formed none = purge_has_files n v name is has formed none
+next_has_files n (Purge name) v is has formed none = purge_has_files n v name is has none
 next_has_files n Adopt v is has formed none = adopt_has_files n v is.volume has none
 next_has_files n Upgrade v is has formed none = upgrade_has_files n v is has none
 next_has_files n (Format label slots) v is has formed none = format_has_files n label slots
