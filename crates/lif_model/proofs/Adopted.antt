@@ -34,7 +34,7 @@ redo_file_is_live n slot is = not_from_false _ (ne_eqb (type_of slot) 0 (λ e. l
 
 -- ---- the redo entry's place
 
-position_tells : {X : Type 0} (d : X) (p : X → Bool) (xs : List X) → list_any p xs ≡ true → (position_or_len p xs < length xs) × (p (get_or xs (position_or_len p xs) d) ≡ true)
+pub position_tells : {X : Type 0} (d : X) (p : X → Bool) (xs : List X) → list_any p xs ≡ true → (position_or_len p xs < length xs) × (p (get_or xs (position_or_len p xs) d) ≡ true)
 position_tells d p [] any = cc
 position_tells d p (x ∷ xs) any = go (p x) refl any (λ rest. position_tells d p xs rest)
   where

@@ -26,3 +26,4 @@ pub mod Plain
 pub mod Named
 pub mod Places
 pub mod Content
+pub mod Lookups

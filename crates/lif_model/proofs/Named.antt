@@ -51,7 +51,7 @@ found_at p (x ∷ xs) (suc k) lt on alone =
     let off : p x ≡ false = false_from_ne_true _ (λ first. let both : 0 ≡ suc k = alone 0 (omega arith) first in omega (arith, both)) in
     ap (λ (b : Bool). if b then Some x else find p xs) off ∙ found_at p xs k (omega arith) on (λ j less on_j. let same : suc j ≡ suc k = alone (suc j) (omega arith) on_j in omega (arith, same))
 
-not_found : (p : List ℕ → Bool) (xs : List (List ℕ)) → ((j : ℕ) → j < length xs → p (get_or xs j []) ≡ false) → find p xs ≡ None
+pub not_found : (p : List ℕ → Bool) (xs : List (List ℕ)) → ((j : ℕ) → j < length xs → p (get_or xs j []) ≡ false) → find p xs ≡ None
 not_found p [] none = refl
 not_found p (x ∷ xs) none = ap (λ (b : Bool). if b then Some x else find p xs) (none 0 (omega arith)) ∙ not_found p xs (λ j lt. none (suc j) (omega arith))
 
