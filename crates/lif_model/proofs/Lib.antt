@@ -27,3 +27,4 @@ pub mod Named
 pub mod Places
 pub mod Content
 pub mod Lookups
+pub mod Sorting
