@@ -1,5 +1,5 @@
 -- Adopted volumes: where the redo entry stands, and that no file reaches the redo file's records.
-use Rattle.std.proofs.Common.{filter, ◌≡◌, ◌<◌, ◌≤◌, ◌+◌, ◌&&◌, ◌||◌, ◌==◌, ℕ, suc, List, [], ◌∷◌, Bool, true, false, not, if◌then◌else◌, length, get_or, set, inl, inr, refl, sym, ◌∙◌, ap, subst, arith, nat_lt, nat_le, length-set, get_or-set_same, get_or-set_other}
+use Rattle.std.proofs.Common.{filter, ◌≡◌, ◌<◌, ◌≤◌, ◌+◌, ◌&&◌, ◌||◌, ◌==◌, ℕ, suc, List, [], ◌∷◌, Bool, true, false, not, if◌then◌else◌, length, get_or, set, inl, inr, refl, sym, ◌∙◌, ap, subst, arith, nat_lt, nat_le, length-set, get_or-set_same, get_or-set_other, ◌⊎◌}
 use Rattle.std.specs.List.{list_any, position_or_len, prefix_len}
 use Rattle.std.specs.Str.{bytes_eq}
 use Rattle.std.proofs.lemmas.Bool.{cases_order, cases_Bool, and_parts, and_from, or_cases, leb-true, ltb-true, ltb-false, eqb-true, lt-ltb, not-true, not_from_false, false_from_ne_true, or_left, or_right, and_left, le-leb, not_from_true, ne_eqb}
@@ -9,8 +9,8 @@ use Rattle.lif_model.specs.Tape.{Tape, record_at}
 use Rattle.lif_model.specs.Gate.{gate_of}
 use Rattle.lif_model.specs.Header.{directory_start, directory_end, is_readable}
 use Rattle.lif_model.specs.Directory.{name_of, type_of, start_of, length_of, slots_of}
-use Rattle.lif_model.specs.Redo.{Version, One, Two, versions, redo_start, redo_length, Changes, redo_of, is_none, settled}
-use Rattle.lif_model.specs.Commit.{SettlesAs, SettlesBelow}
+use Rattle.lif_model.specs.Redo.{Version, One, Two, versions, redo_start, redo_length, Changes, redo_of, is_none, settled, changed}
+use Rattle.lif_model.specs.Commit.{SettlesAs, SettlesBelow, IsOldOrNew}
 use Rattle.lif_model.specs.Legal.{is_live, occupies, end_of, holds, is_live_named, is_legal_with, is_legal, IsLegal}
 use Rattle.lif_model.specs.Volume.{redo_name, redo_type, is_redo_entry, is_adopted_with, is_redo_file, is_adopted, is_file, Volume, volume_if, volume_in, volume_of, IsAdopted, is_used, is_gate_held, is_foreign_gated}
 use Rattle.lif_model.specs.Fit.{redo_place}
@@ -18,8 +18,9 @@ use Rattle.lif_model.specs.Apply.{with_slot}
 use Rattle.lif_model.proofs.Lists.{none_of_filter, none_from, any_at, any_from}
 use Rattle.lif_model.proofs.Legal.{legal_tells}
 use Rattle.lif_model.proofs.Slots.{readable_tells, live_named_tells, slot_cases}
-use Rattle.lif_model.proofs.Redo.{four_at_least, redo_places, length_settled, armed_here, changes_long, loaded_are}
+use Rattle.lif_model.proofs.Redo.{four_at_least, redo_places, length_settled, armed_here, changes_long, loaded_are, length_changed}
 use Rattle.lif_model.proofs.Volume.{slots_agree, volume_agrees}
+use Rattle.lif_model.proofs.Commit.{settles_below_less}
 
 -- ---- the redo file
 
@@ -328,6 +329,12 @@ settles_below_adopted version u x legal adopted settles =
     let off : is_gate_held w ≡ false = and_false (is_legal w) _ (and_left _ _ (not_from_true _ all)) in
     (volume_agrees w u size used, and_false (not (is_none (redo_of x))) (is_gate_held w) off)
 
+-- .. or with another version whose redo file begins no later than that of the commit (for `upgrade`, whose volume is of
+-- version 2 behind a commit of version 1, and for `format` on a volume of version 2) ..
+pub settles_below_other : (version other : Version) (u x : Tape) → is_legal u ≡ true → is_adopted_with (length u) other (slots_of u) ≡ true → redo_start other (length u) ≤ redo_start version (length u)
+    → SettlesBelow version u x → (volume_of x ≡ volume_in u) × (is_foreign_gated x ≡ false)
+settles_below_other version other u x legal adopted earlier settles = settles_below_adopted other u x legal adopted (settles_below_less version other u x earlier settles)
+
 -- .. and where the redo file begins with the gate, and no record from the gate on is used by u or held by a file of it
 pub settles_below_clear : (version : Version) (u x : Tape) → 4 < length u → redo_start version (length u) ≡ gate_of (length u) → (is_legal u ≡ true → (k : ℕ) → is_used u k ≡ true → k < gate_of (length u))
     → is_gate_held u ≡ false → SettlesBelow version u x → (volume_of x ≡ volume_in u) × (is_foreign_gated x ≡ false)
@@ -335,3 +342,16 @@ settles_below_clear version u x long first uses off settles =
     let below : (k : ℕ) → k < gate_of (length u) → record_at (settled x) k ≡ record_at u k = λ k lt. settles.same k (omega (arith, lt, first)) in
     let both = volume_below u (settled x) long (length_settled x ∙ settles.records) below (λ legal k on. below k (uses legal k on)) in
     (both.0, and_false (not (is_none (redo_of x))) (is_gate_held (settled x)) (both.1 ∙ off))
+
+-- At any moment of the commit of `upgrade`, and behind a trouble in it, the tape has the volume before or the one behind,
+-- and no other file's gate (for `upgrade`).
+pub upgrade_old_or_new : (changes : Changes) (u x : Tape) → is_legal u ≡ true → is_adopted_with (length u) One (slots_of u) ≡ true → is_legal (changed changes u) ≡ true
+    → is_adopted_with (length u) Two (slots_of (changed changes u)) ≡ true → IsOldOrNew One changes u x
+    → ((volume_of x ≡ volume_in u) ⊎ (volume_of x ≡ volume_in (changed changes u))) × (is_foreign_gated x ≡ false)
+upgrade_old_or_new changes u x legal adopted legal_then adopted_then old_or_new = elim old_or_new [
+  | inl old ↦ let same = settles_below_adopted One u x legal adopted old in (inl same.0, same.1)
+  | inr new ↦
+      let size : length (changed changes u) ≡ length u = length_changed changes u in
+      let same = settles_below_other One Two (changed changes u) x legal_then (ap (λ (n : ℕ). is_adopted_with n Two (slots_of (changed changes u))) size ∙ adopted_then) (omega arith) new in
+      (inr same.0, same.1)
+]
