@@ -10,7 +10,7 @@ use Rattle.lif_model.specs.Shelf.{piece}
 use Rattle.lif_model.specs.Redo.{One, Two}
 use Rattle.lif_model.specs.Volume.{redo_entry, upgraded_entry, is_adopted_with, Volume}
 use Rattle.lif_model.specs.Fit.{Place, At, NoSlot, NoRoom, fit, candidates}
-use Rattle.lif_model.specs.Apply.{VolumeCommand, Dir, Fetch, Store, Rename, Purge, Adopt, Upgrade, Format, Refusal, NotLif, NoRedo, Protected, NoFile, Exists, InUse, refusal_of, apply}
+use Rattle.lif_model.specs.Apply.{VolumeCommand, Dir, Fetch, Store, Rename, Purge, Adopt, Upgrade, Format, Refusal, NotLif, NoRedo, Protected, NoFile, Exists, InUse, first_met, store_checks, refusal_of, stored, apply}
 use Rattle.lif_model.proofs.Examples as base
 use Rattle.lif_model.proofs.VolumeExamples.{file, purged, junk, a_name, b_name}
 
@@ -121,6 +121,17 @@ renamed_to_itself = refl
 stored_again : (answer (store a_name (65 ∷ [])) (purged (file a_name 4 1) ∷ redo ∷ []) ≡ None) × (answer (store a_name (replicate 1281 0)) (file a_name 4 1 ∷ redo ∷ []) ≡ Some Exists)
 unfolding two_at four_at name_of with_type
 stored_again = (refl, refl)
+
+-- at a place that is handed in, as where several commands change the directory at once: the tests of a store look at it
+-- last, and the file goes there
+abbrev with_a : Volume
+with_a = record { header = base.header; slots = file a_name 4 1 ∷ redo ∷ []; files = empty }
+
+handed_in : (first_met (store_checks 12 with_a b_name (At 1 6)) ≡ None) × (first_met (store_checks 12 with_a b_name NoSlot) ≡ Some Refusal.NoSlot)
+    × (first_met (store_checks 12 with_a b_name NoRoom) ≡ Some Refusal.NoRoom) × (first_met (store_checks 12 with_a a_name NoRoom) ≡ Some Exists)
+    × ((stored with_a b_name 1 (replicate 4 0) (66 ∷ []) (At 1 6)).slots ≡ file a_name 4 1 ∷ file b_name 6 1 ∷ redo ∷ [])
+unfolding two_at four_at name_of new_entry
+handed_in = (refl, refl, refl, refl, refl)
 
 -- ---- a directory of one record, eight slots, on sixteen records: files from record 3 on
 
