@@ -1,6 +1,6 @@
 -- The test for a legal directory by sorting: where live slots are listed by their starts, and by their names, it is enough
 -- to test neighbours. A disc's directory may have many thousand slots.
-use Rattle.std.proofs.Common.{◌≡◌, ◌≢◌, ◌<◌, ◌≤◌, ◌&&◌, ◌||◌, ℕ, suc, List, [], Bool, true, false, not, length, filter, get_or, set, inl, inr, refl, sym, ◌∙◌, ap, subst, arith, nat_le, length-set, get_or-set_same, get_or-set_other, Ordering, Less, Equal, Greater}
+use Rattle.std.proofs.Common.{◌≡◌, ◌≢◌, ◌<◌, ◌≤◌, ◌&&◌, ◌||◌, ℕ, suc, List, [], Bool, true, false, not, length, filter, get_or, set, inl, inr, refl, sym, ◌∙◌, ap, subst, arith, nat_le, length-set, get_or-set_same, get_or-set_other, Ordering, Less, Equal, Greater, map, ◌∷◌}
 use Rattle.std.specs.Prelude.{All}
 use Rattle.std.specs.List.{list_all}
 use Rattle.std.specs.List.Sorted.{IsPermutation, IsNonDecreasingBy, IsSortedByKey}
@@ -21,6 +21,7 @@ use Rattle.lif_model.specs.Legal.{is_live, occupies, end_of, lies_between, are_a
 use Rattle.lif_model.proofs.Lists.{all_at, pairs_tell, neighbours_tell, filter_all_tells}
 use Rattle.lif_model.proofs.Files.{same_name}
 use Rattle.lif_model.proofs.Slots.{occupies_tells}
+use Rattle.std.proofs.lemmas.List.{length-map, get_or-map}
 
 -- ---- lists in another order
 
@@ -41,32 +42,35 @@ module _ {X : Type 0} (d : X) (test : X → X → Bool) (either_way : (a b : X) 
     | inr ne ↦ elim (cases_eq k j) [ inl e ↦ second ne e | inr off ↦ neither ne off ]
   ]
 
-  exchanged : (xs : List X) (i j : ℕ) → i < length xs → j < length xs → EachTwo xs → EachTwo (set (set xs i (get_or xs j d)) j (get_or xs i d))
+  abbrev exchange : List X → ℕ → ℕ → List X
+  exchange xs i j = set (set xs i (get_or xs j d)) j (get_or xs i d)
+
+  exchanged : (xs : List X) (i j : ℕ) → i < length xs → j < length xs → EachTwo xs → EachTwo (exchange xs i j)
   exchanged xs i j lt_i lt_j each a b ne lt_a lt_b = both (where_is i j a) (where_is i j b)
     where
-      long : length (set (set xs i (get_or xs j d)) j (get_or xs i d)) ≡ length xs
+      long : length (exchange xs i j) ≡ length xs
       long = length-set (set xs i (get_or xs j d)) j (get_or xs i d) ∙ length-set xs i (get_or xs j d)
 
-      at_j : get_or (set (set xs i (get_or xs j d)) j (get_or xs i d)) j d ≡ get_or xs i d
+      at_j : get_or (exchange xs i j) j d ≡ get_or xs i d
       at_j = get_or-set_same (set xs i (get_or xs j d)) j (get_or xs i d) d (omega (arith, lt_j, length-set xs i (get_or xs j d)))
 
-      at_i : get_or (set (set xs i (get_or xs j d)) j (get_or xs i d)) i d ≡ get_or xs j d
+      at_i : get_or (exchange xs i j) i d ≡ get_or xs j d
       at_i = elim (cases_eq i j) [
-        | inl e ↦ ap (λ (k : ℕ). get_or (set (set xs i (get_or xs j d)) j (get_or xs i d)) k d) e ∙ at_j ∙ ap (λ (k : ℕ). get_or xs k d) e
+        | inl e ↦ ap (λ (k : ℕ). get_or (exchange xs i j) k d) e ∙ at_j ∙ ap (λ (k : ℕ). get_or xs k d) e
         | inr off ↦ get_or-set_other (set xs i (get_or xs j d)) j i (get_or xs i d) d off ∙ get_or-set_same xs i (get_or xs j d) d lt_i
       ]
 
-      at_other : (k : ℕ) → k ≢ i → k ≢ j → get_or (set (set xs i (get_or xs j d)) j (get_or xs i d)) k d ≡ get_or xs k d
+      at_other : (k : ℕ) → k ≢ i → k ≢ j → get_or (exchange xs i j) k d ≡ get_or xs k d
       at_other k off_i off_j = get_or-set_other (set xs i (get_or xs j d)) j k (get_or xs i d) d off_j ∙ get_or-set_other xs i k (get_or xs j d) d off_i
 
-      was : (k m : ℕ) → k ≡ m → (old : ℕ) → get_or (set (set xs i (get_or xs j d)) j (get_or xs i d)) m d ≡ get_or xs old d → get_or (set (set xs i (get_or xs j d)) j (get_or xs i d)) k d ≡ get_or xs old d
-      was k m e old is = ap (λ (p : ℕ). get_or (set (set xs i (get_or xs j d)) j (get_or xs i d)) p d) e ∙ is
+      was : (k m : ℕ) → k ≡ m → (old : ℕ) → get_or (exchange xs i j) m d ≡ get_or xs old d → get_or (exchange xs i j) k d ≡ get_or xs old d
+      was k m e old is = ap (λ (p : ℕ). get_or (exchange xs i j) p d) e ∙ is
 
-      passes : (p q : ℕ) → get_or (set (set xs i (get_or xs j d)) j (get_or xs i d)) a d ≡ get_or xs p d → get_or (set (set xs i (get_or xs j d)) j (get_or xs i d)) b d ≡ get_or xs q d
-          → p ≢ q → p < length xs → q < length xs → test (get_or (set (set xs i (get_or xs j d)) j (get_or xs i d)) a d) (get_or (set (set xs i (get_or xs j d)) j (get_or xs i d)) b d) ≡ true
+      passes : (p q : ℕ) → get_or (exchange xs i j) a d ≡ get_or xs p d → get_or (exchange xs i j) b d ≡ get_or xs q d
+          → p ≢ q → p < length xs → q < length xs → test (get_or (exchange xs i j) a d) (get_or (exchange xs i j) b d) ≡ true
       passes p q is_a is_b off lt_p lt_q = (λ t. test (is_a t) (is_b t)) ∙ each p q off lt_p lt_q
 
-      both : Where i j a → Where i j b → test (get_or (set (set xs i (get_or xs j d)) j (get_or xs i d)) a d) (get_or (set (set xs i (get_or xs j d)) j (get_or xs i d)) b d) ≡ true
+      both : Where i j a → Where i j b → test (get_or (exchange xs i j) a d) (get_or (exchange xs i j) b d) ≡ true
       both (first e) (first f) = absurd (ne (e ∙ sym f))
       both (first e) (second off f) = passes j i (was a i e j at_i) (was b j f i at_j) (λ same. off (f ∙ same)) lt_j lt_i
       both (first e) (neither off_i off_j) = passes j b (was a i e j at_i) (at_other b off_i off_j) (λ same. off_j (sym same)) lt_j (omega (arith, lt_b, long))
@@ -94,6 +98,15 @@ module _ {X : Type 0} (d : X) (test : X → X → Bool) (either_way : (a b : X) 
   -- a test that does not look at the order of two gives the same of a list in any order
   pub pairs_permuted : (xs ys : List X) → IsPermutation xs ys → all_pairs test xs ≡ all_pairs test ys
   pairs_permuted xs ys same = both_ways (all_pairs test xs) (all_pairs test ys) (carried_over xs ys same) (carried_over ys xs (IsPermutation-sym xs ys same))
+
+-- a test of pairs of what a list's values stand for
+pub pairs_mapped : {X Y : Type 0} (f : X → Y) (test : Y → Y → Bool) (xs : List X) → all_pairs test (map f xs) ≡ all_pairs (λ a b. test (f a) (f b)) xs
+pairs_mapped {X} f test [] = refl
+pairs_mapped {X} f test (x ∷ xs) = let rest = pairs_mapped f test xs in λ i. one xs i && rest i
+  where
+    one : (ys : List X) → list_all (test (f x)) (map f ys) ≡ list_all (λ b. test (f x) (f b)) ys
+    one [] = refl
+    one (y ∷ ys) = ap (λ (b : Bool). test (f x) (f y) && b) (one ys)
 
 -- ---- neighbours
 
@@ -176,15 +189,16 @@ module _ {X : Type 0} (d : X) where
 
 -- ---- legal directories
 
+picked_filled : (slots : List (List ℕ)) (i : ℕ) → i < length (filter occupies slots) → start_of (get_or (filter occupies slots) i []) < end_of (get_or (filter occupies slots) i [])
+picked_filled slots i lt =
+    let on : occupies (get_or (filter occupies slots) i []) ≡ true = all_at [] occupies (filter occupies slots) i ((filter_all_tells [] occupies occupies slots).1 (λ j less here. here)) lt in
+    omega (arith, ltb-true 0 (length_of (get_or (filter occupies slots) i [])) (occupies_tells (get_or (filter occupies slots) i []) on).1)
+
 -- The live slots that have records, listed by their starts (for the test for NotLif).
 pub apart_by_sorting : (slots by_start : List (List ℕ)) → IsPermutation (filter occupies slots) by_start → IsNonDecreasingBy start_of by_start
     → all_pairs are_apart (filter occupies slots) ≡ all_neighbours ends_before by_start
-apart_by_sorting slots by_start same rising = apart_by_starts [] start_of end_of (filter occupies slots) by_start same rising (each slots)
-  where
-    each : (slots : List (List ℕ)) → All (λ slot. start_of slot < end_of slot) (filter occupies slots)
-    each slots = All-from_get_or (λ slot. start_of slot < end_of slot) (filter occupies slots) [] (λ i lt.
-        let on : occupies (get_or (filter occupies slots) i []) ≡ true = all_at [] occupies (filter occupies slots) i ((filter_all_tells [] occupies occupies slots).1 (λ j less here. here)) lt in
-        omega (arith, ltb-true 0 (length_of (get_or (filter occupies slots) i [])) (occupies_tells (get_or (filter occupies slots) i []) on).1))
+apart_by_sorting slots by_start same rising =
+    apart_by_starts [] start_of end_of (filter occupies slots) by_start same rising (All-from_get_or (λ slot. start_of slot < end_of slot) (filter occupies slots) [] (picked_filled slots))
 
 -- The live slots, listed by their names (for the test for NotLif).
 pub names_by_sorting : (slots by_name : List (List ℕ)) → IsPermutation (filter is_live slots) by_name → IsSortedByKey name_of (slice_cmp nat_cmp) by_name
@@ -200,3 +214,24 @@ legal_by_sorting n header slots by_start by_name starts rising names ordered =
     let apart = apart_by_sorting slots by_start starts rising in
     let distinct = names_by_sorting slots by_name names ordered in
     λ i. is_readable n header && (list_all (lies_between (directory_end header) n) (filter occupies slots) && (apart i && distinct i))
+
+-- The same where values stand for the slots, as their places do: the code sorts these, and the slots stay (for the test
+-- for NotLif).
+pub legal_by_keys : {X : Type 0} (d : X) (slot : X → List ℕ) (n : ℕ) (header : List ℕ) (slots : List (List ℕ)) (occupied by_start live by_name : List X)
+    → map slot occupied ≡ filter occupies slots → IsPermutation occupied by_start → IsNonDecreasingBy (λ x. start_of (slot x)) by_start
+    → map slot live ≡ filter is_live slots → IsPermutation live by_name → IsSortedByKey (λ x. name_of (slot x)) (slice_cmp nat_cmp) by_name
+    → is_legal_with n header slots ≡ (is_readable n header && (list_all (lies_between (directory_end header) n) (filter occupies slots)
+    && (all_neighbours (λ a b. ends_before (slot a) (slot b)) by_start && all_neighbours (λ a b. have_other_names (slot a) (slot b)) by_name)))
+legal_by_keys d slot n header slots occupied by_start live by_name all_occupied starts rising all_live names ordered =
+    let apart : all_pairs are_apart (filter occupies slots) ≡ all_neighbours (λ a b. ends_before (slot a) (slot b)) by_start =
+    sym (ap (all_pairs are_apart) all_occupied) ∙ pairs_mapped slot are_apart occupied
+    ∙ apart_by_starts d (λ x. start_of (slot x)) (λ x. end_of (slot x)) occupied by_start starts rising (All-from_get_or (λ x. start_of (slot x) < end_of (slot x)) occupied d filled) in
+    let distinct : all_pairs have_other_names (filter is_live slots) ≡ all_neighbours (λ a b. have_other_names (slot a) (slot b)) by_name =
+    sym (ap (all_pairs have_other_names) all_live) ∙ pairs_mapped slot have_other_names live ∙ distinct_by_names d (λ x. name_of (slot x)) live by_name names ordered in
+    λ i. is_readable n header && (list_all (lies_between (directory_end header) n) (filter occupies slots) && (apart i && distinct i))
+  where
+    filled : (i : ℕ) → i < length occupied → start_of (slot (get_or occupied i d)) < end_of (slot (get_or occupied i d))
+    filled i lt =
+        let long : length (filter occupies slots) ≡ length occupied = sym (ap (λ (xs : List (List ℕ)). length xs) all_occupied) ∙ length-map occupied slot in
+        let here : get_or (filter occupies slots) i [] ≡ slot (get_or occupied i d) = sym (ap (λ (xs : List (List ℕ)). get_or xs i []) all_occupied) ∙ get_or-map slot occupied i d [] lt in
+        subst (λ (s : List ℕ). start_of s < end_of s) here (picked_filled slots i (omega (arith, lt, long)))
