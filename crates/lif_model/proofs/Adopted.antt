@@ -119,6 +119,12 @@ adopted_version n slots adopted =
     let one = any_at One (λ version. is_redo_entry n version (get_or slots found.0 [])) versions found.2 in
     (get_or versions one.0 One, any_from [] (is_redo_entry n (get_or versions one.0 One)) slots found.0 found.1 one.2)
 
+-- and one that is adopted with a version is adopted
+pub adopted_some : (n : ℕ) (version : Version) (slots : List (List ℕ)) → is_adopted_with n version slots ≡ true → is_adopted n slots ≡ true
+adopted_some n version slots adopted =
+    let found = any_at [] (is_redo_entry n version) slots adopted in
+    any_from [] (is_redo_file n) slots found.0 found.1 (redo_entry_tells n version (get_or slots found.0 []) found.2).0
+
 pub is_file_tells : (n : ℕ) (slot : List ℕ) → is_file n slot ≡ true → (is_live slot ≡ true) × (is_redo_file n slot ≡ false)
 is_file_tells n slot is = let both = and_parts (is_live slot) _ is in (both.0, not-true (is_redo_file n slot) both.1)
 
@@ -323,8 +329,7 @@ settles_below_adopted version u x legal adopted settles =
     let used : (k : ℕ) → is_used u k ≡ true → record_at w k ≡ record_at u k = λ k on. settles.same k (adopted_uses_below version u k legal adopted on) in
     let slots : slots_of w ≡ slots_of u = slots_agree w u (used 0 refl)
     (λ k le lt. used k (or_right (k == 0) _ (or_left _ _ (and_from _ _ (le-leb (directory_start (record_at u 0)) k le) (lt-ltb k (directory_end (record_at u 0)) lt))))) in
-    let found = any_at [] (is_redo_entry n version) (slots_of u) adopted in
-    let any : is_adopted n (slots_of u) ≡ true = any_from [] (is_redo_file n) (slots_of u) found.0 found.1 (redo_entry_tells n version (get_or (slots_of u) found.0 []) found.2).0 in
+    let any : is_adopted n (slots_of u) ≡ true = adopted_some n version (slots_of u) adopted in
     let all : is_adopted (length w) (slots_of w) ≡ true = (λ i. is_adopted (size i) (slots i)) ∙ any in
     let off : is_gate_held w ≡ false = and_false (is_legal w) _ (and_left _ _ (not_from_true _ all)) in
     (volume_agrees w u size used, and_false (not (is_none (redo_of x))) (is_gate_held w) off)

@@ -82,7 +82,7 @@ module _ (n : ℕ) (v : Volume) (name : List ℕ) (kind : ℕ) (implementation b
   pub old_content : (j : ℕ) → j < length v.slots → is_file n (get_or v.slots j []) ≡ true → content_of w (get_or v.slots j []) ≡ content_of u (get_or v.slots j [])
   old_content j lt file = content_agree w u (get_or v.slots j []) (λ k on.
       let within = file_within n v is j k lt file on in
-      agree k within.0 within.1 ∙ elim (file_is_off n v (file_length bytes) i start is place j k lt (is_file_tells n (get_or v.slots j []) file).0 on) [
+      agree k within.0 within.1 ∙ elim (file_is_off n v (file_length bytes) i start place j k lt (is_file_tells n (get_or v.slots j []) file).0 on) [
         | inl less ↦ done.before k less
         | inr more ↦ done.behind k (omega (arith, more, length_cut (file_length bytes) bytes))
       ])
