@@ -9,7 +9,8 @@ use Rattle.lif_model.specs.Gate.{is_open}
 use Rattle.lif_model.specs.Directory.{name_of, entry_at, entries_of, slots_of}
 use Rattle.lif_model.specs.Made.{in_four, new_entry, with_name, with_type, first_directory_record, fresh_header, file_length, filled, file_records}
 use Rattle.lif_model.specs.Redo.{One, zeros, targets_record, is_valid}
-use Rattle.lif_model.specs.Legal.{is_legal, slot_named}
+use Rattle.lif_model.specs.Legal.{ends_before, have_other_names, is_legal, slot_named}
+use Rattle.lif_model.specs.Pairs.{all_neighbours}
 use Rattle.lif_model.specs.Volume.{redo_entry, is_adopted, Volume, volume_of, is_used, is_foreign_gated}
 use Rattle.lif_model.proofs.Examples as base
 
@@ -140,6 +141,19 @@ last_record : (is_legal (tape (file a_name 11 1 ++ base.end_entry)) ≡ true) ×
     × (is_legal (tape (file a_name 3 1 ++ base.end_entry)) ≡ false)
 unfolding four_at two_at entries_of entry_at name_of
 last_record = (refl, refl, refl)
+
+-- listed by their starts, each ends at or before the start of the next; the second of three reaches into the third, and
+-- so does the first, which its neighbour does not meet
+by_starts : (all_neighbours ends_before (file b_name 4 2 ∷ file a_name 6 2 ∷ file (codes "C         ") 9 1 ∷ []) ≡ true)
+    × (all_neighbours ends_before (file b_name 4 2 ∷ file a_name 6 4 ∷ file (codes "C         ") 9 1 ∷ []) ≡ false)
+    × (all_neighbours ends_before (file b_name 4 6 ∷ file a_name 5 1 ∷ file (codes "C         ") 9 1 ∷ []) ≡ false)
+unfolding four_at two_at
+by_starts = (refl, refl, refl)
+
+-- and by their names, a name that comes again stands next to itself
+by_names : (all_neighbours have_other_names (file a_name 6 2 ∷ file b_name 4 2 ∷ []) ≡ true) × (all_neighbours have_other_names (file a_name 6 2 ∷ file b_name 4 2 ∷ file b_name 9 1 ∷ []) ≡ false)
+unfolding name_of
+by_names = (refl, refl)
 
 -- a live file of no records stands anywhere, also in another file or past the tape's end
 no_records : is_legal (tape (file a_name 5 0 ++ file b_name 4 3 ++ file (codes "C         ") 200 0 ++ base.end_entry)) ≡ true

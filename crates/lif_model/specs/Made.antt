@@ -1,5 +1,5 @@
 -- The bytes that are written: numbers, entries, headers, a directory's first record and the records of a file.
-use Rattle.std.specs.Prelude.{◌+◌, ◌-◌, ◌*◌, ◌/◌, ◌%◌, ◌++◌, ◌==◌, if◌then◌else◌, ℕ, List, [], ◌∷◌, length, drop, set, max, replicate}
+use Rattle.std.specs.Prelude.{◌+◌, ◌-◌, ◌*◌, ◌/◌, ◌%◌, ◌++◌, ◌==◌, if◌then◌else◌, ℕ, List, [], ◌∷◌, length, take, drop, set, max, replicate}
 use Rattle.lif_model.specs.Tape.{Tape}
 use Rattle.lif_model.specs.Shelf.{piece, cut, disc_records}
 
@@ -25,6 +25,11 @@ with_name name entry = name ++ drop 10 entry
 -- the entry of another type
 unfoldable pub with_type : ℕ → List ℕ → List ℕ
 with_type kind entry = set (set entry 10 (kind / 256)) 11 (kind % 256)
+
+-- the entry of another extent, with that implementation field; its name, type, date and volume word stay
+unfoldable pub with_extent : ℕ → ℕ → List ℕ → List ℕ → List ℕ
+with_extent start count implementation entry =
+    take 12 entry ++ (in_four start ++ (in_four count ++ (take 8 (drop 20 entry) ++ implementation)))
 
 -- what `format` puts behind the only slot: zeros, of the type that ends a directory
 abbrev pub end_entry : List ℕ
