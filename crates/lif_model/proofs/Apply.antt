@@ -59,14 +59,17 @@ none_met n command v is = met_none (checks_of n command v) is
 
 -- ---- the redo file
 
--- the entry that this project makes
-pub made_redo_file : (n : ℕ) → is_redo_file n (redo_entry One n) ≡ true
-made_redo_file n =
+-- the entry that this project makes is one of version 1
+pub made_redo_entry : (n : ℕ) → is_redo_entry n One (redo_entry One n) ≡ true
+made_redo_entry n =
     let zeros : List ℕ = replicate 4 0 in
-    or_left _ _ (and_from _ _ ((bytes_eq-Decides (name_of (redo_entry One n)) redo_name).1 (new_name redo_name redo_type (redo_start One n) 4 zeros refl))
+    and_from _ _ ((bytes_eq-Decides (name_of (redo_entry One n)) redo_name).1 (new_name redo_name redo_type (redo_start One n) 4 zeros refl))
     (and_from _ _ (eq-eqb (type_of (redo_entry One n)) redo_type (new_type redo_name redo_type (redo_start One n) 4 zeros refl))
     (and_from _ _ (eq-eqb (start_of (redo_entry One n)) (redo_start One n) (new_start redo_name redo_type (redo_start One n) 4 zeros refl))
-    (eq-eqb (length_of (redo_entry One n)) 4 (new_length redo_name redo_type (redo_start One n) 4 zeros refl)))))
+    (eq-eqb (length_of (redo_entry One n)) 4 (new_length redo_name redo_type (redo_start One n) 4 zeros refl))))
+
+pub made_redo_file : (n : ℕ) → is_redo_file n (redo_entry One n) ≡ true
+made_redo_file n = (redo_entry_tells n One (redo_entry One n) (made_redo_entry n)).0
 
 -- ---- a new file
 

@@ -12,21 +12,21 @@ use Rattle.lif_model.specs.Directory.{slots_of}
 use Rattle.lif_model.specs.Made.{new_entry, with_name, with_type, file_length, file_records}
 use Rattle.lif_model.specs.Redo.{Version, One, Two, redo_start, most_targets, Changes, changed}
 use Rattle.lif_model.specs.Commit.{AreChanges, SettlesBelow, IsOldOrNew, IsCommitted, IsTarget}
-use Rattle.lif_model.specs.Legal.{occupies, end_of, is_live_named, has_file}
-use Rattle.lif_model.specs.Volume.{redo_name, redo_entry, is_redo_entry, files_of, is_adopted_with, is_adopted, Volume, volume_in, volume_of, is_foreign_gated}
+use Rattle.lif_model.specs.Legal.{occupies, end_of, is_live_named, has_file, is_legal}
+use Rattle.lif_model.specs.Volume.{redo_name, redo_entry, upgraded_entry, is_redo_entry, IsAdopted, files_of, is_adopted_with, is_adopted, Volume, volume_in, volume_of, is_foreign_gated}
 use Rattle.lif_model.specs.Fit.{Place, At, redo_place, fit_in}
-use Rattle.lif_model.specs.Apply.{Refusal, VolumeCommand, Dir, Label, Fetch, Store, Rename, Purge, Adopt, Format, IsWellFormed, lacks_redo, runs_past_gate, is_too_long, lacks_slot, lacks_room, checks_of, refusal_of, fresh_volume, stored, renamed, volume_after}
+use Rattle.lif_model.specs.Apply.{Refusal, VolumeCommand, Dir, Label, Fetch, Store, Rename, Purge, Adopt, Upgrade, Format, IsWellFormed, is_upgraded, upgraded, lacks_redo, runs_past_gate, is_too_long, lacks_slot, lacks_room, checks_of, refusal_of, fresh_volume, stored, renamed, volume_after}
 use Rattle.lif_model.specs.Writing.{slot_record, entry_from, entry_on, SlotWrites, touched, changes_by, last_slot, stored_writes, changed_slot, slot_writes, with_file, IsFileRecord, format_changes, changes_at, chosen_place, changes_of, written_by}
-use Rattle.lif_model.proofs.Fit.{IsCandidate, IsPlace, fit_tells}
-use Rattle.lif_model.proofs.Apply.{NoneMet, none_met, not_redo_name}
-use Rattle.lif_model.proofs.Adopted.{redo_behind}
+use Rattle.lif_model.proofs.Fit.{IsCandidate, IsPlaceIn}
+use Rattle.lif_model.proofs.Apply.{NoneMet, none_met, upgrade_is_two}
+use Rattle.lif_model.proofs.Adopted.{redo_behind, adopted_some, settles_below_other, upgrade_old_or_new}
 use Rattle.lif_model.proofs.Lists.{any_at}
-use Rattle.lif_model.proofs.Directory.{AreWhole, volume_tells, volume_from}
+use Rattle.lif_model.proofs.Directory.{AreWhole, volume_tells, volume_from, volume_in_is}
 use Rattle.lif_model.proofs.Writing.{AreEntries, WritesWithin, last_written, touches_two, changes_are, changes_whole}
 use Rattle.lif_model.proofs.Slotted.{IsOn, is_on, last_end_is}
-use Rattle.lif_model.proofs.Written.{Makes, nothing_makes, purge_entries, purge_makes, rename_entries, rename_makes, adopt_entries, adopt_has_slot, adopt_makes, adopt_adopts}
+use Rattle.lif_model.proofs.Written.{Makes, nothing_makes, purge_entries, purge_makes, rename_entries, rename_makes, adopt_entries, adopt_has_slot, adopt_makes, upgrade_entries, upgrade_makes, adopt_adopts}
 use Rattle.lif_model.proofs.Formatted.{format_makes}
-use Rattle.lif_model.proofs.StoredFile.{stored_entries, store_makes}
+use Rattle.lif_model.proofs.StoredFile.{stored_entries, storable, store_makes}
 use Rattle.lif_model.proofs.Recorded.{length_records, records_before, records_behind, records_count, file_shape}
 use Rattle.lif_model.proofs.Outcomes.{settles_adopted, settles_clear, stop_leaves, commit_leaves, committed_settles, committed_elsewhere, committed_slot, file_aside}
 
@@ -77,7 +77,7 @@ module _ (n : ℕ) (u : Tape) (v : Volume) (tape : IsTape n u) (is : volume_in u
 
   -- a store at a place that is handed in
   pub store_writes : (adopted : is_adopted n v.slots ≡ true) (name : List ℕ) (kind : ℕ) (implementation bytes : List ℕ) → IsWellFormed (Store name kind implementation bytes) → name ≢ redo_name
-      → has_file v.slots name ≡ false → (i first : ℕ) → IsPlace n (directory_end v.header) (capacity_of v.header) v.slots (file_length bytes) i first
+      → has_file v.slots name ≡ false → (i first : ℕ) → IsPlaceIn n v (file_length bytes) i first
       → AreWrites start (capacity_of v.header) (stored_writes v i (new_entry name kind first (file_length bytes) implementation) u)
   store_writes adopted name kind implementation bytes formed other none_named i first place = record {
     entries = stored_entries n u v tape is adopted name kind implementation bytes formed other none_named i first place;
@@ -116,13 +116,18 @@ module _ (n : ℕ) (u : Tape) (v : Volume) (tape : IsTape n u) (is : volume_in u
 
 -- ---- commands
 
--- every command but `format` keeps the redo file that is there
+-- every command but `upgrade` and `format` keeps the redo file that is there
 abbrev pub KeepsRedoFile : VolumeCommand → Type 0
+KeepsRedoFile Upgrade = ⊥
 KeepsRedoFile (Format label slots) = ⊥
 KeepsRedoFile command = Unit {0}
 
--- and changes the directory by slots alone
-pub changes_by_slots : (n : ℕ) (command : VolumeCommand) (v : Volume) (place : Place) (u : Tape) → KeepsRedoFile command → changes_at n command v place u ≡ changes_by (directory_start v.header) (slot_writes n command v place u) u
+-- every command but `format` changes the directory by slots alone
+abbrev pub ChangesBySlots : VolumeCommand → Type 0
+ChangesBySlots (Format label slots) = ⊥
+ChangesBySlots command = Unit {0}
+
+pub changes_by_slots : (n : ℕ) (command : VolumeCommand) (v : Volume) (place : Place) (u : Tape) → ChangesBySlots command → changes_at n command v place u ≡ changes_by (directory_start v.header) (slot_writes n command v place u) u
 changes_by_slots n Dir v place u keeps = refl
 changes_by_slots n Label v place u keeps = refl
 changes_by_slots n (Fetch name) v place u keeps = refl
@@ -130,6 +135,7 @@ changes_by_slots n (Store name kind implementation bytes) v place u keeps = refl
 changes_by_slots n (Rename old later) v place u keeps = refl
 changes_by_slots n (Purge name) v place u keeps = refl
 changes_by_slots n Adopt v place u keeps = refl
+changes_by_slots n Upgrade v place u keeps = refl
 changes_by_slots n (Format label slots) v place u keeps = absurd keeps
 
 -- of a volume that lacks a redo file, no live file reaches past the gate where a command that makes
@@ -139,35 +145,6 @@ adopted_or_clear n v unmet = elim (and_cases (lacks_redo n v) (runs_past_gate n 
   | inl there ↦ inl (not-false (is_adopted n v.slots) there)
   | inr clear ↦ inr clear
 ]
-
--- what is known of a store that is not refused
-pub record IsStorable (n : ℕ) (v : Volume) (name bytes : List ℕ) : Type 0 where
-  pub adopted : is_adopted n v.slots ≡ true
-  pub other : name ≢ redo_name
-  pub none_named : has_file v.slots name ≡ false
-  pub slot : ℕ
-  pub first : ℕ
-  pub chosen : fit_in n v (file_length bytes) ≡ At slot first
-  pub place : IsPlace n (directory_end v.header) (capacity_of v.header) v.slots (file_length bytes) slot first
-
-pub storable : (n : ℕ) (v : Volume) (name : List ℕ) (kind : ℕ) (implementation bytes : List ℕ) → refusal_of n (Store name kind implementation bytes) (Some v) ≡ None → IsStorable n v name bytes
-storable n v name kind implementation bytes none = go (fit_in n v (file_length bytes)) refl unmet.1.1.1.0 unmet.1.1.1.1.0
-  where
-    unmet : NoneMet (checks_of n (Store name kind implementation bytes) v)
-    unmet = none_met n (Store name kind implementation bytes) v none
-
-    go : (place : Place) → fit_in n v (file_length bytes) ≡ place → lacks_slot place ≡ false → lacks_room place ≡ false → IsStorable n v name bytes
-    go Place.NoSlot e slot room = cc
-    go Place.NoRoom e slot room = cc
-    go (At i first) e slot room = let adopted : is_adopted n v.slots ≡ true = not-false (is_adopted n v.slots) unmet.0 in record {
-      adopted = adopted;
-      other = not_redo_name n v name adopted unmet.1.0;
-      none_named = unmet.1.1.0;
-      slot = i;
-      first = first;
-      chosen = e;
-      place = fit_tells n (directory_end v.header) (capacity_of v.header) v.slots (file_length bytes) i first e;
-    }
 
 module _ (n : ℕ) (u : Tape) (v : Volume) (tape : IsTape n u) (is : volume_in u ≡ Some v) where
   -- ---- what is committed
@@ -200,10 +177,18 @@ module _ (n : ℕ) (u : Tape) (v : Volume) (tape : IsTape n u) (is : volume_in u
       go true e = inl (ap (λ (b : Bool). if b then [] else last_slot (capacity_of v.header) u (length v.slots) (redo_entry One n)) e)
       go false e = inr (subst (λ (b : Bool). AreWrites (directory_start v.header) (capacity_of v.header) (if b then [] else last_slot (capacity_of v.header) u (length v.slots) (redo_entry One n))) (sym e)
           (adopt_writes n u v tape is (adopt_has_slot n u v tape is none e)))
+  command_slots Upgrade formed none = go (is_upgraded n v) refl
+    where
+      go : (b : Bool) → is_upgraded n v ≡ b → (slot_writes n Upgrade v Place.NoSlot u ≡ []) ⊎ AreWrites (directory_start v.header) (capacity_of v.header) (slot_writes n Upgrade v Place.NoSlot u)
+      go true e = inl (ap (λ (b : Bool). if b then [] else changed_slot redo_name (upgraded_entry n) v.slots) e)
+      go false e =
+          let unmet : NoneMet (checks_of n Upgrade v) = none_met n Upgrade v none in
+          inr (subst (λ (b : Bool). AreWrites (directory_start v.header) (capacity_of v.header) (if b then [] else changed_slot redo_name (upgraded_entry n) v.slots)) (sym e)
+          (one_slot (directory_start v.header) (capacity_of v.header) _ (upgrade_entries n u v tape is (not-false (is_adopted n v.slots) unmet.0))))
   command_slots (Format label slots) formed none = inl refl
 
   -- On an adopted volume a command changes nothing at all, or what one commit of the version takes.
-  pub command_changes : (version : Version) (command : VolumeCommand) → is_adopted_with n version v.slots ≡ true → KeepsRedoFile command → IsWellFormed command → refusal_of n command (Some v) ≡ None
+  pub command_changes : (version : Version) (command : VolumeCommand) → is_adopted_with n version v.slots ≡ true → ChangesBySlots command → IsWellFormed command → refusal_of n command (Some v) ≡ None
       → (changes_of n command v u ≡ []) ⊎ (AreChanges version n (changes_of n command v u) × AreWhole (changes_of n command v u))
   command_changes version command adopted keeps formed none =
       let place : Place = chosen_place n command v in
@@ -235,6 +220,7 @@ module _ (n : ℕ) (u : Tape) (v : Volume) (tape : IsTape n u) (is : volume_in u
   file_first (Rename old later) formed none = (tape, is)
   file_first (Purge name) formed none = (tape, is)
   file_first Adopt formed none = (tape, is)
+  file_first Upgrade formed none = (tape, is)
   file_first (Format label slots) formed none = (tape, is)
 
   -- ---- the tape that a command makes
@@ -248,6 +234,7 @@ module _ (n : ℕ) (u : Tape) (v : Volume) (tape : IsTape n u) (is : volume_in u
   command_makes (Rename old later) keeps formed none = rename_makes n u v tape is old later formed none
   command_makes (Purge name) keeps formed none = purge_makes n u v tape is name none
   command_makes Adopt keeps formed none = adopt_makes n u v tape is none
+  command_makes Upgrade keeps formed none = absurd keeps
   command_makes (Format label slots) keeps formed none = absurd keeps
 
   -- every command
@@ -259,6 +246,7 @@ module _ (n : ℕ) (u : Tape) (v : Volume) (tape : IsTape n u) (is : volume_in u
   command_volume (Rename old later) formed none = let makes = rename_makes n u v tape is old later formed none in (makes.tape, makes.volume)
   command_volume (Purge name) formed none = let makes = purge_makes n u v tape is name none in (makes.tape, makes.volume)
   command_volume Adopt formed none = let makes = adopt_makes n u v tape is none in (makes.tape, makes.volume)
+  command_volume Upgrade formed none = upgrade_makes n u v tape is none
   command_volume (Format label slots) formed none = let makes = format_makes n label slots formed (none_met n (Format label slots) v none).0 u tape in (makes.tape, makes.volume)
 
   -- ---- stops in the commit, and its Ok
@@ -293,6 +281,31 @@ module _ (n : ℕ) (u : Tape) (v : Volume) (tape : IsTape n u) (is : volume_in u
 
   pub adopt_commits : (x : Tape) → is_adopted n v.slots ≡ false → refusal_of n Adopt (Some v) ≡ None → IsCommitted One (changes_of n Adopt v u) u x → (volume_of x ≡ Some (volume_after n Adopt v)) × (is_foreign_gated x ≡ false)
   adopt_commits x lacks none done = adopt_new x lacks none (committed_settles One (changes_of n Adopt v u) u x done)
+
+  -- `upgrade` of a volume of version 1, by a commit of version 1: the next volume is of version 2
+  upgraded_two : refusal_of n Upgrade (Some v) ≡ None → (is_legal (written_by n Upgrade v u) ≡ true) × (is_adopted_with n Two (slots_of (written_by n Upgrade v u)) ≡ true) × (length (written_by n Upgrade v u) ≡ n)
+  upgraded_two none =
+      let unmet : NoneMet (checks_of n Upgrade v) = none_met n Upgrade v none in
+      let whole : IsAdopted n v = record { volume = volume_in_is n u v tape is; adopted = not-false (is_adopted n v.slots) unmet.0 } in
+      let makes = upgrade_makes n u v tape is none in
+      let tells = volume_tells (written_by n Upgrade v u) (volume_after n Upgrade v) makes.1 in
+      (tells.0, ap (is_adopted_with n Two) (sym tells.2) ∙ (upgrade_is_two n v whole none).1, makes.0.records)
+
+  pub upgrade_stops : (x : Tape) → is_adopted_with n One v.slots ≡ true → refusal_of n Upgrade (Some v) ≡ None → IsOldOrNew One (changes_of n Upgrade v u) u x
+      → ((volume_of x ≡ Some v) ⊎ (volume_of x ≡ Some (volume_after n Upgrade v))) × (is_foreign_gated x ≡ false)
+  upgrade_stops x adopted none left =
+      let tells = volume_tells u v is in
+      let two = upgraded_two none in
+      let both = upgrade_old_or_new (changes_of n Upgrade v u) u x tells.0 ((λ i. is_adopted_with (tape.records i) One (sym tells.2 i)) ∙ adopted) two.0
+      (ap (λ (m : ℕ). is_adopted_with m Two (slots_of (written_by n Upgrade v u))) tape.records ∙ two.1) left in
+      (elim both.0 [ inl old ↦ inl (old ∙ is) | inr new ↦ inr (new ∙ (upgrade_makes n u v tape is none).1) ], both.1)
+
+  pub upgrade_commits : (x : Tape) → refusal_of n Upgrade (Some v) ≡ None → IsCommitted One (changes_of n Upgrade v u) u x → (volume_of x ≡ Some (volume_after n Upgrade v)) × (is_foreign_gated x ≡ false)
+  upgrade_commits x none done =
+      let two = upgraded_two none in
+      let both = settles_below_other One Two (written_by n Upgrade v u) x two.0 (ap (λ (m : ℕ). is_adopted_with m Two (slots_of (written_by n Upgrade v u))) two.2 ∙ two.1) (omega arith)
+      (committed_settles One (changes_of n Upgrade v u) u x done) in
+      (both.0 ∙ (upgrade_makes n u v tape is none).1, both.1)
 
 -- ---- `format`, of any tape
 
@@ -346,6 +359,7 @@ file_elsewhere (Store name kind implementation bytes) Place.NoRoom u k off = ref
 file_elsewhere (Rename old later) place u k off = refl
 file_elsewhere (Purge name) place u k off = refl
 file_elsewhere Adopt place u k off = refl
+file_elsewhere Upgrade place u k off = refl
 file_elsewhere (Format label slots) place u k off = refl
 
 pub length_with_file : (command : VolumeCommand) (place : Place) (u : Tape) → length (with_file command place u) ≡ length u
@@ -358,6 +372,7 @@ length_with_file (Store name kind implementation bytes) Place.NoRoom u = refl
 length_with_file (Rename old later) place u = refl
 length_with_file (Purge name) place u = refl
 length_with_file Adopt place u = refl
+length_with_file Upgrade place u = refl
 length_with_file (Format label slots) place u = refl
 
 -- Behind an Ok each record below the redo file stays that is neither changed nor one of the file.
@@ -380,11 +395,12 @@ module _ (n : ℕ) (u : Tape) (v : Volume) (tape : IsTape n u) (is : volume_in u
   file_behind (Rename old later) k none lt file = file
   file_behind (Purge name) k none lt file = file
   file_behind Adopt k none lt file = file
+  file_behind Upgrade k none lt file = file
   file_behind (Format label slots) k none lt file = file
 
   -- Behind an Ok each slot, also behind the last one, is what the command wrote of it, or else as
   -- before.
-  pub slot_after : (version : Version) (command : VolumeCommand) (x : Tape) (k : ℕ) → directory_end v.header ≤ redo_start version n → KeepsRedoFile command → IsWellFormed command → refusal_of n command (Some v) ≡ None
+  pub slot_after : (version : Version) (command : VolumeCommand) (x : Tape) (k : ℕ) → directory_end v.header ≤ redo_start version n → ChangesBySlots command → IsWellFormed command → refusal_of n command (Some v) ≡ None
       → IsCommitted version (changes_of n command v u) (with_file command (chosen_place n command v) u) x → k < capacity_of v.header
       → entry_from x (directory_start v.header) k ≡ last_written (slot_writes n command v (chosen_place n command v) u) k (entry_from u (directory_start v.header) k)
   slot_after version command x k below keeps formed none done lt =
@@ -409,7 +425,7 @@ module _ (n : ℕ) (u : Tape) (v : Volume) (tape : IsTape n u) (is : volume_in u
       last_end_is (capacity_of v.header) u (suc i) m (get_or v.slots i []) (if i == m then entry else entry_from u (directory_start v.header) m) (omega (arith, at, own, length-insert v.slots i entry (omega (arith, own)))) lt
   stored_end i m entry false last at grown lt = absurd (omega (arith, at, grown, length-set v.slots i entry))
 
-  slots_end : (command : VolumeCommand) (m : ℕ) → KeepsRedoFile command → refusal_of n command (Some v) ≡ None → m ≡ length (volume_after n command v).slots → length v.slots < m → m < capacity_of v.header
+  slots_end : (command : VolumeCommand) (m : ℕ) → ChangesBySlots command → refusal_of n command (Some v) ≡ None → m ≡ length (volume_after n command v).slots → length v.slots < m → m < capacity_of v.header
       → EndsAt m (slot_writes n command v (chosen_place n command v) u)
   slots_end Dir m keeps none at grown lt = absurd (omega (arith, at, grown))
   slots_end Label m keeps none at grown lt = absurd (omega (arith, at, grown))
@@ -436,11 +452,16 @@ module _ (n : ℕ) (u : Tape) (v : Volume) (tape : IsTape n u) (is : volume_in u
           → EndsAt m (if b then [] else last_slot (capacity_of v.header) u (length v.slots) (redo_entry One n))
       go true at = absurd (omega (arith, at, grown))
       go false at = last_end_is (capacity_of v.header) u (length v.slots) m (redo_entry One n) (entry_from u (directory_start v.header) m) (omega (arith, at, length_push v.slots (redo_entry One n))) lt
+  slots_end Upgrade m keeps none at grown lt = go (is_upgraded n v) at
+    where
+      go : (b : Bool) → m ≡ length (if b then v else upgraded n v).slots → EndsAt m (if b then [] else changed_slot redo_name (upgraded_entry n) v.slots)
+      go true at = absurd (omega (arith, at, grown))
+      go false at = absurd (omega (arith, at, grown, length-map v.slots (λ slot. if is_live_named redo_name slot then upgraded_entry n slot else slot)))
   slots_end (Format label slots) m keeps none at grown lt = absurd keeps
 
   -- Where the list of slots grew and a slot follows its last one, that slot has the type of an end
   -- and keeps its other bytes.
-  pub grown_ends : (version : Version) (command : VolumeCommand) (x : Tape) (m : ℕ) → directory_end v.header ≤ redo_start version n → KeepsRedoFile command → IsWellFormed command → refusal_of n command (Some v) ≡ None
+  pub grown_ends : (version : Version) (command : VolumeCommand) (x : Tape) (m : ℕ) → directory_end v.header ≤ redo_start version n → ChangesBySlots command → IsWellFormed command → refusal_of n command (Some v) ≡ None
       → IsCommitted version (changes_of n command v u) (with_file command (chosen_place n command v) u) x → m ≡ length (volume_after n command v).slots → length v.slots < m → m < capacity_of v.header
       → entry_from x (directory_start v.header) m ≡ with_type 0xFFFF (entry_on u m)
   grown_ends version command x m below keeps formed none done at grown lt = slot_after version command x m below keeps formed none done lt ∙ slots_end command m keeps none at grown lt

@@ -1,24 +1,26 @@
 -- The tape that `format` makes of any tape.
-use Rattle.std.proofs.Common.{◌≡◌, ◌<◌, ◌≤◌, ◌+◌, ◌-◌, ◌*◌, ◌/◌, ◌%◌, ◌++◌, ◌==◌, ℕ, zero, suc, List, [], ◌∷◌, true, false, Some, length, get_or, set, take, drop, replicate, refl, sym, ◌∙◌, ap, arith, length-append, length-set, append_assoc, get_or-set_same, get_or-set_other}
+use Rattle.std.proofs.Common.{◌≡◌, ◌<◌, ◌≤◌, ◌+◌, ◌-◌, ◌*◌, ◌/◌, ◌%◌, ◌++◌, ◌==◌, ◌&&◌, ℕ, zero, suc, List, [], ◌∷◌, Bool, true, false, Some, None, length, map, filter, if◌then◌else◌, get_or, set, take, drop, replicate, refl, sym, ◌∙◌, ap, arith, length-append, length-set, append_assoc, get_or-set_same, get_or-set_other}
+use Rattle.std.specs.Prelude.{option_map}
+use Rattle.std.specs.Str.{bytes_eq}
 use Rattle.std.specs.FinMap.{empty}
 use Rattle.std.proofs.lemmas.Bool.{and_from, and_right, eq-eqb, lt-ltb, not_from_true, ltb-false}
 use Rattle.std.proofs.lemmas.List.{take_at, drop_at, ext_get_or, length-take-le, get_or-take}
 use Rattle.lif_model.specs.Tape.{Tape, IsTape, record_at}
 use Rattle.lif_model.specs.Shelf.{piece}
 use Rattle.lif_model.specs.Header.{directory_start, directory_length}
-use Rattle.lif_model.specs.Directory.{is_end, entry_at, entries_from, before_end, slots_of}
+use Rattle.lif_model.specs.Directory.{name_of, is_end, entry_at, entries_from, before_end, slots_of}
 use Rattle.lif_model.specs.Made.{end_entry, first_directory_record, fresh_header, records_for_slots}
 use Rattle.lif_model.specs.Redo.{One, redo_start, changed}
 use Rattle.lif_model.specs.Commit.{AreChanges}
-use Rattle.lif_model.specs.Volume.{redo_name, redo_type, redo_entry, is_redo_entry, is_adopted_with, is_file, volume_in}
+use Rattle.lif_model.specs.Volume.{redo_name, redo_type, redo_entry, is_redo_entry, is_adopted_with, is_file, content_of, files_of, volume_in}
 use Rattle.lif_model.specs.Apply.{Format, IsWellFormed, is_too_long, fresh_volume}
 use Rattle.lif_model.specs.Writing.{format_changes}
 use Rattle.lif_model.proofs.Lists.{any_from}
 use Rattle.lif_model.proofs.Made.{new_type, new_size, typed_type, typed_size, fresh_start, fresh_length, fresh_size, piece_short, piece_size}
-use Rattle.lif_model.proofs.Files.{get_none}
-use Rattle.lif_model.proofs.Apply.{format_is_adopted, made_redo_file}
+use Rattle.lif_model.proofs.Files.{same_files, get_file, get_none}
+use Rattle.lif_model.proofs.Apply.{format_is_adopted, made_redo_entry, made_redo_file}
 use Rattle.lif_model.proofs.Directory.{entries_count, entry_of_all, before_end_at, set_shape, AreWhole}
-use Rattle.lif_model.proofs.Written.{volume_by_parts, made_redo_entry}
+use Rattle.lif_model.proofs.Written.{volume_by_parts}
 
 -- ---- the directory's first record
 
@@ -76,8 +78,7 @@ module _ (n : ℕ) (label : List ℕ) (slots : ℕ) (formed : IsWellFormed (Form
       let made : IsTape n x = set_shape n (set u 0 header) 2 (first_directory_record redo) (set_shape n u 0 header is (fresh_size n label count)) (first_size redo) in
       record {
         tape = made;
-        volume = volume_by_parts n x header (redo ∷ []) (sym made.records) (format_is_adopted n label slots formed fits).volume.legal empty header_is slots_are
-            (record { there = λ k lt file. absurd (no_file k lt file); no_other = λ name none. get_none name });
+        volume = volume_by_parts n x header (redo ∷ []) empty (sym made.records) (format_is_adopted n label slots formed fits).volume.legal header_is slots_are (no_files (sym made.records));
         adopted = any_from [] (is_redo_entry n One) (redo ∷ []) 0 (omega arith) (made_redo_entry n);
       }
     where
@@ -124,6 +125,8 @@ module _ (n : ℕ) (label : List ℕ) (slots : ℕ) (formed : IsWellFormed (Form
           one zero lt = get_or-take 1 all 0 [] (omega arith) ∙ first
           one (suc k) lt = absurd (omega (arith, lt, length-take-le 1 all (omega (arith, more))))
 
-      no_file : (k : ℕ) → k < 1 → is_file n (get_or (redo ∷ []) k []) ≡ true → ⊥
-      no_file zero lt file = let no : true ≡ false = sym file ∙ and_right _ _ (not_from_true _ (made_redo_file n)) in cc
-      no_file (suc k) lt file = absurd (omega (arith, lt))
+      -- the redo file is none of the files
+      no_files : n ≡ length x → files_of x (redo ∷ []) ≡ empty
+      no_files size = same_files (files_of x (redo ∷ [])) empty (λ name.
+          let off : is_file n redo ≡ false = and_right _ _ (not_from_true _ (made_redo_file n)) in
+          get_file x (redo ∷ []) n name size ∙ ap (λ (b : Bool). option_map (content_of x) (if b && bytes_eq name (name_of redo) then Some redo else None)) off ∙ sym (get_none name))

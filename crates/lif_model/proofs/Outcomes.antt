@@ -16,14 +16,15 @@ use Rattle.lif_model.specs.Volume.{is_redo_entry, is_adopted_with, is_redo_file,
 use Rattle.lif_model.specs.Fit.{redo_place}
 use Rattle.lif_model.specs.Writing.{slot_record, entry_from, SlotWrites, with_slots, IsSlotWritten, touched, records_on, changes_by, with_records}
 use Rattle.lif_model.proofs.Lists.{any_at, any_from}
-use Rattle.lif_model.proofs.Fit.{IsPlace, place_is_free}
+use Rattle.lif_model.proofs.Fit.{IsPlaceIn}
 use Rattle.lif_model.proofs.Redo.{Elsewhere, length_changed, changed_elsewhere, gate_at, zeros_are_shut, redo_closed, redo_places, settled_none}
 use Rattle.lif_model.proofs.Volume.{volume_agrees}
 use Rattle.lif_model.proofs.Adopted.{holds_tells, adopted_uses_below, clear_uses_below, clear_gate, settles_below_adopted, settles_below_clear}
 use Rattle.lif_model.proofs.Directory.{volume_tells}
 use Rattle.lif_model.proofs.Writing.{AreEntries, last_written, slot_written, changes_write}
 use Rattle.lif_model.proofs.Slotted.{IsOn, is_on}
-use Rattle.lif_model.proofs.Written.{Makes, file_is_live}
+use Rattle.lif_model.proofs.Places.{place_apart}
+use Rattle.lif_model.proofs.Written.{Makes}
 use Rattle.lif_model.proofs.Recorded.{records_replaced, records_count}
 
 -- ---- what settles to a tape below the redo file
@@ -141,40 +142,8 @@ committed_slot version n u t x v ws k on are tape same below done lt =
 
 -- ---- the file of a store
 
--- no record of a place is used
-pub place_apart : (n : ℕ) (u : Tape) (v : Volume) (count i start k : ℕ) → IsTape n u → volume_in u ≡ Some v → IsPlace n (directory_end v.header) (capacity_of v.header) v.slots count i start → is_used u k ≡ true
-    → (k < start) ⊎ (start + count ≤ k)
-place_apart n u v count i start k tape is place used = elim (or_cases (k == 0) _ used) [
-  | inl first ↦ inl (omega (arith, eqb-true k 0 first, place.low, on.starts))
-  | inr rest ↦ elim (or_cases (nat_le (directory_start (record_at u 0)) k && nat_lt k (directory_end (record_at u 0))) _ rest) [
-    | inl directory ↦ inl (omega (arith, ltb-true k (directory_end (record_at u 0)) (and_parts _ _ directory).1, ap directory_end on.header, place.low))
-    | inr file ↦ file_apart (subst (λ (xs : List (List ℕ)). list_any (λ slot. is_file n slot && holds k slot) xs ≡ true) (sym on.slots) (sym (λ i. list_any (λ slot. is_file (tape.records i) slot && holds k slot) (slots_of u)) ∙ file))
-  ]
-]
-  where
-    on : IsOn n u v
-    on = is_on n u v tape is
-
-    file_apart : list_any (λ slot. is_file n slot && holds k slot) v.slots ≡ true → (k < start) ⊎ (start + count ≤ k)
-    file_apart any =
-        let found = any_at [] (λ slot. is_file n slot && holds k slot) v.slots any in
-        let slot : List ℕ = get_or v.slots found.0 [] in
-        let both = and_parts (is_file n slot) (holds k slot) found.2 in
-        let held = holds_tells k slot both.1 in
-        let records : has_records slot ≡ true = lt-ltb 0 (length_of slot) (omega (arith, held.0, held.1)) in
-        elim (place_is_free n (directory_end v.header) (capacity_of v.header) v.slots count i start found.0 place found.1 (own found.0 both.0) records) [
-          | inl before ↦ inl (omega (arith, before, held.1))
-          | inr behind ↦ inr (omega (arith, behind, held.0))
-        ]
-      where
-        own : (j : ℕ) → is_file n (get_or v.slots j []) ≡ true → j ≡ i → i ≡ redo_place v.slots
-        own j file e = elim place.candidate [
-          | inl purged ↦ let no : true ≡ false = sym (file_is_live n (get_or v.slots j []) file) ∙ not_from_true _ (ap (λ (m : ℕ). is_purged (get_or v.slots m [])) e ∙ purged.2) in cc
-          | inr last ↦ last.0
-        ]
-
 -- a tape with the file has the volume before it
-pub file_aside : (n : ℕ) (u : Tape) (v : Volume) (bytes : List ℕ) (i start : ℕ) → IsTape n u → volume_in u ≡ Some v → IsPlace n (directory_end v.header) (capacity_of v.header) v.slots (file_length bytes) i start
+pub file_aside : (n : ℕ) (u : Tape) (v : Volume) (bytes : List ℕ) (i start : ℕ) → IsTape n u → volume_in u ≡ Some v → IsPlaceIn n v (file_length bytes) i start
     → volume_in (with_records start (file_records bytes) u) ≡ Some v
 file_aside n u v bytes i start tape is place =
     let on : IsOn n u v = is_on n u v tape is in

@@ -15,7 +15,7 @@ use Rattle.lif_model.specs.Apply.{with_slot}
 use Rattle.lif_model.specs.Writing.{slot_record, entry_from, entry_on, SlotWrites, with_slots, ended_behind, last_slot, place_named}
 use Rattle.lif_model.proofs.Made.{typed_type, typed_size}
 use Rattle.lif_model.proofs.Slots.{readable_tells, HasNew, before_insert, insert_new, push_new}
-use Rattle.lif_model.proofs.Adopted.{position_tells, one_of_name}
+use Rattle.lif_model.proofs.Adopted.{position_tells, with_slot_at}
 use Rattle.lif_model.proofs.Directory.{entry_size, entries_count, entry_of_all, before_end_at, slot_at, volume_tells, volume_in_is}
 use Rattle.lif_model.proofs.Writing.{AreEntries, untouched, last_written, slots_elsewhere, slot_written}
 
@@ -102,32 +102,13 @@ last_end_is capacity u k m entry old e lt =
 last_end : (capacity : ℕ) (u : Tape) (k m : ℕ) (entry old : List ℕ) → m ≡ suc k → m < capacity → ((j : ℕ) → j < capacity → length (entry_on u j) ≡ 32) → is_end (last_written (last_slot capacity u k entry) m old) ≡ true
 last_end capacity u k m entry old e lt sizes = ap is_end (last_end_is capacity u k m entry old e lt) ∙ eq-eqb _ 0xFFFF (typed_type 0xFFFF (entry_on u m) (omega (arith, sizes m lt)))
 
--- the live slot of a name is one, and so is the change of it
+-- the live slot of a name, and the change of it
 pub changed_is_set : (n : ℕ) (header : List ℕ) (slots : List (List ℕ)) (name : List ℕ) (change : List ℕ → List ℕ) → IsLegal n header slots → has_file slots name ≡ true
     → (place_named name slots < length slots) × (is_live_named name (get_or slots (place_named name slots) []) ≡ true)
     × (set slots (place_named name slots) (change (get_or slots (place_named name slots) [])) ≡ with_slot name change slots)
 changed_is_set n header slots name change legal there =
-    let found = position_tells [] (is_live_named name) slots there in (
-      found.0,
-      found.1,
-      ext_get_or [] (set slots p (change (get_or slots p []))) (with_slot name change slots)
-          (length-set slots p (change (get_or slots p [])) ∙ sym (length-map slots (λ slot. if is_live_named name slot then change slot else slot)))
-          (λ k lt.
-          let less : k < length slots = omega (arith, lt, length-set slots p (change (get_or slots p []))) in
-          each found.0 found.1 k less (cases_eq k p) ∙ sym (get_or-map (λ slot. if is_live_named name slot then change slot else slot) slots k [] [] less)),
-    )
-  where
-    p : ℕ
-    p = place_named name slots
-
-    each : p < length slots → is_live_named name (get_or slots p []) ≡ true → (k : ℕ) → k < length slots → (k ≡ p) ⊎ (k ≡ p → ⊥)
-        → get_or (set slots p (change (get_or slots p []))) k [] ≡ (if is_live_named name (get_or slots k []) then change (get_or slots k []) else get_or slots k [])
-    each within named k lt (inl e) =
-        ap (λ (j : ℕ). get_or (set slots p (change (get_or slots p []))) j []) e ∙ get_or-set_same slots p (change (get_or slots p [])) [] within
-        ∙ sym (ap (λ (j : ℕ). if is_live_named name (get_or slots j []) then change (get_or slots j []) else get_or slots j []) e ∙ ap (λ (b : Bool). if b then change (get_or slots p []) else get_or slots p []) named)
-    each within named k lt (inr ne) =
-        get_or-set_other slots p k (change (get_or slots p [])) [] ne
-        ∙ sym (ap (λ (b : Bool). if b then change (get_or slots k []) else get_or slots k []) (false_from_ne_true _ (λ here. ne (one_of_name n header slots name k p legal lt within here named))))
+    let found = position_tells [] (is_live_named name) slots there in
+    (found.0, found.1, sym (with_slot_at n header slots name change (place_named name slots) legal found.0 found.1))
 
 -- ---- the slots
 

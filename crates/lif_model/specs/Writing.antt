@@ -9,9 +9,9 @@ use Rattle.lif_model.specs.Directory.{entry_at}
 use Rattle.lif_model.specs.Made.{new_entry, with_name, with_type, first_directory_record, fresh_header, records_for_slots, file_length, file_records}
 use Rattle.lif_model.specs.Redo.{One, Changes, changed}
 use Rattle.lif_model.specs.Legal.{is_live_named}
-use Rattle.lif_model.specs.Volume.{Volume, redo_entry, is_adopted}
+use Rattle.lif_model.specs.Volume.{Volume, redo_name, redo_entry, upgraded_entry, is_adopted}
 use Rattle.lif_model.specs.Fit.{Place, At, NoSlot, redo_place, fit_in}
-use Rattle.lif_model.specs.Apply.{VolumeCommand, Store, Rename, Purge, Adopt, Format}
+use Rattle.lif_model.specs.Apply.{VolumeCommand, Store, Rename, Purge, Adopt, Upgrade, Format, is_upgraded}
 
 -- ---- slots as they stand on a tape (the LIF directory format: eight entries in a record)
 
@@ -101,6 +101,8 @@ slot_writes n (Purge name) v place tape = changed_slot name (with_type 0) v.slot
 slot_writes n Adopt v place tape =
     if is_adopted n v.slots then []
     else last_slot (capacity_of v.header) tape (length v.slots) (redo_entry One n)
+slot_writes n Upgrade v place tape =
+    if is_upgraded n v then [] else changed_slot redo_name (upgraded_entry n) v.slots
 slot_writes n command v place tape = []
 
 -- ---- the tape that a command makes
