@@ -6,10 +6,10 @@ use Rattle.std.specs.FinMap.{empty}
 use Rattle.lif_model.specs.Numbers.{two_at, four_at}
 use Rattle.lif_model.specs.Tape.{Tape}
 use Rattle.lif_model.specs.Directory.{name_of, entry_at}
-use Rattle.lif_model.specs.Made.{new_entry, with_name, with_type, first_directory_record, fresh_header}
+use Rattle.lif_model.specs.Made.{new_entry, with_name, with_type, with_extent, first_directory_record, fresh_header}
 use Rattle.lif_model.specs.Shelf.{piece}
 use Rattle.lif_model.specs.Volume.{Volume}
-use Rattle.lif_model.specs.Apply.{VolumeCommand, Dir, Store, Rename, Purge, Adopt, Format}
+use Rattle.lif_model.specs.Apply.{VolumeCommand, Dir, Store, Rename, Purge, Adopt, Upgrade, Format}
 use Rattle.lif_model.specs.Writing.{with_entry, touched, changes_of, written_by}
 use Rattle.lif_model.proofs.Examples as base
 use Rattle.lif_model.proofs.VolumeExamples.{file, purged, a_name, b_name, numbered}
@@ -159,6 +159,32 @@ adopted_full = refl
 adopted_again : changes_of 12 Adopt (with (redo ∷ [])) (tape (redo ++ base.end_entry) [] (numbered 4)) ≡ []
 unfolding four_at two_at name_of
 adopted_again = refl
+
+-- ---- upgrade, on 44 records: the redo file of version 1 begins at record 40, that of version 2 at record 10
+
+-- a redo entry with these four bytes of start and length, these of the date, and this implementation field
+abbrev redo_of : ℕ → ℕ → List ℕ → List ℕ
+redo_of start count implementation = codes "REDOFILE  " ++ 0xE0 ∷ 0xD0 ∷ 0 ∷ 0 ∷ 0 ∷ start ∷ 0 ∷ 0 ∷ 0 ∷ count ∷ replicate 6 0x12 ++ 0x80 ∷ 0x01 ∷ implementation
+
+abbrev long_tape : List ℕ → Tape
+long_tape first = base.header ∷ base.blank ∷ base.filled first ∷ replicate 41 base.blank
+
+-- the entry keeps its name, type, date and volume word
+upgraded : changes_of 44 Upgrade (with (new_a ∷ redo_of 40 4 (1 ∷ 2 ∷ 3 ∷ 4 ∷ []) ∷ [])) (long_tape (new_a ++ redo_of 40 4 (1 ∷ 2 ∷ 3 ∷ 4 ∷ []) ++ base.end_entry ++ old_bytes))
+    ≡ (2, base.filled (new_a ++ redo_of 10 34 (0 ∷ 0 ∷ 0 ∷ 0 ∷ []) ++ base.end_entry ++ old_bytes)) ∷ []
+unfolding four_at two_at name_of with_entry with_extent
+upgraded = refl
+
+-- it is of version 2
+upgraded_again : changes_of 44 Upgrade (with (redo_of 10 34 (1 ∷ 2 ∷ 3 ∷ 4 ∷ []) ∷ [])) (long_tape (redo_of 10 34 (1 ∷ 2 ∷ 3 ∷ 4 ∷ []) ++ base.end_entry)) ≡ []
+unfolding four_at two_at name_of
+upgraded_again = refl
+
+-- a store on a volume of version 2: the redo entry moves on with the bytes that it had
+stored_on_two : changes_of 44 store_a (with (redo_of 10 34 (1 ∷ 2 ∷ 3 ∷ 4 ∷ []) ∷ [])) (long_tape (redo_of 10 34 (1 ∷ 2 ∷ 3 ∷ 4 ∷ []) ++ base.end_entry ++ old_bytes))
+    ≡ (2, base.filled (new_a ++ redo_of 10 34 (1 ∷ 2 ∷ 3 ∷ 4 ∷ []) ++ old_ended)) ∷ []
+unfolding four_at two_at name_of entry_at with_entry with_type new_entry
+stored_on_two = refl
 
 -- ---- format
 
