@@ -33,6 +33,7 @@ pub mod Recorded
 pub mod StoredFile
 pub mod Outcomes
 pub mod Commands
+pub mod Growing
 pub mod Places
 pub mod Content
 pub mod Lookups

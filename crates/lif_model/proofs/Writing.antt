@@ -184,7 +184,7 @@ AreWithin low high [] = Unit {0}
 AreWithin low high (k ∷ ks) = (low ≤ k) × (k < high) × AreWithin low high ks
 
 -- numbers other than k
-abbrev AreOther : List ℕ → ℕ → Type 0
+abbrev pub AreOther : List ℕ → ℕ → Type 0
 AreOther [] k = Unit {0}
 AreOther (j ∷ js) k = (k ≢ j) × AreOther js k
 
@@ -211,7 +211,7 @@ other_filter r (j ∷ js) k off others = go (nat_eq j r) refl others (λ rest. o
 
 -- ---- each once
 
-abbrev are_two : ℕ → ℕ → Bool
+abbrev pub are_two : ℕ → ℕ → Bool
 are_two j k = not (nat_eq j k)
 
 all_filter : (test pick : ℕ → Bool) (ks : List ℕ) → list_all test ks ≡ true → list_all test (filter pick ks) ≡ true
@@ -240,12 +240,12 @@ left_out r (k ∷ ks) = go (nat_eq k r) refl (left_out r ks)
     go true e rest = rest
     go false e rest = and_from (are_two r k) _ (not_from_false _ (ne_eqb r k (λ same. let both : true ≡ false = sym (eq-eqb k r (sym same)) ∙ e in cc))) rest
 
-once : (start : ℕ) (ws : SlotWrites) → all_pairs are_two (touched start ws) ≡ true
+pub once : (start : ℕ) (ws : SlotWrites) → all_pairs are_two (touched start ws) ≡ true
 once start [] = refl
 once start (w ∷ ws) = and_from (list_all (are_two (slot_record start w.0)) _) _ (left_out (slot_record start w.0) (touched start ws))
     (pairs_filter (λ k. not (nat_eq k (slot_record start w.0))) (touched start ws) (once start ws))
 
-apart_tell : (j k : ℕ) → are_two j k ≡ true → j ≢ k
+pub apart_tell : (j k : ℕ) → are_two j k ≡ true → j ≢ k
 apart_tell j k two e = let both : true ≡ false = sym two ∙ not_from_true _ (eq-eqb j k e) in cc
 
 -- of two numbers that follow each other there are no more than two
@@ -278,7 +278,7 @@ touched_within start low high (w ∷ ws) within = (within.0, within.1, within_fi
 pub touches_two : (start low : ℕ) (ws : SlotWrites) → WritesWithin start low (low + 2) ws → length (touched start ws) ≤ 2
 touches_two start low ws within = no_more low (touched start ws) (touched_within start low (low + 2) ws within) (once start ws)
 
-others_untouched : (start : ℕ) (ws : SlotWrites) (k : ℕ) → AreOther (touched start ws) k → Untouched start ws k
+pub others_untouched : (start : ℕ) (ws : SlotWrites) (k : ℕ) → AreOther (touched start ws) k → Untouched start ws k
 others_untouched start [] k others = tt
 others_untouched start (w ∷ ws) k others = (others.0, others_untouched start ws k (other_filter (slot_record start w.0) (touched start ws) k others.0 others.1))
 
@@ -301,7 +301,7 @@ records_agree low high (k ∷ ks) x y within same =
     let rest : records_on x ks ≡ records_on y ks = records_agree low high ks x y within.2 same in
     λ i. (k, here i) ∷ rest i
 
-targets_are : (ks : List ℕ) (t : Tape) → targets_in (records_on t ks) ≡ ks
+pub targets_are : (ks : List ℕ) (t : Tape) → targets_in (records_on t ks) ≡ ks
 targets_are [] t = refl
 targets_are (k ∷ ks) t = ap (λ (js : List ℕ). k ∷ js) (targets_are ks t)
 
