@@ -2,13 +2,14 @@
 use Rattle.std.proofs.Common.{◌≡◌, ◌≢◌, ◌<◌, ◌≤◌, ◌+◌, ◌*◌, ◌/◌, ◌%◌, ◌++◌, ◌&&◌, ◌||◌, ◌⊎◌, ℕ, zero, suc, nat_eq, List, [], ◌∷◌, Bool, true, false, not, if◌then◌else◌, length, get_or, set, map, filter, inl, inr, refl, sym, ◌∙◌, ap, subst, arith, append-nil, get_or-set_same, get_or-set_other}
 use Rattle.std.specs.List.{list_all, list_any}
 use Rattle.std.proofs.lemmas.Bool.{cases_eq, cases_lt, cases_Bool, and_parts, eqb-true, eq-eqb, ne_eqb, or_parts}
-use Rattle.std.proofs.lemmas.List.{ext_get_or, length-map}
+use Rattle.std.proofs.lemmas.List.{length-map, set_comm}
 use Rattle.lif_model.specs.Tape.{Tape, IsTape, record_at}
 use Rattle.lif_model.specs.Pairs.{all_pairs}
 use Rattle.lif_model.specs.Redo.{Changes, targets_in}
 use Rattle.lif_model.specs.Writing.{with_entry, slot_record, SlotWrites, with_slots, touched, records_on, changes_by, with_records}
 use Rattle.lif_model.proofs.Lists.{any_from, none_from}
-use Rattle.lif_model.proofs.Writing.{AreOther, Untouched, are_two, apart_tell, once, others_untouched, targets_are, slots_elsewhere, length_slots}
+use Rattle.lif_model.proofs.Recorded.{records_before}
+use Rattle.lif_model.proofs.Writing.{AreEntries, AreOther, Untouched, are_two, apart_tell, once, others_untouched, targets_are, slots_elsewhere, length_slots}
 
 -- more writes are written on the tape with the first ones
 pub with_more : (start : ℕ) (ws more : SlotWrites) (t : Tape) → with_slots start (ws ++ more) t ≡ with_slots start more (with_slots start ws t)
@@ -178,3 +179,22 @@ module _ (start : ℕ) (ws : SlotWrites) (w : ℕ × List ℕ) (u : Tape) (withi
       let same : touched start (ws ++ w ∷ []) ≡ numbers ++ r ∷ [] = touched_more start ws w ∙ ap (λ (b : Bool). numbers ++ (if b then [] else r ∷ [])) none in
       let last : record_at after r ≡ with_entry (record_at u r) (w.0 % 8) w.1 = there ∙ ap (λ (bs : List ℕ). with_entry bs (w.0 % 8) w.1) (slots_elsewhere start ws u r (others_untouched start ws r others)) in
       ap (records_on after) same ∙ records_push numbers r after ∙ (λ i. records_same r numbers before after others elsewhere i ++ (r, last i) ∷ [])
+
+-- ---- files first
+
+records_set_below : (first : ℕ) (rs : List (List ℕ)) (t : Tape) (k : ℕ) (bytes : List ℕ) → k < first → with_records first rs (set t k bytes) ≡ set (with_records first rs t) k bytes
+records_set_below first [] t k bytes lt = refl
+records_set_below first (r ∷ rs) t k bytes lt =
+    ap (with_records (suc first) rs) (set_comm t k first bytes r (λ e. absurd (omega (arith, e, lt)))) ∙ records_set_below (suc first) rs (set t first r) k bytes (omega (arith, lt))
+
+-- The records of a file behind the directory may be written before slots are: so the files of several stores come first,
+-- and one commit changes all their slots.
+pub files_come_first : (start room first : ℕ) (ws : SlotWrites) (rs : List (List ℕ)) (t : Tape) → AreEntries (8 * room) ws → start + room ≤ first
+    → with_records first rs (with_slots start ws t) ≡ with_slots start ws (with_records first rs t)
+files_come_first start room first [] rs t are le = refl
+files_come_first start room first (w ∷ ws) rs t are le =
+    let r : ℕ = slot_record start w.0 in
+    let lt : r < first = omega (arith, are.0, le) in
+    files_come_first start room first ws rs (set t r (with_entry (record_at t r) (w.0 % 8) w.1)) are.2 le
+    ∙ ap (with_slots start ws) (records_set_below first rs t r (with_entry (record_at t r) (w.0 % 8) w.1) lt
+    ∙ ap (λ (bytes : List ℕ). set (with_records first rs t) r (with_entry bytes (w.0 % 8) w.1)) (sym (records_before first rs t r lt)))
