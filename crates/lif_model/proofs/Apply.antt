@@ -1,7 +1,7 @@
 -- The next volume of each command: a refused command leaves the volume, and any other leaves a legal one, with its redo file.
 use Rattle.std.proofs.Common.{◌≡◌, ◌≢◌, ◌⊎◌, ◌<◌, ◌≤◌, ◌+◌, ◌-◌, ◌*◌, ◌++◌, ◌&&◌, ◌==◌, ℕ, zero, suc, List, [], ◌∷◌, Bool, true, false, not, if◌then◌else◌, Option, Some, None, length, map, get_or, set, insert, replicate, inl, inr, refl, sym, ◌∙◌, ap, subst, arith, nat_lt, length-set, get_or-set_other}
 use Rattle.std.specs.Str.{bytes_eq}
-use Rattle.std.proofs.lemmas.Bool.{cases_lt, and_parts, and_from, and_cases, or_left, or_parts, ltb-true, ltb-false, leb-false, eqb-true, eq-eqb, ne_eqb, not_from_true, not_from_false, false_from_ne_true}
+use Rattle.std.proofs.lemmas.Bool.{cases_lt, and_parts, and_from, and_cases, or_parts, ltb-true, ltb-false, leb-false, eqb-true, eq-eqb, ne_eqb, not_from_true, not_from_false, false_from_ne_true}
 use Rattle.std.proofs.lemmas.List.{length_push, length-map, get_or-map}
 use Rattle.std.proofs.lemmas.List.Edits.{length-insert, get_or-insert_below, get_or-insert_above}
 use Rattle.std.proofs.lemmas.Slice.Eq.{bytes_eq-Decides}

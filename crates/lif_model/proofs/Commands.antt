@@ -14,12 +14,12 @@ use Rattle.lif_model.specs.Redo.{Version, One, Two, redo_start, most_targets, Ch
 use Rattle.lif_model.specs.Commit.{AreChanges, SettlesBelow, IsOldOrNew, IsCommitted, IsTarget}
 use Rattle.lif_model.specs.Legal.{occupies, end_of, is_live_named, has_file, is_legal}
 use Rattle.lif_model.specs.Volume.{redo_name, redo_entry, upgraded_entry, is_redo_entry, IsAdopted, files_of, is_adopted_with, is_adopted, Volume, volume_in, volume_of, is_foreign_gated}
-use Rattle.lif_model.specs.Fit.{Place, At, redo_place, fit_in}
-use Rattle.lif_model.specs.Apply.{Refusal, VolumeCommand, Dir, Label, Fetch, Store, Rename, Purge, Adopt, Upgrade, Format, IsWellFormed, is_upgraded, upgraded, lacks_redo, runs_past_gate, is_too_long, lacks_slot, lacks_room, checks_of, refusal_of, fresh_volume, stored, renamed, volume_after}
+use Rattle.lif_model.specs.Fit.{Place, At, redo_place}
+use Rattle.lif_model.specs.Apply.{Refusal, VolumeCommand, Dir, Label, Fetch, Store, Rename, Purge, Adopt, Upgrade, Format, IsWellFormed, is_upgraded, upgraded, lacks_redo, runs_past_gate, is_too_long, checks_of, refusal_of, fresh_volume, stored, renamed, volume_after}
 use Rattle.lif_model.specs.Writing.{slot_record, entry_from, entry_on, SlotWrites, touched, changes_by, last_slot, stored_writes, changed_slot, slot_writes, with_file, IsFileRecord, format_changes, changes_at, chosen_place, changes_of, written_by}
 use Rattle.lif_model.proofs.Fit.{IsCandidate, IsPlaceIn}
 use Rattle.lif_model.proofs.Apply.{NoneMet, none_met, upgrade_is_two}
-use Rattle.lif_model.proofs.Adopted.{redo_behind, adopted_some, settles_below_other, upgrade_old_or_new}
+use Rattle.lif_model.proofs.Adopted.{redo_behind, settles_below_other, upgrade_old_or_new}
 use Rattle.lif_model.proofs.Lists.{any_at}
 use Rattle.lif_model.proofs.Directory.{AreWhole, volume_tells, volume_from, volume_in_is}
 use Rattle.lif_model.proofs.Writing.{AreEntries, WritesWithin, last_written, touches_two, changes_are, changes_whole}

@@ -1,5 +1,5 @@
 -- The tape that `format` makes of any tape.
-use Rattle.std.proofs.Common.{◌≡◌, ◌<◌, ◌≤◌, ◌+◌, ◌-◌, ◌*◌, ◌/◌, ◌%◌, ◌++◌, ◌==◌, ◌&&◌, ℕ, zero, suc, List, [], ◌∷◌, Bool, true, false, Some, None, length, map, filter, if◌then◌else◌, get_or, set, take, drop, replicate, refl, sym, ◌∙◌, ap, arith, length-append, length-set, append_assoc, get_or-set_same, get_or-set_other}
+use Rattle.std.proofs.Common.{◌≡◌, ◌<◌, ◌≤◌, ◌+◌, ◌-◌, ◌*◌, ◌/◌, ◌%◌, ◌++◌, ◌==◌, ◌&&◌, ℕ, zero, suc, List, [], ◌∷◌, Bool, true, false, Some, None, length, if◌then◌else◌, get_or, set, take, drop, replicate, refl, sym, ◌∙◌, ap, arith, length-append, length-set, append_assoc, get_or-set_same, get_or-set_other}
 use Rattle.std.specs.Prelude.{option_map}
 use Rattle.std.specs.Str.{bytes_eq}
 use Rattle.std.specs.FinMap.{empty}

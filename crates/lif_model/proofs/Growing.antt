@@ -1,15 +1,15 @@
 -- Slot writes, one after the other: how the changes grow with each, and that the records of files may be written before.
-use Rattle.std.proofs.Common.{◌≡◌, ◌≢◌, ◌<◌, ◌≤◌, ◌+◌, ◌*◌, ◌/◌, ◌%◌, ◌++◌, ◌&&◌, ◌||◌, ◌⊎◌, ℕ, zero, suc, nat_eq, List, [], ◌∷◌, Bool, true, false, not, if◌then◌else◌, length, get_or, set, map, filter, inl, inr, refl, sym, ◌∙◌, ap, subst, arith, append-nil, get_or-set_same, get_or-set_other}
+use Rattle.std.proofs.Common.{◌≡◌, ◌≢◌, ◌<◌, ◌≤◌, ◌+◌, ◌*◌, ◌%◌, ◌++◌, ◌||◌, ◌⊎◌, ℕ, zero, suc, nat_eq, List, [], ◌∷◌, Bool, true, false, not, if◌then◌else◌, length, get_or, set, filter, inl, inr, refl, sym, ◌∙◌, ap, arith, append-nil, get_or-set_same, get_or-set_other}
 use Rattle.std.specs.List.{list_all, list_any}
-use Rattle.std.proofs.lemmas.Bool.{cases_eq, cases_lt, cases_Bool, and_parts, eqb-true, eq-eqb, ne_eqb, or_parts}
+use Rattle.std.proofs.lemmas.Bool.{cases_eq, and_parts, eqb-true, eq-eqb, ne_eqb, or_parts}
 use Rattle.std.proofs.lemmas.List.{length-map, set_comm}
-use Rattle.lif_model.specs.Tape.{Tape, IsTape, record_at}
+use Rattle.lif_model.specs.Tape.{Tape, record_at}
 use Rattle.lif_model.specs.Pairs.{all_pairs}
-use Rattle.lif_model.specs.Redo.{Changes, targets_in}
+use Rattle.lif_model.specs.Redo.{Changes}
 use Rattle.lif_model.specs.Writing.{with_entry, slot_record, SlotWrites, with_slots, touched, records_on, changes_by, with_records}
 use Rattle.lif_model.proofs.Lists.{any_from, none_from}
 use Rattle.lif_model.proofs.Recorded.{records_before}
-use Rattle.lif_model.proofs.Writing.{AreEntries, AreOther, Untouched, are_two, apart_tell, once, others_untouched, targets_are, slots_elsewhere, length_slots}
+use Rattle.lif_model.proofs.Writing.{AreEntries, AreOther, are_two, apart_tell, once, others_untouched, slots_elsewhere, length_slots}
 
 -- more writes are written on the tape with the first ones
 pub with_more : (start : ℕ) (ws more : SlotWrites) (t : Tape) → with_slots start (ws ++ more) t ≡ with_slots start more (with_slots start ws t)

@@ -1,25 +1,24 @@
 -- What a command leaves of a tape: what a stop in its commit may leave, and what stands after an
 -- Ok.
-use Rattle.std.proofs.Common.{◌≡◌, ◌⊎◌, ◌<◌, ◌≤◌, ◌+◌, ◌%◌, ◌&&◌, ◌==◌, ℕ, nat_lt, nat_le, List, [], ◌∷◌, Bool, true, false, if◌then◌else◌, Some, length, get_or, filter, inl, inr, refl, sym, ◌∙◌, ap, subst, arith}
+use Rattle.std.proofs.Common.{◌≡◌, ◌⊎◌, ◌<◌, ◌≤◌, ◌+◌, ◌%◌, ◌==◌, ℕ, nat_lt, List, [], ◌∷◌, Bool, true, false, if◌then◌else◌, Some, length, get_or, filter, inl, inr, refl, sym, ◌∙◌, ap, subst, arith}
 use Rattle.std.specs.List.{list_any}
-use Rattle.std.proofs.lemmas.Bool.{and_parts, and_left, and_right, or_cases, eqb-true, ltb-true, ne_eqb, lt-ltb, not_from_true}
+use Rattle.std.proofs.lemmas.Bool.{and_left, and_right, ne_eqb, not_from_true}
 use Rattle.lif_model.specs.Tape.{Tape, IsTape, record_at}
 use Rattle.lif_model.specs.Gate.{gate_of, is_open}
 use Rattle.lif_model.specs.Header.{directory_start, directory_length, directory_end, capacity_of}
-use Rattle.lif_model.specs.Directory.{length_of, is_purged, entry_at, slots_of}
+use Rattle.lif_model.specs.Directory.{entry_at, slots_of}
 use Rattle.lif_model.specs.Made.{file_length, file_records}
 use Rattle.lif_model.specs.Redo.{Version, One, versions, redo_start, Changes, changed, IsSettled}
 use Rattle.lif_model.specs.Commit.{SettlesBelow, IsOldOrNew, IsCommitted, IsTarget}
 use Rattle.lif_model.specs.Transfers.{Replaced}
-use Rattle.lif_model.specs.Legal.{has_records, occupies, end_of, holds, is_legal}
-use Rattle.lif_model.specs.Volume.{is_redo_entry, is_adopted_with, is_redo_file, is_adopted, is_file, Volume, volume_in, volume_of, is_used, is_gate_held, is_foreign_gated}
-use Rattle.lif_model.specs.Fit.{redo_place}
+use Rattle.lif_model.specs.Legal.{occupies, end_of, is_legal}
+use Rattle.lif_model.specs.Volume.{is_redo_entry, is_adopted_with, is_redo_file, is_adopted, Volume, volume_in, volume_of, is_used, is_gate_held, is_foreign_gated}
 use Rattle.lif_model.specs.Writing.{slot_record, entry_from, SlotWrites, with_slots, IsSlotWritten, touched, records_on, changes_by, with_records}
 use Rattle.lif_model.proofs.Lists.{any_at, any_from}
 use Rattle.lif_model.proofs.Fit.{IsPlaceIn}
 use Rattle.lif_model.proofs.Redo.{Elsewhere, length_changed, changed_elsewhere, gate_at, zeros_are_shut, redo_closed, redo_places, settled_none}
 use Rattle.lif_model.proofs.Volume.{volume_agrees}
-use Rattle.lif_model.proofs.Adopted.{holds_tells, adopted_uses_below, clear_uses_below, clear_gate, settles_below_adopted, settles_below_clear}
+use Rattle.lif_model.proofs.Adopted.{adopted_uses_below, clear_uses_below, clear_gate, settles_below_adopted, settles_below_clear}
 use Rattle.lif_model.proofs.Directory.{volume_tells}
 use Rattle.lif_model.proofs.Writing.{AreEntries, last_written, slot_written, changes_write}
 use Rattle.lif_model.proofs.Slotted.{IsOn, is_on}

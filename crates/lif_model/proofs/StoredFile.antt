@@ -1,23 +1,21 @@
 -- The tape that a store makes: first the file's records, and then the directory.
-use Rattle.std.proofs.Common.{◌≡◌, ◌≢◌, ◌⊎◌, ◌<◌, ◌≤◌, ◌+◌, ℕ, suc, nat_eq, List, [], ◌∷◌, Bool, true, false, if◌then◌else◌, Some, None, length, get_or, set, insert, inl, inr, refl, sym, ◌∙◌, ap, subst, arith, length-set, get_or-set_other}
-use Rattle.std.specs.Str.{bytes_eq}
+use Rattle.std.proofs.Common.{◌≡◌, ◌≢◌, ◌⊎◌, ◌<◌, ◌≤◌, ◌+◌, ℕ, suc, nat_eq, List, [], ◌∷◌, Bool, true, false, if◌then◌else◌, Some, None, length, get_or, set, insert, inl, inr, sym, ◌∙◌, ap, subst, arith}
 use Rattle.std.specs.FinMap as maps
-use Rattle.std.proofs.lemmas.Bool.{cases_eq, cases_lt, cases_Bool, and_parts, not-false, not_from_true, not_from_false, eqb-true, eq-eqb, ne_eqb, ltb-true, lt-ltb}
+use Rattle.std.proofs.lemmas.Bool.{cases_lt, and_parts, not-false, not_from_true, eqb-true, eq-eqb, ne_eqb, ltb-true}
 use Rattle.std.proofs.lemmas.List.Edits.{length-insert, get_or-insert_below, get_or-insert_above}
-use Rattle.std.proofs.lemmas.Slice.Eq.{bytes_eq-Decides}
 use Rattle.lif_model.specs.Tape.{Tape, IsTape, record_at}
 use Rattle.lif_model.specs.Header.{directory_start, directory_length, directory_end, capacity_of}
-use Rattle.lif_model.specs.Directory.{name_of, type_of, start_of, length_of, is_end, is_purged, slots_of}
+use Rattle.lif_model.specs.Directory.{name_of, type_of, is_end, is_purged, slots_of}
 use Rattle.lif_model.specs.Made.{new_entry, file_length, filled, file_records}
-use Rattle.lif_model.specs.Redo.{Version, changed}
-use Rattle.lif_model.specs.Legal.{has_records, is_live_named, has_file, IsLegal}
+use Rattle.lif_model.specs.Redo.{Version}
+use Rattle.lif_model.specs.Legal.{has_file, IsLegal}
 use Rattle.lif_model.specs.Transfers.{Replaced}
 use Rattle.lif_model.specs.Volume.{redo_name, is_redo_entry, is_adopted_with, is_adopted, Files, files_of, Volume, volume_in, IsAdopted}
 use Rattle.lif_model.specs.Fit.{Place, At, redo_place, can_append, fit_in}
 use Rattle.lif_model.specs.Apply.{Store, IsWellFormed, checks_of, refusal_of, placed, stored, volume_after}
-use Rattle.lif_model.specs.Writing.{entry_on, SlotWrites, with_slots, changes_by, last_slot, stored_writes, with_records, written_at, written_by}
-use Rattle.lif_model.proofs.Lists.{any_at, any_from, none_at}
-use Rattle.lif_model.proofs.Made.{new_name, new_type, new_start, new_length, new_size}
+use Rattle.lif_model.specs.Writing.{SlotWrites, with_slots, last_slot, stored_writes, with_records, written_at, written_by}
+use Rattle.lif_model.proofs.Lists.{any_at, any_from}
+use Rattle.lif_model.proofs.Made.{new_name, new_type, new_size}
 use Rattle.lif_model.proofs.Fit.{IsPlaceIn, fit_tells}
 use Rattle.lif_model.proofs.Volume.{slots_agree}
 use Rattle.lif_model.proofs.Content.{files_stored}

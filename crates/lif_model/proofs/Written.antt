@@ -1,28 +1,25 @@
 -- The volume of the tape that a command makes.
-use Rattle.std.proofs.Common.{◌≡◌, ◌≢◌, ◌⊎◌, ◌<◌, ◌-◌, ◌≤◌, ◌++◌, ◌&&◌, ◌||◌, ◌==◌, ℕ, List, [], ◌∷◌, Bool, true, false, not, if◌then◌else◌, Option, Some, None, length, get_or, set, find, replicate, inl, inr, refl, sym, ◌∙◌, ap, subst, arith, length-set, get_or-set_other}
-use Rattle.std.specs.Prelude.{option_map}
-use Rattle.std.specs.List.{list_any}
+use Rattle.std.proofs.Common.{◌≡◌, ◌≢◌, ◌<◌, ◌≤◌, ◌++◌, ◌==◌, ℕ, List, [], ◌∷◌, Bool, true, false, if◌then◌else◌, Some, None, length, get_or, set, replicate, inr, refl, sym, ◌∙◌, ap, subst, arith, length-set, get_or-set_other}
 use Rattle.std.specs.Str.{bytes_eq}
 use Rattle.std.specs.FinMap.{get, remove}
-use Rattle.std.proofs.lemmas.Bool.{cases_eq, cases_Bool, and_parts, and_from, and_cases, or_parts, and_right, not-false, not_from_true, not_from_false, eq-eqb, leb-false, false_from_ne_true, lt-ltb}
-use Rattle.std.proofs.lemmas.List.{length-map, get_or-map, length_push, get_or_append_left}
+use Rattle.std.proofs.lemmas.Bool.{or_parts, not-false, leb-false}
+use Rattle.std.proofs.lemmas.List.{length_push, get_or_append_left}
 use Rattle.std.proofs.lemmas.Slice.Eq.{bytes_eq-Decides}
-use Rattle.lif_model.specs.Tape.{Tape, IsTape, record_at, bytes_from}
+use Rattle.lif_model.specs.Tape.{Tape, IsTape, record_at}
 use Rattle.lif_model.specs.Header.{directory_start, directory_length, directory_end, capacity_of}
-use Rattle.lif_model.specs.Directory.{name_of, type_of, start_of, length_of, is_end, slots_of}
+use Rattle.lif_model.specs.Directory.{is_end, slots_of}
 use Rattle.lif_model.specs.Made.{with_name, with_type}
 use Rattle.lif_model.specs.Redo.{Version, One, Two, redo_start, changed}
-use Rattle.lif_model.specs.Legal.{is_live, occupies, holds, is_live_named, has_file, is_legal_with, is_legal, IsLegal}
-use Rattle.lif_model.specs.Volume.{redo_name, redo_type, redo_entry, upgraded_entry, is_redo_entry, is_adopted_with, is_redo_file, is_adopted, Files, is_file, content_of, files_of, Volume, volume_in, IsAdopted}
+use Rattle.lif_model.specs.Legal.{is_live_named, has_file, is_legal_with, is_legal, IsLegal}
+use Rattle.lif_model.specs.Volume.{redo_name, redo_type, redo_entry, upgraded_entry, is_redo_entry, is_adopted_with, is_redo_file, is_adopted, Files, files_of, Volume, volume_in, IsAdopted}
 use Rattle.lif_model.specs.Fit.{redo_place}
 use Rattle.lif_model.specs.Apply.{Purge, Rename, Adopt, Upgrade, IsWellFormed, is_protected, is_upgraded, checks_of, refusal_of, with_slot, moved_key, renamed, upgraded, volume_after}
 use Rattle.lif_model.specs.Writing.{entry_on, last_slot, place_named, changed_slot, SlotWrites, with_slots, changes_by, written_by}
-use Rattle.lif_model.proofs.Lists.{any_at, any_from, none_at}
+use Rattle.lif_model.proofs.Lists.{any_at, any_from}
 use Rattle.lif_model.proofs.Legal.{legal_from}
-use Rattle.lif_model.proofs.Slots.{live_named_tells, other_name, slot_cases, push_new}
-use Rattle.lif_model.proofs.Made.{new_name, new_type, new_start, new_length, new_size, named_name, named_type, named_start, named_length, named_size, typed_type, typed_size, extent_type, extent_size}
-use Rattle.lif_model.proofs.Volume.{content_agree}
-use Rattle.lif_model.proofs.Files.{get_file, get_removed, get_moved, same_files}
+use Rattle.lif_model.proofs.Slots.{live_named_tells, push_new}
+use Rattle.lif_model.proofs.Made.{new_type, new_size, named_type, named_size, typed_type, typed_size, extent_type, extent_size}
+use Rattle.lif_model.proofs.Files.{same_files}
 use Rattle.lif_model.proofs.Apply.{NoneMet, none_met, made_redo_entry, not_redo_name, purge_is_adopted, rename_is_adopted, adopt_unmet, adopt_is_adopted, upgrade_is_two}
 use Rattle.lif_model.proofs.Adopted.{redo_file_tells, redo_file_is_named, redo_place_is, redo_entry_tells, with_slot_at}
 use Rattle.lif_model.proofs.Content.{files_purged, files_renamed, files_adopted, files_upgraded}
@@ -72,9 +69,11 @@ module _ (n : ℕ) (u : Tape) (v : Volume) (tape : IsTape n u) (is : volume_in u
   set_volume i entry later files lt size kind same legal same_files =
       let ws : SlotWrites = (i, entry) ∷ [] in
       let entries : AreEntries (capacity_of v.header) ws = (omega (arith, lt, on.volume.room), size, tt) in
-      let made : IsTape n (with_slots (directory_start v.header) ws u) = slots_shape (directory_start v.header) n (directory_length v.header) ws u on.tape (omega (arith, on.ends)) entries in
-      (made, volume_by_parts n (with_slots (directory_start v.header) ws u) v.header later files (sym made.records) legal
-      (header_stays n u v on ws entries ∙ sym on.header) (slot_set n u v on i entry lt size kind ∙ same) same_files)
+      let made : IsTape n (with_slots (directory_start v.header) ws u) = slots_shape (directory_start v.header) n (directory_length v.header) ws u on.tape (omega (arith, on.ends)) entries in (
+        made,
+        volume_by_parts n (with_slots (directory_start v.header) ws u) v.header later files (sym made.records) legal
+            (header_stays n u v on ws entries ∙ sym on.header) (slot_set n u v on i entry lt size kind ∙ same) same_files,
+      )
 
   -- which is not the redo file's
   set_makes : (i : ℕ) (entry : List ℕ) (later : List (List ℕ)) (files : Files) → i < length v.slots → length entry ≡ 32 → is_end entry ≡ false → set v.slots i entry ≡ later → IsLegal n v.header later
