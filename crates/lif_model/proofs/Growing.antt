@@ -5,11 +5,11 @@ use Rattle.std.proofs.lemmas.Bool.{cases_eq, and_parts, eqb-true, eq-eqb, ne_eqb
 use Rattle.std.proofs.lemmas.List.{length-map, set_comm}
 use Rattle.lif_model.specs.Tape.{Tape, record_at}
 use Rattle.lif_model.specs.Pairs.{all_pairs}
-use Rattle.lif_model.specs.Redo.{Changes}
+use Rattle.lif_model.specs.Redo.{Changes, changed}
 use Rattle.lif_model.specs.Writing.{with_entry, slot_record, SlotWrites, with_slots, touched, records_on, changes_by, with_records}
 use Rattle.lif_model.proofs.Lists.{any_from, none_from}
-use Rattle.lif_model.proofs.Recorded.{records_before}
-use Rattle.lif_model.proofs.Writing.{AreEntries, AreOther, are_two, apart_tell, once, others_untouched, slots_elsewhere, length_slots}
+use Rattle.lif_model.proofs.Recorded.{length_records, records_before}
+use Rattle.lif_model.proofs.Writing.{AreEntries, AreOther, are_two, apart_tell, once, others_untouched, slots_elsewhere, length_slots, changes_write}
 
 -- more writes are written on the tape with the first ones
 pub with_more : (start : ℕ) (ws more : SlotWrites) (t : Tape) → with_slots start (ws ++ more) t ≡ with_slots start more (with_slots start ws t)
@@ -198,3 +198,13 @@ files_come_first start room first (w ∷ ws) rs t are le =
     files_come_first start room first ws rs (set t r (with_entry (record_at t r) (w.0 % 8) w.1)) are.2 le
     ∙ ap (with_slots start ws) (records_set_below first rs t r (with_entry (record_at t r) (w.0 % 8) w.1) lt
     ∙ ap (λ (bytes : List ℕ). set (with_records first rs t) r (with_entry bytes (w.0 % 8) w.1)) (sym (records_before first rs t r lt)))
+
+-- What a further part makes of the tape that the parts before it made is the tape with all their files and all their slots;
+-- so one commit of all these slots, behind all the files, makes the same.
+pub parts_join : (start room n first : ℕ) (ws more : SlotWrites) (rs : List (List ℕ)) (t : Tape) → AreEntries (8 * room) ws → AreEntries (8 * room) more → start + room ≤ n → start + room ≤ first → length t ≡ n
+    → changed (changes_by start more (with_slots start ws t)) (with_records first rs (with_slots start ws t)) ≡ with_slots start (ws ++ more) (with_records first rs t)
+parts_join start room n first ws more rs t are are_more le behind size =
+    let x : Tape = with_slots start ws t in
+    let size_x : length x ≡ n = length_slots start ws t ∙ size in
+    changes_write start room more are_more n x (with_records first rs x) le size_x (length_records first rs x ∙ size_x) (λ k low high. records_before first rs x k (omega (arith, high, behind)))
+    ∙ ap (with_slots start more) (files_come_first start room first ws rs t are behind) ∙ sym (with_more start ws more (with_records first rs t))
