@@ -121,7 +121,8 @@ names_of a b = elim (cases_Bool (bytes_eq a b)) [
 
 -- ---- store
 
--- one slot more, or another in place of one that was no file: the new slot has its name, and each other name its slot
+-- one slot more, or another in place of one that was no file: the new slot has its name, and each
+-- other name its slot
 new_named : (n : ℕ) (header : List ℕ) (slots later : List (List ℕ)) (name new : List ℕ) (i : ℕ) (old : ℕ → ℕ) → IsLegal n header slots → IsLegal n header later
     → HasNew slots later i new old → i < length later → is_file n new ≡ true → name_of new ≡ name
     → ((k : ℕ) → k < length slots → is_file n (get_or slots k []) ≡ true → (j : ℕ) × (j < length later) × (get_or later j [] ≡ get_or slots k []))
@@ -184,7 +185,8 @@ module _ (n : ℕ) (v : Volume) (name : List ℕ) (kind : ℕ) (implementation b
   pub placed_others : (q : List ℕ) → q ≢ name → file_named n later q ≡ file_named n v.slots q
   placed_others = both_named.1
 
-  -- a file stored at a place leaves files and slots in step (for `store`, and for the parts of a batch)
+  -- a file stored at a place leaves files and slots in step (for `store`, and for the parts of a
+  -- batch)
   pub stored_has_files : HasFiles n v → HasFiles n (stored v name kind implementation bytes (At i start))
   stored_has_files has q = go (names_of q name)
     where
@@ -323,7 +325,8 @@ module _ (n : ℕ) (v : Volume) (old later : List ℕ) (ten : length later ≡ 1
           let live : is_live (with_name later (get_or v.slots k [])) ≡ true = ap (λ (t : ℕ). not (nat_eq t 0)) (named_type later (get_or v.slots k []) ten) ∙ (live_named_tells old (get_or v.slots k []) on).0 in
           file_from n (with_name later (get_or v.slots k [])) live (λ redo. off_later (sym named ∙ redo))
 
--- a rename that is not refused, to another name: the slot of the old name, and what each name has then
+-- a rename that is not refused, to another name: the slot of the old name, and what each name has
+-- then
 pub record IsRenamed (n : ℕ) (v : Volume) (old later slot : List ℕ) : Type 0 where
   pub was : file_named n v.slots old ≡ Some slot
   pub here : file_named n (with_slot old (with_name later) v.slots) later ≡ Some (with_name later slot)

@@ -1,4 +1,5 @@
--- The records of a place for a new file: nobody uses them, and while they are written the volume stays.
+-- The records of a place for a new file: nobody uses them, and while they are written the volume
+-- stays.
 use Rattle.std.proofs.Common.{◌≡◌, ◌≢◌, ◌⊎◌, ◌<◌, ◌≤◌, ◌+◌, ◌&&◌, ◌==◌, ℕ, List, [], Bool, true, false, not, MatchBool, Some, length, get_or, take, inl, inr, refl, sym, ◌∙◌, ap, subst, arith, nat_lt, nat_le}
 use Rattle.std.proofs.lemmas.Bool.{cases_lt, and_parts, or_cases, ltb-true, lt-ltb, eqb-true, false_from_ne_true, not_from_true}
 use Rattle.std.proofs.lemmas.List.{length-take-le}
@@ -113,14 +114,16 @@ place_unused n u v version count i start k tape told adopted place from under = 
 
 -- ---- records that are written aside
 
--- A tape that agrees with a settled one on the records that its volume uses, on the gate and on the targets record.
+-- A tape that agrees with a settled one on the records that its volume uses, on the gate and on the
+-- targets record.
 pub record IsAside (u c : Tape) : Type 0 where
   pub records : length c ≡ length u
   pub used : (k : ℕ) → is_used u k ≡ true → record_at c k ≡ record_at u k
   pub gate : record_at c (gate_of (length u)) ≡ record_at u (gate_of (length u))
   pub targets : record_at c (targets_place (length u)) ≡ record_at u (targets_place (length u))
 
--- it is settled, has the same volume, and its gate is no other file's (for stops and troubles while `store` writes a file)
+-- it is settled, has the same volume, and its gate is no other file's (for stops and troubles while
+-- `store` writes a file)
 pub aside : (u c : Tape) → IsSettled u → IsAside u c → (redo_of c ≡ []) × (volume_of c ≡ volume_of u) × (is_foreign_gated c ≡ false)
 aside u c is same =
     let quiet : redo_of c ≡ [] = quiet_agree u c is same.records same.gate same.targets in (
