@@ -152,23 +152,26 @@ partly_elsewhere first pieces old new k partly out = go (nat_lt partly.count (le
         (torn.records ∙ partly.replaced.records, torn.elsewhere k (λ at. elim out [ inl less ↦ absurd (omega (arith, at, less)) | inr more ↦ absurd (omega (arith, at, more, under)) ]) ∙ before)
     go false e same = (ap (λ (t : Tape). length t) same ∙ partly.replaced.records, ap (λ (t : Tape). record_at t k) same ∙ before)
 
-module _ (n : ℕ) (u : Tape) (v : Volume) (i start : ℕ) (pieces : List (List ℕ)) (tape : IsTape n u) (told : volume_in u ≡ Some v) (adopted : is_adopted n v.slots ≡ true)
-    (place : IsPlaceIn n v (length pieces) i start) where
-  -- a tape that keeps every record outside a place
-  kept_aside : (c : Tape) → length c ≡ length u → ((k : ℕ) → (k < start) ⊎ (start + length pieces ≤ k) → record_at c k ≡ record_at u k) → IsAside u c
+pub aside_here : (u : Tape) → IsAside u u
+aside_here u = record { records = refl; used = λ k on. refl; gate = refl; targets = refl }
+
+-- One run more at spare records, behind others that were written aside (for each file of a command
+-- that writes several).
+module _ (version : Version) (u t : Tape) (start : ℕ) (pieces : List (List ℕ)) (spare : (k : ℕ) → start ≤ k → k < start + length pieces → IsSpare version u k) (so_far : IsAside u t) where
+  kept_aside : (c : Tape) → length c ≡ length t → ((k : ℕ) → (k < start) ⊎ (start + length pieces ≤ k) → record_at c k ≡ record_at t k) → IsAside u c
   kept_aside c long kept = record {
-    records = long;
+    records = long ∙ so_far.records;
     used = λ k on. elim (sides k) [
       | inl within ↦ let no : true ≡ false = sym on ∙ (spare k within.0 within.1).unused in cc
-      | inr out ↦ kept k out
+      | inr out ↦ kept k out ∙ so_far.used k on
     ];
     gate = elim (sides (gate_of (length u))) [
       | inl within ↦ absurd ((spare (gate_of (length u)) within.0 within.1).off_gate refl)
-      | inr out ↦ kept (gate_of (length u)) out
+      | inr out ↦ kept (gate_of (length u)) out ∙ so_far.gate
     ];
     targets = elim (sides (targets_place (length u))) [
       | inl within ↦ absurd ((spare (targets_place (length u)) within.0 within.1).off_targets refl)
-      | inr out ↦ kept (targets_place (length u)) out
+      | inr out ↦ kept (targets_place (length u)) out ∙ so_far.targets
     ];
   }
     where
@@ -178,16 +181,27 @@ module _ (n : ℕ) (u : Tape) (v : Volume) (i start : ℕ) (pieces : List (List 
         | inr from ↦ elim (cases_lt k (start + length pieces)) [ inl under ↦ inl (from, under) | inr past ↦ inr (inr past) ]
       ]
 
-      spare : (k : ℕ) → start ≤ k → k < start + length pieces → IsSpare (adopted_version n v.slots adopted).0 u k
-      spare k from under = place_unused n u v (adopted_version n v.slots adopted).0 (length pieces) i start k tape told (adopted_version n v.slots adopted).1 place from under
+  -- the whole run
+  pub aside_written : (c : Tape) → Replaced start pieces t c → IsAside u c
+  aside_written c done = kept_aside c done.records (λ k out. elim out [ inl less ↦ done.before k less | inr more ↦ done.behind k more ])
 
-  -- all records of a file written at a place (for the commit of `store`, which follows)
-  pub written_aside : (c : Tape) → Replaced start pieces u c → IsAside u c
-  written_aside c done = kept_aside c done.records (λ k out. elim out [ inl less ↦ done.before k less | inr more ↦ done.behind k more ])
-
-  -- some of them, and the next one torn (for a stop or a trouble while `store` writes them)
-  pub partly_aside : (c : Tape) → PartlyReplaced start pieces u c → IsAside u c
-  partly_aside c partly = kept_aside c (long partly) (λ k out. (partly_elsewhere start pieces u c k partly out).1)
+  -- some of its records, and the next one torn
+  pub aside_partly : (c : Tape) → PartlyReplaced start pieces t c → IsAside u c
+  aside_partly c partly = kept_aside c (long partly) (λ k out. (partly_elsewhere start pieces t c k partly out).1)
     where
-      long : PartlyReplaced start pieces u c → length c ≡ length u
-      long partly = (partly_elsewhere start pieces u c (start + length pieces) partly (inr (omega arith))).0
+      long : PartlyReplaced start pieces t c → length c ≡ length t
+      long partly = (partly_elsewhere start pieces t c (start + length pieces) partly (inr (omega arith))).0
+
+-- a file at a place
+module _ (n : ℕ) (u : Tape) (v : Volume) (i start : ℕ) (pieces : List (List ℕ)) (tape : IsTape n u) (told : volume_in u ≡ Some v) (adopted : is_adopted n v.slots ≡ true)
+    (place : IsPlaceIn n v (length pieces) i start) where
+  spare_here : (k : ℕ) → start ≤ k → k < start + length pieces → IsSpare (adopted_version n v.slots adopted).0 u k
+  spare_here k from under = place_unused n u v (adopted_version n v.slots adopted).0 (length pieces) i start k tape told (adopted_version n v.slots adopted).1 place from under
+
+  -- all its records are written (for the commit of `store`, which follows)
+  pub written_aside : (c : Tape) → Replaced start pieces u c → IsAside u c
+  written_aside = aside_written (adopted_version n v.slots adopted).0 u u start pieces spare_here (aside_here u)
+
+  -- some of them, and the next one is torn (for a stop or a trouble while `store` writes them)
+  pub partly_aside : (c : Tape) → PartlyReplaced start pieces u c → IsAside u c
+  partly_aside = aside_partly (adopted_version n v.slots adopted).0 u u start pieces spare_here (aside_here u)
