@@ -1,6 +1,7 @@
--- The files of a tape behind a command, by the slots that the command leaves: `files_of` of the new tape is what the
--- command makes of the files before. `w` is the tape behind the command. It agrees with the tape before, or for a store
--- with the tape on which the file stands, on the records from the directory's end to the gate.
+-- The files of a tape behind a command, by the slots that the command leaves: `files_of` of the new
+-- tape is what the command makes of the files before. `w` is the tape behind the command. It agrees
+-- with the tape before, or for a store with the tape on which the file stands, on the records from
+-- the directory's end to the gate.
 use Rattle.std.proofs.Common.{◌≡◌, ◌≢◌, ◌<◌, ◌≤◌, ◌+◌, ℕ, suc, List, [], ◌∷◌, Bool, true, false, if◌then◌else◌, Option, Some, length, get_or, inl, inr, refl, sym, ◌∙◌, ap, arith, None, ◌++◌}
 use Rattle.std.specs.Prelude.{option_map}
 use Rattle.std.specs.FinMap.{get, insert, remove}

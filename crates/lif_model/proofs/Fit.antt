@@ -51,8 +51,8 @@ each_start high (slot ∷ slots) i lt on = go (has_records slot) refl i lt on (e
     go false e zero lt on rest = let both : true ≡ false = sym on ∙ e in cc
     go false e (suc i) lt on rest = rest i (omega arith) on
 
--- The bounds from slot to slot, as the choice of a place walks over the directory: what lies before slot i + 1 from what
--- lies before slot i, and what lies from slot i on from what lies behind it.
+-- The bounds from slot to slot, as the choice of a place walks over the directory: what lies before
+-- slot i + 1 from what lies before slot i, and what lies from slot i on from what lies behind it.
 greatest_push : (low : ℕ) (slots : List (List ℕ)) (slot : List ℕ) → greatest_end low (slots ++ slot ∷ []) ≡ (if has_records slot then max (end_of slot) (greatest_end low slots) else greatest_end low slots)
 greatest_push low [] slot = refl
 greatest_push low (first ∷ slots) slot = go (has_records first) (has_records slot) (greatest_push low slots slot)
@@ -136,8 +136,8 @@ among_tells : (P : ℕ → Type 0) (n low : ℕ) (slots : List (List ℕ)) (coun
 among_tells P n low slots count [] i start each is = cc
 among_tells P n low slots count (c ∷ cs) i start each is = first_tells P n low slots count (c ∷ cs) i start each is
 
--- A place for so many records on a tape of n records: it lies between the directory's end and the gate and meets no
--- slot that has records.
+-- A place for so many records on a tape of n records: it lies between the directory's end and the
+-- gate and meets no slot that has records.
 pub record IsPlace (n directory_end capacity : ℕ) (slots : List (List ℕ)) (count i start : ℕ) : Type 0 where
   pub candidate : IsCandidate capacity slots i
   pub low : directory_end ≤ start
@@ -174,7 +174,8 @@ fit_tells n low capacity slots count i start is =
     high_at k lt long on (inl e) = omega (arith, ap (λ (b : Bool). least_start (gate_of n) (if b then drop i slots else drop (suc i) slots)) e, behind_drop slots (gate_of n) i k (omega arith) long on)
     high_at k lt long on (inr e) = omega (arith, ap (λ (b : Bool). least_start (gate_of n) (if b then drop i slots else drop (suc i) slots)) e, behind_drop slots (gate_of n) (suc i) k (omega arith) long on)
 
--- a place meets no file: neither a live nor a purged slot that has records, other than the slot that it replaces
+-- a place meets no file: neither a live nor a purged slot that has records, other than the slot
+-- that it replaces
 pub place_is_free : (n directory_end capacity : ℕ) (slots : List (List ℕ)) (count i start k : ℕ) → IsPlace n directory_end capacity slots count i start → k < length slots → (k ≡ i → i ≡ redo_place slots)
     → has_records (get_or slots k []) ≡ true → (end_of (get_or slots k []) ≤ start) ⊎ (start + count ≤ start_of (get_or slots k []))
 place_is_free n low capacity slots count i start k place lt other on = elim (cases_eq k i) [

@@ -18,9 +18,9 @@ use Rattle.lif_model.specs.Writing.{format_changes}
 use Rattle.lif_model.proofs.Lists.{any_from}
 use Rattle.lif_model.proofs.Made.{new_type, new_size, typed_type, typed_size, fresh_start, fresh_length, fresh_size, piece_short, piece_size}
 use Rattle.lif_model.proofs.Files.{same_files, get_file, get_none}
-use Rattle.lif_model.proofs.Apply.{format_is_adopted, made_redo_entry, made_redo_file}
+use Rattle.lif_model.proofs.Apply.{format_is_adopted, made_redo_file}
 use Rattle.lif_model.proofs.Directory.{entries_count, entry_of_all, before_end_at, set_shape, AreWhole}
-use Rattle.lif_model.proofs.Written.{volume_by_parts}
+use Rattle.lif_model.proofs.Written.{volume_by_parts, made_redo_entry}
 
 -- ---- the directory's first record
 

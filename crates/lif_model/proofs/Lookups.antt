@@ -23,7 +23,8 @@ use Rattle.lif_model.proofs.Named.{not_found}
 
 -- ---- the slot of a name
 
--- What the place of a name's slot is, where a live file has that name (for `fetch`, `rename` and `purge`).
+-- What the place of a name's slot is, where a live file has that name (for `fetch`, `rename` and
+-- `purge`).
 pub record IsSlotOf (slots : List (List ℕ)) (name : List ℕ) (k : ℕ) : Type 0 where
   pub within : k < length slots
   pub live : is_live_named name (get_or slots k []) ≡ true
@@ -70,8 +71,9 @@ one_test n name slot off = elim (cases_Bool (bytes_eq (name_of slot) name)) [
     and_true true = refl
     and_true false = refl
 
--- The file of a name that is not the redo file's is the live slot of that name (for `fetch`, `rename` and `purge`, behind
--- the test for Protected; a volume without a redo file protects no name).
+-- The file of a name that is not the redo file's is the live slot of that name (for `fetch`,
+-- `rename` and `purge`, behind the test for Protected; a volume without a redo file protects no
+-- name).
 pub file_is_slot : (n : ℕ) (v : Volume) (name : List ℕ) → is_protected n v name ≡ false → file_named n v.slots name ≡ slot_named v.slots name
 file_is_slot n v name off = find_same (λ slot. is_file n slot && bytes_eq name (name_of slot)) (is_live_named name) v.slots (λ k lt.
     one_test n name (get_or v.slots k []) (λ named. not_redo k lt named))

@@ -3,7 +3,7 @@ use Rattle.std.proofs.Common.{◌≡◌, ◌≢◌, ◌<◌, ◌≤◌, ◌+◌,
 use Rattle.std.specs.Str.{bytes_eq}
 use Rattle.std.specs.Prelude.{option_map}
 use Rattle.std.specs.FinMap.{get}
-use Rattle.std.proofs.lemmas.Bool.{cases_eq, cases_lt, cases_Bool, and_parts, and_from, or_parts, and_left, and_right, not-true, not-false, not_from_true, not_from_false, false_from_ne_true, ne_eqb, eq-eqb, eqb-true, ltb-false}
+use Rattle.std.proofs.lemmas.Bool.{cases_eq, cases_lt, cases_Bool, and_parts, and_from, or_parts, and_left, and_right, not-false, not_from_true, not_from_false, false_from_ne_true, ne_eqb, eq-eqb, eqb-true, ltb-false}
 use Rattle.std.proofs.lemmas.List.{length_push, get_or_append_left, length-map, get_or-map}
 use Rattle.std.proofs.lemmas.List.Edits.{length-insert, get_or-insert_below, get_or-insert_above}
 use Rattle.std.proofs.lemmas.Slice.Eq.{bytes_eq-Decides}
@@ -22,7 +22,7 @@ use Rattle.lif_model.proofs.Slots.{live_named_tells, other_name, HasNew, set_new
 use Rattle.lif_model.proofs.Legal.{legal_tells}
 use Rattle.lif_model.proofs.Directory.{settled_shape}
 use Rattle.lif_model.proofs.Files.{get_file, get_none, get_stored, get_removed, get_moved}
-use Rattle.lif_model.proofs.Adopted.{redo_file_tells, redo_entry_tells, redo_place_is, one_of_name}
+use Rattle.lif_model.proofs.Adopted.{redo_file_tells, redo_entry_tells, redo_place_is, one_of_name, is_file_tells}
 use Rattle.lif_model.proofs.Apply.{NoneMet, none_met, made_redo_file, not_redo_name, store_has_place, stored_is_adopted, moved_is_two, upgraded_at, purged_is_dead, purge_is_adopted, rename_is_adopted, next_is_adopted, adopt_is_adopted}
 
 -- ---- the slot of a name
@@ -37,11 +37,8 @@ named_tells n name slot is = let both = and_parts (is_file n slot) _ is in (both
 named_from : (n : ℕ) (name slot : List ℕ) → is_file n slot ≡ true → name_of slot ≡ name → is_named n name slot ≡ true
 named_from n name slot file is = and_from _ _ file ((bytes_eq-Decides name (name_of slot)).1 (sym is))
 
-file_tells : (n : ℕ) (slot : List ℕ) → is_file n slot ≡ true → (is_live slot ≡ true) × (is_redo_file n slot ≡ false)
-file_tells n slot is = let both = and_parts (is_live slot) _ is in (both.0, not-true (is_redo_file n slot) both.1)
-
 -- a live slot of another name than the redo file's is a file
-file_from : (n : ℕ) (slot : List ℕ) → is_live slot ≡ true → name_of slot ≢ redo_name → is_file n slot ≡ true
+pub file_from : (n : ℕ) (slot : List ℕ) → is_live slot ≡ true → name_of slot ≢ redo_name → is_file n slot ≡ true
 file_from n slot live other = and_from _ _ live (not_from_false _ (false_from_ne_true _ (λ redo. other (redo_file_tells n slot redo).0)))
 
 found_at : (p : List ℕ → Bool) (xs : List (List ℕ)) (k : ℕ) → k < length xs → p (get_or xs k []) ≡ true → ((j : ℕ) → j < length xs → p (get_or xs j []) ≡ true → j ≡ k) → find p xs ≡ Some (get_or xs k [])
@@ -82,7 +79,7 @@ module _ (n : ℕ) (header : List ℕ) (slots : List (List ℕ)) (legal : IsLega
       live_of : (j : ℕ) → is_named n name (get_or slots j []) ≡ true → is_live_named name (get_or slots j []) ≡ true
       live_of j is =
           let both = named_tells n name (get_or slots j []) is in
-          and_from _ _ (file_tells n (get_or slots j []) both.0).0 ((bytes_eq-Decides (name_of (get_or slots j [])) name).1 both.1)
+          and_from _ _ (is_file_tells n (get_or slots j []) both.0).0 ((bytes_eq-Decides (name_of (get_or slots j [])) name).1 both.1)
 
 -- two legal directories with the same slots of a name
 same_named : (n : ℕ) (header : List ℕ) (slots later : List (List ℕ)) (name : List ℕ) → IsLegal n header slots → IsLegal n header later
@@ -124,7 +121,8 @@ names_of a b = elim (cases_Bool (bytes_eq a b)) [
 
 -- ---- store
 
--- one slot more, or another in place of one that was no file: the new slot has its name, and each other name its slot
+-- one slot more, or another in place of one that was no file: the new slot has its name, and each
+-- other name its slot
 new_named : (n : ℕ) (header : List ℕ) (slots later : List (List ℕ)) (name new : List ℕ) (i : ℕ) (old : ℕ → ℕ) → IsLegal n header slots → IsLegal n header later
     → HasNew slots later i new old → i < length later → is_file n new ≡ true → name_of new ≡ name
     → ((k : ℕ) → k < length slots → is_file n (get_or slots k []) ≡ true → (j : ℕ) × (j < length later) × (get_or later j [] ≡ get_or slots k []))
@@ -162,7 +160,7 @@ module _ (n : ℕ) (v : Volume) (name : List ℕ) (kind : ℕ) (implementation b
         new_named n v.header v.slots later name entry i (λ k. k) is.volume.legal legal_then (subst (λ (xs : List (List ℕ)). HasNew v.slots xs i entry (λ k. k)) (sym is_set) (set_new v.slots i entry purged.1))
         (omega (arith, long, purged.1)) entry_is_file entry_name
         (λ k lt on.
-        let off : k ≢ i = λ at. let both : true ≡ false = sym (file_tells n (get_or v.slots k []) on).0 ∙ not_from_true _ (ap (λ (j : ℕ). is_purged (get_or v.slots j [])) at ∙ purged.2) in cc in
+        let off : k ≢ i = λ at. let both : true ≡ false = sym (is_file_tells n (get_or v.slots k []) on).0 ∙ not_from_true _ (ap (λ (j : ℕ). is_purged (get_or v.slots j [])) at ∙ purged.2) in cc in
         (k, omega (arith, long, lt), ap (λ (xs : List (List ℕ)). get_or xs k []) is_set ∙ get_or-set_other v.slots i k entry [] off))
     | inr own ↦
         let is_insert : later ≡ insert v.slots i entry = ap (λ (b : Bool). if b then insert v.slots i entry else set v.slots i entry) (eq-eqb i (redo_place v.slots) own.0) in
@@ -187,7 +185,8 @@ module _ (n : ℕ) (v : Volume) (name : List ℕ) (kind : ℕ) (implementation b
   pub placed_others : (q : List ℕ) → q ≢ name → file_named n later q ≡ file_named n v.slots q
   placed_others = both_named.1
 
-  -- a file stored at a place leaves files and slots in step (for `store`, and for the parts of a batch)
+  -- a file stored at a place leaves files and slots in step (for `store`, and for the parts of a
+  -- batch)
   pub stored_has_files : HasFiles n v → HasFiles n (stored v name kind implementation bytes (At i start))
   stored_has_files has q = go (names_of q name)
     where
@@ -242,7 +241,7 @@ module _ (n : ℕ) (v : Volume) (name : List ℕ) (is : IsAdopted n v) (none : r
   stayed q j lt on =
       let place = at_purged j lt in
       let both = named_tells n q (get_or slots_purged j []) on in
-      let stays = dead j place.0 (sym (ap is_live place.1) ∙ (file_tells n (get_or slots_purged j []) both.0).0) in
+      let stays = dead j place.0 (sym (ap is_live place.1) ∙ (is_file_tells n (get_or slots_purged j []) both.0).0) in
       (place.0, place.1 ∙ stays.0, λ same. stays.1 (sym (ap name_of stays.0) ∙ sym (ap name_of place.1) ∙ both.1 ∙ same))
 
   -- a purged file is no file
@@ -298,7 +297,7 @@ module _ (n : ℕ) (v : Volume) (old later : List ℕ) (ten : length later ≡ 1
         let place = at_then j less in
         let both = named_tells n old (get_or slots_then j []) here in
         let kept = not_renamed j old (sym (ap name_of place.1) ∙ both.1) apart in
-        let live : is_live (get_or v.slots j []) ≡ true = sym (ap is_live kept.0) ∙ sym (ap is_live place.1) ∙ (file_tells n (get_or slots_then j []) both.0).0 in
+        let live : is_live (get_or v.slots j []) ≡ true = sym (ap is_live kept.0) ∙ sym (ap is_live place.1) ∙ (is_file_tells n (get_or slots_then j []) both.0).0 in
         other_name old (get_or v.slots j []) kept.1 live (sym (ap name_of kept.0) ∙ sym (ap name_of place.1) ∙ both.1))),
     λ q off apart_old. same_named n v.header v.slots slots_then q legal legal_then
         (λ j less here.
@@ -326,7 +325,8 @@ module _ (n : ℕ) (v : Volume) (old later : List ℕ) (ten : length later ≡ 1
           let live : is_live (with_name later (get_or v.slots k [])) ≡ true = ap (λ (t : ℕ). not (nat_eq t 0)) (named_type later (get_or v.slots k []) ten) ∙ (live_named_tells old (get_or v.slots k []) on).0 in
           file_from n (with_name later (get_or v.slots k [])) live (λ redo. off_later (sym named ∙ redo))
 
--- a rename that is not refused, to another name: the slot of the old name, and what each name has then
+-- a rename that is not refused, to another name: the slot of the old name, and what each name has
+-- then
 pub record IsRenamed (n : ℕ) (v : Volume) (old later slot : List ℕ) : Type 0 where
   pub was : file_named n v.slots old ≡ Some slot
   pub here : file_named n (with_slot old (with_name later) v.slots) later ≡ Some (with_name later slot)
@@ -436,14 +436,14 @@ upgraded_named n v is old none q = same_named n v.header v.slots (upgraded n v).
       k,
       omega (arith, lt, long),
       stays k (λ e.
-          let no : true ≡ false = sym (redo_place_is n v is).1 ∙ sym (ap (λ (m : ℕ). is_redo_file n (get_or v.slots m [])) e) ∙ (file_tells n (get_or v.slots k []) (named_tells n q (get_or v.slots k []) on).0).1 in cc),
+          let no : true ≡ false = sym (redo_place_is n v is).1 ∙ sym (ap (λ (m : ℕ). is_redo_file n (get_or v.slots m [])) e) ∙ (is_file_tells n (get_or v.slots k []) (named_tells n q (get_or v.slots k []) on).0).1 in cc),
     ))
     (λ j lt on. (
       j,
       omega (arith, lt, long),
       stays j (λ e.
           let moved : is_redo_file n (get_or (upgraded n v).slots j []) ≡ true = ap (is_redo_file n) (ap (λ (m : ℕ). get_or (upgraded n v).slots m []) e ∙ here) ∙ (redo_entry_tells n Two new (moved_is_two n v is clear)).0 in
-          let no : true ≡ false = sym moved ∙ (file_tells n (get_or (upgraded n v).slots j []) (named_tells n q (get_or (upgraded n v).slots j []) on).0).1 in cc),
+          let no : true ≡ false = sym moved ∙ (is_file_tells n (get_or (upgraded n v).slots j []) (named_tells n q (get_or (upgraded n v).slots j []) on).0).1 in cc),
     ))
   where
     clear : runs_past_redo n v ≡ false
@@ -512,7 +512,7 @@ volume_in_files n u v is e q = go (is_legal u) refl e
         whole : (slot : List ℕ) → IsLegal n (record_at u 0) (slots_of u) → (k : ℕ) → k < length (slots_of u) → is_file n (get_or (slots_of u) k []) ≡ true → (b : Bool) → has_records (get_or (slots_of u) k []) ≡ b
             → length (content_of u (get_or (slots_of u) k [])) ≡ 256 * length_of (get_or (slots_of u) k [])
         whole slot reads k lt file true on =
-            let within = reads.within k lt (and_from _ _ (file_tells n (get_or (slots_of u) k []) file).0 on) in
+            let within = reads.within k lt (and_from _ _ (is_file_tells n (get_or (slots_of u) k []) file).0 on) in
             content_size n u (start_of (get_or (slots_of u) k [])) (length_of (get_or (slots_of u) k [])) is within.1
         whole slot reads k lt file false off =
             let none : length_of (get_or (slots_of u) k []) ≡ 0 = omega (arith, ltb-false 0 (length_of (get_or (slots_of u) k [])) off) in

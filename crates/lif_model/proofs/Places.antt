@@ -1,4 +1,5 @@
--- The records of a place for a new file: nobody uses them, and while they are written the volume stays.
+-- The records of a place for a new file: nobody uses them, and while they are written the volume
+-- stays.
 use Rattle.std.proofs.Common.{◌≡◌, ◌≢◌, ◌⊎◌, ◌<◌, ◌≤◌, ◌+◌, ◌&&◌, ◌==◌, ℕ, List, [], Bool, true, false, not, MatchBool, Some, length, get_or, take, inl, inr, refl, sym, ◌∙◌, ap, subst, arith, nat_lt, nat_le}
 use Rattle.std.proofs.lemmas.Bool.{cases_lt, and_parts, or_cases, ltb-true, lt-ltb, eqb-true, false_from_ne_true, not_from_true}
 use Rattle.std.proofs.lemmas.List.{length-take-le}
@@ -113,14 +114,16 @@ place_unused n u v version count i start k tape told adopted place from under = 
 
 -- ---- records that are written aside
 
--- A tape that agrees with a settled one on the records that its volume uses, on the gate and on the targets record.
+-- A tape that agrees with a settled one on the records that its volume uses, on the gate and on the
+-- targets record.
 pub record IsAside (u c : Tape) : Type 0 where
   pub records : length c ≡ length u
   pub used : (k : ℕ) → is_used u k ≡ true → record_at c k ≡ record_at u k
   pub gate : record_at c (gate_of (length u)) ≡ record_at u (gate_of (length u))
   pub targets : record_at c (targets_place (length u)) ≡ record_at u (targets_place (length u))
 
--- it is settled, has the same volume, and its gate is no other file's (for stops and troubles while `store` writes a file)
+-- it is settled, has the same volume, and its gate is no other file's (for stops and troubles while
+-- `store` writes a file)
 pub aside : (u c : Tape) → IsSettled u → IsAside u c → (redo_of c ≡ []) × (volume_of c ≡ volume_of u) × (is_foreign_gated c ≡ false)
 aside u c is same =
     let quiet : redo_of c ≡ [] = quiet_agree u c is same.records same.gate same.targets in (
@@ -149,23 +152,26 @@ partly_elsewhere first pieces old new k partly out = go (nat_lt partly.count (le
         (torn.records ∙ partly.replaced.records, torn.elsewhere k (λ at. elim out [ inl less ↦ absurd (omega (arith, at, less)) | inr more ↦ absurd (omega (arith, at, more, under)) ]) ∙ before)
     go false e same = (ap (λ (t : Tape). length t) same ∙ partly.replaced.records, ap (λ (t : Tape). record_at t k) same ∙ before)
 
-module _ (n : ℕ) (u : Tape) (v : Volume) (i start : ℕ) (pieces : List (List ℕ)) (tape : IsTape n u) (told : volume_in u ≡ Some v) (adopted : is_adopted n v.slots ≡ true)
-    (place : IsPlaceIn n v (length pieces) i start) where
-  -- a tape that keeps every record outside a place
-  kept_aside : (c : Tape) → length c ≡ length u → ((k : ℕ) → (k < start) ⊎ (start + length pieces ≤ k) → record_at c k ≡ record_at u k) → IsAside u c
+pub aside_here : (u : Tape) → IsAside u u
+aside_here u = record { records = refl; used = λ k on. refl; gate = refl; targets = refl }
+
+-- One run more at spare records, behind others that were written aside (for each file of a command
+-- that writes several).
+module _ (version : Version) (u t : Tape) (start : ℕ) (pieces : List (List ℕ)) (spare : (k : ℕ) → start ≤ k → k < start + length pieces → IsSpare version u k) (so_far : IsAside u t) where
+  kept_aside : (c : Tape) → length c ≡ length t → ((k : ℕ) → (k < start) ⊎ (start + length pieces ≤ k) → record_at c k ≡ record_at t k) → IsAside u c
   kept_aside c long kept = record {
-    records = long;
+    records = long ∙ so_far.records;
     used = λ k on. elim (sides k) [
       | inl within ↦ let no : true ≡ false = sym on ∙ (spare k within.0 within.1).unused in cc
-      | inr out ↦ kept k out
+      | inr out ↦ kept k out ∙ so_far.used k on
     ];
     gate = elim (sides (gate_of (length u))) [
       | inl within ↦ absurd ((spare (gate_of (length u)) within.0 within.1).off_gate refl)
-      | inr out ↦ kept (gate_of (length u)) out
+      | inr out ↦ kept (gate_of (length u)) out ∙ so_far.gate
     ];
     targets = elim (sides (targets_place (length u))) [
       | inl within ↦ absurd ((spare (targets_place (length u)) within.0 within.1).off_targets refl)
-      | inr out ↦ kept (targets_place (length u)) out
+      | inr out ↦ kept (targets_place (length u)) out ∙ so_far.targets
     ];
   }
     where
@@ -175,16 +181,27 @@ module _ (n : ℕ) (u : Tape) (v : Volume) (i start : ℕ) (pieces : List (List 
         | inr from ↦ elim (cases_lt k (start + length pieces)) [ inl under ↦ inl (from, under) | inr past ↦ inr (inr past) ]
       ]
 
-      spare : (k : ℕ) → start ≤ k → k < start + length pieces → IsSpare (adopted_version n v.slots adopted).0 u k
-      spare k from under = place_unused n u v (adopted_version n v.slots adopted).0 (length pieces) i start k tape told (adopted_version n v.slots adopted).1 place from under
+  -- the whole run
+  pub aside_written : (c : Tape) → Replaced start pieces t c → IsAside u c
+  aside_written c done = kept_aside c done.records (λ k out. elim out [ inl less ↦ done.before k less | inr more ↦ done.behind k more ])
 
-  -- all records of a file written at a place (for the commit of `store`, which follows)
-  pub written_aside : (c : Tape) → Replaced start pieces u c → IsAside u c
-  written_aside c done = kept_aside c done.records (λ k out. elim out [ inl less ↦ done.before k less | inr more ↦ done.behind k more ])
-
-  -- some of them, and the next one torn (for a stop or a trouble while `store` writes them)
-  pub partly_aside : (c : Tape) → PartlyReplaced start pieces u c → IsAside u c
-  partly_aside c partly = kept_aside c (long partly) (λ k out. (partly_elsewhere start pieces u c k partly out).1)
+  -- some of its records, and the next one torn
+  pub aside_partly : (c : Tape) → PartlyReplaced start pieces t c → IsAside u c
+  aside_partly c partly = kept_aside c (long partly) (λ k out. (partly_elsewhere start pieces t c k partly out).1)
     where
-      long : PartlyReplaced start pieces u c → length c ≡ length u
-      long partly = (partly_elsewhere start pieces u c (start + length pieces) partly (inr (omega arith))).0
+      long : PartlyReplaced start pieces t c → length c ≡ length t
+      long partly = (partly_elsewhere start pieces t c (start + length pieces) partly (inr (omega arith))).0
+
+-- a file at a place
+module _ (n : ℕ) (u : Tape) (v : Volume) (i start : ℕ) (pieces : List (List ℕ)) (tape : IsTape n u) (told : volume_in u ≡ Some v) (adopted : is_adopted n v.slots ≡ true)
+    (place : IsPlaceIn n v (length pieces) i start) where
+  spare_here : (k : ℕ) → start ≤ k → k < start + length pieces → IsSpare (adopted_version n v.slots adopted).0 u k
+  spare_here k from under = place_unused n u v (adopted_version n v.slots adopted).0 (length pieces) i start k tape told (adopted_version n v.slots adopted).1 place from under
+
+  -- all its records are written (for the commit of `store`, which follows)
+  pub written_aside : (c : Tape) → Replaced start pieces u c → IsAside u c
+  written_aside = aside_written (adopted_version n v.slots adopted).0 u u start pieces spare_here (aside_here u)
+
+  -- some of them, and the next one is torn (for a stop or a trouble while `store` writes them)
+  pub partly_aside : (c : Tape) → PartlyReplaced start pieces u c → IsAside u c
+  partly_aside = aside_partly (adopted_version n v.slots adopted).0 u u start pieces spare_here (aside_here u)

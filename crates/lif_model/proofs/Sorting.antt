@@ -1,5 +1,5 @@
--- The test for a legal directory by sorting: where live slots are listed by their starts, and by their names, it is enough
--- to test neighbours. A disc's directory may have many thousand slots.
+-- The test for a legal directory by sorting: where live slots are listed by their starts, and by
+-- their names, it is enough to test neighbours. A disc's directory may have many thousand slots.
 use Rattle.std.proofs.Common.{◌≡◌, ◌≢◌, ◌<◌, ◌≤◌, ◌&&◌, ◌||◌, ℕ, suc, List, [], Bool, true, false, not, length, filter, get_or, set, inl, inr, refl, sym, ◌∙◌, ap, subst, arith, nat_le, length-set, get_or-set_same, get_or-set_other, Ordering, Less, Equal, Greater, map, ◌∷◌}
 use Rattle.std.specs.Prelude.{All}
 use Rattle.std.specs.List.{list_all}
@@ -111,7 +111,8 @@ pairs_mapped {X} f test (x ∷ xs) = let rest = pairs_mapped f test xs in λ i. 
 -- ---- neighbours
 
 module _ {X : Type 0} (d : X) where
-  -- where an element that passes with the next one passes with all behind that, neighbours tell of all pairs
+  -- where an element that passes with the next one passes with all behind that, neighbours tell of
+  -- all pairs
   by_neighbours : (test : X → X → Bool) (xs : List X)
       → ((i k : ℕ) → suc i < k → k < length xs → test (get_or xs i d) (get_or xs (suc i) d) ≡ true → test (get_or xs i d) (get_or xs k d) ≡ true) → all_pairs test xs ≡ all_neighbours test xs
   by_neighbours test xs further = both_ways (all_pairs test xs) (all_neighbours test xs)
@@ -129,8 +130,8 @@ module _ {X : Type 0} (d : X) where
       (λ all. (neighbours_tell d other xs).1 (λ i lt. sym (same i lt) ∙ (neighbours_tell d test xs).0 all i lt))
       (λ all. (neighbours_tell d test xs).1 (λ i lt. same i lt ∙ (neighbours_tell d other xs).0 all i lt))
 
-  -- Extents that are not empty, in any order and by their starts: no two overlap exactly where each ends at or before the
-  -- start of the next.
+  -- Extents that are not empty, in any order and by their starts: no two overlap exactly where each
+  -- ends at or before the start of the next.
   pub apart_by_starts : (start end : X → ℕ) (xs by_start : List X) → IsPermutation xs by_start → IsNonDecreasingBy start by_start → All (λ x. start x < end x) xs
       → all_pairs (λ a b. nat_le (end a) (start b) || nat_le (end b) (start a)) xs ≡ all_neighbours (λ a b. nat_le (end a) (start b)) by_start
   apart_by_starts start end xs ys same rising filled =
@@ -158,7 +159,8 @@ module _ {X : Type 0} (d : X) where
             | inr e ↦ absurd (omega (arith, leb-true (end (get_or ys j d)) (start (get_or ys i d)) e, some, rising i j d le lt))
           ]
 
-  -- values with names, in any order and by their names: no two have one name exactly where no neighbours do
+  -- values with names, in any order and by their names: no two have one name exactly where no
+  -- neighbours do
   pub distinct_by_names : (name : X → List ℕ) (xs by_name : List X) → IsPermutation xs by_name → IsSortedByKey name (slice_cmp nat_cmp) by_name
       → all_pairs (λ a b. not (bytes_eq (name a) (name b))) xs ≡ all_neighbours (λ a b. not (bytes_eq (name a) (name b))) by_name
   distinct_by_names name xs ys same rising =
@@ -215,8 +217,8 @@ legal_by_sorting n header slots by_start by_name starts rising names ordered =
     let distinct = names_by_sorting slots by_name names ordered in
     λ i. is_readable n header && (list_all (lies_between (directory_end header) n) (filter occupies slots) && (apart i && distinct i))
 
--- The same where values stand for the slots, as their places do: the code sorts these, and the slots stay (for the test
--- for NotLif).
+-- The same where values stand for the slots, as their places do: the code sorts these, and the
+-- slots stay (for the test for NotLif).
 pub legal_by_keys : {X : Type 0} (d : X) (slot : X → List ℕ) (n : ℕ) (header : List ℕ) (slots : List (List ℕ)) (occupied by_start live by_name : List X)
     → map slot occupied ≡ filter occupies slots → IsPermutation occupied by_start → IsNonDecreasingBy (λ x. start_of (slot x)) by_start
     → map slot live ≡ filter is_live slots → IsPermutation live by_name → IsSortedByKey (λ x. name_of (slot x)) (slice_cmp nat_cmp) by_name

@@ -1,8 +1,8 @@
 -- The volume of the tape that a command makes.
-use Rattle.std.proofs.Common.{◌≡◌, ◌≢◌, ◌<◌, ◌≤◌, ◌++◌, ◌==◌, ℕ, List, [], ◌∷◌, Bool, true, false, if◌then◌else◌, Some, None, length, get_or, set, replicate, inr, refl, sym, ◌∙◌, ap, subst, arith, length-set, get_or-set_other}
+use Rattle.std.proofs.Common.{◌≡◌, ◌≢◌, ◌<◌, ◌≤◌, ◌++◌, ◌==◌, ◌||◌, ℕ, List, [], ◌∷◌, Bool, true, false, if◌then◌else◌, Some, None, length, get_or, set, replicate, inl, inr, refl, sym, ◌∙◌, ap, subst, arith, length-set, get_or-set_other}
 use Rattle.std.specs.Str.{bytes_eq}
 use Rattle.std.specs.FinMap.{get, remove}
-use Rattle.std.proofs.lemmas.Bool.{or_parts, not-false, leb-false}
+use Rattle.std.proofs.lemmas.Bool.{or_cases, or_parts, not-false, leb-false}
 use Rattle.std.proofs.lemmas.List.{length_push, get_or_append_left}
 use Rattle.std.proofs.lemmas.Slice.Eq.{bytes_eq-Decides}
 use Rattle.lif_model.specs.Tape.{Tape, IsTape, record_at}
@@ -18,9 +18,9 @@ use Rattle.lif_model.specs.Writing.{entry_on, last_slot, place_named, changed_sl
 use Rattle.lif_model.proofs.Lists.{any_at, any_from}
 use Rattle.lif_model.proofs.Legal.{legal_from}
 use Rattle.lif_model.proofs.Slots.{live_named_tells, push_new}
-use Rattle.lif_model.proofs.Made.{new_type, new_size, named_type, named_size, typed_type, typed_size, extent_type, extent_size}
+use Rattle.lif_model.proofs.Made.{new_type, new_length, new_size, named_type, named_size, typed_type, typed_size, extent_type, extent_size}
 use Rattle.lif_model.proofs.Files.{same_files}
-use Rattle.lif_model.proofs.Apply.{NoneMet, none_met, made_redo_entry, not_redo_name, purge_is_adopted, rename_is_adopted, adopt_unmet, adopt_is_adopted, upgrade_is_two}
+use Rattle.lif_model.proofs.Apply.{NoneMet, none_met, made_redo_file, not_redo_name, purge_is_adopted, rename_is_adopted, adopt_unmet, adopt_is_adopted, upgrade_is_two}
 use Rattle.lif_model.proofs.Adopted.{redo_file_tells, redo_file_is_named, redo_place_is, redo_entry_tells, with_slot_at}
 use Rattle.lif_model.proofs.Content.{files_purged, files_renamed, files_adopted, files_upgraded}
 use Rattle.lif_model.proofs.Directory.{volume_tells, volume_from}
@@ -245,6 +245,16 @@ module _ (n : ℕ) (u : Tape) (v : Volume) (tape : IsTape n u) (is : volume_in u
           (subst (λ (x : Tape). IsTape n x × (volume_in x ≡ Some (upgraded n v))) (sym (changes_here ws are))
           (set_volume r moved (upgraded n v).slots v.files place.0 size kind (sym (with_slot_at n v.header v.slots redo_name (upgraded_entry n) r on.volume.legal place.0 (redo_file_is_named n slot place.1))) legal
           (files_upgraded n v whole u (with_slots (directory_start v.header) ws u) tape.records (length_slots (directory_start v.header) ws u ∙ tape.records) (λ j le under. behind_stays u ws j are le) e none ∙ sym kept_files)))
+
+-- the entry that this project makes is one of version 1: it is too short for one of version 2
+pub made_redo_entry : (n : ℕ) → is_redo_entry n One (redo_entry One n) ≡ true
+made_redo_entry n = elim (or_cases (is_redo_entry n One (redo_entry One n)) (is_redo_entry n Two (redo_entry One n) || false) (made_redo_file n)) [
+  | inl one ↦ one
+  | inr rest ↦ elim (or_cases (is_redo_entry n Two (redo_entry One n)) false rest) [
+    | inl two ↦ absurd (omega (arith, (redo_entry_tells n Two (redo_entry One n) two).3, new_length redo_name redo_type (redo_start One n) 4 (replicate 4 0) refl))
+    | inr none ↦ let no : false ≡ true = none in cc
+  ]
+]
 
 -- a volume without a redo file is adopted with version 1 then
 pub adopt_adopts : (n : ℕ) (v : Volume) → is_adopted n v.slots ≡ false → is_adopted_with n One (volume_after n Adopt v).slots ≡ true
