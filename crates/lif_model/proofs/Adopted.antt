@@ -134,7 +134,7 @@ holds_tells k slot is = let both = and_parts _ _ is in (leb-true (start_of slot)
 
 module _ (version : Version) (n : ℕ) (header : List ℕ) (slots : List (List ℕ)) (legal : IsLegal n header slots) (p : ℕ) (lt : p < length slots) (redo : is_redo_entry n version (get_or slots p []) ≡ true) where
   -- the redo file stands behind the directory
-  pub redo_behind : (directory_end header ≤ redo_start version n) × (redo_start version n + redo_length version ≤ n)
+  redo_behind : (directory_end header ≤ redo_start version n) × (redo_start version n + redo_length version ≤ n)
   redo_behind =
       let entry = redo_entry_tells n version (get_or slots p []) redo in
       let within = legal.within p lt entry.1 in

@@ -10,20 +10,23 @@ use Rattle.lif_model.specs.Gate.{gate_of}
 use Rattle.lif_model.specs.Header.{directory_start, directory_length, directory_end, capacity_of}
 use Rattle.lif_model.specs.Directory.{slots_of}
 use Rattle.lif_model.specs.Made.{new_entry, with_name, with_type, file_length, file_records}
-use Rattle.lif_model.specs.Redo.{Version, One, Two, redo_start, most_targets, Changes, changed}
+use Rattle.lif_model.specs.Redo.{Version, One, Two, redo_start, most_targets, Changes, changed, IsSettled}
 use Rattle.lif_model.specs.Commit.{AreChanges, SettlesBelow, IsOldOrNew, IsCommitted, IsTarget}
+use Rattle.lif_model.specs.Transfers.{Replaced, PartlyReplaced}
 use Rattle.lif_model.specs.Legal.{occupies, end_of, is_live_named, has_file, is_legal}
 use Rattle.lif_model.specs.Volume.{redo_name, redo_entry, upgraded_entry, is_redo_entry, IsAdopted, files_of, is_adopted_with, is_adopted, Volume, volume_in, volume_of, is_foreign_gated}
-use Rattle.lif_model.specs.Fit.{Place, At, redo_place}
+use Rattle.lif_model.specs.Fit.{Place, At, redo_place, fit_in}
 use Rattle.lif_model.specs.Apply.{Refusal, VolumeCommand, Dir, Label, Fetch, Store, Rename, Purge, Adopt, Upgrade, Format, IsWellFormed, is_upgraded, upgraded, lacks_redo, runs_past_gate, is_too_long, checks_of, refusal_of, fresh_volume, stored, renamed, volume_after}
 use Rattle.lif_model.specs.Writing.{slot_record, entry_from, entry_on, SlotWrites, touched, changes_by, last_slot, stored_writes, changed_slot, slot_writes, with_file, IsFileRecord, format_changes, changes_at, chosen_place, changes_of, written_by}
-use Rattle.lif_model.proofs.Fit.{IsCandidate, IsPlaceIn}
+use Rattle.lif_model.proofs.Fit.{IsCandidate, IsPlaceIn, fit_tells}
 use Rattle.lif_model.proofs.Apply.{NoneMet, none_met, upgrade_is_two}
-use Rattle.lif_model.proofs.Adopted.{redo_behind, settles_below_other, upgrade_old_or_new}
+use Rattle.lif_model.proofs.Adopted.{ends_before_redo, settles_below_other, upgrade_old_or_new}
 use Rattle.lif_model.proofs.Lists.{any_at}
 use Rattle.lif_model.proofs.Directory.{AreWhole, volume_tells, volume_from, volume_in_is}
 use Rattle.lif_model.proofs.Writing.{AreEntries, WritesWithin, last_written, touches_two, changes_are, changes_whole}
 use Rattle.lif_model.proofs.Slotted.{IsOn, is_on, last_end_is}
+use Rattle.lif_model.proofs.Places.{aside, partly_aside, written_aside}
+use Rattle.lif_model.proofs.Redo.{settled_none}
 use Rattle.lif_model.proofs.Written.{Makes, nothing_makes, purge_entries, purge_makes, rename_entries, rename_makes, adopt_entries, adopt_has_slot, adopt_makes, upgrade_entries, upgrade_makes, adopt_adopts}
 use Rattle.lif_model.proofs.Formatted.{format_makes}
 use Rattle.lif_model.proofs.StoredFile.{stored_entries, storable, store_makes}
@@ -106,9 +109,7 @@ module _ (n : ℕ) (u : Tape) (v : Volume) (tape : IsTape n u) (is : volume_in u
 
   -- the directory ends before the redo file
   pub directory_below : (version : Version) → is_adopted_with n version v.slots ≡ true → directory_end v.header ≤ redo_start version n
-  directory_below version adopted =
-      let found = any_at [] (is_redo_entry n version) v.slots adopted in
-      (redo_behind version n v.header v.slots on.volume.legal found.0 found.1 found.2).0
+  directory_below version adopted = (ends_before_redo version n v on.volume adopted).0
 
   -- before a volume is adopted, it ends before that of version 1
   pub directory_before_gate : directory_end v.header ≤ redo_start One n
@@ -207,6 +208,10 @@ module _ (n : ℕ) (u : Tape) (v : Volume) (tape : IsTape n u) (is : volume_in u
 
   -- ---- the file first
 
+  place_of_records : (bytes : List ℕ) (i first : ℕ) → fit_in n v (file_length bytes) ≡ At i first → IsPlaceIn n v (length (file_records bytes)) i first
+  place_of_records bytes i first chosen =
+      subst (λ (count : ℕ). IsPlaceIn n v count i first) (sym (records_count bytes)) (fit_tells n (directory_end v.header) (capacity_of v.header) v.slots (file_length bytes) i first chosen)
+
   -- the tape with the file of a store has the volume before it
   pub file_first : (command : VolumeCommand) → IsWellFormed command → refusal_of n command (Some v) ≡ None
       → IsTape n (with_file command (chosen_place n command v) u) × (volume_in (with_file command (chosen_place n command v) u) ≡ Some v)
@@ -222,6 +227,19 @@ module _ (n : ℕ) (u : Tape) (v : Volume) (tape : IsTape n u) (is : volume_in u
   file_first Adopt formed none = (tape, is)
   file_first Upgrade formed none = (tape, is)
   file_first (Format label slots) formed none = (tape, is)
+
+  -- a stop or a trouble while it is written leaves the volume, and no gate that is not ours
+  pub file_stops : (name : List ℕ) (kind : ℕ) (implementation bytes : List ℕ) (i first : ℕ) (c : Tape) → IsSettled u → refusal_of n (Store name kind implementation bytes) (Some v) ≡ None
+      → fit_in n v (file_length bytes) ≡ At i first → PartlyReplaced first (file_records bytes) u c → (volume_of c ≡ Some v) × (is_foreign_gated c ≡ false)
+  file_stops name kind implementation bytes i first c settled none chosen partly =
+      let same = aside u c settled (partly_aside n u v i first (file_records bytes) tape is (storable n v name kind implementation bytes none).adopted (place_of_records bytes i first chosen) c partly) in
+      (same.1 ∙ ap volume_in settled ∙ is, same.2)
+
+  -- and behind it the tape is settled, as a commit wants it
+  pub file_settled : (name : List ℕ) (kind : ℕ) (implementation bytes : List ℕ) (i first : ℕ) (t : Tape) → IsSettled u → refusal_of n (Store name kind implementation bytes) (Some v) ≡ None
+      → fit_in n v (file_length bytes) ≡ At i first → Replaced first (file_records bytes) u t → IsSettled t
+  file_settled name kind implementation bytes i first t settled none chosen done = settled_none t
+      (aside u t settled (written_aside n u v i first (file_records bytes) tape is (storable n v name kind implementation bytes none).adopted (place_of_records bytes i first chosen) t done)).0
 
   -- ---- the tape that a command makes
 
