@@ -31,7 +31,8 @@ end_size : length end_entry ≡ 32
 end_size = typed_size 0xFFFF (replicate 32 0)
 
 -- it begins with that entry and an end
-first_is : (entry : List ℕ) → length entry ≡ 32 → (entry_at (first_directory_record entry) 0 ≡ entry) × (entry_at (first_directory_record entry) 1 ≡ end_entry)
+first_is : (entry : List ℕ) → length entry ≡ 32
+    → (entry_at (first_directory_record entry) 0 ≡ entry) × (entry_at (first_directory_record entry) 1 ≡ end_entry)
 unfolding first_directory_record entry_at
 first_is entry size =
     let sum : length (entry ++ end_entry) ≡ 64 = length-append entry end_entry ∙ omega (arith, size, end_size) in

@@ -74,12 +74,14 @@ touched_more start (v ∷ ws) w = ap (λ (ks : List ℕ). q ∷ filter (λ k. no
         behind false (inl e) = []
         behind false (inr ne) = r ∷ []
 
-        left : (b : Bool) (same : (r ≡ q) ⊎ (r ≡ q → ⊥)) → filter (λ k. not (nat_eq k q)) (ks ++ (if b then [] else r ∷ [])) ≡ filter (λ k. not (nat_eq k q)) ks ++ behind b same
+        left : (b : Bool) (same : (r ≡ q) ⊎ (r ≡ q → ⊥))
+            → filter (λ k. not (nat_eq k q)) (ks ++ (if b then [] else r ∷ [])) ≡ filter (λ k. not (nat_eq k q)) ks ++ behind b same
         left true same = ap (filter (λ k. not (nat_eq k q))) (append-nil ks) ∙ sym (append-nil (filter (λ k. not (nat_eq k q)) ks))
         left false (inl e) = filter_push (λ k. not (nat_eq k q)) ks r ∙ ap (λ (c : Bool). filter (λ k. not (nat_eq k q)) ks ++ (if not c then r ∷ [] else [])) (eq-eqb r q e)
         left false (inr ne) = filter_push (λ k. not (nat_eq k q)) ks r ∙ ap (λ (c : Bool). filter (λ k. not (nat_eq k q)) ks ++ (if not c then r ∷ [] else [])) (ne_eqb r q ne)
 
-        right : (b : Bool) → is_among ks r ≡ b → (same : (r ≡ q) ⊎ (r ≡ q → ⊥)) → (if nat_eq q r || is_among (filter (λ k. not (nat_eq k q)) ks) r then [] else r ∷ []) ≡ behind b same
+        right : (b : Bool) → is_among ks r ≡ b → (same : (r ≡ q) ⊎ (r ≡ q → ⊥))
+            → (if nat_eq q r || is_among (filter (λ k. not (nat_eq k q)) ks) r then [] else r ∷ []) ≡ behind b same
         right true among (inl e) = ap (λ (c : Bool). if c || is_among (filter (λ k. not (nat_eq k q)) ks) r then [] else r ∷ []) (eq-eqb q r (sym e))
         right false among (inl e) = ap (λ (c : Bool). if c || is_among (filter (λ k. not (nat_eq k q)) ks) r then [] else r ∷ []) (eq-eqb q r (sym e))
         right true among (inr ne) = ap (λ (c : Bool). if nat_eq q r || c then [] else r ∷ []) (among_filter q ks r ne ∙ among) ∙ ap (λ (c : Bool). if c || true then [] else r ∷ []) (ne_eqb q r (λ e. ne (sym e)))
@@ -88,7 +90,8 @@ touched_more start (v ∷ ws) w = ap (λ (ks : List ℕ). q ∷ filter (λ k. no
 -- ---- what the changes are then
 
 -- each record of a list but one is the same on two tapes
-records_same : (r : ℕ) (ks : List ℕ) (x y : Tape) → AreOther ks r → ((k : ℕ) → k ≢ r → record_at y k ≡ record_at x k) → records_on y ks ≡ records_on x ks
+records_same : (r : ℕ) (ks : List ℕ) (x y : Tape) → AreOther ks r → ((k : ℕ) → k ≢ r → record_at y k ≡ record_at x k)
+    → records_on y ks ≡ records_on x ks
 records_same r [] x y others same = refl
 records_same r (k ∷ ks) x y others same =
     let here : record_at y k ≡ record_at x k = same k (λ e. others.0 (sym e)) in
@@ -104,7 +107,8 @@ other_at [] r p others lt = absurd (omega (arith, lt))
 other_at (k ∷ ks) r zero others lt = λ e. others.0 (sym e)
 other_at (k ∷ ks) r (suc p) others lt = other_at ks r p others.1 (omega (arith, lt))
 
-records_set : (r : ℕ) (bytes : List ℕ) (ks : List ℕ) (p : ℕ) (x y : Tape) → all_pairs are_two ks ≡ true → p < length ks → get_or ks p 0 ≡ r → record_at y r ≡ bytes → ((k : ℕ) → k ≢ r → record_at y k ≡ record_at x k)
+records_set : (r : ℕ) (bytes : List ℕ) (ks : List ℕ) (p : ℕ) (x y : Tape) → all_pairs are_two ks ≡ true → p < length ks → get_or ks p 0 ≡ r
+    → record_at y r ≡ bytes → ((k : ℕ) → k ≢ r → record_at y k ≡ record_at x k)
     → records_on y ks ≡ set (records_on x ks) p (r, bytes)
 records_set r bytes [] p x y two lt at here same = absurd (omega (arith, lt))
 records_set r bytes (k ∷ ks) zero x y two lt at here same =
@@ -182,7 +186,8 @@ module _ (start : ℕ) (ws : SlotWrites) (w : ℕ × List ℕ) (u : Tape) (withi
 
 -- ---- files first
 
-records_set_below : (first : ℕ) (rs : List (List ℕ)) (t : Tape) (k : ℕ) (bytes : List ℕ) → k < first → with_records first rs (set t k bytes) ≡ set (with_records first rs t) k bytes
+records_set_below : (first : ℕ) (rs : List (List ℕ)) (t : Tape) (k : ℕ) (bytes : List ℕ) → k < first
+    → with_records first rs (set t k bytes) ≡ set (with_records first rs t) k bytes
 records_set_below first [] t k bytes lt = refl
 records_set_below first (r ∷ rs) t k bytes lt =
     ap (with_records (suc first) rs) (set_comm t k first bytes r (λ e. absurd (omega (arith, e, lt)))) ∙ records_set_below (suc first) rs (set t first r) k bytes (omega (arith, lt))
@@ -201,7 +206,8 @@ files_come_first start room first (w ∷ ws) rs t are le =
 
 -- What a further part makes of the tape that the parts before it made is the tape with all their files and all their slots;
 -- so one commit of all these slots, behind all the files, makes the same.
-pub parts_join : (start room n first : ℕ) (ws more : SlotWrites) (rs : List (List ℕ)) (t : Tape) → AreEntries (8 * room) ws → AreEntries (8 * room) more → start + room ≤ n → start + room ≤ first → length t ≡ n
+pub parts_join : (start room n first : ℕ) (ws more : SlotWrites) (rs : List (List ℕ)) (t : Tape) → AreEntries (8 * room) ws
+    → AreEntries (8 * room) more → start + room ≤ n → start + room ≤ first → length t ≡ n
     → changed (changes_by start more (with_slots start ws t)) (with_records first rs (with_slots start ws t)) ≡ with_slots start (ws ++ more) (with_records first rs t)
 parts_join start room n first ws more rs t are are_more le behind size =
     let x : Tape = with_slots start ws t in

@@ -29,7 +29,8 @@ use Rattle.lif_model.proofs.Recorded.{records_replaced, records_count}
 -- ---- what settles to a tape below the redo file
 
 -- has its volume, where that volume is adopted with the version of the commit
-pub settles_adopted : (version : Version) (n : ℕ) (t x : Tape) (v : Volume) → IsTape n t → volume_in t ≡ Some v → is_adopted_with n version v.slots ≡ true → SettlesBelow version t x
+pub settles_adopted : (version : Version) (n : ℕ) (t x : Tape) (v : Volume) → IsTape n t → volume_in t ≡ Some v
+    → is_adopted_with n version v.slots ≡ true → SettlesBelow version t x
     → (volume_of x ≡ Some v) × (is_foreign_gated x ≡ false)
 settles_adopted version n t x v tape is adopted settles =
     let tells = volume_tells t v is in
@@ -52,7 +53,8 @@ settles_clear n t x tape long cases settles = settles_below_clear One t x (omega
         let under = adopted_uses_below version t k legal ((λ i. is_adopted_with (tape.records i) version (slots_of t)) ∙ with) used in
         omega (arith, under, (redo_places version (length t)).0)
 
-    at_length : list_any (λ slot. nat_lt (gate_of n) (end_of slot)) (filter occupies (slots_of t)) ≡ false → list_any (λ slot. nat_lt (gate_of (length t)) (end_of slot)) (filter occupies (slots_of t)) ≡ false
+    at_length : list_any (λ slot. nat_lt (gate_of n) (end_of slot)) (filter occupies (slots_of t)) ≡ false
+        → list_any (λ slot. nat_lt (gate_of (length t)) (end_of slot)) (filter occupies (slots_of t)) ≡ false
     at_length clear = (λ i. list_any (λ slot. nat_lt (gate_of (tape.records i)) (end_of slot)) (filter occupies (slots_of t))) ∙ clear
 
     below : is_legal t ≡ true → (k : ℕ) → is_used t k ≡ true → k < gate_of (length t)
@@ -71,7 +73,8 @@ settles_clear n t x tape long cases settles = settles_below_clear One t x (omega
 -- ---- a commit
 
 -- A stop in the commit leaves a tape with the volume before it or with the next one.
-pub stop_leaves : (version : Version) (n : ℕ) (changes : Changes) (t x : Tape) (v w : Volume) → IsTape n t → volume_in t ≡ Some v → is_adopted_with n version v.slots ≡ true → Makes n v w (changed changes t)
+pub stop_leaves : (version : Version) (n : ℕ) (changes : Changes) (t x : Tape) (v w : Volume) → IsTape n t → volume_in t ≡ Some v
+    → is_adopted_with n version v.slots ≡ true → Makes n v w (changed changes t)
     → IsOldOrNew version changes t x → ((volume_of x ≡ Some v) ⊎ (volume_of x ≡ Some w)) × (is_foreign_gated x ≡ false)
 stop_leaves version n changes t x v w tape is adopted makes (inl old) = let both = settles_adopted version n t x v tape is adopted old in (inl both.0, both.1)
 stop_leaves version n changes t x v w tape is adopted makes (inr new) =
@@ -81,14 +84,16 @@ stop_leaves version n changes t x v w tape is adopted makes (inr new) =
 pub committed_settled : (version : Version) (changes : Changes) (t x : Tape) → IsCommitted version changes t x → IsSettled x
 committed_settled version changes t x done = settled_none x (redo_closed x (gate_at (length t) x done.records ∙ ap is_open done.gate ∙ zeros_are_shut))
 
-pub committed_settles : (version : Version) (changes : Changes) (t x : Tape) → IsCommitted version changes t x → SettlesBelow version (changed changes t) x
+pub committed_settles : (version : Version) (changes : Changes) (t x : Tape) → IsCommitted version changes t x
+    → SettlesBelow version (changed changes t) x
 committed_settles version changes t x done = record {
   records = done.records ∙ sym (length_changed changes t);
   same = λ k lt. ap (λ (s : Tape). record_at s k) (committed_settled version changes t x done) ∙ done.below k (subst (λ (m : ℕ). k < redo_start version m) (length_changed changes t) lt);
 }
 
 -- Behind an Ok stands the next volume.
-pub commit_leaves : (version : Version) (n : ℕ) (changes : Changes) (t x : Tape) (v w : Volume) → is_adopted_with n version v.slots ≡ true → Makes n v w (changed changes t)
+pub commit_leaves : (version : Version) (n : ℕ) (changes : Changes) (t x : Tape) (v w : Volume) → is_adopted_with n version v.slots ≡ true
+    → Makes n v w (changed changes t)
     → IsCommitted version changes t x → (volume_of x ≡ Some w) × (is_foreign_gated x ≡ false)
 commit_leaves version n changes t x v w adopted makes done = settles_adopted version n (changed changes t) x w makes.tape makes.volume (makes.adopted version adopted) (committed_settles version changes t x done)
 
@@ -99,7 +104,8 @@ not_target [] k off = tt
 not_target (c ∷ cs) k off = ((λ e. off (inl e)), not_target cs k (λ rest. off (inr rest)))
 
 -- a record below the redo file that the commit does not change
-pub committed_elsewhere : (version : Version) (changes : Changes) (t x : Tape) (k : ℕ) → IsCommitted version changes t x → k < redo_start version (length t) → (IsTarget changes k → ⊥) → record_at x k ≡ record_at t k
+pub committed_elsewhere : (version : Version) (changes : Changes) (t x : Tape) (k : ℕ) → IsCommitted version changes t x
+    → k < redo_start version (length t) → (IsTarget changes k → ⊥) → record_at x k ≡ record_at t k
 committed_elsewhere version changes t x k done lt off = done.below k lt ∙ changed_elsewhere changes t k (not_target changes k off)
 
 -- slots that are not written
@@ -112,21 +118,25 @@ target_filter : (y : Tape) (test : ℕ → Bool) (ks : List ℕ) (k : ℕ) → I
 target_filter y test [] k target = target
 target_filter y test (j ∷ ks) k target = go (test j) target (λ rest. target_filter y test ks k rest)
   where
-    go : (b : Bool) → IsTarget (records_on y (if b then j ∷ filter test ks else filter test ks)) k → (IsTarget (records_on y (filter test ks)) k → IsTarget (records_on y ks) k) → (k ≡ j) ⊎ IsTarget (records_on y ks) k
+    go : (b : Bool) → IsTarget (records_on y (if b then j ∷ filter test ks else filter test ks)) k
+        → (IsTarget (records_on y (filter test ks)) k → IsTarget (records_on y ks) k) → (k ≡ j) ⊎ IsTarget (records_on y ks) k
     go true (inl e) rest = inl e
     go true (inr more) rest = inr (rest more)
     go false more rest = inr (rest more)
 
 -- a record that writes of slots change is that of a slot which is written
-pub target_slot : (start : ℕ) (ws : SlotWrites) (y : Tape) (k : ℕ) → IsTarget (records_on y (touched start ws)) k → (j : ℕ) × IsSlotWritten ws j × (k ≡ slot_record start j)
+pub target_slot : (start : ℕ) (ws : SlotWrites) (y : Tape) (k : ℕ) → IsTarget (records_on y (touched start ws)) k
+    → (j : ℕ) × IsSlotWritten ws j × (k ≡ slot_record start j)
 target_slot start [] y k target = absurd target
 target_slot start (w ∷ ws) y k (inl e) = (w.0, inl refl, e)
 target_slot start (w ∷ ws) y k (inr more) = let found = target_slot start ws y k (target_filter y _ (touched start ws) k more) in (found.0, inr found.1, found.2)
 
 -- Behind an Ok each slot is what was written of it, or else as before, on a tape that agreed with
 -- the earlier one in the directory.
-pub committed_slot : (version : Version) (n : ℕ) (u t x : Tape) (v : Volume) (ws : SlotWrites) (k : ℕ) → IsOn n u v → AreEntries (capacity_of v.header) ws → IsTape n t
-    → ((j : ℕ) → j < directory_end v.header → record_at t j ≡ record_at u j) → directory_end v.header ≤ redo_start version n → IsCommitted version (changes_by (directory_start v.header) ws u) t x → k < capacity_of v.header
+pub committed_slot : (version : Version) (n : ℕ) (u t x : Tape) (v : Volume) (ws : SlotWrites) (k : ℕ) → IsOn n u v
+    → AreEntries (capacity_of v.header) ws → IsTape n t
+    → ((j : ℕ) → j < directory_end v.header → record_at t j ≡ record_at u j) → directory_end v.header ≤ redo_start version n
+    → IsCommitted version (changes_by (directory_start v.header) ws u) t x → k < capacity_of v.header
     → entry_from x (directory_start v.header) k ≡ last_written ws k (entry_from u (directory_start v.header) k)
 committed_slot version n u t x v ws k on are tape same below done lt =
     let start : ℕ = directory_start v.header in
@@ -142,7 +152,8 @@ committed_slot version n u t x v ws k on are tape same below done lt =
 -- ---- the file of a store
 
 -- a tape with the file has the volume before it
-pub file_aside : (n : ℕ) (u : Tape) (v : Volume) (bytes : List ℕ) (i start : ℕ) → IsTape n u → volume_in u ≡ Some v → IsPlaceIn n v (file_length bytes) i start
+pub file_aside : (n : ℕ) (u : Tape) (v : Volume) (bytes : List ℕ) (i start : ℕ) → IsTape n u → volume_in u ≡ Some v
+    → IsPlaceIn n v (file_length bytes) i start
     → volume_in (with_records start (file_records bytes) u) ≡ Some v
 file_aside n u v bytes i start tape is place =
     let on : IsOn n u v = is_on n u v tape is in

@@ -18,11 +18,13 @@ pub records_before : (first : ℕ) (rs : List (List ℕ)) (t : Tape) (k : ℕ) �
 records_before first [] t k lt = refl
 records_before first (r ∷ rs) t k lt = records_before (suc first) rs (set t first r) k (omega (arith, lt)) ∙ get_or-set_other t first k r [] (λ e. absurd (omega (arith, e, lt)))
 
-pub records_behind : (first : ℕ) (rs : List (List ℕ)) (t : Tape) (k : ℕ) → first + length rs ≤ k → record_at (with_records first rs t) k ≡ record_at t k
+pub records_behind : (first : ℕ) (rs : List (List ℕ)) (t : Tape) (k : ℕ) → first + length rs ≤ k
+    → record_at (with_records first rs t) k ≡ record_at t k
 records_behind first [] t k le = refl
 records_behind first (r ∷ rs) t k le = records_behind (suc first) rs (set t first r) k (omega (arith, le)) ∙ get_or-set_other t first k r [] (λ e. absurd (omega (arith, e, le)))
 
-records_within : (first : ℕ) (rs : List (List ℕ)) (t : Tape) (i : ℕ) → first + length rs ≤ length t → i < length rs → record_at (with_records first rs t) (first + i) ≡ get_or rs i []
+records_within : (first : ℕ) (rs : List (List ℕ)) (t : Tape) (i : ℕ) → first + length rs ≤ length t → i < length rs
+    → record_at (with_records first rs t) (first + i) ≡ get_or rs i []
 records_within first [] t i le lt = absurd (omega (arith, lt))
 records_within first (r ∷ rs) t zero le lt =
     let here : first + 0 ≡ first = omega arith in
@@ -62,7 +64,8 @@ record_size : (bytes : List ℕ) (i : ℕ) → i < file_length bytes → length 
 record_size bytes i lt = ap (λ (r : List ℕ). length r) (piece_at (file_length bytes) i bytes lt) ∙ piece_size (drop (256 * i) bytes)
 
 -- a tape stays a tape
-records_shape : (n first : ℕ) (rs : List (List ℕ)) (t : Tape) → IsTape n t → ((i : ℕ) → i < length rs → length (get_or rs i []) ≡ 256) → IsTape n (with_records first rs t)
+records_shape : (n first : ℕ) (rs : List (List ℕ)) (t : Tape) → IsTape n t → ((i : ℕ) → i < length rs → length (get_or rs i []) ≡ 256)
+    → IsTape n (with_records first rs t)
 records_shape n first [] t is whole = is
 records_shape n first (r ∷ rs) t is whole = records_shape n (suc first) rs (set t first r) (set_shape n t first r is (whole 0 (omega arith))) (λ i lt. whole (suc i) (omega (arith, lt)))
 

@@ -69,22 +69,26 @@ ended_other capacity u k j old ne = go (nat_lt k capacity)
     go true = ap (λ (b : Bool). if b then with_type 0xFFFF (entry_on u k) else old) (ne_eqb k j (λ e. ne (sym e)))
 
 -- and gives that one the type of an end, and leaves its other bytes
-ended_is : (capacity : ℕ) (u : Tape) (k : ℕ) (old : List ℕ) → k < capacity → last_written (ended_behind capacity u k) k old ≡ with_type 0xFFFF (entry_on u k)
+ended_is : (capacity : ℕ) (u : Tape) (k : ℕ) (old : List ℕ) → k < capacity
+    → last_written (ended_behind capacity u k) k old ≡ with_type 0xFFFF (entry_on u k)
 ended_is capacity u k old lt =
     ap (λ (b : Bool). last_written (if b then (k, with_type 0xFFFF (entry_on u k)) ∷ [] else []) k old) (lt-ltb k capacity lt)
     ∙ ap (λ (b : Bool). if b then with_type 0xFFFF (entry_on u k) else old) (eq-eqb k k refl)
 
-ended_entries : (capacity : ℕ) (u : Tape) (k : ℕ) → ((j : ℕ) → j < capacity → length (entry_on u j) ≡ 32) → AreEntries capacity (ended_behind capacity u k)
+ended_entries : (capacity : ℕ) (u : Tape) (k : ℕ) → ((j : ℕ) → j < capacity → length (entry_on u j) ≡ 32)
+    → AreEntries capacity (ended_behind capacity u k)
 ended_entries capacity u k sizes = elim (cases_lt k capacity) [
   | inl lt ↦ subst (λ (b : Bool). AreEntries capacity (if b then (k, with_type 0xFFFF (entry_on u k)) ∷ [] else [])) (sym (lt-ltb k capacity lt)) (lt, typed_size 0xFFFF (entry_on u k) ∙ sizes k lt, tt)
   | inr ge ↦ subst (λ (b : Bool). AreEntries capacity (if b then (k, with_type 0xFFFF (entry_on u k)) ∷ [] else [])) (sym (le-ltb k capacity ge)) tt
 ]
 
-pub last_entries : (capacity : ℕ) (u : Tape) (k : ℕ) (entry : List ℕ) → ((j : ℕ) → j < capacity → length (entry_on u j) ≡ 32) → k < capacity → length entry ≡ 32 → AreEntries capacity (last_slot capacity u k entry)
+pub last_entries : (capacity : ℕ) (u : Tape) (k : ℕ) (entry : List ℕ) → ((j : ℕ) → j < capacity → length (entry_on u j) ≡ 32) → k < capacity
+    → length entry ≡ 32 → AreEntries capacity (last_slot capacity u k entry)
 last_entries capacity u k entry sizes lt size = (lt, size, ended_entries capacity u (suc k) sizes)
 
 -- a write of the last slot
-last_before : (capacity : ℕ) (u : Tape) (k : ℕ) (entry : List ℕ) (j : ℕ) (old : List ℕ) → j < k → last_written (last_slot capacity u k entry) j old ≡ old
+last_before : (capacity : ℕ) (u : Tape) (k : ℕ) (entry : List ℕ) (j : ℕ) (old : List ℕ) → j < k
+    → last_written (last_slot capacity u k entry) j old ≡ old
 last_before capacity u k entry j old lt =
     ended_other capacity u (suc k) j (if k == j then entry else old) (λ e. absurd (omega (arith, e, lt)))
     ∙ ap (λ (b : Bool). if b then entry else old) (ne_eqb k j (λ e. absurd (omega (arith, e, lt))))
@@ -94,16 +98,19 @@ last_here capacity u k entry old =
     ended_other capacity u (suc k) k (if k == k then entry else old) (λ e. absurd (omega (arith, e)))
     ∙ ap (λ (b : Bool). if b then entry else old) (eq-eqb k k refl)
 
-pub last_end_is : (capacity : ℕ) (u : Tape) (k m : ℕ) (entry old : List ℕ) → m ≡ suc k → m < capacity → last_written (last_slot capacity u k entry) m old ≡ with_type 0xFFFF (entry_on u m)
+pub last_end_is : (capacity : ℕ) (u : Tape) (k m : ℕ) (entry old : List ℕ) → m ≡ suc k → m < capacity
+    → last_written (last_slot capacity u k entry) m old ≡ with_type 0xFFFF (entry_on u m)
 last_end_is capacity u k m entry old e lt =
     let same : (if k == m then entry else old) ≡ old = ap (λ (b : Bool). if b then entry else old) (ne_eqb k m (λ at. absurd (omega (arith, at, e)))) in
     ap (λ (j : ℕ). last_written (ended_behind capacity u j) m (if k == m then entry else old)) (sym e) ∙ ended_is capacity u m (if k == m then entry else old) lt
 
-last_end : (capacity : ℕ) (u : Tape) (k m : ℕ) (entry old : List ℕ) → m ≡ suc k → m < capacity → ((j : ℕ) → j < capacity → length (entry_on u j) ≡ 32) → is_end (last_written (last_slot capacity u k entry) m old) ≡ true
+last_end : (capacity : ℕ) (u : Tape) (k m : ℕ) (entry old : List ℕ) → m ≡ suc k → m < capacity → ((j : ℕ) → j < capacity → length (entry_on u j) ≡ 32)
+    → is_end (last_written (last_slot capacity u k entry) m old) ≡ true
 last_end capacity u k m entry old e lt sizes = ap is_end (last_end_is capacity u k m entry old e lt) ∙ eq-eqb _ 0xFFFF (typed_type 0xFFFF (entry_on u m) (omega (arith, sizes m lt)))
 
 -- the live slot of a name, and the change of it
-pub changed_is_set : (n : ℕ) (header : List ℕ) (slots : List (List ℕ)) (name : List ℕ) (change : List ℕ → List ℕ) → IsLegal n header slots → has_file slots name ≡ true
+pub changed_is_set : (n : ℕ) (header : List ℕ) (slots : List (List ℕ)) (name : List ℕ) (change : List ℕ → List ℕ) → IsLegal n header slots
+    → has_file slots name ≡ true
     → (place_named name slots < length slots) × (is_live_named name (get_or slots (place_named name slots) []) ≡ true)
     × (set slots (place_named name slots) (change (get_or slots (place_named name slots) [])) ≡ with_slot name change slots)
 changed_is_set n header slots name change legal there =
@@ -166,7 +173,8 @@ module _ (n : ℕ) (t : Tape) (v : Volume) (on : IsOn n t v) where
       get_or-take (length later) all k [] less ∙ at k (omega (arith, less, le)) ∙ each k less)
 
   -- one slot that is there
-  pub slot_set : (i : ℕ) (entry : List ℕ) → i < length v.slots → length entry ≡ 32 → is_end entry ≡ false → slots_of (with_slots start ((i, entry) ∷ []) t) ≡ set v.slots i entry
+  pub slot_set : (i : ℕ) (entry : List ℕ) → i < length v.slots → length entry ≡ 32 → is_end entry ≡ false
+      → slots_of (with_slots start ((i, entry) ∷ []) t) ≡ set v.slots i entry
   slot_set i entry lt size kind =
       let count : length (set v.slots i entry) ≡ length v.slots = length-set v.slots i entry in
       slots_become ((i, entry) ∷ []) (set v.slots i entry) (omega (arith, lt, on.volume.room), size, tt) (omega (arith, count, on.volume.room))
@@ -175,7 +183,8 @@ module _ (n : ℕ) (t : Tape) (v : Volume) (on : IsOn n t v) where
       let off : i == length (set v.slots i entry) ≡ false = ne_eqb i (length (set v.slots i entry)) (λ e. absurd (omega (arith, e, count, lt))) in
       ap (λ (b : Bool). is_end (if b then entry else entry_from t start (length (set v.slots i entry)))) off ∙ ap (λ (m : ℕ). is_end (entry_from t start m)) count ∙ end_behind (omega (arith, less, count)))
     where
-      each : (k : ℕ) → k < length v.slots → (i ≡ k) ⊎ (i ≡ k → ⊥) → (if i == k then entry else entry_from t start k) ≡ get_or (set v.slots i entry) k []
+      each : (k : ℕ) → k < length v.slots → (i ≡ k) ⊎ (i ≡ k → ⊥)
+          → (if i == k then entry else entry_from t start k) ≡ get_or (set v.slots i entry) k []
       each k less (inl e) = ap (λ (b : Bool). if b then entry else entry_from t start k) (eq-eqb i k e) ∙ sym (get_or-set_same v.slots i entry [] lt) ∙ ap (λ (j : ℕ). get_or (set v.slots i entry) j []) e
       each k less (inr ne) = ap (λ (b : Bool). if b then entry else entry_from t start k) (ne_eqb i k ne) ∙ slot_here k less ∙ sym (get_or-set_other v.slots i k entry [] (λ e. ne (sym e)))
 
@@ -185,7 +194,8 @@ module _ (n : ℕ) (t : Tape) (v : Volume) (on : IsOn n t v) where
 
   module _ (u : Tape) (sizes : (j : ℕ) → j < capacity_of v.header → length (entry_on u j) ≡ 32) (entry : List ℕ) (size : length entry ≡ 32) (kind : is_end entry ≡ false) where
     -- one slot more
-    pub slot_push : length v.slots < capacity_of v.header → slots_of (with_slots start (last_slot (capacity_of v.header) u (length v.slots) entry) t) ≡ v.slots ++ entry ∷ []
+    pub slot_push : length v.slots < capacity_of v.header
+        → slots_of (with_slots start (last_slot (capacity_of v.header) u (length v.slots) entry) t) ≡ v.slots ++ entry ∷ []
     slot_push lt =
         slots_become (last_slot (capacity_of v.header) u (length v.slots) entry) (v.slots ++ entry ∷ []) (last_entries (capacity_of v.header) u (length v.slots) entry sizes lt size) (omega (arith, count, lt))
         (λ k less. each k less (cases_eq k (length v.slots))) (λ k less. live k less (cases_eq k (length v.slots)))
@@ -206,7 +216,8 @@ module _ (n : ℕ) (t : Tape) (v : Volume) (on : IsOn n t v) where
             let found = has.others k less ne in
             last_before (capacity_of v.header) u (length v.slots) entry k (entry_from t start k) found.0 ∙ slot_here k found.0 ∙ sym found.1
 
-        live : (k : ℕ) → k < length (v.slots ++ entry ∷ []) → (k ≡ length v.slots) ⊎ (k ≡ length v.slots → ⊥) → is_end (get_or (v.slots ++ entry ∷ []) k []) ≡ false
+        live : (k : ℕ) → k < length (v.slots ++ entry ∷ []) → (k ≡ length v.slots) ⊎ (k ≡ length v.slots → ⊥)
+            → is_end (get_or (v.slots ++ entry ∷ []) k []) ≡ false
         live k less (inl e) = ap is_end (ap (λ (j : ℕ). get_or (v.slots ++ entry ∷ []) j []) e ∙ has.here) ∙ kind
         live k less (inr ne) = let found = has.others k less ne in ap is_end found.1 ∙ on.volume.kinds k found.0
 

@@ -70,7 +70,8 @@ module _ (n : ℕ) (u : Tape) (v : Volume) (tape : IsTape n u) (is : volume_in u
   set_entries : i < length v.slots → AreEntries (capacity_of v.header) ((i, entry) ∷ [])
   set_entries lt = (omega (arith, lt, on.volume.room), entry_size, tt)
 
-  insert_entries : suc i ≡ length v.slots → length v.slots < capacity_of v.header → AreEntries (capacity_of v.header) ((i, entry) ∷ last_slot (capacity_of v.header) u (suc i) (get_or v.slots i []))
+  insert_entries : suc i ≡ length v.slots → length v.slots < capacity_of v.header
+      → AreEntries (capacity_of v.header) ((i, entry) ∷ last_slot (capacity_of v.header) u (suc i) (get_or v.slots i []))
   insert_entries last room = (
     omega (arith, last, room),
     entry_size,
@@ -95,7 +96,8 @@ module _ (n : ℕ) (u : Tape) (v : Volume) (tape : IsTape n u) (is : volume_in u
     | inr own ↦ by true own.0 (insert_entries own.2 own.3)
   ]
     where
-      by : (b : Bool) → nat_eq i (redo_place v.slots) ≡ b → AreEntries (capacity_of v.header) ((i, entry) ∷ (if b then last_slot (capacity_of v.header) u (suc i) (get_or v.slots i []) else []))
+      by : (b : Bool) → nat_eq i (redo_place v.slots) ≡ b
+          → AreEntries (capacity_of v.header) ((i, entry) ∷ (if b then last_slot (capacity_of v.header) u (suc i) (get_or v.slots i []) else []))
           → AreEntries (capacity_of v.header) (stored_writes v i entry u)
       by b e are = subst (λ (c : Bool). AreEntries (capacity_of v.header) ((i, entry) ∷ (if c then last_slot (capacity_of v.header) u (suc i) (get_or v.slots i []) else []))) (sym e) are
 
@@ -116,11 +118,13 @@ module _ (n : ℕ) (u : Tape) (v : Volume) (tape : IsTape n u) (is : volume_in u
     )
   ]
     where
-      carried : (k : ℕ) → k < length v.slots → i ≤ length v.slots → (k < i) ⊎ (i ≤ k) → (j : ℕ) × (j < length (insert v.slots i entry)) × (get_or (insert v.slots i entry) j [] ≡ get_or v.slots k [])
+      carried : (k : ℕ) → k < length v.slots → i ≤ length v.slots → (k < i) ⊎ (i ≤ k)
+          → (j : ℕ) × (j < length (insert v.slots i entry)) × (get_or (insert v.slots i entry) j [] ≡ get_or v.slots k [])
       carried k less le (inl under) = (k, omega (arith, less, length-insert v.slots i entry le), get_or-insert_below v.slots i entry [] k under le)
       carried k less le (inr over) = (k + 1, omega (arith, less, length-insert v.slots i entry le), get_or-insert_above v.slots i entry [] k over le)
 
-      redo_moves : (version : Version) → i ≤ length v.slots → is_adopted_with n version v.slots ≡ true → is_adopted_with n version (insert v.slots i entry) ≡ true
+      redo_moves : (version : Version) → i ≤ length v.slots → is_adopted_with n version v.slots ≡ true
+          → is_adopted_with n version (insert v.slots i entry) ≡ true
       redo_moves version le with =
           let found = any_at [] (is_redo_entry n version) v.slots with in
           let later = carried found.0 found.1 le (cases_lt found.0 i) in
@@ -157,7 +161,8 @@ pub record IsStorable (n : ℕ) (v : Volume) (name bytes : List ℕ) : Type 0 wh
   pub chosen : fit_in n v (file_length bytes) ≡ At slot first
   pub place : IsPlaceIn n v (file_length bytes) slot first
 
-pub storable : (n : ℕ) (v : Volume) (name : List ℕ) (kind : ℕ) (implementation bytes : List ℕ) → refusal_of n (Store name kind implementation bytes) (Some v) ≡ None → IsStorable n v name bytes
+pub storable : (n : ℕ) (v : Volume) (name : List ℕ) (kind : ℕ) (implementation bytes : List ℕ)
+    → refusal_of n (Store name kind implementation bytes) (Some v) ≡ None → IsStorable n v name bytes
 storable n v name kind implementation bytes none =
     let unmet : NoneMet (checks_of n (Store name kind implementation bytes) v) = none_met n (Store name kind implementation bytes) v none in
     let found = store_has_place n v name (fit_in n v (file_length bytes)) unmet in
@@ -172,8 +177,10 @@ storable n v name kind implementation bytes none =
       place = fit_tells n (directory_end v.header) (capacity_of v.header) v.slots (file_length bytes) found.0 found.1 found.2;
     }
 
-pub store_makes : (n : ℕ) (u : Tape) (v : Volume) (name : List ℕ) (kind : ℕ) (implementation bytes : List ℕ) → IsTape n u → volume_in u ≡ Some v → IsWellFormed (Store name kind implementation bytes)
-    → refusal_of n (Store name kind implementation bytes) (Some v) ≡ None → Makes n v (volume_after n (Store name kind implementation bytes) v) (written_by n (Store name kind implementation bytes) v u)
+pub store_makes : (n : ℕ) (u : Tape) (v : Volume) (name : List ℕ) (kind : ℕ) (implementation bytes : List ℕ) → IsTape n u → volume_in u ≡ Some v
+    → IsWellFormed (Store name kind implementation bytes)
+    → refusal_of n (Store name kind implementation bytes) (Some v) ≡ None
+    → Makes n v (volume_after n (Store name kind implementation bytes) v) (written_by n (Store name kind implementation bytes) v u)
 store_makes n u v name kind implementation bytes tape is formed none =
     let can = storable n v name kind implementation bytes none in
     subst (λ (p : Place). Makes n v (stored v name kind implementation bytes p) (written_at n (Store name kind implementation bytes) v p u)) (sym can.chosen)

@@ -129,7 +129,8 @@ module _ (start : ℕ) where
       ∙ get_or-set_other t (slot_record start w.0) k (with_entry (record_at t (slot_record start w.0)) (w.0 % 8) w.1) [] out.0
 
   -- a tape stays a tape
-  pub slots_shape : (n room : ℕ) (ws : SlotWrites) (t : Tape) → IsTape n t → start + room ≤ n → AreEntries (8 * room) ws → IsTape n (with_slots start ws t)
+  pub slots_shape : (n room : ℕ) (ws : SlotWrites) (t : Tape) → IsTape n t → start + room ≤ n → AreEntries (8 * room) ws
+      → IsTape n (with_slots start ws t)
   slots_shape n room [] t is le are = is
   slots_shape n room (w ∷ ws) t is le are =
       let r : ℕ = slot_record start w.0 in
@@ -144,7 +145,8 @@ module _ (start : ℕ) where
   Leaves w k bytes = (length (if slot_record start w.0 == slot_record start k then with_entry bytes (w.0 % 8) w.1 else bytes) ≡ 256)
       × (entry_at (if slot_record start w.0 == slot_record start k then with_entry bytes (w.0 % 8) w.1 else bytes) (k % 8) ≡ (if w.0 == k then w.1 else entry_at bytes (k % 8)))
 
-  slot_rewritten : (room : ℕ) (ws : SlotWrites) (k : ℕ) (bytes : List ℕ) → AreEntries room ws → length bytes ≡ 256 → entry_at (rewritten start ws (slot_record start k) bytes) (k % 8) ≡ last_written ws k (entry_at bytes (k % 8))
+  slot_rewritten : (room : ℕ) (ws : SlotWrites) (k : ℕ) (bytes : List ℕ) → AreEntries room ws → length bytes ≡ 256
+      → entry_at (rewritten start ws (slot_record start k) bytes) (k % 8) ≡ last_written ws k (entry_at bytes (k % 8))
   slot_rewritten room [] k bytes are whole = refl
   slot_rewritten room (w ∷ ws) k bytes are whole =
       let first = one (cases_eq w.0 k) (cases_eq (slot_record start w.0) (slot_record start k)) in
@@ -153,14 +155,16 @@ module _ (start : ℕ) where
       column : w.0 % 8 < 8
       column = omega arith
 
-      by : (b c : Bool) → slot_record start w.0 == slot_record start k ≡ b → w.0 == k ≡ c → length (if b then with_entry bytes (w.0 % 8) w.1 else bytes) ≡ 256
+      by : (b c : Bool) → slot_record start w.0 == slot_record start k ≡ b → w.0 == k ≡ c
+          → length (if b then with_entry bytes (w.0 % 8) w.1 else bytes) ≡ 256
           → entry_at (if b then with_entry bytes (w.0 % 8) w.1 else bytes) (k % 8) ≡ (if c then w.1 else entry_at bytes (k % 8)) → Leaves w k bytes
       by b c row same size is = (
         ap (λ (d : Bool). length (if d then with_entry bytes (w.0 % 8) w.1 else bytes)) row ∙ size,
         ap (λ (d : Bool). entry_at (if d then with_entry bytes (w.0 % 8) w.1 else bytes) (k % 8)) row ∙ is ∙ sym (ap (λ (d : Bool). if d then w.1 else entry_at bytes (k % 8)) same),
       )
 
-      one : (w.0 ≡ k) ⊎ (w.0 ≡ k → ⊥) → (slot_record start w.0 ≡ slot_record start k) ⊎ (slot_record start w.0 ≡ slot_record start k → ⊥) → Leaves w k bytes
+      one : (w.0 ≡ k) ⊎ (w.0 ≡ k → ⊥) → (slot_record start w.0 ≡ slot_record start k) ⊎ (slot_record start w.0 ≡ slot_record start k → ⊥)
+          → Leaves w k bytes
       one (inl e) (inr off) = absurd (off (ap (slot_record start) e))
       one (inl e) (inl row) = by true true (eq-eqb (slot_record start w.0) (slot_record start k) row) (eq-eqb w.0 k e) (entry_keeps_size bytes (w.0 % 8) w.1 whole column are.1)
           (ap (entry_at (with_entry bytes (w.0 % 8) w.1)) (ap (λ (j : ℕ). j % 8) (sym e)) ∙ entry_here bytes (w.0 % 8) w.1 whole column are.1)
@@ -226,7 +230,8 @@ pairs_filter : (pick : ℕ → Bool) (ks : List ℕ) → all_pairs are_two ks �
 pairs_filter pick [] all = refl
 pairs_filter pick (k ∷ ks) all = let both = and_parts (list_all (are_two k) ks) _ all in go (pick k) (all_filter (are_two k) pick ks both.0) (pairs_filter pick ks both.1)
   where
-    go : (b : Bool) → list_all (are_two k) (filter pick ks) ≡ true → all_pairs are_two (filter pick ks) ≡ true → all_pairs are_two (if b then k ∷ filter pick ks else filter pick ks) ≡ true
+    go : (b : Bool) → list_all (are_two k) (filter pick ks) ≡ true → all_pairs are_two (filter pick ks) ≡ true
+        → all_pairs are_two (if b then k ∷ filter pick ks else filter pick ks) ≡ true
     go true here rest = and_from (list_all (are_two k) (filter pick ks)) _ here rest
     go false here rest = rest
 
@@ -285,7 +290,8 @@ others_untouched start (w ∷ ws) k others = (others.0, others_untouched start w
 -- ---- what the changes make
 
 -- each of these records as on u makes u of a tape that differs from it in no other record
-changed_to : (ks : List ℕ) (u t : Tape) → length u ≡ length t → ((k : ℕ) → k < length t → AreOther ks k → record_at u k ≡ record_at t k) → changed (records_on u ks) t ≡ u
+changed_to : (ks : List ℕ) (u t : Tape) → length u ≡ length t → ((k : ℕ) → k < length t → AreOther ks k → record_at u k ≡ record_at t k)
+    → changed (records_on u ks) t ≡ u
 changed_to [] u t size same = sym (ext_get_or [] u t size (λ k lt. same k (omega (arith, lt, size)) tt))
 changed_to (j ∷ ks) u t size same = changed_to ks u (set t j (record_at u j)) (size ∙ sym (length-set t j (record_at u j))) (λ k lt others. elim (cases_eq k j) [
   | inl e ↦
@@ -294,7 +300,8 @@ changed_to (j ∷ ks) u t size same = changed_to ks u (set t j (record_at u j)) 
   | inr ne ↦ same k (omega (arith, lt, length-set t j (record_at u j))) (ne, others) ∙ sym (get_or-set_other t j k (record_at u j) [] ne)
 ])
 
-records_agree : (low high : ℕ) (ks : List ℕ) (x y : Tape) → AreWithin low high ks → ((k : ℕ) → low ≤ k → k < high → record_at x k ≡ record_at y k) → records_on x ks ≡ records_on y ks
+records_agree : (low high : ℕ) (ks : List ℕ) (x y : Tape) → AreWithin low high ks → ((k : ℕ) → low ≤ k → k < high → record_at x k ≡ record_at y k)
+    → records_on x ks ≡ records_on y ks
 records_agree low high [] x y within same = refl
 records_agree low high (k ∷ ks) x y within same =
     let here : record_at x k ≡ record_at y k = same k within.0 within.1 in
@@ -312,7 +319,8 @@ whole_within n low high (k ∷ ks) t is le within = (is.bytes k (omega (arith, w
 module _ (start room : ℕ) (ws : SlotWrites) (are : AreEntries (8 * room) ws) where
   -- The changes that writes of slots make, also of a tape that differs outside the directory from
   -- the one that they are told of.
-  pub changes_write : (n : ℕ) (t u : Tape) → start + room ≤ n → length t ≡ n → length u ≡ n → ((k : ℕ) → start ≤ k → k < start + room → record_at u k ≡ record_at t k)
+  pub changes_write : (n : ℕ) (t u : Tape) → start + room ≤ n → length t ≡ n → length u ≡ n
+      → ((k : ℕ) → start ≤ k → k < start + room → record_at u k ≡ record_at t k)
       → changed (changes_by start ws t) u ≡ with_slots start ws u
   changes_write n t u le size_t size_u same =
       ap (λ (cs : Changes). changed cs u) (records_agree start (start + room) (touched start ws) (with_slots start ws t) (with_slots start ws u) (touched_within start start (start + room) ws (writes_within start room ws are))
@@ -321,7 +329,8 @@ module _ (start room : ℕ) (ws : SlotWrites) (are : AreEntries (8 * room) ws) w
 
   -- one commit takes them, where there are no more of them than the version takes and the directory
   -- ends before the redo file
-  pub changes_are : (version : Version) (n : ℕ) (t : Tape) → 0 < length ws → length (touched start ws) ≤ most_targets version → start + room ≤ redo_start version n
+  pub changes_are : (version : Version) (n : ℕ) (t : Tape) → 0 < length ws → length (touched start ws) ≤ most_targets version
+      → start + room ≤ redo_start version n
       → AreChanges version n (changes_by start ws t)
   changes_are version n t some few below =
       subst (λ (ks : List ℕ). are_targets version n ks ≡ true) (sym (targets_are (touched start ws) (with_slots start ws t)))

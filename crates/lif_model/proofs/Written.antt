@@ -29,7 +29,8 @@ use Rattle.lif_model.proofs.Slotted.{IsOn, is_on, changed_is_set, last_entries, 
 
 -- ---- a volume by its parts
 
-pub volume_by_parts : (n : ℕ) (x : Tape) (header : List ℕ) (slots : List (List ℕ)) (files : Files) → n ≡ length x → IsLegal n header slots → record_at x 0 ≡ header → slots_of x ≡ slots
+pub volume_by_parts : (n : ℕ) (x : Tape) (header : List ℕ) (slots : List (List ℕ)) (files : Files) → n ≡ length x → IsLegal n header slots
+    → record_at x 0 ≡ header → slots_of x ≡ slots
     → files_of x slots ≡ files → volume_in x ≡ Some (record { header = header; slots = slots; files = files })
 volume_by_parts n x header slots files size legal same_header same_slots same_files =
     let legal_here : is_legal x ≡ true = (λ i. is_legal_with (sym size i) (same_header i) (same_slots i)) ∙ legal_from n header slots legal in
@@ -52,18 +53,21 @@ module _ (n : ℕ) (u : Tape) (v : Volume) (tape : IsTape n u) (is : volume_in u
   kept_files = let tells = volume_tells u v is in tells.3 ∙ sym (ap (files_of u) tells.2)
 
   -- writes of slots leave the records behind the directory
-  pub behind_stays : (t : Tape) (ws : SlotWrites) (j : ℕ) → AreEntries (capacity_of v.header) ws → directory_end v.header ≤ j → record_at (with_slots (directory_start v.header) ws t) j ≡ record_at t j
+  pub behind_stays : (t : Tape) (ws : SlotWrites) (j : ℕ) → AreEntries (capacity_of v.header) ws → directory_end v.header ≤ j
+      → record_at (with_slots (directory_start v.header) ws t) j ≡ record_at t j
   behind_stays t ws j are le = slots_elsewhere (directory_start v.header) ws t j (untouched (directory_start v.header) (directory_length v.header) ws j are (inr le))
 
   -- the redo file's slot is not written
-  pub adopted_stays : (version : Version) (i : ℕ) (entry : List ℕ) → (is_redo_file n (get_or v.slots i []) ≡ true → ⊥) → is_adopted_with n version v.slots ≡ true → is_adopted_with n version (set v.slots i entry) ≡ true
+  pub adopted_stays : (version : Version) (i : ℕ) (entry : List ℕ) → (is_redo_file n (get_or v.slots i []) ≡ true → ⊥)
+      → is_adopted_with n version v.slots ≡ true → is_adopted_with n version (set v.slots i entry) ≡ true
   adopted_stays version i entry other adopted =
       let found = any_at [] (is_redo_entry n version) v.slots adopted in
       let off : found.0 ≢ i = λ e. other (subst (λ (k : ℕ). is_redo_file n (get_or v.slots k []) ≡ true) e (redo_entry_tells n version (get_or v.slots found.0 []) found.2).0) in
       any_from [] (is_redo_entry n version) (set v.slots i entry) found.0 (omega (arith, found.1, length-set v.slots i entry)) (ap (is_redo_entry n version) (get_or-set_other v.slots i found.0 entry [] off) ∙ found.2)
 
   -- one slot is written
-  set_volume : (i : ℕ) (entry : List ℕ) (later : List (List ℕ)) (files : Files) → i < length v.slots → length entry ≡ 32 → is_end entry ≡ false → set v.slots i entry ≡ later → IsLegal n v.header later
+  set_volume : (i : ℕ) (entry : List ℕ) (later : List (List ℕ)) (files : Files) → i < length v.slots → length entry ≡ 32 → is_end entry ≡ false
+      → set v.slots i entry ≡ later → IsLegal n v.header later
       → files_of (with_slots (directory_start v.header) ((i, entry) ∷ []) u) later ≡ files
       → IsTape n (with_slots (directory_start v.header) ((i, entry) ∷ []) u) × (volume_in (with_slots (directory_start v.header) ((i, entry) ∷ []) u) ≡ Some (record { header = v.header; slots = later; files = files }))
   set_volume i entry later files lt size kind same legal same_files =
@@ -76,7 +80,8 @@ module _ (n : ℕ) (u : Tape) (v : Volume) (tape : IsTape n u) (is : volume_in u
       )
 
   -- which is not the redo file's
-  set_makes : (i : ℕ) (entry : List ℕ) (later : List (List ℕ)) (files : Files) → i < length v.slots → length entry ≡ 32 → is_end entry ≡ false → set v.slots i entry ≡ later → IsLegal n v.header later
+  set_makes : (i : ℕ) (entry : List ℕ) (later : List (List ℕ)) (files : Files) → i < length v.slots → length entry ≡ 32 → is_end entry ≡ false
+      → set v.slots i entry ≡ later → IsLegal n v.header later
       → (is_redo_file n (get_or v.slots i []) ≡ true → ⊥) → files_of (with_slots (directory_start v.header) ((i, entry) ∷ []) u) later ≡ files
       → Makes n v (record { header = v.header; slots = later; files = files }) (with_slots (directory_start v.header) ((i, entry) ∷ []) u)
   set_makes i entry later files lt size kind same legal other same_files =
@@ -88,11 +93,13 @@ module _ (n : ℕ) (u : Tape) (v : Volume) (tape : IsTape n u) (is : volume_in u
       }
 
   -- the changes that a command makes of a tape without a file
-  changes_here : (ws : SlotWrites) → AreEntries (capacity_of v.header) ws → changed (changes_by (directory_start v.header) ws u) u ≡ with_slots (directory_start v.header) ws u
+  changes_here : (ws : SlotWrites) → AreEntries (capacity_of v.header) ws
+      → changed (changes_by (directory_start v.header) ws u) u ≡ with_slots (directory_start v.header) ws u
   changes_here ws are = changes_write (directory_start v.header) (directory_length v.header) ws are n u u (omega (arith, on.ends)) on.tape.records on.tape.records (λ k low high. refl)
 
   -- a slot that is named otherwise is not the redo file's
-  not_redo : (i : ℕ) (name : List ℕ) → is_live_named name (get_or v.slots i []) ≡ true → name ≢ redo_name → is_redo_file n (get_or v.slots i []) ≡ true → ⊥
+  not_redo : (i : ℕ) (name : List ℕ) → is_live_named name (get_or v.slots i []) ≡ true → name ≢ redo_name
+      → is_redo_file n (get_or v.slots i []) ≡ true → ⊥
   not_redo i name named other redo = other (sym (live_named_tells name (get_or v.slots i []) named).1 ∙ (redo_file_tells n (get_or v.slots i []) redo).0)
 
   is_adopted_volume : is_adopted n v.slots ≡ true → IsAdopted n v
@@ -105,7 +112,8 @@ module _ (n : ℕ) (u : Tape) (v : Volume) (tape : IsTape n u) (is : volume_in u
       let found = changed_is_set n v.header v.slots name (with_type 0) on.volume.legal there in
       (omega (arith, found.0, on.volume.room), typed_size 0 (get_or v.slots (place_named name v.slots) []) ∙ on.volume.entries (place_named name v.slots) found.0, tt)
 
-  pub purge_makes : (name : List ℕ) → refusal_of n (Purge name) (Some v) ≡ None → Makes n v (volume_after n (Purge name) v) (written_by n (Purge name) v u)
+  pub purge_makes : (name : List ℕ) → refusal_of n (Purge name) (Some v) ≡ None
+      → Makes n v (volume_after n (Purge name) v) (written_by n (Purge name) v u)
   purge_makes name none =
       let unmet : NoneMet (checks_of n (Purge name) v) = none_met n (Purge name) v none in
       let adopted : is_adopted n v.slots ≡ true = not-false (is_adopted n v.slots) unmet.0 in
@@ -133,12 +141,14 @@ module _ (n : ℕ) (u : Tape) (v : Volume) (tape : IsTape n u) (is : volume_in u
     adopted = λ version adopted. subst (λ (w : Volume). is_adopted_with n version w.slots ≡ true) (sym same) adopted;
   }
 
-  pub rename_entries : (old later : List ℕ) → length later ≡ 10 → has_file v.slots old ≡ true → AreEntries (capacity_of v.header) (changed_slot old (with_name later) v.slots)
+  pub rename_entries : (old later : List ℕ) → length later ≡ 10 → has_file v.slots old ≡ true
+      → AreEntries (capacity_of v.header) (changed_slot old (with_name later) v.slots)
   rename_entries old later ten there =
       let found = changed_is_set n v.header v.slots old (with_name later) on.volume.legal there in
       (omega (arith, found.0, on.volume.room), named_size later (get_or v.slots (place_named old v.slots) []) ten (on.volume.entries (place_named old v.slots) found.0), tt)
 
-  pub rename_makes : (old later : List ℕ) → IsWellFormed (Rename old later) → refusal_of n (Rename old later) (Some v) ≡ None → Makes n v (volume_after n (Rename old later) v) (written_by n (Rename old later) v u)
+  pub rename_makes : (old later : List ℕ) → IsWellFormed (Rename old later) → refusal_of n (Rename old later) (Some v) ≡ None
+      → Makes n v (volume_after n (Rename old later) v) (written_by n (Rename old later) v u)
   rename_makes old later formed none = go (bytes_eq old later) refl
     where
       unmet : NoneMet (checks_of n (Rename old later) v)
@@ -173,7 +183,8 @@ module _ (n : ℕ) (u : Tape) (v : Volume) (tape : IsTape n u) (is : volume_in u
   redo_entry_size : length (redo_entry One n) ≡ 32
   redo_entry_size = new_size redo_name redo_type (redo_start One n) 4 (replicate 4 0) refl refl
 
-  pub adopt_entries : length v.slots < capacity_of v.header → AreEntries (capacity_of v.header) (last_slot (capacity_of v.header) u (length v.slots) (redo_entry One n))
+  pub adopt_entries : length v.slots < capacity_of v.header
+      → AreEntries (capacity_of v.header) (last_slot (capacity_of v.header) u (length v.slots) (redo_entry One n))
   adopt_entries fits = last_entries (capacity_of v.header) u (length v.slots) (redo_entry One n) (entry_on_size n u v on) fits redo_entry_size
 
   -- where a volume without a redo file may be adopted, a slot is left
@@ -217,10 +228,12 @@ module _ (n : ℕ) (u : Tape) (v : Volume) (tape : IsTape n u) (is : volume_in u
       let place = redo_place_is n v (is_adopted_volume adopted) in
       (omega (arith, place.0, on.volume.room), extent_size (redo_start Two n) 34 (replicate 4 0) (get_or v.slots (redo_place v.slots) []) (on.volume.entries (redo_place v.slots) place.0) refl, tt)
 
-  pub upgrade_makes : refusal_of n Upgrade (Some v) ≡ None → IsTape n (written_by n Upgrade v u) × (volume_in (written_by n Upgrade v u) ≡ Some (volume_after n Upgrade v))
+  pub upgrade_makes : refusal_of n Upgrade (Some v) ≡ None
+      → IsTape n (written_by n Upgrade v u) × (volume_in (written_by n Upgrade v u) ≡ Some (volume_after n Upgrade v))
   upgrade_makes none = go (is_upgraded n v) refl
     where
-      go : (b : Bool) → is_upgraded n v ≡ b → IsTape n (written_by n Upgrade v u) × (volume_in (written_by n Upgrade v u) ≡ Some (volume_after n Upgrade v))
+      go : (b : Bool) → is_upgraded n v ≡ b
+          → IsTape n (written_by n Upgrade v u) × (volume_in (written_by n Upgrade v u) ≡ Some (volume_after n Upgrade v))
       go true e =
           let makes = nothing_makes (written_by n Upgrade v u) (volume_after n Upgrade v)
           (ap (λ (b : Bool). changed (changes_by (directory_start v.header) (if b then [] else changed_slot redo_name (upgraded_entry n) v.slots) u) u) e) (ap (λ (b : Bool). if b then v else upgraded n v) e) in
