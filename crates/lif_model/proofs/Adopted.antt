@@ -1,28 +1,41 @@
 -- Adopted volumes: where the redo entry stands, and that no file reaches the redo file's records.
-use Rattle.std.proofs.Common.{filter, ◌≡◌, ◌<◌, ◌≤◌, ◌+◌, ◌&&◌, ◌||◌, ◌==◌, ℕ, suc, List, [], ◌∷◌, Bool, true, false, not, if◌then◌else◌, length, get_or, inl, inr, refl, sym, ◌∙◌, ap, subst, arith, nat_lt, nat_le}
+use Rattle.std.proofs.Common.{filter, ◌≡◌, ◌<◌, ◌≤◌, ◌+◌, ◌&&◌, ◌||◌, ◌==◌, ℕ, suc, List, [], ◌∷◌, Bool, true, false, not, if◌then◌else◌, length, get_or, set, inl, inr, refl, sym, ◌∙◌, ap, subst, arith, nat_lt, nat_le, length-set, get_or-set_same, get_or-set_other, ◌⊎◌, ◌-◌}
 use Rattle.std.specs.List.{list_any, position_or_len, prefix_len}
 use Rattle.std.specs.Str.{bytes_eq}
-use Rattle.std.proofs.lemmas.Bool.{cases_order, cases_Bool, and_parts, and_from, or_cases, leb-true, ltb-true, ltb-false, eqb-true, lt-ltb, not-true, not_from_false, false_from_ne_true, or_left, or_right, and_left, le-leb, not_from_true}
+use Rattle.std.proofs.lemmas.Bool.{cases_order, cases_Bool, and_parts, and_from, or_cases, leb-true, ltb-true, ltb-false, eqb-true, lt-ltb, not-true, not_from_false, false_from_ne_true, or_left, or_right, and_left, le-leb, not_from_true, ne_eqb}
+use Rattle.std.proofs.lemmas.List.{length-map, get_or-map, ext_get_or}
 use Rattle.std.proofs.lemmas.Slice.Eq.{bytes_eq-Decides}
 use Rattle.lif_model.specs.Tape.{Tape, record_at}
 use Rattle.lif_model.specs.Gate.{gate_of}
 use Rattle.lif_model.specs.Header.{directory_start, directory_end, is_readable}
 use Rattle.lif_model.specs.Directory.{name_of, type_of, start_of, length_of, slots_of}
-use Rattle.lif_model.specs.Redo.{Version, One, Two, versions, redo_start, redo_length, Changes, redo_of, is_none, settled}
-use Rattle.lif_model.specs.Commit.{SettlesAs, SettlesBelow}
+use Rattle.lif_model.specs.Redo.{Version, One, Two, versions, redo_start, redo_length, Changes, redo_of, is_none, settled, changed}
+use Rattle.lif_model.specs.Commit.{SettlesAs, SettlesBelow, IsOldOrNew}
 use Rattle.lif_model.specs.Legal.{is_live, occupies, end_of, holds, is_live_named, is_legal_with, is_legal, IsLegal}
-use Rattle.lif_model.specs.Volume.{redo_name, redo_type, is_redo_entry, is_adopted_with, is_redo_file, is_adopted, is_file, Volume, volume_if, volume_in, volume_of, IsAdopted, is_used, is_gate_held, is_foreign_gated}
+use Rattle.lif_model.specs.Volume.{redo_name, redo_type, is_redo_entry, is_adopted_with, is_redo_file, is_adopted, is_file, Volume, volume_if, volume_in, volume_of, IsAdopted, is_used, is_gate_held, is_foreign_gated, IsVolume}
 use Rattle.lif_model.specs.Fit.{redo_place}
+use Rattle.lif_model.specs.Apply.{with_slot}
 use Rattle.lif_model.proofs.Lists.{none_of_filter, none_from, any_at, any_from}
 use Rattle.lif_model.proofs.Legal.{legal_tells}
-use Rattle.lif_model.proofs.Slots.{readable_tells, live_named_tells}
-use Rattle.lif_model.proofs.Redo.{four_at_least, redo_places, length_settled, armed_here, changes_long, loaded_are}
+use Rattle.lif_model.proofs.Slots.{readable_tells, live_named_tells, slot_cases, occupies_tells}
+use Rattle.lif_model.proofs.Redo.{four_at_least, redo_places, length_settled, armed_here, changes_long, loaded_are, length_changed}
 use Rattle.lif_model.proofs.Volume.{slots_agree, volume_agrees}
-use Rattle.lif_model.proofs.Apply.{redo_file_tells, redo_file_is_live}
+use Rattle.lif_model.proofs.Commit.{settles_below_less}
+
+-- ---- the redo file
+
+pub redo_file_tells : (n : ℕ) (slot : List ℕ) → is_redo_file n slot ≡ true → (name_of slot ≡ redo_name) × (type_of slot ≡ redo_type)
+redo_file_tells n slot is =
+    let found = any_at One (λ version. is_redo_entry n version slot) versions is in
+    let both = and_parts (bytes_eq (name_of slot) redo_name) _ found.2 in
+    ((bytes_eq-Decides (name_of slot) redo_name).0 both.0, eqb-true (type_of slot) redo_type (and_parts _ _ both.1).0)
+
+pub redo_file_is_live : (n : ℕ) (slot : List ℕ) → is_redo_file n slot ≡ true → is_live slot ≡ true
+redo_file_is_live n slot is = not_from_false _ (ne_eqb (type_of slot) 0 (λ e. let both : redo_type ≡ 0 = sym (redo_file_tells n slot is).1 ∙ e in omega (arith, both)))
 
 -- ---- the redo entry's place
 
-position_tells : {X : Type 0} (d : X) (p : X → Bool) (xs : List X) → list_any p xs ≡ true → (position_or_len p xs < length xs) × (p (get_or xs (position_or_len p xs) d) ≡ true)
+pub position_tells : {X : Type 0} (d : X) (p : X → Bool) (xs : List X) → list_any p xs ≡ true → (position_or_len p xs < length xs) × (p (get_or xs (position_or_len p xs) d) ≡ true)
 position_tells d p [] any = cc
 position_tells d p (x ∷ xs) any = go (p x) refl any (λ rest. position_tells d p xs rest)
   where
@@ -46,7 +59,28 @@ one_of_name n header slots name j k legal lt_j lt_k first second =
       | inr (inr lt) ↦ absurd (legal.distinct k j lt lt_j two.0 one.0 (two.1 ∙ sym one.1))
     ]
 
-redo_file_is_named : (n : ℕ) (slot : List ℕ) → is_redo_file n slot ≡ true → is_live_named redo_name slot ≡ true
+-- to change the slot of a name is to change the slot at its place (for the slot that `rename`,
+-- `purge` and `upgrade` write)
+pub with_slot_at : (n : ℕ) (header : List ℕ) (slots : List (List ℕ)) (name : List ℕ) (change : List ℕ → List ℕ) (k : ℕ) → IsLegal n header slots → k < length slots
+    → is_live_named name (get_or slots k []) ≡ true → with_slot name change slots ≡ set slots k (change (get_or slots k []))
+with_slot_at n header slots name change k legal lt on =
+    ext_get_or [] (with_slot name change slots) (set slots k (change (get_or slots k []))) (length-map slots changed_slot ∙ sym (length-set slots k (change (get_or slots k []))))
+    (λ j long. let under : j < length slots = omega (arith, long, length-map slots changed_slot) in get_or-map changed_slot slots j [] [] under ∙ at j under)
+  where
+    changed_slot : List ℕ → List ℕ
+    changed_slot slot = if is_live_named name slot then change slot else slot
+
+    at : (j : ℕ) → j < length slots → changed_slot (get_or slots j []) ≡ get_or (set slots k (change (get_or slots k []))) j []
+    at j under = elim (slot_cases name change (get_or slots j [])) [
+      | inl both ↦
+          let same : j ≡ k = one_of_name n header slots name j k legal under lt both.0 on in
+          both.1 ∙ ap (λ (m : ℕ). change (get_or slots m [])) same ∙ sym (get_or-set_same slots k (change (get_or slots k [])) [] lt)
+          ∙ sym (ap (λ (m : ℕ). get_or (set slots k (change (get_or slots k []))) m []) same)
+      | inr both ↦ both.1 ∙ sym (get_or-set_other slots k j (change (get_or slots k [])) []
+          (λ e. let no : true ≡ false = sym on ∙ sym (ap (λ (m : ℕ). is_live_named name (get_or slots m [])) e) ∙ both.0 in cc))
+    ]
+
+pub redo_file_is_named : (n : ℕ) (slot : List ℕ) → is_redo_file n slot ≡ true → is_live_named redo_name slot ≡ true
 redo_file_is_named n slot is = and_from _ _ (redo_file_is_live n slot is) ((bytes_eq-Decides (name_of slot) redo_name).1 (redo_file_tells n slot is).0)
 
 -- on an adopted volume the slot of the redo file's name is the redo entry
@@ -79,10 +113,23 @@ redo_entry_tells n version slot is =
     some_version One e = any_from One (λ w. is_redo_entry n w slot) versions 0 (omega arith) e
     some_version Two e = any_from One (λ w. is_redo_entry n w slot) versions 1 (omega arith) e
 
-is_file_tells : (n : ℕ) (slot : List ℕ) → is_file n slot ≡ true → (is_live slot ≡ true) × (is_redo_file n slot ≡ false)
+-- an adopted volume is adopted with some version
+pub adopted_version : (n : ℕ) (slots : List (List ℕ)) → is_adopted n slots ≡ true → (version : Version) × (is_adopted_with n version slots ≡ true)
+adopted_version n slots adopted =
+    let found = any_at [] (is_redo_file n) slots adopted in
+    let one = any_at One (λ version. is_redo_entry n version (get_or slots found.0 [])) versions found.2 in
+    (get_or versions one.0 One, any_from [] (is_redo_entry n (get_or versions one.0 One)) slots found.0 found.1 one.2)
+
+-- and one that is adopted with a version is adopted
+pub adopted_some : (n : ℕ) (version : Version) (slots : List (List ℕ)) → is_adopted_with n version slots ≡ true → is_adopted n slots ≡ true
+adopted_some n version slots adopted =
+    let found = any_at [] (is_redo_entry n version) slots adopted in
+    any_from [] (is_redo_file n) slots found.0 found.1 (redo_entry_tells n version (get_or slots found.0 []) found.2).0
+
+pub is_file_tells : (n : ℕ) (slot : List ℕ) → is_file n slot ≡ true → (is_live slot ≡ true) × (is_redo_file n slot ≡ false)
 is_file_tells n slot is = let both = and_parts (is_live slot) _ is in (both.0, not-true (is_redo_file n slot) both.1)
 
-holds_tells : (k : ℕ) (slot : List ℕ) → holds k slot ≡ true → (start_of slot ≤ k) × (k < end_of slot)
+pub holds_tells : (k : ℕ) (slot : List ℕ) → holds k slot ≡ true → (start_of slot ≤ k) × (k < end_of slot)
 holds_tells k slot is = let both = and_parts _ _ is in (leb-true (start_of slot) k both.0, ltb-true k (end_of slot) both.1)
 
 module _ (version : Version) (n : ℕ) (header : List ℕ) (slots : List (List ℕ)) (legal : IsLegal n header slots) (p : ℕ) (lt : p < length slots) (redo : is_redo_entry n version (get_or slots p []) ≡ true) where
@@ -94,7 +141,7 @@ module _ (version : Version) (n : ℕ) (header : List ℕ) (slots : List (List �
       (omega (arith, within.0, entry.2), omega (arith, within.1, entry.2, entry.3))
 
   -- and files end before it
-  file_before : (i k : ℕ) → i < length slots → is_file n (get_or slots i []) ≡ true → holds k (get_or slots i []) ≡ true → k < redo_start version n
+  pub file_before : (i k : ℕ) → i < length slots → is_file n (get_or slots i []) ≡ true → holds k (get_or slots i []) ≡ true → k < redo_start version n
   file_before i k lt_i file on =
       let entry = redo_entry_tells n version (get_or slots p []) redo in
       let live = is_file_tells n (get_or slots i []) file in
@@ -115,6 +162,25 @@ module _ (version : Version) (n : ℕ) (header : List ℕ) (slots : List (List �
     where
       redo_long : n ≤ redo_start version n + redo_length version
       redo_long = omega arith
+
+-- The directory of a volume that is adopted with a version, and each live file of it but the redo file, end before that
+-- redo file.
+pub ends_before_redo : (version : Version) (n : ℕ) (v : Volume) → IsVolume n v → is_adopted_with n version v.slots ≡ true → (directory_end v.header ≤ redo_start version n)
+    × ((k : ℕ) → k < length v.slots → occupies (get_or v.slots k []) ≡ true → is_redo_file n (get_or v.slots k []) ≡ false → end_of (get_or v.slots k []) ≤ redo_start version n)
+ends_before_redo version n v is adopted = (
+  (redo_behind version n v.header v.slots is.legal found.0 found.1 found.2).0,
+  λ k lt on other.
+      let slot = get_or v.slots k [] in
+      let both = occupies_tells slot on in
+      let some : 0 < length_of slot = ltb-true 0 (length_of slot) both.1 in
+      let last : ℕ = start_of slot + (length_of slot - 1) in
+      let held : holds last slot ≡ true = and_from _ _ (le-leb (start_of slot) last (omega arith)) (lt-ltb last (end_of slot) (omega (arith, some))) in
+      let file : is_file n slot ≡ true = and_from _ _ both.0 (not_from_false _ other) in
+      omega (arith, file_before version n v.header v.slots is.legal found.0 found.1 found.2 k last lt file held, some),
+)
+  where
+    found : (i : ℕ) × (i < length v.slots) × (is_redo_entry n version (get_or v.slots i []) ≡ true)
+    found = any_at [] (is_redo_entry n version) v.slots adopted
 
 -- the records that a legal volume adopted with a version uses lie below its redo file
 pub adopted_uses_below : (version : Version) (t : Tape) (k : ℕ) → is_legal t ≡ true → is_adopted_with (length t) version (slots_of t) ≡ true → is_used t k ≡ true → k < redo_start version (length t)
@@ -160,8 +226,8 @@ directory_same x u long size same = go (is_readable (length u) (record_at u 0)) 
         and_first : (a b : Bool) → a ≡ false → (a && b) ≡ false
         and_first a b is = ap (λ (c : Bool). c && b) is
 
--- A tape that agrees with u below the gate, and where u is legal on each record that u uses, has the volume of u, and a
--- file that is not ours holds its gate exactly where one does so on u.
+-- A tape that agrees with u below the gate, and where u is legal on each record that u uses, has
+-- the volume of u, and a file that is not ours holds its gate exactly where one does so on u.
 pub volume_below : (u w : Tape) → 4 < length u → length w ≡ length u → ((k : ℕ) → k < gate_of (length u) → record_at w k ≡ record_at u k)
     → (is_legal u ≡ true → (k : ℕ) → is_used u k ≡ true → record_at w k ≡ record_at u k) → (volume_in w ≡ volume_in u) × (is_gate_held w ≡ is_gate_held u)
 volume_below u w long size below used = go (is_legal u) refl
@@ -236,11 +302,9 @@ gate_unused u legal_test off =
     let readable = readable_tells n (record_at u 0) legal.readable in
     false_from_ne_true _ (λ used. elim (cases_Bool (is_adopted n (slots_of u))) [
       | inl adopted ↦
-          let found = any_at [] (is_redo_file n) (slots_of u) adopted in
-          let one = any_at One (λ version. is_redo_entry n version (get_or (slots_of u) found.0 [])) versions found.2 in
-          let version = get_or versions one.0 One in
-          let below = adopted_uses_below version u (gate_of n) legal_test (any_from [] (is_redo_entry n version) (slots_of u) found.0 found.1 one.2) used in
-          absurd (omega (arith, below, (redo_places version n).0))
+          let version = adopted_version n (slots_of u) adopted in
+          let below = adopted_uses_below version.0 u (gate_of n) legal_test version.1 used in
+          absurd (omega (arith, below, (redo_places version.0 n).0))
       | inr foreign ↦ elim (or_cases (gate_of n == 0) _ used) [
         | inl zero_is ↦ absurd (omega (arith, eqb-true (gate_of n) 0 zero_is, readable.0, readable.2))
         | inr more ↦ elim (or_cases (nat_le (directory_start (record_at u 0)) (gate_of n) && nat_lt (gate_of n) (directory_end (record_at u 0))) _ more) [
@@ -256,7 +320,8 @@ gate_unused u legal_test off =
       ]
     ])
 
--- A tape whose redo is open and which is not foreign-gated: what settles as it does has its volume, and is not foreign-gated.
+-- A tape whose redo is open and which is not foreign-gated: what settles as it does has its volume,
+-- and is not foreign-gated.
 pub settles_as_same : (t x : Tape) (c : ℕ × List ℕ) (cs : Changes) → redo_of t ≡ c ∷ cs → is_foreign_gated t ≡ false → SettlesAs (settled t) x → (volume_of x ≡ volume_of t) × (is_foreign_gated x ≡ false)
 settles_as_same t x c cs is off settles =
     let armed = armed_here t c cs is in
@@ -266,8 +331,8 @@ settles_as_same t x c cs is off settles =
     (λ legal k used. settles.same k (λ at. let no : true ≡ false = sym used ∙ ap (is_used (settled t)) at ∙ gate_unused (settled t) legal off_gate in cc)) in
     (both.0, and_false (not (is_none (redo_of x))) (is_gate_held (settled x)) (both.1 ∙ off_gate))
 
--- A tape that is not foreign-gated, whether a redo is open on it or not: what settles as it does, and is that very tape
--- where no redo is open, has its volume, and is not foreign-gated.
+-- A tape that is not foreign-gated, whether a redo is open on it or not: what settles as it does,
+-- and is that very tape where no redo is open, has its volume, and is not foreign-gated.
 pub settling_same : (t x : Tape) → is_foreign_gated t ≡ false → SettlesAs (settled t) x → (redo_of t ≡ [] → x ≡ t) → (volume_of x ≡ volume_of t) × (is_foreign_gated x ≡ false)
 settling_same t x off settles idle = go (redo_of t) refl
   where
@@ -275,8 +340,8 @@ settling_same t x off settles idle = go (redo_of t) refl
     go [] none = (ap volume_of (idle none), ap is_foreign_gated (idle none) ∙ off)
     go (c ∷ cs) is = settles_as_same t x c cs is off settles
 
--- A tape that settles to u below the redo file has the volume of u and is not foreign-gated, where u is legal and
--- adopted with that version ..
+-- A tape that settles to u below the redo file has the volume of u and is not foreign-gated, where
+-- u is legal and adopted with that version ..
 pub settles_below_adopted : (version : Version) (u x : Tape) → is_legal u ≡ true → is_adopted_with (length u) version (slots_of u) ≡ true → SettlesBelow version u x → (volume_of x ≡ volume_in u) × (is_foreign_gated x ≡ false)
 settles_below_adopted version u x legal adopted settles =
     let n = length u in
@@ -285,16 +350,36 @@ settles_below_adopted version u x legal adopted settles =
     let used : (k : ℕ) → is_used u k ≡ true → record_at w k ≡ record_at u k = λ k on. settles.same k (adopted_uses_below version u k legal adopted on) in
     let slots : slots_of w ≡ slots_of u = slots_agree w u (used 0 refl)
     (λ k le lt. used k (or_right (k == 0) _ (or_left _ _ (and_from _ _ (le-leb (directory_start (record_at u 0)) k le) (lt-ltb k (directory_end (record_at u 0)) lt))))) in
-    let found = any_at [] (is_redo_entry n version) (slots_of u) adopted in
-    let any : is_adopted n (slots_of u) ≡ true = any_from [] (is_redo_file n) (slots_of u) found.0 found.1 (redo_entry_tells n version (get_or (slots_of u) found.0 []) found.2).0 in
+    let any : is_adopted n (slots_of u) ≡ true = adopted_some n version (slots_of u) adopted in
     let all : is_adopted (length w) (slots_of w) ≡ true = (λ i. is_adopted (size i) (slots i)) ∙ any in
     let off : is_gate_held w ≡ false = and_false (is_legal w) _ (and_left _ _ (not_from_true _ all)) in
     (volume_agrees w u size used, and_false (not (is_none (redo_of x))) (is_gate_held w) off)
 
--- .. and where the redo file begins with the gate, and no record from the gate on is used by u or held by a file of it
+-- .. or with another version whose redo file begins no later than that of the commit (for
+-- `upgrade`, whose volume is of version 2 behind a commit of version 1, and for `format` on a
+-- volume of version 2) ..
+pub settles_below_other : (version other : Version) (u x : Tape) → is_legal u ≡ true → is_adopted_with (length u) other (slots_of u) ≡ true → redo_start other (length u) ≤ redo_start version (length u)
+    → SettlesBelow version u x → (volume_of x ≡ volume_in u) × (is_foreign_gated x ≡ false)
+settles_below_other version other u x legal adopted earlier settles = settles_below_adopted other u x legal adopted (settles_below_less version other u x earlier settles)
+
+-- .. and where the redo file begins with the gate, and no record from the gate on is used by u or
+-- held by a file of it
 pub settles_below_clear : (version : Version) (u x : Tape) → 4 < length u → redo_start version (length u) ≡ gate_of (length u) → (is_legal u ≡ true → (k : ℕ) → is_used u k ≡ true → k < gate_of (length u))
     → is_gate_held u ≡ false → SettlesBelow version u x → (volume_of x ≡ volume_in u) × (is_foreign_gated x ≡ false)
 settles_below_clear version u x long first uses off settles =
     let below : (k : ℕ) → k < gate_of (length u) → record_at (settled x) k ≡ record_at u k = λ k lt. settles.same k (omega (arith, lt, first)) in
     let both = volume_below u (settled x) long (length_settled x ∙ settles.records) below (λ legal k on. below k (uses legal k on)) in
     (both.0, and_false (not (is_none (redo_of x))) (is_gate_held (settled x)) (both.1 ∙ off))
+
+-- At any moment of the commit of `upgrade`, and behind a trouble in it, the tape has the volume
+-- before or the one behind, and no other file's gate (for `upgrade`).
+pub upgrade_old_or_new : (changes : Changes) (u x : Tape) → is_legal u ≡ true → is_adopted_with (length u) One (slots_of u) ≡ true → is_legal (changed changes u) ≡ true
+    → is_adopted_with (length u) Two (slots_of (changed changes u)) ≡ true → IsOldOrNew One changes u x
+    → ((volume_of x ≡ volume_in u) ⊎ (volume_of x ≡ volume_in (changed changes u))) × (is_foreign_gated x ≡ false)
+upgrade_old_or_new changes u x legal adopted legal_then adopted_then old_or_new = elim old_or_new [
+  | inl old ↦ let same = settles_below_adopted One u x legal adopted old in (inl same.0, same.1)
+  | inr new ↦
+      let size : length (changed changes u) ≡ length u = length_changed changes u in
+      let same = settles_below_other One Two (changed changes u) x legal_then (ap (λ (n : ℕ). is_adopted_with n Two (slots_of (changed changes u))) size ∙ adopted_then) (omega arith) new in
+      (inr same.0, same.1)
+]

@@ -1,7 +1,8 @@
--- The next volume of each command: a refused command leaves the volume, and any other leaves a legal one, with its redo file.
+-- The next volume of each command: a refused command leaves the volume, and any other leaves a
+-- legal one, with its redo file.
 use Rattle.std.proofs.Common.{◌≡◌, ◌≢◌, ◌⊎◌, ◌<◌, ◌≤◌, ◌+◌, ◌-◌, ◌*◌, ◌++◌, ◌&&◌, ◌==◌, ℕ, zero, suc, List, [], ◌∷◌, Bool, true, false, not, if◌then◌else◌, Option, Some, None, length, map, get_or, set, insert, replicate, inl, inr, refl, sym, ◌∙◌, ap, subst, arith, nat_lt, length-set, get_or-set_other}
 use Rattle.std.specs.Str.{bytes_eq}
-use Rattle.std.proofs.lemmas.Bool.{cases_lt, and_parts, and_from, and_cases, or_left, or_parts, ltb-true, ltb-false, leb-false, eqb-true, eq-eqb, ne_eqb, not_from_true, not_from_false}
+use Rattle.std.proofs.lemmas.Bool.{cases_lt, and_parts, and_from, and_cases, or_left, or_parts, ltb-true, ltb-false, leb-false, eqb-true, eq-eqb, ne_eqb, not_from_true, not_from_false, false_from_ne_true, or_from, le-ltb, cases_Bool}
 use Rattle.std.proofs.lemmas.List.{length_push, length-map, get_or-map}
 use Rattle.std.proofs.lemmas.List.Edits.{length-insert, get_or-insert_below, get_or-insert_above}
 use Rattle.std.proofs.lemmas.Slice.Eq.{bytes_eq-Decides}
@@ -9,14 +10,15 @@ use Rattle.lif_model.specs.Gate.{gate_of}
 use Rattle.lif_model.specs.Header.{directory_start, directory_length, directory_end, capacity_of}
 use Rattle.lif_model.specs.Directory.{name_of, type_of, start_of, length_of, is_end, is_purged}
 use Rattle.lif_model.specs.Made.{new_entry, with_name, with_type, fresh_header, records_for_slots, file_length}
-use Rattle.lif_model.specs.Redo.{One, versions, redo_start}
+use Rattle.lif_model.specs.Redo.{One, Two, redo_start}
 use Rattle.lif_model.specs.Legal.{is_live, has_records, occupies, end_of, is_live_named, has_file}
-use Rattle.lif_model.specs.Volume.{redo_name, redo_type, redo_entry, is_redo_entry, is_redo_file, is_adopted, Volume, IsVolume, IsAdopted}
+use Rattle.lif_model.specs.Volume.{redo_name, redo_type, redo_entry, upgraded_entry, is_redo_entry, is_redo_file, is_adopted_with, is_adopted, Volume, IsVolume, IsAdopted}
 use Rattle.lif_model.specs.Fit.{Place, At, redo_place, can_append, fit_in}
-use Rattle.lif_model.specs.Apply.{VolumeCommand, Dir, Label, Fetch, Store, Rename, Purge, Adopt, Format, IsWellFormed, Refusal, lacks_redo, is_protected, lacks_slot, lacks_room, is_full, runs_past_gate, is_too_long, first_met, checks_of, refusal_of, stored, with_slot, renamed, fresh_volume, volume_after, volume_made, next_unless, apply}
-use Rattle.lif_model.proofs.Lists.{any_at, any_from, none_at, none_of_filter}
-use Rattle.lif_model.proofs.Made.{new_name, new_type, new_start, new_length, new_size, named_name, named_type, named_start, named_length, named_size, typed_type, typed_start, typed_length, typed_size, fresh_size, fresh_start, fresh_length, fresh_readable}
-use Rattle.lif_model.proofs.Fit.{IsPlace, fit_tells, place_is_free}
+use Rattle.lif_model.specs.Apply.{VolumeCommand, Dir, Label, Fetch, Store, Rename, Purge, Adopt, Upgrade, Format, IsWellFormed, Refusal, lacks_redo, is_protected, is_full, runs_past_gate, is_upgraded, runs_past_redo, is_too_long, first_met, store_checks, checks_of, refusal_of, stored, with_slot, renamed, upgraded, fresh_volume, volume_after, volume_made, next_unless, apply, InUse, NoRedo}
+use Rattle.lif_model.proofs.Lists.{any_at, any_from, none_at, none_of_filter, none_in_filter}
+use Rattle.lif_model.proofs.Made.{new_name, new_type, new_start, new_length, new_size, named_name, named_type, named_start, named_length, named_size, typed_type, typed_start, typed_length, typed_size, extent_name, extent_type, extent_start, extent_length, extent_size, fresh_size, fresh_start, fresh_length, fresh_readable}
+use Rattle.lif_model.proofs.Fit.{IsPlaceIn, fit_tells, place_is_free}
+use Rattle.lif_model.proofs.Adopted.{redo_file_tells, redo_file_is_live, redo_file_is_named, redo_entry_tells, redo_place_is, redo_is_alone, with_slot_at, ends_before_redo}
 use Rattle.lif_model.proofs.Slots.{readable_tells, occupies_tells, live_named_tells, other_name, HasNew, set_new, before_insert, insert_new, push_new, each_with_new, legal_with_new, StaysPut, legal_map, each_map, slot_cases}
 
 -- ---- replies
@@ -33,6 +35,7 @@ made_is n (Store name kind implementation bytes) v = refl
 made_is n (Rename old new) v = refl
 made_is n (Purge name) v = refl
 made_is n Adopt v = refl
+made_is n Upgrade v = refl
 made_is n (Format label slots) v = refl
 
 pub accepted : (n : ℕ) (command : VolumeCommand) (v : Volume) → refusal_of n command (Some v) ≡ None → apply n command (Some v) ≡ (None, Some (volume_after n command v))
@@ -57,15 +60,6 @@ none_met n command v is = met_none (checks_of n command v) is
 
 -- ---- the redo file
 
-pub redo_file_tells : (n : ℕ) (slot : List ℕ) → is_redo_file n slot ≡ true → (name_of slot ≡ redo_name) × (type_of slot ≡ redo_type)
-redo_file_tells n slot is =
-    let found = any_at One (λ version. is_redo_entry n version slot) versions is in
-    let both = and_parts (bytes_eq (name_of slot) redo_name) _ found.2 in
-    ((bytes_eq-Decides (name_of slot) redo_name).0 both.0, eqb-true (type_of slot) redo_type (and_parts _ _ both.1).0)
-
-pub redo_file_is_live : (n : ℕ) (slot : List ℕ) → is_redo_file n slot ≡ true → is_live slot ≡ true
-redo_file_is_live n slot is = not_from_false _ (ne_eqb (type_of slot) 0 (λ e. let both : redo_type ≡ 0 = sym (redo_file_tells n slot is).1 ∙ e in omega (arith, both)))
-
 -- the entry that this project makes
 pub made_redo_file : (n : ℕ) → is_redo_file n (redo_entry One n) ≡ true
 made_redo_file n =
@@ -89,7 +83,7 @@ module _ (n : ℕ) (v : Volume) (name : List ℕ) (kind : ℕ) (implementation b
 
   -- the directory with the new entry in some place
   with_file : (later : List (List ℕ)) (old : ℕ → ℕ) → IsAdopted n v → IsWellFormed (Store name kind implementation bytes) → has_file v.slots name ≡ false
-      → IsPlace n (directory_end v.header) (capacity_of v.header) v.slots (file_length bytes) i start → HasNew v.slots later i new old
+      → IsPlaceIn n v (file_length bytes) i start → HasNew v.slots later i new old
       → ((k : ℕ) → k < length later → k ≢ i → old k ≡ i → i ≡ redo_place v.slots) → length later ≤ capacity_of v.header → is_adopted n later ≡ true
       → (files : Volume) → IsAdopted n (record files { header = v.header; slots = later })
   with_file later old is formed none place has own room adopted files =
@@ -124,7 +118,7 @@ module _ (n : ℕ) (v : Volume) (name : List ℕ) (kind : ℕ) (implementation b
 
   -- in a purged slot
   pub set_is_adopted : IsAdopted n v → IsWellFormed (Store name kind implementation bytes) → has_file v.slots name ≡ false
-      → IsPlace n (directory_end v.header) (capacity_of v.header) v.slots (file_length bytes) i start → i < length v.slots → is_purged (get_or v.slots i []) ≡ true → i ≢ redo_place v.slots
+      → IsPlaceIn n v (file_length bytes) i start → i < length v.slots → is_purged (get_or v.slots i []) ≡ true → i ≢ redo_place v.slots
       → (files : Volume) → IsAdopted n (record files { header = v.header; slots = set v.slots i new })
   set_is_adopted is formed none place lt purged other files =
       let found = any_at [] (is_redo_file n) v.slots is.adopted in
@@ -136,7 +130,7 @@ module _ (n : ℕ) (v : Volume) (name : List ℕ) (kind : ℕ) (implementation b
 
   -- before the redo entry
   pub insert_is_adopted : IsAdopted n v → IsWellFormed (Store name kind implementation bytes) → has_file v.slots name ≡ false
-      → IsPlace n (directory_end v.header) (capacity_of v.header) v.slots (file_length bytes) i start → i ≡ redo_place v.slots → can_append (capacity_of v.header) v.slots ≡ true
+      → IsPlaceIn n v (file_length bytes) i start → i ≡ redo_place v.slots → can_append (capacity_of v.header) v.slots ≡ true
       → (files : Volume) → IsAdopted n (record files { header = v.header; slots = insert v.slots i new })
   insert_is_adopted is formed none place own append files =
       let both = and_parts _ _ append in
@@ -150,26 +144,36 @@ module _ (n : ℕ) (v : Volume) (name : List ℕ) (kind : ℕ) (implementation b
         | inr ge ↦ any_from [] (is_redo_file n) (insert v.slots i new) (found.0 + 1) (omega (arith, found.1, length-insert v.slots i new le)) (ap (is_redo_file n) (get_or-insert_above v.slots i new [] found.0 ge le) ∙ found.2)
       ]) files
 
-pub store_is_adopted : (n : ℕ) (v : Volume) (name : List ℕ) (kind : ℕ) (implementation bytes : List ℕ) → IsAdopted n v → IsWellFormed (Store name kind implementation bytes)
-    → refusal_of n (Store name kind implementation bytes) (Some v) ≡ None → IsAdopted n (volume_after n (Store name kind implementation bytes) v)
-store_is_adopted n v name kind implementation bytes is formed none = go (fit_in n v (file_length bytes)) refl unmet.1.1.1.0 unmet.1.1.1.1.0
+-- a file stored at a place leaves an adopted volume (for `store`, and for the parts of a batch)
+pub stored_is_adopted : (n : ℕ) (v : Volume) (name : List ℕ) (kind : ℕ) (implementation bytes : List ℕ) (i start : ℕ) → IsAdopted n v
+    → IsWellFormed (Store name kind implementation bytes) → has_file v.slots name ≡ false → IsPlaceIn n v (file_length bytes) i start
+    → IsAdopted n (stored v name kind implementation bytes (At i start))
+stored_is_adopted n v name kind implementation bytes i start is formed none place = elim place.candidate [
+  | inl purged ↦ subst (λ (b : Bool). IsAdopted n (record later { slots = if b then insert v.slots i entry else set v.slots i entry })) (sym (ne_eqb i (redo_place v.slots) (λ e. absurd (omega (arith, e, purged.0)))))
+      (set_is_adopted n v name kind implementation bytes i start is formed none place purged.1 purged.2 (λ e. absurd (omega (arith, e, purged.0))) later)
+  | inr own ↦ subst (λ (b : Bool). IsAdopted n (record later { slots = if b then insert v.slots i entry else set v.slots i entry })) (sym (eq-eqb i (redo_place v.slots) own.0))
+      (insert_is_adopted n v name kind implementation bytes i start is formed none place own.0 own.1 later)
+]
   where
-    unmet : NoneMet (checks_of n (Store name kind implementation bytes) v)
-    unmet = none_met n (Store name kind implementation bytes) v none
+    entry : List ℕ
+    entry = new_entry name kind start (file_length bytes) implementation
 
-    go : (place : Place) → fit_in n v (file_length bytes) ≡ place → lacks_slot place ≡ false → lacks_room place ≡ false → IsAdopted n (stored v name kind implementation bytes place)
-    go Place.NoSlot e slot room = cc
-    go Place.NoRoom e slot room = cc
-    go (At i start) e slot room =
-        let place = fit_tells n (directory_end v.header) (capacity_of v.header) v.slots (file_length bytes) i start e in
-        let entry : List ℕ = new_entry name kind start (file_length bytes) implementation in
-        let later : Volume = stored v name kind implementation bytes (At i start) in
-        elim place.candidate [
-          | inl purged ↦ subst (λ (b : Bool). IsAdopted n (record later { slots = if b then insert v.slots i entry else set v.slots i entry })) (sym (ne_eqb i (redo_place v.slots) (λ e. absurd (omega (arith, e, purged.0)))))
-              (set_is_adopted n v name kind implementation bytes i start is formed unmet.1.1.0 place purged.1 purged.2 (λ e. absurd (omega (arith, e, purged.0))) later)
-          | inr own ↦ subst (λ (b : Bool). IsAdopted n (record later { slots = if b then insert v.slots i entry else set v.slots i entry })) (sym (eq-eqb i (redo_place v.slots) own.0))
-              (insert_is_adopted n v name kind implementation bytes i start is formed unmet.1.1.0 place own.0 own.1 later)
-        ]
+    later : Volume
+    later = stored v name kind implementation bytes (At i start)
+
+-- where none of a store's tests is met, there is a slot and a first record
+pub store_has_place : (n : ℕ) (v : Volume) (name : List ℕ) (place : Place) → NoneMet (store_checks n v name place) → (i : ℕ) × (start : ℕ) × (place ≡ At i start)
+store_has_place n v name (At i start) unmet = (i, start, refl)
+store_has_place n v name Place.NoSlot unmet = let both : true ≡ false = unmet.1.1.1.0 in cc
+store_has_place n v name Place.NoRoom unmet = let both : true ≡ false = unmet.1.1.1.1.0 in cc
+
+store_is_adopted : (n : ℕ) (v : Volume) (name : List ℕ) (kind : ℕ) (implementation bytes : List ℕ) → IsAdopted n v → IsWellFormed (Store name kind implementation bytes)
+    → refusal_of n (Store name kind implementation bytes) (Some v) ≡ None → IsAdopted n (volume_after n (Store name kind implementation bytes) v)
+store_is_adopted n v name kind implementation bytes is formed none =
+    let unmet : NoneMet (checks_of n (Store name kind implementation bytes) v) = none_met n (Store name kind implementation bytes) v none in
+    let found = store_has_place n v name (fit_in n v (file_length bytes)) unmet in
+    subst (λ (p : Place). IsAdopted n (stored v name kind implementation bytes p)) (sym found.2)
+    (stored_is_adopted n v name kind implementation bytes found.0 found.1 is formed unmet.1.1.0 (fit_tells n _ _ v.slots (file_length bytes) found.0 found.1 found.2))
 
 -- ---- a slot changed in place
 
@@ -311,27 +315,33 @@ rename_is_adopted n v old later is formed none = go (bytes_eq old later) refl
 adopted_room : (n : ℕ) (v : Volume) → is_full v ≡ false → length v.slots < capacity_of v.header
 adopted_room n v room = leb-false (capacity_of v.header) (length v.slots) room
 
--- a volume without a redo file gets one
-pub adopt_is_adopted : (n : ℕ) (v : Volume) → IsVolume n v → refusal_of n Adopt (Some v) ≡ None → IsAdopted n (volume_after n Adopt v)
-adopt_is_adopted n v is none = go (is_adopted n v.slots) refl
+-- where `adopt` is not refused and there is no redo file: no file has its name, there is a slot,
+-- and files end at or before the gate
+pub adopt_unmet : (n : ℕ) (v : Volume) → is_adopted n v.slots ≡ false → refusal_of n Adopt (Some v) ≡ None → (has_file v.slots redo_name ≡ false) × (is_full v ≡ false) × (runs_past_gate n v ≡ false)
+adopt_unmet n v foreign none = (unmet_after _ unmet.0, unmet_after _ unmet.1.0, unmet_after _ unmet.1.1.0)
   where
     unmet : NoneMet (checks_of n Adopt v)
     unmet = none_met n Adopt v none
 
+    unmet_after : (b : Bool) → (lacks_redo n v && b) ≡ false → b ≡ false
+    unmet_after b off = sym (ap (λ (a : Bool). a && b) (not_from_false _ foreign)) ∙ off
+
+pub adopt_clear : (n : ℕ) (v : Volume) → is_adopted n v.slots ≡ false → refusal_of n Adopt (Some v) ≡ None → (k : ℕ) → k < length v.slots → occupies (get_or v.slots k []) ≡ true → end_of (get_or v.slots k []) ≤ gate_of n
+adopt_clear n v foreign none k lt on = ltb-false (gate_of n) (end_of (get_or v.slots k []))
+    (none_of_filter [] occupies (λ slot. nat_lt (gate_of n) (end_of slot)) v.slots k (adopt_unmet n v foreign none).2 lt on)
+
+-- a volume without a redo file gets one
+pub adopt_is_adopted : (n : ℕ) (v : Volume) → IsVolume n v → refusal_of n Adopt (Some v) ≡ None → IsAdopted n (volume_after n Adopt v)
+adopt_is_adopted n v is none = go (is_adopted n v.slots) refl
+  where
     go : (b : Bool) → is_adopted n v.slots ≡ b → IsAdopted n (volume_after n Adopt v)
     go true e = subst (λ (b : Bool). IsAdopted n (if b then v else record v { slots = v.slots ++ redo_entry One n ∷ [] })) (sym e) (record { volume = is; adopted = e })
     go false e =
-        let lacks : lacks_redo n v ≡ true = not_from_false _ e in
-        let none_named : has_file v.slots redo_name ≡ false = unmet_after _ _ lacks unmet.0 in
-        let fits : is_full v ≡ false = unmet_after _ _ lacks unmet.1.0 in
-        let clear : runs_past_gate n v ≡ false = unmet_after _ _ lacks unmet.1.1.0 in
-        subst (λ (b : Bool). IsAdopted n (if b then v else record v { slots = v.slots ++ redo_entry One n ∷ [] })) (sym e) (with_redo none_named fits clear)
+        let unmet = adopt_unmet n v e none in
+        subst (λ (b : Bool). IsAdopted n (if b then v else record v { slots = v.slots ++ redo_entry One n ∷ [] })) (sym e) (with_redo unmet.0 unmet.1)
       where
-        unmet_after : (a b : Bool) → a ≡ true → (a && b) ≡ false → b ≡ false
-        unmet_after a b is off = sym (ap (λ (c : Bool). c && b) is) ∙ off
-
-        with_redo : has_file v.slots redo_name ≡ false → is_full v ≡ false → runs_past_gate n v ≡ false → IsAdopted n (record v { slots = v.slots ++ redo_entry One n ∷ [] })
-        with_redo none_named fits clear =
+        with_redo : has_file v.slots redo_name ≡ false → is_full v ≡ false → IsAdopted n (record v { slots = v.slots ++ redo_entry One n ∷ [] })
+        with_redo none_named fits =
             let zeros : List ℕ = replicate 4 0 in
             let redo : List ℕ = redo_entry One n in
             let starts : start_of redo ≡ n - 4 = new_start redo_name redo_type (n - 4) 4 zeros refl in
@@ -345,7 +355,7 @@ adopt_is_adopted n v is none = go (is_adopted n v.slots) refl
                     (omega (arith, starts, readable.2)) (omega (arith, starts, longs, readable.0, readable.2))
                     (λ k lt ne on.
                     let found = has.others k lt ne in
-                    inl (omega (arith, ap end_of found.1, starts, ends_before k found.0 (sym (ap occupies found.1) ∙ on))))
+                    inl (omega (arith, ap end_of found.1, starts, adopt_clear n v e none k found.0 (sym (ap occupies found.1) ∙ on))))
                     (λ k lt ne live same.
                     let found = has.others k lt ne in
                     no_file v.slots redo_name k none_named found.0 (sym (ap is_live found.1) ∙ live) (sym (ap name_of found.1) ∙ same ∙ new_name redo_name redo_type (n - 4) 4 zeros refl));
@@ -356,9 +366,123 @@ adopt_is_adopted n v is none = go (is_adopted n v.slots) refl
               };
               adopted = any_from [] (is_redo_file n) (v.slots ++ redo ∷ []) (length v.slots) (omega (arith, length_push v.slots redo)) (ap (is_redo_file n) has.here ∙ made_redo_file n);
             }
-          where
-            ends_before : (k : ℕ) → k < length v.slots → occupies (get_or v.slots k []) ≡ true → end_of (get_or v.slots k []) ≤ gate_of n
-            ends_before k lt on = ltb-false (gate_of n) (end_of (get_or v.slots k [])) (none_of_filter [] occupies (λ slot. nat_lt (gate_of n) (end_of slot)) v.slots k clear lt on)
+
+-- ---- upgrade
+
+module _ (n : ℕ) (v : Volume) (is : IsAdopted n v) (clear : runs_past_redo n v ≡ false) where
+  abbrev r : ℕ
+  r = redo_place v.slots
+
+  abbrev redo : List ℕ
+  redo = get_or v.slots r []
+
+  abbrev moved : List ℕ
+  moved = upgraded_entry n redo
+
+  abbrev later : List (List ℕ)
+  later = set v.slots r moved
+
+  is_here : (r < length v.slots) × (is_redo_file n redo ≡ true)
+  is_here = redo_place_is n v is
+
+  sized : length redo ≡ 32
+  sized = is.volume.entries (r) is_here.0
+
+  kept_name : name_of moved ≡ redo_name
+  kept_name = extent_name (redo_start Two n) 34 (replicate 4 0) redo sized ∙ (redo_file_tells n redo is_here.1).0
+
+  kept_type : type_of moved ≡ redo_type
+  kept_type = extent_type (redo_start Two n) 34 (replicate 4 0) redo sized ∙ (redo_file_tells n redo is_here.1).1
+
+  starts : start_of moved ≡ redo_start Two n
+  starts = extent_start (redo_start Two n) 34 (replicate 4 0) redo sized
+
+  longs : length_of moved ≡ 34
+  longs = extent_length (redo_start Two n) 34 (replicate 4 0) redo sized
+
+  -- which is that of version 2
+  pub moved_is_two : is_redo_entry n Two moved ≡ true
+  moved_is_two = and_from _ _ ((bytes_eq-Decides (name_of moved) redo_name).1 kept_name)
+      (and_from _ _ (eq-eqb (type_of moved) redo_type kept_type) (and_from _ _ (eq-eqb (start_of moved) (redo_start Two n) starts) (eq-eqb (length_of moved) 34 longs)))
+
+  -- the redo entry stands in its slot with another extent
+  pub upgraded_at : (upgraded n v).slots ≡ set v.slots (r) moved
+  upgraded_at = with_slot_at n v.header v.slots redo_name (upgraded_entry n) (r) is.volume.legal is_here.0 (redo_file_is_named n redo is_here.1)
+
+  ends_before : (k : ℕ) → k < length v.slots → k ≢ r → occupies (get_or v.slots k []) ≡ true → end_of (get_or v.slots k []) ≤ redo_start Two n
+  ends_before k lt ne on =
+      let slot = get_or v.slots k [] in
+      let other : is_redo_file n slot ≡ false = false_from_ne_true _ (λ redo_too. ne (redo_is_alone n v k is lt (redo_file_is_named n slot redo_too))) in
+      let off = none_of_filter [] occupies (λ s. not (is_redo_file n s) && nat_lt (redo_start Two n) (end_of s)) v.slots k (or_parts _ _ clear).1 lt on in
+      ltb-false (redo_start Two n) (end_of slot) (sym (ap (λ (b : Bool). not b && nat_lt (redo_start Two n) (end_of slot)) other) ∙ off)
+
+  set_is_two : (files : Volume) → IsAdopted n (record files { header = v.header; slots = set v.slots (r) moved }) × (is_adopted_with n Two (set v.slots (r) moved) ≡ true)
+  set_is_two files = (
+    record {
+      volume = record {
+        header = is.volume.header;
+        legal = legal_with_new n v.header v.slots later r moved (λ k. k) is.volume.legal has
+            (omega (arith, starts, fits)) (omega (arith, starts, longs, fits, readable.0))
+            (λ k lt ne on. let found = has.others k lt ne in inl (omega (arith, ap end_of found.1, starts, ends_before k found.0 ne (sym (ap occupies found.1) ∙ on))))
+            (λ k lt ne live same.
+            let found = has.others k lt ne in
+            let named : is_live_named redo_name (get_or v.slots k []) ≡ true =
+            and_from _ _ (sym (ap is_live found.1) ∙ live) ((bytes_eq-Decides (name_of (get_or v.slots k [])) redo_name).1 (sym (ap name_of found.1) ∙ same ∙ kept_name)) in
+            ne (redo_is_alone n v k is found.0 named));
+        room = omega (arith, length-set v.slots r moved, is.volume.room);
+        entries = each_with_new (λ slot. length slot ≡ 32) v.slots later r moved (λ k. k) has (extent_size (redo_start Two n) 34 (replicate 4 0) redo sized refl) is.volume.entries;
+        kinds = each_with_new (λ slot. is_end slot ≡ false) v.slots later r moved (λ k. k) has (not_end moved redo_type kept_type (λ e. absurd (omega (arith, e)))) is.volume.kinds;
+      };
+      adopted = any_from [] (is_redo_file n) later r long (ap (is_redo_file n) has.here ∙ (redo_entry_tells n Two moved moved_is_two).0);
+    },
+    any_from [] (is_redo_entry n Two) later r long (ap (is_redo_entry n Two) has.here ∙ moved_is_two),
+  )
+    where
+      has : HasNew v.slots later r moved (λ k. k)
+      has = set_new v.slots r moved is_here.0
+
+      long : r < length later
+      long = omega (arith, length-set v.slots r moved, is_here.0)
+
+      readable : (0 < directory_start v.header) × (0 < directory_length v.header) × (directory_end v.header ≤ gate_of n)
+      readable = readable_tells n v.header is.volume.legal.readable
+
+      fits : directory_end v.header ≤ redo_start Two n
+      fits = ltb-false (redo_start Two n) (directory_end v.header) (or_parts _ _ clear).0
+
+-- the volume then has version 2
+pub upgrade_is_two : (n : ℕ) (v : Volume) → IsAdopted n v → refusal_of n Upgrade (Some v) ≡ None
+    → IsAdopted n (volume_after n Upgrade v) × (is_adopted_with n Two (volume_after n Upgrade v).slots ≡ true)
+upgrade_is_two n v is none = go (is_upgraded n v) refl
+  where
+    unmet : NoneMet (checks_of n Upgrade v)
+    unmet = none_met n Upgrade v none
+
+    go : (b : Bool) → is_upgraded n v ≡ b → IsAdopted n (volume_after n Upgrade v) × (is_adopted_with n Two (volume_after n Upgrade v).slots ≡ true)
+    go true e = subst (λ (b : Bool). IsAdopted n (if b then v else upgraded n v) × (is_adopted_with n Two (if b then v else upgraded n v).slots ≡ true)) (sym e) (is, e)
+    go false e =
+        let clear : runs_past_redo n v ≡ false = sym (ap (λ (b : Bool). not b && runs_past_redo n v) e) ∙ unmet.1.0 in
+        let at = upgraded_at n v is clear in
+        subst (λ (b : Bool). IsAdopted n (if b then v else upgraded n v) × (is_adopted_with n Two (if b then v else upgraded n v).slots ≡ true)) (sym e)
+        (subst (λ (later : List (List ℕ)). IsAdopted n (record v { slots = later }) × (is_adopted_with n Two later ≡ true)) (sym at) (set_is_two n v is clear v))
+
+-- `upgrade` of an adopted volume is refused exactly where the directory or a file reaches into the records that version 2
+-- is to have; on a volume of version 2 none does (for the cause of InUse in `upgrade`).
+pub upgrade_refused : (n : ℕ) (v : Volume) → IsAdopted n v → refusal_of n Upgrade (Some v) ≡ (if runs_past_redo n v then Some InUse else None)
+upgrade_refused n v is = ap (λ (b : Bool). if not b then Some NoRedo else (if not (is_upgraded n v) && runs_past_redo n v then Some InUse else None)) is.adopted ∙ go (is_upgraded n v) refl
+  where
+    go : (b : Bool) → is_upgraded n v ≡ b → (if not (is_upgraded n v) && runs_past_redo n v then Some InUse else None) ≡ (if runs_past_redo n v then Some InUse else None)
+    go false e = ap (λ (b : Bool). if not b && runs_past_redo n v then Some InUse else None) e
+    go true e =
+        let ends = ends_before_redo Two n v is.volume e in
+        let clear : runs_past_redo n v ≡ false = or_from (nat_lt (redo_start Two n) (directory_end v.header)) _ (le-ltb (redo_start Two n) (directory_end v.header) ends.0)
+        (none_in_filter [] occupies (λ slot. not (is_redo_file n slot) && nat_lt (redo_start Two n) (end_of slot)) v.slots (λ k lt on. one k (cases_Bool (is_redo_file n (get_or v.slots k []))) (ends.1 k lt on))) in
+        ap (λ (b : Bool). if not b && runs_past_redo n v then Some InUse else None) e ∙ sym (ap (λ (b : Bool). if b then Some InUse else None) clear)
+      where
+        one : (k : ℕ) → (is_redo_file n (get_or v.slots k []) ≡ true) ⊎ (is_redo_file n (get_or v.slots k []) ≡ false) → (is_redo_file n (get_or v.slots k []) ≡ false → end_of (get_or v.slots k []) ≤ redo_start Two n)
+            → (not (is_redo_file n (get_or v.slots k [])) && nat_lt (redo_start Two n) (end_of (get_or v.slots k []))) ≡ false
+        one k (inl redo_too) before = ap (λ (b : Bool). not b && nat_lt (redo_start Two n) (end_of (get_or v.slots k []))) redo_too
+        one k (inr other) before = ap (λ (b : Bool). not b && nat_lt (redo_start Two n) (end_of (get_or v.slots k []))) other ∙ le-ltb (redo_start Two n) (end_of (get_or v.slots k [])) (before other)
 
 -- ---- format
 
@@ -407,6 +531,7 @@ next_is_adopted n (Store name kind implementation bytes) v is formed none = stor
 next_is_adopted n (Rename old later) v is formed none = rename_is_adopted n v old later is formed none
 next_is_adopted n (Purge name) v is formed none = purge_is_adopted n v name is none
 next_is_adopted n Adopt v is formed none = adopt_is_adopted n v is.volume none
+next_is_adopted n Upgrade v is formed none = (upgrade_is_two n v is none).0
 next_is_adopted n (Format label slots) v is formed none = format_is_adopted n label slots formed (none_met n (Format label slots) v none).0
 
 -- as a pair of reply and volume

@@ -1,16 +1,16 @@
--- Worked examples of the choice of place and of the commands, computed by the checker. On a tape of twelve records the
--- gate is record 8, on one of sixteen record 12.
+-- Worked examples of the choice of place and of the commands, computed by the checker. On a tape of
+-- twelve records the gate is record 8, on one of sixteen record 12.
 use Rattle.std.proofs.Common.{◌≡◌, ◌++◌, ℕ, List, [], ◌∷◌, Option, Some, None, true, refl, replicate, codes}
 use Rattle.std.specs.FinMap.{empty, insert, remove}
 use Rattle.lif_model.specs.Numbers.{two_at, four_at}
 use Rattle.lif_model.specs.Directory.{name_of}
 use Rattle.lif_model.specs.Header.{is_readable, label_of, capacity_of}
-use Rattle.lif_model.specs.Made.{new_entry, with_type, fresh_header, filled}
+use Rattle.lif_model.specs.Made.{new_entry, with_type, with_extent, fresh_header, filled}
 use Rattle.lif_model.specs.Shelf.{piece}
-use Rattle.lif_model.specs.Redo.{One}
-use Rattle.lif_model.specs.Volume.{redo_entry, Volume}
+use Rattle.lif_model.specs.Redo.{One, Two}
+use Rattle.lif_model.specs.Volume.{redo_entry, upgraded_entry, is_adopted_with, Volume}
 use Rattle.lif_model.specs.Fit.{Place, At, NoSlot, NoRoom, fit, candidates}
-use Rattle.lif_model.specs.Apply.{VolumeCommand, Dir, Fetch, Store, Rename, Purge, Adopt, Format, Refusal, NotLif, NoRedo, Protected, NoFile, Exists, InUse, refusal_of, apply}
+use Rattle.lif_model.specs.Apply.{VolumeCommand, Dir, Fetch, Store, Rename, Purge, Adopt, Upgrade, Format, Refusal, NotLif, NoRedo, Protected, NoFile, Exists, InUse, first_met, store_checks, refusal_of, stored, apply}
 use Rattle.lif_model.proofs.Examples as base
 use Rattle.lif_model.proofs.VolumeExamples.{file, purged, junk, a_name, b_name}
 
@@ -48,13 +48,15 @@ second_hole : place (purged (file a_name 4 1) ∷ purged (file b_name 5 2) ∷ f
 unfolding two_at four_at name_of with_type
 second_hole = refl
 
--- the numbers of a purged slot count as well: no candidate behind it has room, and none before it ends past its start
+-- the numbers of a purged slot count as well: no candidate behind it has room, and none before it
+-- ends past its start
 junk_counts : (place (junk ∷ redo ∷ []) 1 ≡ At 0 4) × (place (purged (file a_name 6 9) ∷ redo ∷ []) 5 ≡ NoRoom)
     × (candidates 16 (purged (file a_name 6 9) ∷ redo ∷ []) ≡ 0 ∷ 1 ∷ []) × (place (file b_name 4 1 ∷ purged (file a_name 6 9) ∷ file c_name 5 1 ∷ redo ∷ []) 1 ≡ NoRoom)
 unfolding two_at four_at name_of with_type
 junk_counts = (refl, refl, refl, refl)
 
--- a full directory without a purged slot, one whose redo entry is not last, and one with a purged slot behind it
+-- a full directory without a purged slot, one whose redo entry is not last, and one with a purged
+-- slot behind it
 no_slot : (fit 12 4 2 (file a_name 4 1 ∷ redo ∷ []) 1 ≡ NoSlot) × (place (redo ∷ file a_name 4 1 ∷ []) 1 ≡ NoSlot) × (place (redo ∷ purged (file a_name 4 1) ∷ []) 1 ≡ NoSlot)
 unfolding two_at four_at name_of with_type
 no_slot = (refl, refl, refl)
@@ -122,6 +124,17 @@ stored_again : (answer (store a_name (65 ∷ [])) (purged (file a_name 4 1) ∷ 
 unfolding two_at four_at name_of with_type
 stored_again = (refl, refl)
 
+-- at a place that is handed in, as where several commands change the directory at once: the tests
+-- of a store look at it last, and the file goes there
+abbrev with_a : Volume
+with_a = record { header = base.header; slots = file a_name 4 1 ∷ redo ∷ []; files = empty }
+
+handed_in : (first_met (store_checks 12 with_a b_name (At 1 6)) ≡ None) × (first_met (store_checks 12 with_a b_name NoSlot) ≡ Some Refusal.NoSlot)
+    × (first_met (store_checks 12 with_a b_name NoRoom) ≡ Some Refusal.NoRoom) × (first_met (store_checks 12 with_a a_name NoRoom) ≡ Some Exists)
+    × ((stored with_a b_name 1 (replicate 4 0) (66 ∷ []) (At 1 6)).slots ≡ file a_name 4 1 ∷ file b_name 6 1 ∷ redo ∷ [])
+unfolding two_at four_at name_of new_entry
+handed_in = (refl, refl, refl, refl, refl)
+
 -- ---- a directory of one record, eight slots, on sixteen records: files from record 3 on
 
 abbrev small : List (List ℕ) → Option Volume
@@ -142,7 +155,8 @@ eighth_file : (refusal_of 16 (store (numbered 8) (88 ∷ [])) (small (seven ++ r
 unfolding two_at four_at name_of fresh_header piece new_entry with_type
 eighth_file = (refl, refl)
 
--- the seventh file takes the redo entry's slot and the next record, where the directory has two records
+-- the seventh file takes the redo entry's slot and the next record, where the directory has two
+-- records
 seventh_file : fit 16 4 16 (file (numbered 1) 4 1 ∷ file (numbered 2) 5 1 ∷ file (numbered 3) 6 1 ∷ file (numbered 4) 7 1 ∷ file (numbered 5) 8 1 ∷ file (numbered 6) 9 1 ∷ redo_of_sixteen ∷ []) 1 ≡ At 6 10
 unfolding two_at four_at name_of new_entry
 seventh_file = refl
@@ -183,6 +197,52 @@ formats_adopted : (answer (Format (codes "HPTAPE") 8) (redo ∷ []) ≡ None) ×
 unfolding two_at four_at name_of with_type
 formats_adopted = (refl, refl)
 
+-- ---- upgrade, on fifty records: the redo file of version 1 begins at record 46, that of version 2 at record 16
+
+abbrev fifty : ℕ → List (List ℕ) → Option Volume
+fifty count slots = Some (record { header = fresh_header 50 (codes "HPTAPE") count; slots = slots; files = empty })
+
+abbrev redo_in_fifty : List ℕ
+redo_in_fifty = redo_entry One 50
+
+-- a redo entry with a date, another volume word and an implementation field keeps all but its place
+-- and that field
+upgraded_redo_entry : upgraded_entry 50 (codes "REDOFILE  " ++ 0xE0 ∷ 0xD0 ∷ 0 ∷ 0 ∷ 0 ∷ 46 ∷ 0 ∷ 0 ∷ 0 ∷ 4 ∷ 0x85 ∷ 0x11 ∷ 0x27 ∷ 0x15 ∷ 0x20 ∷ 0x59 ∷ 0x80 ∷ 0x02 ∷ 1 ∷ 2 ∷ 3 ∷ 4 ∷ [])
+    ≡ codes "REDOFILE  " ++ 0xE0 ∷ 0xD0 ∷ 0 ∷ 0 ∷ 0 ∷ 16 ∷ 0 ∷ 0 ∷ 0 ∷ 34 ∷ 0x85 ∷ 0x11 ∷ 0x27 ∷ 0x15 ∷ 0x20 ∷ 0x59 ∷ 0x80 ∷ 0x02 ∷ 0 ∷ 0 ∷ 0 ∷ 0 ∷ []
+unfolding with_extent
+upgraded_redo_entry = refl
+
+-- a file may end where the new redo file begins, and a purged slot may hold any numbers
+upgraded_fifty : apply 50 Upgrade (fifty 2 (file a_name 4 12 ∷ purged (file b_name 40 1) ∷ redo_in_fifty ∷ []))
+    ≡ (None, fifty 2 (file a_name 4 12 ∷ purged (file b_name 40 1) ∷ redo_entry Two 50 ∷ []))
+unfolding two_at four_at name_of fresh_header piece new_entry with_type with_extent
+upgraded_fifty = refl
+
+-- to upgrade again changes nothing
+upgraded_again : (apply 50 Upgrade (fifty 2 (file a_name 4 12 ∷ redo_entry Two 50 ∷ [])) ≡ (None, fifty 2 (file a_name 4 12 ∷ redo_entry Two 50 ∷ [])))
+    × (is_adopted_with 50 Two (redo_entry Two 50 ∷ []) ≡ true)
+unfolding two_at four_at name_of fresh_header piece new_entry
+upgraded_again = (refl, refl)
+
+-- a file in the first of the new records; one without records there; a directory that ends there,
+-- and one that ends before
+past_redo : (refusal_of 50 Upgrade (fifty 2 (file a_name 4 13 ∷ redo_in_fifty ∷ [])) ≡ Some InUse) × (refusal_of 50 Upgrade (fifty 2 (redo_in_fifty ∷ file a_name 45 1 ∷ [])) ≡ Some InUse)
+    × (refusal_of 50 Upgrade (fifty 2 (file a_name 40 0 ∷ redo_in_fifty ∷ [])) ≡ None)
+    × (refusal_of 50 Upgrade (fifty 15 (redo_in_fifty ∷ [])) ≡ Some InUse) × (refusal_of 50 Upgrade (fifty 14 (redo_in_fifty ∷ [])) ≡ None)
+unfolding two_at four_at name_of fresh_header piece new_entry
+past_redo = (refl, refl, refl, refl, refl)
+
+-- without a redo file, and where a tape is too short for one of version 2
+no_upgrade : (refusal_of 50 Upgrade (fifty 2 (file a_name 4 13 ∷ [])) ≡ Some NoRedo) × (refusal_of 50 Upgrade None ≡ Some NotLif) × (answer Upgrade (redo ∷ []) ≡ Some InUse)
+unfolding two_at four_at name_of fresh_header piece new_entry
+no_upgrade = (refl, refl, refl)
+
+-- the redo entry of version 2 counts as behind its own place: its start bounds the place, and not
+-- the gate, record 46
+bounded_by_redo : (fit 50 4 16 (redo_entry Two 50 ∷ []) 12 ≡ At 0 4) × (fit 50 4 16 (redo_entry Two 50 ∷ []) 13 ≡ NoRoom) × (fit 50 4 16 (redo_in_fifty ∷ []) 42 ≡ At 0 4)
+unfolding two_at four_at name_of new_entry
+bounded_by_redo = (refl, refl, refl)
+
 -- ---- tapes without a volume
 
 no_volume : (apply 12 Dir None ≡ (Some NotLif, None)) × (refusal_of 12 Adopt None ≡ Some NotLif) × (refusal_of 12 (store a_name []) None ≡ Some NotLif)
@@ -197,6 +257,7 @@ formatted_header : (is_readable 12 (fresh_header 12 (codes "HPTAPE") 2) ≡ true
 unfolding fresh_header piece two_at four_at label_of
 formatted_header = (refl, refl, refl)
 
--- on a tape of twelve records a directory of six records ends at the gate, and one of seven would end behind it
+-- on a tape of twelve records a directory of six records ends at the gate, and one of seven would
+-- end behind it
 longest_directory : (refusal_of 12 (Format (codes "HPTAPE") 48) None ≡ None) × (refusal_of 12 (Format (codes "HPTAPE") 49) None ≡ Some Refusal.NoRoom) × (refusal_of 512 (Format (codes "HPTAPE") 4048) None ≡ None)
 longest_directory = (refl, refl, refl)

@@ -36,7 +36,7 @@ every_take P (suc n) (x ∷ xs) every = (every.0, every_take P n xs every.1)
 
 -- ---- the entries of records
 
-entry_size : (bytes : List ℕ) (k : ℕ) → length bytes ≡ 256 → k < 8 → length (entry_at bytes k) ≡ 32
+pub entry_size : (bytes : List ℕ) (k : ℕ) → length bytes ≡ 256 → k < 8 → length (entry_at bytes k) ≡ 32
 unfolding entry_at
 entry_size bytes k size lt = omega (arith, length-take 32 (drop (32 * k) bytes), length-drop (32 * k) bytes, size, lt)
 

@@ -1,9 +1,12 @@
 -- What is known of a place that was chosen.
 use Rattle.std.proofs.Common.{◌≡◌, ◌⊎◌, ◌<◌, ◌≤◌, ◌+◌, ◌-◌, ◌++◌, ◌==◌, ℕ, zero, suc, max, min, List, [], ◌∷◌, Bool, true, false, if◌then◌else◌, length, get_or, take, drop, inl, inr, refl, sym, ◌∙◌, ap, subst, arith, nat_le, length-take, length-drop, get_or-take, get_or-drop}
 use Rattle.std.proofs.lemmas.Bool.{cases_eq, cases_lt, cases_Bool, leb-true, eq-eqb}
+use Rattle.std.proofs.lemmas.List.{take_more}
 use Rattle.lif_model.specs.Gate.{gate_of}
+use Rattle.lif_model.specs.Header.{directory_end, capacity_of}
 use Rattle.lif_model.specs.Directory.{start_of, is_purged}
 use Rattle.lif_model.specs.Legal.{end_of, has_records}
+use Rattle.lif_model.specs.Volume.{Volume}
 use Rattle.lif_model.specs.Fit.{At, redo_place, purged_from, can_append, candidates, greatest_end, least_start, slots_behind, low_of, high_of, first_fit, fit_among, fit}
 
 -- ---- the bounds
@@ -47,6 +50,31 @@ each_start high (slot ∷ slots) i lt on = go (has_records slot) refl i lt on (e
     go true e (suc i) lt on rest = omega (arith, rest i (omega arith) on)
     go false e zero lt on rest = let both : true ≡ false = sym on ∙ e in cc
     go false e (suc i) lt on rest = rest i (omega arith) on
+
+-- The bounds from slot to slot, as the choice of a place walks over the directory: what lies before
+-- slot i + 1 from what lies before slot i, and what lies from slot i on from what lies behind it.
+greatest_push : (low : ℕ) (slots : List (List ℕ)) (slot : List ℕ) → greatest_end low (slots ++ slot ∷ []) ≡ (if has_records slot then max (end_of slot) (greatest_end low slots) else greatest_end low slots)
+greatest_push low [] slot = refl
+greatest_push low (first ∷ slots) slot = go (has_records first) (has_records slot) (greatest_push low slots slot)
+  where
+    go : (b c : Bool) → greatest_end low (slots ++ slot ∷ []) ≡ (if c then max (end_of slot) (greatest_end low slots) else greatest_end low slots)
+        → (if b then max (end_of first) (greatest_end low (slots ++ slot ∷ [])) else greatest_end low (slots ++ slot ∷ []))
+        ≡ (if c then max (end_of slot) (if b then max (end_of first) (greatest_end low slots) else greatest_end low slots) else (if b then max (end_of first) (greatest_end low slots) else greatest_end low slots))
+    go true true rest = omega (arith, rest)
+    go true false rest = omega (arith, rest)
+    go false c rest = rest
+
+pub greatest_end_next : (low : ℕ) (slots : List (List ℕ)) (i : ℕ) → i < length slots
+    → greatest_end low (take (suc i) slots) ≡ (if has_records (get_or slots i []) then max (end_of (get_or slots i [])) (greatest_end low (take i slots)) else greatest_end low (take i slots))
+greatest_end_next low slots i lt =
+    let one_more : suc i ≡ i + 1 = omega arith in
+    ap (λ (k : ℕ). greatest_end low (take k slots)) one_more ∙ ap (greatest_end low) (take_more slots i [] lt) ∙ greatest_push low (take i slots) (get_or slots i [])
+
+pub least_start_next : (high : ℕ) (slots : List (List ℕ)) (i : ℕ) → i < length slots
+    → least_start high (drop i slots) ≡ (if has_records (get_or slots i []) then min (start_of (get_or slots i [])) (least_start high (drop (suc i) slots)) else least_start high (drop (suc i) slots))
+least_start_next high [] i lt = absurd (omega arith)
+least_start_next high (slot ∷ slots) zero lt = refl
+least_start_next high (slot ∷ slots) (suc i) lt = least_start_next high slots i (omega arith)
 
 -- ---- candidates
 
@@ -108,8 +136,8 @@ among_tells : (P : ℕ → Type 0) (n low : ℕ) (slots : List (List ℕ)) (coun
 among_tells P n low slots count [] i start each is = cc
 among_tells P n low slots count (c ∷ cs) i start each is = first_tells P n low slots count (c ∷ cs) i start each is
 
--- A place for so many records on a tape of n records: it lies between the directory's end and the gate and meets no
--- slot that has records.
+-- A place for so many records on a tape of n records: it lies between the directory's end and the
+-- gate and meets no slot that has records.
 pub record IsPlace (n directory_end capacity : ℕ) (slots : List (List ℕ)) (count i start : ℕ) : Type 0 where
   pub candidate : IsCandidate capacity slots i
   pub low : directory_end ≤ start
@@ -118,6 +146,10 @@ pub record IsPlace (n directory_end capacity : ℕ) (slots : List (List ℕ)) (c
   pub behind : (k : ℕ) → i < k → k < length slots → has_records (get_or slots k []) ≡ true → start + count ≤ start_of (get_or slots k [])
   -- where the file takes the redo entry's slot
   pub own : i ≡ redo_place slots → i < length slots → has_records (get_or slots i []) ≡ true → start + count ≤ start_of (get_or slots i [])
+
+-- the same in the directory of a volume
+abbrev pub IsPlaceIn : ℕ → Volume → ℕ → ℕ → ℕ → Type 0
+IsPlaceIn n v count i start = IsPlace n (directory_end v.header) (capacity_of v.header) v.slots count i start
 
 behind_drop : (slots : List (List ℕ)) (high m k : ℕ) → m ≤ k → k < length slots → has_records (get_or slots k []) ≡ true → least_start high (drop m slots) ≤ start_of (get_or slots k [])
 behind_drop slots high m k le lt on =
@@ -142,7 +174,8 @@ fit_tells n low capacity slots count i start is =
     high_at k lt long on (inl e) = omega (arith, ap (λ (b : Bool). least_start (gate_of n) (if b then drop i slots else drop (suc i) slots)) e, behind_drop slots (gate_of n) i k (omega arith) long on)
     high_at k lt long on (inr e) = omega (arith, ap (λ (b : Bool). least_start (gate_of n) (if b then drop i slots else drop (suc i) slots)) e, behind_drop slots (gate_of n) (suc i) k (omega arith) long on)
 
--- a place meets no file: neither a live nor a purged slot that has records, other than the slot that it replaces
+-- a place meets no file: neither a live nor a purged slot that has records, other than the slot
+-- that it replaces
 pub place_is_free : (n directory_end capacity : ℕ) (slots : List (List ℕ)) (count i start k : ℕ) → IsPlace n directory_end capacity slots count i start → k < length slots → (k ≡ i → i ≡ redo_place slots)
     → has_records (get_or slots k []) ≡ true → (end_of (get_or slots k []) ≤ start) ⊎ (start + count ≤ start_of (get_or slots k []))
 place_is_free n low capacity slots count i start k place lt other on = elim (cases_eq k i) [

@@ -9,6 +9,7 @@ pub mod RedoExamples
 pub mod StopExamples
 pub mod VolumeExamples
 pub mod CommandExamples
+pub mod WritingExamples
 pub mod Lists
 pub mod Sizes
 pub mod Runs
@@ -24,3 +25,16 @@ pub mod Directory
 pub mod Files
 pub mod Plain
 pub mod Named
+pub mod Writing
+pub mod Slotted
+pub mod Written
+pub mod Formatted
+pub mod Recorded
+pub mod StoredFile
+pub mod Outcomes
+pub mod Commands
+pub mod Growing
+pub mod Places
+pub mod Content
+pub mod Lookups
+pub mod Sorting

@@ -2,7 +2,7 @@
 use Rattle.std.proofs.Common.{◌≡◌, ◌<◌, ◌↔◌, ℕ, zero, suc, List, [], ◌∷◌, Bool, true, false, if◌then◌else◌, length, get_or, inl, inr, refl, sym, ◌∙◌, arith, filter}
 use Rattle.std.specs.List.{list_all, list_any}
 use Rattle.std.proofs.lemmas.Bool.{and_parts, and_from, or_left, or_right, or_cases, or_parts, or_from, cases_Bool}
-use Rattle.lif_model.specs.Pairs.{all_pairs}
+use Rattle.lif_model.specs.Pairs.{all_pairs, all_neighbours}
 
 module _ {X : Type 0} (d : X) where
   -- ---- list_all
@@ -69,6 +69,36 @@ module _ {X : Type 0} (d : X) where
       ↔ ((i j : ℕ) → i < j → j < length xs → pick (get_or xs i d) ≡ true → pick (get_or xs j d) ≡ true → test (get_or xs i d) (get_or xs j d) ≡ true)
   filter_pairs_tell pick test xs = (filter_pairs_at pick test xs, filter_pairs_from pick test xs)
 
+  -- of all elements
+  pub pairs_tell : (test : X → X → Bool) (xs : List X) → (all_pairs test xs ≡ true) ↔ ((i j : ℕ) → i < j → j < length xs → test (get_or xs i d) (get_or xs j d) ≡ true)
+  pairs_tell test xs = (pairs_at xs, pairs_from xs)
+    where
+      pairs_at : (xs : List X) → all_pairs test xs ≡ true → (i j : ℕ) → i < j → j < length xs → test (get_or xs i d) (get_or xs j d) ≡ true
+      pairs_at [] all i j lt long = absurd (omega arith)
+      pairs_at (x ∷ xs) all zero zero lt long = absurd (omega arith)
+      pairs_at (x ∷ xs) all zero (suc j) lt long = all_at (test x) xs j (and_parts (list_all (test x) xs) _ all).0 (omega arith)
+      pairs_at (x ∷ xs) all (suc i) zero lt long = absurd (omega arith)
+      pairs_at (x ∷ xs) all (suc i) (suc j) lt long = pairs_at xs (and_parts (list_all (test x) xs) _ all).1 i j (omega arith) (omega arith)
+
+      pairs_from : (xs : List X) → ((i j : ℕ) → i < j → j < length xs → test (get_or xs i d) (get_or xs j d) ≡ true) → all_pairs test xs ≡ true
+      pairs_from [] each = refl
+      pairs_from (x ∷ xs) each = and_from (list_all (test x) xs) _ (all_from (test x) xs (λ j lt. each 0 (suc j) (omega arith) (omega arith)))
+          (pairs_from xs (λ i j lt long. each (suc i) (suc j) (omega arith) (omega arith)))
+
+  pub neighbours_tell : (test : X → X → Bool) (xs : List X) → (all_neighbours test xs ≡ true) ↔ ((i : ℕ) → suc i < length xs → test (get_or xs i d) (get_or xs (suc i) d) ≡ true)
+  neighbours_tell test xs = (next_at xs, next_from xs)
+    where
+      next_at : (xs : List X) → all_neighbours test xs ≡ true → (i : ℕ) → suc i < length xs → test (get_or xs i d) (get_or xs (suc i) d) ≡ true
+      next_at [] all i lt = absurd (omega arith)
+      next_at (x ∷ []) all i lt = absurd (omega arith)
+      next_at (x ∷ y ∷ xs) all zero lt = (and_parts (test x y) _ all).0
+      next_at (x ∷ y ∷ xs) all (suc i) lt = next_at (y ∷ xs) (and_parts (test x y) _ all).1 i (omega arith)
+
+      next_from : (xs : List X) → ((i : ℕ) → suc i < length xs → test (get_or xs i d) (get_or xs (suc i) d) ≡ true) → all_neighbours test xs ≡ true
+      next_from [] each = refl
+      next_from (x ∷ []) each = refl
+      next_from (x ∷ y ∷ xs) each = and_from (test x y) _ (each 0 (omega arith)) (next_from (y ∷ xs) (λ i lt. each (suc i) (omega arith)))
+
   -- ---- list_any
 
   pub any_from : (test : X → Bool) (xs : List X) (i : ℕ) → i < length xs → test (get_or xs i d) ≡ true → list_any test xs ≡ true
@@ -105,3 +135,12 @@ module _ {X : Type 0} (d : X) where
       go true e none (suc i) lt on rest = rest (or_parts (test x) _ none).1 i (omega arith) on
       go false e none zero lt on rest = let both : true ≡ false = sym on ∙ e in cc
       go false e none (suc i) lt on rest = rest none i (omega arith) on
+
+  -- and none of those picked passes, where no element that is picked does
+  pub none_in_filter : (pick test : X → Bool) (xs : List X) → ((i : ℕ) → i < length xs → pick (get_or xs i d) ≡ true → test (get_or xs i d) ≡ false) → list_any test (filter pick xs) ≡ false
+  none_in_filter pick test [] each = refl
+  none_in_filter pick test (x ∷ xs) each = go (pick x) refl (none_in_filter pick test xs (λ i lt on. each (suc i) (omega arith) on))
+    where
+      go : (b : Bool) → pick x ≡ b → list_any test (filter pick xs) ≡ false → list_any test (if b then x ∷ filter pick xs else filter pick xs) ≡ false
+      go true e rest = or_from (test x) _ (each 0 (omega arith) e) rest
+      go false e rest = rest

@@ -1,13 +1,13 @@
 -- The bytes that are written, read back.
-use Rattle.std.proofs.Common.{◌≡◌, ◌<◌, ◌≤◌, ◌+◌, ◌-◌, ◌*◌, ◌/◌, ◌%◌, ◌++◌, ◌==◌, if◌then◌else◌, ℕ, zero, suc, List, [], ◌∷◌, Bool, true, false, length, get_or, set, take, drop, replicate, inl, inr, refl, sym, ◌∙◌, ap, arith, slice_index, length-append, length-set, length-drop, length-take, get_or-drop, get_or-set_other, get_or-set_same, append_assoc}
+use Rattle.std.proofs.Common.{◌≡◌, ◌<◌, ◌≤◌, ◌+◌, ◌-◌, ◌*◌, ◌/◌, ◌%◌, ◌++◌, ◌==◌, if◌then◌else◌, ℕ, zero, suc, List, [], ◌∷◌, Bool, true, false, length, get_or, set, take, drop, replicate, inl, inr, refl, sym, ◌∙◌, ap, arith, slice_index, length-append, length-set, length-drop, length-take, get_or-drop, get_or-take, get_or-set_other, get_or-set_same, append_assoc}
 use Rattle.std.proofs.lemmas.Bool.{and_from, le-leb, lt-ltb, cases_lt}
-use Rattle.std.proofs.lemmas.List.{get_or-append_right, get_or_append_left, take_at, take-set-le, take_all, drop_all, replicate-append-replicate, length-replicate, take-append-drop, append-nil}
+use Rattle.std.proofs.lemmas.List.{get_or-append_right, get_or_append_left, take_at, take-set-le, take_all, drop_all, replicate-append-replicate, length-replicate, take-append-drop, take-append-le, take-take, append-nil}
 use Rattle.lif_model.specs.Numbers.{two_at, four_at}
 use Rattle.lif_model.specs.Shelf.{piece, cut, bytes_of}
 use Rattle.lif_model.specs.Gate.{gate_of}
 use Rattle.lif_model.specs.Header.{label_of, directory_start, directory_length, is_readable}
 use Rattle.lif_model.specs.Directory.{name_of, type_of, start_of, length_of, volume_word_of}
-use Rattle.lif_model.specs.Made.{in_two, in_four, new_entry, with_name, with_type, geometry, fresh_header, file_length, filled, file_records}
+use Rattle.lif_model.specs.Made.{in_two, in_four, new_entry, with_name, with_type, with_extent, geometry, fresh_header, file_length, filled, file_records}
 
 -- ---- numbers
 
@@ -125,6 +125,40 @@ module _ (kind : ℕ) (entry : List ℕ) where
   pub typed_size : length (with_type kind entry) ≡ length entry
   unfolding with_type
   typed_size = length-set (set entry 10 (kind / 256)) 11 (kind % 256) ∙ length-set entry 10 (kind / 256)
+
+-- another extent and another implementation field leave all else
+module _ (start count : ℕ) (implementation entry : List ℕ) (all : length entry ≡ 32) where
+  twelve : length (take 12 entry) ≡ 12
+  twelve = omega (arith, length-take 12 entry, all)
+
+  abbrev behind_extent : List ℕ
+  behind_extent = take 8 (drop 20 entry) ++ implementation
+
+  pub extent_name : name_of (with_extent start count implementation entry) ≡ name_of entry
+  unfolding with_extent name_of
+  extent_name = take-append-le 10 (take 12 entry) (in_four start ++ (in_four count ++ behind_extent)) (omega (arith, twelve)) ∙ take-take 10 12 entry (omega arith)
+
+  pub extent_type : type_of (with_extent start count implementation entry) ≡ type_of entry
+  unfolding with_extent two_at
+  extent_type =
+      let rest : List ℕ = in_four start ++ (in_four count ++ behind_extent) in
+      let high : get_or (take 12 entry ++ rest) 10 0 ≡ get_or entry 10 0 = get_or_append_left (take 12 entry) rest 0 10 (omega (arith, twelve)) ∙ get_or-take 12 entry 10 0 (omega arith) in
+      let low : get_or (take 12 entry ++ rest) 11 0 ≡ get_or entry 11 0 = get_or_append_left (take 12 entry) rest 0 11 (omega (arith, twelve)) ∙ get_or-take 12 entry 11 0 (omega arith) in
+      omega (arith, high, low)
+
+  pub extent_start : start_of (with_extent start count implementation entry) ≡ start
+  unfolding with_extent
+  extent_start = four_behind (take 12 entry) (in_four start ++ (in_four count ++ behind_extent)) 12 0 twelve ∙ four_first start (in_four count ++ behind_extent)
+
+  pub extent_length : length_of (with_extent start count implementation entry) ≡ count
+  unfolding with_extent
+  extent_length = four_behind (take 12 entry) (in_four start ++ (in_four count ++ behind_extent)) 12 4 twelve
+      ∙ four_behind (in_four start) (in_four count ++ behind_extent) 4 0 refl ∙ four_first count behind_extent
+
+  pub extent_size : length implementation ≡ 4 → length (with_extent start count implementation entry) ≡ 32
+  unfolding with_extent
+  extent_size four = length-append (take 12 entry) (in_four start ++ (in_four count ++ behind_extent))
+      ∙ omega (arith, twelve, length-append (take 8 (drop 20 entry)) implementation, length-take 8 (drop 20 entry), length-drop 20 entry, all, four)
 
 -- ---- headers
 

@@ -1,5 +1,5 @@
 -- The records of the redo file read back.
-use Rattle.std.proofs.Common.{◌≡◌, ◌≢◌, ◌<◌, ◌≤◌, ◌+◌, ◌-◌, ◌*◌, ◌++◌, ◌&&◌, ℕ, zero, suc, List, [], ◌∷◌, Bool, true, false, if◌then◌else◌, not, min, length, get_or, replicate, refl, sym, ◌∙◌, ap, arith, nat_lt, nat_eq, length-append, append_assoc}
+use Rattle.std.proofs.Common.{◌≡◌, ◌<◌, ◌≤◌, ◌+◌, ◌-◌, ◌*◌, ◌++◌, ℕ, zero, suc, List, [], ◌∷◌, Bool, true, false, if◌then◌else◌, min, length, get_or, replicate, refl, sym, ◌∙◌, ap, arith, length-append, append_assoc}
 use Rattle.std.specs.List.{flat_map}
 use Rattle.std.specs.Str.{bytes_eq}
 use Rattle.std.proofs.lemmas.Bool.{false_from_ne_true}
@@ -8,7 +8,7 @@ use Rattle.lif_model.specs.Numbers.{two_at}
 use Rattle.lif_model.specs.Shelf.{piece}
 use Rattle.lif_model.specs.Tape.{Tape, record_at}
 use Rattle.lif_model.specs.Gate.{is_open}
-use Rattle.lif_model.specs.Redo.{Version, One, Two, redo_text, most_targets, data_record, open_gate, targets_place, targets_record, are_targets, numbers_at, named_by, is_valid, Targets, Invalid, Valid, targets_among, targets_of, Changes, targets_in, held_from, held_by}
+use Rattle.lif_model.specs.Redo.{Version, One, Two, redo_text, most_targets, data_record, open_gate, targets_place, targets_record, are_targets, numbers_at, named_by, is_valid, Targets, Invalid, Valid, targets_of, Changes, targets_in, held_from, held_by}
 use Rattle.lif_model.specs.Commit.{AreChanges, IsLoaded}
 use Rattle.lif_model.specs.Made.{in_two}
 use Rattle.lif_model.proofs.Made.{two_behind, two_first, piece_short}
@@ -137,43 +137,3 @@ loaded_from version n cs x size are contents names =
       holds = behind_at n x size ∙ ap (held_by n x) named
           ∙ held_back version n x 0 cs (λ j lt. ap (λ (m : ℕ). record_at x (data_record version n m)) (omega arith) ∙ contents j lt);
     }
-
--- ---- version 1, target by target
-
-other_count : (bytes ts : List ℕ) → length ts ≤ 2 → two_at bytes 8 ≢ length ts → bytes_eq bytes (targets_record One ts) ≡ false
-other_count bytes ts le ne = false_from_ne_true _ (λ same. ne (ap (λ (bs : List ℕ). two_at bs 8) ((bytes_eq-Decides bytes (targets_record One ts)).0 same) ∙ count_back One ts le))
-
--- what the record of version 1 says, by its first number a and its second number b
-abbrev pub one_or_two : ℕ → List ℕ → ℕ → ℕ → Targets
-one_or_two n bytes a b =
-    if bytes_eq bytes (targets_record One (a ∷ [])) && nat_lt a (n - 4) then Valid One (a ∷ [])
-    else (if bytes_eq bytes (targets_record One (a ∷ b ∷ [])) && (nat_lt a (n - 4) && (nat_lt b (n - 4) && not (nat_eq a b))) then Valid One (a ∷ b ∷ []) else Invalid)
-
-pub targets_by_number : (n : ℕ) (bytes : List ℕ) → targets_among (One ∷ []) n bytes ≡ one_or_two n bytes (two_at bytes 10) (two_at bytes 12)
-unfolding is_valid
-targets_by_number n bytes = go (two_at bytes 8) refl
-  where
-    go : (count : ℕ) → two_at bytes 8 ≡ count → targets_among (One ∷ []) n bytes ≡ one_or_two n bytes (two_at bytes 10) (two_at bytes 12)
-    go zero e = rw (e, other_count bytes (two_at bytes 10 ∷ []) (omega arith) (omega (arith, e)), other_count bytes (two_at bytes 10 ∷ two_at bytes 12 ∷ []) (omega arith) (omega (arith, e))) (none (bytes_eq bytes (targets_record One [])))
-      where
-        none : (s : Bool) → (if s && false then Valid One [] else Invalid) ≡ Invalid
-        none true = refl
-        none false = refl
-    go (suc zero) e = rw (e, other_count bytes (two_at bytes 10 ∷ two_at bytes 12 ∷ []) (omega arith) (omega (arith, e))) (alone (bytes_eq bytes (targets_record One (two_at bytes 10 ∷ []))) (nat_lt (two_at bytes 10) (n - 4)))
-      where
-        alone : (s below : Bool) → (if s && ((below && true) && true) then Valid One (two_at bytes 10 ∷ []) else Invalid) ≡ (if s && below then Valid One (two_at bytes 10 ∷ []) else Invalid)
-        alone true true = refl
-        alone true false = refl
-        alone false below = refl
-    go (suc (suc zero)) e = rw (e, other_count bytes (two_at bytes 10 ∷ []) (omega arith) (omega (arith, e))) (both (bytes_eq bytes (targets_record One (two_at bytes 10 ∷ two_at bytes 12 ∷ []))) (nat_lt (two_at bytes 10) (n - 4)) (nat_lt (two_at bytes 12) (n - 4)) (not (nat_eq (two_at bytes 10) (two_at bytes 12))))
-      where
-        both : (s first second apart : Bool) → (if s && ((first && (second && true)) && ((apart && true) && true)) then Valid One (two_at bytes 10 ∷ two_at bytes 12 ∷ []) else Invalid)
-            ≡ (if s && (first && (second && apart)) then Valid One (two_at bytes 10 ∷ two_at bytes 12 ∷ []) else Invalid)
-        both false first second apart = refl
-        both true false second apart = refl
-        both true true false apart = refl
-        both true true true true = refl
-        both true true true false = refl
-    go (suc (suc (suc count))) e =
-        let most : min (suc (suc (suc count))) 2 ≡ 2 = omega arith in
-        rw (e, most, other_count bytes (two_at bytes 10 ∷ []) (omega arith) (omega (arith, e)), other_count bytes (two_at bytes 10 ∷ two_at bytes 12 ∷ []) (omega arith) (omega (arith, e))) refl

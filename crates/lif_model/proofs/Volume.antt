@@ -89,17 +89,17 @@ redo_invalid t invalid = elim (cases_Bool (has_open_gate t)) [
   | inr gate ↦ redo_closed t gate
 ]
 
+-- no redo is open on a tape that agrees with a settled one on the gate and on the targets record
+pub quiet_agree : (t u : Tape) → IsSettled t → length u ≡ length t → record_at u (gate_of (length t)) ≡ record_at t (gate_of (length t))
+    → record_at u (targets_place (length t)) ≡ record_at t (targets_place (length t)) → redo_of u ≡ []
+quiet_agree t u is size gate names = elim (settled_gate_or_targets t is) [
+  | inl shut ↦ redo_closed u (same_gate u t size gate ∙ shut)
+  | inr invalid ↦ redo_invalid u (named_at (length t) u size ∙ ap (targets_of (length t)) names ∙ invalid)
+]
+
 quiet_set : (t : Tape) (k : ℕ) (bytes : List ℕ) → IsSettled t → k ≢ gate_of (length t) → k ≢ targets_place (length t) → redo_of (set t k bytes) ≡ []
-quiet_set t k bytes is off_gate off_targets =
-    let n = length t in
-    let u : Tape = set t k bytes in
-    let size : length u ≡ n = length-set t k bytes in
-    let gate : record_at u (gate_of n) ≡ record_at t (gate_of n) = get_or-set_other t k (gate_of n) bytes [] (λ e. off_gate (sym e)) in
-    let names : record_at u (targets_place n) ≡ record_at t (targets_place n) = get_or-set_other t k (targets_place n) bytes [] (λ e. off_targets (sym e)) in
-    elim (settled_gate_or_targets t is) [
-      | inl shut ↦ redo_closed u (same_gate u t size gate ∙ shut)
-      | inr invalid ↦ redo_invalid u (named_at n u size ∙ ap (targets_of n) names ∙ invalid)
-    ]
+quiet_set t k bytes is off_gate off_targets = quiet_agree t (set t k bytes) is (length-set t k bytes)
+    (get_or-set_other t k (gate_of (length t)) bytes [] (λ e. off_gate (sym e))) (get_or-set_other t k (targets_place (length t)) bytes [] (λ e. off_targets (sym e)))
 
 -- To change a record that is not used, other than the gate and the targets record, leaves the volume of a settled tape.
 pub volume_stays : (t : Tape) (k : ℕ) (bytes : List ℕ) → IsSettled t → is_used t k ≡ false → k ≢ gate_of (length t) → k ≢ targets_place (length t) → volume_of (set t k bytes) ≡ volume_of t

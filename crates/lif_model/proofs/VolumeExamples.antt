@@ -1,5 +1,5 @@
--- Worked examples of volumes, computed by the checker, on tapes of twelve and sixteen records: the gate is record 8 or
--- record 12, and files begin at record 4 behind a directory of two records.
+-- Worked examples of volumes, computed by the checker, on tapes of twelve and sixteen records: the
+-- gate is record 8 or record 12, and files begin at record 4 behind a directory of two records.
 use Rattle.std.proofs.Common.{◌≡◌, ◌++◌, ℕ, List, [], ◌∷◌, Some, None, true, false, refl, length, replicate, take, drop, codes, map}
 use Rattle.std.specs.FinMap.{empty, insert}
 use Rattle.lif_model.specs.Numbers.{two_at, four_at}
@@ -9,7 +9,8 @@ use Rattle.lif_model.specs.Gate.{is_open}
 use Rattle.lif_model.specs.Directory.{name_of, entry_at, entries_of, slots_of}
 use Rattle.lif_model.specs.Made.{in_four, new_entry, with_name, with_type, first_directory_record, fresh_header, file_length, filled, file_records}
 use Rattle.lif_model.specs.Redo.{One, zeros, targets_record, is_valid}
-use Rattle.lif_model.specs.Legal.{is_legal, slot_named}
+use Rattle.lif_model.specs.Legal.{ends_before, have_other_names, is_legal, slot_named}
+use Rattle.lif_model.specs.Pairs.{all_neighbours}
 use Rattle.lif_model.specs.Volume.{redo_entry, is_adopted, Volume, volume_of, is_used, is_foreign_gated}
 use Rattle.lif_model.proofs.Examples as base
 
@@ -141,6 +142,19 @@ last_record : (is_legal (tape (file a_name 11 1 ++ base.end_entry)) ≡ true) ×
 unfolding four_at two_at entries_of entry_at name_of
 last_record = (refl, refl, refl)
 
+-- listed by their starts, each ends at or before the start of the next; the second of three reaches
+-- into the third, and so does the first, which its neighbour does not meet
+by_starts : (all_neighbours ends_before (file b_name 4 2 ∷ file a_name 6 2 ∷ file (codes "C         ") 9 1 ∷ []) ≡ true)
+    × (all_neighbours ends_before (file b_name 4 2 ∷ file a_name 6 4 ∷ file (codes "C         ") 9 1 ∷ []) ≡ false)
+    × (all_neighbours ends_before (file b_name 4 6 ∷ file a_name 5 1 ∷ file (codes "C         ") 9 1 ∷ []) ≡ false)
+unfolding four_at two_at
+by_starts = (refl, refl, refl)
+
+-- and by their names, a name that comes again stands next to itself
+by_names : (all_neighbours have_other_names (file a_name 6 2 ∷ file b_name 4 2 ∷ []) ≡ true) × (all_neighbours have_other_names (file a_name 6 2 ∷ file b_name 4 2 ∷ file b_name 9 1 ∷ []) ≡ false)
+unfolding name_of
+by_names = (refl, refl)
+
 -- a live file of no records stands anywhere, also in another file or past the tape's end
 no_records : is_legal (tape (file a_name 5 0 ++ file b_name 4 3 ++ file (codes "C         ") 200 0 ++ base.end_entry)) ≡ true
 unfolding four_at two_at entries_of entry_at name_of
@@ -168,13 +182,14 @@ formatted_volume : volume_of base.formatted ≡ Some (record { header = base.hea
 unfolding four_at two_at entries_of entry_at name_of is_open
 formatted_volume = refl
 
--- a redo file in another place, and one of another type, adopt no volume: it is a file like any other
+-- a redo file in another place, and one of another type, adopt no volume: it is a file like any
+-- other
 not_adopted : (is_adopted 12 (file (codes "REDOFILE  ") 8 4 ∷ []) ≡ false) × (is_adopted 16 (base.redo_entry ∷ []) ≡ false) × (is_adopted 12 (base.redo_entry ∷ []) ≡ true)
 unfolding four_at two_at name_of
 not_adopted = (refl, refl, refl)
 
 -- the records hold their numbers in each byte
-abbrev numbered : ℕ → List ℕ
+abbrev pub numbered : ℕ → List ℕ
 numbered k = replicate 256 k
 
 abbrev with_files : List ℕ → Tape
@@ -192,7 +207,8 @@ foreign_redo : volume_of (with_files (file (codes "REDOFILE  ") 8 1 ++ base.end_
 unfolding four_at two_at entries_of entry_at name_of is_open with_type
 foreign_redo = refl
 
--- record 0, the directory and the records of A are used; those of a purged file and of the redo file are not
+-- record 0, the directory and the records of A are used; those of a purged file and of the redo
+-- file are not
 used_records : map (is_used (with_files (file a_name 5 2 ++ purged (file b_name 4 1) ++ base.redo_entry ++ base.end_entry))) (0 ∷ 1 ∷ 2 ∷ 3 ∷ 4 ∷ 5 ∷ 6 ∷ 7 ∷ 8 ∷ [])
     ≡ true ∷ false ∷ true ∷ true ∷ false ∷ true ∷ true ∷ false ∷ false ∷ []
 unfolding four_at two_at entries_of entry_at name_of with_type

@@ -1,15 +1,15 @@
--- What each command of a volume answers, and the volume after it: this project's own commands on LIF volumes. The tape
--- has n records.
+-- What each command of a volume answers, and the volume after it: this project's own commands on
+-- LIF volumes. The tape has n records.
 use Rattle.std.specs.Prelude.{◌≡◌, ◌≢◌, ◌<◌, ◌-◌, ◌*◌, ◌&&◌, ◌||◌, if◌then◌else◌, nat_lt, nat_le, nat_eq, not, ℕ, Bool, true, false, List, [], ◌∷◌, ◌++◌, length, map, set, insert, filter, Option, Some, None}
 use Rattle.std.specs.List.{list_any}
 use Rattle.std.specs.Str.{bytes_eq}
 use Rattle.std.specs.FinMap as files
 use Rattle.lif_model.specs.Gate.{gate_of}
-use Rattle.lif_model.specs.Header.{capacity_of}
-use Rattle.lif_model.specs.Redo.{One}
+use Rattle.lif_model.specs.Header.{directory_end, capacity_of}
+use Rattle.lif_model.specs.Redo.{One, Two, redo_start}
 use Rattle.lif_model.specs.Made.{new_entry, with_name, with_type, fresh_header, records_for_slots, file_length, filled}
 use Rattle.lif_model.specs.Legal.{occupies, end_of, is_live_named, has_file}
-use Rattle.lif_model.specs.Volume.{Volume, Files, redo_name, redo_entry, is_adopted}
+use Rattle.lif_model.specs.Volume.{Volume, Files, redo_name, redo_entry, upgraded_entry, is_redo_file, is_adopted_with, is_adopted}
 use Rattle.lif_model.specs.Fit.{Place, At, redo_place, fit_in}
 
 -- ---- commands
@@ -23,6 +23,7 @@ pub data VolumeCommand : Type 0 where
   Rename : (old new : List ℕ) → VolumeCommand
   Purge : (name : List ℕ) → VolumeCommand
   Adopt : VolumeCommand
+  Upgrade : VolumeCommand
   Format : (label : List ℕ) (slots : ℕ) → VolumeCommand
 
 -- the lengths of names, labels and fields, and what types and counts of slots may be
@@ -30,10 +31,12 @@ abbrev pub IsWellFormed : VolumeCommand → Type 0
 IsWellFormed Dir = Unit {0}
 IsWellFormed Label = Unit {0}
 IsWellFormed (Fetch name) = length name ≡ 10
-IsWellFormed (Store name kind implementation bytes) = (length name ≡ 10) × (kind ≢ 0) × (kind ≢ 0xFFFF) × (length implementation ≡ 4)
+IsWellFormed (Store name kind implementation bytes) =
+    (length name ≡ 10) × (kind ≢ 0) × (kind ≢ 0xFFFF) × (length implementation ≡ 4)
 IsWellFormed (Rename old new) = (length old ≡ 10) × (length new ≡ 10)
 IsWellFormed (Purge name) = length name ≡ 10
 IsWellFormed Adopt = Unit {0}
+IsWellFormed Upgrade = Unit {0}
 IsWellFormed (Format label slots) = (length label ≡ 6) × (0 < slots)
 
 -- in the order in which they are tested
@@ -78,6 +81,17 @@ is_full v = nat_le (capacity_of v.header) (length v.slots)
 abbrev pub runs_past_gate : ℕ → Volume → Bool
 runs_past_gate n v = list_any (λ slot. nat_lt (gate_of n) (end_of slot)) (filter occupies v.slots)
 
+-- the redo file is of version 2 already
+abbrev pub is_upgraded : ℕ → Volume → Bool
+is_upgraded n v = is_adopted_with n Two v.slots
+
+-- the directory or a live file, other than the redo file, reaches into the records that version 2
+-- is to have
+abbrev pub runs_past_redo : ℕ → Volume → Bool
+runs_past_redo n v = nat_lt (redo_start Two n) (directory_end v.header)
+    || list_any (λ slot. not (is_redo_file n slot) && nat_lt (redo_start Two n) (end_of slot))
+    (filter occupies v.slots)
+
 -- the directory would leave no record for files
 abbrev pub is_too_long : ℕ → ℕ → Bool
 is_too_long n slots = nat_lt (8 * (n - 6)) slots
@@ -87,18 +101,31 @@ abbrev pub first_met : List (Bool × Refusal) → Option Refusal
 first_met [] = None
 first_met (check ∷ checks) = if check.0 then Some check.1 else first_met checks
 
+-- the tests of a store under that name at a place, which a store by itself chooses with `fit_in`
+abbrev pub store_checks : ℕ → Volume → List ℕ → Place → List (Bool × Refusal)
+store_checks n v name place =
+    (lacks_redo n v, NoRedo) ∷ (is_protected n v name, Protected) ∷ (has_file v.slots name, Exists)
+    ∷ (lacks_slot place, NoSlot) ∷ (lacks_room place, NoRoom) ∷ []
+
 -- the tests of a command on a volume, in order
 abbrev pub checks_of : ℕ → VolumeCommand → Volume → List (Bool × Refusal)
 checks_of n Dir v = []
 checks_of n Label v = []
 checks_of n (Fetch name) v = (is_protected n v name, Protected) ∷ (lacks_file v name, NoFile) ∷ []
-checks_of n (Store name kind implementation bytes) v = (lacks_redo n v, NoRedo) ∷ (is_protected n v name, Protected) ∷ (has_file v.slots name, Exists)
-    ∷ (lacks_slot (fit_in n v (file_length bytes)), NoSlot) ∷ (lacks_room (fit_in n v (file_length bytes)), NoRoom) ∷ []
-checks_of n (Rename old new) v = (lacks_redo n v, NoRedo) ∷ (is_protected n v old || is_protected n v new, Protected) ∷ (lacks_file v old, NoFile)
-    ∷ (has_file v.slots new && not (bytes_eq old new), Exists) ∷ []
-checks_of n (Purge name) v = (lacks_redo n v, NoRedo) ∷ (is_protected n v name, Protected) ∷ (lacks_file v name, NoFile) ∷ []
-checks_of n Adopt v = (lacks_redo n v && has_file v.slots redo_name, Exists) ∷ (lacks_redo n v && is_full v, NoSlot) ∷ (lacks_redo n v && runs_past_gate n v, InUse) ∷ []
-checks_of n (Format label slots) v = (is_too_long n slots, NoRoom) ∷ (lacks_redo n v && runs_past_gate n v, InUse) ∷ []
+checks_of n (Store name kind implementation bytes) v =
+    store_checks n v name (fit_in n v (file_length bytes))
+checks_of n (Rename old new) v =
+    (lacks_redo n v, NoRedo) ∷ (is_protected n v old || is_protected n v new, Protected)
+    ∷ (lacks_file v old, NoFile) ∷ (has_file v.slots new && not (bytes_eq old new), Exists) ∷ []
+checks_of n (Purge name) v =
+    (lacks_redo n v, NoRedo) ∷ (is_protected n v name, Protected) ∷ (lacks_file v name, NoFile) ∷ []
+checks_of n Adopt v =
+    (lacks_redo n v && has_file v.slots redo_name, Exists) ∷ (lacks_redo n v && is_full v, NoSlot)
+    ∷ (lacks_redo n v && runs_past_gate n v, InUse) ∷ []
+checks_of n Upgrade v =
+    (lacks_redo n v, NoRedo) ∷ (not (is_upgraded n v) && runs_past_redo n v, InUse) ∷ []
+checks_of n (Format label slots) v =
+    (is_too_long n slots, NoRoom) ∷ (lacks_redo n v && runs_past_gate n v, InUse) ∷ []
 
 -- only `format` takes a tape that is not legal
 abbrev pub checks_without : ℕ → VolumeCommand → List (Bool × Refusal)
@@ -113,35 +140,55 @@ refusal_of n command (Some v) = first_met (checks_of n command v)
 
 -- a new entry replaces a purged slot, or stands before the redo entry, which moves on
 abbrev pub placed : List (List ℕ) → ℕ → List ℕ → List (List ℕ)
-placed slots i entry = if nat_eq i (redo_place slots) then insert slots i entry else set slots i entry
+placed slots i entry =
+    if nat_eq i (redo_place slots) then insert slots i entry else set slots i entry
 
 abbrev pub stored : Volume → List ℕ → ℕ → List ℕ → List ℕ → Place → Volume
 stored v name kind implementation bytes (At i start) =
-    record v { slots = placed v.slots i (new_entry name kind start (file_length bytes) implementation); files = files.insert v.files name (filled bytes) }
+    record v {
+      slots = placed v.slots i (new_entry name kind start (file_length bytes) implementation);
+      files = files.insert v.files name (filled bytes);
+    }
 stored v name kind implementation bytes place = v
 
 -- the live slot of that name, changed
 abbrev pub with_slot : List ℕ → (List ℕ → List ℕ) → List (List ℕ) → List (List ℕ)
-with_slot name change slots = map (λ slot. if is_live_named name slot then change slot else slot) slots
+with_slot name change slots =
+    map (λ slot. if is_live_named name slot then change slot else slot) slots
 
 abbrev pub moved_key : Files → List ℕ → List ℕ → Option (List ℕ) → Files
 moved_key map old new None = map
 moved_key map old new (Some bytes) = files.insert (files.remove map old) new bytes
 
 abbrev pub renamed : Volume → List ℕ → List ℕ → Volume
-renamed v old new = record v { slots = with_slot old (with_name new) v.slots; files = moved_key v.files old new (files.get v.files old) }
+renamed v old new = record v {
+  slots = with_slot old (with_name new) v.slots;
+  files = moved_key v.files old new (files.get v.files old);
+}
+
+-- the redo entry moves forward to the records of version 2
+abbrev pub upgraded : ℕ → Volume → Volume
+upgraded n v = record v { slots = with_slot redo_name (upgraded_entry n) v.slots }
 
 abbrev pub fresh_volume : ℕ → List ℕ → ℕ → Volume
-fresh_volume n label slots = record { header = fresh_header n label (records_for_slots slots); slots = redo_entry One n ∷ []; files = files.empty }
+fresh_volume n label slots = record {
+  header = fresh_header n label (records_for_slots slots);
+  slots = redo_entry One n ∷ [];
+  files = files.empty;
+}
 
 abbrev pub volume_after : ℕ → VolumeCommand → Volume → Volume
 volume_after n Dir v = v
 volume_after n Label v = v
 volume_after n (Fetch name) v = v
-volume_after n (Store name kind implementation bytes) v = stored v name kind implementation bytes (fit_in n v (file_length bytes))
+volume_after n (Store name kind implementation bytes) v =
+    stored v name kind implementation bytes (fit_in n v (file_length bytes))
 volume_after n (Rename old new) v = if bytes_eq old new then v else renamed v old new
-volume_after n (Purge name) v = record v { slots = with_slot name (with_type 0) v.slots; files = files.remove v.files name }
-volume_after n Adopt v = if is_adopted n v.slots then v else record v { slots = v.slots ++ redo_entry One n ∷ [] }
+volume_after n (Purge name) v =
+    record v { slots = with_slot name (with_type 0) v.slots; files = files.remove v.files name }
+volume_after n Adopt v =
+    if is_adopted n v.slots then v else record v { slots = v.slots ++ redo_entry One n ∷ [] }
+volume_after n Upgrade v = if is_upgraded n v then v else upgraded n v
 volume_after n (Format label slots) v = fresh_volume n label slots
 
 abbrev pub volume_made : ℕ → VolumeCommand → Option Volume → Option Volume
@@ -157,4 +204,5 @@ next_unless n command volume (Some refusal) = volume
 
 -- none is the reply ok; a refused command leaves the volume
 abbrev pub apply : ℕ → VolumeCommand → Option Volume → Option Refusal × Option Volume
-apply n command volume = (refusal_of n command volume, next_unless n command volume (refusal_of n command volume))
+apply n command volume =
+    (refusal_of n command volume, next_unless n command volume (refusal_of n command volume))

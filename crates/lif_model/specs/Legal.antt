@@ -40,6 +40,10 @@ is_live_named name slot = is_live slot && bytes_eq (name_of slot) name
 abbrev pub are_apart : List ℕ → List ℕ → Bool
 are_apart a b = nat_le (end_of a) (start_of b) || nat_le (end_of b) (start_of a)
 
+-- the first one ends at or before the start of the other
+abbrev pub ends_before : List ℕ → List ℕ → Bool
+ends_before a b = nat_le (end_of a) (start_of b)
+
 abbrev pub have_other_names : List ℕ → List ℕ → Bool
 have_other_names a b = not (bytes_eq (name_of a) (name_of b))
 

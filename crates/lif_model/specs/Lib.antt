@@ -15,6 +15,7 @@ pub mod Legal
 pub mod Volume
 pub mod Fit
 pub mod Apply
+pub mod Writing
 pub mod Commit
 pub mod History
 pub mod Plain

@@ -9,8 +9,8 @@ use Rattle.lif_model.specs.Tape.{Tape, record_at, bytes_from}
 use Rattle.lif_model.specs.Gate.{gate_of}
 use Rattle.lif_model.specs.Header.{directory_start, directory_end, capacity_of}
 use Rattle.lif_model.specs.Directory.{name_of, type_of, start_of, length_of, is_end, slots_of}
-use Rattle.lif_model.specs.Made.{new_entry}
-use Rattle.lif_model.specs.Redo.{Version, versions, redo_length, redo_start, redo_of, is_none, settled}
+use Rattle.lif_model.specs.Made.{new_entry, with_extent}
+use Rattle.lif_model.specs.Redo.{Version, Two, versions, redo_length, redo_start, redo_of, is_none, settled}
 use Rattle.lif_model.specs.Legal.{is_live, holds, is_legal, IsLegal}
 
 -- ---- adopted volumes: the redo file is a file of the volume
@@ -24,6 +24,10 @@ redo_type = 0xE0D0
 -- the entry of the redo file of that version, on a tape of n records
 abbrev pub redo_entry : Version → ℕ → List ℕ
 redo_entry version n = new_entry redo_name redo_type (redo_start version n) (redo_length version) (replicate 4 0)
+
+-- the entry of a redo file as one of version 2, with an implementation field of zeros
+abbrev pub upgraded_entry : ℕ → List ℕ → List ℕ
+upgraded_entry n entry = with_extent (redo_start Two n) (redo_length Two) (replicate 4 0) entry
 
 -- a slot with its name, type, start and length; the rest may be anything
 abbrev pub is_redo_entry : ℕ → Version → List ℕ → Bool
