@@ -22,7 +22,6 @@ use Rattle.il_ring.proofs.PassKinds.{Silent}
 use Rattle.il_ring.proofs.DataPasses as past
 use Rattle.il_ring.proofs.DataPasses.{data_past}
 use Rattle.il_ring.proofs.Later.{Later, later_then, answered_count, passage_later, drive_later, met_later}
-use Rattle.il_ring.proofs.DriveRounds.{each_front}
 
 module _ {M : Type 0} (view : M → MediumView) (r s : RingView M) (held : Option Flight) (f : Flight) (answer : Arrival) (round : Round view r held f answer s) where
   -- the drive, where so many links were crossed before, and this is planned at the link to it

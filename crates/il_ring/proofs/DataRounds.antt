@@ -25,7 +25,6 @@ use Rattle.il_ring.proofs.DataPasses as past
 use Rattle.il_ring.proofs.DataPasses.{HearsAny, data_past}
 use Rattle.il_ring.proofs.DataHome.{HomeClean, HomeAltered, HomeLost, data_home}
 use Rattle.il_ring.proofs.RoundCounts.{round_journey}
-use Rattle.il_ring.proofs.DriveRounds.{each_front, lost_stays}
 
 -- ---- what comes back to the host
 

@@ -21,10 +21,6 @@ use Rattle.il_ring.specs.Outcomes.{met_between, DriveTook}
 use Rattle.il_ring.proofs.Faults.{met_at, risen_by_last}
 use Rattle.il_ring.proofs.Passes.{PassesOn, Each, First, Through, LostBehind, plain_hit, goes_past, nothing_comes}
 
-pub each_front : (P : ℕ → DeviceState → Type 0) (k : ℕ) (bs rest : List DeviceState) → Each P k (bs ++ rest) → Each P k bs
-each_front P k [] rest each = tt
-each_front P k (d ∷ bs) rest each = (each.0, each_front P (k + 1) bs rest each.1)
-
 -- where the frame is lost at the drive or before, no further link is crossed
 pub lost_stays : {M : Type 0} (view : M → MediumView) (r s : RingView M) (held : Option Flight) (f : Flight) (answer : Arrival) (round : Round view r held f answer s) (n : ℕ)
     → round.past_drive.flight ≡ None → round.past_drive.crossings ≡ n → s.books.crossings ≡ n
@@ -56,7 +52,7 @@ at_drive view P r s held f answer round n g (Some fault) plain has within is cou
 
 -- a frame that every device passes on comes to the drive, or a planned hop is met
 pub passed_drive : {M : Type 0} (view : M → MediumView) (Q : ℕ → Frame → Type 0) (P : ℕ → DeviceState → Type 0) (R : DeviceState → DeviceState → Type 0) → PassesOn Q P R → (r s : RingView M) (held : Option Flight) (f : Frame) (answer : Arrival)
-    → r.books.crossings ≤ last_crossing → Each P 1 (devices_of r) → Q 1 f → Round view r held (sourced 0 f) answer s → DriveTook view (Q (1 + length r.before)) r s
+    → r.books.crossings ≤ last_crossing → Each P 1 r.before → Q 1 f → Round view r held (sourced 0 f) answer s → DriveTook view (Q (1 + length r.before)) r s
 passed_drive view Q P R rule r s held f answer within fit is round =
     ⊎_elim
         (λ on.
@@ -70,4 +66,4 @@ passed_drive view Q P R rule r s held f answer within fit is round =
             inl (here.1, λ nothing.
                 met_at r.books.plan lost.reached (suc lost.reached) r.books.crossings within (omega arith) lost.planned
                 (ap (met (hops_of r.books.plan) r.books.crossings) (sym now) ∙ nothing)))
-        (goes_past Q P R rule r.books.plan 1 r.books.crossings r.books.log (sourced 0 f) r.before s.before round.at_drive (each_front P 1 r.before (device_of r.drive.state ∷ r.after) fit) is round.to_drive)
+        (goes_past Q P R rule r.books.plan 1 r.books.crossings r.books.log (sourced 0 f) r.before s.before round.at_drive fit is round.to_drive)

@@ -5,6 +5,7 @@ use Rattle.std.proofs.lemmas.Bool.{ne_eqb}
 use Rattle.il_frames.specs.declared.frame.Frame.{Frame}
 use Rattle.il_frames.specs.declared.entry.Entry.{Entry}
 use Rattle.il_frames.specs.declared.entry.Outcome.TheVariants as outcome
+use Rattle.il_frames.specs.Frames.{byte_of}
 use Rattle.il_frames.specs.Messages.{message_of}
 use Rattle.il_device.specs.declared.device.Out.TheVariants.{Pass, Source}
 use Rattle.il_device.specs.State.{DeviceState}
@@ -18,7 +19,7 @@ use Rattle.il_ring.specs.declared.flight.Flight.{Flight}
 use Rattle.il_ring.specs.Plans.{IsPlan, hops_of, next_fault, last_crossing}
 use Rattle.il_ring.specs.Flights.{sourced, ended_at, lost_at}
 use Rattle.il_ring.specs.Books.{BooksView}
-use Rattle.il_ring.specs.Journeys.{Trip}
+use Rattle.il_ring.specs.Journeys.{Trip, trip, Journey}
 use Rattle.il_ring.specs.Rings.{RingView, Round, devices_of, roles_of, comes}
 use Rattle.il_ring.specs.Outcomes as ring
 use Rattle.il_ring.specs.Outcomes.{met_between, AllSilent, Returned, WasLost, IsTalking, IsHeldNow, IsLostNow, HearsByte}
@@ -95,3 +96,89 @@ module _ {M : Type 0} (r s : RingView M) (held : Option Flight) (answer : Arriva
             met_at r.books.plan (j + lost.reached) (j + suc lost.reached) r.books.crossings within (omega arith) (λ here. lost.planned (ap (next_fault r.books.plan) (sym (risen_by-add j lost.reached r.books.crossings)) ∙ here))
             (ap (met (hops_of r.books.plan) r.books.crossings) (sym all) ∙ none);
       })
+
+-- devices that hear a byte are silent still
+pub heard_silent : (j : ℕ) (ds es : List DeviceState) → First HearsAny j ds es → AllSilent ds → AllSilent es
+heard_silent j ds es took silent = silent_still HearsAny j ds es (λ d e hears. hears.1.roles) took silent
+
+pub still_behind : (b : BooksView) (k n : ℕ) (f : Flight) (ds es : List DeviceState) (s : BooksView) (answer : Arrival) → DataHome b k n f ds es s answer → AllSilent ds → AllSilent es
+still_behind b k n f ds es s answer (inl clean) silent = heard_silent (length ds) ds es (first_any (byte_of f.now) (length ds) ds es clean.took) silent
+still_behind b k n f ds es s answer (inr (inl altered)) silent = heard_silent (length ds) ds es altered.took silent
+still_behind b k n f ds es s answer (inr (inr lost)) silent = heard_silent lost.reached ds es lost.took silent
+
+-- ---- the whole round
+
+length_split : (ds bs rest : List DeviceState) (d : DeviceState) → ds ≡ bs ++ d ∷ rest → length ds ≡ length bs + 1 + length rest
+length_split ds bs rest d is = ap length is ∙ length-append bs (d ∷ rest) ∙ omega arith
+
+-- what a message that was taken came to
+taken_round : {M : Type 0} (view : M → MediumView) (r s : RingView M) (held : Option Flight) (f : Frame) (answer : Arrival) → r.books.crossings ≤ last_crossing → IsPlan r.books.plan → is_at_most_one (talkers (roles_of (devices_of r))) ≡ true → NoneSends (devices_of r)
+    → (round : Round view r held (sourced 0 f) answer s) → StartTaken r.books.plan 1 r.books.crossings r.books.log (sourced 0 f) (devices_of r) round.behind (devices_of s) → ring.StartTaken r f answer s
+taken_round view r s held f answer within plan one none round taken =
+    let j = suc (length taken.before) in
+    let p = 1 + length taken.before in
+    let up : p ≡ j = omega arith in
+    let silent = one_talks 1 taken.before taken.behind taken.taker (ap (λ ds. is_at_most_one (talkers (roles_of ds))) (sym taken.devices) ∙ one) taken.sends.talks in
+    let all = length_split (devices_of r) taken.before taken.behind taken.taker taken.devices in
+    let other : (0 == p) ≡ false = ne_eqb 0 p (λ e. omega (arith, e)) in
+    let entry_is : ended_at (sourced 0 f) p ≡ entry 0 f (outcome.Taken p) = ap (λ own. entry 0 f (if own then outcome.Back f else outcome.Taken p)) other in
+    let entries : List Entry = entry 0 f (outcome.Taken p) ∷ [] in
+    let b : BooksView = books_then r s held answer p taken.sent entries j taken.behind taken.behind_then in
+    let journey = subst (λ e. Journey r.books.plan (1 + length taken.before + 1) (trip (risen_by j r.books.crossings) (r.books.log ++ e ∷ []) (Some (sourced p taken.sent))) taken.behind round.behind taken.behind_then) entry_is taken.journey in
+    let goes = data_past r.books.plan (p + 1) (risen_by j r.books.crossings) b.log (sourced p taken.sent) taken.behind taken.behind_then round.behind plan (each_silent (p + 1) taken.behind silent.1) taken.sends.data_frame journey in
+    let homed = data_home b (p + 1) (risen_by j r.books.crossings) (sourced p taken.sent) taken.behind taken.behind_then round.behind s.books answer plan goes (round.books, round.answer_is) in
+    record {
+      party = p;
+      on_ring = (omega arith, omega (arith, all));
+      sent = taken.sent;
+      data_frame = taken.sends.data_frame;
+      own = taken.sends.own;
+      own_frame = taken.sends.frame;
+      runs = taken.sends.runs;
+      talking_before = record {
+        before = taken.before;
+        talker = taken.taker;
+        behind = taken.behind;
+        devices_are = taken.devices;
+        party = omega arith;
+        silent = silent.0;
+        talks = taken.sends.talks;
+        own_is = none_sends taken.before taken.behind taken.taker (subst NoneSends taken.devices none);
+        silent_behind = silent.1;
+      };
+      talking = record {
+        before = taken.before_then;
+        talker = taken.taker_then;
+        behind = taken.behind_then;
+        devices_are = taken.devices_then;
+        party = omega (arith, taken.same);
+        silent = silent_still (LetsPass f) (length taken.before) taken.before taken.before_then (λ d e passed. passed.roles) taken.took silent.0;
+        talks = ap (λ r. r.talks) taken.sends.roles ∙ taken.sends.talks;
+        own_is = taken.sends.on_loop;
+        silent_behind = still_behind b (p + 1) (risen_by j r.books.crossings) (sourced p taken.sent) taken.behind taken.behind_then s.books answer homed silent.1;
+      };
+      end = sent_home r s held answer p taken.sent entries j taken.behind taken.behind_then within (omega arith) (omega (arith, all)) taken.clear homed;
+    }
+  where
+    none_sends : (bs rest : List DeviceState) (d : DeviceState) → NoneSends (bs ++ d ∷ rest) → d.own ≡ None
+    none_sends [] rest d none = none.0
+    none_sends (b ∷ bs) rest d none = none_sends bs rest d none.1
+
+
+-- A start message, where at most one device talks and none has a frame of its own on the loop.
+pub start_round : {M : Type 0} (view : M → MediumView) (r s : RingView M) (held : Option Flight) (f : Frame) (answer : Arrival) → r.books.crossings ≤ last_crossing → IsPlan r.books.plan → is_start (message_of f) ≡ true → NoneSends (devices_of r)
+    → is_at_most_one (talkers (roles_of (devices_of r))) ≡ true → Round view r held (sourced 0 f) answer s → StartReturned r held f answer s ⊎ (StartGone r f answer s ⊎ ring.StartTaken r f answer s)
+start_round view r s held f answer within plan start none one round =
+    let k = length (devices_of r) in
+    let ends = round_end view r s held (sourced 0 f) answer round in
+    ⊎_elim
+        (λ (passed : StartPassed r.books.plan r.books.crossings r.books.log (sourced 0 f) (devices_of r) round.behind (devices_of s)).
+            ⊎_elim
+                (λ back. inl (record { returned = back; took = passed.took }))
+                (λ lost. inr (inl (record { lost = lost; reached = k; took = passed.took })))
+                (at_last r s held f answer f round.behind (next_fault r.books.plan (risen_by k r.books.crossings)) within (start_no_data f start) passed.is passed.clear refl ends))
+        (⊎_elim
+            (λ (lost : StartLost r.books.plan 1 r.books.crossings r.books.log (sourced 0 f) (devices_of r) round.behind (devices_of s)).
+                inr (inl (record { lost = lost_before r s held f answer lost.reached round.behind within lost.within lost.is lost.planned ends; reached = lost.reached; took = lost.took })))
+            (λ (taken : StartTaken r.books.plan 1 r.books.crossings r.books.log (sourced 0 f) (devices_of r) round.behind (devices_of s)). inr (inr (taken_round view r s held f answer within plan one none round taken))))
+        (start_goes r.books.plan 1 r.books.crossings r.books.log (sourced 0 f) (devices_of r) (devices_of s) round.behind start none (round_journey view r s held (sourced 0 f) answer round))
