@@ -24,3 +24,4 @@ pub mod Starts
 pub mod StartJourneys
 pub mod Talkers
 pub mod StartRounds
+pub mod Echoes
