@@ -25,3 +25,4 @@ pub mod StartJourneys
 pub mod Talkers
 pub mod StartRounds
 pub mod Echoes
+pub mod EndsHome

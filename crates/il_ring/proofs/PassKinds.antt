@@ -35,6 +35,7 @@ obeys d e f out asked takes =
         room = takes.room;
         accessory = takes.accessory;
       };
+      roles = takes.roles;
       own = passes.still_own;
       assignment = takes.assignment;
       wants = takes.wants;
@@ -159,6 +160,7 @@ begun_obeys d e f out asked takes own = record {
     room = takes.room;
     accessory = takes.accessory;
   };
+  roles = takes.roles;
   own = own;
   assignment = takes.assignment;
   wants = takes.wants;

@@ -1,5 +1,5 @@
 -- What became of a frame that went round, as its kind has it.
-use Rattle.std.specs.Prelude.{◌≡◌, ◌≢◌, ◌⊎◌, ◌≤◌, ◌<◌, ◌+◌, ◌++◌, ℕ, zero, suc, Bool, true, false, if◌then◌else◌, List, [], ◌∷◌, length, Option, Some, None, MatchBool}
+use Rattle.std.specs.Prelude.{◌||◌, ◌≡◌, ◌≢◌, ◌⊎◌, ◌≤◌, ◌<◌, ◌+◌, ◌++◌, ℕ, zero, suc, Bool, true, false, if◌then◌else◌, List, [], ◌∷◌, length, Option, Some, None, MatchBool}
 use Rattle.il_frames.specs.declared.frame.Frame.{Frame}
 use Rattle.il_frames.specs.declared.message.Message.{Message}
 use Rattle.il_frames.specs.declared.entry.Entry.{Entry}
@@ -7,9 +7,9 @@ use Rattle.il_frames.specs.declared.entry.Outcome.TheVariants as outcome
 use Rattle.il_frames.specs.Frames.{byte_of, is_data, with_service}
 use Rattle.il_device.specs.declared.device.Out.{Out}
 use Rattle.il_device.specs.declared.interface.OwnFrame.{OwnFrame}
-use Rattle.il_device.specs.Roles.{own_after, assignment_after}
+use Rattle.il_device.specs.Roles.{roles_after, own_after, assignment_after}
 use Rattle.il_device.specs.State.{DeviceState, risen}
-use Rattle.il_device.specs.Takes.{kept, may_change_service}
+use Rattle.il_device.specs.Takes.{eto, ete, kept, may_change_service}
 use Rattle.il_ports.specs.Media.{MediumView}
 use Rattle.loop_model.specs.Entries.{entry}
 use Rattle.loop_model.specs.Reach.{met}
@@ -34,6 +34,7 @@ pub record HearsNothing (d e : DeviceState) : Type 0 where
 -- a device that a message comes to which asks nothing of it
 pub record Obeys (m : Message) (d e : DeviceState) : Type 0 where
   pub nothing : HearsNothing d e
+  pub roles : e.roles ≡ roles_after d.roles m
   pub own : e.own ≡ own_after d.roles d.own m
   pub assignment : e.assignment ≡ assignment_after d.roles d.assignment m
   pub wants : may_change_service m ≡ false → e.wants ≡ d.wants
@@ -133,3 +134,42 @@ pub record StartTaken {M : Type 0} (r : RingView M) (f : Frame) (answer : Arriva
   pub talking : IsTalking party (Some own) (devices_of s)
   pub end : ((altered : Bool) × IsHeldNow r (entry 0 f (outcome.Taken party) ∷ []) party sent altered answer s × MatchBool altered (met_between r s ≢ []) (met_between r s ≡ []))
       ⊎ IsLostNow r (entry 0 f (outcome.Taken party) ∷ []) party sent answer s
+
+-- ---- the held frame goes on
+
+-- how it came back to the device that sent it: the same apart from the service bit, or with another byte, since a planned hop
+-- was met in this call or before
+pub record CameBack {M : Type 0} (r s : RingView M) (held : Flight) (right : Bool) (back : Frame) : Type 0 where
+  pub data_frame : is_data back ≡ true
+  pub echo : MatchBool right ((held.altered ≡ false) × (with_service back ≡ with_service held.sent))
+      ((byte_of back ≢ byte_of held.sent) × ((held.altered ≡ true) ⊎ (met_between r s ≢ [])))
+
+-- the entry of the frame that came back
+abbrev pub back_entry : Flight → Frame → Entry
+back_entry held back = entry held.source held.sent (outcome.Back back)
+
+-- behind the right echo the device sent a further data frame
+pub record SendsMore {M : Type 0} (r : RingView M) (held : Flight) (own : OwnFrame) (back : Frame) (answer : Arrival) (s : RingView M) : Type 0 where
+  pub right : with_service back ≡ with_service held.sent
+  pub unaltered : held.altered ≡ false
+  pub goes_on : (own.stopped || own.last) ≡ false
+  pub sent : Frame
+  pub data_frame : is_data sent ≡ true
+  pub next : OwnFrame
+  pub next_frame : next.frame ≡ sent
+  pub runs : next.stopped ≡ false
+  pub talking : IsTalking held.source (Some next) (devices_of s)
+  pub end : ((altered : Bool) × IsHeldNow r (back_entry held back ∷ []) held.source sent altered answer s × MatchBool altered (met_between r s ≢ []) (met_between r s ≡ []))
+      ⊎ IsLostNow r (back_entry held back ∷ []) held.source sent answer s
+
+-- or it ended the transmission: by ETO behind the right echo, else by ETE
+pub record EndsSending {M : Type 0} (r : RingView M) (held : Flight) (right : Bool) (back : Frame) (answer : Arrival) (s : RingView M) : Type 0 where
+  pub talking : IsTalking held.source None (devices_of s)
+  pub end : ((answer ≡ arrival.Frame (if right then eto else ete)) × (s.books.log ≡ r.books.log ++ (back_entry held back ∷ entry held.source (if right then eto else ete) (outcome.Taken 0) ∷ [])) × (s.books.held ≡ None)
+      × (right ≡ true → met_between r s ≡ []))
+      ⊎ IsLostNow r (back_entry held back ∷ []) held.source (if right then eto else ete) answer s
+
+-- what came of it: it was lost; or it came back, and what the device sent then is held, taken by the host or lost
+abbrev pub Relayed : {M : Type 0} → RingView M → Flight → OwnFrame → Arrival → RingView M → Type 0
+Relayed r held own answer s = IsLostNow r [] held.source held.sent answer s
+    ⊎ ((right : Bool) × (back : Frame) × CameBack r s held right back × (SendsMore r held own back answer s ⊎ EndsSending r held right back answer s))
