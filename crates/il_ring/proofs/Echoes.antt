@@ -37,10 +37,11 @@ pub record Answered (plan : List Planned) (k n : ℕ) (log : List Entry) (f : Fl
   pub takes : Takes d back out e
   pub journey : Journey plan (k + 1) (answered (risen_by (suc (length ds)) n) log k (record f { now = back; altered = altered }) out) rest u rest_then
 
--- it was lost behind so many links
-pub record Gone (plan : List Planned) (n : ℕ) (log : List Entry) (f : Flight) (u : Trip) : Type 0 where
+-- it was lost behind so many links, on the way past m devices to party k
+pub record Gone (plan : List Planned) (k m n : ℕ) (log : List Entry) (f : Flight) (u : Trip) : Type 0 where
   pub crossed : ℕ
   pub party : ℕ
+  pub on_ring : (party ≡ k) ⊎ (party ≤ m)
   pub is : u ≡ trip (risen_by (suc crossed) n) (log ++ lost_at f party ∷ []) None
   pub planned : next_fault plan (risen_by crossed n) ≢ None
 
@@ -48,7 +49,7 @@ pub record Gone (plan : List Planned) (n : ℕ) (log : List Entry) (f : Flight) 
 
 module _ (plan : List Planned) (k n : ℕ) (log : List Entry) (f : Flight) (ds : List DeviceState) (d : DeviceState) (rest : List DeviceState) (u : Trip) (e : DeviceState) (rest_then : List DeviceState) where
   abbrev End : Type 0
-  End = Answered plan k n log f ds d rest u e rest_then ⊎ (Gone plan n log f u × (e ≡ d) × First HearsAny 0 rest rest_then)
+  End = Answered plan k n log f ds d rest u e rest_then ⊎ (Gone plan k (length ds) n log f u × (e ≡ d) × First HearsAny 0 rest rest_then)
 
   -- the frame f₁ is on its way to it
   abbrev pub ToTalker : Trip → Flight → Option Flight → Trip → Type 0
@@ -62,6 +63,7 @@ module _ (plan : List Planned) (k n : ℕ) (log : List Entry) (f : Flight) (ds :
       inr (record {
         crossed = length ds;
         party = k;
+        on_ring = inl refl;
         is = stays.0 ∙ lost ∙ ap (λ n. trip n (log ++ lost_at f k ∷ []) None) (risen_by_last (length ds) n);
         planned = λ none. let clash = sym planned ∙ none in cc;
       }, to.0.1, stays.1)
@@ -114,4 +116,4 @@ module _ (plan : List Planned) (k n : ℕ) (log : List Entry) (f : Flight) (ds :
       let none : t.flight ≡ None = ap (λ (t : Trip). t.flight) lost.is in
       let here : (t₁ ≡ t) × (e ≡ d) = subst (λ flight. Reaches Takes plan k t flight d t₁ e) none reaches in
       let stays = nothing_comes plan (k + 1) t₁ u rest rest_then HearsAny (ap (λ (t : Trip). t.flight) here.0 ∙ none) journey in
-      inr (record { crossed = lost.reached; party = 1 + lost.reached; is = stays.0 ∙ here.0 ∙ lost.is; planned = lost.planned }, here.1, stays.1)
+      inr (record { crossed = lost.reached; party = 1 + lost.reached; on_ring = inr (omega (arith, lost.within)); is = stays.0 ∙ here.0 ∙ lost.is; planned = lost.planned }, here.1, stays.1)

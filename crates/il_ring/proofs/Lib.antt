@@ -26,3 +26,4 @@ pub mod Talkers
 pub mod StartRounds
 pub mod Echoes
 pub mod EndsHome
+pub mod RelayRounds

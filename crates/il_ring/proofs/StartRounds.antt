@@ -50,7 +50,7 @@ pub record StartGone {M : Type 0} (r : RingView M) (f : Frame) (answer : Arrival
 -- ---- what became of a frame that a device sent
 
 module _ {M : Type 0} (r s : RingView M) (held : Option Flight) (answer : Arrival) (p : ℕ) (sent : Frame) (entries : List Entry) (j : ℕ) (behind behind_then : List DeviceState) where
-  abbrev books_then : BooksView
+  abbrev pub books_then : BooksView
   books_then = record r.books { held = held; log = r.books.log ++ entries }
 
   -- with j links crossed before it was sent, and nothing planned at them
@@ -108,7 +108,7 @@ still_behind b k n f ds es s answer (inr (inr lost)) silent = heard_silent lost.
 
 -- ---- the whole round
 
-length_split : (ds bs rest : List DeviceState) (d : DeviceState) → ds ≡ bs ++ d ∷ rest → length ds ≡ length bs + 1 + length rest
+pub length_split : (ds bs rest : List DeviceState) (d : DeviceState) → ds ≡ bs ++ d ∷ rest → length ds ≡ length bs + 1 + length rest
 length_split ds bs rest d is = ap length is ∙ length-append bs (d ∷ rest) ∙ omega arith
 
 -- what a message that was taken came to

@@ -1,0 +1,149 @@
+-- Rounds of a held frame.
+use Rattle.std.proofs.Common.{◌≡◌, ◌≢◌, ◌≤◌, ◌<◌, ◌+◌, ◌++◌, ◌⊎◌, ◌||◌, ◌&&◌, ◌==◌, inl, inr, ⊎_elim, ℕ, zero, suc, Bool, true, false, List, [], ◌∷◌, Option, Some, None, length, refl, sym, ap, ap₂, subst, ◌∙◌, arith, append_assoc, length-append, eqb-true}
+use Rattle.std.specs.Prelude.{MatchBool, if◌then◌else◌}
+use Rattle.std.proofs.lemmas.Bool.{and_parts, eq-eqb, ne_eqb}
+use Rattle.il_frames.specs.declared.frame.Frame.{Frame}
+use Rattle.il_frames.specs.declared.entry.Entry.{Entry}
+use Rattle.il_frames.specs.declared.entry.Outcome.TheVariants as outcome
+use Rattle.il_frames.specs.Frames.{byte_of, class_of, is_data, same_class, same_but_service, with_service}
+use Rattle.il_frames.specs.Messages.{message_of}
+use Rattle.il_device.specs.declared.device.Out.{Out}
+use Rattle.il_device.specs.declared.device.Out.TheVariants.{Pass, Source}
+use Rattle.il_device.specs.declared.interface.OwnFrame.{OwnFrame}
+use Rattle.il_device.specs.declared.interface.Turn.TheVariants as turn
+use Rattle.il_device.specs.declared.roles.Roles.{Roles}
+use Rattle.il_device.specs.Roles.{roles_after}
+use Rattle.il_device.specs.State.{DeviceState}
+use Rattle.il_device.specs.Takes.{Takes, Answers, AnswersEcho, GoesOn, Ends, Sends, eto, ete, turn_of, turn_at_data}
+use Rattle.il_device.proofs.Laws.{risen_by, is_plain, roles_after-data, turn_of-data}
+use Rattle.il_ports.specs.Media.{MediumView}
+use Rattle.loop_model.specs.Entries.{entry}
+use Rattle.loop_model.specs.Reach.{met}
+use Rattle.il_ring.specs.declared.plan.Planned.{Planned}
+use Rattle.il_ring.specs.declared.plan.Arrival.{Arrival}
+use Rattle.il_ring.specs.declared.plan.Arrival.TheVariants as arrival
+use Rattle.il_ring.specs.declared.flight.Flight.{Flight}
+use Rattle.il_ring.specs.Plans.{IsPlan, hops_of, next_fault, last_crossing}
+use Rattle.il_ring.specs.Flights.{sourced, ended_at, lost_at}
+use Rattle.il_ring.specs.Books.{BooksView}
+use Rattle.il_ring.specs.Journeys.{Trip, trip, trip_of, answered, Passage, Journey}
+use Rattle.il_ring.specs.Rings.{RingView, Round, devices_of, home, books_at, arrived, arriving}
+use Rattle.il_ring.specs.Outcomes.{met_between, AllSilent, IsTalking, IsHeldNow, IsLostNow, CameBack, SendsMore, EndsSending, Relayed, back_entry, Obeys}
+use Rattle.il_ring.proofs.Faults.{IsClear, clear_met, clear_more, met_at}
+use Rattle.il_ring.proofs.Counts.{risen_by-add}
+use Rattle.il_ring.proofs.Passes.{First}
+use Rattle.il_ring.proofs.Takings.{own_sends}
+use Rattle.il_ring.proofs.DataPasses.{DataGoes, HearsAny, data_past, first_any, same_served, same_byte}
+use Rattle.il_ring.proofs.DataHome.{DataHome, data_home}
+use Rattle.il_ring.proofs.EndsHome.{EndHome, EndTaken, EndLost, end_home}
+use Rattle.il_ring.proofs.Echoes.{Arrived, AsItWas, Otherwise, Answered, Gone, to_talker}
+use Rattle.il_ring.proofs.Splits.{Parts, journey_parts, each_silent, silent_still}
+use Rattle.il_ring.proofs.StartRounds.{sent_home, heard_silent, still_behind, length_split}
+use Rattle.il_ring.proofs.Later.{Later, later_then, journey_later, end_later, met_later}
+use Rattle.il_ring.proofs.RoundCounts.{round_journey}
+
+-- ---- right and wrong echoes
+
+test_false : (b : Bool) → (b ≡ true → ⊥) → b ≡ false
+test_false true never = absurd (never refl)
+test_false false never = refl
+
+-- another byte is a wrong echo
+wrong_echo : (f g : Frame) → byte_of g ≢ byte_of f → same_but_service f g ≡ false
+wrong_echo f g other =
+    test_false (same_but_service f g) (λ right. other (sym (eqb-true (byte_of f) (byte_of g) (and_parts (same_class (class_of (with_service f)) (class_of (with_service g))) (byte_of f == byte_of g) right).1)))
+
+sent_frame : (g h : Frame) → Source g ≡ Source h → g ≡ h
+sent_frame g h e = ap (λ out. elim out [ Pass f ↦ f | Source f ↦ f ]) e
+
+-- what the talker's answer to the echo is
+echo_answer : (d e : DeviceState) (own : OwnFrame) (back : Frame) (out : Out) → is_data back ≡ true → d.own ≡ Some own → Takes d back out e → AnswersEcho (same_but_service own.frame back) own out e
+echo_answer d e own back out data_frame has takes =
+    let asked : turn_of d back ≡ turn.Compare own = turn_of-data d back data_frame ∙ ap (λ own. turn_at_data own d.roles.listens) has in
+    subst (λ u. Answers u d back out e) asked takes.answer
+
+-- ---- one list in two parts
+
+pub record Head (plan : List Planned) (k : ℕ) (t u : Trip) (d : DeviceState) (rest es : List DeviceState) : Type 0 where
+  pub e : DeviceState
+  pub rest_then : List DeviceState
+  pub both : es ≡ e ∷ rest_then
+  pub middle : Trip
+  pub passage : Passage Takes plan k t d middle e
+  pub journey : Journey plan (k + 1) middle rest u rest_then
+
+head_of : (plan : List Planned) (k : ℕ) (t u : Trip) (d : DeviceState) (rest es : List DeviceState) → Journey plan k t (d ∷ rest) u es → Head plan k t u d rest es
+head_of plan k t u d rest [] journey = absurd journey
+head_of plan k t u d rest (e ∷ es) journey = record { e = e; rest_then = es; both = refl; middle = journey.0; passage = journey.1; journey = journey.2 }
+
+goes_silent : (plan : List Planned) (k n : ℕ) (log : List Entry) (f : Flight) (ds es : List DeviceState) (u : Trip) → DataGoes plan k n log f ds u es → AllSilent ds → AllSilent es
+goes_silent plan k n log f ds es u (inl clean) silent = heard_silent (length ds) ds es (first_any (byte_of f.now) (length ds) ds es clean.took) silent
+goes_silent plan k n log f ds es u (inr (inl altered)) silent = heard_silent (length ds) ds es altered.took silent
+goes_silent plan k n log f ds es u (inr (inr lost)) silent = heard_silent lost.reached ds es lost.took silent
+
+-- ---- what the talker sent then
+
+module _ {M : Type 0} (view : M → MediumView) (r s : RingView M) (held : Flight) (answer : Arrival) (own : OwnFrame) (back : Frame) (bs cs : List DeviceState) (e : DeviceState) (rest rest_then : List DeviceState) (u : Trip) where
+  abbrev books_so : BooksView
+  books_so = record r.books { held = None; log = r.books.log ++ back_entry held back ∷ [] }
+
+  abbrev so_far : ℕ
+  so_far = risen_by (suc (length bs)) r.books.crossings
+
+  abbrev Ending : Type 0
+  Ending = (s.books ≡ home (books_at (record r.books { held = None }) u) u.flight) × (answer ≡ arrived (arriving r.books.plan u.crossings u.flight))
+
+  -- the devices behind the call, with the talker's own frame
+  talks_on : (next : Option OwnFrame) → held.source ≡ length bs + 1 → length cs ≡ length bs → devices_of s ≡ cs ++ e ∷ rest_then → AllSilent cs → AllSilent rest_then → e.roles.talks ≡ true → e.own ≡ next → IsTalking held.source next (devices_of s)
+  talks_on next at same devices silent silent_behind talks own_is = record { before = cs; talker = e; behind = rest_then; devices_are = devices; party = omega (arith, at, same); silent = silent; talks = talks; own_is = own_is; silent_behind = silent_behind }
+
+  more_sent : (h : Frame) (next : OwnFrame) → IsPlan r.books.plan → r.books.crossings ≤ last_crossing → held.source ≡ length bs + 1 → length cs ≡ length bs → held.source + length rest ≤ length (devices_of r) → devices_of s ≡ cs ++ e ∷ rest_then → AllSilent cs → AllSilent rest
+      → e.roles.talks ≡ true → e.own ≡ Some next → next.frame ≡ h → next.stopped ≡ false → is_data h ≡ true → with_service back ≡ with_service held.sent → held.altered ≡ false → (own.stopped || own.last) ≡ false → IsClear r.books.plan r.books.crossings (suc (length bs))
+      → Journey r.books.plan (held.source + 1) (trip so_far (r.books.log ++ back_entry held back ∷ []) (Some (sourced held.source h))) rest u rest_then → Ending → SendsMore r held own back answer s
+  more_sent h next plan within at same on devices silent silent_behind talks own_is frame runs data_frame right unaltered goes_on clear journey ending =
+      let goes = data_past r.books.plan (held.source + 1) so_far books_so.log (sourced held.source h) rest rest_then u plan (each_silent (held.source + 1) rest silent_behind) data_frame journey in
+      let homed = data_home books_so (held.source + 1) so_far (sourced held.source h) rest rest_then u s.books answer plan goes ending in
+      record {
+        right = right;
+        unaltered = unaltered;
+        goes_on = goes_on;
+        sent = h;
+        data_frame = data_frame;
+        next = next;
+        next_frame = frame;
+        runs = runs;
+        talking = talks_on (Some next) at same devices silent (still_behind books_so (held.source + 1) so_far (sourced held.source h) rest rest_then s.books answer homed silent_behind) talks own_is;
+        end = sent_home r s None answer held.source h (back_entry held back ∷ []) (suc (length bs)) rest rest_then within (omega (arith, at)) on clear homed;
+      }
+
+  -- ETO or ETE
+  end_sent : (right : Bool) (h : Frame) → h ≡ (if right then eto else ete) → is_plain (message_of h) ≡ true → ((r : Roles) → roles_after r (message_of h) ≡ r) → r.books.crossings ≤ last_crossing → held.source ≡ length bs + 1 → length cs ≡ length bs
+      → held.source + length rest ≤ length (devices_of r) → devices_of s ≡ cs ++ e ∷ rest_then → AllSilent cs → AllSilent rest → e.roles.talks ≡ true → e.own ≡ None → (right ≡ true → IsClear r.books.plan r.books.crossings (suc (length bs)))
+      → Journey r.books.plan (held.source + 1) (trip so_far (r.books.log ++ back_entry held back ∷ []) (Some (sourced held.source h))) rest u rest_then → Ending → EndsSending r held right back answer s
+  end_sent right h is plain keeps within at same on devices silent silent_behind talks own_is clear journey ending =
+      let homed = end_home books_so (held.source + 1) so_far held.source h rest rest_then u s.books answer plain (omega (arith, at)) journey ending in
+      record {
+        talking = talks_on None at same devices silent (silent_still (Obeys (message_of h)) homed.reached rest rest_then (λ d e obeys. obeys.roles ∙ keeps d.roles) homed.took silent_behind) talks own_is;
+        end = ⊎_elim
+            (λ (taken : EndTaken books_so so_far held.source h rest rest_then s.books answer). inl (
+              taken.answer_is ∙ ap (λ h. arrival.Frame h) is,
+              ap (λ (b : BooksView). b.log) taken.books ∙ append_assoc r.books.log (back_entry held back ∷ []) (entry held.source h (outcome.Taken 0) ∷ []) ∙ ap (λ h. r.books.log ++ back_entry held back ∷ entry held.source h (outcome.Taken 0) ∷ []) is,
+              ap (λ (b : BooksView). b.held) taken.books,
+              λ e.
+                  ap (met (hops_of r.books.plan) r.books.crossings) (ap (λ (b : BooksView). b.crossings) taken.books ∙ sym (risen_by-add (suc (length bs)) (suc (length rest)) r.books.crossings))
+                  ∙ (clear_met r.books.plan (suc (length bs) + suc (length rest)) r.books.crossings within).1 (clear_more r.books.plan (suc (length bs)) (suc (length rest)) r.books.crossings (clear e) taken.clear),
+            ))
+            (λ (lost : EndLost books_so (held.source + 1) so_far held.source h rest rest_then s.books answer). inr (record {
+              answer_is = lost.answer_is;
+              party = lost.party;
+              on_ring = ⊎_elim (λ zero. omega (arith, zero)) (λ there. omega (arith, there.0, there.1, on)) lost.party_is;
+              log = ap (λ (b : BooksView). b.log) lost.books ∙ append_assoc r.books.log (back_entry held back ∷ []) (entry held.source h (outcome.Lost lost.party) ∷ []) ∙ ap (λ h. r.books.log ++ (back_entry held back ∷ [] ++ entry held.source h (outcome.Lost lost.party) ∷ [])) is;
+              held_is = ap (λ (b : BooksView). b.held) lost.books;
+              met_some =
+                  let all : s.books.crossings ≡ risen_by (suc (length bs) + suc lost.reached) r.books.crossings = ap (λ (b : BooksView). b.crossings) lost.books ∙ sym (risen_by-add (suc (length bs)) (suc lost.reached) r.books.crossings) in
+                  λ none.
+                      met_at r.books.plan (suc (length bs) + lost.reached) (suc (length bs) + suc lost.reached) r.books.crossings within (omega arith) (λ here. lost.planned (ap (next_fault r.books.plan) (sym (risen_by-add (suc (length bs)) lost.reached r.books.crossings)) ∙ here))
+                      (ap (met (hops_of r.books.plan) r.books.crossings) (sym all) ∙ none);
+            }))
+            homed.end;
+      }
