@@ -147,3 +147,142 @@ module _ {M : Type 0} (view : M → MediumView) (r s : RingView M) (held : Fligh
             }))
             homed.end;
       }
+
+  -- the talker's answer, the echo being right or wrong
+  abbrev pub Behind : Bool → Type 0
+  Behind right = SendsMore r held own back answer s ⊎ EndsSending r held right back answer s
+
+  by_echo : (right : Bool) (h : Frame) (d : DeviceState) → IsPlan r.books.plan → r.books.crossings ≤ last_crossing → held.source ≡ length bs + 1 → length cs ≡ length bs → held.source + length rest ≤ length (devices_of r) → devices_of s ≡ cs ++ e ∷ rest_then → AllSilent cs → AllSilent rest
+      → e.roles.talks ≡ true → AnswersEcho right own (Source h) e → (right ≡ true → (with_service back ≡ with_service held.sent) × (held.altered ≡ false) × IsClear r.books.plan r.books.crossings (suc (length bs)))
+      → Journey r.books.plan (held.source + 1) (trip so_far (r.books.log ++ back_entry held back ∷ []) (Some (sourced held.source h))) rest u rest_then → Ending → Behind right
+  by_echo false h d plan within at same on devices silent silent_behind talks ends_as clear journey ending =
+      let is : h ≡ ete = sent_frame h ete ends_as.answer in
+      inr (end_sent false h is (ap (λ h. is_plain (message_of h)) is) (λ r. ap (λ h. roles_after r (message_of h)) is) within at same on devices silent silent_behind talks ends_as.off_loop (λ e. let clash : false ≡ true = e in cc) journey ending)
+  by_echo true h d plan within at same on devices silent silent_behind talks on_echo clear journey ending = by_over (own.stopped || own.last) refl on_echo
+    where
+      ended : Ends eto (Source h) e → Behind true
+      ended ends_as =
+          let is : h ≡ eto = sent_frame h eto ends_as.answer in
+          inr (end_sent true h is (ap (λ h. is_plain (message_of h)) is) (λ r. ap (λ h. roles_after r (message_of h)) is) within at same on devices silent silent_behind talks ends_as.off_loop (λ e. (clear e).2) journey ending)
+
+      by_over : (over : Bool) → (own.stopped || own.last) ≡ over → GoesOn over (Source h) e → Behind true
+      by_over true is ends_as = ended ends_as
+      by_over false is (inl ends_as) = ended ends_as
+      by_over false is (inr sends) =
+          let frame : sends.0.frame ≡ h = sym (sent_frame h sends.0.frame sends.1.answer) in
+          let all = clear refl in
+          inl (more_sent h sends.0 plan within at same on devices silent silent_behind talks sends.1.on_loop frame sends.1.runs (ap is_data (sym frame) ∙ sends.1.is_data) all.0 all.1 is all.2 journey ending)
+
+-- ---- the whole round
+
+-- how the echo is, by how it came
+pub record EchoIs (plan : List Planned) (n m : ℕ) (held : Flight) (own : OwnFrame) (back : Frame) : Type 0 where
+  pub right : Bool
+  pub test : same_but_service own.frame back ≡ right
+  pub good : right ≡ true → (with_service back ≡ with_service held.sent) × (held.altered ≡ false) × IsClear plan n (suc m)
+  pub bad : right ≡ false → (byte_of back ≢ byte_of held.sent) × ((held.altered ≡ true) ⊎ ((hop : ℕ) × (hop ≤ m) × (next_fault plan (risen_by hop n) ≢ None)))
+
+-- the frame stood so at the host
+pub record StoodSo (held : Flight) : Type 0 where
+  pub data_frame : is_data held.now ≡ true
+  pub same : held.altered ≡ false → with_service held.now ≡ with_service held.sent
+  pub other : held.altered ≡ true → byte_of held.now ≢ byte_of held.sent
+
+echo_is : (plan : List Planned) (n m : ℕ) (held : Flight) (own : OwnFrame) (back : Frame) (before : Bool) → held.altered ≡ before → own.frame ≡ held.sent → StoodSo held → Arrived plan n m held back → EchoIs plan n m held own back
+echo_is plan n m held own back false unaltered frame stood (AsItWas same clear) =
+    let right : with_service back ≡ with_service held.sent = same ∙ stood.same unaltered in
+    record {
+      right = true;
+      test = same_served own.frame back (right ∙ ap with_service (sym frame));
+      good = λ e. (right, unaltered, clear);
+      bad = λ e. let clash : true ≡ false = e in cc;
+    }
+echo_is plan n m held own back true altered frame stood (AsItWas same clear) =
+    let other : byte_of back ≢ byte_of held.sent = λ e. stood.other altered (sym (ap byte_of same) ∙ e) in
+    record {
+      right = false;
+      test = wrong_echo own.frame back (λ e. other (e ∙ ap byte_of frame));
+      good = λ e. let clash : false ≡ true = e in cc;
+      bad = λ e. (other, inl altered);
+    }
+echo_is plan n m held own back before was frame stood (Otherwise changed unaltered hop within planned) =
+    let other : byte_of back ≢ byte_of held.sent = λ e. changed (e ∙ sym (ap byte_of (stood.same unaltered))) in
+    record {
+      right = false;
+      test = wrong_echo own.frame back (λ e. other (e ∙ ap byte_of frame));
+      good = λ e. let clash : false ≡ true = e in cc;
+      bad = λ e. (other, inr (hop, within, planned));
+    }
+
+came_back : {M : Type 0} (r s : RingView M) (held : Flight) (own : OwnFrame) (back : Frame) (m : ℕ) → is_data back ≡ true → (echo : EchoIs r.books.plan r.books.crossings m held own back) → ((hop : ℕ) → hop ≤ m → next_fault r.books.plan (risen_by hop r.books.crossings) ≢ None → met_between r s ≢ [])
+    → CameBack r s held echo.right back
+came_back r s held own back m data_frame echo met_some = record { data_frame = data_frame; echo = by_right echo.right refl }
+  where
+    by_right : (right : Bool) → echo.right ≡ right → MatchBool right ((held.altered ≡ false) × (with_service back ≡ with_service held.sent)) ((byte_of back ≢ byte_of held.sent) × ((held.altered ≡ true) ⊎ (met_between r s ≢ [])))
+    by_right true is = let good = echo.good is in (good.1, good.0)
+    by_right false is = let bad = echo.bad is in (bad.0, ⊎_elim (λ altered. inl altered) (λ hop. inr (met_some hop.0 hop.1 hop.2)) bad.1)
+
+-- the entry of the frame that came back
+back_is : (held : Flight) (k : ℕ) (back : Frame) (altered : Bool) → held.source ≡ k → ended_at (record held { now = back; altered = altered }) k ≡ back_entry held back
+back_is held k back altered at = ap (λ own. entry held.source held.sent (if own then outcome.Back back else outcome.Taken k)) (eq-eqb held.source k at)
+
+-- where it came to its source
+answered_round : {M : Type 0} (view : M → MediumView) (r s : RingView M) (held : Flight) (own : OwnFrame) (answer : Arrival) (bs cs : List DeviceState) (d e : DeviceState) (rest rest_then : List DeviceState) (u : Trip) → r.books.crossings ≤ last_crossing → IsPlan r.books.plan
+    → held.source ≡ 1 + length bs → length cs ≡ length bs → held.source + length rest ≤ length (devices_of r) → devices_of s ≡ cs ++ e ∷ rest_then → AllSilent cs → AllSilent rest → d.roles.talks ≡ true → d.own ≡ Some own → own.frame ≡ held.sent → StoodSo held
+    → (came : Answered r.books.plan (1 + length bs) r.books.crossings r.books.log held bs d rest u e rest_then) → (s.books ≡ home (books_at (record r.books { held = None }) u) u.flight) × (answer ≡ arrived (arriving r.books.plan u.crossings u.flight)) → Later u.crossings s.books.crossings
+    → (right : Bool) × (back : Frame) × CameBack r s held right back × (SendsMore r held own back answer s ⊎ EndsSending r held right back answer s)
+answered_round view r s held own answer bs cs d e rest rest_then u within plan at same on devices silent silent_behind talks own_is frame stood came ending later = by_out came.out refl came.takes came.journey
+  where
+    echo : EchoIs r.books.plan r.books.crossings (length bs) held own came.back
+    echo = echo_is r.books.plan r.books.crossings (length bs) held own came.back held.altered refl frame stood came.came
+
+    by_out : (out : Out) → came.out ≡ out → Takes d came.back out e → Journey r.books.plan (1 + length bs + 1) (answered (risen_by (suc (length bs)) r.books.crossings) r.books.log (1 + length bs) (record held { now = came.back; altered = came.altered }) out) rest u rest_then
+        → (right : Bool) × (back : Frame) × CameBack r s held right back × (SendsMore r held own back answer s ⊎ EndsSending r held right back answer s)
+    by_out (Pass h) is takes journey = absurd (own_sends d e came.back h (Pass h) own came.data_frame own_is takes refl)
+    by_out (Source h) is takes journey =
+        let more : Later (risen_by (suc (length bs)) r.books.crossings) s.books.crossings = later_then (risen_by (suc (length bs)) r.books.crossings) u.crossings s.books.crossings (journey_later r.books.plan (1 + length bs + 1) _ u rest rest_then journey) later in
+        let onward : Journey r.books.plan (held.source + 1) (trip (risen_by (suc (length bs)) r.books.crossings) (r.books.log ++ back_entry held came.back ∷ []) (Some (sourced held.source h))) rest u rest_then =
+        subst (λ p. Journey r.books.plan (p + 1) (trip (risen_by (suc (length bs)) r.books.crossings) (r.books.log ++ back_entry held came.back ∷ []) (Some (sourced p h))) rest u rest_then) (sym at)
+        (subst (λ entry. Journey r.books.plan (1 + length bs + 1) (trip (risen_by (suc (length bs)) r.books.crossings) (r.books.log ++ entry ∷ []) (Some (sourced (1 + length bs) h))) rest u rest_then) (back_is held (1 + length bs) came.back came.altered at) journey) in
+        (
+          echo.right,
+          came.back,
+          came_back r s held own came.back (length bs) came.data_frame echo (λ hop low planned. met_later r s (risen_by (suc (length bs)) r.books.crossings) hop (suc (length bs)) within refl (omega (arith, low)) planned more),
+          by_echo view r s held answer own came.back bs cs e rest rest_then u echo.right h d plan within (omega (arith, at)) same on devices silent silent_behind
+              (ap (λ r. r.talks) (takes.roles ∙ roles_after-data d.roles came.back came.data_frame) ∙ talks)
+              (subst (λ right. AnswersEcho right own (Source h) e) echo.test (echo_answer d e own came.back (Source h) came.data_frame own_is takes)) echo.good onward ending,
+        )
+
+-- The held frame goes on from the host, where its source is the one device that talks and has it on the loop.
+pub relay_round : {M : Type 0} (view : M → MediumView) (r s : RingView M) (held : Flight) (own : OwnFrame) (answer : Arrival) → r.books.crossings ≤ last_crossing → IsPlan r.books.plan → IsTalking held.source (Some own) (devices_of r) → own.frame ≡ held.sent → StoodSo held
+    → Round view r None held answer s → Relayed r held own answer s
+relay_round view r s held own answer within plan talking frame stood round =
+    let bs = talking.before in
+    let rest = talking.behind in
+    let d = talking.talker in
+    let n = r.books.crossings in
+    let u = round.behind in
+    let k = 1 + length bs in
+    let at : held.source ≡ k = omega (arith, talking.party) in
+    let parts = journey_parts r.books.plan 1 (trip_of r.books (Some held)) u bs (d ∷ rest) (devices_of s) (subst (λ ds. Journey r.books.plan 1 (trip_of r.books (Some held)) ds u (devices_of s)) talking.devices_are (round_journey view r s None held answer round)) in
+    let head = head_of r.books.plan k parts.middle u d rest parts.more parts.from_middle in
+    let cs = parts.first in
+    let goes = data_past r.books.plan 1 n r.books.log held bs cs parts.middle plan (each_silent 1 bs talking.silent) stood.data_frame parts.to_middle in
+    let devices : devices_of s ≡ cs ++ head.e ∷ head.rest_then = parts.both ∙ ap (λ more. cs ++ more) head.both in
+    let all = length_split (devices_of r) bs rest d talking.devices_are in
+    let ending : (s.books ≡ home (books_at (record r.books { held = None }) u) u.flight) × (answer ≡ arrived (arriving r.books.plan u.crossings u.flight)) = (round.books, round.answer_is) in
+    ⊎_elim
+        (λ (answer_at : Answered r.books.plan k n r.books.log held bs d rest u head.e head.rest_then).
+            inr (answered_round view r s held own answer bs cs d head.e rest head.rest_then u within plan at parts.same (omega (arith, at, all)) devices (goes_silent r.books.plan 1 n r.books.log held bs cs parts.middle goes talking.silent) talking.silent_behind talking.talks talking.own_is frame stood answer_at ending (end_later view r s None held answer round)))
+        (λ gone.
+            let is : u ≡ trip (risen_by (suc gone.0.crossed) n) (r.books.log ++ lost_at held gone.0.party ∷ []) None = gone.0.is in
+            let books : s.books ≡ record r.books { crossings = risen_by (suc gone.0.crossed) n; log = r.books.log ++ lost_at held gone.0.party ∷ []; held = None } = round.books ∙ ap (λ u. home (books_at (record r.books { held = None }) u) u.flight) is in
+            inl (record {
+              answer_is = round.answer_is ∙ ap (λ (u : Trip). arrived (arriving r.books.plan u.crossings u.flight)) is;
+              party = gone.0.party;
+              on_ring = ⊎_elim (λ here. omega (arith, here, all)) (λ low. omega (arith, low, all)) gone.0.on_ring;
+              log = ap (λ (b : BooksView). b.log) books;
+              held_is = ap (λ (b : BooksView). b.held) books;
+              met_some = λ none. met_at r.books.plan gone.0.crossed (suc gone.0.crossed) n within (omega arith) gone.0.planned (ap (met (hops_of r.books.plan) n) (sym (ap (λ (b : BooksView). b.crossings) books)) ∙ none);
+            }))
+        (to_talker r.books.plan k n r.books.log held bs d rest u head.e head.rest_then parts.middle head.middle cs plan goes head.passage head.journey)
