@@ -27,3 +27,5 @@ pub mod StartRounds
 pub mod Echoes
 pub mod EndsHome
 pub mod RelayRounds
+pub mod Identify
+pub mod Kept

@@ -127,15 +127,15 @@ start_passes f start = record {
 abbrev pub Unaddressed : ℕ → DeviceState → Type 0
 Unaddressed k d = (1 ≤ k) × (k ≤ 30) × (d.roles.address ≡ None)
 
--- a device to which AAD comes
-abbrev pub Numbered : DeviceState → DeviceState → Type 0
-Numbered d e = HearsNothing d e × (e.own ≡ d.own) × (e.assignment ≡ d.assignment) × (e.wants ≡ d.wants)
+-- a device that passes a frame on, and is otherwise as it was but for its roles
+abbrev pub OnlyPassed : DeviceState → DeviceState → Type 0
+OnlyPassed d e = HearsNothing d e × (e.own ≡ d.own) × (e.assignment ≡ d.assignment) × (e.wants ≡ d.wants)
 
 counted : (k : ℕ) (f : Frame) → 1 ≤ k → k ≤ 30 → counted_on (takes_address None k) k f ≡ aad (k + 1)
 counted k f some most = let takes : takes_address None k ≡ true = and_from (nat_le 1 k) (nat_le k 30) (le-leb 1 k some) (le-leb k 30 most) in ap (λ takes. counted_on takes k f) takes
 
 -- each takes the number and counts it up
-pub aad_passes : PassesOn (λ k g. g ≡ aad k) Unaddressed Numbered
+pub aad_passes : PassesOn (λ k g. g ≡ aad k) Unaddressed OnlyPassed
 aad_passes = record {
   no_data = λ k g is. ap is_data is;
   step = λ k d e g out fits is takes.

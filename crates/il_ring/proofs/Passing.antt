@@ -106,7 +106,7 @@ pub keeps_on : (m : Message) (r : Roles) → changes_roles m ≡ false → passe
 keeps_on (msg.Aad a) r e = cc
 keeps_on _ r e = refl
 
-identify_class : (r : Roles) (place : Option Assignment) (wants : Bool) (k : Class) (byte : ℕ) → is_identify_class k ≡ true → is_identify (passed r place wants (framed k byte)) ≡ true
+pub identify_class : (r : Roles) (place : Option Assignment) (wants : Bool) (k : Class) (byte : ℕ) → is_identify_class k ≡ true → is_identify (passed r place wants (framed k byte)) ≡ true
 identify_class r place true class.Idy byte e = refl
 identify_class r place false class.Idy byte e = refl
 identify_class r place true class.Isr byte e = refl

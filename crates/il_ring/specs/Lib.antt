@@ -6,3 +6,4 @@ pub mod Rings
 pub mod Ways
 pub mod Rounded
 pub mod Outcomes
+pub mod Polls

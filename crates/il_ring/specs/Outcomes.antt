@@ -173,3 +173,18 @@ pub record EndsSending {M : Type 0} (r : RingView M) (held : Flight) (right : Bo
 abbrev pub Relayed : {M : Type 0} → RingView M → Flight → OwnFrame → Arrival → RingView M → Type 0
 Relayed r held own answer s = IsLostNow r [] held.source held.sent answer s
     ⊎ ((right : Bool) × (back : Frame) × CameBack r s held right back × (SendsMore r held own back answer s ⊎ EndsSending r held right back answer s))
+
+-- ---- in every round
+
+-- a device keeps its accessory ID and its room, and hears nothing where it does not listen
+pub record Keeps (d e : DeviceState) : Type 0 where
+  pub accessory : e.accessory ≡ d.accessory
+  pub room : e.room ≡ d.room
+  pub unheard : d.roles.listens ≡ false → (e.heard ≡ d.heard) × (e.heard_count ≡ d.heard_count)
+
+-- each of them
+abbrev pub AllKeep : List DeviceState → List DeviceState → Type 0
+AllKeep [] [] = Unit {0}
+AllKeep (d ∷ ds) (e ∷ es) = Keeps d e × AllKeep ds es
+AllKeep [] (e ∷ es) = ⊥
+AllKeep (d ∷ ds) [] = ⊥
