@@ -1,25 +1,22 @@
 -- What a round of a data frame brings to the drive.
-use Rattle.std.proofs.Common.{◌≡◌, ◌≢◌, ◌≤◌, ◌<◌, ◌+◌, ◌⊎◌, ◌&&◌, inl, inr, ⊎_elim, ℕ, zero, suc, Bool, true, false, not, List, [], ◌∷◌, Option, Some, None, length, refl, sym, ap, subst, ◌∙◌, arith}
+use Rattle.std.proofs.Common.{◌≡◌, ◌≢◌, ◌≤◌, ◌+◌, ◌&&◌, inl, inr, ⊎_elim, ℕ, suc, Bool, true, false, not, [], Option, Some, None, length, refl, sym, ap, subst, ◌∙◌, arith}
 use Rattle.std.specs.Prelude.{if◌then◌else◌}
-use Rattle.il_frames.specs.declared.frame.Frame.{Frame}
 use Rattle.il_frames.specs.Frames.{is_data, with_service}
-use Rattle.il_device.specs.State.{DeviceState, risen}
+use Rattle.il_device.specs.State.{risen}
 use Rattle.il_device.proofs.Laws.{risen_by}
 use Rattle.il_ports.specs.Media.{MediumView}
-use Rattle.il_drive.specs.State.{device_of}
 use Rattle.il_ring.specs.declared.plan.Arrival.{Arrival}
 use Rattle.il_ring.specs.declared.plan.PlanFault.{PlanFault}
 use Rattle.il_ring.specs.declared.plan.PlanFault.TheVariants.{Lose, Alter}
 use Rattle.il_ring.specs.declared.flight.Flight.{Flight}
 use Rattle.il_ring.specs.Plans.{IsPlan, next_fault, last_crossing}
-use Rattle.il_ring.specs.Flights.{sourced, altered_by, hit}
-use Rattle.il_ring.specs.Journeys.{Trip, trip, Meets, Reaches, DriveTakes}
-use Rattle.il_ring.specs.Rings.{RingView, Round, devices_of}
+use Rattle.il_ring.specs.Flights.{altered_by, hit}
+use Rattle.il_ring.specs.Journeys.{Trip, Meets, Reaches, DriveTakes}
+use Rattle.il_ring.specs.Rings.{RingView, Round}
 use Rattle.il_ring.specs.Outcomes.{met_between, DriveTook, IsBrought}
 use Rattle.il_ring.proofs.Faults.{risen_by_last}
-use Rattle.il_ring.proofs.Passes.{Each}
+use Rattle.il_ring.specs.Lists.{Each}
 use Rattle.il_ring.proofs.PassKinds.{Silent}
-use Rattle.il_ring.proofs.DataPasses as past
 use Rattle.il_ring.proofs.DataPasses.{data_past}
 use Rattle.il_ring.proofs.Later.{Later, later_then, answered_count, passage_later, drive_later, met_later}
 
@@ -70,13 +67,13 @@ module _ {M : Type 0} (view : M → MediumView) (r s : RingView M) (held : Optio
       let k = length r.before in
       let later = later_then round.at_drive.crossings round.past_drive.crossings s.books.crossings (passage_later (DriveTakes view) r.books.plan (length r.before + 1) round.at_drive r.drive s.drive round.past_drive round.at) (drive_later view r s held f answer round) in
       ⊎_elim
-          (λ clean. at_drive k (record f { now = clean.now }) (next_fault r.books.plan round.at_drive.crossings) within plan (ap (λ (t : Trip). t.flight) clean.is) (ap (λ (t : Trip). t.crossings) clean.is) refl clean.data_frame (λ none. clean.same))
-          (⊎_elim
-              (λ altered.
-                  let some : met_between r s ≢ [] = met_later r s round.at_drive.crossings altered.hop k within (ap (λ (t : Trip). t.crossings) altered.is) (omega (arith, altered.within)) altered.planned later in
-                  at_drive k (record f { now = altered.now; altered = true }) (next_fault r.books.plan round.at_drive.crossings) within plan (ap (λ (t : Trip). t.flight) altered.is) (ap (λ (t : Trip). t.crossings) altered.is) refl altered.data_frame (λ none. absurd (some none)))
-              (λ lost.
-                  let none : round.at_drive.flight ≡ None = ap (λ (t : Trip). t.flight) lost.is in
-                  let here : (round.past_drive ≡ round.at_drive) × (s.drive ≡ r.drive) = subst (λ flight. Reaches (DriveTakes view) r.books.plan (length r.before + 1) round.at_drive flight r.drive round.past_drive s.drive) none round.at in
-                  inl (here.1, met_later r s round.at_drive.crossings lost.reached (suc lost.reached) within (ap (λ (t : Trip). t.crossings) lost.is) (omega arith) lost.planned later)))
-          (data_past r.books.plan 1 r.books.crossings r.books.log f r.before s.before round.at_drive plan silent data_frame round.to_drive)
+      (λ clean. at_drive k (record f { now = clean.now }) (next_fault r.books.plan round.at_drive.crossings) within plan (ap (λ (t : Trip). t.flight) clean.is) (ap (λ (t : Trip). t.crossings) clean.is) refl clean.data_frame (λ none. clean.same))
+      (⊎_elim
+      (λ altered.
+      let some : met_between r s ≢ [] = met_later r s round.at_drive.crossings altered.hop k within (ap (λ (t : Trip). t.crossings) altered.is) (omega (arith, altered.within)) altered.planned later in
+      at_drive k (record f { now = altered.now; altered = true }) (next_fault r.books.plan round.at_drive.crossings) within plan (ap (λ (t : Trip). t.flight) altered.is) (ap (λ (t : Trip). t.crossings) altered.is) refl altered.data_frame (λ none. absurd (some none)))
+      (λ lost.
+      let none : round.at_drive.flight ≡ None = ap (λ (t : Trip). t.flight) lost.is in
+      let here : (round.past_drive ≡ round.at_drive) × (s.drive ≡ r.drive) = subst (λ flight. Reaches (DriveTakes view) r.books.plan (length r.before + 1) round.at_drive flight r.drive round.past_drive s.drive) none round.at in
+      inl (here.1, met_later r s round.at_drive.crossings lost.reached (suc lost.reached) within (ap (λ (t : Trip). t.crossings) lost.is) (omega arith) lost.planned later)))
+      (data_past r.books.plan 1 r.books.crossings r.books.log f r.before s.before round.at_drive plan silent data_frame round.to_drive)

@@ -1,9 +1,8 @@
 -- A data or end frame that goes past silent devices comes home to the host.
-use Rattle.std.proofs.Common.{◌≡◌, ◌≢◌, ◌≤◌, ◌<◌, ◌+◌, ◌++◌, ◌⊎◌, ◌&&◌, ◌==◌, inl, inr, ⊎_elim, ℕ, zero, suc, Bool, true, false, not, List, [], ◌∷◌, Option, Some, None, length, refl, sym, ap, ap₂, subst, ◌∙◌, arith}
+use Rattle.std.proofs.Common.{◌≡◌, ◌≢◌, ◌≤◌, ◌<◌, ◌+◌, ◌++◌, ◌⊎◌, ◌&&◌, ◌==◌, inl, inr, ℕ, suc, Bool, true, false, not, List, [], ◌∷◌, Option, Some, None, length, refl, sym, ap, ap₂, subst, ◌∙◌, arith}
 use Rattle.std.specs.Prelude.{if◌then◌else◌}
 use Rattle.std.proofs.lemmas.Bool.{and_parts, not-true}
 use Rattle.il_frames.specs.declared.frame.Frame.{Frame}
-use Rattle.il_frames.specs.declared.entry.Entry.{Entry}
 use Rattle.il_frames.specs.declared.entry.Outcome.TheVariants as outcome
 use Rattle.il_frames.specs.Frames.{byte_of, is_data, with_service}
 use Rattle.il_device.specs.State.{DeviceState, risen}
@@ -20,8 +19,9 @@ use Rattle.il_ring.specs.Journeys.{Trip, trip}
 use Rattle.il_ring.specs.Rings.{home, comes, over_last_link, books_at, arrived, arriving}
 use Rattle.il_ring.specs.Outcomes.{HearsByte}
 use Rattle.il_ring.proofs.Faults.{IsClear, clear_last, risen_by_last}
-use Rattle.il_ring.proofs.Passes.{First}
-use Rattle.il_ring.proofs.DataPasses.{CameClean, CameAltered, GotLost, DataGoes, HearsAny, first_any, xor_other, next_alters}
+use Rattle.il_ring.specs.Lists.{First}
+use Rattle.il_ring.proofs.DataPasses.{CameAltered, DataGoes, first_any, xor_other, next_alters}
+use Rattle.il_ring.specs.Outcomes.{HearsAny}
 
 -- how a trip ends at the host: the books, and what arrives
 abbrev pub EndsAt : BooksView → Trip → BooksView → Arrival → Type 0
@@ -146,7 +146,7 @@ altered_last b k n f None ds es t s answer came none ends = inr (inl (record {
 altered_last b k n f (Some Lose) ds es t s answer came planned ends = inr (inr (lost_last b k n f (record f { now = came.now; altered = true }) Lose ds es s answer refl refl planned came.took ends))
 altered_last b k n f (Some (Alter change)) ds es t s answer came planned ends =
     inr (inr (lost_last b k n f (record f { now = came.now; altered = true }) (Alter change) ds es s answer refl refl planned came.took
-        (subst (λ may. LinkEnds b (risen_by (length ds) n) (record f { now = came.now; altered = true }) (if may then Some (record f { now = altered_by change came.now; altered = true }) else None) s answer) (twice (is_data came.now)) ends)))
+    (subst (λ may. LinkEnds b (risen_by (length ds) n) (record f { now = came.now; altered = true }) (if may then Some (record f { now = altered_by change came.now; altered = true }) else None) s answer) (twice (is_data came.now)) ends)))
   where
     twice : (data_frame : Bool) → (data_frame && false) ≡ false
     twice true = refl

@@ -1,6 +1,6 @@
 -- A data or end frame goes past devices that have no own frame on the loop: each hears it that listens. Once it may be
 -- altered by a planned fault, and a second time it is lost.
-use Rattle.std.proofs.Common.{◌≡◌, ◌≢◌, ◌≤◌, ◌<◌, ◌+◌, ◌++◌, ◌⊎◌, ◌&&◌, ◌==◌, inl, inr, ⊎_elim, ℕ, zero, suc, Bool, true, false, not, List, [], ◌∷◌, Option, Some, None, length, refl, sym, ap, ap₂, subst, ◌∙◌, arith, eqb-true, nat_lt}
+use Rattle.std.proofs.Common.{◌≡◌, ◌≢◌, ◌<◌, ◌+◌, ◌++◌, ◌⊎◌, ◌&&◌, ◌==◌, inl, inr, ℕ, zero, suc, Bool, true, false, not, List, [], ◌∷◌, Option, Some, None, length, refl, sym, ap, ap₂, subst, ◌∙◌, arith, nat_lt}
 use Rattle.std.specs.Prelude.{if◌then◌else◌}
 use Rattle.std.specs.Int.Bits.{bit_xor, xor_self, xor_zero_l, xor_assoc}
 use Rattle.std.proofs.lemmas.Bool.{and_parts, and_from, eq-eqb, not-true}
@@ -11,10 +11,10 @@ use Rattle.il_frames.specs.declared.entry.Entry.{Entry}
 use Rattle.il_frames.specs.declared.entry.Outcome.TheVariants as outcome
 use Rattle.il_frames.specs.Frames.{byte_of, class_of, framed, is_data, same_class, same_but_service, with_service}
 use Rattle.il_device.specs.declared.device.Out.{Out}
-use Rattle.il_device.specs.declared.device.Out.TheVariants.{Pass, Source}
+use Rattle.il_device.specs.declared.device.Out.TheVariants.{Pass}
 use Rattle.il_device.specs.Passing.{served}
 use Rattle.il_device.specs.State.{DeviceState, risen}
-use Rattle.il_device.specs.Takes.{Takes, kept}
+use Rattle.il_device.specs.Takes.{Takes}
 use Rattle.il_device.proofs.Laws.{risen_by, Takes-data, assignment_after-data}
 use Rattle.il_ring.specs.declared.plan.Planned.{Planned}
 use Rattle.il_ring.specs.declared.plan.PlanFault.{PlanFault}
@@ -22,10 +22,11 @@ use Rattle.il_ring.specs.declared.plan.PlanFault.TheVariants.{Lose, Alter}
 use Rattle.il_ring.specs.declared.flight.Flight.{Flight}
 use Rattle.il_ring.specs.Plans.{IsPlan, rises_from, is_alteration, fault_at, next_fault, last_crossing}
 use Rattle.il_ring.specs.Flights.{altered_by, hit, lost_at}
-use Rattle.il_ring.specs.Journeys.{Trip, trip, answered, missed, Meets, Reaches, Passage, Journey}
-use Rattle.il_ring.specs.Outcomes.{HearsByte}
+use Rattle.il_ring.specs.Journeys.{Trip, trip, answered, missed, Meets, Journey}
+use Rattle.il_ring.specs.Outcomes.{HearsByte, HearsAny}
 use Rattle.il_ring.proofs.Faults.{IsClear}
-use Rattle.il_ring.proofs.Passes.{Each, First, nothing_comes}
+use Rattle.il_ring.proofs.Passes.{nothing_comes}
+use Rattle.il_ring.specs.Lists.{Each, First}
 use Rattle.il_ring.proofs.PassKinds.{Silent}
 use Rattle.il_ring.proofs.Takings.{served_data}
 
@@ -76,6 +77,7 @@ planned_alters (p ∷ plan) low n change rises planned =
       where
         fault_is : (x y : PlanFault) → Some x ≡ Some y → x ≡ y
         fault_is x y e = ap (λ o. elim o [ Some z ↦ z | None ↦ x ]) e
+
         alters_by : (fault : PlanFault) → fault ≡ Alter change → is_alteration fault ≡ true → change ≢ 0
         alters_by Lose e alters = cc
         alters_by (Alter other) e alters = λ zero.
@@ -94,20 +96,18 @@ next_alters plan n change is planned = by_test (nat_lt n last_crossing) planned
 
 silent_hears : (d e : DeviceState) (g : Frame) (out : Out) → is_data g ≡ true → d.roles.talks ≡ false → Takes d g out e → (out ≡ Pass (served e.wants g)) × HearsByte (byte_of g) d e
 silent_hears d e g out data_frame silent takes =
-    let hears = Takes-data d g out e data_frame silent takes in
-    (hears.answer, record {
-      roles = hears.roles;
-      own = hears.own;
-      heard = hears.heard;
-      heard_count = hears.heard_count;
-      room = takes.room;
-      accessory = takes.accessory;
-      assignment = takes.assignment ∙ assignment_after-data d.roles d.assignment g data_frame;
-    })
-
--- a byte, whatever it is
-abbrev pub HearsAny : DeviceState → DeviceState → Type 0
-HearsAny d e = (byte : ℕ) × HearsByte byte d e
+    let hears = Takes-data d g out e data_frame silent takes in (
+      hears.answer,
+      record {
+        roles = hears.roles;
+        own = hears.own;
+        heard = hears.heard;
+        heard_count = hears.heard_count;
+        room = takes.room;
+        accessory = takes.accessory;
+        assignment = takes.assignment ∙ assignment_after-data d.roles d.assignment g data_frame;
+      },
+    )
 
 -- ---- past all devices
 

@@ -1,45 +1,24 @@
 -- Rounds of the host's data frames, where no device talks.
-use Rattle.std.proofs.Common.{◌≡◌, ◌≢◌, ◌≤◌, ◌<◌, ◌+◌, ◌++◌, ◌⊎◌, ◌&&◌, inl, inr, ⊎_elim, ℕ, zero, suc, Bool, true, false, not, List, [], ◌∷◌, Option, Some, None, length, refl, sym, ap, subst, ◌∙◌, arith}
-use Rattle.std.specs.Prelude.{if◌then◌else◌}
+use Rattle.std.proofs.Common.{◌≡◌, ◌≤◌, ◌⊎◌, inl, inr, ⊎_elim, suc, true, Option, length, sym, ap, ◌∙◌, arith}
 use Rattle.il_frames.specs.declared.frame.Frame.{Frame}
-use Rattle.il_frames.specs.Frames.{byte_of, is_data, with_service}
-use Rattle.il_device.specs.State.{DeviceState, risen}
-use Rattle.il_device.proofs.Laws.{risen_by}
+use Rattle.il_frames.specs.Frames.{is_data}
 use Rattle.il_ports.specs.Media.{MediumView}
-use Rattle.il_drive.specs.State.{device_of}
 use Rattle.loop_model.specs.Reach.{met}
 use Rattle.il_ring.specs.declared.plan.Arrival.{Arrival}
-use Rattle.il_ring.specs.declared.plan.PlanFault.{PlanFault}
-use Rattle.il_ring.specs.declared.plan.PlanFault.TheVariants.{Lose, Alter}
 use Rattle.il_ring.specs.declared.flight.Flight.{Flight}
-use Rattle.il_ring.specs.Plans.{IsPlan, hops_of, next_fault, last_crossing}
-use Rattle.il_ring.specs.Flights.{sourced, altered_by, hit}
+use Rattle.il_ring.specs.Plans.{IsPlan, hops_of, last_crossing}
+use Rattle.il_ring.specs.Flights.{sourced}
 use Rattle.il_ring.specs.Books.{BooksView}
-use Rattle.il_ring.specs.Journeys.{Trip, trip, Meets, Reaches, DriveTakes}
 use Rattle.il_ring.specs.Rings.{RingView, Round, devices_of}
-use Rattle.il_ring.specs.Outcomes.{met_between, DriveTook, Returned, WasLost, HearsByte, IsBrought, CameAltered}
-use Rattle.il_ring.proofs.Faults.{IsClear, clear_met, met_at, risen_by_last}
-use Rattle.il_ring.proofs.Passes.{Each, First}
+use Rattle.il_ring.specs.Outcomes.{DataReturned, DataBroken}
+use Rattle.il_ring.proofs.Faults.{clear_met, met_at}
+use Rattle.il_ring.specs.Lists.{Each}
 use Rattle.il_ring.proofs.PassKinds.{Silent}
-use Rattle.il_ring.proofs.DataPasses as past
-use Rattle.il_ring.proofs.DataPasses.{HearsAny, data_past}
+use Rattle.il_ring.proofs.DataPasses.{data_past}
 use Rattle.il_ring.proofs.DataHome.{HomeClean, HomeAltered, HomeLost, data_home}
 use Rattle.il_ring.proofs.RoundCounts.{round_journey}
 
 -- ---- what comes back to the host
-
--- the frame and what each device heard: the same; another; or it was lost
-pub record DataReturned {M : Type 0} (r : RingView M) (held : Option Flight) (f : Frame) (answer : Arrival) (s : RingView M) : Type 0 where
-  pub back : Frame
-  pub same : with_service back ≡ with_service f
-  pub data_frame : is_data back ≡ true
-  pub returned : Returned r held f back answer s
-  pub heard : First (HearsByte (byte_of f)) (length (devices_of r)) (devices_of r) (devices_of s)
-
-pub record DataBroken {M : Type 0} (r : RingView M) (held : Option Flight) (f : Frame) (answer : Arrival) (s : RingView M) : Type 0 where
-  pub how : CameAltered r held f answer s ⊎ WasLost r 0 f answer s
-  pub reached : ℕ
-  pub heard : First HearsAny reached (devices_of r) (devices_of s)
 
 pub host_data_round : {M : Type 0} (view : M → MediumView) (r s : RingView M) (held : Option Flight) (f : Frame) (answer : Arrival) → r.books.crossings ≤ last_crossing → IsPlan r.books.plan → is_data f ≡ true → Each Silent 1 (devices_of r)
     → Round view r held (sourced 0 f) answer s → DataReturned r held f answer s ⊎ DataBroken r held f answer s
@@ -49,42 +28,42 @@ host_data_round view r s held f answer within plan data_frame silent round =
     let b : BooksView = record r.books { held = held } in
     let goes = data_past r.books.plan 1 n r.books.log (sourced 0 f) (devices_of r) (devices_of s) round.behind plan silent data_frame (round_journey view r s held (sourced 0 f) answer round) in
     ⊎_elim
-        (λ (clean : HomeClean b n (sourced 0 f) (devices_of r) (devices_of s) s.books answer). inl (record {
-          back = clean.now;
-          same = clean.same;
-          data_frame = clean.data_frame;
-          returned = record {
-            answer_is = clean.answer_is;
-            log = ap (λ (b : BooksView). b.log) clean.books;
-            held_is = ap (λ (b : BooksView). b.held) clean.books;
-            met_none = ap (met (hops_of r.books.plan) n) (ap (λ (b : BooksView). b.crossings) clean.books) ∙ (clear_met r.books.plan (suc k) n within).1 clean.clear;
-          };
-          heard = clean.took;
-        }))
-        (⊎_elim
-            (λ (altered : HomeAltered b n (sourced 0 f) (devices_of r) (devices_of s) s.books answer). inr (record {
-              how = inl (record {
-                back = altered.now;
-                answer_is = altered.answer_is;
-                log = ap (λ (b : BooksView). b.log) altered.books;
-                held_is = ap (λ (b : BooksView). b.held) altered.books;
-                data_frame = altered.data_frame;
-                other = altered.other;
-                met_some = λ none. met_at r.books.plan altered.hop (suc k) n within (omega (arith, altered.within)) altered.planned (ap (met (hops_of r.books.plan) n) (sym (ap (λ (b : BooksView). b.crossings) altered.books)) ∙ none);
-              });
-              reached = k;
-              heard = altered.took;
-            }))
-            (λ (lost : HomeLost b 1 n (sourced 0 f) (devices_of r) (devices_of s) s.books answer). inr (record {
-              how = inr (record {
-                answer_is = lost.answer_is;
-                party = lost.party;
-                on_ring = ⊎_elim (λ zero. omega (arith, zero)) (λ at. omega (arith, at.0, at.1)) lost.party_is;
-                log = ap (λ (b : BooksView). b.log) lost.books;
-                held_is = ap (λ (b : BooksView). b.held) lost.books;
-                met_some = λ none. met_at r.books.plan lost.reached (suc lost.reached) n within (omega arith) lost.planned (ap (met (hops_of r.books.plan) n) (sym (ap (λ (b : BooksView). b.crossings) lost.books)) ∙ none);
-              });
-              reached = lost.reached;
-              heard = lost.took;
-            })))
-        (data_home b 1 n (sourced 0 f) (devices_of r) (devices_of s) round.behind s.books answer plan goes (round.books, round.answer_is))
+    (λ (clean : HomeClean b n (sourced 0 f) (devices_of r) (devices_of s) s.books answer). inl (record {
+      back = clean.now;
+      same = clean.same;
+      data_frame = clean.data_frame;
+      returned = record {
+        answer_is = clean.answer_is;
+        log = ap (λ (b : BooksView). b.log) clean.books;
+        held_is = ap (λ (b : BooksView). b.held) clean.books;
+        met_none = ap (met (hops_of r.books.plan) n) (ap (λ (b : BooksView). b.crossings) clean.books) ∙ (clear_met r.books.plan (suc k) n within).1 clean.clear;
+      };
+      heard = clean.took;
+    }))
+    (⊎_elim
+    (λ (altered : HomeAltered b n (sourced 0 f) (devices_of r) (devices_of s) s.books answer). inr (record {
+      how = inl (record {
+        back = altered.now;
+        answer_is = altered.answer_is;
+        log = ap (λ (b : BooksView). b.log) altered.books;
+        held_is = ap (λ (b : BooksView). b.held) altered.books;
+        data_frame = altered.data_frame;
+        other = altered.other;
+        met_some = λ none. met_at r.books.plan altered.hop (suc k) n within (omega (arith, altered.within)) altered.planned (ap (met (hops_of r.books.plan) n) (sym (ap (λ (b : BooksView). b.crossings) altered.books)) ∙ none);
+      });
+      reached = k;
+      heard = altered.took;
+    }))
+    (λ (lost : HomeLost b 1 n (sourced 0 f) (devices_of r) (devices_of s) s.books answer). inr (record {
+      how = inr (record {
+        answer_is = lost.answer_is;
+        party = lost.party;
+        on_ring = ⊎_elim (λ zero. omega (arith, zero)) (λ at. omega (arith, at.0, at.1)) lost.party_is;
+        log = ap (λ (b : BooksView). b.log) lost.books;
+        held_is = ap (λ (b : BooksView). b.held) lost.books;
+        met_some = λ none. met_at r.books.plan lost.reached (suc lost.reached) n within (omega arith) lost.planned (ap (met (hops_of r.books.plan) n) (sym (ap (λ (b : BooksView). b.crossings) lost.books)) ∙ none);
+      });
+      reached = lost.reached;
+      heard = lost.took;
+    })))
+    (data_home b 1 n (sourced 0 f) (devices_of r) (devices_of s) round.behind s.books answer plan goes (round.books, round.answer_is))

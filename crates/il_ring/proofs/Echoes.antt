@@ -1,10 +1,9 @@
 -- The held frame of a talker comes back to it, or is lost before.
-use Rattle.std.proofs.Common.{◌≡◌, ◌≢◌, ◌≤◌, ◌<◌, ◌+◌, ◌++◌, ◌⊎◌, ◌&&◌, ◌==◌, inl, inr, ⊎_elim, ℕ, zero, suc, Bool, true, false, not, List, [], ◌∷◌, Option, Some, None, length, refl, sym, ap, ap₂, subst, ◌∙◌, arith}
+use Rattle.std.proofs.Common.{◌≡◌, ◌≢◌, ◌≤◌, ◌<◌, ◌+◌, ◌++◌, ◌⊎◌, ◌&&◌, inl, inr, ℕ, suc, Bool, true, false, not, List, [], ◌∷◌, Option, Some, None, length, refl, sym, ap, subst, ◌∙◌, arith}
 use Rattle.std.specs.Prelude.{if◌then◌else◌}
 use Rattle.std.proofs.lemmas.Bool.{and_parts, not-true}
 use Rattle.il_frames.specs.declared.frame.Frame.{Frame}
 use Rattle.il_frames.specs.declared.entry.Entry.{Entry}
-use Rattle.il_frames.specs.declared.entry.Outcome.TheVariants as outcome
 use Rattle.il_frames.specs.Frames.{byte_of, is_data, with_service}
 use Rattle.il_device.specs.declared.device.Out.{Out}
 use Rattle.il_device.specs.State.{DeviceState, risen}
@@ -18,8 +17,10 @@ use Rattle.il_ring.specs.Plans.{IsPlan, next_fault}
 use Rattle.il_ring.specs.Flights.{altered_by, hit, lost_at}
 use Rattle.il_ring.specs.Journeys.{Trip, trip, answered, missed, Meets, Reaches, Journey}
 use Rattle.il_ring.proofs.Faults.{IsClear, clear_last, risen_by_last}
-use Rattle.il_ring.proofs.Passes.{First, nothing_comes}
-use Rattle.il_ring.proofs.DataPasses.{HearsAny, DataGoes, CameClean, CameAltered, GotLost, xor_other, next_alters, first_any}
+use Rattle.il_ring.proofs.Passes.{nothing_comes}
+use Rattle.il_ring.specs.Lists.{First}
+use Rattle.il_ring.proofs.DataPasses.{DataGoes, xor_other, next_alters}
+use Rattle.il_ring.specs.Outcomes.{HearsAny}
 
 -- so it came to the device behind m others: as it was but for the service bit, with nothing planned on its way; or with
 -- another byte
@@ -60,13 +61,17 @@ module _ (plan : List Planned) (k n : ℕ) (log : List Entry) (f : Flight) (ds :
   lost_there t t₁ g altered fault is planned to =
       let lost : t₁ ≡ missed (risen (risen_by (length ds) n)) log k (record f { now = g; altered = altered }) = to.0.0 ∙ ap (λ (t : Trip). missed (risen t.crossings) t.log k (record f { now = g; altered = altered })) is in
       let stays = nothing_comes plan (k + 1) t₁ u rest rest_then HearsAny (ap (λ (t : Trip). t.flight) lost) to.1 in
-      inr (record {
-        crossed = length ds;
-        party = k;
-        on_ring = inl refl;
-        is = stays.0 ∙ lost ∙ ap (λ n. trip n (log ++ lost_at f k ∷ []) None) (risen_by_last (length ds) n);
-        planned = λ none. let clash = sym planned ∙ none in cc;
-      }, to.0.1, stays.1)
+      inr (
+        record {
+          crossed = length ds;
+          party = k;
+          on_ring = inl refl;
+          is = stays.0 ∙ lost ∙ ap (λ n. trip n (log ++ lost_at f k ∷ []) None) (risen_by_last (length ds) n);
+          planned = λ none. let clash = sym planned ∙ none in cc;
+        },
+        to.0.1,
+        stays.1,
+      )
 
   comes_there : (t t₁ : Trip) (g h : Frame) (before altered : Bool) → t ≡ trip (risen_by (length ds) n) log (Some (record f { now = g; altered = before })) → is_data h ≡ true → Arrived plan n (length ds) f h
       → ToTalker t (record f { now = g; altered = before }) (Some (record f { now = h; altered = altered })) t₁ → End

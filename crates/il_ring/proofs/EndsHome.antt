@@ -1,9 +1,8 @@
 -- ETO and ETE of a device come home to the host, which takes them.
-use Rattle.std.proofs.Common.{◌≡◌, ◌≢◌, ◌≤◌, ◌<◌, ◌+◌, ◌++◌, ◌⊎◌, ◌==◌, inl, inr, ⊎_elim, ℕ, zero, suc, Bool, true, false, List, [], ◌∷◌, Option, Some, None, length, refl, sym, ap, ap₂, subst, ◌∙◌, arith}
+use Rattle.std.proofs.Common.{◌≡◌, ◌≢◌, ◌≤◌, ◌<◌, ◌+◌, ◌++◌, ◌⊎◌, ◌==◌, inl, inr, ⊎_elim, ℕ, suc, true, false, List, [], ◌∷◌, Option, Some, None, length, refl, sym, ap, ap₂, ◌∙◌, arith}
 use Rattle.std.specs.Prelude.{if◌then◌else◌}
 use Rattle.std.proofs.lemmas.Bool.{ne_eqb}
 use Rattle.il_frames.specs.declared.frame.Frame.{Frame}
-use Rattle.il_frames.specs.declared.entry.Entry.{Entry}
 use Rattle.il_frames.specs.declared.entry.Outcome.TheVariants as outcome
 use Rattle.il_frames.specs.Frames.{is_data}
 use Rattle.il_frames.specs.Messages.{message_of}
@@ -12,15 +11,15 @@ use Rattle.il_device.proofs.Laws.{risen_by, is_plain}
 use Rattle.il_ring.specs.declared.plan.Arrival.{Arrival}
 use Rattle.il_ring.specs.declared.plan.Arrival.TheVariants as arrival
 use Rattle.il_ring.specs.declared.plan.PlanFault.{PlanFault}
-use Rattle.il_ring.specs.declared.flight.Flight.{Flight}
 use Rattle.il_ring.specs.Plans.{next_fault}
-use Rattle.il_ring.specs.Flights.{sourced, hit, lost_at, ended_at}
+use Rattle.il_ring.specs.Flights.{sourced, hit, lost_at}
 use Rattle.il_ring.specs.Books.{BooksView}
 use Rattle.il_ring.specs.Journeys.{Trip, trip, Journey}
 use Rattle.il_ring.specs.Rings.{comes, over_last_link, home, books_at, arrived, arriving}
 use Rattle.il_ring.specs.Outcomes.{Obeys}
 use Rattle.il_ring.proofs.Faults.{IsClear, clear_last, risen_by_last}
-use Rattle.il_ring.proofs.Passes.{Each, First, Through, LostBehind, plain_hit, goes_past}
+use Rattle.il_ring.proofs.Passes.{plain_hit, goes_past}
+use Rattle.il_ring.specs.Lists.{Each, First}
 use Rattle.il_ring.proofs.PassKinds.{Is, Any, plain_passes, plain_no_data}
 use Rattle.il_ring.proofs.DataHome.{EndsAt}
 
@@ -86,22 +85,22 @@ pub end_home : (b : BooksView) (k n p : ℕ) (h : Frame) (ds es : List DeviceSta
     → EndHome b k n p h ds es s answer
 end_home b k n p h ds es t s answer plain some journey ends =
     ⊎_elim
-        (λ on. record {
-          reached = length ds;
-          took = on.took;
-          end = at_host b k n p h (next_fault b.plan (risen_by (length ds) n)) ds es t s answer (plain_no_data h plain) some (on.trip_is ∙ ap (λ now. trip (risen_by (length ds) n) b.log (Some (record (sourced p h) { now = now }))) on.is_now) on.clear refl ends;
-        })
-        (λ lost. record {
-          reached = lost.reached;
-          took = lost.took;
-          end = inr (record {
-            answer_is = ends.1 ∙ ap (λ (t : Trip). arrived (arriving b.plan t.crossings t.flight)) lost.trip_is;
-            reached = lost.reached;
-            within = omega (arith, lost.within);
-            party = k + lost.reached;
-            party_is = inr (refl, lost.within);
-            books = ends.0 ∙ ap (λ t. home (books_at b t) t.flight) lost.trip_is;
-            planned = lost.planned;
-          });
-        })
-        (goes_past (Is h) Any (Obeys (message_of h)) (plain_passes h plain) b.plan k n b.log (sourced p h) ds es t (any_each k ds) refl journey)
+    (λ on. record {
+      reached = length ds;
+      took = on.took;
+      end = at_host b k n p h (next_fault b.plan (risen_by (length ds) n)) ds es t s answer (plain_no_data h plain) some (on.trip_is ∙ ap (λ now. trip (risen_by (length ds) n) b.log (Some (record (sourced p h) { now = now }))) on.is_now) on.clear refl ends;
+    })
+    (λ lost. record {
+      reached = lost.reached;
+      took = lost.took;
+      end = inr (record {
+        answer_is = ends.1 ∙ ap (λ (t : Trip). arrived (arriving b.plan t.crossings t.flight)) lost.trip_is;
+        reached = lost.reached;
+        within = omega (arith, lost.within);
+        party = k + lost.reached;
+        party_is = inr (refl, lost.within);
+        books = ends.0 ∙ ap (λ t. home (books_at b t) t.flight) lost.trip_is;
+        planned = lost.planned;
+      });
+    })
+    (goes_past (Is h) Any (Obeys (message_of h)) (plain_passes h plain) b.plan k n b.log (sourced p h) ds es t (any_each k ds) refl journey)

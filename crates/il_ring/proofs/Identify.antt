@@ -1,12 +1,11 @@
 -- IDY and ISR: every device passes them on, with its bits set.
-use Rattle.std.proofs.Common.{◌≡◌, ◌≤◌, ◌<◌, ◌+◌, ◌-◌, ◌++◌, ℕ, zero, suc, Bool, true, false, List, [], ◌∷◌, Option, length, drop, refl, sym, ap, subst, ◌∙◌, arith, append_assoc, length-append}
+use Rattle.std.proofs.Common.{◌≡◌, ◌≤◌, ◌+◌, ◌-◌, ◌++◌, ℕ, suc, Bool, true, false, List, [], ◌∷◌, Option, length, drop, refl, sym, ap, subst, ◌∙◌, arith, append_assoc, length-append}
 use Rattle.il_frames.specs.declared.frame.Class.{Class}
 use Rattle.il_frames.specs.declared.frame.Class.TheVariants as class
 use Rattle.il_frames.specs.declared.frame.Frame.{Frame}
-use Rattle.il_frames.specs.Frames.{byte_of, class_of, framed, is_data, is_data_class}
+use Rattle.il_frames.specs.Frames.{byte_of, class_of, framed, is_data_class}
 use Rattle.il_frames.specs.Messages.{message_of}
 use Rattle.il_poll.specs.declared.service.Assignment.{Assignment}
-use Rattle.il_device.specs.declared.device.Out.{Out}
 use Rattle.il_device.specs.declared.device.Out.TheVariants.{Pass}
 use Rattle.il_device.specs.declared.interface.OwnFrame.{OwnFrame}
 use Rattle.il_device.specs.declared.interface.Turn.TheVariants as turn
@@ -14,10 +13,11 @@ use Rattle.il_device.specs.declared.roles.Roles.{Roles}
 use Rattle.il_device.specs.Passing.{identified, passed}
 use Rattle.il_device.specs.Roles.{own_after, assignment_after}
 use Rattle.il_device.specs.State.{DeviceState}
-use Rattle.il_device.specs.Takes.{Takes, turn_of, turn_at, may_change_service}
+use Rattle.il_device.specs.Takes.{turn_of, may_change_service}
 use Rattle.il_ring.specs.Polls.{identified_along}
 use Rattle.il_ring.proofs.Passing.{is_identify, is_identify_class, identify_class}
-use Rattle.il_ring.proofs.Passes.{PassesOn, Each}
+use Rattle.il_ring.proofs.Passes.{PassesOn}
+use Rattle.il_ring.specs.Lists.{Each}
 use Rattle.il_ring.proofs.PassKinds.{OnlyPassed, obeys, goes_as}
 
 -- what an identify frame asks
@@ -65,11 +65,15 @@ identify_passes all end = record {
       let goes : out ≡ Pass h =
       goes_as d e g out asked takes ∙ ap (λ f. Pass f) (identify_passed d.roles e.assignment e.wants (class_of g) (byte_of g) is)
       ∙ ap (λ place. Pass (identified place e.wants g)) place ∙ ap (λ wants. Pass (identified d.assignment wants g)) wants in
-      let next : k + 1 - 1 ≡ k = omega arith in
-      (h, goes, record {
-        identify = ap is_identify (sym (identify_passed d.roles d.assignment d.wants (class_of g) (byte_of g) is)) ∙ identify_class d.roles d.assignment d.wants (class_of g) (byte_of g) is;
-        behind = ap (λ j. identified_along (drop j all) h) next ∙ ap (λ rest. identified_along rest g) (sym party.1) ∙ leads.behind;
-      }, (obeyed.nothing, obeyed.own ∙ kept.0, place, wants));
+      let next : k + 1 - 1 ≡ k = omega arith in (
+        h,
+        goes,
+        record {
+          identify = ap is_identify (sym (identify_passed d.roles d.assignment d.wants (class_of g) (byte_of g) is)) ∙ identify_class d.roles d.assignment d.wants (class_of g) (byte_of g) is;
+          behind = ap (λ j. identified_along (drop j all) h) next ∙ ap (λ rest. identified_along rest g) (sym party.1) ∙ leads.behind;
+        },
+        (obeyed.nothing, obeyed.own ∙ kept.0, place, wants),
+      );
 }
 
 -- each device is the party that it is
@@ -78,8 +82,7 @@ parties front [] = tt
 parties front (d ∷ ds) =
     let here : length front + 1 - 1 ≡ length front = omega arith in
     let more = parties (front ++ d ∷ []) ds in
-    let size : length (front ++ d ∷ []) + 1 ≡ length front + 1 + 1 = omega (arith, length-append front (d ∷ [])) in
-    (
+    let size : length (front ++ d ∷ []) + 1 ≡ length front + 1 + 1 = omega (arith, length-append front (d ∷ [])) in (
       (omega arith, ap (λ j. drop j (front ++ d ∷ ds)) here ∙ dropped front d ds),
       subst (λ k. Each (IsParty (front ++ d ∷ ds)) k ds) size (subst (λ all. Each (IsParty all) (length (front ++ d ∷ []) + 1) ds) (append_assoc front (d ∷ []) ds) more),
     )

@@ -1,5 +1,5 @@
 -- What every device keeps in any round.
-use Rattle.std.proofs.Common.{◌≡◌, ◌+◌, ◌⊎◌, inl, inr, ℕ, Bool, true, false, List, [], ◌∷◌, Option, Some, None, length, refl, sym, ap, subst, ◌∙◌}
+use Rattle.std.proofs.Common.{◌≡◌, ◌+◌, ℕ, Bool, true, false, List, [], ◌∷◌, Option, Some, None, refl, ap, ◌∙◌}
 use Rattle.il_frames.specs.declared.frame.Frame.{Frame}
 use Rattle.il_frames.specs.declared.message.Message.{Message}
 use Rattle.il_frames.specs.declared.message.Message.TheVariants as msg
@@ -9,14 +9,13 @@ use Rattle.il_device.specs.declared.device.Out.{Out}
 use Rattle.il_device.specs.declared.interface.OwnFrame.{OwnFrame}
 use Rattle.il_device.specs.declared.interface.Turn.{Turn}
 use Rattle.il_device.specs.declared.interface.Turn.TheVariants as turn
-use Rattle.il_device.specs.declared.roles.Roles.{Roles}
 use Rattle.il_device.specs.State.{DeviceState}
 use Rattle.il_device.specs.Takes.{Takes, turn_of, turn_at, turn_at_data, turn_at_start, asked_for_id, heard_after, count_after}
 use Rattle.il_ring.specs.declared.plan.Planned.{Planned}
 use Rattle.il_ring.specs.declared.flight.Flight.{Flight}
 use Rattle.il_ring.specs.Plans.{next_fault}
 use Rattle.il_ring.specs.Flights.{hit}
-use Rattle.il_ring.specs.Journeys.{Trip, Meets, Reaches, Passage, Journey}
+use Rattle.il_ring.specs.Journeys.{Trip, Meets, Reaches, Journey}
 use Rattle.il_ring.specs.Outcomes.{Keeps, AllKeep}
 
 -- ---- only a listener hears

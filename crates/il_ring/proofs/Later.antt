@@ -1,5 +1,5 @@
 -- Crossings only go up along a round, so that what is met on a part of it is met on the whole.
-use Rattle.std.proofs.Common.{◌≡◌, ◌≢◌, ◌≤◌, ◌+◌, ℕ, zero, suc, Bool, true, false, List, [], ◌∷◌, Option, Some, None, refl, sym, ap, subst, ◌∙◌, arith}
+use Rattle.std.proofs.Common.{◌≡◌, ◌≢◌, ◌≤◌, ◌+◌, ℕ, Bool, true, false, List, [], ◌∷◌, Option, Some, None, refl, sym, ap, ◌∙◌, arith}
 use Rattle.std.specs.Prelude.{◌==◌}
 use Rattle.il_frames.specs.declared.frame.Frame.{Frame}
 use Rattle.il_frames.specs.declared.entry.Entry.{Entry}
@@ -11,17 +11,16 @@ use Rattle.il_device.specs.Takes.{Takes}
 use Rattle.il_device.proofs.Laws.{risen_by}
 use Rattle.il_ports.specs.Media.{MediumView}
 use Rattle.loop_model.specs.Reach.{met}
-use Rattle.loop_model.proofs.ReachLaws.{met-split}
 use Rattle.il_ring.specs.declared.plan.Planned.{Planned}
 use Rattle.il_ring.specs.declared.plan.Arrival.{Arrival}
 use Rattle.il_ring.specs.declared.flight.Flight.{Flight}
 use Rattle.il_ring.specs.Plans.{hops_of, next_fault, last_crossing}
 use Rattle.il_ring.specs.Flights.{hit}
 use Rattle.il_ring.specs.Books.{BooksView}
-use Rattle.il_ring.specs.Journeys.{Trip, trip_of, answered, Meets, Reaches, Passage, Journey}
+use Rattle.il_ring.specs.Journeys.{Trip, answered, Meets, Reaches, Passage, Journey}
 use Rattle.il_ring.specs.Rings.{RingView, Round, home, comes, over_last_link, books_at}
 use Rattle.il_ring.specs.Outcomes.{met_between}
-use Rattle.il_ring.proofs.Faults.{risen_by_later, met_at}
+use Rattle.il_ring.proofs.Faults.{met_at}
 use Rattle.il_ring.proofs.Counts.{risen_by-add}
 
 -- so many links more

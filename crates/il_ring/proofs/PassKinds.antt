@@ -1,17 +1,15 @@
 -- The kinds of frames that every device passes on.
-use Rattle.std.proofs.Common.{◌≡◌, ◌≤◌, ◌<◌, ◌+◌, ◌∷◌, ℕ, suc, Bool, true, false, Option, Some, None, List, refl, sym, ap, subst, ◌∙◌, arith, nat_le}
-use Rattle.std.specs.Prelude.{if◌then◌else◌}
+use Rattle.std.proofs.Common.{◌≡◌, ◌≤◌, ◌+◌, ℕ, Bool, true, false, None, refl, sym, ap, subst, ◌∙◌, nat_le}
 use Rattle.std.proofs.lemmas.Bool.{and_from, le-leb}
 use Rattle.il_frames.specs.declared.frame.Class.{Class}
 use Rattle.il_frames.specs.declared.frame.Class.TheVariants as class
 use Rattle.il_frames.specs.declared.frame.Frame.{Frame}
 use Rattle.il_frames.specs.declared.message.Message.{Message}
 use Rattle.il_frames.specs.declared.message.Message.TheVariants as msg
-use Rattle.il_frames.specs.Frames.{byte_of, class_of, framed, is_data, is_data_class}
+use Rattle.il_frames.specs.Frames.{byte_of, class_of, is_data, is_data_class}
 use Rattle.il_frames.specs.Messages.{message_of, message_at}
 use Rattle.il_device.specs.declared.device.Out.{Out}
 use Rattle.il_device.specs.declared.device.Out.TheVariants.{Pass}
-use Rattle.il_device.specs.declared.interface.Turn.{Turn}
 use Rattle.il_device.specs.declared.interface.Turn.TheVariants as turn
 use Rattle.il_device.specs.Passing.{passed, passed_as, counted_on}
 use Rattle.il_device.specs.Roles.{own_after, assignment_after, takes_address}

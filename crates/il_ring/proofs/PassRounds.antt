@@ -1,30 +1,25 @@
 -- Rounds of frames of the host that every device passes on.
-use Rattle.std.proofs.Common.{◌≡◌, ◌≢◌, ◌≤◌, ◌<◌, ◌+◌, ◌++◌, ◌⊎◌, ◌==◌, inl, inr, ⊎_elim, ℕ, zero, suc, Bool, true, false, List, [], ◌∷◌, Option, Some, None, length, refl, sym, ap, ap₂, subst, ◌∙◌, arith, length-append}
-use Rattle.std.specs.Prelude.{if◌then◌else◌}
+use Rattle.std.proofs.Common.{◌≡◌, ◌≢◌, ◌≤◌, ◌<◌, ◌+◌, ◌++◌, ◌⊎◌, inl, inr, ⊎_elim, ℕ, suc, false, [], ◌∷◌, Option, Some, None, length, refl, sym, ap, subst, ◌∙◌, arith}
 use Rattle.il_frames.specs.declared.frame.Frame.{Frame}
-use Rattle.il_frames.specs.declared.entry.Entry.{Entry}
 use Rattle.il_frames.specs.declared.entry.Outcome.TheVariants as outcome
 use Rattle.il_frames.specs.Frames.{is_data}
-use Rattle.il_device.specs.declared.device.Out.{Out}
 use Rattle.il_device.specs.State.{DeviceState, risen}
 use Rattle.il_device.proofs.Laws.{risen_by}
 use Rattle.il_ports.specs.Media.{MediumView}
-use Rattle.il_drive.specs.State.{DriveView, device_of}
 use Rattle.loop_model.specs.Entries.{entry}
 use Rattle.loop_model.specs.Reach.{met}
-use Rattle.il_ring.specs.declared.plan.Planned.{Planned}
 use Rattle.il_ring.specs.declared.plan.PlanFault.{PlanFault}
 use Rattle.il_ring.specs.declared.plan.Arrival.{Arrival}
-use Rattle.il_ring.specs.declared.plan.Arrival.TheVariants as arrival
 use Rattle.il_ring.specs.declared.flight.Flight.{Flight}
 use Rattle.il_ring.specs.Plans.{hops_of, next_fault, last_crossing}
-use Rattle.il_ring.specs.Flights.{sourced, hit, lost_at, ended_at}
+use Rattle.il_ring.specs.Flights.{sourced, hit}
 use Rattle.il_ring.specs.Books.{BooksView}
-use Rattle.il_ring.specs.Journeys.{Trip, trip, trip_of, Meets, Reaches, Passage, DriveTakes}
-use Rattle.il_ring.specs.Rings.{RingView, Round, devices_of, home, comes, over_last_link, books_at, arrived, arriving}
-use Rattle.il_ring.specs.Outcomes.{met_between, DriveTook, Returned, WasLost}
+use Rattle.il_ring.specs.Journeys.{Trip, trip}
+use Rattle.il_ring.specs.Rings.{RingView, Round, devices_of, home, over_last_link, books_at, arrived, arriving}
+use Rattle.il_ring.specs.Outcomes.{Returned, WasLost}
 use Rattle.il_ring.proofs.Faults.{IsClear, clear_met, clear_last, met_at, risen_by_last}
-use Rattle.il_ring.proofs.Passes.{PassesOn, Each, First, Through, LostBehind, plain_hit, goes_past}
+use Rattle.il_ring.proofs.Passes.{PassesOn, plain_hit, goes_past}
+use Rattle.il_ring.specs.Lists.{Each, First}
 use Rattle.il_ring.proofs.RoundCounts.{round_journey}
 
 -- what a round was
@@ -111,18 +106,18 @@ pub passed_round : {M : Type 0} (view : M → MediumView) (Q : ℕ → Frame →
 passed_round view Q P R rule r s held f answer within fit is round =
     let k = length (devices_of r) in
     ⊎_elim
-        (λ on.
-            let far : 1 + k ≡ suc k = omega arith in
-            let last : Q (suc k) on.now = subst (λ j. Q j on.now) far on.is_now in
-            record {
-              reached = k;
-              took = on.took;
-              end = ⊎_elim (λ back. inl (on.now, last, refl, back)) (λ lost. inr lost)
-                  (at_last r s held f answer on.now round.behind (next_fault r.books.plan (risen_by k r.books.crossings)) within (rule.no_data (suc k) on.now last) on.trip_is on.clear refl (round_end view r s held (sourced 0 f) answer round));
-            })
-        (λ lost. record {
-          reached = lost.reached;
-          took = lost.took;
-          end = inr (lost_before r s held f answer lost.reached round.behind within lost.within lost.trip_is lost.planned (round_end view r s held (sourced 0 f) answer round));
-        })
-        (goes_past Q P R rule r.books.plan 1 r.books.crossings r.books.log (sourced 0 f) (devices_of r) (devices_of s) round.behind fit is (round_journey view r s held (sourced 0 f) answer round))
+    (λ on.
+    let far : 1 + k ≡ suc k = omega arith in
+    let last : Q (suc k) on.now = subst (λ j. Q j on.now) far on.is_now in
+    record {
+      reached = k;
+      took = on.took;
+      end = ⊎_elim (λ back. inl (on.now, last, refl, back)) (λ lost. inr lost)
+          (at_last r s held f answer on.now round.behind (next_fault r.books.plan (risen_by k r.books.crossings)) within (rule.no_data (suc k) on.now last) on.trip_is on.clear refl (round_end view r s held (sourced 0 f) answer round));
+    })
+    (λ lost. record {
+      reached = lost.reached;
+      took = lost.took;
+      end = inr (lost_before r s held f answer lost.reached round.behind within lost.within lost.trip_is lost.planned (round_end view r s held (sourced 0 f) answer round));
+    })
+    (goes_past Q P R rule r.books.plan 1 r.books.crossings r.books.log (sourced 0 f) (devices_of r) (devices_of s) round.behind fit is (round_journey view r s held (sourced 0 f) answer round))

@@ -1,12 +1,12 @@
 -- A frame that is neither data nor end, and that every device passes on: it goes past all of them, or is lost at the first
 -- crossing where something is planned.
-use Rattle.std.proofs.Common.{◌≡◌, ◌≢◌, ◌≤◌, ◌<◌, ◌+◌, ◌++◌, ◌⊎◌, ◌&&◌, inl, inr, ⊎_elim, ℕ, zero, suc, Bool, true, false, List, [], ◌∷◌, Option, Some, None, length, refl, sym, ap, ap₂, subst, ◌∙◌, arith}
+use Rattle.std.proofs.Common.{◌≡◌, ◌≢◌, ◌<◌, ◌+◌, ◌++◌, ◌⊎◌, ◌&&◌, inl, inr, ℕ, suc, true, false, List, [], ◌∷◌, Option, Some, None, length, refl, sym, ap, subst, ◌∙◌, arith}
 use Rattle.std.specs.Prelude.{if◌then◌else◌, not}
 use Rattle.il_frames.specs.declared.frame.Frame.{Frame}
 use Rattle.il_frames.specs.declared.entry.Entry.{Entry}
 use Rattle.il_frames.specs.Frames.{is_data}
 use Rattle.il_device.specs.declared.device.Out.{Out}
-use Rattle.il_device.specs.declared.device.Out.TheVariants.{Pass, Source}
+use Rattle.il_device.specs.declared.device.Out.TheVariants.{Pass}
 use Rattle.il_device.specs.State.{DeviceState, risen}
 use Rattle.il_device.specs.Takes.{Takes}
 use Rattle.il_device.proofs.Laws.{risen_by}
@@ -16,26 +16,14 @@ use Rattle.il_ring.specs.declared.plan.PlanFault.TheVariants.{Lose, Alter}
 use Rattle.il_ring.specs.declared.flight.Flight.{Flight}
 use Rattle.il_ring.specs.Plans.{next_fault}
 use Rattle.il_ring.specs.Flights.{altered_by, hit, lost_at}
-use Rattle.il_ring.specs.Journeys.{Trip, trip, answered, missed, Meets, Reaches, Passage, Journey}
+use Rattle.il_ring.specs.Journeys.{Trip, trip, answered, missed, Meets, Reaches, Journey}
+use Rattle.il_ring.specs.Lists.{Each, First}
 use Rattle.il_ring.proofs.Faults.{IsClear}
 
 -- Q holds of the frame as it comes to party k, P of the device there, and R of the device before and behind it.
 pub record PassesOn (Q : ℕ → Frame → Type 0) (P : ℕ → DeviceState → Type 0) (R : DeviceState → DeviceState → Type 0) : Type 0 where
   pub no_data : (k : ℕ) (f : Frame) → Q k f → is_data f ≡ false
   pub step : (k : ℕ) (d e : DeviceState) (f : Frame) (out : Out) → P k d → Q k f → Takes d f out e → (h : Frame) × (out ≡ Pass h) × Q (k + 1) h × R d e
-
--- each device, the first of which is party k
-abbrev pub Each : (ℕ → DeviceState → Type 0) → ℕ → List DeviceState → Type 0
-Each P k [] = Unit {0}
-Each P k (d ∷ ds) = P k d × Each P (k + 1) ds
-
--- the first so many devices, and the others are as they were
-abbrev pub First : (DeviceState → DeviceState → Type 0) → ℕ → List DeviceState → List DeviceState → Type 0
-First R j [] [] = Unit {0}
-First R zero (d ∷ ds) (e ∷ es) = (e ≡ d) × First R zero ds es
-First R (suc j) (d ∷ ds) (e ∷ es) = R d e × First R j ds es
-First R j [] (e ∷ es) = ⊥
-First R j (d ∷ ds) [] = ⊥
 
 -- a frame that is neither data nor end is lost wherever something is planned
 pub plain_hit : (fault : PlanFault) (f : Flight) → is_data f.now ≡ false → hit (Some fault) f ≡ None

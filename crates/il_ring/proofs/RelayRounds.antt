@@ -1,7 +1,7 @@
 -- Rounds of a held frame.
-use Rattle.std.proofs.Common.{◌≡◌, ◌≢◌, ◌≤◌, ◌<◌, ◌+◌, ◌++◌, ◌⊎◌, ◌||◌, ◌&&◌, ◌==◌, inl, inr, ⊎_elim, ℕ, zero, suc, Bool, true, false, List, [], ◌∷◌, Option, Some, None, length, refl, sym, ap, ap₂, subst, ◌∙◌, arith, append_assoc, length-append, eqb-true}
+use Rattle.std.proofs.Common.{◌≡◌, ◌≢◌, ◌≤◌, ◌+◌, ◌++◌, ◌⊎◌, ◌||◌, ◌==◌, inl, inr, ⊎_elim, ℕ, suc, Bool, true, false, List, [], ◌∷◌, Option, Some, None, length, refl, sym, ap, subst, ◌∙◌, arith, append_assoc, eqb-true}
 use Rattle.std.specs.Prelude.{MatchBool, if◌then◌else◌}
-use Rattle.std.proofs.lemmas.Bool.{and_parts, eq-eqb, ne_eqb}
+use Rattle.std.proofs.lemmas.Bool.{and_parts, eq-eqb}
 use Rattle.il_frames.specs.declared.frame.Frame.{Frame}
 use Rattle.il_frames.specs.declared.entry.Entry.{Entry}
 use Rattle.il_frames.specs.declared.entry.Outcome.TheVariants as outcome
@@ -14,7 +14,7 @@ use Rattle.il_device.specs.declared.interface.Turn.TheVariants as turn
 use Rattle.il_device.specs.declared.roles.Roles.{Roles}
 use Rattle.il_device.specs.Roles.{roles_after}
 use Rattle.il_device.specs.State.{DeviceState}
-use Rattle.il_device.specs.Takes.{Takes, Answers, AnswersEcho, GoesOn, Ends, Sends, eto, ete, turn_of, turn_at_data}
+use Rattle.il_device.specs.Takes.{Takes, Answers, AnswersEcho, GoesOn, Ends, eto, ete, turn_of, turn_at_data}
 use Rattle.il_device.proofs.Laws.{risen_by, is_plain, roles_after-data, turn_of-data}
 use Rattle.il_ports.specs.Media.{MediumView}
 use Rattle.loop_model.specs.Entries.{entry}
@@ -28,16 +28,16 @@ use Rattle.il_ring.specs.Flights.{sourced, ended_at, lost_at}
 use Rattle.il_ring.specs.Books.{BooksView}
 use Rattle.il_ring.specs.Journeys.{Trip, trip, trip_of, answered, Passage, Journey}
 use Rattle.il_ring.specs.Rings.{RingView, Round, devices_of, home, books_at, arrived, arriving}
-use Rattle.il_ring.specs.Outcomes.{met_between, AllSilent, IsTalking, IsHeldNow, IsLostNow, CameBack, SendsMore, EndsSending, Relayed, back_entry, Obeys}
+use Rattle.il_ring.specs.Outcomes.{met_between, IsTalking, CameBack, SendsMore, EndsSending, Relayed, back_entry, Obeys}
+use Rattle.il_ring.specs.Lists.{AllSilent}
 use Rattle.il_ring.proofs.Faults.{IsClear, clear_met, clear_more, met_at}
 use Rattle.il_ring.proofs.Counts.{risen_by-add}
-use Rattle.il_ring.proofs.Passes.{First}
 use Rattle.il_ring.proofs.Takings.{own_sends}
-use Rattle.il_ring.proofs.DataPasses.{DataGoes, HearsAny, data_past, first_any, same_served, same_byte}
-use Rattle.il_ring.proofs.DataHome.{DataHome, data_home}
-use Rattle.il_ring.proofs.EndsHome.{EndHome, EndTaken, EndLost, end_home}
-use Rattle.il_ring.proofs.Echoes.{Arrived, AsItWas, Otherwise, Answered, Gone, to_talker}
-use Rattle.il_ring.proofs.Splits.{Parts, journey_parts, each_silent, silent_still}
+use Rattle.il_ring.proofs.DataPasses.{DataGoes, data_past, first_any, same_served}
+use Rattle.il_ring.proofs.DataHome.{data_home}
+use Rattle.il_ring.proofs.EndsHome.{EndTaken, EndLost, end_home}
+use Rattle.il_ring.proofs.Echoes.{Arrived, AsItWas, Otherwise, Answered, to_talker}
+use Rattle.il_ring.proofs.Splits.{journey_parts, each_silent, silent_still}
 use Rattle.il_ring.proofs.StartRounds.{sent_home, heard_silent, still_behind, length_split}
 use Rattle.il_ring.proofs.Later.{Later, later_then, journey_later, end_later, met_later}
 use Rattle.il_ring.proofs.RoundCounts.{round_journey}
@@ -142,8 +142,8 @@ module _ {M : Type 0} (view : M → MediumView) (r s : RingView M) (held : Fligh
               met_some =
                   let all : s.books.crossings ≡ risen_by (suc (length bs) + suc lost.reached) r.books.crossings = ap (λ (b : BooksView). b.crossings) lost.books ∙ sym (risen_by-add (suc (length bs)) (suc lost.reached) r.books.crossings) in
                   λ none.
-                      met_at r.books.plan (suc (length bs) + lost.reached) (suc (length bs) + suc lost.reached) r.books.crossings within (omega arith) (λ here. lost.planned (ap (next_fault r.books.plan) (sym (risen_by-add (suc (length bs)) lost.reached r.books.crossings)) ∙ here))
-                      (ap (met (hops_of r.books.plan) r.books.crossings) (sym all) ∙ none);
+                  met_at r.books.plan (suc (length bs) + lost.reached) (suc (length bs) + suc lost.reached) r.books.crossings within (omega arith) (λ here. lost.planned (ap (next_fault r.books.plan) (sym (risen_by-add (suc (length bs)) lost.reached r.books.crossings)) ∙ here))
+                  (ap (met (hops_of r.books.plan) r.books.crossings) (sym all) ∙ none);
             }))
             homed.end;
       }
@@ -243,8 +243,7 @@ answered_round view r s held own answer bs cs d e rest rest_then u within plan a
         let more : Later (risen_by (suc (length bs)) r.books.crossings) s.books.crossings = later_then (risen_by (suc (length bs)) r.books.crossings) u.crossings s.books.crossings (journey_later r.books.plan (1 + length bs + 1) _ u rest rest_then journey) later in
         let onward : Journey r.books.plan (held.source + 1) (trip (risen_by (suc (length bs)) r.books.crossings) (r.books.log ++ back_entry held came.back ∷ []) (Some (sourced held.source h))) rest u rest_then =
         subst (λ p. Journey r.books.plan (p + 1) (trip (risen_by (suc (length bs)) r.books.crossings) (r.books.log ++ back_entry held came.back ∷ []) (Some (sourced p h))) rest u rest_then) (sym at)
-        (subst (λ entry. Journey r.books.plan (1 + length bs + 1) (trip (risen_by (suc (length bs)) r.books.crossings) (r.books.log ++ entry ∷ []) (Some (sourced (1 + length bs) h))) rest u rest_then) (back_is held (1 + length bs) came.back came.altered at) journey) in
-        (
+        (subst (λ entry. Journey r.books.plan (1 + length bs + 1) (trip (risen_by (suc (length bs)) r.books.crossings) (r.books.log ++ entry ∷ []) (Some (sourced (1 + length bs) h))) rest u rest_then) (back_is held (1 + length bs) came.back came.altered at) journey) in (
           echo.right,
           came.back,
           came_back r s held own came.back (length bs) came.data_frame echo (λ hop low planned. met_later r s (risen_by (suc (length bs)) r.books.crossings) hop (suc (length bs)) within refl (omega (arith, low)) planned more),
@@ -272,17 +271,17 @@ relay_round view r s held own answer within plan talking frame stood round =
     let all = length_split (devices_of r) bs rest d talking.devices_are in
     let ending : (s.books ≡ home (books_at (record r.books { held = None }) u) u.flight) × (answer ≡ arrived (arriving r.books.plan u.crossings u.flight)) = (round.books, round.answer_is) in
     ⊎_elim
-        (λ (answer_at : Answered r.books.plan k n r.books.log held bs d rest u head.e head.rest_then).
-            inr (answered_round view r s held own answer bs cs d head.e rest head.rest_then u within plan at parts.same (omega (arith, at, all)) devices (goes_silent r.books.plan 1 n r.books.log held bs cs parts.middle goes talking.silent) talking.silent_behind talking.talks talking.own_is frame stood answer_at ending (end_later view r s None held answer round)))
-        (λ gone.
-            let is : u ≡ trip (risen_by (suc gone.0.crossed) n) (r.books.log ++ lost_at held gone.0.party ∷ []) None = gone.0.is in
-            let books : s.books ≡ record r.books { crossings = risen_by (suc gone.0.crossed) n; log = r.books.log ++ lost_at held gone.0.party ∷ []; held = None } = round.books ∙ ap (λ u. home (books_at (record r.books { held = None }) u) u.flight) is in
-            inl (record {
-              answer_is = round.answer_is ∙ ap (λ (u : Trip). arrived (arriving r.books.plan u.crossings u.flight)) is;
-              party = gone.0.party;
-              on_ring = ⊎_elim (λ here. omega (arith, here, all)) (λ low. omega (arith, low, all)) gone.0.on_ring;
-              log = ap (λ (b : BooksView). b.log) books;
-              held_is = ap (λ (b : BooksView). b.held) books;
-              met_some = λ none. met_at r.books.plan gone.0.crossed (suc gone.0.crossed) n within (omega arith) gone.0.planned (ap (met (hops_of r.books.plan) n) (sym (ap (λ (b : BooksView). b.crossings) books)) ∙ none);
-            }))
-        (to_talker r.books.plan k n r.books.log held bs d rest u head.e head.rest_then parts.middle head.middle cs plan goes head.passage head.journey)
+    (λ (answer_at : Answered r.books.plan k n r.books.log held bs d rest u head.e head.rest_then).
+    inr (answered_round view r s held own answer bs cs d head.e rest head.rest_then u within plan at parts.same (omega (arith, at, all)) devices (goes_silent r.books.plan 1 n r.books.log held bs cs parts.middle goes talking.silent) talking.silent_behind talking.talks talking.own_is frame stood answer_at ending (end_later view r s None held answer round)))
+    (λ gone.
+    let is : u ≡ trip (risen_by (suc gone.0.crossed) n) (r.books.log ++ lost_at held gone.0.party ∷ []) None = gone.0.is in
+    let books : s.books ≡ record r.books { crossings = risen_by (suc gone.0.crossed) n; log = r.books.log ++ lost_at held gone.0.party ∷ []; held = None } = round.books ∙ ap (λ u. home (books_at (record r.books { held = None }) u) u.flight) is in
+    inl (record {
+      answer_is = round.answer_is ∙ ap (λ (u : Trip). arrived (arriving r.books.plan u.crossings u.flight)) is;
+      party = gone.0.party;
+      on_ring = ⊎_elim (λ here. omega (arith, here, all)) (λ low. omega (arith, low, all)) gone.0.on_ring;
+      log = ap (λ (b : BooksView). b.log) books;
+      held_is = ap (λ (b : BooksView). b.held) books;
+      met_some = λ none. met_at r.books.plan gone.0.crossed (suc gone.0.crossed) n within (omega arith) gone.0.planned (ap (met (hops_of r.books.plan) n) (sym (ap (λ (b : BooksView). b.crossings) books)) ∙ none);
+    }))
+    (to_talker r.books.plan k n r.books.log held bs d rest u head.e head.rest_then parts.middle head.middle cs plan goes head.passage head.journey)

@@ -1,10 +1,10 @@
 -- Journeys in two parts, and lists of silent devices.
-use Rattle.std.proofs.Common.{◌≡◌, ◌≢◌, ◌≤◌, ◌<◌, ◌+◌, ◌++◌, ℕ, zero, suc, Bool, true, false, List, [], ◌∷◌, length, map, refl, sym, ap, ap₂, subst, ◌∙◌, arith}
+use Rattle.std.proofs.Common.{◌≡◌, ◌+◌, ◌++◌, ℕ, zero, suc, List, [], ◌∷◌, length, refl, sym, ap, subst, ◌∙◌, arith}
 use Rattle.il_device.specs.State.{DeviceState}
 use Rattle.il_ring.specs.declared.plan.Planned.{Planned}
-use Rattle.il_ring.specs.Journeys.{Trip, Passage, Journey}
-use Rattle.il_ring.specs.Outcomes.{AllSilent}
-use Rattle.il_ring.proofs.Passes.{Each, First}
+use Rattle.il_ring.specs.Journeys.{Trip, Journey}
+use Rattle.il_ring.specs.Lists.{AllSilent}
+use Rattle.il_ring.specs.Lists.{Each, First}
 use Rattle.il_ring.proofs.PassKinds.{Silent}
 
 -- past the devices ds, and then past the others

@@ -1,10 +1,10 @@
 -- A start message goes past devices: to the host, to where it is lost, or to the device that takes it.
-use Rattle.std.proofs.Common.{◌≡◌, ◌≢◌, ◌≤◌, ◌<◌, ◌+◌, ◌++◌, ◌⊎◌, inl, inr, ⊎_elim, ℕ, zero, suc, Bool, true, false, List, [], ◌∷◌, Option, Some, None, length, refl, sym, ap, ap₂, subst, ◌∙◌, arith}
+use Rattle.std.proofs.Common.{◌≡◌, ◌≢◌, ◌<◌, ◌+◌, ◌++◌, ◌⊎◌, inl, inr, ℕ, suc, true, List, [], ◌∷◌, Option, Some, None, length, refl, sym, ap, subst, ◌∙◌, arith}
 use Rattle.il_frames.specs.declared.frame.Frame.{Frame}
 use Rattle.il_frames.specs.declared.entry.Entry.{Entry}
 use Rattle.il_frames.specs.Messages.{message_of}
 use Rattle.il_device.specs.declared.device.Out.{Out}
-use Rattle.il_device.specs.declared.device.Out.TheVariants.{Pass, Source}
+use Rattle.il_device.specs.declared.device.Out.TheVariants.{Source}
 use Rattle.il_device.specs.State.{DeviceState, risen}
 use Rattle.il_device.specs.Takes.{Takes}
 use Rattle.il_device.proofs.Laws.{risen_by, is_start}
@@ -15,14 +15,11 @@ use Rattle.il_ring.specs.Plans.{next_fault}
 use Rattle.il_ring.specs.Flights.{sourced, hit, lost_at, ended_at}
 use Rattle.il_ring.specs.Journeys.{Trip, trip, answered, missed, Meets, Journey}
 use Rattle.il_ring.proofs.Faults.{IsClear}
-use Rattle.il_ring.proofs.Passes.{First, plain_hit, nothing_comes}
+use Rattle.il_ring.proofs.Passes.{plain_hit, nothing_comes}
+use Rattle.il_ring.specs.Lists.{First, NoneSends}
 use Rattle.il_ring.proofs.PassKinds.{start_no_data}
-use Rattle.il_ring.proofs.Starts.{LetsPass, SendsFirst, StartAnswer, start_answer}
-
--- none of them has a frame of its own on the loop
-abbrev pub NoneSends : List DeviceState → Type 0
-NoneSends [] = Unit {0}
-NoneSends (d ∷ ds) = (d.own ≡ None) × NoneSends ds
+use Rattle.il_ring.proofs.Starts.{SendsFirst, StartAnswer, start_answer}
+use Rattle.il_ring.specs.Outcomes.{LetsPass}
 
 -- it has passed all of them
 pub record StartPassed (plan : List Planned) (n : ℕ) (log : List Entry) (f : Flight) (ds : List DeviceState) (u : Trip) (es : List DeviceState) : Type 0 where

@@ -1,39 +1,23 @@
 -- A start message goes past devices without own frames on the loop: the talker may take it, and send a data frame in its
 -- place; every other device passes it on.
-use Rattle.std.proofs.Common.{◌≡◌, ◌≢◌, ◌≤◌, ◌<◌, ◌+◌, ◌++◌, ◌⊎◌, inl, inr, ⊎_elim, ℕ, zero, suc, Bool, true, false, List, [], ◌∷◌, Option, Some, None, length, map, refl, sym, ap, ap₂, subst, ◌∙◌, arith, append_assoc}
-use Rattle.std.specs.Prelude.{if◌then◌else◌}
-use Rattle.il_frames.specs.declared.frame.Class.TheVariants as class
+use Rattle.std.proofs.Common.{◌≡◌, ◌⊎◌, inl, inr, ℕ, Bool, true, false, Option, Some, None, refl, ap, subst, ◌∙◌}
 use Rattle.il_frames.specs.declared.frame.Frame.{Frame}
 use Rattle.il_frames.specs.declared.message.Message.{Message}
 use Rattle.il_frames.specs.declared.message.Message.TheVariants as msg
-use Rattle.il_frames.specs.declared.entry.Entry.{Entry}
-use Rattle.il_frames.specs.Frames.{framed, is_data}
+use Rattle.il_frames.specs.Frames.{is_data}
 use Rattle.il_frames.specs.Messages.{message_of}
 use Rattle.il_device.specs.declared.device.Out.{Out}
 use Rattle.il_device.specs.declared.device.Out.TheVariants.{Pass, Source}
 use Rattle.il_device.specs.declared.interface.OwnFrame.{OwnFrame}
 use Rattle.il_device.specs.declared.interface.Turn.{Turn}
 use Rattle.il_device.specs.declared.interface.Turn.TheVariants as turn
-use Rattle.il_device.specs.State.{DeviceState, risen}
+use Rattle.il_device.specs.State.{DeviceState}
 use Rattle.il_device.specs.Takes.{Takes, Answers, Sends, turn_of, turn_at, turn_at_start, asked_for_id, identity}
-use Rattle.il_device.proofs.Laws.{risen_by, is_start, roles_after-start}
-use Rattle.il_ring.specs.declared.plan.Planned.{Planned}
-use Rattle.il_ring.specs.declared.plan.PlanFault.{PlanFault}
-use Rattle.il_ring.specs.declared.flight.Flight.{Flight}
-use Rattle.il_ring.specs.Plans.{next_fault}
-use Rattle.il_ring.specs.Flights.{sourced, hit, lost_at, ended_at}
-use Rattle.il_ring.specs.Journeys.{Trip, trip, answered, missed, Meets, Reaches, Passage, Journey}
-use Rattle.il_ring.specs.Outcomes.{Obeys}
-use Rattle.il_ring.proofs.Faults.{IsClear}
-use Rattle.il_ring.proofs.Passes.{First, plain_hit, nothing_comes}
-use Rattle.il_ring.proofs.PassKinds.{obeys, begun_obeys, goes_as, start_as, start_no_data}
+use Rattle.il_device.proofs.Laws.{is_start, roles_after-start}
+use Rattle.il_ring.specs.Outcomes.{LetsPass}
+use Rattle.il_ring.proofs.PassKinds.{obeys, begun_obeys, goes_as, start_as}
 
 -- ---- one device
-
--- it passed the message on
-pub record LetsPass (f : Frame) (d e : DeviceState) : Type 0 where
-  pub obeyed : Obeys (message_of f) d e
-  pub roles : e.roles ≡ d.roles
 
 -- it took it, and sent a data frame, which is its own frame on the loop
 pub record SendsFirst (d e : DeviceState) (h : Frame) : Type 0 where
@@ -53,15 +37,19 @@ lets_pass d e f out start asked takes =
     inl (goes_as d e f out asked takes ∙ ap (λ g. Pass g) (start_as d e f (message_of f) start), record { obeyed = obeys d e f out asked takes; roles = takes.roles ∙ roles_after-start d.roles (message_of f) start })
 
 sends_first : (d e : DeviceState) (f : Frame) (out : Out) (own : OwnFrame) → is_start (message_of f) ≡ true → d.roles.talks ≡ true → Sends own out e → Takes d f out e → StartAnswer f d out e
-sends_first d e f out own start talks sends takes = inr (own.frame, sends.answer, record {
-  talks = talks;
-  roles = takes.roles ∙ roles_after-start d.roles (message_of f) start;
-  own = own;
-  on_loop = sends.on_loop;
-  frame = refl;
-  runs = sends.runs;
-  data_frame = sends.is_data;
-})
+sends_first d e f out own start talks sends takes = inr (
+  own.frame,
+  sends.answer,
+  record {
+    talks = talks;
+    roles = takes.roles ∙ roles_after-start d.roles (message_of f) start;
+    own = own;
+    on_loop = sends.on_loop;
+    frame = refl;
+    runs = sends.runs;
+    data_frame = sends.is_data;
+  },
+)
 
 by_turn : (d e : DeviceState) (f : Frame) (out : Out) (asked : Turn) (talks : Bool) → is_start (message_of f) ≡ true → d.roles.talks ≡ talks → (asked ≡ turn.Begin) ⊎ ((asked ≡ turn.Pass) ⊎ ((id : ℕ) × (asked ≡ turn.Identify id)))
     → turn_of d f ≡ turn_at_start None talks asked → Takes d f out e → StartAnswer f d out e
@@ -71,10 +59,13 @@ by_turn d e f out asked true start talks (inl begins) turn_is takes =
     begun answer
   where
     begun : Answers turn.Begin d f out e → StartAnswer f d out e
-    begun (inl passes) = inl (passes.answer ∙ ap (λ g. Pass g) (start_as d e f (message_of f) start), record {
-      obeyed = begun_obeys d e f out begins_is takes passes.still_own;
-      roles = takes.roles ∙ roles_after-start d.roles (message_of f) start;
-    })
+    begun (inl passes) = inl (
+      passes.answer ∙ ap (λ g. Pass g) (start_as d e f (message_of f) start),
+      record {
+        obeyed = begun_obeys d e f out begins_is takes passes.still_own;
+        roles = takes.roles ∙ roles_after-start d.roles (message_of f) start;
+      },
+    )
       where
         begins_is : turn_of d f ≡ turn.Begin
         begins_is = turn_is ∙ begins

@@ -1,10 +1,10 @@
 -- Where at most one device talks, all others are silent.
-use Rattle.std.proofs.Common.{◌≡◌, ◌++◌, ◌+◌, ℕ, suc, Bool, true, false, List, [], ◌∷◌, refl, sym, ap, ◌∙◌}
+use Rattle.std.proofs.Common.{◌≡◌, ◌++◌, ℕ, suc, Bool, true, false, List, [], ◌∷◌, refl, sym, ap, ◌∙◌}
 use Rattle.std.specs.Prelude.{if◌then◌else◌}
 use Rattle.il_device.specs.State.{DeviceState}
-use Rattle.loop_model.specs.Roles.{talkers_from, talkers, is_at_most_one}
+use Rattle.loop_model.specs.Roles.{talkers_from, is_at_most_one}
 use Rattle.il_ring.specs.Rings.{roles_of}
-use Rattle.il_ring.specs.Outcomes.{AllSilent}
+use Rattle.il_ring.specs.Lists.{AllSilent}
 
 none_ahead : (talks : Bool) (k : ℕ) (ps : List ℕ) → ((if talks then k ∷ [] else []) ++ ps) ≡ [] → (talks ≡ false) × (ps ≡ [])
 none_ahead true k ps e = cc

@@ -3,6 +3,7 @@ pub mod Flights
 pub mod Books
 pub mod Journeys
 pub mod Rings
+pub mod Lists
 pub mod Ways
 pub mod Rounded
 pub mod Outcomes

@@ -1,5 +1,5 @@
 -- What became of a frame that went round, as its kind has it.
-use Rattle.std.specs.Prelude.{◌||◌, ◌≡◌, ◌≢◌, ◌⊎◌, ◌≤◌, ◌<◌, ◌+◌, ◌++◌, ℕ, zero, suc, Bool, true, false, if◌then◌else◌, List, [], ◌∷◌, length, Option, Some, None, MatchBool}
+use Rattle.std.specs.Prelude.{◌||◌, ◌≡◌, ◌≢◌, ◌⊎◌, ◌≤◌, ◌+◌, ◌++◌, ℕ, Bool, true, false, if◌then◌else◌, List, [], ◌∷◌, length, Option, Some, None, MatchBool}
 use Rattle.il_frames.specs.declared.frame.Frame.{Frame}
 use Rattle.il_frames.specs.declared.message.Message.{Message}
 use Rattle.il_frames.specs.declared.entry.Entry.{Entry}
@@ -19,6 +19,8 @@ use Rattle.il_ring.specs.declared.flight.Flight.{Flight}
 use Rattle.il_ring.specs.Plans.{hops_of}
 use Rattle.il_ring.specs.Journeys.{DriveTakes}
 use Rattle.il_ring.specs.Rings.{RingView, devices_of}
+use Rattle.il_ring.specs.Lists.{First, AllSilent}
+use Rattle.il_frames.specs.Messages.{message_of}
 
 -- the planned hops among the crossings of a call
 abbrev pub met_between : {M : Type 0} → RingView M → RingView M → List ℕ
@@ -83,12 +85,42 @@ pub record CameAltered {M : Type 0} (r : RingView M) (held : Option Flight) (f :
   pub other : byte_of back ≢ byte_of f
   pub met_some : met_between r s ≢ []
 
--- ---- a device that sends
+-- a byte, whatever it is
+abbrev pub HearsAny : DeviceState → DeviceState → Type 0
+HearsAny d e = (byte : ℕ) × HearsByte byte d e
 
--- none of them talks
-abbrev pub AllSilent : List DeviceState → Type 0
-AllSilent [] = Unit {0}
-AllSilent (d ∷ ds) = (d.roles.talks ≡ false) × AllSilent ds
+-- the frame and what each device heard: the same; another; or it was lost
+pub record DataReturned {M : Type 0} (r : RingView M) (held : Option Flight) (f : Frame) (answer : Arrival) (s : RingView M) : Type 0 where
+  pub back : Frame
+  pub same : with_service back ≡ with_service f
+  pub data_frame : is_data back ≡ true
+  pub returned : Returned r held f back answer s
+  pub heard : First (HearsByte (byte_of f)) (length (devices_of r)) (devices_of r) (devices_of s)
+
+pub record DataBroken {M : Type 0} (r : RingView M) (held : Option Flight) (f : Frame) (answer : Arrival) (s : RingView M) : Type 0 where
+  pub how : CameAltered r held f answer s ⊎ WasLost r 0 f answer s
+  pub reached : ℕ
+  pub heard : First HearsAny reached (devices_of r) (devices_of s)
+
+-- ---- start messages that no device took
+
+-- it passed the message on
+pub record LetsPass (f : Frame) (d e : DeviceState) : Type 0 where
+  pub obeyed : Obeys (message_of f) d e
+  pub roles : e.roles ≡ d.roles
+
+-- it was not taken
+pub record StartReturned {M : Type 0} (r : RingView M) (held : Option Flight) (f : Frame) (answer : Arrival) (s : RingView M) : Type 0 where
+  pub returned : Returned r held f f answer s
+  pub took : First (LetsPass f) (length (devices_of r)) (devices_of r) (devices_of s)
+
+-- it was lost before it was taken
+pub record StartGone {M : Type 0} (r : RingView M) (f : Frame) (answer : Arrival) (s : RingView M) : Type 0 where
+  pub lost : WasLost r 0 f answer s
+  pub reached : ℕ
+  pub took : First (LetsPass f) reached (devices_of r) (devices_of s)
+
+-- ---- a device that sends
 
 -- the device at party p talks, and has this frame of its own on the loop; no other device talks
 pub record IsTalking (p : ℕ) (own : Option OwnFrame) (devices : List DeviceState) : Type 0 where
