@@ -14,3 +14,4 @@ pub mod Passes
 pub mod PassRounds
 pub mod DriveRounds
 pub mod PassKinds
+pub mod Papers

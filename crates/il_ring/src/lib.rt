@@ -7,6 +7,7 @@
 
 mod books;
 mod flight;
+mod paper;
 mod plan;
 mod rig;
 mod ring;

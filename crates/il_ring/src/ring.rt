@@ -7,6 +7,7 @@ ghost use Rattle.il_ring.specs.Rings.{RingView, Round, drive_party, spare_of, fr
 
 use crate::books::Books;
 use crate::flight::Flight;
+use crate::paper::paper_in;
 use crate::plan::{Arrival, Planned};
 use crate::rig::{Refused, Rig};
 use crate::walk::{pass_drive, walk_past};
@@ -132,6 +133,14 @@ impl<M: Medium> Ring<M> {
         ensures range { result ≤ 30 }
     {
         self.boxes.before.len() as u8 + 1
+    }
+
+    /// What the first printer of the ring, the drive left out, has on its paper: the bytes that it
+    /// has kept, and how many it heard. `None` where no device has the accessory ID 32.
+    pub fn paper(&self) -> Option<(&[u8], u64)>
+        ensures { option_map (λ p. (p.0.now, p.1)) result ≡ paper_of ((⟦<Ring<M> as Seen<M>>⟧.seen self.now).before ++ (⟦<Ring<M> as Seen<M>>⟧.seen self.now).after) }
+    {
+        paper_in(&self.boxes.before).or(paper_in(&self.boxes.after))
     }
 
     /// The devices and the medium, as the ring leaves them.
