@@ -15,3 +15,4 @@ pub mod PassRounds
 pub mod DriveRounds
 pub mod PassKinds
 pub mod Papers
+pub mod Rings

@@ -1,9 +1,9 @@
-ghost use Rattle.std.specs.Prelude.{◌≡◌, ◌≢◌, ◌+◌, ◌<◌, ◌≤◌, ◌++◌, ◌∷◌, [], map, length, Some, None, IsSome, IfSome, IfOk, IfErr, option_map};
-ghost use Rattle.il_frames.specs.Frames.{is_data};
+ghost use Rattle.std.specs.Prelude.{◌≡◌, ◌⊎◌, ◌+◌, ◌<◌, ◌≤◌, ◌++◌, [], map, length, None, IsSome, IfSome, IfOk, IfErr, option_map};
+ghost use Rattle.loop_model.specs.Entries.{nrd};
 ghost use Rattle.il_drive.specs.State.{fresh_drive};
 ghost use Rattle.il_ring.specs.Plans.{IsPlan};
 ghost use Rattle.il_ring.specs.Flights.{sourced};
-ghost use Rattle.il_ring.specs.Rings.{RingView, Round, drive_party, spare_of, fresh_books, paper_of};
+ghost use Rattle.il_ring.specs.Rings.{RingView, IsRing, Round, drive_party, spare_of, fresh_books, paper_of};
 
 use crate::books::Books;
 use crate::flight::Flight;
@@ -66,6 +66,7 @@ impl<M: Medium> Ring<M> {
         ensures drive { IfOk result (λ ring. (⟦<Ring<M> as Seen<M>>⟧.seen ring).drive ≡ record { state = fresh_drive; medium = rig.medium }) }
         ensures before { IfOk result (λ ring. (⟦<Ring<M> as Seen<M>>⟧.seen ring).before ≡ map (λ b. state b) rig.before.items) }
         ensures after { IfOk result (λ ring. (⟦<Ring<M> as Seen<M>>⟧.seen ring).after ≡ map (λ b. state b) rig.after.items) }
+        ensures ring { IfOk result (λ ring. IsRing (⟦<Ring<M> as Seen<M>>⟧.seen ring)) }
         ensures refused { IfErr result (λ refused. refused.rig ≡ rig) }
     {
         match Books::new(alloc, plan, room) {
@@ -162,6 +163,7 @@ impl<M: Medium> Ring<M> {
     /// the frame that was on its way.
     pub fn send(&mut self, frame: Frame) -> Arrival
         requires room { 32 ≤ spare_of (⟦<Ring<M> as Seen<M>>⟧.seen self.old) }
+        requires free { ((⟦<Ring<M> as Seen<M>>⟧.seen self.old).books.held ≡ None) ⊎ (frame ≡ nrd) }
         ensures round { Round M.view (⟦<Ring<M> as Seen<M>>⟧.seen self.old) (⟦<Ring<M> as Seen<M>>⟧.seen self.old).books.held (sourced 0 frame) result (⟦<Ring<M> as Seen<M>>⟧.seen self.new) }
     {
         self.round(Flight::sourced(0, frame))
