@@ -14,7 +14,7 @@ mod ring;
 mod walk;
 
 pub use flight::Flight;
-pub use plan::{Arrival, PlanFault, Planned};
+pub use plan::{Arrival, PlanFault, Planned, is_plan};
 pub use rig::{Refused, Rig};
 pub use ring::{Ring, Seen};
 

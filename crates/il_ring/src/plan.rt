@@ -1,5 +1,5 @@
-ghost use Rattle.std.specs.Prelude.{◌≡◌, ◌<◌};
-ghost use Rattle.il_ring.specs.Plans.{fault_at};
+ghost use Rattle.std.specs.Prelude.{◌≡◌, ◌↔◌, IsTrue};
+ghost use Rattle.il_ring.specs.Plans.{fault_at, is_fault, rises_from, IsPlan};
 
 use il_frames::Frame;
 
@@ -29,6 +29,33 @@ pub enum Arrival {
     Frame(Frame),
     /// Nothing: a planned fault lost the frame that was on its way.
     Lost,
+}
+
+impl PlanFault {
+    /// Whether it is a loss or an alteration that makes another byte.
+    fn is_fault(self) -> bool
+        ensures { result ≡ is_fault self }
+    {
+        match self {
+            PlanFault::Lose => true,
+            PlanFault::Alter(change) => change != 0,
+        }
+    }
+}
+
+/// Whether a ring can follow the plan: each crossing is at least 1 and behind the one before it, and no alteration has
+/// the byte 0.
+pub fn is_plan(plan: &[Planned]) -> bool
+    ensures { IsTrue result ↔ IsPlan plan.now }
+{
+    let mut crossing = 0;
+    for planned in plan {
+        if planned.hop <= crossing || !planned.fault.is_fault() {
+            return false;
+        }
+        crossing = planned.hop;
+    }
+    true
 }
 
 /// What is planned at a crossing.
