@@ -1,9 +1,10 @@
-ghost use Rattle.std.specs.Prelude.{◌≡◌, ◌+◌, ◌-◌, ◌<◌, ◌≤◌, [], ◌∷◌, ◌++◌, IfOk, OnSome, IfNone, IfSome, Some, None, length, vec_len, vec_capacity};
+ghost use Rattle.std.specs.Prelude.{◌≡◌, ◌+◌, ◌-◌, ◌<◌, ◌≤◌, [], ◌∷◌, ◌++◌, ◌==◌, IfOk, OnSome, IfNone, IfSome, Some, None, length, vec_len, vec_capacity};
 ghost use Rattle.il_device.specs.State.{risen};
 ghost use Rattle.il_ring.specs.Plans.{next_fault};
 ghost use Rattle.il_ring.specs.Flights.{hit, lost_at, ended_at};
 ghost use Rattle.il_ring.specs.Books.{IsHeld};
-ghost use Rattle.il_ring.specs.Rings.{fresh_books, home, arrived, arriving};
+ghost use Rattle.il_frames.specs.Frames.{is_data};
+ghost use Rattle.il_ring.specs.Rings.{fresh_books, home, comes, arrived, arriving};
 
 use crate::flight::Flight;
 use crate::plan::{Arrival, PlanFault, Planned, fault_at};
@@ -83,11 +84,12 @@ impl Books {
         self.held
     }
 
-    /// Holds no frame any more.
-    pub fn release(&mut self)
-        ensures { self.new ≡ record self.old { held = None } }
+    /// The frame that is held at the host, which is not held any more.
+    pub fn take_held(&mut self) -> Option<Flight>
+        ensures value { result ≡ self.old.held }
+        ensures released { self.new ≡ record self.old { held = None } }
     {
-        self.held = None;
+        self.held.take()
     }
 
     /// Appends the entry of a frame that ended at a party.
@@ -129,6 +131,17 @@ impl Books {
         append(&mut self.log, entry);
     }
 
+    /// What comes to the host over the last link: nothing, where the frame was lost before or is lost there.
+    fn cross_last(&mut self, flight: Option<Flight>) -> Option<Flight>
+        requires { length self.old.log < self.old.room }
+        ensures arriving { result ≡ arriving self.old.plan self.old.crossings flight }
+        ensures arrived { IfSome result (λ f. home self.old flight ≡ comes self.new f (f.source == 0) (is_data f.now)) }
+        ensures lost { IfNone result (home self.old flight ≡ record self.new { held = None }) }
+        ensures room { OnSome result ((self.new.room ≡ self.old.room) × (self.new.log ≡ self.old.log)) }
+    {
+        self.cross(flight?, 0)
+    }
+
     /// The frame crosses the last link and comes to the host: its own ends there, a data or end frame of a device is held
     /// there, and any other frame of a device is taken.
     pub fn home(&mut self, flight: Option<Flight>) -> Arrival
@@ -136,11 +149,7 @@ impl Books {
         ensures books { self.new ≡ home self.old flight }
         ensures answer { result ≡ arrived (arriving self.old.plan self.old.crossings flight) }
     {
-        let Some(flight) = flight else {
-            self.held = None;
-            return Arrival::Lost;
-        };
-        let Some(flight) = self.cross(flight, 0) else {
+        let Some(flight) = self.cross_last(flight) else {
             self.held = None;
             return Arrival::Lost;
         };

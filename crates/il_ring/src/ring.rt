@@ -176,8 +176,7 @@ impl<M: Medium> Ring<M> {
         requires room { 32 ≤ spare_of (⟦<Ring<M> as Seen<M>>⟧.seen self.old) }
         ensures { IfSome (⟦<Ring<M> as Seen<M>>⟧.seen self.old).books.held (λ f. Round M.view (⟦<Ring<M> as Seen<M>>⟧.seen self.old) None f result (⟦<Ring<M> as Seen<M>>⟧.seen self.new)) }
     {
-        let flight = self.books.held().unwrap();
-        self.books.release();
+        let flight = self.books.take_held().unwrap();
         self.round(flight)
     }
 
@@ -186,8 +185,8 @@ impl<M: Medium> Ring<M> {
         requires { 32 ≤ spare_of (⟦<Ring<M> as Seen<M>>⟧.seen self.old) }
         ensures { Round M.view (⟦<Ring<M> as Seen<M>>⟧.seen self.old) (⟦<Ring<M> as Seen<M>>⟧.seen self.old).books.held flight result (⟦<Ring<M> as Seen<M>>⟧.seen self.new) }
     {
+        let party = self.party();
         let on = walk_past(&mut self.boxes.before, 1, &mut self.books, Some(flight));
-        let party = self.boxes.before.len() as u8 + 1;
         let on = pass_drive(&mut self.drive, party, &mut self.books, on);
         let on = walk_past(&mut self.boxes.after, party + 1, &mut self.books, on);
         self.books.home(on)

@@ -429,7 +429,7 @@ fn days(rt: HostRuntime) -> Result<(), Fail> {
             go_round(&rt, &mut ring, frame, arrives)?;
         }
         compare_log(&rt, ring.log(), day.log)?;
-        assert_eq!(rt; ring.spare(), 100 - day.log.len(), "{}", day.name);
+        assert_eq!(rt; 100_usize.checked_sub(ring.spare()), Some(day.log.len()), "{}", day.name);
         assert_eq!(rt; ring.crossings(), day.crossings, "{}", day.name);
         let held = day.held.map(|text| frame_of(&rt, text));
         assert_eq!(rt; ring.held(), held, "{}", day.name);
