@@ -12,8 +12,8 @@ use il_frames::Entry;
 use std::alloc::{AllocError, Global};
 use std::marker::Model;
 
-/// What a ring keeps beside its devices: the planned faults, the count of crossings, the log in the room that was reserved
-/// for it, and the frame that is held at the host.
+/// What a ring keeps beside its devices: the planned faults, the count of crossings, the log in the
+/// room that was reserved for it, and the frame that is held at the host.
 #[derive(Drop)]
 pub(crate) struct Books {
     plan: Vec<Planned>,
@@ -35,7 +35,8 @@ impl Model for Books {
 }
 
 impl Books {
-    /// Nothing has happened yet. All memory is taken here: a copy of the plan, and room for the log.
+    /// Books in which nothing has happened yet, with room for `room` entries. All memory is taken
+    /// here: a copy of the plan, and the log's.
     pub fn new(alloc: Global, plan: &[Planned], room: usize) -> Result<Books, AllocError>
         ensures { IfOk result (λ books. books ≡ fresh_books plan.now room) }
     {
@@ -131,7 +132,8 @@ impl Books {
         append(&mut self.log, entry);
     }
 
-    /// What comes to the host over the last link: nothing, where the frame was lost before or is lost there.
+    /// What comes to the host over the last link. `None` where the frame was lost before or is lost
+    /// there.
     fn cross_last(&mut self, flight: Option<Flight>) -> Option<Flight>
         requires { length self.old.log < self.old.room }
         ensures arriving { result ≡ arriving self.old.plan self.old.crossings flight }
@@ -142,8 +144,9 @@ impl Books {
         self.cross(flight?, 0)
     }
 
-    /// The frame crosses the last link and comes to the host: its own ends there, a data or end frame of a device is held
-    /// there, and any other frame of a device is taken.
+    /// The frame crosses the last link and comes to the host: its own ends there, a data or end
+    /// frame of a device is held there, and any other frame of a device is taken. Where it is lost
+    /// nothing is held any more.
     pub fn home(&mut self, flight: Option<Flight>) -> Arrival
         requires { length self.old.log < self.old.room }
         ensures books { self.new ≡ home self.old flight }

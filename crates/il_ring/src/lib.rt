@@ -1,8 +1,12 @@
-//! The HP-IL loop, simulated: the host at party 0, the cassette drive between other devices, faults that are planned, and
-//! a log of every frame.
+//! The HP-IL loop, simulated: the host at party 0, the cassette drive between other devices, faults
+//! that are planned, and a log of every frame.
 //!
-//! One frame is on its way at a time. It goes over a link to party 1, from there to party 2, and from the last device back
-//! to the host. Each crossing of a link is counted before the fault that is planned at it acts.
+//! One frame is on its way at a time. It goes over a link to party 1, from there to party 2, and
+//! from the last device back to the host. Each crossing of a link is counted before the fault that
+//! is planned at it acts.
+//!
+//! What a frame asks of a device is the HP-IL Interface Specification's (HP 82166-90017); plan,
+//! count of crossings and log are this project's own.
 #![tactic(auto)]
 
 mod books;

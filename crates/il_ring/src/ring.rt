@@ -30,7 +30,8 @@ pub(crate) struct Boxes {
     ghost few: { length before.items + length after.items ≤ 29 },
 }
 
-/// The simulated loop.
+/// The simulated loop: the host, the drive over its medium, the devices beside it, the plan and the
+/// log. It takes memory in `new` alone.
 #[derive(Drop)]
 pub struct Ring<M: Medium> {
     boxes: Boxes,
@@ -51,8 +52,11 @@ impl<M: Medium> Seen<M> for Ring<M> {
 }
 
 impl<M: Medium> Ring<M> {
-    /// A ring of these devices, with room for `room` entries in its log: all memory that a ring needs is taken here. The
-    /// error is want of memory, and hands the rig back.
+    /// A ring of these devices, with room for `room` entries in its log. The drive is new; the
+    /// others are as they come, and nothing has come to them where `Rig::fits` says so. A tape is
+    /// in, at most 29 devices stand beside the drive, and `is_plan` holds of the plan.
+    ///
+    /// The only error is want of memory, and it hands the rig back.
     pub fn new(
         alloc: Global,
         rig: Rig<M>,
@@ -86,7 +90,8 @@ impl<M: Medium> Ring<M> {
         }
     }
 
-    /// The frame of a device that is held at the host.
+    /// The data or end frame of a device that is held at the host, as it came. `None` where none
+    /// is.
     pub fn held(&self) -> Option<Frame>
         ensures { result ≡ option_map (λ f. f.now) (⟦<Ring<M> as Seen<M>>⟧.seen self.now).books.held }
     {
@@ -107,28 +112,29 @@ impl<M: Medium> Ring<M> {
         self.books.log()
     }
 
-    /// Empties the log.
+    /// Empties the log. The count of crossings and the held frame stay.
     pub fn clear_log(&mut self)
         ensures { ⟦<Ring<M> as Seen<M>>⟧.seen self.new ≡ record (⟦<Ring<M> as Seen<M>>⟧.seen self.old) { books = record (⟦<Ring<M> as Seen<M>>⟧.seen self.old).books { log = [] } } }
     {
         self.books.clear_log();
     }
 
-    /// How many crossings of links there were since the ring was made. The count stays at its greatest value.
+    /// How many crossings of links there were since the ring was made. The count stays at its
+    /// greatest value, and no fault acts at the crossings behind it.
     pub fn crossings(&self) -> u64
         ensures { result ≡ (⟦<Ring<M> as Seen<M>>⟧.seen self.now).books.crossings }
     {
         self.books.crossings()
     }
 
-    /// The medium of the drive.
+    /// The medium of the drive, whose tape stays in.
     pub fn medium(&self) -> &M
         ensures { result.now ≡ (⟦<Ring<M> as Seen<M>>⟧.seen self.now).drive.medium }
     {
         self.drive.medium()
     }
 
-    /// The drive's party, 1 to 30.
+    /// The drive's party, 1 to 30: its place among the devices, counted from the host's output.
     pub fn party(&self) -> u8
         ensures party { result ≡ drive_party (⟦<Ring<M> as Seen<M>>⟧.seen self.now) }
         ensures range { result ≤ 30 }
@@ -136,15 +142,16 @@ impl<M: Medium> Ring<M> {
         self.boxes.before.len() as u8 + 1
     }
 
-    /// What the first printer of the ring, the drive left out, has on its paper: the bytes that it
-    /// has kept, and how many it heard. `None` where no device has the accessory ID 32.
+    /// The paper of the first printer, counted from the host's output: the first bytes that it
+    /// heard, as far as it keeps them, and how many it heard, a count that stays at its greatest
+    /// value. `None` where no device has the accessory ID 32 of a printer.
     pub fn paper(&self) -> Option<(&[u8], u64)>
         ensures { option_map (λ p. (p.0.now, p.1)) result ≡ paper_of ((⟦<Ring<M> as Seen<M>>⟧.seen self.now).before ++ (⟦<Ring<M> as Seen<M>>⟧.seen self.now).after) }
     {
         paper_in(&self.boxes.before).or(paper_in(&self.boxes.after))
     }
 
-    /// The devices and the medium, as the ring leaves them.
+    /// The devices and the medium as the ring leaves them, in their order.
     pub fn into_rig(self) -> Rig<M>
         ensures medium { result.medium ≡ (⟦<Ring<M> as Seen<M>>⟧.seen self).drive.medium }
         ensures before { map (λ b. state b) result.before.items ≡ (⟦<Ring<M> as Seen<M>>⟧.seen self).before }
@@ -158,9 +165,13 @@ impl<M: Medium> Ring<M> {
         }
     }
 
-    /// The host sends a frame, which goes round the loop. What arrives at the host: the frame as it came back; or one that
-    /// a device sent in its place, which is held where it is a data or end frame; or nothing, where a planned fault lost
-    /// the frame that was on its way.
+    /// The host sends a frame, which goes round the loop. What arrives at the host: the frame as it
+    /// came back; or one that a device sent in its place, which is held where it is a data or end
+    /// frame; or `Lost`, exactly where a planned fault lost the frame that was on its way. What was
+    /// held before is held on where the frame came back, and else dropped.
+    ///
+    /// The log has room for 32 more entries, and no frame is held, or the frame is NRD, which goes
+    /// ahead of the held one.
     pub fn send(&mut self, frame: Frame) -> Arrival
         requires room { 32 ≤ spare_of (⟦<Ring<M> as Seen<M>>⟧.seen self.old) }
         requires free { ((⟦<Ring<M> as Seen<M>>⟧.seen self.old).books.held ≡ None) ⊎ (frame ≡ nrd) }
@@ -169,8 +180,11 @@ impl<M: Medium> Ring<M> {
         self.round(Flight::sourced(0, frame))
     }
 
-    /// The held frame goes on from the host. What arrives at the host then: what its source sent behind it, or nothing,
+    /// The held frame goes on from the host to its source. What arrives at the host: what the
+    /// source sent behind it, which is held where it is a data or end frame, or `Lost`, exactly
     /// where a planned fault lost the frame that was on its way.
+    ///
+    /// A frame is held, and the log has room for 32 more entries.
     pub fn relay(&mut self) -> Arrival
         requires held { IsSome (⟦<Ring<M> as Seen<M>>⟧.seen self.old).books.held }
         requires room { 32 ≤ spare_of (⟦<Ring<M> as Seen<M>>⟧.seen self.old) }

@@ -87,10 +87,7 @@ static DAYS: [Day; 18] = [
     },
     Day {
         name: "a byte altered before and behind the printer is lost",
-        plan: &[
-            (8, Alter(3)),
-            (9, Alter(3)),
-        ],
+        plan: &[(8, Alter(3)), (9, Alter(3))],
         rounds: &[
             ("AAD 01", "AAD 03"),
             ("LAD 02", "LAD 02"),
@@ -107,10 +104,7 @@ static DAYS: [Day; 18] = [
     },
     Day {
         name: "a byte altered before and behind the drive is lost",
-        plan: &[
-            (7, Alter(1)),
-            (8, Alter(2)),
-        ],
+        plan: &[(7, Alter(1)), (8, Alter(2))],
         rounds: &[
             ("AAD 01", "AAD 03"),
             ("LAD 02", "LAD 02"),
@@ -182,11 +176,7 @@ static DAYS: [Day; 18] = [
             ("TAD 01", "TAD 01"),
             ("SST", "DAB 00"),
         ],
-        log: &[
-            "~ 0 AAD 01 = AAD 03",
-            "~ 0 TAD 01 = TAD 01",
-            "~ 0 SST > 1",
-        ],
+        log: &["~ 0 AAD 01 = AAD 03", "~ 0 TAD 01 = TAD 01", "~ 0 SST > 1"],
         crossings: 9,
         held: Some("DAB 00"),
         paper: b"",
@@ -214,11 +204,7 @@ static DAYS: [Day; 18] = [
     Day {
         name: "what the drive sends in place of a start message is lost",
         plan: &[(9, Lose)],
-        rounds: &[
-            ("AAD 01", "AAD 03"),
-            ("TAD 01", "TAD 01"),
-            ("SST", "lost"),
-        ],
+        rounds: &[("AAD 01", "AAD 03"), ("TAD 01", "TAD 01"), ("SST", "lost")],
         log: &[
             "~ 0 AAD 01 = AAD 03",
             "~ 0 TAD 01 = TAD 01",
@@ -290,10 +276,7 @@ static DAYS: [Day; 18] = [
     },
     Day {
         name: "a held frame altered on both sides of the host is lost",
-        plan: &[
-            (9, Alter(1)),
-            (10, Alter(1)),
-        ],
+        plan: &[(9, Alter(1)), (10, Alter(1))],
         rounds: &[
             ("AAD 01", "AAD 03"),
             ("TAD 01", "TAD 01"),
@@ -361,9 +344,11 @@ fn ring_of(
     assert!(rt; rig.fits());
     assert!(rt; is_plan(plan));
     assert!(rt; rig.medium.size() > 0);
-    Ok(Ring::new(rt.alloc(), rig, plan, 100)
-        .ok()
-        .expect(rt, "memory for a ring"))
+    Ok(
+        Ring::new(rt.alloc(), rig, plan, 100)
+            .ok()
+            .expect(rt, "memory for a ring"),
+    )
 }
 
 fn frame_of(rt: &impl Abort, text: &str) -> Frame {
@@ -429,7 +414,12 @@ fn days(rt: HostRuntime) -> Result<(), Fail> {
             go_round(&rt, &mut ring, frame, arrives)?;
         }
         compare_log(&rt, ring.log(), day.log)?;
-        assert_eq!(rt; 100_usize.checked_sub(ring.spare()), Some(day.log.len()), "{}", day.name);
+        assert_eq!(rt;
+            100_usize.checked_sub(ring.spare()),
+            Some(day.log.len()),
+            "{}",
+            day.name
+        );
         assert_eq!(rt; ring.crossings(), day.crossings, "{}", day.name);
         let held = day.held.map(|text| frame_of(&rt, text));
         assert_eq!(rt; ring.held(), held, "{}", day.name);
@@ -508,7 +498,10 @@ fn printer_first(rt: HostRuntime) -> Result<(), Fail> {
         after,
     };
     let mut ring = ring_of(&rt, rig, &[])?;
-    assert_eq!(rt; (ring.party(), ring.paper()), (2, Some((b"".as_slice(), 0))));
+    assert_eq!(rt;
+        (ring.party(), ring.paper()),
+        (2, Some((b"".as_slice(), 0)))
+    );
     let rounds = [
         ("AAD 01", "AAD 04"),
         ("LAD 01", "LAD 01"),
