@@ -16,3 +16,4 @@ pub mod DriveRounds
 pub mod PassKinds
 pub mod Papers
 pub mod Rings
+pub mod Examples

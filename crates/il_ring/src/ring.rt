@@ -188,7 +188,7 @@ impl<M: Medium> Ring<M> {
     pub fn relay(&mut self) -> Arrival
         requires held { IsSome (⟦<Ring<M> as Seen<M>>⟧.seen self.old).books.held }
         requires room { 32 ≤ spare_of (⟦<Ring<M> as Seen<M>>⟧.seen self.old) }
-        ensures { IfSome (⟦<Ring<M> as Seen<M>>⟧.seen self.old).books.held (λ f. Round M.view (⟦<Ring<M> as Seen<M>>⟧.seen self.old) None f result (⟦<Ring<M> as Seen<M>>⟧.seen self.new)) }
+        ensures round { IfSome (⟦<Ring<M> as Seen<M>>⟧.seen self.old).books.held (λ f. Round M.view (⟦<Ring<M> as Seen<M>>⟧.seen self.old) None f result (⟦<Ring<M> as Seen<M>>⟧.seen self.new)) }
     {
         let flight = self.books.take_held().unwrap();
         self.round(flight)
