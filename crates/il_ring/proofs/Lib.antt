@@ -29,3 +29,6 @@ pub mod EndsHome
 pub mod RelayRounds
 pub mod Identify
 pub mod Kept
+pub mod Papers
+pub mod Rings
+pub mod Examples

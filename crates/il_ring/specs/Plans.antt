@@ -21,15 +21,15 @@ last_crossing = 18446744073709551615
 abbrev pub next_fault : List Planned → ℕ → Option PlanFault
 next_fault plan n = if nat_lt n last_crossing then fault_at plan (n + 1) else None
 
--- an alteration makes another byte
-abbrev pub is_alteration : PlanFault → Bool
-is_alteration Lose = true
-is_alteration (Alter change) = not (change == 0)
+-- a loss, or an alteration, which makes another byte
+abbrev pub is_fault : PlanFault → Bool
+is_fault Lose = true
+is_fault (Alter change) = not (change == 0)
 
 -- crossings behind this one, each behind the one before
 abbrev pub rises_from : ℕ → List Planned → Bool
 rises_from n [] = true
-rises_from n (p ∷ plan) = nat_lt n p.hop && (is_alteration p.fault && rises_from p.hop plan)
+rises_from n (p ∷ plan) = nat_lt n p.hop && (is_fault p.fault && rises_from p.hop plan)
 
 -- hops are at least 1 and rise strictly, and no alteration has the byte 0
 abbrev pub IsPlan : List Planned → Type 0

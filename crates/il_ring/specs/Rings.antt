@@ -1,5 +1,5 @@
 -- What contracts see of a ring, and what becomes of a frame that goes round.
-use Rattle.std.specs.Prelude.{◌≡◌, ◌≢◌, ◌+◌, ◌-◌, ◌==◌, ℕ, Bool, true, false, List, [], ◌∷◌, ◌++◌, length, map, Option, Some, None, find, option_map}
+use Rattle.std.specs.Prelude.{◌≡◌, ◌≢◌, ◌≤◌, ◌+◌, ◌-◌, ◌==◌, ℕ, Bool, true, false, List, [], ◌∷◌, ◌++◌, length, map, Option, Some, None, find, option_map}
 use Rattle.il_frames.specs.Frames.{is_data}
 use Rattle.il_device.specs.declared.roles.Roles.{Roles}
 use Rattle.il_device.specs.State.{DeviceState, IsIdle, risen}
@@ -9,9 +9,9 @@ use Rattle.il_ring.specs.declared.plan.Planned.{Planned}
 use Rattle.il_ring.specs.declared.flight.Flight.{Flight}
 use Rattle.il_ring.specs.declared.plan.Arrival.{Arrival}
 use Rattle.il_ring.specs.declared.plan.Arrival.TheVariants as arrival
-use Rattle.il_ring.specs.Plans.{next_fault}
+use Rattle.il_ring.specs.Plans.{next_fault, last_crossing, IsPlan}
 use Rattle.il_ring.specs.Flights.{hit, lost_at, ended_at}
-use Rattle.il_ring.specs.Books.{BooksView}
+use Rattle.il_ring.specs.Books.{BooksView, IsHeld}
 use Rattle.il_ring.specs.Journeys.{Trip, trip_of, Passage, Journey, DriveTakes}
 
 -- the devices before the drive, the drive with its medium, the devices behind it, and the books
@@ -36,6 +36,13 @@ drive_party r = length r.before + 1
 -- how many more entries the log has room for
 abbrev pub spare_of : {M : Type 0} → RingView M → ℕ
 spare_of r = r.books.room - length r.books.log
+
+-- what holds of a ring at every moment from its making on
+pub record IsRing {M : Type 0} (r : RingView M) : Type 0 where
+  pub few : length r.before + length r.after ≤ 29
+  pub plan : IsPlan r.books.plan
+  pub crossings : r.books.crossings ≤ last_crossing
+  pub held : IsHeld r.books.held
 
 -- ---- a new ring
 

@@ -1,9 +1,10 @@
-ghost use Rattle.std.specs.Prelude.{◌≡◌, ◌+◌, ◌-◌, ◌<◌, ◌≤◌, [], ◌∷◌, ◌++◌, IfOk, OnSome, IfNone, IfSome, Some, None, length, vec_len, vec_capacity};
+ghost use Rattle.std.specs.Prelude.{◌≡◌, ◌+◌, ◌-◌, ◌<◌, ◌≤◌, [], ◌∷◌, ◌++◌, ◌==◌, IfOk, OnSome, IfNone, IfSome, Some, None, length, vec_len, vec_capacity};
 ghost use Rattle.il_device.specs.State.{risen};
 ghost use Rattle.il_ring.specs.Plans.{next_fault};
 ghost use Rattle.il_ring.specs.Flights.{hit, lost_at, ended_at};
 ghost use Rattle.il_ring.specs.Books.{IsHeld};
-ghost use Rattle.il_ring.specs.Rings.{fresh_books, home, arrived, arriving};
+ghost use Rattle.il_frames.specs.Frames.{is_data};
+ghost use Rattle.il_ring.specs.Rings.{fresh_books, home, comes, arrived, arriving};
 
 use crate::flight::Flight;
 use crate::plan::{Arrival, PlanFault, Planned, fault_at};
@@ -11,8 +12,8 @@ use il_frames::Entry;
 use std::alloc::{AllocError, Global};
 use std::marker::Model;
 
-/// What a ring keeps beside its devices: the planned faults, the count of crossings, the log in the room that was reserved
-/// for it, and the frame that is held at the host.
+/// What a ring keeps beside its devices: the planned faults, the count of crossings, the log in the
+/// room that was reserved for it, and the frame that is held at the host.
 #[derive(Drop)]
 pub(crate) struct Books {
     plan: Vec<Planned>,
@@ -34,7 +35,8 @@ impl Model for Books {
 }
 
 impl Books {
-    /// Nothing has happened yet. All memory is taken here: a copy of the plan, and room for the log.
+    /// Books in which nothing has happened yet, with room for `room` entries. All memory is taken
+    /// here: a copy of the plan, and the log's.
     pub fn new(alloc: Global, plan: &[Planned], room: usize) -> Result<Books, AllocError>
         ensures { IfOk result (λ books. books ≡ fresh_books plan.now room) }
     {
@@ -83,11 +85,12 @@ impl Books {
         self.held
     }
 
-    /// Holds no frame any more.
-    pub fn release(&mut self)
-        ensures { self.new ≡ record self.old { held = None } }
+    /// The frame that is held at the host, which is not held any more.
+    pub fn take_held(&mut self) -> Option<Flight>
+        ensures value { result ≡ self.old.held }
+        ensures released { self.new ≡ record self.old { held = None } }
     {
-        self.held = None;
+        self.held.take()
     }
 
     /// Appends the entry of a frame that ended at a party.
@@ -129,18 +132,27 @@ impl Books {
         append(&mut self.log, entry);
     }
 
-    /// The frame crosses the last link and comes to the host: its own ends there, a data or end frame of a device is held
-    /// there, and any other frame of a device is taken.
+    /// What comes to the host over the last link. `None` where the frame was lost before or is lost
+    /// there.
+    fn cross_last(&mut self, flight: Option<Flight>) -> Option<Flight>
+        requires { length self.old.log < self.old.room }
+        ensures arriving { result ≡ arriving self.old.plan self.old.crossings flight }
+        ensures arrived { IfSome result (λ f. home self.old flight ≡ comes self.new f (f.source == 0) (is_data f.now)) }
+        ensures lost { IfNone result (home self.old flight ≡ record self.new { held = None }) }
+        ensures room { OnSome result ((self.new.room ≡ self.old.room) × (self.new.log ≡ self.old.log)) }
+    {
+        self.cross(flight?, 0)
+    }
+
+    /// The frame crosses the last link and comes to the host: its own ends there, a data or end
+    /// frame of a device is held there, and any other frame of a device is taken. Where it is lost
+    /// nothing is held any more.
     pub fn home(&mut self, flight: Option<Flight>) -> Arrival
         requires { length self.old.log < self.old.room }
         ensures books { self.new ≡ home self.old flight }
         ensures answer { result ≡ arrived (arriving self.old.plan self.old.crossings flight) }
     {
-        let Some(flight) = flight else {
-            self.held = None;
-            return Arrival::Lost;
-        };
-        let Some(flight) = self.cross(flight, 0) else {
+        let Some(flight) = self.cross_last(flight) else {
             self.held = None;
             return Arrival::Lost;
         };

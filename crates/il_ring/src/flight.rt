@@ -5,16 +5,17 @@ ghost use Rattle.il_ring.specs.Flights.{sourced, altered_by, hit, lost_at, ended
 use crate::plan::PlanFault;
 use il_frames::{Entry, Frame, Outcome};
 
-/// A frame on its way.
+/// A frame on its way. It is public because contracts see the held frame as one; a ring hands out
+/// none.
 #[derive(Clone, Copy, PartialEq, Eq, Debug)]
 pub struct Flight {
-    /// The party that sent it: 0 is the host, and k the k-th device.
+    /// The party that sent it: 0 is the host, and k, 1 to 30, the k-th device.
     pub source: u8,
     /// The frame as it was sent.
     pub sent: Frame,
     /// The frame as it is now.
     pub now: Frame,
-    /// Whether a planned fault has altered it.
+    /// Whether a planned fault has altered it since it was sent.
     pub altered: bool,
 }
 

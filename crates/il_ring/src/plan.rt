@@ -1,12 +1,13 @@
-ghost use Rattle.std.specs.Prelude.{◌≡◌, ◌<◌};
-ghost use Rattle.il_ring.specs.Plans.{fault_at};
+ghost use Rattle.std.specs.Prelude.{◌≡◌, ◌↔◌, IsTrue};
+ghost use Rattle.il_ring.specs.Plans.{fault_at, is_fault, rises_from, IsPlan};
 
 use il_frames::Frame;
 
-/// A fault that is planned at the crossing of that number. Crossings of links are counted from 1 over the life of a ring.
+/// A fault that is planned at one crossing of a link. Crossings are counted from 1 over the life of
+/// a ring.
 #[derive(Clone, Copy, PartialEq, Eq, Debug)]
 pub struct Planned {
-    /// The crossing, at least 1.
+    /// The number of the crossing, at least 1.
     pub hop: u64,
     /// What happens there.
     pub fault: PlanFault,
@@ -17,8 +18,9 @@ pub struct Planned {
 pub enum PlanFault {
     /// It is lost.
     Lose,
-    /// The byte of a data or end frame becomes another, by exclusive or with this one, which is not 0. A second time on one
-    /// trip from its source back to its source it is lost, and so is every other frame.
+    /// The byte of a data or end frame becomes another, by exclusive or with this one, which is not
+    /// 0. A frame that was altered before on its trip from its source back to its source is lost,
+    /// and so is every command, ready and identify frame.
     Alter(u8),
 }
 
@@ -31,7 +33,34 @@ pub enum Arrival {
     Lost,
 }
 
-/// What is planned at a crossing.
+impl PlanFault {
+    /// Whether it is a loss or an alteration that makes another byte.
+    fn is_fault(self) -> bool
+        ensures { result ≡ is_fault self }
+    {
+        match self {
+            PlanFault::Lose => true,
+            PlanFault::Alter(change) => change != 0,
+        }
+    }
+}
+
+/// Whether a ring can follow the plan: the crossings are at least 1 and rise strictly, and no
+/// alteration has the byte 0.
+pub fn is_plan(plan: &[Planned]) -> bool
+    ensures { IsTrue result ↔ IsPlan plan.now }
+{
+    let mut crossing = 0;
+    for planned in plan {
+        if planned.hop <= crossing || !planned.fault.is_fault() {
+            return false;
+        }
+        crossing = planned.hop;
+    }
+    true
+}
+
+/// What is planned at the crossing of that number.
 pub(crate) fn fault_at(plan: &[Planned], crossing: u64) -> Option<PlanFault>
     ensures { result ≡ fault_at plan.now crossing }
 {

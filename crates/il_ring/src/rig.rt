@@ -5,14 +5,15 @@ ghost use Rattle.il_ring.specs.Rings.{MayStand};
 use il_device::Device;
 use il_ports::Medium;
 
-/// The accessory ID of the drive, which no other device may have.
+/// The accessory ID of the HP 82161A, which no device beside the drive may have.
 const DRIVE_ID: u8 = 16;
 
-/// How many devices may stand beside the drive.
+/// How many devices may stand beside the drive: HP-IL has 30 addresses.
 const MOST_BOXED: usize = 29;
 
-/// What a ring is made of. The drive, over the medium, stands between `before` and `after`: the first device of `before`
-/// is party 1.
+/// What a ring is made of. The drive, over the medium, stands between `before` and `after`. The
+/// parties are counted from the host's output: the first device of `before` is party 1, and where
+/// `before` is empty the drive is.
 #[derive(Drop)]
 pub struct Rig<M: Medium> {
     /// The medium of the drive.
@@ -23,7 +24,7 @@ pub struct Rig<M: Medium> {
     pub after: Vec<Box<dyn Device>>,
 }
 
-/// Want of memory, with what was handed in.
+/// Want of memory, with the rig that was handed in.
 #[derive(Drop)]
 pub struct Refused<M: Medium> {
     /// The rig as it was.
@@ -31,11 +32,14 @@ pub struct Refused<M: Medium> {
 }
 
 impl<M: Medium> Rig<M> {
-    /// Whether a ring can be made of it: at most 29 devices stand beside the drive, nothing has come to any of them yet (no
-    /// address, role, place in a parallel poll or own frame on the loop), and none has the accessory ID 16 of the drive.
+    /// Whether it makes a ring that nothing has come to yet: at most 29 devices stand beside the
+    /// drive, since HP-IL has the addresses 1 to 30; none of them has an address, a role, a place
+    /// in a parallel poll or a frame of its own on the loop; and none has the accessory ID 16,
+    /// which is the drive's.
     pub fn fits(&self) -> bool
         ensures { IsTrue result ↔ ((length self.now.before.items + length self.now.after.items ≤ 29)
-            × All (λ b. MayStand (state b)) self.now.before.items × All (λ b. MayStand (state b)) self.now.after.items) }
+            × All (λ b. MayStand (state b)) self.now.before.items
+            × All (λ b. MayStand (state b)) self.now.after.items) }
     {
         self.before.len() <= MOST_BOXED
             && self.after.len() <= MOST_BOXED - self.before.len()
@@ -44,12 +48,14 @@ impl<M: Medium> Rig<M> {
     }
 }
 
+/// Whether a device may stand beside the drive on a new ring.
 fn may_stand<D: Device>(device: &D) -> bool
     ensures { IsTrue result ↔ MayStand (D.state device.now) }
 {
     device.is_idle() && device.accessory() != Some(DRIVE_ID)
 }
 
+/// Whether each of them may.
 fn all_may_stand<D: Device>(devices: &[D]) -> bool
     ensures { IsTrue result ↔ All (λ d. MayStand (D.state d)) devices.now }
 {

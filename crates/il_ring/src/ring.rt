@@ -1,12 +1,13 @@
-ghost use Rattle.std.specs.Prelude.{◌≡◌, ◌≢◌, ◌+◌, ◌<◌, ◌≤◌, ◌++◌, ◌∷◌, [], map, length, Some, None, IsSome, IfSome, IfOk, IfErr, option_map};
-ghost use Rattle.il_frames.specs.Frames.{is_data};
+ghost use Rattle.std.specs.Prelude.{◌≡◌, ◌⊎◌, ◌+◌, ◌<◌, ◌≤◌, ◌++◌, [], map, length, None, IsSome, IfSome, IfOk, IfErr, option_map};
+ghost use Rattle.loop_model.specs.Entries.{nrd};
 ghost use Rattle.il_drive.specs.State.{fresh_drive};
 ghost use Rattle.il_ring.specs.Plans.{IsPlan};
 ghost use Rattle.il_ring.specs.Flights.{sourced};
-ghost use Rattle.il_ring.specs.Rings.{RingView, Round, drive_party, spare_of, fresh_books, paper_of};
+ghost use Rattle.il_ring.specs.Rings.{RingView, IsRing, Round, drive_party, spare_of, fresh_books, paper_of};
 
 use crate::books::Books;
 use crate::flight::Flight;
+use crate::paper::paper_in;
 use crate::plan::{Arrival, Planned};
 use crate::rig::{Refused, Rig};
 use crate::walk::{pass_drive, walk_past};
@@ -29,7 +30,8 @@ pub(crate) struct Boxes {
     ghost few: { length before.items + length after.items ≤ 29 },
 }
 
-/// The simulated loop.
+/// The simulated loop: the host, the drive over its medium, the devices beside it, the plan and the
+/// log. It takes memory in `new` alone.
 #[derive(Drop)]
 pub struct Ring<M: Medium> {
     boxes: Boxes,
@@ -50,8 +52,11 @@ impl<M: Medium> Seen<M> for Ring<M> {
 }
 
 impl<M: Medium> Ring<M> {
-    /// A ring of these devices, with room for `room` entries in its log: all memory that a ring needs is taken here. The
-    /// error is want of memory, and hands the rig back.
+    /// A ring of these devices, with room for `room` entries in its log. The drive is new; the
+    /// others are as they come, and nothing has come to them where `Rig::fits` says so. A tape is
+    /// in, at most 29 devices stand beside the drive, and `is_plan` holds of the plan.
+    ///
+    /// The only error is want of memory, and it hands the rig back.
     pub fn new(
         alloc: Global,
         rig: Rig<M>,
@@ -65,6 +70,7 @@ impl<M: Medium> Ring<M> {
         ensures drive { IfOk result (λ ring. (⟦<Ring<M> as Seen<M>>⟧.seen ring).drive ≡ record { state = fresh_drive; medium = rig.medium }) }
         ensures before { IfOk result (λ ring. (⟦<Ring<M> as Seen<M>>⟧.seen ring).before ≡ map (λ b. state b) rig.before.items) }
         ensures after { IfOk result (λ ring. (⟦<Ring<M> as Seen<M>>⟧.seen ring).after ≡ map (λ b. state b) rig.after.items) }
+        ensures ring { IfOk result (λ ring. IsRing (⟦<Ring<M> as Seen<M>>⟧.seen ring)) }
         ensures refused { IfErr result (λ refused. refused.rig ≡ rig) }
     {
         match Books::new(alloc, plan, room) {
@@ -84,7 +90,8 @@ impl<M: Medium> Ring<M> {
         }
     }
 
-    /// The frame of a device that is held at the host.
+    /// The data or end frame of a device that is held at the host, as it came. `None` where none
+    /// is.
     pub fn held(&self) -> Option<Frame>
         ensures { result ≡ option_map (λ f. f.now) (⟦<Ring<M> as Seen<M>>⟧.seen self.now).books.held }
     {
@@ -105,28 +112,29 @@ impl<M: Medium> Ring<M> {
         self.books.log()
     }
 
-    /// Empties the log.
+    /// Empties the log. The count of crossings and the held frame stay.
     pub fn clear_log(&mut self)
         ensures { ⟦<Ring<M> as Seen<M>>⟧.seen self.new ≡ record (⟦<Ring<M> as Seen<M>>⟧.seen self.old) { books = record (⟦<Ring<M> as Seen<M>>⟧.seen self.old).books { log = [] } } }
     {
         self.books.clear_log();
     }
 
-    /// How many crossings of links there were since the ring was made. The count stays at its greatest value.
+    /// How many crossings of links there were since the ring was made. The count stays at its
+    /// greatest value, and no fault acts at the crossings behind it.
     pub fn crossings(&self) -> u64
         ensures { result ≡ (⟦<Ring<M> as Seen<M>>⟧.seen self.now).books.crossings }
     {
         self.books.crossings()
     }
 
-    /// The medium of the drive.
+    /// The medium of the drive, whose tape stays in.
     pub fn medium(&self) -> &M
         ensures { result.now ≡ (⟦<Ring<M> as Seen<M>>⟧.seen self.now).drive.medium }
     {
         self.drive.medium()
     }
 
-    /// The drive's party, 1 to 30.
+    /// The drive's party, 1 to 30: its place among the devices, counted from the host's output.
     pub fn party(&self) -> u8
         ensures party { result ≡ drive_party (⟦<Ring<M> as Seen<M>>⟧.seen self.now) }
         ensures range { result ≤ 30 }
@@ -134,7 +142,16 @@ impl<M: Medium> Ring<M> {
         self.boxes.before.len() as u8 + 1
     }
 
-    /// The devices and the medium, as the ring leaves them.
+    /// The paper of the first printer, counted from the host's output: the first bytes that it
+    /// heard, as far as it keeps them, and how many it heard, a count that stays at its greatest
+    /// value. `None` where no device has the accessory ID 32 of a printer.
+    pub fn paper(&self) -> Option<(&[u8], u64)>
+        ensures { option_map (λ p. (p.0.now, p.1)) result ≡ paper_of ((⟦<Ring<M> as Seen<M>>⟧.seen self.now).before ++ (⟦<Ring<M> as Seen<M>>⟧.seen self.now).after) }
+    {
+        paper_in(&self.boxes.before).or(paper_in(&self.boxes.after))
+    }
+
+    /// The devices and the medium as the ring leaves them, in their order.
     pub fn into_rig(self) -> Rig<M>
         ensures medium { result.medium ≡ (⟦<Ring<M> as Seen<M>>⟧.seen self).drive.medium }
         ensures before { map (λ b. state b) result.before.items ≡ (⟦<Ring<M> as Seen<M>>⟧.seen self).before }
@@ -148,25 +165,32 @@ impl<M: Medium> Ring<M> {
         }
     }
 
-    /// The host sends a frame, which goes round the loop. What arrives at the host: the frame as it came back; or one that
-    /// a device sent in its place, which is held where it is a data or end frame; or nothing, where a planned fault lost
-    /// the frame that was on its way.
+    /// The host sends a frame, which goes round the loop. What arrives at the host: the frame as it
+    /// came back; or one that a device sent in its place, which is held where it is a data or end
+    /// frame; or `Lost`, exactly where a planned fault lost the frame that was on its way. What was
+    /// held before is held on where the frame came back, and else dropped.
+    ///
+    /// The log has room for 32 more entries, and no frame is held, or the frame is NRD, which goes
+    /// ahead of the held one.
     pub fn send(&mut self, frame: Frame) -> Arrival
         requires room { 32 ≤ spare_of (⟦<Ring<M> as Seen<M>>⟧.seen self.old) }
+        requires free { ((⟦<Ring<M> as Seen<M>>⟧.seen self.old).books.held ≡ None) ⊎ (frame ≡ nrd) }
         ensures round { Round M.view (⟦<Ring<M> as Seen<M>>⟧.seen self.old) (⟦<Ring<M> as Seen<M>>⟧.seen self.old).books.held (sourced 0 frame) result (⟦<Ring<M> as Seen<M>>⟧.seen self.new) }
     {
         self.round(Flight::sourced(0, frame))
     }
 
-    /// The held frame goes on from the host. What arrives at the host then: what its source sent behind it, or nothing,
+    /// The held frame goes on from the host to its source. What arrives at the host: what the
+    /// source sent behind it, which is held where it is a data or end frame, or `Lost`, exactly
     /// where a planned fault lost the frame that was on its way.
+    ///
+    /// A frame is held, and the log has room for 32 more entries.
     pub fn relay(&mut self) -> Arrival
         requires held { IsSome (⟦<Ring<M> as Seen<M>>⟧.seen self.old).books.held }
         requires room { 32 ≤ spare_of (⟦<Ring<M> as Seen<M>>⟧.seen self.old) }
-        ensures { IfSome (⟦<Ring<M> as Seen<M>>⟧.seen self.old).books.held (λ f. Round M.view (⟦<Ring<M> as Seen<M>>⟧.seen self.old) None f result (⟦<Ring<M> as Seen<M>>⟧.seen self.new)) }
+        ensures round { IfSome (⟦<Ring<M> as Seen<M>>⟧.seen self.old).books.held (λ f. Round M.view (⟦<Ring<M> as Seen<M>>⟧.seen self.old) None f result (⟦<Ring<M> as Seen<M>>⟧.seen self.new)) }
     {
-        let flight = self.books.held().unwrap();
-        self.books.release();
+        let flight = self.books.take_held().unwrap();
         self.round(flight)
     }
 
@@ -175,8 +199,8 @@ impl<M: Medium> Ring<M> {
         requires { 32 ≤ spare_of (⟦<Ring<M> as Seen<M>>⟧.seen self.old) }
         ensures { Round M.view (⟦<Ring<M> as Seen<M>>⟧.seen self.old) (⟦<Ring<M> as Seen<M>>⟧.seen self.old).books.held flight result (⟦<Ring<M> as Seen<M>>⟧.seen self.new) }
     {
+        let party = self.party();
         let on = walk_past(&mut self.boxes.before, 1, &mut self.books, Some(flight));
-        let party = self.boxes.before.len() as u8 + 1;
         let on = pass_drive(&mut self.drive, party, &mut self.books, on);
         let on = walk_past(&mut self.boxes.after, party + 1, &mut self.books, on);
         self.books.home(on)
