@@ -1,5 +1,5 @@
 -- Worked examples, computed by the checker.
-use Rattle.std.proofs.Common.{◌≡◌, ◌++◌, ℕ, List, [], ◌∷◌, refl, true, false, codes, replicate, lit≤, rules, Some, None}
+use Rattle.std.proofs.Common.{◌≡◌, ◌++◌, ℕ, List, [], ◌∷◌, refl, true, false, codes, replicate, lit≤, lit<, rules, Some, None}
 use Rattle.std.specs.Prelude.{option_map}
 use Rattle.lif_model.specs.Numbers.{two_at, four_at}
 use Rattle.lif_model.specs.Directory.{name_of, date_of, implementation_of}
@@ -99,4 +99,4 @@ entries : (is_entry (Live redo) ≡ true) × (is_entry (Purged junk) ≡ true) �
 entries = (refl, refl, refl)
 
 one_of_two : IsInRoom 1 2 2 (Live redo ∷ [])
-one_of_two = record { within = lit≤ tt; reserved = lit≤ tt; entries = search rules }
+one_of_two = record { within = lit≤ tt; reserved = lit≤ tt; small = lit< tt; entries = search rules }

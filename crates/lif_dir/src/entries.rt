@@ -1,5 +1,6 @@
-ghost use Rattle.std.specs.Prelude.{◌≡◌, ◌≢◌, ◌≤◌, ◌+◌, ◌++◌, ◌↔◌, false, length, take, IsSome, IfSome};
-ghost use Rattle.lif_model.specs.Directory.{is_end};
+ghost use Rattle.std.specs.Prelude.{◌≡◌, ◌≢◌, ◌<◌, ◌≤◌, ◌+◌, ◌^◌, ◌++◌, ◌&&◌, ◌↔◌, nat_lt, false, length, take, IsSome, IfSome};
+ghost use Rattle.lif_model.specs.Directory.{is_end, start_of};
+ghost use Rattle.lif_model.specs.Legal.{is_live, is_live_named, has_records, end_of};
 ghost use Rattle.lif_dir.specs.Entries.{spaced, name_bytes, entry_bytes, entry_from, slot_of, slot_from, slot_bytes};
 
 use lif_header::{bytes_at, four_at, two_at};
@@ -112,6 +113,43 @@ impl FileEntry {
         put(&mut bytes, 26, &self.volume.to_be_bytes());
         put(&mut bytes, 28, &self.implementation);
         bytes
+    }
+
+    /// Whether the file is live: it has any type but 0.
+    pub fn is_live(self) -> bool
+        ensures { result ≡ is_live (entry_bytes self) }
+    {
+        self.kind != PURGED
+    }
+
+    /// Whether the file is live and has this name, with its spaces.
+    pub fn is_live_named(self, name: &[u8; 10]) -> bool
+        ensures { result ≡ is_live_named name.now (entry_bytes self) }
+    {
+        self.is_live() && self.name.bytes == *name
+    }
+
+    /// Whether the file has records.
+    pub fn has_records(self) -> bool
+        ensures { result ≡ has_records (entry_bytes self) }
+    {
+        self.length > 0
+    }
+
+    /// The first record behind the file. A purged file may tell of more records than any medium
+    /// has: nothing is lost of the sum.
+    pub fn end(self) -> u64
+        ensures end { result ≡ end_of (entry_bytes self) }
+        ensures bound { result < 2 ^ 33 }
+    {
+        u64::from(self.start) + u64::from(self.length)
+    }
+
+    /// Whether the file has records, and the first of them lies below `limit`.
+    pub fn begins_below(self, limit: u64) -> bool
+        ensures { result ≡ (has_records (entry_bytes self) && nat_lt (start_of (entry_bytes self)) limit) }
+    {
+        self.length > 0 && u64::from(self.start) < limit
     }
 }
 

@@ -1,6 +1,6 @@
-ghost use Rattle.std.specs.Prelude.{◌≡◌, ◌==◌, ◌<◌, ◌≤◌, ◌^◌, Some, true, [], ◌∷◌, ◌++◌, length, slice_get, slice_set, IfOk};
+ghost use Rattle.std.specs.Prelude.{◌≡◌, ◌==◌, ◌<◌, ◌≤◌, ◌^◌, Some, true, [], ◌∷◌, ◌++◌, length, map, slice_get, slice_index_or, slice_set, IfOk};
 
-use crate::entries::Slot;
+use crate::entries::{FileEntry, Slot};
 use std::alloc::{AllocError, Global};
 use std::marker::Model;
 
@@ -23,7 +23,7 @@ impl Model for SlotTable {
 }
 
 impl SlotTable {
-    ghost use Rattle.lif_dir.specs.Entries.{is_entry};
+    ghost use Rattle.lif_dir.specs.Entries.{is_entry, entry_bytes, slot_bytes};
 
     /// An empty table with room for this many slots.
     pub fn new(alloc: Global, room: usize) -> Result<SlotTable, AllocError>
@@ -40,6 +40,7 @@ impl SlotTable {
     pub fn len(&self) -> usize
         ensures count { result ≡ length self.now.slots }
         ensures within { result ≤ self.now.room }
+        ensures bound { result < 2 ^ 32 }
     {
         self.slots.len()
     }
@@ -65,6 +66,17 @@ impl SlotTable {
         ensures entry { is_entry result.now ≡ true }
     {
         &self.slots[k]
+    }
+
+    /// The entry of slot `k`, live or purged.
+    pub fn entry(&self, k: usize) -> &FileEntry
+        requires { k < length self.now.slots }
+        ensures { entry_bytes result.now ≡ slice_index_or (map slot_bytes self.now.slots) k [] }
+    {
+        match &self.slots[k] {
+            Slot::Live(entry) | Slot::Purged(entry) => entry,
+            Slot::End => unreachable!(),
+        }
     }
 
     /// Empties the table.
