@@ -1,4 +1,6 @@
 mod Bytes
 mod Spaces
 mod Slots
+mod Indexing
+mod Searching
 mod Examples

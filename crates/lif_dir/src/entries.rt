@@ -1,9 +1,12 @@
 ghost use Rattle.std.specs.Prelude.{◌≡◌, ◌≢◌, ◌<◌, ◌≤◌, ◌+◌, ◌^◌, ◌++◌, ◌&&◌, ◌↔◌, nat_lt, false, length, take, IsSome, IfSome};
-ghost use Rattle.lif_model.specs.Directory.{is_end, start_of};
+ghost use Rattle.std.specs.Ordering.{nat_cmp};
+ghost use Rattle.std.specs.Cmp.Lexicographic.{slice_cmp};
+ghost use Rattle.lif_model.specs.Directory.{is_end, name_of, start_of};
 ghost use Rattle.lif_model.specs.Legal.{is_live, is_live_named, has_records, end_of};
 ghost use Rattle.lif_dir.specs.Entries.{spaced, name_bytes, entry_bytes, entry_from, slot_of, slot_from, slot_bytes};
 
 use lif_header::{bytes_at, four_at, two_at};
+use std::cmp::Ordering;
 
 /// The type of an entry that ends its directory.
 const END: u16 = 0xFFFF;
@@ -70,6 +73,13 @@ impl Name {
     {
         self.bytes
     }
+
+    /// Which of two names stands first, byte by byte.
+    pub fn order(&self, other: &Name) -> Ordering
+        ensures { result ≡ slice_cmp nat_cmp (name_bytes self.now) (name_bytes other.now) }
+    {
+        self.bytes.cmp(&other.bytes)
+    }
 }
 
 /// Writes `part` into an entry, from place `at` on.
@@ -113,6 +123,13 @@ impl FileEntry {
         put(&mut bytes, 26, &self.volume.to_be_bytes());
         put(&mut bytes, 28, &self.implementation);
         bytes
+    }
+
+    /// The name, as its bytes tell it.
+    pub fn name(self) -> Name
+        ensures { name_bytes result ≡ name_of (entry_bytes self) }
+    {
+        self.name
     }
 
     /// Whether the file is live: it has any type but 0.
@@ -165,6 +182,16 @@ impl Slot {
             END => Slot::End,
             PURGED => Slot::Purged(entry),
             _ => Slot::Live(entry),
+        }
+    }
+
+    /// Whether the slot is that of a live file: one of any type but 0.
+    pub fn is_live(&self) -> bool
+        ensures { result ≡ is_live (slot_bytes self.now) }
+    {
+        match self {
+            Slot::Live(entry) | Slot::Purged(entry) => entry.is_live(),
+            Slot::End => false,
         }
     }
 }

@@ -2,13 +2,16 @@
 #![tactic(auto)]
 
 mod entries;
+mod index;
 mod names;
 mod reading;
+mod steps;
 mod table;
 
 pub use entries::{FileEntry, Name, Slot};
 pub use names::{NewLabel, NewName, without_end_spaces};
 pub use reading::slots_of;
+pub use steps::Steps;
 pub use table::SlotTable;
 
 #[cfg(test)]
