@@ -1,5 +1,5 @@
 -- The index of live names as slots change.
-use Rattle.std.proofs.Common.{◌≡◌, ◌≢◌, ◌⊎◌, ◌<◌, ◌≤◌, ◌+◌, ◌-◌, ◌++◌, ℕ, zero, suc, min, Bool, true, false, not, List, [], ◌∷◌, if◌then◌else◌, length, get_or, set, filter, inl, inr, refl, sym, ◌∙◌, ap, subst, arith, length-set, get_or-set_other, get_or-set_same}
+use Rattle.std.proofs.Common.{◌≡◌, ◌≢◌, ◌⊎◌, ◌<◌, ◌≤◌, ◌+◌, ◌-◌, ◌++◌, ℕ, zero, suc, min, Bool, true, false, List, [], ◌∷◌, if◌then◌else◌, length, get_or, set, filter, inl, inr, refl, sym, ◌∙◌, ap, subst, arith, get_or-set_other, get_or-set_same}
 use Rattle.std.specs.List.{insert, remove}
 use Rattle.std.proofs.lemmas.Bool.{cases_eq, cases_lt, cases_Bool}
 use Rattle.std.specs.Ordering.{nat_cmp, is_gt}
@@ -187,7 +187,7 @@ push_same slots slot i ne = elim (cases_lt i (length slots)) [
   | inr ge ↦ get_or_past (slots ++ slot ∷ []) i [] (omega (arith, length_push slots slot)) ∙ sym (get_or_past slots i [] ge)
 ]
 
-abbrev one_if : Bool → ℕ
+abbrev pub one_if : Bool → ℕ
 one_if b = if b then 1 else 0
 
 -- how many slots are live, with another one at place k

@@ -3,4 +3,5 @@ mod Spaces
 mod Slots
 mod Indexing
 mod Searching
+mod TableLemmas
 mod Examples

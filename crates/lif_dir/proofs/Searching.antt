@@ -1,5 +1,5 @@
 -- What a search of an index tells.
-use Rattle.std.proofs.Common.{◌≡◌, ◌≢◌, ◌⊎◌, ◌<◌, ◌≤◌, ◌+◌, ◌-◌, ◌*◌, ◌^◌, ℕ, zero, suc, Bool, true, false, List, [], length, get_or, inl, inr, refl, sym, ◌∙◌, ap, subst, arith}
+use Rattle.std.proofs.Common.{◌≡◌, ◌≢◌, ◌⊎◌, ◌<◌, ◌≤◌, ◌+◌, ◌*◌, ◌^◌, ℕ, true, false, List, [], length, get_or, inl, inr, refl, sym, ◌∙◌, ap, subst, arith}
 use Rattle.std.specs.Ordering.{nat_cmp, is_gt, is_eq, ordering_reverse}
 use Rattle.std.specs.Cmp.Lexicographic.{slice_cmp}
 use Rattle.std.specs.declared.cmp.Ordering.{Ordering}
@@ -104,7 +104,7 @@ halves t m rest n left some half =
 
 -- ---- from an index
 
-live_within : (slots : List (List ℕ)) (i : ℕ) → is_live_at slots i ≡ true → i < length slots
+pub live_within : (slots : List (List ℕ)) (i : ℕ) → is_live_at slots i ≡ true → i < length slots
 live_within slots i on = elim (cases_lt i (length slots)) [
   | inl lt ↦ lt
   | inr ge ↦ let both : true ≡ false = sym on ∙ ap is_live (get_or_past slots i [] ge) ∙ no_slot in cc

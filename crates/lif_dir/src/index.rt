@@ -108,8 +108,8 @@ impl NameIndex {
         requires entries { All (λ slot. is_entry slot ≡ true) slots.now }
         requires sorted { AreSorted (map slot_bytes slots.now) self.now.places.items }
         ensures place { MatchOption result
-            ((j : ℕ) → j < vec_len self.now.places → name_at (map slot_bytes slots.now) (slice_index self.now.places.items j) ≢ name_bytes name.now)
-            (λ place. (j : ℕ) × (j < vec_len self.now.places) × (slice_index self.now.places.items j ≡ place) × (name_at (map slot_bytes slots.now) place ≡ name_bytes name.now)) }
+            ((j : ℕ) → j < length self.now.places.items → name_at (map slot_bytes slots.now) (slice_index self.now.places.items j) ≢ name_bytes name.now)
+            (λ place. (j : ℕ) × (j < length self.now.places.items) × (slice_index self.now.places.items j ≡ place) × (name_at (map slot_bytes slots.now) place ≡ name_bytes name.now)) }
         ensures grows { steps.old ≤ steps.new }
         ensures few { 2 ^ (steps.new - steps.old) ≤ 2 * vec_len self.now.places + 1 }
     {
@@ -131,9 +131,9 @@ impl NameIndex {
     pub fn is_distinct(&self, slots: &[Slot]) -> bool
         requires entries { All (λ slot. is_entry slot ≡ true) slots.now }
         requires sorted { AreSorted (map slot_bytes slots.now) self.now.places.items }
-        ensures apart { result ≡ true → (j k : ℕ) → j < k → k < vec_len self.now.places
+        ensures apart { result ≡ true → (j k : ℕ) → j < k → k < length self.now.places.items
             → name_at (map slot_bytes slots.now) (slice_index self.now.places.items j) ≢ name_at (map slot_bytes slots.now) (slice_index self.now.places.items k) }
-        ensures twins { result ≡ false → (j : ℕ) × (j + 1 < vec_len self.now.places)
+        ensures twins { result ≡ false → (j : ℕ) × (j + 1 < length self.now.places.items)
             × (name_at (map slot_bytes slots.now) (slice_index self.now.places.items j) ≡ name_at (map slot_bytes slots.now) (slice_index self.now.places.items (j + 1))) }
     {
         for j in 1..self.places.len() {

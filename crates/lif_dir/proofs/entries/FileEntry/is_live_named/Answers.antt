@@ -1,7 +1,5 @@
 use Rattle.std.proofs.Common.{◌&&◌, ◌∙◌, rules, sym}
 use Rattle.std.specs.Str.{bytes_eq}
-use Rattle.lif_model.specs.Legal.{is_live}
-use Rattle.lif_dir.specs.Entries.{entry_bytes}
 use Rattle.lif_dir.proofs.Bytes.{name_back}
 use Rattle.lif_dir.proofs.entries.FileEntry.is_live_named.Goals as goal
 

@@ -1,10 +1,10 @@
-use Rattle.std.proofs.Common.{◌≡◌, ◌<◌, ◌≤◌, ◌∙◌, ◌+◌, [], List, ℕ, true, false, length, map, get_or, set, filter, if◌then◌else◌, is_ok, vec_len, vec_capacity, sym, ap, subst, arith}
+use Rattle.std.proofs.Common.{◌≡◌, ◌<◌, ◌∙◌, ◌+◌, [], List, ℕ, true, false, length, map, get_or, set, if◌then◌else◌, is_ok, vec_len, vec_capacity, sym, ap, subst, arith}
 use Rattle.std.specs.List.{insert}
 use Rattle.std.proofs.lemmas.List.{length-map, get_or-map}
 use Rattle.lif_model.specs.Legal.{is_live}
-use Rattle.lif_dir.specs.Entries.{slot_bytes, name_bytes}
+use Rattle.lif_dir.specs.Entries.{slot_bytes}
 use Rattle.lif_dir.specs.Indexes.{is_live_at, name_at, IsUpTo, IsIndex}
-use Rattle.lif_dir.proofs.Indexing.{SameElse, set_same, same_back, out_dead, inserted, unchanged, count_live, count_dead, count_within}
+use Rattle.lif_dir.proofs.Indexing.{set_same, same_back, out_dead, inserted, unchanged, count_live, count_dead, count_within}
 use Rattle.lif_dir.proofs.Searching.{sorted_else}
 use Rattle.lif_dir.proofs.index.NameIndex.put_in.Goals as goal
 
