@@ -38,7 +38,8 @@ pub enum Choice {
 /// records of a purged file count too. The first slot with room is taken. The redo entry is the
 /// first live slot named `REDOFILE`; it counts as behind its own slot.
 pub fn choose(slots: &SlotTable, directory_end: u32, capacity: u32, count: u32, size: u16) -> Choice
-    ensures { place_of result ≡ fit size directory_end capacity (map slot_bytes slots.now.slots) count }
+    ensures { place_of result
+        ≡ fit size directory_end capacity (map slot_bytes slots.now.slots) count }
 {
     let gate = u64::from(size.saturating_sub(GATE));
     let count = u64::from(count);
@@ -85,7 +86,7 @@ fn redo_place(slots: &SlotTable) -> usize
     slots.len()
 }
 
-// Whether the redo entry, in slot `redo`, is the last slot, and the directory has room for one more.
+// Whether the redo entry, in slot `redo`, is the last slot and the directory has room for one more.
 fn can_append(slots: &SlotTable, redo: usize, capacity: u32) -> bool
     requires redo { redo ≡ redo_place (map slot_bytes slots.now.slots) }
     requires bound { redo < 2 ^ 32 }
@@ -106,7 +107,8 @@ fn refusal(seen: bool) -> Choice
 // records from slot `from` on.
 fn is_free(slots: &SlotTable, from: usize, end: u64, gate: u64) -> bool
     requires { from ≤ length slots.now.slots }
-    ensures { result ≡ nat_le end (least_start gate (drop from (map slot_bytes slots.now.slots))) }
+    ensures {
+        result ≡ nat_le end (least_start gate (drop from (map slot_bytes slots.now.slots))) }
 {
     if end > gate {
         return false;
@@ -121,7 +123,8 @@ fn is_free(slots: &SlotTable, from: usize, end: u64, gate: u64) -> bool
 
 // The greater of `low` and the end of the file, if it has records.
 fn raised(low: u64, entry: FileEntry) -> u64
-    ensures value { result ≡ (if has_records (entry_bytes entry) then max low (end_of (entry_bytes entry)) else low) }
+    ensures value { result ≡ (if has_records (entry_bytes entry)
+        then max low (end_of (entry_bytes entry)) else low) }
     ensures bound { low < 2 ^ 33 → result < 2 ^ 33 }
 {
     if entry.has_records() {

@@ -134,7 +134,7 @@ module _ (slots : List (List ℕ)) (places : List ℕ) (index : IsIndex slots pl
       → found ≡ position (is_live_named name) slots
   place_is name None distinct none =
       let nowhere : position_or_len (is_live_named name) slots ≡ length slots =
-          position_or_len_is (is_live_named name) slots (length slots) [] (omega arith) (λ i lt. not_named i (cases_Bool (is_live_named name (get_or slots i [])))) (λ lt. absurd (omega (arith, lt))) in
+      position_or_len_is (is_live_named name) slots (length slots) [] (omega arith) (λ i lt. not_named i (cases_Bool (is_live_named name (get_or slots i [])))) (λ lt. absurd (omega (arith, lt))) in
       sym (chosen (length slots) (position_or_len (is_live_named name) slots) false (le-ltb _ _ (omega (arith, nowhere))))
     where
       not_named : (i : ℕ) → (is_live_named name (get_or slots i []) ≡ true) ⊎ (is_live_named name (get_or slots i []) ≡ false) → is_live_named name (get_or slots i []) ≡ false
@@ -147,7 +147,7 @@ module _ (slots : List (List ℕ)) (places : List ℕ) (index : IsIndex slots pl
       let live : is_live_at slots place ≡ true = sym (ap (is_live_at slots) is) ∙ index.live j lt in
       let here : is_live_named name (get_or slots place []) ≡ true = and_from _ _ live ((bytes_eq-Decides (name_at slots place) name).1 same) in
       let first : position_or_len (is_live_named name) slots ≡ place =
-          position_or_len_is (is_live_named name) slots place [] (omega (arith, live_within slots place live)) (λ i less. not_named live i less (cases_Bool (is_live_named name (get_or slots i [])))) (λ within. here) in
+      position_or_len_is (is_live_named name) slots place [] (omega (arith, live_within slots place live)) (λ i less. not_named live i less (cases_Bool (is_live_named name (get_or slots i [])))) (λ within. here) in
       sym (chosen (length slots) (position_or_len (is_live_named name) slots) true (lt-ltb _ _ (omega (arith, first, live_within slots place live))) ∙ ap Some first)
     where
       not_named : is_live_at slots place ≡ true → (i : ℕ) → i < place → (is_live_named name (get_or slots i []) ≡ true) ⊎ (is_live_named name (get_or slots i []) ≡ false) → is_live_named name (get_or slots i []) ≡ false

@@ -164,7 +164,8 @@ impl FileEntry {
 
     /// Whether the file has records, and the first of them lies below `limit`.
     pub fn begins_below(self, limit: u64) -> bool
-        ensures { result ≡ (has_records (entry_bytes self) && nat_lt (start_of (entry_bytes self)) limit) }
+        ensures { result
+            ≡ (has_records (entry_bytes self) && nat_lt (start_of (entry_bytes self)) limit) }
     {
         self.length > 0 && u64::from(self.start) < limit
     }

@@ -3,7 +3,7 @@ ghost use Rattle.std.specs.Ordering.{nat_cmp};
 ghost use Rattle.std.specs.Cmp.Lexicographic.{slice_cmp};
 ghost use Rattle.lif_model.specs.Legal.{is_live};
 ghost use Rattle.lif_dir.specs.Entries.{is_entry, name_bytes, slot_bytes};
-ghost use Rattle.lif_dir.specs.Indexes.{name_at, IsUpTo, AreSorted, IsIndex};
+ghost use Rattle.lif_dir.specs.Indexes.{name_at, name_in, IsUpTo, AreSorted, IsIndex};
 
 use crate::entries::{Name, Slot};
 use crate::steps::Steps;
@@ -40,9 +40,11 @@ impl NameIndex {
     pub fn take_out(&mut self, slots: &[Slot], k: usize)
         requires within { k < length slots.now }
         requires index { IsIndex (map slot_bytes slots.now) self.old.places.items }
-        requires count { vec_len self.old.places ≡ length (filter is_live (map slot_bytes slots.now)) }
+        requires count { vec_len self.old.places
+            ≡ length (filter is_live (map slot_bytes slots.now)) }
         ensures index { IsIndex (slice_set (map slot_bytes slots.now) k []) self.new.places.items }
-        ensures count { vec_len self.new.places ≡ length (filter is_live (slice_set (map slot_bytes slots.now) k [])) }
+        ensures count { vec_len self.new.places
+            ≡ length (filter is_live (slice_set (map slot_bytes slots.now) k [])) }
         ensures capacity { vec_capacity self.new.places ≡ vec_capacity self.old.places }
     {
         if let Some(at) = self.position(k) {
@@ -70,10 +72,12 @@ impl NameIndex {
         requires small { k < 2 ^ 32 }
         requires entries { All (λ slot. is_entry slot ≡ true) slots.now }
         requires index { IsIndex (slice_set (map slot_bytes slots.now) k []) self.old.places.items }
-        requires count { vec_len self.old.places ≡ length (filter is_live (slice_set (map slot_bytes slots.now) k [])) }
+        requires count { vec_len self.old.places
+            ≡ length (filter is_live (slice_set (map slot_bytes slots.now) k [])) }
         requires room { length slots.now ≤ vec_capacity self.old.places }
         ensures index { IsIndex (map slot_bytes slots.now) self.new.places.items }
-        ensures count { vec_len self.new.places ≡ length (filter is_live (map slot_bytes slots.now)) }
+        ensures count { vec_len self.new.places
+            ≡ length (filter is_live (map slot_bytes slots.now)) }
         ensures capacity { vec_capacity self.old.places ≤ vec_capacity self.new.places }
     {
         if slots[k].is_live() {
@@ -87,14 +91,21 @@ impl NameIndex {
         requires entries { All (λ slot. is_entry slot ≡ true) slots.now }
         requires sorted { AreSorted (map slot_bytes slots.now) self.now.places.items }
         ensures within { result ≤ vec_len self.now.places }
-        ensures below { (j : ℕ) → j < result → IsUpTo (name_at (map slot_bytes slots.now) (slice_index self.now.places.items j)) (name_bytes name.now) }
-        ensures above { (j : ℕ) → result ≤ j → j < vec_len self.now.places → IsUpTo (name_bytes name.now) (name_at (map slot_bytes slots.now) (slice_index self.now.places.items j)) }
+        ensures below { (j : ℕ) → j < result
+            → IsUpTo (name_in (map slot_bytes slots.now) self.now.places.items j)
+            (name_bytes name.now) }
+        ensures above { (j : ℕ) → result ≤ j → j < vec_len self.now.places
+            → IsUpTo (name_bytes name.now)
+            (name_in (map slot_bytes slots.now) self.now.places.items j) }
     {
         let mut low = 0;
         let mut high = self.places.len();
         while low < high {
             let middle = low + (high - low) / 2;
-            if name_of(slots, self.places[middle] as usize).order(name).is_gt() {
+            if name_of(slots, self.places[middle] as usize)
+                .order(name)
+                .is_gt()
+            {
                 high = middle;
             } else {
                 low = middle + 1;
@@ -108,8 +119,11 @@ impl NameIndex {
         requires entries { All (λ slot. is_entry slot ≡ true) slots.now }
         requires sorted { AreSorted (map slot_bytes slots.now) self.now.places.items }
         ensures place { MatchOption result
-            ((j : ℕ) → j < length self.now.places.items → name_at (map slot_bytes slots.now) (slice_index self.now.places.items j) ≢ name_bytes name.now)
-            (λ place. (j : ℕ) × (j < length self.now.places.items) × (slice_index self.now.places.items j ≡ place) × (name_at (map slot_bytes slots.now) place ≡ name_bytes name.now)) }
+            ((j : ℕ) → j < length self.now.places.items
+            → name_in (map slot_bytes slots.now) self.now.places.items j ≢ name_bytes name.now)
+            (λ place. (j : ℕ) × (j < length self.now.places.items)
+            × (slice_index self.now.places.items j ≡ place)
+            × (name_at (map slot_bytes slots.now) place ≡ name_bytes name.now)) }
         ensures grows { steps.old ≤ steps.new }
         ensures few { 2 ^ (steps.new - steps.old) ≤ 2 * vec_len self.now.places + 1 }
     {
@@ -132,9 +146,11 @@ impl NameIndex {
         requires entries { All (λ slot. is_entry slot ≡ true) slots.now }
         requires sorted { AreSorted (map slot_bytes slots.now) self.now.places.items }
         ensures apart { result ≡ true → (j k : ℕ) → j < k → k < length self.now.places.items
-            → name_at (map slot_bytes slots.now) (slice_index self.now.places.items j) ≢ name_at (map slot_bytes slots.now) (slice_index self.now.places.items k) }
+            → name_in (map slot_bytes slots.now) self.now.places.items j
+            ≢ name_in (map slot_bytes slots.now) self.now.places.items k }
         ensures twins { result ≡ false → (j : ℕ) × (j + 1 < length self.now.places.items)
-            × (name_at (map slot_bytes slots.now) (slice_index self.now.places.items j) ≡ name_at (map slot_bytes slots.now) (slice_index self.now.places.items (j + 1))) }
+            × (name_in (map slot_bytes slots.now) self.now.places.items j
+            ≡ name_in (map slot_bytes slots.now) self.now.places.items (j + 1)) }
     {
         for j in 1..self.places.len() {
             let before = name_of(slots, self.places[j - 1] as usize);

@@ -15,4 +15,6 @@ pub use steps::Steps;
 pub use table::SlotTable;
 
 #[cfg(test)]
+mod index_tests;
+#[cfg(test)]
 mod tests;

@@ -27,8 +27,10 @@ impl Model for SlotTable {
 
     ghost view = { λ table. record { slots = table.slots.items; room = table.room } };
 
-    ghost invariant = { λ table. IsInRoom (vec_len table.slots) table.room (vec_capacity table.slots) table.slots.items
-        × IsIndexed (vec_len table.index.places) table.room (vec_capacity table.index.places) table.slots.items table.index.places.items };
+    ghost invariant = { λ table.
+        IsInRoom (vec_len table.slots) table.room (vec_capacity table.slots) table.slots.items
+        × IsIndexed (vec_len table.index.places) table.room (vec_capacity table.index.places)
+        table.slots.items table.index.places.items };
 }
 
 impl SlotTable {
@@ -118,12 +120,14 @@ impl SlotTable {
         self.index.put_in(&self.slots, k);
     }
 
-    /// Puts a slot before the last one, which moves on by one place.
+    /// Puts a slot before the last one, which moves on by one place: so a file takes the slot of the
+    /// redo entry.
     pub fn insert_before_last(&mut self, slot: Slot)
         requires entry { is_entry slot ≡ true }
         requires some { 0 < length self.old.slots }
         requires room { length self.old.slots < self.old.room }
-        ensures { self.new ≡ record self.old { slots = insert self.old.slots (length self.old.slots - 1) slot } }
+        ensures { self.new
+            ≡ record self.old { slots = insert self.old.slots (length self.old.slots - 1) slot } }
     {
         let end = self.len() - 1;
         let last = *self.get(end);
@@ -131,21 +135,25 @@ impl SlotTable {
         self.push(last);
     }
 
-    /// Whether no two live slots have one name.
+    /// Whether no two live slots have one name, as the slots of a legal directory.
     pub fn distinct(&self) -> bool
-        ensures { result ≡ all_pairs have_other_names (filter is_live (map slot_bytes self.now.slots)) }
+        ensures { result
+            ≡ all_pairs have_other_names (filter is_live (map slot_bytes self.now.slots)) }
     {
         self.index.is_distinct(&self.slots)
     }
 
-    /// The place of the live slot of this name, where live slots have distinct names. A step is one
-    /// comparison of two names; a directory with n live slots takes at most b of them, where b is the
-    /// greatest number with 2^b at most 2 * n + 1.
+    /// The place of the live slot of this name, or `None` where no live slot has it. Live names are
+    /// distinct. A step is one comparison of two names; with n live slots there are at most b of
+    /// them, where b is the greatest number for which 2^b is at most 2n + 1.
     pub fn find<L: Ledger>(&self, name: &Name, steps: &mut Steps<L>) -> Option<u32>
-        requires distinct { all_pairs have_other_names (filter is_live (map slot_bytes self.now.slots)) ≡ true }
-        ensures place { result ≡ position (is_live_named (name_bytes name.now)) (map slot_bytes self.now.slots) }
+        requires distinct { all_pairs have_other_names (filter is_live (map slot_bytes self.now.slots))
+            ≡ true }
+        ensures place { result
+            ≡ position (is_live_named (name_bytes name.now)) (map slot_bytes self.now.slots) }
         ensures grows { steps.old ≤ steps.new }
-        ensures few { 2 ^ (steps.new - steps.old) ≤ 2 * length (filter is_live (map slot_bytes self.now.slots)) + 1 }
+        ensures few { 2 ^ (steps.new - steps.old)
+            ≤ 2 * length (filter is_live (map slot_bytes self.now.slots)) + 1 }
     {
         self.index.find(&self.slots, name, steps)
     }

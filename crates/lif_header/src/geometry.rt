@@ -19,7 +19,8 @@ impl Geometry {
     /// That of a medium of `size` records: an HP 9114 disc where they are 2,464, else an HP 82161A
     /// cassette.
     pub fn of(size: u16) -> Geometry
-        ensures { in_four result.tracks ++ (in_four result.surfaces ++ in_four result.records) ≡ geometry size }
+        ensures { in_four result.tracks ++ (in_four result.surfaces ++ in_four result.records)
+            ≡ geometry size }
     {
         match size {
             DISC_RECORDS => Geometry {

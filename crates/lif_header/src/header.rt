@@ -68,8 +68,9 @@ impl Header {
     ghost use Rattle.lif_header.specs.Reading.{IsFault, LiesWithin};
     ghost use Rattle.lif_header.specs.declared.header.HeaderFault.{HeaderFault};
 
-    /// Reads record 0 of a medium of `size` records, by the LIF volume header: the mark in bytes 0 and 1, the label
-    /// in bytes 2 to 7, the directory's first record in bytes 8 to 11 and its number of records in bytes 16 to 19.
+    /// Reads record 0 of a medium of `size` records, by the LIF volume header: the mark in bytes 0
+    /// and 1, the label in bytes 2 to 7, the directory's first record in bytes 8 to 11 and its number
+    /// of records in bytes 16 to 19.
     #[tactic(auto, unfolding(lif_model::specs::Header::label_of))]
     pub fn read(bytes: &[u8; 256], size: u16) -> Result<Header, HeaderFault>
         requires { 4 ≤ size }
@@ -190,7 +191,7 @@ mod tests {
 
     #[test]
     fn reads_a_header(rt: HostRuntime) -> Result<(), Fail> {
-        // The directory ends at record 4, so a medium of 8 records is the smallest that has room for it.
+        // The directory ends at record 4, so a medium of 8 records is the smallest that has room.
         for size in [8, 512, u16::MAX] {
             let header = Header::read(&record_with(0, b""), size)?;
             assert_eq!(rt; header.label().as_slice(), b"HPTAPE".as_slice());
@@ -207,7 +208,7 @@ mod tests {
 
     #[test]
     fn fresh_headers(rt: HostRuntime) -> Result<(), Fail> {
-        // The LIF format's header of a cassette, and the geometry of a disc: 77 tracks, 2 surfaces, 16 records.
+        // The LIF format's header of a cassette, and a disc's: 77 tracks, 2 surfaces, 16 records.
         assert_eq!(rt; Header::fresh(b"HPTAPE", 2, 512), record_with(0, b""));
         let disc = record_with(24, b"\x00\x00\x00\x4D\x00\x00\x00\x02\x00\x00\x00\x10");
         assert_eq!(rt; Header::fresh(b"HPTAPE", 2, 2464), disc);
