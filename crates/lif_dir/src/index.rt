@@ -127,8 +127,7 @@ impl NameIndex {
         ensures grows { steps.old ≤ steps.new }
         ensures few { 2 ^ (steps.new - steps.old) ≤ 2 * vec_len self.now.places + 1 }
     {
-        let mut low = 0;
-        let mut high = self.places.len();
+        let (mut low, mut high) = (0, self.places.len());
         while low < high {
             let middle = low + (high - low) / 2;
             let place = self.places[middle];
