@@ -53,7 +53,8 @@ pub enum Slot {
 impl Name {
     ghost use Rattle.lif_dir.specs.Names.{name_of_bytes};
 
-    /// The name of these bytes, filled up with spaces. `None` where there are no bytes or more than ten.
+    /// The name of these bytes, filled up with spaces. `None` where there are no bytes or more than
+    /// ten.
     pub fn of(bytes: &[u8]) -> Option<Name>
         ensures fits { IsSome result ↔ ((1 ≤ length bytes.now) × (length bytes.now ≤ 10)) }
         ensures name { IfSome result (λ name. name_bytes name ≡ spaced bytes.now) }
@@ -126,7 +127,7 @@ impl FileEntry {
     }
 
     /// The name, as its bytes tell it.
-    pub fn name(self) -> Name
+    pub(crate) fn name(self) -> Name
         ensures { name_bytes result ≡ name_of (entry_bytes self) }
     {
         self.name
@@ -172,8 +173,8 @@ impl FileEntry {
 }
 
 impl Slot {
-    /// What 32 bytes of a directory tell of: its end where the type is FFFF hex, a purged file where it is 0, and a
-    /// live one otherwise.
+    /// What 32 bytes of a directory tell of: its end where the type is FFFF hex, a purged file
+    /// where it is 0, and a live one otherwise.
     pub fn of(bytes: &[u8; 32]) -> Slot
         ensures slot { result ≡ slot_from bytes.now }
         ensures bytes { is_end bytes.now ≡ false → slot_bytes result ≡ bytes.now }

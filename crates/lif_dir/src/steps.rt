@@ -3,8 +3,8 @@ ghost use Rattle.std.specs.Prelude.{◌≡◌, ◌+◌, ◌<◌, ℕ};
 use std::marker::Model;
 use std::sync::ledger::{Blank, Book, Ledger, Share};
 
-/// How many steps were taken, on any ledger. It has no bytes and does nothing when the program runs;
-/// the contract of a search speaks of it.
+/// How many steps were taken, on any ledger. It has no bytes and does nothing when the program
+/// runs; the contract of a search speaks of it.
 #[derive(Drop)]
 pub struct Steps<L: Ledger> {
     book: Book<L>,

@@ -120,8 +120,8 @@ impl SlotTable {
         self.index.put_in(&self.slots, k);
     }
 
-    /// Puts a slot before the last one, which moves on by one place: so a file takes the slot of the
-    /// redo entry.
+    /// Puts a slot before the last one, which moves on by one place: so a file takes the slot of
+    /// the redo entry.
     pub fn insert_before_last(&mut self, slot: Slot)
         requires entry { is_entry slot ≡ true }
         requires some { 0 < length self.old.slots }
@@ -147,8 +147,8 @@ impl SlotTable {
     /// distinct. A step is one comparison of two names; with n live slots there are at most b of
     /// them, where b is the greatest number for which 2^b is at most 2n + 1.
     pub fn find<L: Ledger>(&self, name: &Name, steps: &mut Steps<L>) -> Option<u32>
-        requires distinct { all_pairs have_other_names (filter is_live (map slot_bytes self.now.slots))
-            ≡ true }
+        requires distinct { all_pairs have_other_names
+            (filter is_live (map slot_bytes self.now.slots)) ≡ true }
         ensures place { result
             ≡ position (is_live_named (name_bytes name.now)) (map slot_bytes self.now.slots) }
         ensures grows { steps.old ≤ steps.new }

@@ -69,8 +69,8 @@ impl Header {
     ghost use Rattle.lif_header.specs.declared.header.HeaderFault.{HeaderFault};
 
     /// Reads record 0 of a medium of `size` records, by the LIF volume header: the mark in bytes 0
-    /// and 1, the label in bytes 2 to 7, the directory's first record in bytes 8 to 11 and its number
-    /// of records in bytes 16 to 19.
+    /// and 1, the label in bytes 2 to 7, the directory's first record in bytes 8 to 11 and its
+    /// number of records in bytes 16 to 19.
     #[tactic(auto, unfolding(lif_model::specs::Header::label_of))]
     pub fn read(bytes: &[u8; 256], size: u16) -> Result<Header, HeaderFault>
         requires { 4 ≤ size }
