@@ -1,14 +1,14 @@
 -- A table and its index.
 use Rattle.std.proofs.Common.{◌≡◌, ◌≢◌, ◌⊎◌, ◌<◌, ◌≤◌, ◌+◌, ◌++◌, ℕ, zero, suc, Bool, true, false, List, [], ◌∷◌, if◌then◌else◌, cond, length, get_or, set, map, filter, nat_lt, inl, inr, refl, sym, ◌∙◌, ap, subst, arith}
-use Rattle.std.specs.Prelude.{Option, Some, None, MatchOption, slice_get}
+use Rattle.std.specs.Prelude.{Option, Some, None, MatchOption, is_some, slice_get}
 use Rattle.std.specs.List.{insert, position, position_or_len}
 use Rattle.std.proofs.lemmas.Bool.{cases_eq, cases_lt, cases_Bool, and_from, lt-ltb, le-ltb}
 use Rattle.std.proofs.lemmas.List.{get_or_past, get_or_push, length-map}
 use Rattle.std.proofs.lemmas.List.Sums.{position_or_len_is}
 use Rattle.std.proofs.lemmas.Slice.Eq.{bytes_eq-Decides}
 use Rattle.lif_model.specs.Pairs.{all_pairs}
-use Rattle.lif_model.specs.Legal.{is_live, is_live_named, have_other_names}
-use Rattle.lif_model.proofs.Lists.{filter_pairs_tell}
+use Rattle.lif_model.specs.Legal.{is_live, is_live_named, has_file, have_other_names}
+use Rattle.lif_model.proofs.Lists.{filter_pairs_tell, any_from, none_from}
 use Rattle.lif_model.proofs.Legal.{names_tell, names_from}
 use Rattle.lif_model.proofs.Slots.{live_named_tells}
 use Rattle.lif_dir.specs.declared.entries.Slot.{Slot}
@@ -127,31 +127,47 @@ module _ (slots : List (List ℕ)) (places : List ℕ) (index : IsIndex slots pl
             ]
           ]
 
-  pub place_is : (name : List ℕ) (found : Option ℕ) → all_pairs have_other_names (filter is_live slots) ≡ true
-      → MatchOption found
+  abbrev Told : List ℕ → Option ℕ → Type 0
+  Told name found = MatchOption found
       ((j : ℕ) → j < length places → name_at slots (get_or places j 0) ≢ name)
       (λ place. (j : ℕ) × (j < length places) × (get_or places j 0 ≡ place) × (name_at slots place ≡ name))
-      → found ≡ position (is_live_named name) slots
+
+  none_named : (name : List ℕ) → ((j : ℕ) → j < length places → name_at slots (get_or places j 0) ≢ name) → (i : ℕ) → is_live_named name (get_or slots i []) ≡ false
+  none_named name none i = elim (cases_Bool (is_live_named name (get_or slots i []))) [
+    | inl on ↦
+        let told = live_named_tells name (get_or slots i []) on in
+        let place = index.all i told.0 in
+        absurd (none place.0 place.1 (ap (name_at slots) place.2 ∙ told.1))
+    | inr off ↦ off
+  ]
+
+  named_here : (name : List ℕ) (place : ℕ) → (j : ℕ) × (j < length places) × (get_or places j 0 ≡ place) × (name_at slots place ≡ name) → is_live_named name (get_or slots place []) ≡ true
+  named_here name place (j, lt, is, same) = and_from _ _ (sym (ap (is_live_at slots) is) ∙ index.live j lt) ((bytes_eq-Decides (name_at slots place) name).1 same)
+
+  -- the place that a search tells is that of the first slot of the name
+  pub place_is : (name : List ℕ) (found : Option ℕ) → all_pairs have_other_names (filter is_live slots) ≡ true → Told name found → found ≡ position (is_live_named name) slots
   place_is name None distinct none =
       let nowhere : position_or_len (is_live_named name) slots ≡ length slots =
-      position_or_len_is (is_live_named name) slots (length slots) [] (omega arith) (λ i lt. not_named i (cases_Bool (is_live_named name (get_or slots i [])))) (λ lt. absurd (omega (arith, lt))) in
+      position_or_len_is (is_live_named name) slots (length slots) [] (omega arith) (λ i lt. none_named name none i) (λ lt. absurd (omega (arith, lt))) in
       sym (chosen (length slots) (position_or_len (is_live_named name) slots) false (le-ltb _ _ (omega (arith, nowhere))))
-    where
-      not_named : (i : ℕ) → (is_live_named name (get_or slots i []) ≡ true) ⊎ (is_live_named name (get_or slots i []) ≡ false) → is_live_named name (get_or slots i []) ≡ false
-      not_named i (inr off) = off
-      not_named i (inl on) =
-          let told = live_named_tells name (get_or slots i []) on in
-          let where_it_is = index.all i told.0 in
-          absurd (none where_it_is.0 where_it_is.1 (ap (name_at slots) where_it_is.2 ∙ told.1))
-  place_is name (Some place) distinct (j, lt, is, same) =
-      let live : is_live_at slots place ≡ true = sym (ap (is_live_at slots) is) ∙ index.live j lt in
-      let here : is_live_named name (get_or slots place []) ≡ true = and_from _ _ live ((bytes_eq-Decides (name_at slots place) name).1 same) in
+  place_is name (Some place) distinct told =
+      let here : is_live_named name (get_or slots place []) ≡ true = named_here name place told in
+      let live = (live_named_tells name (get_or slots place []) here).0 in
       let first : position_or_len (is_live_named name) slots ≡ place =
-      position_or_len_is (is_live_named name) slots place [] (omega (arith, live_within slots place live)) (λ i less. not_named live i less (cases_Bool (is_live_named name (get_or slots i [])))) (λ within. here) in
+      position_or_len_is (is_live_named name) slots place [] (omega (arith, live_within slots place live))
+      (λ i less. not_before live i less (cases_Bool (is_live_named name (get_or slots i [])))) (λ within. here) in
       sym (chosen (length slots) (position_or_len (is_live_named name) slots) true (lt-ltb _ _ (omega (arith, first, live_within slots place live))) ∙ ap Some first)
     where
-      not_named : is_live_at slots place ≡ true → (i : ℕ) → i < place → (is_live_named name (get_or slots i []) ≡ true) ⊎ (is_live_named name (get_or slots i []) ≡ false) → is_live_named name (get_or slots i []) ≡ false
-      not_named live i less (inr off) = off
-      not_named live i less (inl on) =
-          let told = live_named_tells name (get_or slots i []) on in
-          absurd (names_tell _ _ ((filter_pairs_tell [] is_live have_other_names slots).0 distinct i place less (live_within slots place live) told.0 live) (told.1 ∙ sym same))
+      not_before : is_live_at slots place ≡ true → (i : ℕ) → i < place → (is_live_named name (get_or slots i []) ≡ true) ⊎ (is_live_named name (get_or slots i []) ≡ false)
+          → is_live_named name (get_or slots i []) ≡ false
+      not_before live i less (inr off) = off
+      not_before live i less (inl on) =
+          let before = live_named_tells name (get_or slots i []) on in
+          absurd (names_tell _ _ ((filter_pairs_tell [] is_live have_other_names slots).0 distinct i place less (live_within slots place live) before.0 live) (before.1 ∙ sym told.3))
+
+  -- and it tells one exactly where there is such a file
+  pub exists_is : (name : List ℕ) (found : Option ℕ) → Told name found → is_some found ≡ has_file slots name
+  exists_is name None none = sym (none_from [] (is_live_named name) slots (λ i lt. none_named name none i))
+  exists_is name (Some place) told =
+      let here : is_live_named name (get_or slots place []) ≡ true = named_here name place told in
+      sym (any_from [] (is_live_named name) slots place (live_within slots place (live_named_tells name (get_or slots place []) here).0) here)

@@ -1,7 +1,7 @@
-ghost use Rattle.std.specs.Prelude.{◌≡◌, ◌==◌, ◌<◌, ◌≤◌, ◌+◌, ◌-◌, ◌*◌, ◌^◌, Some, true, [], ◌∷◌, ◌++◌, length, map, filter, slice_get, slice_index_or, slice_set, IfOk};
+ghost use Rattle.std.specs.Prelude.{◌≡◌, ◌==◌, ◌<◌, ◌≤◌, ◌+◌, ◌-◌, ◌*◌, ◌^◌, Some, true, [], ◌∷◌, ◌++◌, length, map, filter, slice_get, slice_index_or, slice_set, is_some, IfOk};
 ghost use Rattle.std.specs.List.{insert, position};
 ghost use Rattle.lif_model.specs.Pairs.{all_pairs};
-ghost use Rattle.lif_model.specs.Legal.{is_live, is_live_named, have_other_names};
+ghost use Rattle.lif_model.specs.Legal.{is_live, is_live_named, has_file, have_other_names};
 
 use crate::entries::{FileEntry, Name, Slot};
 use crate::index::NameIndex;
@@ -151,6 +151,8 @@ impl SlotTable {
             (filter is_live (map slot_bytes self.now.slots)) ≡ true }
         ensures place { result
             ≡ position (is_live_named (name_bytes name.now)) (map slot_bytes self.now.slots) }
+        ensures exists { is_some result
+            ≡ has_file (map slot_bytes self.now.slots) (name_bytes name.now) }
         ensures grows { steps.old ≤ steps.new }
         ensures few { 2 ^ (steps.new - steps.old)
             ≤ 2 * length (filter is_live (map slot_bytes self.now.slots)) + 1 }
