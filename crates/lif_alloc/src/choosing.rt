@@ -107,8 +107,7 @@ fn refusal(seen: bool) -> Choice
 // records from slot `from` on.
 fn is_free(slots: &SlotTable, from: usize, end: u64, gate: u64) -> bool
     requires { from ≤ length slots.now.slots }
-    ensures {
-        result ≡ nat_le end (least_start gate (drop from (map slot_bytes slots.now.slots))) }
+    ensures { result ≡ nat_le end (least_start gate (drop from (map slot_bytes slots.now.slots))) }
 {
     if end > gate {
         return false;
