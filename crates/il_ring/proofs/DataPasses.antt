@@ -20,7 +20,7 @@ use Rattle.il_ring.specs.declared.plan.Planned.{Planned}
 use Rattle.il_ring.specs.declared.plan.PlanFault.{PlanFault}
 use Rattle.il_ring.specs.declared.plan.PlanFault.TheVariants.{Lose, Alter}
 use Rattle.il_ring.specs.declared.flight.Flight.{Flight}
-use Rattle.il_ring.specs.Plans.{IsPlan, rises_from, is_alteration, fault_at, next_fault, last_crossing}
+use Rattle.il_ring.specs.Plans.{IsPlan, rises_from, is_fault, fault_at, next_fault, last_crossing}
 use Rattle.il_ring.specs.Flights.{altered_by, hit, lost_at}
 use Rattle.il_ring.specs.Journeys.{Trip, trip, answered, missed, Meets, Journey}
 use Rattle.il_ring.specs.Outcomes.{HearsByte, HearsAny}
@@ -68,17 +68,17 @@ xor_other b change some same = some (sym (xor_back b change) ∙ ap (bit_xor b) 
 planned_alters : (plan : List Planned) (low n : ℕ) (change : ℕ) → rises_from low plan ≡ true → fault_at plan n ≡ Some (Alter change) → change ≢ 0
 planned_alters [] low n change rises planned = cc
 planned_alters (p ∷ plan) low n change rises planned =
-    let parts = and_parts (nat_lt low p.hop) (is_alteration p.fault && rises_from p.hop plan) rises in
-    let more = and_parts (is_alteration p.fault) (rises_from p.hop plan) parts.1 in
+    let parts = and_parts (nat_lt low p.hop) (is_fault p.fault && rises_from p.hop plan) rises in
+    let more = and_parts (is_fault p.fault) (rises_from p.hop plan) parts.1 in
     by_test (p.hop == n) planned more.0 (planned_alters plan p.hop n change more.1)
   where
-    by_test : (test : Bool) → (if test then Some p.fault else fault_at plan n) ≡ Some (Alter change) → is_alteration p.fault ≡ true → (fault_at plan n ≡ Some (Alter change) → change ≢ 0) → change ≢ 0
-    by_test true here alters rest = alters_by p.fault (fault_is p.fault (Alter change) here) alters
+    by_test : (test : Bool) → (if test then Some p.fault else fault_at plan n) ≡ Some (Alter change) → is_fault p.fault ≡ true → (fault_at plan n ≡ Some (Alter change) → change ≢ 0) → change ≢ 0
+    by_test true here alters rest = alters_by p.fault (same_fault p.fault (Alter change) here) alters
       where
-        fault_is : (x y : PlanFault) → Some x ≡ Some y → x ≡ y
-        fault_is x y e = ap (λ o. elim o [ Some z ↦ z | None ↦ x ]) e
+        same_fault : (x y : PlanFault) → Some x ≡ Some y → x ≡ y
+        same_fault x y e = ap (λ o. elim o [ Some z ↦ z | None ↦ x ]) e
 
-        alters_by : (fault : PlanFault) → fault ≡ Alter change → is_alteration fault ≡ true → change ≢ 0
+        alters_by : (fault : PlanFault) → fault ≡ Alter change → is_fault fault ≡ true → change ≢ 0
         alters_by Lose e alters = cc
         alters_by (Alter other) e alters = λ zero.
             let same : other ≡ change = ap (λ fault. elim fault [ Alter c ↦ c | Lose ↦ 0 ]) e in
