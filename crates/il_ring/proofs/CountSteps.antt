@@ -20,27 +20,13 @@ use Rattle.il_ring.specs.declared.flight.Flight.{Flight}
 use Rattle.il_ring.specs.Plans.{next_fault}
 use Rattle.il_ring.specs.Flights.{sourced, altered_by, hit, lost_at, ended_at}
 use Rattle.il_ring.specs.Journeys.{Trip, trip, answered, Meets, Passage, Journey}
+use Rattle.il_ring.specs.Rounded.{own_at, IsAwaited}
 use Rattle.il_ring.specs.Ways.{way, come_to, on_way, brought}
 use Rattle.il_ring.proofs.Ways.{way-next, way-distance, way-self, come-other, come-next, come-self, come-before, ended-other, back-other, lost-to}
 use Rattle.il_ring.proofs.Takings.{own_sends, stays_data}
 use Rattle.il_ring.proofs.Counts.{Counted, counted_append}
 
 -- ---- which frames can go on
-
--- the own frame of the device at this place
-abbrev pub own_at : ℕ → List DeviceState → Option OwnFrame
-own_at i [] = None
-own_at zero (d ∷ ds) = d.own
-own_at (suc i) (d ∷ ds) = own_at i ds
-
--- the frame is a data frame of one of the devices behind party j, which has an own frame on the loop
-pub record IsAwaited (j : ℕ) (f : Flight) (ds : List DeviceState) : Type 0 where
-  pub place : ℕ
-  pub there : f.source ≡ j + 1 + place
-  pub within : place < length ds
-  pub data_frame : is_data f.now ≡ true
-  pub own : OwnFrame
-  pub waits : own_at place ds ≡ Some own
 
 -- no frame is on its way, or its source lies behind, or it is awaited
 abbrev pub Stands : ℕ → Option Flight → List DeviceState → Type 0

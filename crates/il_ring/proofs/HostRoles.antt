@@ -25,7 +25,8 @@ use Rattle.il_ring.specs.Journeys.{Trip, trip, answered, missed, Meets, Journey}
 use Rattle.il_ring.specs.Rings.{roles_of}
 use Rattle.il_ring.proofs.CountSteps.{hit_same}
 use Rattle.il_ring.proofs.Passing.{Carries, carries_on, carried_roles}
-use Rattle.il_ring.proofs.RoundRoles.{AreQuiet, is_other, hit_carries, sent_quiet, leaves_roles}
+use Rattle.il_ring.proofs.RoundRoles.{AreQuiet, hit_carries, sent_quiet, leaves_roles}
+use Rattle.il_ring.specs.Outcomes.{is_other}
 
 -- ---- which devices a frame reached
 

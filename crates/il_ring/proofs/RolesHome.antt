@@ -28,7 +28,8 @@ use Rattle.il_ring.specs.Journeys.{trip_of}
 use Rattle.il_ring.specs.Rings.{RingView, Round, devices_of, roles_of, home, comes, over_last_link, books_at}
 use Rattle.il_ring.proofs.CountSteps.{hit_same}
 use Rattle.il_ring.proofs.Passing.{Carries}
-use Rattle.il_ring.proofs.RoundRoles.{IsQuiet, AreQuiet, is_other, other_source, quiet_hit, leaves_roles}
+use Rattle.il_ring.proofs.RoundRoles.{IsQuiet, AreQuiet, other_source, quiet_hit, leaves_roles}
+use Rattle.il_ring.specs.Outcomes.{is_other, HostRound, DeviceRound}
 use Rattle.il_ring.proofs.HostRoles.{along_all, host_goes}
 use Rattle.il_ring.proofs.RoundCounts.{round_journey}
 
@@ -94,14 +95,6 @@ link_host b f (Some g) fault host is =
 
 -- ---- the whole round
 
--- The frame of the host ended so, and its entry comes first; the others are devices'.
-pub record HostRound {M : Type 0} (r : RingView M) (f : Flight) (s : RingView M) : Type 0 where
-  pub ended : Outcome
-  pub rest : List Entry
-  pub log : s.books.log ≡ r.books.log ++ entry 0 f.sent ended ∷ rest
-  pub others : list_all is_other rest ≡ true
-  pub roles : roles_of (devices_of s) ≡ roles_after (roles_of (devices_of r)) (entry 0 f.sent ended ∷ rest)
-
 -- the message of the frame as it was sent makes the roles
 along_entry : (f : Frame) (o : Outcome) (m : Message) (rs : List Roles) (rest : List Entry) → message_of f ≡ m → list_all is_other rest ≡ true → roles_along 0 o 1 m rs ≡ roles_after rs (entry 0 f o ∷ rest)
 along_entry f o m rs rest says others = ap (λ m. roles_along 0 o 1 m rs) (sym says) ∙ sym (others_leave (roles_after_entry rs (entry 0 f o)) rest others)
@@ -136,13 +129,6 @@ host_round view r s held f m answer host says carries round =
       roles = over.roles ∙ along_entry f.sent over.ended m (roles_of (devices_of r)) (over.rest ++ more.entries) says others;
     })
     (host_goes r.books.plan 1 m f r.books.crossings r.books.log (devices_of r) (devices_of s) t (omega arith) host carries (round_journey view r s held f answer round))
-
--- The held frame of a device goes on: no role changes, and all entries are devices'.
-pub record DeviceRound {M : Type 0} (r : RingView M) (s : RingView M) : Type 0 where
-  pub entries : List Entry
-  pub log : s.books.log ≡ r.books.log ++ entries
-  pub others : list_all is_other entries ≡ true
-  pub roles : roles_of (devices_of s) ≡ roles_of (devices_of r)
 
 pub device_round : {M : Type 0} (view : M → MediumView) (r s : RingView M) (held : Option Flight) (f : Flight) (answer : Arrival) → IsQuiet f → Round view r held f answer s → DeviceRound r s
 device_round view r s held f answer quiet round =

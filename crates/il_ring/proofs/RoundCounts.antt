@@ -24,11 +24,12 @@ use Rattle.il_ring.specs.Books.{BooksView}
 use Rattle.il_ring.specs.Journeys.{Trip, trip_of, Meets, Reaches, Passage, Journey, DriveTakes}
 use Rattle.il_ring.specs.Rings.{RingView, Round, devices_of, home, comes, over_last_link, books_at}
 use Rattle.il_ring.specs.Ways.{way, come_to, on_way, brought}
-use Rattle.il_ring.specs.Rounded.{Rounded, AllTook, holding, device_sending}
+use Rattle.il_ring.specs.Rounded.{IsReady, Rounded, AllTook, holding, device_sending}
 use Rattle.il_ring.proofs.Journeys.{Journey-append}
 use Rattle.il_ring.proofs.Ways.{way-self, way-home, home-to, back-home, home-held, come-held, start-held, start-come, start-host}
 use Rattle.il_ring.proofs.Counts.{Framed, entries_to, entries_append, risen_by-add}
-use Rattle.il_ring.proofs.CountSteps.{Stands, IsAwaited, hit_same, counted_journey}
+use Rattle.il_ring.proofs.CountSteps.{Stands, hit_same, counted_journey}
+use Rattle.il_ring.specs.Rounded.{IsAwaited}
 
 -- ---- the journey of a round
 
@@ -158,10 +159,6 @@ home_is k held None b at held_is = record {
 home_is k held (Some f) b at held_is = at_home k held (Some f) b (hit (next_fault b.plan b.crossings) f) f (next_fault b.plan b.crossings) refl (behind_all k f at) refl held_is
 
 -- ---- the whole round
-
--- the frame that goes round is the host's, or it is awaited by its source
-abbrev pub IsReady : Flight → List DeviceState → Type 0
-IsReady f devices = (f.source ≡ 0) ⊎ IsAwaited 0 f devices
 
 start_within : (k : ℕ) (f : Flight) (ds : List DeviceState) → length ds ≡ k → IsReady f ds → f.source ≤ k
 start_within k f ds all (inl host) = omega (arith, host)

@@ -30,6 +30,7 @@ use Rattle.il_ring.specs.Plans.{next_fault}
 use Rattle.il_ring.specs.Flights.{sourced, altered_by, hit, lost_at, ended_at}
 use Rattle.il_ring.specs.Journeys.{Trip, answered, Meets, Reaches, Journey}
 use Rattle.il_ring.specs.Rings.{roles_of}
+use Rattle.il_ring.specs.Outcomes.{is_other}
 use Rattle.il_ring.proofs.CountSteps.{hit_same}
 use Rattle.il_ring.proofs.Passing.{Carries, Exactly, AsData, AsIdentify, is_exact, is_identify_class, keeps_on, kept_by, carries_on, carried_roles}
 
@@ -112,10 +113,6 @@ pub sent_quiet : (party : ℕ) (d e : DeviceState) (f h : Frame) → 1 ≤ party
 sent_quiet party d e f h some takes = sent_as (turn_of d f) party d e f h (Source h) some takes.answer refl
 
 -- ---- journeys that leave the roles
-
--- the entry is a device's
-abbrev pub is_other : Entry → Bool
-is_other e = not (e.source == 0)
 
 pub other_source : (source : ℕ) → 1 ≤ source → not (source == 0) ≡ true
 other_source source some = ap not (ne_eqb source 0 (λ e. omega (arith, e, some)))

@@ -1,5 +1,5 @@
 -- What became of a frame that went round, as its kind has it.
-use Rattle.std.specs.Prelude.{◌||◌, ◌≡◌, ◌≢◌, ◌⊎◌, ◌≤◌, ◌+◌, ◌++◌, ℕ, Bool, true, false, if◌then◌else◌, List, [], ◌∷◌, length, Option, Some, None, MatchBool}
+use Rattle.std.specs.Prelude.{◌||◌, ◌==◌, not, ◌≡◌, ◌≢◌, ◌⊎◌, ◌≤◌, ◌+◌, ◌++◌, ℕ, Bool, true, false, if◌then◌else◌, List, [], ◌∷◌, length, Option, Some, None, MatchBool}
 use Rattle.il_frames.specs.declared.frame.Frame.{Frame}
 use Rattle.il_frames.specs.declared.message.Message.{Message}
 use Rattle.il_frames.specs.declared.entry.Entry.{Entry}
@@ -13,12 +13,15 @@ use Rattle.il_device.specs.Takes.{eto, ete, kept, may_change_service}
 use Rattle.il_ports.specs.Media.{MediumView}
 use Rattle.loop_model.specs.Entries.{entry}
 use Rattle.loop_model.specs.Reach.{met}
+use Rattle.loop_model.specs.Roles as by_log
 use Rattle.il_ring.specs.declared.plan.Arrival.{Arrival}
 use Rattle.il_ring.specs.declared.plan.Arrival.TheVariants as arrival
 use Rattle.il_ring.specs.declared.flight.Flight.{Flight}
 use Rattle.il_ring.specs.Plans.{hops_of}
 use Rattle.il_ring.specs.Journeys.{DriveTakes}
-use Rattle.il_ring.specs.Rings.{RingView, devices_of}
+use Rattle.std.specs.List.{list_all}
+use Rattle.il_frames.specs.declared.entry.Outcome.{Outcome}
+use Rattle.il_ring.specs.Rings.{RingView, devices_of, roles_of}
 use Rattle.il_ring.specs.Lists.{First, AllSilent}
 use Rattle.il_frames.specs.Messages.{message_of}
 
@@ -220,3 +223,24 @@ AllKeep [] [] = Unit {0}
 AllKeep (d ∷ ds) (e ∷ es) = Keeps d e × AllKeep ds es
 AllKeep [] (e ∷ es) = ⊥
 AllKeep (d ∷ ds) [] = ⊥
+
+-- ---- roles, behind any round
+
+-- the entry is a device's
+abbrev pub is_other : Entry → Bool
+is_other e = not (e.source == 0)
+
+-- The frame of the host ended so, and its entry comes first; the others are devices'.
+pub record HostRound {M : Type 0} (r : RingView M) (f : Flight) (s : RingView M) : Type 0 where
+  pub ended : Outcome
+  pub rest : List Entry
+  pub log : s.books.log ≡ r.books.log ++ entry 0 f.sent ended ∷ rest
+  pub others : list_all is_other rest ≡ true
+  pub roles : roles_of (devices_of s) ≡ by_log.roles_after (roles_of (devices_of r)) (entry 0 f.sent ended ∷ rest)
+
+-- The held frame of a device goes on: no role changes, and all entries are devices'.
+pub record DeviceRound {M : Type 0} (r : RingView M) (s : RingView M) : Type 0 where
+  pub entries : List Entry
+  pub log : s.books.log ≡ r.books.log ++ entries
+  pub others : list_all is_other entries ≡ true
+  pub roles : roles_of (devices_of s) ≡ roles_of (devices_of r)

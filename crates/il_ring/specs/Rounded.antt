@@ -1,6 +1,8 @@
 -- What a round did to the counts, in the words of the entries that it appended.
-use Rattle.std.specs.Prelude.{◌≡◌, ◌⊎◌, ◌+◌, ◌++◌, ◌==◌, ℕ, if◌then◌else◌, List, [], ◌∷◌, length, Option, Some, None, option_map}
+use Rattle.std.specs.Prelude.{◌≡◌, ◌⊎◌, ◌<◌, ◌+◌, ◌++◌, ◌==◌, ℕ, zero, suc, true, if◌then◌else◌, List, [], ◌∷◌, length, Option, Some, None, option_map}
 use Rattle.il_frames.specs.declared.entry.Entry.{Entry}
+use Rattle.il_frames.specs.Frames.{is_data}
+use Rattle.il_device.specs.declared.interface.OwnFrame.{OwnFrame}
 use Rattle.il_device.specs.State.{DeviceState}
 use Rattle.il_device.proofs.Laws.{risen_by}
 use Rattle.loop_model.specs.Reach.{held_links, held_passes, links_so_far, passes_so_far}
@@ -30,6 +32,29 @@ AllTook k sending entries held j [] [] = Unit {0}
 AllTook k sending entries held j (d ∷ ds) (e ∷ es) = Took k sending entries held (j + 1) d e × AllTook k sending entries held (j + 1) ds es
 AllTook k sending entries held j [] (e ∷ es) = ⊥
 AllTook k sending entries held j (d ∷ ds) [] = ⊥
+
+-- ---- which frames may go round
+
+-- the own frame of the device at this place
+abbrev pub own_at : ℕ → List DeviceState → Option OwnFrame
+own_at i [] = None
+own_at zero (d ∷ ds) = d.own
+own_at (suc i) (d ∷ ds) = own_at i ds
+
+-- the frame is a data frame of one of the devices behind party j, which has an own frame on the loop
+pub record IsAwaited (j : ℕ) (f : Flight) (ds : List DeviceState) : Type 0 where
+  pub place : ℕ
+  pub there : f.source ≡ j + 1 + place
+  pub within : place < length ds
+  pub data_frame : is_data f.now ≡ true
+  pub own : OwnFrame
+  pub waits : own_at place ds ≡ Some own
+
+-- the frame that goes round is the host's, or it is awaited by its source
+abbrev pub IsReady : Flight → List DeviceState → Type 0
+IsReady f devices = (f.source ≡ 0) ⊎ IsAwaited 0 f devices
+
+-- ---- the counts
 
 -- The ring r became s as the frame f went round, with `held` at the host meanwhile: the entries; how many links were
 -- crossed; which frame is held for it then; and how many frames came to each device.
