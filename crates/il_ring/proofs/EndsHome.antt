@@ -23,7 +23,7 @@ use Rattle.il_ring.specs.Lists.{Each, First}
 use Rattle.il_ring.proofs.PassKinds.{Is, Any, plain_passes, plain_no_data}
 use Rattle.il_ring.proofs.DataHome.{EndsAt}
 
-any_each : (k : ℕ) (ds : List DeviceState) → Each Any k ds
+pub any_each : (k : ℕ) (ds : List DeviceState) → Each Any k ds
 any_each k [] = tt
 any_each k (d ∷ ds) = (tt, any_each (k + 1) ds)
 

@@ -32,3 +32,4 @@ pub mod Kept
 pub mod Papers
 pub mod Rings
 pub mod Examples
+pub mod SendLaws

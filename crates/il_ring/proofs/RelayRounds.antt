@@ -28,7 +28,7 @@ use Rattle.il_ring.specs.Flights.{sourced, ended_at, lost_at}
 use Rattle.il_ring.specs.Books.{BooksView}
 use Rattle.il_ring.specs.Journeys.{Trip, trip, trip_of, answered, Passage, Journey}
 use Rattle.il_ring.specs.Rings.{RingView, Round, devices_of, home, books_at, arrived, arriving}
-use Rattle.il_ring.specs.Outcomes.{met_between, IsTalking, CameBack, SendsMore, EndsSending, Relayed, back_entry, Obeys}
+use Rattle.il_ring.specs.Outcomes.{met_between, IsTalking, StoodSo, CameBack, SendsMore, EndsSending, Relayed, back_entry, Obeys}
 use Rattle.il_ring.specs.Lists.{AllSilent}
 use Rattle.il_ring.proofs.Faults.{IsClear, clear_met, clear_more, met_at}
 use Rattle.il_ring.proofs.Counts.{risen_by-add}
@@ -181,12 +181,6 @@ pub record EchoIs (plan : List Planned) (n m : ℕ) (held : Flight) (own : OwnFr
   pub test : same_but_service own.frame back ≡ right
   pub good : right ≡ true → (with_service back ≡ with_service held.sent) × (held.altered ≡ false) × IsClear plan n (suc m)
   pub bad : right ≡ false → (byte_of back ≢ byte_of held.sent) × ((held.altered ≡ true) ⊎ ((hop : ℕ) × (hop ≤ m) × (next_fault plan (risen_by hop n) ≢ None)))
-
--- the frame stood so at the host
-pub record StoodSo (held : Flight) : Type 0 where
-  pub data_frame : is_data held.now ≡ true
-  pub same : held.altered ≡ false → with_service held.now ≡ with_service held.sent
-  pub other : held.altered ≡ true → byte_of held.now ≢ byte_of held.sent
 
 echo_is : (plan : List Planned) (n m : ℕ) (held : Flight) (own : OwnFrame) (back : Frame) (before : Bool) → held.altered ≡ before → own.frame ≡ held.sent → StoodSo held → Arrived plan n m held back → EchoIs plan n m held own back
 echo_is plan n m held own back false unaltered frame stood (AsItWas same clear) =

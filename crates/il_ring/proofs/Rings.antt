@@ -1,5 +1,5 @@
 -- What holds of a ring at every moment.
-use Rattle.std.proofs.Common.{◌≡◌, ◌≢◌, ◌≤◌, ◌+◌, ◌==◌, ℕ, suc, Bool, true, false, List, [], ◌∷◌, ◌++◌, Option, Some, None, length, refl, sym, ap, subst, ◌∙◌, arith}
+use Rattle.std.proofs.Common.{◌≡◌, ◌≢◌, ◌≤◌, ◌+◌, ◌==◌, ℕ, suc, Bool, true, false, List, [], ◌∷◌, Option, Some, None, length, refl, sym, ap, subst, ◌∙◌, arith}
 use Rattle.std.proofs.lemmas.Bool.{eq-eqb}
 use Rattle.il_frames.specs.declared.frame.Frame.{Frame}
 use Rattle.il_frames.specs.Frames.{is_data}
@@ -8,14 +8,13 @@ use Rattle.il_device.specs.Takes.{Takes}
 use Rattle.il_device.specs.declared.device.Out.{Out}
 use Rattle.il_device.specs.declared.device.Out.TheVariants.{Pass, Source}
 use Rattle.il_ports.specs.Media.{MediumView}
-use Rattle.il_drive.specs.State.{DriveView, device_of}
 use Rattle.il_ring.specs.declared.plan.Planned.{Planned}
 use Rattle.il_ring.specs.declared.plan.Arrival.{Arrival}
 use Rattle.il_ring.specs.declared.flight.Flight.{Flight}
 use Rattle.il_ring.specs.Plans.{next_fault, last_crossing, IsPlan}
 use Rattle.il_ring.specs.Flights.{hit}
 use Rattle.il_ring.specs.Books.{BooksView, IsHeld}
-use Rattle.il_ring.specs.Journeys.{Trip, trip_of, answered, missed, Meets, Reaches, Passage, Journey, DriveTakes}
+use Rattle.il_ring.specs.Journeys.{Trip, trip_of, answered, Meets, Reaches, Journey, DriveTakes}
 use Rattle.il_ring.specs.Rings.{RingView, IsRing, Round, devices_of, books_at, comes, home, over_last_link}
 use Rattle.il_ring.proofs.RoundCounts.{round_journey}
 

@@ -172,6 +172,12 @@ pub record StartTaken {M : Type 0} (r : RingView M) (f : Frame) (answer : Arriva
 
 -- ---- the held frame goes on
 
+-- the frame stood so at the host
+pub record StoodSo (held : Flight) : Type 0 where
+  pub data_frame : is_data held.now ≡ true
+  pub same : held.altered ≡ false → with_service held.now ≡ with_service held.sent
+  pub other : held.altered ≡ true → byte_of held.now ≢ byte_of held.sent
+
 -- how it came back to the device that sent it: the same apart from the service bit, or with another byte, since a planned hop
 -- was met in this call or before
 pub record CameBack {M : Type 0} (r s : RingView M) (held : Flight) (right : Bool) (back : Frame) : Type 0 where

@@ -1,9 +1,17 @@
-ghost use Rattle.std.specs.Prelude.{◌≡◌, ◌⊎◌, ◌+◌, ◌<◌, ◌≤◌, ◌++◌, [], map, length, None, IsSome, IfSome, IfOk, IfErr, option_map};
+ghost use Rattle.std.specs.Prelude.{◌≡◌, ◌⊎◌, ◌+◌, ◌<◌, ◌≤◌, ◌++◌, [], map, length, true, Some, None, IsSome, IfSome, IfOk, IfErr, option_map};
+ghost use Rattle.il_frames.specs.Frames.{is_data};
+ghost use Rattle.il_frames.specs.Messages.{message_of};
+ghost use Rattle.il_device.specs.declared.interface.OwnFrame.{OwnFrame};
+ghost use Rattle.il_device.proofs.Laws.{is_plain, is_start};
 ghost use Rattle.loop_model.specs.Entries.{nrd};
+ghost use Rattle.loop_model.specs.Roles.{talkers, is_at_most_one};
 ghost use Rattle.il_drive.specs.State.{fresh_drive};
 ghost use Rattle.il_ring.specs.Plans.{IsPlan};
 ghost use Rattle.il_ring.specs.Flights.{sourced};
-ghost use Rattle.il_ring.specs.Rings.{RingView, IsRing, Round, drive_party, spare_of, fresh_books, paper_of};
+ghost use Rattle.il_ring.specs.Rings.{RingView, IsRing, Round, devices_of, roles_of, drive_party, spare_of, fresh_books, paper_of};
+ghost use Rattle.il_ring.specs.Lists.{AllSilent, NoneSends};
+ghost use Rattle.il_ring.specs.Rounded.{Rounded};
+ghost use Rattle.il_ring.specs.Outcomes.{Returned, WasLost, DataReturned, DataBroken, StartReturned, StartGone, StartTaken, AllKeep, IsTalking, StoodSo, Relayed};
 
 use crate::books::Books;
 use crate::flight::Flight;
@@ -176,6 +184,25 @@ impl<M: Medium> Ring<M> {
         requires room { 32 ≤ spare_of (⟦<Ring<M> as Seen<M>>⟧.seen self.old) }
         requires free { ((⟦<Ring<M> as Seen<M>>⟧.seen self.old).books.held ≡ None) ⊎ (frame ≡ nrd) }
         ensures round { Round M.view (⟦<Ring<M> as Seen<M>>⟧.seen self.old) (⟦<Ring<M> as Seen<M>>⟧.seen self.old).books.held (sourced 0 frame) result (⟦<Ring<M> as Seen<M>>⟧.seen self.new) }
+        // The entries tell how many links were crossed, and how many frames came to each device.
+        ensures counts { Rounded (⟦<Ring<M> as Seen<M>>⟧.seen self.old) (⟦<Ring<M> as Seen<M>>⟧.seen self.old).books.held (sourced 0 frame) (⟦<Ring<M> as Seen<M>>⟧.seen self.new) }
+        // A command or ready message comes back as it was, or is lost exactly at a planned hop.
+        ensures plain { IsRing (⟦<Ring<M> as Seen<M>>⟧.seen self.old) → is_plain (message_of frame) ≡ true →
+            Returned (⟦<Ring<M> as Seen<M>>⟧.seen self.old) (⟦<Ring<M> as Seen<M>>⟧.seen self.old).books.held frame frame result (⟦<Ring<M> as Seen<M>>⟧.seen self.new)
+            ⊎ WasLost (⟦<Ring<M> as Seen<M>>⟧.seen self.old) 0 frame result (⟦<Ring<M> as Seen<M>>⟧.seen self.new) }
+        // Where no device talks, a data or end frame comes back the same apart from the service bit
+        // exactly where no planned hop is met; each listener hears its byte.
+        ensures data { IsRing (⟦<Ring<M> as Seen<M>>⟧.seen self.old) → is_data frame ≡ true → AllSilent (devices_of (⟦<Ring<M> as Seen<M>>⟧.seen self.old)) →
+            DataReturned (⟦<Ring<M> as Seen<M>>⟧.seen self.old) (⟦<Ring<M> as Seen<M>>⟧.seen self.old).books.held frame result (⟦<Ring<M> as Seen<M>>⟧.seen self.new)
+            ⊎ DataBroken (⟦<Ring<M> as Seen<M>>⟧.seen self.old) (⟦<Ring<M> as Seen<M>>⟧.seen self.old).books.held frame result (⟦<Ring<M> as Seen<M>>⟧.seen self.new) }
+        // A start message is passed by all, lost, or taken by the one device that talks.
+        ensures start { IsRing (⟦<Ring<M> as Seen<M>>⟧.seen self.old) → is_start (message_of frame) ≡ true → NoneSends (devices_of (⟦<Ring<M> as Seen<M>>⟧.seen self.old))
+            → is_at_most_one (talkers (roles_of (devices_of (⟦<Ring<M> as Seen<M>>⟧.seen self.old)))) ≡ true →
+            StartReturned (⟦<Ring<M> as Seen<M>>⟧.seen self.old) (⟦<Ring<M> as Seen<M>>⟧.seen self.old).books.held frame result (⟦<Ring<M> as Seen<M>>⟧.seen self.new)
+            ⊎ (StartGone (⟦<Ring<M> as Seen<M>>⟧.seen self.old) frame result (⟦<Ring<M> as Seen<M>>⟧.seen self.new)
+            ⊎ StartTaken (⟦<Ring<M> as Seen<M>>⟧.seen self.old) frame result (⟦<Ring<M> as Seen<M>>⟧.seen self.new)) }
+        // No device hears anything that does not listen.
+        ensures kept { AllKeep (devices_of (⟦<Ring<M> as Seen<M>>⟧.seen self.old)) (devices_of (⟦<Ring<M> as Seen<M>>⟧.seen self.new)) }
     {
         self.round(Flight::sourced(0, frame))
     }
@@ -189,6 +216,11 @@ impl<M: Medium> Ring<M> {
         requires held { IsSome (⟦<Ring<M> as Seen<M>>⟧.seen self.old).books.held }
         requires room { 32 ≤ spare_of (⟦<Ring<M> as Seen<M>>⟧.seen self.old) }
         ensures round { IfSome (⟦<Ring<M> as Seen<M>>⟧.seen self.old).books.held (λ f. Round M.view (⟦<Ring<M> as Seen<M>>⟧.seen self.old) None f result (⟦<Ring<M> as Seen<M>>⟧.seen self.new)) }
+        // Where its source is the one device that talks and has it on the loop, it comes back to it,
+        // which sends a further data frame, ETO or ETE; or it is lost at a planned hop.
+        ensures relayed { IsRing (⟦<Ring<M> as Seen<M>>⟧.seen self.old) → IfSome (⟦<Ring<M> as Seen<M>>⟧.seen self.old).books.held
+            (λ f. (own : OwnFrame) → IsTalking f.source (Some own) (devices_of (⟦<Ring<M> as Seen<M>>⟧.seen self.old)) → own.frame ≡ f.sent → StoodSo f
+            → Relayed (⟦<Ring<M> as Seen<M>>⟧.seen self.old) f own result (⟦<Ring<M> as Seen<M>>⟧.seen self.new)) }
     {
         let flight = self.books.take_held().unwrap();
         self.round(flight)
