@@ -17,12 +17,13 @@ use Rattle.loop_model.proofs.UnitLaws.{distance-self}
 use Rattle.il_ring.specs.declared.plan.Planned.{Planned}
 use Rattle.il_ring.specs.declared.plan.PlanFault.{PlanFault}
 use Rattle.il_ring.specs.declared.plan.Arrival.{Arrival}
+use Rattle.il_ring.specs.declared.plan.Arrival.TheVariants as arrival
 use Rattle.il_ring.specs.declared.flight.Flight.{Flight}
 use Rattle.il_ring.specs.Plans.{next_fault}
 use Rattle.il_ring.specs.Flights.{hit, lost_at, ended_at}
 use Rattle.il_ring.specs.Books.{BooksView}
 use Rattle.il_ring.specs.Journeys.{Trip, trip_of, Meets, Reaches, Passage, Journey, DriveTakes}
-use Rattle.il_ring.specs.Rings.{RingView, Round, devices_of, home, comes, over_last_link, books_at}
+use Rattle.il_ring.specs.Rings.{RingView, Round, devices_of, home, comes, over_last_link, books_at, arrived, arriving}
 use Rattle.il_ring.specs.Ways.{way, come_to, on_way, brought}
 use Rattle.il_ring.specs.Rounded.{IsReady, Rounded, AllTook, holding, device_sending}
 use Rattle.il_ring.proofs.Journeys.{Journey-append}
@@ -61,33 +62,38 @@ behind_all k f (inr awaited) = absurd (omega (arith, awaited.within))
 from_device : (f : Flight) → (f.source == 0) ≡ false → 1 ≤ f.source
 from_device f other = ⊎_elim (λ zero. let clash = sym other ∙ eq-eqb f.source 0 zero in cc) (λ some. some) (eq-zero-or-pos f.source)
 
+some_is : (f g : Flight) → Some f ≡ Some g → f ≡ g
+some_is f g e = ap (λ o. elim o [ Some h ↦ h | None ↦ f ]) e
+
 -- What the last link added: the entries, the links, and the frame that is held for it. Behind the last device the frame was
 -- `flight`.
-record CameHome (k : ℕ) (log : List Entry) (n : ℕ) (held flight : Option Flight) (s : BooksView) : Type 0 where
+record CameHome (k : ℕ) (log : List Entry) (n : ℕ) (held flight : Option Flight) (answer : Arrival) (s : BooksView) : Type 0 where
   entries : List Entry
   log_is : s.log ≡ log ++ entries
   links : ℕ
   crossings : s.crossings ≡ risen_by links n
   new : Option Flight
+  new_is : (g : Flight) → new ≡ Some g → (answer ≡ arrival.Frame g.now) × (is_data g.now ≡ true)
   held_is : (s.held ≡ new) ⊎ ((new ≡ None) × (s.held ≡ held))
   linked : links + on_way k k flight ≡ sum_by (links_of k) entries + held_links k (holding new)
   passed : (q : ℕ) → 1 ≤ q → q ≤ k → brought k k q flight ≡ entries_to k q entries + held_passes q (holding new)
 
-lost_home : (k n : ℕ) (log : List Entry) (held : Option Flight) (b : BooksView) (f : Flight) → f.source ≤ k → CameHome k log n held (Some f) (record b { log = log ++ lost_at f 0 ∷ []; crossings = risen n; held = None })
-lost_home k n log held b f on = record {
+lost_home : (k n : ℕ) (log : List Entry) (held : Option Flight) (b : BooksView) (f : Flight) (answer : Arrival) → f.source ≤ k → CameHome k log n held (Some f) answer (record b { log = log ++ lost_at f 0 ∷ []; crossings = risen n; held = None })
+lost_home k n log held b f answer on = record {
   entries = lost_at f 0 ∷ [];
   log_is = refl;
   links = 1;
   crossings = refl;
   new = None;
+  new_is = λ g e. cc;
   held_is = inl refl;
   linked = let far = way-home k f.source on in omega (arith, far);
   passed = λ q some most. let came = home-to k q f.source some most on in omega (arith, came.1);
 }
 
-came_home : (k n : ℕ) (log : List Entry) (held : Option Flight) (b : BooksView) (f g : Flight) (own data_frame : Bool) → f.source ≤ k → g.source ≡ f.source → (g.source == 0) ≡ own
-    → b.log ≡ log → b.crossings ≡ risen n → b.held ≡ held → CameHome k log n held (Some f) (comes b g own data_frame)
-came_home k n log held b f g true data_frame on same own log_is count held_is =
+came_home : (k n : ℕ) (log : List Entry) (held : Option Flight) (b : BooksView) (f g : Flight) (own data_frame : Bool) (answer : Arrival) → answer ≡ arrival.Frame g.now → is_data g.now ≡ data_frame → f.source ≤ k → g.source ≡ f.source → (g.source == 0) ≡ own
+    → b.log ≡ log → b.crossings ≡ risen n → b.held ≡ held → CameHome k log n held (Some f) answer (comes b g own data_frame)
+came_home k n log held b f g true data_frame answer answered data_is on same own log_is count held_is =
     let zero : g.source ≡ 0 = eqb-true g.source 0 own in
     let back : ended_at g 0 ≡ record { source = g.source; frame = g.sent; outcome = outcome.Back g.now } = ap (λ test. record { source = g.source; frame = g.sent; outcome = if test then outcome.Back g.now else outcome.Taken 0 }) own in
     record {
@@ -96,6 +102,7 @@ came_home k n log held b f g true data_frame on same own log_is count held_is =
       links = 1;
       crossings = count;
       new = None;
+      new_is = λ g e. cc;
       held_is = inr (refl, held_is);
       linked =
           let round = ap (links_of k) back in
@@ -107,17 +114,18 @@ came_home k n log held b f g true data_frame on same own log_is count held_is =
           let came : come_to k q f.source k ≡ 1 = ap (λ s. come_to k q s k) (sym same ∙ zero) ∙ back-home k q some most in
           omega (arith, brings, came);
     }
-came_home k n log held b f g false true on same own log_is count held_is = record {
+came_home k n log held b f g false true answer answered data_is on same own log_is count held_is = record {
   entries = [];
   log_is = log_is ∙ sym (append-nil log);
   links = 1;
   crossings = count;
   new = Some g;
+  new_is = λ h e. let same : g ≡ h = some_is g h e in (answered ∙ ap (λ (g : Flight). arrival.Frame g.now) same, ap (λ (g : Flight). is_data g.now) (sym same) ∙ data_is);
   held_is = inl refl;
   linked = let some = from_device g own in let far = home-held k g.source some (omega (arith, same, on)) in let way_same = ap (λ s. way k s k) same in omega (arith, far, way_same);
   passed = λ q some most. let from = from_device g own in let came = come-held k q g.source some most from (omega (arith, same, on)) in let come_same = ap (λ s. come_to k q s k) same in omega (arith, came, come_same);
 }
-came_home k n log held b f g false false on same own log_is count held_is =
+came_home k n log held b f g false false answer answered data_is on same own log_is count held_is =
     let taken : ended_at g 0 ≡ record { source = g.source; frame = g.sent; outcome = outcome.Taken 0 } = ap (λ test. record { source = g.source; frame = g.sent; outcome = if test then outcome.Back g.now else outcome.Taken 0 }) own in
     record {
       entries = ended_at g 0 ∷ [];
@@ -125,6 +133,7 @@ came_home k n log held b f g false false on same own log_is count held_is =
       links = 1;
       crossings = count;
       new = None;
+      new_is = λ g e. cc;
       held_is = inl refl;
       linked =
           let links = ap (links_of k) taken in
@@ -138,25 +147,26 @@ came_home k n log held b f g false false on same own log_is count held_is =
           omega (arith, brings, came.0, distant);
     }
 
-at_home : (k : ℕ) (held flight : Option Flight) (b : BooksView) (o : Option Flight) (f : Flight) (fault : Option PlanFault) → flight ≡ Some f → f.source ≤ k → hit fault f ≡ o → b.held ≡ held
-    → CameHome k b.log b.crossings held flight (over_last_link (record b { crossings = risen b.crossings }) f o)
-at_home k held flight b None f fault is on hits held_is = subst (λ flight. CameHome k b.log b.crossings held flight (over_last_link (record b { crossings = risen b.crossings }) f None)) (sym is) (lost_home k b.crossings b.log held b f on)
-at_home k held flight b (Some g) f fault is on hits held_is =
-    subst (λ flight. CameHome k b.log b.crossings held flight (over_last_link (record b { crossings = risen b.crossings }) f (Some g))) (sym is)
-    (came_home k b.crossings b.log held (record b { crossings = risen b.crossings }) f g (g.source == 0) (is_data g.now) on (hit_same fault f g hits).source refl refl refl held_is)
+at_home : (k : ℕ) (held flight : Option Flight) (b : BooksView) (o : Option Flight) (f : Flight) (fault : Option PlanFault) (answer : Arrival) → answer ≡ arrived o → flight ≡ Some f → f.source ≤ k → hit fault f ≡ o → b.held ≡ held
+    → CameHome k b.log b.crossings held flight answer (over_last_link (record b { crossings = risen b.crossings }) f o)
+at_home k held flight b None f fault answer answered is on hits held_is = subst (λ flight. CameHome k b.log b.crossings held flight answer (over_last_link (record b { crossings = risen b.crossings }) f None)) (sym is) (lost_home k b.crossings b.log held b f answer on)
+at_home k held flight b (Some g) f fault answer answered is on hits held_is =
+    subst (λ flight. CameHome k b.log b.crossings held flight answer (over_last_link (record b { crossings = risen b.crossings }) f (Some g))) (sym is)
+    (came_home k b.crossings b.log held (record b { crossings = risen b.crossings }) f g (g.source == 0) (is_data g.now) answer answered refl on (hit_same fault f g hits).source refl refl refl held_is)
 
-home_is : (k : ℕ) (held flight : Option Flight) (b : BooksView) → Stands k flight [] → b.held ≡ held → CameHome k b.log b.crossings held flight (home b flight)
-home_is k held None b at held_is = record {
+home_is : (k : ℕ) (held flight : Option Flight) (b : BooksView) (answer : Arrival) → answer ≡ arrived (arriving b.plan b.crossings flight) → Stands k flight [] → b.held ≡ held → CameHome k b.log b.crossings held flight answer (home b flight)
+home_is k held None b answer answered at held_is = record {
   entries = [];
   log_is = sym (append-nil b.log);
   links = 0;
   crossings = refl;
   new = None;
+  new_is = λ g e. cc;
   held_is = inl refl;
   linked = omega arith;
   passed = λ q some most. omega arith;
 }
-home_is k held (Some f) b at held_is = at_home k held (Some f) b (hit (next_fault b.plan b.crossings) f) f (next_fault b.plan b.crossings) refl (behind_all k f at) refl held_is
+home_is k held (Some f) b answer answered at held_is = at_home k held (Some f) b (hit (next_fault b.plan b.crossings) f) f (next_fault b.plan b.crossings) answer answered refl (behind_all k f at) refl held_is
 
 -- ---- the whole round
 
@@ -188,14 +198,14 @@ took_from b a k sending entries held j [] (e ∷ es) same framed = absurd framed
 took_from b a k sending entries held j (d ∷ ds) [] same framed = absurd framed
 
 -- Crossings, frames of devices and the held frame behind a round are those that its entries stand for.
-pub round_counts : {M : Type 0} (view : M → MediumView) (r s : RingView M) (held : Option Flight) (f : Flight) (answer : Arrival) → IsReady f (devices_of r) → Round view r held f answer s → Rounded r held f s
+pub round_counts : {M : Type 0} (view : M → MediumView) (r s : RingView M) (held : Option Flight) (f : Flight) (answer : Arrival) → IsReady f (devices_of r) → Round view r held f answer s → Rounded r held f answer s
 round_counts view r s held f answer ready round =
     let k = length (devices_of r) in
     let sending = device_sending f in
     let t = round.behind in
     let out = counted_journey r.books.plan k 0 (trip_of r.books (Some f)) t (devices_of r) (devices_of s) (omega arith) (start_stands f (devices_of r) ready) (round_journey view r s held f answer round) in
     let c = out.0 in
-    let last = home_is k held t.flight (books_at (record r.books { held = held }) t) out.1 refl in
+    let last = home_is k held t.flight (books_at (record r.books { held = held }) t) answer round.answer_is out.1 refl in
     let on : f.source ≤ k = start_within k f (devices_of r) refl ready in
     let far : 0 + length (devices_of r) ≡ k = omega arith in
     let log : s.books.log ≡ t.log ++ last.entries = ap (λ (b : BooksView). b.log) round.books ∙ last.log_is in
@@ -206,6 +216,7 @@ round_counts view r s held f answer ready round =
       links = c.links + last.links;
       crossings = count ∙ ap (risen_by last.links) c.crossings ∙ sym (risen_by-add c.links last.links r.books.crossings);
       new = last.new;
+      new_is = last.new_is;
       held_is = ⊎_elim (λ is. inl (ap (λ (b : BooksView). b.held) round.books ∙ is)) (λ is. inr (is.0, ap (λ (b : BooksView). b.held) round.books ∙ is.1)) last.held_is;
       linked =
           let sum = sum_by-append (links_of k) c.entries last.entries in

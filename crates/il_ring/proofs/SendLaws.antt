@@ -41,7 +41,7 @@ start_sent view r s held f flight answer round is ring start none one = start_ro
 pub kept_sent : {M : Type 0} (view : M → MediumView) (r s : RingView M) (held : Option Flight) (f : Flight) (answer : Arrival) → Round view r held f answer s → AllKeep (devices_of r) (devices_of s)
 kept_sent view r s held f answer round = journey_keeps r.books.plan 1 (trip_of r.books (Some f)) round.behind (devices_of r) (devices_of s) (round_journey view r s held f answer round)
 
-pub counts_sent : {M : Type 0} (view : M → MediumView) (r s : RingView M) (held : Option Flight) (f : Frame) (flight : Flight) (answer : Arrival) → Round view r held flight answer s → flight ≡ sourced 0 f → Rounded r held (sourced 0 f) s
+pub counts_sent : {M : Type 0} (view : M → MediumView) (r s : RingView M) (held : Option Flight) (f : Frame) (flight : Flight) (answer : Arrival) → Round view r held flight answer s → flight ≡ sourced 0 f → Rounded r held (sourced 0 f) answer s
 counts_sent view r s held f flight answer round is = round_counts view r s held (sourced 0 f) answer (inl refl) (subst (λ flight. Round view r held flight answer s) is round)
 
 -- of a frame that is held, where there is one

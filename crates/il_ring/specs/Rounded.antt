@@ -7,6 +7,8 @@ use Rattle.il_device.specs.State.{DeviceState}
 use Rattle.il_device.proofs.Laws.{risen_by}
 use Rattle.loop_model.specs.Reach.{held_links, held_passes, links_so_far, passes_so_far}
 use Rattle.il_ring.specs.declared.flight.Flight.{Flight}
+use Rattle.il_ring.specs.declared.plan.Arrival.{Arrival}
+use Rattle.il_ring.specs.declared.plan.Arrival.TheVariants as arrival
 use Rattle.il_ring.specs.Rings.{RingView, devices_of}
 
 -- the party that sent it
@@ -58,12 +60,13 @@ IsReady f devices = (f.source ≡ 0) ⊎ IsAwaited 0 f devices
 
 -- The ring r became s as the frame f went round, with `held` at the host meanwhile: the entries; how many links were
 -- crossed; which frame is held for it then; and how many frames came to each device.
-pub record Rounded {M : Type 0} (r : RingView M) (held : Option Flight) (f : Flight) (s : RingView M) : Type 0 where
+pub record Rounded {M : Type 0} (r : RingView M) (held : Option Flight) (f : Flight) (answer : Arrival) (s : RingView M) : Type 0 where
   pub entries : List Entry
   pub log : s.books.log ≡ r.books.log ++ entries
   pub links : ℕ
   pub crossings : s.books.crossings ≡ risen_by links r.books.crossings
   pub new : Option Flight
+  pub new_is : (g : Flight) → new ≡ Some g → (answer ≡ arrival.Frame g.now) × (is_data g.now ≡ true)
   pub held_is : (s.books.held ≡ new) ⊎ ((new ≡ None) × (s.books.held ≡ held))
   pub linked : links + held_links (length (devices_of r)) (device_sending f) ≡ links_so_far (length (devices_of r)) entries (holding new)
   pub frames : AllTook (length (devices_of r)) (device_sending f) entries (holding new) 0 (devices_of r) (devices_of s)

@@ -185,7 +185,7 @@ impl<M: Medium> Ring<M> {
         requires free { ((⟦<Ring<M> as Seen<M>>⟧.seen self.old).books.held ≡ None) ⊎ (frame ≡ nrd) }
         ensures round { Round M.view (⟦<Ring<M> as Seen<M>>⟧.seen self.old) (⟦<Ring<M> as Seen<M>>⟧.seen self.old).books.held (sourced 0 frame) result (⟦<Ring<M> as Seen<M>>⟧.seen self.new) }
         // The entries tell how many links were crossed, and how many frames came to each device.
-        ensures counts { Rounded (⟦<Ring<M> as Seen<M>>⟧.seen self.old) (⟦<Ring<M> as Seen<M>>⟧.seen self.old).books.held (sourced 0 frame) (⟦<Ring<M> as Seen<M>>⟧.seen self.new) }
+        ensures counts { Rounded (⟦<Ring<M> as Seen<M>>⟧.seen self.old) (⟦<Ring<M> as Seen<M>>⟧.seen self.old).books.held (sourced 0 frame) result (⟦<Ring<M> as Seen<M>>⟧.seen self.new) }
         // A command or ready message comes back as it was, or is lost exactly at a planned hop.
         ensures plain { IsRing (⟦<Ring<M> as Seen<M>>⟧.seen self.old) → is_plain (message_of frame) ≡ true →
             Returned (⟦<Ring<M> as Seen<M>>⟧.seen self.old) (⟦<Ring<M> as Seen<M>>⟧.seen self.old).books.held frame frame result (⟦<Ring<M> as Seen<M>>⟧.seen self.new)
