@@ -33,3 +33,4 @@ pub mod Papers
 pub mod Rings
 pub mod Examples
 pub mod SendLaws
+pub mod Adding

@@ -7,4 +7,5 @@ pub mod Lists
 pub mod Ways
 pub mod Rounded
 pub mod Outcomes
+pub mod Adds
 pub mod Polls

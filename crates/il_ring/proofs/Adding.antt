@@ -1,0 +1,103 @@
+-- Rounds one behind the other.
+use Rattle.std.proofs.Common.{◌≡◌, ◌+◌, ◌++◌, ◌⊎◌, inl, inr, ⊎_elim, ℕ, List, [], ◌∷◌, Option, Some, None, length, sum_by, count_by, refl, sym, ap, ap₂, subst, ◌∙◌, arith, append_assoc, append-nil}
+use Rattle.il_frames.specs.declared.frame.Frame.{Frame}
+use Rattle.il_frames.specs.declared.entry.Entry.{Entry}
+use Rattle.il_device.specs.State.{DeviceState}
+use Rattle.il_device.proofs.Laws.{risen_by}
+use Rattle.il_ports.specs.Media.{MediumView}
+use Rattle.il_drive.proofs.Beginning.{joins}
+use Rattle.loop_model.specs.Reach.{links_of, brings_to, held_links, held_passes, links_so_far, passes_so_far}
+use Rattle.loop_model.specs.Roles.{roles_after}
+use Rattle.loop_model.proofs.ReachLaws.{links_so_far-append, passes_so_far-append}
+use Rattle.loop_model.proofs.RoleLaws.{roles_after-append}
+use Rattle.il_ring.specs.Rings.{RingView, devices_of, roles_of}
+use Rattle.il_ring.specs.Rounded.{AllTook, Took}
+use Rattle.il_ring.specs.Adds.{Adds}
+use Rattle.il_ring.proofs.Counts.{risen_by-add}
+
+-- ---- frames of devices
+
+took_then : (k j : ℕ) (a b c : Option ℕ) (xs ys : List Entry) (ds es gs : List DeviceState) → AllTook k a xs b j ds es → AllTook k b ys c j es gs → AllTook k a (xs ++ ys) c j ds gs
+took_then k j a b c xs ys [] [] [] first more = tt
+took_then k j a b c xs ys (d ∷ ds) (e ∷ es) (g ∷ gs) first more = (
+  (
+    first.0.0 + more.0.0,
+    more.0.1 ∙ ap (risen_by more.0.0) first.0.1 ∙ sym (risen_by-add first.0.0 more.0.0 d.frames),
+    (let sum = passes_so_far-append k (j + 1) xs ys c in omega (arith, sum, first.0.2, more.0.2)),
+  ),
+  took_then k (j + 1) a b c xs ys ds es gs first.1 more.1,
+)
+took_then k j a b c xs ys [] [] (g ∷ gs) first more = absurd more
+took_then k j a b c xs ys [] (e ∷ es) gs first more = absurd first
+took_then k j a b c xs ys (d ∷ ds) [] gs first more = absurd first
+took_then k j a b c xs ys (d ∷ ds) (e ∷ es) [] first more = absurd more
+
+took_nothing : (k j : ℕ) (a : Option ℕ) (ds : List DeviceState) → AllTook k a [] a j ds ds
+took_nothing k j a [] = tt
+took_nothing k j a (d ∷ ds) = ((0, refl, omega arith), took_nothing k (j + 1) a ds)
+
+took_held : (k j : ℕ) (a : Option ℕ) (xs : List Entry) (ds es : List DeviceState) → AllTook k None xs None j ds es → AllTook k a xs a j ds es
+took_held k j a xs [] [] took = tt
+took_held k j a xs (d ∷ ds) (e ∷ es) took = ((took.0.0, took.0.1, omega (arith, took.0.2)), took_held k (j + 1) a xs ds es took.1)
+took_held k j a xs [] (e ∷ es) took = absurd took
+took_held k j a xs (d ∷ ds) [] took = absurd took
+
+-- ---- the sums
+
+-- before the first round
+pub adds_nothing : {M : Type 0} (view : M → MediumView) (r : RingView M) (a : Option ℕ) → Adds view r a [] a r
+adds_nothing view r a = record {
+  log = sym (append-nil r.books.log);
+  plan = refl;
+  room = refl;
+  before = refl;
+  size = refl;
+  links = 0;
+  crossings = refl;
+  linked = omega arith;
+  frames = took_nothing (length (devices_of r)) 0 a (devices_of r);
+  roles = refl;
+  came = [];
+  answers = [];
+  drive = refl;
+}
+
+-- one behind the other
+pub adds_more : {M : Type 0} (view : M → MediumView) (r m s : RingView M) (a b c : Option ℕ) (xs ys : List Entry) → Adds view r a xs b m → Adds view m b ys c s → Adds view r a (xs ++ ys) c s
+adds_more view r m s a b c xs ys first more =
+    let k = length (devices_of r) in
+    let size : length (devices_of m) ≡ k = first.size in
+    let linked : more.links + held_links k b ≡ links_so_far k ys c = subst (λ k. more.links + held_links k b ≡ links_so_far k ys c) size more.linked in
+    record {
+      log = more.log ∙ ap (λ log. log ++ ys) first.log ∙ append_assoc r.books.log xs ys;
+      plan = more.plan ∙ first.plan;
+      room = more.room ∙ first.room;
+      before = more.before ∙ first.before;
+      size = more.size ∙ first.size;
+      links = first.links + more.links;
+      crossings = more.crossings ∙ ap (risen_by more.links) first.crossings ∙ sym (risen_by-add first.links more.links r.books.crossings);
+      linked = let sum = links_so_far-append k xs ys c in omega (arith, sum, first.linked, linked);
+      frames = took_then k 0 a b c xs ys (devices_of r) (devices_of m) (devices_of s) first.frames (subst (λ k. AllTook k b ys c 0 (devices_of m) (devices_of s)) size more.frames);
+      roles = more.roles ∙ ap (λ rs. roles_after rs ys) first.roles ∙ sym (roles_after-append (roles_of (devices_of r)) xs ys);
+      came = first.came ++ more.came;
+      answers = first.answers ++ more.answers;
+      drive = joins view first.came more.came first.answers more.answers r.drive m.drive s.drive first.drive more.drive;
+    }
+
+-- a frame that is held meanwhile counts on both sides, whether it stays or is dropped
+pub adds_held : {M : Type 0} (view : M → MediumView) (r s : RingView M) (a : Option ℕ) (xs : List Entry) → Adds view r None xs None s → Adds view r a xs a s
+adds_held view r s a xs adds = record {
+  log = adds.log;
+  plan = adds.plan;
+  room = adds.room;
+  before = adds.before;
+  size = adds.size;
+  links = adds.links;
+  crossings = adds.crossings;
+  linked = omega (arith, adds.linked);
+  frames = took_held (length (devices_of r)) 0 a xs (devices_of r) (devices_of s) adds.frames;
+  roles = adds.roles;
+  came = adds.came;
+  answers = adds.answers;
+  drive = adds.drive;
+}
