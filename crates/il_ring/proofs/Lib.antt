@@ -34,3 +34,4 @@ pub mod Rings
 pub mod Examples
 pub mod SendLaws
 pub mod Adding
+pub mod RoundAdds

@@ -1,0 +1,125 @@
+-- What one round adds.
+use Rattle.std.proofs.Common.{◌≡◌, ◌≢◌, ◌+◌, ◌++◌, ◌⊎◌, ◌==◌, inl, inr, ⊎_elim, ℕ, suc, Bool, true, false, List, [], ◌∷◌, Option, Some, None, length, refl, sym, ap, subst, ◌∙◌}
+use Rattle.std.specs.Prelude.{if◌then◌else◌}
+use Rattle.std.specs.List.{list_all}
+use Rattle.std.proofs.lemmas.List.{append_cancel_left}
+use Rattle.std.proofs.lemmas.Bool.{eq-eqb, ne_eqb}
+use Rattle.il_frames.specs.declared.frame.Frame.{Frame}
+use Rattle.il_frames.specs.declared.entry.Entry.{Entry}
+use Rattle.il_frames.specs.Frames.{is_data}
+use Rattle.il_frames.specs.Messages.{message_of}
+use Rattle.il_device.specs.declared.device.Out.{Out}
+use Rattle.il_device.specs.State.{risen}
+use Rattle.il_ports.specs.Media.{MediumView}
+use Rattle.il_drive.specs.Runs.{Ran}
+use Rattle.loop_model.specs.Entries.{entry}
+use Rattle.loop_model.specs.Reach.{held_links, links_so_far}
+use Rattle.loop_model.specs.Roles.{roles_after}
+use Rattle.il_ring.specs.declared.plan.Arrival.{Arrival}
+use Rattle.il_ring.specs.declared.plan.Arrival.TheVariants as arrival
+use Rattle.il_ring.specs.declared.flight.Flight.{Flight}
+use Rattle.il_ring.specs.Plans.{next_fault}
+use Rattle.il_ring.specs.Flights.{sourced, hit}
+use Rattle.il_ring.specs.Books.{BooksView}
+use Rattle.il_ring.specs.Rings.{RingView, Round, devices_of, roles_of, home, comes, over_last_link, books_at}
+use Rattle.il_ring.specs.Rounded.{Rounded, IsReady, AllTook, device_sending, holding}
+use Rattle.il_ring.specs.Outcomes.{DriveTook, HostRound, DeviceRound}
+use Rattle.il_ring.specs.Adds.{Adds}
+use Rattle.il_ring.proofs.Passing.{Carries}
+use Rattle.il_ring.proofs.RoundRoles.{IsQuiet}
+use Rattle.il_ring.proofs.RoundCounts.{round_counts}
+use Rattle.il_ring.proofs.RolesHome.{host_round, device_round, others_leave}
+use Rattle.il_ring.proofs.Rings.{before-length, devices-length}
+
+-- ---- what a round leaves of the books
+
+comes_keeps : (b : BooksView) (f : Flight) (own data_frame : Bool) → ((comes b f own data_frame).plan ≡ b.plan) × ((comes b f own data_frame).room ≡ b.room)
+comes_keeps b f true data_frame = (refl, refl)
+comes_keeps b f false true = (refl, refl)
+comes_keeps b f false false = (refl, refl)
+
+link_keeps : (b : BooksView) (f : Flight) (o : Option Flight) → ((over_last_link b f o).plan ≡ b.plan) × ((over_last_link b f o).room ≡ b.room)
+link_keeps b f None = (refl, refl)
+link_keeps b f (Some g) = comes_keeps b g (g.source == 0) (is_data g.now)
+
+home_keeps : (b : BooksView) (flight : Option Flight) → ((home b flight).plan ≡ b.plan) × ((home b flight).room ≡ b.room)
+home_keeps b None = (refl, refl)
+home_keeps b (Some f) = link_keeps (record b { crossings = risen b.crossings }) f (hit (next_fault b.plan b.crossings) f)
+
+-- ---- the drive
+
+-- at most one frame came to it
+record DriveRan {M : Type 0} (view : M → MediumView) (r s : RingView M) : Type 0 where
+  came : List Frame
+  answers : List Out
+  ran : Ran view r.drive came answers s.drive
+
+drive_ran : {M : Type 0} (view : M → MediumView) (P : Frame → Type 0) (r s : RingView M) → DriveTook view P r s → DriveRan view r s
+drive_ran view P r s (inl stays) = record { came = []; answers = []; ran = stays.0 }
+drive_ran view P r s (inr took) = record { came = took.0 ∷ []; answers = took.2.0 ∷ []; ran = (s.drive, took.2.1.did, refl) }
+
+-- ---- any round
+
+-- whose entries these are, and which frame it leaves held
+pub round_adds : {M : Type 0} (view : M → MediumView) (P : Frame → Type 0) (r s : RingView M) (held : Option Flight) (f : Flight) (answer : Arrival) (entries : List Entry) (to : Option ℕ) → Round view r held f answer s → (counts : Rounded r held f answer s)
+    → s.books.log ≡ r.books.log ++ entries → holding counts.new ≡ to → roles_of (devices_of s) ≡ roles_after (roles_of (devices_of r)) entries → DriveTook view P r s → Adds view r (device_sending f) entries to s
+round_adds view P r s held f answer entries to round counts log new roles took =
+    let k = length (devices_of r) in
+    let same : counts.entries ≡ entries = append_cancel_left r.books.log counts.entries entries (sym counts.log ∙ log) in
+    let keeps = home_keeps (books_at (record r.books { held = held }) round.behind) round.behind.flight in
+    let ran = drive_ran view P r s took in
+    record {
+      log = log;
+      plan = ap (λ (b : BooksView). b.plan) round.books ∙ keeps.0;
+      room = ap (λ (b : BooksView). b.room) round.books ∙ keeps.1;
+      before = before-length view r s held f answer round;
+      size = devices-length view r s held f answer round;
+      links = counts.links;
+      crossings = counts.crossings;
+      linked = counts.linked ∙ ap (λ entries. links_so_far k entries (holding counts.new)) same ∙ ap (links_so_far k entries) new;
+      frames = subst (λ to. AllTook k (device_sending f) entries to 0 (devices_of r) (devices_of s)) new (subst (λ entries. AllTook k (device_sending f) entries (holding counts.new) 0 (devices_of r) (devices_of s)) same counts.frames);
+      roles = roles;
+      came = ran.came;
+      answers = ran.answers;
+      drive = ran.ran;
+    }
+
+-- ---- by kinds
+
+-- a frame of the host, whose entry is among these
+pub host_adds : {M : Type 0} (view : M → MediumView) (P : Frame → Type 0) (r s : RingView M) (held : Option Flight) (f : Frame) (answer : Arrival) (entries : List Entry) (to : Option ℕ) → Carries (message_of f) f → (round : Round view r held (sourced 0 f) answer s)
+    → s.books.log ≡ r.books.log ++ entries → holding (round_counts view r s held (sourced 0 f) answer (inl refl) round).new ≡ to → DriveTook view P r s → Adds view r None entries to s
+host_adds view P r s held f answer entries to carries round log new took =
+    let hosted = host_round view r s held (sourced 0 f) (message_of f) answer refl refl carries round in
+    let same : entry 0 f hosted.ended ∷ hosted.rest ≡ entries = append_cancel_left r.books.log (entry 0 f hosted.ended ∷ hosted.rest) entries (sym hosted.log ∙ log) in
+    round_adds view P r s held (sourced 0 f) answer entries to round (round_counts view r s held (sourced 0 f) answer (inl refl) round) log new (hosted.roles ∙ ap (roles_after (roles_of (devices_of r))) same) took
+
+-- the held frame of a device
+pub device_adds : {M : Type 0} (view : M → MediumView) (P : Frame → Type 0) (r s : RingView M) (held : Option Flight) (f : Flight) (answer : Arrival) (entries : List Entry) (to : Option ℕ) → IsQuiet f → (ready : IsReady f (devices_of r)) → (round : Round view r held f answer s)
+    → s.books.log ≡ r.books.log ++ entries → holding (round_counts view r s held f answer ready round).new ≡ to → DriveTook view P r s → Adds view r (device_sending f) entries to s
+device_adds view P r s held f answer entries to quiet ready round log new took =
+    let past = device_round view r s held f answer quiet round in
+    let same : past.entries ≡ entries = append_cancel_left r.books.log past.entries entries (sym past.log ∙ log) in
+    round_adds view P r s held f answer entries to round (round_counts view r s held f answer ready round) log new
+    (past.roles ∙ sym (others_leave (roles_of (devices_of r)) past.entries past.others) ∙ ap (roles_after (roles_of (devices_of r))) same) took
+
+-- ---- which frame is held then
+
+-- none, where none is
+pub none_new : {M : Type 0} (r s : RingView M) (held : Option Flight) (f : Flight) (answer : Arrival) (counts : Rounded r held f answer s) → s.books.held ≡ None → holding counts.new ≡ None
+none_new r s held f answer counts none = ⊎_elim (λ is. ap holding (sym is ∙ none)) (λ is. ap holding is.0) counts.held_is
+
+-- none, where no data frame arrives
+pub plain_new : {M : Type 0} (r s : RingView M) (held : Option Flight) (f : Flight) (g : Frame) (answer : Arrival) (counts : Rounded r held f answer s) → answer ≡ arrival.Frame g → is_data g ≡ false → holding counts.new ≡ None
+plain_new r s held f g answer counts arrives plain = by_new counts.new refl
+  where
+    by_new : (new : Option Flight) → counts.new ≡ new → holding new ≡ None
+    by_new None is = refl
+    by_new (Some h) is =
+        let told = counts.new_is h is in
+        let same : g ≡ h.now = ap (λ answer. elim answer [ arrival.Frame f ↦ f | arrival.Lost ↦ g ]) (sym arrives ∙ told.0) in
+        let clash = sym plain ∙ ap is_data same ∙ told.1 in cc
+
+-- the one that is, where none was
+pub held_new : {M : Type 0} (r s : RingView M) (f g : Flight) (answer : Arrival) (counts : Rounded r None f answer s) → s.books.held ≡ Some g → holding counts.new ≡ Some g.source
+held_new r s f g answer counts held = ⊎_elim (λ is. ap holding (sym is ∙ held)) (λ is. let clash = sym held ∙ is.1 in cc) counts.held_is
