@@ -1,0 +1,170 @@
+-- Calls one behind the other, and single rounds as calls.
+use Rattle.std.proofs.Common.{◌≡◌, ◌≢◌, ◌≤◌, ◌+◌, ◌-◌, ◌++◌, ◌⊎◌, inl, inr, ⊎_elim, ℕ, zero, suc, Bool, true, false, List, [], ◌∷◌, Option, Some, None, length, refl, sym, ap, ap₂, subst, ◌∙◌, arith, length-append}
+use Rattle.std.specs.Prelude.{MatchBool}
+use Rattle.il_frames.specs.declared.frame.Frame.{Frame}
+use Rattle.il_frames.specs.declared.entry.Entry.{Entry}
+use Rattle.il_frames.specs.declared.entry.Outcome.TheVariants as outcome
+use Rattle.il_frames.specs.declared.message.Message.{Message}
+use Rattle.il_frames.specs.declared.message.Message.TheVariants as msg
+use Rattle.il_frames.specs.Messages.{message_of}
+use Rattle.il_device.proofs.Laws.{risen_by, is_plain}
+use Rattle.il_ports.specs.Media.{MediumView}
+use Rattle.loop_model.specs.Reach.{met}
+use Rattle.loop_model.specs.Entries.{entry, rfc}
+use Rattle.loop_model.specs.Exchanges.{Break, FrameLost, returned, commanded, cut_at, can_cut}
+use Rattle.loop_model.proofs.ReachLaws.{met-split}
+use Rattle.il_ring.specs.declared.plan.Arrival.{Arrival}
+use Rattle.il_ring.specs.declared.plan.Arrival.TheVariants as arrival
+use Rattle.il_ring.specs.declared.flight.Flight.{Flight}
+use Rattle.il_ring.specs.Plans.{hops_of}
+use Rattle.il_ring.specs.Books.{IsHeld}
+use Rattle.il_ring.specs.Flights.{sourced}
+use Rattle.il_ring.specs.Rings.{RingView, IsRing, Round, devices_of, roles_of, spare_of}
+use Rattle.il_ring.specs.Outcomes.{met_between, Returned, WasLost}
+use Rattle.il_ring.specs.Adds.{Adds}
+use Rattle.il_ring.proofs.Faults.{risen_by_later}
+use Rattle.il_ring.proofs.Adding.{adds_more}
+use Rattle.il_ring.proofs.RoundAdds.{host_adds, none_new}
+use Rattle.il_ring.proofs.RoundCounts.{round_counts}
+use Rattle.il_ring.proofs.Passing.{Carries, Exactly, is_exact}
+use Rattle.il_ring.proofs.PassKinds.{Is, Any, plain_passes}
+use Rattle.il_ring.proofs.EndsHome.{any_each}
+use Rattle.il_ring.proofs.DriveRounds.{passed_drive}
+use Rattle.il_ring.proofs.SendLaws.{plain_sent}
+use Rattle.il_ring.proofs.Rings.{IsRing-round}
+use Rattle.il_ring.specs.Outcomes.{Obeys}
+use Rattle.il_control.specs.Calls.{Whole, Broke, IsFree}
+
+-- ---- cuts
+
+-- a cut of the first entries is one of all
+pub cut_front : (xs ys : List Entry) (n : ℕ) (b : Break) → can_cut 0 xs n b ≡ true → (cut_at (xs ++ ys) n b ≡ cut_at xs n b) × (can_cut 0 (xs ++ ys) n b ≡ true)
+cut_front [] ys n b legal = cc
+cut_front (x ∷ xs) ys zero b legal = (refl, legal)
+cut_front (x ∷ xs) ys (suc n) b legal = let more = cut_front xs ys n b legal in (ap (λ es. x ∷ es) more.0, more.1)
+
+-- and so is one of the entries behind them
+pub record CutBehind (xs ys : List Entry) (n : ℕ) (b : Break) : Type 0 where
+  pub standing : ℕ
+  pub entries : cut_at (xs ++ ys) standing b ≡ xs ++ cut_at ys n b
+  pub legal : can_cut 0 (xs ++ ys) standing b ≡ true
+
+pub cut_behind : (xs ys : List Entry) (n : ℕ) (b : Break) → can_cut 0 ys n b ≡ true → CutBehind xs ys n b
+cut_behind [] ys n b legal = record { standing = n; entries = refl; legal = legal }
+cut_behind (x ∷ xs) ys n b legal = let more = cut_behind xs ys n b legal in record { standing = suc more.standing; entries = ap (λ es. x ∷ es) more.entries; legal = more.legal }
+
+-- ---- planned hops over calls
+
+-- the crossings go up, and the plan stays
+met_parts : {M : Type 0} (view : M → MediumView) (r m s : RingView M) (a b c d : Option ℕ) (xs ys : List Entry) → IsRing r → IsRing m → Adds view r a xs b m → Adds view m c ys d s
+    → (met_between r s ≡ [] → (met_between r m ≡ []) × (met_between m s ≡ [])) × (((met_between r m ≡ []) × (met_between m s ≡ [])) → met_between r s ≡ [])
+met_parts view r m s a b c d xs ys ring ring_m first more =
+    let up : r.books.crossings ≤ m.books.crossings = omega (arith, first.crossings, risen_by_later first.links r.books.crossings ring.crossings) in
+    let on : m.books.crossings ≤ s.books.crossings = omega (arith, more.crossings, risen_by_later more.links m.books.crossings ring_m.crossings) in
+    let split = met-split (hops_of r.books.plan) r.books.crossings m.books.crossings s.books.crossings up on in
+    let same : met_between m s ≡ met (hops_of r.books.plan) m.books.crossings s.books.crossings = ap (λ plan. met (hops_of plan) m.books.crossings s.books.crossings) first.plan in
+    ((λ none. let parts = split.0 none in (parts.0, same ∙ parts.1)), (λ parts. split.1 (parts.0, sym same ∙ parts.1)))
+
+-- ---- one call behind the other
+
+pub whole_then : {M : Type 0} (view : M → MediumView) (r m s : RingView M) (xs ys : List Entry) → IsRing r → Whole view r xs m → Whole view m ys s → Whole view r (xs ++ ys) s
+whole_then view r m s xs ys ring first more = record {
+  adds = adds_more view r m s None None None xs ys first.adds more.adds;
+  ring = more.ring;
+  held = more.held;
+  met_none = (met_parts view r m s None None None None xs ys ring first.ring first.adds more.adds).1 (first.met_none, more.met_none);
+}
+
+pub broke_behind : {M : Type 0} (view : M → MediumView) (r m s : RingView M) (xs ys : List Entry) → IsRing r → Whole view r xs m → Broke view m ys s → Broke view r (xs ++ ys) s
+broke_behind view r m s xs ys ring first more =
+    let cut = cut_behind xs ys more.standing more.break more.legal in
+    let adds = adds_more view r m s None None more.held_at_end xs (cut_at ys more.standing more.break) first.adds more.adds in
+    record {
+      standing = cut.standing;
+      break = more.break;
+      legal = cut.legal;
+      held_at_end = more.held_at_end;
+      adds = subst (λ es. Adds view r None es more.held_at_end s) (sym cut.entries) adds;
+      ring = more.ring;
+      held = more.held;
+      met_some = λ none. more.met_some ((met_parts view r m s None None None more.held_at_end xs (cut_at ys more.standing more.break) ring first.ring first.adds more.adds).0 none).1;
+    }
+
+pub broke_before : {M : Type 0} (view : M → MediumView) (r s : RingView M) (xs ys : List Entry) → Broke view r xs s → Broke view r (xs ++ ys) s
+broke_before view r s xs ys broke =
+    let cut = cut_front xs ys broke.standing broke.break broke.legal in
+    record {
+      standing = broke.standing;
+      break = broke.break;
+      legal = cut.1;
+      held_at_end = broke.held_at_end;
+      adds = subst (λ es. Adds view r None es broke.held_at_end s) (sym cut.0) broke.adds;
+      ring = broke.ring;
+      held = broke.held;
+      met_some = broke.met_some;
+    }
+
+-- whether it was done whole
+abbrev pub Done : {M : Type 0} → (M → MediumView) → RingView M → List Entry → Bool → RingView M → Type 0
+Done view r entries whole s = MatchBool whole (Whole view r entries s) (Broke view r entries s)
+
+-- ---- a frame that every device passes on
+
+plain_exact : (m : Message) → is_plain m ≡ true → is_exact m ≡ true
+plain_exact (msg.Dab b) e = cc
+plain_exact (msg.Dsr b) e = cc
+plain_exact (msg.End b) e = cc
+plain_exact (msg.Esr b) e = cc
+plain_exact (msg.Idy b) e = cc
+plain_exact (msg.Isr b) e = cc
+plain_exact _ e = refl
+
+-- whether a frame arrived
+abbrev pub arrives : Arrival → Bool
+arrives (arrival.Frame g) = true
+arrives arrival.Lost = false
+
+pub plain_call : {M : Type 0} (view : M → MediumView) (r s : RingView M) (held : Option Flight) (f : Frame) (answer : Arrival) → Round view r held (sourced 0 f) answer s → held ≡ None → IsFree r → is_plain (message_of f) ≡ true → Done view r (returned 0 f ∷ []) (arrives answer) s
+plain_call view r s held f answer round none free plain =
+    let passes = plain_passes f plain in
+    let took = passed_drive view (Is f) Any (Obeys (message_of f)) passes r s held f answer free.ring.crossings (any_each 1 r.before) refl round in
+    let ring = IsRing-round view r s held (sourced 0 f) answer round free.ring (subst IsHeld (sym none) tt) in
+    let carries = Exactly (plain_exact (message_of f) plain) refl in
+    let counts = round_counts view r s held (sourced 0 f) answer (inl refl) round in
+    ⊎_elim
+    (λ (back : Returned r held f f answer s).
+    let held_is = back.held_is ∙ none in
+    subst (λ answer. Done view r (returned 0 f ∷ []) (arrives answer) s) (sym back.answer_is) (record {
+      adds = host_adds view (Is f (1 + length r.before)) r s held f answer (returned 0 f ∷ []) None carries round back.log (none_new r s held (sourced 0 f) answer counts held_is) took;
+      ring = ring;
+      held = held_is;
+      met_none = back.met_none;
+    }))
+    (λ (lost : WasLost r 0 f answer s).
+    subst (λ answer. Done view r (returned 0 f ∷ []) (arrives answer) s) (sym lost.answer_is) (record {
+      standing = 0;
+      break = FrameLost lost.party;
+      legal = refl;
+      held_at_end = None;
+      adds = host_adds view (Is f (1 + length r.before)) r s held f answer (entry 0 f (outcome.Lost lost.party) ∷ []) None carries round lost.log (none_new r s held (sourced 0 f) answer counts lost.held_is) took;
+      ring = ring;
+      held = lost.held_is;
+      met_some = lost.met_some;
+    }))
+    (plain_sent view r s held f (sourced 0 f) answer round refl free.ring plain)
+
+-- one call behind another that was done whole
+pub done_then : {M : Type 0} (view : M → MediumView) (r m s : RingView M) (xs ys : List Entry) (whole : Bool) → IsRing r → Whole view r xs m → Done view m ys whole s → Done view r (xs ++ ys) whole s
+done_then view r m s xs ys true ring first more = whole_then view r m s xs ys ring first more
+done_then view r m s xs ys false ring first more = broke_behind view r m s xs ys ring first more
+
+-- the room that a call leaves
+pub room_behind : {M : Type 0} (view : M → MediumView) (r m : RingView M) (xs : List Entry) (more : ℕ) → Whole view r xs m → length xs + more ≤ spare_of r → more ≤ spare_of m
+room_behind view r m xs more whole room =
+    let long : length m.books.log ≡ length r.books.log + length xs = ap length whole.adds.log ∙ length-append r.books.log xs in
+    subst (λ n. more ≤ n) (ap₂ (λ a b. a - b) (sym whole.adds.room) (sym long)) (omega (arith, room))
+
+-- a command and the handshake behind it
+pub command_done : {M : Type 0} (view : M → MediumView) (r m s : RingView M) (f g : Frame) (whole : Bool) → IsRing r → g ≡ rfc → Whole view r (returned 0 f ∷ []) m → Done view m (returned 0 g ∷ []) whole s → Done view r (commanded 0 f) whole s
+command_done view r m s f g whole ring is_rfc first more =
+    done_then view r m s (returned 0 f ∷ []) (returned 0 rfc ∷ []) whole ring first (subst (λ g. Done view m (returned 0 g ∷ []) whole s) is_rfc more)
