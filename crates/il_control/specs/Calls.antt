@@ -1,11 +1,17 @@
 -- What a call of the controller did to the ring: these entries, or a broken beginning of them.
-use Rattle.std.specs.Prelude.{◌≡◌, ◌≢◌, ℕ, true, List, [], ◌∷◌, Option, Some, None}
+use Rattle.std.specs.Prelude.{◌≡◌, ◌≢◌, ◌&&◌, not, ℕ, Bool, true, List, [], ◌∷◌, length, Option, Some, None}
+use Rattle.il_frames.specs.declared.frame.Class.TheVariants as class
+use Rattle.il_frames.specs.declared.frame.Frame.{Frame}
 use Rattle.il_frames.specs.declared.entry.Entry.{Entry}
+use Rattle.il_frames.specs.Frames.{class_of, same_class}
+use Rattle.il_frames.specs.Messages.{message_of}
 use Rattle.il_ports.specs.Media.{MediumView}
-use Rattle.loop_model.specs.Roles.{talkers}
-use Rattle.loop_model.specs.Exchanges.{Break, cut_at, can_cut}
+use Rattle.loop_model.specs.Loops.{Loop, host_loop}
+use Rattle.loop_model.specs.Roles.{talkers, is_at_most_one, OneTalker}
+use Rattle.loop_model.specs.Exchanges.{Break, Exchange, entries_of, is_exchange, is_talk_address, cut_at, can_cut}
 use Rattle.loop_model.proofs.RoleSteps.{are_numbered}
-use Rattle.il_ring.specs.Rings.{RingView, IsRing, devices_of, roles_of}
+use Rattle.loop_model.proofs.TalkLaws.{is_aau}
+use Rattle.il_ring.specs.Rings.{RingView, IsRing, devices_of, roles_of, drive_party}
 use Rattle.il_ring.specs.Outcomes.{met_between}
 use Rattle.il_ring.specs.Adds.{Adds}
 
@@ -39,3 +45,32 @@ pub record IsIdle {M : Type 0} (r : RingView M) : Type 0 where
   pub free : IsFree r
   pub silent : talkers (roles_of (devices_of r)) ≡ []
   pub numbered : are_numbered 1 (roles_of (devices_of r)) ≡ true
+
+-- at most one device talks
+pub record IsLost {M : Type 0} (r : RingView M) : Type 0 where
+  pub free : IsFree r
+  pub one : is_at_most_one (talkers (roles_of (devices_of r))) ≡ true
+
+-- ---- exchanges
+
+-- the loop of the ring
+abbrev pub loop_of : {M : Type 0} → RingView M → Loop
+loop_of r = host_loop (length (devices_of r)) (drive_party r)
+
+-- a command that gives no talk address and takes no address away
+abbrev pub is_command : Frame → Bool
+is_command f = same_class (class_of f) class.Cmd && (not (is_talk_address (message_of f)) && not (is_aau (message_of f)))
+
+-- the exchange was made, and at most one party talked at every moment of it
+pub record Made {M : Type 0} (view : M → MediumView) (x : Exchange) (r s : RingView M) : Type 0 where
+  pub whole : Whole view r (entries_of 0 x) s
+  pub legal : is_exchange (loop_of r) x ≡ true
+  pub one : OneTalker (roles_of (devices_of r)) (entries_of 0 x)
+  pub idle : IsIdle s
+
+-- it was broken off
+pub record BrokenOff {M : Type 0} (view : M → MediumView) (x : Exchange) (r s : RingView M) : Type 0 where
+  pub broke : Broke view r (entries_of 0 x) s
+  pub legal : is_exchange (loop_of r) x ≡ true
+  pub one : OneTalker (roles_of (devices_of r)) (cut_at (entries_of 0 x) broke.standing broke.break)
+  pub lost : IsLost s

@@ -1,6 +1,13 @@
+ghost use Rattle.std.specs.Prelude.{◌≡◌, ◌≤◌, [], true, IfOk, IfErr};
+ghost use Rattle.loop_model.specs.Exchanges.Exchange.{Command};
+ghost use Rattle.il_ring.specs.Rings.{spare_of};
+ghost use Rattle.il_control.specs.Calls.{IsIdle, IsLost, is_command, Made, BrokenOff};
+
+use crate::rounds::command;
 use il_device::Device;
+use il_frames::Frame;
 use il_ports::Medium;
-use il_ring::Ring;
+use il_ring::{Ring, Seen};
 use std::marker::PhantomData;
 
 /// No device talks.
@@ -22,4 +29,75 @@ pub struct Sending<M: Medium> {
 pub struct Lost<M: Medium> {
     ring: Ring<M>,
     devices: PhantomData<Box<dyn Device>>,
+}
+
+impl<M: Medium> Seen<M> for Idle<M> {
+    ghost use Rattle.std.specs.Prelude.{map};
+    ghost use Rattle.il_ring.specs.Rings.{RingView};
+
+    ghost seen = { λ s. record {
+      before = map (λ b. (Device-box b).state b.value) s.ring.boxes.before.items;
+      drive = s.ring.drive;
+      after = map (λ b. (Device-box b).state b.value) s.ring.boxes.after.items;
+      books = s.ring.books;
+    } };
+}
+
+impl<M: Medium> Seen<M> for Lost<M> {
+    ghost use Rattle.std.specs.Prelude.{map};
+    ghost use Rattle.il_ring.specs.Rings.{RingView};
+
+    ghost seen = { λ s. record {
+      before = map (λ b. (Device-box b).state b.value) s.ring.boxes.before.items;
+      drive = s.ring.drive;
+      after = map (λ b. (Device-box b).state b.value) s.ring.boxes.after.items;
+      books = s.ring.books;
+    } };
+}
+
+impl<M: Medium> Lost<M> {
+    /// The controller of a ring. No frame is held, and at most one device talks.
+    pub fn new(ring: Ring<M>) -> Lost<M>
+        requires { IsLost (⟦<Ring<M> as Seen<M>>⟧.seen ring) }
+        ensures { ⟦<Lost<M> as Seen<M>>⟧.seen result ≡ ⟦<Ring<M> as Seen<M>>⟧.seen ring }
+    {
+        Lost {
+            ring,
+            devices: PhantomData,
+        }
+    }
+
+    /// The ring, as it stands.
+    pub fn into_ring(self) -> Ring<M>
+        ensures { ⟦<Ring<M> as Seen<M>>⟧.seen result ≡ ⟦<Lost<M> as Seen<M>>⟧.seen self }
+    {
+        let Lost { ring, .. } = self;
+        ring
+    }
+}
+
+impl<M: Medium> Idle<M> {
+    /// Sends a command and awaits the handshake behind it.
+    pub fn command(self, frame: Frame) -> Result<Idle<M>, Lost<M>>
+        requires room { 34 ≤ spare_of (⟦<Idle<M> as Seen<M>>⟧.seen self) }
+        requires idle { IsIdle (⟦<Idle<M> as Seen<M>>⟧.seen self) }
+        requires command { is_command frame ≡ true }
+        ensures made { IfOk result (λ idle. Made M.view (Command frame) (⟦<Idle<M> as Seen<M>>⟧.seen self) (⟦<Idle<M> as Seen<M>>⟧.seen idle)) }
+        ensures broken { IfErr result (λ lost. BrokenOff M.view (Command frame) (⟦<Idle<M> as Seen<M>>⟧.seen self) (⟦<Lost<M> as Seen<M>>⟧.seen lost)) }
+    {
+        let Idle { mut ring, devices } = self;
+        if command(&mut ring, frame) {
+            Ok(Idle { ring, devices })
+        } else {
+            Err(Lost { ring, devices })
+        }
+    }
+
+    /// Gives up what the controller knows of the devices.
+    pub fn give_up(self) -> Lost<M>
+        ensures { ⟦<Lost<M> as Seen<M>>⟧.seen result ≡ ⟦<Idle<M> as Seen<M>>⟧.seen self }
+    {
+        let Idle { ring, devices } = self;
+        Lost { ring, devices }
+    }
 }

@@ -1,0 +1,91 @@
+-- Behind an exchange: the state, and that at most one party talked.
+use Rattle.std.proofs.Common.{◌≡◌, ◌∙◌, ◌<◌, ◌++◌, ◌&&◌, ℕ, suc, Bool, true, false, not, List, [], ◌∷◌, length, map, refl, sym, ap, subst, append-nil}
+use Rattle.std.specs.List.{list_all}
+use Rattle.std.proofs.lemmas.Bool.{and_parts, and_from, agree_below_at}
+use Rattle.std.proofs.lemmas.List.{length-map}
+use Rattle.il_frames.specs.declared.frame.Class.{Class}
+use Rattle.il_frames.specs.declared.frame.Class.TheVariants as class
+use Rattle.il_frames.specs.declared.frame.Frame.{Frame}
+use Rattle.il_frames.specs.declared.entry.Entry.{Entry}
+use Rattle.il_frames.specs.declared.message.Message.{Message}
+use Rattle.il_frames.specs.declared.message.Message.TheVariants as msg
+use Rattle.il_frames.specs.Frames.{byte_of, class_of, same_class}
+use Rattle.il_frames.specs.Messages.{message_of, message_at}
+use Rattle.il_device.specs.declared.roles.Roles.{Roles}
+use Rattle.il_device.proofs.Laws.{is_plain}
+use Rattle.il_ports.specs.Media.{MediumView}
+use Rattle.loop_model.specs.Roles.{talkers, is_at_most_one, is_in_turn, has_one_talker, roles_after, roles_after_entry, OneTalker}
+use Rattle.loop_model.specs.Exchanges.{Exchange, Command, commanded, entries_of, is_exchange, is_talk_address, cut_at, IsWhole}
+use Rattle.loop_model.specs.Exchanges.Piece.{Whole as WholeOne}
+use Rattle.loop_model.proofs.RoleLaws.{talkers-whole}
+use Rattle.loop_model.proofs.RoleSteps.{are_numbered}
+use Rattle.loop_model.proofs.RoundLaws.{OneTalker-safe, OneTalker-cut, safe_exchange, answers_as_asked, keeps_addresses, are_numbered-piece}
+use Rattle.loop_model.proofs.TalkLaws.{is_aau}
+use Rattle.il_ring.specs.Rings.{RingView, IsRing, devices_of, roles_of, drive_party}
+use Rattle.il_control.specs.Calls.{Whole, Broke, IsIdle, IsLost, loop_of, is_command, Made, BrokenOff}
+use Rattle.il_control.proofs.Calls.{Done}
+
+-- at most one device talks at the end of such a log
+pub one_at_end : (rs : List Roles) (log : List Entry) → OneTalker rs log → is_at_most_one (talkers (roles_after rs log)) ≡ true
+one_at_end rs [] one = one
+one_at_end rs (e ∷ log) one =
+    let parts = and_parts (is_at_most_one (talkers rs)) (is_in_turn (talkers rs) e && has_one_talker (roles_after_entry rs e) log) one in
+    one_at_end (roles_after_entry rs e) log (and_parts (is_in_turn (talkers rs) e) _ parts.1).1
+
+pub made : {M : Type 0} (view : M → MediumView) (x : Exchange) (r s : RingView M) → IsIdle r → is_exchange (loop_of r) x ≡ true → answers_as_asked (length (roles_of (devices_of r))) x ≡ true → keeps_addresses x ≡ true
+    → Whole view r (entries_of 0 x) s → Made view x r s
+made view x r s idle legal asked keeps whole =
+    let rs = roles_of (devices_of r) in
+    let size = length (devices_of r) in
+    let one_log : IsWhole (loop_of r) (entries_of 0 x) = record {
+      reading = record { pieces = WholeOne x ∷ []; legal = and_from _ _ legal refl; entries = sym (append-nil (entries_of 0 x)) };
+      whole = refl;
+    } in
+    record {
+      whole = whole;
+      legal = legal;
+      one = OneTalker-safe rs (entries_of 0 x) (safe_exchange size (drive_party r) rs x legal asked idle.numbered idle.silent);
+      idle = record {
+        free = record { ring = whole.ring; held = whole.held };
+        silent = ap talkers whole.adds.roles ∙ talkers-whole size (drive_party r) rs (entries_of 0 x) idle.silent one_log;
+        numbered = ap (are_numbered 1) whole.adds.roles ∙ are_numbered-piece size (drive_party r) rs (WholeOne x) legal keeps idle.numbered;
+      };
+    }
+
+pub broken_off : {M : Type 0} (view : M → MediumView) (x : Exchange) (r s : RingView M) → IsIdle r → is_exchange (loop_of r) x ≡ true → answers_as_asked (length (roles_of (devices_of r))) x ≡ true
+    → Broke view r (entries_of 0 x) s → BrokenOff view x r s
+broken_off view x r s idle legal asked broke =
+    let rs = roles_of (devices_of r) in
+    let one = OneTalker-cut rs (entries_of 0 x) broke.standing broke.break (safe_exchange (length (devices_of r)) (drive_party r) rs x legal asked idle.numbered idle.silent) broke.legal in
+    record {
+      broke = broke;
+      legal = legal;
+      one = one;
+      lost = record {
+        free = record { ring = broke.ring; held = broke.held };
+        one = ap (λ rs. is_at_most_one (talkers rs)) broke.adds.roles ∙ one_at_end rs _ one;
+      };
+    }
+
+-- ---- commands
+
+-- a command is passed on by every device
+plain_byte : (k : Class) (byte : ℕ) → byte < 256 → same_class k class.Cmd ≡ true → is_plain (message_at k byte) ≡ true
+plain_byte class.Cmd byte small is = agree_below_at (λ b. is_plain (message_at class.Cmd b)) (λ b. true) 256 byte refl small
+plain_byte _ byte small is = cc
+
+pub command_plain : (f : Frame) → byte_of f < 256 → is_command f ≡ true → is_plain (message_of f) ≡ true
+command_plain f small is = plain_byte (class_of f) (byte_of f) small (and_parts _ _ is).0
+
+-- behind one: the state
+pub command_made : {M : Type 0} (view : M → MediumView) (f : Frame) (r s : RingView M) → IsIdle r → is_command f ≡ true → Whole view r (commanded 0 f) s → Made view (Command f) r s
+command_made view f r s idle is whole =
+    let parts = and_parts (same_class (class_of f) class.Cmd) (not (is_talk_address (message_of f)) && not (is_aau (message_of f))) is in
+    let says = and_parts (not (is_talk_address (message_of f))) (not (is_aau (message_of f))) parts.1 in
+    made view (Command f) r s idle (and_from _ _ parts.0 says.0) refl says.1 whole
+
+pub command_broken : {M : Type 0} (view : M → MediumView) (f : Frame) (r s : RingView M) → IsIdle r → is_command f ≡ true → Broke view r (commanded 0 f) s → BrokenOff view (Command f) r s
+command_broken view f r s idle is broke =
+    let parts = and_parts (same_class (class_of f) class.Cmd) (not (is_talk_address (message_of f)) && not (is_aau (message_of f))) is in
+    let says = and_parts (not (is_talk_address (message_of f))) (not (is_aau (message_of f))) parts.1 in
+    broken_off view (Command f) r s idle (and_from _ _ parts.0 says.0) refl broke
