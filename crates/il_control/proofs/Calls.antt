@@ -30,7 +30,12 @@ use Rattle.il_ring.proofs.Passing.{Carries, Exactly, is_exact}
 use Rattle.il_ring.proofs.PassKinds.{Is, Any, plain_passes}
 use Rattle.il_ring.proofs.EndsHome.{any_each}
 use Rattle.il_ring.proofs.DriveRounds.{passed_drive}
-use Rattle.il_ring.proofs.SendLaws.{plain_sent}
+use Rattle.il_ring.proofs.PassRounds.{passed_round}
+use Rattle.il_ring.proofs.Passes.{PassesOn}
+use Rattle.il_ring.specs.Lists.{Each}
+use Rattle.il_device.specs.State.{DeviceState}
+use Rattle.il_drive.specs.State.{device_of}
+use Rattle.il_frames.specs.declared.entry.Outcome.{Outcome}
 use Rattle.il_ring.proofs.Rings.{IsRing-round}
 use Rattle.il_ring.specs.Outcomes.{Obeys}
 use Rattle.il_control.specs.Calls.{Whole, Broke, IsFree}
@@ -124,34 +129,51 @@ abbrev pub arrives : Arrival → Bool
 arrives (arrival.Frame g) = true
 arrives arrival.Lost = false
 
-pub plain_call : {M : Type 0} (view : M → MediumView) (r s : RingView M) (held : Option Flight) (f : Frame) (answer : Arrival) → Round view r held (sourced 0 f) answer s → held ≡ None → IsFree r → is_plain (message_of f) ≡ true → Done view r (returned 0 f ∷ []) (arrives answer) s
-plain_call view r s held f answer round none free plain =
-    let passes = plain_passes f plain in
-    let took = passed_drive view (Is f) Any (Obeys (message_of f)) passes r s held f answer free.ring.crossings (any_each 1 r.before) refl round in
+each_front : (P : ℕ → DeviceState → Type 0) (k : ℕ) (ds rest : List DeviceState) → Each P k (ds ++ rest) → Each P k ds
+each_front P k [] rest each = tt
+each_front P k (d ∷ ds) rest each = (each.0, each_front P (k + 1) ds rest each.1)
+
+-- A frame that every device passes on came back whole; or it was lost at a planned hop.
+abbrev pub PassEnd : {M : Type 0} → (M → MediumView) → (ℕ → Frame → Type 0) → RingView M → Frame → Arrival → RingView M → Type 0
+PassEnd view Q r f answer s = ((g : Frame) × Q (suc (length (devices_of r))) g × (answer ≡ arrival.Frame g) × Whole view r (entry 0 f (outcome.Back g) ∷ []) s)
+    ⊎ ((answer ≡ arrival.Lost) × ((o : Outcome) → Broke view r (entry 0 f o ∷ []) s))
+
+pub pass_call : {M : Type 0} (view : M → MediumView) (Q : ℕ → Frame → Type 0) (P : ℕ → DeviceState → Type 0) (R : DeviceState → DeviceState → Type 0) → PassesOn Q P R → (r s : RingView M) (held : Option Flight) (f : Frame) (answer : Arrival)
+    → Round view r held (sourced 0 f) answer s → held ≡ None → IsFree r → Each P 1 (devices_of r) → Q 1 f → Carries (message_of f) f → PassEnd view Q r f answer s
+pass_call view Q P R passes r s held f answer round none free fit is carries =
+    let fit_before = each_front P 1 r.before (device_of r.drive.state ∷ r.after) fit in
+    let passed = passed_round view Q P R passes r s held f answer free.ring.crossings fit is round in
+    let took = passed_drive view Q P R passes r s held f answer free.ring.crossings fit_before is round in
     let ring = IsRing-round view r s held (sourced 0 f) answer round free.ring (subst IsHeld (sym none) tt) in
-    let carries = Exactly (plain_exact (message_of f) plain) refl in
     let counts = round_counts view r s held (sourced 0 f) answer (inl refl) round in
     ⊎_elim
-    (λ (back : Returned r held f f answer s).
+    (λ end.
+    let back = end.3 in
     let held_is = back.held_is ∙ none in
-    subst (λ answer. Done view r (returned 0 f ∷ []) (arrives answer) s) (sym back.answer_is) (record {
-      adds = host_adds view (Is f (1 + length r.before)) r s held f answer (returned 0 f ∷ []) None carries round back.log (none_new r s held (sourced 0 f) answer counts held_is) took;
+    inl (end.0, end.1, back.answer_is, record {
+      adds = host_adds view (Q (1 + length r.before)) r s held f answer (entry 0 f (outcome.Back end.0) ∷ []) None carries round back.log (none_new r s held (sourced 0 f) answer counts held_is) took;
       ring = ring;
       held = held_is;
       met_none = back.met_none;
     }))
-    (λ (lost : WasLost r 0 f answer s).
-    subst (λ answer. Done view r (returned 0 f ∷ []) (arrives answer) s) (sym lost.answer_is) (record {
+    (λ lost. inr (lost.answer_is, λ o. record {
       standing = 0;
       break = FrameLost lost.party;
       legal = refl;
       held_at_end = None;
-      adds = host_adds view (Is f (1 + length r.before)) r s held f answer (entry 0 f (outcome.Lost lost.party) ∷ []) None carries round lost.log (none_new r s held (sourced 0 f) answer counts lost.held_is) took;
+      adds = host_adds view (Q (1 + length r.before)) r s held f answer (entry 0 f (outcome.Lost lost.party) ∷ []) None carries round lost.log (none_new r s held (sourced 0 f) answer counts lost.held_is) took;
       ring = ring;
       held = lost.held_is;
       met_some = lost.met_some;
     }))
-    (plain_sent view r s held f (sourced 0 f) answer round refl free.ring plain)
+    passed.end
+
+pub plain_call : {M : Type 0} (view : M → MediumView) (r s : RingView M) (held : Option Flight) (f : Frame) (answer : Arrival) → Round view r held (sourced 0 f) answer s → held ≡ None → IsFree r → is_plain (message_of f) ≡ true → Done view r (returned 0 f ∷ []) (arrives answer) s
+plain_call view r s held f answer round none free plain =
+    ⊎_elim
+    (λ came. subst (λ answer. Done view r (returned 0 f ∷ []) (arrives answer) s) (sym came.2) (subst (λ g. Whole view r (entry 0 f (outcome.Back g) ∷ []) s) came.1 came.3))
+    (λ lost. subst (λ answer. Done view r (returned 0 f ∷ []) (arrives answer) s) (sym lost.0) (lost.1 (outcome.Back f)))
+    (pass_call view (Is f) Any (Obeys (message_of f)) (plain_passes f plain) r s held f answer round none free (any_each 1 (devices_of r)) refl (Exactly (plain_exact (message_of f) plain) refl))
 
 -- one call behind another that was done whole
 pub done_then : {M : Type 0} (view : M → MediumView) (r m s : RingView M) (xs ys : List Entry) (whole : Bool) → IsRing r → Whole view r xs m → Done view m ys whole s → Done view r (xs ++ ys) whole s

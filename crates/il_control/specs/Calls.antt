@@ -3,7 +3,7 @@ use Rattle.std.specs.Prelude.{◌≡◌, ◌≢◌, ◌&&◌, not, ℕ, Bool, tr
 use Rattle.il_frames.specs.declared.frame.Class.TheVariants as class
 use Rattle.il_frames.specs.declared.frame.Frame.{Frame}
 use Rattle.il_frames.specs.declared.entry.Entry.{Entry}
-use Rattle.il_frames.specs.Frames.{class_of, same_class}
+use Rattle.il_frames.specs.Frames.{class_of, framed, same_class}
 use Rattle.il_frames.specs.Messages.{message_of}
 use Rattle.il_ports.specs.Media.{MediumView}
 use Rattle.loop_model.specs.Loops.{Loop, host_loop}
@@ -56,6 +56,10 @@ pub record IsLost {M : Type 0} (r : RingView M) : Type 0 where
 -- the loop of the ring
 abbrev pub loop_of : {M : Type 0} → RingView M → Loop
 loop_of r = host_loop (length (devices_of r)) (drive_party r)
+
+-- the identify frame of a controller, on which no device has set a bit
+abbrev pub idy : Frame
+idy = framed class.Idy 0x00
 
 -- a command that gives no talk address and takes no address away
 abbrev pub is_command : Frame → Bool

@@ -1,6 +1,7 @@
 // The frames of a controller (HP-IL Interface Specification, HP 82166-90017, the tables of command and ready messages).
 ghost use Rattle.std.specs.Prelude.{◌≡◌, ◌≤◌, ◌<◌};
 ghost use Rattle.loop_model.specs.Entries as entries;
+ghost use Rattle.il_control.specs.Calls as calls;
 
 use il_frames::{Class, Frame};
 
@@ -46,6 +47,13 @@ pub(crate) fn rfc() -> Frame
     ensures { result ≡ entries.rfc }
 {
     Frame::new(Class::Rdy, 0x00)
+}
+
+/// Identify.
+pub(crate) fn idy() -> Frame
+    ensures { result ≡ calls.idy }
+{
+    Frame::new(Class::Idy, 0x00)
 }
 
 /// Auto address 1.

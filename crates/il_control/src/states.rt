@@ -1,13 +1,15 @@
 ghost use Rattle.std.specs.Prelude.{◌≡◌, ◌≤◌, [], true, IfOk, IfErr};
-ghost use Rattle.loop_model.specs.Exchanges.Exchange.{Command};
-ghost use Rattle.il_ring.specs.Rings.{spare_of};
-ghost use Rattle.il_control.specs.Calls.{IsIdle, IsLost, is_command, Made, BrokenOff};
+ghost use Rattle.loop_model.specs.Exchanges.Exchange.{Command, Identify};
+ghost use Rattle.il_ring.specs.Rings.{spare_of, devices_of};
+ghost use Rattle.il_ring.specs.Polls.{identified_along};
+ghost use Rattle.il_control.specs.Calls.{idy, IsIdle, IsLost, is_command, Made, BrokenOff};
 
+use crate::frames;
 use crate::rounds::command;
 use il_device::Device;
 use il_frames::Frame;
 use il_ports::Medium;
-use il_ring::{Ring, Seen};
+use il_ring::{Arrival, Ring, Seen};
 use std::marker::PhantomData;
 
 /// No device talks.
@@ -90,6 +92,22 @@ impl<M: Medium> Idle<M> {
             Ok(Idle { ring, devices })
         } else {
             Err(Lost { ring, devices })
+        }
+    }
+
+    /// Sends the identify frame. What comes back has the bit of each device that is assigned one in
+    /// the parallel poll and wants service, and the service bit where any wants it.
+    pub fn identify(self) -> Result<(Idle<M>, Frame), Lost<M>>
+        requires room { 33 ≤ spare_of (⟦<Idle<M> as Seen<M>>⟧.seen self) }
+        requires idle { IsIdle (⟦<Idle<M> as Seen<M>>⟧.seen self) }
+        ensures made { IfOk result (λ told. Made M.view (Identify told.1) (⟦<Idle<M> as Seen<M>>⟧.seen self) (⟦<Idle<M> as Seen<M>>⟧.seen told.0)) }
+        ensures poll { IfOk result (λ told. told.1 ≡ identified_along (devices_of (⟦<Idle<M> as Seen<M>>⟧.seen self)) idy) }
+        ensures broken { IfErr result (λ lost. BrokenOff M.view (Identify idy) (⟦<Idle<M> as Seen<M>>⟧.seen self) (⟦<Lost<M> as Seen<M>>⟧.seen lost)) }
+    {
+        let Idle { mut ring, devices } = self;
+        match ring.send(frames::idy()) {
+            Arrival::Frame(frame) => Ok((Idle { ring, devices }, frame)),
+            Arrival::Lost => Err(Lost { ring, devices }),
         }
     }
 

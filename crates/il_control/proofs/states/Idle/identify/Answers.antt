@@ -1,0 +1,11 @@
+use Rattle.il_control.proofs.Polls.{identify_call}
+use Rattle.il_control.proofs.states.Idle.identify.Goals as goal
+
+pub returns-in-Frame-clause-made : goal.returns-in-Frame-clause-made
+returns-in-Frame-clause-made g c = (identify_call g.M.Medium.view _ _ _ _ _ c.in-Frame.ensures.round c.idy.ensures c.requires.idle.free.held c.requires.idle).0
+
+pub returns-in-Frame-clause-poll : goal.returns-in-Frame-clause-poll
+returns-in-Frame-clause-poll g c = (identify_call g.M.Medium.view _ _ _ _ _ c.in-Frame.ensures.round c.idy.ensures c.requires.idle.free.held c.requires.idle).1
+
+pub returns-in-Lost-clause-broken : goal.returns-in-Lost-clause-broken
+returns-in-Lost-clause-broken g c = identify_call g.M.Medium.view _ _ _ _ _ c.in-Lost.ensures.round c.idy.ensures c.requires.idle.free.held c.requires.idle
