@@ -1,5 +1,5 @@
 -- The identify frame as a call.
-use Rattle.std.proofs.Common.{◌≡◌, ◌∙◌, ◌||◌, ◌-◌, ◌++◌, inl, inr, ⊎_elim, suc, true, [], ◌∷◌, Option, None, length, drop, refl, sym, ap, subst}
+use Rattle.std.proofs.Common.{◌≡◌, ◌∙◌, ◌||◌, ◌-◌, ◌++◌, inl, inr, ⊎_elim, suc, true, [], ◌∷◌, Option, None, length, drop, refl, sym, ap, subst, arith}
 use Rattle.std.proofs.Math.Seq.{drop-length}
 use Rattle.il_frames.specs.declared.frame.Class.{Class}
 use Rattle.il_frames.specs.declared.frame.Class.TheVariants as class
@@ -40,7 +40,8 @@ identify_call view r s held f answer round is none idle =
     (λ came.
     let back = came.0 in
     let leads = came.1 in
-    let past : identified_along (drop (length all) all) back ≡ back = ap (λ rest. identified_along rest back) (drop-length all) in
+    let less : suc (length all) - 1 ≡ length all = omega arith in
+    let past : identified_along (drop (suc (length all) - 1) all) back ≡ back = ap (λ n. identified_along (drop n all) back) less ∙ ap (λ rest. identified_along rest back) (drop-length all) in
     subst (λ answer. Polled view r answer s) (sym came.2) (
       made view (Identify back) r s idle (identify_class (class_of back) leads.identify) refl refl came.3,
       sym past ∙ leads.behind,
