@@ -129,7 +129,7 @@ abbrev pub arrives : Arrival → Bool
 arrives (arrival.Frame g) = true
 arrives arrival.Lost = false
 
-each_front : (P : ℕ → DeviceState → Type 0) (k : ℕ) (ds rest : List DeviceState) → Each P k (ds ++ rest) → Each P k ds
+pub each_front : (P : ℕ → DeviceState → Type 0) (k : ℕ) (ds rest : List DeviceState) → Each P k (ds ++ rest) → Each P k ds
 each_front P k [] rest each = tt
 each_front P k (d ∷ ds) rest each = (each.0, each_front P (k + 1) ds rest each.1)
 

@@ -1,18 +1,20 @@
 -- What a call of the controller did to the ring: these entries, or a broken beginning of them.
-use Rattle.std.specs.Prelude.{◌≡◌, ◌≢◌, ◌&&◌, not, ℕ, Bool, true, List, [], ◌∷◌, length, Option, Some, None}
+use Rattle.std.specs.Prelude.{◌≡◌, ◌≢◌, ◌&&◌, ◌==◌, not, ℕ, Bool, true, List, [], ◌∷◌, length, Option, Some, None}
 use Rattle.il_frames.specs.declared.frame.Class.TheVariants as class
 use Rattle.il_frames.specs.declared.frame.Frame.{Frame}
 use Rattle.il_frames.specs.declared.entry.Entry.{Entry}
 use Rattle.il_frames.specs.Frames.{class_of, framed, same_class}
 use Rattle.il_frames.specs.Messages.{message_of}
+use Rattle.il_device.specs.State.{DeviceState}
 use Rattle.il_ports.specs.Media.{MediumView}
 use Rattle.loop_model.specs.Loops.{Loop, host_loop}
 use Rattle.loop_model.specs.Roles.{talkers, is_at_most_one, OneTalker}
-use Rattle.loop_model.specs.Exchanges.{Break, Exchange, entries_of, is_exchange, is_talk_address, cut_at, can_cut}
+use Rattle.loop_model.specs.Exchanges.{Break, Echo, Exchange, echoed, entries_of, is_exchange, is_host_echo, is_talk_address, cut_at, can_cut}
 use Rattle.loop_model.proofs.RoleSteps.{are_numbered}
 use Rattle.loop_model.proofs.TalkLaws.{is_aau}
 use Rattle.il_ring.specs.Rings.{RingView, IsRing, devices_of, roles_of, drive_party}
-use Rattle.il_ring.specs.Outcomes.{met_between}
+use Rattle.il_ring.specs.Lists.{First}
+use Rattle.il_ring.specs.Outcomes.{met_between, HearsByte, HearsAny}
 use Rattle.il_ring.specs.Adds.{Adds}
 
 -- the entries, whole: no planned hop was met, and no frame is held
@@ -77,4 +79,31 @@ pub record BrokenOff {M : Type 0} (view : M → MediumView) (x : Exchange) (r s 
   pub broke : Broke view r (entries_of 0 x) s
   pub legal : is_exchange (loop_of r) x ≡ true
   pub one : OneTalker (roles_of (devices_of r)) (cut_at (entries_of 0 x) broke.standing broke.break)
+  pub lost : IsLost s
+
+-- ---- a send, byte by byte
+
+-- the data frame of a byte, and what came back of it
+abbrev pub sent_as : ℕ → Frame → Echo
+sent_as byte back = record { sent = framed class.Dab byte; back = back }
+
+-- party k listens exactly where it is a
+abbrev pub IsTold : ℕ → ℕ → DeviceState → Type 0
+IsTold a k d = d.roles.listens ≡ (k == a)
+
+-- The data frame of this byte came back the same apart from the service bit, and each device that listens heard it.
+pub record Sent {M : Type 0} (view : M → MediumView) (byte : ℕ) (r s : RingView M) : Type 0 where
+  pub back : Frame
+  pub legal : is_host_echo (sent_as byte back) ≡ true
+  pub whole : Whole view r (echoed 0 (sent_as byte back) ∷ []) s
+  pub one : OneTalker (roles_of (devices_of r)) (echoed 0 (sent_as byte back) ∷ [])
+  pub heard : First (HearsByte byte) (length (devices_of r)) (devices_of r) (devices_of s)
+  pub idle : IsIdle s
+
+-- It was lost, or came back with another byte; the first so many devices heard what came to them.
+pub record NotSent {M : Type 0} (view : M → MediumView) (byte : ℕ) (r s : RingView M) : Type 0 where
+  pub broke : Broke view r (echoed 0 (sent_as byte (framed class.Dab byte)) ∷ []) s
+  pub one : OneTalker (roles_of (devices_of r)) (cut_at (echoed 0 (sent_as byte (framed class.Dab byte)) ∷ []) broke.standing broke.break)
+  pub reached : ℕ
+  pub heard : First HearsAny reached (devices_of r) (devices_of s)
   pub lost : IsLost s

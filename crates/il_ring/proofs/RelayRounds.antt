@@ -49,7 +49,7 @@ test_false true never = absurd (never refl)
 test_false false never = refl
 
 -- another byte is a wrong echo
-wrong_echo : (f g : Frame) → byte_of g ≢ byte_of f → same_but_service f g ≡ false
+pub wrong_echo : (f g : Frame) → byte_of g ≢ byte_of f → same_but_service f g ≡ false
 wrong_echo f g other =
     test_false (same_but_service f g) (λ right. other (sym (eqb-true (byte_of f) (byte_of g) (and_parts (same_class (class_of (with_service f)) (class_of (with_service g))) (byte_of f == byte_of g) right).1)))
 

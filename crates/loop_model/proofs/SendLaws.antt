@@ -110,7 +110,7 @@ roles_told_are rs a number e =
     ∙ ap (λ (ss : List Roles). roles_after_entry ss (returned 0 (lad a))) (kept_entry (roles_after_entry rs (returned 0 unl)) (returned 0 rfc) refl)
 
 -- the device that is told to listen does then
-told_listens : (rs : List Roles) (a : ℕ) (number : Option ℕ) → are_numbered 1 rs ≡ true → is_address a ≡ true → 1 ≤ a → a ≤ length rs → is_number number ≡ true → (roles_at a (roles_told rs a number)).listens ≡ true
+pub told_listens : (rs : List Roles) (a : ℕ) (number : Option ℕ) → are_numbered 1 rs ≡ true → is_address a ≡ true → 1 ≤ a → a ≤ length rs → is_number number ≡ true → (roles_at a (roles_told rs a number)).listens ≡ true
 told_listens rs a number numbers low some here e =
     let cleared = roles_after_entry rs (returned 0 unl) in
     ap (λ (ss : List Roles). (roles_at a ss).listens) (roles_told_are rs a number e)
@@ -141,7 +141,7 @@ silent_by : (a : ℕ) (r : Roles) → is_own r.address a ≡ false → r.listens
 silent_by a r other silent = rw other silent
 
 -- another device than the one told does not listen then
-others_do_not : (rs : List Roles) (a party : ℕ) (number : Option ℕ) → are_numbered 1 rs ≡ true → is_address a ≡ true → 1 ≤ party → party ≤ length rs → (party ≡ a → ⊥) → is_number number ≡ true
+pub others_do_not : (rs : List Roles) (a party : ℕ) (number : Option ℕ) → are_numbered 1 rs ≡ true → is_address a ≡ true → 1 ≤ party → party ≤ length rs → (party ≡ a → ⊥) → is_number number ≡ true
     → (roles_at party (roles_told rs a number)).listens ≡ false
 others_do_not rs a party number numbers low some here other e =
     let cleared = roles_after_entry rs (returned 0 unl) in

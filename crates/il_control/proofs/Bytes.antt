@@ -1,0 +1,132 @@
+-- A data frame of the host as a call.
+use Rattle.std.proofs.Common.{◌≡◌, ◌≢◌, ◌∙◌, ◌||◌, ◌+◌, ◌++◌, ◌&&◌, ◌==◌, ◌⊎◌, inl, inr, ⊎_elim, ℕ, suc, true, false, not, List, [], ◌∷◌, Option, None, length, refl, sym, ap, subst}
+use Rattle.std.proofs.lemmas.Bool.{and_from}
+use Rattle.il_frames.specs.declared.frame.Class.TheVariants as class
+use Rattle.il_frames.specs.declared.frame.Frame.{Frame}
+use Rattle.il_frames.specs.declared.entry.Entry.{Entry}
+use Rattle.il_frames.specs.declared.entry.Outcome.{Outcome}
+use Rattle.il_frames.specs.declared.entry.Outcome.TheVariants as outcome
+use Rattle.il_frames.specs.Frames.{framed, is_data, same_but_service, with_service}
+use Rattle.il_device.specs.State.{DeviceState}
+use Rattle.il_drive.specs.State.{device_of}
+use Rattle.il_ports.specs.Media.{MediumView}
+use Rattle.loop_model.specs.Entries.{entry}
+use Rattle.loop_model.specs.Roles.{talkers, is_at_most_one}
+use Rattle.loop_model.specs.Exchanges.{FrameLost, HostAltered, echoed}
+use Rattle.loop_model.proofs.RoleSteps.{are_numbered, kept_entry, OneTalker-silent}
+use Rattle.il_ring.specs.declared.plan.Arrival.{Arrival}
+use Rattle.il_ring.specs.declared.plan.Arrival.TheVariants as arrival
+use Rattle.il_ring.specs.declared.flight.Flight.{Flight}
+use Rattle.il_ring.specs.Books.{IsHeld}
+use Rattle.il_ring.specs.Flights.{sourced}
+use Rattle.il_ring.specs.Lists.{Each, AllSilent}
+use Rattle.il_ring.specs.Outcomes.{IsBrought, CameAltered, WasLost, DataReturned, DataBroken}
+use Rattle.il_ring.specs.Adds.{Adds}
+use Rattle.il_ring.specs.Rings.{RingView, Round, devices_of, roles_of}
+use Rattle.il_ring.proofs.DataDrive.{data_drive}
+use Rattle.il_ring.proofs.DataPasses.{same_served}
+use Rattle.il_ring.proofs.PassKinds.{Silent}
+use Rattle.il_ring.proofs.Passing.{AsData}
+use Rattle.il_ring.proofs.RelayRounds.{wrong_echo}
+use Rattle.il_ring.proofs.Rings.{IsRing-round}
+use Rattle.il_ring.proofs.RoundAdds.{host_adds, none_new}
+use Rattle.il_ring.proofs.RoundCounts.{round_counts}
+use Rattle.il_ring.proofs.SendLaws.{data_sent}
+use Rattle.il_ring.proofs.Splits.{each_silent}
+use Rattle.il_ring.proofs.Talkers.{none_talk}
+use Rattle.il_control.specs.Calls.{Broke, IsIdle, IsLost, sent_as, Sent, NotSent}
+use Rattle.il_control.proofs.Calls.{each_front}
+
+abbrev dab : ℕ → Frame
+dab byte = framed class.Dab byte
+
+-- what came of it
+abbrev pub ByteEnd : {M : Type 0} → (M → MediumView) → ℕ → RingView M → Arrival → RingView M → Type 0
+ByteEnd view byte r answer s = ((back : Frame) × (answer ≡ arrival.Frame back) × (same_but_service (dab byte) back ≡ true) × Sent view byte r s)
+    ⊎ (((answer ≡ arrival.Lost) ⊎ ((back : Frame) × (answer ≡ arrival.Frame back) × (same_but_service (dab byte) back ≡ false))) × NotSent view byte r s)
+
+module _ {M : Type 0} (view : M → MediumView) (byte : ℕ) (r s : RingView M) (held : Option Flight) (answer : Arrival) (round : Round view r held (sourced 0 (dab byte)) answer s) (none : held ≡ None) (idle : IsIdle r) where
+  silent : AllSilent (devices_of r)
+  silent = none_talk 1 (devices_of r) idle.silent
+
+  adds : (o : Outcome) → s.books.log ≡ r.books.log ++ entry 0 (dab byte) o ∷ [] → s.books.held ≡ None → Adds view r None (entry 0 (dab byte) o ∷ []) None s
+  adds o log free =
+      host_adds view (IsBrought r s (dab byte)) r s held (dab byte) answer (entry 0 (dab byte) o ∷ []) None (AsData refl refl) round log
+      (none_new r s held (sourced 0 (dab byte)) answer (round_counts view r s held (sourced 0 (dab byte)) answer (inl refl) round) free)
+      (data_drive view r s held (sourced 0 (dab byte)) answer round idle.free.ring.crossings idle.free.ring.plan refl (each_front Silent 1 r.before (device_of r.drive.state ∷ r.after) (each_silent 1 (devices_of r) silent)))
+
+  still : (o : Outcome) → s.books.held ≡ None → Adds view r None (entry 0 (dab byte) o ∷ []) None s → IsIdle s
+  still o free added =
+      let same : roles_of (devices_of s) ≡ roles_of (devices_of r) = added.roles ∙ kept_entry (roles_of (devices_of r)) (entry 0 (dab byte) o) refl in
+      record {
+        free = record { ring = IsRing-round view r s held (sourced 0 (dab byte)) answer round idle.free.ring (subst IsHeld (sym none) tt); held = free };
+        silent = ap talkers same ∙ idle.silent;
+        numbered = ap (are_numbered 1) same ∙ idle.numbered;
+      }
+
+  back_whole : DataReturned r held (dab byte) answer s → ByteEnd view byte r answer s
+  back_whole back =
+      let returned = back.returned in
+      let free = returned.held_is ∙ none in
+      let added = adds (outcome.Back back.back) returned.log free in
+      let now = still (outcome.Back back.back) free added in
+      let echo = same_served (dab byte) back.back back.same in
+      inl (back.back, returned.answer_is, echo, record {
+        back = back.back;
+        legal = echo;
+        whole = record { adds = added; ring = now.free.ring; held = free; met_none = returned.met_none };
+        one = OneTalker-silent (roles_of (devices_of r)) (echoed 0 (sent_as byte back.back) ∷ []) idle.silent refl refl;
+        heard = back.heard;
+        idle = now;
+      })
+
+  lost_at : IsIdle s → IsLost s
+  lost_at now = record { free = now.free; one = ap is_at_most_one now.silent }
+
+  broken : DataBroken r held (dab byte) answer s → ByteEnd view byte r answer s
+  broken not_sent =
+      ⊎_elim
+      (λ (altered : CameAltered r held (dab byte) answer s).
+      let free = altered.held_is ∙ none in
+      let added = adds (outcome.Back altered.back) altered.log free in
+      let now = still (outcome.Back altered.back) free added in
+      let other = wrong_echo (dab byte) altered.back altered.other in
+      inr (inr (altered.back, altered.answer_is, other), record {
+        broke = record {
+          standing = 0;
+          break = HostAltered altered.back;
+          legal = ap not other;
+          held_at_end = None;
+          adds = added;
+          ring = now.free.ring;
+          held = free;
+          met_some = altered.met_some;
+        };
+        one = OneTalker-silent (roles_of (devices_of r)) (entry 0 (dab byte) (outcome.Back altered.back) ∷ []) idle.silent refl refl;
+        reached = not_sent.reached;
+        heard = not_sent.heard;
+        lost = lost_at now;
+      }))
+      (λ (lost : WasLost r 0 (dab byte) answer s).
+      let added = adds (outcome.Lost lost.party) lost.log lost.held_is in
+      let now = still (outcome.Lost lost.party) lost.held_is added in
+      inr (inl lost.answer_is, record {
+        broke = record {
+          standing = 0;
+          break = FrameLost lost.party;
+          legal = refl;
+          held_at_end = None;
+          adds = added;
+          ring = now.free.ring;
+          held = lost.held_is;
+          met_some = lost.met_some;
+        };
+        one = OneTalker-silent (roles_of (devices_of r)) (entry 0 (dab byte) (outcome.Lost lost.party) ∷ []) idle.silent refl refl;
+        reached = not_sent.reached;
+        heard = not_sent.heard;
+        lost = lost_at now;
+      }))
+      not_sent.how
+
+  pub byte_call : ByteEnd view byte r answer s
+  byte_call = ⊎_elim back_whole broken (data_sent view r s held (dab byte) (sourced 0 (dab byte)) answer round refl idle.free.ring refl silent)
