@@ -1,6 +1,6 @@
 -- A data frame of the host as a call.
-use Rattle.std.proofs.Common.{◌≡◌, ◌≢◌, ◌∙◌, ◌||◌, ◌+◌, ◌++◌, ◌&&◌, ◌==◌, ◌⊎◌, inl, inr, ⊎_elim, ℕ, suc, true, false, not, List, [], ◌∷◌, Option, None, length, refl, sym, ap, subst}
-use Rattle.std.proofs.lemmas.Bool.{and_from}
+use Rattle.std.proofs.Common.{◌≡◌, ◌≢◌, ◌∙◌, ◌||◌, ◌+◌, ◌++◌, ◌&&◌, ◌==◌, ◌⊎◌, inl, inr, ⊎_elim, ℕ, suc, Bool, true, false, not, List, [], ◌∷◌, Option, None, length, refl, sym, ap, subst}
+use Rattle.std.specs.Prelude.{MatchBool}
 use Rattle.il_frames.specs.declared.frame.Class.TheVariants as class
 use Rattle.il_frames.specs.declared.frame.Frame.{Frame}
 use Rattle.il_frames.specs.declared.entry.Entry.{Entry}
@@ -130,3 +130,21 @@ module _ {M : Type 0} (view : M → MediumView) (byte : ℕ) (r s : RingView M) 
 
   pub byte_call : ByteEnd view byte r answer s
   byte_call = ⊎_elim back_whole broken (data_sent view r s held (dab byte) (sourced 0 (dab byte)) answer round refl idle.free.ring refl silent)
+
+-- ---- as a test
+
+-- the frame came back the same apart from the service bit
+abbrev pub echoes : Frame → Arrival → Bool
+echoes f (arrival.Frame g) = same_but_service f g
+echoes f arrival.Lost = false
+
+pub byte_done : {M : Type 0} (view : M → MediumView) (byte : ℕ) (r s : RingView M) (held : Option Flight) (f : Frame) (answer : Arrival) (whole : Bool) → Round view r held (sourced 0 f) answer s → f ≡ framed class.Dab byte → whole ≡ echoes f answer → held ≡ None → IsIdle r
+    → MatchBool whole (Sent view byte r s) (NotSent view byte r s)
+byte_done view byte r s held f answer whole round is test none idle =
+    ⊎_elim
+    (λ sent. subst (λ whole. MatchBool whole (Sent view byte r s) (NotSent view byte r s)) (sym (tested ∙ ap (echoes (dab byte)) sent.1 ∙ sent.2)) sent.3)
+    (λ not_sent. subst (λ whole. MatchBool whole (Sent view byte r s) (NotSent view byte r s)) (sym (tested ∙ ⊎_elim (λ lost. ap (echoes (dab byte)) lost) (λ other. ap (echoes (dab byte)) other.1 ∙ other.2) not_sent.0)) not_sent.1)
+    (byte_call view byte r s held answer (subst (λ f. Round view r held (sourced 0 f) answer s) is round) none idle)
+  where
+    tested : whole ≡ echoes (dab byte) answer
+    tested = test ∙ ap (λ f. echoes f answer) is

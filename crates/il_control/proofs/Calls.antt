@@ -1,6 +1,7 @@
 -- Calls one behind the other, and single rounds as calls.
-use Rattle.std.proofs.Common.{◌≡◌, ◌≢◌, ◌≤◌, ◌+◌, ◌-◌, ◌++◌, ◌⊎◌, inl, inr, ⊎_elim, ℕ, zero, suc, Bool, true, false, List, [], ◌∷◌, Option, Some, None, length, refl, sym, ap, ap₂, subst, ◌∙◌, arith, length-append}
-use Rattle.std.specs.Prelude.{MatchBool}
+use Rattle.std.proofs.Common.{◌≡◌, ◌≢◌, ◌≤◌, ◌+◌, ◌-◌, ◌++◌, ◌⊎◌, inl, inr, ⊎_elim, ℕ, zero, suc, Bool, true, false, List, [], ◌∷◌, Option, Some, None, length, refl, sym, ap, ap₂, subst, ◌∙◌, arith, length-append, nat_lt, nat_le}
+use Rattle.std.proofs.lemmas.Bool.Decides.{nat_tests}
+use Rattle.std.specs.Prelude.{◌&&◌, if◌then◌else◌, MatchBool}
 use Rattle.il_frames.specs.declared.frame.Frame.{Frame}
 use Rattle.il_frames.specs.declared.entry.Entry.{Entry}
 use Rattle.il_frames.specs.declared.entry.Outcome.TheVariants as outcome
@@ -23,7 +24,7 @@ use Rattle.il_ring.specs.Rings.{RingView, IsRing, Round, devices_of, roles_of, s
 use Rattle.il_ring.specs.Outcomes.{met_between, Returned, WasLost}
 use Rattle.il_ring.specs.Adds.{Adds}
 use Rattle.il_ring.proofs.Faults.{risen_by_later}
-use Rattle.il_ring.proofs.Adding.{adds_more}
+use Rattle.il_ring.proofs.Adding.{adds_nothing, adds_more}
 use Rattle.il_ring.proofs.RoundAdds.{host_adds, none_new}
 use Rattle.il_ring.proofs.RoundCounts.{round_counts}
 use Rattle.il_ring.proofs.Passing.{Carries, Exactly, is_exact}
@@ -190,3 +191,26 @@ room_behind view r m xs more whole room =
 pub command_done : {M : Type 0} (view : M → MediumView) (r m s : RingView M) (f g : Frame) (whole : Bool) → IsRing r → g ≡ rfc → Whole view r (returned 0 f ∷ []) m → Done view m (returned 0 g ∷ []) whole s → Done view r (commanded 0 f) whole s
 command_done view r m s f g whole ring is_rfc first more =
     done_then view r m s (returned 0 f ∷ []) (returned 0 rfc ∷ []) whole ring first (subst (λ g. Done view m (returned 0 g ∷ []) whole s) is_rfc more)
+
+-- nothing was done
+pub whole_nothing : {M : Type 0} (view : M → MediumView) (r : RingView M) → IsFree r → Whole view r [] r
+whole_nothing view r free = record { adds = adds_nothing view r None; ring = free.ring; held = free.held; met_none = none_met (hops_of r.books.plan) r.books.crossings }
+  where
+    none_met : (hops : List ℕ) (n : ℕ) → met hops n n ≡ []
+    none_met [] n = refl
+    none_met (hop ∷ hops) n = by_hop (nat_lt n hop && nat_le hop n) (none_within n hop) (none_met hops n)
+      where
+        none_within : (n hop : ℕ) → (nat_lt n hop && nat_le hop n) ≡ false
+        none_within n hop = grind (arith, nat_tests)
+
+        by_hop : (b : Bool) → b ≡ false → met hops n n ≡ [] → (if b then hop ∷ met hops n n else met hops n n) ≡ []
+        by_hop true is more = cc
+        by_hop false is more = more
+
+-- a command whole, and what was done behind it
+pub told_then : {M : Type 0} (view : M → MediumView) (r m s : RingView M) (f g : Frame) (rest : List Entry) (whole : Bool) → IsRing r → f ≡ g → Whole view r (commanded 0 f) m → Done view m rest whole s → Done view r (commanded 0 g ++ rest) whole s
+told_then view r m s f g rest whole ring is first more = done_then view r m s (commanded 0 g) rest whole ring (subst (λ f. Whole view r (commanded 0 f) m) is first) more
+
+-- the first of two was broken off
+pub told_not : {M : Type 0} (view : M → MediumView) (r s : RingView M) (f g : Frame) (rest : List Entry) → f ≡ g → Broke view r (commanded 0 f) s → Broke view r (commanded 0 g ++ rest) s
+told_not view r s f g rest is broke = broke_before view r s (commanded 0 g) rest (subst (λ f. Broke view r (commanded 0 f) s) is broke)

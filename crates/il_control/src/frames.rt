@@ -1,5 +1,7 @@
 // The frames of a controller (HP-IL Interface Specification, HP 82166-90017, the tables of command and ready messages).
 ghost use Rattle.std.specs.Prelude.{◌≡◌, ◌≤◌, ◌<◌};
+ghost use Rattle.il_frames.specs.declared.frame.Class.TheVariants as class;
+ghost use Rattle.il_frames.specs.Frames.{framed};
 ghost use Rattle.loop_model.specs.Entries as entries;
 ghost use Rattle.il_control.specs.Calls as calls;
 
@@ -54,6 +56,13 @@ pub(crate) fn idy() -> Frame
     ensures { result ≡ calls.idy }
 {
     Frame::new(Class::Idy, 0x00)
+}
+
+/// The data frame of a byte.
+pub(crate) fn dab(byte: u8) -> Frame
+    ensures { result ≡ framed class.Dab byte }
+{
+    Frame::new(Class::Dab, byte)
 }
 
 /// Auto address 1.

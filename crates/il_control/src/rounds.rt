@@ -1,12 +1,13 @@
 // What the controller does on the ring, one round behind the other. Each answers whether it was done whole.
-ghost use Rattle.std.specs.Prelude.{◌≡◌, ◌≤◌, ◌<◌, [], ◌∷◌, true, MatchBool, Option};
+ghost use Rattle.std.specs.Prelude.{◌≡◌, ◌≤◌, ◌<◌, [], ◌∷◌, ◌++◌, true, MatchBool, IfSome};
 ghost use Rattle.il_frames.specs.Messages.{message_of};
 ghost use Rattle.il_device.proofs.Laws.{is_plain};
-ghost use Rattle.loop_model.specs.Exchanges.{returned, commanded};
+ghost use Rattle.loop_model.specs.Exchanges.{Send, entries_of, numbered, returned, commanded};
+ghost use Rattle.loop_model.specs.Entries.{lad, ddl};
 ghost use Rattle.il_ring.specs.Rings.{spare_of};
-ghost use Rattle.il_control.specs.Calls.{Whole, Broke, IsFree};
+ghost use Rattle.il_control.specs.Calls.{Whole, Broke, IsFree, IsIdle, Sent, NotSent};
 
-use crate::frames::rfc;
+use crate::frames::{dab, ddl, lad, rfc, unl};
 use il_frames::Frame;
 use il_ports::Medium;
 use il_ring::{Arrival, Ring, Seen};
@@ -34,4 +35,56 @@ pub(crate) fn command<M: Medium>(ring: &mut Ring<M>, frame: Frame) -> bool
         (Broke M.view (⟦<Ring<M> as Seen<M>>⟧.seen ring.old) (commanded 0 frame) (⟦<Ring<M> as Seen<M>>⟧.seen ring.new)) }
 {
     pass_round(ring, frame) && pass_round(ring, rfc())
+}
+
+/// Has the device of this address listen, and no other, and sends the DDL of a number behind that.
+pub(crate) fn tell<M: Medium>(ring: &mut Ring<M>, address: u8, number: Option<u8>) -> bool
+    requires room { 38 ≤ spare_of (⟦<Ring<M> as Seen<M>>⟧.seen ring.old) }
+    requires free { IsFree (⟦<Ring<M> as Seen<M>>⟧.seen ring.old) }
+    requires address { address ≤ 30 }
+    requires number { IfSome number (λ n. n < 32) }
+    ensures { MatchBool result (Whole M.view (⟦<Ring<M> as Seen<M>>⟧.seen ring.old) (entries_of 0 (Send address number [])) (⟦<Ring<M> as Seen<M>>⟧.seen ring.new))
+        (Broke M.view (⟦<Ring<M> as Seen<M>>⟧.seen ring.old) (entries_of 0 (Send address number [])) (⟦<Ring<M> as Seen<M>>⟧.seen ring.new)) }
+{
+    command(ring, unl()) && tell_one(ring, address, number)
+}
+
+/// Has the device of this address listen, and sends the DDL of a number behind that.
+fn tell_one<M: Medium>(ring: &mut Ring<M>, address: u8, number: Option<u8>) -> bool
+    requires room { 36 ≤ spare_of (⟦<Ring<M> as Seen<M>>⟧.seen ring.old) }
+    requires free { IsFree (⟦<Ring<M> as Seen<M>>⟧.seen ring.old) }
+    requires address { address ≤ 30 }
+    requires number { IfSome number (λ n. n < 32) }
+    ensures { MatchBool result (Whole M.view (⟦<Ring<M> as Seen<M>>⟧.seen ring.old) (commanded 0 (lad address) ++ numbered 0 ddl number) (⟦<Ring<M> as Seen<M>>⟧.seen ring.new))
+        (Broke M.view (⟦<Ring<M> as Seen<M>>⟧.seen ring.old) (commanded 0 (lad address) ++ numbered 0 ddl number) (⟦<Ring<M> as Seen<M>>⟧.seen ring.new)) }
+{
+    command(ring, lad(address)) && command_of(ring, number)
+}
+
+/// Sends the DDL of a number, where one is given.
+fn command_of<M: Medium>(ring: &mut Ring<M>, number: Option<u8>) -> bool
+    requires room { 34 ≤ spare_of (⟦<Ring<M> as Seen<M>>⟧.seen ring.old) }
+    requires free { IsFree (⟦<Ring<M> as Seen<M>>⟧.seen ring.old) }
+    requires number { IfSome number (λ n. n < 32) }
+    ensures { MatchBool result (Whole M.view (⟦<Ring<M> as Seen<M>>⟧.seen ring.old) (numbered 0 ddl number) (⟦<Ring<M> as Seen<M>>⟧.seen ring.new))
+        (Broke M.view (⟦<Ring<M> as Seen<M>>⟧.seen ring.old) (numbered 0 ddl number) (⟦<Ring<M> as Seen<M>>⟧.seen ring.new)) }
+{
+    match number {
+        None => true,
+        Some(number) => command(ring, ddl(number)),
+    }
+}
+
+/// Sends a byte, and tells whether its frame came back the same apart from the service bit.
+pub(crate) fn send_byte<M: Medium>(ring: &mut Ring<M>, byte: u8) -> bool
+    requires room { 33 ≤ spare_of (⟦<Ring<M> as Seen<M>>⟧.seen ring.old) }
+    requires idle { IsIdle (⟦<Ring<M> as Seen<M>>⟧.seen ring.old) }
+    ensures { MatchBool result (Sent M.view byte (⟦<Ring<M> as Seen<M>>⟧.seen ring.old) (⟦<Ring<M> as Seen<M>>⟧.seen ring.new))
+        (NotSent M.view byte (⟦<Ring<M> as Seen<M>>⟧.seen ring.old) (⟦<Ring<M> as Seen<M>>⟧.seen ring.new)) }
+{
+    let frame = dab(byte);
+    match ring.send(frame) {
+        Arrival::Frame(back) => frame.same_but_service(back),
+        Arrival::Lost => false,
+    }
 }

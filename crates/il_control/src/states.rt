@@ -1,11 +1,12 @@
-ghost use Rattle.std.specs.Prelude.{◌≡◌, ◌≤◌, [], true, IfOk, IfErr};
-ghost use Rattle.loop_model.specs.Exchanges.Exchange.{Command, Identify};
+ghost use Rattle.std.specs.Prelude.{◌≡◌, ◌≤◌, ◌<◌, [], true, IfSome, IfOk, IfErr};
+ghost use Rattle.loop_model.specs.Exchanges.Exchange.{Command, Identify, Send};
 ghost use Rattle.il_ring.specs.Rings.{spare_of, devices_of};
+ghost use Rattle.il_ring.specs.Lists.{Each};
 ghost use Rattle.il_ring.specs.Polls.{identified_along};
-ghost use Rattle.il_control.specs.Calls.{idy, IsIdle, IsLost, is_command, Made, BrokenOff};
+ghost use Rattle.il_control.specs.Calls.{idy, IsIdle, IsLost, is_command, Made, BrokenOff, IsTold, Sent, NotSent};
 
 use crate::frames;
-use crate::rounds::command;
+use crate::rounds::{command, send_byte, tell};
 use il_device::Device;
 use il_frames::Frame;
 use il_ports::Medium;
@@ -55,6 +56,44 @@ impl<M: Medium> Seen<M> for Lost<M> {
       after = map (λ b. (Device-box b).state b.value) s.ring.boxes.after.items;
       books = s.ring.books;
     } };
+}
+
+impl<M: Medium> Seen<M> for Sending<M> {
+    ghost use Rattle.std.specs.Prelude.{map};
+    ghost use Rattle.il_ring.specs.Rings.{RingView};
+
+    ghost seen = { λ s. record {
+      before = map (λ b. (Device-box b).state b.value) s.ring.boxes.before.items;
+      drive = s.ring.drive;
+      after = map (λ b. (Device-box b).state b.value) s.ring.boxes.after.items;
+      books = s.ring.books;
+    } };
+}
+
+impl<M: Medium> Sending<M> {
+    /// Sends a byte, which each listening device hears. It was sent where its frame came back the
+    /// same apart from the service bit.
+    pub fn byte(self, byte: u8) -> Result<Sending<M>, Lost<M>>
+        requires room { 33 ≤ spare_of (⟦<Sending<M> as Seen<M>>⟧.seen self) }
+        requires idle { IsIdle (⟦<Sending<M> as Seen<M>>⟧.seen self) }
+        ensures sent { IfOk result (λ sending. Sent M.view byte (⟦<Sending<M> as Seen<M>>⟧.seen self) (⟦<Sending<M> as Seen<M>>⟧.seen sending)) }
+        ensures not_sent { IfErr result (λ lost. NotSent M.view byte (⟦<Sending<M> as Seen<M>>⟧.seen self) (⟦<Lost<M> as Seen<M>>⟧.seen lost)) }
+    {
+        let Sending { mut ring, devices } = self;
+        if send_byte(&mut ring, byte) {
+            Ok(Sending { ring, devices })
+        } else {
+            Err(Lost { ring, devices })
+        }
+    }
+
+    /// Ends the send.
+    pub fn done(self) -> Idle<M>
+        ensures { ⟦<Idle<M> as Seen<M>>⟧.seen result ≡ ⟦<Sending<M> as Seen<M>>⟧.seen self }
+    {
+        let Sending { ring, devices } = self;
+        Idle { ring, devices }
+    }
 }
 
 impl<M: Medium> Lost<M> {
@@ -108,6 +147,25 @@ impl<M: Medium> Idle<M> {
         match ring.send(frames::idy()) {
             Arrival::Frame(frame) => Ok((Idle { ring, devices }, frame)),
             Arrival::Lost => Err(Lost { ring, devices }),
+        }
+    }
+
+    /// Has the device of this address, 1 to 30, listen, and no other; behind that it sends device
+    /// dependent listener command `number`, 0 to 31, where one is given.
+    pub fn listen(self, address: u8, number: Option<u8>) -> Result<Sending<M>, Lost<M>>
+        requires room { 38 ≤ spare_of (⟦<Idle<M> as Seen<M>>⟧.seen self) }
+        requires idle { IsIdle (⟦<Idle<M> as Seen<M>>⟧.seen self) }
+        requires address { (1 ≤ address) × (address ≤ 30) }
+        requires number { IfSome number (λ n. n < 32) }
+        ensures made { IfOk result (λ sending. Made M.view (Send address number []) (⟦<Idle<M> as Seen<M>>⟧.seen self) (⟦<Sending<M> as Seen<M>>⟧.seen sending)) }
+        ensures told { IfOk result (λ sending. Each (IsTold address) 1 (devices_of (⟦<Sending<M> as Seen<M>>⟧.seen sending))) }
+        ensures broken { IfErr result (λ lost. BrokenOff M.view (Send address number []) (⟦<Idle<M> as Seen<M>>⟧.seen self) (⟦<Lost<M> as Seen<M>>⟧.seen lost)) }
+    {
+        let Idle { mut ring, devices } = self;
+        if tell(&mut ring, address, number) {
+            Ok(Sending { ring, devices })
+        } else {
+            Err(Lost { ring, devices })
         }
     }
 
