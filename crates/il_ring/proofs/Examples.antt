@@ -1,6 +1,6 @@
 -- Worked examples of the definitions, by hand from the rules of the ring. A ring has the drive at party 1 and a printer
 -- at party 2, three links a round, where nothing else is said.
-use Rattle.std.proofs.Common.{◌≡◌, ℕ, List, Option, [], ◌∷◌, ◌++◌, Some, None, true, false, refl}
+use Rattle.std.proofs.Common.{◌≡◌, ℕ, List, Option, [], ◌∷◌, Some, None, true, false, refl}
 use Rattle.il_frames.specs.declared.frame.Class.TheVariants as class
 use Rattle.il_frames.specs.declared.frame.Frame.{Frame}
 use Rattle.il_frames.specs.declared.entry.Outcome.TheVariants as outcome
@@ -17,7 +17,7 @@ use Rattle.il_ring.specs.Flights.{sourced, altered_by, hit, lost_at, ended_at}
 use Rattle.il_ring.specs.Books.{BooksView}
 use Rattle.il_ring.specs.Journeys.{trip, answered, missed}
 use Rattle.il_device.specs.declared.device.Out.TheVariants.{Pass, Source}
-use Rattle.il_ring.specs.Rings.{fresh_books, paper_of, comes, home, arriving, arrived}
+use Rattle.il_ring.specs.Rings.{fresh_books, paper_of, home, arriving, arrived}
 
 -- ---- plans
 
