@@ -1,7 +1,8 @@
 -- What holds of a ring at every moment.
-use Rattle.std.proofs.Common.{◌≡◌, ◌≢◌, ◌≤◌, ◌+◌, ◌==◌, ℕ, suc, Bool, true, false, List, [], ◌∷◌, Option, Some, None, length, refl, sym, ap, subst, ◌∙◌, arith}
+use Rattle.std.proofs.Common.{◌≡◌, ◌≢◌, ◌≤◌, ◌+◌, ◌==◌, ℕ, suc, Bool, true, false, List, [], ◌∷◌, ◌++◌, Option, Some, None, length, refl, sym, ap, subst, ◌∙◌, arith, length-append}
 use Rattle.std.proofs.lemmas.Bool.{eq-eqb}
 use Rattle.il_frames.specs.declared.frame.Frame.{Frame}
+use Rattle.il_frames.specs.declared.entry.Entry.{Entry}
 use Rattle.il_frames.specs.Frames.{is_data}
 use Rattle.il_device.specs.State.{DeviceState, risen}
 use Rattle.il_device.specs.Takes.{Takes}
@@ -12,7 +13,7 @@ use Rattle.il_ring.specs.declared.plan.Planned.{Planned}
 use Rattle.il_ring.specs.declared.plan.Arrival.{Arrival}
 use Rattle.il_ring.specs.declared.flight.Flight.{Flight}
 use Rattle.il_ring.specs.Plans.{next_fault, last_crossing, IsPlan}
-use Rattle.il_ring.specs.Flights.{hit}
+use Rattle.il_ring.specs.Flights.{hit, lost_at, ended_at}
 use Rattle.il_ring.specs.Books.{BooksView, IsHeld}
 use Rattle.il_ring.specs.Journeys.{Trip, trip_of, answered, Meets, Reaches, Journey, DriveTakes}
 use Rattle.il_ring.specs.Rings.{RingView, IsRing, Round, devices_of, books_at, comes, home, over_last_link}
@@ -62,28 +63,88 @@ Journey-crossings plan k t u (d ∷ ds) [] within journey = absurd journey
 
 -- ---- the books at home
 
--- what holds of the books of a ring
-record AreBooks (plan : List Planned) (b : BooksView) : Type 0 where
-  plan_is : b.plan ≡ plan
+-- what holds of the books of a ring, beside its plan
+record AreBooks (b : BooksView) : Type 0 where
   crossings : b.crossings ≤ last_crossing
   held : IsHeld b.held
 
 no_host : (source : ℕ) → (source == 0) ≡ false → source ≢ 0
 no_host source other zero = let clash = sym other ∙ eq-eqb source 0 zero in cc
 
-comes-books : (plan : List Planned) (b : BooksView) (f : Flight) (own data_frame : Bool) → AreBooks plan b → (f.source == 0) ≡ own → is_data f.now ≡ data_frame → AreBooks plan (comes b f own data_frame)
-comes-books plan b f true data_frame are own is = record { plan_is = are.plan_is; crossings = are.crossings; held = are.held }
-comes-books plan b f false true are own is = record { plan_is = are.plan_is; crossings = are.crossings; held = (no_host f.source own, is) }
-comes-books plan b f false false are own is = record { plan_is = are.plan_is; crossings = are.crossings; held = tt }
+comes-books : (b : BooksView) (f : Flight) (own data_frame : Bool) → AreBooks b → (f.source == 0) ≡ own → is_data f.now ≡ data_frame → AreBooks (comes b f own data_frame)
+comes-books b f true data_frame are own is = record { crossings = are.crossings; held = are.held }
+comes-books b f false true are own is = record { crossings = are.crossings; held = (no_host f.source own, is) }
+comes-books b f false false are own is = record { crossings = are.crossings; held = tt }
 
-over-books : (plan : List Planned) (b : BooksView) (f : Flight) (o : Option Flight) → AreBooks plan b → AreBooks plan (over_last_link b f o)
-over-books plan b f None are = record { plan_is = are.plan_is; crossings = are.crossings; held = tt }
-over-books plan b f (Some g) are = comes-books plan b g (g.source == 0) (is_data g.now) are refl refl
+over-books : (b : BooksView) (f : Flight) (o : Option Flight) → AreBooks b → AreBooks (over_last_link b f o)
+over-books b f None are = record { crossings = are.crossings; held = tt }
+over-books b f (Some g) are = comes-books b g (g.source == 0) (is_data g.now) are refl refl
 
-home-books : (plan : List Planned) (b : BooksView) (flight : Option Flight) → AreBooks plan b → AreBooks plan (home b flight)
-home-books plan b None are = record { plan_is = are.plan_is; crossings = are.crossings; held = tt }
-home-books plan b (Some f) are =
-    over-books plan (record b { crossings = risen b.crossings }) f (hit (next_fault b.plan b.crossings) f) (record { plan_is = are.plan_is; crossings = risen_within b.crossings; held = are.held })
+home-books : (b : BooksView) (flight : Option Flight) → AreBooks b → AreBooks (home b flight)
+home-books b None are = record { crossings = are.crossings; held = tt }
+home-books b (Some f) are = over-books (record b { crossings = risen b.crossings }) f (hit (next_fault b.plan b.crossings) f) (record { crossings = risen_within b.crossings; held = are.held })
+
+-- ---- plan and room stay, and the log grows by one entry a party at most
+
+-- the books at home: plan and room are as before, and there is one entry more at most
+record KeepsPlace (b c : BooksView) : Type 0 where
+  plan : c.plan ≡ b.plan
+  room : c.room ≡ b.room
+  grows : length c.log ≤ length b.log + 1
+
+one_entry : (log : List Entry) (e : Entry) → length (log ++ e ∷ []) ≤ length log + 1
+one_entry log e = let len = length-append log (e ∷ []) in omega (arith, len)
+
+comes-place : (b : BooksView) (f : Flight) (own data_frame : Bool) → KeepsPlace b (comes b f own data_frame)
+comes-place b f true data_frame = record { plan = refl; room = refl; grows = one_entry b.log (ended_at f 0) }
+comes-place b f false true = record { plan = refl; room = refl; grows = omega arith }
+comes-place b f false false = record { plan = refl; room = refl; grows = one_entry b.log (ended_at f 0) }
+
+over-place : (b : BooksView) (f : Flight) (o : Option Flight) → KeepsPlace b (over_last_link b f o)
+over-place b f None = record { plan = refl; room = refl; grows = one_entry b.log (lost_at f 0) }
+over-place b f (Some g) = comes-place b g (g.source == 0) (is_data g.now)
+
+home-place : (b : BooksView) (flight : Option Flight) → KeepsPlace b (home b flight)
+home-place b None = record { plan = refl; room = refl; grows = omega arith }
+home-place b (Some f) =
+    let over = over-place (record b { crossings = risen b.crossings }) f (hit (next_fault b.plan b.crossings) f) in
+    record { plan = over.plan; room = over.room; grows = over.grows }
+
+answered-grows : (n k : ℕ) (f : Flight) (t u : Trip) (out : Out) → u ≡ answered n t.log k f out → length u.log ≤ length t.log + 1
+answered-grows n k f t u (Pass g) is = let log = ap (λ (t : Trip). length t.log) is in omega (arith, log)
+answered-grows n k f t u (Source g) is = let log = ap (λ (t : Trip). length t.log) is in let one = one_entry t.log (ended_at f k) in omega (arith, log, one)
+
+Meets-grows : (k : ℕ) (t u : Trip) (f : Flight) (o : Option Flight) (d e : DeviceState) → Meets Takes k t f o d u e → length u.log ≤ length t.log + 1
+Meets-grows k t u f None d e meets = let log = ap (λ (t : Trip). length t.log) meets.0 in let one = one_entry t.log (lost_at f k) in omega (arith, log, one)
+Meets-grows k t u f (Some g) d e meets = answered-grows (risen t.crossings) k g t u meets.0 meets.2
+
+Reaches-grows : (plan : List Planned) (k : ℕ) (t u : Trip) (o : Option Flight) (d e : DeviceState) → Reaches Takes plan k t o d u e → length u.log ≤ length t.log + 1
+Reaches-grows plan k t u None d e reaches = let log = ap (λ (t : Trip). length t.log) reaches.0 in omega (arith, log)
+Reaches-grows plan k t u (Some f) d e reaches = Meets-grows k t u f (hit (next_fault plan t.crossings) f) d e reaches
+
+pub Journey-grows : (plan : List Planned) (k : ℕ) (t u : Trip) (ds es : List DeviceState) → Journey plan k t ds u es → length u.log ≤ length t.log + length ds
+Journey-grows plan k t u [] [] journey = let log = ap (λ (t : Trip). length t.log) journey in omega (arith, log)
+Journey-grows plan k t u (d ∷ ds) (e ∷ es) journey =
+    let one = Reaches-grows plan k t journey.0 t.flight d e journey.1 in
+    let more = Journey-grows plan (k + 1) journey.0 u ds es journey.2 in
+    omega (arith, one, more)
+Journey-grows plan k t u [] (e ∷ es) journey = absurd journey
+Journey-grows plan k t u (d ∷ ds) [] journey = absurd journey
+
+module _ {M : Type 0} (view : M → MediumView) (r s : RingView M) (held : Option Flight) (f : Flight) (answer : Arrival) (round : Round view r held f answer s) where
+  at_home : KeepsPlace (books_at (record r.books { held = held }) round.behind) s.books
+  at_home = subst (KeepsPlace (books_at (record r.books { held = held }) round.behind)) (sym round.books) (home-place (books_at (record r.books { held = held }) round.behind) round.behind.flight)
+
+  pub round-plan : s.books.plan ≡ r.books.plan
+  round-plan = at_home.plan
+
+  pub round-room : s.books.room ≡ r.books.room
+  round-room = at_home.room
+
+  pub round-grows : length s.books.log ≤ length r.books.log + length (devices_of r) + 1
+  round-grows =
+      let way = Journey-grows r.books.plan 1 (trip_of r.books (Some f)) round.behind (devices_of r) (devices_of s) (round_journey view r s held f answer round) in
+      omega (arith, way, at_home.grows)
 
 -- ---- what keeps it
 
@@ -95,10 +156,10 @@ IsRing-round view r s held f answer round is is_held =
     let behind = Journey-crossings r.books.plan (length r.before + 2) round.past_drive round.behind r.after s.after past_drive round.from_drive in
     let before = before-length view r s held f answer round in
     let after = after-length view r s held f answer round in
-    let books = subst (AreBooks r.books.plan) (sym round.books) (home-books r.books.plan (books_at (record r.books { held = held }) round.behind) round.behind.flight (record { plan_is = refl; crossings = behind; held = is_held })) in
+    let books = subst AreBooks (sym round.books) (home-books (books_at (record r.books { held = held }) round.behind) round.behind.flight (record { crossings = behind; held = is_held })) in
     record {
       few = omega (arith, is.few, before, after);
-      plan = subst IsPlan (sym books.plan_is) is.plan;
+      plan = subst IsPlan (sym (round-plan view r s held f answer round)) is.plan;
       crossings = books.crossings;
       held = books.held;
     }

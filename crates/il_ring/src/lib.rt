@@ -23,4 +23,6 @@ pub use rig::{Refused, Rig};
 pub use ring::{Ring, Seen};
 
 #[cfg(test)]
+mod second_drive;
+#[cfg(test)]
 mod tests;

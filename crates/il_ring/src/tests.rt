@@ -1,3 +1,4 @@
+use crate::second_drive::SecondDrive;
 use crate::{Arrival, PlanFault, Planned, Rig, Ring, is_plan};
 use PlanFault::{Alter, Lose};
 use arrayvec::ArrayVec;
@@ -483,20 +484,24 @@ fn thirty_devices(rt: HostRuntime) -> Result<(), Fail> {
     Ok(())
 }
 
-/// A printer stands before the drive, and another behind it.
+/// A printer stands before the drive, and another behind it. A second drive may not stand there.
 #[test]
 fn printer_first(rt: HostRuntime) -> Result<(), Fail> {
     let alloc = rt.alloc();
     let first: Box<dyn Device> = Box::new(alloc, Printer::new(alloc)?)?;
     let second: Box<dyn Device> = Box::new(alloc, Printer::new(alloc)?)?;
     let (mut before, mut after) = (Vec::new(alloc), Vec::new(alloc));
+    let drive: Box<dyn Device> = Box::new(alloc, SecondDrive::new())?;
     before.push(first)?;
     after.push(second)?;
-    let rig = Rig {
+    after.push(drive)?;
+    let mut rig = Rig {
         medium: blank_tape(&rt)?,
         before,
         after,
     };
+    assert!(rt; !rig.fits());
+    let _ = rig.after.pop();
     let mut ring = ring_of(&rt, rig, &[])?;
     assert_eq!(rt;
         (ring.party(), ring.paper()),
