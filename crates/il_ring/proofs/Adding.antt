@@ -1,17 +1,16 @@
 -- Rounds one behind the other.
-use Rattle.std.proofs.Common.{◌≡◌, ◌+◌, ◌++◌, ◌⊎◌, inl, inr, ⊎_elim, ℕ, List, [], ◌∷◌, Option, Some, None, length, sum_by, count_by, refl, sym, ap, ap₂, subst, ◌∙◌, arith, append_assoc, append-nil}
-use Rattle.il_frames.specs.declared.frame.Frame.{Frame}
+use Rattle.std.proofs.Common.{◌≡◌, ◌+◌, ◌++◌, ℕ, List, [], ◌∷◌, Option, None, length, refl, sym, ap, subst, ◌∙◌, arith, append_assoc, append-nil}
 use Rattle.il_frames.specs.declared.entry.Entry.{Entry}
 use Rattle.il_device.specs.State.{DeviceState}
 use Rattle.il_device.proofs.Laws.{risen_by}
 use Rattle.il_ports.specs.Media.{MediumView}
 use Rattle.il_drive.proofs.Beginning.{joins}
-use Rattle.loop_model.specs.Reach.{links_of, brings_to, held_links, held_passes, links_so_far, passes_so_far}
+use Rattle.loop_model.specs.Reach.{held_links, links_so_far}
 use Rattle.loop_model.specs.Roles.{roles_after}
 use Rattle.loop_model.proofs.ReachLaws.{links_so_far-append, passes_so_far-append}
 use Rattle.loop_model.proofs.RoleLaws.{roles_after-append}
 use Rattle.il_ring.specs.Rings.{RingView, devices_of, roles_of}
-use Rattle.il_ring.specs.Rounded.{AllTook, Took}
+use Rattle.il_ring.specs.Rounded.{AllTook}
 use Rattle.il_ring.specs.Adds.{Adds}
 use Rattle.il_ring.proofs.Counts.{risen_by-add}
 

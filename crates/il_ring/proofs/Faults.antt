@@ -71,7 +71,7 @@ one_more plan n within =
     last_test : (n : ℕ) → n ≡ last_crossing → nat_lt n last_crossing ≡ false
     last_test n e = grind (arith, nat_tests)
 
-risen_within : (n : ℕ) → risen n ≤ last_crossing
+pub risen_within : (n : ℕ) → risen n ≤ last_crossing
 risen_within n = omega arith
 
 risen_later : (n : ℕ) → n ≤ last_crossing → n ≤ risen n

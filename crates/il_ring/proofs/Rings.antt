@@ -17,6 +17,7 @@ use Rattle.il_ring.specs.Flights.{hit, lost_at, ended_at}
 use Rattle.il_ring.specs.Books.{BooksView, IsHeld}
 use Rattle.il_ring.specs.Journeys.{Trip, trip_of, answered, Meets, Reaches, Journey, DriveTakes}
 use Rattle.il_ring.specs.Rings.{RingView, IsRing, Round, devices_of, books_at, comes, home, over_last_link}
+use Rattle.il_ring.proofs.Faults.{risen_within}
 use Rattle.il_ring.proofs.RoundCounts.{round_journey}
 
 -- ---- as many devices
@@ -38,9 +39,6 @@ module _ {M : Type 0} (view : M → MediumView) (r s : RingView M) (held : Optio
   devices-length = Journey-length r.books.plan 1 (trip_of r.books (Some f)) round.behind (devices_of r) (devices_of s) (round_journey view r s held f answer round)
 
 -- ---- crossings stay below their greatest count
-
-risen_within : (n : ℕ) → risen n ≤ last_crossing
-risen_within n = omega arith
 
 answered-crossings : (n k : ℕ) (f : Flight) (t u : Trip) (out : Out) → u ≡ answered n t.log k f out → u.crossings ≡ n
 answered-crossings n k f t u (Pass g) is = ap (λ (t : Trip). t.crossings) is

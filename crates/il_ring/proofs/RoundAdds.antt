@@ -1,50 +1,29 @@
 -- What one round adds.
-use Rattle.std.proofs.Common.{◌≡◌, ◌≢◌, ◌+◌, ◌++◌, ◌⊎◌, ◌==◌, inl, inr, ⊎_elim, ℕ, suc, Bool, true, false, List, [], ◌∷◌, Option, Some, None, length, refl, sym, ap, subst, ◌∙◌}
-use Rattle.std.specs.Prelude.{if◌then◌else◌}
-use Rattle.std.specs.List.{list_all}
+use Rattle.std.proofs.Common.{◌≡◌, ◌++◌, inl, inr, ⊎_elim, ℕ, false, List, [], ◌∷◌, Option, Some, None, length, refl, sym, ap, subst, ◌∙◌}
 use Rattle.std.proofs.lemmas.List.{append_cancel_left}
-use Rattle.std.proofs.lemmas.Bool.{eq-eqb, ne_eqb}
 use Rattle.il_frames.specs.declared.frame.Frame.{Frame}
 use Rattle.il_frames.specs.declared.entry.Entry.{Entry}
 use Rattle.il_frames.specs.Frames.{is_data}
 use Rattle.il_frames.specs.Messages.{message_of}
 use Rattle.il_device.specs.declared.device.Out.{Out}
-use Rattle.il_device.specs.State.{risen}
 use Rattle.il_ports.specs.Media.{MediumView}
 use Rattle.il_drive.specs.Runs.{Ran}
 use Rattle.loop_model.specs.Entries.{entry}
-use Rattle.loop_model.specs.Reach.{held_links, links_so_far}
+use Rattle.loop_model.specs.Reach.{links_so_far}
 use Rattle.loop_model.specs.Roles.{roles_after}
 use Rattle.il_ring.specs.declared.plan.Arrival.{Arrival}
 use Rattle.il_ring.specs.declared.plan.Arrival.TheVariants as arrival
 use Rattle.il_ring.specs.declared.flight.Flight.{Flight}
-use Rattle.il_ring.specs.Plans.{next_fault}
-use Rattle.il_ring.specs.Flights.{sourced, hit}
-use Rattle.il_ring.specs.Books.{BooksView}
-use Rattle.il_ring.specs.Rings.{RingView, Round, devices_of, roles_of, home, comes, over_last_link, books_at}
+use Rattle.il_ring.specs.Flights.{sourced}
+use Rattle.il_ring.specs.Rings.{RingView, Round, devices_of, roles_of}
 use Rattle.il_ring.specs.Rounded.{Rounded, IsReady, AllTook, device_sending, holding}
-use Rattle.il_ring.specs.Outcomes.{DriveTook, HostRound, DeviceRound}
+use Rattle.il_ring.specs.Outcomes.{DriveTook}
 use Rattle.il_ring.specs.Adds.{Adds}
 use Rattle.il_ring.proofs.Passing.{Carries}
 use Rattle.il_ring.proofs.RoundRoles.{IsQuiet}
 use Rattle.il_ring.proofs.RoundCounts.{round_counts}
 use Rattle.il_ring.proofs.RolesHome.{host_round, device_round, others_leave}
-use Rattle.il_ring.proofs.Rings.{before-length, devices-length}
-
--- ---- what a round leaves of the books
-
-comes_keeps : (b : BooksView) (f : Flight) (own data_frame : Bool) → ((comes b f own data_frame).plan ≡ b.plan) × ((comes b f own data_frame).room ≡ b.room)
-comes_keeps b f true data_frame = (refl, refl)
-comes_keeps b f false true = (refl, refl)
-comes_keeps b f false false = (refl, refl)
-
-link_keeps : (b : BooksView) (f : Flight) (o : Option Flight) → ((over_last_link b f o).plan ≡ b.plan) × ((over_last_link b f o).room ≡ b.room)
-link_keeps b f None = (refl, refl)
-link_keeps b f (Some g) = comes_keeps b g (g.source == 0) (is_data g.now)
-
-home_keeps : (b : BooksView) (flight : Option Flight) → ((home b flight).plan ≡ b.plan) × ((home b flight).room ≡ b.room)
-home_keeps b None = (refl, refl)
-home_keeps b (Some f) = link_keeps (record b { crossings = risen b.crossings }) f (hit (next_fault b.plan b.crossings) f)
+use Rattle.il_ring.proofs.Rings.{before-length, devices-length, round-plan, round-room}
 
 -- ---- the drive
 
@@ -66,12 +45,11 @@ pub round_adds : {M : Type 0} (view : M → MediumView) (P : Frame → Type 0) (
 round_adds view P r s held f answer entries to round counts log new roles took =
     let k = length (devices_of r) in
     let same : counts.entries ≡ entries = append_cancel_left r.books.log counts.entries entries (sym counts.log ∙ log) in
-    let keeps = home_keeps (books_at (record r.books { held = held }) round.behind) round.behind.flight in
     let ran = drive_ran view P r s took in
     record {
       log = log;
-      plan = ap (λ (b : BooksView). b.plan) round.books ∙ keeps.0;
-      room = ap (λ (b : BooksView). b.room) round.books ∙ keeps.1;
+      plan = round-plan view r s held f answer round;
+      room = round-room view r s held f answer round;
       before = before-length view r s held f answer round;
       size = devices-length view r s held f answer round;
       links = counts.links;

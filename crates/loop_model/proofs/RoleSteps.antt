@@ -116,11 +116,14 @@ aad_along f party a (r ∷ s ∷ rs) low room =
     let rest = aad_along f (suc party) (suc a) (s ∷ rs) (omega arith) (omega arith) in
     rw (takes, in_range, below) (ap (λ (ss : List Roles). record { address = Some a; talks = false; listens = false } ∷ ss) rest)
 
+-- after AAU no device has a role or an address
+pub roles_after-aau : (rs : List Roles) → roles_after rs (entries_of 0 (Command aau)) ≡ cleared rs
+roles_after-aau rs = kept_along (outcome.Back rfc) 1 msg.Rfc (roles_along 0 (outcome.Back aau) 1 msg.Aau rs) refl ∙ cleared_along 1 rs
+
 -- after AAU and AAD each device has its number as address, and no role, whatever it had before
 pub roles_after-addressing : (rs : List Roles) (devices : ℕ) → length rs ≤ 30 → roles_after rs (entries_of 0 (Command aau) ++ entries_of 0 (Address devices)) ≡ addressed_from 1 rs
 roles_after-addressing rs devices room =
-    ap (λ (ss : List Roles). roles_after ss (entries_of 0 (Address devices)))
-    (kept_along (outcome.Back rfc) 1 msg.Rfc (roles_along 0 (outcome.Back aau) 1 msg.Aau rs) refl ∙ cleared_along 1 rs)
+    ap (λ (ss : List Roles). roles_after ss (entries_of 0 (Address devices))) (roles_after-aau rs)
     ∙ aad_along (aad (suc devices)) 1 1 rs (lit< tt) (omega arith)
 
 -- ---- at most one device talks

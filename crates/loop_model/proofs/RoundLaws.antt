@@ -106,7 +106,7 @@ mute_turn : (ps : List ℕ) (e : Entry) → is_mute e ≡ true → is_in_turn ps
 mute_turn ps e mute = rw (not-true (is_spoken (message_of e.frame)) mute) refl
 
 -- mute entries without talk address, whoever talks
-safe_mute : (rs : List Roles) (es : List Entry) → is_at_most_one (talkers rs) ≡ true → list_all gives_no_talk es ≡ true → list_all is_mute es ≡ true → IsSafe rs es
+pub safe_mute : (rs : List Roles) (es : List Entry) → is_at_most_one (talkers rs) ≡ true → list_all gives_no_talk es ≡ true → list_all is_mute es ≡ true → IsSafe rs es
 safe_mute rs [] one calm mute = one
 safe_mute rs (e ∷ es) one calm mute =
     let quiet = and_parts (gives_no_talk e) (list_all gives_no_talk es) calm in
