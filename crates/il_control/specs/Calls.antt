@@ -1,5 +1,5 @@
 -- What a call of the controller did to the ring: these entries, or a broken beginning of them.
-use Rattle.std.specs.Prelude.{◌≡◌, ◌≢◌, ◌&&◌, ◌==◌, not, ℕ, Bool, true, List, [], ◌∷◌, length, Option, Some, None}
+use Rattle.std.specs.Prelude.{◌≡◌, ◌≢◌, ◌&&◌, ◌==◌, not, ℕ, Bool, true, false, List, [], ◌∷◌, ◌++◌, length, Option, Some, None}
 use Rattle.il_frames.specs.declared.frame.Class.TheVariants as class
 use Rattle.il_frames.specs.declared.frame.Frame.{Frame}
 use Rattle.il_frames.specs.declared.entry.Entry.{Entry}
@@ -7,13 +7,14 @@ use Rattle.il_frames.specs.Frames.{class_of, framed, same_class}
 use Rattle.il_frames.specs.Messages.{message_of}
 use Rattle.il_device.specs.State.{DeviceState}
 use Rattle.il_ports.specs.Media.{MediumView}
+use Rattle.loop_model.specs.Entries.{ifc, aau}
 use Rattle.loop_model.specs.Loops.{Loop, host_loop}
 use Rattle.loop_model.specs.Roles.{talkers, is_at_most_one, OneTalker}
-use Rattle.loop_model.specs.Exchanges.{Break, Echo, Exchange, echoed, entries_of, is_exchange, is_host_echo, is_talk_address, cut_at, can_cut}
+use Rattle.loop_model.specs.Exchanges.{Break, Echo, Exchange, Command, Address, echoed, entries_of, is_exchange, is_host_echo, is_talk_address, cut_at, can_cut}
 use Rattle.loop_model.proofs.RoleSteps.{are_numbered}
 use Rattle.loop_model.proofs.TalkLaws.{is_aau}
 use Rattle.il_ring.specs.Rings.{RingView, IsRing, devices_of, roles_of, drive_party}
-use Rattle.il_ring.specs.Lists.{First}
+use Rattle.il_ring.specs.Lists.{Each, First}
 use Rattle.il_ring.specs.Outcomes.{met_between, HearsByte, HearsAny}
 use Rattle.il_ring.specs.Adds.{Adds}
 
@@ -79,6 +80,30 @@ pub record BrokenOff {M : Type 0} (view : M → MediumView) (x : Exchange) (r s 
   pub broke : Broke view r (entries_of 0 x) s
   pub legal : is_exchange (loop_of r) x ≡ true
   pub one : OneTalker (roles_of (devices_of r)) (cut_at (entries_of 0 x) broke.standing broke.break)
+  pub lost : IsLost s
+
+-- ---- from any roles
+
+-- the entries of a controller that addresses all devices, which are so many
+abbrev pub addressing : ℕ → List Entry
+addressing devices = entries_of 0 (Command ifc) ++ (entries_of 0 (Command aau) ++ entries_of 0 (Address devices))
+
+-- party k has its number as address, and neither talks nor listens
+abbrev pub IsAddressed : ℕ → DeviceState → Type 0
+IsAddressed k d = d.roles ≡ record { address = Some k; talks = false; listens = false }
+
+-- all devices were addressed; there are n
+pub record Resumed {M : Type 0} (view : M → MediumView) (n : ℕ) (r s : RingView M) : Type 0 where
+  pub count : n ≡ length (devices_of r)
+  pub whole : Whole view r (addressing n) s
+  pub one : OneTalker (roles_of (devices_of r)) (addressing n)
+  pub addressed : Each IsAddressed 1 (devices_of s)
+  pub idle : IsIdle s
+
+-- that was broken off
+pub record NotResumed {M : Type 0} (view : M → MediumView) (r s : RingView M) : Type 0 where
+  pub broke : Broke view r (addressing (length (devices_of r))) s
+  pub one : OneTalker (roles_of (devices_of r)) (cut_at (addressing (length (devices_of r))) broke.standing broke.break)
   pub lost : IsLost s
 
 -- ---- a send, byte by byte

@@ -1,13 +1,13 @@
 // What the controller does on the ring, one round behind the other. Each answers whether it was done whole.
-ghost use Rattle.std.specs.Prelude.{◌≡◌, ◌≤◌, ◌<◌, [], ◌∷◌, ◌++◌, true, MatchBool, IfSome};
+ghost use Rattle.std.specs.Prelude.{◌≡◌, ◌≤◌, ◌<◌, [], ◌∷◌, ◌++◌, true, MatchBool, MatchOption, IfSome};
 ghost use Rattle.il_frames.specs.Messages.{message_of};
 ghost use Rattle.il_device.proofs.Laws.{is_plain};
 ghost use Rattle.loop_model.specs.Exchanges.{Send, entries_of, numbered, returned, commanded};
-ghost use Rattle.loop_model.specs.Entries.{lad, ddl};
+ghost use Rattle.loop_model.specs.Entries.{ifc, aau, lad, ddl};
 ghost use Rattle.il_ring.specs.Rings.{spare_of};
-ghost use Rattle.il_control.specs.Calls.{Whole, Broke, IsFree, IsIdle, Sent, NotSent};
+ghost use Rattle.il_control.specs.Calls.{Whole, Broke, IsFree, IsIdle, IsLost, Resumed, NotResumed, Sent, NotSent};
 
-use crate::frames::{dab, ddl, lad, rfc, unl};
+use crate::frames::{aad, aau, dab, ddl, ifc, lad, rfc, unl};
 use il_frames::Frame;
 use il_ports::Medium;
 use il_ring::{Arrival, Ring, Seen};
@@ -86,5 +86,31 @@ pub(crate) fn send_byte<M: Medium>(ring: &mut Ring<M>, byte: u8) -> bool
     match ring.send(frame) {
         Arrival::Frame(back) => frame.same_but_service(back),
         Arrival::Lost => false,
+    }
+}
+
+/// Clears the interface and takes all addresses away.
+fn clear<M: Medium>(ring: &mut Ring<M>) -> bool
+    requires room { 36 ≤ spare_of (⟦<Ring<M> as Seen<M>>⟧.seen ring.old) }
+    requires free { IsFree (⟦<Ring<M> as Seen<M>>⟧.seen ring.old) }
+    ensures { MatchBool result (Whole M.view (⟦<Ring<M> as Seen<M>>⟧.seen ring.old) (commanded 0 ifc ++ commanded 0 aau) (⟦<Ring<M> as Seen<M>>⟧.seen ring.new))
+        (Broke M.view (⟦<Ring<M> as Seen<M>>⟧.seen ring.old) (commanded 0 ifc ++ commanded 0 aau) (⟦<Ring<M> as Seen<M>>⟧.seen ring.new)) }
+{
+    command(ring, ifc()) && command(ring, aau())
+}
+
+/// Gives each device its number as address, and tells how many there are.
+pub(crate) fn address<M: Medium>(ring: &mut Ring<M>) -> Option<u8>
+    requires room { 37 ≤ spare_of (⟦<Ring<M> as Seen<M>>⟧.seen ring.old) }
+    requires lost { IsLost (⟦<Ring<M> as Seen<M>>⟧.seen ring.old) }
+    ensures { MatchOption result (NotResumed M.view (⟦<Ring<M> as Seen<M>>⟧.seen ring.old) (⟦<Ring<M> as Seen<M>>⟧.seen ring.new))
+        (λ n. Resumed M.view n (⟦<Ring<M> as Seen<M>>⟧.seen ring.old) (⟦<Ring<M> as Seen<M>>⟧.seen ring.new)) }
+{
+    if !clear(ring) {
+        return None;
+    }
+    match ring.send(aad()) {
+        Arrival::Frame(back) => Some(back.byte() - 0x81),
+        Arrival::Lost => None,
     }
 }

@@ -3,10 +3,10 @@ ghost use Rattle.loop_model.specs.Exchanges.Exchange.{Command, Identify, Send};
 ghost use Rattle.il_ring.specs.Rings.{spare_of, devices_of};
 ghost use Rattle.il_ring.specs.Lists.{Each};
 ghost use Rattle.il_ring.specs.Polls.{identified_along};
-ghost use Rattle.il_control.specs.Calls.{idy, IsIdle, IsLost, is_command, Made, BrokenOff, IsTold, Sent, NotSent};
+ghost use Rattle.il_control.specs.Calls.{idy, IsIdle, IsLost, is_command, Made, BrokenOff, Resumed, NotResumed, IsTold, Sent, NotSent};
 
 use crate::frames;
-use crate::rounds::{command, send_byte, tell};
+use crate::rounds::{address, command, send_byte, tell};
 use il_device::Device;
 use il_frames::Frame;
 use il_ports::Medium;
@@ -105,6 +105,21 @@ impl<M: Medium> Lost<M> {
         Lost {
             ring,
             devices: PhantomData,
+        }
+    }
+
+    /// Clears the interface, takes all addresses away and gives each device its number as address,
+    /// counted from the host's output. Answers how many there are, 1 to 30.
+    pub fn resume(self) -> Result<(Idle<M>, u8), Lost<M>>
+        requires room { 37 ≤ spare_of (⟦<Lost<M> as Seen<M>>⟧.seen self) }
+        requires lost { IsLost (⟦<Lost<M> as Seen<M>>⟧.seen self) }
+        ensures resumed { IfOk result (λ told. Resumed M.view told.1 (⟦<Lost<M> as Seen<M>>⟧.seen self) (⟦<Idle<M> as Seen<M>>⟧.seen told.0)) }
+        ensures not_resumed { IfErr result (λ lost. NotResumed M.view (⟦<Lost<M> as Seen<M>>⟧.seen self) (⟦<Lost<M> as Seen<M>>⟧.seen lost)) }
+    {
+        let Lost { mut ring, devices } = self;
+        match address(&mut ring) {
+            Some(count) => Ok((Idle { ring, devices }, count)),
+            None => Err(Lost { ring, devices }),
         }
     }
 
