@@ -71,14 +71,19 @@ module _ {M : Type 0} (view : M → MediumView) (byte : ℕ) (r s : RingView M) 
       let added = adds (outcome.Back back.back) returned.log free in
       let now = still (outcome.Back back.back) free added in
       let echo = same_served (dab byte) back.back back.same in
-      inl (back.back, returned.answer_is, echo, record {
-        back = back.back;
-        legal = echo;
-        whole = record { adds = added; ring = now.free.ring; held = free; met_none = returned.met_none };
-        one = OneTalker-silent (roles_of (devices_of r)) (echoed 0 (sent_as byte back.back) ∷ []) idle.silent refl refl;
-        heard = back.heard;
-        idle = now;
-      })
+      inl (
+        back.back,
+        returned.answer_is,
+        echo,
+        record {
+          back = back.back;
+          legal = echo;
+          whole = record { adds = added; ring = now.free.ring; held = free; met_none = returned.met_none };
+          one = OneTalker-silent (roles_of (devices_of r)) (echoed 0 (sent_as byte back.back) ∷ []) idle.silent refl refl;
+          heard = back.heard;
+          idle = now;
+        },
+      )
 
   lost_at : IsIdle s → IsLost s
   lost_at now = record { free = now.free; one = ap is_at_most_one now.silent }
@@ -91,41 +96,47 @@ module _ {M : Type 0} (view : M → MediumView) (byte : ℕ) (r s : RingView M) 
       let added = adds (outcome.Back altered.back) altered.log free in
       let now = still (outcome.Back altered.back) free added in
       let other = wrong_echo (dab byte) altered.back altered.other in
-      inr (inr (altered.back, altered.answer_is, other), record {
-        broke = record {
-          standing = 0;
-          break = HostAltered altered.back;
-          legal = ap not other;
-          held_at_end = None;
-          adds = added;
-          ring = now.free.ring;
-          held = free;
-          met_some = altered.met_some;
-        };
-        one = OneTalker-silent (roles_of (devices_of r)) (entry 0 (dab byte) (outcome.Back altered.back) ∷ []) idle.silent refl refl;
-        reached = not_sent.reached;
-        heard = not_sent.heard;
-        lost = lost_at now;
-      }))
+      inr (
+        inr (altered.back, altered.answer_is, other),
+        record {
+          broke = record {
+            standing = 0;
+            break = HostAltered altered.back;
+            legal = ap not other;
+            held_at_end = None;
+            adds = added;
+            ring = now.free.ring;
+            held = free;
+            met_some = altered.met_some;
+          };
+          one = OneTalker-silent (roles_of (devices_of r)) (entry 0 (dab byte) (outcome.Back altered.back) ∷ []) idle.silent refl refl;
+          reached = not_sent.reached;
+          heard = not_sent.heard;
+          lost = lost_at now;
+        },
+      ))
       (λ (lost : WasLost r 0 (dab byte) answer s).
       let added = adds (outcome.Lost lost.party) lost.log lost.held_is in
       let now = still (outcome.Lost lost.party) lost.held_is added in
-      inr (inl lost.answer_is, record {
-        broke = record {
-          standing = 0;
-          break = FrameLost lost.party;
-          legal = refl;
-          held_at_end = None;
-          adds = added;
-          ring = now.free.ring;
-          held = lost.held_is;
-          met_some = lost.met_some;
-        };
-        one = OneTalker-silent (roles_of (devices_of r)) (entry 0 (dab byte) (outcome.Lost lost.party) ∷ []) idle.silent refl refl;
-        reached = not_sent.reached;
-        heard = not_sent.heard;
-        lost = lost_at now;
-      }))
+      inr (
+        inl lost.answer_is,
+        record {
+          broke = record {
+            standing = 0;
+            break = FrameLost lost.party;
+            legal = refl;
+            held_at_end = None;
+            adds = added;
+            ring = now.free.ring;
+            held = lost.held_is;
+            met_some = lost.met_some;
+          };
+          one = OneTalker-silent (roles_of (devices_of r)) (entry 0 (dab byte) (outcome.Lost lost.party) ∷ []) idle.silent refl refl;
+          reached = not_sent.reached;
+          heard = not_sent.heard;
+          lost = lost_at now;
+        },
+      ))
       not_sent.how
 
   pub byte_call : ByteEnd view byte r answer s

@@ -151,22 +151,30 @@ pass_call view Q P R passes r s held f answer round none free fit is carries =
     (λ end.
     let back = end.3 in
     let held_is = back.held_is ∙ none in
-    inl (end.0, end.1, back.answer_is, record {
-      adds = host_adds view (Q (1 + length r.before)) r s held f answer (entry 0 f (outcome.Back end.0) ∷ []) None carries round back.log (none_new r s held (sourced 0 f) answer counts held_is) took;
-      ring = ring;
-      held = held_is;
-      met_none = back.met_none;
-    }))
-    (λ lost. inr (lost.answer_is, λ o. record {
-      standing = 0;
-      break = FrameLost lost.party;
-      legal = refl;
-      held_at_end = None;
-      adds = host_adds view (Q (1 + length r.before)) r s held f answer (entry 0 f (outcome.Lost lost.party) ∷ []) None carries round lost.log (none_new r s held (sourced 0 f) answer counts lost.held_is) took;
-      ring = ring;
-      held = lost.held_is;
-      met_some = lost.met_some;
-    }))
+    inl (
+      end.0,
+      end.1,
+      back.answer_is,
+      record {
+        adds = host_adds view (Q (1 + length r.before)) r s held f answer (entry 0 f (outcome.Back end.0) ∷ []) None carries round back.log (none_new r s held (sourced 0 f) answer counts held_is) took;
+        ring = ring;
+        held = held_is;
+        met_none = back.met_none;
+      },
+    ))
+    (λ lost. inr (
+      lost.answer_is,
+      λ o. record {
+        standing = 0;
+        break = FrameLost lost.party;
+        legal = refl;
+        held_at_end = None;
+        adds = host_adds view (Q (1 + length r.before)) r s held f answer (entry 0 f (outcome.Lost lost.party) ∷ []) None carries round lost.log (none_new r s held (sourced 0 f) answer counts lost.held_is) took;
+        ring = ring;
+        held = lost.held_is;
+        met_some = lost.met_some;
+      },
+    ))
     passed.end
 
 pub plain_call : {M : Type 0} (view : M → MediumView) (r s : RingView M) (held : Option Flight) (f : Frame) (answer : Arrival) → Round view r held (sourced 0 f) answer s → held ≡ None → IsFree r → is_plain (message_of f) ≡ true → Done view r (returned 0 f ∷ []) (arrives answer) s

@@ -22,6 +22,7 @@ use Rattle.loop_model.proofs.RoleSteps.{are_numbered}
 use Rattle.loop_model.proofs.RoundLaws.{OneTalker-safe, OneTalker-cut, safe_exchange, answers_as_asked, keeps_addresses, are_numbered-piece}
 use Rattle.loop_model.proofs.TalkLaws.{is_aau}
 use Rattle.il_ring.specs.Rings.{RingView, IsRing, devices_of, roles_of, drive_party}
+use Rattle.il_ring.proofs.Rings.{IsRing-clear}
 use Rattle.il_control.specs.Calls.{Whole, Broke, IsIdle, IsLost, loop_of, is_command, Made, BrokenOff}
 use Rattle.il_control.proofs.Calls.{Done}
 
@@ -89,3 +90,16 @@ command_broken view f r s idle is broke =
     let parts = and_parts (same_class (class_of f) class.Cmd) (not (is_talk_address (message_of f)) && not (is_aau (message_of f))) is in
     let says = and_parts (not (is_talk_address (message_of f))) (not (is_aau (message_of f))) parts.1 in
     broken_off view (Command f) r s idle (and_from _ _ parts.0 says.0) refl broke
+
+-- ---- an emptied log
+
+-- leaves the state
+pub idle_cleared : {M : Type 0} (r : RingView M) → IsIdle r → IsIdle (record r { books = record r.books { log = [] } })
+idle_cleared r idle = record { free = record { ring = IsRing-clear r idle.free.ring; held = idle.free.held }; silent = idle.silent; numbered = idle.numbered }
+
+pub lost_cleared : {M : Type 0} (r : RingView M) → IsLost r → IsLost (record r { books = record r.books { log = [] } })
+lost_cleared r lost = record { free = record { ring = IsRing-clear r lost.free.ring; held = lost.free.held }; one = lost.one }
+
+-- an idle controller that gives up
+pub idle_lost : {M : Type 0} (r : RingView M) → IsIdle r → IsLost r
+idle_lost r idle = record { free = idle.free; one = ap is_at_most_one idle.silent }

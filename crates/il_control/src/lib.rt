@@ -7,3 +7,6 @@ mod rounds;
 mod states;
 
 pub use states::{Idle, Lost, Sending};
+
+#[cfg(test)]
+mod tests;

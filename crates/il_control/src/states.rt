@@ -94,6 +94,20 @@ impl<M: Medium> Sending<M> {
         let Sending { ring, devices } = self;
         Idle { ring, devices }
     }
+
+    /// The ring.
+    pub fn ring(&self) -> &Ring<M>
+        ensures { ⟦<Ring<M> as Seen<M>>⟧.seen result.now ≡ ⟦<Sending<M> as Seen<M>>⟧.seen self.now }
+    {
+        &self.ring
+    }
+
+    /// Empties the log of the ring.
+    pub fn clear_log(&mut self)
+        ensures { ⟦<Sending<M> as Seen<M>>⟧.seen self.new ≡ record (⟦<Sending<M> as Seen<M>>⟧.seen self.old) { books = record (⟦<Sending<M> as Seen<M>>⟧.seen self.old).books { log = [] } } }
+    {
+        self.ring.clear_log();
+    }
 }
 
 impl<M: Medium> Lost<M> {
@@ -129,6 +143,20 @@ impl<M: Medium> Lost<M> {
     {
         let Lost { ring, .. } = self;
         ring
+    }
+
+    /// The ring.
+    pub fn ring(&self) -> &Ring<M>
+        ensures { ⟦<Ring<M> as Seen<M>>⟧.seen result.now ≡ ⟦<Lost<M> as Seen<M>>⟧.seen self.now }
+    {
+        &self.ring
+    }
+
+    /// Empties the log of the ring.
+    pub fn clear_log(&mut self)
+        ensures { ⟦<Lost<M> as Seen<M>>⟧.seen self.new ≡ record (⟦<Lost<M> as Seen<M>>⟧.seen self.old) { books = record (⟦<Lost<M> as Seen<M>>⟧.seen self.old).books { log = [] } } }
+    {
+        self.ring.clear_log();
     }
 }
 
@@ -190,5 +218,19 @@ impl<M: Medium> Idle<M> {
     {
         let Idle { ring, devices } = self;
         Lost { ring, devices }
+    }
+
+    /// The ring.
+    pub fn ring(&self) -> &Ring<M>
+        ensures { ⟦<Ring<M> as Seen<M>>⟧.seen result.now ≡ ⟦<Idle<M> as Seen<M>>⟧.seen self.now }
+    {
+        &self.ring
+    }
+
+    /// Empties the log of the ring.
+    pub fn clear_log(&mut self)
+        ensures { ⟦<Idle<M> as Seen<M>>⟧.seen self.new ≡ record (⟦<Idle<M> as Seen<M>>⟧.seen self.old) { books = record (⟦<Idle<M> as Seen<M>>⟧.seen self.old).books { log = [] } } }
+    {
+        self.ring.clear_log();
     }
 }
