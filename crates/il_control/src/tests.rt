@@ -29,6 +29,14 @@ fn blank_tape(rt: &(impl Abort + AllocGlobal)) -> Result<MemoryMedium, Fail> {
     Ok(medium)
 }
 
+/// The controller of a new ring.
+fn controller_of(ring: Ring<MemoryMedium>) -> Lost<MemoryMedium>
+    requires { IsLost (⟦<Ring<MemoryMedium> as Seen<MemoryMedium>>⟧.seen ring) }
+    ensures { IsLost (⟦<Lost<MemoryMedium> as Seen<MemoryMedium>>⟧.seen result) }
+{
+    Lost::new(ring)
+}
+
 /// The controller of a new ring of the drive and a printer behind it.
 fn controller(rt: &(impl Abort + AllocGlobal), plan: &[Planned]) -> Result<Lost<MemoryMedium>, Fail>
     ensures { IfOk result (λ lost. IsLost (⟦<Lost<MemoryMedium> as Seen<MemoryMedium>>⟧.seen lost)) }
@@ -48,7 +56,7 @@ fn controller(rt: &(impl Abort + AllocGlobal), plan: &[Planned]) -> Result<Lost<
     let ring = Ring::new(alloc, rig, plan, 100)
         .ok()
         .expect(rt, "memory for a ring");
-    Ok(Lost::new(ring))
+    Ok(controller_of(ring))
 }
 
 /// Addresses the loop and sends `HP` to the printer, or gives up where that breaks off.
@@ -64,17 +72,20 @@ fn print(rt: &impl Abort, lost: Lost<MemoryMedium>) -> Result<Ring<MemoryMedium>
         Err(lost) => return Ok(lost.into_ring()),
     };
     assert!(rt; idle.ring().spare() >= 38);
-    let mut sending = match idle.listen(2, None) {
+    let sending = match idle.listen(2, None) {
         Ok(sending) => sending,
         Err(lost) => return Ok(lost.into_ring()),
     };
-    for byte in [0x48, 0x50] {
-        assert!(rt; sending.ring().spare() >= 33);
-        sending = match sending.byte(byte) {
-            Ok(sending) => sending,
-            Err(lost) => return Ok(lost.into_ring()),
-        };
-    }
+    assert!(rt; sending.ring().spare() >= 33);
+    let sending = match sending.byte(0x48) {
+        Ok(sending) => sending,
+        Err(lost) => return Ok(lost.into_ring()),
+    };
+    assert!(rt; sending.ring().spare() >= 33);
+    let sending = match sending.byte(0x50) {
+        Ok(sending) => sending,
+        Err(lost) => return Ok(lost.into_ring()),
+    };
     Ok(sending.done().give_up().into_ring())
 }
 
@@ -88,7 +99,7 @@ fn compare_whole(rt: &impl Abort, log: &[Entry], count: usize) -> Result<(), Fai
         let back = if text == "AAD 01" { "AAD 03" } else { text };
         assert_eq!(rt; entry.source, 0);
         assert_eq!(rt; entry.frame, frame_of(rt, text));
-        assert_eq!(rt; entry.outcome, Outcome::Back(frame_of(rt, back)), "{text}");
+        assert_eq!(rt; entry.outcome, Outcome::Back(frame_of(rt, back)));
     }
     Ok(())
 }
