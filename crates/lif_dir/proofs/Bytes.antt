@@ -1,11 +1,13 @@
 -- An entry and its 32 bytes tell of each other.
-use Rattle.std.proofs.Common.{◌≡◌, ◌≢◌, ◌==◌, ℕ, zero, suc, ◌+◌, ◌<◌, ◌≤◌, ◌^◌, false, if◌then◌else◌, List, [], ◌∷◌, ◌++◌, length, get_or, take, drop, refl, ap, sym, ◌∙◌, append_assoc, append-nil, length-append, arith, w16, w32, lit<}
+use Rattle.std.proofs.Common.{◌≡◌, ◌≢◌, ◌==◌, ◌&&◌, ℕ, zero, suc, not, nat_lt, ◌+◌, ◌<◌, ◌≤◌, ◌^◌, false, if◌then◌else◌, List, [], ◌∷◌, ◌++◌, length, get_or, take, drop, refl, ap, sym, ◌∙◌, append_assoc, append-nil, length-append, arith, w16, w32, lit<}
 use Rattle.std.specs.Int.{to_be_bytes, byte_at}
+use Rattle.std.specs.Str.{bytes_eq}
 use Rattle.std.proofs.lemmas.List.{get_or-append-add, drop_more, take_all}
 use Rattle.std.proofs.lemmas.Nat.{be_bytes_2, be_bytes_4}
 use Rattle.std.proofs.Math.Seq.{take-add, drop-append_seam, take-append_seam}
 use Rattle.lif_model.specs.Numbers.{two_at, four_at}
-use Rattle.lif_model.specs.Directory.{name_of, date_of, implementation_of}
+use Rattle.lif_model.specs.Directory.{name_of, type_of, start_of, length_of, date_of, implementation_of}
+use Rattle.lif_model.specs.Legal.{is_live, is_live_named, has_records}
 use Rattle.lif_dir.specs.declared.entries.FileEntry.{FileEntry}
 use Rattle.lif_dir.specs.declared.entries.Slot.{Slot}
 use Rattle.lif_dir.specs.declared.entries.Slot.TheVariants.{End}
@@ -97,6 +99,33 @@ entry_back e w =
     (ap (λ bs. take 6 (drop 20 bs)) (seam_4 n k s l d v p) ∙ part_after (n ++ k ++ s ++ l) d _ 20 6 to_date w.date)
     (ap (λ bs. two_at bs 26) (seam_5 n k s l d v p) ∙ two_after (n ++ k ++ s ++ l ++ d) _ 26 e.volume to_volume w.volume)
     (ap (λ bs. take 4 (drop 28 bs)) (seam_6 n k s l d v p) ∙ part_after (n ++ k ++ s ++ l ++ d ++ v) p [] 28 4 to_end w.implementation)
+
+-- each field is read back
+pub kind_back : (e : FileEntry) → HasWidths e → type_of (entry_bytes e) ≡ e.kind
+kind_back e w = ap (λ (x : FileEntry). x.kind) (entry_back e w)
+
+pub start_back : (e : FileEntry) → HasWidths e → start_of (entry_bytes e) ≡ e.start
+start_back e w = ap (λ (x : FileEntry). x.start) (entry_back e w)
+
+pub length_back : (e : FileEntry) → HasWidths e → length_of (entry_bytes e) ≡ e.length
+length_back e w = ap (λ (x : FileEntry). x.length) (entry_back e w)
+
+pub name_back : (e : FileEntry) → HasWidths e → name_of (entry_bytes e) ≡ e.name.bytes
+name_back e w = ap (λ (x : FileEntry). x.name.bytes) (entry_back e w)
+
+-- what is asked of an entry and of its bytes
+module _ (e : FileEntry) (w : HasWidths e) where
+  pub live_back : is_live (entry_bytes e) ≡ not (e.kind == 0)
+  live_back = ap (λ (k : ℕ). not (k == 0)) (kind_back e w)
+
+  pub named_back : (name : List ℕ) → is_live_named name (entry_bytes e) ≡ (not (e.kind == 0) && bytes_eq e.name.bytes name)
+  named_back name = λ i. live_back i && bytes_eq (name_back e w i) name
+
+  pub records_back : has_records (entry_bytes e) ≡ nat_lt 0 e.length
+  records_back = ap (λ (n : ℕ). nat_lt 0 n) (length_back e w)
+
+  pub below_back : (limit : ℕ) → (has_records (entry_bytes e) && nat_lt (start_of (entry_bytes e)) limit) ≡ (nat_lt 0 e.length && nat_lt e.start limit)
+  below_back limit = λ i. records_back i && nat_lt (start_back e w i) limit
 
 -- the slot of an entry, or the end
 abbrev slot_or_end : FileEntry → Slot

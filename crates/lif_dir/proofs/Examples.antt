@@ -1,13 +1,18 @@
 -- Worked examples, computed by the checker.
-use Rattle.std.proofs.Common.{◌≡◌, ◌++◌, ℕ, List, [], ◌∷◌, refl, true, false, codes, replicate, lit≤, rules, Some, None}
+use Rattle.std.proofs.Common.{◌≡◌, ◌≢◌, ◌<◌, ◌++◌, ℕ, zero, suc, get_or, arith, List, [], ◌∷◌, refl, true, false, codes, replicate, lit≤, lit<, rules, Some, None}
 use Rattle.std.specs.Prelude.{option_map}
+use Rattle.std.specs.Ordering.{nat_cmp, is_gt}
+use Rattle.std.specs.Cmp.Lexicographic.{slice_cmp}
 use Rattle.lif_model.specs.Numbers.{two_at, four_at}
 use Rattle.lif_model.specs.Directory.{name_of, date_of, implementation_of}
 use Rattle.lif_dir.specs.declared.entries.FileEntry.{FileEntry}
 use Rattle.lif_dir.specs.declared.entries.Slot.TheVariants.{Live, Purged, End}
 use Rattle.lif_dir.specs.Entries.{spaced, name_bytes, entry_bytes, entry_from, slot_of, slot_from, slot_bytes, is_entry}
 use Rattle.lif_dir.specs.Names.{is_made, name_of_bytes, new_name, made_name, new_label, label_bytes}
-use Rattle.lif_dir.specs.Tables.{IsInRoom}
+use Rattle.lif_dir.specs.Indexes.{is_live_at, name_at, name_in, IsUpTo, IsIndex, AreSorted}
+use Rattle.lif_dir.specs.Tables.{IsInRoom, IsIndexed}
+use Rattle.lif_dir.proofs.Searching.{sorted_here}
+use Rattle.lif_dir.proofs.TableLemmas.{empty_indexed}
 
 two_letters : spaced (codes "AB") ≡ codes "AB        "
 two_letters = refl
@@ -98,5 +103,68 @@ last_is_end = refl
 entries : (is_entry (Live redo) ≡ true) × (is_entry (Purged junk) ≡ true) × (is_entry End ≡ false)
 entries = (refl, refl, refl)
 
+-- ---- tables and their index
+
 one_of_two : IsInRoom 1 2 2 (Live redo ∷ [])
-one_of_two = record { within = lit≤ tt; reserved = lit≤ tt; entries = search rules }
+one_of_two = record { within = lit≤ tt; reserved = lit≤ tt; small = lit< tt; entries = search rules }
+
+-- a file of that name, of a type that is live or purged
+abbrev file : List ℕ → ℕ → List ℕ
+file name kind = entry_bytes (record redo { name = record { bytes = name }; kind = kind })
+
+-- the order is that of the bytes: a shorter name stands first, since a space does
+in_order : IsUpTo (codes "AB        ") (codes "ABC       ")
+in_order = refl
+
+out_of_order : is_gt (slice_cmp nat_cmp (codes "B         ") (codes "ABC       ")) ≡ true
+out_of_order = refl
+
+-- B, a purged A, and A: the live ones stand in the index by name
+abbrev three : List (List ℕ)
+three = file (codes "B         ") 1 ∷ file (codes "A         ") 0 ∷ file (codes "A         ") 1 ∷ []
+
+live_ones : (is_live_at three 0 ≡ true) × (is_live_at three 1 ≡ false) × (is_live_at three 2 ≡ true) × (is_live_at three 3 ≡ false)
+unfolding two_at
+live_ones = (refl, refl, refl, refl)
+
+names_by_place : (name_at three 2 ≡ codes "A         ") × (name_in three (2 ∷ 0 ∷ []) 1 ≡ codes "B         ")
+unfolding name_of
+names_by_place = (refl, refl)
+
+abbrev places : List ℕ
+places = 2 ∷ 0 ∷ []
+
+three_live : (j : ℕ) → j < 2 → is_live_at three (get_or places j 0) ≡ true
+unfolding two_at
+three_live zero lt = refl
+three_live (suc zero) lt = refl
+three_live (suc (suc j)) lt = absurd (omega arith)
+
+three_all : (i : ℕ) → is_live_at three i ≡ true → (j : ℕ) × (j < 2) × (get_or places j 0 ≡ i)
+unfolding two_at
+three_all zero on = (1, lit< tt, refl)
+three_all (suc zero) on = cc
+three_all (suc (suc zero)) on = (0, lit< tt, refl)
+three_all (suc (suc (suc i))) on = cc
+
+three_once : (j k : ℕ) → j < k → k < 2 → get_or places j 0 ≢ get_or places k 0
+three_once zero (suc zero) less lt e = cc
+three_once (suc j) (suc zero) less lt e = omega arith
+three_once j zero less lt e = omega arith
+three_once j (suc (suc k)) less lt e = omega arith
+
+three_sorted : (j k : ℕ) → j < k → k < 2 → IsUpTo (name_in three places j) (name_in three places k)
+unfolding name_of
+three_sorted zero (suc zero) less lt = refl
+three_sorted (suc j) (suc zero) less lt = absurd (omega arith)
+three_sorted j zero less lt = absurd (omega arith)
+three_sorted j (suc (suc k)) less lt = absurd (omega arith)
+
+index_of_three : IsIndex three places
+index_of_three = record { live = three_live; all = three_all; once = three_once; sorted = three_sorted }
+
+sorted_three : AreSorted three places
+sorted_three = sorted_here three places index_of_three
+
+no_slots_indexed : IsIndexed 0 2 2 [] []
+no_slots_indexed = empty_indexed 0 2 2 [] [] (lit≤ tt) refl refl refl

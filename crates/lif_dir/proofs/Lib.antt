@@ -1,4 +1,7 @@
 mod Bytes
 mod Spaces
 mod Slots
+mod Indexing
+mod Searching
+mod TableLemmas
 mod Examples

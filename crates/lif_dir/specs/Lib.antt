@@ -1,3 +1,4 @@
 pub mod Entries
 pub mod Names
+pub mod Indexes
 pub mod Tables

@@ -1,8 +1,12 @@
-ghost use Rattle.std.specs.Prelude.{◌≡◌, ◌≢◌, ◌≤◌, ◌+◌, ◌++◌, ◌↔◌, false, length, take, IsSome, IfSome};
-ghost use Rattle.lif_model.specs.Directory.{is_end};
+ghost use Rattle.std.specs.Prelude.{◌≡◌, ◌≢◌, ◌<◌, ◌≤◌, ◌+◌, ◌^◌, ◌++◌, ◌&&◌, ◌↔◌, nat_lt, false, length, take, IsSome, IfSome};
+ghost use Rattle.std.specs.Ordering.{nat_cmp};
+ghost use Rattle.std.specs.Cmp.Lexicographic.{slice_cmp};
+ghost use Rattle.lif_model.specs.Directory.{is_end, name_of, start_of};
+ghost use Rattle.lif_model.specs.Legal.{is_live, is_live_named, has_records, end_of};
 ghost use Rattle.lif_dir.specs.Entries.{spaced, name_bytes, entry_bytes, entry_from, slot_of, slot_from, slot_bytes};
 
 use lif_header::{bytes_at, four_at, two_at};
+use std::cmp::Ordering;
 
 /// The type of an entry that ends its directory.
 const END: u16 = 0xFFFF;
@@ -49,7 +53,8 @@ pub enum Slot {
 impl Name {
     ghost use Rattle.lif_dir.specs.Names.{name_of_bytes};
 
-    /// The name of these bytes, filled up with spaces. `None` where there are no bytes or more than ten.
+    /// The name of these bytes, filled up with spaces. `None` where there are no bytes or more than
+    /// ten.
     pub fn of(bytes: &[u8]) -> Option<Name>
         ensures fits { IsSome result ↔ ((1 ≤ length bytes.now) × (length bytes.now ≤ 10)) }
         ensures name { IfSome result (λ name. name_bytes name ≡ spaced bytes.now) }
@@ -68,6 +73,13 @@ impl Name {
         ensures { result ≡ name_bytes self.now }
     {
         self.bytes
+    }
+
+    /// Which of two names stands first, byte by byte.
+    pub fn order(&self, other: &Name) -> Ordering
+        ensures { result ≡ slice_cmp nat_cmp (name_bytes self.now) (name_bytes other.now) }
+    {
+        self.bytes.cmp(&other.bytes)
     }
 }
 
@@ -113,11 +125,56 @@ impl FileEntry {
         put(&mut bytes, 28, &self.implementation);
         bytes
     }
+
+    /// The name, as its bytes tell it.
+    pub(crate) fn name(self) -> Name
+        ensures { name_bytes result ≡ name_of (entry_bytes self) }
+    {
+        self.name
+    }
+
+    /// Whether the file is live: it has any type but 0.
+    pub fn is_live(self) -> bool
+        ensures { result ≡ is_live (entry_bytes self) }
+    {
+        self.kind != PURGED
+    }
+
+    /// Whether the file is live and has this name, with its spaces.
+    pub fn is_live_named(self, name: &[u8; 10]) -> bool
+        ensures { result ≡ is_live_named name.now (entry_bytes self) }
+    {
+        self.is_live() && self.name.bytes == *name
+    }
+
+    /// Whether the file has records.
+    pub fn has_records(self) -> bool
+        ensures { result ≡ has_records (entry_bytes self) }
+    {
+        self.length > 0
+    }
+
+    /// The first record behind the file. A purged file may tell of more records than any medium
+    /// has: nothing is lost of the sum.
+    pub fn end(self) -> u64
+        ensures end { result ≡ end_of (entry_bytes self) }
+        ensures bound { result < 2 ^ 33 }
+    {
+        u64::from(self.start) + u64::from(self.length)
+    }
+
+    /// Whether the file has records, and the first of them lies below `limit`.
+    pub fn begins_below(self, limit: u64) -> bool
+        ensures { result
+            ≡ (has_records (entry_bytes self) && nat_lt (start_of (entry_bytes self)) limit) }
+    {
+        self.length > 0 && u64::from(self.start) < limit
+    }
 }
 
 impl Slot {
-    /// What 32 bytes of a directory tell of: its end where the type is FFFF hex, a purged file where it is 0, and a
-    /// live one otherwise.
+    /// What 32 bytes of a directory tell of: its end where the type is FFFF hex, a purged file
+    /// where it is 0, and a live one otherwise.
     pub fn of(bytes: &[u8; 32]) -> Slot
         ensures slot { result ≡ slot_from bytes.now }
         ensures bytes { is_end bytes.now ≡ false → slot_bytes result ≡ bytes.now }
@@ -127,6 +184,16 @@ impl Slot {
             END => Slot::End,
             PURGED => Slot::Purged(entry),
             _ => Slot::Live(entry),
+        }
+    }
+
+    /// Whether the slot is that of a live file: one of any type but 0.
+    pub fn is_live(&self) -> bool
+        ensures { result ≡ is_live (slot_bytes self.now) }
+    {
+        match self {
+            Slot::Live(entry) | Slot::Purged(entry) => entry.is_live(),
+            Slot::End => false,
         }
     }
 }

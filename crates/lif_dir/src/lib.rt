@@ -2,14 +2,19 @@
 #![tactic(auto)]
 
 mod entries;
+mod index;
 mod names;
 mod reading;
+mod steps;
 mod table;
 
 pub use entries::{FileEntry, Name, Slot};
 pub use names::{NewLabel, NewName, without_end_spaces};
 pub use reading::slots_of;
+pub use steps::Steps;
 pub use table::SlotTable;
 
+#[cfg(test)]
+mod index_tests;
 #[cfg(test)]
 mod tests;

@@ -6,21 +6,23 @@ ghost use Rattle.lif_dir.specs.Names.{is_letter, is_name_byte, is_made, new_name
 
 use crate::entries::Name;
 
-/// A name that a file can be given: one letter `A` to `Z`, and then letters `A` to `Z`, digits and `_`.
+/// A name that a file can be given: one letter `A` to `Z`, and then letters `A` to `Z`, digits and
+/// `_`.
 #[derive(Clone, Copy, Debug, PartialEq, Eq)]
 pub struct NewName {
     name: Name,
 }
 
-/// A label that a volume can be given: one letter `A` to `Z`, and then letters `A` to `Z`, digits and `_`, six bytes at
-/// most.
+/// A label that a volume can be given: one letter `A` to `Z`, and then letters `A` to `Z`, digits
+/// and `_`, six bytes at most.
 #[derive(Clone, Copy, Debug, PartialEq, Eq)]
 pub struct NewLabel {
     bytes: [u8; 6],
 }
 
 impl NewName {
-    /// The name as one that can be given. The spaces at its end are no part of it. `None` where it is not made so.
+    /// The name as one that can be given. The spaces at its end are no part of it. `None` where it
+    /// is not made so.
     pub fn of(name: &Name) -> Option<NewName>
         ensures { result ≡ new_name name.now }
     {
@@ -36,7 +38,8 @@ impl NewName {
 }
 
 impl NewLabel {
-    /// The label of these bytes, filled up with spaces. `None` where it is not made so or has more than six bytes.
+    /// The label of these bytes, filled up with spaces. `None` where it is not made so or has more
+    /// than six bytes.
     pub fn of(bytes: &[u8]) -> Option<NewLabel>
         ensures { result ≡ new_label bytes.now }
     {

@@ -17,7 +17,8 @@ const ENTRY: usize = 32;
 /// How many entries a record of the directory has.
 const ENTRIES: usize = 8;
 
-/// Appends the slots of one record of the directory, as far as its end, and says whether the end is in it.
+/// Appends the slots of one record of the directory, as far as its end, and says whether the end is
+/// in it.
 fn append_slots(bytes: &[u8; 256], table: &mut SlotTable) -> bool
     requires { length table.old.slots + 8 ≤ table.old.room }
     ensures slots { table.new.slots ≡ table.old.slots ++ map slot_from (before_end (entries_of bytes.now)) }
@@ -35,8 +36,9 @@ fn append_slots(bytes: &[u8; 256], table: &mut SlotTable) -> bool
     false
 }
 
-/// Reads the directory of a volume into `table`, one record at a time and no further than its end: the entries before
-/// the first of type FFFF hex, or all of them. After a trouble the table holds any slots.
+/// Reads the directory of a volume into `table`, one record at a time and no further than its end:
+/// the entries before the first of type FFFF hex, or all of them. After a trouble the table holds
+/// any slots.
 pub fn slots_of<R: Records>(
     records: &mut R,
     header: &Header,
@@ -52,7 +54,8 @@ pub fn slots_of<R: Records>(
     ensures bytes { OnOk result ((t : Tape) → (R.view records.old).tape ≡ Some t →
         map slot_bytes table.new.slots ≡ slots_from t header.now.start header.now.length) }
 
-    // No record changes, and each record is read once at most. There are reads alone, and no call of `resume`.
+    // No record changes, and each record is read once at most. There are reads alone, and no call
+    // of `resume`.
     ensures goes_on { GoesOn header.now.length (R.view records.old) (R.view records.new) result }
     ensures quiet { IsQuiet (R.view records.old) (R.view records.new) }
     ensures transfers { AddsOnly (λ n. ⊥) (R.view records.old).transferred (R.view records.new).transferred result }

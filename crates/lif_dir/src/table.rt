@@ -1,29 +1,40 @@
-ghost use Rattle.std.specs.Prelude.{◌≡◌, ◌==◌, ◌<◌, ◌≤◌, ◌^◌, Some, true, [], ◌∷◌, ◌++◌, length, slice_get, slice_set, IfOk};
+ghost use Rattle.std.specs.Prelude.{◌≡◌, ◌==◌, ◌<◌, ◌≤◌, ◌+◌, ◌-◌, ◌*◌, ◌^◌, Some, true, [], ◌∷◌, ◌++◌, length, map, filter, slice_get, slice_index_or, slice_set, IfOk};
+ghost use Rattle.std.specs.List.{insert, position};
+ghost use Rattle.lif_model.specs.Pairs.{all_pairs};
+ghost use Rattle.lif_model.specs.Legal.{is_live, is_live_named, have_other_names};
 
-use crate::entries::Slot;
+use crate::entries::{FileEntry, Name, Slot};
+use crate::index::NameIndex;
+use crate::steps::Steps;
 use std::alloc::{AllocError, Global};
 use std::marker::Model;
+use std::sync::ledger::Ledger;
 
-/// The slots of a directory, live and purged, in order. All memory is taken by `new`: the room never changes.
+/// The slots of a directory, live and purged, in order. All memory is taken by `new`: the room
+/// never changes.
 #[derive(Debug, Drop)]
 pub struct SlotTable {
     slots: Vec<Slot>,
+    index: NameIndex,
     room: usize,
 }
 
 impl Model for SlotTable {
     ghost use Rattle.std.specs.Vec.{vec_len, vec_capacity};
-    ghost use Rattle.lif_dir.specs.Tables.{Table, IsInRoom};
+    ghost use Rattle.lif_dir.specs.Tables.{Table, IsInRoom, IsIndexed};
 
     ghost Value = { Table };
 
     ghost view = { λ table. record { slots = table.slots.items; room = table.room } };
 
-    ghost invariant = { λ table. IsInRoom (vec_len table.slots) table.room (vec_capacity table.slots) table.slots.items };
+    ghost invariant = { λ table.
+        IsInRoom (vec_len table.slots) table.room (vec_capacity table.slots) table.slots.items
+        × IsIndexed (vec_len table.index.places) table.room (vec_capacity table.index.places)
+        table.slots.items table.index.places.items };
 }
 
 impl SlotTable {
-    ghost use Rattle.lif_dir.specs.Entries.{is_entry};
+    ghost use Rattle.lif_dir.specs.Entries.{is_entry, name_bytes, entry_bytes, slot_bytes};
 
     /// An empty table with room for this many slots.
     pub fn new(alloc: Global, room: usize) -> Result<SlotTable, AllocError>
@@ -32,6 +43,7 @@ impl SlotTable {
     {
         Ok(SlotTable {
             slots: Vec::with_capacity(alloc, room)?,
+            index: NameIndex::new(alloc, room)?,
             room,
         })
     }
@@ -40,6 +52,7 @@ impl SlotTable {
     pub fn len(&self) -> usize
         ensures count { result ≡ length self.now.slots }
         ensures within { result ≤ self.now.room }
+        ensures bound { result < 2 ^ 32 }
     {
         self.slots.len()
     }
@@ -67,11 +80,23 @@ impl SlotTable {
         &self.slots[k]
     }
 
+    /// The entry of slot `k`, live or purged.
+    pub fn entry(&self, k: usize) -> &FileEntry
+        requires { k < length self.now.slots }
+        ensures { entry_bytes result.now ≡ slice_index_or (map slot_bytes self.now.slots) k [] }
+    {
+        match &self.slots[k] {
+            Slot::Live(entry) | Slot::Purged(entry) => entry,
+            Slot::End => unreachable!(),
+        }
+    }
+
     /// Empties the table.
     pub fn clear(&mut self)
         ensures { self.new ≡ record self.old { slots = [] } }
     {
         self.slots.clear();
+        self.index.clear();
     }
 
     /// Appends a slot.
@@ -81,6 +106,7 @@ impl SlotTable {
         ensures { self.new ≡ record self.old { slots = self.old.slots ++ slot ∷ [] } }
     {
         self.slots.push(slot).unwrap();
+        self.index.put_in(&self.slots, self.slots.len() - 1);
     }
 
     /// Replaces slot `k` alone.
@@ -89,6 +115,46 @@ impl SlotTable {
         requires within { k < length self.old.slots }
         ensures { self.new ≡ record self.old { slots = slice_set self.old.slots k slot } }
     {
+        self.index.take_out(&self.slots, k);
         self.slots[k] = slot;
+        self.index.put_in(&self.slots, k);
+    }
+
+    /// Puts a slot before the last one, which moves on by one place: so a file takes the slot of
+    /// the redo entry.
+    pub fn insert_before_last(&mut self, slot: Slot)
+        requires entry { is_entry slot ≡ true }
+        requires some { 0 < length self.old.slots }
+        requires room { length self.old.slots < self.old.room }
+        ensures { self.new
+            ≡ record self.old { slots = insert self.old.slots (length self.old.slots - 1) slot } }
+    {
+        let end = self.len() - 1;
+        let last = *self.get(end);
+        self.set(end, slot);
+        self.push(last);
+    }
+
+    /// Whether no two live slots have one name, as the slots of a legal directory.
+    pub fn distinct(&self) -> bool
+        ensures { result
+            ≡ all_pairs have_other_names (filter is_live (map slot_bytes self.now.slots)) }
+    {
+        self.index.is_distinct(&self.slots)
+    }
+
+    /// The place of the live slot of this name, or `None` where no live slot has it. Live names are
+    /// distinct. A step is one comparison of two names; with n live slots there are at most b of
+    /// them, where b is the greatest number for which 2^b is at most 2n + 1.
+    pub fn find<L: Ledger>(&self, name: &Name, steps: &mut Steps<L>) -> Option<u32>
+        requires distinct { all_pairs have_other_names
+            (filter is_live (map slot_bytes self.now.slots)) ≡ true }
+        ensures place { result
+            ≡ position (is_live_named (name_bytes name.now)) (map slot_bytes self.now.slots) }
+        ensures grows { steps.old ≤ steps.new }
+        ensures few { 2 ^ (steps.new - steps.old)
+            ≤ 2 * length (filter is_live (map slot_bytes self.now.slots)) + 1 }
+    {
+        self.index.find(&self.slots, name, steps)
     }
 }

@@ -97,7 +97,8 @@ fn redo_file() -> Result<FileEntry, Fail> {
     })
 }
 
-/// Reads the directory of a sound store, in which two reads are left, into a table with room for sixteen slots.
+/// Reads the directory of a sound store, in which two reads are left, into a table with room for
+/// sixteen slots.
 fn read_all(rt: &(impl Abort + AllocGlobal), store: &mut MemoryRecords) -> Result<SlotTable, Fail>
     requires size { length (state_of store.old).records ≡ 4 }
     requires sound { (state_of store.old).sound ≡ true }
@@ -131,7 +132,8 @@ fn full_directory_needs_no_end(rt: HostRuntime) -> Result<(), Fail> {
     Ok(())
 }
 
-/// How many slots come before an end in slot `end`. The second record cannot be read where the end is in the first.
+/// How many slots come before an end in slot `end`. The second record cannot be read where the end
+/// is in the first.
 fn slots_before(rt: &(impl Abort + AllocGlobal), end: u8) -> Result<usize, Fail>
     requires { end < 16 }
 {

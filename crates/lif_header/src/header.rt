@@ -1,7 +1,10 @@
-ghost use Rattle.std.specs.Prelude.{◌≡◌, ◌+◌, ◌≤◌, length, IfOk, IfErr, is_ok};
+ghost use Rattle.std.specs.Prelude.{◌≡◌, ◌+◌, ◌≤◌, ◌++◌, length, take, drop, IfOk, IfErr, is_ok};
 ghost use Rattle.lif_model.specs.Header.{is_readable, header_of};
+ghost use Rattle.lif_model.specs.Made.{fresh_header};
+ghost use Rattle.lif_model.specs.Shelf.{piece};
 
 use crate::fields::{bytes_at, four_at, two_at};
+use crate::geometry::Geometry;
 use std::marker::Model;
 use thiserror::Error;
 
@@ -10,6 +13,18 @@ const VOLUME_MARK: u16 = 0x8000;
 
 /// How many records at the end of the medium no directory may reach: those of the redo file.
 const REDO_RECORDS: u16 = 4;
+
+/// The bytes of the header before its date and time.
+const TEXT: usize = 36;
+
+/// Where the directory of a new volume begins.
+const FRESH_START: u32 = 2;
+
+/// Bytes 12 to 15 of a new volume: the word 1000 hex, and zero.
+const FRESH_WORD: [u8; 4] = [0x10, 0, 0, 0];
+
+/// Bytes 20 to 23 of a new volume: LIF version 1, and zero.
+const FRESH_VERSION: [u8; 4] = [0, 1, 0, 0];
 
 /// What the header of a LIF volume says: the label, and where its directory lies.
 #[derive(Clone, Copy, Debug, PartialEq, Eq)]
@@ -53,8 +68,9 @@ impl Header {
     ghost use Rattle.lif_header.specs.Reading.{IsFault, LiesWithin};
     ghost use Rattle.lif_header.specs.declared.header.HeaderFault.{HeaderFault};
 
-    /// Reads record 0 of a medium of `size` records, by the LIF volume header: the mark in bytes 0 and 1, the label
-    /// in bytes 2 to 7, the directory's first record in bytes 8 to 11 and its number of records in bytes 16 to 19.
+    /// Reads record 0 of a medium of `size` records, by the LIF volume header: the mark in bytes 0
+    /// and 1, the label in bytes 2 to 7, the directory's first record in bytes 8 to 11 and its
+    /// number of records in bytes 16 to 19.
     #[tactic(auto, unfolding(lif_model::specs::Header::label_of))]
     pub fn read(bytes: &[u8; 256], size: u16) -> Result<Header, HeaderFault>
         requires { 4 ≤ size }
@@ -87,6 +103,27 @@ impl Header {
         })
     }
 
+    /// Record 0 as a new volume has it on a medium of `size` records, by the LIF volume header: the
+    /// label, a directory of `length` records from record 2 on, LIF version 1, no date, and the
+    /// geometry of an HP 9114 disc where the medium has its 2,464 records, else that of an
+    /// HP 82161A cassette. Zeros follow.
+    pub fn fresh(label: &[u8; 6], length: u16, size: u16) -> [u8; 256]
+        ensures { result ≡ fresh_header size label.now length }
+    {
+        let medium = Geometry::of(size);
+        let mut text = [0; TEXT];
+        put(&mut text, 0, &VOLUME_MARK.to_be_bytes());
+        put(&mut text, 2, label);
+        put(&mut text, 8, &FRESH_START.to_be_bytes());
+        put(&mut text, 12, &FRESH_WORD);
+        put(&mut text, 16, &u32::from(length).to_be_bytes());
+        put(&mut text, 20, &FRESH_VERSION);
+        put(&mut text, 24, &medium.tracks.to_be_bytes());
+        put(&mut text, 28, &medium.surfaces.to_be_bytes());
+        put(&mut text, 32, &medium.records.to_be_bytes());
+        record_of(&text)
+    }
+
     /// The label, filled up with spaces.
     pub fn label(&self) -> [u8; 6]
         ensures { result ≡ self.now.label }
@@ -116,6 +153,23 @@ impl Header {
     }
 }
 
+/// The record that begins with this text, and has zeros behind it.
+fn record_of(text: &[u8; TEXT]) -> [u8; 256]
+    ensures { result ≡ piece text.now }
+{
+    let mut bytes = [0; 256];
+    put(&mut bytes, 0, text);
+    bytes
+}
+
+/// Writes `part` from place `at` on.
+fn put(bytes: &mut [u8], at: usize, part: &[u8])
+    requires { at + length part.now ≤ length bytes.old }
+    ensures { bytes.new ≡ take at bytes.old ++ part.now ++ drop (at + length part.now) bytes.old }
+{
+    bytes[at..at + part.len()].copy_from_slice(part);
+}
+
 #[cfg(test)]
 mod tests {
     use super::*;
@@ -137,7 +191,7 @@ mod tests {
 
     #[test]
     fn reads_a_header(rt: HostRuntime) -> Result<(), Fail> {
-        // The directory ends at record 4, so a medium of 8 records is the smallest that has room for it.
+        // The directory ends at record 4, so a medium of 8 records is the smallest that has room.
         for size in [8, 512, u16::MAX] {
             let header = Header::read(&record_with(0, b""), size)?;
             assert_eq!(rt; header.label().as_slice(), b"HPTAPE".as_slice());
@@ -149,6 +203,18 @@ mod tests {
         assert_eq!(rt; odd.label().as_slice(), b"\x00\xFF A%b".as_slice());
         let far = Header::read(&record_with(8, b"\x00\x00\x01\x02"), 512)?;
         assert_eq!(rt; far.start(), 258);
+        Ok(())
+    }
+
+    #[test]
+    fn fresh_headers(rt: HostRuntime) -> Result<(), Fail> {
+        // The LIF format's header of a cassette, and a disc's: 77 tracks, 2 surfaces, 16 records.
+        assert_eq!(rt; Header::fresh(b"HPTAPE", 2, 512), record_with(0, b""));
+        let disc = record_with(24, b"\x00\x00\x00\x4D\x00\x00\x00\x02\x00\x00\x00\x10");
+        assert_eq!(rt; Header::fresh(b"HPTAPE", 2, 2464), disc);
+        let full = Header::read(&Header::fresh(b"A     ", 2458, 2464), 2464)?;
+        assert_eq!(rt; full.label().as_slice(), b"A     ".as_slice());
+        assert_eq!(rt; full.length(), 2458);
         Ok(())
     }
 

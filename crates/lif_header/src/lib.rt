@@ -2,6 +2,7 @@
 #![tactic(auto)]
 
 mod fields;
+mod geometry;
 mod header;
 
 pub use fields::{bytes_at, four_at, two_at};

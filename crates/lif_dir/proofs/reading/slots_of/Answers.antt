@@ -1,8 +1,7 @@
 use Rattle.std.proofs.Common.{◌≡◌, ℕ, ◌<◌, ◌-◌, ◌+◌, map, sym, ◌∙◌, arith, rules}
-use Rattle.std.specs.Prelude.{Some, Ok}
+use Rattle.std.specs.Prelude.{Some}
 use Rattle.lif_model.specs.Tape.{Tape}
 use Rattle.lif_model.specs.Directory.{entries_of, before_end, slots_from}
-use Rattle.il_ports.specs.Stores.{GoesOn}
 use Rattle.lif_dir.specs.Entries.{slot_from, slot_bytes}
 use Rattle.il_ports.proofs.Stores.{goes_nowhere, goes_further, goes_within, quiet_nowhere, quiet_longer}
 use Rattle.il_ports.proofs.Transfers.{nothing_yet, one_read, then_more}

@@ -1,0 +1,9 @@
+//! The choice of a place for a new file on an adopted volume.
+#![tactic(auto)]
+
+mod choosing;
+
+pub use choosing::{Choice, choose};
+
+#[cfg(test)]
+mod tests;
