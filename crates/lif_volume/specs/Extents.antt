@@ -1,0 +1,16 @@
+-- Extents of files, as they are tested in memory.
+use Rattle.std.specs.Prelude.{◌&&◌, nat_le, ℕ, Bool, List}
+use Rattle.lif_model.specs.Directory.{start_of}
+use Rattle.lif_model.specs.Legal.{end_of}
+use Rattle.lif_volume.specs.declared.extents.Extent.{Extent}
+
+-- that of a slot
+abbrev pub extent_of : List ℕ → Extent
+extent_of slot = record { start = start_of slot; end = end_of slot }
+
+abbrev pub lies_within : ℕ → ℕ → Extent → Bool
+lies_within low high extent = nat_le low extent.start && nat_le extent.end high
+
+-- the first one ends at or before the start of the other
+abbrev pub ends_first : Extent → Extent → Bool
+ends_first a b = nat_le a.end b.start
