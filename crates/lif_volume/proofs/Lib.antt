@@ -1,1 +1,2 @@
 mod LegalExtents
+mod Found

@@ -1,14 +1,16 @@
-ghost use Rattle.std.specs.Prelude.{◌≡◌, ◌≢◌, ◌<◌, ◌≤◌, ◌+◌, ◌^◌, ℕ, List, true, [], length, map, filter, slice_index_or, vec_capacity, IfOk, MatchOption};
+ghost use Rattle.std.specs.Prelude.{◌≡◌, ◌≢◌, ◌<◌, ◌≤◌, ◌+◌, ◌^◌, ℕ, List, true, [], length, map, filter, slice_index_or, vec_capacity, option_map, IfOk, IfSome};
 ghost use Rattle.std.specs.List.{position};
 ghost use Rattle.lif_model.specs.Pairs.{all_pairs};
 ghost use Rattle.lif_model.specs.Header.{header_of, is_readable};
-ghost use Rattle.lif_model.specs.Legal.{is_live, is_live_named, have_other_names, is_legal_with};
-ghost use Rattle.lif_model.specs.Volume.{is_redo_file, is_adopted};
+ghost use Rattle.lif_model.specs.Legal.{is_live, is_live_named, slot_named, have_other_names, is_legal_with};
+ghost use Rattle.lif_model.specs.Volume.{is_redo_entry, is_redo_file, is_adopted};
+ghost use Rattle.lif_redo.specs.Reading.{version_of};
 ghost use Rattle.lif_dir.specs.Entries.{name_bytes, entry_bytes, slot_bytes};
 
 use crate::extents::{Extent, follow_each_other, gather, lie_within, sort_by_start};
 use lif_dir::{FileEntry, Name, SlotTable, Steps};
 use lif_header::Header;
+use lif_redo::Version;
 use std::alloc::{AllocError, Global};
 use std::marker::Brand;
 use std::sync::ledger::{Blank, Ledger};
@@ -49,4 +51,70 @@ impl Directory {
         sort_by_start(&mut self.extents);
         follow_each_other(&self.extents) && self.table.distinct()
     }
+
+    /// The entry of the live slot of this name, or `None` where no live slot has it. Live names are
+    /// distinct. It takes as many comparisons of names as the number of slots has binary digits.
+    pub fn entry_named(&self, name: &Name) -> Option<FileEntry>
+        requires distinct { all_pairs have_other_names
+            (filter is_live (map slot_bytes self.now.table.slots)) ≡ true }
+        ensures { option_map entry_bytes result
+            ≡ slot_named (map slot_bytes self.now.table.slots) (name_bytes name.now) }
+    {
+        let place = place_of::<Brand>(&self.table, name, Blank::new(1))?;
+        Some(*self.table.entry(place))
+    }
+
+    /// Whether one of the slots is that of the redo file of a medium of `size` records. Live names
+    /// are distinct.
+    pub fn is_adopted(&self, size: u16) -> bool
+        requires distinct { all_pairs have_other_names
+            (filter is_live (map slot_bytes self.now.table.slots)) ≡ true }
+        ensures { result ≡ is_adopted size (map slot_bytes self.now.table.slots) }
+    {
+        let Some(name) = Name::of(REDO_NAME) else {
+            unreachable!()
+        };
+        match self.entry_named(&name) {
+            Some(entry) => is_redo_file(entry, size),
+            None => false,
+        }
+    }
 }
+
+/// The place of the live slot of this name, with the comparisons of names counted on a new ledger.
+fn place_of<L: Ledger>(table: &SlotTable, name: &Name, blank: Blank) -> Option<usize>
+    requires name { blank.name ≡ L.name }
+    requires parts { blank.parts ≡ L.parts }
+    requires some { 0 < blank.parts }
+    requires distinct { all_pairs have_other_names
+        (filter is_live (map slot_bytes table.now.slots)) ≡ true }
+    ensures place { result ≡ position (is_live_named (name_bytes name.now)) (map slot_bytes table.now.slots) }
+    ensures within { IfSome result (λ place. place < length table.now.slots) }
+{
+    let mut steps = Steps::<L>::new(blank);
+    let place = table.find(name, &mut steps)?;
+    Some(place as usize)
+}
+
+/// Whether the entry is that of the redo file of either version.
+fn is_redo_file(entry: FileEntry, size: u16) -> bool
+    ensures { result ≡ is_redo_file size (entry_bytes entry) }
+{
+    is_redo_entry(entry, size, Version::One) || is_redo_entry(entry, size, Version::Two)
+}
+
+/// Whether the entry is that of the redo file of this version.
+fn is_redo_entry(entry: FileEntry, size: u16, version: Version) -> bool
+    ensures { result ≡ is_redo_entry size (version_of version) (entry_bytes entry) }
+{
+    entry.name.bytes() == *REDO_NAME
+        && entry.kind == REDO_KIND
+        && entry.start == u32::from(version.start(size))
+        && entry.length == u32::from(version.length())
+}
+
+/// The name of the redo file, with its spaces.
+pub const REDO_NAME: &[u8; 10] = b"REDOFILE  ";
+
+/// The type of the redo file.
+const REDO_KIND: u16 = 0xE0D0;

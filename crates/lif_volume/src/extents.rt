@@ -61,9 +61,10 @@ pub fn lie_within(extents: &[Extent], low: u16, high: u16) -> bool
 }
 
 /// Sorts them by their first records.
-pub fn sort_by_start(extents: &mut [Extent])
-    ensures same { IsPermutation extents.old extents.new }
-    ensures rising { IsNonDecreasingBy (λ extent. extent.start) extents.new }
+pub fn sort_by_start(extents: &mut Vec<Extent>)
+    ensures same { IsPermutation extents.old.items extents.new.items }
+    ensures rising { IsNonDecreasingBy (λ extent. extent.start) extents.new.items }
+    ensures memory { vec_capacity extents.old ≤ vec_capacity extents.new }
 {
     extents.sort_unstable_by_key(|extent| extent.start);
 }
