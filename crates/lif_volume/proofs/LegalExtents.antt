@@ -15,7 +15,7 @@ use Rattle.lif_model.specs.Legal.{is_live, end_of, occupies, lies_between, are_a
 use Rattle.lif_model.proofs.Lists.{neighbours_tell}
 use Rattle.lif_model.proofs.Sorting.{pairs_mapped, apart_by_starts, picked_filled}
 use Rattle.lif_volume.specs.declared.extents.Extent.{Extent}
-use Rattle.lif_volume.specs.Extents.{extent_of, lies_within, ends_first}
+use Rattle.lif_volume.specs.Entries.{extent_of, lies_within, ends_first}
 
 -- what a test of neighbours answers
 pub neighbours_answer : {X : Type 0} (d : X) (test : X → X → Bool) (xs : List X) (r : Bool) → IsAllAdjacentAnswer (λ x y b. b ≡ test x y) xs r → r ≡ all_neighbours test xs

@@ -2,6 +2,7 @@
 use Rattle.std.specs.Prelude.{◌≡◌, ℕ, Bool, true, false, Option, Some, None, Result, Ok, Err}
 use Rattle.lif_model.specs.Tape.{Tape}
 use Rattle.lif_model.specs.Redo.{settled}
+use Rattle.lif_model.specs.Legal.{is_legal}
 use Rattle.lif_model.specs.Volume.{volume_of, is_foreign_gated}
 use Rattle.lif_model.specs.Apply.{VolumeCommand, apply}
 use Rattle.lif_model.specs.Apply as model
@@ -13,6 +14,9 @@ use Rattle.lif_volume.specs.declared.fault.VolumeFault.TheVariants.{Refused, Tro
 
 abbrev pub troubled : Trouble → VolumeFault
 troubled trouble = Troubled trouble
+
+abbrev pub refused : Refusal → VolumeFault
+refused why = Refused why
 
 -- a refusal in the words of the definitions
 abbrev pub reason : Refusal → model.Refusal
@@ -31,20 +35,35 @@ store_answer (Ok _) = Ok tt
 store_answer (Err (Refused _)) = Ok tt
 store_answer (Err (Troubled trouble)) = Err trouble
 
+-- the tape is legal exactly where the command is not refused
+abbrev pub IsLegalAs : {T : Type 0} → Tape → Result T VolumeFault → Type 0
+IsLegalAs t (Ok _) = is_legal t ≡ true
+IsLegalAs t (Err (Refused _)) = is_legal t ≡ false
+IsLegalAs t (Err (Troubled _)) = Unit {0}
+
 -- The answer and the volumes of the tapes before and behind are those of the command. Of a trouble
 -- nothing is said here.
 abbrev pub Answers : {T : Type 0} → ℕ → VolumeCommand → Tape → Tape → Result T VolumeFault → Type 0
 Answers n command t u (Ok _) = apply n command (volume_of t) ≡ (None, volume_of u)
-Answers n command t u (Err (Refused refusal)) =
-    apply n command (volume_of t) ≡ (Some (reason refusal), volume_of u)
+Answers n command t u (Err (Refused why)) =
+    apply n command (volume_of t) ≡ (Some (reason why), volume_of u)
 Answers n command t u (Err (Troubled _)) = Unit {0}
 
--- whether the directory is kept behind this answer: behind all but a trouble and NotLif
+-- whether the directory is kept behind a refusal: behind all but NotLif
+abbrev pub keeps_behind : Refusal → Bool
+keeps_behind refusal.NotLif = false
+keeps_behind other = true
+
+-- whether it is kept behind this answer: behind an Ok and these refusals
 abbrev pub keeps : {T : Type 0} → Result T VolumeFault → Bool
 keeps (Ok _) = true
-keeps (Err (Refused refusal.NotLif)) = false
-keeps (Err (Refused other)) = true
+keeps (Err (Refused why)) = keeps_behind why
 keeps (Err (Troubled _)) = false
+
+-- no refusal but NotLif
+abbrev pub IsNotLif : VolumeFault → Type 0
+IsNotLif (Refused why) = why ≡ refusal.NotLif
+IsNotLif (Troubled _) = Unit {0}
 
 -- x has the volume of t, and no gate that is not ours
 pub record HasVolumeOf (t x : Tape) : Type 0 where

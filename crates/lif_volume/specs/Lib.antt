@@ -1,4 +1,4 @@
 pub mod Views
 pub mod Answers
-pub mod Extents
+pub mod Entries
 pub mod Commands

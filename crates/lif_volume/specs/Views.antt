@@ -25,13 +25,17 @@ pub record IsLegalDirectory (n : ℕ) (header : HeaderParts) (slots : List (List
   pub told : header ≡ header_of bytes
   pub legal : is_legal_with n bytes slots ≡ true
 
--- record 0 and the slots of this tape, which is settled and legal
-pub record IsDirectoryOf (t : Tape) (kept : HeaderParts) (found : List Slot) : Type 0 where
-  pub settled : IsSettled t
+-- what record 0 of this tape says, and its slots; the tape is legal
+pub record IsDirectoryOn (t : Tape) (kept : HeaderParts) (found : List Slot) : Type 0 where
   pub legal : is_legal t ≡ true
   pub header : kept ≡ header_of (record_at t 0)
   pub slots : found ≡ map slot_from (slots_of t)
   pub bytes : map slot_bytes found ≡ slots_of t
+
+-- the same, and the tape is settled
+pub record IsDirectoryOf (t : Tape) (kept : HeaderParts) (found : List Slot) : Type 0 where
+  pub settled : IsSettled t
+  pub directory : IsDirectoryOn t kept found
 
 -- Between the calls of a volume: its store is valid and has records for a redo file of either
 -- version, there is memory for every directory, and what is kept is that of the tape.

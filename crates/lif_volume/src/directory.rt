@@ -1,12 +1,17 @@
-ghost use Rattle.std.specs.Prelude.{◌≡◌, ◌≢◌, ◌<◌, ◌≤◌, ◌+◌, ◌^◌, ℕ, List, true, [], length, map, filter, slice_index_or, vec_capacity, option_map, IfOk, IfSome};
+ghost use Rattle.std.specs.Prelude.{◌≡◌, ◌≢◌, ◌<◌, ◌≤◌, ◌+◌, ◌^◌, ℕ, List, true, [], length, map, filter, slice_index_or, vec_capacity, option_map, Some, IfOk, IfErr, IfSome};
+ghost use Rattle.std.specs.Result.{result_err};
 ghost use Rattle.std.specs.List.{position};
 ghost use Rattle.lif_model.specs.Pairs.{all_pairs};
 ghost use Rattle.lif_model.specs.Header.{header_of, is_readable};
 ghost use Rattle.lif_model.specs.Legal.{is_live, is_live_named, slot_named, have_other_names, is_legal_with};
-ghost use Rattle.lif_model.specs.Volume.{is_redo_entry, is_redo_file, is_adopted};
+ghost use Rattle.lif_model.specs.Volume.{Volume, is_redo_entry, is_redo_file, is_adopted};
+ghost use Rattle.lif_model.specs.Apply.{Fetch, refusal_of};
 ghost use Rattle.lif_redo.specs.Reading.{version_of};
 ghost use Rattle.lif_dir.specs.Entries.{name_bytes, entry_bytes, slot_bytes};
+ghost use Rattle.lif_volume.specs.Answers.{reason, keeps_behind};
+ghost use Rattle.lif_volume.specs.Entries.{IsFileOf};
 
+use crate::fault::Refusal;
 use crate::extents::{Extent, follow_each_other, gather, lie_within, sort_by_start};
 use lif_dir::{FileEntry, Name, SlotTable, Steps};
 use lif_header::Header;
@@ -64,6 +69,28 @@ impl Directory {
         Some(*self.table.entry(place))
     }
 
+    /// The file of this name on a medium of `size` records, or why it is not fetched: on an adopted
+    /// volume the redo file is protected, and else a live slot has to have the name. Live names are
+    /// distinct.
+    pub fn file_named(&self, name: &Name, size: u16) -> Result<File, Refusal>
+        requires distinct { all_pairs have_other_names
+            (filter is_live (map slot_bytes self.now.table.slots)) ≡ true }
+        ensures refusal { (v : Volume) → v.slots ≡ map slot_bytes self.now.table.slots
+            → refusal_of size (Fetch (name_bytes name.now)) (Some v) ≡ option_map reason (result_err result) }
+        ensures slot { IfOk result (λ file. IfSome
+            (slot_named (map slot_bytes self.now.table.slots) (name_bytes name.now))
+            (λ slot. IsFileOf slot file)) }
+        ensures known { IfErr result (λ refusal. keeps_behind refusal ≡ true) }
+    {
+        if name.bytes() == *REDO_NAME && self.is_adopted(size) {
+            return Err(Refusal::Protected);
+        }
+        match self.entry_named(name) {
+            Some(entry) => Ok(File::of(entry)),
+            None => Err(Refusal::NoFile),
+        }
+    }
+
     /// Whether one of the slots is that of the redo file of a medium of `size` records. Live names
     /// are distinct.
     pub fn is_adopted(&self, size: u16) -> bool
@@ -77,6 +104,33 @@ impl Directory {
         match self.entry_named(&name) {
             Some(entry) => is_redo_file(entry, size),
             None => false,
+        }
+    }
+}
+
+/// What `fetch` takes of an entry.
+#[derive(Clone, Copy, Debug, Drop)]
+pub struct File {
+    /// The type.
+    pub kind: u16,
+    /// The first record.
+    pub first: u32,
+    /// How many records there are.
+    pub count: u32,
+    /// The implementation field.
+    pub implementation: [u8; 4],
+}
+
+impl File {
+    fn of(entry: FileEntry) -> File
+        ensures { IsFileOf (entry_bytes entry) result }
+    {
+        let implementation = entry.implementation;
+        File {
+            kind: entry.kind,
+            first: entry.start,
+            count: entry.length,
+            implementation,
         }
     }
 }

@@ -4,7 +4,7 @@ ghost use Rattle.std.specs.List.Sorted.{IsPermutation, IsNonDecreasingBy};
 ghost use Rattle.lif_model.specs.Pairs.{all_neighbours};
 ghost use Rattle.lif_model.specs.Legal.{occupies};
 ghost use Rattle.lif_dir.specs.Entries.{entry_bytes, slot_bytes};
-ghost use Rattle.lif_volume.specs.Extents.{extent_of, lies_within, ends_first};
+ghost use Rattle.lif_volume.specs.Entries.{extent_of, lies_within, ends_first};
 
 use lif_dir::{FileEntry, SlotTable};
 

@@ -40,3 +40,14 @@ impl From<Trouble> for VolumeFault {
         VolumeFault::Trouble(trouble)
     }
 }
+
+impl From<Refusal> for VolumeFault {
+    ghost use Rattle.std.specs.Prelude.{◌≡◌};
+    ghost use Rattle.lif_volume.specs.Answers.{refused};
+
+    ghost from_gives = { λ refusal fault. fault ≡ refused refusal };
+
+    fn from(refusal: Refusal) -> VolumeFault {
+        VolumeFault::Refused(refusal)
+    }
+}

@@ -7,6 +7,7 @@
 mod directory;
 mod extents;
 mod fault;
+mod reading;
 mod volume;
 
 pub use fault::{Refusal, VolumeFault};

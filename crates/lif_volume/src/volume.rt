@@ -1,8 +1,11 @@
 use crate::directory::Directory;
-use crate::fault::{Refusal, VolumeFault};
+use crate::fault::VolumeFault;
+use crate::reading::{read_directory, read_front};
 use il_ports::Records;
-use lif_dir::SlotTable;
+use lif_dir::{Name, SlotTable};
 use lif_header::Header;
+use lif_model::RECORD;
+use lif_redo::settle;
 use std::alloc::Global;
 
 /// What `dir` answers: what record 0 says. The slots stand in `Volume::slots`.
@@ -60,8 +63,18 @@ impl<R: Records> Seen<R> for Volume<R> {
 }
 
 impl<R: Records> Volume<R> {
-    ghost use Rattle.std.specs.Prelude.{◌≡◌, ◌<◌, ◌≤◌, ◌+◌, ◌*◌, ◌-◌, [], ℕ, List, None, IfOk, IfErr, is_some};
+    ghost use Rattle.std.specs.Prelude.{◌≡◌, ◌<◌, ◌≤◌, ◌+◌, ◌*◌, false, length, map, Some, None, Ok, IfSome, IfOk, IfErr, is_some};
+    ghost use Rattle.lif_model.specs.Tape.{Tape, record_at};
+    ghost use Rattle.lif_model.specs.Header.{label_of};
+    ghost use Rattle.lif_model.specs.Redo.{redo_of, settled};
+    ghost use Rattle.lif_model.specs.Commit.{IsSettleWrite};
+    ghost use Rattle.lif_model.specs.Volume.{is_foreign_gated};
+    ghost use Rattle.lif_model.specs.Apply.{Dir, Label, Fetch};
+    ghost use Rattle.il_ports.specs.Transfers.{AddsOnly};
+    ghost use Rattle.lif_dir.specs.Entries.{name_bytes, slot_bytes};
     ghost use Rattle.lif_volume.specs.Views.{VolumeView, IsOpen};
+    ghost use Rattle.lif_volume.specs.Answers.{store_answer, Answers, IsNotLif, IsLegalAs};
+    ghost use Rattle.lif_volume.specs.Commands.{IsReadyFor, Consults, VolumeStays, Listed, FetchedFile, ReadsFile, mounting, mounting_on, fetching, fetching_on};
 
     /// A volume on these records, of which nothing is read yet. All memory of the volume is taken
     /// here; where there is none the records are handed back.
@@ -111,6 +124,134 @@ impl<R: Records> Volume<R> {
         ensures { result.now.slots ≡ (⟦<Volume<R> as Seen<R>>⟧.seen self.now).slots }
     {
         &self.directory.table
+    }
+
+    // Settles the tape, reads record 0 and the directory, tests that they are legal, and keeps them.
+    // Where they are kept it does nothing.
+    fn mount(&mut self) -> Result<Header, VolumeFault>
+        requires open { IsOpen R.view (⟦<Volume<R> as Seen<R>>⟧.seen self.old) }
+        requires ready { IsReadyFor R.view (⟦<Volume<R> as Seen<R>>⟧.seen self.old) }
+        ensures open { IsOpen R.view (⟦<Volume<R> as Seen<R>>⟧.seen self.new) }
+        ensures consults { Consults (mounting (R.view (⟦<Volume<R> as Seen<R>>⟧.seen self.old).records).record_count (⟦<Volume<R> as Seen<R>>⟧.seen self.old).kept (⟦<Volume<R> as Seen<R>>⟧.seen self.new).kept)
+            (λ t. mounting_on t (⟦<Volume<R> as Seen<R>>⟧.seen self.old).kept)
+            R.view (⟦<Volume<R> as Seen<R>>⟧.seen self.old) (⟦<Volume<R> as Seen<R>>⟧.seen self.new) result }
+        ensures kept { IfOk result (λ header. (⟦<Volume<R> as Seen<R>>⟧.seen self.new).kept ≡ Some header) }
+        ensures still { IfSome (⟦<Volume<R> as Seen<R>>⟧.seen self.old).kept (λ header. (result ≡ Ok header) × (self.new ≡ self.old)) }
+        // It is refused exactly where the settled tape is not legal, and then with NotLif.
+        ensures only { IfErr result IsNotLif }
+        ensures exactly { (t : Tape) → (R.view (⟦<Volume<R> as Seen<R>>⟧.seen self.old).records).tape ≡ Some t → IsLegalAs (settled t) result }
+        // The volume of a tape that is not foreign-gated stays: a stop at any moment, and a trouble, leave it.
+        ensures stays { (t : Tape) → (R.view (⟦<Volume<R> as Seen<R>>⟧.seen self.old).records).tape ≡ Some t → is_foreign_gated t ≡ false
+            → VolumeStays (R.view (⟦<Volume<R> as Seen<R>>⟧.seen self.old).records) (R.view (⟦<Volume<R> as Seen<R>>⟧.seen self.new).records) t }
+        // The writes are those of settling.
+        ensures transfers { (t : Tape) → (R.view (⟦<Volume<R> as Seen<R>>⟧.seen self.old).records).tape ≡ Some t → AddsOnly
+            (IsSettleWrite (R.view (⟦<Volume<R> as Seen<R>>⟧.seen self.old).records).record_count (redo_of t))
+            (R.view (⟦<Volume<R> as Seen<R>>⟧.seen self.old).records).transferred (R.view (⟦<Volume<R> as Seen<R>>⟧.seen self.new).records).transferred (store_answer result) }
+    {
+        if let Some(header) = self.kept {
+            return Ok(header);
+        }
+        settle(&mut self.records)?;
+        let header = read_directory(&mut self.records, &mut self.directory)?;
+        self.kept = Some(header);
+        Ok(header)
+    }
+
+    /// Lists the volume: what record 0 says, and the slots, which stand in `slots` from then on.
+    pub fn dir(&mut self) -> Result<Listing, VolumeFault>
+        requires open { IsOpen R.view (⟦<Volume<R> as Seen<R>>⟧.seen self.old) }
+        requires ready { IsReadyFor R.view (⟦<Volume<R> as Seen<R>>⟧.seen self.old) }
+        ensures open { IsOpen R.view (⟦<Volume<R> as Seen<R>>⟧.seen self.new) }
+        ensures consults { Consults (mounting (R.view (⟦<Volume<R> as Seen<R>>⟧.seen self.old).records).record_count (⟦<Volume<R> as Seen<R>>⟧.seen self.old).kept (⟦<Volume<R> as Seen<R>>⟧.seen self.new).kept)
+            (λ t. mounting_on t (⟦<Volume<R> as Seen<R>>⟧.seen self.old).kept)
+            R.view (⟦<Volume<R> as Seen<R>>⟧.seen self.old) (⟦<Volume<R> as Seen<R>>⟧.seen self.new) result }
+        ensures answers { (t u : Tape) → (R.view (⟦<Volume<R> as Seen<R>>⟧.seen self.old).records).tape ≡ Some t → (R.view (⟦<Volume<R> as Seen<R>>⟧.seen self.new).records).tape ≡ Some u
+            → Answers (R.view (⟦<Volume<R> as Seen<R>>⟧.seen self.old).records).record_count Dir t u result }
+        // It is refused exactly where the settled tape is not legal, and then with NotLif.
+        ensures only { IfErr result IsNotLif }
+        ensures exactly { (t : Tape) → (R.view (⟦<Volume<R> as Seen<R>>⟧.seen self.old).records).tape ≡ Some t → IsLegalAs (settled t) result }
+        ensures listed { IfOk result (λ listing. (t : Tape) → (R.view (⟦<Volume<R> as Seen<R>>⟧.seen self.old).records).tape ≡ Some t
+            → Listed (settled t) listing (⟦<Volume<R> as Seen<R>>⟧.seen self.new).slots) }
+        // The volume of a tape that is not foreign-gated stays: a stop at any moment, and a trouble, leave it.
+        ensures stays { (t : Tape) → (R.view (⟦<Volume<R> as Seen<R>>⟧.seen self.old).records).tape ≡ Some t → is_foreign_gated t ≡ false
+            → VolumeStays (R.view (⟦<Volume<R> as Seen<R>>⟧.seen self.old).records) (R.view (⟦<Volume<R> as Seen<R>>⟧.seen self.new).records) t }
+        // The writes are those of settling.
+        ensures transfers { (t : Tape) → (R.view (⟦<Volume<R> as Seen<R>>⟧.seen self.old).records).tape ≡ Some t → AddsOnly
+            (IsSettleWrite (R.view (⟦<Volume<R> as Seen<R>>⟧.seen self.old).records).record_count (redo_of t))
+            (R.view (⟦<Volume<R> as Seen<R>>⟧.seen self.old).records).transferred (R.view (⟦<Volume<R> as Seen<R>>⟧.seen self.new).records).transferred (store_answer result) }
+    {
+        let header = self.mount()?;
+        Ok(Listing {
+            label: header.label(),
+            start: header.start(),
+            length: header.length(),
+        })
+    }
+
+    /// The label of the volume, with its spaces.
+    pub fn label(&mut self) -> Result<[u8; 6], VolumeFault>
+        requires open { IsOpen R.view (⟦<Volume<R> as Seen<R>>⟧.seen self.old) }
+        requires ready { IsReadyFor R.view (⟦<Volume<R> as Seen<R>>⟧.seen self.old) }
+        ensures open { IsOpen R.view (⟦<Volume<R> as Seen<R>>⟧.seen self.new) }
+        ensures consults { Consults (mounting (R.view (⟦<Volume<R> as Seen<R>>⟧.seen self.old).records).record_count (⟦<Volume<R> as Seen<R>>⟧.seen self.old).kept (⟦<Volume<R> as Seen<R>>⟧.seen self.new).kept)
+            (λ t. mounting_on t (⟦<Volume<R> as Seen<R>>⟧.seen self.old).kept)
+            R.view (⟦<Volume<R> as Seen<R>>⟧.seen self.old) (⟦<Volume<R> as Seen<R>>⟧.seen self.new) result }
+        ensures answers { (t u : Tape) → (R.view (⟦<Volume<R> as Seen<R>>⟧.seen self.old).records).tape ≡ Some t → (R.view (⟦<Volume<R> as Seen<R>>⟧.seen self.new).records).tape ≡ Some u
+            → Answers (R.view (⟦<Volume<R> as Seen<R>>⟧.seen self.old).records).record_count Label t u result }
+        // It is refused exactly where the settled tape is not legal, and then with NotLif.
+        ensures only { IfErr result IsNotLif }
+        ensures exactly { (t : Tape) → (R.view (⟦<Volume<R> as Seen<R>>⟧.seen self.old).records).tape ≡ Some t → IsLegalAs (settled t) result }
+        ensures label { IfOk result (λ label. (t : Tape) → (R.view (⟦<Volume<R> as Seen<R>>⟧.seen self.old).records).tape ≡ Some t
+            → label ≡ label_of (record_at (settled t) 0)) }
+        // The volume of a tape that is not foreign-gated stays: a stop at any moment, and a trouble, leave it.
+        ensures stays { (t : Tape) → (R.view (⟦<Volume<R> as Seen<R>>⟧.seen self.old).records).tape ≡ Some t → is_foreign_gated t ≡ false
+            → VolumeStays (R.view (⟦<Volume<R> as Seen<R>>⟧.seen self.old).records) (R.view (⟦<Volume<R> as Seen<R>>⟧.seen self.new).records) t }
+        // The writes are those of settling.
+        ensures transfers { (t : Tape) → (R.view (⟦<Volume<R> as Seen<R>>⟧.seen self.old).records).tape ≡ Some t → AddsOnly
+            (IsSettleWrite (R.view (⟦<Volume<R> as Seen<R>>⟧.seen self.old).records).record_count (redo_of t))
+            (R.view (⟦<Volume<R> as Seen<R>>⟧.seen self.old).records).transferred (R.view (⟦<Volume<R> as Seen<R>>⟧.seen self.new).records).transferred (store_answer result) }
+    {
+        let header = self.mount()?;
+        Ok(header.label())
+    }
+
+    /// Reads all records of a file into the front of `into`, by one run, or by none where it has no
+    /// records. The redo file of an adopted volume is protected.
+    pub fn fetch(&mut self, name: &Name, into: &mut [u8]) -> Result<Fetched, VolumeFault>
+        requires open { IsOpen R.view (⟦<Volume<R> as Seen<R>>⟧.seen self.old) }
+        requires ready { IsReadyFor R.view (⟦<Volume<R> as Seen<R>>⟧.seen self.old) }
+        requires room { 256 * (R.view (⟦<Volume<R> as Seen<R>>⟧.seen self.old).records).record_count ≤ length into.old }
+        ensures open { IsOpen R.view (⟦<Volume<R> as Seen<R>>⟧.seen self.new) }
+        ensures consults { Consults (fetching (R.view (⟦<Volume<R> as Seen<R>>⟧.seen self.old).records).record_count (name_bytes name.now) (⟦<Volume<R> as Seen<R>>⟧.seen self.old).kept (map slot_bytes (⟦<Volume<R> as Seen<R>>⟧.seen self.old).slots))
+            (λ t. fetching_on t (name_bytes name.now) (⟦<Volume<R> as Seen<R>>⟧.seen self.old).kept)
+            R.view (⟦<Volume<R> as Seen<R>>⟧.seen self.old) (⟦<Volume<R> as Seen<R>>⟧.seen self.new) result }
+        ensures answers { (t u : Tape) → (R.view (⟦<Volume<R> as Seen<R>>⟧.seen self.old).records).tape ≡ Some t → (R.view (⟦<Volume<R> as Seen<R>>⟧.seen self.new).records).tape ≡ Some u
+            → Answers (R.view (⟦<Volume<R> as Seen<R>>⟧.seen self.old).records).record_count (Fetch (name_bytes name.now)) t u result }
+        ensures fetched { IfOk result (λ fetched. (t : Tape) → (R.view (⟦<Volume<R> as Seen<R>>⟧.seen self.old).records).tape ≡ Some t
+            → FetchedFile t (name_bytes name.now) fetched into.new) }
+        ensures run { IfOk result (λ fetched. (t : Tape) → (R.view (⟦<Volume<R> as Seen<R>>⟧.seen self.old).records).tape ≡ Some t
+            → ReadsFile t (R.view (⟦<Volume<R> as Seen<R>>⟧.seen self.old).records).record_count (name_bytes name.now) fetched into.new
+            (R.view (⟦<Volume<R> as Seen<R>>⟧.seen self.old).records).transferred (R.view (⟦<Volume<R> as Seen<R>>⟧.seen self.new).records).transferred) }
+        // The volume of a tape that is not foreign-gated stays: a stop at any moment, and a trouble, leave it.
+        ensures stays { (t : Tape) → (R.view (⟦<Volume<R> as Seen<R>>⟧.seen self.old).records).tape ≡ Some t → is_foreign_gated t ≡ false
+            → VolumeStays (R.view (⟦<Volume<R> as Seen<R>>⟧.seen self.old).records) (R.view (⟦<Volume<R> as Seen<R>>⟧.seen self.new).records) t }
+        // The writes are those of settling.
+        ensures transfers { (t : Tape) → (R.view (⟦<Volume<R> as Seen<R>>⟧.seen self.old).records).tape ≡ Some t → AddsOnly
+            (IsSettleWrite (R.view (⟦<Volume<R> as Seen<R>>⟧.seen self.old).records).record_count (redo_of t))
+            (R.view (⟦<Volume<R> as Seen<R>>⟧.seen self.old).records).transferred (R.view (⟦<Volume<R> as Seen<R>>⟧.seen self.new).records).transferred (store_answer result) }
+    {
+        self.mount()?;
+        let file = self.directory.file_named(name, self.records.size())?;
+        if let Err(trouble) = read_front(&mut self.records, file.first, file.count, into) {
+            self.kept = None;
+            return Err(VolumeFault::Trouble(trouble));
+        }
+        let implementation = file.implementation;
+        Ok(Fetched {
+            kind: file.kind,
+            implementation,
+            length: RECORD * file.count as usize,
+        })
     }
 }
 

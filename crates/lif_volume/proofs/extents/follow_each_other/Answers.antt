@@ -1,6 +1,6 @@
 use Rattle.std.proofs.Common.{rules}
 use Rattle.std.proofs.lemmas.List.Sorted.{answers_always}
-use Rattle.lif_volume.specs.Extents.{ends_first}
+use Rattle.lif_volume.specs.Entries.{ends_first}
 use Rattle.lif_volume.proofs.LegalExtents.{neighbours_answer}
 use Rattle.lif_volume.proofs.extents.follow_each_other.Goals as goal
 

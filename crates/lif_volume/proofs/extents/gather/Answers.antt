@@ -4,7 +4,7 @@ use Rattle.std.proofs.lemmas.Grind.{common_steps}
 use Rattle.lif_model.specs.Legal.{occupies}
 use Rattle.lif_dir.specs.Entries.{entry_bytes, slot_bytes}
 use Rattle.lif_volume.specs.declared.extents.Extent.{Extent}
-use Rattle.lif_volume.specs.Extents.{extent_of}
+use Rattle.lif_volume.specs.Entries.{extent_of}
 use Rattle.lif_volume.proofs.LegalExtents.{one_more, none_more}
 use Rattle.lif_volume.proofs.extents.gather.Goals as goal
 use Rattle.lif_volume.proofs.extents.gather.Goals.{then-occupies, else-occupies}

@@ -6,7 +6,7 @@ use Rattle.lif_model.specs.Pairs.{all_pairs, all_neighbours}
 use Rattle.lif_model.specs.Legal.{is_live, have_other_names, is_legal_with}
 use Rattle.lif_dir.specs.Entries.{slot_bytes}
 use Rattle.lif_volume.specs.declared.extents.Extent.{Extent}
-use Rattle.lif_volume.specs.Extents.{lies_within, ends_first}
+use Rattle.lif_volume.specs.Entries.{lies_within, ends_first}
 use Rattle.lif_volume.proofs.LegalExtents.{extents_of, legal_outside, legal_inside}
 use Rattle.lif_volume.proofs.directory.Directory.is_legal.Goals as goal
 
