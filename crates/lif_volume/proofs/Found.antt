@@ -1,5 +1,5 @@
 -- The slot of a name, and the redo entry, as they are found in a directory whose names are distinct.
-use Rattle.std.proofs.Common.{◌≡◌, ◌≢◌, ◌<◌, ◌&&◌, ◌==◌, ℕ, List, [], Bool, true, false, if◌then◌else◌, length, get_or, filter, inl, inr, refl, sym, ap, subst, ◌∙◌, arith}
+use Rattle.std.proofs.Common.{◌≡◌, ◌≢◌, ◌<◌, ◌&&◌, ◌==◌, ℕ, List, [], Bool, true, false, if◌then◌else◌, not, length, get_or, filter, inl, inr, refl, sym, ap, subst, ◌∙◌, arith}
 use Rattle.std.specs.Prelude.{Option, Some, None, option_map, nat_lt}
 use Rattle.std.specs.List.{position, position_or_len}
 use Rattle.std.specs.Str.{bytes_eq}
@@ -9,7 +9,8 @@ use Rattle.lif_model.specs.Directory.{name_of}
 use Rattle.lif_model.specs.Redo.{Version, redo_start, redo_length}
 use Rattle.lif_model.specs.Pairs.{all_pairs}
 use Rattle.lif_model.specs.Legal.{is_live, is_live_named, has_file, slot_named, have_other_names}
-use Rattle.lif_model.specs.Volume.{redo_name, redo_type, is_redo_entry, is_redo_file, is_adopted}
+use Rattle.lif_model.specs.Apply.{Fetch, Protected, NoFile, is_protected, lacks_file, refusal_of}
+use Rattle.lif_model.specs.Volume.{Volume, redo_name, redo_type, is_redo_entry, is_redo_file, is_adopted}
 use Rattle.lif_model.proofs.Lists.{any_at, any_from, filter_pairs_tell}
 use Rattle.lif_model.proofs.Legal.{names_tell}
 use Rattle.lif_model.proofs.Slots.{live_named_tells}
@@ -99,7 +100,31 @@ module _ (slots : List (List ℕ)) (distinct : all_pairs have_other_names (filte
         let off : true ≡ false = sym (any_from [] (is_live_named redo_name) slots it.0 it.1 (redo_file_is_named n (get_or slots it.0 []) it.2)) ∙ lacks in cc)
   ]
 
--- the test of an entry by its fields
+-- ---- what `fetch` is refused by
+
+module _ (n : ℕ) (v : Volume) (slots : List (List ℕ)) (name : List ℕ) (same : v.slots ≡ slots) where
+  fetch_is : (named : Bool) → (is_adopted n slots && bytes_eq name redo_name) ≡ false → has_file slots name ≡ named
+      → refusal_of n (Fetch name) (Some v) ≡ (if not named then Some NoFile else None)
+  fetch_is named off has =
+      let free : is_protected n v name ≡ false = ap (λ (s : List (List ℕ)). is_adopted n s && bytes_eq name redo_name) same ∙ off in
+      let lacks : lacks_file v name ≡ not named = ap (λ (s : List (List ℕ)). not (has_file s name)) same ∙ ap not has in
+      λ i. if free i then Some Protected else (if lacks i then Some NoFile else None)
+
+  pub fetch_found : (slot : List ℕ) → (is_adopted n slots && bytes_eq name redo_name) ≡ false → slot_named slots name ≡ Some slot → refusal_of n (Fetch name) (Some v) ≡ None
+  fetch_found slot off e = elim (found slots name) [
+    | at k within live place here ↦ fetch_is true off (any_from [] (is_live_named name) slots k within live)
+    | nowhere lacks place none ↦ let both : None ≡ Some slot = sym none ∙ e in cc
+  ]
+
+  pub fetch_lacks : (is_adopted n slots && bytes_eq name redo_name) ≡ false → slot_named slots name ≡ None → refusal_of n (Fetch name) (Some v) ≡ Some NoFile
+  fetch_lacks off e = elim (found slots name) [
+    | at k within live place here ↦ let both : None ≡ Some (get_or slots k []) = sym e ∙ here in cc
+    | nowhere lacks place none ↦ fetch_is false off lacks
+  ]
+
+-- ---- entries by their fields
+
+-- the test for the redo entry
 pub redo_by_fields : (n : ℕ) (version : Version) (e : FileEntry) → HasWidths e → is_redo_entry n version (entry_bytes e)
     ≡ (bytes_eq e.name.bytes redo_name && (e.kind == redo_type && (e.start == redo_start version n && e.length == redo_length version)))
 redo_by_fields n version e w = λ i. bytes_eq (name_back e w i) redo_name && (kind_back e w i == redo_type && (start_back e w i == redo_start version n && length_back e w i == redo_length version))

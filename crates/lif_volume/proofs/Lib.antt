@@ -1,2 +1,3 @@
 mod LegalExtents
 mod Found
+mod Mounting
