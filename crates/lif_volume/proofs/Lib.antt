@@ -1,3 +1,4 @@
 mod LegalExtents
 mod Found
 mod Mounting
+mod Fetching

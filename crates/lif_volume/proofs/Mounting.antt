@@ -1,11 +1,12 @@
 -- What settling and reading leave of a volume, and what a command answers then.
 use Rattle.std.proofs.Common.{◌≡◌, ◌<◌, ◌≤◌, ◌+◌, ◌*◌, ◌++◌, ℕ, List, [], ◌∷◌, Bool, true, false, if◌then◌else◌, length, take, get_or, refl, sym, ap, subst, ◌∙◌, arith}
 use Rattle.std.specs.Prelude.{Option, Some, None, Result, Ok, Err, IfSome, is_some}
-use Rattle.lif_model.specs.Tape.{Tape}
+use Rattle.lif_model.specs.Tape.{Tape, record_at}
+use Rattle.lif_model.specs.Directory.{slots_of}
 use Rattle.lif_model.specs.Redo.{Changes, redo_of, settled, IsSettled}
 use Rattle.lif_model.specs.Legal.{is_legal}
 use Rattle.lif_model.specs.Commit.{SettlesAs, IsSettleWrite}
-use Rattle.lif_model.specs.Volume.{Volume, volume_if, volume_in, volume_of, is_foreign_gated}
+use Rattle.lif_model.specs.Volume.{Volume, files_of, volume_if, volume_in, volume_of, is_foreign_gated}
 use Rattle.lif_model.specs.Apply.{VolumeCommand, Dir, Label, Fetch, Refusal, NotLif, refusal_of, next_unless, apply}
 use Rattle.lif_model.specs.Transfers.{Transfer}
 use Rattle.lif_model.proofs.Moments.{weaker, still}
@@ -89,6 +90,10 @@ consults_nothing view x header n calls answer kept ready known =
 
 -- ---- what a command answers
 
+-- the volume of a legal tape
+abbrev pub volume_on : Tape → Volume
+volume_on t = record { header = record_at t 0; slots = slots_of t; files = files_of t (slots_of t) }
+
 -- the tape behind a command is the settled one
 pub behind : (t u : Tape) (tape : Option Tape) → tape ≡ Some u → tape ≡ Some (settled t) → u ≡ settled t
 behind t u tape now settles = let both : Some u ≡ Some (settled t) = sym now ∙ settles in cc
@@ -112,6 +117,20 @@ module _ (n : ℕ) (t u : Tape) (same : u ≡ settled t) where
 
   pub answers_label : is_legal (settled t) ≡ true → apply n Label (volume_of t) ≡ (None, volume_of u)
   answers_label on = ap (apply n Label) (some_volume on) ∙ ap (λ (v : Option Volume). (None, v)) (sym (some_volume on) ∙ sym volume_same)
+
+  -- a legal one has its volume, whose slots are those of the tape
+  pub answers_refused : (command : VolumeCommand) (refusal : Refusal) → is_legal (settled t) ≡ true
+      → ((v : Volume) → v.slots ≡ slots_of (settled t) → refusal_of n command (Some v) ≡ Some refusal) → apply n command (volume_of t) ≡ (Some refusal, volume_of u)
+  answers_refused command refusal on refused =
+      ap (apply n command) (some_volume on) ∙ refused_stays n command (volume_if true (settled t)) refusal (refused (volume_on (settled t)) refl)
+      ∙ ap (λ (v : Option Volume). (Some refusal, v)) (sym (some_volume on) ∙ sym volume_same)
+
+  pub answers_fetch : (name : List ℕ) → is_legal (settled t) ≡ true
+      → ((v : Volume) → v.slots ≡ slots_of (settled t) → refusal_of n (Fetch name) (Some v) ≡ None) → apply n (Fetch name) (volume_of t) ≡ (None, volume_of u)
+  answers_fetch name on free =
+      let not_refused = free (volume_on (settled t)) refl in
+      ap (apply n (Fetch name)) (some_volume on) ∙ (λ i. (not_refused i, next_unless n (Fetch name) (volume_if true (settled t)) (not_refused i)))
+      ∙ ap (λ (v : Option Volume). (None, v)) (sym (some_volume on) ∙ sym volume_same)
 
 -- a fault of a command that is refused by NotLif alone
 pub answers_fault : (n : ℕ) (t u : Tape) (tape : Option Tape) (command : VolumeCommand) (fault : VolumeFault) → refusal_of n command None ≡ Some NotLif → tape ≡ Some u

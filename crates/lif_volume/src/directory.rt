@@ -77,9 +77,9 @@ impl Directory {
             (filter is_live (map slot_bytes self.now.table.slots)) ≡ true }
         ensures refusal { (v : Volume) → v.slots ≡ map slot_bytes self.now.table.slots
             → refusal_of size (Fetch (name_bytes name.now)) (Some v) ≡ option_map reason (result_err result) }
-        ensures slot { IfOk result (λ file. IfSome
-            (slot_named (map slot_bytes self.now.table.slots) (name_bytes name.now))
-            (λ slot. IsFileOf slot file)) }
+        ensures slot { IfOk result (λ file. (slot : List ℕ)
+            × (slot_named (map slot_bytes self.now.table.slots) (name_bytes name.now) ≡ Some slot)
+            × IsFileOf slot file) }
         ensures known { IfErr result (λ refusal. keeps_behind refusal ≡ true) }
     {
         if name.bytes() == *REDO_NAME && self.is_adopted(size) {

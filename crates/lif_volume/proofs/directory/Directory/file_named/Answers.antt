@@ -2,7 +2,7 @@ use Rattle.std.proofs.Common.{◌≡◌, ◌&&◌, ℕ, List, false, map, sym, a
 use Rattle.std.specs.Str.{bytes_eq}
 use Rattle.std.proofs.lemmas.Bool.{and_left, and_right}
 use Rattle.lif_model.specs.Volume.{redo_name, is_adopted}
-use Rattle.lif_dir.specs.Entries.{name_bytes, slot_bytes}
+use Rattle.lif_dir.specs.Entries.{name_bytes, entry_bytes, slot_bytes}
 use Rattle.lif_volume.proofs.Found.{fetch_found, fetch_lacks}
 use Rattle.lif_volume.proofs.directory.Directory.file_named.Goals as goal
 use Rattle.lif_volume.proofs.directory.Directory.file_named.Goals.{else-eq-via-then-eq+else-is_adopted, else-eq-via-else-eq}
@@ -24,3 +24,6 @@ returns-in-None-clause-refusal c = λ v same.
       | else-eq-via-else-eq w ↦ and_right _ _ (ap (λ (b : List ℕ). bytes_eq b redo_name) (sym c.bytes.ensures) ∙ sym c.eq.ensures ∙ w.if-eq.false)
     ] in
     fetch_lacks c.args.size v slots (name_bytes c.args.name.now) same off (sym c.in-None.ensures)
+
+pub returns-in-Some-clause-slot : goal.returns-in-Some-clause-slot
+returns-in-Some-clause-slot c = (entry_bytes c.in-Some.entry, sym c.in-Some.ensures, c.of.ensures)
