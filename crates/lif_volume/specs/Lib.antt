@@ -2,3 +2,4 @@ pub mod Views
 pub mod Answers
 pub mod Entries
 pub mod Commands
+pub mod Lending

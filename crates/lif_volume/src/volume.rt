@@ -70,9 +70,12 @@ impl<R: Records> Volume<R> {
     ghost use Rattle.lif_model.specs.Commit.{IsSettleWrite};
     ghost use Rattle.lif_model.specs.Volume.{is_foreign_gated};
     ghost use Rattle.lif_model.specs.Apply.{Dir, Label, Fetch};
+    ghost use Rattle.std.specs.Borrow.{sem};
+    ghost use Rattle.il_ports.specs.Stores.{Begun};
     ghost use Rattle.il_ports.specs.Transfers.{AddsOnly};
     ghost use Rattle.lif_dir.specs.Entries.{name_bytes, slot_bytes};
     ghost use Rattle.lif_volume.specs.Views.{VolumeView, IsOpen};
+    ghost use Rattle.lif_volume.specs.Lending.{LendsRecords};
     ghost use Rattle.lif_volume.specs.Answers.{store_answer, Answers, IsNotLif, IsLegalAs};
     ghost use Rattle.lif_volume.specs.Commands.{IsReadyFor, Consults, VolumeStays, Listed, FetchedFile, ReadsFile, mounting, mounting_on, fetching, fetching_on};
 
@@ -110,6 +113,29 @@ impl<R: Records> Volume<R> {
         ensures { result.now ≡ (⟦<Volume<R> as Seen<R>>⟧.seen self.now).records }
     {
         &self.records
+    }
+
+    /// The store of records, lent. What was kept of the directory is forgotten.
+    pub fn records_mut(&mut self) -> &mut R
+        ensures* writes_back { sem 𝓛 (LendsRecords R.row self.entry result) }
+        ensures value { result.now ≡ (⟦<Volume<R> as Seen<R>>⟧.seen self.old).records }
+    {
+        self.kept = None;
+        &mut self.records
+    }
+
+    /// Empties the log that the store keeps, if it keeps one. What is kept of the directory stays.
+    pub fn begin(&mut self)
+        requires { IsOpen R.view (⟦<Volume<R> as Seen<R>>⟧.seen self.old) }
+        ensures open { IsOpen R.view (⟦<Volume<R> as Seen<R>>⟧.seen self.new) }
+        ensures begun { Begun (R.view (⟦<Volume<R> as Seen<R>>⟧.seen self.old).records)
+            (R.view (⟦<Volume<R> as Seen<R>>⟧.seen self.new).records) }
+        ensures kept { (⟦<Volume<R> as Seen<R>>⟧.seen self.new).kept
+            ≡ (⟦<Volume<R> as Seen<R>>⟧.seen self.old).kept }
+        ensures slots { (⟦<Volume<R> as Seen<R>>⟧.seen self.new).slots
+            ≡ (⟦<Volume<R> as Seen<R>>⟧.seen self.old).slots }
+    {
+        self.records.begin();
     }
 
     /// Hands the records back.
