@@ -2,3 +2,4 @@ mod LegalExtents
 mod Found
 mod Mounting
 mod Fetching
+mod Examples

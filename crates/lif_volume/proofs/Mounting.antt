@@ -51,7 +51,7 @@ module _ {S : Type 0} (v : RecordsView S) (t : Tape) (off : is_foreign_gated t �
       go [] none = let quiet = idle none in record { stops = weaker _ _ _ _ _ _ quiet.1 same; after = (t, quiet.0, own) }
       go (c ∷ cs) is =
           let each : (x : Tape) → SettlesAs (settled t) x → HasVolumeOf t x = λ x settles.
-              let both = settles_as_same t x c cs is off settles in record { volume = both.0; own_gate = both.1 } in
+          let both = settles_as_same t x c cs is off settles in record { volume = both.0; own_gate = both.1 } in
           record { stops = weaker _ _ _ _ _ _ run each; after = (after.0, after.1, each after.0 after.2) }
 
   -- calls that write nothing come behind

@@ -11,8 +11,8 @@ ghost use Rattle.lif_dir.specs.Entries.{name_bytes, entry_bytes, slot_bytes};
 ghost use Rattle.lif_volume.specs.Answers.{reason, keeps_behind};
 ghost use Rattle.lif_volume.specs.Entries.{IsFileOf};
 
-use crate::fault::Refusal;
 use crate::extents::{Extent, follow_each_other, gather, lie_within, sort_by_start};
+use crate::fault::Refusal;
 use lif_dir::{FileEntry, Name, SlotTable, Steps};
 use lif_header::Header;
 use lif_redo::Version;

@@ -55,9 +55,7 @@ pub fn gather(table: &SlotTable, extents: &mut Vec<Extent>)
 pub fn lie_within(extents: &[Extent], low: u16, high: u16) -> bool
     ensures { result ≡ list_all (lies_within low high) extents.now }
 {
-    extents
-        .iter()
-        .all(|extent| extent.start >= u32::from(low) && extent.end <= u64::from(high))
+    extents.iter().all(|extent| extent.start >= u32::from(low) && extent.end <= u64::from(high))
 }
 
 /// Sorts them by their first records.

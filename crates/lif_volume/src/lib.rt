@@ -12,3 +12,6 @@ mod volume;
 
 pub use fault::{Refusal, VolumeFault};
 pub use volume::{Fetched, Kept, Listing, Seen, Volume};
+
+#[cfg(test)]
+mod tests;
