@@ -8,16 +8,17 @@ use Rattle.lif_model.specs.Redo.{redo_of, settled}
 use Rattle.lif_model.specs.Commit.{IsSettleWrite}
 use Rattle.lif_model.specs.Legal.{slot_named}
 use Rattle.lif_model.specs.Volume.{Volume, volume_of, is_foreign_gated}
+use Rattle.lif_model.specs.Apply.{VolumeCommand}
 use Rattle.lif_model.specs.Transfers.{Transfer}
 use Rattle.il_ports.specs.Stores.{RecordsView, IsReady, GoesOn, RunLeaves}
-use Rattle.il_ports.specs.Transfers.{WritesOnly}
-use Rattle.lif_dir.specs.Entries.{slot_from}
+use Rattle.il_ports.specs.Transfers.{WritesOnly, AddsOnly}
+use Rattle.lif_dir.specs.Entries.{slot_from, slot_bytes}
 use Rattle.lif_dir.specs.declared.entries.Slot.{Slot}
 use Rattle.lif_volume.specs.declared.fault.VolumeFault.{VolumeFault}
 use Rattle.lif_volume.specs.declared.volume.Listing.{Listing}
 use Rattle.lif_volume.specs.declared.volume.Fetched.{Fetched}
 use Rattle.lif_volume.specs.Views.{VolumeView}
-use Rattle.lif_volume.specs.Answers.{store_answer, keeps, IsSettledAs, HasVolumeOf}
+use Rattle.lif_volume.specs.Answers.{store_answer, keeps, Answers, IsLegalAs, IsSettledAs, HasVolumeOf}
 
 -- ---- how many records are read and written
 
@@ -110,3 +111,58 @@ abbrev pub ReadsFile : (t : Tape) → ℕ → List ℕ → Fetched → List ℕ 
 ReadsFile t n name fetched into old new =
     0 < fetched.length → IfSome (slot_named (slots_of (settled t)) name) (λ slot.
     EndsWithRead (IsSettleWrite n (redo_of t)) (start_of slot) (take fetched.length into) old new)
+
+-- ---- what the clauses of a command say
+
+-- the tape of the volume's store, where it is told
+abbrev pub IsTold : {R S : Type 0} → (R → RecordsView S) → VolumeView R → Tape → Type 0
+IsTold view volume t = (view volume.records).tape ≡ Some t
+
+-- it mounts, and reads nothing else
+abbrev pub Mounts : {R S T : Type 0} → (R → RecordsView S) → (old new : VolumeView R) → Result T VolumeFault → Type 0
+Mounts view old new answer = Consults (mounting (view old.records).record_count old.kept new.kept)
+    (λ t. mounting_on t old.kept) view old new answer
+
+-- it mounts, and reads the records of the file of that name
+abbrev pub MountsAndReads : {R S T : Type 0} → List ℕ → (R → RecordsView S) → (old new : VolumeView R) → Result T VolumeFault → Type 0
+MountsAndReads name view old new answer =
+    Consults (fetching (view old.records).record_count name old.kept (map slot_bytes old.slots))
+    (λ t. fetching_on t name old.kept) view old new answer
+
+-- the answer and the volume behind it are those of the command
+abbrev pub AnswersTo : {R S T : Type 0} → VolumeCommand → (R → RecordsView S) → (old new : VolumeView R) → Result T VolumeFault → Type 0
+AnswersTo command view old new answer = (t u : Tape) → IsTold view old t → IsTold view new u
+    → Answers (view old.records).record_count command t u answer
+
+-- it is refused exactly where the settled tape is not legal
+abbrev pub IsRefusedExactly : {R S T : Type 0} → (R → RecordsView S) → VolumeView R → Result T VolumeFault → Type 0
+IsRefusedExactly view old answer = (t : Tape) → IsTold view old t → IsLegalAs (settled t) answer
+
+-- the volume stays, at any moment and behind the call
+abbrev pub KeepsVolume : {R S : Type 0} → (R → RecordsView S) → (old new : VolumeView R) → Type 0
+KeepsVolume view old new = (t : Tape) → IsTold view old t → is_foreign_gated t ≡ false
+    → VolumeStays (view old.records) (view new.records) t
+
+-- the reads and writes go on by writes of settling alone
+abbrev pub WritesBySettling : {R S T : Type 0} → (R → RecordsView S) → (old new : VolumeView R) → Result T VolumeFault → Type 0
+WritesBySettling view old new answer = (t : Tape) → IsTold view old t
+    → AddsOnly (IsSettleWrite (view old.records).record_count (redo_of t))
+    (view old.records).transferred (view new.records).transferred (store_answer answer)
+
+-- the listing and the slots are those of the settled tape
+abbrev pub Lists : {R S : Type 0} → (R → RecordsView S) → (old new : VolumeView R) → Listing → Type 0
+Lists view old new listing = (t : Tape) → IsTold view old t → Listed (settled t) listing new.slots
+
+-- the label is that of the settled tape
+abbrev pub Labels : {R S : Type 0} → (R → RecordsView S) → VolumeView R → List ℕ → Type 0
+Labels view old label = (t : Tape) → IsTold view old t → label ≡ label_of (record_at (settled t) 0)
+
+-- the file is that of the volume
+abbrev pub FetchesFile : {R S : Type 0} → List ℕ → (R → RecordsView S) → VolumeView R → Fetched → List ℕ → Type 0
+FetchesFile name view old fetched into = (t : Tape) → IsTold view old t → FetchedFile t name fetched into
+
+-- and it was read by one run
+abbrev pub FetchesByRun : {R S : Type 0} → List ℕ → (R → RecordsView S) → (old new : VolumeView R) → Fetched → List ℕ → Type 0
+FetchesByRun name view old new fetched into = (t : Tape) → IsTold view old t
+    → ReadsFile t (view old.records).record_count name fetched into
+    (view old.records).transferred (view new.records).transferred

@@ -34,7 +34,8 @@ impl Directory {
     /// No slots yet, with memory for this many.
     pub fn new(alloc: Global, room: usize) -> Result<Directory, AllocError>
         requires { room < 2 ^ 32 }
-        ensures { IfOk result (λ directory. directory.table ≡ record { slots = []; room = room }) }
+        ensures { IfOk result (λ directory.
+            directory.table ≡ record { slots = []; room = room }) }
     {
         Ok(Directory {
             table: SlotTable::new(alloc, room)?,
@@ -76,9 +77,11 @@ impl Directory {
         requires distinct { all_pairs have_other_names
             (filter is_live (map slot_bytes self.now.table.slots)) ≡ true }
         ensures refusal { (v : Volume) → v.slots ≡ map slot_bytes self.now.table.slots
-            → refusal_of size (Fetch (name_bytes name.now)) (Some v) ≡ option_map reason (result_err result) }
+            → refusal_of size (Fetch (name_bytes name.now)) (Some v)
+            ≡ option_map reason (result_err result) }
         ensures slot { IfOk result (λ file. (slot : List ℕ)
-            × (slot_named (map slot_bytes self.now.table.slots) (name_bytes name.now) ≡ Some slot)
+            × (slot_named (map slot_bytes self.now.table.slots) (name_bytes name.now)
+            ≡ Some slot)
             × IsFileOf slot file) }
         ensures known { IfErr result (λ refusal. keeps_behind refusal ≡ true) }
     {
@@ -142,7 +145,8 @@ fn place_of<L: Ledger>(table: &SlotTable, name: &Name, blank: Blank) -> Option<u
     requires some { 0 < blank.parts }
     requires distinct { all_pairs have_other_names
         (filter is_live (map slot_bytes table.now.slots)) ≡ true }
-    ensures place { result ≡ position (is_live_named (name_bytes name.now)) (map slot_bytes table.now.slots) }
+    ensures place { result
+        ≡ position (is_live_named (name_bytes name.now)) (map slot_bytes table.now.slots) }
     ensures within { IfSome result (λ place. place < length table.now.slots) }
 {
     let mut steps = Steps::<L>::new(blank);

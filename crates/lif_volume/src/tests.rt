@@ -9,7 +9,7 @@ use std::alloc::{AllocError, Global};
 use std::process::Abort;
 use std::test::Fail;
 
-/// The headers of a volume HPTAPE, and of one without a label, whose directories are records 2 and 3.
+/// The headers of a volume HPTAPE and of one without a label. The directories are records 2 and 3.
 const HEADER: &[u8] = b"\x80\0HPTAPE\0\0\0\x02\x10\0\0\0\0\0\0\x02\0\x01\0\0";
 
 const FOREIGN_HEADER: &[u8] = b"\x80\0      \0\0\0\x02\x10\0\0\0\0\0\0\x02";

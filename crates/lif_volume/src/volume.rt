@@ -63,31 +63,27 @@ impl<R: Records> Seen<R> for Volume<R> {
 }
 
 impl<R: Records> Volume<R> {
-    ghost use Rattle.std.specs.Prelude.{◌≡◌, ◌<◌, ◌≤◌, ◌+◌, ◌*◌, false, length, map, Some, None, Ok, IfSome, IfOk, IfErr, is_some};
-    ghost use Rattle.lif_model.specs.Tape.{Tape, record_at};
-    ghost use Rattle.lif_model.specs.Header.{label_of};
-    ghost use Rattle.lif_model.specs.Redo.{redo_of, settled};
-    ghost use Rattle.lif_model.specs.Commit.{IsSettleWrite};
-    ghost use Rattle.lif_model.specs.Volume.{is_foreign_gated};
-    ghost use Rattle.lif_model.specs.Apply.{Dir, Label, Fetch};
+    ghost use Rattle.std.specs.Prelude.{◌≡◌, ◌<◌, ◌≤◌, ◌*◌, length, Some, None, Ok, IfSome, IfOk, IfErr, is_some};
     ghost use Rattle.std.specs.Borrow.{sem};
+    ghost use Rattle.lif_model.specs.Apply.{Dir, Label, Fetch};
     ghost use Rattle.il_ports.specs.Stores.{Begun};
-    ghost use Rattle.il_ports.specs.Transfers.{AddsOnly};
-    ghost use Rattle.lif_dir.specs.Entries.{name_bytes, slot_bytes};
-    ghost use Rattle.lif_volume.specs.Views.{VolumeView, IsOpen};
+    ghost use Rattle.lif_dir.specs.Entries.{name_bytes};
+    ghost use Rattle.lif_volume.specs.Views.{IsOpen};
     ghost use Rattle.lif_volume.specs.Lending.{LendsRecords};
-    ghost use Rattle.lif_volume.specs.Answers.{store_answer, Answers, IsNotLif, IsLegalAs};
-    ghost use Rattle.lif_volume.specs.Commands.{IsReadyFor, Consults, VolumeStays, Listed, FetchedFile, ReadsFile, mounting, mounting_on, fetching, fetching_on};
+    ghost use Rattle.lif_volume.specs.Answers.{IsNotLif};
+    ghost use Rattle.lif_volume.specs.Commands.{IsReadyFor, Mounts, MountsAndReads, AnswersTo, IsRefusedExactly, KeepsVolume, WritesBySettling, Lists, Labels, FetchesFile, FetchesByRun};
 
     /// A volume on these records, of which nothing is read yet. All memory of the volume is taken
     /// here; where there is none the records are handed back.
     pub fn open(alloc: Global, records: R) -> Result<Volume<R>, Kept<R>>
         requires valid { (R.view records).valid }
         requires size { 34 < (R.view records).record_count }
-        ensures open { IfOk result (λ volume. IsOpen R.view (⟦<Volume<R> as Seen<R>>⟧.seen volume)) }
+        ensures open { IfOk result (λ volume.
+            IsOpen R.view (⟦<Volume<R> as Seen<R>>⟧.seen volume)) }
         ensures records { IfOk result (λ volume.
             (⟦<Volume<R> as Seen<R>>⟧.seen volume).records ≡ records) }
-        ensures kept { IfOk result (λ volume. (⟦<Volume<R> as Seen<R>>⟧.seen volume).kept ≡ None) }
+        ensures kept { IfOk result (λ volume.
+            (⟦<Volume<R> as Seen<R>>⟧.seen volume).kept ≡ None) }
         ensures handed_back { IfErr result (λ kept. kept.records ≡ records) }
     {
         let room = ENTRIES * (usize::from(records.size()) - BESIDE);
@@ -158,21 +154,20 @@ impl<R: Records> Volume<R> {
         requires open { IsOpen R.view (⟦<Volume<R> as Seen<R>>⟧.seen self.old) }
         requires ready { IsReadyFor R.view (⟦<Volume<R> as Seen<R>>⟧.seen self.old) }
         ensures open { IsOpen R.view (⟦<Volume<R> as Seen<R>>⟧.seen self.new) }
-        ensures consults { Consults (mounting (R.view (⟦<Volume<R> as Seen<R>>⟧.seen self.old).records).record_count (⟦<Volume<R> as Seen<R>>⟧.seen self.old).kept (⟦<Volume<R> as Seen<R>>⟧.seen self.new).kept)
-            (λ t. mounting_on t (⟦<Volume<R> as Seen<R>>⟧.seen self.old).kept)
-            R.view (⟦<Volume<R> as Seen<R>>⟧.seen self.old) (⟦<Volume<R> as Seen<R>>⟧.seen self.new) result }
+        ensures consults { Mounts R.view
+            (⟦<Volume<R> as Seen<R>>⟧.seen self.old) (⟦<Volume<R> as Seen<R>>⟧.seen self.new) result }
         ensures kept { IfOk result (λ header. (⟦<Volume<R> as Seen<R>>⟧.seen self.new).kept ≡ Some header) }
-        ensures still { IfSome (⟦<Volume<R> as Seen<R>>⟧.seen self.old).kept (λ header. (result ≡ Ok header) × (self.new ≡ self.old)) }
+        ensures still { IfSome (⟦<Volume<R> as Seen<R>>⟧.seen self.old).kept (λ header.
+            (result ≡ Ok header) × (self.new ≡ self.old)) }
         // It is refused exactly where the settled tape is not legal, and then with NotLif.
         ensures only { IfErr result IsNotLif }
-        ensures exactly { (t : Tape) → (R.view (⟦<Volume<R> as Seen<R>>⟧.seen self.old).records).tape ≡ Some t → IsLegalAs (settled t) result }
-        // The volume of a tape that is not foreign-gated stays: a stop at any moment, and a trouble, leave it.
-        ensures stays { (t : Tape) → (R.view (⟦<Volume<R> as Seen<R>>⟧.seen self.old).records).tape ≡ Some t → is_foreign_gated t ≡ false
-            → VolumeStays (R.view (⟦<Volume<R> as Seen<R>>⟧.seen self.old).records) (R.view (⟦<Volume<R> as Seen<R>>⟧.seen self.new).records) t }
-        // The writes are those of settling.
-        ensures transfers { (t : Tape) → (R.view (⟦<Volume<R> as Seen<R>>⟧.seen self.old).records).tape ≡ Some t → AddsOnly
-            (IsSettleWrite (R.view (⟦<Volume<R> as Seen<R>>⟧.seen self.old).records).record_count (redo_of t))
-            (R.view (⟦<Volume<R> as Seen<R>>⟧.seen self.old).records).transferred (R.view (⟦<Volume<R> as Seen<R>>⟧.seen self.new).records).transferred (store_answer result) }
+        ensures exactly { IsRefusedExactly R.view (⟦<Volume<R> as Seen<R>>⟧.seen self.old) result }
+        // The volume of a tape that is not foreign-gated stays: a stop at any moment, and a trouble,
+        // leave it.
+        ensures stays { KeepsVolume R.view
+            (⟦<Volume<R> as Seen<R>>⟧.seen self.old) (⟦<Volume<R> as Seen<R>>⟧.seen self.new) }
+        ensures transfers { WritesBySettling R.view
+            (⟦<Volume<R> as Seen<R>>⟧.seen self.old) (⟦<Volume<R> as Seen<R>>⟧.seen self.new) result }
     {
         if let Some(header) = self.kept {
             return Ok(header);
@@ -188,23 +183,21 @@ impl<R: Records> Volume<R> {
         requires open { IsOpen R.view (⟦<Volume<R> as Seen<R>>⟧.seen self.old) }
         requires ready { IsReadyFor R.view (⟦<Volume<R> as Seen<R>>⟧.seen self.old) }
         ensures open { IsOpen R.view (⟦<Volume<R> as Seen<R>>⟧.seen self.new) }
-        ensures consults { Consults (mounting (R.view (⟦<Volume<R> as Seen<R>>⟧.seen self.old).records).record_count (⟦<Volume<R> as Seen<R>>⟧.seen self.old).kept (⟦<Volume<R> as Seen<R>>⟧.seen self.new).kept)
-            (λ t. mounting_on t (⟦<Volume<R> as Seen<R>>⟧.seen self.old).kept)
-            R.view (⟦<Volume<R> as Seen<R>>⟧.seen self.old) (⟦<Volume<R> as Seen<R>>⟧.seen self.new) result }
-        ensures answers { (t u : Tape) → (R.view (⟦<Volume<R> as Seen<R>>⟧.seen self.old).records).tape ≡ Some t → (R.view (⟦<Volume<R> as Seen<R>>⟧.seen self.new).records).tape ≡ Some u
-            → Answers (R.view (⟦<Volume<R> as Seen<R>>⟧.seen self.old).records).record_count Dir t u result }
+        ensures consults { Mounts R.view
+            (⟦<Volume<R> as Seen<R>>⟧.seen self.old) (⟦<Volume<R> as Seen<R>>⟧.seen self.new) result }
+        ensures answers { AnswersTo Dir R.view
+            (⟦<Volume<R> as Seen<R>>⟧.seen self.old) (⟦<Volume<R> as Seen<R>>⟧.seen self.new) result }
         // It is refused exactly where the settled tape is not legal, and then with NotLif.
         ensures only { IfErr result IsNotLif }
-        ensures exactly { (t : Tape) → (R.view (⟦<Volume<R> as Seen<R>>⟧.seen self.old).records).tape ≡ Some t → IsLegalAs (settled t) result }
-        ensures listed { IfOk result (λ listing. (t : Tape) → (R.view (⟦<Volume<R> as Seen<R>>⟧.seen self.old).records).tape ≡ Some t
-            → Listed (settled t) listing (⟦<Volume<R> as Seen<R>>⟧.seen self.new).slots) }
-        // The volume of a tape that is not foreign-gated stays: a stop at any moment, and a trouble, leave it.
-        ensures stays { (t : Tape) → (R.view (⟦<Volume<R> as Seen<R>>⟧.seen self.old).records).tape ≡ Some t → is_foreign_gated t ≡ false
-            → VolumeStays (R.view (⟦<Volume<R> as Seen<R>>⟧.seen self.old).records) (R.view (⟦<Volume<R> as Seen<R>>⟧.seen self.new).records) t }
-        // The writes are those of settling.
-        ensures transfers { (t : Tape) → (R.view (⟦<Volume<R> as Seen<R>>⟧.seen self.old).records).tape ≡ Some t → AddsOnly
-            (IsSettleWrite (R.view (⟦<Volume<R> as Seen<R>>⟧.seen self.old).records).record_count (redo_of t))
-            (R.view (⟦<Volume<R> as Seen<R>>⟧.seen self.old).records).transferred (R.view (⟦<Volume<R> as Seen<R>>⟧.seen self.new).records).transferred (store_answer result) }
+        ensures exactly { IsRefusedExactly R.view (⟦<Volume<R> as Seen<R>>⟧.seen self.old) result }
+        ensures listed { IfOk result (Lists R.view
+            (⟦<Volume<R> as Seen<R>>⟧.seen self.old) (⟦<Volume<R> as Seen<R>>⟧.seen self.new)) }
+        // The volume of a tape that is not foreign-gated stays: a stop at any moment, and a trouble,
+        // leave it.
+        ensures stays { KeepsVolume R.view
+            (⟦<Volume<R> as Seen<R>>⟧.seen self.old) (⟦<Volume<R> as Seen<R>>⟧.seen self.new) }
+        ensures transfers { WritesBySettling R.view
+            (⟦<Volume<R> as Seen<R>>⟧.seen self.old) (⟦<Volume<R> as Seen<R>>⟧.seen self.new) result }
     {
         let header = self.mount()?;
         Ok(Listing {
@@ -219,23 +212,20 @@ impl<R: Records> Volume<R> {
         requires open { IsOpen R.view (⟦<Volume<R> as Seen<R>>⟧.seen self.old) }
         requires ready { IsReadyFor R.view (⟦<Volume<R> as Seen<R>>⟧.seen self.old) }
         ensures open { IsOpen R.view (⟦<Volume<R> as Seen<R>>⟧.seen self.new) }
-        ensures consults { Consults (mounting (R.view (⟦<Volume<R> as Seen<R>>⟧.seen self.old).records).record_count (⟦<Volume<R> as Seen<R>>⟧.seen self.old).kept (⟦<Volume<R> as Seen<R>>⟧.seen self.new).kept)
-            (λ t. mounting_on t (⟦<Volume<R> as Seen<R>>⟧.seen self.old).kept)
-            R.view (⟦<Volume<R> as Seen<R>>⟧.seen self.old) (⟦<Volume<R> as Seen<R>>⟧.seen self.new) result }
-        ensures answers { (t u : Tape) → (R.view (⟦<Volume<R> as Seen<R>>⟧.seen self.old).records).tape ≡ Some t → (R.view (⟦<Volume<R> as Seen<R>>⟧.seen self.new).records).tape ≡ Some u
-            → Answers (R.view (⟦<Volume<R> as Seen<R>>⟧.seen self.old).records).record_count Label t u result }
+        ensures consults { Mounts R.view
+            (⟦<Volume<R> as Seen<R>>⟧.seen self.old) (⟦<Volume<R> as Seen<R>>⟧.seen self.new) result }
+        ensures answers { AnswersTo Label R.view
+            (⟦<Volume<R> as Seen<R>>⟧.seen self.old) (⟦<Volume<R> as Seen<R>>⟧.seen self.new) result }
         // It is refused exactly where the settled tape is not legal, and then with NotLif.
         ensures only { IfErr result IsNotLif }
-        ensures exactly { (t : Tape) → (R.view (⟦<Volume<R> as Seen<R>>⟧.seen self.old).records).tape ≡ Some t → IsLegalAs (settled t) result }
-        ensures label { IfOk result (λ label. (t : Tape) → (R.view (⟦<Volume<R> as Seen<R>>⟧.seen self.old).records).tape ≡ Some t
-            → label ≡ label_of (record_at (settled t) 0)) }
-        // The volume of a tape that is not foreign-gated stays: a stop at any moment, and a trouble, leave it.
-        ensures stays { (t : Tape) → (R.view (⟦<Volume<R> as Seen<R>>⟧.seen self.old).records).tape ≡ Some t → is_foreign_gated t ≡ false
-            → VolumeStays (R.view (⟦<Volume<R> as Seen<R>>⟧.seen self.old).records) (R.view (⟦<Volume<R> as Seen<R>>⟧.seen self.new).records) t }
-        // The writes are those of settling.
-        ensures transfers { (t : Tape) → (R.view (⟦<Volume<R> as Seen<R>>⟧.seen self.old).records).tape ≡ Some t → AddsOnly
-            (IsSettleWrite (R.view (⟦<Volume<R> as Seen<R>>⟧.seen self.old).records).record_count (redo_of t))
-            (R.view (⟦<Volume<R> as Seen<R>>⟧.seen self.old).records).transferred (R.view (⟦<Volume<R> as Seen<R>>⟧.seen self.new).records).transferred (store_answer result) }
+        ensures exactly { IsRefusedExactly R.view (⟦<Volume<R> as Seen<R>>⟧.seen self.old) result }
+        ensures label { IfOk result (λ label. Labels R.view (⟦<Volume<R> as Seen<R>>⟧.seen self.old) label) }
+        // The volume of a tape that is not foreign-gated stays: a stop at any moment, and a trouble,
+        // leave it.
+        ensures stays { KeepsVolume R.view
+            (⟦<Volume<R> as Seen<R>>⟧.seen self.old) (⟦<Volume<R> as Seen<R>>⟧.seen self.new) }
+        ensures transfers { WritesBySettling R.view
+            (⟦<Volume<R> as Seen<R>>⟧.seen self.old) (⟦<Volume<R> as Seen<R>>⟧.seen self.new) result }
     {
         let header = self.mount()?;
         Ok(header.label())
@@ -246,25 +236,24 @@ impl<R: Records> Volume<R> {
     pub fn fetch(&mut self, name: &Name, into: &mut [u8]) -> Result<Fetched, VolumeFault>
         requires open { IsOpen R.view (⟦<Volume<R> as Seen<R>>⟧.seen self.old) }
         requires ready { IsReadyFor R.view (⟦<Volume<R> as Seen<R>>⟧.seen self.old) }
-        requires room { 256 * (R.view (⟦<Volume<R> as Seen<R>>⟧.seen self.old).records).record_count ≤ length into.old }
+        requires room { 256 * (R.view (⟦<Volume<R> as Seen<R>>⟧.seen self.old).records).record_count
+            ≤ length into.old }
         ensures open { IsOpen R.view (⟦<Volume<R> as Seen<R>>⟧.seen self.new) }
-        ensures consults { Consults (fetching (R.view (⟦<Volume<R> as Seen<R>>⟧.seen self.old).records).record_count (name_bytes name.now) (⟦<Volume<R> as Seen<R>>⟧.seen self.old).kept (map slot_bytes (⟦<Volume<R> as Seen<R>>⟧.seen self.old).slots))
-            (λ t. fetching_on t (name_bytes name.now) (⟦<Volume<R> as Seen<R>>⟧.seen self.old).kept)
-            R.view (⟦<Volume<R> as Seen<R>>⟧.seen self.old) (⟦<Volume<R> as Seen<R>>⟧.seen self.new) result }
-        ensures answers { (t u : Tape) → (R.view (⟦<Volume<R> as Seen<R>>⟧.seen self.old).records).tape ≡ Some t → (R.view (⟦<Volume<R> as Seen<R>>⟧.seen self.new).records).tape ≡ Some u
-            → Answers (R.view (⟦<Volume<R> as Seen<R>>⟧.seen self.old).records).record_count (Fetch (name_bytes name.now)) t u result }
-        ensures fetched { IfOk result (λ fetched. (t : Tape) → (R.view (⟦<Volume<R> as Seen<R>>⟧.seen self.old).records).tape ≡ Some t
-            → FetchedFile t (name_bytes name.now) fetched into.new) }
-        ensures run { IfOk result (λ fetched. (t : Tape) → (R.view (⟦<Volume<R> as Seen<R>>⟧.seen self.old).records).tape ≡ Some t
-            → ReadsFile t (R.view (⟦<Volume<R> as Seen<R>>⟧.seen self.old).records).record_count (name_bytes name.now) fetched into.new
-            (R.view (⟦<Volume<R> as Seen<R>>⟧.seen self.old).records).transferred (R.view (⟦<Volume<R> as Seen<R>>⟧.seen self.new).records).transferred) }
-        // The volume of a tape that is not foreign-gated stays: a stop at any moment, and a trouble, leave it.
-        ensures stays { (t : Tape) → (R.view (⟦<Volume<R> as Seen<R>>⟧.seen self.old).records).tape ≡ Some t → is_foreign_gated t ≡ false
-            → VolumeStays (R.view (⟦<Volume<R> as Seen<R>>⟧.seen self.old).records) (R.view (⟦<Volume<R> as Seen<R>>⟧.seen self.new).records) t }
-        // The writes are those of settling.
-        ensures transfers { (t : Tape) → (R.view (⟦<Volume<R> as Seen<R>>⟧.seen self.old).records).tape ≡ Some t → AddsOnly
-            (IsSettleWrite (R.view (⟦<Volume<R> as Seen<R>>⟧.seen self.old).records).record_count (redo_of t))
-            (R.view (⟦<Volume<R> as Seen<R>>⟧.seen self.old).records).transferred (R.view (⟦<Volume<R> as Seen<R>>⟧.seen self.new).records).transferred (store_answer result) }
+        ensures consults { MountsAndReads (name_bytes name.now) R.view
+            (⟦<Volume<R> as Seen<R>>⟧.seen self.old) (⟦<Volume<R> as Seen<R>>⟧.seen self.new) result }
+        ensures answers { AnswersTo (Fetch (name_bytes name.now)) R.view
+            (⟦<Volume<R> as Seen<R>>⟧.seen self.old) (⟦<Volume<R> as Seen<R>>⟧.seen self.new) result }
+        ensures fetched { IfOk result (λ fetched. FetchesFile (name_bytes name.now) R.view
+            (⟦<Volume<R> as Seen<R>>⟧.seen self.old) fetched into.new) }
+        ensures run { IfOk result (λ fetched. FetchesByRun (name_bytes name.now) R.view
+            (⟦<Volume<R> as Seen<R>>⟧.seen self.old) (⟦<Volume<R> as Seen<R>>⟧.seen self.new)
+            fetched into.new) }
+        // The volume of a tape that is not foreign-gated stays: a stop at any moment, and a trouble,
+        // leave it.
+        ensures stays { KeepsVolume R.view
+            (⟦<Volume<R> as Seen<R>>⟧.seen self.old) (⟦<Volume<R> as Seen<R>>⟧.seen self.new) }
+        ensures transfers { WritesBySettling R.view
+            (⟦<Volume<R> as Seen<R>>⟧.seen self.old) (⟦<Volume<R> as Seen<R>>⟧.seen self.new) result }
     {
         self.mount()?;
         let file = self.directory.file_named(name, self.records.size())?;
