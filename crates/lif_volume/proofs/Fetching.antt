@@ -1,15 +1,14 @@
 -- A file that is read behind mounting.
 use Rattle.std.proofs.Common.{◌≡◌, ◌<◌, ◌≤◌, ◌+◌, ◌*◌, ◌++◌, ℕ, suc, zero, List, [], ◌∷◌, Bool, true, false, if◌then◌else◌, not, length, map, take, get_or, inl, inr, refl, sym, ap, subst, ◌∙◌, arith, append_assoc}
-use Rattle.std.specs.Prelude.{◌-◌, ◌&&◌, nat_lt, Option, Some, None, Result, Ok, Err, IfSome, option_map, unwrap_or, is_some}
-use Rattle.std.specs.FinMap.{get}
+use Rattle.std.specs.Prelude.{◌-◌, ◌&&◌, nat_lt, Option, Some, None, Result, Ok, IfSome, option_map, unwrap_or}
 use Rattle.std.specs.List.{position_or_len}
-use Rattle.std.proofs.lemmas.Bool.{cases_Bool, and_from, ltb-true, ltb-false}
+use Rattle.std.proofs.lemmas.Bool.{cases_Bool, and_from, ltb-false}
 use Rattle.lif_model.specs.Tape.{Tape, bytes_from}
 use Rattle.lif_model.specs.Header.{HeaderParts, directory_end}
-use Rattle.lif_model.specs.Directory.{type_of, start_of, length_of, implementation_of, slots_of}
-use Rattle.lif_model.specs.Redo.{redo_of, settled}
+use Rattle.lif_model.specs.Directory.{start_of, length_of, slots_of}
+use Rattle.lif_model.specs.Redo.{settled}
 use Rattle.lif_model.specs.Legal.{is_live, has_records, is_live_named, has_file, slot_named, is_legal}
-use Rattle.lif_model.specs.Volume.{Volume, content_of, volume_in, volume_of}
+use Rattle.lif_model.specs.Volume.{Volume, content_of}
 use Rattle.lif_model.specs.Apply.{Fetch, Protected, NoFile, refusal_of, is_protected, lacks_file}
 use Rattle.lif_model.specs.Transfers.{Transfer}
 use Rattle.lif_model.proofs.Legal.{legal_tells}
@@ -22,13 +21,11 @@ use Rattle.il_ports.specs.Transfers.{Added, GoesOnBy}
 use Rattle.il_ports.proofs.Stores.{goes_further, goes_within}
 use Rattle.il_ports.proofs.Transfers.{one_read, then_more}
 use Rattle.lif_dir.specs.Entries.{slot_bytes}
-use Rattle.lif_volume.specs.declared.fault.VolumeFault.{VolumeFault}
 use Rattle.lif_volume.specs.declared.directory.File.{File}
 use Rattle.lif_volume.specs.Entries.{IsFileOf}
 use Rattle.lif_volume.specs.Views.{VolumeView, IsOpen, IsLegalDirectory}
-use Rattle.lif_volume.specs.Answers.{store_answer}
 use Rattle.lif_volume.specs.Commands.{Consults, EndsWithRead, FetchedFile, mounting, mounting_on, fetching, fetching_on, records_named}
-use Rattle.lif_volume.proofs.Found.{Found, found, at, nowhere}
+use Rattle.lif_volume.proofs.Found.{found, at, nowhere}
 use Rattle.lif_volume.proofs.Mounting.{volume_on}
 
 same_some : {X : Type 0} (x y : X) → Some x ≡ Some y → x ≡ y

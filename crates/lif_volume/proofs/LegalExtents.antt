@@ -1,7 +1,6 @@
 -- The test for a legal directory by its extents, sorted by their starts.
 use Rattle.std.proofs.Common.{◌≡◌, ◌<◌, ◌+◌, ◌&&◌, ◌||◌, ℕ, suc, List, [], ◌∷◌, ◌++◌, Bool, true, false, if◌then◌else◌, nat_le, length, map, filter, take, get_or, sym, ◌∙◌, ap, arith, append-nil}
 use Rattle.std.proofs.lemmas.List.{map-append}
-use Rattle.std.specs.Prelude.{All}
 use Rattle.std.specs.List.{list_all, IsAllAdjacentAnswer}
 use Rattle.std.specs.List.Sorted.{IsPermutation, IsNonDecreasingBy}
 use Rattle.std.proofs.Math.Seq.{take-suc}

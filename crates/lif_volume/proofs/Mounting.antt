@@ -1,11 +1,11 @@
 -- What settling and reading leave of a volume, and what a command answers then.
-use Rattle.std.proofs.Common.{◌≡◌, ◌<◌, ◌≤◌, ◌+◌, ◌*◌, ◌++◌, ℕ, List, [], ◌∷◌, Bool, true, false, if◌then◌else◌, length, take, get_or, refl, sym, ap, subst, ◌∙◌, arith}
-use Rattle.std.specs.Prelude.{Option, Some, None, Result, Ok, Err, IfSome, is_some}
+use Rattle.std.proofs.Common.{◌≡◌, ℕ, List, [], ◌∷◌, Bool, true, false, refl, sym, ap, subst, ◌∙◌, arith}
+use Rattle.std.specs.Prelude.{Option, Some, None, Ok, Err, IfSome, is_some}
 use Rattle.lif_model.specs.Tape.{Tape, record_at}
 use Rattle.lif_model.specs.Directory.{slots_of}
-use Rattle.lif_model.specs.Redo.{Changes, redo_of, settled, IsSettled}
+use Rattle.lif_model.specs.Redo.{Changes, redo_of, settled}
 use Rattle.lif_model.specs.Legal.{is_legal}
-use Rattle.lif_model.specs.Commit.{SettlesAs, IsSettleWrite}
+use Rattle.lif_model.specs.Commit.{SettlesAs}
 use Rattle.lif_model.specs.Volume.{Volume, files_of, volume_if, volume_in, volume_of, is_foreign_gated}
 use Rattle.lif_model.specs.Apply.{VolumeCommand, Dir, Label, Fetch, Refusal, NotLif, refusal_of, next_unless, apply}
 use Rattle.lif_model.specs.Transfers.{Transfer}

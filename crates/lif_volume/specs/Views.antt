@@ -1,5 +1,5 @@
 -- What contracts see of a volume, and what holds of it between its calls.
-use Rattle.std.specs.Prelude.{◌≡◌, ◌<◌, ◌+◌, ◌*◌, ◌-◌, ℕ, List, true, map, Option, Some, IfSome}
+use Rattle.std.specs.Prelude.{◌≡◌, ◌<◌, ◌*◌, ◌-◌, ℕ, List, true, map, Option, Some, IfSome}
 use Rattle.lif_model.specs.Tape.{Tape, record_at}
 use Rattle.lif_model.specs.Header.{HeaderParts, header_of}
 use Rattle.lif_model.specs.Directory.{slots_of}

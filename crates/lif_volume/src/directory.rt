@@ -1,9 +1,12 @@
-ghost use Rattle.std.specs.Prelude.{◌≡◌, ◌≢◌, ◌<◌, ◌≤◌, ◌+◌, ◌^◌, ℕ, List, true, [], length, map, filter, slice_index_or, vec_capacity, option_map, Some, IfOk, IfErr, IfSome};
+ghost use Rattle.std.specs.Prelude.{◌≡◌, ◌≢◌, ◌<◌, ◌≤◌, ◌+◌, ◌^◌, ℕ, List, true, [], length, map};
+ghost use Rattle.std.specs.Prelude.{filter, slice_index_or, vec_capacity, option_map, Some, IfOk};
+ghost use Rattle.std.specs.Prelude.{IfErr, IfSome};
 ghost use Rattle.std.specs.Result.{result_err};
 ghost use Rattle.std.specs.List.{position};
 ghost use Rattle.lif_model.specs.Pairs.{all_pairs};
 ghost use Rattle.lif_model.specs.Header.{header_of, is_readable};
-ghost use Rattle.lif_model.specs.Legal.{is_live, is_live_named, slot_named, have_other_names, is_legal_with};
+ghost use Rattle.lif_model.specs.Legal.{is_live, is_live_named, slot_named, have_other_names};
+ghost use Rattle.lif_model.specs.Legal.{is_legal_with};
 ghost use Rattle.lif_model.specs.Volume.{Volume, is_redo_entry, is_redo_file, is_adopted};
 ghost use Rattle.lif_model.specs.Apply.{Fetch, refusal_of};
 ghost use Rattle.lif_redo.specs.Reading.{version_of};

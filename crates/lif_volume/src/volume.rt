@@ -63,7 +63,8 @@ impl<R: Records> Seen<R> for Volume<R> {
 }
 
 impl<R: Records> Volume<R> {
-    ghost use Rattle.std.specs.Prelude.{◌≡◌, ◌<◌, ◌≤◌, ◌*◌, length, Some, None, Ok, IfSome, IfOk, IfErr, is_some};
+    ghost use Rattle.std.specs.Prelude.{◌≡◌, ◌<◌, ◌≤◌, ◌*◌, length, Some, None, Ok, IfSome, IfOk};
+    ghost use Rattle.std.specs.Prelude.{IfErr, is_some};
     ghost use Rattle.std.specs.Borrow.{sem};
     ghost use Rattle.lif_model.specs.Apply.{Dir, Label, Fetch};
     ghost use Rattle.il_ports.specs.Stores.{Begun};
@@ -71,7 +72,9 @@ impl<R: Records> Volume<R> {
     ghost use Rattle.lif_volume.specs.Views.{IsOpen};
     ghost use Rattle.lif_volume.specs.Lending.{LendsRecords};
     ghost use Rattle.lif_volume.specs.Answers.{IsNotLif};
-    ghost use Rattle.lif_volume.specs.Commands.{IsReadyFor, Mounts, MountsAndReads, AnswersTo, IsRefusedExactly, KeepsVolume, WritesBySettling, Lists, Labels, FetchesFile, FetchesByRun};
+    ghost use Rattle.lif_volume.specs.Commands.{IsReadyFor, Mounts, MountsAndReads, AnswersTo};
+    ghost use Rattle.lif_volume.specs.Commands.{IsRefusedExactly, KeepsVolume, WritesBySettling};
+    ghost use Rattle.lif_volume.specs.Commands.{Lists, Labels, FetchesFile, FetchesByRun};
 
     /// A volume on these records, of which nothing is read yet. All memory of the volume is taken
     /// here; where there is none the records are handed back.
@@ -148,26 +151,27 @@ impl<R: Records> Volume<R> {
         &self.directory.table
     }
 
-    // Settles the tape, reads record 0 and the directory, tests that they are legal, and keeps them.
-    // Where they are kept it does nothing.
+    // Settles the tape, reads record 0 and the directory, tests that they are legal, and keeps
+    // them. Where they are kept it does nothing.
     fn mount(&mut self) -> Result<Header, VolumeFault>
         requires open { IsOpen R.view (⟦<Volume<R> as Seen<R>>⟧.seen self.old) }
         requires ready { IsReadyFor R.view (⟦<Volume<R> as Seen<R>>⟧.seen self.old) }
         ensures open { IsOpen R.view (⟦<Volume<R> as Seen<R>>⟧.seen self.new) }
-        ensures consults { Mounts R.view
-            (⟦<Volume<R> as Seen<R>>⟧.seen self.old) (⟦<Volume<R> as Seen<R>>⟧.seen self.new) result }
-        ensures kept { IfOk result (λ header. (⟦<Volume<R> as Seen<R>>⟧.seen self.new).kept ≡ Some header) }
+        ensures consults { Mounts R.view (⟦<Volume<R> as Seen<R>>⟧.seen self.old)
+            (⟦<Volume<R> as Seen<R>>⟧.seen self.new) result }
+        ensures kept { IfOk result (λ header.
+            (⟦<Volume<R> as Seen<R>>⟧.seen self.new).kept ≡ Some header) }
         ensures still { IfSome (⟦<Volume<R> as Seen<R>>⟧.seen self.old).kept (λ header.
             (result ≡ Ok header) × (self.new ≡ self.old)) }
         // It is refused exactly where the settled tape is not legal, and then with NotLif.
         ensures only { IfErr result IsNotLif }
         ensures exactly { IsRefusedExactly R.view (⟦<Volume<R> as Seen<R>>⟧.seen self.old) result }
-        // The volume of a tape that is not foreign-gated stays: a stop at any moment, and a trouble,
-        // leave it.
-        ensures stays { KeepsVolume R.view
-            (⟦<Volume<R> as Seen<R>>⟧.seen self.old) (⟦<Volume<R> as Seen<R>>⟧.seen self.new) }
-        ensures transfers { WritesBySettling R.view
-            (⟦<Volume<R> as Seen<R>>⟧.seen self.old) (⟦<Volume<R> as Seen<R>>⟧.seen self.new) result }
+        // The volume of a tape that is not foreign-gated stays: a stop at any moment leaves it, and
+        // so does a trouble.
+        ensures stays { KeepsVolume R.view (⟦<Volume<R> as Seen<R>>⟧.seen self.old)
+            (⟦<Volume<R> as Seen<R>>⟧.seen self.new) }
+        ensures transfers { WritesBySettling R.view (⟦<Volume<R> as Seen<R>>⟧.seen self.old)
+            (⟦<Volume<R> as Seen<R>>⟧.seen self.new) result }
     {
         if let Some(header) = self.kept {
             return Ok(header);
@@ -183,21 +187,21 @@ impl<R: Records> Volume<R> {
         requires open { IsOpen R.view (⟦<Volume<R> as Seen<R>>⟧.seen self.old) }
         requires ready { IsReadyFor R.view (⟦<Volume<R> as Seen<R>>⟧.seen self.old) }
         ensures open { IsOpen R.view (⟦<Volume<R> as Seen<R>>⟧.seen self.new) }
-        ensures consults { Mounts R.view
-            (⟦<Volume<R> as Seen<R>>⟧.seen self.old) (⟦<Volume<R> as Seen<R>>⟧.seen self.new) result }
-        ensures answers { AnswersTo Dir R.view
-            (⟦<Volume<R> as Seen<R>>⟧.seen self.old) (⟦<Volume<R> as Seen<R>>⟧.seen self.new) result }
+        ensures consults { Mounts R.view (⟦<Volume<R> as Seen<R>>⟧.seen self.old)
+            (⟦<Volume<R> as Seen<R>>⟧.seen self.new) result }
+        ensures answers { AnswersTo Dir R.view (⟦<Volume<R> as Seen<R>>⟧.seen self.old)
+            (⟦<Volume<R> as Seen<R>>⟧.seen self.new) result }
         // It is refused exactly where the settled tape is not legal, and then with NotLif.
         ensures only { IfErr result IsNotLif }
         ensures exactly { IsRefusedExactly R.view (⟦<Volume<R> as Seen<R>>⟧.seen self.old) result }
-        ensures listed { IfOk result (Lists R.view
-            (⟦<Volume<R> as Seen<R>>⟧.seen self.old) (⟦<Volume<R> as Seen<R>>⟧.seen self.new)) }
-        // The volume of a tape that is not foreign-gated stays: a stop at any moment, and a trouble,
-        // leave it.
-        ensures stays { KeepsVolume R.view
-            (⟦<Volume<R> as Seen<R>>⟧.seen self.old) (⟦<Volume<R> as Seen<R>>⟧.seen self.new) }
-        ensures transfers { WritesBySettling R.view
-            (⟦<Volume<R> as Seen<R>>⟧.seen self.old) (⟦<Volume<R> as Seen<R>>⟧.seen self.new) result }
+        ensures listed { IfOk result (Lists R.view (⟦<Volume<R> as Seen<R>>⟧.seen self.old)
+            (⟦<Volume<R> as Seen<R>>⟧.seen self.new)) }
+        // The volume of a tape that is not foreign-gated stays: a stop at any moment leaves it, and
+        // so does a trouble.
+        ensures stays { KeepsVolume R.view (⟦<Volume<R> as Seen<R>>⟧.seen self.old)
+            (⟦<Volume<R> as Seen<R>>⟧.seen self.new) }
+        ensures transfers { WritesBySettling R.view (⟦<Volume<R> as Seen<R>>⟧.seen self.old)
+            (⟦<Volume<R> as Seen<R>>⟧.seen self.new) result }
     {
         let header = self.mount()?;
         Ok(Listing {
@@ -212,20 +216,21 @@ impl<R: Records> Volume<R> {
         requires open { IsOpen R.view (⟦<Volume<R> as Seen<R>>⟧.seen self.old) }
         requires ready { IsReadyFor R.view (⟦<Volume<R> as Seen<R>>⟧.seen self.old) }
         ensures open { IsOpen R.view (⟦<Volume<R> as Seen<R>>⟧.seen self.new) }
-        ensures consults { Mounts R.view
-            (⟦<Volume<R> as Seen<R>>⟧.seen self.old) (⟦<Volume<R> as Seen<R>>⟧.seen self.new) result }
-        ensures answers { AnswersTo Label R.view
-            (⟦<Volume<R> as Seen<R>>⟧.seen self.old) (⟦<Volume<R> as Seen<R>>⟧.seen self.new) result }
+        ensures consults { Mounts R.view (⟦<Volume<R> as Seen<R>>⟧.seen self.old)
+            (⟦<Volume<R> as Seen<R>>⟧.seen self.new) result }
+        ensures answers { AnswersTo Label R.view (⟦<Volume<R> as Seen<R>>⟧.seen self.old)
+            (⟦<Volume<R> as Seen<R>>⟧.seen self.new) result }
         // It is refused exactly where the settled tape is not legal, and then with NotLif.
         ensures only { IfErr result IsNotLif }
         ensures exactly { IsRefusedExactly R.view (⟦<Volume<R> as Seen<R>>⟧.seen self.old) result }
-        ensures label { IfOk result (λ label. Labels R.view (⟦<Volume<R> as Seen<R>>⟧.seen self.old) label) }
-        // The volume of a tape that is not foreign-gated stays: a stop at any moment, and a trouble,
-        // leave it.
-        ensures stays { KeepsVolume R.view
-            (⟦<Volume<R> as Seen<R>>⟧.seen self.old) (⟦<Volume<R> as Seen<R>>⟧.seen self.new) }
-        ensures transfers { WritesBySettling R.view
-            (⟦<Volume<R> as Seen<R>>⟧.seen self.old) (⟦<Volume<R> as Seen<R>>⟧.seen self.new) result }
+        ensures label { IfOk result
+            (λ label. Labels R.view (⟦<Volume<R> as Seen<R>>⟧.seen self.old) label) }
+        // The volume of a tape that is not foreign-gated stays: a stop at any moment leaves it, and
+        // so does a trouble.
+        ensures stays { KeepsVolume R.view (⟦<Volume<R> as Seen<R>>⟧.seen self.old)
+            (⟦<Volume<R> as Seen<R>>⟧.seen self.new) }
+        ensures transfers { WritesBySettling R.view (⟦<Volume<R> as Seen<R>>⟧.seen self.old)
+            (⟦<Volume<R> as Seen<R>>⟧.seen self.new) result }
     {
         let header = self.mount()?;
         Ok(header.label())
@@ -240,20 +245,23 @@ impl<R: Records> Volume<R> {
             ≤ length into.old }
         ensures open { IsOpen R.view (⟦<Volume<R> as Seen<R>>⟧.seen self.new) }
         ensures consults { MountsAndReads (name_bytes name.now) R.view
-            (⟦<Volume<R> as Seen<R>>⟧.seen self.old) (⟦<Volume<R> as Seen<R>>⟧.seen self.new) result }
+            (⟦<Volume<R> as Seen<R>>⟧.seen self.old)
+            (⟦<Volume<R> as Seen<R>>⟧.seen self.new) result }
         ensures answers { AnswersTo (Fetch (name_bytes name.now)) R.view
-            (⟦<Volume<R> as Seen<R>>⟧.seen self.old) (⟦<Volume<R> as Seen<R>>⟧.seen self.new) result }
+            (⟦<Volume<R> as Seen<R>>⟧.seen self.old)
+            (⟦<Volume<R> as Seen<R>>⟧.seen self.new) result }
         ensures fetched { IfOk result (λ fetched. FetchesFile (name_bytes name.now) R.view
             (⟦<Volume<R> as Seen<R>>⟧.seen self.old) fetched into.new) }
         ensures run { IfOk result (λ fetched. FetchesByRun (name_bytes name.now) R.view
-            (⟦<Volume<R> as Seen<R>>⟧.seen self.old) (⟦<Volume<R> as Seen<R>>⟧.seen self.new)
+            (⟦<Volume<R> as Seen<R>>⟧.seen self.old)
+            (⟦<Volume<R> as Seen<R>>⟧.seen self.new)
             fetched into.new) }
-        // The volume of a tape that is not foreign-gated stays: a stop at any moment, and a trouble,
-        // leave it.
-        ensures stays { KeepsVolume R.view
-            (⟦<Volume<R> as Seen<R>>⟧.seen self.old) (⟦<Volume<R> as Seen<R>>⟧.seen self.new) }
-        ensures transfers { WritesBySettling R.view
-            (⟦<Volume<R> as Seen<R>>⟧.seen self.old) (⟦<Volume<R> as Seen<R>>⟧.seen self.new) result }
+        // The volume of a tape that is not foreign-gated stays: a stop at any moment leaves it, and
+        // so does a trouble.
+        ensures stays { KeepsVolume R.view (⟦<Volume<R> as Seen<R>>⟧.seen self.old)
+            (⟦<Volume<R> as Seen<R>>⟧.seen self.new) }
+        ensures transfers { WritesBySettling R.view (⟦<Volume<R> as Seen<R>>⟧.seen self.old)
+            (⟦<Volume<R> as Seen<R>>⟧.seen self.new) result }
     {
         self.mount()?;
         let file = self.directory.file_named(name, self.records.size())?;

@@ -1,5 +1,5 @@
-use Rattle.std.proofs.Common.{◌≡◌, ℕ, List, map, sym, ap, ◌∙◌}
-use Rattle.std.specs.Prelude.{Some, None, option_map}
+use Rattle.std.proofs.Common.{map, sym, ap, ◌∙◌}
+use Rattle.std.specs.Prelude.{Some, option_map}
 use Rattle.lif_dir.specs.Entries.{slot_bytes, name_bytes, entry_bytes}
 use Rattle.lif_volume.proofs.Found.{slot_at_place, no_slot}
 use Rattle.lif_volume.proofs.directory.Directory.entry_named.Goals as goal

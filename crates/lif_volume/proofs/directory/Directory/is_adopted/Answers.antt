@@ -1,5 +1,4 @@
-use Rattle.std.proofs.Common.{◌≡◌, ℕ, List, map, sym, ap, ◌∙◌}
-use Rattle.std.specs.Prelude.{Some, None}
+use Rattle.std.proofs.Common.{ℕ, List, map, sym, ap, ◌∙◌}
 use Rattle.lif_model.specs.Legal.{slot_named}
 use Rattle.lif_dir.specs.Entries.{slot_bytes}
 use Rattle.lif_volume.proofs.Found.{adopted_by_name, not_adopted}

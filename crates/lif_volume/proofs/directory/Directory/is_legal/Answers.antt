@@ -3,7 +3,7 @@ use Rattle.std.specs.List.{list_all}
 use Rattle.std.specs.List.Sorted.{IsPermutation}
 use Rattle.lif_model.specs.Header.{HeaderParts, directory_end}
 use Rattle.lif_model.specs.Pairs.{all_pairs, all_neighbours}
-use Rattle.lif_model.specs.Legal.{is_live, have_other_names, is_legal_with}
+use Rattle.lif_model.specs.Legal.{is_live, have_other_names}
 use Rattle.lif_dir.specs.Entries.{slot_bytes}
 use Rattle.lif_volume.specs.declared.extents.Extent.{Extent}
 use Rattle.lif_volume.specs.Entries.{lies_within, ends_first}

@@ -1,5 +1,5 @@
-use Rattle.std.proofs.Common.{◌≡◌, ◌<◌, ◌≤◌, ◌+◌, ◌*◌, ℕ, List, true, length, map, refl, sym, ap, subst, ◌∙◌, arith, rules}
-use Rattle.std.specs.Prelude.{Option, Some, None, Result, Ok, Err, IfSome, take}
+use Rattle.std.proofs.Common.{◌≡◌, ◌*◌, ℕ, List, length, map, refl, sym, ap, subst, ◌∙◌, arith, rules}
+use Rattle.std.specs.Prelude.{Option, Some, Result, Ok, Err, IfSome, take}
 use Rattle.lif_model.specs.Tape.{Tape}
 use Rattle.lif_model.specs.Header.{HeaderParts}
 use Rattle.lif_model.specs.Directory.{slots_of, start_of}
@@ -16,7 +16,7 @@ use Rattle.lif_volume.specs.Answers.{reason, refused}
 use Rattle.il_ports.specs.declared.records.Trouble.{Trouble}
 use Rattle.il_ports.specs.Transfers.{GoesOnBy}
 use Rattle.lif_volume.specs.Commands.{EndsWithRead}
-use Rattle.lif_volume.proofs.Mounting.{seen, behind, kept_is_of, stays_reading, answers_fault, answers_refused, answers_fetch}
+use Rattle.lif_volume.proofs.Mounting.{seen, behind, kept_is_of, stays_reading, answers_refused, answers_fetch}
 use Rattle.lif_volume.proofs.Fetching.{legal_of, file_ready, file_within, file_room, file_goes_on, file_few, open_reading, ends_with_read, run_behind, file_is_fetched}
 use Rattle.lif_volume.proofs.volume.Volume.fetch.Goals as goal
 

@@ -1,7 +1,6 @@
-use Rattle.std.proofs.Common.{◌≡◌, ◌≤◌, true, false, [], refl, sym, ap, ◌∙◌, arith, rules}
-use Rattle.std.specs.Prelude.{Some, None, Ok, Err}
+use Rattle.std.proofs.Common.{◌≡◌, ap, ◌∙◌, rules}
+use Rattle.std.specs.Prelude.{Err}
 use Rattle.lif_model.specs.Legal.{is_legal}
-use Rattle.il_ports.proofs.Stores.{goes_nowhere}
 use Rattle.lif_volume.proofs.Mounting.{seen, stays_here, stays_settling, stays_reading, reads_behind, adds_behind, consults_nothing, kept_is_of}
 use Rattle.lif_volume.proofs.volume.Volume.mount.Goals as goal
 
