@@ -110,6 +110,9 @@ start_back e w = ap (λ (x : FileEntry). x.start) (entry_back e w)
 pub length_back : (e : FileEntry) → HasWidths e → length_of (entry_bytes e) ≡ e.length
 length_back e w = ap (λ (x : FileEntry). x.length) (entry_back e w)
 
+pub implementation_back : (e : FileEntry) → HasWidths e → implementation_of (entry_bytes e) ≡ e.implementation
+implementation_back e w = ap (λ (x : FileEntry). x.implementation) (entry_back e w)
+
 pub name_back : (e : FileEntry) → HasWidths e → name_of (entry_bytes e) ≡ e.name.bytes
 name_back e w = ap (λ (x : FileEntry). x.name.bytes) (entry_back e w)
 

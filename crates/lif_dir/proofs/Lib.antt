@@ -1,4 +1,4 @@
-mod Bytes
+pub mod Bytes
 mod Spaces
 mod Slots
 mod Indexing

@@ -191,7 +191,9 @@ module _ {X : Type 0} (d : X) where
 
 -- ---- legal directories
 
-picked_filled : (slots : List (List ℕ)) (i : ℕ) → i < length (filter occupies slots) → start_of (get_or (filter occupies slots) i []) < end_of (get_or (filter occupies slots) i [])
+-- a live slot that has records ends behind its start
+
+pub picked_filled : (slots : List (List ℕ)) (i : ℕ) → i < length (filter occupies slots) → start_of (get_or (filter occupies slots) i []) < end_of (get_or (filter occupies slots) i [])
 picked_filled slots i lt =
     let on : occupies (get_or (filter occupies slots) i []) ≡ true = all_at [] occupies (filter occupies slots) i ((filter_all_tells [] occupies occupies slots).1 (λ j less here. here)) lt in
     omega (arith, ltb-true 0 (length_of (get_or (filter occupies slots) i [])) (occupies_tells (get_or (filter occupies slots) i []) on).1)

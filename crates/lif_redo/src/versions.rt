@@ -13,8 +13,8 @@ pub enum Version {
 }
 
 impl Version {
-    // The number of its records.
-    fn length(self) -> u16
+    /// How many records its redo file has.
+    pub fn length(self) -> u16
         ensures { result ≡ redo_length (version_of self) }
     {
         match self {
@@ -44,7 +44,7 @@ impl Version {
     }
 
     /// Its first record on a tape of `size` records.
-    pub(crate) fn start(self, size: u16) -> u16
+    pub fn start(self, size: u16) -> u16
         ensures { result ≡ redo_start (version_of self) size }
     {
         size.saturating_sub(self.length())

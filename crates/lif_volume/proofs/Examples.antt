@@ -1,0 +1,50 @@
+-- Worked examples, computed by the checker: slots by the LIF directory format, on a tape of twelve records.
+use Rattle.std.proofs.Common.{◌≡◌, ℕ, [], ◌∷◌, true, false, refl}
+use Rattle.std.specs.Prelude.{Some, None, Ok, Err, replicate}
+use Rattle.lif_model.specs.Numbers.{two_at, four_at}
+use Rattle.lif_model.specs.Header.{HeaderParts}
+use Rattle.lif_model.specs.Directory.{name_of, entry_at, entries_of}
+use Rattle.lif_model.specs.Gate.{is_open}
+use Rattle.lif_model.specs.Made.{with_type}
+use Rattle.lif_model.proofs.Examples as base
+use Rattle.lif_model.proofs.VolumeExamples.{file, purged, a_name, b_name}
+use Rattle.lif_volume.specs.declared.fault.Refusal.TheVariants as refusal
+use Rattle.lif_volume.specs.declared.fault.VolumeFault.TheVariants.{Refused}
+use Rattle.lif_volume.specs.Entries.{extent_of, lies_within, ends_first}
+use Rattle.lif_volume.specs.Answers.{keeps}
+use Rattle.lif_volume.specs.Commands.{calls_needed, directory_records, records_named, mounting, mounting_on, fetching, fetching_on}
+
+-- a file of two records from record 5 on
+extents : (extent_of (file a_name 5 2) ≡ record { start = 5; end = 7 })
+    × (lies_within 5 7 (extent_of (file a_name 5 2)) ≡ true) × (lies_within 6 12 (extent_of (file a_name 5 2)) ≡ false) × (lies_within 4 6 (extent_of (file a_name 5 2)) ≡ false)
+unfolding four_at two_at
+extents = (refl, refl, refl, refl)
+
+-- files that touch, and files that share a record
+neighbours : (ends_first (extent_of (file a_name 4 2)) (extent_of (file b_name 6 1)) ≡ true) × (ends_first (extent_of (file a_name 4 2)) (extent_of (file b_name 5 1)) ≡ false)
+unfolding four_at two_at
+neighbours = (refl, refl)
+
+-- a purged file has no records for a name
+named_records : (records_named (purged (file b_name 4 1) ∷ file a_name 5 2 ∷ []) a_name ≡ 2) × (records_named (purged (file b_name 4 1) ∷ file a_name 5 2 ∷ []) b_name ≡ 0)
+unfolding four_at two_at with_type name_of
+named_records = (refl, refl)
+
+-- the directory of a formatted tape, and of one that has no header
+directories : (directory_records base.formatted ≡ 2) × (directory_records (replicate 12 base.blank) ≡ 0)
+unfolding four_at two_at
+directories = (refl, refl)
+
+abbrev header : HeaderParts
+header = record { label = []; start = 2; length = 2 }
+
+-- how many records are read at most on a cassette
+counts : (calls_needed 512 ≡ 1064) × (mounting 512 None None ≡ 578) × (mounting 512 None (Some header) ≡ 73) × (mounting 512 (Some header) (Some header) ≡ 0)
+    × (mounting_on base.formatted None ≡ 73) × (mounting_on base.formatted (Some header) ≡ 0)
+    × (fetching 512 a_name None [] ≡ 582) × (fetching 512 a_name (Some header) (file a_name 5 2 ∷ []) ≡ 2) × (fetching_on base.formatted a_name (Some header) ≡ 0)
+unfolding four_at two_at name_of entry_at entries_of is_open
+counts = (refl, refl, refl, refl, refl, refl, refl, refl, refl)
+
+-- behind which answers the directory is kept
+kept : (keeps {T = ℕ} (Err (Refused refusal.NotLif)) ≡ false) × (keeps {T = ℕ} (Err (Refused refusal.NoFile)) ≡ true) × (keeps {T = ℕ} (Ok 0) ≡ true)
+kept = (refl, refl, refl)

@@ -1,0 +1,5 @@
+mod LegalExtents
+mod Found
+mod Mounting
+mod Fetching
+mod Examples

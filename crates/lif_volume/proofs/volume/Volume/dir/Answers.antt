@@ -1,0 +1,25 @@
+use Rattle.std.proofs.Common.{◌≡◌, ◌∙◌, refl, rules}
+use Rattle.std.specs.Prelude.{Err}
+use Rattle.lif_model.specs.Apply.{Dir}
+use Rattle.lif_volume.proofs.Mounting.{seen, behind, kept_is_of, answers_dir, answers_fault}
+use Rattle.lif_volume.proofs.volume.Volume.dir.Goals as goal
+
+pub returns-in_err-header-clause-answers : goal.returns-in_err-header-clause-answers
+returns-in_err-header-clause-answers g c = λ t u told now.
+    let is : c.from_residual.result ≡ Err c.in_err-header.field-0.0 = search rules in
+    let e = c.in_err-header.ensures in
+    rw is (answers_fault (g.R.Records.view c.args.self.now.records).record_count t u _ Dir c.in_err-header.field-0.0 refl now e.only (e.exactly t told) (e.consults.settles t told))
+
+pub returns-clause-answers : goal.returns-clause-answers
+returns-clause-answers g c = λ t u told now.
+    let e = c.in_ok-header.ensures in
+    answers_dir (g.R.Records.view c.args.self.now.records).record_count t u (behind t u _ now (e.consults.settles t told)) (e.exactly t told)
+
+pub returns-clause-listed : goal.returns-clause-listed
+returns-clause-listed g c = λ t told.
+    let e = c.in_ok-header.ensures in
+    let is = kept_is_of (seen c.mount.new.self) c.in_ok-header.header _ e.kept (e.open.known _ (e.consults.settles t told)) in
+    record {
+      header = (λ i. record { label = c.label.ensures i; start = c.start.ensures i; length = c.length.ensures i }) ∙ is.directory.header;
+      slots = is.directory.slots;
+    }

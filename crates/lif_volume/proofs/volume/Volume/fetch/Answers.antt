@@ -1,0 +1,208 @@
+use Rattle.std.proofs.Common.{◌≡◌, ◌*◌, ℕ, List, length, map, refl, sym, ap, subst, ◌∙◌, arith, rules}
+use Rattle.std.specs.Prelude.{Option, Some, Result, Ok, Err, IfSome, take}
+use Rattle.lif_model.specs.Tape.{Tape}
+use Rattle.lif_model.specs.Header.{HeaderParts}
+use Rattle.lif_model.specs.Directory.{slots_of, start_of}
+use Rattle.lif_model.specs.Redo.{redo_of, settled}
+use Rattle.lif_model.specs.Commit.{IsSettleWrite}
+use Rattle.lif_model.specs.Legal.{slot_named}
+use Rattle.lif_model.specs.Apply.{Fetch, refusal_of}
+use Rattle.lif_model.proofs.Redo.{length_settled}
+use Rattle.lif_dir.specs.Entries.{name_bytes, slot_bytes}
+use Rattle.lif_volume.specs.declared.fault.VolumeFault.{VolumeFault}
+use Rattle.lif_volume.specs.declared.volume.Volume.{Volume}
+use Rattle.lif_volume.specs.Views.{IsLegalDirectory, IsDirectoryOf}
+use Rattle.lif_volume.specs.Answers.{reason, refused}
+use Rattle.il_ports.specs.declared.records.Trouble.{Trouble}
+use Rattle.il_ports.specs.Transfers.{GoesOnBy}
+use Rattle.lif_volume.specs.Commands.{EndsWithRead}
+use Rattle.lif_volume.proofs.Mounting.{seen, behind, kept_is_of, stays_reading, answers_refused, answers_fetch}
+use Rattle.lif_volume.proofs.Fetching.{legal_of, file_ready, file_within, file_room, file_goes_on, file_few, open_reading, ends_with_read, run_behind, file_is_fetched}
+use Rattle.lif_volume.proofs.volume.Volume.fetch.Goals as goal
+
+pub read_front-requires-clause-ready : goal.read_front-requires-clause-ready
+read_front-requires-clause-ready g c =
+    let x = seen c.args.self.now in
+    let y = seen c.mount.new.self in
+    let view = g.R.Records.view in
+    let n = (view c.args.self.now.records).record_count in
+    let e = c.in_ok-mount.ensures in
+    let header : HeaderParts = c.in_ok-mount.field-0 in
+    let file = c.in_ok-file.ensures.slot in
+    let legal : IsLegalDirectory n header (map slot_bytes y.slots) = legal_of view y header n e.open e.kept e.consults.goes_on.continues.size in
+    file_ready view x y header (name_bytes c.args.name.now) file.0 c.in_ok-file.file.count c.requires.open.size e.kept e.consults legal file.1 file.2.count c.requires.ready.left
+
+pub read_front-requires-clause-within : goal.read_front-requires-clause-within
+read_front-requires-clause-within g c =
+    let x = seen c.args.self.now in
+    let y = seen c.mount.new.self in
+    let view = g.R.Records.view in
+    let n = (view c.args.self.now.records).record_count in
+    let e = c.in_ok-mount.ensures in
+    let header : HeaderParts = c.in_ok-mount.field-0 in
+    let file = c.in_ok-file.ensures.slot in
+    let legal : IsLegalDirectory n header (map slot_bytes y.slots) = legal_of view y header n e.open e.kept e.consults.goes_on.continues.size in
+    file_within view x y header (name_bytes c.args.name.now) file.0 c.in_ok-file.file.count c.requires.open.size e.kept e.consults legal file.1 file.2.count c.in_ok-file.file.first file.2.first
+
+pub read_front-requires-clause-room : goal.read_front-requires-clause-room
+read_front-requires-clause-room g c =
+    let x = seen c.args.self.now in
+    let y = seen c.mount.new.self in
+    let view = g.R.Records.view in
+    let n = (view c.args.self.now.records).record_count in
+    let e = c.in_ok-mount.ensures in
+    let header : HeaderParts = c.in_ok-mount.field-0 in
+    let file = c.in_ok-file.ensures.slot in
+    let legal : IsLegalDirectory n header (map slot_bytes y.slots) = legal_of view y header n e.open e.kept e.consults.goes_on.continues.size in
+    file_room view x y header (name_bytes c.args.name.now) file.0 c.in_ok-file.file.count c.requires.open.size e.kept e.consults legal file.1 file.2.count (length c.args.into.now) c.requires.room
+
+pub returns-in_err-file-clause-answers : goal.returns-in_err-file-clause-answers
+returns-in_err-file-clause-answers g c =
+    let x = seen c.args.self.now in
+    let y = seen c.mount.new.self in
+    let view = g.R.Records.view in
+    let n = (view c.args.self.now.records).record_count in
+    let e = c.in_ok-mount.ensures in
+    let header : HeaderParts = c.in_ok-mount.field-0 in
+    λ t u told now.
+    let is : c.from_residual-in_err-file.result ≡ Err (refused c.in_err-file.field-0.0) = search rules in
+    let on : IsDirectoryOf (settled t) header c.mount.new.self.directory.table.slots =
+    kept_is_of y header (settled t) e.kept (e.open.known (settled t) (e.consults.settles t told)) in
+    let size : c.size.result ≡ n = c.size.ensures ∙ e.consults.goes_on.continues.size in
+    rw is (answers_refused n t u (behind t u _ now (e.consults.settles t told)) (Fetch (name_bytes c.args.name.now)) (reason c.in_err-file.field-0.0) (e.exactly t told)
+    (λ v same. ap (λ (m : ℕ). refusal_of m (Fetch (name_bytes c.args.name.now)) (Some v)) (sym size) ∙ c.in_err-file.ensures.refusal v (same ∙ sym on.directory.bytes)))
+
+pub returns-in-Err-clause-consults : goal.returns-in-Err-clause-consults
+returns-in-Err-clause-consults g c =
+    let x = seen c.args.self.now in
+    let y = seen c.mount.new.self in
+    let view = g.R.Records.view in
+    let n = (view c.args.self.now.records).record_count in
+    let e = c.in_ok-mount.ensures in
+    let header : HeaderParts = c.in_ok-mount.field-0 in
+    let file = c.in_ok-file.ensures.slot in
+    let legal : IsLegalDirectory n header (map slot_bytes y.slots) = legal_of view y header n e.open e.kept e.consults.goes_on.continues.size in
+    let on : (t : Tape) → (view c.args.self.now.records).tape ≡ Some t → IsDirectoryOf (settled t) header c.mount.new.self.directory.table.slots = λ t told.
+    kept_is_of y header (settled t) e.kept (e.open.known (settled t) (e.consults.settles t told)) in
+    let failed : Result (Unit {0}) Trouble = Err c.in-Err.trouble in
+    record {
+      goes_on = file_goes_on view x y header (name_bytes c.args.name.now) file.0 c.in_ok-file.file.count c.requires.open.size e.kept e.consults legal file.1 file.2.count c.read_front.new.records (Err c.in-Err.trouble) (λ h k. let both = subst (λ (o : Option HeaderParts). IfSome o (λ p. (◌≡◌ {A = Result HeaderParts VolumeFault} (Ok header) (Ok p)) × (c.mount.new.self ≡ c.args.self.now))) k e.still in
+          ap (λ (v : Volume g.row.R.Denot). map slot_bytes v.directory.table.slots) both.1) c.in-Err.ensures.goes_on;
+      few = λ t told. file_few view x y header (name_bytes c.args.name.now) file.0 c.in_ok-file.file.count c.requires.open.size e.kept e.consults legal file.1 file.2.count c.read_front.new.records failed t told (on t told).directory.bytes c.in-Err.ensures.goes_on;
+      settles = λ t told. tt;
+      kept = refl;
+    }
+
+pub returns-in-Err-clause-stays : goal.returns-in-Err-clause-stays
+returns-in-Err-clause-stays g c =
+    let e = c.in_ok-mount.ensures in
+    λ t told off. stays_reading _ t off _ _ (e.stays t told off) c.read_front.ensures.quiet
+
+pub returns-clause-open : goal.returns-clause-open
+returns-clause-open g c =
+    let x = seen c.args.self.now in
+    let y = seen c.mount.new.self in
+    let view = g.R.Records.view in
+    let n = (view c.args.self.now.records).record_count in
+    let e = c.in_ok-mount.ensures in
+    let header : HeaderParts = c.in_ok-mount.field-0 in
+    let file = c.in_ok-file.ensures.slot in
+    let legal : IsLegalDirectory n header (map slot_bytes y.slots) = legal_of view y header n e.open e.kept e.consults.goes_on.continues.size in
+    open_reading view y c.read_front.new.records e.open c.in_default.ensures.goes_on.continues.valid c.in_default.ensures.goes_on.continues.size c.read_front.ensures.quiet.tape
+
+pub returns-clause-consults : goal.returns-clause-consults
+returns-clause-consults g c =
+    let x = seen c.args.self.now in
+    let y = seen c.mount.new.self in
+    let view = g.R.Records.view in
+    let n = (view c.args.self.now.records).record_count in
+    let e = c.in_ok-mount.ensures in
+    let header : HeaderParts = c.in_ok-mount.field-0 in
+    let file = c.in_ok-file.ensures.slot in
+    let legal : IsLegalDirectory n header (map slot_bytes y.slots) = legal_of view y header n e.open e.kept e.consults.goes_on.continues.size in
+    let on : (t : Tape) → (view c.args.self.now.records).tape ≡ Some t → IsDirectoryOf (settled t) header c.mount.new.self.directory.table.slots = λ t told.
+    kept_is_of y header (settled t) e.kept (e.open.known (settled t) (e.consults.settles t told)) in
+    let done : Result (Unit {0}) Trouble = Ok tt in
+    record {
+      goes_on = file_goes_on view x y header (name_bytes c.args.name.now) file.0 c.in_ok-file.file.count c.requires.open.size e.kept e.consults legal file.1 file.2.count c.read_front.new.records (Ok tt) (λ h k. let both = subst (λ (o : Option HeaderParts). IfSome o (λ p. (◌≡◌ {A = Result HeaderParts VolumeFault} (Ok header) (Ok p)) × (c.mount.new.self ≡ c.args.self.now))) k e.still in
+          ap (λ (v : Volume g.row.R.Denot). map slot_bytes v.directory.table.slots) both.1) c.in_default.ensures.goes_on;
+      few = λ t told. file_few view x y header (name_bytes c.args.name.now) file.0 c.in_ok-file.file.count c.requires.open.size e.kept e.consults legal file.1 file.2.count c.read_front.new.records done t told (on t told).directory.bytes c.in_default.ensures.goes_on;
+      settles = λ t told. c.read_front.ensures.quiet.tape ∙ e.consults.settles t told;
+      kept = e.consults.kept;
+    }
+
+pub returns-clause-answers : goal.returns-clause-answers
+returns-clause-answers g c =
+    let x = seen c.args.self.now in
+    let y = seen c.mount.new.self in
+    let view = g.R.Records.view in
+    let n = (view c.args.self.now.records).record_count in
+    let e = c.in_ok-mount.ensures in
+    let header : HeaderParts = c.in_ok-mount.field-0 in
+    let file = c.in_ok-file.ensures.slot in
+    let legal : IsLegalDirectory n header (map slot_bytes y.slots) = legal_of view y header n e.open e.kept e.consults.goes_on.continues.size in
+    let on : (t : Tape) → (view c.args.self.now.records).tape ≡ Some t → IsDirectoryOf (settled t) header c.mount.new.self.directory.table.slots = λ t told.
+    kept_is_of y header (settled t) e.kept (e.open.known (settled t) (e.consults.settles t told)) in
+    let size : c.size.result ≡ n = c.size.ensures ∙ e.consults.goes_on.continues.size in
+    λ t u told now.
+    answers_fetch n t u (behind t u _ now (c.read_front.ensures.quiet.tape ∙ e.consults.settles t told)) (name_bytes c.args.name.now) (e.exactly t told)
+    (λ v same. ap (λ (m : ℕ). refusal_of m (Fetch (name_bytes c.args.name.now)) (Some v)) (sym size) ∙ c.in_ok-file.ensures.refusal v (same ∙ sym (on t told).directory.bytes))
+
+pub returns-clause-fetched : goal.returns-clause-fetched
+returns-clause-fetched g c =
+    let x = seen c.args.self.now in
+    let y = seen c.mount.new.self in
+    let view = g.R.Records.view in
+    let n = (view c.args.self.now.records).record_count in
+    let e = c.in_ok-mount.ensures in
+    let header : HeaderParts = c.in_ok-mount.field-0 in
+    let file = c.in_ok-file.ensures.slot in
+    let legal : IsLegalDirectory n header (map slot_bytes y.slots) = legal_of view y header n e.open e.kept e.consults.goes_on.continues.size in
+    let on : (t : Tape) → (view c.args.self.now.records).tape ≡ Some t → IsDirectoryOf (settled t) header c.mount.new.self.directory.table.slots = λ t told.
+    kept_is_of y header (settled t) e.kept (e.open.known (settled t) (e.consults.settles t told)) in
+    let size : c.size.result ≡ n = c.size.ensures ∙ e.consults.goes_on.continues.size in
+    λ t told.
+    let long : length (settled t) ≡ n = length_settled t ∙ ((g.met.R.Records.is_store c.args.self.now.records).is_tape t told).records in
+    file_is_fetched n t (map slot_bytes y.slots) (name_bytes c.args.name.now) file.0 c.in_ok-file.file c.read_front.new.into long (e.exactly t told) (on t told).directory.bytes file.1 file.2
+    (λ v same. ap (λ (m : ℕ). refusal_of m (Fetch (name_bytes c.args.name.now)) (Some v)) (sym size) ∙ c.in_ok-file.ensures.refusal v same)
+    (c.in_default.ensures.content (settled t) (e.consults.settles t told))
+
+pub returns-clause-run : goal.returns-clause-run
+returns-clause-run g c =
+    let x = seen c.args.self.now in
+    let y = seen c.mount.new.self in
+    let view = g.R.Records.view in
+    let n = (view c.args.self.now.records).record_count in
+    let e = c.in_ok-mount.ensures in
+    let header : HeaderParts = c.in_ok-mount.field-0 in
+    let file = c.in_ok-file.ensures.slot in
+    let legal : IsLegalDirectory n header (map slot_bytes y.slots) = legal_of view y header n e.open e.kept e.consults.goes_on.continues.size in
+    let on : (t : Tape) → (view c.args.self.now.records).tape ≡ Some t → IsDirectoryOf (settled t) header c.mount.new.self.directory.table.slots = λ t told.
+    kept_is_of y header (settled t) e.kept (e.open.known (settled t) (e.consults.settles t told)) in
+    λ t told some.
+    let here : slot_named (slots_of (settled t)) (name_bytes c.args.name.now) ≡ Some file.0 = ap (λ (s : List (List ℕ)). slot_named s (name_bytes c.args.name.now)) (sym (on t told).directory.bytes) ∙ file.1 in
+    let bytes : List ℕ = take (256 * c.in_ok-file.file.count) c.read_front.new.into in
+    let old = (view c.args.self.now.records).transferred in
+    let new = (view c.read_front.new.records).transferred in
+    let P = IsSettleWrite n (redo_of t) in
+    let read : EndsWithRead P (start_of file.0) bytes old new = subst (λ (k : ℕ). EndsWithRead P k bytes old new) file.2.first
+    (ends_with_read P c.in_ok-file.file.first bytes old _ new (e.transfers t told) (c.in_default.ensures.run (omega (arith, some)))) in
+    subst (λ (o : Option (List ℕ)). IfSome o (λ slot. EndsWithRead P (start_of slot) bytes old new)) (sym here) read
+
+pub returns-clause-stays : goal.returns-clause-stays
+returns-clause-stays g c =
+    let e = c.in_ok-mount.ensures in
+    λ t told off. stays_reading _ t off _ _ (e.stays t told off) c.read_front.ensures.quiet
+
+pub returns-clause-transfers : goal.returns-clause-transfers
+returns-clause-transfers g c =
+    let x = seen c.args.self.now in
+    let y = seen c.mount.new.self in
+    let view = g.R.Records.view in
+    let n = (view c.args.self.now.records).record_count in
+    let e = c.in_ok-mount.ensures in
+    λ t told.
+    let P = IsSettleWrite n (redo_of t) in
+    let old = (view c.args.self.now.records).transferred in
+    run_behind P c.in_ok-file.file.first c.in_ok-file.file.count _ old _ (view c.read_front.new.records).transferred (e.transfers t told) c.in_default.ensures.run
+    (λ none. subst (λ (r : g.row.R.Denot). GoesOnBy P old (view r).transferred) (sym (c.in_default.ensures.none none).1) (e.transfers t told))

@@ -1,0 +1,53 @@
+use il_ports::Trouble;
+
+/// Why a command of a volume is refused. A refused command leaves the volume.
+#[derive(Clone, Copy, Debug, PartialEq, Eq)]
+pub enum Refusal {
+    /// The tape is no legal LIF volume.
+    NotLif,
+    /// No file has the name.
+    NoFile,
+    /// A file has the new name.
+    Exists,
+    /// The directory has no slot for the file.
+    NoSlot,
+    /// No place has room for the file.
+    NoRoom,
+    /// The volume has no redo file.
+    NoRedo,
+    /// A file stands where the redo file is to be.
+    InUse,
+    /// The name is that of the redo file.
+    Protected,
+}
+
+/// Why a command of a volume did not do what it was asked.
+#[derive(Clone, Copy, Debug, PartialEq, Eq)]
+pub enum VolumeFault {
+    /// The command is refused.
+    Refused(Refusal),
+    /// A call of the store failed.
+    Trouble(Trouble),
+}
+
+impl From<Trouble> for VolumeFault {
+    ghost use Rattle.std.specs.Prelude.{◌≡◌};
+    ghost use Rattle.lif_volume.specs.Answers.{troubled};
+
+    ghost from_gives = { λ trouble fault. fault ≡ troubled trouble };
+
+    fn from(trouble: Trouble) -> VolumeFault {
+        VolumeFault::Trouble(trouble)
+    }
+}
+
+impl From<Refusal> for VolumeFault {
+    ghost use Rattle.std.specs.Prelude.{◌≡◌};
+    ghost use Rattle.lif_volume.specs.Answers.{refused};
+
+    ghost from_gives = { λ refusal fault. fault ≡ refused refusal };
+
+    fn from(refusal: Refusal) -> VolumeFault {
+        VolumeFault::Refused(refusal)
+    }
+}

@@ -1,0 +1,285 @@
+use crate::directory::Directory;
+use crate::fault::VolumeFault;
+use crate::reading::{read_directory, read_front};
+use il_ports::Records;
+use lif_dir::{Name, SlotTable};
+use lif_header::Header;
+use lif_model::RECORD;
+use lif_redo::settle;
+use std::alloc::Global;
+
+/// What `dir` answers: what record 0 says. The slots stand in `Volume::slots`.
+#[derive(Clone, Copy, Debug, PartialEq, Eq)]
+pub struct Listing {
+    /// The label, with its spaces.
+    pub label: [u8; 6],
+    /// The first record of the directory.
+    pub start: u16,
+    /// How many records the directory has.
+    pub length: u16,
+}
+
+/// What `fetch` answers.
+#[derive(Clone, Copy, Debug, PartialEq, Eq)]
+pub struct Fetched {
+    /// The type.
+    pub kind: u16,
+    /// The implementation field, whose meaning depends on the type.
+    pub implementation: [u8; 4],
+    /// How many bytes the file's records have.
+    pub length: usize,
+}
+
+/// There was no memory for the volume. The records are handed back.
+#[derive(Drop)]
+pub struct Kept<R> {
+    pub records: R,
+}
+
+/// What contracts see of a volume.
+pub trait Seen<R> {
+    ghost use Rattle.lif_volume.specs.Views.{VolumeView};
+
+    ghost seen: { Self → VolumeView R };
+}
+
+/// A LIF volume on a store of records.
+#[derive(Drop)]
+pub struct Volume<R> {
+    records: R,
+    directory: Directory,
+    kept: Option<Header>,
+}
+
+impl<R: Records> Seen<R> for Volume<R> {
+    ghost use Rattle.lif_volume.specs.Views.{VolumeView};
+
+    ghost seen = { λ v. record {
+      records = v.records;
+      kept = v.kept;
+      slots = v.directory.table.slots;
+      room = v.directory.table.room;
+    } };
+}
+
+impl<R: Records> Volume<R> {
+    ghost use Rattle.std.specs.Prelude.{◌≡◌, ◌<◌, ◌≤◌, ◌*◌, length, Some, None, Ok, IfSome, IfOk};
+    ghost use Rattle.std.specs.Prelude.{IfErr, is_some};
+    ghost use Rattle.std.specs.Borrow.{sem};
+    ghost use Rattle.lif_model.specs.Apply.{Dir, Label, Fetch};
+    ghost use Rattle.il_ports.specs.Stores.{Begun};
+    ghost use Rattle.lif_dir.specs.Entries.{name_bytes};
+    ghost use Rattle.lif_volume.specs.Views.{IsOpen};
+    ghost use Rattle.lif_volume.specs.Lending.{LendsRecords};
+    ghost use Rattle.lif_volume.specs.Answers.{IsNotLif};
+    ghost use Rattle.lif_volume.specs.Commands.{IsReadyFor, Mounts, MountsAndReads, AnswersTo};
+    ghost use Rattle.lif_volume.specs.Commands.{IsRefusedExactly, KeepsVolume, WritesBySettling};
+    ghost use Rattle.lif_volume.specs.Commands.{Lists, Labels, FetchesFile, FetchesByRun};
+
+    /// A volume on these records, of which nothing is read yet. All memory of the volume is taken
+    /// here; where there is none the records are handed back.
+    pub fn open(alloc: Global, records: R) -> Result<Volume<R>, Kept<R>>
+        requires valid { (R.view records).valid }
+        requires size { 34 < (R.view records).record_count }
+        ensures open { IfOk result (λ volume.
+            IsOpen R.view (⟦<Volume<R> as Seen<R>>⟧.seen volume)) }
+        ensures records { IfOk result (λ volume.
+            (⟦<Volume<R> as Seen<R>>⟧.seen volume).records ≡ records) }
+        ensures kept { IfOk result (λ volume.
+            (⟦<Volume<R> as Seen<R>>⟧.seen volume).kept ≡ None) }
+        ensures handed_back { IfErr result (λ kept. kept.records ≡ records) }
+    {
+        let room = ENTRIES * (usize::from(records.size()) - BESIDE);
+        match Directory::new(alloc, room) {
+            Ok(directory) => Ok(Volume {
+                records,
+                directory,
+                kept: None,
+            }),
+            Err(_) => Err(Kept { records }),
+        }
+    }
+
+    /// Whether record 0 and the directory are kept from the last command.
+    pub fn is_kept(&self) -> bool
+        ensures { result ≡ is_some (⟦<Volume<R> as Seen<R>>⟧.seen self.now).kept }
+    {
+        self.kept.is_some()
+    }
+
+    /// The store of records.
+    pub fn records(&self) -> &R
+        ensures { result.now ≡ (⟦<Volume<R> as Seen<R>>⟧.seen self.now).records }
+    {
+        &self.records
+    }
+
+    /// The store of records, lent. What was kept of the directory is forgotten.
+    pub fn records_mut(&mut self) -> &mut R
+        ensures* writes_back { sem 𝓛 (LendsRecords R.row self.entry result) }
+        ensures value { result.now ≡ (⟦<Volume<R> as Seen<R>>⟧.seen self.old).records }
+    {
+        self.kept = None;
+        &mut self.records
+    }
+
+    /// Empties the log that the store keeps, if it keeps one. What is kept of the directory stays.
+    pub fn begin(&mut self)
+        requires { IsOpen R.view (⟦<Volume<R> as Seen<R>>⟧.seen self.old) }
+        ensures open { IsOpen R.view (⟦<Volume<R> as Seen<R>>⟧.seen self.new) }
+        ensures begun { Begun (R.view (⟦<Volume<R> as Seen<R>>⟧.seen self.old).records)
+            (R.view (⟦<Volume<R> as Seen<R>>⟧.seen self.new).records) }
+        ensures kept { (⟦<Volume<R> as Seen<R>>⟧.seen self.new).kept
+            ≡ (⟦<Volume<R> as Seen<R>>⟧.seen self.old).kept }
+        ensures slots { (⟦<Volume<R> as Seen<R>>⟧.seen self.new).slots
+            ≡ (⟦<Volume<R> as Seen<R>>⟧.seen self.old).slots }
+    {
+        self.records.begin();
+    }
+
+    /// Hands the records back.
+    pub fn into_records(self) -> R
+        ensures { result ≡ (⟦<Volume<R> as Seen<R>>⟧.seen self).records }
+    {
+        self.records
+    }
+
+    /// The slots that the last reading of the directory found: all of them behind an Ok of `dir`.
+    pub fn slots(&self) -> &SlotTable
+        ensures { result.now.slots ≡ (⟦<Volume<R> as Seen<R>>⟧.seen self.now).slots }
+    {
+        &self.directory.table
+    }
+
+    // Settles the tape, reads record 0 and the directory, tests that they are legal, and keeps
+    // them. Where they are kept it does nothing.
+    fn mount(&mut self) -> Result<Header, VolumeFault>
+        requires open { IsOpen R.view (⟦<Volume<R> as Seen<R>>⟧.seen self.old) }
+        requires ready { IsReadyFor R.view (⟦<Volume<R> as Seen<R>>⟧.seen self.old) }
+        ensures open { IsOpen R.view (⟦<Volume<R> as Seen<R>>⟧.seen self.new) }
+        ensures consults { Mounts R.view (⟦<Volume<R> as Seen<R>>⟧.seen self.old)
+            (⟦<Volume<R> as Seen<R>>⟧.seen self.new) result }
+        ensures kept { IfOk result (λ header.
+            (⟦<Volume<R> as Seen<R>>⟧.seen self.new).kept ≡ Some header) }
+        ensures still { IfSome (⟦<Volume<R> as Seen<R>>⟧.seen self.old).kept (λ header.
+            (result ≡ Ok header) × (self.new ≡ self.old)) }
+        // It is refused exactly where the settled tape is not legal, and then with NotLif.
+        ensures only { IfErr result IsNotLif }
+        ensures exactly { IsRefusedExactly R.view (⟦<Volume<R> as Seen<R>>⟧.seen self.old) result }
+        // The volume of a tape that is not foreign-gated stays: a stop at any moment leaves it, and
+        // so does a trouble.
+        ensures stays { KeepsVolume R.view (⟦<Volume<R> as Seen<R>>⟧.seen self.old)
+            (⟦<Volume<R> as Seen<R>>⟧.seen self.new) }
+        ensures transfers { WritesBySettling R.view (⟦<Volume<R> as Seen<R>>⟧.seen self.old)
+            (⟦<Volume<R> as Seen<R>>⟧.seen self.new) result }
+    {
+        if let Some(header) = self.kept {
+            return Ok(header);
+        }
+        settle(&mut self.records)?;
+        let header = read_directory(&mut self.records, &mut self.directory)?;
+        self.kept = Some(header);
+        Ok(header)
+    }
+
+    /// Lists the volume: what record 0 says, and the slots, which stand in `slots` from then on.
+    pub fn dir(&mut self) -> Result<Listing, VolumeFault>
+        requires open { IsOpen R.view (⟦<Volume<R> as Seen<R>>⟧.seen self.old) }
+        requires ready { IsReadyFor R.view (⟦<Volume<R> as Seen<R>>⟧.seen self.old) }
+        ensures open { IsOpen R.view (⟦<Volume<R> as Seen<R>>⟧.seen self.new) }
+        ensures consults { Mounts R.view (⟦<Volume<R> as Seen<R>>⟧.seen self.old)
+            (⟦<Volume<R> as Seen<R>>⟧.seen self.new) result }
+        ensures answers { AnswersTo Dir R.view (⟦<Volume<R> as Seen<R>>⟧.seen self.old)
+            (⟦<Volume<R> as Seen<R>>⟧.seen self.new) result }
+        // It is refused exactly where the settled tape is not legal, and then with NotLif.
+        ensures only { IfErr result IsNotLif }
+        ensures exactly { IsRefusedExactly R.view (⟦<Volume<R> as Seen<R>>⟧.seen self.old) result }
+        ensures listed { IfOk result (Lists R.view (⟦<Volume<R> as Seen<R>>⟧.seen self.old)
+            (⟦<Volume<R> as Seen<R>>⟧.seen self.new)) }
+        // The volume of a tape that is not foreign-gated stays: a stop at any moment leaves it, and
+        // so does a trouble.
+        ensures stays { KeepsVolume R.view (⟦<Volume<R> as Seen<R>>⟧.seen self.old)
+            (⟦<Volume<R> as Seen<R>>⟧.seen self.new) }
+        ensures transfers { WritesBySettling R.view (⟦<Volume<R> as Seen<R>>⟧.seen self.old)
+            (⟦<Volume<R> as Seen<R>>⟧.seen self.new) result }
+    {
+        let header = self.mount()?;
+        Ok(Listing {
+            label: header.label(),
+            start: header.start(),
+            length: header.length(),
+        })
+    }
+
+    /// The label of the volume, with its spaces.
+    pub fn label(&mut self) -> Result<[u8; 6], VolumeFault>
+        requires open { IsOpen R.view (⟦<Volume<R> as Seen<R>>⟧.seen self.old) }
+        requires ready { IsReadyFor R.view (⟦<Volume<R> as Seen<R>>⟧.seen self.old) }
+        ensures open { IsOpen R.view (⟦<Volume<R> as Seen<R>>⟧.seen self.new) }
+        ensures consults { Mounts R.view (⟦<Volume<R> as Seen<R>>⟧.seen self.old)
+            (⟦<Volume<R> as Seen<R>>⟧.seen self.new) result }
+        ensures answers { AnswersTo Label R.view (⟦<Volume<R> as Seen<R>>⟧.seen self.old)
+            (⟦<Volume<R> as Seen<R>>⟧.seen self.new) result }
+        // It is refused exactly where the settled tape is not legal, and then with NotLif.
+        ensures only { IfErr result IsNotLif }
+        ensures exactly { IsRefusedExactly R.view (⟦<Volume<R> as Seen<R>>⟧.seen self.old) result }
+        ensures label { IfOk result
+            (λ label. Labels R.view (⟦<Volume<R> as Seen<R>>⟧.seen self.old) label) }
+        // The volume of a tape that is not foreign-gated stays: a stop at any moment leaves it, and
+        // so does a trouble.
+        ensures stays { KeepsVolume R.view (⟦<Volume<R> as Seen<R>>⟧.seen self.old)
+            (⟦<Volume<R> as Seen<R>>⟧.seen self.new) }
+        ensures transfers { WritesBySettling R.view (⟦<Volume<R> as Seen<R>>⟧.seen self.old)
+            (⟦<Volume<R> as Seen<R>>⟧.seen self.new) result }
+    {
+        let header = self.mount()?;
+        Ok(header.label())
+    }
+
+    /// Reads all records of a file into the front of `into`, by one run, or by none where it has no
+    /// records. The redo file of an adopted volume is protected.
+    pub fn fetch(&mut self, name: &Name, into: &mut [u8]) -> Result<Fetched, VolumeFault>
+        requires open { IsOpen R.view (⟦<Volume<R> as Seen<R>>⟧.seen self.old) }
+        requires ready { IsReadyFor R.view (⟦<Volume<R> as Seen<R>>⟧.seen self.old) }
+        requires room { 256 * (R.view (⟦<Volume<R> as Seen<R>>⟧.seen self.old).records).record_count
+            ≤ length into.old }
+        ensures open { IsOpen R.view (⟦<Volume<R> as Seen<R>>⟧.seen self.new) }
+        ensures consults { MountsAndReads (name_bytes name.now) R.view
+            (⟦<Volume<R> as Seen<R>>⟧.seen self.old)
+            (⟦<Volume<R> as Seen<R>>⟧.seen self.new) result }
+        ensures answers { AnswersTo (Fetch (name_bytes name.now)) R.view
+            (⟦<Volume<R> as Seen<R>>⟧.seen self.old)
+            (⟦<Volume<R> as Seen<R>>⟧.seen self.new) result }
+        ensures fetched { IfOk result (λ fetched. FetchesFile (name_bytes name.now) R.view
+            (⟦<Volume<R> as Seen<R>>⟧.seen self.old) fetched into.new) }
+        ensures run { IfOk result (λ fetched. FetchesByRun (name_bytes name.now) R.view
+            (⟦<Volume<R> as Seen<R>>⟧.seen self.old)
+            (⟦<Volume<R> as Seen<R>>⟧.seen self.new)
+            fetched into.new) }
+        // The volume of a tape that is not foreign-gated stays: a stop at any moment leaves it, and
+        // so does a trouble.
+        ensures stays { KeepsVolume R.view (⟦<Volume<R> as Seen<R>>⟧.seen self.old)
+            (⟦<Volume<R> as Seen<R>>⟧.seen self.new) }
+        ensures transfers { WritesBySettling R.view (⟦<Volume<R> as Seen<R>>⟧.seen self.old)
+            (⟦<Volume<R> as Seen<R>>⟧.seen self.new) result }
+    {
+        self.mount()?;
+        let file = self.directory.file_named(name, self.records.size())?;
+        if let Err(trouble) = read_front(&mut self.records, file.first, file.count, into) {
+            self.kept = None;
+            return Err(VolumeFault::Trouble(trouble));
+        }
+        let implementation = file.implementation;
+        Ok(Fetched {
+            kind: file.kind,
+            implementation,
+            length: RECORD * file.count as usize,
+        })
+    }
+}
+
+/// How many entries a record of a directory has.
+const ENTRIES: usize = 8;
+
+/// How many records of a medium no directory has: record 0, and the four of the redo file.
+const BESIDE: usize = 5;
