@@ -135,7 +135,8 @@ fn find<R: Files>(files: &R, name: &str, new: New) -> io::Result<Found<R::File>>
     Ok(Found::Tape(apart(open(files, name)?)?, size))
 }
 
-/// Images as files, with a drive: an image is named by its path. What a file holds is not told.
+/// Images as files, with a drive: an image is named by its path. What a file holds is not told, so that clauses speak of
+/// sizes and of counts of faults alone. What follows is no clause:
 ///
 /// A missing file is `NoSuch`, or with `new` is made of 131,072 or of 630,784 zeros; a file of more bytes than a disc is
 /// `BadSize`. What is no file, such as a folder or a device, a missing folder above a new image and any other error are

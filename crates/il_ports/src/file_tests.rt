@@ -3,7 +3,7 @@ use crate::{Failed, FileMedium, Inserted, Medium, New};
 use std::alloc::Allocator;
 use std::cell::Cell;
 use std::fs::{File, Metadata, OpenFile, OpenOptions};
-use std::io::{self, ErrorKind, Seek, SeekFrom, Write};
+use std::io::{self, ErrorKind, Read, Seek, SeekFrom, Write};
 use std::rt::Files;
 use std::test::Fail;
 
@@ -11,7 +11,9 @@ use std::test::Fail;
 #[derive(Clone, Copy, Debug, PartialEq, Eq)]
 enum Asked {
     Nothing,
+    Grow(u64),
     Seek(u64),
+    Read,
     Write(usize),
     Sync,
 }
@@ -25,6 +27,14 @@ struct Noting {
 }
 
 impl Noting {
+    fn new(fails: usize) -> Noting {
+        Noting {
+            asked: Cell::new([Asked::Nothing; 4]),
+            calls: Cell::new(0),
+            fails,
+        }
+    }
+
     fn note(&self, what: Asked) -> io::Result<()> {
         let call = self.calls.get();
         let mut asked = self.asked.get();
@@ -37,6 +47,13 @@ impl Noting {
             return Err(ErrorKind::Other.into());
         }
         Ok(())
+    }
+}
+
+impl Read for Noting {
+    fn read(&mut self, _: &mut [u8]) -> io::Result<usize> {
+        self.note(Asked::Read)?;
+        Ok(0)
     }
 }
 
@@ -68,8 +85,8 @@ impl OpenFile for Noting {
         Err(ErrorKind::Unsupported.into())
     }
 
-    fn set_len(&self, _: u64) -> io::Result<()> {
-        Err(ErrorKind::Unsupported.into())
+    fn set_len(&self, size: u64) -> io::Result<()> {
+        self.note(Asked::Grow(size))
     }
 
     fn sync_all(&self) -> io::Result<()> {
@@ -91,11 +108,7 @@ fn a_write_is_synced(rt: HostRuntime) -> Result<(), Fail> {
         Asked::Nothing,
     ];
     for fails in 0..4 {
-        let mut file = Noting {
-            asked: Cell::new([Asked::Nothing; 4]),
-            calls: Cell::new(0),
-            fails,
-        };
+        let mut file = Noting::new(fails);
         let answer = write_record_at(&mut file, 3, &[7; 256]);
         assert_eq!(rt; answer.is_ok(), fails == 3, "{fails}");
         let calls = file.calls.get();
@@ -106,17 +119,17 @@ fn a_write_is_synced(rt: HostRuntime) -> Result<(), Fail> {
     Ok(())
 }
 
-// Files that cannot be looked at, by an error of that kind.
+// Files that cannot be looked at, by an error of that kind. One that is made fails at that call.
 #[derive(Drop)]
-struct Hidden(ErrorKind);
+struct Hidden(ErrorKind, usize);
 
 impl Files for Hidden {
-    type File = File;
+    type File = Noting;
 
     type Dir = File;
 
-    fn open_file(&self, _: &OpenOptions, _: &str) -> io::Result<File> {
-        Err(self.0.into())
+    fn open_file(&self, _: &OpenOptions, _: &str) -> io::Result<Noting> {
+        Ok(Noting::new(self.1))
     }
 
     fn open_dir(&self, _: &str) -> io::Result<File> {
@@ -164,9 +177,25 @@ fn a_hidden_file_is_a_fault(rt: HostRuntime) -> Result<(), Fail> {
         (ErrorKind::PermissionDenied, Err(Failed)),
         (ErrorKind::Other, Err(Failed)),
     ] {
-        let mut medium = FileMedium::new(Hidden(kind));
+        let mut medium = FileMedium::new(Hidden(kind, 4));
         assert_eq!(rt; medium.insert("TAPE", New::No), want);
         assert_eq!(rt; medium.size(), 0);
+    }
+    Ok(())
+}
+
+// Each call of the file that fails is a fault: that which gives a new one its size, and of a read
+// the seek and what it gives.
+#[test]
+fn a_failing_call_is_a_fault(rt: HostRuntime) -> Result<(), Fail> {
+    for fails in 0..4 {
+        let mut medium = FileMedium::new(Hidden(ErrorKind::NotFound, fails));
+        let inserted = medium.insert("TAPE", New::Tape);
+        assert_eq!(rt; inserted.is_ok(), fails > 0, "{fails}");
+        if medium.size() > 0 {
+            let answer = medium.read(0, &mut [7; 256]);
+            assert_eq!(rt; answer.is_ok(), fails == 3, "{fails}");
+        }
     }
     Ok(())
 }

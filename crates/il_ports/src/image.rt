@@ -85,11 +85,12 @@ pub fn lay_in(bytes: &[u8], tape: &mut [[u8; 256]])
     }
 }
 
-/// Puts a record into its place among the bytes of records.
+/// Puts a record into its place among the bytes of records, and changes no other byte.
 pub fn lay_out(content: &[u8; 256], place: usize, bytes: &mut [u8])
     requires { 256 * (place + 1) ≤ length bytes.old }
     ensures size { length bytes.new ≡ length bytes.old }
     ensures front { take (256 * (place + 1)) bytes.new ≡ take (256 * place) bytes.old ++ content.now }
+    ensures behind { drop (256 * (place + 1)) bytes.new ≡ drop (256 * (place + 1)) bytes.old }
 {
     bytes[RECORD * place..RECORD * (place + 1)].copy_from_slice(content);
 }

@@ -207,7 +207,8 @@ impl MemoryMedium {
     }
 
     /// Fills `into` with the tape as it was behind the first `writes` writes since it was inserted. With `torn` the record
-    /// of the next write holds these bytes: so a power stop within that write may leave it.
+    /// of the next write holds these bytes: so a power stop within that write may leave it. A tape is in the drive, so many
+    /// writes were made, with `torn` one more, and `into` has as many bytes as the tape.
     pub fn image_at(&self, writes: u64, torn: Option<&[u8; 256]>, into: &mut [u8])
         requires inside { IsSome (state_of self.now).tape }
         requires size { length into.old ≡ 256 * records_in (state_of self.now).tape }

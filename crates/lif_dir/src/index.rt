@@ -86,7 +86,8 @@ impl NameIndex {
         }
     }
 
-    // How many of the places have a name that does not stand behind this one.
+    // Where a place of this name goes: no name before stands behind it, and it stands behind none of
+    // the others.
     fn rank(&self, slots: &[Slot], name: &Name) -> usize
         requires entries { All (λ slot. is_entry slot ≡ true) slots.now }
         requires sorted { AreSorted (map slot_bytes slots.now) self.now.places.items }

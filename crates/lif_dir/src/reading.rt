@@ -36,9 +36,11 @@ fn append_slots(bytes: &[u8; 256], table: &mut SlotTable) -> bool
     false
 }
 
-/// Reads the directory of a volume into `table`, one record at a time and no further than its end:
-/// the entries before the first of type FFFF hex, or all of them. After a trouble the table holds
-/// any slots.
+/// Reads the directory of a volume into `table`: the entries before the first of type FFFF hex, or
+/// all of them. After a trouble the table holds any slots.
+///
+/// The store is sound, the directory ends where the tape does or before, as many records may still
+/// be read as it has, and the table has room for eight slots of each.
 pub fn slots_of<R: Records>(
     records: &mut R,
     header: &Header,
@@ -54,8 +56,8 @@ pub fn slots_of<R: Records>(
     ensures bytes { OnOk result ((t : Tape) → (R.view records.old).tape ≡ Some t →
         map slot_bytes table.new.slots ≡ slots_from t header.now.start header.now.length) }
 
-    // No record changes, and each record is read once at most. There are reads alone, and no call
-    // of `resume`.
+    // No record changes. No more records are read than the directory has; there are reads alone,
+    // and no call of `resume`.
     ensures goes_on { GoesOn header.now.length (R.view records.old) (R.view records.new) result }
     ensures quiet { IsQuiet (R.view records.old) (R.view records.new) }
     ensures transfers { AddsOnly (λ n. ⊥) (R.view records.old).transferred (R.view records.new).transferred result }

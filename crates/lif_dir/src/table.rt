@@ -36,7 +36,7 @@ impl Model for SlotTable {
 impl SlotTable {
     ghost use Rattle.lif_dir.specs.Entries.{is_entry, name_bytes, entry_bytes, slot_bytes};
 
-    /// An empty table with room for this many slots.
+    /// An empty table with room for this many slots, of which there are fewer than 2^32.
     pub fn new(alloc: Global, room: usize) -> Result<SlotTable, AllocError>
         requires { room < 2 ^ 32 }
         ensures { IfOk result (λ table. table ≡ record { slots = []; room = room }) }
@@ -71,7 +71,7 @@ impl SlotTable {
         self.room
     }
 
-    /// Slot `k`, which is never the end of a directory.
+    /// Slot `k`, which the table has. It is never the end of a directory.
     pub fn get(&self, k: usize) -> &Slot
         requires { k < length self.now.slots }
         ensures slot { slice_get self.now.slots k ≡ Some result.now }
@@ -80,7 +80,7 @@ impl SlotTable {
         &self.slots[k]
     }
 
-    /// The entry of slot `k`, live or purged.
+    /// The entry of slot `k`, which the table has, live or purged.
     pub fn entry(&self, k: usize) -> &FileEntry
         requires { k < length self.now.slots }
         ensures { entry_bytes result.now ≡ slice_index_or (map slot_bytes self.now.slots) k [] }
@@ -99,7 +99,7 @@ impl SlotTable {
         self.index.clear();
     }
 
-    /// Appends a slot.
+    /// Appends a slot, which is no end of a directory and for which there is room.
     pub fn push(&mut self, slot: Slot)
         requires entry { is_entry slot ≡ true }
         requires room { length self.old.slots < self.old.room }
@@ -109,7 +109,7 @@ impl SlotTable {
         self.index.put_in(&self.slots, self.slots.len() - 1);
     }
 
-    /// Replaces slot `k` alone.
+    /// Replaces slot `k` alone, which the table has, by one that is no end of a directory.
     pub fn set(&mut self, k: usize, slot: Slot)
         requires entry { is_entry slot ≡ true }
         requires within { k < length self.old.slots }
@@ -121,7 +121,7 @@ impl SlotTable {
     }
 
     /// Puts a slot before the last one, which moves on by one place: so a file takes the slot of
-    /// the redo entry.
+    /// the redo entry. The table has a slot and room for one more.
     pub fn insert_before_last(&mut self, slot: Slot)
         requires entry { is_entry slot ≡ true }
         requires some { 0 < length self.old.slots }
