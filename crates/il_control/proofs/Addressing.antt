@@ -1,8 +1,7 @@
 -- All devices are addressed.
-use Rattle.std.proofs.Common.{◌≡◌, ◌∙◌, ◌≤◌, ◌+◌, ◌-◌, ◌++◌, ◌&&◌, inl, inr, ⊎_elim, ℕ, suc, Bool, true, false, List, [], ◌∷◌, Option, Some, None, length, drop, get_or, refl, sym, ap, subst, arith, length-append}
+use Rattle.std.proofs.Common.{◌≡◌, ◌∙◌, ◌≤◌, ◌+◌, ◌-◌, ◌++◌, ⊎_elim, ℕ, suc, Bool, List, [], ◌∷◌, Option, None, length, drop, get_or, refl, sym, ap, subst, arith, length-append}
 use Rattle.std.proofs.lemmas.List.{length-map}
 use Rattle.il_frames.specs.declared.frame.Frame.{Frame}
-use Rattle.il_frames.specs.declared.entry.Entry.{Entry}
 use Rattle.il_frames.specs.declared.entry.Outcome.TheVariants as outcome
 use Rattle.il_frames.specs.Frames.{byte_of}
 use Rattle.il_device.specs.declared.roles.Roles.{Roles}
@@ -12,7 +11,7 @@ use Rattle.il_drive.specs.State.{device_of}
 use Rattle.il_ports.specs.Media.{MediumView}
 use Rattle.loop_model.specs.Entries.{entry, ifc, aau, aad}
 use Rattle.loop_model.specs.Roles.{talkers, talkers_from, is_at_most_one, roles_after}
-use Rattle.loop_model.specs.Exchanges.{Command, Address, commanded, entries_of}
+use Rattle.loop_model.specs.Exchanges.{Address, commanded, entries_of}
 use Rattle.loop_model.proofs.RoleLaws.{roles_after-append}
 use Rattle.loop_model.proofs.RoleSteps.{are_numbered, cleared, addressed_from, are_numbered-addressed, roles_after-aau, roles_after-addressing}
 use Rattle.loop_model.proofs.RoundLaws.{IsSafe, safe_mute, OneTalker-safe, OneTalker-cut}

@@ -1,13 +1,11 @@
 -- A data frame of the host as a call.
-use Rattle.std.proofs.Common.{◌≡◌, ◌≢◌, ◌∙◌, ◌||◌, ◌+◌, ◌++◌, ◌&&◌, ◌==◌, ◌⊎◌, inl, inr, ⊎_elim, ℕ, suc, Bool, true, false, not, List, [], ◌∷◌, Option, None, length, refl, sym, ap, subst}
+use Rattle.std.proofs.Common.{◌≡◌, ◌∙◌, ◌++◌, ◌⊎◌, inl, inr, ⊎_elim, ℕ, Bool, true, false, not, [], ◌∷◌, Option, None, refl, sym, ap, subst}
 use Rattle.std.specs.Prelude.{MatchBool}
 use Rattle.il_frames.specs.declared.frame.Class.TheVariants as class
 use Rattle.il_frames.specs.declared.frame.Frame.{Frame}
-use Rattle.il_frames.specs.declared.entry.Entry.{Entry}
 use Rattle.il_frames.specs.declared.entry.Outcome.{Outcome}
 use Rattle.il_frames.specs.declared.entry.Outcome.TheVariants as outcome
-use Rattle.il_frames.specs.Frames.{framed, is_data, same_but_service, with_service}
-use Rattle.il_device.specs.State.{DeviceState}
+use Rattle.il_frames.specs.Frames.{framed, same_but_service}
 use Rattle.il_drive.specs.State.{device_of}
 use Rattle.il_ports.specs.Media.{MediumView}
 use Rattle.loop_model.specs.Entries.{entry}
@@ -19,7 +17,7 @@ use Rattle.il_ring.specs.declared.plan.Arrival.TheVariants as arrival
 use Rattle.il_ring.specs.declared.flight.Flight.{Flight}
 use Rattle.il_ring.specs.Books.{IsHeld}
 use Rattle.il_ring.specs.Flights.{sourced}
-use Rattle.il_ring.specs.Lists.{Each, AllSilent}
+use Rattle.il_ring.specs.Lists.{AllSilent}
 use Rattle.il_ring.specs.Outcomes.{IsBrought, CameAltered, WasLost, DataReturned, DataBroken}
 use Rattle.il_ring.specs.Adds.{Adds}
 use Rattle.il_ring.specs.Rings.{RingView, Round, devices_of, roles_of}
@@ -34,7 +32,7 @@ use Rattle.il_ring.proofs.RoundCounts.{round_counts}
 use Rattle.il_ring.proofs.SendLaws.{data_sent}
 use Rattle.il_ring.proofs.Splits.{each_silent}
 use Rattle.il_ring.proofs.Talkers.{none_talk}
-use Rattle.il_control.specs.Calls.{Broke, IsIdle, IsLost, sent_as, Sent, NotSent}
+use Rattle.il_control.specs.Calls.{IsIdle, IsLost, sent_as, Sent, NotSent}
 use Rattle.il_control.proofs.Calls.{each_front}
 
 abbrev dab : ℕ → Frame

@@ -1,5 +1,5 @@
 -- Calls one behind the other, and single rounds as calls.
-use Rattle.std.proofs.Common.{◌≡◌, ◌≢◌, ◌≤◌, ◌+◌, ◌-◌, ◌++◌, ◌⊎◌, inl, inr, ⊎_elim, ℕ, zero, suc, Bool, true, false, List, [], ◌∷◌, Option, Some, None, length, refl, sym, ap, ap₂, subst, ◌∙◌, arith, length-append, nat_lt, nat_le}
+use Rattle.std.proofs.Common.{◌≡◌, ◌≤◌, ◌+◌, ◌-◌, ◌++◌, ◌⊎◌, inl, inr, ⊎_elim, ℕ, zero, suc, Bool, true, false, List, [], ◌∷◌, Option, None, length, refl, sym, ap, ap₂, subst, ◌∙◌, arith, length-append, nat_lt, nat_le}
 use Rattle.std.proofs.lemmas.Bool.Decides.{nat_tests}
 use Rattle.std.specs.Prelude.{◌&&◌, if◌then◌else◌, MatchBool}
 use Rattle.il_frames.specs.declared.frame.Frame.{Frame}
@@ -8,7 +8,7 @@ use Rattle.il_frames.specs.declared.entry.Outcome.TheVariants as outcome
 use Rattle.il_frames.specs.declared.message.Message.{Message}
 use Rattle.il_frames.specs.declared.message.Message.TheVariants as msg
 use Rattle.il_frames.specs.Messages.{message_of}
-use Rattle.il_device.proofs.Laws.{risen_by, is_plain}
+use Rattle.il_device.proofs.Laws.{is_plain}
 use Rattle.il_ports.specs.Media.{MediumView}
 use Rattle.loop_model.specs.Reach.{met}
 use Rattle.loop_model.specs.Entries.{entry, rfc}
@@ -20,8 +20,8 @@ use Rattle.il_ring.specs.declared.flight.Flight.{Flight}
 use Rattle.il_ring.specs.Plans.{hops_of}
 use Rattle.il_ring.specs.Books.{IsHeld}
 use Rattle.il_ring.specs.Flights.{sourced}
-use Rattle.il_ring.specs.Rings.{RingView, IsRing, Round, devices_of, roles_of, spare_of}
-use Rattle.il_ring.specs.Outcomes.{met_between, Returned, WasLost}
+use Rattle.il_ring.specs.Rings.{RingView, IsRing, Round, devices_of, spare_of}
+use Rattle.il_ring.specs.Outcomes.{met_between}
 use Rattle.il_ring.specs.Adds.{Adds}
 use Rattle.il_ring.proofs.Faults.{risen_by_later}
 use Rattle.il_ring.proofs.Adding.{adds_nothing, adds_more}

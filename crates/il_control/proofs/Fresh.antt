@@ -1,5 +1,5 @@
 -- A new ring, as a controller takes it.
-use Rattle.std.proofs.Common.{◌≡◌, ◌∙◌, ◌<◌, ◌++◌, ◌&&◌, ℕ, suc, true, List, [], ◌∷◌, None, length, refl, ap, arith}
+use Rattle.std.proofs.Common.{◌≡◌, ◌++◌, ℕ, suc, true, List, [], ◌∷◌, refl, ap, arith}
 use Rattle.std.specs.List.{All, list_all}
 use Rattle.std.proofs.lemmas.Bool.{and_from}
 use Rattle.il_device.specs.State.{DeviceState}

@@ -1,30 +1,25 @@
 -- Behind an exchange: the state, and that at most one party talked.
-use Rattle.std.proofs.Common.{◌≡◌, ◌∙◌, ◌<◌, ◌++◌, ◌&&◌, ℕ, suc, Bool, true, false, not, List, [], ◌∷◌, length, map, refl, sym, ap, subst, append-nil}
-use Rattle.std.specs.List.{list_all}
+use Rattle.std.proofs.Common.{◌≡◌, ◌∙◌, ◌<◌, ◌&&◌, ℕ, true, not, List, [], ◌∷◌, length, refl, sym, ap, append-nil}
 use Rattle.std.proofs.lemmas.Bool.{and_parts, and_from, agree_below_at}
-use Rattle.std.proofs.lemmas.List.{length-map}
 use Rattle.il_frames.specs.declared.frame.Class.{Class}
 use Rattle.il_frames.specs.declared.frame.Class.TheVariants as class
 use Rattle.il_frames.specs.declared.frame.Frame.{Frame}
 use Rattle.il_frames.specs.declared.entry.Entry.{Entry}
-use Rattle.il_frames.specs.declared.message.Message.{Message}
-use Rattle.il_frames.specs.declared.message.Message.TheVariants as msg
 use Rattle.il_frames.specs.Frames.{byte_of, class_of, same_class}
 use Rattle.il_frames.specs.Messages.{message_of, message_at}
 use Rattle.il_device.specs.declared.roles.Roles.{Roles}
 use Rattle.il_device.proofs.Laws.{is_plain}
 use Rattle.il_ports.specs.Media.{MediumView}
 use Rattle.loop_model.specs.Roles.{talkers, is_at_most_one, is_in_turn, has_one_talker, roles_after, roles_after_entry, OneTalker}
-use Rattle.loop_model.specs.Exchanges.{Exchange, Command, commanded, entries_of, is_exchange, is_talk_address, cut_at, IsWhole}
+use Rattle.loop_model.specs.Exchanges.{Exchange, Command, commanded, entries_of, is_exchange, is_talk_address, IsWhole}
 use Rattle.loop_model.specs.Exchanges.Piece.{Whole as WholeOne}
 use Rattle.loop_model.proofs.RoleLaws.{talkers-whole}
 use Rattle.loop_model.proofs.RoleSteps.{are_numbered}
 use Rattle.loop_model.proofs.RoundLaws.{OneTalker-safe, OneTalker-cut, safe_exchange, answers_as_asked, keeps_addresses, are_numbered-piece}
 use Rattle.loop_model.proofs.TalkLaws.{is_aau}
-use Rattle.il_ring.specs.Rings.{RingView, IsRing, devices_of, roles_of, drive_party}
+use Rattle.il_ring.specs.Rings.{RingView, devices_of, roles_of, drive_party}
 use Rattle.il_ring.proofs.Rings.{IsRing-clear}
 use Rattle.il_control.specs.Calls.{Whole, Broke, IsIdle, IsLost, loop_of, is_command, Made, BrokenOff}
-use Rattle.il_control.proofs.Calls.{Done}
 
 -- at most one device talks at the end of such a log
 pub one_at_end : (rs : List Roles) (log : List Entry) → OneTalker rs log → is_at_most_one (talkers (roles_after rs log)) ≡ true

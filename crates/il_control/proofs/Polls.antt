@@ -1,5 +1,5 @@
 -- The identify frame as a call.
-use Rattle.std.proofs.Common.{◌≡◌, ◌∙◌, ◌||◌, ◌-◌, ◌++◌, inl, inr, ⊎_elim, suc, true, [], ◌∷◌, Option, None, length, drop, refl, sym, ap, subst, arith}
+use Rattle.std.proofs.Common.{◌≡◌, ◌∙◌, ◌||◌, ◌-◌, ⊎_elim, suc, true, [], Option, None, length, drop, refl, sym, ap, subst, arith}
 use Rattle.std.proofs.Math.Seq.{drop-length}
 use Rattle.il_frames.specs.declared.frame.Class.{Class}
 use Rattle.il_frames.specs.declared.frame.Class.TheVariants as class

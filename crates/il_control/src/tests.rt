@@ -140,15 +140,15 @@ fn lost_at_each_crossing(rt: HostRuntime) -> Result<(), Fail> {
 /// A data frame that is altered is heard so behind the fault, and the send breaks off.
 #[test]
 fn altered_bytes(rt: HostRuntime) -> Result<(), Fail> {
-    let rows: [(u64, &str, &[u8]); 6] = [
-        (28, "DAB 49", b"I"),
-        (29, "DAB 49", b"I"),
-        (30, "DAB 49", b"H"),
-        (31, "DAB 51", b"HQ"),
-        (32, "DAB 51", b"HQ"),
-        (33, "DAB 51", b"HP"),
+    let rows: [(u64, usize, &str, &[u8]); 6] = [
+        (28, 9, "DAB 49", b"I"),
+        (29, 9, "DAB 49", b"I"),
+        (30, 9, "DAB 49", b"H"),
+        (31, 10, "DAB 51", b"HQ"),
+        (32, 10, "DAB 51", b"HQ"),
+        (33, 10, "DAB 51", b"HP"),
     ];
-    for (hop, back, paper) in rows {
+    for (hop, whole, back, paper) in rows {
         let lost = controller(
             &rt,
             &[Planned {
@@ -157,7 +157,6 @@ fn altered_bytes(rt: HostRuntime) -> Result<(), Fail> {
             }],
         )?;
         let ring = print(&rt, lost)?;
-        let whole = (hop as usize - 1) / 3;
         let log = ring.log();
         assert_eq!(rt; log.len(), whole + 1, "{hop}");
         compare_whole(&rt, log, whole)?;
