@@ -86,8 +86,8 @@ impl NameIndex {
         }
     }
 
-    // Where a place of this name goes: no name before stands behind it, and it stands behind none of
-    // the others.
+    // Where a place of this name goes: no name before stands behind it, and it stands behind no
+    // other.
     fn rank(&self, slots: &[Slot], name: &Name) -> usize
         requires entries { All (λ slot. is_entry slot ≡ true) slots.now }
         requires sorted { AreSorted (map slot_bytes slots.now) self.now.places.items }
