@@ -62,7 +62,7 @@ impl Directory {
     }
 
     /// The entry of the live slot of this name, or `None` where no live slot has it. Live names are
-    /// distinct. It takes as many comparisons of names as the number of slots has binary digits.
+    /// distinct.
     pub fn entry_named(&self, name: &Name) -> Option<FileEntry>
         requires distinct { all_pairs have_other_names
             (filter is_live (map slot_bytes self.now.table.slots)) ≡ true }
@@ -175,7 +175,7 @@ fn is_redo_entry(entry: FileEntry, size: u16, version: Version) -> bool
 }
 
 /// The name of the redo file, with its spaces.
-pub const REDO_NAME: &[u8; 10] = b"REDOFILE  ";
+const REDO_NAME: &[u8; 10] = b"REDOFILE  ";
 
 /// The type of the redo file.
 const REDO_KIND: u16 = 0xE0D0;
