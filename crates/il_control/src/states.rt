@@ -104,6 +104,7 @@ impl<M: Medium> Sending<M> {
 
     /// Empties the log of the ring.
     pub fn clear_log(&mut self)
+        requires idle { IsIdle (⟦<Sending<M> as Seen<M>>⟧.seen self.old) }
         ensures { ⟦<Sending<M> as Seen<M>>⟧.seen self.new ≡ record (⟦<Sending<M> as Seen<M>>⟧.seen self.old) { books = record (⟦<Sending<M> as Seen<M>>⟧.seen self.old).books { log = [] } } }
     {
         self.ring.clear_log();
@@ -154,6 +155,7 @@ impl<M: Medium> Lost<M> {
 
     /// Empties the log of the ring.
     pub fn clear_log(&mut self)
+        requires lost { IsLost (⟦<Lost<M> as Seen<M>>⟧.seen self.old) }
         ensures { ⟦<Lost<M> as Seen<M>>⟧.seen self.new ≡ record (⟦<Lost<M> as Seen<M>>⟧.seen self.old) { books = record (⟦<Lost<M> as Seen<M>>⟧.seen self.old).books { log = [] } } }
     {
         self.ring.clear_log();
@@ -229,6 +231,7 @@ impl<M: Medium> Idle<M> {
 
     /// Empties the log of the ring.
     pub fn clear_log(&mut self)
+        requires idle { IsIdle (⟦<Idle<M> as Seen<M>>⟧.seen self.old) }
         ensures { ⟦<Idle<M> as Seen<M>>⟧.seen self.new ≡ record (⟦<Idle<M> as Seen<M>>⟧.seen self.old) { books = record (⟦<Idle<M> as Seen<M>>⟧.seen self.old).books { log = [] } } }
     {
         self.ring.clear_log();
