@@ -37,12 +37,15 @@ fn controller_of(ring: Ring<MemoryMedium>) -> Lost<MemoryMedium>
     Lost::new(ring)
 }
 
-/// The controller of a new ring of the drive and a printer behind it.
-fn controller(rt: &(impl Abort + AllocGlobal), plan: &[Planned]) -> Result<Lost<MemoryMedium>, Fail>
+/// The controller of a new ring of the drive and this printer behind it.
+fn controller(
+    rt: &(impl Abort + AllocGlobal),
+    printer: Box<dyn Device>,
+    plan: &[Planned],
+) -> Result<Lost<MemoryMedium>, Fail>
     ensures { IfOk result (λ lost. IsLost (⟦<Lost<MemoryMedium> as Seen<MemoryMedium>>⟧.seen lost)) }
 {
     let alloc = rt.alloc();
-    let printer: Box<dyn Device> = Box::new(alloc, Printer::new(alloc)?)?;
     let mut after = Vec::new(alloc);
     after.push(printer)?;
     let rig = Rig {
@@ -106,7 +109,9 @@ fn compare_whole(rt: &impl Abort, log: &[Entry], count: usize) -> Result<(), Fai
 
 #[test]
 fn nothing_planned(rt: HostRuntime) -> Result<(), Fail> {
-    let lost = controller(&rt, &[])?;
+    let alloc = rt.alloc();
+    let printer: Box<dyn Device> = Box::new(alloc, Printer::new(alloc)?)?;
+    let lost = controller(&rt, printer, &[])?;
     let ring = print(&rt, lost)?;
     assert_eq!(rt; ring.log().len(), SENT.len());
     compare_whole(&rt, ring.log(), SENT.len())?;
@@ -118,8 +123,10 @@ fn nothing_planned(rt: HostRuntime) -> Result<(), Fail> {
 /// A frame is lost at each crossing in turn.
 #[test]
 fn lost_at_each_crossing(rt: HostRuntime) -> Result<(), Fail> {
+    let alloc = rt.alloc();
     for hop in 1..=LINKS {
-        let lost = controller(&rt, &[Planned { hop, fault: Lose }])?;
+        let printer: Box<dyn Device> = Box::new(alloc, Printer::new(alloc)?)?;
+        let lost = controller(&rt, printer, &[Planned { hop, fault: Lose }])?;
         let ring = print(&rt, lost)?;
         let whole = (hop as usize - 1) / 3;
         let log = ring.log();
@@ -148,9 +155,12 @@ fn altered_bytes(rt: HostRuntime) -> Result<(), Fail> {
         (32, 10, "DAB 51", b"HQ"),
         (33, 10, "DAB 51", b"HP"),
     ];
+    let alloc = rt.alloc();
     for (hop, whole, back, paper) in rows {
+        let printer: Box<dyn Device> = Box::new(alloc, Printer::new(alloc)?)?;
         let lost = controller(
             &rt,
+            printer,
             &[Planned {
                 hop,
                 fault: Alter(1),
