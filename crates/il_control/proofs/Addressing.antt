@@ -118,7 +118,7 @@ module _ {M : Type 0} (view : M → MediumView) (r : RingView M) (lost : IsLost 
       let count : byte_of came.0 - 0x81 ≡ k = ap (λ g. byte_of g - 0x81) back ∙ counted k in
       subst (λ answer. AddressEnd view r answer s) (sym came.2) (subst (λ g. 0x81 ≤ byte_of g) (sym back) (at_least k), subst (λ n. Resumed view n r s) (sym count) (resumed s whole)))
       (λ lost_now. subst (λ answer. AddressEnd view r answer s) (sym lost_now.0) (not_resumed s (broke_behind view r m s (commanded 0 ifc ++ commanded 0 aau) (entries_of 0 (Address (length (devices_of r)))) lost.free.ring first (lost_now.1 (outcome.Back (aad (suc (length (devices_of r)))))))))
-      (pass_call view (λ k g. g ≡ aad k) Unaddressed OnlyPassed aad_passes m s held (aad 1) answer (subst (λ f. Round view m held (sourced 0 f) answer s) is round) none (record { ring = first.ring; held = first.held }) unaddressed refl (Exactly refl refl))
+      (pass_call view (λ k g. g ≡ aad k) Unaddressed OnlyPassed aad_passes (λ d e passed. passed.0) m s held (aad 1) answer (subst (λ f. Round view m held (sourced 0 f) answer s) is round) none (record { ring = first.ring; held = first.held }) unaddressed refl (Exactly refl refl))
     where
       counted : (k : ℕ) → 0x80 + suc k - 0x81 ≡ k
       counted k = omega arith

@@ -76,7 +76,7 @@ module _ {M : Type 0} (view : M → MediumView) (byte : ℕ) (r s : RingView M) 
         record {
           back = back.back;
           legal = echo;
-          whole = record { adds = added; ring = now.free.ring; held = free; met_none = returned.met_none };
+          whole = record { adds = added; ring = now.free.ring; held = free; met_none = returned.met_none; unheard = λ none. cc };
           one = OneTalker-silent (roles_of (devices_of r)) (echoed 0 (sent_as byte back.back) ∷ []) idle.silent refl refl;
           heard = back.heard;
           idle = now;
@@ -106,6 +106,7 @@ module _ {M : Type 0} (view : M → MediumView) (byte : ℕ) (r s : RingView M) 
             ring = now.free.ring;
             held = free;
             met_some = altered.met_some;
+            unheard = λ none. cc;
           };
           one = OneTalker-silent (roles_of (devices_of r)) (entry 0 (dab byte) (outcome.Back altered.back) ∷ []) idle.silent refl refl;
           reached = not_sent.reached;
@@ -128,6 +129,7 @@ module _ {M : Type 0} (view : M → MediumView) (byte : ℕ) (r s : RingView M) 
             ring = now.free.ring;
             held = lost.held_is;
             met_some = lost.met_some;
+            unheard = λ none. cc;
           };
           one = OneTalker-silent (roles_of (devices_of r)) (entry 0 (dab byte) (outcome.Lost lost.party) ∷ []) idle.silent refl refl;
           reached = not_sent.reached;

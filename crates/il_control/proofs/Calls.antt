@@ -1,7 +1,10 @@
 -- Calls one behind the other, and single rounds as calls.
-use Rattle.std.proofs.Common.{◌≡◌, ◌≤◌, ◌+◌, ◌-◌, ◌++◌, ◌⊎◌, inl, inr, ⊎_elim, ℕ, zero, suc, Bool, true, false, List, [], ◌∷◌, Option, None, length, refl, sym, ap, ap₂, subst, ◌∙◌, arith, length-append, nat_lt, nat_le}
-use Rattle.std.proofs.lemmas.Bool.Decides.{nat_tests}
-use Rattle.std.specs.Prelude.{◌&&◌, if◌then◌else◌, MatchBool}
+use Rattle.std.proofs.Common.{◌≡◌, ◌≤◌, ◌+◌, ◌-◌, ◌++◌, ◌⊎◌, inl, inr, ⊎_elim, ℕ, zero, suc, Bool, true, false, List, [], ◌∷◌, Option, None, length, refl, sym, ap, ap₂, subst, ◌∙◌, arith, length-append}
+use Rattle.std.specs.Prelude.{MatchBool}
+use Rattle.std.specs.List.{list_all}
+use Rattle.std.proofs.lemmas.Bool.{and_parts}
+use Rattle.std.proofs.lemmas.List.Folds.{list_all-append}
+use Rattle.loop_model.proofs.HearLaws.{has_no_data}
 use Rattle.il_frames.specs.declared.frame.Frame.{Frame}
 use Rattle.il_frames.specs.declared.entry.Entry.{Entry}
 use Rattle.il_frames.specs.declared.entry.Outcome.TheVariants as outcome
@@ -21,9 +24,9 @@ use Rattle.il_ring.specs.Plans.{hops_of}
 use Rattle.il_ring.specs.Books.{IsHeld}
 use Rattle.il_ring.specs.Flights.{sourced}
 use Rattle.il_ring.specs.Rings.{RingView, IsRing, Round, devices_of, spare_of}
-use Rattle.il_ring.specs.Outcomes.{met_between}
+use Rattle.il_ring.specs.Outcomes.{met_between, HearsNothing}
 use Rattle.il_ring.specs.Adds.{Adds}
-use Rattle.il_ring.proofs.Faults.{risen_by_later}
+use Rattle.il_ring.proofs.Faults.{met_nowhere, risen_by_later}
 use Rattle.il_ring.proofs.Adding.{adds_nothing, adds_more}
 use Rattle.il_ring.proofs.RoundAdds.{host_adds, none_new}
 use Rattle.il_ring.proofs.RoundCounts.{round_counts}
@@ -33,7 +36,7 @@ use Rattle.il_ring.proofs.EndsHome.{any_each}
 use Rattle.il_ring.proofs.DriveRounds.{passed_drive}
 use Rattle.il_ring.proofs.PassRounds.{passed_round}
 use Rattle.il_ring.proofs.Passes.{PassesOn}
-use Rattle.il_ring.specs.Lists.{Each}
+use Rattle.il_ring.specs.Lists.{Each, First}
 use Rattle.il_device.specs.State.{DeviceState}
 use Rattle.il_drive.specs.State.{device_of}
 use Rattle.il_frames.specs.declared.entry.Outcome.{Outcome}
@@ -71,6 +74,38 @@ met_parts view r m s a b c d xs ys ring ring_m first more =
     let same : met_between m s ≡ met (hops_of r.books.plan) m.books.crossings s.books.crossings = ap (λ plan. met (hops_of plan) m.books.crossings s.books.crossings) first.plan in
     ((λ none. let parts = split.0 none in (parts.0, same ∙ parts.1)), (λ parts. split.1 (parts.0, sym same ∙ parts.1)))
 
+-- ---- what devices heard
+
+hears_same : (d e : DeviceState) → e ≡ d → HearsNothing d e
+hears_same d e same = subst (λ e. HearsNothing d e) (sym same) (record { heard = refl; heard_count = refl; room = refl; accessory = refl })
+
+-- the first so many heard nothing, and the others are as they were
+heard_nothing : (R : DeviceState → DeviceState → Type 0) → ((d e : DeviceState) → R d e → HearsNothing d e) → (j : ℕ) (ds es : List DeviceState) → First R j ds es → First HearsNothing (length ds) ds es
+heard_nothing R hears j [] [] took = tt
+heard_nothing R hears zero (d ∷ ds) (e ∷ es) took = (hears_same d e took.0, heard_nothing R hears zero ds es took.1)
+heard_nothing R hears (suc j) (d ∷ ds) (e ∷ es) took = (hears d e took.0, heard_nothing R hears j ds es took.1)
+heard_nothing R hears j [] (e ∷ es) took = absurd took
+heard_nothing R hears j (d ∷ ds) [] took = absurd took
+
+hears_then : (c d e : DeviceState) → HearsNothing c d → HearsNothing d e → HearsNothing c e
+hears_then c d e first more = record {
+  heard = more.heard ∙ first.heard;
+  heard_count = more.heard_count ∙ first.heard_count;
+  room = more.room ∙ first.room;
+  accessory = more.accessory ∙ first.accessory;
+}
+
+unheard_then : (cs ds es : List DeviceState) → First HearsNothing (length cs) cs ds → First HearsNothing (length ds) ds es → First HearsNothing (length cs) cs es
+unheard_then [] [] [] first more = tt
+unheard_then (c ∷ cs) (d ∷ ds) (e ∷ es) first more = (hears_then c d e first.0 more.0, unheard_then cs ds es first.1 more.1)
+unheard_then [] [] (e ∷ es) first more = absurd more
+unheard_then [] (d ∷ ds) es first more = absurd first
+unheard_then (c ∷ cs) [] es first more = absurd first
+unheard_then (c ∷ cs) (d ∷ ds) [] first more = absurd more
+
+no_data_parts : (xs ys : List Entry) → list_all has_no_data (xs ++ ys) ≡ true → (list_all has_no_data xs ≡ true) × (list_all has_no_data ys ≡ true)
+no_data_parts xs ys none = and_parts (list_all has_no_data xs) (list_all has_no_data ys) (sym (list_all-append has_no_data xs ys) ∙ none)
+
 -- ---- one call behind the other
 
 pub whole_then : {M : Type 0} (view : M → MediumView) (r m s : RingView M) (xs ys : List Entry) → IsRing r → Whole view r xs m → Whole view m ys s → Whole view r (xs ++ ys) s
@@ -79,6 +114,7 @@ whole_then view r m s xs ys ring first more = record {
   ring = more.ring;
   held = more.held;
   met_none = (met_parts view r m s None None None None xs ys ring first.ring first.adds more.adds).1 (first.met_none, more.met_none);
+  unheard = λ none. let parts = no_data_parts xs ys none in unheard_then (devices_of r) (devices_of m) (devices_of s) (first.unheard parts.0) (more.unheard parts.1);
 }
 
 pub broke_behind : {M : Type 0} (view : M → MediumView) (r m s : RingView M) (xs ys : List Entry) → IsRing r → Whole view r xs m → Broke view m ys s → Broke view r (xs ++ ys) s
@@ -94,6 +130,7 @@ broke_behind view r m s xs ys ring first more =
       ring = more.ring;
       held = more.held;
       met_some = λ none. more.met_some ((met_parts view r m s None None None more.held_at_end xs (cut_at ys more.standing more.break) ring first.ring first.adds more.adds).0 none).1;
+      unheard = λ none. let parts = no_data_parts xs ys none in unheard_then (devices_of r) (devices_of m) (devices_of s) (first.unheard parts.0) (more.unheard parts.1);
     }
 
 pub broke_before : {M : Type 0} (view : M → MediumView) (r s : RingView M) (xs ys : List Entry) → Broke view r xs s → Broke view r (xs ++ ys) s
@@ -108,6 +145,7 @@ broke_before view r s xs ys broke =
       ring = broke.ring;
       held = broke.held;
       met_some = broke.met_some;
+      unheard = λ none. broke.unheard (no_data_parts xs ys none).0;
     }
 
 -- whether it was done whole
@@ -139,9 +177,9 @@ abbrev pub PassEnd : {M : Type 0} → (M → MediumView) → (ℕ → Frame → 
 PassEnd view Q r f answer s = ((g : Frame) × Q (suc (length (devices_of r))) g × (answer ≡ arrival.Frame g) × Whole view r (entry 0 f (outcome.Back g) ∷ []) s)
     ⊎ ((answer ≡ arrival.Lost) × ((o : Outcome) → Broke view r (entry 0 f o ∷ []) s))
 
-pub pass_call : {M : Type 0} (view : M → MediumView) (Q : ℕ → Frame → Type 0) (P : ℕ → DeviceState → Type 0) (R : DeviceState → DeviceState → Type 0) → PassesOn Q P R → (r s : RingView M) (held : Option Flight) (f : Frame) (answer : Arrival)
+pub pass_call : {M : Type 0} (view : M → MediumView) (Q : ℕ → Frame → Type 0) (P : ℕ → DeviceState → Type 0) (R : DeviceState → DeviceState → Type 0) → PassesOn Q P R → ((d e : DeviceState) → R d e → HearsNothing d e) → (r s : RingView M) (held : Option Flight) (f : Frame) (answer : Arrival)
     → Round view r held (sourced 0 f) answer s → held ≡ None → IsFree r → Each P 1 (devices_of r) → Q 1 f → Carries (message_of f) f → PassEnd view Q r f answer s
-pass_call view Q P R passes r s held f answer round none free fit is carries =
+pass_call view Q P R passes hears r s held f answer round none free fit is carries =
     let fit_before = each_front P 1 r.before (device_of r.drive.state ∷ r.after) fit in
     let passed = passed_round view Q P R passes r s held f answer free.ring.crossings fit is round in
     let took = passed_drive view Q P R passes r s held f answer free.ring.crossings fit_before is round in
@@ -160,6 +198,7 @@ pass_call view Q P R passes r s held f answer round none free fit is carries =
         ring = ring;
         held = held_is;
         met_none = back.met_none;
+        unheard = λ none. heard_nothing R hears passed.reached (devices_of r) (devices_of s) passed.took;
       },
     ))
     (λ lost. inr (
@@ -173,6 +212,7 @@ pass_call view Q P R passes r s held f answer round none free fit is carries =
         ring = ring;
         held = lost.held_is;
         met_some = lost.met_some;
+        unheard = λ none. heard_nothing R hears passed.reached (devices_of r) (devices_of s) passed.took;
       },
     ))
     passed.end
@@ -182,7 +222,7 @@ plain_call view r s held f answer round none free plain =
     ⊎_elim
     (λ came. subst (λ answer. Done view r (returned 0 f ∷ []) (arrives answer) s) (sym came.2) (subst (λ g. Whole view r (entry 0 f (outcome.Back g) ∷ []) s) came.1 came.3))
     (λ lost. subst (λ answer. Done view r (returned 0 f ∷ []) (arrives answer) s) (sym lost.0) (lost.1 (outcome.Back f)))
-    (pass_call view (Is f) Any (Obeys (message_of f)) (plain_passes f plain) r s held f answer round none free (any_each 1 (devices_of r)) refl (Exactly (plain_exact (message_of f) plain) refl))
+    (pass_call view (Is f) Any (Obeys (message_of f)) (plain_passes f plain) (λ d e obeyed. obeyed.nothing) r s held f answer round none free (any_each 1 (devices_of r)) refl (Exactly (plain_exact (message_of f) plain) refl))
 
 -- one call behind another that was done whole
 pub done_then : {M : Type 0} (view : M → MediumView) (r m s : RingView M) (xs ys : List Entry) (whole : Bool) → IsRing r → Whole view r xs m → Done view m ys whole s → Done view r (xs ++ ys) whole s
@@ -202,18 +242,11 @@ command_done view r m s f g whole ring is_rfc first more =
 
 -- nothing was done
 pub whole_nothing : {M : Type 0} (view : M → MediumView) (r : RingView M) → IsFree r → Whole view r [] r
-whole_nothing view r free = record { adds = adds_nothing view r None; ring = free.ring; held = free.held; met_none = none_met (hops_of r.books.plan) r.books.crossings }
+whole_nothing view r free = record { adds = adds_nothing view r None; ring = free.ring; held = free.held; met_none = met_nowhere (hops_of r.books.plan) r.books.crossings; unheard = λ none. heard_nothing (λ d e. HearsNothing d e) (λ d e hears. hears) 0 (devices_of r) (devices_of r) (as_it_was (devices_of r)) }
   where
-    none_met : (hops : List ℕ) (n : ℕ) → met hops n n ≡ []
-    none_met [] n = refl
-    none_met (hop ∷ hops) n = by_hop (nat_lt n hop && nat_le hop n) (none_within n hop) (none_met hops n)
-      where
-        none_within : (n hop : ℕ) → (nat_lt n hop && nat_le hop n) ≡ false
-        none_within n hop = grind (arith, nat_tests)
-
-        by_hop : (b : Bool) → b ≡ false → met hops n n ≡ [] → (if b then hop ∷ met hops n n else met hops n n) ≡ []
-        by_hop true is more = cc
-        by_hop false is more = more
+    as_it_was : (ds : List DeviceState) → First (λ d e. HearsNothing d e) 0 ds ds
+    as_it_was [] = tt
+    as_it_was (d ∷ ds) = (refl, as_it_was ds)
 
 -- a command whole, and what was done behind it
 pub told_then : {M : Type 0} (view : M → MediumView) (r m s : RingView M) (f g : Frame) (rest : List Entry) (whole : Bool) → IsRing r → f ≡ g → Whole view r (commanded 0 f) m → Done view m rest whole s → Done view r (commanded 0 g ++ rest) whole s

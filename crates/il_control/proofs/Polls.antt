@@ -47,4 +47,4 @@ identify_call view r s held f answer round is none idle =
       sym past ∙ leads.behind,
     ))
     (λ lost. subst (λ answer. Polled view r answer s) (sym lost.0) (broken_off view (Identify idy) r s idle refl refl (lost.1 (outcome.Back idy))))
-    (pass_call view (LeadsTo all end) (IsParty all) OnlyPassed (identify_passes all end) r s held idy answer sent none idle.free (parties [] all) (record { identify = refl; behind = refl }) (AsIdentify refl refl))
+    (pass_call view (LeadsTo all end) (IsParty all) OnlyPassed (identify_passes all end) (λ d e passed. passed.0) r s held idy answer sent none idle.free (parties [] all) (record { identify = refl; behind = refl }) (AsIdentify refl refl))

@@ -1,5 +1,6 @@
 -- What a call of the controller did to the ring: these entries, or a broken beginning of them.
 use Rattle.std.specs.Prelude.{◌≡◌, ◌≢◌, ◌&&◌, ◌==◌, not, ℕ, Bool, true, false, List, [], ◌∷◌, ◌++◌, length, Option, Some, None}
+use Rattle.std.specs.List.{list_all}
 use Rattle.il_frames.specs.declared.frame.Class.TheVariants as class
 use Rattle.il_frames.specs.declared.frame.Frame.{Frame}
 use Rattle.il_frames.specs.declared.entry.Entry.{Entry}
@@ -11,19 +12,25 @@ use Rattle.loop_model.specs.Entries.{ifc, aau}
 use Rattle.loop_model.specs.Loops.{Loop, host_loop}
 use Rattle.loop_model.specs.Roles.{talkers, is_at_most_one, OneTalker}
 use Rattle.loop_model.specs.Exchanges.{Break, Echo, Exchange, Command, Address, echoed, entries_of, is_exchange, is_host_echo, is_talk_address, cut_at, can_cut}
+use Rattle.loop_model.proofs.HearLaws.{has_no_data}
 use Rattle.loop_model.proofs.RoleSteps.{are_numbered}
 use Rattle.loop_model.proofs.TalkLaws.{is_aau}
 use Rattle.il_ring.specs.Rings.{RingView, IsRing, devices_of, roles_of, drive_party}
 use Rattle.il_ring.specs.Lists.{Each, First}
-use Rattle.il_ring.specs.Outcomes.{met_between, HearsByte, HearsAny}
+use Rattle.il_ring.specs.Outcomes.{met_between, HearsNothing, HearsByte, HearsAny}
 use Rattle.il_ring.specs.Adds.{Adds}
 
--- the entries, whole: no planned hop was met, and no frame is held
+-- no device heard anything
+abbrev pub Unheard : {M : Type 0} → RingView M → RingView M → Type 0
+Unheard r s = First HearsNothing (length (devices_of r)) (devices_of r) (devices_of s)
+
+-- the entries, whole: no planned hop was met, no frame is held, and where none of them is a data frame no device heard anything
 pub record Whole {M : Type 0} (view : M → MediumView) (r : RingView M) (entries : List Entry) (s : RingView M) : Type 0 where
   pub adds : Adds view r None entries None s
   pub ring : IsRing s
   pub held : s.books.held ≡ None
   pub met_none : met_between r s ≡ []
+  pub unheard : list_all has_no_data entries ≡ true → Unheard r s
 
 -- so many of them, and then a break in the place of the next: a planned hop was met, and no frame is held
 pub record Broke {M : Type 0} (view : M → MediumView) (r : RingView M) (entries : List Entry) (s : RingView M) : Type 0 where
@@ -35,6 +42,7 @@ pub record Broke {M : Type 0} (view : M → MediumView) (r : RingView M) (entrie
   pub ring : IsRing s
   pub held : s.books.held ≡ None
   pub met_some : met_between r s ≢ []
+  pub unheard : list_all has_no_data entries ≡ true → Unheard r s
 
 -- ---- the states
 
