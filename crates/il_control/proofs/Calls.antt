@@ -87,7 +87,7 @@ heard_nothing R hears (suc j) (d ∷ ds) (e ∷ es) took = (hears d e took.0, he
 heard_nothing R hears j [] (e ∷ es) took = absurd took
 heard_nothing R hears j (d ∷ ds) [] took = absurd took
 
-hears_then : (c d e : DeviceState) → HearsNothing c d → HearsNothing d e → HearsNothing c e
+pub hears_then : (c d e : DeviceState) → HearsNothing c d → HearsNothing d e → HearsNothing c e
 hears_then c d e first more = record {
   heard = more.heard ∙ first.heard;
   heard_count = more.heard_count ∙ first.heard_count;

@@ -28,8 +28,8 @@ pub send_head : (a : ℕ) (number : Option ℕ) → head_of a number ≡ entries
 send_head a number = ap (λ rest. commanded 0 unl ++ commanded 0 (lad a) ++ rest) (sym (append-nil (numbered 0 ddl number)))
 
 -- no number: nothing was done
-pub no_number : {M : Type 0} (view : M → MediumView) (r : RingView M) (number : Option ℕ) → number ≡ None → IsFree r → Whole view r (numbered 0 ddl number) r
-no_number view r number is free = subst (λ number. Whole view r (numbered 0 ddl number) r) (sym is) (whole_nothing view r free)
+pub no_number : {M : Type 0} (view : M → MediumView) (r : RingView M) (frame : ℕ → Frame) (number : Option ℕ) → number ≡ None → IsFree r → Whole view r (numbered 0 frame number) r
+no_number view r frame number is free = subst (λ number. Whole view r (numbered 0 frame number) r) (sym is) (whole_nothing view r free)
 
 -- unlisten whole, and what was done behind it
 pub tell_done : {M : Type 0} (view : M → MediumView) (r m s : RingView M) (f : Frame) (a : ℕ) (number : Option ℕ) (whole : Bool) → IsRing r → f ≡ unl → Whole view r (commanded 0 f) m → Done view m (commanded 0 (lad a) ++ numbered 0 ddl number) whole s

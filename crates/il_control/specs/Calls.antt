@@ -5,6 +5,7 @@ use Rattle.il_frames.specs.declared.frame.Class.TheVariants as class
 use Rattle.il_frames.specs.declared.frame.Frame.{Frame}
 use Rattle.il_frames.specs.declared.entry.Entry.{Entry}
 use Rattle.il_frames.specs.Frames.{class_of, framed, same_class}
+use Rattle.il_frames.specs.declared.message.Message.{Message}
 use Rattle.il_frames.specs.Messages.{message_of}
 use Rattle.il_device.specs.State.{DeviceState}
 use Rattle.il_ports.specs.Media.{MediumView}
@@ -17,12 +18,16 @@ use Rattle.loop_model.proofs.RoleSteps.{are_numbered}
 use Rattle.loop_model.proofs.TalkLaws.{is_aau}
 use Rattle.il_ring.specs.Rings.{RingView, IsRing, devices_of, roles_of, drive_party}
 use Rattle.il_ring.specs.Lists.{Each, First}
-use Rattle.il_ring.specs.Outcomes.{met_between, HearsNothing, HearsByte, HearsAny}
+use Rattle.il_ring.specs.Outcomes.{met_between, Obeys, HearsNothing, HearsByte, HearsAny}
 use Rattle.il_ring.specs.Adds.{Adds}
 
 -- no device heard anything
 abbrev pub Unheard : {M : Type 0} → RingView M → RingView M → Type 0
 Unheard r s = First HearsNothing (length (devices_of r)) (devices_of r) (devices_of s)
+
+-- each device obeyed this message, and nothing else came to it that changes roles
+abbrev pub Obeyed : {M : Type 0} → Message → RingView M → RingView M → Type 0
+Obeyed m r s = First (Obeys m) (length (devices_of r)) (devices_of r) (devices_of s)
 
 -- the entries, whole: no planned hop was met, no frame is held, and where none of them is a data frame no device heard anything
 pub record Whole {M : Type 0} (view : M → MediumView) (r : RingView M) (entries : List Entry) (s : RingView M) : Type 0 where

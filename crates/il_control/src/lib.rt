@@ -3,9 +3,11 @@
 #![tactic(auto)]
 
 mod frames;
+mod receiving;
 mod rounds;
 mod states;
 
+pub use frames::Sot;
 pub use states::{Idle, Lost, Sending};
 
 #[cfg(test)]

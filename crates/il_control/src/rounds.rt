@@ -5,7 +5,7 @@ ghost use Rattle.il_device.proofs.Laws.{is_plain};
 ghost use Rattle.loop_model.specs.Exchanges.{Send, entries_of, numbered, returned, commanded};
 ghost use Rattle.loop_model.specs.Entries.{ifc, aau, lad, ddl};
 ghost use Rattle.il_ring.specs.Rings.{spare_of};
-ghost use Rattle.il_control.specs.Calls.{Whole, Broke, IsFree, IsIdle, IsLost, Resumed, NotResumed, Sent, NotSent};
+ghost use Rattle.il_control.specs.Calls.{Obeyed, Whole, Broke, IsFree, IsIdle, IsLost, Resumed, NotResumed, Sent, NotSent};
 
 use crate::frames::{aad, aau, dab, ddl, ifc, lad, rfc, unl};
 use il_frames::Frame;
@@ -17,8 +17,9 @@ pub(crate) fn pass_round<M: Medium>(ring: &mut Ring<M>, frame: Frame) -> bool
     requires room { 32 ≤ spare_of (⟦<Ring<M> as Seen<M>>⟧.seen ring.old) }
     requires free { IsFree (⟦<Ring<M> as Seen<M>>⟧.seen ring.old) }
     requires plain { is_plain (message_of frame) ≡ true }
-    ensures { MatchBool result (Whole M.view (⟦<Ring<M> as Seen<M>>⟧.seen ring.old) (returned 0 frame ∷ []) (⟦<Ring<M> as Seen<M>>⟧.seen ring.new))
+    ensures done { MatchBool result (Whole M.view (⟦<Ring<M> as Seen<M>>⟧.seen ring.old) (returned 0 frame ∷ []) (⟦<Ring<M> as Seen<M>>⟧.seen ring.new))
         (Broke M.view (⟦<Ring<M> as Seen<M>>⟧.seen ring.old) (returned 0 frame ∷ []) (⟦<Ring<M> as Seen<M>>⟧.seen ring.new)) }
+    ensures obeyed { result ≡ true → Obeyed (message_of frame) (⟦<Ring<M> as Seen<M>>⟧.seen ring.old) (⟦<Ring<M> as Seen<M>>⟧.seen ring.new) }
 {
     match ring.send(frame) {
         Arrival::Frame(_) => true,
@@ -31,8 +32,9 @@ pub(crate) fn command<M: Medium>(ring: &mut Ring<M>, frame: Frame) -> bool
     requires room { 33 ≤ spare_of (⟦<Ring<M> as Seen<M>>⟧.seen ring.old) }
     requires free { IsFree (⟦<Ring<M> as Seen<M>>⟧.seen ring.old) }
     requires plain { is_plain (message_of frame) ≡ true }
-    ensures { MatchBool result (Whole M.view (⟦<Ring<M> as Seen<M>>⟧.seen ring.old) (commanded 0 frame) (⟦<Ring<M> as Seen<M>>⟧.seen ring.new))
+    ensures done { MatchBool result (Whole M.view (⟦<Ring<M> as Seen<M>>⟧.seen ring.old) (commanded 0 frame) (⟦<Ring<M> as Seen<M>>⟧.seen ring.new))
         (Broke M.view (⟦<Ring<M> as Seen<M>>⟧.seen ring.old) (commanded 0 frame) (⟦<Ring<M> as Seen<M>>⟧.seen ring.new)) }
+    ensures obeyed { result ≡ true → Obeyed (message_of frame) (⟦<Ring<M> as Seen<M>>⟧.seen ring.old) (⟦<Ring<M> as Seen<M>>⟧.seen ring.new) }
 {
     pass_round(ring, frame) && pass_round(ring, rfc())
 }

@@ -1,11 +1,14 @@
-ghost use Rattle.std.specs.Prelude.{◌≡◌, ◌≤◌, ◌<◌, [], true, IfSome, IfOk, IfErr};
+ghost use Rattle.std.specs.Prelude.{◌≡◌, ◌≤◌, ◌<◌, ◌+◌, [], true, length, IfSome, IfOk, IfErr};
 ghost use Rattle.loop_model.specs.Exchanges.Exchange.{Command, Identify, Send};
 ghost use Rattle.il_ring.specs.Rings.{spare_of, devices_of};
 ghost use Rattle.il_ring.specs.Lists.{Each};
 ghost use Rattle.il_ring.specs.Polls.{identified_along};
 ghost use Rattle.il_control.specs.Calls.{idy, IsIdle, IsLost, is_command, Made, BrokenOff, Resumed, NotResumed, IsTold, Sent, NotSent};
+ghost use Rattle.il_control.specs.Receives.{start_of, Received, NotReceived};
 
 use crate::frames;
+use crate::frames::Sot;
+use crate::receiving::receive;
 use crate::rounds::{address, command, send_byte, tell};
 use il_device::Device;
 use il_frames::Frame;
@@ -211,6 +214,33 @@ impl<M: Medium> Idle<M> {
             Ok(Sending { ring, devices })
         } else {
             Err(Lost { ring, devices })
+        }
+    }
+
+    /// Has the device of this address, 1 to 30, talk, and takes the bytes that it sends into the front of `into`, to its end
+    /// or until `into` is full; then it talks no more. Behind the talk address it sends device dependent talker command
+    /// `number`, 0 to 31, where one is given. Answers how many bytes came, none where no device took the start message.
+    /// A talker that fills `into` is stopped at that byte. Where a frame was lost or came back to the talker with another
+    /// byte, the bytes in `into` are any.
+    pub fn receive(
+        self,
+        address: u8,
+        number: Option<u8>,
+        start: Sot,
+        into: &mut [u8],
+    ) -> Result<(Idle<M>, usize), Lost<M>>
+        requires some { 0 < length into.old }
+        requires room { 43 + length into.old ≤ spare_of (⟦<Idle<M> as Seen<M>>⟧.seen self) }
+        requires idle { IsIdle (⟦<Idle<M> as Seen<M>>⟧.seen self) }
+        requires address { (1 ≤ address) × (address ≤ 30) }
+        requires number { IfSome number (λ n. n < 32) }
+        ensures received { IfOk result (λ told. Received M.view address number (start_of start) told.1 (⟦<Idle<M> as Seen<M>>⟧.seen self) into.old into.new (⟦<Idle<M> as Seen<M>>⟧.seen told.0)) }
+        ensures not_received { IfErr result (λ lost. NotReceived M.view address number (start_of start) (length into.old) (⟦<Idle<M> as Seen<M>>⟧.seen self) (⟦<Lost<M> as Seen<M>>⟧.seen lost)) }
+    {
+        let Idle { mut ring, devices } = self;
+        match receive(&mut ring, address, number, start, into) {
+            Some(count) => Ok((Idle { ring, devices }, count)),
+            None => Err(Lost { ring, devices }),
         }
     }
 

@@ -1,5 +1,10 @@
+use Rattle.std.proofs.Common.{refl}
+use Rattle.il_control.proofs.Asking.{obeyed_then_rfc}
 use Rattle.il_control.proofs.Calls.{command_done}
 use Rattle.il_control.proofs.rounds.command.Goals as goal
 
-pub returns-then-pass_round : goal.returns-then-pass_round
-returns-then-pass_round g c = command_done g.M.Medium.view _ _ _ _ _ _ c.requires.free.ring c.rfc.ensures c.if-pass_round.ensures c.pass_round-then-pass_round.ensures
+pub returns-then-pass_round-clause-done : goal.returns-then-pass_round-clause-done
+returns-then-pass_round-clause-done g c = command_done g.M.Medium.view _ _ _ _ _ _ c.requires.free.ring c.rfc.ensures c.if-pass_round.ensures.done c.pass_round-then-pass_round.ensures.done
+
+pub returns-then-pass_round-clause-obeyed : goal.returns-then-pass_round-clause-obeyed
+returns-then-pass_round-clause-obeyed g c = λ done. obeyed_then_rfc g.M.Medium.view _ _ _ _ _ _ _ c.if-pass_round.ensures.done c.pass_round-then-pass_round.ensures.done c.rfc.ensures (c.if-pass_round.ensures.obeyed refl) (c.pass_round-then-pass_round.ensures.obeyed done)

@@ -5,7 +5,7 @@ pub command-requires-clause-plain : goal.command-requires-clause-plain
 command-requires-clause-plain g c = command_plain c.args.frame (search) c.requires.command
 
 pub returns-then-command-clause-made : goal.returns-then-command-clause-made
-returns-then-command-clause-made g c = command_made g.M.Medium.view _ _ _ c.requires.idle c.requires.command c.if-command.ensures
+returns-then-command-clause-made g c = command_made g.M.Medium.view _ _ _ c.requires.idle c.requires.command c.if-command.ensures.done
 
 pub returns-else-command-clause-broken : goal.returns-else-command-clause-broken
-returns-else-command-clause-broken g c = command_broken g.M.Medium.view _ _ _ c.requires.idle c.requires.command c.if-command.ensures
+returns-else-command-clause-broken g c = command_broken g.M.Medium.view _ _ _ c.requires.idle c.requires.command c.if-command.ensures.done

@@ -1,0 +1,289 @@
+-- A receive: what a talker sent, and what the controller took of it.
+use Rattle.std.specs.Prelude.{◌≡◌, ◌≢◌, ◌≤◌, ◌⊎◌, ◌++◌, ◌||◌, ◌==◌, nat_le, ℕ, suc, Bool, true, false, MatchBool, List, [], ◌∷◌, length, take, drop, map, Option, Some, None, IfSome}
+use Rattle.std.specs.List.{list_all}
+use Rattle.il_frames.specs.declared.frame.Frame.{Frame}
+use Rattle.il_frames.specs.declared.entry.Entry.{Entry}
+use Rattle.il_frames.specs.declared.entry.Outcome.TheVariants as outcome
+use Rattle.il_frames.specs.Frames.{byte_of, is_data, with_service}
+use Rattle.il_frames.specs.Messages.{message_of}
+use Rattle.il_device.specs.declared.interface.OwnFrame.{OwnFrame}
+use Rattle.il_device.specs.State.{DeviceState}
+use Rattle.il_device.specs.Takes.{eto}
+use Rattle.il_ports.specs.Media.{MediumView}
+use Rattle.loop_model.specs.Entries.{entry, nrd}
+use Rattle.loop_model.specs.Exchanges.{Start, Sda, Sst, Sdi, Sai, Answer, NotTaken, ToItsEnd, Stopped, Receive, Echo, Break, echoed, returned, answer_entries, start_frame, break_entries, cut_at, can_cut, is_answer, is_break, is_echo}
+use Rattle.loop_model.proofs.RoundLaws.{answers_as_asked}
+use Rattle.loop_model.proofs.UnitLaws.{bytes_of, receive_front}
+use Rattle.il_ring.specs.declared.flight.Flight.{Flight}
+use Rattle.il_ring.specs.declared.plan.Arrival.{Arrival}
+use Rattle.il_ring.specs.declared.plan.Arrival.TheVariants as arrival
+use Rattle.il_ring.specs.Rings.{RingView, IsRing, devices_of}
+use Rattle.il_ring.specs.Lists.{Each, First}
+use Rattle.il_ring.specs.Outcomes.{met_between, IsTalking, Obeys, StoodSo}
+use Rattle.il_ring.specs.Adds.{Adds}
+use Rattle.il_control.specs.declared.frames.Sot.{Sot}
+use Rattle.il_control.specs.declared.frames.Sot.TheVariants as sot
+use Rattle.il_control.specs.declared.receiving.Onward.{Onward}
+use Rattle.il_control.specs.declared.receiving.Onward.TheVariants as onward
+use Rattle.il_control.specs.declared.receiving.Begun.{Begun}
+use Rattle.il_control.specs.declared.receiving.Begun.TheVariants as begun
+use Rattle.il_control.specs.declared.receiving.Front.{Front}
+use Rattle.il_control.specs.declared.receiving.Front.TheVariants as front
+use Rattle.il_control.specs.Calls.{Whole, Broke, Made, BrokenOff, Unheard}
+
+-- ---- what came of it
+
+-- the start message in the words of the exchanges
+abbrev pub start_of : Sot → Start
+start_of sot.Sda = Sda
+start_of sot.Sst = Sst
+start_of sot.Sdi = Sdi
+start_of sot.Sai = Sai
+
+-- the bytes that it brought
+abbrev pub received : Answer → List ℕ
+received NotTaken = []
+received (ToItsEnd p ds) = bytes_of ds
+received (Stopped p ds last) = bytes_of ds ++ byte_of last.sent ∷ []
+
+abbrev pub is_stopped : Answer → Bool
+is_stopped NotTaken = false
+is_stopped (ToItsEnd p ds) = false
+is_stopped (Stopped p ds last) = true
+
+-- with room for w bytes the controller stops the talker at the w-th, and not before
+abbrev pub fits : ℕ → Answer → Bool
+fits w NotTaken = true
+fits w (ToItsEnd p ds) = nat_le (length ds) w
+fits w (Stopped p ds last) = suc (length ds) == w
+
+-- The exchange was made. The talker was the device of that address; it was stopped exactly where it brought as many bytes as there
+-- was room for, and the first n bytes are those that it brought. No device heard anything.
+pub record Received {M : Type 0} (view : M → MediumView) (a : ℕ) (number : Option ℕ) (start : Start) (n : ℕ) (r : RingView M) (old new : List ℕ) (s : RingView M) : Type 0 where
+  pub answer : Answer
+  pub asked : answers_as_asked (length (devices_of r)) (Receive a number start answer) ≡ true
+  pub made : Made view (Receive a number start answer) r s
+  pub count : n ≡ length (received answer)
+  pub within : n ≤ length old
+  pub bytes : new ≡ received answer ++ drop n old
+  pub stops : is_stopped answer ≡ (n == length old)
+  pub unheard : Unheard r s
+
+-- it was broken off
+pub record NotReceived {M : Type 0} (view : M → MediumView) (a : ℕ) (number : Option ℕ) (start : Start) (w : ℕ) (r s : RingView M) : Type 0 where
+  pub answer : Answer
+  pub asked : answers_as_asked (length (devices_of r)) (Receive a number start answer) ≡ true
+  pub fitting : fits w answer ≡ true
+  pub broken : BrokenOff view (Receive a number start answer) r s
+  pub unheard : Unheard r s
+
+-- ---- before the start message
+
+-- neither listens nor has a frame of its own on the loop
+abbrev pub IsCalm : ℕ → DeviceState → Type 0
+IsCalm k d = (d.roles.listens ≡ false) × (d.own ≡ None)
+
+-- The device was told to talk, and no device listens.
+pub record Asked {M : Type 0} (view : M → MediumView) (a : ℕ) (number : Option ℕ) (r s : RingView M) : Type 0 where
+  pub whole : Whole view r (receive_front 0 a number) s
+  pub calm : Each IsCalm 1 (devices_of s)
+
+-- ---- a held frame
+
+abbrev pub IsDeaf : ℕ → DeviceState → Type 0
+IsDeaf k d = d.roles.listens ≡ false
+
+-- A data frame of the one device that talks is held at the host, and no device listens.
+pub record IsHolding {M : Type 0} (m : RingView M) : Type 0 where
+  pub ring : IsRing m
+  pub flight : Flight
+  pub held : m.books.held ≡ Some flight
+  pub data_frame : is_data flight.sent ≡ true
+  pub stood : StoodSo flight
+  pub own : OwnFrame
+  pub talking : IsTalking flight.source (Some own) (devices_of m)
+  pub frame : own.frame ≡ flight.sent
+  pub deaf : Each IsDeaf 1 (devices_of m)
+
+-- a planned hop was met by then, by the held frame or behind it
+abbrev pub Spoilt : {M : Type 0} (m : RingView M) → IsHolding m → RingView M → Type 0
+Spoilt m h s = (h.flight.altered ≡ true) ⊎ (met_between m s ≢ [])
+
+-- none was
+abbrev pub Clean : {M : Type 0} (m : RingView M) → IsHolding m → RingView M → Type 0
+Clean m h s = (h.flight.altered ≡ false) × (met_between m s ≡ [])
+
+-- It came back right, and the talker's next frame is held, which was altered exactly where a planned hop was met.
+pub record WentOn {M : Type 0} (view : M → MediumView) (m : RingView M) (h : IsHolding m) (s : RingView M) : Type 0 where
+  pub back : Frame
+  pub right : is_echo (record { sent = h.flight.sent; back = back }) ≡ true
+  pub goes_on : (h.own.stopped || h.own.last) ≡ false
+  pub adds : Adds view m (Some h.flight.source) (echoed h.flight.source (record { sent = h.flight.sent; back = back }) ∷ []) (Some h.flight.source) s
+  pub next : IsHolding s
+  pub source : next.flight.source ≡ h.flight.source
+  pub unaltered : h.flight.altered ≡ false
+  pub met : MatchBool next.flight.altered (met_between m s ≢ []) (met_between m s ≡ [])
+  pub unheard : Unheard m s
+
+-- it came back right, and the talker ended
+pub record Ended {M : Type 0} (view : M → MediumView) (m : RingView M) (h : IsHolding m) (s : RingView M) : Type 0 where
+  pub back : Frame
+  pub right : is_echo (record { sent = h.flight.sent; back = back }) ≡ true
+  pub adds : Adds view m (Some h.flight.source) (echoed h.flight.source (record { sent = h.flight.sent; back = back }) ∷ entry h.flight.source eto (outcome.Taken 0) ∷ []) None s
+  pub ring : IsRing s
+  pub held : s.books.held ≡ None
+  pub clean : Clean m h s
+  pub unheard : Unheard m s
+
+-- Which frame was due as it broke off, behind these that came back right: the held one, one that the talker sent behind it, or the end.
+pub data DueAt (p : ℕ) (own : OwnFrame) (whole : List Echo) (due : Entry) : Type 0 where
+  AtHeld : (d : Echo) → is_echo d ≡ true → whole ≡ [] → due ≡ echoed p d → DueAt p own whole due
+  AtNext : (c d : Echo) → is_echo c ≡ true → is_echo d ≡ true → (own.stopped || own.last) ≡ false → whole ≡ c ∷ [] → due ≡ echoed p d → DueAt p own whole due
+  AtEnd : (d : Echo) → is_echo d ≡ true → whole ≡ d ∷ [] → due ≡ entry p eto (outcome.Taken 0) → DueAt p own whole due
+
+-- it broke off
+pub record Severed {M : Type 0} (view : M → MediumView) (m : RingView M) (h : IsHolding m) (s : RingView M) : Type 0 where
+  pub whole : List Echo
+  pub due : Entry
+  pub break : Break
+  pub due_at : DueAt h.flight.source h.own whole due
+  pub legal : is_break 0 due break ≡ true
+  pub adds : Adds view m (Some h.flight.source) (map (echoed h.flight.source) whole ++ break_entries due break) None s
+  pub ring : IsRing s
+  pub held : s.books.held ≡ None
+  pub spoilt : Spoilt m h s
+  pub unheard : Unheard m s
+
+-- what came of a held frame that went on
+abbrev pub WentAs : {M : Type 0} → (M → MediumView) → RingView M → Onward → RingView M → Type 0
+WentAs view m onward.More s = (h : IsHolding m) → WentOn view m h s
+WentAs view m onward.Ended s = (h : IsHolding m) → Ended view m h s
+WentAs view m onward.Broken s = (h : IsHolding m) → Severed view m h s
+
+-- by what arrived
+abbrev pub IsOnward : Arrival → Onward → Type 0
+IsOnward answer onward.More = (g : Frame) × (answer ≡ arrival.Frame g) × (is_data g ≡ true)
+IsOnward answer onward.Ended = answer ≡ arrival.Frame eto
+IsOnward answer onward.Broken = (answer ≡ arrival.Lost) ⊎ ((g : Frame) × (answer ≡ arrival.Frame g) × (is_data g ≡ false) × (g ≢ eto))
+
+-- ---- the start message
+
+-- Party p took it, and its first frame is held, which was altered exactly where a planned hop was met.
+pub record Began {M : Type 0} (view : M → MediumView) (start : Frame) (r m : RingView M) : Type 0 where
+  pub now : IsHolding m
+  pub adds : Adds view r None (entry 0 start (outcome.Taken now.flight.source) ∷ []) (Some now.flight.source) m
+  pub talked : IsTalking now.flight.source None (devices_of r)
+  pub met : MatchBool now.flight.altered (met_between r m ≢ []) (met_between r m ≡ [])
+  pub unheard : Unheard r m
+
+-- It was lost, whatever was to come of it; or party p took it and its first frame was lost.
+pub data NotBegun {M : Type 0} (view : M → MediumView) (start : Frame) (r s : RingView M) : Type 0 where
+  StartLost : Broke view r (returned 0 start ∷ []) s → Unheard r s → NotBegun view start r s
+  FirstLost : (p : ℕ) (d : Echo) → is_echo d ≡ true → IsTalking p None (devices_of r) → Broke view r (entry 0 start (outcome.Taken p) ∷ echoed p d ∷ []) s → Unheard r s → NotBegun view start r s
+
+abbrev pub Begins : {M : Type 0} → (M → MediumView) → Frame → RingView M → Begun → RingView M → Type 0
+Begins view start r begun.NotTaken s = Whole view r (returned 0 start ∷ []) s × Unheard r s
+Begins view start r begun.Taken s = Began view start r s
+Begins view start r begun.Broken s = NotBegun view start r s
+
+-- ---- all frames of a talker
+
+-- the entries behind that of the start message
+abbrev pub behind_start : Answer → List Entry
+behind_start NotTaken = []
+behind_start (ToItsEnd p ds) = map (echoed p) ds ++ entry p eto (outcome.Taken 0) ∷ []
+behind_start (Stopped p ds last) = map (echoed p) ds ++ returned 0 nrd ∷ echoed p last ∷ entry p eto (outcome.Taken 0) ∷ []
+
+abbrev pub talker_of : Answer → Option ℕ
+talker_of NotTaken = None
+talker_of (ToItsEnd p ds) = Some p
+talker_of (Stopped p ds last) = Some p
+
+-- so many of them came back right, and the next is held
+pub record SoFar {M : Type 0} (view : M → MediumView) (m : RingView M) (h : IsHolding m) (bytes : List ℕ) (s : RingView M) : Type 0 where
+  pub ds : List Echo
+  pub echoes : list_all is_echo ds ≡ true
+  pub bytes_are : bytes ≡ bytes_of ds
+  pub adds : Adds view m (Some h.flight.source) (map (echoed h.flight.source) ds) (Some h.flight.source) s
+  pub now : IsHolding s
+  pub source : now.flight.source ≡ h.flight.source
+  pub met : MatchBool now.flight.altered (Spoilt m h s) (Clean m h s)
+  pub unheard : Unheard m s
+
+-- all came, and the talker ended, of itself or stopped
+pub record Took {M : Type 0} (view : M → MediumView) (m : RingView M) (h : IsHolding m) (stops : Bool) (bytes : List ℕ) (s : RingView M) : Type 0 where
+  pub answer : Answer
+  pub talker : talker_of answer ≡ Some h.flight.source
+  pub legal : is_answer 0 answer ≡ true
+  pub stopped : is_stopped answer ≡ stops
+  pub bytes_are : bytes ≡ received answer
+  pub adds : Adds view m (Some h.flight.source) (behind_start answer) None s
+  pub ring : IsRing s
+  pub held : s.books.held ≡ None
+  pub clean : Clean m h s
+  pub unheard : Unheard m s
+
+-- they broke off; there was room for w bytes
+pub record NotTook {M : Type 0} (view : M → MediumView) (m : RingView M) (h : IsHolding m) (w : ℕ) (s : RingView M) : Type 0 where
+  pub answer : Answer
+  pub talker : talker_of answer ≡ Some h.flight.source
+  pub legal : is_answer 0 answer ≡ true
+  pub fitting : fits w answer ≡ true
+  pub standing : ℕ
+  pub break : Break
+  pub cuts : can_cut 0 (behind_start answer) standing break ≡ true
+  pub held_at_end : Option ℕ
+  pub adds : Adds view m (Some h.flight.source) (cut_at (behind_start answer) standing break) held_at_end s
+  pub ring : IsRing s
+  pub held : s.books.held ≡ None
+  pub spoilt : Spoilt m h s
+  pub unheard : Unheard m s
+
+-- ---- the calls
+
+-- of a place in front of the last one
+abbrev pub Fronts : {M : Type 0} → (M → MediumView) → RingView M → List ℕ → List ℕ → Front → RingView M → Type 0
+Fronts view m old new front.Full s = (h : IsHolding m) → SoFar view m h new s
+Fronts view m old new (front.Ended n) s = (n ≤ length old) × (1 ≤ n) × (new ≡ take n new ++ drop n old) × ((h : IsHolding m) → Took view m h false (take n new) s)
+Fronts view m old new front.Broken s = (h : IsHolding m) → NotTook view m h (suc (length old)) s
+
+-- of the last one
+abbrev pub Stops : {M : Type 0} → (M → MediumView) → RingView M → Bool → RingView M → Type 0
+Stops view m true s = (h : IsHolding m) → Took view m h true (byte_of h.flight.sent ∷ []) s
+Stops view m false s = (h : IsHolding m) → NotTook view m h 1 s
+
+-- of all
+pub record TookInto {M : Type 0} (view : M → MediumView) (m : RingView M) (h : IsHolding m) (old new : List ℕ) (n : ℕ) (s : RingView M) : Type 0 where
+  pub bytes : List ℕ
+  pub count : n ≡ length bytes
+  pub within : n ≤ length old
+  pub filled : new ≡ bytes ++ drop n old
+  pub took : Took view m h (n == length old) bytes s
+
+abbrev pub TakesBytes : {M : Type 0} → (M → MediumView) → RingView M → List ℕ → List ℕ → Option ℕ → RingView M → Type 0
+TakesBytes view m old new None s = (h : IsHolding m) → NotTook view m h (length old) s
+TakesBytes view m old new (Some n) s = (h : IsHolding m) → TookInto view m h old new n s
+
+-- the one device that talked was the talker
+abbrev pub WasTalking : {M : Type 0} → Answer → RingView M → Type 0
+WasTalking answer r = IfSome (talker_of answer) (λ p. IsTalking p None (devices_of r))
+
+-- what came of the start message
+pub record Answered {M : Type 0} (view : M → MediumView) (start : Start) (n : ℕ) (r : RingView M) (old new : List ℕ) (s : RingView M) : Type 0 where
+  pub answer : Answer
+  pub legal : is_answer 0 answer ≡ true
+  pub talked : WasTalking answer r
+  pub whole : Whole view r (answer_entries 0 (start_frame start) answer) s
+  pub count : n ≡ length (received answer)
+  pub within : n ≤ length old
+  pub bytes : new ≡ received answer ++ drop n old
+  pub stops : is_stopped answer ≡ (n == length old)
+  pub unheard : Unheard r s
+
+pub record NotAnswered {M : Type 0} (view : M → MediumView) (start : Start) (w : ℕ) (r s : RingView M) : Type 0 where
+  pub answer : Answer
+  pub legal : is_answer 0 answer ≡ true
+  pub talked : WasTalking answer r
+  pub fitting : fits w answer ≡ true
+  pub broke : Broke view r (answer_entries 0 (start_frame start) answer) s
+  pub unheard : Unheard r s
