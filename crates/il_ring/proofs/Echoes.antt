@@ -1,4 +1,5 @@
--- The held frame of a talker comes back to it, or is lost before.
+-- A data or end frame that goes past silent devices comes to the party behind them, or is lost before: so the held frame of
+-- a talker comes back to it.
 use Rattle.std.proofs.Common.{◌≡◌, ◌≢◌, ◌≤◌, ◌<◌, ◌+◌, ◌++◌, ◌⊎◌, ◌&&◌, inl, inr, ℕ, suc, Bool, true, false, not, List, [], ◌∷◌, Option, Some, None, length, refl, sym, ap, subst, ◌∙◌, arith}
 use Rattle.std.specs.Prelude.{if◌then◌else◌}
 use Rattle.std.proofs.lemmas.Bool.{and_parts, not-true}
@@ -7,7 +8,6 @@ use Rattle.il_frames.specs.declared.entry.Entry.{Entry}
 use Rattle.il_frames.specs.Frames.{byte_of, is_data, with_service}
 use Rattle.il_device.specs.declared.device.Out.{Out}
 use Rattle.il_device.specs.State.{DeviceState, risen}
-use Rattle.il_device.specs.Takes.{Takes}
 use Rattle.il_device.proofs.Laws.{risen_by}
 use Rattle.il_ring.specs.declared.plan.Planned.{Planned}
 use Rattle.il_ring.specs.declared.plan.PlanFault.{PlanFault}
@@ -28,33 +28,33 @@ pub data Arrived (plan : List Planned) (n m : ℕ) (f : Flight) (g : Frame) : Ty
   AsItWas : with_service g ≡ with_service f.now → IsClear plan n (suc m) → Arrived plan n m f g
   Otherwise : byte_of g ≢ byte_of f.now → f.altered ≡ false → (hop : ℕ) → hop ≤ m → next_fault plan (risen_by hop n) ≢ None → Arrived plan n m f g
 
--- the talker behind the devices ds answered it
-pub record Answered (plan : List Planned) (k n : ℕ) (log : List Entry) (f : Flight) (ds : List DeviceState) (d : DeviceState) (rest : List DeviceState) (u : Trip) (e : DeviceState) (rest_then : List DeviceState) : Type 0 where
+-- the party behind the devices ds answered it, by its rule
+pub record Answered {D : Type 0} (rule : D → Frame → Out → D → Type 0) (plan : List Planned) (k n : ℕ) (log : List Entry) (f : Flight) (ds : List DeviceState) (d : D) (rest : List DeviceState) (u : Trip) (e : D) (rest_then : List DeviceState) : Type 0 where
   pub back : Frame
   pub altered : Bool
   pub data_frame : is_data back ≡ true
   pub came : Arrived plan n (length ds) f back
   pub out : Out
-  pub takes : Takes d back out e
+  pub takes : rule d back out e
   pub journey : Journey plan (k + 1) (answered (risen_by (suc (length ds)) n) log k (record f { now = back; altered = altered }) out) rest u rest_then
 
--- it was lost behind so many links, on the way past m devices to party k
-pub record Gone (plan : List Planned) (k m n : ℕ) (log : List Entry) (f : Flight) (u : Trip) : Type 0 where
+-- it was lost behind so many links, on the way past m devices, the first of which is party j, to party k
+pub record Gone (plan : List Planned) (j k m n : ℕ) (log : List Entry) (f : Flight) (u : Trip) : Type 0 where
   pub crossed : ℕ
   pub party : ℕ
-  pub on_ring : (party ≡ k) ⊎ (party ≤ m)
+  pub on_ring : (party ≡ k) ⊎ (party < j + m)
   pub is : u ≡ trip (risen_by (suc crossed) n) (log ++ lost_at f party ∷ []) None
   pub planned : next_fault plan (risen_by crossed n) ≢ None
 
--- ---- over the link to the talker
+-- ---- over the link to that party
 
-module _ (plan : List Planned) (k n : ℕ) (log : List Entry) (f : Flight) (ds : List DeviceState) (d : DeviceState) (rest : List DeviceState) (u : Trip) (e : DeviceState) (rest_then : List DeviceState) where
-  abbrev End : Type 0
-  End = Answered plan k n log f ds d rest u e rest_then ⊎ (Gone plan k (length ds) n log f u × (e ≡ d) × First HearsAny 0 rest rest_then)
+module _ {D : Type 0} (rule : D → Frame → Out → D → Type 0) (plan : List Planned) (j k n : ℕ) (log : List Entry) (f : Flight) (ds : List DeviceState) (d : D) (rest : List DeviceState) (u : Trip) (e : D) (rest_then : List DeviceState) where
+  abbrev pub End : Type 0
+  End = Answered rule plan k n log f ds d rest u e rest_then ⊎ (Gone plan j k (length ds) n log f u × (e ≡ d) × First HearsAny 0 rest rest_then)
 
   -- the frame f₁ is on its way to it
   abbrev pub ToTalker : Trip → Flight → Option Flight → Trip → Type 0
-  ToTalker t f₁ o t₁ = Meets Takes k t f₁ o d t₁ e × Journey plan (k + 1) t₁ rest u rest_then
+  ToTalker t f₁ o t₁ = Meets rule k t f₁ o d t₁ e × Journey plan (k + 1) t₁ rest u rest_then
 
   lost_there : (t t₁ : Trip) (g : Frame) (altered : Bool) (fault : PlanFault) → t ≡ trip (risen_by (length ds) n) log (Some (record f { now = g; altered = altered })) → next_fault plan (risen_by (length ds) n) ≡ Some fault
       → ToTalker t (record f { now = g; altered = altered }) None t₁ → End
@@ -103,22 +103,22 @@ module _ (plan : List Planned) (k n : ℕ) (log : List Entry) (f : Flight) (ds :
       twice true = refl
       twice false = refl
 
-  -- past the devices before the talker, and to it
-  pub to_talker : (t t₁ : Trip) (ds_then : List DeviceState) → IsPlan plan → DataGoes plan 1 n log f ds t ds_then → Reaches Takes plan k t t.flight d t₁ e → Journey plan (k + 1) t₁ rest u rest_then → End
+  -- past the devices before it, and to it
+  pub to_talker : (t t₁ : Trip) (ds_then : List DeviceState) → IsPlan plan → DataGoes plan j n log f ds t ds_then → Reaches rule plan k t t.flight d t₁ e → Journey plan (k + 1) t₁ rest u rest_then → End
   to_talker t t₁ ds_then is (inl came) reaches journey =
       let m = risen_by (length ds) n in
       let g = record f { now = came.now } in
-      let here : Reaches Takes plan k t (Some g) d t₁ e = subst (λ flight. Reaches Takes plan k t flight d t₁ e) (ap (λ (t : Trip). t.flight) came.is) reaches in
-      let meets : Meets Takes k t g (hit (next_fault plan m) g) d t₁ e = subst (λ n. Meets Takes k t g (hit (next_fault plan n) g) d t₁ e) (ap (λ (t : Trip). t.crossings) came.is) here in
+      let here : Reaches rule plan k t (Some g) d t₁ e = subst (λ flight. Reaches rule plan k t flight d t₁ e) (ap (λ (t : Trip). t.flight) came.is) reaches in
+      let meets : Meets rule k t g (hit (next_fault plan m) g) d t₁ e = subst (λ n. Meets rule k t g (hit (next_fault plan n) g) d t₁ e) (ap (λ (t : Trip). t.crossings) came.is) here in
       clean_there t t₁ came.now (next_fault plan m) is came.is came.data_frame came.same came.clear refl (meets, journey)
   to_talker t t₁ ds_then is (inr (inl came)) reaches journey =
       let m = risen_by (length ds) n in
       let g = record f { now = came.now; altered = true } in
-      let here : Reaches Takes plan k t (Some g) d t₁ e = subst (λ flight. Reaches Takes plan k t flight d t₁ e) (ap (λ (t : Trip). t.flight) came.is) reaches in
-      let meets : Meets Takes k t g (hit (next_fault plan m) g) d t₁ e = subst (λ n. Meets Takes k t g (hit (next_fault plan n) g) d t₁ e) (ap (λ (t : Trip). t.crossings) came.is) here in
+      let here : Reaches rule plan k t (Some g) d t₁ e = subst (λ flight. Reaches rule plan k t flight d t₁ e) (ap (λ (t : Trip). t.flight) came.is) reaches in
+      let meets : Meets rule k t g (hit (next_fault plan m) g) d t₁ e = subst (λ n. Meets rule k t g (hit (next_fault plan n) g) d t₁ e) (ap (λ (t : Trip). t.crossings) came.is) here in
       altered_there t t₁ came.now (next_fault plan m) came.is came.data_frame came.other came.first came.hop came.within came.planned refl (meets, journey)
   to_talker t t₁ ds_then is (inr (inr lost)) reaches journey =
       let none : t.flight ≡ None = ap (λ (t : Trip). t.flight) lost.is in
-      let here : (t₁ ≡ t) × (e ≡ d) = subst (λ flight. Reaches Takes plan k t flight d t₁ e) none reaches in
+      let here : (t₁ ≡ t) × (e ≡ d) = subst (λ flight. Reaches rule plan k t flight d t₁ e) none reaches in
       let stays = nothing_comes plan (k + 1) t₁ u rest rest_then HearsAny (ap (λ (t : Trip). t.flight) here.0 ∙ none) journey in
-      inr (record { crossed = lost.reached; party = 1 + lost.reached; on_ring = inr (omega (arith, lost.within)); is = stays.0 ∙ here.0 ∙ lost.is; planned = lost.planned }, here.1, stays.1)
+      inr (record { crossed = lost.reached; party = j + lost.reached; on_ring = inr (omega (arith, lost.within)); is = stays.0 ∙ here.0 ∙ lost.is; planned = lost.planned }, here.1, stays.1)

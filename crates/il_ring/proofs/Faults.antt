@@ -99,7 +99,7 @@ clear_more plan zero j n first more = let sum : 0 + j ≡ j = omega arith in sub
 clear_more plan (suc m) j n first more = let sum : suc m + j ≡ suc (m + j) = omega arith in subst (IsClear plan n) (sym sum) (first.0, clear_more plan m j (risen n) first.1 more)
 
 -- where something is planned at one of the crossings, a planned hop is met
-clear_at : (plan : List Planned) (j m n : ℕ) → j < m → IsClear plan n m → next_fault plan (risen_by j n) ≡ None
+pub clear_at : (plan : List Planned) (j m n : ℕ) → j < m → IsClear plan n m → next_fault plan (risen_by j n) ≡ None
 clear_at plan j zero n lt clear = absurd (omega (arith, lt))
 clear_at plan zero (suc m) n lt clear = clear.0
 clear_at plan (suc j) (suc m) n lt clear = clear_at plan j m (risen n) (omega (arith, lt)) clear.1

@@ -28,7 +28,7 @@ use Rattle.il_ring.specs.Flights.{sourced, ended_at, lost_at}
 use Rattle.il_ring.specs.Books.{BooksView}
 use Rattle.il_ring.specs.Journeys.{Trip, trip, trip_of, answered, Passage, Journey}
 use Rattle.il_ring.specs.Rings.{RingView, Round, devices_of, home, books_at, arrived, arriving}
-use Rattle.il_ring.specs.Outcomes.{met_between, IsTalking, StoodSo, CameBack, SendsMore, EndsSending, Relayed, back_entry, Obeys}
+use Rattle.il_ring.specs.Outcomes.{met_between, IsTalking, IsLostNow, StoodSo, CameBack, SendsMore, EndsSending, Relayed, back_entry, Obeys}
 use Rattle.il_ring.specs.Lists.{AllSilent}
 use Rattle.il_ring.proofs.Faults.{IsClear, clear_met, clear_more, met_at}
 use Rattle.il_ring.proofs.Counts.{risen_by-add}
@@ -36,7 +36,7 @@ use Rattle.il_ring.proofs.Takings.{own_sends}
 use Rattle.il_ring.proofs.DataPasses.{DataGoes, data_past, first_any, same_served}
 use Rattle.il_ring.proofs.DataHome.{data_home}
 use Rattle.il_ring.proofs.EndsHome.{EndTaken, EndLost, end_home}
-use Rattle.il_ring.proofs.Echoes.{Arrived, AsItWas, Otherwise, Answered, to_talker}
+use Rattle.il_ring.proofs.Echoes.{Arrived, AsItWas, Otherwise, Answered, Gone, to_talker}
 use Rattle.il_ring.proofs.Splits.{journey_parts, each_silent, silent_still}
 use Rattle.il_ring.proofs.StartRounds.{sent_home, heard_silent, still_behind, length_split}
 use Rattle.il_ring.proofs.Later.{Later, later_then, journey_later, end_later, met_later}
@@ -72,16 +72,30 @@ pub record Head (plan : List Planned) (k : ℕ) (t u : Trip) (d : DeviceState) (
   pub passage : Passage Takes plan k t d middle e
   pub journey : Journey plan (k + 1) middle rest u rest_then
 
-head_of : (plan : List Planned) (k : ℕ) (t u : Trip) (d : DeviceState) (rest es : List DeviceState) → Journey plan k t (d ∷ rest) u es → Head plan k t u d rest es
+pub head_of : (plan : List Planned) (k : ℕ) (t u : Trip) (d : DeviceState) (rest es : List DeviceState) → Journey plan k t (d ∷ rest) u es → Head plan k t u d rest es
 head_of plan k t u d rest [] journey = absurd journey
 head_of plan k t u d rest (e ∷ es) journey = record { e = e; rest_then = es; both = refl; middle = journey.0; passage = journey.1; journey = journey.2 }
 
-goes_silent : (plan : List Planned) (k n : ℕ) (log : List Entry) (f : Flight) (ds es : List DeviceState) (u : Trip) → DataGoes plan k n log f ds u es → AllSilent ds → AllSilent es
+pub goes_silent : (plan : List Planned) (k n : ℕ) (log : List Entry) (f : Flight) (ds es : List DeviceState) (u : Trip) → DataGoes plan k n log f ds u es → AllSilent ds → AllSilent es
 goes_silent plan k n log f ds es u (inl clean) silent = heard_silent (length ds) ds es (first_any (byte_of f.now) (length ds) ds es clean.took) silent
 goes_silent plan k n log f ds es u (inr (inl altered)) silent = heard_silent (length ds) ds es altered.took silent
 goes_silent plan k n log f ds es u (inr (inr lost)) silent = heard_silent lost.reached ds es lost.took silent
 
 -- ---- what the talker sent then
+
+-- by this frame it answered the echo
+abbrev pub SendsThen : {M : Type 0} → RingView M → Flight → OwnFrame → Bool → Frame → Frame → Arrival → RingView M → Type 0
+SendsThen r held own right back h answer s = ((more : SendsMore r held own back answer s) × (more.sent ≡ h)) ⊎ (EndsSending r held right back answer s × (h ≡ (if right then eto else ete)))
+
+-- The held frame came back to its source behind m others, whose answer was this.
+pub record AnsweredSo {M : Type 0} (r : RingView M) (held : Flight) (own : OwnFrame) (m : ℕ) (out : Out) (answer : Arrival) (s : RingView M) : Type 0 where
+  pub right : Bool
+  pub back : Frame
+  pub came : CameBack r s held right back
+  pub good : right ≡ true → (held.altered ≡ false) × IsClear r.books.plan r.books.crossings (suc m)
+  pub sent : Frame
+  pub out_is : out ≡ Source sent
+  pub behind : SendsThen r held own right back sent answer s
 
 module _ {M : Type 0} (view : M → MediumView) (r s : RingView M) (held : Flight) (answer : Arrival) (own : OwnFrame) (back : Frame) (bs cs : List DeviceState) (e : DeviceState) (rest rest_then : List DeviceState) (u : Trip) where
   abbrev books_so : BooksView
@@ -99,22 +113,24 @@ module _ {M : Type 0} (view : M → MediumView) (r s : RingView M) (held : Fligh
 
   more_sent : (h : Frame) (next : OwnFrame) → IsPlan r.books.plan → r.books.crossings ≤ last_crossing → held.source ≡ length bs + 1 → length cs ≡ length bs → held.source + length rest ≤ length (devices_of r) → devices_of s ≡ cs ++ e ∷ rest_then → AllSilent cs → AllSilent rest
       → e.roles.talks ≡ true → e.own ≡ Some next → next.frame ≡ h → next.stopped ≡ false → is_data h ≡ true → with_service back ≡ with_service held.sent → held.altered ≡ false → (own.stopped || own.last) ≡ false → IsClear r.books.plan r.books.crossings (suc (length bs))
-      → Journey r.books.plan (held.source + 1) (trip so_far (r.books.log ++ back_entry held back ∷ []) (Some (sourced held.source h))) rest u rest_then → Ending → SendsMore r held own back answer s
+      → Journey r.books.plan (held.source + 1) (trip so_far (r.books.log ++ back_entry held back ∷ []) (Some (sourced held.source h))) rest u rest_then → Ending → (more : SendsMore r held own back answer s) × (more.sent ≡ h)
   more_sent h next plan within at same on devices silent silent_behind talks own_is frame runs data_frame right unaltered goes_on clear journey ending =
       let goes = data_past r.books.plan (held.source + 1) so_far books_so.log (sourced held.source h) rest rest_then u plan (each_silent (held.source + 1) rest silent_behind) data_frame journey in
-      let homed = data_home books_so (held.source + 1) so_far (sourced held.source h) rest rest_then u s.books answer plan goes ending in
-      record {
-        right = right;
-        unaltered = unaltered;
-        goes_on = goes_on;
-        sent = h;
-        data_frame = data_frame;
-        next = next;
-        next_frame = frame;
-        runs = runs;
-        talking = talks_on (Some next) at same devices silent (still_behind books_so (held.source + 1) so_far (sourced held.source h) rest rest_then s.books answer homed silent_behind) talks own_is;
-        end = sent_home r s None answer held.source h (back_entry held back ∷ []) (suc (length bs)) rest rest_then within (omega (arith, at)) on clear homed;
-      }
+      let homed = data_home books_so (held.source + 1) so_far (sourced held.source h) rest rest_then u s.books answer plan goes ending in (
+        record {
+          right = right;
+          unaltered = unaltered;
+          goes_on = goes_on;
+          sent = h;
+          data_frame = data_frame;
+          next = next;
+          next_frame = frame;
+          runs = runs;
+          talking = talks_on (Some next) at same devices silent (still_behind books_so (held.source + 1) so_far (sourced held.source h) rest rest_then s.books answer homed silent_behind) talks own_is;
+          end = sent_home r s None answer held.source h (back_entry held back ∷ []) (suc (length bs)) rest rest_then within (omega (arith, at)) on clear homed;
+        },
+        refl,
+      )
 
   -- ETO or ETE
   end_sent : (right : Bool) (h : Frame) → h ≡ (if right then eto else ete) → is_plain (message_of h) ≡ true → ((r : Roles) → roles_after r (message_of h) ≡ r) → r.books.crossings ≤ last_crossing → held.source ≡ length bs + 1 → length cs ≡ length bs
@@ -149,23 +165,20 @@ module _ {M : Type 0} (view : M → MediumView) (r s : RingView M) (held : Fligh
       }
 
   -- the talker's answer, the echo being right or wrong
-  abbrev pub Behind : Bool → Type 0
-  Behind right = SendsMore r held own back answer s ⊎ EndsSending r held right back answer s
-
   by_echo : (right : Bool) (h : Frame) (d : DeviceState) → IsPlan r.books.plan → r.books.crossings ≤ last_crossing → held.source ≡ length bs + 1 → length cs ≡ length bs → held.source + length rest ≤ length (devices_of r) → devices_of s ≡ cs ++ e ∷ rest_then → AllSilent cs → AllSilent rest
       → e.roles.talks ≡ true → AnswersEcho right own (Source h) e → (right ≡ true → (with_service back ≡ with_service held.sent) × (held.altered ≡ false) × IsClear r.books.plan r.books.crossings (suc (length bs)))
-      → Journey r.books.plan (held.source + 1) (trip so_far (r.books.log ++ back_entry held back ∷ []) (Some (sourced held.source h))) rest u rest_then → Ending → Behind right
+      → Journey r.books.plan (held.source + 1) (trip so_far (r.books.log ++ back_entry held back ∷ []) (Some (sourced held.source h))) rest u rest_then → Ending → SendsThen r held own right back h answer s
   by_echo false h d plan within at same on devices silent silent_behind talks ends_as clear journey ending =
       let is : h ≡ ete = sent_frame h ete ends_as.answer in
-      inr (end_sent false h is (ap (λ h. is_plain (message_of h)) is) (λ r. ap (λ h. roles_after r (message_of h)) is) within at same on devices silent silent_behind talks ends_as.off_loop (λ e. let clash : false ≡ true = e in cc) journey ending)
+      inr (end_sent false h is (ap (λ h. is_plain (message_of h)) is) (λ r. ap (λ h. roles_after r (message_of h)) is) within at same on devices silent silent_behind talks ends_as.off_loop (λ e. let clash : false ≡ true = e in cc) journey ending, is)
   by_echo true h d plan within at same on devices silent silent_behind talks on_echo clear journey ending = by_over (own.stopped || own.last) refl on_echo
     where
-      ended : Ends eto (Source h) e → Behind true
+      ended : Ends eto (Source h) e → SendsThen r held own true back h answer s
       ended ends_as =
           let is : h ≡ eto = sent_frame h eto ends_as.answer in
-          inr (end_sent true h is (ap (λ h. is_plain (message_of h)) is) (λ r. ap (λ h. roles_after r (message_of h)) is) within at same on devices silent silent_behind talks ends_as.off_loop (λ e. (clear e).2) journey ending)
+          inr (end_sent true h is (ap (λ h. is_plain (message_of h)) is) (λ r. ap (λ h. roles_after r (message_of h)) is) within at same on devices silent silent_behind talks ends_as.off_loop (λ e. (clear e).2) journey ending, is)
 
-      by_over : (over : Bool) → (own.stopped || own.last) ≡ over → GoesOn over (Source h) e → Behind true
+      by_over : (over : Bool) → (own.stopped || own.last) ≡ over → GoesOn over (Source h) e → SendsThen r held own true back h answer s
       by_over true is ends_as = ended ends_as
       by_over false is (inl ends_as) = ended ends_as
       by_over false is (inr sends) =
@@ -221,35 +234,56 @@ back_is : (held : Flight) (k : ℕ) (back : Frame) (altered : Bool) → held.sou
 back_is held k back altered at = ap (λ own. entry held.source held.sent (if own then outcome.Back back else outcome.Taken k)) (eq-eqb held.source k at)
 
 -- where it came to its source
-answered_round : {M : Type 0} (view : M → MediumView) (r s : RingView M) (held : Flight) (own : OwnFrame) (answer : Arrival) (bs cs : List DeviceState) (d e : DeviceState) (rest rest_then : List DeviceState) (u : Trip) → r.books.crossings ≤ last_crossing → IsPlan r.books.plan
+pub answered_round : {M : Type 0} (view : M → MediumView) (r s : RingView M) (held : Flight) (own : OwnFrame) (answer : Arrival) (bs cs : List DeviceState) (d e : DeviceState) (rest rest_then : List DeviceState) (u : Trip) → r.books.crossings ≤ last_crossing → IsPlan r.books.plan
     → held.source ≡ 1 + length bs → length cs ≡ length bs → held.source + length rest ≤ length (devices_of r) → devices_of s ≡ cs ++ e ∷ rest_then → AllSilent cs → AllSilent rest → d.roles.talks ≡ true → d.own ≡ Some own → own.frame ≡ held.sent → StoodSo held
-    → (came : Answered r.books.plan (1 + length bs) r.books.crossings r.books.log held bs d rest u e rest_then) → (s.books ≡ home (books_at (record r.books { held = None }) u) u.flight) × (answer ≡ arrived (arriving r.books.plan u.crossings u.flight)) → Later u.crossings s.books.crossings
-    → (right : Bool) × (back : Frame) × CameBack r s held right back × (SendsMore r held own back answer s ⊎ EndsSending r held right back answer s)
+    → (came : Answered Takes r.books.plan (1 + length bs) r.books.crossings r.books.log held bs d rest u e rest_then) → (s.books ≡ home (books_at (record r.books { held = None }) u) u.flight) × (answer ≡ arrived (arriving r.books.plan u.crossings u.flight)) → Later u.crossings s.books.crossings
+    → AnsweredSo r held own (length bs) came.out answer s
 answered_round view r s held own answer bs cs d e rest rest_then u within plan at same on devices silent silent_behind talks own_is frame stood came ending later = by_out came.out refl came.takes came.journey
   where
     echo : EchoIs r.books.plan r.books.crossings (length bs) held own came.back
     echo = echo_is r.books.plan r.books.crossings (length bs) held own came.back held.altered refl frame stood came.came
 
     by_out : (out : Out) → came.out ≡ out → Takes d came.back out e → Journey r.books.plan (1 + length bs + 1) (answered (risen_by (suc (length bs)) r.books.crossings) r.books.log (1 + length bs) (record held { now = came.back; altered = came.altered }) out) rest u rest_then
-        → (right : Bool) × (back : Frame) × CameBack r s held right back × (SendsMore r held own back answer s ⊎ EndsSending r held right back answer s)
+        → AnsweredSo r held own (length bs) came.out answer s
     by_out (Pass h) is takes journey = absurd (own_sends d e came.back h (Pass h) own came.data_frame own_is takes refl)
     by_out (Source h) is takes journey =
         let more : Later (risen_by (suc (length bs)) r.books.crossings) s.books.crossings = later_then (risen_by (suc (length bs)) r.books.crossings) u.crossings s.books.crossings (journey_later r.books.plan (1 + length bs + 1) _ u rest rest_then journey) later in
         let onward : Journey r.books.plan (held.source + 1) (trip (risen_by (suc (length bs)) r.books.crossings) (r.books.log ++ back_entry held came.back ∷ []) (Some (sourced held.source h))) rest u rest_then =
         subst (λ p. Journey r.books.plan (p + 1) (trip (risen_by (suc (length bs)) r.books.crossings) (r.books.log ++ back_entry held came.back ∷ []) (Some (sourced p h))) rest u rest_then) (sym at)
-        (subst (λ entry. Journey r.books.plan (1 + length bs + 1) (trip (risen_by (suc (length bs)) r.books.crossings) (r.books.log ++ entry ∷ []) (Some (sourced (1 + length bs) h))) rest u rest_then) (back_is held (1 + length bs) came.back came.altered at) journey) in (
-          echo.right,
-          came.back,
-          came_back r s held own came.back (length bs) came.data_frame echo (λ hop low planned. met_later r s (risen_by (suc (length bs)) r.books.crossings) hop (suc (length bs)) within refl (omega (arith, low)) planned more),
-          by_echo view r s held answer own came.back bs cs e rest rest_then u echo.right h d plan within (omega (arith, at)) same on devices silent silent_behind
+        (subst (λ entry. Journey r.books.plan (1 + length bs + 1) (trip (risen_by (suc (length bs)) r.books.crossings) (r.books.log ++ entry ∷ []) (Some (sourced (1 + length bs) h))) rest u rest_then) (back_is held (1 + length bs) came.back came.altered at) journey) in
+        record {
+          right = echo.right;
+          back = came.back;
+          came = came_back r s held own came.back (length bs) came.data_frame echo (λ hop low planned. met_later r s (risen_by (suc (length bs)) r.books.crossings) hop (suc (length bs)) within refl (omega (arith, low)) planned more);
+          good = λ e. let all = echo.good e in (all.1, all.2);
+          sent = h;
+          out_is = is;
+          behind =
+              by_echo view r s held answer own came.back bs cs e rest rest_then u echo.right h d plan within (omega (arith, at)) same on devices silent silent_behind
               (ap (λ r. r.talks) (takes.roles ∙ roles_after-data d.roles came.back came.data_frame) ∙ talks)
-              (subst (λ right. AnswersEcho right own (Source h) e) echo.test (echo_answer d e own came.back (Source h) came.data_frame own_is takes)) echo.good onward ending,
-        )
+              (subst (λ right. AnswersEcho right own (Source h) e) echo.test (echo_answer d e own came.back (Source h) came.data_frame own_is takes)) echo.good onward ending;
+        }
 
--- The held frame goes on from the host, where its source is the one device that talks and has it on the loop.
-pub relay_round : {M : Type 0} (view : M → MediumView) (r s : RingView M) (held : Flight) (own : OwnFrame) (answer : Arrival) → r.books.crossings ≤ last_crossing → IsPlan r.books.plan → IsTalking held.source (Some own) (devices_of r) → own.frame ≡ held.sent → StoodSo held
-    → Round view r None held answer s → Relayed r held own answer s
-relay_round view r s held own answer within plan talking frame stood round =
+-- where it was lost before
+pub gone_round : {M : Type 0} (r s : RingView M) (held : Flight) (answer : Arrival) (k m : ℕ) (u : Trip) → r.books.crossings ≤ last_crossing → k ≤ length (devices_of r) → m ≤ length (devices_of r) → Gone r.books.plan 1 k m r.books.crossings r.books.log held u
+    → (s.books ≡ home (books_at (record r.books { held = None }) u) u.flight) × (answer ≡ arrived (arriving r.books.plan u.crossings u.flight)) → IsLostNow r [] held.source held.sent answer s
+gone_round r s held answer k m u within on far gone ending =
+    let n = r.books.crossings in
+    let books : s.books ≡ record r.books { crossings = risen_by (suc gone.crossed) n; log = r.books.log ++ lost_at held gone.party ∷ []; held = None } = ending.0 ∙ ap (λ u. home (books_at (record r.books { held = None }) u) u.flight) gone.is in
+    record {
+      answer_is = ending.1 ∙ ap (λ (u : Trip). arrived (arriving r.books.plan u.crossings u.flight)) gone.is;
+      party = gone.party;
+      on_ring = ⊎_elim (λ here. omega (arith, here, on)) (λ low. omega (arith, low, far)) gone.on_ring;
+      log = ap (λ (b : BooksView). b.log) books;
+      held_is = ap (λ (b : BooksView). b.held) books;
+      met_some = λ none. met_at r.books.plan gone.crossed (suc gone.crossed) n within (omega arith) gone.planned (ap (met (hops_of r.books.plan) n) (sym (ap (λ (b : BooksView). b.crossings) books)) ∙ none);
+    }
+
+-- The held frame goes on from the host, where its source is the one device that talks and has it on the loop: with what the
+-- source sent then.
+pub relay_shown : {M : Type 0} (view : M → MediumView) (r s : RingView M) (held : Flight) (own : OwnFrame) (answer : Arrival) → r.books.crossings ≤ last_crossing → IsPlan r.books.plan → IsTalking held.source (Some own) (devices_of r) → own.frame ≡ held.sent → StoodSo held
+    → Round view r None held answer s → IsLostNow r [] held.source held.sent answer s ⊎ ((m : ℕ) × (held.source ≡ suc m) × ((out : Out) × AnsweredSo r held own m out answer s))
+relay_shown view r s held own answer within plan talking frame stood round =
     let bs = talking.before in
     let rest = talking.behind in
     let d = talking.talker in
@@ -265,17 +299,15 @@ relay_round view r s held own answer within plan talking frame stood round =
     let all = length_split (devices_of r) bs rest d talking.devices_are in
     let ending : (s.books ≡ home (books_at (record r.books { held = None }) u) u.flight) × (answer ≡ arrived (arriving r.books.plan u.crossings u.flight)) = (round.books, round.answer_is) in
     ⊎_elim
-    (λ (answer_at : Answered r.books.plan k n r.books.log held bs d rest u head.e head.rest_then).
-    inr (answered_round view r s held own answer bs cs d head.e rest head.rest_then u within plan at parts.same (omega (arith, at, all)) devices (goes_silent r.books.plan 1 n r.books.log held bs cs parts.middle goes talking.silent) talking.silent_behind talking.talks talking.own_is frame stood answer_at ending (end_later view r s None held answer round)))
-    (λ gone.
-    let is : u ≡ trip (risen_by (suc gone.0.crossed) n) (r.books.log ++ lost_at held gone.0.party ∷ []) None = gone.0.is in
-    let books : s.books ≡ record r.books { crossings = risen_by (suc gone.0.crossed) n; log = r.books.log ++ lost_at held gone.0.party ∷ []; held = None } = round.books ∙ ap (λ u. home (books_at (record r.books { held = None }) u) u.flight) is in
-    inl (record {
-      answer_is = round.answer_is ∙ ap (λ (u : Trip). arrived (arriving r.books.plan u.crossings u.flight)) is;
-      party = gone.0.party;
-      on_ring = ⊎_elim (λ here. omega (arith, here, all)) (λ low. omega (arith, low, all)) gone.0.on_ring;
-      log = ap (λ (b : BooksView). b.log) books;
-      held_is = ap (λ (b : BooksView). b.held) books;
-      met_some = λ none. met_at r.books.plan gone.0.crossed (suc gone.0.crossed) n within (omega arith) gone.0.planned (ap (met (hops_of r.books.plan) n) (sym (ap (λ (b : BooksView). b.crossings) books)) ∙ none);
-    }))
-    (to_talker r.books.plan k n r.books.log held bs d rest u head.e head.rest_then parts.middle head.middle cs plan goes head.passage head.journey)
+    (λ (answer_at : Answered Takes r.books.plan k n r.books.log held bs d rest u head.e head.rest_then).
+    inr (length bs, omega (arith, at), (answer_at.out, answered_round view r s held own answer bs cs d head.e rest head.rest_then u within plan at parts.same (omega (arith, at, all)) devices (goes_silent r.books.plan 1 n r.books.log held bs cs parts.middle goes talking.silent) talking.silent_behind talking.talks talking.own_is frame stood answer_at ending (end_later view r s None held answer round))))
+    (λ gone. inl (gone_round r s held answer k (length bs) u within (omega (arith, all)) (omega (arith, all)) gone.0 ending))
+    (to_talker Takes r.books.plan 1 k n r.books.log held bs d rest u head.e head.rest_then parts.middle head.middle cs plan goes head.passage head.journey)
+
+pub relay_round : {M : Type 0} (view : M → MediumView) (r s : RingView M) (held : Flight) (own : OwnFrame) (answer : Arrival) → r.books.crossings ≤ last_crossing → IsPlan r.books.plan → IsTalking held.source (Some own) (devices_of r) → own.frame ≡ held.sent → StoodSo held
+    → Round view r None held answer s → Relayed r held own answer s
+relay_round view r s held own answer within plan talking frame stood round =
+    ⊎_elim
+    (λ lost. inl lost)
+    (λ shown. let a = shown.2.1 in inr (a.right, a.back, a.came, ⊎_elim (λ more. inl more.0) (λ ends. inr ends.0) a.behind))
+    (relay_shown view r s held own answer within plan talking frame stood round)

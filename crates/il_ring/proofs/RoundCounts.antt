@@ -43,14 +43,20 @@ reached_drive : {M : Type 0} (view : M → MediumView) (plan : List Planned) (k 
 reached_drive view plan k t None d e u reached = (reached.0, ap (λ d. device_of d.state) reached.1)
 reached_drive view plan k t (Some f) d e u reached = met_drive view k t f (hit (next_fault plan t.crossings) f) d e u reached
 
-pub round_journey : {M : Type 0} (view : M → MediumView) (r s : RingView M) (held : Option Flight) (f : Flight) (answer : Arrival) (round : Round view r held f answer s)
-    → Journey r.books.plan 1 (trip_of r.books (Some f)) (devices_of r) round.behind (devices_of s)
-round_journey view r s held f answer round =
+-- from the drive on
+pub drive_journey : {M : Type 0} (view : M → MediumView) (r s : RingView M) (held : Option Flight) (f : Flight) (answer : Arrival) (round : Round view r held f answer s)
+    → Journey r.books.plan (length r.before + 1) round.at_drive (device_of r.drive.state ∷ r.after) round.behind (device_of s.drive.state ∷ s.after)
+drive_journey view r s held f answer round =
     let at : Passage Takes r.books.plan (length r.before + 1) round.at_drive (device_of r.drive.state) round.past_drive (device_of s.drive.state) =
     reached_drive view r.books.plan (length r.before + 1) round.at_drive round.at_drive.flight r.drive s.drive round.past_drive round.at in
     let next : length r.before + 2 ≡ length r.before + 1 + 1 = omega arith in
-    Journey-append r.books.plan 1 (length r.before + 1) (trip_of r.books (Some f)) round.at_drive round.behind r.before s.before (device_of r.drive.state ∷ r.after) (device_of s.drive.state ∷ s.after) (omega arith) round.to_drive
     (round.past_drive, at, subst (λ k. Journey r.books.plan k round.past_drive r.after round.behind s.after) next round.from_drive)
+
+pub round_journey : {M : Type 0} (view : M → MediumView) (r s : RingView M) (held : Option Flight) (f : Flight) (answer : Arrival) (round : Round view r held f answer s)
+    → Journey r.books.plan 1 (trip_of r.books (Some f)) (devices_of r) round.behind (devices_of s)
+round_journey view r s held f answer round =
+    Journey-append r.books.plan 1 (length r.before + 1) (trip_of r.books (Some f)) round.at_drive round.behind r.before s.before (device_of r.drive.state ∷ r.after) (device_of s.drive.state ∷ s.after) (omega arith) round.to_drive
+    (drive_journey view r s held f answer round)
 
 -- ---- the way home
 

@@ -1,10 +1,9 @@
--- Journeys in two parts, and lists of silent devices.
-use Rattle.std.proofs.Common.{◌≡◌, ◌+◌, ◌++◌, ℕ, zero, suc, List, [], ◌∷◌, length, refl, sym, ap, subst, ◌∙◌, arith}
+-- Journeys in two parts, places in lists that are put together, and lists of silent devices.
+use Rattle.std.proofs.Common.{◌≡◌, ◌≤◌, ◌<◌, ◌+◌, ◌++◌, ℕ, zero, suc, List, [], ◌∷◌, None, length, refl, sym, ap, subst, ◌∙◌, arith}
 use Rattle.il_device.specs.State.{DeviceState}
 use Rattle.il_ring.specs.declared.plan.Planned.{Planned}
 use Rattle.il_ring.specs.Journeys.{Trip, Journey}
-use Rattle.il_ring.specs.Lists.{AllSilent}
-use Rattle.il_ring.specs.Lists.{Each, First}
+use Rattle.il_ring.specs.Lists.{Each, First, AllSilent, NoneSends}
 use Rattle.il_ring.proofs.PassKinds.{Silent}
 
 -- past the devices ds, and then past the others
@@ -40,11 +39,65 @@ journey_parts plan k t u (d ∷ ds) rest (e ∷ es) journey =
     }
 journey_parts plan k t u (d ∷ ds) rest [] journey = absurd journey
 
+-- ---- one list put together in two ways
+
+same_first : (x y : DeviceState) (xs ys : List DeviceState) → x ∷ xs ≡ y ∷ ys → x ≡ y
+same_first x y xs ys same = ap (λ l. elim l [ [] ↦ x | z ∷ zs ↦ z ]) same
+
+same_rest : (x y : DeviceState) (xs ys : List DeviceState) → x ∷ xs ≡ y ∷ ys → xs ≡ ys
+same_rest x y xs ys same = ap (λ l. elim l [ [] ↦ xs | z ∷ zs ↦ zs ]) same
+
+-- d lies before y
+pub record LiesBefore (xs ys bs rest : List DeviceState) (y d : DeviceState) : Type 0 where
+  pub between : List DeviceState
+  pub first : xs ≡ bs ++ d ∷ between
+  pub behind : rest ≡ between ++ y ∷ ys
+
+pub lies_before : (xs ys bs rest : List DeviceState) (y d : DeviceState) → xs ++ y ∷ ys ≡ bs ++ d ∷ rest → length bs < length xs → LiesBefore xs ys bs rest y d
+lies_before [] ys bs rest y d same lt = absurd (omega (arith, lt))
+lies_before (x ∷ xs) ys [] rest y d same lt = record {
+  between = xs;
+  first = ap (λ x. x ∷ xs) (same_first x d (xs ++ y ∷ ys) rest same);
+  behind = sym (same_rest x d (xs ++ y ∷ ys) rest same);
+}
+lies_before (x ∷ xs) ys (b ∷ bs) rest y d same lt =
+    let more = lies_before xs ys bs rest y d (same_rest x b (xs ++ y ∷ ys) (bs ++ d ∷ rest) same) (omega (arith, lt)) in
+    record {
+      between = more.between;
+      first = ap (λ x. x ∷ xs) (same_first x b (xs ++ y ∷ ys) (bs ++ d ∷ rest) same) ∙ ap (λ xs. b ∷ xs) more.first;
+      behind = more.behind;
+    }
+
 -- ---- silent devices
 
 pub each_silent : (k : ℕ) (ds : List DeviceState) → AllSilent ds → Each Silent k ds
 each_silent k [] all = tt
 each_silent k (d ∷ ds) all = (all.0, each_silent (k + 1) ds all.1)
+
+pub silent_front : (xs ys : List DeviceState) → AllSilent (xs ++ ys) → AllSilent xs
+silent_front [] ys all = tt
+silent_front (x ∷ xs) ys all = (all.0, silent_front xs ys all.1)
+
+-- those before y, where it lies no further than d, and all before d are silent
+pub silent_up_to : (xs ys bs rest : List DeviceState) (y d : DeviceState) → xs ++ y ∷ ys ≡ bs ++ d ∷ rest → length xs ≤ length bs → AllSilent bs → AllSilent xs
+silent_up_to [] ys bs rest y d same le all = tt
+silent_up_to (x ∷ xs) ys [] rest y d same le all = absurd (omega (arith, le))
+silent_up_to (x ∷ xs) ys (b ∷ bs) rest y d same le all = (
+  ap (λ (d : DeviceState). d.roles.talks) (same_first x b (xs ++ y ∷ ys) (bs ++ d ∷ rest) same) ∙ all.0,
+  silent_up_to xs ys bs rest y d (same_rest x b (xs ++ y ∷ ys) (bs ++ d ∷ rest) same) (omega (arith, le)) all.1,
+)
+
+-- ---- devices without own frames
+
+pub none_sends_front : (xs ys : List DeviceState) → NoneSends (xs ++ ys) → NoneSends xs
+none_sends_front [] ys none = tt
+none_sends_front (x ∷ xs) ys none = (none.0, none_sends_front xs ys none.1)
+
+pub none_sends_at : (bs rest : List DeviceState) (d : DeviceState) → NoneSends (bs ++ d ∷ rest) → d.own ≡ None
+none_sends_at [] rest d none = none.0
+none_sends_at (b ∷ bs) rest d none = none_sends_at bs rest d none.1
+
+-- ---- silent devices behind a frame
 
 -- devices whose roles stay are silent still
 pub silent_still : (R : DeviceState → DeviceState → Type 0) (j : ℕ) (ds es : List DeviceState) → ((d e : DeviceState) → R d e → e.roles ≡ d.roles) → First R j ds es → AllSilent ds

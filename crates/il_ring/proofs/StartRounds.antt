@@ -1,5 +1,5 @@
 -- Rounds of start messages.
-use Rattle.std.proofs.Common.{◌≡◌, ◌≢◌, ◌≤◌, ◌+◌, ◌++◌, ◌⊎◌, ◌==◌, inl, inr, ⊎_elim, ℕ, suc, Bool, true, false, List, [], ◌∷◌, Option, Some, None, length, refl, sym, ap, subst, ◌∙◌, arith, append_assoc, length-append}
+use Rattle.std.proofs.Common.{◌≡◌, ◌≢◌, ◌≤◌, ◌+◌, ◌++◌, ◌⊎◌, ◌==◌, inl, inr, ⊎_elim, ℕ, suc, Bool, true, false, List, [], ◌∷◌, Option, Some, length, refl, sym, ap, subst, ◌∙◌, arith, append_assoc, length-append}
 use Rattle.std.specs.Prelude.{MatchBool, if◌then◌else◌}
 use Rattle.std.proofs.lemmas.Bool.{ne_eqb}
 use Rattle.il_frames.specs.declared.frame.Frame.{Frame}
@@ -33,7 +33,7 @@ use Rattle.il_ring.proofs.DataHome.{DataHome, data_home}
 use Rattle.il_ring.specs.Outcomes.{LetsPass, StartReturned, StartGone}
 use Rattle.il_ring.proofs.StartJourneys.{StartPassed, StartLost, StartTaken, start_goes}
 use Rattle.il_ring.specs.Lists.{NoneSends}
-use Rattle.il_ring.proofs.Splits.{each_silent, silent_still}
+use Rattle.il_ring.proofs.Splits.{each_silent, silent_still, none_sends_at}
 use Rattle.il_ring.proofs.Talkers.{one_talks}
 use Rattle.il_ring.proofs.RoundCounts.{round_journey}
 use Rattle.il_ring.proofs.PassRounds.{at_last, lost_before, round_end}
@@ -111,8 +111,8 @@ pub length_split : (ds bs rest : List DeviceState) (d : DeviceState) → ds ≡ 
 length_split ds bs rest d is = ap length is ∙ length-append bs (d ∷ rest) ∙ omega arith
 
 -- what a message that was taken came to
-taken_round : {M : Type 0} (view : M → MediumView) (r s : RingView M) (held : Option Flight) (f : Frame) (answer : Arrival) → r.books.crossings ≤ last_crossing → IsPlan r.books.plan → is_at_most_one (talkers (roles_of (devices_of r))) ≡ true → NoneSends (devices_of r)
-    → (round : Round view r held (sourced 0 f) answer s) → StartTaken r.books.plan 1 r.books.crossings r.books.log (sourced 0 f) (devices_of r) round.behind (devices_of s) → ring.StartTaken r f answer s
+pub taken_round : {M : Type 0} (view : M → MediumView) (r s : RingView M) (held : Option Flight) (f : Frame) (answer : Arrival) → r.books.crossings ≤ last_crossing → IsPlan r.books.plan → is_at_most_one (talkers (roles_of (devices_of r))) ≡ true → NoneSends (devices_of r)
+    → (round : Round view r held (sourced 0 f) answer s) → (here : StartTaken r.books.plan 1 r.books.crossings r.books.log (sourced 0 f) (devices_of r) round.behind (devices_of s)) → (taken : ring.StartTaken r f answer s) × (taken.party ≡ 1 + length here.before) × (taken.sent ≡ here.sent)
 taken_round view r s held f answer within plan one none round taken =
     let j = suc (length taken.before) in
     let p = 1 + length taken.before in
@@ -125,43 +125,42 @@ taken_round view r s held f answer within plan one none round taken =
     let b : BooksView = books_then r s held answer p taken.sent entries j taken.behind taken.behind_then in
     let journey = subst (λ e. Journey r.books.plan (1 + length taken.before + 1) (trip (risen_by j r.books.crossings) (r.books.log ++ e ∷ []) (Some (sourced p taken.sent))) taken.behind round.behind taken.behind_then) entry_is taken.journey in
     let goes = data_past r.books.plan (p + 1) (risen_by j r.books.crossings) b.log (sourced p taken.sent) taken.behind taken.behind_then round.behind plan (each_silent (p + 1) taken.behind silent.1) taken.sends.data_frame journey in
-    let homed = data_home b (p + 1) (risen_by j r.books.crossings) (sourced p taken.sent) taken.behind taken.behind_then round.behind s.books answer plan goes (round.books, round.answer_is) in
-    record {
-      party = p;
-      on_ring = (omega arith, omega (arith, all));
-      sent = taken.sent;
-      data_frame = taken.sends.data_frame;
-      own = taken.sends.own;
-      own_frame = taken.sends.frame;
-      runs = taken.sends.runs;
-      talking_before = record {
-        before = taken.before;
-        talker = taken.taker;
-        behind = taken.behind;
-        devices_are = taken.devices;
-        party = omega arith;
-        silent = silent.0;
-        talks = taken.sends.talks;
-        own_is = none_sends taken.before taken.behind taken.taker (subst NoneSends taken.devices none);
-        silent_behind = silent.1;
-      };
-      talking = record {
-        before = taken.before_then;
-        talker = taken.taker_then;
-        behind = taken.behind_then;
-        devices_are = taken.devices_then;
-        party = omega (arith, taken.same);
-        silent = silent_still (LetsPass f) (length taken.before) taken.before taken.before_then (λ d e passed. passed.roles) taken.took silent.0;
-        talks = ap (λ r. r.talks) taken.sends.roles ∙ taken.sends.talks;
-        own_is = taken.sends.on_loop;
-        silent_behind = still_behind b (p + 1) (risen_by j r.books.crossings) (sourced p taken.sent) taken.behind taken.behind_then s.books answer homed silent.1;
-      };
-      end = sent_home r s held answer p taken.sent entries j taken.behind taken.behind_then within (omega arith) (omega (arith, all)) taken.clear homed;
-    }
-  where
-    none_sends : (bs rest : List DeviceState) (d : DeviceState) → NoneSends (bs ++ d ∷ rest) → d.own ≡ None
-    none_sends [] rest d none = none.0
-    none_sends (b ∷ bs) rest d none = none_sends bs rest d none.1
+    let homed = data_home b (p + 1) (risen_by j r.books.crossings) (sourced p taken.sent) taken.behind taken.behind_then round.behind s.books answer plan goes (round.books, round.answer_is) in (
+      record {
+        party = p;
+        on_ring = (omega arith, omega (arith, all));
+        sent = taken.sent;
+        data_frame = taken.sends.data_frame;
+        own = taken.sends.own;
+        own_frame = taken.sends.frame;
+        runs = taken.sends.runs;
+        talking_before = record {
+          before = taken.before;
+          talker = taken.taker;
+          behind = taken.behind;
+          devices_are = taken.devices;
+          party = omega arith;
+          silent = silent.0;
+          talks = taken.sends.talks;
+          own_is = none_sends_at taken.before taken.behind taken.taker (subst NoneSends taken.devices none);
+          silent_behind = silent.1;
+        };
+        talking = record {
+          before = taken.before_then;
+          talker = taken.taker_then;
+          behind = taken.behind_then;
+          devices_are = taken.devices_then;
+          party = omega (arith, taken.same);
+          silent = silent_still (LetsPass f) (length taken.before) taken.before taken.before_then (λ d e passed. passed.roles) taken.took silent.0;
+          talks = ap (λ r. r.talks) taken.sends.roles ∙ taken.sends.talks;
+          own_is = taken.sends.on_loop;
+          silent_behind = still_behind b (p + 1) (risen_by j r.books.crossings) (sourced p taken.sent) taken.behind taken.behind_then s.books answer homed silent.1;
+        };
+        end = sent_home r s held answer p taken.sent entries j taken.behind taken.behind_then within (omega arith) (omega (arith, all)) taken.clear homed;
+      },
+      refl,
+      refl,
+    )
 
 -- A start message, where at most one device talks and none has a frame of its own on the loop.
 pub start_round : {M : Type 0} (view : M → MediumView) (r s : RingView M) (held : Option Flight) (f : Frame) (answer : Arrival) → r.books.crossings ≤ last_crossing → IsPlan r.books.plan → is_start (message_of f) ≡ true → NoneSends (devices_of r)
@@ -178,5 +177,5 @@ start_round view r s held f answer within plan start none one round =
     (⊎_elim
     (λ (lost : StartLost r.books.plan 1 r.books.crossings r.books.log (sourced 0 f) (devices_of r) round.behind (devices_of s)).
     inr (inl (record { lost = lost_before r s held f answer lost.reached round.behind within lost.within lost.is lost.planned ends; reached = lost.reached; took = lost.took })))
-    (λ (taken : StartTaken r.books.plan 1 r.books.crossings r.books.log (sourced 0 f) (devices_of r) round.behind (devices_of s)). inr (inr (taken_round view r s held f answer within plan one none round taken))))
+    (λ (taken : StartTaken r.books.plan 1 r.books.crossings r.books.log (sourced 0 f) (devices_of r) round.behind (devices_of s)). inr (inr (taken_round view r s held f answer within plan one none round taken).0)))
     (start_goes r.books.plan 1 r.books.crossings r.books.log (sourced 0 f) (devices_of r) (devices_of s) round.behind start none (round_journey view r s held (sourced 0 f) answer round))

@@ -1,5 +1,5 @@
 -- What became of a frame that went round, as its kind has it.
-use Rattle.std.specs.Prelude.{◌||◌, ◌==◌, not, ◌≡◌, ◌≢◌, ◌⊎◌, ◌≤◌, ◌+◌, ◌++◌, ℕ, Bool, true, false, if◌then◌else◌, List, [], ◌∷◌, length, Option, Some, None, MatchBool}
+use Rattle.std.specs.Prelude.{◌||◌, ◌==◌, not, ◌≡◌, ◌≢◌, ◌⊎◌, ◌≤◌, ◌<◌, ◌+◌, ◌++◌, ℕ, Bool, true, false, if◌then◌else◌, List, [], ◌∷◌, length, Option, Some, None, MatchBool}
 use Rattle.il_frames.specs.declared.frame.Frame.{Frame}
 use Rattle.il_frames.specs.declared.message.Message.{Message}
 use Rattle.il_frames.specs.declared.entry.Entry.{Entry}
@@ -21,7 +21,7 @@ use Rattle.il_ring.specs.Plans.{hops_of}
 use Rattle.il_ring.specs.Journeys.{DriveTakes}
 use Rattle.std.specs.List.{list_all}
 use Rattle.il_frames.specs.declared.entry.Outcome.{Outcome}
-use Rattle.il_ring.specs.Rings.{RingView, devices_of, roles_of}
+use Rattle.il_ring.specs.Rings.{RingView, devices_of, roles_of, drive_party}
 use Rattle.il_ring.specs.Lists.{First, AllSilent}
 use Rattle.il_frames.specs.Messages.{message_of}
 
@@ -47,6 +47,10 @@ pub record Obeys (m : Message) (d e : DeviceState) : Type 0 where
 -- What became of the drive: such a frame came to it, or none did, since a planned hop was met.
 abbrev pub DriveTook : {M : Type 0} → (M → MediumView) → (Frame → Type 0) → RingView M → RingView M → Type 0
 DriveTook view P r s = ((s.drive ≡ r.drive) × (met_between r s ≢ [])) ⊎ ((g : Frame) × P g × ((out : Out) × DriveTakes view r.drive g out s.drive))
+
+-- such a frame came to the drive
+abbrev pub DriveHad : {M : Type 0} → (M → MediumView) → (Frame → Type 0) → RingView M → RingView M → Type 0
+DriveHad view P r s = (g : Frame) × P g × ((out : Out) × DriveTakes view r.drive g out s.drive)
 
 -- it came back to the host as g, and no planned hop was met
 pub record Returned {M : Type 0} (r : RingView M) (held : Option Flight) (f g : Frame) (answer : Arrival) (s : RingView M) : Type 0 where
@@ -170,6 +174,18 @@ pub record StartTaken {M : Type 0} (r : RingView M) (f : Frame) (answer : Arriva
   pub end : ((altered : Bool) × IsHeldNow r (entry 0 f (outcome.Taken party) ∷ []) party sent altered answer s × MatchBool altered (met_between r s ≢ []) (met_between r s ≡ []))
       ⊎ IsLostNow r (entry 0 f (outcome.Taken party) ∷ []) party sent answer s
 
+-- party p took the start message f and sent this frame in its place: up to that party the message came to the drive, behind
+-- it the frame, if a planned hop was not met
+pub record DriveSawStart {M : Type 0} (view : M → MediumView) (f : Frame) (p : ℕ) (sent : Frame) (r s : RingView M) : Type 0 where
+  pub up_to : drive_party r ≤ p → DriveHad view (λ g. g ≡ f) r s
+  pub behind : p < drive_party r → DriveTook view (IsBrought r s sent) r s
+
+-- what came of a start message, and what of it came to the drive
+abbrev pub StartAtDrive : {M : Type 0} → (M → MediumView) → RingView M → Option Flight → Frame → Arrival → RingView M → Type 0
+StartAtDrive view r held f answer s = (StartReturned r held f answer s × DriveHad view (λ g. g ≡ f) r s)
+    ⊎ ((StartGone r f answer s × DriveTook view (λ g. g ≡ f) r s)
+    ⊎ ((taken : StartTaken r f answer s) × DriveSawStart view f taken.party taken.sent r s))
+
 -- ---- the held frame goes on
 
 -- the frame stood so at the host
@@ -184,6 +200,10 @@ pub record CameBack {M : Type 0} (r s : RingView M) (held : Flight) (right : Boo
   pub data_frame : is_data back ≡ true
   pub echo : MatchBool right ((held.altered ≡ false) × (with_service back ≡ with_service held.sent))
       ((byte_of back ≢ byte_of held.sent) × ((held.altered ≡ true) ⊎ (met_between r s ≢ [])))
+
+-- a frame came back to its source right or not: as it came to the drive on its way
+abbrev pub CameAs : Bool → Frame → Frame → Type 0
+CameAs right sent g = (is_data g ≡ true) × (right ≡ true → with_service g ≡ with_service sent)
 
 -- the entry of the frame that came back
 abbrev pub back_entry : Flight → Frame → Entry
@@ -214,6 +234,16 @@ pub record EndsSending {M : Type 0} (r : RingView M) (held : Flight) (right : Bo
 abbrev pub Relayed : {M : Type 0} → RingView M → Flight → OwnFrame → Arrival → RingView M → Type 0
 Relayed r held own answer s = IsLostNow r [] held.source held.sent answer s
     ⊎ ((right : Bool) × (back : Frame) × CameBack r s held right back × (SendsMore r held own back answer s ⊎ EndsSending r held right back answer s))
+
+-- What came of it, and what of it came to the drive: up to its source the frame on its way back, behind it what the source
+-- sent then, if a planned hop was not met.
+abbrev pub RelayedAtDrive : {M : Type 0} → (M → MediumView) → RingView M → Flight → OwnFrame → Arrival → RingView M → Type 0
+RelayedAtDrive view r held own answer s = (IsLostNow r [] held.source held.sent answer s
+    × (drive_party r ≤ held.source → DriveTook view (λ g. is_data g ≡ true) r s) × (held.source < drive_party r → s.drive ≡ r.drive))
+    ⊎ ((right : Bool) × (back : Frame) × CameBack r s held right back
+    × (drive_party r ≤ held.source → DriveHad view (CameAs right held.sent) r s)
+    × (((more : SendsMore r held own back answer s) × (held.source < drive_party r → DriveTook view (IsBrought r s more.sent) r s))
+    ⊎ (EndsSending r held right back answer s × (held.source < drive_party r → DriveTook view (λ g. g ≡ (if right then eto else ete)) r s))))
 
 -- ---- in every round
 
