@@ -1,5 +1,5 @@
 -- What devices obeyed, and how they stand when one of them was told to talk.
-use Rattle.std.proofs.Common.{◌≡◌, ◌∙◌, ◌≤◌, ◌<◌, ◌+◌, ◌++◌, ◌⊎◌, ◌==◌, inl, inr, ⊎_elim, ℕ, Bool, true, false, List, [], ◌∷◌, Option, Some, None, length, refl, sym, ap, subst}
+use Rattle.std.proofs.Common.{◌≡◌, ◌∙◌, ◌≤◌, ◌<◌, ◌+◌, ◌++◌, ⊎_elim, ℕ, Bool, true, false, List, [], ◌∷◌, Option, Some, length, refl, sym, ap, subst}
 use Rattle.std.specs.Prelude.{if◌then◌else◌, MatchBool, IfSome}
 use Rattle.std.proofs.lemmas.Bool.{agree_below_at, le-leb}
 use Rattle.il_frames.specs.declared.frame.Frame.{Frame}
@@ -11,7 +11,6 @@ use Rattle.il_device.specs.declared.roles.Roles.{Roles}
 use Rattle.il_device.specs.declared.interface.OwnFrame.{OwnFrame}
 use Rattle.il_device.specs.Roles.{roles_after, own_after, is_own}
 use Rattle.il_device.specs.State.{DeviceState}
-use Rattle.il_device.specs.Takes.{may_change_service}
 use Rattle.il_device.proofs.Laws.{is_plain}
 use Rattle.il_ports.specs.Media.{MediumView}
 use Rattle.loop_model.specs.Entries.{unl, tad, ddt, rfc}
@@ -19,7 +18,6 @@ use Rattle.loop_model.specs.Exchanges.{returned, commanded, numbered}
 use Rattle.loop_model.proofs.RoundLaws.{message_of-tad}
 use Rattle.loop_model.proofs.UnitLaws.{receive_front}
 use Rattle.il_ring.specs.declared.plan.Arrival.{Arrival}
-use Rattle.il_ring.specs.declared.plan.Arrival.TheVariants as arrival
 use Rattle.il_ring.specs.declared.flight.Flight.{Flight}
 use Rattle.il_ring.specs.Flights.{sourced}
 use Rattle.il_ring.specs.Lists.{Each, First}

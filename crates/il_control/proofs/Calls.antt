@@ -42,7 +42,7 @@ use Rattle.il_drive.specs.State.{device_of}
 use Rattle.il_frames.specs.declared.entry.Outcome.{Outcome}
 use Rattle.il_ring.proofs.Rings.{IsRing-round}
 use Rattle.il_ring.specs.Outcomes.{Obeys}
-use Rattle.il_control.specs.Calls.{Whole, Broke, IsFree}
+use Rattle.il_control.specs.Calls.{Unheard, Whole, Broke, IsFree}
 
 -- ---- cuts
 
@@ -65,7 +65,7 @@ cut_behind (x ∷ xs) ys n b legal = let more = cut_behind xs ys n b legal in re
 -- ---- planned hops over calls
 
 -- the crossings go up, and the plan stays
-met_parts : {M : Type 0} (view : M → MediumView) (r m s : RingView M) (a b c d : Option ℕ) (xs ys : List Entry) → IsRing r → IsRing m → Adds view r a xs b m → Adds view m c ys d s
+pub met_parts : {M : Type 0} (view : M → MediumView) (r m s : RingView M) (a b c d : Option ℕ) (xs ys : List Entry) → IsRing r → IsRing m → Adds view r a xs b m → Adds view m c ys d s
     → (met_between r s ≡ [] → (met_between r m ≡ []) × (met_between m s ≡ [])) × (((met_between r m ≡ []) × (met_between m s ≡ [])) → met_between r s ≡ [])
 met_parts view r m s a b c d xs ys ring ring_m first more =
     let up : r.books.crossings ≤ m.books.crossings = omega (arith, first.crossings, risen_by_later first.links r.books.crossings ring.crossings) in
@@ -95,7 +95,7 @@ hears_then c d e first more = record {
   accessory = more.accessory ∙ first.accessory;
 }
 
-unheard_then : (cs ds es : List DeviceState) → First HearsNothing (length cs) cs ds → First HearsNothing (length ds) ds es → First HearsNothing (length cs) cs es
+pub unheard_then : (cs ds es : List DeviceState) → First HearsNothing (length cs) cs ds → First HearsNothing (length ds) ds es → First HearsNothing (length cs) cs es
 unheard_then [] [] [] first more = tt
 unheard_then (c ∷ cs) (d ∷ ds) (e ∷ es) first more = (hears_then c d e first.0 more.0, unheard_then cs ds es first.1 more.1)
 unheard_then [] [] (e ∷ es) first more = absurd more
@@ -241,12 +241,15 @@ command_done view r m s f g whole ring is_rfc first more =
     done_then view r m s (returned 0 f ∷ []) (returned 0 rfc ∷ []) whole ring first (subst (λ g. Done view m (returned 0 g ∷ []) whole s) is_rfc more)
 
 -- nothing was done
-pub whole_nothing : {M : Type 0} (view : M → MediumView) (r : RingView M) → IsFree r → Whole view r [] r
-whole_nothing view r free = record { adds = adds_nothing view r None; ring = free.ring; held = free.held; met_none = met_nowhere (hops_of r.books.plan) r.books.crossings; unheard = λ none. heard_nothing (λ d e. HearsNothing d e) (λ d e hears. hears) 0 (devices_of r) (devices_of r) (as_it_was (devices_of r)) }
+pub unheard_nothing : {M : Type 0} (r : RingView M) → Unheard r r
+unheard_nothing r = heard_nothing (λ d e. HearsNothing d e) (λ d e hears. hears) 0 (devices_of r) (devices_of r) (as_it_was (devices_of r))
   where
     as_it_was : (ds : List DeviceState) → First (λ d e. HearsNothing d e) 0 ds ds
     as_it_was [] = tt
     as_it_was (d ∷ ds) = (refl, as_it_was ds)
+
+pub whole_nothing : {M : Type 0} (view : M → MediumView) (r : RingView M) → IsFree r → Whole view r [] r
+whole_nothing view r free = record { adds = adds_nothing view r None; ring = free.ring; held = free.held; met_none = met_nowhere (hops_of r.books.plan) r.books.crossings; unheard = λ none. unheard_nothing r }
 
 -- a command whole, and what was done behind it
 pub told_then : {M : Type 0} (view : M → MediumView) (r m s : RingView M) (f g : Frame) (rest : List Entry) (whole : Bool) → IsRing r → f ≡ g → Whole view r (commanded 0 f) m → Done view m rest whole s → Done view r (commanded 0 g ++ rest) whole s

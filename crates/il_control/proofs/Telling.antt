@@ -36,7 +36,7 @@ pub tell_done : {M : Type 0} (view : M → MediumView) (r m s : RingView M) (f :
     → Done view r (entries_of 0 (Send a number [])) whole s
 tell_done view r m s f a number whole ring is first more = subst (λ es. Done view r es whole s) (send_head a number) (told_then view r m s f unl (commanded 0 (lad a) ++ numbered 0 ddl number) whole ring is first more)
 
-number_fits : (number : Option ℕ) → IfSome number (λ n. n < 32) → is_number number ≡ true
+pub number_fits : (number : Option ℕ) → IfSome number (λ n. n < 32) → is_number number ≡ true
 number_fits None small = refl
 number_fits (Some n) small = lt-ltb n 32 small
 

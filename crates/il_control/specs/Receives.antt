@@ -4,8 +4,7 @@ use Rattle.std.specs.List.{list_all}
 use Rattle.il_frames.specs.declared.frame.Frame.{Frame}
 use Rattle.il_frames.specs.declared.entry.Entry.{Entry}
 use Rattle.il_frames.specs.declared.entry.Outcome.TheVariants as outcome
-use Rattle.il_frames.specs.Frames.{byte_of, is_data, with_service}
-use Rattle.il_frames.specs.Messages.{message_of}
+use Rattle.il_frames.specs.Frames.{byte_of, is_data}
 use Rattle.il_device.specs.declared.interface.OwnFrame.{OwnFrame}
 use Rattle.il_device.specs.State.{DeviceState}
 use Rattle.il_device.specs.Takes.{eto}
@@ -18,8 +17,8 @@ use Rattle.il_ring.specs.declared.flight.Flight.{Flight}
 use Rattle.il_ring.specs.declared.plan.Arrival.{Arrival}
 use Rattle.il_ring.specs.declared.plan.Arrival.TheVariants as arrival
 use Rattle.il_ring.specs.Rings.{RingView, IsRing, devices_of}
-use Rattle.il_ring.specs.Lists.{Each, First}
-use Rattle.il_ring.specs.Outcomes.{met_between, IsTalking, Obeys, StoodSo}
+use Rattle.il_ring.specs.Lists.{Each}
+use Rattle.il_ring.specs.Outcomes.{met_between, IsTalking, StoodSo}
 use Rattle.il_ring.specs.Adds.{Adds}
 use Rattle.il_control.specs.declared.frames.Sot.{Sot}
 use Rattle.il_control.specs.declared.frames.Sot.TheVariants as sot
@@ -243,8 +242,8 @@ pub record NotTook {M : Type 0} (view : M → MediumView) (m : RingView M) (h : 
 
 -- of a place in front of the last one
 abbrev pub Fronts : {M : Type 0} → (M → MediumView) → RingView M → List ℕ → List ℕ → Front → RingView M → Type 0
-Fronts view m old new front.Full s = (h : IsHolding m) → SoFar view m h new s
-Fronts view m old new (front.Ended n) s = (n ≤ length old) × (1 ≤ n) × (new ≡ take n new ++ drop n old) × ((h : IsHolding m) → Took view m h false (take n new) s)
+Fronts view m old new front.Full s = (length new ≡ length old) × ((h : IsHolding m) → SoFar view m h new s)
+Fronts view m old new (front.Ended n) s = (n ≤ length old) × (n ≡ length (take n new)) × (new ≡ take n new ++ drop n old) × ((h : IsHolding m) → Took view m h false (take n new) s)
 Fronts view m old new front.Broken s = (h : IsHolding m) → NotTook view m h (suc (length old)) s
 
 -- of the last one
@@ -287,3 +286,10 @@ pub record NotAnswered {M : Type 0} (view : M → MediumView) (start : Start) (w
   pub fitting : fits w answer ≡ true
   pub broke : Broke view r (answer_entries 0 (start_frame start) answer) s
   pub unheard : Unheard r s
+
+-- i of the places in front of the last one are filled
+pub record FrontAt {M : Type 0} (view : M → MediumView) (m : RingView M) (i : ℕ) (old now : List ℕ) (count : ℕ) (s : RingView M) : Type 0 where
+  pub so : (h : IsHolding m) → SoFar view m h (take i now) s
+  pub rest : drop i now ≡ drop i old
+  pub many : length now ≡ length old
+  pub count_is : count ≡ i

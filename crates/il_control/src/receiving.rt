@@ -230,6 +230,8 @@ pub(crate) fn receive<M: Medium>(
     if !ask(ring, address, number) {
         return None;
     }
-    let count = answer(ring, start, into)?;
+    let Some(count) = answer(ring, start, into) else {
+        return None;
+    };
     if command(ring, unt()) { Some(count) } else { None }
 }

@@ -1,0 +1,234 @@
+-- A start message, as a call.
+use Rattle.std.proofs.Common.{◌≡◌, ◌≢◌, ◌∙◌, ◌+◌, ◌-◌, ◌++◌, inl, inr, ⊎_elim, ℕ, Bool, true, false, not, List, [], ◌∷◌, Option, Some, None, refl, sym, ap, subst, arith}
+use Rattle.std.specs.Prelude.{MatchBool, is_some, option_map}
+use Rattle.std.proofs.Math.Nat.{eq-zero-or-pos}
+use Rattle.std.proofs.lemmas.Bool.{and_from}
+use Rattle.il_frames.specs.declared.frame.Frame.{Frame}
+use Rattle.il_frames.specs.declared.entry.Entry.{Entry}
+use Rattle.il_frames.specs.declared.entry.Outcome.TheVariants as outcome
+use Rattle.il_frames.specs.Messages.{message_of}
+use Rattle.il_device.specs.State.{DeviceState}
+use Rattle.il_device.specs.declared.roles.Roles.{Roles}
+use Rattle.il_device.proofs.Laws.{is_start, changes_roles}
+use Rattle.il_ports.specs.Media.{MediumView}
+use Rattle.loop_model.specs.Entries.{entry}
+use Rattle.loop_model.specs.Exchanges.{Start, Sda, Sst, Sdi, Sai, start_frame, Echo, FrameLost, returned}
+use Rattle.loop_model.specs.Roles.{talkers, is_at_most_one, roles_after}
+use Rattle.loop_model.proofs.RoleSteps.{roles_after-kept}
+use Rattle.il_ring.specs.declared.plan.Arrival.{Arrival}
+use Rattle.il_ring.specs.declared.plan.Arrival.TheVariants as arrival
+use Rattle.il_ring.specs.declared.flight.Flight.{Flight}
+use Rattle.il_ring.specs.Books.{IsHeld}
+use Rattle.il_ring.specs.Flights.{sourced}
+use Rattle.il_ring.specs.Lists.{Each, NoneSends}
+use Rattle.il_ring.specs.Rings.{RingView, IsRing, Round, devices_of, roles_of, drive_party}
+use Rattle.il_ring.specs.Rounded.{Rounded, holding}
+use Rattle.il_ring.specs.Outcomes.{met_between, DriveTook, DriveHad, IsBrought, IsHeldNow, IsLostNow, StartReturned, StartGone, StartTaken}
+use Rattle.il_ring.specs.Adds.{Adds}
+use Rattle.il_ring.proofs.Passing.{Carries, Exactly, is_exact}
+use Rattle.il_ring.proofs.Rings.{IsRing-round}
+use Rattle.il_ring.proofs.RoundAdds.{host_adds, none_new, held_new}
+use Rattle.il_ring.proofs.RoundCounts.{round_counts}
+use Rattle.il_ring.proofs.SendLaws.{kept_sent}
+use Rattle.il_ring.proofs.StartDrive.{start_at_drive}
+use Rattle.il_control.specs.Calls.{IsFree, Unheard, Whole}
+use Rattle.il_control.specs.Receives.{IsCalm, IsDeaf, Began, NotBegun, StartLost, FirstLost, Begins}
+use Rattle.il_control.specs.declared.receiving.Begun.TheVariants as begun
+use Rattle.il_control.proofs.Relaying.{deaf_unheard, deaf_still, right_echo}
+
+-- ---- calm devices
+
+pub calm_none : (k : ℕ) (ds : List DeviceState) → Each IsCalm k ds → NoneSends ds
+calm_none k [] calm = tt
+calm_none k (d ∷ ds) calm = (calm.0.1, calm_none (k + 1) ds calm.1)
+
+pub calm_deaf : (k : ℕ) (ds : List DeviceState) → Each IsCalm k ds → Each IsDeaf k ds
+calm_deaf k [] calm = tt
+calm_deaf k (d ∷ ds) calm = (calm.0.0, calm_deaf (k + 1) ds calm.1)
+
+-- ---- start messages
+
+pub starts : (s : Start) → is_start (message_of (start_frame s)) ≡ true
+starts Sda = refl
+starts Sst = refl
+starts Sdi = refl
+starts Sai = refl
+
+start_exact : (s : Start) → is_exact (message_of (start_frame s)) ≡ true
+start_exact Sda = refl
+start_exact Sst = refl
+start_exact Sdi = refl
+start_exact Sai = refl
+
+start_keeps : (s : Start) → changes_roles (message_of (start_frame s)) ≡ false
+start_keeps Sda = refl
+start_keeps Sst = refl
+start_keeps Sdi = refl
+start_keeps Sai = refl
+
+start_roles : (rs : List Roles) (s : Start) (p : ℕ) → roles_after rs (entry 0 (start_frame s) (outcome.Taken p) ∷ []) ≡ rs
+start_roles rs s p = roles_after-kept rs (entry 0 (start_frame s) (outcome.Taken p) ∷ []) (and_from _ true (ap not (start_keeps s)) refl)
+
+-- ---- the round
+
+-- what came of it, by what arrived and whether a frame is held then
+pub data StartEnd {M : Type 0} (view : M → MediumView) (r : RingView M) (f : Frame) (answer : Arrival) (s : RingView M) : Type 0 where
+  ItPassed : (g : Frame) → answer ≡ arrival.Frame g → s.books.held ≡ None → Whole view r (returned 0 f ∷ []) s → Unheard r s → StartEnd view r f answer s
+  ItBegan : (g : Frame) → answer ≡ arrival.Frame g → (flight : Flight) → s.books.held ≡ Some flight → Began view f r s → StartEnd view r f answer s
+  ItFailed : answer ≡ arrival.Lost → NotBegun view f r s → StartEnd view r f answer s
+
+module _ {M : Type 0} (view : M → MediumView) (r s : RingView M) (held : Option Flight) (start : Start) (answer : Arrival) (round : Round view r held (sourced 0 (start_frame start)) answer s) (none : held ≡ None) (free : IsFree r)
+    (one : is_at_most_one (talkers (roles_of (devices_of r))) ≡ true) (calm : Each IsCalm 1 (devices_of r)) where
+  abbrev f : Frame
+  f = start_frame start
+
+  abbrev counts : Rounded r held (sourced 0 f) answer s
+  counts = round_counts view r s held (sourced 0 f) answer (inl refl) round
+
+  carries : Carries (message_of f) f
+  carries = Exactly (start_exact start) refl
+
+  adds : (P : Frame → Type 0) (entries : List Entry) (to : Option ℕ) → DriveTook view P r s → s.books.log ≡ r.books.log ++ entries → holding counts.new ≡ to → Adds view r None entries to s
+  adds P entries to took log new = host_adds view P r s held f answer entries to carries round log new took
+
+  ring : IsRing s
+  ring = IsRing-round view r s held (sourced 0 f) answer round free.ring (subst IsHeld (sym none) tt)
+
+  unheard : Unheard r s
+  unheard = deaf_unheard 1 (devices_of r) (devices_of s) (kept_sent view r s held (sourced 0 f) answer round) (calm_deaf 1 (devices_of r) calm)
+
+  -- the devices do not listen still
+  deaf : roles_of (devices_of s) ≡ roles_of (devices_of r) → Each IsDeaf 1 (devices_of s)
+  deaf same = deaf_still 1 (devices_of r) (devices_of s) same (calm_deaf 1 (devices_of r) calm)
+
+  passed : StartReturned r held f answer s → DriveHad view (λ g. g ≡ f) r s → StartEnd view r f answer s
+  passed back had =
+      let returned = back.returned in
+      let held_is = returned.held_is ∙ none in
+      ItPassed f returned.answer_is held_is
+      (record {
+        adds = adds (λ g. g ≡ f) (entry 0 f (outcome.Back f) ∷ []) None (inr had) returned.log (none_new r s held (sourced 0 f) answer counts held_is);
+        ring = ring;
+        held = held_is;
+        met_none = returned.met_none;
+        unheard = λ none. unheard;
+      })
+      unheard
+
+  gone : StartGone r f answer s → DriveTook view (λ g. g ≡ f) r s → StartEnd view r f answer s
+  gone start_gone took =
+      let lost = start_gone.lost in
+      ItFailed lost.answer_is
+      (StartLost
+      (record {
+        standing = 0;
+        break = FrameLost lost.party;
+        legal = refl;
+        held_at_end = None;
+        adds = adds (λ g. g ≡ f) (entry 0 f (outcome.Lost lost.party) ∷ []) None took lost.log (none_new r s held (sourced 0 f) answer counts lost.held_is);
+        ring = ring;
+        held = lost.held_is;
+        met_some = lost.met_some;
+        unheard = λ none. unheard;
+      })
+      unheard)
+
+  begun_at : (P : Frame → Type 0) → DriveTook view P r s → StartTaken r f answer s → StartEnd view r f answer s
+  begun_at P took taken =
+      let p = taken.party in
+      let entries : List Entry = entry 0 f (outcome.Taken p) ∷ [] in
+      ⊎_elim
+      (λ (end : (altered : Bool) × IsHeldNow r (entry 0 f (outcome.Taken p) ∷ []) p taken.sent altered answer s × MatchBool altered (met_between r s ≢ []) (met_between r s ≡ [])).
+      let now = end.1 in
+      let flight : Flight = record { source = p; sent = taken.sent; now = now.now; altered = end.0 } in
+      let added = adds P entries (Some p) took now.log (held_at flight now.held_is) in
+      ItBegan now.now now.answer_is flight now.held_is
+      (record {
+        now = record {
+          ring = ring;
+          flight = flight;
+          held = now.held_is;
+          data_frame = taken.data_frame;
+          stood = record { data_frame = now.data_frame; same = now.same; other = now.other };
+          own = taken.own;
+          talking = taken.talking;
+          frame = taken.own_frame;
+          deaf = deaf (added.roles ∙ start_roles (roles_of (devices_of r)) start p);
+        };
+        adds = added;
+        talked = taken.talking_before;
+        met = end.2;
+        unheard = unheard;
+      }))
+      (λ (lost : IsLostNow r (entry 0 f (outcome.Taken p) ∷ []) p taken.sent answer s).
+      let d : Echo = record { sent = taken.sent; back = taken.sent } in
+      ItFailed lost.answer_is
+      (FirstLost p d (right_echo taken.sent taken.sent taken.data_frame refl) taken.talking_before
+      (record {
+        standing = 1;
+        break = FrameLost lost.party;
+        legal = refl;
+        held_at_end = None;
+        adds = adds P (entry 0 f (outcome.Taken p) ∷ entry p taken.sent (outcome.Lost lost.party) ∷ []) None took lost.log (none_new r s held (sourced 0 f) answer counts lost.held_is);
+        ring = ring;
+        held = lost.held_is;
+        met_some = lost.met_some;
+        unheard = λ none. unheard;
+      })
+      unheard))
+      taken.end
+    where
+      held_at : (flight : Flight) → s.books.held ≡ Some flight → holding counts.new ≡ Some flight.source
+      held_at flight is = by held counts none
+        where
+          by : (held : Option Flight) (counts : Rounded r held (sourced 0 f) answer s) → held ≡ None → holding counts.new ≡ Some flight.source
+          by None counts none = held_new r s (sourced 0 f) flight answer counts is
+          by (Some g) counts none = cc
+
+  pub start_end : StartEnd view r f answer s
+  start_end =
+      ⊎_elim
+      (λ back. passed back.0 back.1)
+      (⊎_elim
+      (λ lost. gone lost.0 lost.1)
+      (λ taken. ⊎_elim
+      (λ (none : drive_party r - taken.0.party ≡ 0). begun_at (λ g. g ≡ f) (inr (taken.1.up_to (omega (arith, none)))) taken.0)
+      (λ far. begun_at (IsBrought r s taken.0.sent) (taken.1.behind (omega (arith, far))) taken.0)
+      (eq-zero-or-pos (drive_party r - taken.0.party))))
+      (start_at_drive view r s held f answer free.ring.crossings free.ring.plan (starts start) (calm_none 1 (devices_of r) calm) one round)
+
+-- ---- as a call
+
+-- the test whether a frame is held
+pub none_held : (held : Option Flight) (shown : Option Frame) → shown ≡ option_map (λ f. f.now) held → is_some shown ≡ false → held ≡ None
+none_held None shown is none = refl
+none_held (Some f) shown is none = let clash = sym none ∙ ap is_some is in cc
+
+pub some_held : (held : Option Flight) (shown : Option Frame) → shown ≡ option_map (λ f. f.now) held → is_some shown ≡ true → held ≡ None → ⊥
+some_held held shown is some none = let clash = sym some ∙ ap is_some (is ∙ ap (option_map (λ (f : Flight). f.now)) none) in cc
+
+pub passed_begins : {M : Type 0} (view : M → MediumView) (r s : RingView M) (f g : Frame) (answer : Arrival) → StartEnd view r f answer s → answer ≡ arrival.Frame g → s.books.held ≡ None → Begins view f r begun.NotTaken s
+passed_begins view r s f g answer end arrives none = elim end [
+  | ItPassed h is held whole unheard ↦ (whole, unheard)
+  | ItBegan h is flight held began ↦ (let clash = sym none ∙ held in cc)
+  | ItFailed is not_begun ↦ (let clash = sym arrives ∙ is in cc)
+]
+
+pub taken_begins : {M : Type 0} (view : M → MediumView) (r s : RingView M) (f g : Frame) (answer : Arrival) → StartEnd view r f answer s → answer ≡ arrival.Frame g → (s.books.held ≡ None → ⊥) → Begins view f r begun.Taken s
+taken_begins view r s f g answer end arrives some = elim end [
+  | ItPassed h is held whole unheard ↦ absurd (some held)
+  | ItBegan h is flight held began ↦ began
+  | ItFailed is not_begun ↦ (let clash = sym arrives ∙ is in cc)
+]
+
+pub lost_begins : {M : Type 0} (view : M → MediumView) (r s : RingView M) (f : Frame) (answer : Arrival) → StartEnd view r f answer s → answer ≡ arrival.Lost → Begins view f r begun.Broken s
+lost_begins view r s f answer end lost = elim end [
+  | ItPassed h is held whole unheard ↦ (let clash = sym lost ∙ is in cc)
+  | ItBegan h is flight held began ↦ (let clash = sym lost ∙ is in cc)
+  | ItFailed is not_begun ↦ not_begun
+]
+
+-- with the frame that was sent
+pub start_call : {M : Type 0} (view : M → MediumView) (r s : RingView M) (held : Option Flight) (start : Start) (g : Frame) (answer : Arrival) → Round view r held (sourced 0 g) answer s → g ≡ start_frame start → held ≡ None → IsFree r
+    → is_at_most_one (talkers (roles_of (devices_of r))) ≡ true → Each IsCalm 1 (devices_of r) → StartEnd view r (start_frame start) answer s
+start_call view r s held start g answer round is none free one calm = start_end view r s held start answer (subst (λ g. Round view r held (sourced 0 g) answer s) is round) none free one calm

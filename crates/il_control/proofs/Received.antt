@@ -1,0 +1,236 @@
+-- A receive, whole or broken off.
+use Rattle.std.proofs.Common.{◌≡◌, ◌∙◌, ◌≤◌, ◌<◌, ◌+◌, ◌++◌, ◌&&◌, ◌==◌, ⊎_elim, ℕ, suc, true, false, not, List, [], ◌∷◌, Option, Some, None, length, drop, map, refl, sym, ap, subst, arith, length-append}
+use Rattle.std.specs.Prelude.{MatchBool, MatchOption, IfSome}
+use Rattle.std.specs.List.{list_all}
+use Rattle.std.proofs.lemmas.Bool.{and_from, eq-eqb, eqb-true, le-leb, ne_eqb}
+use Rattle.il_frames.specs.declared.frame.Frame.{Frame}
+use Rattle.il_frames.specs.declared.entry.Entry.{Entry}
+use Rattle.il_frames.specs.declared.entry.Outcome.TheVariants as outcome
+use Rattle.il_frames.specs.Frames.{byte_of}
+use Rattle.il_device.specs.Takes.{eto}
+use Rattle.il_ports.specs.Media.{MediumView}
+use Rattle.loop_model.specs.Entries.{entry, nrd, unt}
+use Rattle.loop_model.specs.Exchanges.{Start, Answer, NotTaken, ToItsEnd, Stopped, Receive, Echo, start_frame, echoed, returned, commanded, answer_entries, cut_at, can_cut, is_address, is_answer, is_echo, is_exchange, is_number}
+use Rattle.loop_model.proofs.HearLaws.{has_no_data}
+use Rattle.loop_model.proofs.RoundLaws.{answers_as_asked}
+use Rattle.loop_model.proofs.UnitLaws.{bytes_of, receive_front, entries_of-receive}
+use Rattle.il_ring.specs.Rings.{RingView, IsRing, devices_of, roles_of, spare_of}
+use Rattle.il_ring.specs.Outcomes.{met_between, IsTalking}
+use Rattle.il_ring.specs.Adds.{Adds}
+use Rattle.il_ring.proofs.Adding.{adds_more}
+use Rattle.std.proofs.lemmas.List.{length-map}
+use Rattle.il_device.specs.State.{DeviceState}
+use Rattle.il_control.specs.Calls.{Unheard, Whole, Broke, IsIdle, loop_of}
+use Rattle.il_control.specs.Receives.{Began, NotBegun, StartLost, FirstLost, TakesBytes, TookInto, NotTook, WasTalking, Answered, NotAnswered, Asked, Received, NotReceived, behind_start, talker_of, is_stopped, received, fits}
+use Rattle.il_control.proofs.Calls.{met_parts, room_behind, unheard_then, whole_then, broke_behind, broke_before}
+use Rattle.il_control.proofs.Made.{made, broken_off}
+use Rattle.il_control.proofs.Talking.{asked_one}
+use Rattle.il_control.proofs.Telling.{number_fits}
+
+-- ---- what came of the start message
+
+never_full : (w : ℕ) → 0 < w → false ≡ (0 == w)
+never_full w some = sym (ne_eqb 0 w (λ e. omega (arith, e, some)))
+
+pub passed_answered : {M : Type 0} (view : M → MediumView) (r s : RingView M) (start : Start) (old : List ℕ) → 0 < length old → Whole view r (returned 0 (start_frame start) ∷ []) s × Unheard r s → Answered view start 0 r old old s
+passed_answered view r s start old some passed = record { answer = NotTaken; legal = refl; talked = tt; whole = passed.0; count = refl; within = omega arith; bytes = refl; stops = never_full (length old) some; unheard = passed.1 }
+
+one_answer : {M : Type 0} (r : RingView M) (p : ℕ) (d : Echo) → is_echo d ≡ true → IsTalking p None (devices_of r) → is_answer 0 (ToItsEnd p (d ∷ [])) ≡ true
+one_answer r p d echo talking = and_from (not (p == 0)) (true && list_all is_echo (d ∷ [])) (ap not (ne_eqb p 0 (λ e. omega (arith, e, talking.party)))) (and_from true (list_all is_echo (d ∷ [])) refl (and_from (is_echo d) true echo refl))
+
+pub lost_answered : {M : Type 0} (view : M → MediumView) (r s : RingView M) (start : Start) (w : ℕ) → 0 < w → NotBegun view (start_frame start) r s → NotAnswered view start w r s
+lost_answered view r s start w some (StartLost broke unheard) = record { answer = NotTaken; legal = refl; talked = tt; fitting = refl; broke = broke; unheard = unheard }
+lost_answered view r s start w some (FirstLost p d echo talking broke unheard) = record {
+  answer = ToItsEnd p (d ∷ []);
+  legal = one_answer r p d echo talking;
+  talked = talking;
+  fitting = le-leb 1 w (omega (arith, some));
+  broke = broke_before view r s (entry 0 (start_frame start) (outcome.Taken p) ∷ echoed p d ∷ []) (entry p eto (outcome.Taken 0) ∷ []) broke;
+  unheard = unheard;
+}
+
+-- the entries of an answer by this talker
+taken_entries : (f : Frame) (answer : Answer) (p : ℕ) → talker_of answer ≡ Some p → answer_entries 0 f answer ≡ entry 0 f (outcome.Taken p) ∷ behind_start answer
+taken_entries f NotTaken p is = cc
+taken_entries f (ToItsEnd q ds) p is = let same : q ≡ p = cc in ap (λ p. entry 0 f (outcome.Taken p) ∷ behind_start (ToItsEnd q ds)) same
+taken_entries f (Stopped q ds last) p is = let same : q ≡ p = cc in ap (λ p. entry 0 f (outcome.Taken p) ∷ behind_start (Stopped q ds last)) same
+
+module _ {M : Type 0} (view : M → MediumView) (r m s : RingView M) (start : Start) (ring : IsRing r) (began : Began view (start_frame start) r m) where
+  abbrev p : ℕ
+  p = began.now.flight.source
+
+  abbrev first : List Entry
+  first = entry 0 (start_frame start) (outcome.Taken p) ∷ []
+
+  was_talking : (answer : Answer) → talker_of answer ≡ Some p → WasTalking answer r
+  was_talking answer is = subst (λ o. IfSome o (λ p. IsTalking p None (devices_of r))) (sym is) began.talked
+
+  clean_met : began.now.flight.altered ≡ false → met_between r m ≡ []
+  clean_met unaltered = subst (λ altered. MatchBool altered (met_between r m ≡ [] → ⊥) (met_between r m ≡ [])) unaltered began.met
+
+  spoilt_met : began.now.flight.altered ≡ true → met_between r m ≡ [] → ⊥
+  spoilt_met altered = subst (λ altered. MatchBool altered (met_between r m ≡ [] → ⊥) (met_between r m ≡ [])) altered began.met
+
+  pub took_answered : (old new : List ℕ) (n : ℕ) → TookInto view m began.now old new n s → Answered view start n r old new s
+  took_answered old new n into =
+      let took = into.took in
+      let answer = took.answer in
+      let entries = taken_entries (start_frame start) answer p took.talker in
+      let split = met_parts view r m s None (Some p) (Some p) None first (behind_start answer) ring began.now.ring began.adds took.adds in
+      record {
+        answer = answer;
+        legal = took.legal;
+        talked = was_talking answer took.talker;
+        whole = record {
+          adds = subst (λ es. Adds view r None es None s) (sym entries) (adds_more view r m s None (Some p) None first (behind_start answer) began.adds took.adds);
+          ring = took.ring;
+          held = took.held;
+          met_none = split.1 (clean_met took.clean.0, took.clean.1);
+          unheard = λ none. unheard_then (devices_of r) (devices_of m) (devices_of s) began.unheard took.unheard;
+        };
+        count = into.count ∙ ap length took.bytes_are;
+        within = into.within;
+        bytes = into.filled ∙ ap (λ bytes. bytes ++ drop n old) took.bytes_are;
+        stops = took.stopped;
+        unheard = unheard_then (devices_of r) (devices_of m) (devices_of s) began.unheard took.unheard;
+      }
+
+  pub not_took_answered : (w : ℕ) → NotTook view m began.now w s → NotAnswered view start w r s
+  not_took_answered w not_took =
+      let answer = not_took.answer in
+      let entries = taken_entries (start_frame start) answer p not_took.talker in
+      let cut = cut_at (behind_start answer) not_took.standing not_took.break in
+      let split = met_parts view r m s None (Some p) (Some p) not_took.held_at_end first cut ring began.now.ring began.adds not_took.adds in
+      let all_unheard = unheard_then (devices_of r) (devices_of m) (devices_of s) began.unheard not_took.unheard in
+      record {
+        answer = answer;
+        legal = not_took.legal;
+        talked = was_talking answer not_took.talker;
+        fitting = not_took.fitting;
+        broke = record {
+          standing = suc not_took.standing;
+          break = not_took.break;
+          legal = ap (λ es. can_cut 0 es (suc not_took.standing) not_took.break) entries ∙ not_took.cuts;
+          held_at_end = not_took.held_at_end;
+          adds = subst (λ es. Adds view r None es not_took.held_at_end s) (sym (ap (λ es. cut_at es (suc not_took.standing) not_took.break) entries)) (adds_more view r m s None (Some p) not_took.held_at_end first cut began.adds not_took.adds);
+          ring = not_took.ring;
+          held = not_took.held;
+          met_some = λ none. ⊎_elim (λ altered. spoilt_met altered (split.0 none).0) (λ some. some (split.0 none).1) not_took.spoilt;
+          unheard = λ none. all_unheard;
+        };
+        unheard = all_unheard;
+      }
+
+pub bytes_answered : {M : Type 0} (view : M → MediumView) (r m s : RingView M) (start : Start) (old new : List ℕ) (result : Option ℕ) → IsRing r → Began view (start_frame start) r m → TakesBytes view m old new result s
+    → MatchOption result (NotAnswered view start (length old) r s) (λ n. Answered view start n r old new s)
+bytes_answered view r m s start old new None ring began takes = not_took_answered view r m s start ring began (length old) (takes began.now)
+bytes_answered view r m s start old new (Some n) ring began takes = took_answered view r m s start ring began old new n (takes began.now)
+
+-- the room that it leaves
+length_answer : (f : Frame) (answer : Answer) → length (answer_entries 0 f answer) ≤ length (received answer) + 3
+length_answer f NotTaken = omega arith
+length_answer f (ToItsEnd p ds) =
+    let many = length-map ds (λ (d : Echo). byte_of d.sent) in
+    let echoes = length-map ds (echoed p) in
+    let all = length-append (map (echoed p) ds) (entry p eto (outcome.Taken 0) ∷ []) in
+    omega (arith, many, echoes, all)
+length_answer f (Stopped p ds last) =
+    let many = length-map ds (λ (d : Echo). byte_of d.sent) in
+    let echoes = length-map ds (echoed p) in
+    let all = length-append (map (echoed p) ds) (returned 0 nrd ∷ echoed p last ∷ entry p eto (outcome.Taken 0) ∷ []) in
+    let bytes = length-append (bytes_of ds) (byte_of last.sent ∷ []) in
+    omega (arith, many, echoes, all, bytes)
+
+length_front : (a : ℕ) (number : Option ℕ) → length (receive_front 0 a number) ≤ 6
+length_front a None = omega arith
+length_front a (Some n) = omega arith
+
+pub asked_room : {M : Type 0} (view : M → MediumView) (r m : RingView M) (a : ℕ) (number : Option ℕ) (more : ℕ) → Asked view a number r m → more + 6 ≤ spare_of r → more ≤ spare_of m
+asked_room view r m a number more asked room = let long = length_front a number in room_behind view r m (receive_front 0 a number) more asked.whole (omega (arith, long, room))
+
+pub answered_room : {M : Type 0} (view : M → MediumView) (r s : RingView M) (start : Start) (n more : ℕ) (old new : List ℕ) → Answered view start n r old new s → more + (length old + 3) ≤ spare_of r → more ≤ spare_of s
+answered_room view r s start n more old new answered room =
+    let long = length_answer (start_frame start) answered.answer in
+    room_behind view r s (answer_entries 0 (start_frame start) answered.answer) more answered.whole (omega (arith, long, room, answered.count, answered.within))
+
+-- what was taken fits
+answered_fits : (answer : Answer) (n w : ℕ) → n ≡ length (received answer) → n ≤ w → is_stopped answer ≡ (n == w) → fits w answer ≡ true
+answered_fits NotTaken n w count within stops = refl
+answered_fits (ToItsEnd p ds) n w count within stops = let many = length-map ds (λ (d : Echo). byte_of d.sent) in le-leb (length ds) w (omega (arith, count, many, within))
+answered_fits (Stopped p ds last) n w count within stops =
+    let many = length-map ds (λ (d : Echo). byte_of d.sent) in
+    let all = length-append (bytes_of ds) (byte_of last.sent ∷ []) in
+    let full = eqb-true n w (sym stops) in
+    eq-eqb (suc (length ds)) w (omega (arith, count, many, all, full))
+
+-- ---- all of it
+
+front_no_data : (a : ℕ) (number : Option ℕ) → list_all has_no_data (receive_front 0 a number) ≡ true
+front_no_data a None = refl
+front_no_data a (Some n) = refl
+
+-- the receive is one on this ring
+is_receive : {M : Type 0} (r : RingView M) (a : ℕ) (number : Option ℕ) (start : Start) (answer : Answer) → a ≤ 30 → IfSome number (λ n. n < 32) → is_answer 0 answer ≡ true → is_exchange (loop_of r) (Receive a number start answer) ≡ true
+is_receive r a number start answer low small legal = and_from (is_address a) (is_number number && is_answer 0 answer) (le-leb a 30 low) (and_from (is_number number) (is_answer 0 answer) (number_fits number small) legal)
+
+module _ {M : Type 0} (view : M → MediumView) (a : ℕ) (number : Option ℕ) (start : Start) (r : RingView M) (idle : IsIdle r) (some : 1 ≤ a) (low : a ≤ 30) (small : IfSome number (λ n. n < 32)) where
+  abbrev front : List Entry
+  front = receive_front 0 a number
+
+  abbrev all : Answer → List Entry
+  all answer = answer_entries 0 (start_frame start) answer
+
+  -- the count of devices, as exchanges see it
+  as_asked : (answer : Answer) → answers_as_asked (length (devices_of r)) (Receive a number start answer) ≡ true → answers_as_asked (length (roles_of (devices_of r))) (Receive a number start answer) ≡ true
+  as_asked answer asked = ap (λ k. answers_as_asked k (Receive a number start answer)) (length-map (devices_of r) (λ (d : DeviceState). d.roles)) ∙ asked
+
+  broken : (answer : Answer) (w : ℕ) (s : RingView M) → answers_as_asked (length (devices_of r)) (Receive a number start answer) ≡ true → is_answer 0 answer ≡ true → fits w answer ≡ true → Broke view r (front ++ (all answer ++ commanded 0 unt)) s → Unheard r s → NotReceived view a number start w r s
+  broken answer w s asked legal fit broke unheard = record {
+    answer = answer;
+    asked = asked;
+    fitting = fit;
+    broken = broken_off view (Receive a number start answer) r s idle (is_receive r a number start answer low small legal) (as_asked answer asked) (subst (λ es. Broke view r es s) (sym (entries_of-receive 0 a number start answer)) broke);
+    unheard = unheard;
+  }
+
+  -- no device was told to talk
+  pub not_asked : (w : ℕ) (s : RingView M) → Broke view r front s → NotReceived view a number start w r s
+  not_asked w s broke = broken NotTaken w s refl refl refl (broke_before view r s front (all NotTaken ++ commanded 0 unt) broke) (broke.unheard (front_no_data a number))
+
+  module _ (m : RingView M) (asked : Asked view a number r m) where
+    front_unheard : Unheard r m
+    front_unheard = asked.whole.unheard (front_no_data a number)
+
+    pub not_answered : (w : ℕ) (s : RingView M) → NotAnswered view start w m s → NotReceived view a number start w r s
+    not_answered w s off =
+        broken off.answer w s (asked_one view r m a number start off.answer idle some low (number_fits number small) asked off.talked) off.legal off.fitting
+        (broke_behind view r m s front (all off.answer ++ commanded 0 unt) idle.free.ring asked.whole (broke_before view m s (all off.answer) (commanded 0 unt) off.broke))
+        (unheard_then (devices_of r) (devices_of m) (devices_of s) front_unheard off.unheard)
+
+    pub not_ended : (n : ℕ) (old new : List ℕ) (u s : RingView M) (f : Frame) → Answered view start n m old new u → f ≡ unt → Broke view u (commanded 0 f) s → NotReceived view a number start (length old) r s
+    not_ended n old new u s f answered is broke =
+        let answer = answered.answer in
+        let off = subst (λ f. Broke view u (commanded 0 f) s) is broke in
+        let more = broke_behind view m u s (all answer) (commanded 0 unt) asked.whole.ring answered.whole off in
+        broken answer (length old) s (asked_one view r m a number start answer idle some low (number_fits number small) asked answered.talked) answered.legal (answered_fits answer n (length old) answered.count answered.within answered.stops)
+        (broke_behind view r m s front (all answer ++ commanded 0 unt) idle.free.ring asked.whole more)
+        (unheard_then (devices_of r) (devices_of m) (devices_of s) front_unheard (unheard_then (devices_of m) (devices_of u) (devices_of s) answered.unheard (off.unheard refl)))
+
+    pub received_all : (n : ℕ) (old new : List ℕ) (u s : RingView M) (f : Frame) → Answered view start n m old new u → f ≡ unt → Whole view u (commanded 0 f) s → Received view a number start n r old new s
+    received_all n old new u s f answered is whole =
+        let answer = answered.answer in
+        let last = subst (λ f. Whole view u (commanded 0 f) s) is whole in
+        let x = Receive a number start answer in
+        let more = whole_then view m u s (all answer) (commanded 0 unt) asked.whole.ring answered.whole last in
+        let done = whole_then view r m s front (all answer ++ commanded 0 unt) idle.free.ring asked.whole more in
+        let told = asked_one view r m a number start answer idle some low (number_fits number small) asked answered.talked in
+        record {
+          answer = answer;
+          asked = told;
+          made = made view x r s idle (is_receive r a number start answer low small answered.legal) (as_asked answer told) refl (subst (λ es. Whole view r es s) (sym (entries_of-receive 0 a number start answer)) done);
+          count = answered.count;
+          within = answered.within;
+          bytes = answered.bytes;
+          stops = answered.stops;
+          unheard = unheard_then (devices_of r) (devices_of m) (devices_of s) front_unheard (unheard_then (devices_of m) (devices_of u) (devices_of s) answered.unheard (last.unheard refl));
+        }

@@ -1,0 +1,317 @@
+-- A held frame that goes on, as a call.
+use Rattle.std.proofs.Common.{◌≡◌, ◌≢◌, ◌∙◌, ◌≤◌, ◌<◌, ◌+◌, ◌-◌, ◌++◌, ◌⊎◌, ◌&&◌, ◌==◌, inl, inr, ⊎_elim, ℕ, Bool, true, false, not, List, [], ◌∷◌, Option, Some, None, length, refl, sym, ap, subst, arith, length-append}
+use Rattle.std.specs.Prelude.{MatchBool, IfSome, if◌then◌else◌}
+use Rattle.std.proofs.Math.Nat.{eq-zero-or-pos}
+use Rattle.std.proofs.lemmas.Bool.{and_from, ne_eqb}
+use Rattle.il_frames.specs.declared.frame.Frame.{Frame}
+use Rattle.il_frames.specs.declared.entry.Entry.{Entry}
+use Rattle.il_frames.specs.declared.entry.Outcome.{Outcome}
+use Rattle.il_frames.specs.declared.entry.Outcome.TheVariants as outcome
+use Rattle.il_frames.specs.declared.message.Message.TheVariants as msg
+use Rattle.il_frames.specs.Frames.{byte_of, is_data, same_but_service, with_service}
+use Rattle.il_device.specs.declared.interface.OwnFrame.{OwnFrame}
+use Rattle.il_device.specs.declared.roles.Roles.{Roles}
+use Rattle.il_device.specs.State.{DeviceState}
+use Rattle.il_device.specs.Takes.{eto, ete}
+use Rattle.il_ports.specs.Media.{MediumView}
+use Rattle.loop_model.specs.Entries.{entry}
+use Rattle.loop_model.specs.Exchanges.{Echo, FrameLost, TalkerAltered, echoed, is_altered, is_echo, is_end}
+use Rattle.il_ring.specs.declared.plan.Arrival.{Arrival}
+use Rattle.il_ring.specs.declared.plan.Arrival.TheVariants as arrival
+use Rattle.il_ring.specs.declared.flight.Flight.{Flight}
+use Rattle.il_ring.specs.Lists.{Each, First}
+use Rattle.il_ring.specs.Rings.{RingView, IsRing, Round, devices_of, roles_of, drive_party}
+use Rattle.il_ring.specs.Rounded.{Rounded, IsReady, own_at, holding, device_sending}
+use Rattle.il_ring.specs.Outcomes.{met_between, DriveTook, DriveHad, CameAs, IsBrought, HearsNothing, AllKeep, IsTalking, IsHeldNow, IsLostNow, CameBack, SendsMore, EndsSending, back_entry}
+use Rattle.il_ring.specs.Adds.{Adds}
+use Rattle.il_ring.proofs.DataPasses.{same_served}
+use Rattle.il_ring.proofs.Passing.{AsData}
+use Rattle.il_ring.proofs.RelayDrive.{relay_at_drive}
+use Rattle.il_ring.proofs.RelayRounds.{wrong_echo}
+use Rattle.il_ring.proofs.Rings.{IsRing-round}
+use Rattle.il_ring.proofs.RolesHome.{device_round}
+use Rattle.il_ring.proofs.RoundAdds.{device_adds, none_new, held_new}
+use Rattle.il_ring.proofs.RoundCounts.{round_counts}
+use Rattle.il_ring.proofs.RoundRoles.{IsQuiet}
+use Rattle.il_ring.proofs.SendLaws.{kept_sent}
+use Rattle.il_control.specs.Calls.{Unheard}
+use Rattle.il_control.specs.Receives.{IsDeaf, IsHolding, WentOn, Ended, AtHeld, AtNext, AtEnd, Severed, WentAs, IsOnward}
+use Rattle.il_control.specs.declared.receiving.Onward.{Onward}
+use Rattle.il_control.specs.declared.receiving.Onward.TheVariants as onward
+
+-- ---- devices that do not listen
+
+-- hear nothing
+pub deaf_unheard : (k : ℕ) (ds es : List DeviceState) → AllKeep ds es → Each IsDeaf k ds → First HearsNothing (length ds) ds es
+deaf_unheard k [] [] keeps deaf = tt
+deaf_unheard k (d ∷ ds) (e ∷ es) keeps deaf =
+    let silent = keeps.0.unheard deaf.0 in
+    (record { heard = silent.0; heard_count = silent.1; room = keeps.0.room; accessory = keeps.0.accessory }, deaf_unheard (k + 1) ds es keeps.1 deaf.1)
+deaf_unheard k [] (e ∷ es) keeps deaf = absurd keeps
+deaf_unheard k (d ∷ ds) [] keeps deaf = absurd keeps
+
+abbrev first_of : Roles → List Roles → Roles
+first_of other [] = other
+first_of other (r ∷ rs) = r
+
+abbrev others_of : List Roles → List Roles
+others_of [] = []
+others_of (r ∷ rs) = rs
+
+-- and are deaf still where no role changes
+pub deaf_still : (k : ℕ) (ds es : List DeviceState) → roles_of es ≡ roles_of ds → Each IsDeaf k ds → Each IsDeaf k es
+deaf_still k ds [] same deaf = tt
+deaf_still k [] (e ∷ es) same deaf = cc
+deaf_still k (d ∷ ds) (e ∷ es) same deaf = (ap (λ rs. (first_of d.roles rs).listens) same ∙ deaf.0, deaf_still (k + 1) ds es (ap others_of same) deaf.1)
+
+-- ---- a talker
+
+pub talker_own : (before behind : List DeviceState) (d : DeviceState) → own_at (length before) (before ++ d ∷ behind) ≡ d.own
+talker_own [] behind d = refl
+talker_own (b ∷ before) behind d = talker_own before behind d
+
+pub awaited : (p : ℕ) (own : OwnFrame) (f : Flight) (devices : List DeviceState) → f.source ≡ p → is_data f.now ≡ true → IsTalking p (Some own) devices → IsReady f devices
+awaited p own f devices at data_frame talking =
+    let many = ap length talking.devices_are ∙ length-append talking.before (talking.talker ∷ talking.behind) in
+    inr (record {
+      place = length talking.before;
+      there = omega (arith, at, talking.party);
+      within = omega (arith, many);
+      data_frame = data_frame;
+      own = own;
+      waits = ap (own_at (length talking.before)) talking.devices_are ∙ talker_own talking.before talking.behind talking.talker ∙ talking.own_is;
+    })
+
+-- ---- echoes
+
+pub right_echo : (sent back : Frame) → is_data sent ≡ true → with_service back ≡ with_service sent → is_echo (record { sent = sent; back = back }) ≡ true
+right_echo sent back data_frame same = and_from (is_data sent) (same_but_service sent back) data_frame (same_served sent back same)
+
+-- ---- the round
+
+-- what came of it, by what arrived
+pub data RelayEnd {M : Type 0} (view : M → MediumView) (m : RingView M) (h : IsHolding m) (answer : Arrival) (s : RingView M) : Type 0 where
+  ItWentOn : (g : Frame) → answer ≡ arrival.Frame g → is_data g ≡ true → WentOn view m h s → RelayEnd view m h answer s
+  ItEnded : answer ≡ arrival.Frame eto → Ended view m h s → RelayEnd view m h answer s
+  ItBroke : (answer ≡ arrival.Lost) ⊎ (answer ≡ arrival.Frame ete) → Severed view m h s → RelayEnd view m h answer s
+
+took_if : {M : Type 0} (view : M → MediumView) (P : Frame → Type 0) (m s : RingView M) → DriveHad view P m s → DriveTook view P m s
+took_if view P m s had = inr had
+
+module _ {M : Type 0} (view : M → MediumView) (m s : RingView M) (h : IsHolding m) (answer : Arrival) (round : Round view m None h.flight answer s) where
+  abbrev p : ℕ
+  p = h.flight.source
+
+  some : 1 ≤ p
+  some = omega (arith, h.talking.party)
+
+  abbrev ready : IsReady h.flight (devices_of m)
+  ready = awaited p h.own h.flight (devices_of m) refl h.stood.data_frame h.talking
+
+  quiet : IsQuiet h.flight
+  quiet = record { from_device = some; message = msg.Dab 0; keeps = refl; carries = AsData refl h.stood.data_frame }
+
+  abbrev counts : Rounded m None h.flight answer s
+  counts = round_counts view m s None h.flight answer ready round
+
+  is_device : (p == 0) ≡ false
+  is_device = ne_eqb p 0 (λ e. omega (arith, e, some))
+
+  sending : device_sending h.flight ≡ Some p
+  sending = ap (λ (own : Bool). if own then None else Some p) is_device
+
+  adds : (P : Frame → Type 0) (entries : List Entry) (to : Option ℕ) → DriveTook view P m s → s.books.log ≡ m.books.log ++ entries → holding counts.new ≡ to → Adds view m (Some p) entries to s
+  adds P entries to took log new = subst (λ from. Adds view m from entries to s) sending (device_adds view P m s None h.flight answer entries to quiet ready round log new took)
+
+  ring : IsRing s
+  ring = IsRing-round view m s None h.flight answer round h.ring tt
+
+  unheard : Unheard m s
+  unheard = deaf_unheard 1 (devices_of m) (devices_of s) (kept_sent view m s None h.flight answer round) h.deaf
+
+  deaf : Each IsDeaf 1 (devices_of s)
+  deaf = deaf_still 1 (devices_of m) (devices_of s) (device_round view m s None h.flight answer quiet round).roles h.deaf
+
+  abbrev echo_of : Frame → Echo
+  echo_of back = record { sent = h.flight.sent; back = back }
+
+  own_echo : (f : Frame) → is_data f ≡ true → is_echo (record { sent = f; back = f }) ≡ true
+  own_echo f data_frame = right_echo f f data_frame refl
+
+  -- it was lost before it came back
+  lost_first : (P : Frame → Type 0) → DriveTook view P m s → IsLostNow m [] p h.flight.sent answer s → RelayEnd view m h answer s
+  lost_first P took lost = ItBroke (inl lost.answer_is) (record {
+    whole = [];
+    due = echoed p (echo_of h.flight.sent);
+    break = FrameLost lost.party;
+    due_at = AtHeld (echo_of h.flight.sent) (own_echo h.flight.sent h.data_frame) refl refl;
+    legal = refl;
+    adds = adds P (entry p h.flight.sent (outcome.Lost lost.party) ∷ []) None took lost.log (none_new m s None h.flight answer counts lost.held_is);
+    ring = ring;
+    held = lost.held_is;
+    spoilt = inr lost.met_some;
+    unheard = unheard;
+  })
+
+  -- the talker sent a further frame behind the right echo
+  went_on : (P : Frame → Type 0) (back : Frame) → DriveTook view P m s → SendsMore m h.flight h.own back answer s → RelayEnd view m h answer s
+  went_on P back took more =
+      let echo = right_echo h.flight.sent back h.data_frame more.right in
+      ⊎_elim
+      (λ (end : (altered : Bool) × IsHeldNow m (back_entry h.flight back ∷ []) p more.sent altered answer s × MatchBool altered (met_between m s ≢ []) (met_between m s ≡ [])).
+      let now = end.1 in
+      let flight : Flight = record { source = p; sent = more.sent; now = now.now; altered = end.0 } in
+      ItWentOn now.now now.answer_is now.data_frame (record {
+        back = back;
+        right = echo;
+        goes_on = more.goes_on;
+        adds = adds P (echoed p (echo_of back) ∷ []) (Some p) took now.log (held_new m s h.flight flight answer counts now.held_is);
+        next = record {
+          ring = ring;
+          flight = flight;
+          held = now.held_is;
+          data_frame = more.data_frame;
+          stood = record { data_frame = now.data_frame; same = now.same; other = now.other };
+          own = more.next;
+          talking = more.talking;
+          frame = more.next_frame;
+          deaf = deaf;
+        };
+        source = refl;
+        unaltered = more.unaltered;
+        met = end.2;
+        unheard = unheard;
+      }))
+      (λ (lost : IsLostNow m (back_entry h.flight back ∷ []) p more.sent answer s).
+      ItBroke (inl lost.answer_is) (record {
+        whole = echo_of back ∷ [];
+        due = echoed p (record { sent = more.sent; back = more.sent });
+        break = FrameLost lost.party;
+        due_at = AtNext (echo_of back) (record { sent = more.sent; back = more.sent }) echo (own_echo more.sent more.data_frame) more.goes_on refl refl;
+        legal = refl;
+        adds = adds P (echoed p (echo_of back) ∷ entry p more.sent (outcome.Lost lost.party) ∷ []) None took lost.log (none_new m s None h.flight answer counts lost.held_is);
+        ring = ring;
+        held = lost.held_is;
+        spoilt = inr lost.met_some;
+        unheard = unheard;
+      }))
+      more.end
+
+  -- it ended behind the right echo
+  ended : (P : Frame → Type 0) (back : Frame) → DriveTook view P m s → (h.flight.altered ≡ false) × (with_service back ≡ with_service h.flight.sent) → EndsSending m h.flight true back answer s → RelayEnd view m h answer s
+  ended P back took right ends =
+      let echo = right_echo h.flight.sent back h.data_frame right.1 in
+      ⊎_elim
+      (λ end. ItEnded end.0 (record {
+        back = back;
+        right = echo;
+        adds = adds P (echoed p (echo_of back) ∷ entry p eto (outcome.Taken 0) ∷ []) None took end.1 (none_new m s None h.flight answer counts end.2);
+        ring = ring;
+        held = end.2;
+        clean = (right.0, end.3 refl);
+        unheard = unheard;
+      }))
+      (λ (lost : IsLostNow m (back_entry h.flight back ∷ []) p eto answer s).
+      ItBroke (inl lost.answer_is) (record {
+        whole = echo_of back ∷ [];
+        due = entry p eto (outcome.Taken 0);
+        break = FrameLost lost.party;
+        due_at = AtEnd (echo_of back) echo refl refl;
+        legal = refl;
+        adds = adds P (echoed p (echo_of back) ∷ entry p eto (outcome.Lost lost.party) ∷ []) None took lost.log (none_new m s None h.flight answer counts lost.held_is);
+        ring = ring;
+        held = lost.held_is;
+        spoilt = inr lost.met_some;
+        unheard = unheard;
+      }))
+      ends.end
+
+  -- or behind the wrong one
+  refused_at : (P : Frame → Type 0) (back : Frame) (end : Outcome) → DriveTook view P m s → (byte_of back ≢ byte_of h.flight.sent) × ((h.flight.altered ≡ true) ⊎ (met_between m s ≢ [])) → is_end 0 end ≡ true
+      → (answer ≡ arrival.Lost) ⊎ (answer ≡ arrival.Frame ete) → s.books.log ≡ m.books.log ++ (echoed p (echo_of back) ∷ entry p ete end ∷ []) → s.books.held ≡ None → RelayEnd view m h answer s
+  refused_at P back end took wrong ends told log free =
+      let altered = and_from (is_data h.flight.sent) (not (same_but_service h.flight.sent back)) h.data_frame (ap not (wrong_echo h.flight.sent back wrong.0)) in
+      ItBroke told (record {
+        whole = [];
+        due = echoed p (echo_of h.flight.sent);
+        break = TalkerAltered back end;
+        due_at = AtHeld (echo_of h.flight.sent) (own_echo h.flight.sent h.data_frame) refl refl;
+        legal = and_from (not (p == 0)) (is_altered h.flight.sent back && is_end 0 end) (ap not is_device) (and_from (is_altered h.flight.sent back) (is_end 0 end) altered ends);
+        adds = adds P (echoed p (echo_of back) ∷ entry p ete end ∷ []) None took log (none_new m s None h.flight answer counts free);
+        ring = ring;
+        held = free;
+        spoilt = wrong.1;
+        unheard = unheard;
+      })
+
+  refused : (P : Frame → Type 0) (back : Frame) → DriveTook view P m s → (byte_of back ≢ byte_of h.flight.sent) × ((h.flight.altered ≡ true) ⊎ (met_between m s ≢ [])) → EndsSending m h.flight false back answer s → RelayEnd view m h answer s
+  refused P back took wrong ends =
+      ⊎_elim
+      (λ end. refused_at P back (outcome.Taken 0) took wrong refl (inr end.0) end.1 end.2)
+      (λ (lost : IsLostNow m (back_entry h.flight back ∷ []) p ete answer s). refused_at P back (outcome.Lost lost.party) took wrong refl (inl lost.answer_is) lost.log lost.held_is)
+      ends.end
+
+  -- the drive is the talker or stands before it, or it stands behind it
+  place : (drive_party m ≤ p) ⊎ (p < drive_party m)
+  place = ⊎_elim (λ (none : drive_party m - p ≡ 0). inl (omega (arith, none))) (λ far. inr (omega (arith, far))) (eq-zero-or-pos (drive_party m - p))
+
+  pub relay_end : RelayEnd view m h answer s
+  relay_end =
+      ⊎_elim
+      (λ lost. ⊎_elim (λ near. lost_first (λ g. is_data g ≡ true) (lost.1 near) lost.0) (λ far. lost_first (λ g. ⊥) (inl (lost.2 far, lost.0.met_some)) lost.0) place)
+      (λ came. on_back came.0 came.1 came.2 came.3 came.4)
+      (relay_at_drive view m s h.flight h.own answer h.ring.crossings h.ring.plan h.talking h.frame h.stood round)
+    where
+      on_back : (right : Bool) (back : Frame) → CameBack m s h.flight right back → (drive_party m ≤ p → DriveHad view (CameAs right h.flight.sent) m s)
+          → (((more : SendsMore m h.flight h.own back answer s) × (p < drive_party m → DriveTook view (IsBrought m s more.sent) m s))
+          ⊎ (EndsSending m h.flight right back answer s × (p < drive_party m → DriveTook view (λ g. g ≡ (if right then eto else ete)) m s))) → RelayEnd view m h answer s
+      on_back right back came near (inl more) =
+          ⊎_elim
+          (λ here. went_on (CameAs right h.flight.sent) back (inr (near here)) more.0)
+          (λ far. went_on (IsBrought m s more.0.sent) back (more.1 far) more.0)
+          place
+      on_back true back came near (inr ends) =
+          ⊎_elim
+          (λ here. ended (CameAs true h.flight.sent) back (inr (near here)) came.echo ends.0)
+          (λ far. ended (λ g. g ≡ eto) back (ends.1 far) came.echo ends.0)
+          place
+      on_back false back came near (inr ends) =
+          ⊎_elim
+          (λ here. refused (CameAs false h.flight.sent) back (inr (near here)) came.echo ends.0)
+          (λ far. refused (λ g. g ≡ ete) back (ends.1 far) came.echo ends.0)
+          place
+
+-- ---- as a call
+
+ends_differ : eto ≡ ete → ⊥
+ends_differ same = let clash : true ≡ false = ap (λ f. byte_of f == 0x40) same in cc
+
+abbrev frame_in : Frame → Arrival → Frame
+frame_in f (arrival.Frame g) = g
+frame_in f arrival.Lost = f
+
+same_frame : (f g : Frame) (answer : Arrival) → answer ≡ arrival.Frame f → answer ≡ arrival.Frame g → f ≡ g
+same_frame f g answer first second = ap (frame_in f) (sym first ∙ second)
+
+pub relay_done : {M : Type 0} (view : M → MediumView) (m s : RingView M) (held : Option Flight) (answer : Arrival) (how : Onward) → IfSome held (λ f. Round view m None f answer s) → m.books.held ≡ held → IsOnward answer how → WentAs view m how s
+relay_done view m s held answer how round is told = by how told
+  where
+    end : (h : IsHolding m) → RelayEnd view m h answer s
+    end h = relay_end view m s h answer (subst (λ held. IfSome held (λ f. Round view m None f answer s)) (sym is ∙ h.held) round)
+
+    by : (how : Onward) → IsOnward answer how → WentAs view m how s
+    by onward.More told = λ h. elim (end h) [
+      | ItWentOn g is data_frame went ↦ went
+      | ItEnded is end ↦ (let same = same_frame told.0 eto answer told.1 is in let clash = sym told.2 ∙ ap is_data same in cc)
+      | ItBroke is severed ↦ ⊎_elim (λ lost. let clash = sym told.1 ∙ lost in cc) (λ ete_is. let same = same_frame told.0 ete answer told.1 ete_is in let clash = sym told.2 ∙ ap is_data same in cc) is
+    ]
+    by onward.Ended told = λ h. elim (end h) [
+      | ItWentOn g is data_frame went ↦ (let same = same_frame g eto answer is told in let clash = sym data_frame ∙ ap is_data same in cc)
+      | ItEnded is end ↦ end
+      | ItBroke is severed ↦ ⊎_elim (λ lost. let clash = sym told ∙ lost in cc) (λ ete_is. absurd (ends_differ (same_frame eto ete answer told ete_is))) is
+    ]
+    by onward.Broken told = λ h. elim (end h) [
+      | ItWentOn g is data_frame went ↦ ⊎_elim (λ lost. let clash = sym lost ∙ is in cc) (λ other. let same = same_frame g other.0 answer is other.1 in let clash = sym data_frame ∙ ap is_data same ∙ other.2 in cc) told
+      | ItEnded is end ↦ ⊎_elim (λ lost. let clash = sym lost ∙ is in cc) (λ other. absurd (other.3 (sym (same_frame eto other.0 answer is other.1)))) told
+      | ItBroke is severed ↦ severed
+    ]
