@@ -304,10 +304,13 @@ relay_shown view r s held own answer within plan talking frame stood round =
     (λ gone. inl (gone_round r s held answer k (length bs) u within (omega (arith, all)) (omega (arith, all)) gone.0 ending))
     (to_talker Takes r.books.plan 1 k n r.books.log held bs d rest u head.e head.rest_then parts.middle head.middle cs plan goes head.passage head.journey)
 
+relayed : {M : Type 0} (r s : RingView M) (held : Flight) (own : OwnFrame) (answer : Arrival) → IsLostNow r [] held.source held.sent answer s ⊎ ((m : ℕ) × (held.source ≡ suc m) × ((out : Out) × AnsweredSo r held own m out answer s)) → Relayed r held own answer s
+relayed r s held own answer (inl lost) = inl lost
+relayed r s held own answer (inr shown) = by_answer shown.0 shown.2.0 shown.2.1
+  where
+    by_answer : (m : ℕ) (out : Out) → AnsweredSo r held own m out answer s → Relayed r held own answer s
+    by_answer m out a = inr (a.right, a.back, a.came, ⊎_elim (λ more. inl more.0) (λ ends. inr ends.0) a.behind)
+
 pub relay_round : {M : Type 0} (view : M → MediumView) (r s : RingView M) (held : Flight) (own : OwnFrame) (answer : Arrival) → r.books.crossings ≤ last_crossing → IsPlan r.books.plan → IsTalking held.source (Some own) (devices_of r) → own.frame ≡ held.sent → StoodSo held
     → Round view r None held answer s → Relayed r held own answer s
-relay_round view r s held own answer within plan talking frame stood round =
-    ⊎_elim
-    (λ lost. inl lost)
-    (λ shown. let a = shown.2.1 in inr (a.right, a.back, a.came, ⊎_elim (λ more. inl more.0) (λ ends. inr ends.0) a.behind))
-    (relay_shown view r s held own answer within plan talking frame stood round)
+relay_round view r s held own answer within plan talking frame stood round = relayed r s held own answer (relay_shown view r s held own answer within plan talking frame stood round)

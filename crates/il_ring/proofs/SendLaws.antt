@@ -23,7 +23,7 @@ use Rattle.il_ring.proofs.StartRounds.{start_round}
 use Rattle.il_ring.proofs.RelayRounds.{relay_round}
 use Rattle.il_ring.proofs.Splits.{each_silent}
 use Rattle.il_ring.proofs.Kept.{journey_keeps}
-use Rattle.il_ring.specs.Rounded.{Rounded}
+use Rattle.il_ring.specs.Rounded.{Rounded, IsReady}
 use Rattle.il_ring.proofs.RoundCounts.{round_journey, round_counts}
 
 pub plain_sent : {M : Type 0} (view : M → MediumView) (r s : RingView M) (held : Option Flight) (f : Frame) (flight : Flight) (answer : Arrival) → Round view r held flight answer s → flight ≡ sourced 0 f → IsRing r → is_plain (message_of f) ≡ true → Returned r held f f answer s ⊎ WasLost r 0 f answer s
@@ -49,3 +49,7 @@ pub relay_told : {M : Type 0} (view : M → MediumView) (r s : RingView M) (held
     → IfSome held (λ f. (own : OwnFrame) → IsTalking f.source (Some own) (devices_of r) → own.frame ≡ f.sent → StoodSo f → Relayed r f own answer s)
 relay_told view r s None answer round ring = tt
 relay_told view r s (Some f) answer round ring = λ own talking frame stood. relay_round view r s f own answer ring.crossings ring.plan talking frame stood round
+
+pub relay_counts : {M : Type 0} (view : M → MediumView) (r s : RingView M) (held : Option Flight) (answer : Arrival) → IfSome held (λ f. Round view r None f answer s) → IfSome held (λ f. IsReady f (devices_of r) → Rounded r None f answer s)
+relay_counts view r s None answer round = tt
+relay_counts view r s (Some f) answer round = λ ready. round_counts view r s None f answer ready round

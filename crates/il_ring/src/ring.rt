@@ -10,7 +10,7 @@ ghost use Rattle.il_ring.specs.Plans.{IsPlan};
 ghost use Rattle.il_ring.specs.Flights.{sourced};
 ghost use Rattle.il_ring.specs.Rings.{RingView, IsRing, Round, devices_of, roles_of, drive_party, spare_of, fresh_books, paper_of};
 ghost use Rattle.il_ring.specs.Lists.{AllSilent, NoneSends};
-ghost use Rattle.il_ring.specs.Rounded.{Rounded};
+ghost use Rattle.il_ring.specs.Rounded.{Rounded, IsReady};
 ghost use Rattle.il_ring.specs.Outcomes.{Returned, WasLost, DataReturned, DataBroken, StartReturned, StartGone, StartTaken, AllKeep, IsTalking, StoodSo, Relayed};
 
 use crate::books::Books;
@@ -221,6 +221,12 @@ impl<M: Medium> Ring<M> {
         ensures relayed { IsRing (⟦<Ring<M> as Seen<M>>⟧.seen self.old) → IfSome (⟦<Ring<M> as Seen<M>>⟧.seen self.old).books.held
             (λ f. (own : OwnFrame) → IsTalking f.source (Some own) (devices_of (⟦<Ring<M> as Seen<M>>⟧.seen self.old)) → own.frame ≡ f.sent → StoodSo f
             → Relayed (⟦<Ring<M> as Seen<M>>⟧.seen self.old) f own result (⟦<Ring<M> as Seen<M>>⟧.seen self.new)) }
+        // Where its source has an own frame on the loop, the entries tell how many links were crossed, and how many frames
+        // came to each device.
+        ensures counts { IfSome (⟦<Ring<M> as Seen<M>>⟧.seen self.old).books.held (λ f. IsReady f (devices_of (⟦<Ring<M> as Seen<M>>⟧.seen self.old))
+            → Rounded (⟦<Ring<M> as Seen<M>>⟧.seen self.old) None f result (⟦<Ring<M> as Seen<M>>⟧.seen self.new)) }
+        // No device hears anything that does not listen.
+        ensures kept { AllKeep (devices_of (⟦<Ring<M> as Seen<M>>⟧.seen self.old)) (devices_of (⟦<Ring<M> as Seen<M>>⟧.seen self.new)) }
     {
         let flight = self.books.take_held().unwrap();
         self.round(flight)
