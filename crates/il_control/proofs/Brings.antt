@@ -14,7 +14,7 @@ use Rattle.il_frames.specs.Messages.{Row, One, Group, commands, message_at, mess
 use Rattle.il_device.proofs.Laws.{is_plain}
 use Rattle.il_ports.specs.Media.{MediumView}
 use Rattle.loop_model.specs.Entries.{unl, lad, ddl, rfc}
-use Rattle.loop_model.specs.Exchanges.{Echo, Command, Send, echoed, commanded, numbered, is_address, is_echo, is_host_echo, is_number, is_talk_address}
+use Rattle.loop_model.specs.Exchanges.{Echo, Command, Send, echoed, commanded, numbered, entries_of, is_address, is_echo, is_host_echo, is_number, is_talk_address}
 use Rattle.il_ring.specs.Rings.{RingView, devices_of, drive_party}
 use Rattle.il_control.specs.Brought.{AllCome, Brought, ComesAs, is_auto_address, is_from_here, numbered_frames}
 use Rattle.il_control.specs.Calls.{Made}
@@ -89,6 +89,22 @@ data_brings k q (d ∷ ds) (g ∷ gs) legal brought =
     let data_frame = and_parts (is_data d.sent) (same_but_service d.sent d.back) echo.1 in
     (brought.0.data_frame data_frame.0, data_brings k q ds gs parts.1 brought.1)
 
+-- of a send: unlisten, the listen address, the command of the number, each with its handshake, and then the data frames
+pub send_frames : (k q a : ℕ) (number : Option ℕ) (ds : List Echo) (came : List Frame) → list_all is_host_echo ds ≡ true → Brought k q (entries_of 0 (Send a number ds)) came
+    → (gs : List Frame) × (came ≡ unl ∷ rfc ∷ lad a ∷ rfc ∷ numbered_frames number ++ gs) × AllCome ds gs
+send_frames k q a number ds came echoes brought =
+    let unlisten = commanded_brings k q unl (commanded 0 (lad a) ++ numbered 0 ddl number ++ map (echoed 0) ds) came refl brought in
+    let listen = commanded_brings k q (lad a) (numbered 0 ddl number ++ map (echoed 0) ds) unlisten.frames refl unlisten.brought in
+    let command = numbered_brings k q number (map (echoed 0) ds) listen.frames listen.brought in (
+      command.frames,
+      unlisten.are ∙ ap (λ gs. unl ∷ rfc ∷ gs) (listen.are ∙ ap (λ gs. lad a ∷ rfc ∷ gs) command.are),
+      data_brings k q ds command.frames echoes command.brought,
+    )
+
+-- of a command: itself and the handshake
+pub command_frames : (k q : ℕ) (f : Frame) (came : List Frame) → same_class (class_of f) class.Cmd ≡ true → Brought k q (commanded 0 f) came → came ≡ f ∷ rfc ∷ []
+command_frames k q f came is brought = let command = commanded_brings k q f [] came is brought in command.are ∙ ap (λ gs. f ∷ rfc ∷ gs) command.brought
+
 -- ---- all entries are the host's
 
 data_from_here : (q : ℕ) (ds : List Echo) → list_all (is_from_here q) (map (echoed 0) ds) ≡ true
@@ -99,31 +115,21 @@ numbered_from_here : (q : ℕ) (number : Option ℕ) (rest : List Entry) → lis
 numbered_from_here q None rest all = all
 numbered_from_here q (Some n) rest all = all
 
+pub send_from_here : (q a : ℕ) (number : Option ℕ) (ds : List Echo) → list_all (is_from_here q) (entries_of 0 (Send a number ds)) ≡ true
+send_from_here q a number ds = numbered_from_here q number (map (echoed 0) ds) (data_from_here q ds)
+
 -- ---- the laws
 
--- what came to the drive of a send: unlisten, the listen address, the command of the number, each with its handshake, and then
--- the data frames
+-- the frames that came to the drive of a send
 pub send_brings : {M : Type 0} (view : M → MediumView) (a : ℕ) (number : Option ℕ) (ds : List Echo) (r s : RingView M) (made : Made view (Send a number ds) r s)
     → (gs : List Frame) × (made.whole.adds.came ≡ unl ∷ rfc ∷ lad a ∷ rfc ∷ numbered_frames number ++ gs) × AllCome ds gs
 send_brings view a number ds r s made =
-    let k = length (devices_of r) in
-    let q = drive_party r in
     let parts = and_parts (is_address a) (is_number number && list_all is_host_echo ds) made.legal in
     let echoes = (and_parts (is_number number) (list_all is_host_echo ds) parts.1).1 in
-    let brought = made.whole.brought (numbered_from_here q number (map (echoed 0) ds) (data_from_here q ds)) in
-    let unlisten = commanded_brings k q unl (commanded 0 (lad a) ++ numbered 0 ddl number ++ map (echoed 0) ds) made.whole.adds.came refl brought in
-    let listen = commanded_brings k q (lad a) (numbered 0 ddl number ++ map (echoed 0) ds) unlisten.frames refl unlisten.brought in
-    let command = numbered_brings k q number (map (echoed 0) ds) listen.frames listen.brought in (
-      command.frames,
-      unlisten.are ∙ ap (λ gs. unl ∷ rfc ∷ gs) (listen.are ∙ ap (λ gs. lad a ∷ rfc ∷ gs) command.are),
-      data_brings k q ds command.frames echoes command.brought,
-    )
+    send_frames (length (devices_of r)) (drive_party r) a number ds made.whole.adds.came echoes (made.whole.brought (send_from_here (drive_party r) a number ds))
 
--- and of a command: itself and the handshake
+-- and of a command
 pub command_brings : {M : Type 0} (view : M → MediumView) (f : Frame) (r s : RingView M) (made : Made view (Command f) r s) → made.whole.adds.came ≡ f ∷ rfc ∷ []
 command_brings view f r s made =
-    let k = length (devices_of r) in
-    let q = drive_party r in
     let parts = and_parts (same_class (class_of f) class.Cmd) (not (is_talk_address (message_of f))) made.legal in
-    let command = commanded_brings k q f [] made.whole.adds.came parts.0 (made.whole.brought refl) in
-    command.are ∙ ap (λ gs. f ∷ rfc ∷ gs) command.brought
+    command_frames (length (devices_of r)) (drive_party r) f made.whole.adds.came parts.0 (made.whole.brought refl)

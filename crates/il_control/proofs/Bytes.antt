@@ -27,15 +27,14 @@ use Rattle.il_ring.proofs.PassKinds.{Silent}
 use Rattle.il_ring.proofs.Passing.{AsData}
 use Rattle.il_ring.proofs.RelayRounds.{wrong_echo}
 use Rattle.il_ring.proofs.Rings.{IsRing-round}
-use Rattle.il_ring.proofs.RoundAdds.{DriveCame, host_adds, host_came, none_new}
-use Rattle.il_ring.proofs.RoundCounts.{round_counts}
+use Rattle.il_ring.proofs.RoundAdds.{DriveCame}
 use Rattle.il_ring.proofs.SendLaws.{data_sent}
 use Rattle.il_ring.proofs.Splits.{each_silent}
 use Rattle.il_ring.proofs.Talkers.{none_talk}
 use Rattle.il_control.specs.Brought.{Brought, CutBrought}
 use Rattle.il_control.specs.Calls.{IsIdle, IsLost, sent_as, Sent, NotSent}
 use Rattle.il_control.proofs.Brought.{brought_one, cut_brought_one, data_comes, data_may_come}
-use Rattle.il_control.proofs.Calls.{each_front}
+use Rattle.il_control.proofs.Calls.{each_front, host_added}
 
 abbrev dab : ℕ → Frame
 dab byte = framed class.Dab byte
@@ -55,11 +54,7 @@ module _ {M : Type 0} (view : M → MediumView) (byte : ℕ) (r s : RingView M) 
   -- what the round added, and what came to the drive
   added : (o : Outcome) → s.books.log ≡ r.books.log ++ entry 0 (dab byte) o ∷ [] → s.books.held ≡ None
       → (adds : Adds view r None (entry 0 (dab byte) o ∷ []) None s) × DriveCame (IsBrought r s (dab byte)) r s adds.came
-  added o log free =
-      let none_then = none_new r s held (sourced 0 (dab byte)) answer (round_counts view r s held (sourced 0 (dab byte)) answer (inl refl) round) free in (
-        host_adds view (IsBrought r s (dab byte)) r s held (dab byte) answer (entry 0 (dab byte) o ∷ []) None (AsData refl refl) round log none_then took,
-        host_came view (IsBrought r s (dab byte)) r s held (dab byte) answer (entry 0 (dab byte) o ∷ []) None (AsData refl refl) round log none_then took,
-      )
+  added o log free = host_added view (IsBrought r s (dab byte)) r s held (dab byte) answer o (AsData refl refl) round log free took
 
   brings : (back : Frame) (gs : List Frame) → met_between r s ≡ [] → DriveCame (IsBrought r s (dab byte)) r s gs → Brought (length (devices_of r)) (drive_party r) (entry 0 (dab byte) (outcome.Back back) ∷ []) gs
   brings back gs none came = brought_one (IsBrought r s (dab byte)) r s (length (devices_of r)) (drive_party r) (dab byte) back gs (λ g is. data_comes (drive_party r) byte g (is.0, is.1 none)) none came

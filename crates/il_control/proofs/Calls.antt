@@ -24,11 +24,11 @@ use Rattle.il_ring.specs.Plans.{hops_of}
 use Rattle.il_ring.specs.Books.{IsHeld}
 use Rattle.il_ring.specs.Flights.{sourced}
 use Rattle.il_ring.specs.Rings.{RingView, IsRing, Round, devices_of, drive_party, spare_of}
-use Rattle.il_ring.specs.Outcomes.{met_between, HearsNothing}
+use Rattle.il_ring.specs.Outcomes.{met_between, DriveTook, HearsNothing}
 use Rattle.il_ring.specs.Adds.{Adds}
 use Rattle.il_ring.proofs.Faults.{met_nowhere, risen_by_later}
 use Rattle.il_ring.proofs.Adding.{adds_nothing, adds_nothing-came, adds_more, adds_more-came}
-use Rattle.il_ring.proofs.RoundAdds.{host_adds, host_came, none_new}
+use Rattle.il_ring.proofs.RoundAdds.{DriveCame, host_adds, host_came, none_new}
 use Rattle.il_ring.proofs.RoundCounts.{round_counts}
 use Rattle.il_ring.proofs.Passing.{Carries, Exactly, is_exact}
 use Rattle.il_ring.proofs.PassKinds.{Is, Any, plain_passes}
@@ -214,6 +214,13 @@ abbrev pub PassEnd : {M : Type 0} → (M → MediumView) → (ℕ → Frame → 
 PassEnd view Q r f answer s = ((g : Frame) × Q (suc (length (devices_of r))) g × (answer ≡ arrival.Frame g) × Whole view r (entry 0 f (outcome.Back g) ∷ []) s)
     ⊎ ((answer ≡ arrival.Lost) × ((o : Outcome) → Broke view r (entry 0 f o ∷ []) s))
 
+-- a frame of the host whose round left none held: what the round added, and what came to the drive
+pub host_added : {M : Type 0} (view : M → MediumView) (P : Frame → Type 0) (r s : RingView M) (held : Option Flight) (f : Frame) (answer : Arrival) (o : Outcome) → Carries (message_of f) f → Round view r held (sourced 0 f) answer s
+    → s.books.log ≡ r.books.log ++ entry 0 f o ∷ [] → s.books.held ≡ None → DriveTook view P r s → (adds : Adds view r None (entry 0 f o ∷ []) None s) × DriveCame P r s adds.came
+host_added view P r s held f answer o carries round log free took =
+    let new = none_new r s held (sourced 0 f) answer (round_counts view r s held (sourced 0 f) answer (inl refl) round) free in
+    (host_adds view P r s held f answer (entry 0 f o ∷ []) None carries round log new took, host_came view P r s held f answer (entry 0 f o ∷ []) None carries round log new took)
+
 pub pass_call : {M : Type 0} (view : M → MediumView) (Q : ℕ → Frame → Type 0) (P : ℕ → DeviceState → Type 0) (R : DeviceState → DeviceState → Type 0) → PassesOn Q P R → ((d e : DeviceState) → R d e → HearsNothing d e) → (r s : RingView M) (held : Option Flight) (f : Frame) (answer : Arrival)
     → Round view r held (sourced 0 f) answer s → held ≡ None → IsFree r → Each P 1 (devices_of r) → Q 1 f → Carries (message_of f) f → ((g : Frame) → Q (drive_party r) g → ComesAs (drive_party r) f g) → PassEnd view Q r f answer s
 pass_call view Q P R passes hears r s held f answer round none free fit is carries comes =
@@ -221,30 +228,27 @@ pass_call view Q P R passes hears r s held f answer round none free fit is carri
     let passed = passed_round view Q P R passes r s held f answer free.ring.crossings fit is round in
     let took = passed_drive view Q P R passes r s held f answer free.ring.crossings fit_before is round in
     let ring = IsRing-round view r s held (sourced 0 f) answer round free.ring (subst IsHeld (sym none) tt) in
-    let counts = round_counts view r s held (sourced 0 f) answer (inl refl) round in
     let as_sent : (g : Frame) → Q (1 + length r.before) g → ComesAs (drive_party r) f g = λ g at. let here : 1 + length r.before ≡ drive_party r = omega arith in comes g (subst (λ k. Q k g) here at) in
     ⊎_elim
     (λ end.
     let back = end.3 in
     let held_is = back.held_is ∙ none in
-    let adds = host_adds view (Q (1 + length r.before)) r s held f answer (entry 0 f (outcome.Back end.0) ∷ []) None carries round back.log (none_new r s held (sourced 0 f) answer counts held_is) took in
+    let added = host_added view (Q (1 + length r.before)) r s held f answer (outcome.Back end.0) carries round back.log held_is took in
     inl (
       end.0,
       end.1,
       back.answer_is,
       record {
-        adds = adds;
+        adds = added.0;
         ring = ring;
         held = held_is;
         met_none = back.met_none;
         unheard = λ none. heard_nothing R hears passed.reached (devices_of r) (devices_of s) passed.took;
-        brought = λ from.
-            brought_one (Q (1 + length r.before)) r s (length (devices_of r)) (drive_party r) f end.0 adds.came as_sent back.met_none
-            (host_came view (Q (1 + length r.before)) r s held f answer (entry 0 f (outcome.Back end.0) ∷ []) None carries round back.log (none_new r s held (sourced 0 f) answer counts held_is) took);
+        brought = λ from. brought_one (Q (1 + length r.before)) r s (length (devices_of r)) (drive_party r) f end.0 added.0.came as_sent back.met_none added.1;
       },
     ))
     (λ lost.
-    let adds = host_adds view (Q (1 + length r.before)) r s held f answer (entry 0 f (outcome.Lost lost.party) ∷ []) None carries round lost.log (none_new r s held (sourced 0 f) answer counts lost.held_is) took in
+    let added = host_added view (Q (1 + length r.before)) r s held f answer (outcome.Lost lost.party) carries round lost.log lost.held_is took in
     inr (
       lost.answer_is,
       λ o. record {
@@ -252,14 +256,12 @@ pass_call view Q P R passes hears r s held f answer round none free fit is carri
         break = FrameLost lost.party;
         legal = refl;
         held_at_end = None;
-        adds = adds;
+        adds = added.0;
         ring = ring;
         held = lost.held_is;
         met_some = lost.met_some;
         unheard = λ none. heard_nothing R hears passed.reached (devices_of r) (devices_of s) passed.took;
-        brought = λ from.
-            cut_brought_one (Q (1 + length r.before)) r s (length (devices_of r)) (drive_party r) f o adds.came (λ g at. may_come (drive_party r) f g (as_sent g at))
-            (host_came view (Q (1 + length r.before)) r s held f answer (entry 0 f (outcome.Lost lost.party) ∷ []) None carries round lost.log (none_new r s held (sourced 0 f) answer counts lost.held_is) took);
+        brought = λ from. cut_brought_one (Q (1 + length r.before)) r s (length (devices_of r)) (drive_party r) f o added.0.came (λ g at. may_come (drive_party r) f g (as_sent g at)) added.1;
       },
     ))
     passed.end
