@@ -1,5 +1,5 @@
 -- All devices are addressed.
-use Rattle.std.proofs.Common.{◌≡◌, ◌∙◌, ◌≤◌, ◌+◌, ◌-◌, ◌++◌, ⊎_elim, ℕ, suc, Bool, List, [], ◌∷◌, Option, None, length, drop, get_or, refl, sym, ap, subst, arith, length-append}
+use Rattle.std.proofs.Common.{◌≡◌, ◌∙◌, ◌≤◌, ◌+◌, ◌-◌, ◌++◌, ⊎_elim, ℕ, suc, Bool, false, List, [], ◌∷◌, Option, None, length, drop, get_or, refl, sym, ap, subst, arith, length-append}
 use Rattle.std.proofs.lemmas.List.{length-map}
 use Rattle.il_frames.specs.declared.frame.Frame.{Frame}
 use Rattle.il_frames.specs.declared.entry.Outcome.TheVariants as outcome
@@ -21,11 +21,12 @@ use Rattle.il_ring.specs.declared.plan.Arrival.TheVariants as arrival
 use Rattle.il_ring.specs.declared.flight.Flight.{Flight}
 use Rattle.il_ring.specs.Flights.{sourced}
 use Rattle.il_ring.specs.Lists.{Each}
-use Rattle.il_ring.specs.Rings.{RingView, IsRing, Round, devices_of, roles_of}
+use Rattle.il_ring.specs.Rings.{RingView, IsRing, Round, devices_of, roles_of, drive_party}
 use Rattle.il_ring.proofs.PassKinds.{Unaddressed, OnlyPassed, aad_passes}
 use Rattle.il_ring.proofs.Passing.{Exactly}
 use Rattle.il_control.specs.Calls.{Whole, Broke, IsLost, addressing, IsAddressed, Resumed, NotResumed}
-use Rattle.il_control.proofs.Calls.{Done, pass_call, whole_then, broke_behind, broke_before, told_then}
+use Rattle.il_control.proofs.Brought.{address_comes}
+use Rattle.il_control.proofs.Calls.{Done, pass_call, whole_then, broke_behind, broke_before, told_then, told_not}
 use Rattle.il_control.proofs.Made.{one_at_end}
 
 -- ---- roles
@@ -118,7 +119,7 @@ module _ {M : Type 0} (view : M → MediumView) (r : RingView M) (lost : IsLost 
       let count : byte_of came.0 - 0x81 ≡ k = ap (λ g. byte_of g - 0x81) back ∙ counted k in
       subst (λ answer. AddressEnd view r answer s) (sym came.2) (subst (λ g. 0x81 ≤ byte_of g) (sym back) (at_least k), subst (λ n. Resumed view n r s) (sym count) (resumed s whole)))
       (λ lost_now. subst (λ answer. AddressEnd view r answer s) (sym lost_now.0) (not_resumed s (broke_behind view r m s (commanded 0 ifc ++ commanded 0 aau) (entries_of 0 (Address (length (devices_of r)))) lost.free.ring first (lost_now.1 (outcome.Back (aad (suc (length (devices_of r)))))))))
-      (pass_call view (λ k g. g ≡ aad k) Unaddressed OnlyPassed aad_passes (λ d e passed. passed.0) m s held (aad 1) answer (subst (λ f. Round view m held (sourced 0 f) answer s) is round) none (record { ring = first.ring; held = first.held }) unaddressed refl (Exactly refl refl))
+      (pass_call view (λ k g. g ≡ aad k) Unaddressed OnlyPassed aad_passes (λ d e passed. passed.0) m s held (aad 1) answer (subst (λ f. Round view m held (sourced 0 f) answer s) is round) none (record { ring = first.ring; held = first.held }) unaddressed refl (Exactly refl refl) (λ g at. address_comes (drive_party m) g at))
     where
       counted : (k : ℕ) → 0x80 + suc k - 0x81 ≡ k
       counted k = omega arith
@@ -137,3 +138,7 @@ count_of view r s g n is end = subst (λ n. (0x81 ≤ n) × Resumed view (n - 0x
 -- IFC whole, and AAU behind it
 pub clear_done : {M : Type 0} (view : M → MediumView) (r m s : RingView M) (f g : Frame) (whole : Bool) → IsRing r → f ≡ ifc → g ≡ aau → Whole view r (commanded 0 f) m → Done view m (commanded 0 g) whole s → Done view r (commanded 0 ifc ++ commanded 0 aau) whole s
 clear_done view r m s f g whole ring is_first is_then first more = told_then view r m s f ifc (commanded 0 aau) whole ring is_first first (subst (λ g. Done view m (commanded 0 g) whole s) is_then more)
+
+-- IFC was broken off
+pub clear_not : {M : Type 0} (view : M → MediumView) (r s : RingView M) (f : Frame) (whole : Bool) → f ≡ ifc → whole ≡ false → Broke view r (commanded 0 f) s → Done view r (commanded 0 ifc ++ commanded 0 aau) whole s
+clear_not view r s f whole is not broke = told_not view r s f ifc (commanded 0 aau) whole is not broke

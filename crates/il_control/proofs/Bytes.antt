@@ -1,5 +1,5 @@
 -- A data frame of the host as a call.
-use Rattle.std.proofs.Common.{◌≡◌, ◌∙◌, ◌++◌, ◌⊎◌, inl, inr, ⊎_elim, ℕ, Bool, true, false, not, [], ◌∷◌, Option, None, refl, sym, ap, subst}
+use Rattle.std.proofs.Common.{◌≡◌, ◌∙◌, ◌++◌, ◌⊎◌, inl, inr, ⊎_elim, ℕ, Bool, true, false, not, List, [], ◌∷◌, Option, None, length, refl, sym, ap, subst}
 use Rattle.std.specs.Prelude.{MatchBool}
 use Rattle.il_frames.specs.declared.frame.Class.TheVariants as class
 use Rattle.il_frames.specs.declared.frame.Frame.{Frame}
@@ -18,22 +18,23 @@ use Rattle.il_ring.specs.declared.flight.Flight.{Flight}
 use Rattle.il_ring.specs.Books.{IsHeld}
 use Rattle.il_ring.specs.Flights.{sourced}
 use Rattle.il_ring.specs.Lists.{AllSilent}
-use Rattle.il_ring.specs.Outcomes.{IsBrought, CameAltered, WasLost, DataReturned, DataBroken}
+use Rattle.il_ring.specs.Outcomes.{met_between, DriveTook, IsBrought, CameAltered, WasLost, DataReturned, DataBroken}
 use Rattle.il_ring.specs.Adds.{Adds}
-use Rattle.il_ring.specs.Rings.{RingView, Round, devices_of, roles_of}
+use Rattle.il_ring.specs.Rings.{RingView, Round, devices_of, roles_of, drive_party}
 use Rattle.il_ring.proofs.DataDrive.{data_drive}
 use Rattle.il_ring.proofs.DataPasses.{same_served}
 use Rattle.il_ring.proofs.PassKinds.{Silent}
 use Rattle.il_ring.proofs.Passing.{AsData}
 use Rattle.il_ring.proofs.RelayRounds.{wrong_echo}
 use Rattle.il_ring.proofs.Rings.{IsRing-round}
-use Rattle.il_ring.proofs.RoundAdds.{host_adds, none_new}
-use Rattle.il_ring.proofs.RoundCounts.{round_counts}
+use Rattle.il_ring.proofs.RoundAdds.{DriveCame}
 use Rattle.il_ring.proofs.SendLaws.{data_sent}
 use Rattle.il_ring.proofs.Splits.{each_silent}
 use Rattle.il_ring.proofs.Talkers.{none_talk}
+use Rattle.il_control.specs.Brought.{Brought, CutBrought}
 use Rattle.il_control.specs.Calls.{IsIdle, IsLost, sent_as, Sent, NotSent}
-use Rattle.il_control.proofs.Calls.{each_front}
+use Rattle.il_control.proofs.Brought.{brought_one, cut_brought_one, data_comes, data_may_come}
+use Rattle.il_control.proofs.Calls.{each_front, host_added}
 
 abbrev dab : ℕ → Frame
 dab byte = framed class.Dab byte
@@ -47,15 +48,23 @@ module _ {M : Type 0} (view : M → MediumView) (byte : ℕ) (r s : RingView M) 
   silent : AllSilent (devices_of r)
   silent = none_talk 1 (devices_of r) idle.silent
 
-  adds : (o : Outcome) → s.books.log ≡ r.books.log ++ entry 0 (dab byte) o ∷ [] → s.books.held ≡ None → Adds view r None (entry 0 (dab byte) o ∷ []) None s
-  adds o log free =
-      host_adds view (IsBrought r s (dab byte)) r s held (dab byte) answer (entry 0 (dab byte) o ∷ []) None (AsData refl refl) round log
-      (none_new r s held (sourced 0 (dab byte)) answer (round_counts view r s held (sourced 0 (dab byte)) answer (inl refl) round) free)
-      (data_drive view r s held (sourced 0 (dab byte)) answer round idle.free.ring.crossings idle.free.ring.plan refl (each_front Silent 1 r.before (device_of r.drive.state ∷ r.after) (each_silent 1 (devices_of r) silent)))
+  took : DriveTook view (IsBrought r s (dab byte)) r s
+  took = data_drive view r s held (sourced 0 (dab byte)) answer round idle.free.ring.crossings idle.free.ring.plan refl (each_front Silent 1 r.before (device_of r.drive.state ∷ r.after) (each_silent 1 (devices_of r) silent))
+
+  -- what the round added, and what came to the drive
+  added : (o : Outcome) → s.books.log ≡ r.books.log ++ entry 0 (dab byte) o ∷ [] → s.books.held ≡ None
+      → (adds : Adds view r None (entry 0 (dab byte) o ∷ []) None s) × DriveCame (IsBrought r s (dab byte)) r s adds.came
+  added o log free = host_added view (IsBrought r s (dab byte)) r s held (dab byte) answer o (AsData refl refl) round log free took
+
+  brings : (back : Frame) (gs : List Frame) → met_between r s ≡ [] → DriveCame (IsBrought r s (dab byte)) r s gs → Brought (length (devices_of r)) (drive_party r) (entry 0 (dab byte) (outcome.Back back) ∷ []) gs
+  brings back gs none came = brought_one (IsBrought r s (dab byte)) r s (length (devices_of r)) (drive_party r) (dab byte) back gs (λ g is. data_comes (drive_party r) byte g (is.0, is.1 none)) none came
+
+  brings_cut : (o : Outcome) (gs : List Frame) → DriveCame (IsBrought r s (dab byte)) r s gs → CutBrought (length (devices_of r)) (drive_party r) (entry 0 (dab byte) o ∷ []) 0 gs
+  brings_cut o gs came = cut_brought_one (IsBrought r s (dab byte)) r s (length (devices_of r)) (drive_party r) (dab byte) o gs (λ g is. data_may_come (drive_party r) byte g is.0) came
 
   still : (o : Outcome) → s.books.held ≡ None → Adds view r None (entry 0 (dab byte) o ∷ []) None s → IsIdle s
-  still o free added =
-      let same : roles_of (devices_of s) ≡ roles_of (devices_of r) = added.roles ∙ kept_entry (roles_of (devices_of r)) (entry 0 (dab byte) o) refl in
+  still o free adds =
+      let same : roles_of (devices_of s) ≡ roles_of (devices_of r) = adds.roles ∙ kept_entry (roles_of (devices_of r)) (entry 0 (dab byte) o) refl in
       record {
         free = record { ring = IsRing-round view r s held (sourced 0 (dab byte)) answer round idle.free.ring (subst IsHeld (sym none) tt); held = free };
         silent = ap talkers same ∙ idle.silent;
@@ -66,8 +75,8 @@ module _ {M : Type 0} (view : M → MediumView) (byte : ℕ) (r s : RingView M) 
   back_whole back =
       let returned = back.returned in
       let free = returned.held_is ∙ none in
-      let added = adds (outcome.Back back.back) returned.log free in
-      let now = still (outcome.Back back.back) free added in
+      let end = added (outcome.Back back.back) returned.log free in
+      let now = still (outcome.Back back.back) free end.0 in
       let echo = same_served (dab byte) back.back back.same in
       inl (
         back.back,
@@ -76,7 +85,7 @@ module _ {M : Type 0} (view : M → MediumView) (byte : ℕ) (r s : RingView M) 
         record {
           back = back.back;
           legal = echo;
-          whole = record { adds = added; ring = now.free.ring; held = free; met_none = returned.met_none; unheard = λ none. cc };
+          whole = record { adds = end.0; ring = now.free.ring; held = free; met_none = returned.met_none; unheard = λ none. cc; brought = λ from. brings back.back end.0.came returned.met_none end.1 };
           one = OneTalker-silent (roles_of (devices_of r)) (echoed 0 (sent_as byte back.back) ∷ []) idle.silent refl refl;
           heard = back.heard;
           idle = now;
@@ -91,8 +100,8 @@ module _ {M : Type 0} (view : M → MediumView) (byte : ℕ) (r s : RingView M) 
       ⊎_elim
       (λ (altered : CameAltered r held (dab byte) answer s).
       let free = altered.held_is ∙ none in
-      let added = adds (outcome.Back altered.back) altered.log free in
-      let now = still (outcome.Back altered.back) free added in
+      let end = added (outcome.Back altered.back) altered.log free in
+      let now = still (outcome.Back altered.back) free end.0 in
       let other = wrong_echo (dab byte) altered.back altered.other in
       inr (
         inr (altered.back, altered.answer_is, other),
@@ -102,11 +111,12 @@ module _ {M : Type 0} (view : M → MediumView) (byte : ℕ) (r s : RingView M) 
             break = HostAltered altered.back;
             legal = ap not other;
             held_at_end = None;
-            adds = added;
+            adds = end.0;
             ring = now.free.ring;
             held = free;
             met_some = altered.met_some;
             unheard = λ none. cc;
+            brought = λ from. brings_cut (outcome.Back (dab byte)) end.0.came end.1;
           };
           one = OneTalker-silent (roles_of (devices_of r)) (entry 0 (dab byte) (outcome.Back altered.back) ∷ []) idle.silent refl refl;
           reached = not_sent.reached;
@@ -115,8 +125,8 @@ module _ {M : Type 0} (view : M → MediumView) (byte : ℕ) (r s : RingView M) 
         },
       ))
       (λ (lost : WasLost r 0 (dab byte) answer s).
-      let added = adds (outcome.Lost lost.party) lost.log lost.held_is in
-      let now = still (outcome.Lost lost.party) lost.held_is added in
+      let end = added (outcome.Lost lost.party) lost.log lost.held_is in
+      let now = still (outcome.Lost lost.party) lost.held_is end.0 in
       inr (
         inl lost.answer_is,
         record {
@@ -125,11 +135,12 @@ module _ {M : Type 0} (view : M → MediumView) (byte : ℕ) (r s : RingView M) 
             break = FrameLost lost.party;
             legal = refl;
             held_at_end = None;
-            adds = added;
+            adds = end.0;
             ring = now.free.ring;
             held = lost.held_is;
             met_some = lost.met_some;
             unheard = λ none. cc;
+            brought = λ from. brings_cut (outcome.Back (dab byte)) end.0.came end.1;
           };
           one = OneTalker-silent (roles_of (devices_of r)) (entry 0 (dab byte) (outcome.Lost lost.party) ∷ []) idle.silent refl refl;
           reached = not_sent.reached;

@@ -23,12 +23,12 @@ use Rattle.il_ring.specs.declared.flight.Flight.{Flight}
 use Rattle.il_ring.specs.Plans.{hops_of}
 use Rattle.il_ring.specs.Books.{IsHeld}
 use Rattle.il_ring.specs.Flights.{sourced}
-use Rattle.il_ring.specs.Rings.{RingView, IsRing, Round, devices_of, spare_of}
-use Rattle.il_ring.specs.Outcomes.{met_between, HearsNothing}
+use Rattle.il_ring.specs.Rings.{RingView, IsRing, Round, devices_of, drive_party, spare_of}
+use Rattle.il_ring.specs.Outcomes.{met_between, DriveTook, HearsNothing}
 use Rattle.il_ring.specs.Adds.{Adds}
 use Rattle.il_ring.proofs.Faults.{met_nowhere, risen_by_later}
-use Rattle.il_ring.proofs.Adding.{adds_nothing, adds_more}
-use Rattle.il_ring.proofs.RoundAdds.{host_adds, none_new}
+use Rattle.il_ring.proofs.Adding.{adds_nothing, adds_nothing-came, adds_more, adds_more-came}
+use Rattle.il_ring.proofs.RoundAdds.{DriveCame, host_adds, host_came, none_new}
 use Rattle.il_ring.proofs.RoundCounts.{round_counts}
 use Rattle.il_ring.proofs.Passing.{Carries, Exactly, is_exact}
 use Rattle.il_ring.proofs.PassKinds.{Is, Any, plain_passes}
@@ -42,7 +42,9 @@ use Rattle.il_drive.specs.State.{device_of}
 use Rattle.il_frames.specs.declared.entry.Outcome.{Outcome}
 use Rattle.il_ring.proofs.Rings.{IsRing-round}
 use Rattle.il_ring.specs.Outcomes.{Obeys}
+use Rattle.il_control.specs.Brought.{ComesAs, Brought, CutBrought, is_from_here}
 use Rattle.il_control.specs.Calls.{Unheard, Whole, Broke, IsFree}
+use Rattle.il_control.proofs.Brought.{brought_then, cut_brought_first, cut_brought_front, from_here_parts, same_place, may_come, brought_one, cut_brought_one, plain_comes}
 
 -- ---- cuts
 
@@ -57,10 +59,18 @@ pub record CutBehind (xs ys : List Entry) (n : ℕ) (b : Break) : Type 0 where
   pub standing : ℕ
   pub entries : cut_at (xs ++ ys) standing b ≡ xs ++ cut_at ys n b
   pub legal : can_cut 0 (xs ++ ys) standing b ≡ true
+  pub brings : (k q : ℕ) (gs hs : List Frame) → Brought k q xs gs → CutBrought k q ys n hs → CutBrought k q (xs ++ ys) standing (gs ++ hs)
 
 pub cut_behind : (xs ys : List Entry) (n : ℕ) (b : Break) → can_cut 0 ys n b ≡ true → CutBehind xs ys n b
-cut_behind [] ys n b legal = record { standing = n; entries = refl; legal = legal }
-cut_behind (x ∷ xs) ys n b legal = let more = cut_behind xs ys n b legal in record { standing = suc more.standing; entries = ap (λ es. x ∷ es) more.entries; legal = more.legal }
+cut_behind [] ys n b legal = record { standing = n; entries = refl; legal = legal; brings = λ k q gs hs first cut. subst (λ gs. CutBrought k q ys n (gs ++ hs)) (sym first) cut }
+cut_behind (x ∷ xs) ys n b legal =
+    let more = cut_behind xs ys n b legal in
+    record {
+      standing = suc more.standing;
+      entries = ap (λ es. x ∷ es) more.entries;
+      legal = more.legal;
+      brings = λ k q gs hs first cut. cut_brought_first k q more.standing x xs ys hs (λ gs first. more.brings k q gs hs first cut) gs first;
+    }
 
 -- ---- planned hops over calls
 
@@ -115,37 +125,64 @@ whole_then view r m s xs ys ring first more = record {
   held = more.held;
   met_none = (met_parts view r m s None None None None xs ys ring first.ring first.adds more.adds).1 (first.met_none, more.met_none);
   unheard = λ none. let parts = no_data_parts xs ys none in unheard_then (devices_of r) (devices_of m) (devices_of s) (first.unheard parts.0) (more.unheard parts.1);
+  brought = λ from.
+      let k = length (devices_of r) in
+      let q = drive_party r in
+      let parts = from_here_parts q xs ys from in
+      let behind : list_all (is_from_here q) ys ≡ true → Brought k q ys more.adds.came =
+      same_place r m (λ k q. list_all (is_from_here q) ys ≡ true → Brought k q ys more.adds.came) first.adds.before first.adds.size more.brought in
+      subst (Brought k q (xs ++ ys)) (sym (adds_more-came view r m s None None None xs ys first.adds more.adds)) (brought_then k q xs ys first.adds.came more.adds.came (first.brought parts.0) (behind parts.1));
 }
+
+-- what a cut added, and what it brought to the drive
+abbrev AddsCut : {M : Type 0} → (M → MediumView) → RingView M → List Entry → ℕ → Option ℕ → RingView M → List Entry → Type 0
+AddsCut view r entries standing to s cut = (adds : Adds view r None cut to s) × (list_all (is_from_here (drive_party r)) entries ≡ true → CutBrought (length (devices_of r)) (drive_party r) entries standing adds.came)
 
 pub broke_behind : {M : Type 0} (view : M → MediumView) (r m s : RingView M) (xs ys : List Entry) → IsRing r → Whole view r xs m → Broke view m ys s → Broke view r (xs ++ ys) s
 broke_behind view r m s xs ys ring first more =
     let cut = cut_behind xs ys more.standing more.break more.legal in
     let adds = adds_more view r m s None None more.held_at_end xs (cut_at ys more.standing more.break) first.adds more.adds in
+    let k = length (devices_of r) in
+    let q = drive_party r in
+    let behind : list_all (is_from_here q) ys ≡ true → CutBrought k q ys more.standing more.adds.came =
+    same_place r m (λ k q. list_all (is_from_here q) ys ≡ true → CutBrought k q ys more.standing more.adds.came) first.adds.before first.adds.size more.brought in
+    let came : list_all (is_from_here q) (xs ++ ys) ≡ true → CutBrought k q (xs ++ ys) cut.standing adds.came = λ from.
+    let parts = from_here_parts q xs ys from in
+    subst (CutBrought k q (xs ++ ys) cut.standing) (sym (adds_more-came view r m s None None more.held_at_end xs (cut_at ys more.standing more.break) first.adds more.adds))
+    (cut.brings k q first.adds.came more.adds.came (first.brought parts.0) (behind parts.1)) in
+    let added : AddsCut view r (xs ++ ys) cut.standing more.held_at_end s (cut_at (xs ++ ys) cut.standing more.break) =
+    subst (AddsCut view r (xs ++ ys) cut.standing more.held_at_end s) (sym cut.entries) (adds, came) in
     record {
       standing = cut.standing;
       break = more.break;
       legal = cut.legal;
       held_at_end = more.held_at_end;
-      adds = subst (λ es. Adds view r None es more.held_at_end s) (sym cut.entries) adds;
+      adds = added.0;
       ring = more.ring;
       held = more.held;
       met_some = λ none. more.met_some ((met_parts view r m s None None None more.held_at_end xs (cut_at ys more.standing more.break) ring first.ring first.adds more.adds).0 none).1;
       unheard = λ none. let parts = no_data_parts xs ys none in unheard_then (devices_of r) (devices_of m) (devices_of s) (first.unheard parts.0) (more.unheard parts.1);
+      brought = added.1;
     }
 
 pub broke_before : {M : Type 0} (view : M → MediumView) (r s : RingView M) (xs ys : List Entry) → Broke view r xs s → Broke view r (xs ++ ys) s
 broke_before view r s xs ys broke =
     let cut = cut_front xs ys broke.standing broke.break broke.legal in
+    let came : list_all (is_from_here (drive_party r)) (xs ++ ys) ≡ true → CutBrought (length (devices_of r)) (drive_party r) (xs ++ ys) broke.standing broke.adds.came = λ from.
+    cut_brought_front (length (devices_of r)) (drive_party r) xs ys broke.standing broke.break broke.adds.came broke.legal (broke.brought (from_here_parts (drive_party r) xs ys from).0) in
+    let added : AddsCut view r (xs ++ ys) broke.standing broke.held_at_end s (cut_at (xs ++ ys) broke.standing broke.break) =
+    subst (AddsCut view r (xs ++ ys) broke.standing broke.held_at_end s) (sym cut.0) (broke.adds, came) in
     record {
       standing = broke.standing;
       break = broke.break;
       legal = cut.1;
       held_at_end = broke.held_at_end;
-      adds = subst (λ es. Adds view r None es broke.held_at_end s) (sym cut.0) broke.adds;
+      adds = added.0;
       ring = broke.ring;
       held = broke.held;
       met_some = broke.met_some;
       unheard = λ none. broke.unheard (no_data_parts xs ys none).0;
+      brought = added.1;
     }
 
 -- whether it was done whole
@@ -154,7 +191,7 @@ Done view r entries whole s = MatchBool whole (Whole view r entries s) (Broke vi
 
 -- ---- a frame that every device passes on
 
-plain_exact : (m : Message) → is_plain m ≡ true → is_exact m ≡ true
+pub plain_exact : (m : Message) → is_plain m ≡ true → is_exact m ≡ true
 plain_exact (msg.Dab b) e = cc
 plain_exact (msg.Dsr b) e = cc
 plain_exact (msg.End b) e = cc
@@ -177,42 +214,54 @@ abbrev pub PassEnd : {M : Type 0} → (M → MediumView) → (ℕ → Frame → 
 PassEnd view Q r f answer s = ((g : Frame) × Q (suc (length (devices_of r))) g × (answer ≡ arrival.Frame g) × Whole view r (entry 0 f (outcome.Back g) ∷ []) s)
     ⊎ ((answer ≡ arrival.Lost) × ((o : Outcome) → Broke view r (entry 0 f o ∷ []) s))
 
+-- a frame of the host whose round left none held: what the round added, and what came to the drive
+pub host_added : {M : Type 0} (view : M → MediumView) (P : Frame → Type 0) (r s : RingView M) (held : Option Flight) (f : Frame) (answer : Arrival) (o : Outcome) → Carries (message_of f) f → Round view r held (sourced 0 f) answer s
+    → s.books.log ≡ r.books.log ++ entry 0 f o ∷ [] → s.books.held ≡ None → DriveTook view P r s → (adds : Adds view r None (entry 0 f o ∷ []) None s) × DriveCame P r s adds.came
+host_added view P r s held f answer o carries round log free took =
+    let new = none_new r s held (sourced 0 f) answer (round_counts view r s held (sourced 0 f) answer (inl refl) round) free in
+    (host_adds view P r s held f answer (entry 0 f o ∷ []) None carries round log new took, host_came view P r s held f answer (entry 0 f o ∷ []) None carries round log new took)
+
 pub pass_call : {M : Type 0} (view : M → MediumView) (Q : ℕ → Frame → Type 0) (P : ℕ → DeviceState → Type 0) (R : DeviceState → DeviceState → Type 0) → PassesOn Q P R → ((d e : DeviceState) → R d e → HearsNothing d e) → (r s : RingView M) (held : Option Flight) (f : Frame) (answer : Arrival)
-    → Round view r held (sourced 0 f) answer s → held ≡ None → IsFree r → Each P 1 (devices_of r) → Q 1 f → Carries (message_of f) f → PassEnd view Q r f answer s
-pass_call view Q P R passes hears r s held f answer round none free fit is carries =
+    → Round view r held (sourced 0 f) answer s → held ≡ None → IsFree r → Each P 1 (devices_of r) → Q 1 f → Carries (message_of f) f → ((g : Frame) → Q (drive_party r) g → ComesAs (drive_party r) f g) → PassEnd view Q r f answer s
+pass_call view Q P R passes hears r s held f answer round none free fit is carries comes =
     let fit_before = each_front P 1 r.before (device_of r.drive.state ∷ r.after) fit in
     let passed = passed_round view Q P R passes r s held f answer free.ring.crossings fit is round in
     let took = passed_drive view Q P R passes r s held f answer free.ring.crossings fit_before is round in
     let ring = IsRing-round view r s held (sourced 0 f) answer round free.ring (subst IsHeld (sym none) tt) in
-    let counts = round_counts view r s held (sourced 0 f) answer (inl refl) round in
+    let as_sent : (g : Frame) → Q (1 + length r.before) g → ComesAs (drive_party r) f g = λ g at. let here : 1 + length r.before ≡ drive_party r = omega arith in comes g (subst (λ k. Q k g) here at) in
     ⊎_elim
     (λ end.
     let back = end.3 in
     let held_is = back.held_is ∙ none in
+    let added = host_added view (Q (1 + length r.before)) r s held f answer (outcome.Back end.0) carries round back.log held_is took in
     inl (
       end.0,
       end.1,
       back.answer_is,
       record {
-        adds = host_adds view (Q (1 + length r.before)) r s held f answer (entry 0 f (outcome.Back end.0) ∷ []) None carries round back.log (none_new r s held (sourced 0 f) answer counts held_is) took;
+        adds = added.0;
         ring = ring;
         held = held_is;
         met_none = back.met_none;
         unheard = λ none. heard_nothing R hears passed.reached (devices_of r) (devices_of s) passed.took;
+        brought = λ from. brought_one (Q (1 + length r.before)) r s (length (devices_of r)) (drive_party r) f end.0 added.0.came as_sent back.met_none added.1;
       },
     ))
-    (λ lost. inr (
+    (λ lost.
+    let added = host_added view (Q (1 + length r.before)) r s held f answer (outcome.Lost lost.party) carries round lost.log lost.held_is took in
+    inr (
       lost.answer_is,
       λ o. record {
         standing = 0;
         break = FrameLost lost.party;
         legal = refl;
         held_at_end = None;
-        adds = host_adds view (Q (1 + length r.before)) r s held f answer (entry 0 f (outcome.Lost lost.party) ∷ []) None carries round lost.log (none_new r s held (sourced 0 f) answer counts lost.held_is) took;
+        adds = added.0;
         ring = ring;
         held = lost.held_is;
         met_some = lost.met_some;
         unheard = λ none. heard_nothing R hears passed.reached (devices_of r) (devices_of s) passed.took;
+        brought = λ from. cut_brought_one (Q (1 + length r.before)) r s (length (devices_of r)) (drive_party r) f o added.0.came (λ g at. may_come (drive_party r) f g (as_sent g at)) added.1;
       },
     ))
     passed.end
@@ -222,7 +271,7 @@ plain_call view r s held f answer round none free plain =
     ⊎_elim
     (λ came. subst (λ answer. Done view r (returned 0 f ∷ []) (arrives answer) s) (sym came.2) (subst (λ g. Whole view r (entry 0 f (outcome.Back g) ∷ []) s) came.1 came.3))
     (λ lost. subst (λ answer. Done view r (returned 0 f ∷ []) (arrives answer) s) (sym lost.0) (lost.1 (outcome.Back f)))
-    (pass_call view (Is f) Any (Obeys (message_of f)) (plain_passes f plain) (λ d e obeyed. obeyed.nothing) r s held f answer round none free (any_each 1 (devices_of r)) refl (Exactly (plain_exact (message_of f) plain) refl))
+    (pass_call view (Is f) Any (Obeys (message_of f)) (plain_passes f plain) (λ d e obeyed. obeyed.nothing) r s held f answer round none free (any_each 1 (devices_of r)) refl (Exactly (plain_exact (message_of f) plain) refl) (λ g same. plain_comes (drive_party r) f g plain same))
 
 -- one call behind another that was done whole
 pub done_then : {M : Type 0} (view : M → MediumView) (r m s : RingView M) (xs ys : List Entry) (whole : Bool) → IsRing r → Whole view r xs m → Done view m ys whole s → Done view r (xs ++ ys) whole s
@@ -240,6 +289,10 @@ pub command_done : {M : Type 0} (view : M → MediumView) (r m s : RingView M) (
 command_done view r m s f g whole ring is_rfc first more =
     done_then view r m s (returned 0 f ∷ []) (returned 0 rfc ∷ []) whole ring first (subst (λ g. Done view m (returned 0 g ∷ []) whole s) is_rfc more)
 
+-- the command was broken off
+pub command_not : {M : Type 0} (view : M → MediumView) (r s : RingView M) (f : Frame) (whole : Bool) → whole ≡ false → Broke view r (returned 0 f ∷ []) s → Done view r (commanded 0 f) whole s
+command_not view r s f whole not broke = subst (λ whole. Done view r (commanded 0 f) whole s) (sym not) (broke_before view r s (returned 0 f ∷ []) (returned 0 rfc ∷ []) broke)
+
 -- nothing was done
 pub unheard_nothing : {M : Type 0} (r : RingView M) → Unheard r r
 unheard_nothing r = heard_nothing (λ d e. HearsNothing d e) (λ d e hears. hears) 0 (devices_of r) (devices_of r) (as_it_was (devices_of r))
@@ -249,12 +302,19 @@ unheard_nothing r = heard_nothing (λ d e. HearsNothing d e) (λ d e hears. hear
     as_it_was (d ∷ ds) = (refl, as_it_was ds)
 
 pub whole_nothing : {M : Type 0} (view : M → MediumView) (r : RingView M) → IsFree r → Whole view r [] r
-whole_nothing view r free = record { adds = adds_nothing view r None; ring = free.ring; held = free.held; met_none = met_nowhere (hops_of r.books.plan) r.books.crossings; unheard = λ none. unheard_nothing r }
+whole_nothing view r free = record {
+  adds = adds_nothing view r None;
+  ring = free.ring;
+  held = free.held;
+  met_none = met_nowhere (hops_of r.books.plan) r.books.crossings;
+  unheard = λ none. unheard_nothing r;
+  brought = λ from. adds_nothing-came view r None;
+}
 
 -- a command whole, and what was done behind it
 pub told_then : {M : Type 0} (view : M → MediumView) (r m s : RingView M) (f g : Frame) (rest : List Entry) (whole : Bool) → IsRing r → f ≡ g → Whole view r (commanded 0 f) m → Done view m rest whole s → Done view r (commanded 0 g ++ rest) whole s
 told_then view r m s f g rest whole ring is first more = done_then view r m s (commanded 0 g) rest whole ring (subst (λ f. Whole view r (commanded 0 f) m) is first) more
 
 -- the first of two was broken off
-pub told_not : {M : Type 0} (view : M → MediumView) (r s : RingView M) (f g : Frame) (rest : List Entry) → f ≡ g → Broke view r (commanded 0 f) s → Broke view r (commanded 0 g ++ rest) s
-told_not view r s f g rest is broke = broke_before view r s (commanded 0 g) rest (subst (λ f. Broke view r (commanded 0 f) s) is broke)
+pub told_not : {M : Type 0} (view : M → MediumView) (r s : RingView M) (f g : Frame) (rest : List Entry) (whole : Bool) → f ≡ g → whole ≡ false → Broke view r (commanded 0 f) s → Done view r (commanded 0 g ++ rest) whole s
+told_not view r s f g rest whole is not broke = subst (λ whole. Done view r (commanded 0 g ++ rest) whole s) (sym not) (broke_before view r s (commanded 0 g) rest (subst (λ f. Broke view r (commanded 0 f) s) is broke))

@@ -13,11 +13,12 @@ use Rattle.il_ring.specs.declared.plan.Arrival.TheVariants as arrival
 use Rattle.il_ring.specs.declared.flight.Flight.{Flight}
 use Rattle.il_ring.specs.Flights.{sourced}
 use Rattle.il_ring.specs.Polls.{identified_along}
-use Rattle.il_ring.specs.Rings.{RingView, Round, devices_of}
+use Rattle.il_ring.specs.Rings.{RingView, Round, devices_of, drive_party}
 use Rattle.il_ring.proofs.Identify.{LeadsTo, IsParty, identify_passes, parties}
 use Rattle.il_ring.proofs.PassKinds.{OnlyPassed}
 use Rattle.il_ring.proofs.Passing.{AsIdentify, is_identify_class}
 use Rattle.il_control.specs.Calls.{idy, IsIdle, Made, BrokenOff}
+use Rattle.il_control.proofs.Brought.{poll_comes}
 use Rattle.il_control.proofs.Calls.{pass_call}
 use Rattle.il_control.proofs.Made.{made, broken_off}
 
@@ -47,4 +48,4 @@ identify_call view r s held f answer round is none idle =
       sym past ∙ leads.behind,
     ))
     (λ lost. subst (λ answer. Polled view r answer s) (sym lost.0) (broken_off view (Identify idy) r s idle refl refl (lost.1 (outcome.Back idy))))
-    (pass_call view (LeadsTo all end) (IsParty all) OnlyPassed (identify_passes all end) (λ d e passed. passed.0) r s held idy answer sent none idle.free (parties [] all) (record { identify = refl; behind = refl }) (AsIdentify refl refl))
+    (pass_call view (LeadsTo all end) (IsParty all) OnlyPassed (identify_passes all end) (λ d e passed. passed.0) r s held idy answer sent none idle.free (parties [] all) (record { identify = refl; behind = refl }) (AsIdentify refl refl) (λ g leads. poll_comes (drive_party r) g leads.identify))

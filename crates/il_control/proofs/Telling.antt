@@ -1,5 +1,5 @@
 -- Who listens behind a listen address.
-use Rattle.std.proofs.Common.{◌≡◌, ◌∙◌, ◌≤◌, ◌<◌, ◌+◌, ◌-◌, ◌++◌, ◌&&◌, ◌==◌, ◌⊎◌, inl, inr, ⊎_elim, ℕ, zero, suc, Bool, true, List, [], ◌∷◌, Option, Some, None, length, get_or, refl, sym, ap, subst, arith, append-nil, eq-eqb}
+use Rattle.std.proofs.Common.{◌≡◌, ◌∙◌, ◌≤◌, ◌<◌, ◌+◌, ◌-◌, ◌++◌, ◌&&◌, ◌==◌, ◌⊎◌, inl, inr, ⊎_elim, ℕ, zero, suc, Bool, true, false, List, [], ◌∷◌, Option, Some, None, length, get_or, refl, sym, ap, subst, arith, append-nil, eq-eqb}
 use Rattle.std.specs.Prelude.{IfSome}
 use Rattle.std.proofs.lemmas.Bool.{and_from, le-leb, lt-ltb, ne_eqb}
 use Rattle.std.proofs.lemmas.List.{length-map}
@@ -17,7 +17,7 @@ use Rattle.il_ring.specs.Lists.{Each}
 use Rattle.il_frames.specs.declared.frame.Frame.{Frame}
 use Rattle.il_ring.specs.Rings.{RingView, IsRing, devices_of, roles_of}
 use Rattle.il_control.specs.Calls.{Whole, Broke, IsIdle, loop_of, IsFree, Made, BrokenOff, IsTold}
-use Rattle.il_control.proofs.Calls.{Done, told_then, whole_nothing}
+use Rattle.il_control.proofs.Calls.{Done, told_then, told_not, whole_nothing}
 use Rattle.il_control.proofs.Made.{made, broken_off}
 
 -- the entries of a send before its data
@@ -35,6 +35,10 @@ no_number view r frame number is free = subst (λ number. Whole view r (numbered
 pub tell_done : {M : Type 0} (view : M → MediumView) (r m s : RingView M) (f : Frame) (a : ℕ) (number : Option ℕ) (whole : Bool) → IsRing r → f ≡ unl → Whole view r (commanded 0 f) m → Done view m (commanded 0 (lad a) ++ numbered 0 ddl number) whole s
     → Done view r (entries_of 0 (Send a number [])) whole s
 tell_done view r m s f a number whole ring is first more = subst (λ es. Done view r es whole s) (send_head a number) (told_then view r m s f unl (commanded 0 (lad a) ++ numbered 0 ddl number) whole ring is first more)
+
+-- unlisten was broken off
+pub tell_not : {M : Type 0} (view : M → MediumView) (r s : RingView M) (f : Frame) (a : ℕ) (number : Option ℕ) (whole : Bool) → f ≡ unl → whole ≡ false → Broke view r (commanded 0 f) s → Done view r (entries_of 0 (Send a number [])) whole s
+tell_not view r s f a number whole is not broke = subst (λ es. Done view r es whole s) (send_head a number) (told_not view r s f unl (commanded 0 (lad a) ++ numbered 0 ddl number) whole is not broke)
 
 pub number_fits : (number : Option ℕ) → IfSome number (λ n. n < 32) → is_number number ≡ true
 number_fits None small = refl

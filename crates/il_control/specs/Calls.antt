@@ -20,6 +20,7 @@ use Rattle.il_ring.specs.Rings.{RingView, IsRing, devices_of, roles_of, drive_pa
 use Rattle.il_ring.specs.Lists.{Each, First}
 use Rattle.il_ring.specs.Outcomes.{met_between, Obeys, HearsNothing, HearsByte, HearsAny}
 use Rattle.il_ring.specs.Adds.{Adds}
+use Rattle.il_control.specs.Brought.{Brought, CutBrought, is_from_here}
 
 -- no device heard anything
 abbrev pub Unheard : {M : Type 0} → RingView M → RingView M → Type 0
@@ -29,13 +30,15 @@ Unheard r s = First HearsNothing (length (devices_of r)) (devices_of r) (devices
 abbrev pub Obeyed : {M : Type 0} → Message → RingView M → RingView M → Type 0
 Obeyed m r s = First (Obeys m) (length (devices_of r)) (devices_of r) (devices_of s)
 
--- the entries, whole: no planned hop was met, no frame is held, and where none of them is a data frame no device heard anything
+-- The entries, whole: no planned hop was met, no frame is held, and where none of them is a data frame no device heard anything.
+-- Where each is of the host, the drive or a device behind it, the frames that they brought to the drive came to it in their order.
 pub record Whole {M : Type 0} (view : M → MediumView) (r : RingView M) (entries : List Entry) (s : RingView M) : Type 0 where
   pub adds : Adds view r None entries None s
   pub ring : IsRing s
   pub held : s.books.held ≡ None
   pub met_none : met_between r s ≡ []
   pub unheard : list_all has_no_data entries ≡ true → Unheard r s
+  pub brought : list_all (is_from_here (drive_party r)) entries ≡ true → Brought (length (devices_of r)) (drive_party r) entries adds.came
 
 -- so many of them, and then a break in the place of the next: a planned hop was met, and no frame is held
 pub record Broke {M : Type 0} (view : M → MediumView) (r : RingView M) (entries : List Entry) (s : RingView M) : Type 0 where
@@ -48,6 +51,7 @@ pub record Broke {M : Type 0} (view : M → MediumView) (r : RingView M) (entrie
   pub held : s.books.held ≡ None
   pub met_some : met_between r s ≢ []
   pub unheard : list_all has_no_data entries ≡ true → Unheard r s
+  pub brought : list_all (is_from_here (drive_party r)) entries ≡ true → CutBrought (length (devices_of r)) (drive_party r) entries standing adds.came
 
 -- ---- the states
 

@@ -1,5 +1,5 @@
 -- A receive: what a talker sent, and what the controller took of it.
-use Rattle.std.specs.Prelude.{◌≡◌, ◌≢◌, ◌≤◌, ◌⊎◌, ◌++◌, ◌||◌, ◌==◌, nat_le, ℕ, suc, Bool, true, false, MatchBool, List, [], ◌∷◌, length, take, drop, map, Option, Some, None, IfSome}
+use Rattle.std.specs.Prelude.{◌≡◌, ◌≢◌, ◌≤◌, ◌<◌, ◌⊎◌, ◌++◌, ◌||◌, ◌==◌, nat_le, ℕ, suc, Bool, true, false, MatchBool, List, [], ◌∷◌, length, take, drop, map, Option, Some, None, IfSome, IsSome}
 use Rattle.std.specs.List.{list_all}
 use Rattle.il_frames.specs.declared.frame.Frame.{Frame}
 use Rattle.il_frames.specs.declared.entry.Entry.{Entry}
@@ -7,16 +7,16 @@ use Rattle.il_frames.specs.declared.entry.Outcome.TheVariants as outcome
 use Rattle.il_frames.specs.Frames.{byte_of, is_data}
 use Rattle.il_device.specs.declared.interface.OwnFrame.{OwnFrame}
 use Rattle.il_device.specs.State.{DeviceState}
-use Rattle.il_device.specs.Takes.{eto}
+use Rattle.il_device.specs.Takes.{eto, ete}
 use Rattle.il_ports.specs.Media.{MediumView}
-use Rattle.loop_model.specs.Entries.{entry, nrd}
-use Rattle.loop_model.specs.Exchanges.{Start, Sda, Sst, Sdi, Sai, Answer, NotTaken, ToItsEnd, Stopped, Receive, Echo, Break, echoed, returned, answer_entries, start_frame, break_entries, cut_at, can_cut, is_answer, is_break, is_echo}
+use Rattle.loop_model.specs.Entries.{entry, nrd, unt}
+use Rattle.loop_model.specs.Exchanges.{Start, Sda, Sst, Sdi, Sai, Answer, NotTaken, ToItsEnd, Stopped, Receive, Echo, Break, echoed, returned, commanded, answer_entries, start_frame, break_entries, cut_at, can_cut, is_answer, is_break, is_echo}
 use Rattle.loop_model.proofs.RoundLaws.{answers_as_asked}
 use Rattle.loop_model.proofs.UnitLaws.{bytes_of, receive_front}
 use Rattle.il_ring.specs.declared.flight.Flight.{Flight}
 use Rattle.il_ring.specs.declared.plan.Arrival.{Arrival}
 use Rattle.il_ring.specs.declared.plan.Arrival.TheVariants as arrival
-use Rattle.il_ring.specs.Rings.{RingView, IsRing, devices_of}
+use Rattle.il_ring.specs.Rings.{RingView, IsRing, devices_of, drive_party}
 use Rattle.il_ring.specs.Lists.{Each}
 use Rattle.il_ring.specs.Outcomes.{met_between, IsTalking, StoodSo}
 use Rattle.il_ring.specs.Adds.{Adds}
@@ -28,6 +28,7 @@ use Rattle.il_control.specs.declared.receiving.Begun.{Begun}
 use Rattle.il_control.specs.declared.receiving.Begun.TheVariants as begun
 use Rattle.il_control.specs.declared.receiving.Front.{Front}
 use Rattle.il_control.specs.declared.receiving.Front.TheVariants as front
+use Rattle.il_control.specs.Brought.{Brought, CutBrought}
 use Rattle.il_control.specs.Calls.{Whole, Broke, Made, BrokenOff, Unheard}
 
 -- ---- what came of it
@@ -45,6 +46,12 @@ received NotTaken = []
 received (ToItsEnd p ds) = bytes_of ds
 received (Stopped p ds last) = bytes_of ds ++ byte_of last.sent ∷ []
 
+-- the party that took the start message
+abbrev pub talker_of : Answer → Option ℕ
+talker_of NotTaken = None
+talker_of (ToItsEnd p ds) = Some p
+talker_of (Stopped p ds last) = Some p
+
 abbrev pub is_stopped : Answer → Bool
 is_stopped NotTaken = false
 is_stopped (ToItsEnd p ds) = false
@@ -55,6 +62,43 @@ abbrev pub fits : ℕ → Answer → Bool
 fits w NotTaken = true
 fits w (ToItsEnd p ds) = nat_le (length ds) w
 fits w (Stopped p ds last) = suc (length ds) == w
+
+-- ---- what comes to the drive meanwhile
+
+-- a frame that comes to a device behind a talker while that one sends
+abbrev pub IsSpoken : Frame → Type 0
+IsSpoken g = (is_data g ≡ true) ⊎ ((g ≡ nrd) ⊎ ((g ≡ eto) ⊎ (g ≡ ete)))
+
+abbrev pub AllSpoken : List Frame → Type 0
+AllSpoken [] = Unit {0}
+AllSpoken (g ∷ gs) = IsSpoken g × AllSpoken gs
+
+-- What came to party q, which stands behind the talker: the commands before the start message, in order; frames of the talker; and the
+-- commands behind them.
+pub record PassedBy (k q a : ℕ) (number : Option ℕ) (came : List Frame) : Type 0 where
+  pub before : List Frame
+  pub spoken : List Frame
+  pub behind : List Frame
+  pub all : came ≡ before ++ (spoken ++ behind)
+  pub first : Brought k q (receive_front 0 a number) before
+  pub then : AllSpoken spoken
+  pub last : Brought k q (commanded 0 unt) behind
+
+-- the same of a receive that was broken off: so many of the commands came, or all
+pub record PassedInPart (k q a : ℕ) (number : Option ℕ) (came : List Frame) : Type 0 where
+  pub before : List Frame
+  pub spoken : List Frame
+  pub behind : List Frame
+  pub all : came ≡ before ++ (spoken ++ behind)
+  pub standing : ℕ
+  pub first : CutBrought k q (receive_front 0 a number) standing before
+  pub then : AllSpoken spoken
+  pub standing_behind : ℕ
+  pub last : CutBrought k q (commanded 0 unt) standing_behind behind
+
+-- a device took the start message, and the drive stands behind it
+abbrev pub StandsBehind : {M : Type 0} → Answer → RingView M → Type 0
+StandsBehind answer r = IfSome (talker_of answer) (λ p. p < drive_party r) × IsSome (talker_of answer)
 
 -- The exchange was made. The talker was the device of that address; it was stopped exactly where it brought as many bytes as there
 -- was room for, and the first n bytes are those that it brought. No device heard anything.
@@ -67,6 +111,7 @@ pub record Received {M : Type 0} (view : M → MediumView) (a : ℕ) (number : O
   pub bytes : new ≡ received answer ++ drop n old
   pub stops : is_stopped answer ≡ (n == length old)
   pub unheard : Unheard r s
+  pub passed : StandsBehind answer r → PassedBy (length (devices_of r)) (drive_party r) a number made.whole.adds.came
 
 -- it was broken off
 pub record NotReceived {M : Type 0} (view : M → MediumView) (a : ℕ) (number : Option ℕ) (start : Start) (w : ℕ) (r s : RingView M) : Type 0 where
@@ -75,6 +120,7 @@ pub record NotReceived {M : Type 0} (view : M → MediumView) (a : ℕ) (number 
   pub fitting : fits w answer ≡ true
   pub broken : BrokenOff view (Receive a number start answer) r s
   pub unheard : Unheard r s
+  pub passed : StandsBehind answer r → PassedInPart (length (devices_of r)) (drive_party r) a number broken.broke.adds.came
 
 -- ---- before the start message
 
@@ -86,6 +132,21 @@ IsCalm k d = (d.roles.listens ≡ false) × (d.own ≡ None)
 pub record Asked {M : Type 0} (view : M → MediumView) (a : ℕ) (number : Option ℕ) (r s : RingView M) : Type 0 where
   pub whole : Whole view r (receive_front 0 a number) s
   pub calm : Each IsCalm 1 (devices_of s)
+
+-- These entries were added while party p sent. Where the drive is that party or stands before it, the frames that came to it are those
+-- that the entries brought; behind it they are frames of the talker and NRD.
+pub record AddsBy {M : Type 0} (view : M → MediumView) (m : RingView M) (p : ℕ) (from : Option ℕ) (entries : List Entry) (to : Option ℕ) (brought : ℕ → ℕ → List Frame → Type 0) (s : RingView M) : Type 0 where
+  pub adds : Adds view m from entries to s
+  pub near : drive_party m ≤ p → brought (length (devices_of m)) (drive_party m) adds.came
+  pub far : p < drive_party m → AllSpoken adds.came
+
+-- the entries brought their frames
+abbrev pub Brings : {M : Type 0} → (M → MediumView) → RingView M → ℕ → Option ℕ → List Entry → Option ℕ → RingView M → Type 0
+Brings view m p from entries to s = AddsBy view m p from entries to (λ k q gs. Brought k q entries gs) s
+
+-- the first n of these did, and of the next at most its frame came
+abbrev pub CutBrings : {M : Type 0} → (M → MediumView) → RingView M → ℕ → Option ℕ → List Entry → ℕ → Break → Option ℕ → RingView M → Type 0
+CutBrings view m p from entries n break to s = AddsBy view m p from (cut_at entries n break) to (λ k q gs. CutBrought k q entries n gs) s
 
 -- ---- a held frame
 
@@ -117,7 +178,7 @@ pub record WentOn {M : Type 0} (view : M → MediumView) (m : RingView M) (h : I
   pub back : Frame
   pub right : is_echo (record { sent = h.flight.sent; back = back }) ≡ true
   pub goes_on : (h.own.stopped || h.own.last) ≡ false
-  pub adds : Adds view m (Some h.flight.source) (echoed h.flight.source (record { sent = h.flight.sent; back = back }) ∷ []) (Some h.flight.source) s
+  pub added : Brings view m h.flight.source (Some h.flight.source) (echoed h.flight.source (record { sent = h.flight.sent; back = back }) ∷ []) (Some h.flight.source) s
   pub next : IsHolding s
   pub source : next.flight.source ≡ h.flight.source
   pub unaltered : h.flight.altered ≡ false
@@ -128,7 +189,7 @@ pub record WentOn {M : Type 0} (view : M → MediumView) (m : RingView M) (h : I
 pub record Ended {M : Type 0} (view : M → MediumView) (m : RingView M) (h : IsHolding m) (s : RingView M) : Type 0 where
   pub back : Frame
   pub right : is_echo (record { sent = h.flight.sent; back = back }) ≡ true
-  pub adds : Adds view m (Some h.flight.source) (echoed h.flight.source (record { sent = h.flight.sent; back = back }) ∷ entry h.flight.source eto (outcome.Taken 0) ∷ []) None s
+  pub added : Brings view m h.flight.source (Some h.flight.source) (echoed h.flight.source (record { sent = h.flight.sent; back = back }) ∷ entry h.flight.source eto (outcome.Taken 0) ∷ []) None s
   pub ring : IsRing s
   pub held : s.books.held ≡ None
   pub clean : Clean m h s
@@ -147,7 +208,7 @@ pub record Severed {M : Type 0} (view : M → MediumView) (m : RingView M) (h : 
   pub break : Break
   pub due_at : DueAt h.flight.source h.own whole due
   pub legal : is_break 0 due break ≡ true
-  pub adds : Adds view m (Some h.flight.source) (map (echoed h.flight.source) whole ++ break_entries due break) None s
+  pub added : AddsBy view m h.flight.source (Some h.flight.source) (map (echoed h.flight.source) whole ++ break_entries due break) None (λ k q gs. CutBrought k q (map (echoed h.flight.source) whole ++ due ∷ []) (length whole) gs) s
   pub ring : IsRing s
   pub held : s.books.held ≡ None
   pub spoilt : Spoilt m h s
@@ -170,7 +231,7 @@ IsOnward answer onward.Broken = (answer ≡ arrival.Lost) ⊎ ((g : Frame) × (a
 -- Party p took it, and its first frame is held, which was altered exactly where a planned hop was met.
 pub record Began {M : Type 0} (view : M → MediumView) (start : Frame) (r m : RingView M) : Type 0 where
   pub now : IsHolding m
-  pub adds : Adds view r None (entry 0 start (outcome.Taken now.flight.source) ∷ []) (Some now.flight.source) m
+  pub added : Brings view r now.flight.source None (entry 0 start (outcome.Taken now.flight.source) ∷ []) (Some now.flight.source) m
   pub talked : IsTalking now.flight.source None (devices_of r)
   pub met : MatchBool now.flight.altered (met_between r m ≢ []) (met_between r m ≡ [])
   pub unheard : Unheard r m
@@ -178,7 +239,7 @@ pub record Began {M : Type 0} (view : M → MediumView) (start : Frame) (r m : R
 -- It was lost, whatever was to come of it; or party p took it and its first frame was lost.
 pub data NotBegun {M : Type 0} (view : M → MediumView) (start : Frame) (r s : RingView M) : Type 0 where
   StartLost : Broke view r (returned 0 start ∷ []) s → Unheard r s → NotBegun view start r s
-  FirstLost : (p : ℕ) (d : Echo) → is_echo d ≡ true → IsTalking p None (devices_of r) → Broke view r (entry 0 start (outcome.Taken p) ∷ echoed p d ∷ []) s → Unheard r s → NotBegun view start r s
+  FirstLost : (p : ℕ) (d : Echo) → is_echo d ≡ true → IsTalking p None (devices_of r) → (broke : Broke view r (entry 0 start (outcome.Taken p) ∷ echoed p d ∷ []) s) → (p < drive_party r → AllSpoken broke.adds.came) → Unheard r s → NotBegun view start r s
 
 abbrev pub Begins : {M : Type 0} → (M → MediumView) → Frame → RingView M → Begun → RingView M → Type 0
 Begins view start r begun.NotTaken s = Whole view r (returned 0 start ∷ []) s × Unheard r s
@@ -193,17 +254,12 @@ behind_start NotTaken = []
 behind_start (ToItsEnd p ds) = map (echoed p) ds ++ entry p eto (outcome.Taken 0) ∷ []
 behind_start (Stopped p ds last) = map (echoed p) ds ++ returned 0 nrd ∷ echoed p last ∷ entry p eto (outcome.Taken 0) ∷ []
 
-abbrev pub talker_of : Answer → Option ℕ
-talker_of NotTaken = None
-talker_of (ToItsEnd p ds) = Some p
-talker_of (Stopped p ds last) = Some p
-
 -- so many of them came back right, and the next is held
 pub record SoFar {M : Type 0} (view : M → MediumView) (m : RingView M) (h : IsHolding m) (bytes : List ℕ) (s : RingView M) : Type 0 where
   pub ds : List Echo
   pub echoes : list_all is_echo ds ≡ true
   pub bytes_are : bytes ≡ bytes_of ds
-  pub adds : Adds view m (Some h.flight.source) (map (echoed h.flight.source) ds) (Some h.flight.source) s
+  pub added : Brings view m h.flight.source (Some h.flight.source) (map (echoed h.flight.source) ds) (Some h.flight.source) s
   pub now : IsHolding s
   pub source : now.flight.source ≡ h.flight.source
   pub met : MatchBool now.flight.altered (Spoilt m h s) (Clean m h s)
@@ -216,7 +272,7 @@ pub record Took {M : Type 0} (view : M → MediumView) (m : RingView M) (h : IsH
   pub legal : is_answer 0 answer ≡ true
   pub stopped : is_stopped answer ≡ stops
   pub bytes_are : bytes ≡ received answer
-  pub adds : Adds view m (Some h.flight.source) (behind_start answer) None s
+  pub added : Brings view m h.flight.source (Some h.flight.source) (behind_start answer) None s
   pub ring : IsRing s
   pub held : s.books.held ≡ None
   pub clean : Clean m h s
@@ -232,7 +288,7 @@ pub record NotTook {M : Type 0} (view : M → MediumView) (m : RingView M) (h : 
   pub break : Break
   pub cuts : can_cut 0 (behind_start answer) standing break ≡ true
   pub held_at_end : Option ℕ
-  pub adds : Adds view m (Some h.flight.source) (cut_at (behind_start answer) standing break) held_at_end s
+  pub added : CutBrings view m h.flight.source (Some h.flight.source) (behind_start answer) standing break held_at_end s
   pub ring : IsRing s
   pub held : s.books.held ≡ None
   pub spoilt : Spoilt m h s
@@ -273,6 +329,7 @@ pub record Answered {M : Type 0} (view : M → MediumView) (start : Start) (n : 
   pub legal : is_answer 0 answer ≡ true
   pub talked : WasTalking answer r
   pub whole : Whole view r (answer_entries 0 (start_frame start) answer) s
+  pub far : StandsBehind answer r → AllSpoken whole.adds.came
   pub count : n ≡ length (received answer)
   pub within : n ≤ length old
   pub bytes : new ≡ received answer ++ drop n old
@@ -285,6 +342,7 @@ pub record NotAnswered {M : Type 0} (view : M → MediumView) (start : Start) (w
   pub talked : WasTalking answer r
   pub fitting : fits w answer ≡ true
   pub broke : Broke view r (answer_entries 0 (start_frame start) answer) s
+  pub far : StandsBehind answer r → AllSpoken broke.adds.came
   pub unheard : Unheard r s
 
 -- i of the places in front of the last one are filled

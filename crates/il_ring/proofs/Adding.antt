@@ -61,6 +61,11 @@ adds_nothing view r a = record {
   drive = refl;
 }
 
+-- no frame came to the drive
+pub adds_nothing-came : {M : Type 0} (view : M → MediumView) (r : RingView M) (a : Option ℕ) → (adds_nothing view r a).came ≡ []
+unfolding adds_nothing
+adds_nothing-came view r a = refl
+
 -- one behind the other
 pub adds_more : {M : Type 0} (view : M → MediumView) (r m s : RingView M) (a b c : Option ℕ) (xs ys : List Entry) → Adds view r a xs b m → Adds view m b ys c s → Adds view r a (xs ++ ys) c s
 adds_more view r m s a b c xs ys first more =
@@ -83,6 +88,11 @@ adds_more view r m s a b c xs ys first more =
       drive = joins view first.came more.came first.answers more.answers r.drive m.drive s.drive first.drive more.drive;
     }
 
+-- the frames of the first came to the drive, and then those of the other
+pub adds_more-came : {M : Type 0} (view : M → MediumView) (r m s : RingView M) (a b c : Option ℕ) (xs ys : List Entry) (first : Adds view r a xs b m) (more : Adds view m b ys c s) → (adds_more view r m s a b c xs ys first more).came ≡ first.came ++ more.came
+unfolding adds_more
+adds_more-came view r m s a b c xs ys first more = refl
+
 -- a frame that is held meanwhile counts on both sides, whether it stays or is dropped
 pub adds_held : {M : Type 0} (view : M → MediumView) (r s : RingView M) (a : Option ℕ) (xs : List Entry) → Adds view r None xs None s → Adds view r a xs a s
 adds_held view r s a xs adds = record {
@@ -100,3 +110,8 @@ adds_held view r s a xs adds = record {
   answers = adds.answers;
   drive = adds.drive;
 }
+
+-- and the same frames came to the drive
+pub adds_held-came : {M : Type 0} (view : M → MediumView) (r s : RingView M) (a : Option ℕ) (xs : List Entry) (adds : Adds view r None xs None s) → (adds_held view r s a xs adds).came ≡ adds.came
+unfolding adds_held
+adds_held-came view r s a xs adds = refl

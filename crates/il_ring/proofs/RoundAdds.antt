@@ -1,5 +1,5 @@
 -- What one round adds.
-use Rattle.std.proofs.Common.{◌≡◌, ◌++◌, inl, inr, ⊎_elim, ℕ, false, List, [], ◌∷◌, Option, Some, None, length, refl, sym, ap, subst, ◌∙◌}
+use Rattle.std.proofs.Common.{◌≡◌, ◌≢◌, ◌++◌, ◌⊎◌, inl, inr, ⊎_elim, ℕ, false, List, [], ◌∷◌, Option, Some, None, length, refl, sym, ap, subst, ◌∙◌}
 use Rattle.std.proofs.lemmas.List.{append_cancel_left}
 use Rattle.il_frames.specs.declared.frame.Frame.{Frame}
 use Rattle.il_frames.specs.declared.entry.Entry.{Entry}
@@ -17,7 +17,7 @@ use Rattle.il_ring.specs.declared.flight.Flight.{Flight}
 use Rattle.il_ring.specs.Flights.{sourced}
 use Rattle.il_ring.specs.Rings.{RingView, Round, devices_of, roles_of}
 use Rattle.il_ring.specs.Rounded.{Rounded, IsReady, AllTook, device_sending, holding}
-use Rattle.il_ring.specs.Outcomes.{DriveTook}
+use Rattle.il_ring.specs.Outcomes.{met_between, DriveTook}
 use Rattle.il_ring.specs.Adds.{Adds}
 use Rattle.il_ring.proofs.Passing.{Carries}
 use Rattle.il_ring.proofs.RoundRoles.{IsQuiet}
@@ -36,6 +36,10 @@ record DriveRan {M : Type 0} (view : M → MediumView) (r s : RingView M) : Type
 drive_ran : {M : Type 0} (view : M → MediumView) (P : Frame → Type 0) (r s : RingView M) → DriveTook view P r s → DriveRan view r s
 drive_ran view P r s (inl stays) = record { came = []; answers = []; ran = stays.0 }
 drive_ran view P r s (inr took) = record { came = took.0 ∷ []; answers = took.2.0 ∷ []; ran = (s.drive, took.2.1.did, refl) }
+
+-- these frames came to it: one such, or none, since a planned hop was met
+abbrev pub DriveCame : {M : Type 0} → (Frame → Type 0) → RingView M → RingView M → List Frame → Type 0
+DriveCame P r s frames = ((frames ≡ []) × (met_between r s ≢ [])) ⊎ ((g : Frame) × P g × (frames ≡ g ∷ []))
 
 -- ---- any round
 
@@ -80,6 +84,20 @@ device_adds view P r s held f answer entries to quiet ready round log new took =
     let same : past.entries ≡ entries = append_cancel_left r.books.log past.entries entries (sym past.log ∙ log) in
     round_adds view P r s held f answer entries to round (round_counts view r s held f answer ready round) log new
     (past.roles ∙ sym (others_leave (roles_of (devices_of r)) past.entries past.others) ∙ ap (roles_after (roles_of (devices_of r))) same) took
+
+-- ---- the frames that came to the drive
+
+pub host_came : {M : Type 0} (view : M → MediumView) (P : Frame → Type 0) (r s : RingView M) (held : Option Flight) (f : Frame) (answer : Arrival) (entries : List Entry) (to : Option ℕ) (carries : Carries (message_of f) f) (round : Round view r held (sourced 0 f) answer s)
+    (log : s.books.log ≡ r.books.log ++ entries) (new : holding (round_counts view r s held (sourced 0 f) answer (inl refl) round).new ≡ to) (took : DriveTook view P r s) → DriveCame P r s (host_adds view P r s held f answer entries to carries round log new took).came
+unfolding host_adds round_adds drive_ran
+host_came view P r s held f answer entries to carries round log new (inl stays) = inl (refl, stays.1)
+host_came view P r s held f answer entries to carries round log new (inr took) = inr (took.0, took.1, refl)
+
+pub device_came : {M : Type 0} (view : M → MediumView) (P : Frame → Type 0) (r s : RingView M) (held : Option Flight) (f : Flight) (answer : Arrival) (entries : List Entry) (to : Option ℕ) (quiet : IsQuiet f) (ready : IsReady f (devices_of r)) (round : Round view r held f answer s)
+    (log : s.books.log ≡ r.books.log ++ entries) (new : holding (round_counts view r s held f answer ready round).new ≡ to) (took : DriveTook view P r s) → DriveCame P r s (device_adds view P r s held f answer entries to quiet ready round log new took).came
+unfolding device_adds round_adds drive_ran
+device_came view P r s held f answer entries to quiet ready round log new (inl stays) = inl (refl, stays.1)
+device_came view P r s held f answer entries to quiet ready round log new (inr took) = inr (took.0, took.1, refl)
 
 -- ---- which frame is held then
 
