@@ -28,7 +28,7 @@ use Rattle.il_ring.proofs.PassKinds.{Is, Any, plain_passes}
 use Rattle.il_ring.proofs.PassRounds.{passed_round}
 use Rattle.il_control.specs.Calls.{IsFree, Obeyed, Whole, Broke}
 use Rattle.il_control.specs.Receives.{Asked, IsCalm, IsDeaf}
-use Rattle.il_control.proofs.Calls.{Done, arrives, hears_then, told_then, told_not}
+use Rattle.il_control.proofs.Calls.{Done, arrives, hears_then, told_then, broke_before}
 
 -- a frame that came back was obeyed by every device
 pub plain_obeyed : {M : Type 0} (view : M → MediumView) (r s : RingView M) (held : Option Flight) (f : Frame) (answer : Arrival) → Round view r held (sourced 0 f) answer s → IsFree r → is_plain (message_of f) ≡ true → arrives answer ≡ true → Obeyed (message_of f) r s
@@ -110,8 +110,10 @@ pub asked_done : {M : Type 0} (view : M → MediumView) (r m s : RingView M) (f 
 asked_done view r m s f a number true ring is first obeyed more calm = record { whole = told_then view r m s f unl (commanded 0 (tad a) ++ numbered 0 ddt number) true ring is first more; calm = calm refl (deaf_behind r m f is obeyed) }
 asked_done view r m s f a number false ring is first obeyed more calm = told_then view r m s f unl (commanded 0 (tad a) ++ numbered 0 ddt number) false ring is first more
 
-pub not_asked : {M : Type 0} (view : M → MediumView) (r s : RingView M) (f : Frame) (a : ℕ) (number : Option ℕ) → f ≡ unl → Broke view r (commanded 0 f) s → Broke view r (receive_front 0 a number) s
-not_asked view r s f a number is broke = told_not view r s f unl (commanded 0 (tad a) ++ numbered 0 ddt number) is broke
+pub not_asked : {M : Type 0} (view : M → MediumView) (r s : RingView M) (f : Frame) (a : ℕ) (number : Option ℕ) (whole : Bool) → f ≡ unl → whole ≡ false → Broke view r (commanded 0 f) s → MatchBool whole (Asked view a number r s) (Broke view r (receive_front 0 a number) s)
+not_asked view r s f a number whole is not broke =
+    subst (λ whole. MatchBool whole (Asked view a number r s) (Broke view r (receive_front 0 a number) s)) (sym not)
+    (broke_before view r s (commanded 0 unl) (commanded 0 (tad a) ++ numbered 0 ddt number) (subst (λ f. Broke view r (commanded 0 f) s) is broke))
 
 pub talk_calm : {M : Type 0} (view : M → MediumView) (r m s : RingView M) (f : Frame) (a : ℕ) (number : Option ℕ) (whole : Bool) → Whole view r (commanded 0 f) m → Done view m (numbered 0 ddt number) whole s → f ≡ tad a → a ≤ 30 → Obeyed (message_of f) r m
     → (whole ≡ true → Each IsCalm 1 (devices_of m) → Each IsCalm 1 (devices_of s)) → whole ≡ true → Each IsDeaf 1 (devices_of r) → Each IsCalm 1 (devices_of s)

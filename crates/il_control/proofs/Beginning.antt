@@ -1,5 +1,5 @@
 -- A start message, as a call.
-use Rattle.std.proofs.Common.{◌≡◌, ◌≢◌, ◌∙◌, ◌+◌, ◌-◌, ◌++◌, inl, inr, ⊎_elim, ℕ, Bool, true, false, not, List, [], ◌∷◌, Option, Some, None, refl, sym, ap, subst, arith}
+use Rattle.std.proofs.Common.{◌≡◌, ◌≢◌, ◌∙◌, ◌+◌, ◌-◌, ◌++◌, inl, inr, ⊎_elim, ℕ, Bool, true, false, not, List, [], ◌∷◌, Option, Some, None, refl, sym, ap, subst, arith, length, ◌≤◌, ◌<◌}
 use Rattle.std.specs.Prelude.{MatchBool, is_some, option_map}
 use Rattle.std.proofs.Math.Nat.{eq-zero-or-pos}
 use Rattle.std.proofs.lemmas.Bool.{and_from}
@@ -12,7 +12,8 @@ use Rattle.il_device.specs.declared.roles.Roles.{Roles}
 use Rattle.il_device.proofs.Laws.{is_start, changes_roles}
 use Rattle.il_ports.specs.Media.{MediumView}
 use Rattle.loop_model.specs.Entries.{entry}
-use Rattle.loop_model.specs.Exchanges.{Start, Sda, Sst, Sdi, Sai, start_frame, Echo, FrameLost, returned}
+use Rattle.loop_model.specs.Exchanges.{Start, Sda, Sst, Sdi, Sai, start_frame, Echo, FrameLost, returned, echoed}
+use Rattle.loop_model.specs.Reach.{brings_to}
 use Rattle.loop_model.specs.Roles.{talkers, is_at_most_one, roles_after}
 use Rattle.loop_model.proofs.RoleSteps.{roles_after-kept}
 use Rattle.il_ring.specs.declared.plan.Arrival.{Arrival}
@@ -23,18 +24,20 @@ use Rattle.il_ring.specs.Flights.{sourced}
 use Rattle.il_ring.specs.Lists.{Each, NoneSends}
 use Rattle.il_ring.specs.Rings.{RingView, IsRing, Round, devices_of, roles_of, drive_party}
 use Rattle.il_ring.specs.Rounded.{Rounded, holding}
-use Rattle.il_ring.specs.Outcomes.{met_between, DriveTook, DriveHad, IsBrought, IsHeldNow, IsLostNow, StartReturned, StartGone, StartTaken}
-use Rattle.il_ring.specs.Adds.{Adds}
+use Rattle.il_ring.specs.Outcomes.{met_between, DriveTook, DriveHad, IsBrought, IsHeldNow, IsLostNow, StartReturned, StartGone, StartTaken, DriveSawStart}
 use Rattle.il_ring.proofs.Passing.{Carries, Exactly, is_exact}
 use Rattle.il_ring.proofs.Rings.{IsRing-round}
-use Rattle.il_ring.proofs.RoundAdds.{host_adds, none_new, held_new}
+use Rattle.il_ring.proofs.RoundAdds.{host_adds, host_came, host_had, none_new, held_new}
 use Rattle.il_ring.proofs.RoundCounts.{round_counts}
 use Rattle.il_ring.proofs.SendLaws.{kept_sent}
 use Rattle.il_ring.proofs.StartDrive.{start_at_drive}
 use Rattle.il_control.specs.Calls.{IsFree, Unheard, Whole}
-use Rattle.il_control.specs.Receives.{IsCalm, IsDeaf, Began, NotBegun, StartLost, FirstLost, Begins}
+use Rattle.il_control.specs.Brought.{Brought, BroughtIf, CutBrought, ComesAs}
+use Rattle.il_control.specs.Receives.{AddsBy, Brings, IsCalm, IsDeaf, Began, NotBegun, StartLost, FirstLost, Begins}
 use Rattle.il_control.specs.declared.receiving.Begun.TheVariants as begun
-use Rattle.il_control.proofs.Relaying.{deaf_unheard, deaf_still, right_echo}
+use Rattle.il_control.proofs.Brought.{cut_brought_one, may_come}
+use Rattle.il_control.proofs.Relaying.{deaf_unheard, deaf_still, right_echo, spoken_one}
+use Rattle.il_control.proofs.Spoken.{device_source, near_source, start_comes, taken_brings}
 
 -- ---- calm devices
 
@@ -88,9 +91,6 @@ module _ {M : Type 0} (view : M → MediumView) (r s : RingView M) (held : Optio
   carries : Carries (message_of f) f
   carries = Exactly (start_exact start) refl
 
-  adds : (P : Frame → Type 0) (entries : List Entry) (to : Option ℕ) → DriveTook view P r s → s.books.log ≡ r.books.log ++ entries → holding counts.new ≡ to → Adds view r None entries to s
-  adds P entries to took log new = host_adds view P r s held f answer entries to carries round log new took
-
   ring : IsRing s
   ring = IsRing-round view r s held (sourced 0 f) answer round free.ring (subst IsHeld (sym none) tt)
 
@@ -107,11 +107,14 @@ module _ {M : Type 0} (view : M → MediumView) (r s : RingView M) (held : Optio
       let held_is = returned.held_is ∙ none in
       ItPassed f returned.answer_is held_is
       (record {
-        adds = adds (λ g. g ≡ f) (entry 0 f (outcome.Back f) ∷ []) None (inr had) returned.log (none_new r s held (sourced 0 f) answer counts held_is);
+        adds = host_adds view (λ g. g ≡ f) r s held f answer (entry 0 f (outcome.Back f) ∷ []) None carries round returned.log (none_new r s held (sourced 0 f) answer counts held_is) (inr had);
         ring = ring;
         held = held_is;
         met_none = returned.met_none;
         unheard = λ none. unheard;
+        brought = λ from.
+            let came = host_had view (λ g. g ≡ f) r s held f answer (entry 0 f (outcome.Back f) ∷ []) None carries round returned.log (none_new r s held (sourced 0 f) answer counts held_is) had in
+            subst (Brought (length (devices_of r)) (drive_party r) (entry 0 f (outcome.Back f) ∷ [])) (sym came.2) (start_comes (drive_party r) start came.0 came.1, refl);
       })
       unheard
 
@@ -125,23 +128,53 @@ module _ {M : Type 0} (view : M → MediumView) (r s : RingView M) (held : Optio
         break = FrameLost lost.party;
         legal = refl;
         held_at_end = None;
-        adds = adds (λ g. g ≡ f) (entry 0 f (outcome.Lost lost.party) ∷ []) None took lost.log (none_new r s held (sourced 0 f) answer counts lost.held_is);
+        adds = host_adds view (λ g. g ≡ f) r s held f answer (entry 0 f (outcome.Lost lost.party) ∷ []) None carries round lost.log (none_new r s held (sourced 0 f) answer counts lost.held_is) took;
         ring = ring;
         held = lost.held_is;
         met_some = lost.met_some;
         unheard = λ none. unheard;
+        brought = λ from. cut_brought_one (λ g. g ≡ f) r s (length (devices_of r)) (drive_party r) f (outcome.Back f) _ (λ g is. may_come (drive_party r) f g (start_comes (drive_party r) start g is))
+            (host_came view (λ g. g ≡ f) r s held f answer (entry 0 f (outcome.Lost lost.party) ∷ []) None carries round lost.log (none_new r s held (sourced 0 f) answer counts lost.held_is) took);
       })
       unheard)
 
-  begun_at : (P : Frame → Type 0) → DriveTook view P r s → StartTaken r f answer s → StartEnd view r f answer s
-  begun_at P took taken =
+  -- what was added, by the drive's place
+  added_by : (p : ℕ) (sent : Frame) (entries : List Entry) (to : Option ℕ) (B : ℕ → ℕ → List Frame → Type 0) → s.books.log ≡ r.books.log ++ entries → holding counts.new ≡ to → DriveSawStart view f p sent r s
+      → (drive_party r ≤ p → (g : Frame) → g ≡ f → B (length (devices_of r)) (drive_party r) (g ∷ [])) → AddsBy view r p None entries to B s
+  added_by p sent entries to B log new saw brought =
+      ⊎_elim
+      (λ (none : drive_party r - p ≡ 0).
+      let near : drive_party r ≤ p = omega (arith, none) in
+      let came = host_had view (λ g. g ≡ f) r s held f answer entries to carries round log new (saw.up_to near) in
+      record {
+        adds = host_adds view (λ g. g ≡ f) r s held f answer entries to carries round log new (inr (saw.up_to near));
+        near = λ _. subst (B (length (devices_of r)) (drive_party r)) (sym came.2) (brought near came.0 came.1);
+        far = λ far. absurd (omega (arith, near, far));
+      })
+      (λ some.
+      let far : p < drive_party r = omega (arith, some) in
+      let took = saw.behind far in
+      record {
+        adds = host_adds view (IsBrought r s sent) r s held f answer entries to carries round log new took;
+        near = λ near. absurd (omega (arith, near, far));
+        far = λ _. spoken_one (IsBrought r s sent) r s _ (λ g came. inl came.0) (host_came view (IsBrought r s sent) r s held f answer entries to carries round log new took);
+      })
+      (eq-zero-or-pos (drive_party r - p))
+
+  -- the message came to the drive up to the party that took it
+  start_brought : (p : ℕ) (g : Frame) (rest : List Frame → Type 0) → drive_party r ≤ p → g ≡ f → rest [] → BroughtIf (brings_to (length (devices_of r)) (drive_party r) (entry 0 f (outcome.Taken p))) (ComesAs (drive_party r) f) rest (g ∷ [])
+  start_brought p g rest near is nothing =
+      subst (λ b. BroughtIf b (ComesAs (drive_party r) f) rest (g ∷ [])) (sym (taken_brings (length (devices_of r)) (drive_party r) p f (omega arith) near)) (start_comes (drive_party r) start g is, nothing)
+
+  begun_at : (taken : StartTaken r f answer s) → DriveSawStart view f taken.party taken.sent r s → StartEnd view r f answer s
+  begun_at taken saw =
       let p = taken.party in
-      let entries : List Entry = entry 0 f (outcome.Taken p) ∷ [] in
       ⊎_elim
       (λ (end : (altered : Bool) × IsHeldNow r (entry 0 f (outcome.Taken p) ∷ []) p taken.sent altered answer s × MatchBool altered (met_between r s ≢ []) (met_between r s ≡ [])).
       let now = end.1 in
       let flight : Flight = record { source = p; sent = taken.sent; now = now.now; altered = end.0 } in
-      let added = adds P entries (Some p) took now.log (held_at flight now.held_is) in
+      let added : Brings view r p None (entry 0 f (outcome.Taken p) ∷ []) (Some p) s = added_by p taken.sent (entry 0 f (outcome.Taken p) ∷ []) (Some p) (λ k q gs. Brought k q (entry 0 f (outcome.Taken p) ∷ []) gs) now.log (held_at flight now.held_is) saw
+      (λ near g is. start_brought p g (λ gs. gs ≡ []) near is refl) in
       ItBegan now.now now.answer_is flight now.held_is
       (record {
         now = record {
@@ -153,15 +186,18 @@ module _ {M : Type 0} (view : M → MediumView) (r s : RingView M) (held : Optio
           own = taken.own;
           talking = taken.talking;
           frame = taken.own_frame;
-          deaf = deaf (added.roles ∙ start_roles (roles_of (devices_of r)) start p);
+          deaf = deaf (added.adds.roles ∙ start_roles (roles_of (devices_of r)) start p);
         };
-        adds = added;
+        added = added;
         talked = taken.talking_before;
         met = end.2;
         unheard = unheard;
       }))
       (λ (lost : IsLostNow r (entry 0 f (outcome.Taken p) ∷ []) p taken.sent answer s).
       let d : Echo = record { sent = taken.sent; back = taken.sent } in
+      let added : AddsBy view r p None (entry 0 f (outcome.Taken p) ∷ entry p taken.sent (outcome.Lost lost.party) ∷ []) None (λ k q gs. CutBrought k q (entry 0 f (outcome.Taken p) ∷ echoed p d ∷ []) 1 gs) s =
+      added_by p taken.sent (entry 0 f (outcome.Taken p) ∷ entry p taken.sent (outcome.Lost lost.party) ∷ []) None (λ k q gs. CutBrought k q (entry 0 f (outcome.Taken p) ∷ echoed p d ∷ []) 1 gs) lost.log (none_new r s held (sourced 0 f) answer counts lost.held_is) saw
+      (λ near g is. start_brought p g (CutBrought (length (devices_of r)) (drive_party r) (echoed p d ∷ []) 0) near is (inl refl)) in
       ItFailed lost.answer_is
       (FirstLost p d (right_echo taken.sent taken.sent taken.data_frame refl) taken.talking_before
       (record {
@@ -169,13 +205,14 @@ module _ {M : Type 0} (view : M → MediumView) (r s : RingView M) (held : Optio
         break = FrameLost lost.party;
         legal = refl;
         held_at_end = None;
-        adds = adds P (entry 0 f (outcome.Taken p) ∷ entry p taken.sent (outcome.Lost lost.party) ∷ []) None took lost.log (none_new r s held (sourced 0 f) answer counts lost.held_is);
+        adds = added.adds;
         ring = ring;
         held = lost.held_is;
         met_some = lost.met_some;
         unheard = λ none. unheard;
+        brought = λ from. added.near (near_source (drive_party r) p (entry 0 f (outcome.Taken p) ∷ []) (echoed p d) [] from refl (device_source p taken.on_ring.0));
       })
-      unheard))
+      added.far unheard))
       taken.end
     where
       held_at : (flight : Flight) → s.books.held ≡ Some flight → holding counts.new ≡ Some flight.source
@@ -191,10 +228,7 @@ module _ {M : Type 0} (view : M → MediumView) (r s : RingView M) (held : Optio
       (λ back. passed back.0 back.1)
       (⊎_elim
       (λ lost. gone lost.0 lost.1)
-      (λ taken. ⊎_elim
-      (λ (none : drive_party r - taken.0.party ≡ 0). begun_at (λ g. g ≡ f) (inr (taken.1.up_to (omega (arith, none)))) taken.0)
-      (λ far. begun_at (IsBrought r s taken.0.sent) (taken.1.behind (omega (arith, far))) taken.0)
-      (eq-zero-or-pos (drive_party r - taken.0.party))))
+      (λ taken. begun_at taken.0 taken.1))
       (start_at_drive view r s held f answer free.ring.crossings free.ring.plan (starts start) (calm_none 1 (devices_of r) calm) one round)
 
 -- ---- as a call

@@ -134,24 +134,34 @@ whole_then view r m s xs ys ring first more = record {
       subst (Brought k q (xs ++ ys)) (sym (adds_more-came view r m s None None None xs ys first.adds more.adds)) (brought_then k q xs ys first.adds.came more.adds.came (first.brought parts.0) (behind parts.1));
 }
 
--- what a cut added, and what it brought to the drive
-abbrev AddsCut : {M : Type 0} → (M → MediumView) → RingView M → List Entry → ℕ → Option ℕ → RingView M → List Entry → Type 0
-AddsCut view r entries standing to s cut = (adds : Adds view r None cut to s) × (list_all (is_from_here (drive_party r)) entries ≡ true → CutBrought (length (devices_of r)) (drive_party r) entries standing adds.came)
+-- the frames that came are those of both
+pub whole_then_came : {M : Type 0} (view : M → MediumView) (r m s : RingView M) (xs ys : List Entry) (ring : IsRing r) (first : Whole view r xs m) (more : Whole view m ys s) → (whole_then view r m s xs ys ring first more).adds.came ≡ first.adds.came ++ more.adds.came
+unfolding whole_then
+whole_then_came view r m s xs ys ring first more = adds_more-came view r m s None None None xs ys first.adds more.adds
 
-pub broke_behind : {M : Type 0} (view : M → MediumView) (r m s : RingView M) (xs ys : List Entry) → IsRing r → Whole view r xs m → Broke view m ys s → Broke view r (xs ++ ys) s
-broke_behind view r m s xs ys ring first more =
-    let cut = cut_behind xs ys more.standing more.break more.legal in
+-- what a cut added, what it brought to the drive, and which frames these are
+abbrev AddsCut : {M : Type 0} → (M → MediumView) → RingView M → List Entry → ℕ → Option ℕ → RingView M → List Frame → List Entry → Type 0
+AddsCut view r entries standing to s came cut =
+    (adds : Adds view r None cut to s) × (list_all (is_from_here (drive_party r)) entries ≡ true → CutBrought (length (devices_of r)) (drive_party r) entries standing adds.came) × (adds.came ≡ came)
+
+cut_added_behind : {M : Type 0} (view : M → MediumView) (r m s : RingView M) (xs ys : List Entry) (first : Whole view r xs m) (more : Broke view m ys s) (cut : CutBehind xs ys more.standing more.break)
+    → AddsCut view r (xs ++ ys) cut.standing more.held_at_end s (first.adds.came ++ more.adds.came) (cut_at (xs ++ ys) cut.standing more.break)
+cut_added_behind view r m s xs ys first more cut =
     let adds = adds_more view r m s None None more.held_at_end xs (cut_at ys more.standing more.break) first.adds more.adds in
     let k = length (devices_of r) in
     let q = drive_party r in
+    let all = adds_more-came view r m s None None more.held_at_end xs (cut_at ys more.standing more.break) first.adds more.adds in
     let behind : list_all (is_from_here q) ys ≡ true → CutBrought k q ys more.standing more.adds.came =
     same_place r m (λ k q. list_all (is_from_here q) ys ≡ true → CutBrought k q ys more.standing more.adds.came) first.adds.before first.adds.size more.brought in
     let came : list_all (is_from_here q) (xs ++ ys) ≡ true → CutBrought k q (xs ++ ys) cut.standing adds.came = λ from.
     let parts = from_here_parts q xs ys from in
-    subst (CutBrought k q (xs ++ ys) cut.standing) (sym (adds_more-came view r m s None None more.held_at_end xs (cut_at ys more.standing more.break) first.adds more.adds))
-    (cut.brings k q first.adds.came more.adds.came (first.brought parts.0) (behind parts.1)) in
-    let added : AddsCut view r (xs ++ ys) cut.standing more.held_at_end s (cut_at (xs ++ ys) cut.standing more.break) =
-    subst (AddsCut view r (xs ++ ys) cut.standing more.held_at_end s) (sym cut.entries) (adds, came) in
+    subst (CutBrought k q (xs ++ ys) cut.standing) (sym all) (cut.brings k q first.adds.came more.adds.came (first.brought parts.0) (behind parts.1)) in
+    subst (AddsCut view r (xs ++ ys) cut.standing more.held_at_end s (first.adds.came ++ more.adds.came)) (sym cut.entries) (adds, came, all)
+
+pub broke_behind : {M : Type 0} (view : M → MediumView) (r m s : RingView M) (xs ys : List Entry) → IsRing r → Whole view r xs m → Broke view m ys s → Broke view r (xs ++ ys) s
+broke_behind view r m s xs ys ring first more =
+    let cut = cut_behind xs ys more.standing more.break more.legal in
+    let added = cut_added_behind view r m s xs ys first more cut in
     record {
       standing = cut.standing;
       break = more.break;
@@ -165,13 +175,20 @@ broke_behind view r m s xs ys ring first more =
       brought = added.1;
     }
 
+pub broke_behind_came : {M : Type 0} (view : M → MediumView) (r m s : RingView M) (xs ys : List Entry) (ring : IsRing r) (first : Whole view r xs m) (more : Broke view m ys s) → (broke_behind view r m s xs ys ring first more).adds.came ≡ first.adds.came ++ more.adds.came
+unfolding broke_behind
+broke_behind_came view r m s xs ys ring first more = (cut_added_behind view r m s xs ys first more (cut_behind xs ys more.standing more.break more.legal)).2
+
+cut_added_before : {M : Type 0} (view : M → MediumView) (r s : RingView M) (xs ys : List Entry) (broke : Broke view r xs s) → AddsCut view r (xs ++ ys) broke.standing broke.held_at_end s broke.adds.came (cut_at (xs ++ ys) broke.standing broke.break)
+cut_added_before view r s xs ys broke =
+    let came : list_all (is_from_here (drive_party r)) (xs ++ ys) ≡ true → CutBrought (length (devices_of r)) (drive_party r) (xs ++ ys) broke.standing broke.adds.came = λ from.
+    cut_brought_front (length (devices_of r)) (drive_party r) xs ys broke.standing broke.break broke.adds.came broke.legal (broke.brought (from_here_parts (drive_party r) xs ys from).0) in
+    subst (AddsCut view r (xs ++ ys) broke.standing broke.held_at_end s broke.adds.came) (sym (cut_front xs ys broke.standing broke.break broke.legal).0) (broke.adds, came, refl)
+
 pub broke_before : {M : Type 0} (view : M → MediumView) (r s : RingView M) (xs ys : List Entry) → Broke view r xs s → Broke view r (xs ++ ys) s
 broke_before view r s xs ys broke =
     let cut = cut_front xs ys broke.standing broke.break broke.legal in
-    let came : list_all (is_from_here (drive_party r)) (xs ++ ys) ≡ true → CutBrought (length (devices_of r)) (drive_party r) (xs ++ ys) broke.standing broke.adds.came = λ from.
-    cut_brought_front (length (devices_of r)) (drive_party r) xs ys broke.standing broke.break broke.adds.came broke.legal (broke.brought (from_here_parts (drive_party r) xs ys from).0) in
-    let added : AddsCut view r (xs ++ ys) broke.standing broke.held_at_end s (cut_at (xs ++ ys) broke.standing broke.break) =
-    subst (AddsCut view r (xs ++ ys) broke.standing broke.held_at_end s) (sym cut.0) (broke.adds, came) in
+    let added = cut_added_before view r s xs ys broke in
     record {
       standing = broke.standing;
       break = broke.break;
@@ -184,6 +201,10 @@ broke_before view r s xs ys broke =
       unheard = λ none. broke.unheard (no_data_parts xs ys none).0;
       brought = added.1;
     }
+
+pub broke_before_came : {M : Type 0} (view : M → MediumView) (r s : RingView M) (xs ys : List Entry) (broke : Broke view r xs s) → (broke_before view r s xs ys broke).adds.came ≡ broke.adds.came
+unfolding broke_before
+broke_before_came view r s xs ys broke = (cut_added_before view r s xs ys broke).2
 
 -- whether it was done whole
 abbrev pub Done : {M : Type 0} → (M → MediumView) → RingView M → List Entry → Bool → RingView M → Type 0

@@ -63,6 +63,17 @@ broken_off view x r s idle legal asked broke =
       };
     }
 
+-- of these entries
+pub made_whole : {M : Type 0} (view : M → MediumView) (x : Exchange) (r s : RingView M) (idle : IsIdle r) (legal : is_exchange (loop_of r) x ≡ true) (asked : answers_as_asked (length (roles_of (devices_of r))) x ≡ true) (keeps : keeps_addresses x ≡ true)
+    (whole : Whole view r (entries_of 0 x) s) → (made view x r s idle legal asked keeps whole).whole ≡ whole
+unfolding made
+made_whole view x r s idle legal asked keeps whole = refl
+
+pub broken_off_broke : {M : Type 0} (view : M → MediumView) (x : Exchange) (r s : RingView M) (idle : IsIdle r) (legal : is_exchange (loop_of r) x ≡ true) (asked : answers_as_asked (length (roles_of (devices_of r))) x ≡ true)
+    (broke : Broke view r (entries_of 0 x) s) → (broken_off view x r s idle legal asked broke).broke ≡ broke
+unfolding broken_off
+broken_off_broke view x r s idle legal asked broke = refl
+
 -- ---- commands
 
 -- a command is passed on by every device

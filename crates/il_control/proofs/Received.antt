@@ -1,6 +1,9 @@
 -- A receive, whole or broken off.
-use Rattle.std.proofs.Common.{◌≡◌, ◌∙◌, ◌≤◌, ◌<◌, ◌+◌, ◌++◌, ◌&&◌, ◌==◌, ⊎_elim, ℕ, suc, true, false, not, List, [], ◌∷◌, Option, Some, None, length, drop, map, refl, sym, ap, subst, arith, length-append}
-use Rattle.std.specs.Prelude.{MatchBool, MatchOption, IfSome}
+use Rattle.il_control.proofs.Spoken.{behind_all, brings_more, cut_brings_more, device_source, near_source, whole_cut}
+use Rattle.il_control.proofs.Brought.{same_place}
+use Rattle.il_control.specs.Brought.{Brought, CutBrought, is_from_here}
+use Rattle.std.proofs.Common.{◌≡◌, ◌∙◌, ◌≤◌, ◌<◌, ◌+◌, ◌++◌, ◌&&◌, ◌==◌, ⊎_elim, ℕ, suc, true, false, not, List, [], ◌∷◌, Option, Some, None, length, drop, map, refl, sym, ap, subst, arith, length-append, append_assoc, append-nil, inl}
+use Rattle.std.specs.Prelude.{MatchBool, MatchOption, IfSome, IsSome}
 use Rattle.std.specs.List.{list_all}
 use Rattle.std.proofs.lemmas.Bool.{and_from, eq-eqb, eqb-true, le-leb, ne_eqb}
 use Rattle.il_frames.specs.declared.frame.Frame.{Frame}
@@ -10,20 +13,18 @@ use Rattle.il_frames.specs.Frames.{byte_of}
 use Rattle.il_device.specs.Takes.{eto}
 use Rattle.il_ports.specs.Media.{MediumView}
 use Rattle.loop_model.specs.Entries.{entry, nrd, unt}
-use Rattle.loop_model.specs.Exchanges.{Start, Answer, NotTaken, ToItsEnd, Stopped, Receive, Echo, start_frame, echoed, returned, commanded, answer_entries, cut_at, can_cut, is_address, is_answer, is_echo, is_exchange, is_number}
+use Rattle.loop_model.specs.Exchanges.{Start, Answer, NotTaken, ToItsEnd, Stopped, Receive, Echo, start_frame, echoed, returned, commanded, answer_entries, cut_at, can_cut, is_address, is_answer, is_echo, is_exchange, is_number, Break, entries_of}
 use Rattle.loop_model.proofs.HearLaws.{has_no_data}
 use Rattle.loop_model.proofs.RoundLaws.{answers_as_asked}
 use Rattle.loop_model.proofs.UnitLaws.{bytes_of, receive_front, entries_of-receive}
-use Rattle.il_ring.specs.Rings.{RingView, IsRing, devices_of, roles_of, spare_of}
+use Rattle.il_ring.specs.Rings.{RingView, IsRing, devices_of, roles_of, spare_of, drive_party}
 use Rattle.il_ring.specs.Outcomes.{met_between, IsTalking}
-use Rattle.il_ring.specs.Adds.{Adds}
-use Rattle.il_ring.proofs.Adding.{adds_more}
 use Rattle.std.proofs.lemmas.List.{length-map}
 use Rattle.il_device.specs.State.{DeviceState}
 use Rattle.il_control.specs.Calls.{Unheard, Whole, Broke, IsIdle, loop_of}
-use Rattle.il_control.specs.Receives.{Began, NotBegun, StartLost, FirstLost, TakesBytes, TookInto, NotTook, WasTalking, Answered, NotAnswered, Asked, Received, NotReceived, behind_start, talker_of, is_stopped, received, fits}
-use Rattle.il_control.proofs.Calls.{met_parts, room_behind, unheard_then, whole_then, broke_behind, broke_before}
-use Rattle.il_control.proofs.Made.{made, broken_off}
+use Rattle.il_control.specs.Receives.{Began, NotBegun, StartLost, FirstLost, TakesBytes, TookInto, NotTook, WasTalking, Answered, NotAnswered, Asked, Received, NotReceived, behind_start, talker_of, is_stopped, received, fits, AllSpoken, Brings, CutBrings, PassedBy, PassedInPart, StandsBehind}
+use Rattle.il_control.proofs.Calls.{met_parts, room_behind, unheard_then, whole_then, broke_behind, broke_before, whole_then_came, broke_before_came, broke_behind_came}
+use Rattle.il_control.proofs.Made.{made, broken_off, made_whole, broken_off_broke}
 use Rattle.il_control.proofs.Talking.{asked_one}
 use Rattle.il_control.proofs.Telling.{number_fits}
 
@@ -32,20 +33,30 @@ use Rattle.il_control.proofs.Telling.{number_fits}
 never_full : (w : ℕ) → 0 < w → false ≡ (0 == w)
 never_full w some = sym (ne_eqb 0 w (λ e. omega (arith, e, some)))
 
+-- nobody took it
+nobody : (gs : List Frame) (R : Type 0) → R × IsSome (talker_of NotTaken) → AllSpoken gs
+nobody gs R behind = let clash = behind.1 in cc
+
 pub passed_answered : {M : Type 0} (view : M → MediumView) (r s : RingView M) (start : Start) (old : List ℕ) → 0 < length old → Whole view r (returned 0 (start_frame start) ∷ []) s × Unheard r s → Answered view start 0 r old old s
-passed_answered view r s start old some passed = record { answer = NotTaken; legal = refl; talked = tt; whole = passed.0; count = refl; within = omega arith; bytes = refl; stops = never_full (length old) some; unheard = passed.1 }
+passed_answered view r s start old some passed = record { answer = NotTaken; legal = refl; talked = tt; whole = passed.0; far = λ behind. nobody _ _ behind; count = refl; within = omega arith; bytes = refl; stops = never_full (length old) some; unheard = passed.1 }
 
 one_answer : {M : Type 0} (r : RingView M) (p : ℕ) (d : Echo) → is_echo d ≡ true → IsTalking p None (devices_of r) → is_answer 0 (ToItsEnd p (d ∷ [])) ≡ true
 one_answer r p d echo talking = and_from (not (p == 0)) (true && list_all is_echo (d ∷ [])) (ap not (ne_eqb p 0 (λ e. omega (arith, e, talking.party)))) (and_from true (list_all is_echo (d ∷ [])) refl (and_from (is_echo d) true echo refl))
 
+-- more entries behind a break bring no more frames
+first_lost : {M : Type 0} (view : M → MediumView) (r s : RingView M) (start : Start) (p : ℕ) (d : Echo) (broke : Broke view r (entry 0 (start_frame start) (outcome.Taken p) ∷ echoed p d ∷ []) s) → AllSpoken broke.adds.came
+    → AllSpoken (broke_before view r s (entry 0 (start_frame start) (outcome.Taken p) ∷ echoed p d ∷ []) (entry p eto (outcome.Taken 0) ∷ []) broke).adds.came
+first_lost view r s start p d broke spoken = subst AllSpoken (sym (broke_before_came view r s (entry 0 (start_frame start) (outcome.Taken p) ∷ echoed p d ∷ []) (entry p eto (outcome.Taken 0) ∷ []) broke)) spoken
+
 pub lost_answered : {M : Type 0} (view : M → MediumView) (r s : RingView M) (start : Start) (w : ℕ) → 0 < w → NotBegun view (start_frame start) r s → NotAnswered view start w r s
-lost_answered view r s start w some (StartLost broke unheard) = record { answer = NotTaken; legal = refl; talked = tt; fitting = refl; broke = broke; unheard = unheard }
-lost_answered view r s start w some (FirstLost p d echo talking broke unheard) = record {
+lost_answered view r s start w some (StartLost broke unheard) = record { answer = NotTaken; legal = refl; talked = tt; fitting = refl; broke = broke; far = λ behind. nobody _ _ behind; unheard = unheard }
+lost_answered view r s start w some (FirstLost p d echo talking broke far unheard) = record {
   answer = ToItsEnd p (d ∷ []);
   legal = one_answer r p d echo talking;
   talked = talking;
   fitting = le-leb 1 w (omega (arith, some));
   broke = broke_before view r s (entry 0 (start_frame start) (outcome.Taken p) ∷ echoed p d ∷ []) (entry p eto (outcome.Taken 0) ∷ []) broke;
+  far = λ behind. first_lost view r s start p d broke (far behind.0);
   unheard = unheard;
 }
 
@@ -54,6 +65,13 @@ taken_entries : (f : Frame) (answer : Answer) (p : ℕ) → talker_of answer ≡
 taken_entries f NotTaken p is = cc
 taken_entries f (ToItsEnd q ds) p is = let same : q ≡ p = cc in ap (λ p. entry 0 f (outcome.Taken p) ∷ behind_start (ToItsEnd q ds)) same
 taken_entries f (Stopped q ds last) p is = let same : q ≡ p = cc in ap (λ p. entry 0 f (outcome.Taken p) ∷ behind_start (Stopped q ds last)) same
+
+-- the end of the transmission is among the entries of an answer
+near_of : (f : Frame) (answer : Answer) (q p : ℕ) → talker_of answer ≡ Some p → (p == 0) ≡ false → list_all (is_from_here q) (answer_entries 0 f answer) ≡ true → q ≤ p
+near_of f NotTaken q p is device from = cc
+near_of f (ToItsEnd t ds) q p is device from = let same : t ≡ p = cc in near_source q p (entry 0 f (outcome.Taken t) ∷ map (echoed t) ds) (entry t eto (outcome.Taken 0)) [] from same device
+near_of f (Stopped t ds last) q p is device from = let same : t ≡ p = cc in near_source q p (entry 0 f (outcome.Taken t) ∷ map (echoed t) ds ++ returned 0 nrd ∷ []) (echoed t last) (entry t eto (outcome.Taken 0) ∷ [])
+    (ap (λ es. list_all (is_from_here q) (entry 0 f (outcome.Taken t) ∷ es)) (append_assoc (map (echoed t) ds) (returned 0 nrd ∷ []) (echoed t last ∷ entry t eto (outcome.Taken 0) ∷ [])) ∙ from) same device
 
 module _ {M : Type 0} (view : M → MediumView) (r m s : RingView M) (start : Start) (ring : IsRing r) (began : Began view (start_frame start) r m) where
   abbrev p : ℕ
@@ -71,23 +89,41 @@ module _ {M : Type 0} (view : M → MediumView) (r m s : RingView M) (start : St
   spoilt_met : began.now.flight.altered ≡ true → met_between r m ≡ [] → ⊥
   spoilt_met altered = subst (λ altered. MatchBool altered (met_between r m ≡ [] → ⊥) (met_between r m ≡ [])) altered began.met
 
+  all_added : (answer : Answer) (added : Brings view m p (Some p) (behind_start answer) None s) → talker_of answer ≡ Some p → Brings view r p None (answer_entries 0 (start_frame start) answer) None s
+  all_added answer added talker =
+      subst (λ es. Brings view r p None es None s) (sym (taken_entries (start_frame start) answer p talker)) (brings_more view r m p None (Some p) first began.added s None (behind_start answer) added)
+
+  cut_added : (answer : Answer) (standing : ℕ) (break : Break) (held_at_end : Option ℕ) → CutBrings view m p (Some p) (behind_start answer) standing break held_at_end s → talker_of answer ≡ Some p
+      → CutBrings view r p None (answer_entries 0 (start_frame start) answer) (suc standing) break held_at_end s
+  cut_added answer standing break held_at_end added talker =
+      subst (λ es. CutBrings view r p None es (suc standing) break held_at_end s) (sym (taken_entries (start_frame start) answer p talker)) (cut_brings_more view r m p None (Some p) first began.added s held_at_end (behind_start answer) standing break added)
+
+  -- the premise on the entries tells where the drive stands
+  near_talker : (answer : Answer) → talker_of answer ≡ Some p → list_all (is_from_here (drive_party r)) (answer_entries 0 (start_frame start) answer) ≡ true → drive_party r ≤ p
+  near_talker answer talker from = near_of (start_frame start) answer (drive_party r) p talker (device_source p (omega (arith, began.now.talking.party))) from
+
+  far_talker : (answer : Answer) → talker_of answer ≡ Some p → StandsBehind answer r → p < drive_party r
+  far_talker answer talker behind = subst (λ o. IfSome o (λ p. p < drive_party r)) talker behind.0
+
   pub took_answered : (old new : List ℕ) (n : ℕ) → TookInto view m began.now old new n s → Answered view start n r old new s
   took_answered old new n into =
       let took = into.took in
       let answer = took.answer in
       let entries = taken_entries (start_frame start) answer p took.talker in
-      let split = met_parts view r m s None (Some p) (Some p) None first (behind_start answer) ring began.now.ring began.adds took.adds in
+      let split = met_parts view r m s None (Some p) (Some p) None first (behind_start answer) ring began.now.ring began.added.adds took.added.adds in
       record {
         answer = answer;
         legal = took.legal;
         talked = was_talking answer took.talker;
         whole = record {
-          adds = subst (λ es. Adds view r None es None s) (sym entries) (adds_more view r m s None (Some p) None first (behind_start answer) began.adds took.adds);
+          adds = (all_added answer took.added took.talker).adds;
           ring = took.ring;
           held = took.held;
           met_none = split.1 (clean_met took.clean.0, took.clean.1);
           unheard = λ none. unheard_then (devices_of r) (devices_of m) (devices_of s) began.unheard took.unheard;
+          brought = λ from. (all_added answer took.added took.talker).near (near_talker answer took.talker from);
         };
+        far = λ behind. (all_added answer took.added took.talker).far (far_talker answer took.talker behind);
         count = into.count ∙ ap length took.bytes_are;
         within = into.within;
         bytes = into.filled ∙ ap (λ bytes. bytes ++ drop n old) took.bytes_are;
@@ -100,7 +136,7 @@ module _ {M : Type 0} (view : M → MediumView) (r m s : RingView M) (start : St
       let answer = not_took.answer in
       let entries = taken_entries (start_frame start) answer p not_took.talker in
       let cut = cut_at (behind_start answer) not_took.standing not_took.break in
-      let split = met_parts view r m s None (Some p) (Some p) not_took.held_at_end first cut ring began.now.ring began.adds not_took.adds in
+      let split = met_parts view r m s None (Some p) (Some p) not_took.held_at_end first cut ring began.now.ring began.added.adds not_took.added.adds in
       let all_unheard = unheard_then (devices_of r) (devices_of m) (devices_of s) began.unheard not_took.unheard in
       record {
         answer = answer;
@@ -112,12 +148,14 @@ module _ {M : Type 0} (view : M → MediumView) (r m s : RingView M) (start : St
           break = not_took.break;
           legal = ap (λ es. can_cut 0 es (suc not_took.standing) not_took.break) entries ∙ not_took.cuts;
           held_at_end = not_took.held_at_end;
-          adds = subst (λ es. Adds view r None es not_took.held_at_end s) (sym (ap (λ es. cut_at es (suc not_took.standing) not_took.break) entries)) (adds_more view r m s None (Some p) not_took.held_at_end first cut began.adds not_took.adds);
+          adds = (cut_added answer not_took.standing not_took.break not_took.held_at_end not_took.added not_took.talker).adds;
           ring = not_took.ring;
           held = not_took.held;
           met_some = λ none. ⊎_elim (λ altered. spoilt_met altered (split.0 none).0) (λ some. some (split.0 none).1) not_took.spoilt;
           unheard = λ none. all_unheard;
+          brought = λ from. (cut_added answer not_took.standing not_took.break not_took.held_at_end not_took.added not_took.talker).near (near_talker answer not_took.talker from);
         };
+        far = λ behind. (cut_added answer not_took.standing not_took.break not_took.held_at_end not_took.added not_took.talker).far (far_talker answer not_took.talker behind);
         unheard = all_unheard;
       }
 
@@ -169,6 +207,10 @@ front_no_data : (a : ℕ) (number : Option ℕ) → list_all has_no_data (receiv
 front_no_data a None = refl
 front_no_data a (Some n) = refl
 
+front_from_here : (q a : ℕ) (number : Option ℕ) → list_all (is_from_here q) (receive_front 0 a number) ≡ true
+front_from_here q a None = refl
+front_from_here q a (Some n) = refl
+
 -- the receive is one on this ring
 is_receive : {M : Type 0} (r : RingView M) (a : ℕ) (number : Option ℕ) (start : Start) (answer : Answer) → a ≤ 30 → IfSome number (λ n. n < 32) → is_answer 0 answer ≡ true → is_exchange (loop_of r) (Receive a number start answer) ≡ true
 is_receive r a number start answer low small legal = and_from (is_address a) (is_number number && is_answer 0 answer) (le-leb a 30 low) (and_from (is_number number) (is_answer 0 answer) (number_fits number small) legal)
@@ -184,53 +226,127 @@ module _ {M : Type 0} (view : M → MediumView) (a : ℕ) (number : Option ℕ) 
   as_asked : (answer : Answer) → answers_as_asked (length (devices_of r)) (Receive a number start answer) ≡ true → answers_as_asked (length (roles_of (devices_of r))) (Receive a number start answer) ≡ true
   as_asked answer asked = ap (λ k. answers_as_asked k (Receive a number start answer)) (length-map (devices_of r) (λ (d : DeviceState). d.roles)) ∙ asked
 
-  broken : (answer : Answer) (w : ℕ) (s : RingView M) → answers_as_asked (length (devices_of r)) (Receive a number start answer) ≡ true → is_answer 0 answer ≡ true → fits w answer ≡ true → Broke view r (front ++ (all answer ++ commanded 0 unt)) s → Unheard r s → NotReceived view a number start w r s
-  broken answer w s asked legal fit broke unheard = record {
-    answer = answer;
-    asked = asked;
-    fitting = fit;
-    broken = broken_off view (Receive a number start answer) r s idle (is_receive r a number start answer low small legal) (as_asked answer asked) (subst (λ es. Broke view r es s) (sym (entries_of-receive 0 a number start answer)) broke);
-    unheard = unheard;
-  }
+  -- what came to the drive, where it stands behind the talker
+  abbrev Passed : Answer → List Frame → Type 0
+  Passed answer came = StandsBehind answer r → PassedInPart (length (devices_of r)) (drive_party r) a number came
+
+  broken : (answer : Answer) (w : ℕ) (s : RingView M) → answers_as_asked (length (devices_of r)) (Receive a number start answer) ≡ true → is_answer 0 answer ≡ true → fits w answer ≡ true
+      → (broke : Broke view r (front ++ (all answer ++ commanded 0 unt)) s) → Passed answer broke.adds.came → Unheard r s → NotReceived view a number start w r s
+  broken answer w s asked legal fit broke passed unheard =
+      let x = Receive a number start answer in
+      let is = is_receive r a number start answer low small legal in
+      let told : (broke : Broke view r (entries_of 0 x) s) × Passed answer broke.adds.came =
+      subst (λ es. (broke : Broke view r es s) × Passed answer broke.adds.came) (sym (entries_of-receive 0 a number start answer)) (broke, passed) in
+      record {
+        answer = answer;
+        asked = asked;
+        fitting = fit;
+        broken = broken_off view x r s idle is (as_asked answer asked) told.0;
+        unheard = unheard;
+        passed = subst (λ (broke : Broke view r (entries_of 0 x) s). Passed answer broke.adds.came) (sym (broken_off_broke view x r s idle is (as_asked answer asked) told.0)) told.1;
+      }
 
   -- no device was told to talk
   pub not_asked : (w : ℕ) (s : RingView M) → Broke view r front s → NotReceived view a number start w r s
-  not_asked w s broke = broken NotTaken w s refl refl refl (broke_before view r s front (all NotTaken ++ commanded 0 unt) broke) (broke.unheard (front_no_data a number))
+  not_asked w s broke = broken NotTaken w s refl refl refl (broke_before view r s front (all NotTaken ++ commanded 0 unt) broke) (λ behind. let clash = behind.1 in cc) (broke.unheard (front_no_data a number))
 
   module _ (m : RingView M) (asked : Asked view a number r m) where
     front_unheard : Unheard r m
     front_unheard = asked.whole.unheard (front_no_data a number)
 
+    -- the drive stands behind the talker still
+    behind_still : (answer : Answer) → StandsBehind answer r → StandsBehind answer m
+    behind_still answer behind = (subst (λ q. IfSome (talker_of answer) (λ p. p < q)) (sym (ap (λ n. n + 1) asked.whole.adds.before)) behind.0, behind.1)
+
+    front_cut : CutBrought (length (devices_of r)) (drive_party r) front (behind_all front 0) asked.whole.adds.came
+    front_cut = whole_cut (length (devices_of r)) (drive_party r) 0 front asked.whole.adds.came (asked.whole.brought (front_from_here (drive_party r) a number))
+
     pub not_answered : (w : ℕ) (s : RingView M) → NotAnswered view start w m s → NotReceived view a number start w r s
     not_answered w s off =
-        broken off.answer w s (asked_one view r m a number start off.answer idle some low (number_fits number small) asked off.talked) off.legal off.fitting
-        (broke_behind view r m s front (all off.answer ++ commanded 0 unt) idle.free.ring asked.whole (broke_before view m s (all off.answer) (commanded 0 unt) off.broke))
+        let part = broke_before view m s (all off.answer) (commanded 0 unt) off.broke in
+        let whole = broke_behind view r m s front (all off.answer ++ commanded 0 unt) idle.free.ring asked.whole part in
+        let came : whole.adds.came ≡ asked.whole.adds.came ++ (off.broke.adds.came ++ []) =
+        broke_behind_came view r m s front (all off.answer ++ commanded 0 unt) idle.free.ring asked.whole part
+        ∙ ap (λ gs. asked.whole.adds.came ++ gs) (broke_before_came view m s (all off.answer) (commanded 0 unt) off.broke ∙ sym (append-nil off.broke.adds.came)) in
+        broken off.answer w s (asked_one view r m a number start off.answer idle some low (number_fits number small) asked off.talked) off.legal off.fitting whole
+        (λ behind. record {
+          before = asked.whole.adds.came;
+          spoken = off.broke.adds.came;
+          behind = [];
+          all = came;
+          standing = behind_all front 0;
+          first = front_cut;
+          during = off.far (behind_still off.answer behind);
+          standing_behind = 0;
+          last = inl refl;
+        })
         (unheard_then (devices_of r) (devices_of m) (devices_of s) front_unheard off.unheard)
 
-    pub not_ended : (n : ℕ) (old new : List ℕ) (u s : RingView M) (f : Frame) → Answered view start n m old new u → f ≡ unt → Broke view u (commanded 0 f) s → NotReceived view a number start (length old) r s
-    not_ended n old new u s f answered is broke =
-        let answer = answered.answer in
-        let off = subst (λ f. Broke view u (commanded 0 f) s) is broke in
-        let more = broke_behind view m u s (all answer) (commanded 0 unt) asked.whole.ring answered.whole off in
-        broken answer (length old) s (asked_one view r m a number start answer idle some low (number_fits number small) asked answered.talked) answered.legal (answered_fits answer n (length old) answered.count answered.within answered.stops)
-        (broke_behind view r m s front (all answer ++ commanded 0 unt) idle.free.ring asked.whole more)
-        (unheard_then (devices_of r) (devices_of m) (devices_of s) front_unheard (unheard_then (devices_of m) (devices_of u) (devices_of s) answered.unheard (off.unheard refl)))
+    -- behind the answer the ring has the same devices
+    module _ (n : ℕ) (old new : List ℕ) (u : RingView M) (answered : Answered view start n m old new u) where
+      size_still : length (devices_of u) ≡ length (devices_of r)
+      size_still = answered.whole.adds.size ∙ asked.whole.adds.size
 
-    pub received_all : (n : ℕ) (old new : List ℕ) (u s : RingView M) (f : Frame) → Answered view start n m old new u → f ≡ unt → Whole view u (commanded 0 f) s → Received view a number start n r old new s
-    received_all n old new u s f answered is whole =
-        let answer = answered.answer in
-        let last = subst (λ f. Whole view u (commanded 0 f) s) is whole in
-        let x = Receive a number start answer in
-        let more = whole_then view m u s (all answer) (commanded 0 unt) asked.whole.ring answered.whole last in
-        let done = whole_then view r m s front (all answer ++ commanded 0 unt) idle.free.ring asked.whole more in
-        let told = asked_one view r m a number start answer idle some low (number_fits number small) asked answered.talked in
-        record {
-          answer = answer;
-          asked = told;
-          made = made view x r s idle (is_receive r a number start answer low small answered.legal) (as_asked answer told) refl (subst (λ es. Whole view r es s) (sym (entries_of-receive 0 a number start answer)) done);
-          count = answered.count;
-          within = answered.within;
-          bytes = answered.bytes;
-          stops = answered.stops;
-          unheard = unheard_then (devices_of r) (devices_of m) (devices_of s) front_unheard (unheard_then (devices_of m) (devices_of u) (devices_of s) answered.unheard (last.unheard refl));
-        }
+      before_still : length u.before ≡ length r.before
+      before_still = answered.whole.adds.before ∙ asked.whole.adds.before
+
+      told : answers_as_asked (length (devices_of r)) (Receive a number start answered.answer) ≡ true
+      told = asked_one view r m a number start answered.answer idle some low (number_fits number small) asked answered.talked
+
+      pub not_ended : (s : RingView M) (f : Frame) → f ≡ unt → Broke view u (commanded 0 f) s → NotReceived view a number start (length old) r s
+      not_ended s f is broke =
+          let answer = answered.answer in
+          let off = subst (λ f. Broke view u (commanded 0 f) s) is broke in
+          let more = broke_behind view m u s (all answer) (commanded 0 unt) asked.whole.ring answered.whole off in
+          let whole = broke_behind view r m s front (all answer ++ commanded 0 unt) idle.free.ring asked.whole more in
+          let came : whole.adds.came ≡ asked.whole.adds.came ++ (answered.whole.adds.came ++ off.adds.came) =
+          broke_behind_came view r m s front (all answer ++ commanded 0 unt) idle.free.ring asked.whole more
+          ∙ ap (λ gs. asked.whole.adds.came ++ gs) (broke_behind_came view m u s (all answer) (commanded 0 unt) asked.whole.ring answered.whole off) in
+          broken answer (length old) s told answered.legal (answered_fits answer n (length old) answered.count answered.within answered.stops) whole
+          (λ behind. record {
+            before = asked.whole.adds.came;
+            spoken = answered.whole.adds.came;
+            behind = off.adds.came;
+            all = came;
+            standing = behind_all front 0;
+            first = front_cut;
+            during = answered.far (behind_still answer behind);
+            standing_behind = off.standing;
+            last = same_place r u (λ k q. CutBrought k q (commanded 0 unt) off.standing off.adds.came) before_still size_still (off.brought refl);
+          })
+          (unheard_then (devices_of r) (devices_of m) (devices_of s) front_unheard (unheard_then (devices_of m) (devices_of u) (devices_of s) answered.unheard (off.unheard refl)))
+
+      pub received_all : (s : RingView M) (f : Frame) → f ≡ unt → Whole view u (commanded 0 f) s → Received view a number start n r old new s
+      received_all s f is whole =
+          let answer = answered.answer in
+          let last = subst (λ f. Whole view u (commanded 0 f) s) is whole in
+          let x = Receive a number start answer in
+          let more = whole_then view m u s (all answer) (commanded 0 unt) asked.whole.ring answered.whole last in
+          let done = whole_then view r m s front (all answer ++ commanded 0 unt) idle.free.ring asked.whole more in
+          let came : done.adds.came ≡ asked.whole.adds.came ++ (answered.whole.adds.came ++ last.adds.came) =
+          whole_then_came view r m s front (all answer ++ commanded 0 unt) idle.free.ring asked.whole more
+          ∙ ap (λ gs. asked.whole.adds.came ++ gs) (whole_then_came view m u s (all answer) (commanded 0 unt) asked.whole.ring answered.whole last) in
+          let legal = is_receive r a number start answer low small answered.legal in
+          let P : List Frame → Type 0 = λ came. StandsBehind answer r → PassedBy (length (devices_of r)) (drive_party r) a number came in
+          let passed : P done.adds.came = λ behind. record {
+            before = asked.whole.adds.came;
+            spoken = answered.whole.adds.came;
+            behind = last.adds.came;
+            all = came;
+            first = asked.whole.brought (front_from_here (drive_party r) a number);
+            during = answered.far (behind_still answer behind);
+            last = same_place r u (λ k q. Brought k q (commanded 0 unt) last.adds.came) before_still size_still (last.brought refl);
+          } in
+          let all_done : (whole : Whole view r (entries_of 0 x) s) × P whole.adds.came =
+          subst (λ es. (whole : Whole view r es s) × P whole.adds.came) (sym (entries_of-receive 0 a number start answer)) (done, passed) in
+          record {
+            answer = answer;
+            asked = told;
+            made = made view x r s idle legal (as_asked answer told) refl all_done.0;
+            count = answered.count;
+            within = answered.within;
+            bytes = answered.bytes;
+            stops = answered.stops;
+            unheard = unheard_then (devices_of r) (devices_of m) (devices_of s) front_unheard (unheard_then (devices_of m) (devices_of u) (devices_of s) answered.unheard (last.unheard refl));
+            passed = subst (λ (whole : Whole view r (entries_of 0 x) s). P whole.adds.came) (sym (made_whole view x r s idle legal (as_asked answer told) refl all_done.0)) all_done.1;
+          }

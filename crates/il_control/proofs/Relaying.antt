@@ -30,12 +30,14 @@ use Rattle.il_ring.proofs.RelayDrive.{relay_at_drive}
 use Rattle.il_ring.proofs.RelayRounds.{wrong_echo}
 use Rattle.il_ring.proofs.Rings.{IsRing-round}
 use Rattle.il_ring.proofs.RolesHome.{device_round}
-use Rattle.il_ring.proofs.RoundAdds.{device_adds, none_new, held_new}
+use Rattle.il_ring.proofs.RoundAdds.{DriveCame, device_adds, device_came, device_had, none_new, held_new}
 use Rattle.il_ring.proofs.RoundCounts.{round_counts}
 use Rattle.il_ring.proofs.RoundRoles.{IsQuiet}
 use Rattle.il_ring.proofs.SendLaws.{kept_sent}
 use Rattle.il_control.specs.Calls.{Unheard}
-use Rattle.il_control.specs.Receives.{IsDeaf, IsHolding, WentOn, Ended, AtHeld, AtNext, AtEnd, Severed, WentAs, IsOnward}
+use Rattle.il_control.specs.Brought.{Brought, CutBrought}
+use Rattle.il_control.specs.Receives.{AddsBy, IsSpoken, AllSpoken, IsDeaf, IsHolding, WentOn, Ended, AtHeld, AtNext, AtEnd, Severed, WentAs, IsOnward}
+use Rattle.il_control.proofs.Spoken.{data_may, data_right, brought_end}
 use Rattle.il_control.specs.declared.receiving.Onward.{Onward}
 use Rattle.il_control.specs.declared.receiving.Onward.TheVariants as onward
 
@@ -87,6 +89,11 @@ awaited p own f devices at data_frame talking =
 pub right_echo : (sent back : Frame) → is_data sent ≡ true → with_service back ≡ with_service sent → is_echo (record { sent = sent; back = back }) ≡ true
 right_echo sent back data_frame same = and_from (is_data sent) (same_but_service sent back) data_frame (same_served sent back same)
 
+-- a frame that came, if one did
+pub spoken_one : {M : Type 0} (P : Frame → Type 0) (r s : RingView M) (gs : List Frame) → ((g : Frame) → P g → IsSpoken g) → DriveCame P r s gs → AllSpoken gs
+spoken_one P r s gs spoken (inl gone) = subst AllSpoken (sym gone.0) tt
+spoken_one P r s gs spoken (inr came) = subst AllSpoken (sym came.2) (spoken came.0 came.1, tt)
+
 -- ---- the round
 
 -- what came of it, by what arrived
@@ -94,9 +101,6 @@ pub data RelayEnd {M : Type 0} (view : M → MediumView) (m : RingView M) (h : I
   ItWentOn : (g : Frame) → answer ≡ arrival.Frame g → is_data g ≡ true → WentOn view m h s → RelayEnd view m h answer s
   ItEnded : answer ≡ arrival.Frame eto → Ended view m h s → RelayEnd view m h answer s
   ItBroke : (answer ≡ arrival.Lost) ⊎ (answer ≡ arrival.Frame ete) → Severed view m h s → RelayEnd view m h answer s
-
-took_if : {M : Type 0} (view : M → MediumView) (P : Frame → Type 0) (m s : RingView M) → DriveHad view P m s → DriveTook view P m s
-took_if view P m s had = inr had
 
 module _ {M : Type 0} (view : M → MediumView) (m s : RingView M) (h : IsHolding m) (answer : Arrival) (round : Round view m None h.flight answer s) where
   abbrev p : ℕ
@@ -120,8 +124,55 @@ module _ {M : Type 0} (view : M → MediumView) (m s : RingView M) (h : IsHoldin
   sending : device_sending h.flight ≡ Some p
   sending = ap (λ (own : Bool). if own then None else Some p) is_device
 
-  adds : (P : Frame → Type 0) (entries : List Entry) (to : Option ℕ) → DriveTook view P m s → s.books.log ≡ m.books.log ++ entries → holding counts.new ≡ to → Adds view m (Some p) entries to s
-  adds P entries to took log new = subst (λ from. Adds view m from entries to s) sending (device_adds view P m s None h.flight answer entries to quiet ready round log new took)
+  -- the drive is the talker or stands before it, or it stands behind it
+  place : (drive_party m ≤ p) ⊎ (p < drive_party m)
+  place = ⊎_elim (λ (none : drive_party m - p ≡ 0). inl (omega (arith, none))) (λ far. inr (omega (arith, far))) (eq-zero-or-pos (drive_party m - p))
+
+  -- what is added, where this came to the drive
+  adds_of : (P : Frame → Type 0) (entries : List Entry) (to : Option ℕ) → DriveTook view P m s → s.books.log ≡ m.books.log ++ entries → holding counts.new ≡ to → Adds view m (device_sending h.flight) entries to s
+  adds_of P entries to took log new = device_adds view P m s None h.flight answer entries to quiet ready round log new took
+
+  from_source : (entries : List Entry) (to : Option ℕ) (B : ℕ → ℕ → List Frame → Type 0) → AddsBy view m p (device_sending h.flight) entries to B s → AddsBy view m p (Some p) entries to B s
+  from_source entries to B added = subst (λ from. AddsBy view m p from entries to B s) sending added
+
+  -- it certainly came, or may have come, where the drive does not stand behind the talker
+  had_near : (P : Frame → Type 0) (entries : List Entry) (to : Option ℕ) (B : ℕ → ℕ → List Frame → Type 0) → s.books.log ≡ m.books.log ++ entries → holding counts.new ≡ to → drive_party m ≤ p → DriveHad view P m s
+      → ((g : Frame) → P g → B (length (devices_of m)) (drive_party m) (g ∷ [])) → AddsBy view m p (Some p) entries to B s
+  had_near P entries to B log new near had brought =
+      let had_so = device_had view P m s None h.flight answer entries to quiet ready round log new had in
+      from_source entries to B (record {
+        adds = device_adds view P m s None h.flight answer entries to quiet ready round log new (inr had);
+        near = λ _. subst (B (length (devices_of m)) (drive_party m)) (sym had_so.2) (brought had_so.0 had_so.1);
+        far = λ far. absurd (omega (arith, near, far));
+      })
+
+  took_near : (P : Frame → Type 0) (entries : List Entry) (to : Option ℕ) (B : ℕ → ℕ → List Frame → Type 0) → s.books.log ≡ m.books.log ++ entries → holding counts.new ≡ to → drive_party m ≤ p → DriveTook view P m s
+      → ((gs : List Frame) → DriveCame P m s gs → B (length (devices_of m)) (drive_party m) gs) → AddsBy view m p (Some p) entries to B s
+  took_near P entries to B log new near took brought =
+      from_source entries to B (record {
+        adds = device_adds view P m s None h.flight answer entries to quiet ready round log new took;
+        near = λ _. brought _ (device_came view P m s None h.flight answer entries to quiet ready round log new took);
+        far = λ far. absurd (omega (arith, near, far));
+      })
+
+  took_far : (P : Frame → Type 0) (entries : List Entry) (to : Option ℕ) (B : ℕ → ℕ → List Frame → Type 0) → s.books.log ≡ m.books.log ++ entries → holding counts.new ≡ to → p < drive_party m → DriveTook view P m s
+      → ((g : Frame) → P g → IsSpoken g) → AddsBy view m p (Some p) entries to B s
+  took_far P entries to B log new far took spoken =
+      from_source entries to B (record {
+        adds = device_adds view P m s None h.flight answer entries to quiet ready round log new took;
+        near = λ near. absurd (omega (arith, near, far));
+        far = λ _. spoken_one P m s _ spoken (device_came view P m s None h.flight answer entries to quiet ready round log new took);
+      })
+
+  -- by the drive's place
+  added_by : (P Q : Frame → Type 0) (entries : List Entry) (to : Option ℕ) (B : ℕ → ℕ → List Frame → Type 0) → s.books.log ≡ m.books.log ++ entries → holding counts.new ≡ to
+      → (drive_party m ≤ p → DriveHad view P m s) → (drive_party m ≤ p → (g : Frame) → P g → B (length (devices_of m)) (drive_party m) (g ∷ []))
+      → (p < drive_party m → DriveTook view Q m s) → ((g : Frame) → Q g → IsSpoken g) → AddsBy view m p (Some p) entries to B s
+  added_by P Q entries to B log new near brought far spoken =
+      ⊎_elim
+      (λ here. had_near P entries to B log new here (near here) (brought here))
+      (λ there. took_far Q entries to B log new there (far there) spoken)
+      place
 
   ring : IsRing s
   ring = IsRing-round view m s None h.flight answer round h.ring tt
@@ -138,15 +189,30 @@ module _ {M : Type 0} (view : M → MediumView) (m s : RingView M) (h : IsHoldin
   own_echo : (f : Frame) → is_data f ≡ true → is_echo (record { sent = f; back = f }) ≡ true
   own_echo f data_frame = right_echo f f data_frame refl
 
+  within : p ≤ length (devices_of m)
+  within = let many = ap length h.talking.devices_are ∙ length-append h.talking.before (h.talking.talker ∷ h.talking.behind) in omega (arith, many, h.talking.party)
+
+  -- with the end of the transmission behind it
+  brought_here : (back g : Frame) → drive_party m ≤ p → CameAs true h.flight.sent g → Brought (length (devices_of m)) (drive_party m) (echoed p (echo_of back) ∷ entry p eto (outcome.Taken 0) ∷ []) (g ∷ [])
+  brought_here back g near came =
+      let comes = data_right (drive_party m) h.flight.sent g h.data_frame came.0 (came.1 refl) in
+      brought_end (length (devices_of m)) (drive_party m) p (echoed p (echo_of back) ∷ []) (g ∷ []) (omega arith) near within (comes, refl)
+
   -- it was lost before it came back
-  lost_first : (P : Frame → Type 0) → DriveTook view P m s → IsLostNow m [] p h.flight.sent answer s → RelayEnd view m h answer s
-  lost_first P took lost = ItBroke (inl lost.answer_is) (record {
+  lost_first : (drive_party m ≤ p → DriveTook view (λ g. is_data g ≡ true) m s) → (p < drive_party m → s.drive ≡ m.drive) → IsLostNow m [] p h.flight.sent answer s → RelayEnd view m h answer s
+  lost_first near far lost = ItBroke (inl lost.answer_is) (record {
     whole = [];
     due = echoed p (echo_of h.flight.sent);
     break = FrameLost lost.party;
     due_at = AtHeld (echo_of h.flight.sent) (own_echo h.flight.sent h.data_frame) refl refl;
     legal = refl;
-    adds = adds P (entry p h.flight.sent (outcome.Lost lost.party) ∷ []) None took lost.log (none_new m s None h.flight answer counts lost.held_is);
+    added =
+        ⊎_elim
+        (λ here. took_near (λ g. is_data g ≡ true) (entry p h.flight.sent (outcome.Lost lost.party) ∷ []) None (λ k q gs. CutBrought k q (echoed p (echo_of h.flight.sent) ∷ []) 0 gs) lost.log (none_new m s None h.flight answer counts lost.held_is) here (near here)
+        (λ gs came. ⊎_elim (λ gone. inl gone.0) (λ one. inr (one.0, data_may (drive_party m) h.flight.sent one.0 h.data_frame one.1, one.2)) came))
+        (λ there. took_far (λ g. ⊥) (entry p h.flight.sent (outcome.Lost lost.party) ∷ []) None (λ k q gs. CutBrought k q (echoed p (echo_of h.flight.sent) ∷ []) 0 gs) lost.log (none_new m s None h.flight answer counts lost.held_is) there (inl (far there, lost.met_some))
+        (λ g never. absurd never))
+        place;
     ring = ring;
     held = lost.held_is;
     spoilt = inr lost.met_some;
@@ -154,8 +220,8 @@ module _ {M : Type 0} (view : M → MediumView) (m s : RingView M) (h : IsHoldin
   })
 
   -- the talker sent a further frame behind the right echo
-  went_on : (P : Frame → Type 0) (back : Frame) → DriveTook view P m s → SendsMore m h.flight h.own back answer s → RelayEnd view m h answer s
-  went_on P back took more =
+  went_on : (right : Bool) (back : Frame) → right ≡ true → (drive_party m ≤ p → DriveHad view (CameAs right h.flight.sent) m s) → (more : SendsMore m h.flight h.own back answer s) → (p < drive_party m → DriveTook view (IsBrought m s more.sent) m s) → RelayEnd view m h answer s
+  went_on right back is near more far =
       let echo = right_echo h.flight.sent back h.data_frame more.right in
       ⊎_elim
       (λ (end : (altered : Bool) × IsHeldNow m (back_entry h.flight back ∷ []) p more.sent altered answer s × MatchBool altered (met_between m s ≢ []) (met_between m s ≡ [])).
@@ -165,7 +231,8 @@ module _ {M : Type 0} (view : M → MediumView) (m s : RingView M) (h : IsHoldin
         back = back;
         right = echo;
         goes_on = more.goes_on;
-        adds = adds P (echoed p (echo_of back) ∷ []) (Some p) took now.log (held_new m s h.flight flight answer counts now.held_is);
+        added = added_by (CameAs right h.flight.sent) (IsBrought m s more.sent) (echoed p (echo_of back) ∷ []) (Some p) (λ k q gs. Brought k q (echoed p (echo_of back) ∷ []) gs) now.log (held_new m s h.flight flight answer counts now.held_is)
+            near (λ here g came. (data_right (drive_party m) h.flight.sent g h.data_frame came.0 (came.1 is), refl)) far (λ g came. inl came.0);
         next = record {
           ring = ring;
           flight = flight;
@@ -189,7 +256,9 @@ module _ {M : Type 0} (view : M → MediumView) (m s : RingView M) (h : IsHoldin
         break = FrameLost lost.party;
         due_at = AtNext (echo_of back) (record { sent = more.sent; back = more.sent }) echo (own_echo more.sent more.data_frame) more.goes_on refl refl;
         legal = refl;
-        adds = adds P (echoed p (echo_of back) ∷ entry p more.sent (outcome.Lost lost.party) ∷ []) None took lost.log (none_new m s None h.flight answer counts lost.held_is);
+        added = added_by (CameAs right h.flight.sent) (IsBrought m s more.sent) (echoed p (echo_of back) ∷ entry p more.sent (outcome.Lost lost.party) ∷ []) None
+            (λ k q gs. CutBrought k q (echoed p (echo_of back) ∷ echoed p (record { sent = more.sent; back = more.sent }) ∷ []) 1 gs) lost.log (none_new m s None h.flight answer counts lost.held_is)
+            near (λ here g came. (data_right (drive_party m) h.flight.sent g h.data_frame came.0 (came.1 is), inl refl)) far (λ g came. inl came.0);
         ring = ring;
         held = lost.held_is;
         spoilt = inr lost.met_some;
@@ -198,14 +267,15 @@ module _ {M : Type 0} (view : M → MediumView) (m s : RingView M) (h : IsHoldin
       more.end
 
   -- it ended behind the right echo
-  ended : (P : Frame → Type 0) (back : Frame) → DriveTook view P m s → (h.flight.altered ≡ false) × (with_service back ≡ with_service h.flight.sent) → EndsSending m h.flight true back answer s → RelayEnd view m h answer s
-  ended P back took right ends =
+  ended : (back : Frame) → (drive_party m ≤ p → DriveHad view (CameAs true h.flight.sent) m s) → (p < drive_party m → DriveTook view (λ g. g ≡ eto) m s) → (h.flight.altered ≡ false) × (with_service back ≡ with_service h.flight.sent) → EndsSending m h.flight true back answer s → RelayEnd view m h answer s
+  ended back near far right ends =
       let echo = right_echo h.flight.sent back h.data_frame right.1 in
       ⊎_elim
       (λ end. ItEnded end.0 (record {
         back = back;
         right = echo;
-        adds = adds P (echoed p (echo_of back) ∷ entry p eto (outcome.Taken 0) ∷ []) None took end.1 (none_new m s None h.flight answer counts end.2);
+        added = added_by (CameAs true h.flight.sent) (λ g. g ≡ eto) (echoed p (echo_of back) ∷ entry p eto (outcome.Taken 0) ∷ []) None (λ k q gs. Brought k q (echoed p (echo_of back) ∷ entry p eto (outcome.Taken 0) ∷ []) gs)
+            end.1 (none_new m s None h.flight answer counts end.2) near (λ here g came. brought_here back g here came) far (λ g is. inr (inr (inl is)));
         ring = ring;
         held = end.2;
         clean = (right.0, end.3 refl);
@@ -218,7 +288,9 @@ module _ {M : Type 0} (view : M → MediumView) (m s : RingView M) (h : IsHoldin
         break = FrameLost lost.party;
         due_at = AtEnd (echo_of back) echo refl refl;
         legal = refl;
-        adds = adds P (echoed p (echo_of back) ∷ entry p eto (outcome.Lost lost.party) ∷ []) None took lost.log (none_new m s None h.flight answer counts lost.held_is);
+        added = added_by (CameAs true h.flight.sent) (λ g. g ≡ eto) (echoed p (echo_of back) ∷ entry p eto (outcome.Lost lost.party) ∷ []) None
+            (λ k q gs. CutBrought k q (echoed p (echo_of back) ∷ entry p eto (outcome.Taken 0) ∷ []) 1 gs) lost.log (none_new m s None h.flight answer counts lost.held_is)
+            near (λ here g came. (data_right (drive_party m) h.flight.sent g h.data_frame came.0 (came.1 refl), inl refl)) far (λ g is. inr (inr (inl is)));
         ring = ring;
         held = lost.held_is;
         spoilt = inr lost.met_some;
@@ -227,9 +299,9 @@ module _ {M : Type 0} (view : M → MediumView) (m s : RingView M) (h : IsHoldin
       ends.end
 
   -- or behind the wrong one
-  refused_at : (P : Frame → Type 0) (back : Frame) (end : Outcome) → DriveTook view P m s → (byte_of back ≢ byte_of h.flight.sent) × ((h.flight.altered ≡ true) ⊎ (met_between m s ≢ [])) → is_end 0 end ≡ true
+  refused_at : (back : Frame) (end : Outcome) → (drive_party m ≤ p → DriveHad view (CameAs false h.flight.sent) m s) → (p < drive_party m → DriveTook view (λ g. g ≡ ete) m s) → (byte_of back ≢ byte_of h.flight.sent) × ((h.flight.altered ≡ true) ⊎ (met_between m s ≢ [])) → is_end 0 end ≡ true
       → (answer ≡ arrival.Lost) ⊎ (answer ≡ arrival.Frame ete) → s.books.log ≡ m.books.log ++ (echoed p (echo_of back) ∷ entry p ete end ∷ []) → s.books.held ≡ None → RelayEnd view m h answer s
-  refused_at P back end took wrong ends told log free =
+  refused_at back end near far wrong ends told log free =
       let altered = and_from (is_data h.flight.sent) (not (same_but_service h.flight.sent back)) h.data_frame (ap not (wrong_echo h.flight.sent back wrong.0)) in
       ItBroke told (record {
         whole = [];
@@ -237,49 +309,35 @@ module _ {M : Type 0} (view : M → MediumView) (m s : RingView M) (h : IsHoldin
         break = TalkerAltered back end;
         due_at = AtHeld (echo_of h.flight.sent) (own_echo h.flight.sent h.data_frame) refl refl;
         legal = and_from (not (p == 0)) (is_altered h.flight.sent back && is_end 0 end) (ap not is_device) (and_from (is_altered h.flight.sent back) (is_end 0 end) altered ends);
-        adds = adds P (echoed p (echo_of back) ∷ entry p ete end ∷ []) None took log (none_new m s None h.flight answer counts free);
+        added = added_by (CameAs false h.flight.sent) (λ g. g ≡ ete) (echoed p (echo_of back) ∷ entry p ete end ∷ []) None (λ k q gs. CutBrought k q (echoed p (echo_of h.flight.sent) ∷ []) 0 gs)
+            log (none_new m s None h.flight answer counts free) near (λ here g came. inr (g, data_may (drive_party m) h.flight.sent g h.data_frame came.0, refl)) far (λ g is. inr (inr (inr is)));
         ring = ring;
         held = free;
         spoilt = wrong.1;
         unheard = unheard;
       })
 
-  refused : (P : Frame → Type 0) (back : Frame) → DriveTook view P m s → (byte_of back ≢ byte_of h.flight.sent) × ((h.flight.altered ≡ true) ⊎ (met_between m s ≢ [])) → EndsSending m h.flight false back answer s → RelayEnd view m h answer s
-  refused P back took wrong ends =
+  refused : (back : Frame) → (drive_party m ≤ p → DriveHad view (CameAs false h.flight.sent) m s) → (p < drive_party m → DriveTook view (λ g. g ≡ ete) m s) → (byte_of back ≢ byte_of h.flight.sent) × ((h.flight.altered ≡ true) ⊎ (met_between m s ≢ [])) → EndsSending m h.flight false back answer s → RelayEnd view m h answer s
+  refused back near far wrong ends =
       ⊎_elim
-      (λ end. refused_at P back (outcome.Taken 0) took wrong refl (inr end.0) end.1 end.2)
-      (λ (lost : IsLostNow m (back_entry h.flight back ∷ []) p ete answer s). refused_at P back (outcome.Lost lost.party) took wrong refl (inl lost.answer_is) lost.log lost.held_is)
+      (λ end. refused_at back (outcome.Taken 0) near far wrong refl (inr end.0) end.1 end.2)
+      (λ (lost : IsLostNow m (back_entry h.flight back ∷ []) p ete answer s). refused_at back (outcome.Lost lost.party) near far wrong refl (inl lost.answer_is) lost.log lost.held_is)
       ends.end
-
-  -- the drive is the talker or stands before it, or it stands behind it
-  place : (drive_party m ≤ p) ⊎ (p < drive_party m)
-  place = ⊎_elim (λ (none : drive_party m - p ≡ 0). inl (omega (arith, none))) (λ far. inr (omega (arith, far))) (eq-zero-or-pos (drive_party m - p))
 
   pub relay_end : RelayEnd view m h answer s
   relay_end =
       ⊎_elim
-      (λ lost. ⊎_elim (λ near. lost_first (λ g. is_data g ≡ true) (lost.1 near) lost.0) (λ far. lost_first (λ g. ⊥) (inl (lost.2 far, lost.0.met_some)) lost.0) place)
+      (λ lost. lost_first lost.1 lost.2 lost.0)
       (λ came. on_back came.0 came.1 came.2 came.3 came.4)
       (relay_at_drive view m s h.flight h.own answer h.ring.crossings h.ring.plan h.talking h.frame h.stood round)
     where
       on_back : (right : Bool) (back : Frame) → CameBack m s h.flight right back → (drive_party m ≤ p → DriveHad view (CameAs right h.flight.sent) m s)
           → (((more : SendsMore m h.flight h.own back answer s) × (p < drive_party m → DriveTook view (IsBrought m s more.sent) m s))
           ⊎ (EndsSending m h.flight right back answer s × (p < drive_party m → DriveTook view (λ g. g ≡ (if right then eto else ete)) m s))) → RelayEnd view m h answer s
-      on_back right back came near (inl more) =
-          ⊎_elim
-          (λ here. went_on (CameAs right h.flight.sent) back (inr (near here)) more.0)
-          (λ far. went_on (IsBrought m s more.0.sent) back (more.1 far) more.0)
-          place
-      on_back true back came near (inr ends) =
-          ⊎_elim
-          (λ here. ended (CameAs true h.flight.sent) back (inr (near here)) came.echo ends.0)
-          (λ far. ended (λ g. g ≡ eto) back (ends.1 far) came.echo ends.0)
-          place
-      on_back false back came near (inr ends) =
-          ⊎_elim
-          (λ here. refused (CameAs false h.flight.sent) back (inr (near here)) came.echo ends.0)
-          (λ far. refused (λ g. g ≡ ete) back (ends.1 far) came.echo ends.0)
-          place
+      on_back true back came near (inl more) = went_on true back refl near more.0 more.1
+      on_back false back came near (inl more) = absurd (came.echo.0 (ap byte_of more.0.right))
+      on_back true back came near (inr ends) = ended back near ends.1 came.echo ends.0
+      on_back false back came near (inr ends) = refused back near ends.1 came.echo ends.0
 
 -- ---- as a call
 

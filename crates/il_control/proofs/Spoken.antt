@@ -1,26 +1,26 @@
 -- What comes to the drive while a device sends.
-use Rattle.std.proofs.Common.{◌≡◌, ◌≢◌, ◌∙◌, ◌≤◌, ◌<◌, ◌+◌, ◌-◌, ◌++◌, ◌⊎◌, ◌&&◌, ◌||◌, ◌==◌, inl, inr, ⊎_elim, ℕ, zero, suc, Bool, true, false, not, List, [], ◌∷◌, Option, Some, None, length, refl, sym, ap, ap₂, subst, arith}
+use Rattle.std.proofs.Common.{◌≡◌, ◌∙◌, ◌≤◌, ◌<◌, ◌+◌, ◌-◌, ◌++◌, ◌||◌, ◌==◌, ℕ, suc, Bool, true, false, List, [], ◌∷◌, Option, Some, length, refl, sym, ap, subst, arith, append-nil}
 use Rattle.std.specs.Prelude.{if◌then◌else◌, nat_le, nat_lt}
 use Rattle.std.specs.List.{list_all}
-use Rattle.std.proofs.lemmas.Bool.{and_parts, le-leb, leb-true, lt-ltb, ne_eqb, not-true}
+use Rattle.std.proofs.lemmas.Bool.{and_parts, le-leb, leb-true, lt-leb, lt-ltb, le-ltb, ne_eqb}
 use Rattle.il_frames.specs.declared.frame.Frame.{Frame}
 use Rattle.il_frames.specs.declared.entry.Entry.{Entry}
-use Rattle.il_frames.specs.declared.entry.Outcome.{Outcome}
 use Rattle.il_frames.specs.declared.entry.Outcome.TheVariants as outcome
-use Rattle.il_frames.specs.Frames.{is_data, with_service}
-use Rattle.il_device.specs.Takes.{eto, ete}
+use Rattle.il_frames.specs.declared.frame.Class.{Class}
+use Rattle.il_frames.specs.declared.frame.Class.TheVariants as class
+use Rattle.il_frames.specs.Frames.{byte_of, class_of, is_data, is_data_class, with_service}
+use Rattle.il_frames.specs.Messages.{message_at}
+use Rattle.il_device.specs.Takes.{eto}
 use Rattle.il_ports.specs.Media.{MediumView}
-use Rattle.loop_model.specs.Entries.{entry, nrd}
-use Rattle.loop_model.specs.Exchanges.{Break, Echo, echoed, cut_at, can_cut}
+use Rattle.loop_model.specs.Entries.{entry}
+use Rattle.loop_model.specs.Exchanges.{Start, Sda, Sst, Sdi, Sai, start_frame, Break, cut_at, can_cut}
 use Rattle.loop_model.specs.Reach.{distance, brings_to}
 use Rattle.il_ring.specs.Rings.{RingView, devices_of, drive_party}
-use Rattle.il_ring.specs.Outcomes.{met_between}
-use Rattle.il_ring.specs.Adds.{Adds}
-use Rattle.il_ring.proofs.Adding.{adds_nothing, adds_nothing-came, adds_more, adds_more-came, adds_held, adds_held-came}
-use Rattle.il_ring.proofs.RoundAdds.{DriveCame}
+use Rattle.il_ring.proofs.Adding.{adds_nothing, adds_nothing-came, adds_more, adds_more-came}
+use Rattle.il_ring.proofs.Passing.{is_exact, is_identify_class}
 use Rattle.il_control.specs.Brought.{ComesAs, MayComeAs, Brought, BroughtIf, CutBrought, is_from_here}
-use Rattle.il_control.specs.Receives.{AllSpoken, IsSpoken, AddsBy, Brings, CutBrings}
-use Rattle.il_control.proofs.Brought.{brought_then, cut_brought_front, same_place}
+use Rattle.il_control.specs.Receives.{AllSpoken, AddsBy, Brings, CutBrings}
+use Rattle.il_control.proofs.Brought.{brought_then, cut_brought_front, from_here_parts, same_place}
 
 -- ---- lists of frames
 
@@ -28,39 +28,168 @@ pub spoken_then : (gs hs : List Frame) → AllSpoken gs → AllSpoken hs → All
 spoken_then [] hs first more = more
 spoken_then (g ∷ gs) hs first more = (first.0, spoken_then gs hs first.1 more)
 
+-- n entries behind these
+abbrev pub behind_all : List Entry → ℕ → ℕ
+behind_all [] n = n
+behind_all (x ∷ xs) n = suc (behind_all xs n)
+
 -- a cut behind entries that stand whole
-pub cut_behind_brought : (k q n : ℕ) (xs ys : List Entry) (gs hs : List Frame) → Brought k q xs gs → CutBrought k q ys n hs → CutBrought k q (xs ++ ys) (length xs + n) (gs ++ hs)
+pub cut_behind_brought : (k q n : ℕ) (xs ys : List Entry) (gs hs : List Frame) → Brought k q xs gs → CutBrought k q ys n hs → CutBrought k q (xs ++ ys) (behind_all xs n) (gs ++ hs)
 cut_behind_brought k q n [] ys gs hs first more = subst (λ gs. CutBrought k q ys n (gs ++ hs)) (sym first) more
-cut_behind_brought k q n (x ∷ xs) ys gs hs first more = by (brings_to k q x) gs first
+cut_behind_brought k q n (x ∷ xs) ys gs hs first more = by (brings_to k q x) gs (λ gs first. cut_behind_brought k q n xs ys gs hs first more) first
   where
-    by : (b : Bool) (gs : List Frame) → BroughtIf b (ComesAs q x.frame) (Brought k q xs) gs → BroughtIf b (ComesAs q x.frame) (CutBrought k q (xs ++ ys) (length xs + n)) (gs ++ hs)
-    by false gs first = cut_behind_brought k q n xs ys gs hs first more
-    by true [] first = absurd first
-    by true (g ∷ gs) first = (first.0, cut_behind_brought k q n xs ys gs hs first.1 more)
+    by : (b : Bool) (gs : List Frame) → ((gs : List Frame) → Brought k q xs gs → CutBrought k q (xs ++ ys) (behind_all xs n) (gs ++ hs)) → BroughtIf b (ComesAs q x.frame) (Brought k q xs) gs → BroughtIf b (ComesAs q x.frame) (CutBrought k q (xs ++ ys) (behind_all xs n)) (gs ++ hs)
+    by false gs rest first = rest gs first
+    by true [] rest first = absurd first
+    by true (g ∷ gs) rest first = (first.0, rest gs first.1)
+
+-- entries that stand whole are a cut behind all of them
+pub whole_cut : (k q n : ℕ) (xs : List Entry) (gs : List Frame) → Brought k q xs gs → CutBrought k q xs (behind_all xs n) gs
+whole_cut k q n [] gs brought = brought
+whole_cut k q n (x ∷ xs) gs brought = by (brings_to k q x) gs (λ gs brought. whole_cut k q n xs gs brought) brought
+  where
+    by : (b : Bool) (gs : List Frame) → ((gs : List Frame) → Brought k q xs gs → CutBrought k q xs (behind_all xs n) gs) → BroughtIf b (ComesAs q x.frame) (Brought k q xs) gs → BroughtIf b (ComesAs q x.frame) (CutBrought k q xs (behind_all xs n)) gs
+    by false gs rest brought = rest gs brought
+    by true [] rest brought = absurd brought
+    by true (g ∷ gs) rest brought = (brought.0, rest gs brought.1)
+
+-- the entries of such a cut
+pub cut_entries : (xs ys : List Entry) (n : ℕ) (b : Break) → cut_at (xs ++ ys) (behind_all xs n) b ≡ xs ++ cut_at ys n b
+cut_entries [] ys n b = refl
+cut_entries (x ∷ xs) ys n b = ap (λ es. x ∷ es) (cut_entries xs ys n b)
+
+pub cut_legal : (xs ys : List Entry) (n : ℕ) (b : Break) → can_cut 0 (xs ++ ys) (behind_all xs n) b ≡ can_cut 0 ys n b
+cut_legal [] ys n b = refl
+cut_legal (x ∷ xs) ys n b = cut_legal xs ys n b
 
 -- more entries behind a cut
 pub cut_more : (k q n : ℕ) (b : Break) (xs ys : List Entry) (gs : List Frame) → can_cut 0 xs n b ≡ true → CutBrought k q xs n gs → CutBrought k q (xs ++ ys) n gs
 cut_more k q n b xs ys gs cuts cut = cut_brought_front k q xs ys n b gs cuts cut
 
+-- ---- which frames come how
+
+data_not_poll : (k : Class) (byte : ℕ) → is_data_class k ≡ true → is_identify_class k ≡ false
+data_not_poll class.Dab byte is = refl
+data_not_poll class.Dsr byte is = refl
+data_not_poll class.End byte is = refl
+data_not_poll class.Esr byte is = refl
+data_not_poll _ byte is = cc
+
+data_not_exact : (k : Class) (byte : ℕ) → is_data_class k ≡ true → is_exact (message_at k byte) ≡ false
+data_not_exact class.Dab byte is = refl
+data_not_exact class.Dsr byte is = refl
+data_not_exact class.End byte is = refl
+data_not_exact class.Esr byte is = refl
+data_not_exact _ byte is = cc
+
+pub data_may : (q : ℕ) (f g : Frame) → is_data f ≡ true → is_data g ≡ true → MayComeAs q f g
+data_may q f g sent came = record {
+  data_frame = λ is. came;
+  address = λ is. let clash = sym sent ∙ ap is_data is in cc;
+  poll = λ is. let clash = sym is ∙ data_not_poll (class_of f) (byte_of f) sent in cc;
+  other = λ is. let clash = sym is ∙ data_not_exact (class_of f) (byte_of f) sent in cc;
+}
+
+pub data_right : (q : ℕ) (f g : Frame) → is_data f ≡ true → is_data g ≡ true → with_service g ≡ with_service f → ComesAs q f g
+data_right q f g sent came same = record {
+  data_frame = λ is. (came, same);
+  address = λ is. let clash = sym sent ∙ ap is_data is in cc;
+  poll = λ is. let clash = sym is ∙ data_not_poll (class_of f) (byte_of f) sent in cc;
+  other = λ is. let clash = sym is ∙ data_not_exact (class_of f) (byte_of f) sent in cc;
+}
+
+pub start_comes : (q : ℕ) (s : Start) (g : Frame) → g ≡ start_frame s → ComesAs q (start_frame s) g
+start_comes q Sda g is = record { data_frame = λ e. cc; address = λ e. let clash : true ≡ false = ap (λ f. byte_of f == 0x60) e in cc; poll = λ e. cc; other = λ e f. is }
+start_comes q Sst g is = record { data_frame = λ e. cc; address = λ e. let clash : true ≡ false = ap (λ f. byte_of f == 0x61) e in cc; poll = λ e. cc; other = λ e f. is }
+start_comes q Sdi g is = record { data_frame = λ e. cc; address = λ e. let clash : true ≡ false = ap (λ f. byte_of f == 0x62) e in cc; poll = λ e. cc; other = λ e f. is }
+start_comes q Sai g is = record { data_frame = λ e. cc; address = λ e. let clash : true ≡ false = ap (λ f. byte_of f == 0x63) e in cc; poll = λ e. cc; other = λ e f. is }
+
 -- ---- one round
 
--- one entry that the talker's frame came back to brought it
-pub brought_echo : (k q p : ℕ) (d : Echo) (g : Frame) → ComesAs q d.sent g → Brought k q (echoed p d ∷ []) (g ∷ [])
-brought_echo k q p d g comes = (comes, refl)
+far_from : (b : Bool) (x y : ℕ) → b ≡ false → (if b then x else y) ≡ y
+far_from true x y is = cc
+far_from false x y is = refl
+
+near_from : (b : Bool) (x y : ℕ) → b ≡ true → (if b then x else y) ≡ x
+near_from true x y is = refl
+near_from false x y is = cc
 
 -- ETO that was taken by the host did not come to a party up to its source
-eto_not : (k q p : ℕ) → 1 ≤ q → q ≤ p → p ≤ k → brings_to k q (entry p eto (outcome.Taken 0)) ≡ false
-eto_not k q p some near within = not_le (distance k p q) (distance k p 0) (further k q p some near within)
+pub eto_not : (k q p : ℕ) → 1 ≤ q → q ≤ p → p ≤ k → brings_to k q (entry p eto (outcome.Taken 0)) ≡ false
+eto_not k q p some near within =
+    let home = far_from (nat_lt p 0) (0 - p) ((suc k + 0) - p) (le-ltb p 0 (omega arith)) in
+    let here = far_from (nat_lt p q) (q - p) ((suc k + q) - p) (le-ltb p q near) in
+    lt-leb (distance k p q) (distance k p 0) (omega (arith, home, here, some, near, within))
+
+-- a message of the host that party p took came to the parties up to it
+pub taken_brings : (k q p : ℕ) (f : Frame) → 1 ≤ q → q ≤ p → brings_to k q (entry 0 f (outcome.Taken p)) ≡ true
+taken_brings k q p f some near =
+    let to_q = near_from (nat_lt 0 q) (q - 0) ((suc k + q) - 0) (lt-ltb 0 q some) in
+    let to_p = near_from (nat_lt 0 p) (p - 0) ((suc k + p) - 0) (lt-ltb 0 p (omega (arith, some, near))) in
+    le-leb (distance k 0 q) (distance k 0 p) (omega (arith, to_q, to_p, near))
+
+-- with the entry that brings nothing behind it
+pub brought_end : (k q p : ℕ) (xs : List Entry) (gs : List Frame) → 1 ≤ q → q ≤ p → p ≤ k → Brought k q xs gs → Brought k q (xs ++ entry p eto (outcome.Taken 0) ∷ []) gs
+brought_end k q p xs gs some near within brought =
+    subst (Brought k q (xs ++ entry p eto (outcome.Taken 0) ∷ [])) (append-nil gs) (brought_then k q xs (entry p eto (outcome.Taken 0) ∷ []) gs [] brought (at (brings_to k q (entry p eto (outcome.Taken 0))) (eto_not k q p some near within)))
   where
-    not_le : (a b : ℕ) → b < a → nat_le a b ≡ false
-    not_le a b less = not-true (nat_le a b) (not_leb a b less)
+    at : (b : Bool) → b ≡ false → BroughtIf b (ComesAs q eto) (Brought k q []) []
+    at true is = cc
+    at false is = refl
 
-    far_from : (b : Bool) (x y : ℕ) → b ≡ false → (if b then x else y) ≡ y
-    far_from true x y is = cc
-    far_from false x y is = refl
+-- ---- sums
 
-    further : (k q p : ℕ) → 1 ≤ q → q ≤ p → p ≤ k → distance k p 0 < distance k p q
-    further k q p some near within =
-        let home = far_from (nat_lt p 0) (0 - p) ((suc k + 0) - p) (not_lt p 0 (omega arith)) in
-        let here = far_from (nat_lt p q) (q - p) ((suc k + q) - p) (not_lt p q near) in
-        omega (arith, home, here, some, near, within)
+-- what follows of the frames
+pub added_as : {M : Type 0} (view : M → MediumView) (m s : RingView M) (p : ℕ) (a : Option ℕ) (entries : List Entry) (b : Option ℕ) (B C : ℕ → ℕ → List Frame → Type 0) → AddsBy view m p a entries b B s → ((k q : ℕ) (gs : List Frame) → B k q gs → C k q gs) → AddsBy view m p a entries b C s
+added_as view m s p a entries b B C added so = record { adds = added.adds; near = λ near. so _ _ _ (added.near near); far = added.far }
+
+pub brings_nothing : {M : Type 0} (view : M → MediumView) (m : RingView M) (p : ℕ) → Brings view m p (Some p) [] (Some p) m
+brings_nothing view m p = record {
+  adds = adds_nothing view m (Some p);
+  near = λ near. adds_nothing-came view m (Some p);
+  far = λ far. subst AllSpoken (sym (adds_nothing-came view m (Some p))) tt;
+}
+
+module _ {M : Type 0} (view : M → MediumView) (r m : RingView M) (p : ℕ) (a b : Option ℕ) (xs : List Entry) (first : Brings view r p a xs b m) where
+  same_party : drive_party m ≡ drive_party r
+  same_party = ap (λ n. n + 1) first.adds.before
+
+  pub brings_more : (s : RingView M) (c : Option ℕ) (ys : List Entry) → Brings view m p b ys c s → Brings view r p a (xs ++ ys) c s
+  brings_more s c ys more =
+      let came = adds_more-came view r m s a b c xs ys first.adds more.adds in
+      record {
+        adds = adds_more view r m s a b c xs ys first.adds more.adds;
+        near = λ near. subst (Brought (length (devices_of r)) (drive_party r) (xs ++ ys)) (sym came)
+            (brought_then (length (devices_of r)) (drive_party r) xs ys first.adds.came more.adds.came (first.near near)
+            (same_place r m (λ k q. Brought k q ys more.adds.came) first.adds.before first.adds.size (more.near (subst (λ q. q ≤ p) (sym same_party) near))));
+        far = λ far. subst AllSpoken (sym came) (spoken_then first.adds.came more.adds.came (first.far far) (more.far (subst (λ q. p < q) (sym same_party) far)));
+      }
+
+  pub cut_brings_more : (s : RingView M) (c : Option ℕ) (ys : List Entry) (n : ℕ) (break : Break) → CutBrings view m p b ys n break c s → CutBrings view r p a (xs ++ ys) (behind_all xs n) break c s
+  cut_brings_more s c ys n break more =
+      let cut = cut_at ys n break in
+      let came = adds_more-came view r m s a b c xs cut first.adds more.adds in
+      subst (λ es. AddsBy view r p a es c (λ k q gs. CutBrought k q (xs ++ ys) (behind_all xs n) gs) s) (sym (cut_entries xs ys n break))
+      (record {
+        adds = adds_more view r m s a b c xs cut first.adds more.adds;
+        near = λ near. subst (CutBrought (length (devices_of r)) (drive_party r) (xs ++ ys) (behind_all xs n)) (sym came)
+            (cut_behind_brought (length (devices_of r)) (drive_party r) n xs ys first.adds.came more.adds.came (first.near near)
+            (same_place r m (λ k q. CutBrought k q ys n more.adds.came) first.adds.before first.adds.size (more.near (subst (λ q. q ≤ p) (sym same_party) near))));
+        far = λ far. subst AllSpoken (sym came) (spoken_then first.adds.came more.adds.came (first.far far) (more.far (subst (λ q. p < q) (sym same_party) far)));
+      })
+
+-- ---- where the premise on the entries holds
+
+pub device_source : (p : ℕ) → 1 ≤ p → (p == 0) ≡ false
+device_source p some = ne_eqb p 0 (λ e. omega (arith, e, some))
+
+-- the drive does not stand behind the source of an entry among these
+pub near_source : (q p : ℕ) (xs : List Entry) (e : Entry) (ys : List Entry) → list_all (is_from_here q) (xs ++ e ∷ ys) ≡ true → e.source ≡ p → (p == 0) ≡ false → q ≤ p
+near_source q p xs e ys from is device =
+    let parts = from_here_parts q xs (e ∷ ys) from in
+    let here = (and_parts (is_from_here q e) (list_all (is_from_here q) ys) parts.1).0 in
+    leb-true q p (by (p == 0) device (ap (λ p. (p == 0) || nat_le q p) (sym is) ∙ here))
+  where
+    by : (b : Bool) → b ≡ false → (b || nat_le q p) ≡ true → nat_le q p ≡ true
+    by true is here = cc
+    by false is here = here

@@ -1,5 +1,5 @@
 -- A talker that is stopped, as a call.
-use Rattle.std.proofs.Common.{◌≡◌, ◌∙◌, ◌+◌, ◌++◌, ◌&&◌, ◌||◌, ◌==◌, inl, inr, ⊎_elim, ℕ, suc, true, false, not, List, [], ◌∷◌, Option, Some, None, length, map, refl, sym, ap, subst}
+use Rattle.std.proofs.Common.{◌≡◌, ◌∙◌, ◌+◌, ◌++◌, ◌&&◌, ◌||◌, ◌==◌, inl, inr, ⊎_elim, ℕ, suc, true, false, not, List, [], ◌∷◌, Option, Some, None, length, map, refl, sym, ap, subst, ◌≤◌, ◌<◌}
 use Rattle.std.specs.Prelude.{IsSome}
 use Rattle.std.proofs.lemmas.Bool.{and_from}
 use Rattle.il_frames.specs.declared.frame.Frame.{Frame}
@@ -21,29 +21,32 @@ use Rattle.il_ring.specs.declared.flight.Flight.{Flight}
 use Rattle.il_ring.specs.Books.{IsHeld}
 use Rattle.il_ring.specs.Flights.{sourced}
 use Rattle.il_ring.specs.Lists.{First}
-use Rattle.il_ring.specs.Rings.{RingView, IsRing, Round, devices_of}
-use Rattle.il_ring.specs.Rounded.{Rounded}
+use Rattle.il_ring.specs.Rings.{RingView, IsRing, Round, devices_of, drive_party}
+use Rattle.il_ring.specs.Rounded.{Rounded, holding}
 use Rattle.il_ring.specs.Outcomes.{met_between, Obeys, DriveTook, IsTalking, Returned, WasLost}
 use Rattle.il_ring.specs.Adds.{Adds}
-use Rattle.il_ring.proofs.Adding.{adds_held, adds_more}
+use Rattle.il_ring.proofs.Adding.{adds_held, adds_held-came, adds_more, adds_more-came}
 use Rattle.il_ring.proofs.DriveRounds.{passed_drive}
 use Rattle.il_ring.proofs.EndsHome.{any_each}
 use Rattle.il_ring.proofs.Passing.{Exactly}
 use Rattle.il_ring.proofs.PassKinds.{Is, Any, plain_passes}
 use Rattle.il_ring.proofs.PassRounds.{passed_round}
 use Rattle.il_ring.proofs.Rings.{IsRing-round}
-use Rattle.il_ring.proofs.RoundAdds.{host_adds, none_new, plain_new}
+use Rattle.il_ring.proofs.RoundAdds.{DriveCame, host_adds, host_came, none_new, plain_new}
 use Rattle.il_ring.proofs.RoundCounts.{round_counts}
 use Rattle.il_ring.proofs.SendLaws.{kept_sent}
 use Rattle.il_ring.proofs.Splits.{silent_still}
 use Rattle.il_control.specs.Calls.{Unheard}
-use Rattle.il_control.specs.Receives.{IsDeaf, IsHolding, Spoilt, WentOn, Ended, DueAt, AtHeld, AtNext, AtEnd, Severed, WentAs, Took, NotTook, Stops}
+use Rattle.il_control.specs.Brought.{Brought, CutBrought}
+use Rattle.il_control.specs.Receives.{AddsBy, AllSpoken, Brings, IsDeaf, IsHolding, Spoilt, WentOn, Ended, DueAt, AtHeld, AtNext, AtEnd, Severed, WentAs, Took, NotTook, Stops}
 use Rattle.il_control.specs.declared.receiving.Onward.{Onward}
 use Rattle.il_control.specs.declared.receiving.Onward.TheVariants as onward
 use Rattle.il_control.proofs.Asking.{each_obeys}
 use Rattle.il_control.proofs.Calls.{met_parts, unheard_then}
-use Rattle.il_control.proofs.Relaying.{deaf_unheard, right_echo}
-use Rattle.il_control.proofs.Taking.{breaks_at, is_device}
+use Rattle.il_control.proofs.Brought.{brought_one, cut_brought_one, may_come, plain_comes, same_place}
+use Rattle.il_control.proofs.Relaying.{deaf_unheard, right_echo, spoken_one}
+use Rattle.il_control.proofs.Spoken.{brings_more, cut_behind_brought, spoken_then}
+use Rattle.il_control.proofs.Taking.{breaks_at, is_device, severed_at}
 
 -- ---- the talker among devices that obeyed
 
@@ -97,7 +100,7 @@ pub record NrdBack {M : Type 0} (view : M → MediumView) (m : RingView M) (h : 
   pub next : IsHolding n
   pub flight_is : next.flight ≡ h.flight
   pub stops : next.own.stopped ≡ true
-  pub adds : Adds view m (Some h.flight.source) (returned 0 nrd ∷ []) (Some h.flight.source) n
+  pub added : Brings view m h.flight.source (Some h.flight.source) (returned 0 nrd ∷ []) (Some h.flight.source) n
   pub met_none : met_between m n ≡ []
   pub unheard : Unheard m n
 
@@ -124,6 +127,25 @@ module _ {M : Type 0} (view : M → MediumView) (m n : RingView M) (h : IsHoldin
   unheard : Unheard m n
   unheard = deaf_unheard 1 (devices_of m) (devices_of n) (kept_sent view m n held (sourced 0 nrd) answer round) h.deaf
 
+  -- NRD came to the drive, wherever it stands
+  added_by : (entries : List Entry) (B : ℕ → ℕ → List Frame → Type 0) → n.books.log ≡ m.books.log ++ entries → holding counts.new ≡ None
+      → ((gs : List Frame) → DriveCame (Is nrd (1 + length m.before)) m n gs → B (length (devices_of m)) (drive_party m) gs) → AddsBy view m h.flight.source (Some h.flight.source) entries (Some h.flight.source) B n
+  added_by entries B log new brought =
+      let adds = host_adds view (Is nrd (1 + length m.before)) m n held nrd answer entries None (Exactly refl refl) round log new took in
+      let came = host_came view (Is nrd (1 + length m.before)) m n held nrd answer entries None (Exactly refl refl) round log new took in
+      let same = adds_held-came view m n (Some h.flight.source) entries adds in
+      record {
+        adds = adds_held view m n (Some h.flight.source) entries adds;
+        near = λ near. subst (B (length (devices_of m)) (drive_party m)) (sym same) (brought adds.came came);
+        far = λ far. subst AllSpoken (sym same) (spoken_one (Is nrd (1 + length m.before)) m n adds.came (λ g is. inr (inl is)) came);
+      }
+
+  added_back : (g : Frame) → g ≡ nrd → Returned m held nrd g answer n → Brings view m h.flight.source (Some h.flight.source) (returned 0 nrd ∷ []) (Some h.flight.source) n
+  added_back g same back =
+      added_by (returned 0 nrd ∷ []) (λ k q gs. Brought k q (returned 0 nrd ∷ []) gs) (back.log ∙ ap (λ g. m.books.log ++ entry 0 nrd (outcome.Back g) ∷ []) same)
+      (plain_new m n held (sourced 0 nrd) nrd answer counts (back.answer_is ∙ ap (λ g. arrival.Frame g) same) refl)
+      (λ gs came. brought_one (Is nrd (1 + length m.before)) m n (length (devices_of m)) (drive_party m) nrd nrd gs (λ g is. plain_comes (drive_party m) nrd g refl is) back.met_none came)
+
   came : (g : Frame) → g ≡ nrd → Returned m held nrd g answer n → First (Obeys msg.Nrd) (length (devices_of m)) (devices_of m) (devices_of n) → NrdEnd view m h answer n
   came g same back obeyed =
       NrdCame g back.answer_is (record {
@@ -140,9 +162,7 @@ module _ {M : Type 0} (view : M → MediumView) (m n : RingView M) (h : IsHoldin
         };
         flight_is = refl;
         stops = refl;
-        adds = adds_held view m n (Some h.flight.source) (returned 0 nrd ∷ [])
-        (host_adds view (Is nrd (1 + length m.before)) m n held nrd answer (returned 0 nrd ∷ []) None (Exactly refl refl) round (back.log ∙ ap (λ g. m.books.log ++ entry 0 nrd (outcome.Back g) ∷ []) same)
-        (plain_new m n held (sourced 0 nrd) nrd answer counts (back.answer_is ∙ ap (λ g. arrival.Frame g) same) refl) took);
+        added = added_back g same back;
         met_none = back.met_none;
         unheard = unheard;
       })
@@ -153,8 +173,8 @@ module _ {M : Type 0} (view : M → MediumView) (m n : RingView M) (h : IsHoldin
       NrdLost gone.answer_is
       (breaks_at view m n h 1 (Stopped h.flight.source [] d) [] (echoed h.flight.source d ∷ entry h.flight.source eto (outcome.Taken 0) ∷ []) (returned 0 nrd) (FrameLost gone.party) (Some h.flight.source) refl
       (own_last m h d (right_echo h.flight.sent h.flight.sent h.data_frame refl)) refl refl refl
-      (adds_held view m n (Some h.flight.source) (entry 0 nrd (outcome.Lost gone.party) ∷ [])
-      (host_adds view (Is nrd (1 + length m.before)) m n held nrd answer (entry 0 nrd (outcome.Lost gone.party) ∷ []) None (Exactly refl refl) round gone.log (none_new m n held (sourced 0 nrd) answer counts gone.held_is) took))
+      (added_by (entry 0 nrd (outcome.Lost gone.party) ∷ []) (λ k q gs. CutBrought k q (returned 0 nrd ∷ []) 0 gs) gone.log (none_new m n held (sourced 0 nrd) answer counts gone.held_is)
+      (λ gs came. cut_brought_one (Is nrd (1 + length m.before)) m n (length (devices_of m)) (drive_party m) nrd (outcome.Back nrd) gs (λ g is. may_come (drive_party m) nrd g (plain_comes (drive_party m) nrd g refl is)) came))
       ring gone.held_is (inr gone.met_some) unheard)
 
   pub nrd_end : NrdEnd view m h answer n
@@ -167,6 +187,20 @@ module _ {M : Type 0} (view : M → MediumView) (m n : RingView M) (h : IsHoldin
 
 -- ---- behind it
 
+-- a cut, with NRD before it
+behind_nrd : {M : Type 0} (view : M → MediumView) (m n s : RingView M) (p : ℕ) (es ys : List Entry) (c : ℕ) → Brings view m p (Some p) (returned 0 nrd ∷ []) (Some p) n → AddsBy view n p (Some p) es None (λ k q gs. CutBrought k q ys c gs) s
+    → AddsBy view m p (Some p) (returned 0 nrd ∷ es) None (λ k q gs. CutBrought k q (returned 0 nrd ∷ ys) (suc c) gs) s
+behind_nrd view m n s p es ys c first more =
+    let came = adds_more-came view m n s (Some p) (Some p) None (returned 0 nrd ∷ []) es first.adds more.adds in
+    let party : drive_party n ≡ drive_party m = ap (λ n. n + 1) first.adds.before in
+    record {
+      adds = adds_more view m n s (Some p) (Some p) None (returned 0 nrd ∷ []) es first.adds more.adds;
+      near = λ near. subst (CutBrought (length (devices_of m)) (drive_party m) (returned 0 nrd ∷ ys) (suc c)) (sym came)
+          (cut_behind_brought (length (devices_of m)) (drive_party m) c (returned 0 nrd ∷ []) ys first.adds.came more.adds.came (first.near near)
+          (same_place m n (λ k q. CutBrought k q ys c more.adds.came) first.adds.before first.adds.size (more.near (subst (λ q. q ≤ p) (sym party) near))));
+      far = λ far. subst AllSpoken (sym came) (spoken_then first.adds.came more.adds.came (first.far far) (more.far (subst (λ q. p < q) (sym party) far)));
+    }
+
 module _ {M : Type 0} (view : M → MediumView) (m n s : RingView M) (h : IsHolding m) (back : NrdBack view m h n) where
   abbrev p : ℕ
   p = h.flight.source
@@ -178,11 +212,11 @@ module _ {M : Type 0} (view : M → MediumView) (m n s : RingView M) (h : IsHold
   same = back.flight_is
 
   -- what was added behind NRD, with it
-  adds_behind : (es : List Entry) → Adds view n (Some k.flight.source) es None s → Adds view m (Some p) (returned 0 nrd ∷ es) None s
-  adds_behind es more = adds_more view m n s (Some p) (Some p) None (returned 0 nrd ∷ []) es back.adds (subst (λ (f : Flight). Adds view n (Some f.source) es None s) same more)
+  brings_behind : (es : List Entry) → Brings view n k.flight.source (Some k.flight.source) es None s → Brings view m p (Some p) (returned 0 nrd ∷ es) None s
+  brings_behind es more = brings_more view m n p (Some p) (Some p) (returned 0 nrd ∷ []) back.added s None es (subst (λ (f : Flight). Brings view n f.source (Some f.source) es None s) same more)
 
   split : (es : List Entry) → Adds view n (Some k.flight.source) es None s → (met_between m s ≡ [] → (met_between m n ≡ []) × (met_between n s ≡ [])) × (((met_between m n ≡ []) × (met_between n s ≡ [])) → met_between m s ≡ [])
-  split es more = met_parts view m n s (Some p) (Some p) (Some p) None (returned 0 nrd ∷ []) es h.ring k.ring back.adds (subst (λ (f : Flight). Adds view n (Some f.source) es None s) same more)
+  split es more = met_parts view m n s (Some p) (Some p) (Some p) None (returned 0 nrd ∷ []) es h.ring k.ring back.added.adds (subst (λ (f : Flight). Adds view n (Some f.source) es None s) same more)
 
   all_unheard : Unheard n s → Unheard m s
   all_unheard more = unheard_then (devices_of m) (devices_of n) (devices_of s) back.unheard more
@@ -197,10 +231,10 @@ module _ {M : Type 0} (view : M → MediumView) (m n s : RingView M) (h : IsHold
         legal = own_last m h (record { sent = h.flight.sent; back = ended.back }) (ap (λ (f : Flight). is_echo (record { sent = f.sent; back = ended.back })) (sym same) ∙ ended.right);
         stopped = refl;
         bytes_are = refl;
-        adds = subst (λ (f : Flight). Adds view m (Some p) (returned 0 nrd ∷ echoed f.source (record { sent = f.sent; back = ended.back }) ∷ entry f.source eto (outcome.Taken 0) ∷ []) None s) same (adds_behind _ ended.adds);
+        added = subst (λ (f : Flight). Brings view m p (Some p) (returned 0 nrd ∷ echoed f.source (record { sent = f.sent; back = ended.back }) ∷ entry f.source eto (outcome.Taken 0) ∷ []) None s) same (brings_behind _ ended.added);
         ring = ended.ring;
         held = ended.held;
-        clean = (ap (λ (f : Flight). f.altered) (sym same) ∙ ended.clean.0, (split _ ended.adds).1 (back.met_none, ended.clean.1));
+        clean = (ap (λ (f : Flight). f.altered) (sym same) ∙ ended.clean.0, (split _ ended.added.adds).1 (back.met_none, ended.clean.1));
         unheard = all_unheard ended.unheard;
       }
 
@@ -210,26 +244,27 @@ module _ {M : Type 0} (view : M → MediumView) (m n s : RingView M) (h : IsHold
   pub stopped_broke : Severed view n k s → NotTook view m h 1 s
   stopped_broke off = by off.due_at
     where
-      adds : Adds view m (Some p) (returned 0 nrd ∷ map (echoed k.flight.source) off.whole ++ break_entries off.due off.break) None s
-      adds = adds_behind (map (echoed k.flight.source) off.whole ++ break_entries off.due off.break) off.adds
-
       at_source : k.flight.source ≡ p
       at_source = ap (λ (f : Flight). f.source) same
+
+      -- the cut behind NRD
+      added : (whole : List Echo) (due : Entry) → off.whole ≡ whole → off.due ≡ due → AddsBy view m p (Some p) (returned 0 nrd ∷ map (echoed k.flight.source) whole ++ break_entries due off.break) None (λ j q gs. CutBrought j q (returned 0 nrd ∷ map (echoed k.flight.source) whole ++ due ∷ []) (suc (length whole)) gs) s
+      added whole due whole_is due_is =
+          behind_nrd view m n s p (map (echoed k.flight.source) whole ++ break_entries due off.break) (map (echoed k.flight.source) whole ++ due ∷ []) (length whole) back.added
+          (subst (λ q. AddsBy view n q (Some q) (map (echoed k.flight.source) whole ++ break_entries due off.break) None (λ j q gs. CutBrought j q (map (echoed k.flight.source) whole ++ due ∷ []) (length whole) gs) s) at_source (severed_at view n s k off whole due whole_is due_is))
 
       by : DueAt k.flight.source k.own off.whole off.due → NotTook view m h 1 s
       by (AtHeld d echo whole due) =
           let due_is : off.due ≡ echoed p d = due ∙ ap (λ p. echoed p d) at_source in
           breaks_at view m s h 1 (Stopped p [] d) (returned 0 nrd ∷ []) (entry p eto (outcome.Taken 0) ∷ []) (echoed p d) off.break None refl (own_last m h d echo) refl refl
-          (subst (λ due. is_break 0 due off.break ≡ true) due_is off.legal)
-          (subst (λ due. Adds view m (Some p) (returned 0 nrd ∷ break_entries due off.break) None s) due_is (subst (λ whole. Adds view m (Some p) (returned 0 nrd ∷ map (echoed k.flight.source) whole ++ break_entries off.due off.break) None s) whole adds))
-          off.ring off.held (spoilt_behind _ off.adds off.spoilt) (all_unheard off.unheard)
+          (subst (λ due. is_break 0 due off.break ≡ true) due_is off.legal) (added [] (echoed p d) whole due_is) off.ring off.held (spoilt_behind _ off.added.adds off.spoilt) (all_unheard off.unheard)
       by (AtNext c d first echo goes_on whole due) = let clash : true ≡ false = sym (ap (λ stopped. stopped || k.own.last) back.stops) ∙ goes_on in cc
       by (AtEnd d echo whole due) =
           let due_is : off.due ≡ entry p eto (outcome.Taken 0) = due ∙ ap (λ p. entry p eto (outcome.Taken 0)) at_source in
           breaks_at view m s h 1 (Stopped p [] d) (returned 0 nrd ∷ echoed p d ∷ []) [] (entry p eto (outcome.Taken 0)) off.break None refl (own_last m h d echo) refl refl
           (subst (λ due. is_break 0 due off.break ≡ true) due_is off.legal)
-          (subst (λ due. Adds view m (Some p) (returned 0 nrd ∷ echoed p d ∷ break_entries due off.break) None s) due_is (subst (λ q. Adds view m (Some p) (returned 0 nrd ∷ echoed q d ∷ break_entries off.due off.break) None s) at_source (subst (λ whole. Adds view m (Some p) (returned 0 nrd ∷ map (echoed k.flight.source) whole ++ break_entries off.due off.break) None s) whole adds)))
-          off.ring off.held (spoilt_behind _ off.adds off.spoilt) (all_unheard off.unheard)
+          (subst (λ q. AddsBy view m p (Some p) (returned 0 nrd ∷ echoed q d ∷ break_entries (entry p eto (outcome.Taken 0)) off.break) None (λ j r gs. CutBrought j r (returned 0 nrd ∷ echoed q d ∷ entry p eto (outcome.Taken 0) ∷ []) 2 gs) s) at_source (added (d ∷ []) (entry p eto (outcome.Taken 0)) whole due_is))
+          off.ring off.held (spoilt_behind _ off.added.adds off.spoilt) (all_unheard off.unheard)
 
   pub stopped_went : WentOn view n k s → ⊥
   stopped_went went = let clash : true ≡ false = sym (ap (λ stopped. stopped || k.own.last) back.stops) ∙ went.goes_on in cc

@@ -17,14 +17,14 @@ use Rattle.loop_model.proofs.UnitLaws.{bytes_of}
 use Rattle.il_ring.specs.Plans.{hops_of}
 use Rattle.il_ring.specs.Rings.{RingView, IsRing, devices_of, spare_of}
 use Rattle.il_ring.specs.Outcomes.{met_between}
-use Rattle.il_ring.specs.Adds.{Adds}
-use Rattle.il_ring.proofs.Adding.{adds_nothing, adds_more}
 use Rattle.il_ring.proofs.Faults.{met_nowhere}
 use Rattle.il_control.specs.Calls.{Unheard}
-use Rattle.il_control.specs.Receives.{IsHolding, Spoilt, Clean, WentOn, Ended, DueAt, AtHeld, AtNext, AtEnd, Severed, SoFar, Took, NotTook, WentAs, FrontAt, Fronts, Stops, TookInto, behind_start, talker_of, is_stopped, received, fits}
+use Rattle.il_control.specs.Brought.{CutBrought}
+use Rattle.il_control.specs.Receives.{AddsBy, Brings, CutBrings, IsHolding, Spoilt, Clean, WentOn, Ended, DueAt, AtHeld, AtNext, AtEnd, Severed, SoFar, Took, NotTook, WentAs, FrontAt, Fronts, Stops, TookInto, behind_start, talker_of, is_stopped, received, fits}
 use Rattle.il_control.specs.declared.receiving.Front.TheVariants as front
 use Rattle.il_control.specs.declared.receiving.Onward.TheVariants as onward
-use Rattle.il_control.proofs.Calls.{met_parts, unheard_then, unheard_nothing, cut_behind}
+use Rattle.il_control.proofs.Calls.{met_parts, unheard_then, unheard_nothing}
+use Rattle.il_control.proofs.Spoken.{added_as, behind_all, brings_nothing, brings_more, cut_brings_more, cut_entries, cut_legal, cut_more}
 
 -- ---- more data frames before those of an answer
 
@@ -90,7 +90,7 @@ so_far_nothing view m h = record {
   ds = [];
   echoes = refl;
   bytes_are = refl;
-  adds = adds_nothing view m (Some h.flight.source);
+  added = brings_nothing view m h.flight.source;
   now = h;
   source = refl;
   met = by h.flight.altered refl;
@@ -117,14 +117,14 @@ pub so_far_more : {M : Type 0} (view : M → MediumView) (m n s : RingView M) (h
 so_far_more view m n s h bytes byte so went is_byte =
     let p = h.flight.source in
     let d : Echo = record { sent = so.now.flight.sent; back = went.back } in
-    let adds : Adds view n (Some p) (echoed p d ∷ []) (Some p) s = subst (λ p. Adds view n (Some p) (echoed p d ∷ []) (Some p) s) so.source went.adds in
+    let more : Brings view n p (Some p) (echoed p d ∷ []) (Some p) s = subst (λ p. Brings view n p (Some p) (echoed p d ∷ []) (Some p) s) so.source went.added in
     let clean = was_clean view m n h bytes so went.unaltered in
-    let split = met_parts view m n s (Some p) (Some p) (Some p) (Some p) (map (echoed p) so.ds) (echoed p d ∷ []) h.ring so.now.ring so.adds adds in
+    let split = met_parts view m n s (Some p) (Some p) (Some p) (Some p) (map (echoed p) so.ds) (echoed p d ∷ []) h.ring so.now.ring so.added.adds more.adds in
     record {
       ds = so.ds ++ d ∷ [];
       echoes = list_all-append is_echo so.ds (d ∷ []) ∙ and_from (list_all is_echo so.ds) (list_all is_echo (d ∷ [])) so.echoes (and_from (is_echo d) true went.right refl);
       bytes_are = ap (λ bytes. bytes ++ byte ∷ []) so.bytes_are ∙ ap (λ byte. bytes_of so.ds ++ byte ∷ []) (is_byte ∙ byte_sent n so.now went.unaltered) ∙ sym (map-append (λ (d : Echo). byte_of d.sent) so.ds (d ∷ []));
-      adds = subst (λ es. Adds view m (Some p) es (Some p) s) (sym (map-append (echoed p) so.ds (d ∷ []))) (adds_more view m n s (Some p) (Some p) (Some p) (map (echoed p) so.ds) (echoed p d ∷ []) so.adds adds);
+      added = subst (λ es. Brings view m p (Some p) es (Some p) s) (sym (map-append (echoed p) so.ds (d ∷ []))) (brings_more view m n p (Some p) (Some p) (map (echoed p) so.ds) so.added s (Some p) (echoed p d ∷ []) more);
       now = went.next;
       source = went.source ∙ so.source;
       met = by went.next.flight.altered went.met clean split;
@@ -143,16 +143,16 @@ pub took_then : {M : Type 0} (view : M → MediumView) (m n s : RingView M) (h :
 took_then view m n s h stops bytes more so took =
     let p = h.flight.source in
     let talker = took.talker ∙ ap (λ p. Some p) so.source in
-    let adds : Adds view n (Some p) (behind_start took.answer) None s = subst (λ p. Adds view n (Some p) (behind_start took.answer) None s) so.source took.adds in
+    let after : Brings view n p (Some p) (behind_start took.answer) None s = subst (λ p. Brings view n p (Some p) (behind_start took.answer) None s) so.source took.added in
     let clean = was_clean view m n h bytes so took.clean.0 in
-    let split = met_parts view m n s (Some p) (Some p) (Some p) None (map (echoed p) so.ds) (behind_start took.answer) h.ring so.now.ring so.adds adds in
+    let split = met_parts view m n s (Some p) (Some p) (Some p) None (map (echoed p) so.ds) (behind_start took.answer) h.ring so.now.ring so.added.adds after.adds in
     record {
       answer = prepended so.ds took.answer;
       talker = prepended_talker so.ds took.answer ∙ talker;
       legal = prepended_legal so.ds took.answer so.echoes took.legal;
       stopped = prepended_stopped so.ds took.answer ∙ took.stopped;
       bytes_are = ap (λ bytes. bytes ++ more) so.bytes_are ∙ ap (λ more. bytes_of so.ds ++ more) took.bytes_are ∙ sym (prepended_bytes so.ds took.answer p talker);
-      adds = subst (λ es. Adds view m (Some p) es None s) (sym (prepended_entries so.ds took.answer p talker)) (adds_more view m n s (Some p) (Some p) None (map (echoed p) so.ds) (behind_start took.answer) so.adds adds);
+      added = subst (λ es. Brings view m p (Some p) es None s) (sym (prepended_entries so.ds took.answer p talker)) (brings_more view m n p (Some p) (Some p) (map (echoed p) so.ds) so.added s None (behind_start took.answer) after);
       ring = took.ring;
       held = took.held;
       clean = (clean.0, split.1 (clean.1, took.clean.1));
@@ -165,9 +165,10 @@ not_took_then view m n s h bytes v w so not_took sum =
     let answer = not_took.answer in
     let talker = not_took.talker ∙ ap (λ p. Some p) so.source in
     let cut = cut_at (behind_start answer) not_took.standing not_took.break in
-    let adds : Adds view n (Some p) cut not_took.held_at_end s = subst (λ p. Adds view n (Some p) cut not_took.held_at_end s) so.source not_took.adds in
-    let split = met_parts view m n s (Some p) (Some p) (Some p) not_took.held_at_end (map (echoed p) so.ds) cut h.ring so.now.ring so.adds adds in
-    let behind = cut_behind (map (echoed p) so.ds) (behind_start answer) not_took.standing not_took.break not_took.cuts in
+    let after : CutBrings view n p (Some p) (behind_start answer) not_took.standing not_took.break not_took.held_at_end s =
+    subst (λ p. CutBrings view n p (Some p) (behind_start answer) not_took.standing not_took.break not_took.held_at_end s) so.source not_took.added in
+    let split = met_parts view m n s (Some p) (Some p) (Some p) not_took.held_at_end (map (echoed p) so.ds) cut h.ring so.now.ring so.added.adds after.adds in
+    let standing = behind_all (map (echoed p) so.ds) not_took.standing in
     let entries = prepended_entries so.ds answer p talker in
     let many : length bytes ≡ length so.ds = ap length so.bytes_are ∙ length-map so.ds (λ (d : Echo). byte_of d.sent) in
     record {
@@ -175,11 +176,12 @@ not_took_then view m n s h bytes v w so not_took sum =
       talker = prepended_talker so.ds answer ∙ talker;
       legal = prepended_legal so.ds answer so.echoes not_took.legal;
       fitting = prepended_fits so.ds answer v w (omega (arith, many, sum)) not_took.fitting;
-      standing = behind.standing;
+      standing = standing;
       break = not_took.break;
-      cuts = ap (λ es. can_cut 0 es behind.standing not_took.break) entries ∙ behind.legal;
+      cuts = ap (λ es. can_cut 0 es standing not_took.break) entries ∙ cut_legal (map (echoed p) so.ds) (behind_start answer) not_took.standing not_took.break ∙ not_took.cuts;
       held_at_end = not_took.held_at_end;
-      adds = subst (λ es. Adds view m (Some p) es not_took.held_at_end s) (sym (ap (λ es. cut_at es behind.standing not_took.break) entries ∙ behind.entries)) (adds_more view m n s (Some p) (Some p) not_took.held_at_end (map (echoed p) so.ds) cut so.adds adds);
+      added = subst (λ es. CutBrings view m p (Some p) es standing not_took.break not_took.held_at_end s) (sym entries)
+      (cut_brings_more view m n p (Some p) (Some p) (map (echoed p) so.ds) so.added s not_took.held_at_end (behind_start answer) not_took.standing not_took.break after);
       ring = not_took.ring;
       held = not_took.held;
       spoilt =
@@ -206,7 +208,7 @@ ended_took view m s h byte ended is_byte =
       legal = and_from (not (p == 0)) (true && list_all is_echo (d ∷ [])) (is_device m h) (and_from true (list_all is_echo (d ∷ [])) refl (and_from (is_echo d) true ended.right refl));
       stopped = refl;
       bytes_are = ap (λ byte. byte ∷ []) (is_byte ∙ byte_sent m h ended.clean.0);
-      adds = ended.adds;
+      added = ended.added;
       ring = ended.ring;
       held = ended.held;
       clean = ended.clean;
@@ -215,19 +217,23 @@ ended_took view m s h byte ended is_byte =
 
 -- a break at this entry of an answer
 pub breaks_at : {M : Type 0} (view : M → MediumView) (m s : RingView M) (h : IsHolding m) (w : ℕ) (answer : Answer) (xs rest : List Entry) (due : Entry) (break : Break) (held_at_end : Option ℕ) → talker_of answer ≡ Some h.flight.source → is_answer 0 answer ≡ true → fits w answer ≡ true
-    → behind_start answer ≡ xs ++ due ∷ rest → is_break 0 due break ≡ true → Adds view m (Some h.flight.source) (xs ++ break_entries due break) held_at_end s → IsRing s → s.books.held ≡ None → Spoilt m h s → Unheard m s → NotTook view m h w s
-breaks_at view m s h w answer xs rest due break held_at_end talker legal fit entries is adds ring held spoilt unheard =
-    let behind = cut_behind xs (due ∷ rest) 0 break is in
+    → behind_start answer ≡ xs ++ due ∷ rest → is_break 0 due break ≡ true
+    → AddsBy view m h.flight.source (Some h.flight.source) (xs ++ break_entries due break) held_at_end (λ k q gs. CutBrought k q (xs ++ due ∷ []) (behind_all xs 0) gs) s → IsRing s → s.books.held ≡ None → Spoilt m h s → Unheard m s → NotTook view m h w s
+breaks_at view m s h w answer xs rest due break held_at_end talker legal fit entries is added ring held spoilt unheard =
+    let standing = behind_all xs 0 in
     record {
       answer = answer;
       talker = talker;
       legal = legal;
       fitting = fit;
-      standing = behind.standing;
+      standing = standing;
       break = break;
-      cuts = ap (λ es. can_cut 0 es behind.standing break) entries ∙ behind.legal;
+      cuts = ap (λ es. can_cut 0 es standing break) entries ∙ cut_legal xs (due ∷ rest) 0 break ∙ is;
       held_at_end = held_at_end;
-      adds = subst (λ es. Adds view m (Some h.flight.source) es held_at_end s) (sym (ap (λ es. cut_at es behind.standing break) entries ∙ behind.entries)) adds;
+      added = subst (λ es. CutBrings view m h.flight.source (Some h.flight.source) es standing break held_at_end s) (sym entries)
+          (added_as view m s h.flight.source (Some h.flight.source) (cut_at (xs ++ due ∷ rest) standing break) held_at_end (λ k q gs. CutBrought k q (xs ++ due ∷ []) standing gs) (λ k q gs. CutBrought k q (xs ++ due ∷ rest) standing gs)
+          (subst (λ es. AddsBy view m h.flight.source (Some h.flight.source) es held_at_end (λ k q gs. CutBrought k q (xs ++ due ∷ []) standing gs) s) (sym (cut_entries xs (due ∷ rest) 0 break)) added)
+          (λ k q gs cut. subst (λ es. CutBrought k q es standing gs) (append_assoc xs (due ∷ []) rest) (cut_more k q standing break (xs ++ due ∷ []) rest gs (cut_legal xs (due ∷ []) 0 break ∙ is) cut)));
       ring = ring;
       held = held;
       spoilt = spoilt;
@@ -237,6 +243,14 @@ breaks_at view m s h w answer xs rest due break held_at_end talker legal fit ent
 ends_legal : {M : Type 0} (m : RingView M) (h : IsHolding m) (d : Echo) (ds : List Echo) → is_echo d ≡ true → list_all is_echo ds ≡ true → is_answer 0 (ToItsEnd h.flight.source (d ∷ ds)) ≡ true
 ends_legal m h d ds echo echoes = and_from (not (h.flight.source == 0)) (true && list_all is_echo (d ∷ ds)) (is_device m h) (and_from true (list_all is_echo (d ∷ ds)) refl (and_from (is_echo d) (list_all is_echo ds) echo echoes))
 
+-- what was added, by what came whole and what was due
+pub severed_at : {M : Type 0} (view : M → MediumView) (m s : RingView M) (h : IsHolding m) (off : Severed view m h s) (whole : List Echo) (due : Entry) → off.whole ≡ whole → off.due ≡ due
+    → AddsBy view m h.flight.source (Some h.flight.source) (map (echoed h.flight.source) whole ++ break_entries due off.break) None (λ k q gs. CutBrought k q (map (echoed h.flight.source) whole ++ due ∷ []) (length whole) gs) s
+severed_at view m s h off whole due whole_is due_is =
+    let p = h.flight.source in
+    subst (λ due. AddsBy view m p (Some p) (map (echoed p) whole ++ break_entries due off.break) None (λ k q gs. CutBrought k q (map (echoed p) whole ++ due ∷ []) (length whole) gs) s) due_is
+    (subst (λ whole. AddsBy view m p (Some p) (map (echoed p) whole ++ break_entries off.due off.break) None (λ k q gs. CutBrought k q (map (echoed p) whole ++ off.due ∷ []) (length whole) gs) s) whole_is off.added)
+
 -- it broke off, with room for two bytes at least
 pub severed_not_took : {M : Type 0} (view : M → MediumView) (m s : RingView M) (h : IsHolding m) (w : ℕ) → 2 ≤ w → (off : Severed view m h s) → NotTook view m h w s
 severed_not_took view m s h w room off = by off.due_at
@@ -244,20 +258,14 @@ severed_not_took view m s h w room off = by off.due_at
     by : DueAt h.flight.source h.own off.whole off.due → NotTook view m h w s
     by (AtHeld d echo whole due) =
         breaks_at view m s h w (ToItsEnd h.flight.source (d ∷ [])) [] (entry h.flight.source eto (outcome.Taken 0) ∷ []) (echoed h.flight.source d) off.break None refl (ends_legal m h d [] echo refl) (le-leb 1 w (omega (arith, room))) refl
-        (subst (λ due. is_break 0 due off.break ≡ true) due off.legal)
-        (subst (λ due. Adds view m (Some h.flight.source) (break_entries due off.break) None s) due (subst (λ whole. Adds view m (Some h.flight.source) (map (echoed h.flight.source) whole ++ break_entries off.due off.break) None s) whole off.adds))
-        off.ring off.held off.spoilt off.unheard
+        (subst (λ due. is_break 0 due off.break ≡ true) due off.legal) (severed_at view m s h off [] (echoed h.flight.source d) whole due) off.ring off.held off.spoilt off.unheard
     by (AtNext c d first echo goes_on whole due) =
         breaks_at view m s h w (ToItsEnd h.flight.source (c ∷ d ∷ [])) (echoed h.flight.source c ∷ []) (entry h.flight.source eto (outcome.Taken 0) ∷ []) (echoed h.flight.source d) off.break None refl
         (ends_legal m h c (d ∷ []) first (and_from (is_echo d) true echo refl)) (le-leb 2 w (omega (arith, room))) refl
-        (subst (λ due. is_break 0 due off.break ≡ true) due off.legal)
-        (subst (λ due. Adds view m (Some h.flight.source) (echoed h.flight.source c ∷ break_entries due off.break) None s) due (subst (λ whole. Adds view m (Some h.flight.source) (map (echoed h.flight.source) whole ++ break_entries off.due off.break) None s) whole off.adds))
-        off.ring off.held off.spoilt off.unheard
+        (subst (λ due. is_break 0 due off.break ≡ true) due off.legal) (severed_at view m s h off (c ∷ []) (echoed h.flight.source d) whole due) off.ring off.held off.spoilt off.unheard
     by (AtEnd d echo whole due) =
         breaks_at view m s h w (ToItsEnd h.flight.source (d ∷ [])) (echoed h.flight.source d ∷ []) [] (entry h.flight.source eto (outcome.Taken 0)) off.break None refl (ends_legal m h d [] echo refl) (le-leb 1 w (omega (arith, room))) refl
-        (subst (λ due. is_break 0 due off.break ≡ true) due off.legal)
-        (subst (λ due. Adds view m (Some h.flight.source) (echoed h.flight.source d ∷ break_entries due off.break) None s) due (subst (λ whole. Adds view m (Some h.flight.source) (map (echoed h.flight.source) whole ++ break_entries off.due off.break) None s) whole off.adds))
-        off.ring off.held off.spoilt off.unheard
+        (subst (λ due. is_break 0 due off.break ≡ true) due off.legal) (severed_at view m s h off (d ∷ []) (entry h.flight.source eto (outcome.Taken 0)) whole due) off.ring off.held off.spoilt off.unheard
 
 -- ---- the places in front of the last one
 
@@ -271,10 +279,10 @@ module _ {M : Type 0} (view : M → MediumView) (m n : RingView M) (i : ℕ) (ol
   pub front_room : (more : ℕ) → i ≤ length old → more + length old ≤ spare_of m → more ≤ spare_of n
   front_room more within room =
       let so = at.so h in
-      let log : length n.books.log ≡ length m.books.log + length so.ds = ap length so.adds.log ∙ length-append m.books.log (map (echoed h.flight.source) so.ds) ∙ ap (λ k. length m.books.log + k) (length-map so.ds (echoed h.flight.source)) in
+      let log : length n.books.log ≡ length m.books.log + length so.ds = ap length so.added.adds.log ∙ length-append m.books.log (map (echoed h.flight.source) so.ds) ∙ ap (λ k. length m.books.log + k) (length-map so.ds (echoed h.flight.source)) in
       let taken : length (take i now) ≡ i = length-take-le i now (omega (arith, within, at.many)) in
       let bytes : length (take i now) ≡ length so.ds = ap length so.bytes_are ∙ length-map so.ds (λ (d : Echo). byte_of d.sent) in
-      let size = so.adds.room in
+      let size = so.added.adds.room in
       omega (arith, log, taken, bytes, size, room, within)
 
   -- the byte of the held frame
@@ -369,9 +377,9 @@ module _ {M : Type 0} (view : M → MediumView) (m : RingView M) (old : List ℕ
   pub full_room : (n : RingView M) (new : List ℕ) → Fronts view m (take last old) new front.Full n → IsHolding m → (more : ℕ) → more + last ≤ spare_of m → more ≤ spare_of n
   full_room n new full h more room =
       let so = full.1 h in
-      let log : length n.books.log ≡ length m.books.log + length so.ds = ap length so.adds.log ∙ length-append m.books.log (map (echoed h.flight.source) so.ds) ∙ ap (λ k. length m.books.log + k) (length-map so.ds (echoed h.flight.source)) in
+      let log : length n.books.log ≡ length m.books.log + length so.ds = ap length so.added.adds.log ∙ length-append m.books.log (map (echoed h.flight.source) so.ds) ∙ ap (λ k. length m.books.log + k) (length-map so.ds (echoed h.flight.source)) in
       let bytes : length new ≡ length so.ds = ap length so.bytes_are ∙ length-map so.ds (λ (d : Echo). byte_of d.sent) in
-      let size = so.adds.room in
+      let size = so.added.adds.room in
       omega (arith, log, bytes, size, room, long, full.0)
 
   pub full_holding : (n : RingView M) (new : List ℕ) → Fronts view m (take last old) new front.Full n → IsHolding m → IsHolding n

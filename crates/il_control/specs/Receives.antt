@@ -81,7 +81,7 @@ pub record PassedBy (k q a : ℕ) (number : Option ℕ) (came : List Frame) : Ty
   pub behind : List Frame
   pub all : came ≡ before ++ (spoken ++ behind)
   pub first : Brought k q (receive_front 0 a number) before
-  pub then : AllSpoken spoken
+  pub during : AllSpoken spoken
   pub last : Brought k q (commanded 0 unt) behind
 
 -- the same of a receive that was broken off: so many of the commands came, or all
@@ -92,7 +92,7 @@ pub record PassedInPart (k q a : ℕ) (number : Option ℕ) (came : List Frame) 
   pub all : came ≡ before ++ (spoken ++ behind)
   pub standing : ℕ
   pub first : CutBrought k q (receive_front 0 a number) standing before
-  pub then : AllSpoken spoken
+  pub during : AllSpoken spoken
   pub standing_behind : ℕ
   pub last : CutBrought k q (commanded 0 unt) standing_behind behind
 

@@ -1,6 +1,9 @@
 use Rattle.std.proofs.Common.{refl}
-use Rattle.il_control.proofs.Asking.{asked_done}
+use Rattle.il_control.proofs.Asking.{asked_done, not_asked}
 use Rattle.il_control.proofs.receiving.ask.Goals as goal
 
 pub returns-then-command : goal.returns-then-command
 returns-then-command g c = asked_done g.M.Medium.view _ _ _ _ _ _ _ c.requires.free.ring c.unl.ensures c.if-command.ensures.done (c.if-command.ensures.obeyed refl) c.ask_one.ensures.done c.ask_one.ensures.calm
+
+pub returns-else-command : goal.returns-else-command
+returns-else-command g c = not_asked g.M.Medium.view _ _ _ _ _ _ c.unl.ensures c.if-command.false c.if-command.ensures.done
