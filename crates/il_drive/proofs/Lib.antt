@@ -9,3 +9,4 @@ pub mod Sending
 pub mod Beginning
 pub mod Records
 pub mod Reading
+pub mod Exchanges
