@@ -1,6 +1,6 @@
 -- What the messages of an exchange do to the drive where they neither read nor write a record nor begin to send: one
 -- function of what the drive stands at. A drive at rest between two calls of the store.
-use Rattle.std.proofs.Common.{◌≡◌, ℕ, Bool, true, false, List, [], ◌∷◌, refl, ap, subst, ◌∙◌}
+use Rattle.std.proofs.Common.{◌≡◌, ℕ, Bool, true, false, List, [], ◌∷◌, ◌++◌, refl, ap, subst, ◌∙◌}
 use Rattle.std.specs.Prelude.{Option, Some, None, ◌&&◌, ◌==◌, if◌then◌else◌}
 use Rattle.std.proofs.lemmas.Bool.{and_parts}
 use Rattle.il_ports.specs.Media.{MediumView}
@@ -299,3 +299,20 @@ module _ {M : Type 0} (view : M → MediumView) where
         medium = more.medium ∙ did.1;
         answers = (λ plain. ap (λ x. x.1) did.0 ∙ ap (λ f. Pass f) (ap (λ m. passed_as s.interface.roles step.0.interface.service.assignment (wants_service (status_of step.0)) f m) say.0 ∙ passed_as-plain s.interface.roles _ _ f m plain), more.answers);
       }
+
+  -- ---- a run in its two parts
+
+  pub record Parted (fs gs : List Frame) (outs : List Out) (v w : DriveView M) : Type 0 where
+    pub first : List Out
+    pub more : List Out
+    pub middle : DriveView M
+    pub answers : outs ≡ first ++ more
+    pub before : Ran view v fs first middle
+    pub behind : Ran view middle gs more w
+
+  pub parts : (fs gs : List Frame) (outs : List Out) (v w : DriveView M) → Ran view v (fs ++ gs) outs w → Parted fs gs outs v w
+  parts [] gs outs v w ran = record { first = []; more = outs; middle = v; answers = refl; before = refl; behind = ran }
+  parts (f ∷ fs) gs [] v w ran = absurd ran
+  parts (f ∷ fs) gs (out ∷ outs) v w ran =
+      let rest = parts fs gs outs ran.0 w ran.2 in
+      record { first = out ∷ rest.first; more = rest.more; middle = rest.middle; answers = ap (λ outs. out ∷ outs) rest.answers; before = (ran.0, ran.1, rest.before); behind = rest.behind }

@@ -10,3 +10,4 @@ pub mod Beginning
 pub mod Records
 pub mod Reading
 pub mod Exchanges
+pub mod ExchangesAddressed
