@@ -1,6 +1,6 @@
 -- What the messages of an exchange do to the drive where they neither read nor write a record nor begin to send: one
 -- function of what the drive stands at. A drive at rest between two calls of the store.
-use Rattle.std.proofs.Common.{◌≡◌, ℕ, Bool, true, false, List, [], ◌∷◌, ◌++◌, refl, ap, subst, ◌∙◌}
+use Rattle.std.proofs.Common.{◌≡◌, ℕ, Bool, true, false, List, [], ◌∷◌, ◌++◌, map, refl, ap, subst, ◌∙◌}
 use Rattle.std.specs.Prelude.{Option, Some, None, ◌&&◌, ◌==◌, if◌then◌else◌}
 use Rattle.std.proofs.lemmas.Bool.{and_parts}
 use Rattle.il_ports.specs.Media.{MediumView}
@@ -170,6 +170,20 @@ abbrev pub GoOn : List Message → List Frame → List Out → Type 0
 GoOn [] [] [] = Unit {0}
 GoOn (m ∷ ms) (f ∷ fs) (out ∷ outs) = (is_plain m ≡ true → out ≡ Pass f) × GoOn ms fs outs
 GoOn _ _ _ = ⊥
+
+abbrev pub are_plain : List Message → Bool
+are_plain [] = true
+are_plain (m ∷ ms) = is_plain m && are_plain ms
+
+pub all_pass : (ms : List Message) (fs : List Frame) (outs : List Out) → are_plain ms ≡ true → GoOn ms fs outs → outs ≡ map (λ (f : Frame). Pass f) fs
+all_pass [] [] [] plain go = refl
+all_pass [] [] (out ∷ outs) plain go = absurd go
+all_pass [] (f ∷ fs) outs plain go = absurd go
+all_pass (m ∷ ms) [] outs plain go = absurd go
+all_pass (m ∷ ms) (f ∷ fs) [] plain go = absurd go
+all_pass (m ∷ ms) (f ∷ fs) (out ∷ outs) plain go =
+    let both = and_parts (is_plain m) (are_plain ms) plain in
+    λ i. go.0 both.0 i ∷ all_pass ms fs outs both.1 go.1 i
 
 -- ---- one message
 

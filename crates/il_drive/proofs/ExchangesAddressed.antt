@@ -1,6 +1,6 @@
 -- The drive that an exchange addresses: it listens or talks, rests, and has nothing on the loop. What clears it, what
 -- gives it its address, and the seek.
-use Rattle.std.proofs.Common.{◌≡◌, ◌<◌, ◌≤◌, ◌+◌, ◌*◌, ℕ, Bool, true, false, List, [], ◌∷◌, refl, ap, ◌∙◌, arith, eqb-true}
+use Rattle.std.proofs.Common.{◌≡◌, ◌<◌, ◌≤◌, ◌+◌, ◌*◌, ℕ, Bool, true, false, List, [], ◌∷◌, map, refl, ap, ◌∙◌, arith, eqb-true}
 use Rattle.std.specs.Prelude.{Some, None, ◌==◌, nat_lt, if◌then◌else◌}
 use Rattle.std.proofs.lemmas.Bool.{eq-eqb, lt-ltb, le-leb}
 use Rattle.il_ports.specs.Media.{MediumView}
@@ -12,6 +12,7 @@ use Rattle.il_frames.specs.Frames.{byte_of, framed, is_data}
 use Rattle.il_frames.specs.Messages.{message_at, message_of}
 use Rattle.il_frames.proofs.ReadBack.{all_below, all_below-at}
 use Rattle.il_device.specs.declared.device.Out.{Out}
+use Rattle.il_device.specs.declared.device.Out.TheVariants.{Pass}
 use Rattle.il_device.specs.declared.roles.Roles.{Roles}
 use Rattle.il_device.proofs.Laws.{message_of-aad, roles_after-data, own_after-data}
 use Rattle.il_drive.specs.declared.mode.Fault.TheVariants as fault
@@ -20,7 +21,7 @@ use Rattle.il_drive.specs.State.{DriveState, DriveView}
 use Rattle.il_drive.specs.Table as table
 use Rattle.il_drive.specs.Runs.{Ran}
 use Rattle.il_drive.proofs.Beginning.{seek_message, seeks}
-use Rattle.il_drive.proofs.Exchanges.{IsAtRest, Stance, stance_of, stance_all, are_quiet, Say, WentBy, goes_by, parts}
+use Rattle.il_drive.proofs.Exchanges.{all_pass, are_plain, IsAtRest, Stance, stance_of, stance_all, are_quiet, Say, goes_by, parts}
 
 -- ---- frames
 
@@ -153,13 +154,13 @@ module _ {M : Type 0} (view : M → MediumView) where
 
   -- the drive talks, and then these messages come
   pub goes_talking : (p : ℕ) (ms : List Message) (fs : List Frame) (outs : List Out) (v w : DriveView M) → p ≤ 30 → v.state.interface.roles.address ≡ Some p → v.state.interface.roles.talks ≡ false
-      → Say fs ms → are_quiet ms (turned (talker p) (stance_of v.state)) ≡ true → Ran view v (unl ∷ rfc ∷ tad p ∷ rfc ∷ fs) outs w
-      → WentBy view (msg.Unl ∷ msg.Rfc ∷ msg.Tad p ∷ msg.Rfc ∷ ms) (unl ∷ rfc ∷ tad p ∷ rfc ∷ fs) outs v w × (stance_of w.state ≡ stance_all ms (turned (talker p) (stance_of v.state)))
-  goes_talking p ms fs outs v w le at mute say quiet ran =
+      → Say fs ms → are_quiet ms (turned (talker p) (stance_of v.state)) ≡ true → are_plain ms ≡ true → Ran view v (unl ∷ rfc ∷ tad p ∷ rfc ∷ fs) outs w
+      → (stance_of w.state ≡ stance_all ms (turned (talker p) (stance_of v.state))) × (w.medium ≡ v.medium) × (outs ≡ map (λ (f : Frame). Pass f) (unl ∷ rfc ∷ tad p ∷ rfc ∷ fs))
+  goes_talking p ms fs outs v w le at mute say quiet plain ran =
       let σ = stance_of v.state in
       let went = goes_by view (msg.Unl ∷ msg.Rfc ∷ msg.Tad p ∷ msg.Rfc ∷ ms) (unl ∷ rfc ∷ tad p ∷ rfc ∷ fs) outs v w (refl, (refl, (message_of-tad p le, (refl, say))))
       (ap (are_quiet ms) (talks_from p σ at mute) ∙ quiet) ran in
-      (went, went.stance ∙ ap (stance_all ms) (talks_from p σ at mute))
+      (went.stance ∙ ap (stance_all ms) (talks_from p σ at mute), went.medium, all_pass (msg.Unl ∷ msg.Rfc ∷ msg.Tad p ∷ msg.Rfc ∷ ms) (unl ∷ rfc ∷ tad p ∷ rfc ∷ fs) outs plain went.answers)
 
   -- ---- clearing
 

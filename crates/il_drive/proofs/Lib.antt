@@ -11,3 +11,4 @@ pub mod Records
 pub mod Reading
 pub mod Exchanges
 pub mod ExchangesAddressed
+pub mod ExchangesStatus
