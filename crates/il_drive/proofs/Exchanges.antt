@@ -1,5 +1,5 @@
 -- What the messages of an exchange do to the drive where they neither read nor write a record nor begin to send: one
--- function of what the drive stands at. A drive at rest between two calls of the store.
+-- function of what the drive stands at. A drive at rest between two exchanges.
 use Rattle.std.proofs.Common.{◌≡◌, ℕ, Bool, true, false, List, [], ◌∷◌, ◌++◌, map, refl, ap, subst, ◌∙◌}
 use Rattle.std.specs.Prelude.{Option, Some, None, ◌&&◌, ◌==◌, if◌then◌else◌}
 use Rattle.std.proofs.lemmas.Bool.{and_parts}
@@ -34,14 +34,18 @@ use Rattle.il_drive.specs.Runs.{Ran}
 
 -- ---- at rest
 
--- The drive between two calls of the store: it has this address, does not talk, sends nothing, awaits nothing, and its
--- status is 0. It may listen. Buffers, pointer, position and mark are any.
-pub record IsAtRest (p : ℕ) (s : DriveState) : Type 0 where
+-- The drive between two exchanges: it has this address, does not talk, sends nothing, and its status is 0. It may listen.
+-- Mode, buffers, pointer, position and mark are any.
+pub record IsFree (p : ℕ) (s : DriveState) : Type 0 where
   pub address : s.interface.roles.address ≡ Some p
   pub mute : s.interface.roles.talks ≡ false
   pub silent : s.interface.own ≡ None
-  pub mode : s.mode ≡ mode.Rest
   pub status : status_of s ≡ 0
+
+-- and it awaits nothing
+pub record IsAtRest (p : ℕ) (s : DriveState) : Type 0 where
+  pub free : IsFree p s
+  pub mode : s.mode ≡ mode.Rest
 
 -- ---- what a drive stands at
 

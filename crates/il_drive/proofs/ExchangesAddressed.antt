@@ -21,7 +21,7 @@ use Rattle.il_drive.specs.State.{DriveState, DriveView}
 use Rattle.il_drive.specs.Table as table
 use Rattle.il_drive.specs.Runs.{Ran}
 use Rattle.il_drive.proofs.Beginning.{seek_message, seeks}
-use Rattle.il_drive.proofs.Exchanges.{all_pass, are_plain, IsAtRest, Stance, stance_of, stance_all, are_quiet, Say, goes_by, parts}
+use Rattle.il_drive.proofs.Exchanges.{all_pass, are_plain, IsFree, IsAtRest, Stance, stance_of, stance_all, are_quiet, Say, goes_by, parts}
 
 -- ---- frames
 
@@ -131,15 +131,17 @@ takes_it p σ one le = rw (le-leb 1 p one, le-leb p 30 le) refl
 pub stance_of-data : (s : DriveState) (f : Frame) → is_data f ≡ true → stance_of (table.behind_effect f s) ≡ stance_of s
 stance_of-data s f h = λ i. record (stance_of s) { roles = roles_after-data s.interface.roles f h i; own = own_after-data s.interface.roles s.interface.own f h i }
 
--- a stance at rest
-pub rests_at : (p : ℕ) (s : DriveState) (σ : Stance) → stance_of s ≡ σ → σ.roles.address ≡ Some p → σ.roles.talks ≡ false → σ.own ≡ None → σ.mode ≡ mode.Rest → σ.status ≡ 0 → IsAtRest p s
-rests_at p s σ is at mute silent rest good = record {
+-- a stance between two exchanges, and at rest
+pub free_at : (p : ℕ) (s : DriveState) (σ : Stance) → stance_of s ≡ σ → σ.roles.address ≡ Some p → σ.roles.talks ≡ false → σ.own ≡ None → σ.status ≡ 0 → IsFree p s
+free_at p s σ is at mute silent good = record {
   address = ap (λ (σ : Stance). σ.roles.address) is ∙ at;
   mute = ap (λ (σ : Stance). σ.roles.talks) is ∙ mute;
   silent = ap (λ (σ : Stance). σ.own) is ∙ silent;
-  mode = ap (λ (σ : Stance). σ.mode) is ∙ rest;
   status = ap (λ (σ : Stance). σ.status) is ∙ good;
 }
+
+pub rests_at : (p : ℕ) (s : DriveState) (σ : Stance) → stance_of s ≡ σ → σ.roles.address ≡ Some p → σ.roles.talks ≡ false → σ.own ≡ None → σ.mode ≡ mode.Rest → σ.status ≡ 0 → IsAtRest p s
+rests_at p s σ is at mute silent rest good = record { free = free_at p s σ is at mute silent good; mode = ap (λ (σ : Stance). σ.mode) is ∙ rest }
 
 module _ {M : Type 0} (view : M → MediumView) where
   -- the drive listens, and then these messages come
@@ -188,13 +190,13 @@ module _ {M : Type 0} (view : M → MediumView) where
     pub buffer_0 : w.state.buffer_0 ≡ v.state.buffer_0
     pub medium : w.medium ≡ v.medium
 
-  pub seeks_record : (p k : ℕ) (high low : Frame) (outs : List Out) (v w : DriveView M) → p ≤ 30 → IsAtRest p v.state → is_data high ≡ true → is_data low ≡ true
+  pub seeks_record : (p k : ℕ) (high low : Frame) (outs : List Out) (v w : DriveView M) → p ≤ 30 → IsFree p v.state → is_data high ≡ true → is_data low ≡ true
       → 256 * byte_of high + byte_of low ≡ k → k < (view v.medium).record_count
       → Ran view v (unl ∷ rfc ∷ lad p ∷ rfc ∷ seek_message ∷ rfc ∷ high ∷ low ∷ []) outs w → HasSought p k v w
-  seeks_record p k high low outs v w le rest dh dl is lt ran =
+  seeks_record p k high low outs v w le free dh dl is lt ran =
       let part = parts view (unl ∷ rfc ∷ lad p ∷ rfc ∷ seek_message ∷ rfc ∷ []) (high ∷ low ∷ []) outs v w ran in
       let u = part.middle in
-      let went = goes_listening p (msg.Ddl 4 ∷ msg.Rfc ∷ []) (seek_message ∷ rfc ∷ []) part.first v u le rest.address (refl, (refl, tt)) refl part.before in
+      let went = goes_listening p (msg.Ddl 4 ∷ msg.Rfc ∷ []) (seek_message ∷ rfc ∷ []) part.first v u le free.address (refl, (refl, tt)) refl part.before in
       let sought = seeks view high low part.more u w
       (record { listens = ap (λ (σ : Stance). σ.roles.listens) went.0; silent = ap (λ (σ : Stance). σ.own) went.0; mode = ap (λ (σ : Stance). σ.mode) went.0 }) dh dl part.behind in
       let half = table.in_mode (mode.SeekLow (byte_of high)) (table.behind_effect high u.state) in
@@ -205,7 +207,7 @@ module _ {M : Type 0} (view : M → MediumView) where
       ap stance_of found ∙ ap (λ (σ : Stance). record σ { mode = mode.Rest; position = 256 * byte_of high + byte_of low }) (stance_of-data half low dl ∙ ap (λ (σ : Stance). record σ { mode = mode.SeekLow (byte_of high) }) (stance_of-data u.state high dh ∙ went.0))
       ∙ ap (λ k. record (turned (listener p) (stance_of v.state)) { position = k }) is in
       record {
-        rests = rests_at p w.state _ stance refl refl refl refl rest.status;
+        rests = rests_at p w.state _ stance refl refl refl refl free.status;
         position = ap (λ (σ : Stance). σ.position) stance;
         buffer_0 = ap (λ (σ : Stance). σ.buffer_0) stance;
         medium = sought.1 ∙ went.1;

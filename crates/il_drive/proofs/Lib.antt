@@ -12,3 +12,4 @@ pub mod Reading
 pub mod Exchanges
 pub mod ExchangesAddressed
 pub mod ExchangesStatus
+pub mod ExchangesWriting
