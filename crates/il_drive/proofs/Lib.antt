@@ -13,3 +13,4 @@ pub mod Exchanges
 pub mod ExchangesAddressed
 pub mod ExchangesStatus
 pub mod ExchangesWriting
+pub mod ExchangesBroken
