@@ -14,3 +14,4 @@ pub mod ExchangesAddressed
 pub mod ExchangesStatus
 pub mod ExchangesWriting
 pub mod ExchangesBroken
+pub mod ExchangesStill

@@ -36,7 +36,7 @@ pub record IsRead (v w : MediumView) : Type 0 where
   pub still : IsStill v w
   pub count : w.faults ≡ v.faults
 
-nothing_read : (v : MediumView) → IsRead v v
+pub nothing_read : (v : MediumView) → IsRead v v
 nothing_read v = record {
   still = record {
     stays_in = record { told = refl; inside = refl; size = refl };
@@ -48,7 +48,7 @@ nothing_read v = record {
   count = refl;
 }
 
-still_longer : (v w u : MediumView) → IsStill v w → IsStill w u → IsStill v u
+pub still_longer : (v w u : MediumView) → IsStill v w → IsStill w u → IsStill v u
 still_longer v w u first next = record {
   stays_in = record {
     told = next.stays_in.told ∙ first.stays_in.told;
@@ -135,7 +135,7 @@ no_echo_class class.End byte is_byte right = cc
 no_echo_class class.Esr byte is_byte right = cc
 no_echo_class _ byte is_byte right = cc
 
-no_echo : (f : Frame) → is_data f ≡ true → IsEcho (Source eto) f → ⊥
+pub no_echo : (f : Frame) → is_data f ≡ true → IsEcho (Source eto) f → ⊥
 no_echo f = no_echo_class (class_of f) (byte_of f)
 
 module _ {M : Type 0} (view : M → MediumView) where
