@@ -1,6 +1,6 @@
 -- Laws of any drive, whatever it stands at: what frames do to its roles, and which frames write no record.
-use Rattle.std.proofs.Common.{◌≡◌, ◌⊎◌, ℕ, Bool, true, false, List, [], ◌∷◌, refl, sym, ap, subst, ◌∙◌, ⊎_elim}
-use Rattle.std.specs.Prelude.{Option, Some, None, ◌&&◌, ◌==◌, if◌then◌else◌}
+use Rattle.std.proofs.Common.{◌≡◌, ◌≤◌, ◌+◌, ◌*◌, ◌⊎◌, ℕ, Bool, true, false, List, [], ◌∷◌, refl, sym, ap, subst, ◌∙◌, ⊎_elim}
+use Rattle.std.specs.Prelude.{Option, Some, None, ◌&&◌, ◌==◌, nat_lt, if◌then◌else◌}
 use Rattle.il_ports.specs.Media.{MediumView}
 use Rattle.lif_model.specs.Causes.{Rose}
 use Rattle.il_frames.specs.declared.frame.Class.{Class}
@@ -18,18 +18,24 @@ use Rattle.il_device.specs.declared.roles.Roles.{Roles}
 use Rattle.il_device.specs.Roles.{roles_after, takes_address, is_own}
 use Rattle.il_device.specs.Takes.{turn_at, turn_at_data, turn_at_start, asked_for_id}
 use Rattle.il_device.specs.Interfaces.{InterfaceState, turn_on}
-use Rattle.il_device.proofs.Laws.{changes_roles, roles_after-other}
+use Rattle.il_device.proofs.Laws.{changes_roles, roles_after-other, roles_after-data, own_after-data}
 use Rattle.il_drive.specs.declared.commands.ListenerCommand.{ListenerCommand}
 use Rattle.il_drive.specs.declared.commands.ListenerCommand.TheVariants as ddl
+use Rattle.il_drive.specs.declared.mode.Mode.{Mode}
+use Rattle.il_drive.specs.declared.mode.Mode.TheVariants as mode
+use Rattle.il_drive.specs.declared.mode.Fault.TheVariants as fault
 use Rattle.il_drive.specs.Commands.{listener_command}
 use Rattle.il_drive.specs.State.{DriveState, DriveView}
-use Rattle.il_drive.specs.Steps.{Step, Now, Reads, Writes, IsStill, Did}
+use Rattle.il_drive.specs.Steps.{Step, Now, Reads, Writes, then_by, IsStill, Did}
 use Rattle.il_drive.specs.Table as table
 use Rattle.il_drive.specs.Facts.{put_at, put_at_message, closed_by, placed_on, record_put}
 use Rattle.il_drive.specs.Runs.{Ran, AllData}
 use Rattle.il_drive.proofs.Outcomes.{written, every_did}
 use Rattle.il_drive.proofs.Answering.{Fact, facts, record_written}
 use Rattle.il_drive.proofs.Reading.{nothing_read, still_longer}
+use Rattle.il_drive.proofs.Beginning.{IsListening, step_hears, seek_message}
+use Rattle.il_drive.proofs.Exchanges.{Stance, parts}
+use Rattle.il_drive.proofs.ExchangesAddressed.{unl, rfc, lad, goes_listening}
 
 -- ---- roles
 
@@ -157,6 +163,23 @@ abbrev pub NonePuts : List Frame → Type 0
 NonePuts [] = Unit {0}
 NonePuts (f ∷ fs) = (may_put (message_of f) ≡ false) × NonePuts fs
 
+-- a byte that is heard in another mode than Write
+abbrev HeardNow : Step DriveState → DriveState → Type 0
+HeardNow step u = (t : DriveState) × (step ≡ Now t) × (t.interface.roles ≡ u.interface.roles) × (t.interface.own ≡ u.interface.own) × (table.is_write t.mode ≡ false)
+
+sought_now : (b : Bool) (k : ℕ) (u : DriveState) → HeardNow (Now (if b then table.at_rest (record u { position = k }) else table.faulty fault.NoRecord u)) u
+sought_now true k u = (_, refl, refl, refl, refl)
+sought_now false k u = (_, refl, refl, refl, refl)
+
+heard_now : (m : Mode) (byte n : ℕ) (u : DriveState) → u.mode ≡ m → table.is_write m ≡ false → HeardNow (table.heard_in m byte n u) u
+heard_now mode.FillBuffer0 byte n u is h = (_, refl, refl, refl, ap table.is_write is)
+heard_now mode.FillBuffer1 byte n u is h = (_, refl, refl, refl, ap table.is_write is)
+heard_now mode.SetPointer byte n u is h = (_, refl, refl, refl, refl)
+heard_now mode.SeekHigh byte n u is h = (_, refl, refl, refl, refl)
+heard_now (mode.SeekLow high) byte n u is h = sought_now (nat_lt (256 * high + byte) n) (256 * high + byte) u
+heard_now mode.Write byte n u is h = cc
+heard_now _ byte n u is h = (u, refl, refl, refl, ap table.is_write is ∙ h)
+
 module _ {M : Type 0} (view : M → MediumView) where
   -- the roles behind a frame are those of every device
   pub roles-did : (n : ℕ) (s t : DriveState) (f : Frame) (out : Out) (m m₂ : M) → Did view (table.drive_step n s f) (t, out) m m₂ → t.interface.roles ≡ roles_after s.interface.roles (message_of f)
@@ -197,3 +220,43 @@ module _ {M : Type 0} (view : M → MediumView) where
       never : (b : Bool) → (b && false) ≡ false
       never true = refl
       never false = refl
+
+  -- so does no frame of a receive, from its first on
+  pub receive_leaves : (fs : List Frame) (outs : List Out) (v w : DriveView M) → NoneListens fs → Ran view v (unl ∷ fs) outs w → IsStill (view v.medium) (view w.medium)
+  receive_leaves fs [] v w none ran = absurd ran
+  receive_leaves fs (out ∷ outs) v w none ran =
+      let roles = roles-did (view v.medium).record_count v.state ran.0.state unl out v.medium ran.0.medium ran.1 in
+      still_longer _ _ _ (still-did (view v.medium).record_count v.state ran.0.state unl out v.medium ran.0.medium refl ran.1)
+      (reads_only fs outs ran.0 w (ap (λ (r : Roles). r.listens) roles) none ran.2)
+
+  -- ---- bytes that are heard, but not written
+
+  -- in another mode than Write any bytes leave the medium
+  pub hears_only : (m : Mode) (fs : List Frame) (outs : List Out) (v w : DriveView M) → IsListening m v.state → table.is_write m ≡ false → AllData fs → Ran view v fs outs w → w.medium ≡ v.medium
+  hears_only m [] [] v w listening unless all ran = ap (λ (v : DriveView M). v.medium) ran
+  hears_only m [] (out ∷ outs) v w listening unless all ran = absurd ran
+  hears_only m (f ∷ fs) [] v w listening unless all ran = absurd ran
+  hears_only m (f ∷ fs) (out ∷ outs) v w listening unless all ran =
+      let s = v.state in
+      let u = ran.0 in
+      let step = heard_now m (byte_of f) (view v.medium).record_count (table.behind_effect f s) listening.mode unless in
+      let did : Did view (Now (table.passes s.interface.roles f step.0)) (u.state, out) v.medium u.medium =
+      subst (λ step. Did view step (u.state, out) v.medium u.medium) (step_hears m (view v.medium).record_count s f listening all.0 ∙ ap (then_by (table.passes s.interface.roles f)) step.1) ran.1 in
+      let is : u.state ≡ step.0 = ap (λ x. x.0) did.0 in
+      hears_only u.state.mode fs outs u w
+      (record {
+        listens = ap (λ (s : DriveState). s.interface.roles.listens) is ∙ ap (λ (r : Roles). r.listens) (step.2 ∙ roles_after-data s.interface.roles f all.0) ∙ listening.listens;
+        silent = ap (λ (s : DriveState). s.interface.own) is ∙ step.3 ∙ own_after-data s.interface.roles s.interface.own f all.0 ∙ listening.silent;
+        mode = refl;
+      })
+      (ap (λ (s : DriveState). table.is_write s.mode) is ∙ step.4) all.1 ran.2 ∙ did.1
+
+  -- a seek leaves the medium, whichever bytes come, and how many
+  pub seek_leaves : (p : ℕ) (fs : List Frame) (outs : List Out) (v w : DriveView M) → p ≤ 30 → v.state.interface.roles.address ≡ Some p → AllData fs
+      → Ran view v (unl ∷ rfc ∷ lad p ∷ rfc ∷ seek_message ∷ rfc ∷ fs) outs w → w.medium ≡ v.medium
+  seek_leaves p fs outs v w le at all ran =
+      let part = parts view (unl ∷ rfc ∷ lad p ∷ rfc ∷ seek_message ∷ rfc ∷ []) fs outs v w ran in
+      let went = goes_listening view p (msg.Ddl 4 ∷ msg.Rfc ∷ []) (seek_message ∷ rfc ∷ []) part.first v part.middle le at (refl, (refl, tt)) refl part.before in
+      hears_only mode.SeekHigh fs part.more part.middle w
+      (record { listens = ap (λ (σ : Stance). σ.roles.listens) went.0; silent = ap (λ (σ : Stance). σ.own) went.0; mode = ap (λ (σ : Stance). σ.mode) went.0 }) refl all part.behind
+      ∙ went.1

@@ -15,3 +15,4 @@ pub mod ExchangesStatus
 pub mod ExchangesWriting
 pub mod ExchangesBroken
 pub mod ExchangesStill
+pub mod ExchangesReading
