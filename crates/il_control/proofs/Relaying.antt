@@ -22,7 +22,7 @@ use Rattle.il_ring.specs.declared.flight.Flight.{Flight}
 use Rattle.il_ring.specs.Lists.{Each, First}
 use Rattle.il_ring.specs.Rings.{RingView, IsRing, Round, devices_of, roles_of, drive_party}
 use Rattle.il_ring.specs.Rounded.{Rounded, IsReady, own_at, holding, device_sending}
-use Rattle.il_ring.specs.Outcomes.{met_between, DriveTook, DriveHad, CameAs, IsBrought, HearsNothing, AllKeep, IsTalking, IsHeldNow, IsLostNow, CameBack, SendsMore, EndsSending, back_entry}
+use Rattle.il_ring.specs.Outcomes.{met_between, DriveTook, DriveHad, CameAs, IsBrought, HearsNothing, AllKeep, IsTalking, IsHeldNow, IsLostNow, CameBack, SendsMore, EndsSending, SentAtDrive, back_entry}
 use Rattle.il_ring.specs.Adds.{Adds}
 use Rattle.il_ring.proofs.DataPasses.{same_served}
 use Rattle.il_ring.proofs.Passing.{AsData}
@@ -331,9 +331,7 @@ module _ {M : Type 0} (view : M → MediumView) (m s : RingView M) (h : IsHoldin
       (λ came. on_back came.0 came.1 came.2 came.3 came.4)
       (relay_at_drive view m s h.flight h.own answer h.ring.crossings h.ring.plan h.talking h.frame h.stood round)
     where
-      on_back : (right : Bool) (back : Frame) → CameBack m s h.flight right back → (drive_party m ≤ p → DriveHad view (CameAs right h.flight.sent) m s)
-          → (((more : SendsMore m h.flight h.own back answer s) × (p < drive_party m → DriveTook view (IsBrought m s more.sent) m s))
-          ⊎ (EndsSending m h.flight right back answer s × (p < drive_party m → DriveTook view (λ g. g ≡ (if right then eto else ete)) m s))) → RelayEnd view m h answer s
+      on_back : (right : Bool) (back : Frame) → CameBack m s h.flight right back → (drive_party m ≤ p → DriveHad view (CameAs right h.flight.sent) m s) → SentAtDrive view m h.flight h.own right back answer s → RelayEnd view m h answer s
       on_back true back came near (inl more) = went_on true back refl near more.0 more.1
       on_back false back came near (inl more) = absurd (came.echo.0 (ap byte_of more.0.right))
       on_back true back came near (inr ends) = ended back near ends.1 came.echo ends.0
