@@ -16,3 +16,4 @@ pub mod ExchangesWriting
 pub mod ExchangesBroken
 pub mod ExchangesStill
 pub mod ExchangesReading
+pub mod ExchangesOthers
