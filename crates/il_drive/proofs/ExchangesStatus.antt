@@ -1,5 +1,5 @@
 -- The status poll as one exchange, and what ends a talker.
-use Rattle.std.proofs.Common.{◌≡◌, ◌≤◌, ◌++◌, ℕ, true, false, List, [], ◌∷◌, refl, ap, subst, ◌∙◌}
+use Rattle.std.proofs.Common.{◌≡◌, ◌≤◌, ◌++◌, ℕ, true, false, List, [], ◌∷◌, get_or, refl, ap, subst, ◌∙◌}
 use Rattle.std.specs.Prelude.{Some, None}
 use Rattle.il_ports.specs.Media.{MediumView}
 use Rattle.il_frames.specs.declared.frame.Class.TheVariants as class
@@ -20,7 +20,7 @@ use Rattle.il_drive.specs.Steps.{Now, Did}
 use Rattle.il_drive.specs.Table as table
 use Rattle.il_drive.specs.Runs.{Ran}
 use Rattle.il_drive.proofs.Sending.{sst, step_status, step_ends}
-use Rattle.il_drive.proofs.Reading.{nrd}
+use Rattle.il_drive.proofs.Reading.{nrd, IsEcho}
 use Rattle.il_drive.proofs.Exchanges.{IsAtRest, all_pass, Stance, stance_of, stance_all, goes_by, parts}
 use Rattle.il_drive.proofs.ExchangesAddressed.{unl, unt, rfc, tad, talker, bystander, turned, goes_talking, rests_at, stance_of-data}
 
@@ -144,3 +144,13 @@ module _ {M : Type 0} (view : M → MediumView) where
         rests = told.rests;
         medium = told.medium ∙ sends.medium;
       }
+
+  -- the same where the frame is the echo of what the drive answered to SST
+  pub polls_by_echo : (p : ℕ) (f : Frame) (outs : List Out) (v w : DriveView M) → p ≤ 30 → v.state.interface.roles.address ≡ Some p → v.state.interface.roles.talks ≡ false
+      → is_data f ≡ true → IsEcho (get_or outs 4 (Pass sst)) f
+      → Ran view v (unl ∷ rfc ∷ tad p ∷ rfc ∷ sst ∷ nrd ∷ f ∷ unt ∷ rfc ∷ []) outs w → HasPolled p outs v w
+  polls_by_echo p f outs v w le at mute h right ran =
+      let part = parts view (unl ∷ rfc ∷ tad p ∷ rfc ∷ sst ∷ []) (nrd ∷ f ∷ unt ∷ rfc ∷ []) outs v w ran in
+      let sends = tells p part.first v part.middle le at mute part.before in
+      let own : get_or outs 4 (Pass sst) ≡ Source (status_frame v.state) = ap (λ outs. get_or outs 4 (Pass sst)) (part.answers ∙ ap (λ first. first ++ part.more) sends.answers) in
+      polls p f outs v w le at mute h (subst (λ out. IsEcho out f) own right) ran
