@@ -229,6 +229,20 @@ module _ {M : Type 0} (view : M → MediumView) where
       every_did view (Fact (turn_on s.interface f) n s f) (table.drive_step n s f) (t, out) m m₂ (facts n s f) did in
       ⊎_elim (λ fact. ap (λ (i : InterfaceState). i.roles) fact.behind) (λ fact. ap (λ (i : InterfaceState). i.roles) fact.0.behind) behind
 
+  -- and the accessory ID stays
+  accessory-did : (n : ℕ) (s t : DriveState) (f : Frame) (out : Out) (m m₂ : M) → Did view (table.drive_step n s f) (t, out) m m₂ → t.interface.accessory ≡ s.interface.accessory
+  accessory-did n s t f out m m₂ did =
+      let behind : Fact (turn_on s.interface f) n s f false (t, out) ⊎ (Fact (turn_on s.interface f) n s f true (t, out) × Rose (view m).faults (view m₂).faults) =
+      every_did view (Fact (turn_on s.interface f) n s f) (table.drive_step n s f) (t, out) m m₂ (facts n s f) did in
+      ⊎_elim (λ fact. ap (λ (i : InterfaceState). i.accessory) fact.behind) (λ fact. ap (λ (i : InterfaceState). i.accessory) fact.0.behind) behind
+
+  pub accessory-ran : (fs : List Frame) (outs : List Out) (v w : DriveView M) → Ran view v fs outs w → w.state.interface.accessory ≡ v.state.interface.accessory
+  accessory-ran [] [] v w ran = ap (λ (v : DriveView M). v.state.interface.accessory) ran
+  accessory-ran [] (out ∷ outs) v w ran = absurd ran
+  accessory-ran (f ∷ fs) [] v w ran = absurd ran
+  accessory-ran (f ∷ fs) (out ∷ outs) v w ran =
+      accessory-ran fs outs ran.0 w ran.2 ∙ accessory-did (view v.medium).record_count v.state ran.0.state f out v.medium ran.0.medium ran.1
+
   pub roles-ran : (fs : List Frame) (outs : List Out) (v w : DriveView M) → Ran view v fs outs w → w.state.interface.roles ≡ roles_behind fs v.state.interface.roles
   roles-ran [] [] v w ran = ap (λ (v : DriveView M). v.state.interface.roles) ran
   roles-ran [] (out ∷ outs) v w ran = absurd ran

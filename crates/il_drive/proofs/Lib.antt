@@ -17,3 +17,4 @@ pub mod ExchangesBroken
 pub mod ExchangesStill
 pub mod ExchangesReading
 pub mod ExchangesOthers
+pub mod ExchangesIdentity
