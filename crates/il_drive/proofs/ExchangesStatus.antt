@@ -1,6 +1,7 @@
 -- The status poll as one exchange, and what ends a talker.
-use Rattle.std.proofs.Common.{◌≡◌, ◌≤◌, ◌++◌, ℕ, true, false, List, [], ◌∷◌, get_or, refl, ap, subst, ◌∙◌}
-use Rattle.std.specs.Prelude.{Some, None}
+use Rattle.std.proofs.Common.{◌≡◌, ◌≤◌, ◌++◌, ℕ, true, false, List, [], ◌∷◌, get_or, refl, sym, arith, ⊎_elim, ◌+◌, ap, subst, ◌∙◌}
+use Rattle.std.specs.Prelude.{Some, None, not, if◌then◌else◌}
+use Rattle.std.proofs.lemmas.Bool.{cases_eq, ne_eqb}
 use Rattle.il_ports.specs.Media.{MediumView}
 use Rattle.il_frames.specs.declared.frame.Class.TheVariants as class
 use Rattle.il_frames.specs.declared.frame.Frame.{Frame}
@@ -23,6 +24,10 @@ use Rattle.il_drive.proofs.Sending.{sst, step_status, step_ends}
 use Rattle.il_drive.proofs.Reading.{nrd, IsEcho}
 use Rattle.il_drive.proofs.Exchanges.{IsAtRest, all_pass, Stance, stance_of, stance_all, goes_by, parts}
 use Rattle.il_drive.proofs.ExchangesAddressed.{unl, unt, rfc, tad, talker, bystander, turned, goes_talking, rests_at, stance_of-data}
+
+-- the status byte is 0 only where the status is
+pub status_byte-zero : (status : ℕ) → status_byte_of status ≡ 0 → status ≡ 0
+status_byte-zero status is = ⊎_elim (λ zero. zero) (λ some. absurd (omega (arith, sym (ap (λ b. if not b then status + 64 else status) (ne_eqb status 0 some)) ∙ is))) (cases_eq status 0)
 
 module _ {M : Type 0} (view : M → MediumView) where
   -- ---- one frame by an equation of its step
