@@ -225,6 +225,12 @@ module _ {M : Type 0} (view : M → MediumView) where
             short.ended.why;
       }
 
+  -- where the tape has all k records, it is a record that could not be read
+  pub is_unread : (p k first : ℕ) (fs : List Frame) (outs more : List Out) (v u w : DriveView M) → first + k ≤ (view v.medium).record_count → length fs < 256 * k → IsCutShort p first fs outs v u
+      → Ran view u (unt ∷ rfc ∷ []) more w → (status_of w.state ≡ 1) × Rose (view v.medium).faults (view w.medium).faults
+  is_unread p k first fs outs more v u w fits few short ran =
+      ⊎_elim (λ one. one) (λ three. absurd (omega (arith, fits, few, short.so_many, short.place, three.0))) (ends_short p first fs outs more v u w short ran).why
+
   -- ---- all of it
 
   -- the frame is the echo of the last of these answers

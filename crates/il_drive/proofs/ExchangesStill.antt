@@ -1,5 +1,5 @@
 -- Laws of any drive, whatever it stands at: what frames do to its roles, and which frames write no record.
-use Rattle.std.proofs.Common.{◌≡◌, ◌≤◌, ◌+◌, ◌*◌, ◌⊎◌, ℕ, Bool, true, false, List, [], ◌∷◌, refl, sym, ap, subst, ◌∙◌, ⊎_elim}
+use Rattle.std.proofs.Common.{◌≡◌, ◌≤◌, ◌+◌, ◌*◌, ◌⊎◌, ℕ, Bool, true, false, List, [], ◌∷◌, ◌++◌, zero, suc, take, refl, sym, ap, subst, ◌∙◌, ⊎_elim}
 use Rattle.std.specs.Prelude.{Option, Some, None, ◌&&◌, ◌==◌, nat_lt, if◌then◌else◌}
 use Rattle.il_ports.specs.Media.{MediumView}
 use Rattle.lif_model.specs.Causes.{Rose}
@@ -32,10 +32,11 @@ use Rattle.il_drive.specs.Facts.{put_at, put_at_message, closed_by, placed_on, r
 use Rattle.il_drive.specs.Runs.{Ran, AllData}
 use Rattle.il_drive.proofs.Outcomes.{written, every_did}
 use Rattle.il_drive.proofs.Answering.{Fact, facts, record_written}
-use Rattle.il_drive.proofs.Reading.{nothing_read, still_longer}
-use Rattle.il_drive.proofs.Beginning.{IsListening, step_hears, seek_message}
+use Rattle.il_drive.proofs.Reading.{nrd, nothing_read, still_longer}
+use Rattle.il_drive.proofs.Sending.{sda, sst}
+use Rattle.il_drive.proofs.Beginning.{IsListening, step_hears, seek_message, write_message, read_message}
 use Rattle.il_drive.proofs.Exchanges.{Stance, parts}
-use Rattle.il_drive.proofs.ExchangesAddressed.{unl, rfc, lad, goes_listening}
+use Rattle.il_drive.proofs.ExchangesAddressed.{unl, rfc, lad, tad, message_of-lad, message_of-tad, goes_listening}
 
 -- ---- roles
 
@@ -180,6 +181,46 @@ heard_now (mode.SeekLow high) byte n u is h = sought_now (nat_lt (256 * high + b
 heard_now mode.Write byte n u is h = cc
 heard_now _ byte n u is h = (u, refl, refl, refl, ap table.is_write is ∙ h)
 
+-- a beginning of such frames
+pub listens-taken : (j : ℕ) (fs : List Frame) → NoneListens fs → NoneListens (take j fs)
+listens-taken zero fs none = tt
+listens-taken (suc j) [] none = tt
+listens-taken (suc j) (f ∷ fs) none = (none.0, listens-taken j fs none.1)
+
+pub puts-taken : (j : ℕ) (fs : List Frame) → NonePuts fs → NonePuts (take j fs)
+puts-taken zero fs none = tt
+puts-taken (suc j) [] none = tt
+puts-taken (suc j) (f ∷ fs) none = (none.0, puts-taken j fs none.1)
+
+-- frames behind such frames
+pub listens-joined : (fs gs : List Frame) → NoneListens fs → NoneListens gs → NoneListens (fs ++ gs)
+listens-joined [] gs first more = more
+listens-joined (f ∷ fs) gs first more = (first.0, listens-joined fs gs first.1 more)
+
+data_listens : (k : Class) (b : ℕ) → is_data_class k ≡ true → makes_listener (message_at k b) ≡ false
+data_listens class.Dab b h = refl
+data_listens class.Dsr b h = refl
+data_listens class.End b h = refl
+data_listens class.Esr b h = refl
+data_listens _ b h = cc
+
+pub listens-data : (fs : List Frame) → AllData fs → NoneListens fs
+listens-data [] all = tt
+listens-data (f ∷ fs) all = (data_listens (class_of f) (byte_of f) all.0, listens-data fs all.1)
+
+-- the commands of a seek, of a write, and of a read behind its UNL
+pub puts-seek : (p : ℕ) → p ≤ 30 → NonePuts (unl ∷ rfc ∷ lad p ∷ rfc ∷ seek_message ∷ rfc ∷ [])
+puts-seek p le = (refl, (refl, (ap may_put (message_of-lad p le), (refl, (refl, (refl, tt))))))
+
+pub puts-write : (p : ℕ) → p ≤ 30 → NonePuts (unl ∷ rfc ∷ lad p ∷ rfc ∷ write_message ∷ rfc ∷ [])
+puts-write p le = (refl, (refl, (ap may_put (message_of-lad p le), (refl, (refl, (refl, tt))))))
+
+pub listens-read : (p : ℕ) → p ≤ 30 → NoneListens (rfc ∷ tad p ∷ rfc ∷ read_message ∷ rfc ∷ sda ∷ [])
+listens-read p le = (refl, (ap makes_listener (message_of-tad p le), (refl, (refl, (refl, (refl, tt))))))
+
+pub listens-poll : (p : ℕ) → p ≤ 30 → NoneListens (rfc ∷ tad p ∷ rfc ∷ sst ∷ nrd ∷ [])
+listens-poll p le = (refl, (ap makes_listener (message_of-tad p le), (refl, (refl, (refl, tt)))))
+
 module _ {M : Type 0} (view : M → MediumView) where
   -- the roles behind a frame are those of every device
   pub roles-did : (n : ℕ) (s t : DriveState) (f : Frame) (out : Out) (m m₂ : M) → Did view (table.drive_step n s f) (t, out) m m₂ → t.interface.roles ≡ roles_after s.interface.roles (message_of f)
@@ -187,6 +228,20 @@ module _ {M : Type 0} (view : M → MediumView) where
       let behind : Fact (turn_on s.interface f) n s f false (t, out) ⊎ (Fact (turn_on s.interface f) n s f true (t, out) × Rose (view m).faults (view m₂).faults) =
       every_did view (Fact (turn_on s.interface f) n s f) (table.drive_step n s f) (t, out) m m₂ (facts n s f) did in
       ⊎_elim (λ fact. ap (λ (i : InterfaceState). i.roles) fact.behind) (λ fact. ap (λ (i : InterfaceState). i.roles) fact.0.behind) behind
+
+  -- and the accessory ID stays
+  accessory-did : (n : ℕ) (s t : DriveState) (f : Frame) (out : Out) (m m₂ : M) → Did view (table.drive_step n s f) (t, out) m m₂ → t.interface.accessory ≡ s.interface.accessory
+  accessory-did n s t f out m m₂ did =
+      let behind : Fact (turn_on s.interface f) n s f false (t, out) ⊎ (Fact (turn_on s.interface f) n s f true (t, out) × Rose (view m).faults (view m₂).faults) =
+      every_did view (Fact (turn_on s.interface f) n s f) (table.drive_step n s f) (t, out) m m₂ (facts n s f) did in
+      ⊎_elim (λ fact. ap (λ (i : InterfaceState). i.accessory) fact.behind) (λ fact. ap (λ (i : InterfaceState). i.accessory) fact.0.behind) behind
+
+  pub accessory-ran : (fs : List Frame) (outs : List Out) (v w : DriveView M) → Ran view v fs outs w → w.state.interface.accessory ≡ v.state.interface.accessory
+  accessory-ran [] [] v w ran = ap (λ (v : DriveView M). v.state.interface.accessory) ran
+  accessory-ran [] (out ∷ outs) v w ran = absurd ran
+  accessory-ran (f ∷ fs) [] v w ran = absurd ran
+  accessory-ran (f ∷ fs) (out ∷ outs) v w ran =
+      accessory-ran fs outs ran.0 w ran.2 ∙ accessory-did (view v.medium).record_count v.state ran.0.state f out v.medium ran.0.medium ran.1
 
   pub roles-ran : (fs : List Frame) (outs : List Out) (v w : DriveView M) → Ran view v fs outs w → w.state.interface.roles ≡ roles_behind fs v.state.interface.roles
   roles-ran [] [] v w ran = ap (λ (v : DriveView M). v.state.interface.roles) ran

@@ -16,3 +16,5 @@ pub mod ExchangesWriting
 pub mod ExchangesBroken
 pub mod ExchangesStill
 pub mod ExchangesReading
+pub mod ExchangesOthers
+pub mod ExchangesIdentity
