@@ -1,4 +1,5 @@
 -- A start message, as a call.
+use Rattle.il_ring.specs.Adds.{Adds}
 use Rattle.il_device.specs.declared.device.Out.TheVariants.{Source}
 use Rattle.il_device.specs.declared.device.Out.{Out}
 use Rattle.std.proofs.Common.{◌≡◌, ◌≢◌, ◌∙◌, ◌+◌, ◌-◌, ◌++◌, inl, inr, ⊎_elim, ℕ, Bool, true, false, not, List, [], ◌∷◌, Option, Some, None, refl, sym, ap, subst, arith, length, ◌≤◌, ◌<◌}
@@ -157,9 +158,11 @@ module _ {M : Type 0} (view : M → MediumView) (r s : RingView M) (held : Optio
       let near : drive_party r ≤ p = omega (arith, none) in
       let did = did_so p sent near saw in
       let so = host_did view (λ g out. (g ≡ f) × (drive_party r ≡ p → out ≡ Source sent)) r s held f answer entries to carries round log new did in
+      let adds : Adds view r None entries to s =
+      host_adds view (answered_some (λ g out. (g ≡ f) × (drive_party r ≡ p → out ≡ Source sent))) r s held f answer entries to carries round log new (inr (did_had view (λ g out. (g ≡ f) × (drive_party r ≡ p → out ≡ Source sent)) r s did)) in
       record {
-        adds = host_adds view (answered_some (λ g out. (g ≡ f) × (drive_party r ≡ p → out ≡ Source sent))) r s held f answer entries to carries round log new (inr (did_had view (λ g out. (g ≡ f) × (drive_party r ≡ p → out ≡ Source sent)) r s did));
-        near = λ _. subst (λ outs. B (length (devices_of r)) (drive_party r) _ outs) (sym so.1.3) (subst (λ gs. B (length (devices_of r)) (drive_party r) gs (so.1.0 ∷ [])) (sym so.1.2) (brought near so.0 so.1.0 so.1.1.0 so.1.1.1));
+        adds = adds;
+        near = λ _. subst (λ gs. B (length (devices_of r)) (drive_party r) gs adds.answers) (sym so.1.2) (subst (λ outs. B (length (devices_of r)) (drive_party r) (so.0 ∷ []) outs) (sym so.1.3) (brought near so.0 so.1.0 so.1.1.0 so.1.1.1));
         far = λ far. absurd (omega (arith, near, far));
       })
       (λ some.

@@ -142,9 +142,10 @@ module _ {M : Type 0} (view : M → MediumView) (m s : RingView M) (h : IsHoldin
       → ((g : Frame) (out : Out) → P g out → B (length (devices_of m)) (drive_party m) (g ∷ []) (out ∷ [])) → AddsBy view m p (Some p) entries to B s
   did_near P entries to B log new near did brought =
       let so = device_did view P m s None h.flight answer entries to quiet ready round log new did in
+      let adds : Adds view m (device_sending h.flight) entries to s = device_adds view (answered_some P) m s None h.flight answer entries to quiet ready round log new (inr (did_had view P m s did)) in
       from_source entries to B (record {
-        adds = device_adds view (answered_some P) m s None h.flight answer entries to quiet ready round log new (inr (did_had view P m s did));
-        near = λ _. subst (λ outs. B (length (devices_of m)) (drive_party m) _ outs) (sym so.1.3) (subst (λ gs. B (length (devices_of m)) (drive_party m) gs (so.1.0 ∷ [])) (sym so.1.2) (brought so.0 so.1.0 so.1.1));
+        adds = adds;
+        near = λ _. subst (λ gs. B (length (devices_of m)) (drive_party m) gs adds.answers) (sym so.1.2) (subst (λ outs. B (length (devices_of m)) (drive_party m) (so.0 ∷ []) outs) (sym so.1.3) (brought so.0 so.1.0 so.1.1));
         far = λ far. absurd (omega (arith, near, far));
       })
 

@@ -137,9 +137,10 @@ module _ {M : Type 0} (view : M → MediumView) (m n : RingView M) (h : IsHoldin
       let adds = host_adds view (Is nrd (1 + length m.before)) m n held nrd answer entries None (Exactly refl refl) round log new took in
       let came = host_came view (Is nrd (1 + length m.before)) m n held nrd answer entries None (Exactly refl refl) round log new took in
       let same = adds_held-came view m n (Some h.flight.source) entries adds in
+      let held_on : Adds view m (Some h.flight.source) entries (Some h.flight.source) n = adds_held view m n (Some h.flight.source) entries adds in
       record {
-        adds = adds_held view m n (Some h.flight.source) entries adds;
-        near = λ near. subst (λ gs. B (length (devices_of m)) (drive_party m) gs _) (sym same) (brought adds.came _ came);
+        adds = held_on;
+        near = λ near. subst (λ gs. B (length (devices_of m)) (drive_party m) gs held_on.answers) (sym same) (brought adds.came held_on.answers came);
         far = λ far. subst AllSpoken (sym same) (spoken_one (Is nrd (1 + length m.before)) m n adds.came (λ g is. inr (inl is)) came);
       }
 
