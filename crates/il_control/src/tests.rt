@@ -1,4 +1,4 @@
-ghost use Rattle.std.specs.Prelude.{IfOk};
+ghost use Rattle.std.specs.Prelude.{◌<◌, IfOk, IfSome};
 ghost use Rattle.il_control.specs.Calls.{IsLost};
 
 use crate::{Lost, Sot};
@@ -421,6 +421,16 @@ static CALLS: [Call; 11] = [
     },
 ];
 
+/// The number of its command, which is below 32.
+fn number_of(call: &Call) -> Option<u8>
+    ensures { IfSome result (λ n. n < 32) }
+{
+    match call.number {
+        Some(number) if number < 32 => Some(number),
+        _ => None,
+    }
+}
+
 /// Addresses the loop and receives. Answers how many bytes came, or none where that broke off.
 fn receive(
     rt: &impl Abort,
@@ -438,8 +448,7 @@ fn receive(
     assert!(rt; !into.is_empty() && into.len() < 10);
     assert!(rt; idle.ring().spare() >= 53);
     assert!(rt; 1 <= call.address && call.address <= 30);
-    assert!(rt; call.number.is_none_or(|number| number < 32));
-    match idle.receive(call.address, call.number, call.start, into) {
+    match idle.receive(call.address, number_of(call), call.start, into) {
         Ok((idle, count)) => Ok((idle.give_up().into_ring(), Some(count))),
         Err(lost) => Ok((lost.into_ring(), None)),
     }
@@ -479,20 +488,20 @@ fn receives(rt: HostRuntime) -> Result<(), Fail> {
     Ok(())
 }
 
-/// What is lost of a receive of the drive's status: the crossings of a frame, how many entries stand before its own, its
-/// source and its text.
+/// What is lost of a receive of the drive's status: the crossings of a frame, how many entries of the receive stand before its
+/// own, its source and its text.
 const LOSSES: [(u64, u64, usize, u8, &str); 11] = [
-    (16, 18, 5, 0, "UNL"),
-    (19, 21, 6, 0, "RFC"),
-    (22, 24, 7, 0, "TAD 01"),
-    (25, 27, 8, 0, "RFC"),
-    (28, 28, 9, 0, "SST"),
-    (29, 30, 10, 1, "DAB 00"),
-    (31, 33, 10, 0, "NRD"),
-    (34, 34, 11, 1, "DAB 00"),
-    (35, 36, 12, 1, "ETO"),
-    (37, 39, 13, 0, "UNT"),
-    (40, 42, 14, 0, "RFC"),
+    (16, 18, 0, 0, "UNL"),
+    (19, 21, 1, 0, "RFC"),
+    (22, 24, 2, 0, "TAD 01"),
+    (25, 27, 3, 0, "RFC"),
+    (28, 28, 4, 0, "SST"),
+    (29, 30, 5, 1, "DAB 00"),
+    (31, 33, 5, 0, "NRD"),
+    (34, 34, 6, 1, "DAB 00"),
+    (35, 36, 7, 1, "ETO"),
+    (37, 39, 8, 0, "UNT"),
+    (40, 42, 9, 0, "RFC"),
 ];
 
 /// A frame of a receive is lost at each crossing in turn.
@@ -500,16 +509,15 @@ const LOSSES: [(u64, u64, usize, u8, &str); 11] = [
 fn receive_lost_at_each_crossing(rt: HostRuntime) -> Result<(), Fail> {
     let alloc = rt.alloc();
     let call = &CALLS[0];
-    for (first, last, whole, source, text) in LOSSES {
+    for (first, last, standing, source, text) in LOSSES {
+        let want = call.log.get(..standing).expect(&rt, "the entries");
         for hop in first..=last {
             let printer: Box<dyn Device> = Box::new(alloc, Printer::new(alloc)?)?;
             let lost = controller(&rt, printer, &[Planned { hop, fault: Lose }])?;
-            let (ring, count) = receive(&rt, lost, call, &mut [0])?;
-            assert_eq!(rt; (count, ring.crossings()), (None, hop));
-            let log = ring.log();
-            assert_eq!(rt; log.len(), whole + 1, "{hop}");
-            compare_log(&rt, &log[..whole], &call.log[..whole - 5], text)?;
-            let entry = log[whole];
+            let (ring, came) = receive(&rt, lost, call, &mut [0])?;
+            assert_eq!(rt; (came, ring.crossings()), (None, hop));
+            let (entry, before) = ring.log().split_last().expect(&rt, "an entry");
+            compare_log(&rt, before, want, text)?;
             assert_eq!(rt; (entry.source, entry.frame), (source, frame_of(&rt, text)));
             assert_eq!(rt; entry.outcome, Outcome::Lost((hop % 3) as u8), "{hop}");
         }
