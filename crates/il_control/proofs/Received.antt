@@ -6,7 +6,7 @@ use Rattle.std.proofs.lemmas.List.Folds.{list_all-append}
 use Rattle.il_control.proofs.Spoken.{behind_all, brings_more, cut_brings_more, device_source, near_source, whole_cut}
 use Rattle.il_control.proofs.Brought.{same_place}
 use Rattle.il_control.specs.Brought.{Brought, CutBrought, is_from_here}
-use Rattle.std.proofs.Common.{◌≡◌, ◌∙◌, ◌≤◌, ◌<◌, ◌+◌, ◌++◌, ◌&&◌, ◌==◌, ⊎_elim, ℕ, suc, true, false, not, List, [], ◌∷◌, Option, Some, None, length, drop, map, refl, sym, ap, subst, arith, length-append, append_assoc, append-nil, inl, ◌||◌}
+use Rattle.std.proofs.Common.{Bool, ◌≡◌, ◌∙◌, ◌≤◌, ◌<◌, ◌+◌, ◌++◌, ◌&&◌, ◌==◌, ⊎_elim, ℕ, suc, true, false, not, List, [], ◌∷◌, Option, Some, None, length, drop, map, refl, sym, ap, subst, arith, length-append, append_assoc, append-nil, inl, ◌||◌}
 use Rattle.std.specs.Prelude.{MatchBool, MatchOption, IfSome, IsSome, nat_le}
 use Rattle.std.specs.List.{list_all}
 use Rattle.std.proofs.lemmas.Bool.{and_from, eq-eqb, eqb-true, le-leb, ne_eqb}

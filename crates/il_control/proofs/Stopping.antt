@@ -46,7 +46,7 @@ use Rattle.il_control.specs.declared.receiving.Onward.{Onward}
 use Rattle.il_control.specs.declared.receiving.Onward.TheVariants as onward
 use Rattle.il_control.proofs.Asking.{each_obeys}
 use Rattle.il_control.proofs.Calls.{met_parts, unheard_then}
-use Rattle.il_control.proofs.Brought.{brought_one, cut_brought_one, may_come, plain_comes, same_place}
+use Rattle.il_control.proofs.Brought.{cut_brought_one, may_come, plain_comes, same_place}
 use Rattle.il_control.proofs.Relaying.{deaf_unheard, right_echo, spoken_one}
 use Rattle.il_control.proofs.Spoken.{brings_more, cut_behind_brought, spoken_then, added_as}
 use Rattle.il_control.proofs.Taking.{breaks_at, is_device, severed_at}
