@@ -169,8 +169,7 @@ module _ {M : Type 0} (view : M → MediumView) (r m : RingView M) (p : ℕ) (S 
       record {
         adds = adds_more view r m s a b c xs ys first.adds more.adds;
         near = λ near.
-            let behind = more.near (subst (λ q. q ≤ p) (sym same_party) near) in
-            (
+            let behind = more.near (subst (λ q. q ≤ p) (sym same_party) near) in (
               subst (Brought (length (devices_of r)) (drive_party r) (xs ++ ys)) (sym came)
                   (brought_then (length (devices_of r)) (drive_party r) xs ys first.adds.came more.adds.came (first.near near).0
                   (same_place r m (λ k q. Brought k q ys more.adds.came) first.adds.before first.adds.size behind.0)),

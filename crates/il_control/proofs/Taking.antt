@@ -196,7 +196,7 @@ not_took_then view m n s h bytes v w so not_took sum =
       cuts = ap (λ es. can_cut 0 es standing not_took.break) entries ∙ cut_legal (map (echoed p) so.ds) (behind_start answer) not_took.standing not_took.break ∙ not_took.cuts;
       held_at_end = not_took.held_at_end;
       added = subst (λ es. CutBrings view m p (Some p) es standing not_took.break not_took.held_at_end s) (sym entries)
-      (cut_brings_more view m n p (λ gs. h.flight.sent ∷ gs ≡ frames_of so.ds ++ so.now.flight.sent ∷ []) (Some p) (Some p) (map (echoed p) so.ds) so.added s not_took.held_at_end (behind_start answer) not_took.standing not_took.break after);
+          (cut_brings_more view m n p (λ gs. h.flight.sent ∷ gs ≡ frames_of so.ds ++ so.now.flight.sent ∷ []) (Some p) (Some p) (map (echoed p) so.ds) so.added s not_took.held_at_end (behind_start answer) not_took.standing not_took.break after);
       ring = not_took.ring;
       held = not_took.held;
       spoilt =
@@ -344,8 +344,7 @@ front_next view m n s i old now count byte at within told went = record {
 -- the talker ended in front of the last place
 pub front_ends : {M : Type 0} (view : M → MediumView) (m n s : RingView M) (i : ℕ) (old now : List ℕ) (count byte : ℕ) → FrontAt view m i old now count n → i < length now → IfSome n.books.held (λ f. byte ≡ byte_of f.now) → WentAs view n onward.Ended s → Fronts view m old (set now i byte) (front.Ended (count + 1)) s
 front_ends view m n s i old now count byte at within told went =
-    let same = at.count_is in
-    (
+    let same = at.count_is in (
       omega (arith, same, within, at.many),
       (let long = length-take-le (count + 1) (set now i byte) (omega (arith, same, within, length-set now i byte)) in sym long),
       sym (take-append-drop (count + 1) (set now i byte)) ∙ ap (λ rest. take (count + 1) (set now i byte) ++ rest) (ap (λ k. drop (k + 1) (set now i byte)) same ∙ front_rest view m n i old now count byte at within ∙ ap (λ k. drop (k + 1) old) (sym same)),

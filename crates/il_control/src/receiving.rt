@@ -233,5 +233,9 @@ pub(crate) fn receive<M: Medium>(
     let Some(count) = answer(ring, start, into) else {
         return None;
     };
-    if command(ring, unt()) { Some(count) } else { None }
+    if command(ring, unt()) {
+        Some(count)
+    } else {
+        None
+    }
 }
