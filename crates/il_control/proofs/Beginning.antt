@@ -1,4 +1,7 @@
 -- A start message, as a call.
+use Rattle.il_ring.specs.Adds.{Adds}
+use Rattle.il_device.specs.declared.device.Out.TheVariants.{Source}
+use Rattle.il_device.specs.declared.device.Out.{Out}
 use Rattle.std.proofs.Common.{◌≡◌, ◌≢◌, ◌∙◌, ◌+◌, ◌-◌, ◌++◌, inl, inr, ⊎_elim, ℕ, Bool, true, false, not, List, [], ◌∷◌, Option, Some, None, refl, sym, ap, subst, arith, length, ◌≤◌, ◌<◌}
 use Rattle.std.specs.Prelude.{MatchBool, is_some, option_map}
 use Rattle.std.proofs.Math.Nat.{eq-zero-or-pos}
@@ -24,16 +27,16 @@ use Rattle.il_ring.specs.Flights.{sourced}
 use Rattle.il_ring.specs.Lists.{Each, NoneSends}
 use Rattle.il_ring.specs.Rings.{RingView, IsRing, Round, devices_of, roles_of, drive_party}
 use Rattle.il_ring.specs.Rounded.{Rounded, holding}
-use Rattle.il_ring.specs.Outcomes.{met_between, DriveTook, DriveHad, IsBrought, IsHeldNow, IsLostNow, StartReturned, StartGone, StartTaken, DriveSawStart}
+use Rattle.il_ring.specs.Outcomes.{met_between, DriveTook, DriveHad, IsBrought, IsHeldNow, IsLostNow, StartReturned, StartGone, StartTaken, DriveSawStart, DriveDid}
 use Rattle.il_ring.proofs.Passing.{Carries, Exactly, is_exact}
 use Rattle.il_ring.proofs.Rings.{IsRing-round}
-use Rattle.il_ring.proofs.RoundAdds.{host_adds, host_came, host_had, none_new, held_new}
+use Rattle.il_ring.proofs.RoundAdds.{answered_some, did_had, host_did, host_adds, host_came, host_had, none_new, held_new}
 use Rattle.il_ring.proofs.RoundCounts.{round_counts}
 use Rattle.il_ring.proofs.SendLaws.{kept_sent}
 use Rattle.il_ring.proofs.StartDrive.{start_at_drive}
 use Rattle.il_control.specs.Calls.{IsFree, Unheard, Whole}
 use Rattle.il_control.specs.Brought.{Brought, BroughtIf, CutBrought, ComesAs}
-use Rattle.il_control.specs.Receives.{AddsBy, Brings, IsCalm, IsDeaf, Began, NotBegun, StartLost, FirstLost, Begins}
+use Rattle.il_control.specs.Receives.{AddsBy, Brings, IsCalm, IsDeaf, Began, NotBegun, StartLost, FirstLost, Begins, own_frames}
 use Rattle.il_control.specs.declared.receiving.Begun.TheVariants as begun
 use Rattle.il_control.proofs.Brought.{cut_brought_one, may_come}
 use Rattle.il_control.proofs.Relaying.{deaf_unheard, deaf_still, right_echo, spoken_one}
@@ -138,17 +141,28 @@ module _ {M : Type 0} (view : M → MediumView) (r s : RingView M) (held : Optio
       })
       unheard)
 
+  -- with its answer, where the drive is that party
+  did_so : (p : ℕ) (sent : Frame) → drive_party r ≤ p → DriveSawStart view f p sent r s → DriveDid view (λ g out. (g ≡ f) × (drive_party r ≡ p → out ≡ Source sent)) r s
+  did_so p sent near saw =
+      ⊎_elim
+      (λ (none : p - drive_party r ≡ 0). let did = saw.said (omega (arith, none, near)) in (did.0, (did.1.0, (did.1.1.0, λ _. did.1.1.1), did.1.2)))
+      (λ some. let had = saw.up_to near in (had.0, (had.2.0, (had.1, λ at. absurd (omega (arith, some, at))), had.2.1)))
+      (eq-zero-or-pos (p - drive_party r))
+
   -- what was added, by the drive's place
-  added_by : (p : ℕ) (sent : Frame) (entries : List Entry) (to : Option ℕ) (B : ℕ → ℕ → List Frame → Type 0) → s.books.log ≡ r.books.log ++ entries → holding counts.new ≡ to → DriveSawStart view f p sent r s
-      → (drive_party r ≤ p → (g : Frame) → g ≡ f → B (length (devices_of r)) (drive_party r) (g ∷ [])) → AddsBy view r p None entries to B s
+  added_by : (p : ℕ) (sent : Frame) (entries : List Entry) (to : Option ℕ) (B : ℕ → ℕ → List Frame → List Out → Type 0) → s.books.log ≡ r.books.log ++ entries → holding counts.new ≡ to → DriveSawStart view f p sent r s
+      → (drive_party r ≤ p → (g : Frame) (out : Out) → g ≡ f → (drive_party r ≡ p → out ≡ Source sent) → B (length (devices_of r)) (drive_party r) (g ∷ []) (out ∷ [])) → AddsBy view r p None entries to B s
   added_by p sent entries to B log new saw brought =
       ⊎_elim
       (λ (none : drive_party r - p ≡ 0).
       let near : drive_party r ≤ p = omega (arith, none) in
-      let came = host_had view (λ g. g ≡ f) r s held f answer entries to carries round log new (saw.up_to near) in
+      let did = did_so p sent near saw in
+      let so = host_did view (λ g out. (g ≡ f) × (drive_party r ≡ p → out ≡ Source sent)) r s held f answer entries to carries round log new did in
+      let adds : Adds view r None entries to s =
+      host_adds view (answered_some (λ g out. (g ≡ f) × (drive_party r ≡ p → out ≡ Source sent))) r s held f answer entries to carries round log new (inr (did_had view (λ g out. (g ≡ f) × (drive_party r ≡ p → out ≡ Source sent)) r s did)) in
       record {
-        adds = host_adds view (λ g. g ≡ f) r s held f answer entries to carries round log new (inr (saw.up_to near));
-        near = λ _. subst (B (length (devices_of r)) (drive_party r)) (sym came.2) (brought near came.0 came.1);
+        adds = adds;
+        near = λ _. subst (λ gs. B (length (devices_of r)) (drive_party r) gs adds.answers) (sym so.1.2) (subst (λ outs. B (length (devices_of r)) (drive_party r) (so.0 ∷ []) outs) (sym so.1.3) (brought near so.0 so.1.0 so.1.1.0 so.1.1.1));
         far = λ far. absurd (omega (arith, near, far));
       })
       (λ some.
@@ -173,8 +187,9 @@ module _ {M : Type 0} (view : M → MediumView) (r s : RingView M) (held : Optio
       (λ (end : (altered : Bool) × IsHeldNow r (entry 0 f (outcome.Taken p) ∷ []) p taken.sent altered answer s × MatchBool altered (met_between r s ≢ []) (met_between r s ≡ [])).
       let now = end.1 in
       let flight : Flight = record { source = p; sent = taken.sent; now = now.now; altered = end.0 } in
-      let added : Brings view r p None (entry 0 f (outcome.Taken p) ∷ []) (Some p) s = added_by p taken.sent (entry 0 f (outcome.Taken p) ∷ []) (Some p) (λ k q gs. Brought k q (entry 0 f (outcome.Taken p) ∷ []) gs) now.log (held_at flight now.held_is) saw
-      (λ near g is. start_brought p g (λ gs. gs ≡ []) near is refl) in
+      let added : Brings view r p (λ gs. gs ≡ taken.sent ∷ []) None (entry 0 f (outcome.Taken p) ∷ []) (Some p) s =
+      added_by p taken.sent (entry 0 f (outcome.Taken p) ∷ []) (Some p) (λ k q gs outs. Brought k q (entry 0 f (outcome.Taken p) ∷ []) gs × (q ≡ p → own_frames outs ≡ taken.sent ∷ [])) now.log (held_at flight now.held_is) saw
+      (λ near g out is told. (start_brought p g (λ gs. gs ≡ []) near is refl, λ at. ap (λ out. own_frames (out ∷ [])) (told at))) in
       ItBegan now.now now.answer_is flight now.held_is
       (record {
         now = record {
@@ -195,9 +210,9 @@ module _ {M : Type 0} (view : M → MediumView) (r s : RingView M) (held : Optio
       }))
       (λ (lost : IsLostNow r (entry 0 f (outcome.Taken p) ∷ []) p taken.sent answer s).
       let d : Echo = record { sent = taken.sent; back = taken.sent } in
-      let added : AddsBy view r p None (entry 0 f (outcome.Taken p) ∷ entry p taken.sent (outcome.Lost lost.party) ∷ []) None (λ k q gs. CutBrought k q (entry 0 f (outcome.Taken p) ∷ echoed p d ∷ []) 1 gs) s =
-      added_by p taken.sent (entry 0 f (outcome.Taken p) ∷ entry p taken.sent (outcome.Lost lost.party) ∷ []) None (λ k q gs. CutBrought k q (entry 0 f (outcome.Taken p) ∷ echoed p d ∷ []) 1 gs) lost.log (none_new r s held (sourced 0 f) answer counts lost.held_is) saw
-      (λ near g is. start_brought p g (CutBrought (length (devices_of r)) (drive_party r) (echoed p d ∷ []) 0) near is (inl refl)) in
+      let added : AddsBy view r p None (entry 0 f (outcome.Taken p) ∷ entry p taken.sent (outcome.Lost lost.party) ∷ []) None (λ k q gs outs. CutBrought k q (entry 0 f (outcome.Taken p) ∷ echoed p d ∷ []) 1 gs) s =
+      added_by p taken.sent (entry 0 f (outcome.Taken p) ∷ entry p taken.sent (outcome.Lost lost.party) ∷ []) None (λ k q gs outs. CutBrought k q (entry 0 f (outcome.Taken p) ∷ echoed p d ∷ []) 1 gs) lost.log (none_new r s held (sourced 0 f) answer counts lost.held_is) saw
+      (λ near g out is told. start_brought p g (CutBrought (length (devices_of r)) (drive_party r) (echoed p d ∷ []) 0) near is (inl refl)) in
       ItFailed lost.answer_is
       (FirstLost p d (right_echo taken.sent taken.sent taken.data_frame refl) taken.talking_before
       (record {

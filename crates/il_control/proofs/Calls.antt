@@ -27,7 +27,7 @@ use Rattle.il_ring.specs.Rings.{RingView, IsRing, Round, devices_of, drive_party
 use Rattle.il_ring.specs.Outcomes.{met_between, DriveTook, HearsNothing}
 use Rattle.il_ring.specs.Adds.{Adds}
 use Rattle.il_ring.proofs.Faults.{met_nowhere, risen_by_later}
-use Rattle.il_ring.proofs.Adding.{adds_nothing, adds_nothing-came, adds_more, adds_more-came}
+use Rattle.il_ring.proofs.Adding.{adds_nothing, adds_nothing-came, adds_more, adds_more-came, adds_more-answers}
 use Rattle.il_ring.proofs.RoundAdds.{DriveCame, host_adds, host_came, none_new}
 use Rattle.il_ring.proofs.RoundCounts.{round_counts}
 use Rattle.il_ring.proofs.Passing.{Carries, Exactly, is_exact}
@@ -138,6 +138,10 @@ whole_then view r m s xs ys ring first more = record {
 pub whole_then_came : {M : Type 0} (view : M → MediumView) (r m s : RingView M) (xs ys : List Entry) (ring : IsRing r) (first : Whole view r xs m) (more : Whole view m ys s) → (whole_then view r m s xs ys ring first more).adds.came ≡ first.adds.came ++ more.adds.came
 unfolding whole_then
 whole_then_came view r m s xs ys ring first more = adds_more-came view r m s None None None xs ys first.adds more.adds
+
+pub whole_then_answers : {M : Type 0} (view : M → MediumView) (r m s : RingView M) (xs ys : List Entry) (ring : IsRing r) (first : Whole view r xs m) (more : Whole view m ys s) → (whole_then view r m s xs ys ring first more).adds.answers ≡ first.adds.answers ++ more.adds.answers
+unfolding whole_then
+whole_then_answers view r m s xs ys ring first more = adds_more-answers view r m s None None None xs ys first.adds more.adds
 
 -- what a cut added, what it brought to the drive, and which frames these are
 abbrev AddsCut : {M : Type 0} → (M → MediumView) → RingView M → List Entry → ℕ → Option ℕ → RingView M → List Frame → List Entry → Type 0

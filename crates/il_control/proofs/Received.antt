@@ -1,9 +1,13 @@
 -- A receive, whole or broken off.
+use Rattle.il_drive.specs.Runs.{Ran}
+use Rattle.il_drive.specs.State.{DriveView}
+use Rattle.il_device.specs.declared.device.Out.{Out}
+use Rattle.std.proofs.lemmas.List.Folds.{list_all-append}
 use Rattle.il_control.proofs.Spoken.{behind_all, brings_more, cut_brings_more, device_source, near_source, whole_cut}
 use Rattle.il_control.proofs.Brought.{same_place}
 use Rattle.il_control.specs.Brought.{Brought, CutBrought, is_from_here}
-use Rattle.std.proofs.Common.{◌≡◌, ◌∙◌, ◌≤◌, ◌<◌, ◌+◌, ◌++◌, ◌&&◌, ◌==◌, ⊎_elim, ℕ, suc, true, false, not, List, [], ◌∷◌, Option, Some, None, length, drop, map, refl, sym, ap, subst, arith, length-append, append_assoc, append-nil, inl}
-use Rattle.std.specs.Prelude.{MatchBool, MatchOption, IfSome, IsSome}
+use Rattle.std.proofs.Common.{Bool, ◌≡◌, ◌∙◌, ◌≤◌, ◌<◌, ◌+◌, ◌++◌, ◌&&◌, ◌==◌, ⊎_elim, ℕ, suc, true, false, not, List, [], ◌∷◌, Option, Some, None, length, drop, map, refl, sym, ap, subst, arith, length-append, append_assoc, append-nil, inl, ◌||◌}
+use Rattle.std.specs.Prelude.{MatchBool, MatchOption, IfSome, IsSome, nat_le}
 use Rattle.std.specs.List.{list_all}
 use Rattle.std.proofs.lemmas.Bool.{and_from, eq-eqb, eqb-true, le-leb, ne_eqb}
 use Rattle.il_frames.specs.declared.frame.Frame.{Frame}
@@ -22,8 +26,8 @@ use Rattle.il_ring.specs.Outcomes.{met_between, IsTalking}
 use Rattle.std.proofs.lemmas.List.{length-map}
 use Rattle.il_device.specs.State.{DeviceState}
 use Rattle.il_control.specs.Calls.{Unheard, Whole, Broke, IsIdle, loop_of}
-use Rattle.il_control.specs.Receives.{Began, NotBegun, StartLost, FirstLost, TakesBytes, TookInto, NotTook, WasTalking, Answered, NotAnswered, Asked, Received, NotReceived, behind_start, talker_of, is_stopped, received, fits, AllSpoken, Brings, CutBrings, PassedBy, PassedInPart, StandsBehind}
-use Rattle.il_control.proofs.Calls.{met_parts, room_behind, unheard_then, whole_then, broke_behind, broke_before, whole_then_came, broke_before_came, broke_behind_came}
+use Rattle.il_control.specs.Receives.{Began, NotBegun, StartLost, FirstLost, TakesBytes, TookInto, NotTook, WasTalking, Answered, NotAnswered, Asked, Received, NotReceived, behind_start, talker_of, is_stopped, received, fits, AllSpoken, Brings, CutBrings, PassedBy, PassedInPart, StandsBehind, SpokenBy, sent_frames}
+use Rattle.il_control.proofs.Calls.{met_parts, room_behind, unheard_then, whole_then, broke_behind, broke_before, whole_then_came, broke_before_came, broke_behind_came, whole_then_answers}
 use Rattle.il_control.proofs.Made.{made, broken_off, made_whole, broken_off_broke}
 use Rattle.il_control.proofs.Talking.{asked_one}
 use Rattle.il_control.proofs.Telling.{number_fits}
@@ -38,7 +42,7 @@ nobody : (gs : List Frame) (R : Type 0) → R × IsSome (talker_of NotTaken) →
 nobody gs R behind = let clash = behind.1 in cc
 
 pub passed_answered : {M : Type 0} (view : M → MediumView) (r s : RingView M) (start : Start) (old : List ℕ) → 0 < length old → Whole view r (returned 0 (start_frame start) ∷ []) s × Unheard r s → Answered view start 0 r old old s
-passed_answered view r s start old some passed = record { answer = NotTaken; legal = refl; talked = tt; whole = passed.0; far = λ behind. nobody _ _ behind; count = refl; within = omega arith; bytes = refl; stops = never_full (length old) some; unheard = passed.1 }
+passed_answered view r s start old some passed = record { answer = NotTaken; legal = refl; talked = tt; whole = passed.0; far = λ behind. nobody _ _ behind; said = λ is. cc; count = refl; within = omega arith; bytes = refl; stops = never_full (length old) some; unheard = passed.1 }
 
 one_answer : {M : Type 0} (r : RingView M) (p : ℕ) (d : Echo) → is_echo d ≡ true → IsTalking p None (devices_of r) → is_answer 0 (ToItsEnd p (d ∷ [])) ≡ true
 one_answer r p d echo talking = and_from (not (p == 0)) (true && list_all is_echo (d ∷ [])) (ap not (ne_eqb p 0 (λ e. omega (arith, e, talking.party)))) (and_from true (list_all is_echo (d ∷ [])) refl (and_from (is_echo d) true echo refl))
@@ -59,6 +63,9 @@ lost_answered view r s start w some (FirstLost p d echo talking broke far unhear
   far = λ behind. first_lost view r s start p d broke (far behind.0);
   unheard = unheard;
 }
+
+one_party : (p q : ℕ) → Some p ≡ Some q → p ≡ q
+one_party p q is = cc
 
 -- the entries of an answer by this talker
 taken_entries : (f : Frame) (answer : Answer) (p : ℕ) → talker_of answer ≡ Some p → answer_entries 0 f answer ≡ entry 0 f (outcome.Taken p) ∷ behind_start answer
@@ -89,14 +96,17 @@ module _ {M : Type 0} (view : M → MediumView) (r m s : RingView M) (start : St
   spoilt_met : began.now.flight.altered ≡ true → met_between r m ≡ [] → ⊥
   spoilt_met altered = subst (λ altered. MatchBool altered (met_between r m ≡ [] → ⊥) (met_between r m ≡ [])) altered began.met
 
-  all_added : (answer : Answer) (added : Brings view m p (Some p) (behind_start answer) None s) → talker_of answer ≡ Some p → Brings view r p None (answer_entries 0 (start_frame start) answer) None s
+  all_added : (answer : Answer) (added : Brings view m p (λ gs. began.now.flight.sent ∷ gs ≡ sent_frames answer ++ eto ∷ []) (Some p) (behind_start answer) None s) → talker_of answer ≡ Some p
+      → Brings view r p (λ gs. gs ≡ sent_frames answer ++ eto ∷ []) None (answer_entries 0 (start_frame start) answer) None s
   all_added answer added talker =
-      subst (λ es. Brings view r p None es None s) (sym (taken_entries (start_frame start) answer p talker)) (brings_more view r m p None (Some p) first began.added s None (behind_start answer) added)
+      subst (λ es. Brings view r p (λ gs. gs ≡ sent_frames answer ++ eto ∷ []) None es None s) (sym (taken_entries (start_frame start) answer p talker))
+      (brings_more view r m p (λ gs. gs ≡ began.now.flight.sent ∷ []) None (Some p) first began.added s (λ gs. began.now.flight.sent ∷ gs ≡ sent_frames answer ++ eto ∷ []) (λ gs. gs ≡ sent_frames answer ++ eto ∷ []) None (behind_start answer) added
+      (λ gs hs one more. ap (λ gs. gs ++ hs) one ∙ more))
 
   cut_added : (answer : Answer) (standing : ℕ) (break : Break) (held_at_end : Option ℕ) → CutBrings view m p (Some p) (behind_start answer) standing break held_at_end s → talker_of answer ≡ Some p
       → CutBrings view r p None (answer_entries 0 (start_frame start) answer) (suc standing) break held_at_end s
   cut_added answer standing break held_at_end added talker =
-      subst (λ es. CutBrings view r p None es (suc standing) break held_at_end s) (sym (taken_entries (start_frame start) answer p talker)) (cut_brings_more view r m p None (Some p) first began.added s held_at_end (behind_start answer) standing break added)
+      subst (λ es. CutBrings view r p None es (suc standing) break held_at_end s) (sym (taken_entries (start_frame start) answer p talker)) (cut_brings_more view r m p (λ gs. gs ≡ began.now.flight.sent ∷ []) None (Some p) first began.added s held_at_end (behind_start answer) standing break added)
 
   -- the premise on the entries tells where the drive stands
   near_talker : (answer : Answer) → talker_of answer ≡ Some p → list_all (is_from_here (drive_party r)) (answer_entries 0 (start_frame start) answer) ≡ true → drive_party r ≤ p
@@ -121,9 +131,10 @@ module _ {M : Type 0} (view : M → MediumView) (r m s : RingView M) (start : St
           held = took.held;
           met_none = split.1 (clean_met took.clean.0, took.clean.1);
           unheard = λ none. unheard_then (devices_of r) (devices_of m) (devices_of s) began.unheard took.unheard;
-          brought = λ from. (all_added answer took.added took.talker).near (near_talker answer took.talker from);
+          brought = λ from. ((all_added answer took.added took.talker).near (near_talker answer took.talker from)).0;
         };
         far = λ behind. (all_added answer took.added took.talker).far (far_talker answer took.talker behind);
+        said = λ is. let at : drive_party r ≡ p = one_party (drive_party r) p (sym is ∙ took.talker) in ((all_added answer took.added took.talker).near (omega (arith, at))).1 at;
         count = into.count ∙ ap length took.bytes_are;
         within = into.within;
         bytes = into.filled ∙ ap (λ bytes. bytes ++ drop n old) took.bytes_are;
@@ -210,6 +221,37 @@ front_no_data a (Some n) = refl
 front_from_here : (q a : ℕ) (number : Option ℕ) → list_all (is_from_here q) (receive_front 0 a number) ≡ true
 front_from_here q a None = refl
 front_from_here q a (Some n) = refl
+
+or_true : (b c : Bool) → c ≡ true → (b || c) ≡ true
+or_true true c is = refl
+or_true false c is = is
+
+source_here : (p q : ℕ) → p ≡ q → ((p == 0) || nat_le q p) ≡ true
+source_here p q same = or_true (p == 0) (nat_le q p) (le-leb q p (omega (arith, same)))
+
+echoes_here : (p q : ℕ) (ds : List Echo) → p ≡ q → list_all (is_from_here q) (map (echoed p) ds) ≡ true
+echoes_here p q [] same = refl
+echoes_here p q (d ∷ ds) same = and_from ((p == 0) || nat_le q p) (list_all (is_from_here q) (map (echoed p) ds)) (source_here p q same) (echoes_here p q ds same)
+
+-- each entry of an answer is the host's or of this talker
+answer_from_here : (f : Frame) (answer : Answer) (q : ℕ) → talker_of answer ≡ Some q → list_all (is_from_here q) (answer_entries 0 f answer) ≡ true
+answer_from_here f NotTaken q is = refl
+answer_from_here f (ToItsEnd p ds) q is =
+    let same : p ≡ q = cc in
+    list_all-append (is_from_here q) (map (echoed p) ds) (entry p eto (outcome.Taken 0) ∷ [])
+    ∙ and_from (list_all (is_from_here q) (map (echoed p) ds)) (list_all (is_from_here q) (entry p eto (outcome.Taken 0) ∷ [])) (echoes_here p q ds same) (and_from (is_from_here q (entry p eto (outcome.Taken 0))) true (source_here p q same) refl)
+answer_from_here f (Stopped p ds last) q is =
+    let same : p ≡ q = cc in
+    list_all-append (is_from_here q) (map (echoed p) ds) (returned 0 nrd ∷ echoed p last ∷ entry p eto (outcome.Taken 0) ∷ [])
+    ∙ and_from (list_all (is_from_here q) (map (echoed p) ds)) (list_all (is_from_here q) (returned 0 nrd ∷ echoed p last ∷ entry p eto (outcome.Taken 0) ∷ [])) (echoes_here p q ds same)
+    (and_from (is_from_here q (echoed p last)) (list_all (is_from_here q) (entry p eto (outcome.Taken 0) ∷ [])) (source_here p q same) (and_from (is_from_here q (entry p eto (outcome.Taken 0))) true (source_here p q same) refl))
+
+-- as many answers as frames
+ran_length : {M : Type 0} (view : M → MediumView) (v w : DriveView M) (fs : List Frame) (outs : List Out) → Ran view v fs outs w → length outs ≡ length fs
+ran_length view v w [] [] ran = refl
+ran_length view v w (f ∷ fs) (out ∷ outs) ran = ap suc (ran_length view ran.0 w fs outs ran.2)
+ran_length view v w [] (out ∷ outs) ran = absurd ran
+ran_length view v w (f ∷ fs) [] ran = absurd ran
 
 -- the receive is one on this ring
 is_receive : {M : Type 0} (r : RingView M) (a : ℕ) (number : Option ℕ) (start : Start) (answer : Answer) → a ≤ 30 → IfSome number (λ n. n < 32) → is_answer 0 answer ≡ true → is_exchange (loop_of r) (Receive a number start answer) ≡ true
@@ -327,8 +369,12 @@ module _ {M : Type 0} (view : M → MediumView) (a : ℕ) (number : Option ℕ) 
           whole_then_came view r m s front (all answer ++ commanded 0 unt) idle.free.ring asked.whole more
           ∙ ap (λ gs. asked.whole.adds.came ++ gs) (whole_then_came view m u s (all answer) (commanded 0 unt) asked.whole.ring answered.whole last) in
           let legal = is_receive r a number start answer low small answered.legal in
-          let P : List Frame → Type 0 = λ came. StandsBehind answer r → PassedBy (length (devices_of r)) (drive_party r) a number came in
-          let passed : P done.adds.came = λ behind. record {
+          let answers : done.adds.answers ≡ asked.whole.adds.answers ++ (answered.whole.adds.answers ++ last.adds.answers) =
+          whole_then_answers view r m s front (all answer ++ commanded 0 unt) idle.free.ring asked.whole more
+          ∙ ap (λ outs. asked.whole.adds.answers ++ outs) (whole_then_answers view m u s (all answer) (commanded 0 unt) asked.whole.ring answered.whole last) in
+          let P : List Frame → List Out → Type 0 = λ came answers.
+          (StandsBehind answer r → PassedBy (length (devices_of r)) (drive_party r) a number came) × (talker_of answer ≡ Some (drive_party r) → SpokenBy (length (devices_of r)) (drive_party r) a number start answer came answers) in
+          let passed : StandsBehind answer r → PassedBy (length (devices_of r)) (drive_party r) a number done.adds.came = λ behind. record {
             before = asked.whole.adds.came;
             spoken = answered.whole.adds.came;
             behind = last.adds.came;
@@ -337,8 +383,28 @@ module _ {M : Type 0} (view : M → MediumView) (a : ℕ) (number : Option ℕ) 
             during = answered.far (behind_still answer behind);
             last = same_place r u (λ k q. Brought k q (commanded 0 unt) last.adds.came) before_still size_still (last.brought refl);
           } in
-          let all_done : (whole : Whole view r (entries_of 0 x) s) × P whole.adds.came =
-          subst (λ es. (whole : Whole view r es s) × P whole.adds.came) (sym (entries_of-receive 0 a number start answer)) (done, passed) in
+          let spoken : talker_of answer ≡ Some (drive_party r) → SpokenBy (length (devices_of r)) (drive_party r) a number start answer done.adds.came done.adds.answers = λ is.
+          let here : talker_of answer ≡ Some (drive_party m) = is ∙ ap (λ n. Some (n + 1)) (sym asked.whole.adds.before) in
+          record {
+            before = asked.whole.adds.came;
+            during = answered.whole.adds.came;
+            behind = last.adds.came;
+            all = came;
+            first = asked.whole.brought (front_from_here (drive_party r) a number);
+            middle = same_place r m (λ k q. Brought k q (all answer) answered.whole.adds.came) asked.whole.adds.before asked.whole.adds.size (answered.whole.brought (answer_from_here (start_frame start) answer (drive_party m) here));
+            last = same_place r u (λ k q. Brought k q (commanded 0 unt) last.adds.came) before_still size_still (last.brought refl);
+            answers_before = asked.whole.adds.answers;
+            answers_during = answered.whole.adds.answers;
+            answers_behind = last.adds.answers;
+            all_answers = answers;
+            many_before = ran_length view r.drive m.drive asked.whole.adds.came asked.whole.adds.answers asked.whole.adds.drive;
+            many_during = ran_length view m.drive u.drive answered.whole.adds.came answered.whole.adds.answers answered.whole.adds.drive;
+            said = answered.said here;
+          } in
+          let all_done : (whole : Whole view r (entries_of 0 x) s) × P whole.adds.came whole.adds.answers =
+          subst (λ es. (whole : Whole view r es s) × P whole.adds.came whole.adds.answers) (sym (entries_of-receive 0 a number start answer)) (done, (passed, spoken)) in
+          let made_so : P (made view x r s idle legal (as_asked answer told) refl all_done.0).whole.adds.came (made view x r s idle legal (as_asked answer told) refl all_done.0).whole.adds.answers =
+          subst (λ (whole : Whole view r (entries_of 0 x) s). P whole.adds.came whole.adds.answers) (sym (made_whole view x r s idle legal (as_asked answer told) refl all_done.0)) all_done.1 in
           record {
             answer = answer;
             asked = told;
@@ -348,5 +414,6 @@ module _ {M : Type 0} (view : M → MediumView) (a : ℕ) (number : Option ℕ) 
             bytes = answered.bytes;
             stops = answered.stops;
             unheard = unheard_then (devices_of r) (devices_of m) (devices_of s) front_unheard (unheard_then (devices_of m) (devices_of u) (devices_of s) answered.unheard (last.unheard refl));
-            passed = subst (λ (whole : Whole view r (entries_of 0 x) s). P whole.adds.came) (sym (made_whole view x r s idle legal (as_asked answer told) refl all_done.0)) all_done.1;
+            passed = made_so.0;
+            spoken = made_so.1;
           }

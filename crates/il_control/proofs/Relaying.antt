@@ -1,4 +1,6 @@
 -- A held frame that goes on, as a call.
+use Rattle.il_device.specs.declared.device.Out.TheVariants.{Source}
+use Rattle.il_device.specs.declared.device.Out.{Out}
 use Rattle.std.proofs.Common.{◌≡◌, ◌≢◌, ◌∙◌, ◌≤◌, ◌<◌, ◌+◌, ◌-◌, ◌++◌, ◌⊎◌, ◌&&◌, ◌==◌, inl, inr, ⊎_elim, ℕ, Bool, true, false, not, List, [], ◌∷◌, Option, Some, None, length, refl, sym, ap, subst, arith, length-append}
 use Rattle.std.specs.Prelude.{MatchBool, IfSome, if◌then◌else◌}
 use Rattle.std.proofs.Math.Nat.{eq-zero-or-pos}
@@ -22,7 +24,7 @@ use Rattle.il_ring.specs.declared.flight.Flight.{Flight}
 use Rattle.il_ring.specs.Lists.{Each, First}
 use Rattle.il_ring.specs.Rings.{RingView, IsRing, Round, devices_of, roles_of, drive_party}
 use Rattle.il_ring.specs.Rounded.{Rounded, IsReady, own_at, holding, device_sending}
-use Rattle.il_ring.specs.Outcomes.{met_between, DriveTook, DriveHad, CameAs, IsBrought, HearsNothing, AllKeep, IsTalking, IsHeldNow, IsLostNow, CameBack, SendsMore, EndsSending, back_entry}
+use Rattle.il_ring.specs.Outcomes.{met_between, DriveTook, DriveHad, CameAs, IsBrought, HearsNothing, AllKeep, IsTalking, IsHeldNow, IsLostNow, CameBack, SendsMore, EndsSending, back_entry, DriveDid}
 use Rattle.il_ring.specs.Adds.{Adds}
 use Rattle.il_ring.proofs.DataPasses.{same_served}
 use Rattle.il_ring.proofs.Passing.{AsData}
@@ -30,13 +32,13 @@ use Rattle.il_ring.proofs.RelayDrive.{relay_at_drive}
 use Rattle.il_ring.proofs.RelayRounds.{wrong_echo}
 use Rattle.il_ring.proofs.Rings.{IsRing-round}
 use Rattle.il_ring.proofs.RolesHome.{device_round}
-use Rattle.il_ring.proofs.RoundAdds.{DriveCame, device_adds, device_came, device_had, none_new, held_new}
+use Rattle.il_ring.proofs.RoundAdds.{DriveCame, answered_some, did_had, device_adds, device_came, device_did, none_new, held_new}
 use Rattle.il_ring.proofs.RoundCounts.{round_counts}
 use Rattle.il_ring.proofs.RoundRoles.{IsQuiet}
 use Rattle.il_ring.proofs.SendLaws.{kept_sent}
 use Rattle.il_control.specs.Calls.{Unheard}
 use Rattle.il_control.specs.Brought.{Brought, CutBrought}
-use Rattle.il_control.specs.Receives.{AddsBy, IsSpoken, AllSpoken, IsDeaf, IsHolding, WentOn, Ended, AtHeld, AtNext, AtEnd, Severed, WentAs, IsOnward}
+use Rattle.il_control.specs.Receives.{AddsBy, IsSpoken, AllSpoken, IsDeaf, IsHolding, WentOn, Ended, AtHeld, AtNext, AtEnd, Severed, WentAs, IsOnward, own_frames}
 use Rattle.il_control.proofs.Spoken.{data_may, data_right, brought_end}
 use Rattle.il_control.specs.declared.receiving.Onward.{Onward}
 use Rattle.il_control.specs.declared.receiving.Onward.TheVariants as onward
@@ -132,30 +134,31 @@ module _ {M : Type 0} (view : M → MediumView) (m s : RingView M) (h : IsHoldin
   adds_of : (P : Frame → Type 0) (entries : List Entry) (to : Option ℕ) → DriveTook view P m s → s.books.log ≡ m.books.log ++ entries → holding counts.new ≡ to → Adds view m (device_sending h.flight) entries to s
   adds_of P entries to took log new = device_adds view P m s None h.flight answer entries to quiet ready round log new took
 
-  from_source : (entries : List Entry) (to : Option ℕ) (B : ℕ → ℕ → List Frame → Type 0) → AddsBy view m p (device_sending h.flight) entries to B s → AddsBy view m p (Some p) entries to B s
+  from_source : (entries : List Entry) (to : Option ℕ) (B : ℕ → ℕ → List Frame → List Out → Type 0) → AddsBy view m p (device_sending h.flight) entries to B s → AddsBy view m p (Some p) entries to B s
   from_source entries to B added = subst (λ from. AddsBy view m p from entries to B s) sending added
 
   -- it certainly came, or may have come, where the drive does not stand behind the talker
-  had_near : (P : Frame → Type 0) (entries : List Entry) (to : Option ℕ) (B : ℕ → ℕ → List Frame → Type 0) → s.books.log ≡ m.books.log ++ entries → holding counts.new ≡ to → drive_party m ≤ p → DriveHad view P m s
-      → ((g : Frame) → P g → B (length (devices_of m)) (drive_party m) (g ∷ [])) → AddsBy view m p (Some p) entries to B s
-  had_near P entries to B log new near had brought =
-      let had_so = device_had view P m s None h.flight answer entries to quiet ready round log new had in
+  did_near : (P : Frame → Out → Type 0) (entries : List Entry) (to : Option ℕ) (B : ℕ → ℕ → List Frame → List Out → Type 0) → s.books.log ≡ m.books.log ++ entries → holding counts.new ≡ to → drive_party m ≤ p → DriveDid view P m s
+      → ((g : Frame) (out : Out) → P g out → B (length (devices_of m)) (drive_party m) (g ∷ []) (out ∷ [])) → AddsBy view m p (Some p) entries to B s
+  did_near P entries to B log new near did brought =
+      let so = device_did view P m s None h.flight answer entries to quiet ready round log new did in
+      let adds : Adds view m (device_sending h.flight) entries to s = device_adds view (answered_some P) m s None h.flight answer entries to quiet ready round log new (inr (did_had view P m s did)) in
       from_source entries to B (record {
-        adds = device_adds view P m s None h.flight answer entries to quiet ready round log new (inr had);
-        near = λ _. subst (B (length (devices_of m)) (drive_party m)) (sym had_so.2) (brought had_so.0 had_so.1);
+        adds = adds;
+        near = λ _. subst (λ gs. B (length (devices_of m)) (drive_party m) gs adds.answers) (sym so.1.2) (subst (λ outs. B (length (devices_of m)) (drive_party m) (so.0 ∷ []) outs) (sym so.1.3) (brought so.0 so.1.0 so.1.1));
         far = λ far. absurd (omega (arith, near, far));
       })
 
-  took_near : (P : Frame → Type 0) (entries : List Entry) (to : Option ℕ) (B : ℕ → ℕ → List Frame → Type 0) → s.books.log ≡ m.books.log ++ entries → holding counts.new ≡ to → drive_party m ≤ p → DriveTook view P m s
-      → ((gs : List Frame) → DriveCame P m s gs → B (length (devices_of m)) (drive_party m) gs) → AddsBy view m p (Some p) entries to B s
+  took_near : (P : Frame → Type 0) (entries : List Entry) (to : Option ℕ) (B : ℕ → ℕ → List Frame → List Out → Type 0) → s.books.log ≡ m.books.log ++ entries → holding counts.new ≡ to → drive_party m ≤ p → DriveTook view P m s
+      → ((gs : List Frame) (outs : List Out) → DriveCame P m s gs → B (length (devices_of m)) (drive_party m) gs outs) → AddsBy view m p (Some p) entries to B s
   took_near P entries to B log new near took brought =
       from_source entries to B (record {
         adds = device_adds view P m s None h.flight answer entries to quiet ready round log new took;
-        near = λ _. brought _ (device_came view P m s None h.flight answer entries to quiet ready round log new took);
+        near = λ _. brought _ _ (device_came view P m s None h.flight answer entries to quiet ready round log new took);
         far = λ far. absurd (omega (arith, near, far));
       })
 
-  took_far : (P : Frame → Type 0) (entries : List Entry) (to : Option ℕ) (B : ℕ → ℕ → List Frame → Type 0) → s.books.log ≡ m.books.log ++ entries → holding counts.new ≡ to → p < drive_party m → DriveTook view P m s
+  took_far : (P : Frame → Type 0) (entries : List Entry) (to : Option ℕ) (B : ℕ → ℕ → List Frame → List Out → Type 0) → s.books.log ≡ m.books.log ++ entries → holding counts.new ≡ to → p < drive_party m → DriveTook view P m s
       → ((g : Frame) → P g → IsSpoken g) → AddsBy view m p (Some p) entries to B s
   took_far P entries to B log new far took spoken =
       from_source entries to B (record {
@@ -164,13 +167,22 @@ module _ {M : Type 0} (view : M → MediumView) (m s : RingView M) (h : IsHoldin
         far = λ _. spoken_one P m s _ spoken (device_came view P m s None h.flight answer entries to quiet ready round log new took);
       })
 
-  -- by the drive's place
-  added_by : (P Q : Frame → Type 0) (entries : List Entry) (to : Option ℕ) (B : ℕ → ℕ → List Frame → Type 0) → s.books.log ≡ m.books.log ++ entries → holding counts.new ≡ to
-      → (drive_party m ≤ p → DriveHad view P m s) → (drive_party m ≤ p → (g : Frame) → P g → B (length (devices_of m)) (drive_party m) (g ∷ []))
-      → (p < drive_party m → DriveTook view Q m s) → ((g : Frame) → Q g → IsSpoken g) → AddsBy view m p (Some p) entries to B s
-  added_by P Q entries to B log new near brought far spoken =
+  -- with its answer, where the drive is the talker
+  did_so : (P : Frame → Type 0) (A : Out → Type 0) → drive_party m ≤ p → (drive_party m ≤ p → DriveHad view P m s) → (drive_party m ≡ p → DriveDid view (λ g out. P g × A out) m s) → DriveDid view (λ g out. P g × (drive_party m ≡ p → A out)) m s
+  did_so P A here near said =
       ⊎_elim
-      (λ here. had_near P entries to B log new here (near here) (brought here))
+      (λ (none : p - drive_party m ≡ 0). let did = said (omega (arith, none, here)) in (did.0, (did.1.0, (did.1.1.0, λ _. did.1.1.1), did.1.2)))
+      (λ some. let had = near here in (had.0, (had.2.0, (had.1, λ at. absurd (omega (arith, some, at))), had.2.1)))
+      (eq-zero-or-pos (p - drive_party m))
+
+  -- by the drive's place
+  added_by : (P Q : Frame → Type 0) (A : Out → Type 0) (entries : List Entry) (to : Option ℕ) (B : ℕ → ℕ → List Frame → List Out → Type 0) → s.books.log ≡ m.books.log ++ entries → holding counts.new ≡ to
+      → (drive_party m ≤ p → DriveHad view P m s) → (drive_party m ≡ p → DriveDid view (λ g out. P g × A out) m s)
+      → (drive_party m ≤ p → (g : Frame) (out : Out) → P g → (drive_party m ≡ p → A out) → B (length (devices_of m)) (drive_party m) (g ∷ []) (out ∷ []))
+      → (p < drive_party m → DriveTook view Q m s) → ((g : Frame) → Q g → IsSpoken g) → AddsBy view m p (Some p) entries to B s
+  added_by P Q A entries to B log new near said brought far spoken =
+      ⊎_elim
+      (λ here. did_near (λ g out. P g × (drive_party m ≡ p → A out)) entries to B log new here (did_so P A here near said) (λ g out did. brought here g out did.0 did.1))
       (λ there. took_far Q entries to B log new there (far there) spoken)
       place
 
@@ -208,9 +220,9 @@ module _ {M : Type 0} (view : M → MediumView) (m s : RingView M) (h : IsHoldin
     legal = refl;
     added =
         ⊎_elim
-        (λ here. took_near (λ g. is_data g ≡ true) (entry p h.flight.sent (outcome.Lost lost.party) ∷ []) None (λ k q gs. CutBrought k q (echoed p (echo_of h.flight.sent) ∷ []) 0 gs) lost.log (none_new m s None h.flight answer counts lost.held_is) here (near here)
-        (λ gs came. ⊎_elim (λ gone. inl gone.0) (λ one. inr (one.0, data_may (drive_party m) h.flight.sent one.0 h.data_frame one.1, one.2)) came))
-        (λ there. took_far (λ g. ⊥) (entry p h.flight.sent (outcome.Lost lost.party) ∷ []) None (λ k q gs. CutBrought k q (echoed p (echo_of h.flight.sent) ∷ []) 0 gs) lost.log (none_new m s None h.flight answer counts lost.held_is) there (inl (far there, lost.met_some))
+        (λ here. took_near (λ g. is_data g ≡ true) (entry p h.flight.sent (outcome.Lost lost.party) ∷ []) None (λ k q gs outs. CutBrought k q (echoed p (echo_of h.flight.sent) ∷ []) 0 gs) lost.log (none_new m s None h.flight answer counts lost.held_is) here (near here)
+        (λ gs outs came. ⊎_elim (λ gone. inl gone.0) (λ one. inr (one.0, data_may (drive_party m) h.flight.sent one.0 h.data_frame one.1, one.2)) came))
+        (λ there. took_far (λ g. ⊥) (entry p h.flight.sent (outcome.Lost lost.party) ∷ []) None (λ k q gs outs. CutBrought k q (echoed p (echo_of h.flight.sent) ∷ []) 0 gs) lost.log (none_new m s None h.flight answer counts lost.held_is) there (inl (far there, lost.met_some))
         (λ g never. absurd never))
         place;
     ring = ring;
@@ -220,8 +232,9 @@ module _ {M : Type 0} (view : M → MediumView) (m s : RingView M) (h : IsHoldin
   })
 
   -- the talker sent a further frame behind the right echo
-  went_on : (right : Bool) (back : Frame) → right ≡ true → (drive_party m ≤ p → DriveHad view (CameAs right h.flight.sent) m s) → (more : SendsMore m h.flight h.own back answer s) → (p < drive_party m → DriveTook view (IsBrought m s more.sent) m s) → RelayEnd view m h answer s
-  went_on right back is near more far =
+  went_on : (right : Bool) (back : Frame) → right ≡ true → (drive_party m ≤ p → DriveHad view (CameAs right h.flight.sent) m s) → (more : SendsMore m h.flight h.own back answer s) → (p < drive_party m → DriveTook view (IsBrought m s more.sent) m s)
+      → (drive_party m ≡ p → DriveDid view (λ g out. CameAs right h.flight.sent g × (out ≡ Source more.sent)) m s) → RelayEnd view m h answer s
+  went_on right back is near more far said =
       let echo = right_echo h.flight.sent back h.data_frame more.right in
       ⊎_elim
       (λ (end : (altered : Bool) × IsHeldNow m (back_entry h.flight back ∷ []) p more.sent altered answer s × MatchBool altered (met_between m s ≢ []) (met_between m s ≡ [])).
@@ -231,8 +244,6 @@ module _ {M : Type 0} (view : M → MediumView) (m s : RingView M) (h : IsHoldin
         back = back;
         right = echo;
         goes_on = more.goes_on;
-        added = added_by (CameAs right h.flight.sent) (IsBrought m s more.sent) (echoed p (echo_of back) ∷ []) (Some p) (λ k q gs. Brought k q (echoed p (echo_of back) ∷ []) gs) now.log (held_new m s h.flight flight answer counts now.held_is)
-            near (λ here g came. (data_right (drive_party m) h.flight.sent g h.data_frame came.0 (came.1 is), refl)) far (λ g came. inl came.0);
         next = record {
           ring = ring;
           flight = flight;
@@ -245,6 +256,8 @@ module _ {M : Type 0} (view : M → MediumView) (m s : RingView M) (h : IsHoldin
           deaf = deaf;
         };
         source = refl;
+        added = added_by (CameAs right h.flight.sent) (IsBrought m s more.sent) (λ out. out ≡ Source more.sent) (echoed p (echo_of back) ∷ []) (Some p) (λ k q gs outs. Brought k q (echoed p (echo_of back) ∷ []) gs × (q ≡ p → own_frames outs ≡ more.sent ∷ [])) now.log (held_new m s h.flight flight answer counts now.held_is)
+            near said (λ here g out came told. ((data_right (drive_party m) h.flight.sent g h.data_frame came.0 (came.1 is), refl), λ at. ap (λ out. own_frames (out ∷ [])) (told at))) far (λ g came. inl came.0);
         unaltered = more.unaltered;
         met = end.2;
         unheard = unheard;
@@ -256,9 +269,9 @@ module _ {M : Type 0} (view : M → MediumView) (m s : RingView M) (h : IsHoldin
         break = FrameLost lost.party;
         due_at = AtNext (echo_of back) (record { sent = more.sent; back = more.sent }) echo (own_echo more.sent more.data_frame) more.goes_on refl refl;
         legal = refl;
-        added = added_by (CameAs right h.flight.sent) (IsBrought m s more.sent) (echoed p (echo_of back) ∷ entry p more.sent (outcome.Lost lost.party) ∷ []) None
-            (λ k q gs. CutBrought k q (echoed p (echo_of back) ∷ echoed p (record { sent = more.sent; back = more.sent }) ∷ []) 1 gs) lost.log (none_new m s None h.flight answer counts lost.held_is)
-            near (λ here g came. (data_right (drive_party m) h.flight.sent g h.data_frame came.0 (came.1 is), inl refl)) far (λ g came. inl came.0);
+        added = added_by (CameAs right h.flight.sent) (IsBrought m s more.sent) (λ out. out ≡ Source more.sent) (echoed p (echo_of back) ∷ entry p more.sent (outcome.Lost lost.party) ∷ []) None
+            (λ k q gs outs. CutBrought k q (echoed p (echo_of back) ∷ echoed p (record { sent = more.sent; back = more.sent }) ∷ []) 1 gs) lost.log (none_new m s None h.flight answer counts lost.held_is)
+            near said (λ here g out came told. (data_right (drive_party m) h.flight.sent g h.data_frame came.0 (came.1 is), inl refl)) far (λ g came. inl came.0);
         ring = ring;
         held = lost.held_is;
         spoilt = inr lost.met_some;
@@ -267,15 +280,17 @@ module _ {M : Type 0} (view : M → MediumView) (m s : RingView M) (h : IsHoldin
       more.end
 
   -- it ended behind the right echo
-  ended : (back : Frame) → (drive_party m ≤ p → DriveHad view (CameAs true h.flight.sent) m s) → (p < drive_party m → DriveTook view (λ g. g ≡ eto) m s) → (h.flight.altered ≡ false) × (with_service back ≡ with_service h.flight.sent) → EndsSending m h.flight true back answer s → RelayEnd view m h answer s
-  ended back near far right ends =
+  ended : (back : Frame) → (drive_party m ≤ p → DriveHad view (CameAs true h.flight.sent) m s) → (p < drive_party m → DriveTook view (λ g. g ≡ eto) m s)
+      → (drive_party m ≡ p → DriveDid view (λ g out. CameAs true h.flight.sent g × (out ≡ Source eto)) m s) → (h.flight.altered ≡ false) × (with_service back ≡ with_service h.flight.sent) → EndsSending m h.flight true back answer s → RelayEnd view m h answer s
+  ended back near far said right ends =
       let echo = right_echo h.flight.sent back h.data_frame right.1 in
       ⊎_elim
       (λ end. ItEnded end.0 (record {
         back = back;
         right = echo;
-        added = added_by (CameAs true h.flight.sent) (λ g. g ≡ eto) (echoed p (echo_of back) ∷ entry p eto (outcome.Taken 0) ∷ []) None (λ k q gs. Brought k q (echoed p (echo_of back) ∷ entry p eto (outcome.Taken 0) ∷ []) gs)
-            end.1 (none_new m s None h.flight answer counts end.2) near (λ here g came. brought_here back g here came) far (λ g is. inr (inr (inl is)));
+        added = added_by (CameAs true h.flight.sent) (λ g. g ≡ eto) (λ out. out ≡ Source eto) (echoed p (echo_of back) ∷ entry p eto (outcome.Taken 0) ∷ []) None
+            (λ k q gs outs. Brought k q (echoed p (echo_of back) ∷ entry p eto (outcome.Taken 0) ∷ []) gs × (q ≡ p → own_frames outs ≡ eto ∷ []))
+            end.1 (none_new m s None h.flight answer counts end.2) near said (λ here g out came told. (brought_here back g here came, λ at. ap (λ out. own_frames (out ∷ [])) (told at))) far (λ g is. inr (inr (inl is)));
         ring = ring;
         held = end.2;
         clean = (right.0, end.3 refl);
@@ -288,9 +303,9 @@ module _ {M : Type 0} (view : M → MediumView) (m s : RingView M) (h : IsHoldin
         break = FrameLost lost.party;
         due_at = AtEnd (echo_of back) echo refl refl;
         legal = refl;
-        added = added_by (CameAs true h.flight.sent) (λ g. g ≡ eto) (echoed p (echo_of back) ∷ entry p eto (outcome.Lost lost.party) ∷ []) None
-            (λ k q gs. CutBrought k q (echoed p (echo_of back) ∷ entry p eto (outcome.Taken 0) ∷ []) 1 gs) lost.log (none_new m s None h.flight answer counts lost.held_is)
-            near (λ here g came. (data_right (drive_party m) h.flight.sent g h.data_frame came.0 (came.1 refl), inl refl)) far (λ g is. inr (inr (inl is)));
+        added = added_by (CameAs true h.flight.sent) (λ g. g ≡ eto) (λ out. out ≡ Source eto) (echoed p (echo_of back) ∷ entry p eto (outcome.Lost lost.party) ∷ []) None
+            (λ k q gs outs. CutBrought k q (echoed p (echo_of back) ∷ entry p eto (outcome.Taken 0) ∷ []) 1 gs) lost.log (none_new m s None h.flight answer counts lost.held_is)
+            near said (λ here g out came told. (data_right (drive_party m) h.flight.sent g h.data_frame came.0 (came.1 refl), inl refl)) far (λ g is. inr (inr (inl is)));
         ring = ring;
         held = lost.held_is;
         spoilt = inr lost.met_some;
@@ -299,9 +314,10 @@ module _ {M : Type 0} (view : M → MediumView) (m s : RingView M) (h : IsHoldin
       ends.end
 
   -- or behind the wrong one
-  refused_at : (back : Frame) (end : Outcome) → (drive_party m ≤ p → DriveHad view (CameAs false h.flight.sent) m s) → (p < drive_party m → DriveTook view (λ g. g ≡ ete) m s) → (byte_of back ≢ byte_of h.flight.sent) × ((h.flight.altered ≡ true) ⊎ (met_between m s ≢ [])) → is_end 0 end ≡ true
+  refused_at : (back : Frame) (end : Outcome) → (drive_party m ≤ p → DriveHad view (CameAs false h.flight.sent) m s) → (p < drive_party m → DriveTook view (λ g. g ≡ ete) m s)
+      → (drive_party m ≡ p → DriveDid view (λ g out. CameAs false h.flight.sent g × (out ≡ Source ete)) m s) → (byte_of back ≢ byte_of h.flight.sent) × ((h.flight.altered ≡ true) ⊎ (met_between m s ≢ [])) → is_end 0 end ≡ true
       → (answer ≡ arrival.Lost) ⊎ (answer ≡ arrival.Frame ete) → s.books.log ≡ m.books.log ++ (echoed p (echo_of back) ∷ entry p ete end ∷ []) → s.books.held ≡ None → RelayEnd view m h answer s
-  refused_at back end near far wrong ends told log free =
+  refused_at back end near far said wrong ends told log free =
       let altered = and_from (is_data h.flight.sent) (not (same_but_service h.flight.sent back)) h.data_frame (ap not (wrong_echo h.flight.sent back wrong.0)) in
       ItBroke told (record {
         whole = [];
@@ -309,19 +325,20 @@ module _ {M : Type 0} (view : M → MediumView) (m s : RingView M) (h : IsHoldin
         break = TalkerAltered back end;
         due_at = AtHeld (echo_of h.flight.sent) (own_echo h.flight.sent h.data_frame) refl refl;
         legal = and_from (not (p == 0)) (is_altered h.flight.sent back && is_end 0 end) (ap not is_device) (and_from (is_altered h.flight.sent back) (is_end 0 end) altered ends);
-        added = added_by (CameAs false h.flight.sent) (λ g. g ≡ ete) (echoed p (echo_of back) ∷ entry p ete end ∷ []) None (λ k q gs. CutBrought k q (echoed p (echo_of h.flight.sent) ∷ []) 0 gs)
-            log (none_new m s None h.flight answer counts free) near (λ here g came. inr (g, data_may (drive_party m) h.flight.sent g h.data_frame came.0, refl)) far (λ g is. inr (inr (inr is)));
+        added = added_by (CameAs false h.flight.sent) (λ g. g ≡ ete) (λ out. out ≡ Source ete) (echoed p (echo_of back) ∷ entry p ete end ∷ []) None (λ k q gs outs. CutBrought k q (echoed p (echo_of h.flight.sent) ∷ []) 0 gs)
+            log (none_new m s None h.flight answer counts free) near said (λ here g out came told. inr (g, data_may (drive_party m) h.flight.sent g h.data_frame came.0, refl)) far (λ g is. inr (inr (inr is)));
         ring = ring;
         held = free;
         spoilt = wrong.1;
         unheard = unheard;
       })
 
-  refused : (back : Frame) → (drive_party m ≤ p → DriveHad view (CameAs false h.flight.sent) m s) → (p < drive_party m → DriveTook view (λ g. g ≡ ete) m s) → (byte_of back ≢ byte_of h.flight.sent) × ((h.flight.altered ≡ true) ⊎ (met_between m s ≢ [])) → EndsSending m h.flight false back answer s → RelayEnd view m h answer s
-  refused back near far wrong ends =
+  refused : (back : Frame) → (drive_party m ≤ p → DriveHad view (CameAs false h.flight.sent) m s) → (p < drive_party m → DriveTook view (λ g. g ≡ ete) m s)
+      → (drive_party m ≡ p → DriveDid view (λ g out. CameAs false h.flight.sent g × (out ≡ Source ete)) m s) → (byte_of back ≢ byte_of h.flight.sent) × ((h.flight.altered ≡ true) ⊎ (met_between m s ≢ [])) → EndsSending m h.flight false back answer s → RelayEnd view m h answer s
+  refused back near far said wrong ends =
       ⊎_elim
-      (λ end. refused_at back (outcome.Taken 0) near far wrong refl (inr end.0) end.1 end.2)
-      (λ (lost : IsLostNow m (back_entry h.flight back ∷ []) p ete answer s). refused_at back (outcome.Lost lost.party) near far wrong refl (inl lost.answer_is) lost.log lost.held_is)
+      (λ end. refused_at back (outcome.Taken 0) near far said wrong refl (inr end.0) end.1 end.2)
+      (λ (lost : IsLostNow m (back_entry h.flight back ∷ []) p ete answer s). refused_at back (outcome.Lost lost.party) near far said wrong refl (inl lost.answer_is) lost.log lost.held_is)
       ends.end
 
   pub relay_end : RelayEnd view m h answer s
@@ -332,12 +349,14 @@ module _ {M : Type 0} (view : M → MediumView) (m s : RingView M) (h : IsHoldin
       (relay_at_drive view m s h.flight h.own answer h.ring.crossings h.ring.plan h.talking h.frame h.stood round)
     where
       on_back : (right : Bool) (back : Frame) → CameBack m s h.flight right back → (drive_party m ≤ p → DriveHad view (CameAs right h.flight.sent) m s)
-          → (((more : SendsMore m h.flight h.own back answer s) × (p < drive_party m → DriveTook view (IsBrought m s more.sent) m s))
-          ⊎ (EndsSending m h.flight right back answer s × (p < drive_party m → DriveTook view (λ g. g ≡ (if right then eto else ete)) m s))) → RelayEnd view m h answer s
-      on_back true back came near (inl more) = went_on true back refl near more.0 more.1
+          → (((more : SendsMore m h.flight h.own back answer s) × (p < drive_party m → DriveTook view (IsBrought m s more.sent) m s)
+          × (drive_party m ≡ p → DriveDid view (λ g out. CameAs right h.flight.sent g × (out ≡ Source more.sent)) m s))
+          ⊎ (EndsSending m h.flight right back answer s × (p < drive_party m → DriveTook view (λ g. g ≡ (if right then eto else ete)) m s)
+          × (drive_party m ≡ p → DriveDid view (λ g out. CameAs right h.flight.sent g × (out ≡ Source (if right then eto else ete))) m s))) → RelayEnd view m h answer s
+      on_back true back came near (inl more) = went_on true back refl near more.0 more.1 more.2
       on_back false back came near (inl more) = absurd (came.echo.0 (ap byte_of more.0.right))
-      on_back true back came near (inr ends) = ended back near ends.1 came.echo ends.0
-      on_back false back came near (inr ends) = refused back near ends.1 came.echo ends.0
+      on_back true back came near (inr ends) = ended back near ends.1 ends.2 came.echo ends.0
+      on_back false back came near (inr ends) = refused back near ends.1 ends.2 came.echo ends.0
 
 -- ---- as a call
 

@@ -10,16 +10,18 @@ use Rattle.il_frames.specs.declared.frame.Class.{Class}
 use Rattle.il_frames.specs.declared.frame.Class.TheVariants as class
 use Rattle.il_frames.specs.Frames.{byte_of, class_of, is_data, is_data_class, with_service}
 use Rattle.il_frames.specs.Messages.{message_at}
+use Rattle.il_device.specs.declared.device.Out.{Out}
+use Rattle.il_device.specs.declared.device.Out.TheVariants.{Pass, Source}
 use Rattle.il_device.specs.Takes.{eto}
 use Rattle.il_ports.specs.Media.{MediumView}
 use Rattle.loop_model.specs.Entries.{entry}
 use Rattle.loop_model.specs.Exchanges.{Start, Sda, Sst, Sdi, Sai, start_frame, Break, cut_at, can_cut}
 use Rattle.loop_model.specs.Reach.{distance, brings_to}
 use Rattle.il_ring.specs.Rings.{RingView, devices_of, drive_party}
-use Rattle.il_ring.proofs.Adding.{adds_nothing, adds_nothing-came, adds_more, adds_more-came}
+use Rattle.il_ring.proofs.Adding.{adds_nothing, adds_nothing-came, adds_nothing-answers, adds_more, adds_more-came, adds_more-answers}
 use Rattle.il_ring.proofs.Passing.{is_exact, is_identify_class}
 use Rattle.il_control.specs.Brought.{ComesAs, MayComeAs, Brought, BroughtIf, CutBrought, is_from_here}
-use Rattle.il_control.specs.Receives.{AllSpoken, AddsBy, Brings, CutBrings}
+use Rattle.il_control.specs.Receives.{AllSpoken, AddsBy, Brings, CutBrings, own_frames}
 use Rattle.il_control.proofs.Brought.{brought_then, cut_brought_front, from_here_parts, same_place}
 
 -- ---- lists of frames
@@ -140,28 +142,40 @@ brought_end k q p xs gs some near within brought =
 -- ---- sums
 
 -- what follows of the frames
-pub added_as : {M : Type 0} (view : M → MediumView) (m s : RingView M) (p : ℕ) (a : Option ℕ) (entries : List Entry) (b : Option ℕ) (B C : ℕ → ℕ → List Frame → Type 0) → AddsBy view m p a entries b B s → ((k q : ℕ) (gs : List Frame) → B k q gs → C k q gs) → AddsBy view m p a entries b C s
-added_as view m s p a entries b B C added so = record { adds = added.adds; near = λ near. so _ _ _ (added.near near); far = added.far }
+pub added_as : {M : Type 0} (view : M → MediumView) (m s : RingView M) (p : ℕ) (a : Option ℕ) (entries : List Entry) (b : Option ℕ) (B C : ℕ → ℕ → List Frame → List Out → Type 0) → AddsBy view m p a entries b B s → ((k q : ℕ) (gs : List Frame) (outs : List Out) → B k q gs outs → C k q gs outs) → AddsBy view m p a entries b C s
+added_as view m s p a entries b B C added so = record { adds = added.adds; near = λ near. so _ _ _ _ (added.near near); far = added.far }
 
-pub brings_nothing : {M : Type 0} (view : M → MediumView) (m : RingView M) (p : ℕ) → Brings view m p (Some p) [] (Some p) m
-brings_nothing view m p = record {
+-- own frames of answers one behind the other
+pub own_then : (first more : List Out) → own_frames (first ++ more) ≡ own_frames first ++ own_frames more
+own_then [] more = refl
+own_then (Pass g ∷ first) more = own_then first more
+own_then (Source g ∷ first) more = ap (λ gs. g ∷ gs) (own_then first more)
+
+pub brings_nothing : {M : Type 0} (view : M → MediumView) (m : RingView M) (p : ℕ) (S : List Frame → Type 0) → S [] → Brings view m p S (Some p) [] (Some p) m
+brings_nothing view m p S nothing = record {
   adds = adds_nothing view m (Some p);
-  near = λ near. adds_nothing-came view m (Some p);
+  near = λ near. (adds_nothing-came view m (Some p), λ at. subst (λ outs. S (own_frames outs)) (sym (adds_nothing-answers view m (Some p))) nothing);
   far = λ far. subst AllSpoken (sym (adds_nothing-came view m (Some p))) tt;
 }
 
-module _ {M : Type 0} (view : M → MediumView) (r m : RingView M) (p : ℕ) (a b : Option ℕ) (xs : List Entry) (first : Brings view r p a xs b m) where
+module _ {M : Type 0} (view : M → MediumView) (r m : RingView M) (p : ℕ) (S : List Frame → Type 0) (a b : Option ℕ) (xs : List Entry) (first : Brings view r p S a xs b m) where
   same_party : drive_party m ≡ drive_party r
   same_party = ap (λ n. n + 1) first.adds.before
 
-  pub brings_more : (s : RingView M) (c : Option ℕ) (ys : List Entry) → Brings view m p b ys c s → Brings view r p a (xs ++ ys) c s
-  brings_more s c ys more =
+  pub brings_more : (s : RingView M) (T U : List Frame → Type 0) (c : Option ℕ) (ys : List Entry) → Brings view m p T b ys c s → ((gs hs : List Frame) → S gs → T hs → U (gs ++ hs)) → Brings view r p U a (xs ++ ys) c s
+  brings_more s T U c ys more join =
       let came = adds_more-came view r m s a b c xs ys first.adds more.adds in
+      let answers = adds_more-answers view r m s a b c xs ys first.adds more.adds in
       record {
         adds = adds_more view r m s a b c xs ys first.adds more.adds;
-        near = λ near. subst (Brought (length (devices_of r)) (drive_party r) (xs ++ ys)) (sym came)
-            (brought_then (length (devices_of r)) (drive_party r) xs ys first.adds.came more.adds.came (first.near near)
-            (same_place r m (λ k q. Brought k q ys more.adds.came) first.adds.before first.adds.size (more.near (subst (λ q. q ≤ p) (sym same_party) near))));
+        near = λ near.
+            let behind = more.near (subst (λ q. q ≤ p) (sym same_party) near) in
+            (
+              subst (Brought (length (devices_of r)) (drive_party r) (xs ++ ys)) (sym came)
+                  (brought_then (length (devices_of r)) (drive_party r) xs ys first.adds.came more.adds.came (first.near near).0
+                  (same_place r m (λ k q. Brought k q ys more.adds.came) first.adds.before first.adds.size behind.0)),
+              λ at. subst U (sym (ap own_frames answers ∙ own_then first.adds.answers more.adds.answers)) (join (own_frames first.adds.answers) (own_frames more.adds.answers) ((first.near near).1 at) (behind.1 (same_party ∙ at))),
+            );
         far = λ far. subst AllSpoken (sym came) (spoken_then first.adds.came more.adds.came (first.far far) (more.far (subst (λ q. p < q) (sym same_party) far)));
       }
 
@@ -169,11 +183,11 @@ module _ {M : Type 0} (view : M → MediumView) (r m : RingView M) (p : ℕ) (a 
   cut_brings_more s c ys n break more =
       let cut = cut_at ys n break in
       let came = adds_more-came view r m s a b c xs cut first.adds more.adds in
-      subst (λ es. AddsBy view r p a es c (λ k q gs. CutBrought k q (xs ++ ys) (behind_all xs n) gs) s) (sym (cut_entries xs ys n break))
+      subst (λ es. AddsBy view r p a es c (λ k q gs outs. CutBrought k q (xs ++ ys) (behind_all xs n) gs) s) (sym (cut_entries xs ys n break))
       (record {
         adds = adds_more view r m s a b c xs cut first.adds more.adds;
         near = λ near. subst (CutBrought (length (devices_of r)) (drive_party r) (xs ++ ys) (behind_all xs n)) (sym came)
-            (cut_behind_brought (length (devices_of r)) (drive_party r) n xs ys first.adds.came more.adds.came (first.near near)
+            (cut_behind_brought (length (devices_of r)) (drive_party r) n xs ys first.adds.came more.adds.came (first.near near).0
             (same_place r m (λ k q. CutBrought k q ys n more.adds.came) first.adds.before first.adds.size (more.near (subst (λ q. q ≤ p) (sym same_party) near))));
         far = λ far. subst AllSpoken (sym came) (spoken_then first.adds.came more.adds.came (first.far far) (more.far (subst (λ q. p < q) (sym same_party) far)));
       })

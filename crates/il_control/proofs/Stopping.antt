@@ -1,4 +1,7 @@
 -- A talker that is stopped, as a call.
+use Rattle.il_device.proofs.Laws.{Takes-plain}
+use Rattle.il_drive.specs.State.{device_of}
+use Rattle.il_device.specs.declared.device.Out.{Out}
 use Rattle.std.proofs.Common.{◌≡◌, ◌∙◌, ◌+◌, ◌++◌, ◌&&◌, ◌||◌, ◌==◌, inl, inr, ⊎_elim, ℕ, suc, true, false, not, List, [], ◌∷◌, Option, Some, None, length, map, refl, sym, ap, subst, ◌≤◌, ◌<◌}
 use Rattle.std.specs.Prelude.{IsSome}
 use Rattle.std.proofs.lemmas.Bool.{and_from}
@@ -11,7 +14,7 @@ use Rattle.il_device.specs.declared.interface.OwnFrame.{OwnFrame}
 use Rattle.il_device.specs.declared.roles.Roles.{Roles}
 use Rattle.il_device.specs.Roles.{stopped}
 use Rattle.il_device.specs.State.{DeviceState}
-use Rattle.il_device.specs.Takes.{eto}
+use Rattle.il_device.specs.Takes.{eto, Takes}
 use Rattle.il_ports.specs.Media.{MediumView}
 use Rattle.loop_model.specs.Entries.{entry, nrd}
 use Rattle.loop_model.specs.Exchanges.{Echo, FrameLost, Stopped, echoed, returned, break_entries, is_answer, is_break, is_echo}
@@ -23,29 +26,29 @@ use Rattle.il_ring.specs.Flights.{sourced}
 use Rattle.il_ring.specs.Lists.{First}
 use Rattle.il_ring.specs.Rings.{RingView, IsRing, Round, devices_of, drive_party}
 use Rattle.il_ring.specs.Rounded.{Rounded, holding}
-use Rattle.il_ring.specs.Outcomes.{met_between, Obeys, DriveTook, IsTalking, Returned, WasLost}
+use Rattle.il_ring.specs.Outcomes.{met_between, Obeys, DriveTook, IsTalking, Returned, WasLost, DriveDid}
 use Rattle.il_ring.specs.Adds.{Adds}
-use Rattle.il_ring.proofs.Adding.{adds_held, adds_held-came, adds_more, adds_more-came}
+use Rattle.il_ring.proofs.Adding.{adds_held, adds_held-came, adds_held-answers, adds_more, adds_more-came}
 use Rattle.il_ring.proofs.DriveRounds.{passed_drive}
 use Rattle.il_ring.proofs.EndsHome.{any_each}
 use Rattle.il_ring.proofs.Passing.{Exactly}
 use Rattle.il_ring.proofs.PassKinds.{Is, Any, plain_passes}
 use Rattle.il_ring.proofs.PassRounds.{passed_round}
 use Rattle.il_ring.proofs.Rings.{IsRing-round}
-use Rattle.il_ring.proofs.RoundAdds.{DriveCame, host_adds, host_came, none_new, plain_new}
+use Rattle.il_ring.proofs.RoundAdds.{DriveCame, answered_some, did_had, host_did, host_adds, host_came, none_new, plain_new}
 use Rattle.il_ring.proofs.RoundCounts.{round_counts}
 use Rattle.il_ring.proofs.SendLaws.{kept_sent}
 use Rattle.il_ring.proofs.Splits.{silent_still}
 use Rattle.il_control.specs.Calls.{Unheard}
 use Rattle.il_control.specs.Brought.{Brought, CutBrought}
-use Rattle.il_control.specs.Receives.{AddsBy, AllSpoken, Brings, IsDeaf, IsHolding, Spoilt, WentOn, Ended, DueAt, AtHeld, AtNext, AtEnd, Severed, WentAs, Took, NotTook, Stops}
+use Rattle.il_control.specs.Receives.{AddsBy, AllSpoken, Brings, IsDeaf, IsHolding, Spoilt, WentOn, Ended, DueAt, AtHeld, AtNext, AtEnd, Severed, WentAs, Took, NotTook, Stops, own_frames}
 use Rattle.il_control.specs.declared.receiving.Onward.{Onward}
 use Rattle.il_control.specs.declared.receiving.Onward.TheVariants as onward
 use Rattle.il_control.proofs.Asking.{each_obeys}
 use Rattle.il_control.proofs.Calls.{met_parts, unheard_then}
-use Rattle.il_control.proofs.Brought.{brought_one, cut_brought_one, may_come, plain_comes, same_place}
+use Rattle.il_control.proofs.Brought.{cut_brought_one, may_come, plain_comes, same_place}
 use Rattle.il_control.proofs.Relaying.{deaf_unheard, right_echo, spoken_one}
-use Rattle.il_control.proofs.Spoken.{brings_more, cut_behind_brought, spoken_then}
+use Rattle.il_control.proofs.Spoken.{brings_more, cut_behind_brought, spoken_then, added_as}
 use Rattle.il_control.proofs.Taking.{breaks_at, is_device, severed_at}
 
 -- ---- the talker among devices that obeyed
@@ -100,7 +103,7 @@ pub record NrdBack {M : Type 0} (view : M → MediumView) (m : RingView M) (h : 
   pub next : IsHolding n
   pub flight_is : next.flight ≡ h.flight
   pub stops : next.own.stopped ≡ true
-  pub added : Brings view m h.flight.source (Some h.flight.source) (returned 0 nrd ∷ []) (Some h.flight.source) n
+  pub added : Brings view m h.flight.source (λ gs. gs ≡ []) (Some h.flight.source) (returned 0 nrd ∷ []) (Some h.flight.source) n
   pub met_none : met_between m n ≡ []
   pub unheard : Unheard m n
 
@@ -128,23 +131,43 @@ module _ {M : Type 0} (view : M → MediumView) (m n : RingView M) (h : IsHoldin
   unheard = deaf_unheard 1 (devices_of m) (devices_of n) (kept_sent view m n held (sourced 0 nrd) answer round) h.deaf
 
   -- NRD came to the drive, wherever it stands
-  added_by : (entries : List Entry) (B : ℕ → ℕ → List Frame → Type 0) → n.books.log ≡ m.books.log ++ entries → holding counts.new ≡ None
-      → ((gs : List Frame) → DriveCame (Is nrd (1 + length m.before)) m n gs → B (length (devices_of m)) (drive_party m) gs) → AddsBy view m h.flight.source (Some h.flight.source) entries (Some h.flight.source) B n
-  added_by entries B log new brought =
+  lost_by : (entries : List Entry) (B : ℕ → ℕ → List Frame → List Out → Type 0) → n.books.log ≡ m.books.log ++ entries → holding counts.new ≡ None
+      → ((gs : List Frame) (outs : List Out) → DriveCame (Is nrd (1 + length m.before)) m n gs → B (length (devices_of m)) (drive_party m) gs outs) → AddsBy view m h.flight.source (Some h.flight.source) entries (Some h.flight.source) B n
+  lost_by entries B log new brought =
       let adds = host_adds view (Is nrd (1 + length m.before)) m n held nrd answer entries None (Exactly refl refl) round log new took in
       let came = host_came view (Is nrd (1 + length m.before)) m n held nrd answer entries None (Exactly refl refl) round log new took in
       let same = adds_held-came view m n (Some h.flight.source) entries adds in
+      let held_on : Adds view m (Some h.flight.source) entries (Some h.flight.source) n = adds_held view m n (Some h.flight.source) entries adds in
       record {
-        adds = adds_held view m n (Some h.flight.source) entries adds;
-        near = λ near. subst (B (length (devices_of m)) (drive_party m)) (sym same) (brought adds.came came);
+        adds = held_on;
+        near = λ near. subst (λ gs. B (length (devices_of m)) (drive_party m) gs held_on.answers) (sym same) (brought adds.came held_on.answers came);
         far = λ far. subst AllSpoken (sym same) (spoken_one (Is nrd (1 + length m.before)) m n adds.came (λ g is. inr (inl is)) came);
       }
 
-  added_back : (g : Frame) → g ≡ nrd → Returned m held nrd g answer n → Brings view m h.flight.source (Some h.flight.source) (returned 0 nrd ∷ []) (Some h.flight.source) n
+  -- which passed it on
+  did : met_between m n ≡ [] → DriveDid view (λ g out. (g ≡ nrd) × (own_frames (out ∷ []) ≡ [])) m n
+  did none = by took
+    where
+      by : DriveTook view (Is nrd (1 + length m.before)) m n → DriveDid view (λ g out. (g ≡ nrd) × (own_frames (out ∷ []) ≡ [])) m n
+      by (inl gone) = absurd (gone.1 none)
+      by (inr came) =
+          let takes = subst (λ g. Takes (device_of m.drive.state) g came.2.0 (device_of n.drive.state)) came.1 came.2.1.takes in
+          (came.0, (came.2.0, (came.1, ap (λ out. own_frames (out ∷ [])) (Takes-plain (device_of m.drive.state) nrd came.2.0 (device_of n.drive.state) refl takes).answer), came.2.1))
+
+  added_back : (g : Frame) → g ≡ nrd → Returned m held nrd g answer n → Brings view m h.flight.source (λ gs. gs ≡ []) (Some h.flight.source) (returned 0 nrd ∷ []) (Some h.flight.source) n
   added_back g same back =
-      added_by (returned 0 nrd ∷ []) (λ k q gs. Brought k q (returned 0 nrd ∷ []) gs) (back.log ∙ ap (λ g. m.books.log ++ entry 0 nrd (outcome.Back g) ∷ []) same)
-      (plain_new m n held (sourced 0 nrd) nrd answer counts (back.answer_is ∙ ap (λ g. arrival.Frame g) same) refl)
-      (λ gs came. brought_one (Is nrd (1 + length m.before)) m n (length (devices_of m)) (drive_party m) nrd nrd gs (λ g is. plain_comes (drive_party m) nrd g refl is) back.met_none came)
+      let P = λ (g : Frame) (out : Out). (g ≡ nrd) × (own_frames (out ∷ []) ≡ []) in
+      let log = back.log ∙ ap (λ g. m.books.log ++ entry 0 nrd (outcome.Back g) ∷ []) same in
+      let new = plain_new m n held (sourced 0 nrd) nrd answer counts (back.answer_is ∙ ap (λ g. arrival.Frame g) same) refl in
+      let so = host_did view P m n held nrd answer (returned 0 nrd ∷ []) None (Exactly refl refl) round log new (did back.met_none) in
+      let adds = host_adds view (answered_some P) m n held nrd answer (returned 0 nrd ∷ []) None (Exactly refl refl) round log new (inr (did_had view P m n (did back.met_none))) in
+      let came = adds_held-came view m n (Some h.flight.source) (returned 0 nrd ∷ []) adds ∙ so.1.2 in
+      let answers = adds_held-answers view m n (Some h.flight.source) (returned 0 nrd ∷ []) adds ∙ so.1.3 in
+      record {
+        adds = adds_held view m n (Some h.flight.source) (returned 0 nrd ∷ []) adds;
+        near = λ near. (subst (Brought (length (devices_of m)) (drive_party m) (returned 0 nrd ∷ [])) (sym came) (plain_comes (drive_party m) nrd so.0 refl so.1.1.0, refl), λ at. ap own_frames answers ∙ so.1.1.1);
+        far = λ far. subst AllSpoken (sym came) (inr (inl so.1.1.0), tt);
+      }
 
   came : (g : Frame) → g ≡ nrd → Returned m held nrd g answer n → First (Obeys msg.Nrd) (length (devices_of m)) (devices_of m) (devices_of n) → NrdEnd view m h answer n
   came g same back obeyed =
@@ -173,8 +196,8 @@ module _ {M : Type 0} (view : M → MediumView) (m n : RingView M) (h : IsHoldin
       NrdLost gone.answer_is
       (breaks_at view m n h 1 (Stopped h.flight.source [] d) [] (echoed h.flight.source d ∷ entry h.flight.source eto (outcome.Taken 0) ∷ []) (returned 0 nrd) (FrameLost gone.party) (Some h.flight.source) refl
       (own_last m h d (right_echo h.flight.sent h.flight.sent h.data_frame refl)) refl refl refl
-      (added_by (entry 0 nrd (outcome.Lost gone.party) ∷ []) (λ k q gs. CutBrought k q (returned 0 nrd ∷ []) 0 gs) gone.log (none_new m n held (sourced 0 nrd) answer counts gone.held_is)
-      (λ gs came. cut_brought_one (Is nrd (1 + length m.before)) m n (length (devices_of m)) (drive_party m) nrd (outcome.Back nrd) gs (λ g is. may_come (drive_party m) nrd g (plain_comes (drive_party m) nrd g refl is)) came))
+      (lost_by (entry 0 nrd (outcome.Lost gone.party) ∷ []) (λ k q gs outs. CutBrought k q (returned 0 nrd ∷ []) 0 gs) gone.log (none_new m n held (sourced 0 nrd) answer counts gone.held_is)
+      (λ gs outs came. cut_brought_one (Is nrd (1 + length m.before)) m n (length (devices_of m)) (drive_party m) nrd (outcome.Back nrd) gs (λ g is. may_come (drive_party m) nrd g (plain_comes (drive_party m) nrd g refl is)) came))
       ring gone.held_is (inr gone.met_some) unheard)
 
   pub nrd_end : NrdEnd view m h answer n
@@ -188,15 +211,15 @@ module _ {M : Type 0} (view : M → MediumView) (m n : RingView M) (h : IsHoldin
 -- ---- behind it
 
 -- a cut, with NRD before it
-behind_nrd : {M : Type 0} (view : M → MediumView) (m n s : RingView M) (p : ℕ) (es ys : List Entry) (c : ℕ) → Brings view m p (Some p) (returned 0 nrd ∷ []) (Some p) n → AddsBy view n p (Some p) es None (λ k q gs. CutBrought k q ys c gs) s
-    → AddsBy view m p (Some p) (returned 0 nrd ∷ es) None (λ k q gs. CutBrought k q (returned 0 nrd ∷ ys) (suc c) gs) s
+behind_nrd : {M : Type 0} (view : M → MediumView) (m n s : RingView M) (p : ℕ) (es ys : List Entry) (c : ℕ) → Brings view m p (λ gs. gs ≡ []) (Some p) (returned 0 nrd ∷ []) (Some p) n → AddsBy view n p (Some p) es None (λ k q gs outs. CutBrought k q ys c gs) s
+    → AddsBy view m p (Some p) (returned 0 nrd ∷ es) None (λ k q gs outs. CutBrought k q (returned 0 nrd ∷ ys) (suc c) gs) s
 behind_nrd view m n s p es ys c first more =
     let came = adds_more-came view m n s (Some p) (Some p) None (returned 0 nrd ∷ []) es first.adds more.adds in
     let party : drive_party n ≡ drive_party m = ap (λ n. n + 1) first.adds.before in
     record {
       adds = adds_more view m n s (Some p) (Some p) None (returned 0 nrd ∷ []) es first.adds more.adds;
       near = λ near. subst (CutBrought (length (devices_of m)) (drive_party m) (returned 0 nrd ∷ ys) (suc c)) (sym came)
-          (cut_behind_brought (length (devices_of m)) (drive_party m) c (returned 0 nrd ∷ []) ys first.adds.came more.adds.came (first.near near)
+          (cut_behind_brought (length (devices_of m)) (drive_party m) c (returned 0 nrd ∷ []) ys first.adds.came more.adds.came (first.near near).0
           (same_place m n (λ k q. CutBrought k q ys c more.adds.came) first.adds.before first.adds.size (more.near (subst (λ q. q ≤ p) (sym party) near))));
       far = λ far. subst AllSpoken (sym came) (spoken_then first.adds.came more.adds.came (first.far far) (more.far (subst (λ q. p < q) (sym party) far)));
     }
@@ -212,8 +235,8 @@ module _ {M : Type 0} (view : M → MediumView) (m n s : RingView M) (h : IsHold
   same = back.flight_is
 
   -- what was added behind NRD, with it
-  brings_behind : (es : List Entry) → Brings view n k.flight.source (Some k.flight.source) es None s → Brings view m p (Some p) (returned 0 nrd ∷ es) None s
-  brings_behind es more = brings_more view m n p (Some p) (Some p) (returned 0 nrd ∷ []) back.added s None es (subst (λ (f : Flight). Brings view n f.source (Some f.source) es None s) same more)
+  brings_behind : (es : List Entry) (S : List Frame → Type 0) → Brings view n k.flight.source S (Some k.flight.source) es None s → Brings view m p S (Some p) (returned 0 nrd ∷ es) None s
+  brings_behind es S more = brings_more view m n p (λ gs. gs ≡ []) (Some p) (Some p) (returned 0 nrd ∷ []) back.added s S S None es (subst (λ (f : Flight). Brings view n f.source S (Some f.source) es None s) same more) (λ gs hs none said. subst (λ gs. S (gs ++ hs)) (sym none) said)
 
   split : (es : List Entry) → Adds view n (Some k.flight.source) es None s → (met_between m s ≡ [] → (met_between m n ≡ []) × (met_between n s ≡ [])) × (((met_between m n ≡ []) × (met_between n s ≡ [])) → met_between m s ≡ [])
   split es more = met_parts view m n s (Some p) (Some p) (Some p) None (returned 0 nrd ∷ []) es h.ring k.ring back.added.adds (subst (λ (f : Flight). Adds view n (Some f.source) es None s) same more)
@@ -231,7 +254,8 @@ module _ {M : Type 0} (view : M → MediumView) (m n s : RingView M) (h : IsHold
         legal = own_last m h (record { sent = h.flight.sent; back = ended.back }) (ap (λ (f : Flight). is_echo (record { sent = f.sent; back = ended.back })) (sym same) ∙ ended.right);
         stopped = refl;
         bytes_are = refl;
-        added = subst (λ (f : Flight). Brings view m p (Some p) (returned 0 nrd ∷ echoed f.source (record { sent = f.sent; back = ended.back }) ∷ entry f.source eto (outcome.Taken 0) ∷ []) None s) same (brings_behind _ ended.added);
+        added = subst (λ (f : Flight). Brings view m p (λ gs. h.flight.sent ∷ gs ≡ h.flight.sent ∷ eto ∷ []) (Some p) (returned 0 nrd ∷ echoed f.source (record { sent = f.sent; back = ended.back }) ∷ entry f.source eto (outcome.Taken 0) ∷ []) None s) same
+            (added_as view m s p (Some p) _ None _ _ (brings_behind _ (λ gs. gs ≡ eto ∷ []) ended.added) (λ j q gs outs said. (said.0, λ at. ap (λ gs. h.flight.sent ∷ gs) (said.1 at))));
         ring = ended.ring;
         held = ended.held;
         clean = (ap (λ (f : Flight). f.altered) (sym same) ∙ ended.clean.0, (split _ ended.added.adds).1 (back.met_none, ended.clean.1));
@@ -248,10 +272,10 @@ module _ {M : Type 0} (view : M → MediumView) (m n s : RingView M) (h : IsHold
       at_source = ap (λ (f : Flight). f.source) same
 
       -- the cut behind NRD
-      added : (whole : List Echo) (due : Entry) → off.whole ≡ whole → off.due ≡ due → AddsBy view m p (Some p) (returned 0 nrd ∷ map (echoed k.flight.source) whole ++ break_entries due off.break) None (λ j q gs. CutBrought j q (returned 0 nrd ∷ map (echoed k.flight.source) whole ++ due ∷ []) (suc (length whole)) gs) s
+      added : (whole : List Echo) (due : Entry) → off.whole ≡ whole → off.due ≡ due → AddsBy view m p (Some p) (returned 0 nrd ∷ map (echoed k.flight.source) whole ++ break_entries due off.break) None (λ j q gs outs. CutBrought j q (returned 0 nrd ∷ map (echoed k.flight.source) whole ++ due ∷ []) (suc (length whole)) gs) s
       added whole due whole_is due_is =
           behind_nrd view m n s p (map (echoed k.flight.source) whole ++ break_entries due off.break) (map (echoed k.flight.source) whole ++ due ∷ []) (length whole) back.added
-          (subst (λ q. AddsBy view n q (Some q) (map (echoed k.flight.source) whole ++ break_entries due off.break) None (λ j q gs. CutBrought j q (map (echoed k.flight.source) whole ++ due ∷ []) (length whole) gs) s) at_source (severed_at view n s k off whole due whole_is due_is))
+          (subst (λ q. AddsBy view n q (Some q) (map (echoed k.flight.source) whole ++ break_entries due off.break) None (λ j q gs outs. CutBrought j q (map (echoed k.flight.source) whole ++ due ∷ []) (length whole) gs) s) at_source (severed_at view n s k off whole due whole_is due_is))
 
       by : DueAt k.flight.source k.own off.whole off.due → NotTook view m h 1 s
       by (AtHeld d echo whole due) =
@@ -263,7 +287,7 @@ module _ {M : Type 0} (view : M → MediumView) (m n s : RingView M) (h : IsHold
           let due_is : off.due ≡ entry p eto (outcome.Taken 0) = due ∙ ap (λ p. entry p eto (outcome.Taken 0)) at_source in
           breaks_at view m s h 1 (Stopped p [] d) (returned 0 nrd ∷ echoed p d ∷ []) [] (entry p eto (outcome.Taken 0)) off.break None refl (own_last m h d echo) refl refl
           (subst (λ due. is_break 0 due off.break ≡ true) due_is off.legal)
-          (subst (λ q. AddsBy view m p (Some p) (returned 0 nrd ∷ echoed q d ∷ break_entries (entry p eto (outcome.Taken 0)) off.break) None (λ j r gs. CutBrought j r (returned 0 nrd ∷ echoed q d ∷ entry p eto (outcome.Taken 0) ∷ []) 2 gs) s) at_source (added (d ∷ []) (entry p eto (outcome.Taken 0)) whole due_is))
+          (subst (λ q. AddsBy view m p (Some p) (returned 0 nrd ∷ echoed q d ∷ break_entries (entry p eto (outcome.Taken 0)) off.break) None (λ j r gs outs. CutBrought j r (returned 0 nrd ∷ echoed q d ∷ entry p eto (outcome.Taken 0) ∷ []) 2 gs) s) at_source (added (d ∷ []) (entry p eto (outcome.Taken 0)) whole due_is))
           off.ring off.held (spoilt_behind _ off.added.adds off.spoilt) (all_unheard off.unheard)
 
   pub stopped_went : WentOn view n k s → ⊥

@@ -1,5 +1,6 @@
 -- The frames of a talker, one behind the other.
-use Rattle.std.proofs.Common.{◌≡◌, ◌≢◌, ◌∙◌, ◌≤◌, ◌<◌, ◌+◌, ◌-◌, ◌++◌, ◌&&◌, ◌==◌, inl, inr, ⊎_elim, ℕ, suc, Bool, true, false, not, List, [], ◌∷◌, Option, Some, None, length, take, drop, set, map, refl, sym, ap, subst, arith, append_assoc, append-nil, length-append}
+use Rattle.il_frames.specs.declared.frame.Frame.{Frame}
+use Rattle.std.proofs.Common.{◌≡◌, ◌≢◌, ◌∙◌, ◌≤◌, ◌<◌, ◌+◌, ◌-◌, ◌++◌, ◌&&◌, ◌==◌, inl, inr, ⊎_elim, ℕ, suc, Bool, true, false, not, List, [], ◌∷◌, Option, Some, None, length, take, drop, set, map, refl, sym, ap, ap₂, subst, arith, append_assoc, append-nil, length-append}
 use Rattle.std.proofs.Math.Seq.{take-suc-set, take-length}
 use Rattle.std.specs.Prelude.{MatchBool, IfSome, IsSome}
 use Rattle.std.specs.List.{list_all}
@@ -20,7 +21,7 @@ use Rattle.il_ring.specs.Outcomes.{met_between}
 use Rattle.il_ring.proofs.Faults.{met_nowhere}
 use Rattle.il_control.specs.Calls.{Unheard}
 use Rattle.il_control.specs.Brought.{CutBrought}
-use Rattle.il_control.specs.Receives.{AddsBy, Brings, CutBrings, IsHolding, Spoilt, Clean, WentOn, Ended, DueAt, AtHeld, AtNext, AtEnd, Severed, SoFar, Took, NotTook, WentAs, FrontAt, Fronts, Stops, TookInto, behind_start, talker_of, is_stopped, received, fits}
+use Rattle.il_control.specs.Receives.{AddsBy, Brings, CutBrings, IsHolding, Spoilt, Clean, WentOn, Ended, DueAt, AtHeld, AtNext, AtEnd, Severed, SoFar, Took, NotTook, WentAs, FrontAt, Fronts, Stops, TookInto, behind_start, talker_of, is_stopped, received, fits, frames_of, sent_frames}
 use Rattle.il_control.specs.declared.receiving.Front.TheVariants as front
 use Rattle.il_control.specs.declared.receiving.Onward.TheVariants as onward
 use Rattle.il_control.proofs.Calls.{met_parts, unheard_then, unheard_nothing}
@@ -77,6 +78,11 @@ prepended_bytes ds NotTaken p is = cc
 prepended_bytes ds (ToItsEnd q es) p is = map-append (λ (d : Echo). byte_of d.sent) ds es
 prepended_bytes ds (Stopped q es last) p is = ap (λ bytes. bytes ++ byte_of last.sent ∷ []) (map-append (λ (d : Echo). byte_of d.sent) ds es) ∙ append_assoc (bytes_of ds) (bytes_of es) (byte_of last.sent ∷ [])
 
+prepended_frames : (ds : List Echo) (answer : Answer) (p : ℕ) → talker_of answer ≡ Some p → sent_frames (prepended ds answer) ≡ frames_of ds ++ sent_frames answer
+prepended_frames ds NotTaken p is = cc
+prepended_frames ds (ToItsEnd q es) p is = map-append (λ (d : Echo). d.sent) ds es
+prepended_frames ds (Stopped q es last) p is = ap (λ gs. gs ++ last.sent ∷ []) (map-append (λ (d : Echo). d.sent) ds es) ∙ append_assoc (frames_of ds) (frames_of es) (last.sent ∷ [])
+
 prepended_fits : (ds : List Echo) (answer : Answer) (v w : ℕ) → length ds + v ≡ w → fits v answer ≡ true → fits w (prepended ds answer) ≡ true
 prepended_fits ds NotTaken v w sum fit = refl
 prepended_fits ds (ToItsEnd q es) v w sum fit = let long = length-append ds es in le-leb (length (ds ++ es)) w (omega (arith, long, sum, leb-true (length es) v fit))
@@ -90,9 +96,9 @@ so_far_nothing view m h = record {
   ds = [];
   echoes = refl;
   bytes_are = refl;
-  added = brings_nothing view m h.flight.source;
   now = h;
   source = refl;
+  added = brings_nothing view m h.flight.source (λ gs. h.flight.sent ∷ gs ≡ h.flight.sent ∷ []) refl;
   met = by h.flight.altered refl;
   unheard = unheard_nothing m;
 }
@@ -117,14 +123,17 @@ pub so_far_more : {M : Type 0} (view : M → MediumView) (m n s : RingView M) (h
 so_far_more view m n s h bytes byte so went is_byte =
     let p = h.flight.source in
     let d : Echo = record { sent = so.now.flight.sent; back = went.back } in
-    let more : Brings view n p (Some p) (echoed p d ∷ []) (Some p) s = subst (λ p. Brings view n p (Some p) (echoed p d ∷ []) (Some p) s) so.source went.added in
+    let next = went.next.flight.sent in
+    let more : Brings view n p (λ gs. gs ≡ next ∷ []) (Some p) (echoed p d ∷ []) (Some p) s = subst (λ p. Brings view n p (λ gs. gs ≡ next ∷ []) (Some p) (echoed p d ∷ []) (Some p) s) so.source went.added in
     let clean = was_clean view m n h bytes so went.unaltered in
     let split = met_parts view m n s (Some p) (Some p) (Some p) (Some p) (map (echoed p) so.ds) (echoed p d ∷ []) h.ring so.now.ring so.added.adds more.adds in
     record {
       ds = so.ds ++ d ∷ [];
       echoes = list_all-append is_echo so.ds (d ∷ []) ∙ and_from (list_all is_echo so.ds) (list_all is_echo (d ∷ [])) so.echoes (and_from (is_echo d) true went.right refl);
       bytes_are = ap (λ bytes. bytes ++ byte ∷ []) so.bytes_are ∙ ap (λ byte. bytes_of so.ds ++ byte ∷ []) (is_byte ∙ byte_sent n so.now went.unaltered) ∙ sym (map-append (λ (d : Echo). byte_of d.sent) so.ds (d ∷ []));
-      added = subst (λ es. Brings view m p (Some p) es (Some p) s) (sym (map-append (echoed p) so.ds (d ∷ []))) (brings_more view m n p (Some p) (Some p) (map (echoed p) so.ds) so.added s (Some p) (echoed p d ∷ []) more);
+      added = subst (λ es. Brings view m p (λ gs. h.flight.sent ∷ gs ≡ frames_of (so.ds ++ d ∷ []) ++ next ∷ []) (Some p) es (Some p) s) (sym (map-append (echoed p) so.ds (d ∷ [])))
+          (brings_more view m n p (λ gs. h.flight.sent ∷ gs ≡ frames_of so.ds ++ so.now.flight.sent ∷ []) (Some p) (Some p) (map (echoed p) so.ds) so.added s (λ gs. gs ≡ next ∷ []) (λ gs. h.flight.sent ∷ gs ≡ frames_of (so.ds ++ d ∷ []) ++ next ∷ []) (Some p) (echoed p d ∷ []) more
+          (λ gs hs first last. ap₂ (λ gs hs. gs ++ hs) first last ∙ ap (λ gs. gs ++ next ∷ []) (sym (map-append (λ (d : Echo). d.sent) so.ds (d ∷ [])))));
       now = went.next;
       source = went.source ∙ so.source;
       met = by went.next.flight.altered went.met clean split;
@@ -143,7 +152,9 @@ pub took_then : {M : Type 0} (view : M → MediumView) (m n s : RingView M) (h :
 took_then view m n s h stops bytes more so took =
     let p = h.flight.source in
     let talker = took.talker ∙ ap (λ p. Some p) so.source in
-    let after : Brings view n p (Some p) (behind_start took.answer) None s = subst (λ p. Brings view n p (Some p) (behind_start took.answer) None s) so.source took.added in
+    let T : List Frame → Type 0 = λ gs. so.now.flight.sent ∷ gs ≡ sent_frames took.answer ++ eto ∷ [] in
+    let U : List Frame → Type 0 = λ gs. h.flight.sent ∷ gs ≡ sent_frames (prepended so.ds took.answer) ++ eto ∷ [] in
+    let after : Brings view n p T (Some p) (behind_start took.answer) None s = subst (λ p. Brings view n p T (Some p) (behind_start took.answer) None s) so.source took.added in
     let clean = was_clean view m n h bytes so took.clean.0 in
     let split = met_parts view m n s (Some p) (Some p) (Some p) None (map (echoed p) so.ds) (behind_start took.answer) h.ring so.now.ring so.added.adds after.adds in
     record {
@@ -152,7 +163,11 @@ took_then view m n s h stops bytes more so took =
       legal = prepended_legal so.ds took.answer so.echoes took.legal;
       stopped = prepended_stopped so.ds took.answer ∙ took.stopped;
       bytes_are = ap (λ bytes. bytes ++ more) so.bytes_are ∙ ap (λ more. bytes_of so.ds ++ more) took.bytes_are ∙ sym (prepended_bytes so.ds took.answer p talker);
-      added = subst (λ es. Brings view m p (Some p) es None s) (sym (prepended_entries so.ds took.answer p talker)) (brings_more view m n p (Some p) (Some p) (map (echoed p) so.ds) so.added s None (behind_start took.answer) after);
+      added = subst (λ es. Brings view m p U (Some p) es None s) (sym (prepended_entries so.ds took.answer p talker))
+          (brings_more view m n p (λ gs. h.flight.sent ∷ gs ≡ frames_of so.ds ++ so.now.flight.sent ∷ []) (Some p) (Some p) (map (echoed p) so.ds) so.added s T U None (behind_start took.answer) after
+          (λ gs hs first last.
+          ap (λ gs. gs ++ hs) first ∙ append_assoc (frames_of so.ds) (so.now.flight.sent ∷ []) hs ∙ ap (λ hs. frames_of so.ds ++ hs) last ∙ sym (append_assoc (frames_of so.ds) (sent_frames took.answer) (eto ∷ []))
+          ∙ ap (λ gs. gs ++ eto ∷ []) (sym (prepended_frames so.ds took.answer p talker))));
       ring = took.ring;
       held = took.held;
       clean = (clean.0, split.1 (clean.1, took.clean.1));
@@ -181,7 +196,7 @@ not_took_then view m n s h bytes v w so not_took sum =
       cuts = ap (λ es. can_cut 0 es standing not_took.break) entries ∙ cut_legal (map (echoed p) so.ds) (behind_start answer) not_took.standing not_took.break ∙ not_took.cuts;
       held_at_end = not_took.held_at_end;
       added = subst (λ es. CutBrings view m p (Some p) es standing not_took.break not_took.held_at_end s) (sym entries)
-      (cut_brings_more view m n p (Some p) (Some p) (map (echoed p) so.ds) so.added s not_took.held_at_end (behind_start answer) not_took.standing not_took.break after);
+      (cut_brings_more view m n p (λ gs. h.flight.sent ∷ gs ≡ frames_of so.ds ++ so.now.flight.sent ∷ []) (Some p) (Some p) (map (echoed p) so.ds) so.added s not_took.held_at_end (behind_start answer) not_took.standing not_took.break after);
       ring = not_took.ring;
       held = not_took.held;
       spoilt =
@@ -208,7 +223,7 @@ ended_took view m s h byte ended is_byte =
       legal = and_from (not (p == 0)) (true && list_all is_echo (d ∷ [])) (is_device m h) (and_from true (list_all is_echo (d ∷ [])) refl (and_from (is_echo d) true ended.right refl));
       stopped = refl;
       bytes_are = ap (λ byte. byte ∷ []) (is_byte ∙ byte_sent m h ended.clean.0);
-      added = ended.added;
+      added = added_as view m s p (Some p) (behind_start (ToItsEnd p (d ∷ []))) None _ _ ended.added (λ k q gs outs said. (said.0, λ at. ap (λ gs. h.flight.sent ∷ gs) (said.1 at)));
       ring = ended.ring;
       held = ended.held;
       clean = ended.clean;
@@ -218,7 +233,7 @@ ended_took view m s h byte ended is_byte =
 -- a break at this entry of an answer
 pub breaks_at : {M : Type 0} (view : M → MediumView) (m s : RingView M) (h : IsHolding m) (w : ℕ) (answer : Answer) (xs rest : List Entry) (due : Entry) (break : Break) (held_at_end : Option ℕ) → talker_of answer ≡ Some h.flight.source → is_answer 0 answer ≡ true → fits w answer ≡ true
     → behind_start answer ≡ xs ++ due ∷ rest → is_break 0 due break ≡ true
-    → AddsBy view m h.flight.source (Some h.flight.source) (xs ++ break_entries due break) held_at_end (λ k q gs. CutBrought k q (xs ++ due ∷ []) (behind_all xs 0) gs) s → IsRing s → s.books.held ≡ None → Spoilt m h s → Unheard m s → NotTook view m h w s
+    → AddsBy view m h.flight.source (Some h.flight.source) (xs ++ break_entries due break) held_at_end (λ k q gs outs. CutBrought k q (xs ++ due ∷ []) (behind_all xs 0) gs) s → IsRing s → s.books.held ≡ None → Spoilt m h s → Unheard m s → NotTook view m h w s
 breaks_at view m s h w answer xs rest due break held_at_end talker legal fit entries is added ring held spoilt unheard =
     let standing = behind_all xs 0 in
     record {
@@ -231,9 +246,9 @@ breaks_at view m s h w answer xs rest due break held_at_end talker legal fit ent
       cuts = ap (λ es. can_cut 0 es standing break) entries ∙ cut_legal xs (due ∷ rest) 0 break ∙ is;
       held_at_end = held_at_end;
       added = subst (λ es. CutBrings view m h.flight.source (Some h.flight.source) es standing break held_at_end s) (sym entries)
-          (added_as view m s h.flight.source (Some h.flight.source) (cut_at (xs ++ due ∷ rest) standing break) held_at_end (λ k q gs. CutBrought k q (xs ++ due ∷ []) standing gs) (λ k q gs. CutBrought k q (xs ++ due ∷ rest) standing gs)
-          (subst (λ es. AddsBy view m h.flight.source (Some h.flight.source) es held_at_end (λ k q gs. CutBrought k q (xs ++ due ∷ []) standing gs) s) (sym (cut_entries xs (due ∷ rest) 0 break)) added)
-          (λ k q gs cut. subst (λ es. CutBrought k q es standing gs) (append_assoc xs (due ∷ []) rest) (cut_more k q standing break (xs ++ due ∷ []) rest gs (cut_legal xs (due ∷ []) 0 break ∙ is) cut)));
+          (added_as view m s h.flight.source (Some h.flight.source) (cut_at (xs ++ due ∷ rest) standing break) held_at_end (λ k q gs outs. CutBrought k q (xs ++ due ∷ []) standing gs) (λ k q gs outs. CutBrought k q (xs ++ due ∷ rest) standing gs)
+          (subst (λ es. AddsBy view m h.flight.source (Some h.flight.source) es held_at_end (λ k q gs outs. CutBrought k q (xs ++ due ∷ []) standing gs) s) (sym (cut_entries xs (due ∷ rest) 0 break)) added)
+          (λ k q gs outs cut. subst (λ es. CutBrought k q es standing gs) (append_assoc xs (due ∷ []) rest) (cut_more k q standing break (xs ++ due ∷ []) rest gs (cut_legal xs (due ∷ []) 0 break ∙ is) cut)));
       ring = ring;
       held = held;
       spoilt = spoilt;
@@ -245,11 +260,11 @@ ends_legal m h d ds echo echoes = and_from (not (h.flight.source == 0)) (true &&
 
 -- what was added, by what came whole and what was due
 pub severed_at : {M : Type 0} (view : M → MediumView) (m s : RingView M) (h : IsHolding m) (off : Severed view m h s) (whole : List Echo) (due : Entry) → off.whole ≡ whole → off.due ≡ due
-    → AddsBy view m h.flight.source (Some h.flight.source) (map (echoed h.flight.source) whole ++ break_entries due off.break) None (λ k q gs. CutBrought k q (map (echoed h.flight.source) whole ++ due ∷ []) (length whole) gs) s
+    → AddsBy view m h.flight.source (Some h.flight.source) (map (echoed h.flight.source) whole ++ break_entries due off.break) None (λ k q gs outs. CutBrought k q (map (echoed h.flight.source) whole ++ due ∷ []) (length whole) gs) s
 severed_at view m s h off whole due whole_is due_is =
     let p = h.flight.source in
-    subst (λ due. AddsBy view m p (Some p) (map (echoed p) whole ++ break_entries due off.break) None (λ k q gs. CutBrought k q (map (echoed p) whole ++ due ∷ []) (length whole) gs) s) due_is
-    (subst (λ whole. AddsBy view m p (Some p) (map (echoed p) whole ++ break_entries off.due off.break) None (λ k q gs. CutBrought k q (map (echoed p) whole ++ off.due ∷ []) (length whole) gs) s) whole_is off.added)
+    subst (λ due. AddsBy view m p (Some p) (map (echoed p) whole ++ break_entries due off.break) None (λ k q gs outs. CutBrought k q (map (echoed p) whole ++ due ∷ []) (length whole) gs) s) due_is
+    (subst (λ whole. AddsBy view m p (Some p) (map (echoed p) whole ++ break_entries off.due off.break) None (λ k q gs outs. CutBrought k q (map (echoed p) whole ++ off.due ∷ []) (length whole) gs) s) whole_is off.added)
 
 -- it broke off, with room for two bytes at least
 pub severed_not_took : {M : Type 0} (view : M → MediumView) (m s : RingView M) (h : IsHolding m) (w : ℕ) → 2 ≤ w → (off : Severed view m h s) → NotTook view m h w s

@@ -5,6 +5,8 @@ use Rattle.il_frames.specs.declared.frame.Frame.{Frame}
 use Rattle.il_frames.specs.declared.entry.Entry.{Entry}
 use Rattle.il_frames.specs.declared.entry.Outcome.TheVariants as outcome
 use Rattle.il_frames.specs.Frames.{byte_of, is_data}
+use Rattle.il_device.specs.declared.device.Out.{Out}
+use Rattle.il_device.specs.declared.device.Out.TheVariants.{Pass, Source}
 use Rattle.il_device.specs.declared.interface.OwnFrame.{OwnFrame}
 use Rattle.il_device.specs.State.{DeviceState}
 use Rattle.il_device.specs.Takes.{eto, ete}
@@ -52,6 +54,15 @@ talker_of NotTaken = None
 talker_of (ToItsEnd p ds) = Some p
 talker_of (Stopped p ds last) = Some p
 
+-- the data frames as they were sent
+abbrev pub frames_of : List Echo → List Frame
+frames_of ds = map (λ d. d.sent) ds
+
+abbrev pub sent_frames : Answer → List Frame
+sent_frames NotTaken = []
+sent_frames (ToItsEnd p ds) = frames_of ds
+sent_frames (Stopped p ds last) = frames_of ds ++ last.sent ∷ []
+
 abbrev pub is_stopped : Answer → Bool
 is_stopped NotTaken = false
 is_stopped (ToItsEnd p ds) = false
@@ -96,6 +107,30 @@ pub record PassedInPart (k q a : ℕ) (number : Option ℕ) (came : List Frame) 
   pub standing_behind : ℕ
   pub last : CutBrought k q (commanded 0 unt) standing_behind behind
 
+-- the frames that the drive sent of its own among its answers
+abbrev pub own_frames : List Out → List Frame
+own_frames [] = []
+own_frames (Pass g ∷ outs) = own_frames outs
+own_frames (Source g ∷ outs) = g ∷ own_frames outs
+
+-- What came to the drive, which is the talker, and what it answered: the commands before the start message; that message and the echoes, for
+-- which it sent these data frames and ETO; and the commands behind them.
+pub record SpokenBy (k q a : ℕ) (number : Option ℕ) (start : Start) (answer : Answer) (came : List Frame) (answers : List Out) : Type 0 where
+  pub before : List Frame
+  pub during : List Frame
+  pub behind : List Frame
+  pub all : came ≡ before ++ (during ++ behind)
+  pub first : Brought k q (receive_front 0 a number) before
+  pub middle : Brought k q (answer_entries 0 (start_frame start) answer) during
+  pub last : Brought k q (commanded 0 unt) behind
+  pub answers_before : List Out
+  pub answers_during : List Out
+  pub answers_behind : List Out
+  pub all_answers : answers ≡ answers_before ++ (answers_during ++ answers_behind)
+  pub many_before : length answers_before ≡ length before
+  pub many_during : length answers_during ≡ length during
+  pub said : own_frames answers_during ≡ sent_frames answer ++ eto ∷ []
+
 -- a device took the start message, and the drive stands behind it
 abbrev pub StandsBehind : {M : Type 0} → Answer → RingView M → Type 0
 StandsBehind answer r = IfSome (talker_of answer) (λ p. p < drive_party r) × IsSome (talker_of answer)
@@ -112,6 +147,7 @@ pub record Received {M : Type 0} (view : M → MediumView) (a : ℕ) (number : O
   pub stops : is_stopped answer ≡ (n == length old)
   pub unheard : Unheard r s
   pub passed : StandsBehind answer r → PassedBy (length (devices_of r)) (drive_party r) a number made.whole.adds.came
+  pub spoken : talker_of answer ≡ Some (drive_party r) → SpokenBy (length (devices_of r)) (drive_party r) a number start answer made.whole.adds.came made.whole.adds.answers
 
 -- it was broken off
 pub record NotReceived {M : Type 0} (view : M → MediumView) (a : ℕ) (number : Option ℕ) (start : Start) (w : ℕ) (r s : RingView M) : Type 0 where
@@ -135,18 +171,18 @@ pub record Asked {M : Type 0} (view : M → MediumView) (a : ℕ) (number : Opti
 
 -- These entries were added while party p sent. Where the drive is that party or stands before it, the frames that came to it are those
 -- that the entries brought; behind it they are frames of the talker and NRD.
-pub record AddsBy {M : Type 0} (view : M → MediumView) (m : RingView M) (p : ℕ) (from : Option ℕ) (entries : List Entry) (to : Option ℕ) (brought : ℕ → ℕ → List Frame → Type 0) (s : RingView M) : Type 0 where
+pub record AddsBy {M : Type 0} (view : M → MediumView) (m : RingView M) (p : ℕ) (from : Option ℕ) (entries : List Entry) (to : Option ℕ) (brought : ℕ → ℕ → List Frame → List Out → Type 0) (s : RingView M) : Type 0 where
   pub adds : Adds view m from entries to s
-  pub near : drive_party m ≤ p → brought (length (devices_of m)) (drive_party m) adds.came
+  pub near : drive_party m ≤ p → brought (length (devices_of m)) (drive_party m) adds.came adds.answers
   pub far : p < drive_party m → AllSpoken adds.came
 
--- the entries brought their frames
-abbrev pub Brings : {M : Type 0} → (M → MediumView) → RingView M → ℕ → Option ℕ → List Entry → Option ℕ → RingView M → Type 0
-Brings view m p from entries to s = AddsBy view m p from entries to (λ k q gs. Brought k q entries gs) s
+-- the entries brought their frames; where the drive is that party, what it sent has S
+abbrev pub Brings : {M : Type 0} → (M → MediumView) → RingView M → ℕ → (List Frame → Type 0) → Option ℕ → List Entry → Option ℕ → RingView M → Type 0
+Brings view m p S from entries to s = AddsBy view m p from entries to (λ k q gs outs. Brought k q entries gs × (q ≡ p → S (own_frames outs))) s
 
 -- the first n of these did, and of the next at most its frame came
 abbrev pub CutBrings : {M : Type 0} → (M → MediumView) → RingView M → ℕ → Option ℕ → List Entry → ℕ → Break → Option ℕ → RingView M → Type 0
-CutBrings view m p from entries n break to s = AddsBy view m p from (cut_at entries n break) to (λ k q gs. CutBrought k q entries n gs) s
+CutBrings view m p from entries n break to s = AddsBy view m p from (cut_at entries n break) to (λ k q gs outs. CutBrought k q entries n gs) s
 
 -- ---- a held frame
 
@@ -178,9 +214,9 @@ pub record WentOn {M : Type 0} (view : M → MediumView) (m : RingView M) (h : I
   pub back : Frame
   pub right : is_echo (record { sent = h.flight.sent; back = back }) ≡ true
   pub goes_on : (h.own.stopped || h.own.last) ≡ false
-  pub added : Brings view m h.flight.source (Some h.flight.source) (echoed h.flight.source (record { sent = h.flight.sent; back = back }) ∷ []) (Some h.flight.source) s
   pub next : IsHolding s
   pub source : next.flight.source ≡ h.flight.source
+  pub added : Brings view m h.flight.source (λ gs. gs ≡ next.flight.sent ∷ []) (Some h.flight.source) (echoed h.flight.source (record { sent = h.flight.sent; back = back }) ∷ []) (Some h.flight.source) s
   pub unaltered : h.flight.altered ≡ false
   pub met : MatchBool next.flight.altered (met_between m s ≢ []) (met_between m s ≡ [])
   pub unheard : Unheard m s
@@ -189,7 +225,7 @@ pub record WentOn {M : Type 0} (view : M → MediumView) (m : RingView M) (h : I
 pub record Ended {M : Type 0} (view : M → MediumView) (m : RingView M) (h : IsHolding m) (s : RingView M) : Type 0 where
   pub back : Frame
   pub right : is_echo (record { sent = h.flight.sent; back = back }) ≡ true
-  pub added : Brings view m h.flight.source (Some h.flight.source) (echoed h.flight.source (record { sent = h.flight.sent; back = back }) ∷ entry h.flight.source eto (outcome.Taken 0) ∷ []) None s
+  pub added : Brings view m h.flight.source (λ gs. gs ≡ eto ∷ []) (Some h.flight.source) (echoed h.flight.source (record { sent = h.flight.sent; back = back }) ∷ entry h.flight.source eto (outcome.Taken 0) ∷ []) None s
   pub ring : IsRing s
   pub held : s.books.held ≡ None
   pub clean : Clean m h s
@@ -208,7 +244,7 @@ pub record Severed {M : Type 0} (view : M → MediumView) (m : RingView M) (h : 
   pub break : Break
   pub due_at : DueAt h.flight.source h.own whole due
   pub legal : is_break 0 due break ≡ true
-  pub added : AddsBy view m h.flight.source (Some h.flight.source) (map (echoed h.flight.source) whole ++ break_entries due break) None (λ k q gs. CutBrought k q (map (echoed h.flight.source) whole ++ due ∷ []) (length whole) gs) s
+  pub added : AddsBy view m h.flight.source (Some h.flight.source) (map (echoed h.flight.source) whole ++ break_entries due break) None (λ k q gs outs. CutBrought k q (map (echoed h.flight.source) whole ++ due ∷ []) (length whole) gs) s
   pub ring : IsRing s
   pub held : s.books.held ≡ None
   pub spoilt : Spoilt m h s
@@ -231,7 +267,7 @@ IsOnward answer onward.Broken = (answer ≡ arrival.Lost) ⊎ ((g : Frame) × (a
 -- Party p took it, and its first frame is held, which was altered exactly where a planned hop was met.
 pub record Began {M : Type 0} (view : M → MediumView) (start : Frame) (r m : RingView M) : Type 0 where
   pub now : IsHolding m
-  pub added : Brings view r now.flight.source None (entry 0 start (outcome.Taken now.flight.source) ∷ []) (Some now.flight.source) m
+  pub added : Brings view r now.flight.source (λ gs. gs ≡ now.flight.sent ∷ []) None (entry 0 start (outcome.Taken now.flight.source) ∷ []) (Some now.flight.source) m
   pub talked : IsTalking now.flight.source None (devices_of r)
   pub met : MatchBool now.flight.altered (met_between r m ≢ []) (met_between r m ≡ [])
   pub unheard : Unheard r m
@@ -259,9 +295,9 @@ pub record SoFar {M : Type 0} (view : M → MediumView) (m : RingView M) (h : Is
   pub ds : List Echo
   pub echoes : list_all is_echo ds ≡ true
   pub bytes_are : bytes ≡ bytes_of ds
-  pub added : Brings view m h.flight.source (Some h.flight.source) (map (echoed h.flight.source) ds) (Some h.flight.source) s
   pub now : IsHolding s
   pub source : now.flight.source ≡ h.flight.source
+  pub added : Brings view m h.flight.source (λ gs. h.flight.sent ∷ gs ≡ frames_of ds ++ now.flight.sent ∷ []) (Some h.flight.source) (map (echoed h.flight.source) ds) (Some h.flight.source) s
   pub met : MatchBool now.flight.altered (Spoilt m h s) (Clean m h s)
   pub unheard : Unheard m s
 
@@ -272,7 +308,7 @@ pub record Took {M : Type 0} (view : M → MediumView) (m : RingView M) (h : IsH
   pub legal : is_answer 0 answer ≡ true
   pub stopped : is_stopped answer ≡ stops
   pub bytes_are : bytes ≡ received answer
-  pub added : Brings view m h.flight.source (Some h.flight.source) (behind_start answer) None s
+  pub added : Brings view m h.flight.source (λ gs. h.flight.sent ∷ gs ≡ sent_frames answer ++ eto ∷ []) (Some h.flight.source) (behind_start answer) None s
   pub ring : IsRing s
   pub held : s.books.held ≡ None
   pub clean : Clean m h s
@@ -330,6 +366,7 @@ pub record Answered {M : Type 0} (view : M → MediumView) (start : Start) (n : 
   pub talked : WasTalking answer r
   pub whole : Whole view r (answer_entries 0 (start_frame start) answer) s
   pub far : StandsBehind answer r → AllSpoken whole.adds.came
+  pub said : talker_of answer ≡ Some (drive_party r) → own_frames whole.adds.answers ≡ sent_frames answer ++ eto ∷ []
   pub count : n ≡ length (received answer)
   pub within : n ≤ length old
   pub bytes : new ≡ received answer ++ drop n old

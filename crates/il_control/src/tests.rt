@@ -1,7 +1,8 @@
-ghost use Rattle.std.specs.Prelude.{IfOk};
+ghost use Rattle.std.specs.Prelude.{◌<◌, IfOk, IfSome};
 ghost use Rattle.il_control.specs.Calls.{IsLost};
 
-use crate::Lost;
+use crate::{Lost, Sot};
+use arrayvec::ArrayVec;
 use il_device::{Device, Printer};
 use il_frames::{Entry, Frame, Outcome};
 use il_ports::{Inserted, Medium, MemoryMedium, New};
@@ -176,6 +177,350 @@ fn altered_bytes(rt: HostRuntime) -> Result<(), Fail> {
             "{hop}"
         );
         assert_eq!(rt; ring.paper(), Some((paper, paper.len() as u64)), "{hop}");
+    }
+    Ok(())
+}
+
+/// A receive on the loop of the drive and a printer that was addressed, three links a frame that the host sends.
+struct Call {
+    name: &'static str,
+    /// The crossings at which a byte is altered, by 1.
+    altered: &'static [u64],
+    address: u8,
+    number: Option<u8>,
+    start: Sot,
+    room: usize,
+    /// The bytes that came, or none where it broke off.
+    came: Option<&'static [u8]>,
+    /// The entries behind those of the addressing.
+    log: &'static [&'static str],
+}
+
+static CALLS: [Call; 11] = [
+    Call {
+        name: "the drive's status",
+        altered: &[],
+        address: 1,
+        number: None,
+        start: Sot::Sst,
+        room: 1,
+        came: Some(&[0]),
+        log: &[
+            "~ 0 UNL = UNL",
+            "~ 0 RFC = RFC",
+            "~ 0 TAD 01 = TAD 01",
+            "~ 0 RFC = RFC",
+            "~ 0 SST > 1",
+            "~ 0 NRD = NRD",
+            "~ 1 DAB 00 = DAB 00",
+            "~ 1 ETO > 0",
+            "~ 0 UNT = UNT",
+            "~ 0 RFC = RFC",
+        ],
+    },
+    Call {
+        name: "the drive's status, with room to spare",
+        altered: &[],
+        address: 1,
+        number: None,
+        start: Sot::Sst,
+        room: 2,
+        came: Some(&[0]),
+        log: &[
+            "~ 0 UNL = UNL",
+            "~ 0 RFC = RFC",
+            "~ 0 TAD 01 = TAD 01",
+            "~ 0 RFC = RFC",
+            "~ 0 SST > 1",
+            "~ 1 DAB 00 = DAB 00",
+            "~ 1 ETO > 0",
+            "~ 0 UNT = UNT",
+            "~ 0 RFC = RFC",
+        ],
+    },
+    Call {
+        name: "the status is altered on its way to the host",
+        altered: &[30],
+        address: 1,
+        number: None,
+        start: Sot::Sst,
+        room: 1,
+        came: None,
+        log: &[
+            "~ 0 UNL = UNL",
+            "~ 0 RFC = RFC",
+            "~ 0 TAD 01 = TAD 01",
+            "~ 0 RFC = RFC",
+            "~ 0 SST > 1",
+            "~ 0 NRD = NRD",
+            "~ 1 DAB 00 = DAB 01",
+            "~ 1 ETE > 0",
+        ],
+    },
+    Call {
+        name: "the status is altered on its way back",
+        altered: &[34],
+        address: 1,
+        number: None,
+        start: Sot::Sst,
+        room: 1,
+        came: None,
+        log: &[
+            "~ 0 UNL = UNL",
+            "~ 0 RFC = RFC",
+            "~ 0 TAD 01 = TAD 01",
+            "~ 0 RFC = RFC",
+            "~ 0 SST > 1",
+            "~ 0 NRD = NRD",
+            "~ 1 DAB 00 = DAB 01",
+            "~ 1 ETE > 0",
+        ],
+    },
+    Call {
+        name: "the status is altered before and behind the host",
+        altered: &[30, 34],
+        address: 1,
+        number: None,
+        start: Sot::Sst,
+        room: 1,
+        came: None,
+        log: &[
+            "~ 0 UNL = UNL",
+            "~ 0 RFC = RFC",
+            "~ 0 TAD 01 = TAD 01",
+            "~ 0 RFC = RFC",
+            "~ 0 SST > 1",
+            "~ 0 NRD = NRD",
+            "~ 1 DAB 00 ! 1",
+        ],
+    },
+    Call {
+        name: "the status is altered, with room to spare",
+        altered: &[29],
+        address: 1,
+        number: None,
+        start: Sot::Sst,
+        room: 2,
+        came: None,
+        log: &[
+            "~ 0 UNL = UNL",
+            "~ 0 RFC = RFC",
+            "~ 0 TAD 01 = TAD 01",
+            "~ 0 RFC = RFC",
+            "~ 0 SST > 1",
+            "~ 1 DAB 00 = DAB 01",
+            "~ 1 ETE > 0",
+        ],
+    },
+    Call {
+        name: "no device has the address",
+        altered: &[],
+        address: 3,
+        number: None,
+        start: Sot::Sst,
+        room: 1,
+        came: Some(&[]),
+        log: &[
+            "~ 0 UNL = UNL",
+            "~ 0 RFC = RFC",
+            "~ 0 TAD 03 = TAD 03",
+            "~ 0 RFC = RFC",
+            "~ 0 SST = SST",
+            "~ 0 UNT = UNT",
+            "~ 0 RFC = RFC",
+        ],
+    },
+    Call {
+        name: "the drive's ID",
+        altered: &[],
+        address: 1,
+        number: None,
+        start: Sot::Sai,
+        room: 1,
+        came: Some(&[16]),
+        log: &[
+            "~ 0 UNL = UNL",
+            "~ 0 RFC = RFC",
+            "~ 0 TAD 01 = TAD 01",
+            "~ 0 RFC = RFC",
+            "~ 0 SAI > 1",
+            "~ 0 NRD = NRD",
+            "~ 1 DAB 10 = DAB 10",
+            "~ 1 ETO > 0",
+            "~ 0 UNT = UNT",
+            "~ 0 RFC = RFC",
+        ],
+    },
+    Call {
+        name: "the printer's ID",
+        altered: &[],
+        address: 2,
+        number: None,
+        start: Sot::Sai,
+        room: 1,
+        came: Some(&[32]),
+        log: &[
+            "~ 0 UNL = UNL",
+            "~ 0 RFC = RFC",
+            "~ 0 TAD 02 = TAD 02",
+            "~ 0 RFC = RFC",
+            "~ 0 SAI > 2",
+            "~ 0 NRD = NRD",
+            "~ 2 DAB 20 = DAB 20",
+            "~ 2 ETO > 0",
+            "~ 0 UNT = UNT",
+            "~ 0 RFC = RFC",
+        ],
+    },
+    Call {
+        name: "the drive's position, to its end",
+        altered: &[],
+        address: 1,
+        number: Some(3),
+        start: Sot::Sda,
+        room: 3,
+        came: Some(&[0, 0]),
+        log: &[
+            "~ 0 UNL = UNL",
+            "~ 0 RFC = RFC",
+            "~ 0 TAD 01 = TAD 01",
+            "~ 0 RFC = RFC",
+            "~ 0 DDT 03 = DDT 03",
+            "~ 0 RFC = RFC",
+            "~ 0 SDA > 1",
+            "~ 1 DAB 00 = DAB 00",
+            "~ 1 DAB 00 = DAB 00",
+            "~ 1 ETO > 0",
+            "~ 0 UNT = UNT",
+            "~ 0 RFC = RFC",
+        ],
+    },
+    Call {
+        name: "two bytes of a record",
+        altered: &[],
+        address: 1,
+        number: Some(2),
+        start: Sot::Sda,
+        room: 2,
+        came: Some(&[0, 0]),
+        log: &[
+            "~ 0 UNL = UNL",
+            "~ 0 RFC = RFC",
+            "~ 0 TAD 01 = TAD 01",
+            "~ 0 RFC = RFC",
+            "~ 0 DDT 02 = DDT 02",
+            "~ 0 RFC = RFC",
+            "~ 0 SDA > 1",
+            "~ 1 DAB 00 = DAB 00",
+            "~ 0 NRD = NRD",
+            "~ 1 DAB 00 = DAB 00",
+            "~ 1 ETO > 0",
+            "~ 0 UNT = UNT",
+            "~ 0 RFC = RFC",
+        ],
+    },
+];
+
+/// The number of its command, which is below 32.
+fn number_of(call: &Call) -> Option<u8>
+    ensures { IfSome result (λ n. n < 32) }
+{
+    match call.number {
+        Some(number) if number < 32 => Some(number),
+        _ => None,
+    }
+}
+
+/// Addresses the loop and receives. Answers how many bytes came, or none where that broke off.
+fn receive(
+    rt: &impl Abort,
+    lost: Lost<MemoryMedium>,
+    call: &Call,
+    into: &mut [u8],
+) -> Result<(Ring<MemoryMedium>, Option<usize>), Fail>
+    requires { IsLost (⟦<Lost<MemoryMedium> as Seen<MemoryMedium>>⟧.seen lost) }
+{
+    assert!(rt; lost.ring().spare() >= 37);
+    let idle = match lost.resume() {
+        Ok((idle, _)) => idle,
+        Err(lost) => return Ok((lost.into_ring(), None)),
+    };
+    assert!(rt; !into.is_empty() && into.len() < 10);
+    assert!(rt; idle.ring().spare() >= 53);
+    assert!(rt; 1 <= call.address && call.address <= 30);
+    match idle.receive(call.address, number_of(call), call.start, into) {
+        Ok((idle, count)) => Ok((idle.give_up().into_ring(), Some(count))),
+        Err(lost) => Ok((lost.into_ring(), None)),
+    }
+}
+
+/// The entries behind those of the addressing have these texts.
+fn compare_log(rt: &impl Abort, log: &[Entry], want: &[&str], name: &str) -> Result<(), Fail> {
+    let mut line = ArrayVec::new();
+    for (entry, text) in log.iter().skip(5).zip(want) {
+        entry.text(&mut line);
+        assert_eq!(rt; line.as_slice(), text.as_bytes(), "{name}");
+    }
+    assert_eq!(rt; log.len(), want.len() + 5, "{name}");
+    Ok(())
+}
+
+#[test]
+fn receives(rt: HostRuntime) -> Result<(), Fail> {
+    let alloc = rt.alloc();
+    for call in &CALLS {
+        let mut plan = Vec::new(alloc);
+        for hop in call.altered {
+            plan.push(Planned {
+                hop: *hop,
+                fault: Alter(1),
+            })?;
+        }
+        let printer: Box<dyn Device> = Box::new(alloc, Printer::new(alloc)?)?;
+        let lost = controller(&rt, printer, &plan)?;
+        let mut bytes = [0xFF; 3];
+        assert!(rt; call.room <= bytes.len());
+        let (ring, count) = receive(&rt, lost, call, &mut bytes[..call.room])?;
+        compare_log(&rt, ring.log(), call.log, call.name)?;
+        let came = count.and_then(|count| bytes.get(..count));
+        assert_eq!(rt; came, call.came, "{}", call.name);
+    }
+    Ok(())
+}
+
+/// What is lost of a receive of the drive's status: the crossings of a frame, how many entries of the receive stand before its
+/// own, its source and its text.
+const LOSSES: [(u64, u64, usize, u8, &str); 11] = [
+    (16, 18, 0, 0, "UNL"),
+    (19, 21, 1, 0, "RFC"),
+    (22, 24, 2, 0, "TAD 01"),
+    (25, 27, 3, 0, "RFC"),
+    (28, 28, 4, 0, "SST"),
+    (29, 30, 5, 1, "DAB 00"),
+    (31, 33, 5, 0, "NRD"),
+    (34, 34, 6, 1, "DAB 00"),
+    (35, 36, 7, 1, "ETO"),
+    (37, 39, 8, 0, "UNT"),
+    (40, 42, 9, 0, "RFC"),
+];
+
+/// A frame of a receive is lost at each crossing in turn.
+#[test]
+fn receive_lost_at_each_crossing(rt: HostRuntime) -> Result<(), Fail> {
+    let alloc = rt.alloc();
+    let call = &CALLS[0];
+    for (first, last, standing, source, text) in LOSSES {
+        let want = call.log.get(..standing).expect(&rt, "the entries");
+        for hop in first..=last {
+            let printer: Box<dyn Device> = Box::new(alloc, Printer::new(alloc)?)?;
+            let lost = controller(&rt, printer, &[Planned { hop, fault: Lose }])?;
+            let (ring, came) = receive(&rt, lost, call, &mut [0])?;
+            assert_eq!(rt; (came, ring.crossings()), (None, hop));
+            let (entry, before) = ring.log().split_last().expect(&rt, "an entry");
+            compare_log(&rt, before, want, text)?;
+            assert_eq!(rt; (entry.source, entry.frame), (source, frame_of(&rt, text)));
+            assert_eq!(rt; entry.outcome, Outcome::Lost((hop % 3) as u8), "{hop}");
+        }
     }
     Ok(())
 }

@@ -9,3 +9,12 @@ pub mod Sending
 pub mod Beginning
 pub mod Records
 pub mod Reading
+pub mod Exchanges
+pub mod ExchangesAddressed
+pub mod ExchangesStatus
+pub mod ExchangesWriting
+pub mod ExchangesBroken
+pub mod ExchangesStill
+pub mod ExchangesReading
+pub mod ExchangesOthers
+pub mod ExchangesIdentity

@@ -36,7 +36,7 @@ pub record IsRead (v w : MediumView) : Type 0 where
   pub still : IsStill v w
   pub count : w.faults ≡ v.faults
 
-nothing_read : (v : MediumView) → IsRead v v
+pub nothing_read : (v : MediumView) → IsRead v v
 nothing_read v = record {
   still = record {
     stays_in = record { told = refl; inside = refl; size = refl };
@@ -48,7 +48,7 @@ nothing_read v = record {
   count = refl;
 }
 
-still_longer : (v w u : MediumView) → IsStill v w → IsStill w u → IsStill v u
+pub still_longer : (v w u : MediumView) → IsStill v w → IsStill w u → IsStill v u
 still_longer v w u first next = record {
   stays_in = record {
     told = next.stays_in.told ∙ first.stays_in.told;
@@ -135,7 +135,7 @@ no_echo_class class.End byte is_byte right = cc
 no_echo_class class.Esr byte is_byte right = cc
 no_echo_class _ byte is_byte right = cc
 
-no_echo : (f : Frame) → is_data f ≡ true → IsEcho (Source eto) f → ⊥
+pub no_echo : (f : Frame) → is_data f ≡ true → IsEcho (Source eto) f → ⊥
 no_echo f = no_echo_class (class_of f) (byte_of f)
 
 module _ {M : Type 0} (view : M → MediumView) where
@@ -250,39 +250,39 @@ module _ {M : Type 0} (view : M → MediumView) where
 
   -- ---- any number of echoes
 
-  -- What went out behind these echoes: bytes that lead from that place to another one, and then, where the transmission
-  -- is over, ETO.
-  pub record WentOut (first whole last : ℕ) (m : M) (fs : List Frame) (outs : List Out) (w : DriveView M) : Type 0 where
+  -- What went out behind these echoes, where the byte `start` was on the loop: bytes that lead from that place to another
+  -- one, the last of which is on the loop; and then, where the transmission is over, ETO.
+  pub record WentOut (first whole last start : ℕ) (m : M) (fs : List Frame) (outs : List Out) (w : DriveView M) : Type 0 where
     pub bytes : List ℕ
     pub to_whole : ℕ
     pub to_last : ℕ
     pub place : 256 * to_whole + to_last ≡ 256 * whole + last + length bytes
     pub content : (t : Tape) → (view m).tape ≡ Some t → sent_bytes t first to_whole to_last ≡ sent_bytes t first whole last ++ bytes
-    pub end : (HasSent view first to_whole to_last m w × (outs ≡ map sent bytes) × (length fs ≡ length bytes))
+    pub end : (HasSent view first to_whole to_last m w × (outs ≡ map sent bytes) × (length fs ≡ length bytes) × (get_or w.state.buffer_0 to_last 0 ≡ get_or (start ∷ bytes) (length bytes) 0))
         ⊎ (HasEnded view (first + suc to_whole) m w × (to_last ≡ 255) × (outs ≡ map sent bytes ++ Source eto ∷ []) × (length fs ≡ suc (length bytes)))
 
-  nothing_went : (first whole last : ℕ) (m : M) (v w : DriveView M) → HasSent view first whole last m v → w ≡ v → WentOut first whole last m [] [] w
+  nothing_went : (first whole last : ℕ) (m : M) (v w : DriveView M) → HasSent view first whole last m v → w ≡ v → WentOut first whole last (get_or v.state.buffer_0 last 0) m [] [] w
   nothing_went first whole last m v w has is = record {
     bytes = [];
     to_whole = whole;
     to_last = last;
     place = omega arith;
     content = λ t told. sym (append-nil (sent_bytes t first whole last));
-    end = inl (subst (HasSent view first whole last m) (sym is) has, refl, refl);
+    end = inl (subst (HasSent view first whole last m) (sym is) has, refl, refl, ap (λ (w : DriveView M). get_or w.state.buffer_0 last 0) is);
   }
 
   -- a byte, and then what went out behind it
-  byte_and : (first whole last next_whole next_last byte : ℕ) (m : M) (f : Frame) (fs : List Frame) (out : Out) (outs : List Out) (w : DriveView M)
+  byte_and : (first whole last next_whole next_last start byte : ℕ) (m : M) (f : Frame) (fs : List Frame) (out : Out) (outs : List Out) (w : DriveView M)
       → 256 * next_whole + next_last ≡ suc (256 * whole + last) → ((t : Tape) → (view m).tape ≡ Some t → sent_bytes t first next_whole next_last ≡ sent_bytes t first whole last ++ byte ∷ [])
-      → out ≡ sent byte → WentOut first next_whole next_last m fs outs w → WentOut first whole last m (f ∷ fs) (out ∷ outs) w
-  byte_and first whole last next_whole next_last byte m f fs out outs w place content is more = record {
+      → out ≡ sent byte → WentOut first next_whole next_last byte m fs outs w → WentOut first whole last start m (f ∷ fs) (out ∷ outs) w
+  byte_and first whole last next_whole next_last start byte m f fs out outs w place content is more = record {
     bytes = byte ∷ more.bytes;
     to_whole = more.to_whole;
     to_last = more.to_last;
     place = omega (arith, place, more.place);
     content = λ t told. more.content t told ∙ ap (λ xs. xs ++ more.bytes) (content t told) ∙ append_assoc (sent_bytes t first whole last) (byte ∷ []) more.bytes;
     end = ⊎_elim
-        (λ going. inl (going.0, (λ i. is i ∷ going.1 i), ap suc going.2))
+        (λ going. inl (going.0, (λ i. is i ∷ going.1 i), ap suc going.2, going.3))
         (λ over. inr (over.0, over.1, (λ i. is i ∷ over.2 i), ap suc over.3))
         more.end;
   }
@@ -299,9 +299,9 @@ module _ {M : Type 0} (view : M → MediumView) where
       ∙ ap (λ xs. xs ++ get_or (record_at t (first + suc whole)) 0 0 ∷ []) (bytes_from_more t first whole ∙ ap (λ xs. bytes_from t first whole ++ xs) (sym (take_all 256 (record_at t (first + whole)) (omega (arith, long)))))
 
   -- the transmission that is over has no further frame
-  ended : (first whole last : ℕ) (m : M) (f : Frame) (fs : List Frame) (out : Out) (outs : List Out) (u w : DriveView M) → last ≡ 255 → HasEnded view (first + suc whole) m u
-      → out ≡ Source eto → AllData fs → ComeBack out fs outs → Ran view u fs outs w → WentOut first whole last m (f ∷ fs) (out ∷ outs) w
-  ended first whole last m f [] out [] u w e over is all echoes ran = record {
+  ended : (first whole last start : ℕ) (m : M) (f : Frame) (fs : List Frame) (out : Out) (outs : List Out) (u w : DriveView M) → last ≡ 255 → HasEnded view (first + suc whole) m u
+      → out ≡ Source eto → AllData fs → ComeBack out fs outs → Ran view u fs outs w → WentOut first whole last start m (f ∷ fs) (out ∷ outs) w
+  ended first whole last start m f [] out [] u w e over is all echoes ran = record {
     bytes = [];
     to_whole = whole;
     to_last = last;
@@ -309,14 +309,14 @@ module _ {M : Type 0} (view : M → MediumView) where
     content = λ t told. sym (append-nil (sent_bytes t first whole last));
     end = inr (subst (λ w. HasEnded view (first + suc whole) m w) (sym ran) over, e, (λ i. is i ∷ []), refl);
   }
-  ended first whole last m f [] out (next ∷ outs) u w e over is all echoes ran = absurd ran
-  ended first whole last m f (g ∷ fs) out [] u w e over is all echoes ran = absurd ran
-  ended first whole last m f (g ∷ fs) out (next ∷ outs) u w e over is all echoes ran = absurd (no_echo g all.0 (subst (λ out. IsEcho out g) is echoes.0))
+  ended first whole last start m f [] out (next ∷ outs) u w e over is all echoes ran = absurd ran
+  ended first whole last start m f (g ∷ fs) out [] u w e over is all echoes ran = absurd ran
+  ended first whole last start m f (g ∷ fs) out (next ∷ outs) u w e over is all echoes ran = absurd (no_echo g all.0 (subst (λ out. IsEcho out g) is echoes.0))
 
   -- While each frame is the echo of what went out before it, the records follow each other byte by byte; the transmission
   -- ends by ETO where one could not be read or the tape has no more.
   pub sends_records : (fs : List Frame) (outs : List Out) (first whole last : ℕ) (m : M) (v w : DriveView M) → IsMedium (view m) → HasSent view first whole last m v → AllData fs
-      → ComeBack (sent (get_or v.state.buffer_0 last 0)) fs outs → Ran view v fs outs w → WentOut first whole last m fs outs w
+      → ComeBack (sent (get_or v.state.buffer_0 last 0)) fs outs → Ran view v fs outs w → WentOut first whole last (get_or v.state.buffer_0 last 0) m fs outs w
   sends_records [] [] first whole last m v w medium has all echoes ran = nothing_went first whole last m v w has ran
   sends_records [] (out ∷ outs) first whole last m v w medium has all echoes ran = absurd ran
   sends_records (f ∷ fs) [] first whole last m v w medium has all echoes ran = absurd ran
@@ -329,17 +329,17 @@ module _ {M : Type 0} (view : M → MediumView) where
       let right : IsEcho (sent (get_or v.state.buffer_0 255 0)) f = subst (λ last. IsEcho (sent (get_or v.state.buffer_0 last 0)) f) e echoes.0 in
       ⊎_elim
       (λ went.
-      byte_and first whole last (suc whole) 0 (get_or u.state.buffer_0 0 0) m f fs out outs w (omega (arith, e))
+      byte_and first whole last (suc whole) 0 (get_or v.state.buffer_0 last 0) (get_or u.state.buffer_0 0 0) m f fs out outs w (omega (arith, e))
       (λ t told.
       let tape = medium.is_tape t told in
       subst (λ last. sent_bytes t first (suc whole) 0 ≡ sent_bytes t first whole last ++ get_or u.state.buffer_0 0 0 ∷ []) (sym e)
       (record_on t first whole (tape.bytes (first + whole) has.record_there) (omega (arith, tape.bytes (first + suc whole) went.0.record_there)) ∙ ap (λ bytes. sent_bytes t first whole 255 ++ get_or bytes 0 0 ∷ []) (sym (went.0.buffer t told))))
       went.1 (sends_records fs outs first (suc whole) 0 m u w medium went.0 all.1 (subst (λ out. ComeBack out fs outs) went.1 echoes.1) ran.2))
-      (λ over. ended first whole last m f fs out outs u w e over.0 over.1 all.1 echoes.1 ran.2)
+      (λ over. ended first whole last (get_or v.state.buffer_0 last 0) m f fs out outs u w e over.0 over.1 all.1 echoes.1 ran.2)
       (opens_next first whole f out m v u full all.0 right (omega (arith, has.record_there, size)) ran.1))
       (λ (lt : last < 255).
       let went = goes_on first whole last f out m v u has lt all.0 echoes.0 ran.1 in
-      byte_and first whole last whole (last + 1) (get_or u.state.buffer_0 (last + 1) 0) m f fs out outs w (omega arith)
+      byte_and first whole last whole (last + 1) (get_or v.state.buffer_0 last 0) (get_or u.state.buffer_0 (last + 1) 0) m f fs out outs w (omega arith)
       (λ t told.
       let tape = medium.is_tape t told in
       place_on t first whole last (omega (arith, lt, tape.bytes (first + whole) has.record_there)) ∙ ap (λ bytes. sent_bytes t first whole last ++ get_or bytes (last + 1) 0 ∷ []) (sym (went.0.buffer t told)))

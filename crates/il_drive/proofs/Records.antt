@@ -65,7 +65,7 @@ all_joined : (fs gs : List Frame) → AllData fs → AllData gs → AllData (fs 
 all_joined [] gs first more = more
 all_joined (f ∷ fs) gs first more = (first.0, all_joined fs gs first.1 more)
 
-all_frames : (records : List (List Frame)) → AreRecords records → AllData (frames_of records)
+pub all_frames : (records : List (List Frame)) → AreRecords records → AllData (frames_of records)
 all_frames [] are = are
 all_frames (fs ∷ more) are = all_joined fs (frames_of more) are.0.0 (all_frames more are.1)
 

@@ -66,6 +66,10 @@ pub adds_nothing-came : {M : Type 0} (view : M → MediumView) (r : RingView M) 
 unfolding adds_nothing
 adds_nothing-came view r a = refl
 
+pub adds_nothing-answers : {M : Type 0} (view : M → MediumView) (r : RingView M) (a : Option ℕ) → (adds_nothing view r a).answers ≡ []
+unfolding adds_nothing
+adds_nothing-answers view r a = refl
+
 -- one behind the other
 pub adds_more : {M : Type 0} (view : M → MediumView) (r m s : RingView M) (a b c : Option ℕ) (xs ys : List Entry) → Adds view r a xs b m → Adds view m b ys c s → Adds view r a (xs ++ ys) c s
 adds_more view r m s a b c xs ys first more =
@@ -93,6 +97,11 @@ pub adds_more-came : {M : Type 0} (view : M → MediumView) (r m s : RingView M)
 unfolding adds_more
 adds_more-came view r m s a b c xs ys first more = refl
 
+-- and so it answered
+pub adds_more-answers : {M : Type 0} (view : M → MediumView) (r m s : RingView M) (a b c : Option ℕ) (xs ys : List Entry) (first : Adds view r a xs b m) (more : Adds view m b ys c s) → (adds_more view r m s a b c xs ys first more).answers ≡ first.answers ++ more.answers
+unfolding adds_more
+adds_more-answers view r m s a b c xs ys first more = refl
+
 -- a frame that is held meanwhile counts on both sides, whether it stays or is dropped
 pub adds_held : {M : Type 0} (view : M → MediumView) (r s : RingView M) (a : Option ℕ) (xs : List Entry) → Adds view r None xs None s → Adds view r a xs a s
 adds_held view r s a xs adds = record {
@@ -115,3 +124,7 @@ adds_held view r s a xs adds = record {
 pub adds_held-came : {M : Type 0} (view : M → MediumView) (r s : RingView M) (a : Option ℕ) (xs : List Entry) (adds : Adds view r None xs None s) → (adds_held view r s a xs adds).came ≡ adds.came
 unfolding adds_held
 adds_held-came view r s a xs adds = refl
+
+pub adds_held-answers : {M : Type 0} (view : M → MediumView) (r s : RingView M) (a : Option ℕ) (xs : List Entry) (adds : Adds view r None xs None s) → (adds_held view r s a xs adds).answers ≡ adds.answers
+unfolding adds_held
+adds_held-answers view r s a xs adds = refl

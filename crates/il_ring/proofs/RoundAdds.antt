@@ -17,7 +17,7 @@ use Rattle.il_ring.specs.declared.flight.Flight.{Flight}
 use Rattle.il_ring.specs.Flights.{sourced}
 use Rattle.il_ring.specs.Rings.{RingView, Round, devices_of, roles_of}
 use Rattle.il_ring.specs.Rounded.{Rounded, IsReady, AllTook, device_sending, holding}
-use Rattle.il_ring.specs.Outcomes.{met_between, DriveHad, DriveTook}
+use Rattle.il_ring.specs.Outcomes.{met_between, DriveHad, DriveDid, DriveTook}
 use Rattle.il_ring.specs.Adds.{Adds}
 use Rattle.il_ring.proofs.Passing.{Carries}
 use Rattle.il_ring.proofs.RoundRoles.{IsQuiet}
@@ -109,6 +109,25 @@ pub host_had : {M : Type 0} (view : M → MediumView) (P : Frame → Type 0) (r 
     (log : s.books.log ≡ r.books.log ++ entries) (new : holding (round_counts view r s held (sourced 0 f) answer (inl refl) round).new ≡ to) (had : DriveHad view P r s) → (g : Frame) × P g × ((host_adds view P r s held f answer entries to carries round log new (inr had)).came ≡ g ∷ [])
 unfolding host_adds round_adds drive_ran
 host_had view P r s held f answer entries to carries round log new had = (had.0, had.1, refl)
+
+-- one that it certainly answered
+abbrev pub answered_some : (Frame → Out → Type 0) → Frame → Type 0
+answered_some P g = (out : Out) × P g out
+
+abbrev pub did_had : {M : Type 0} (view : M → MediumView) (P : Frame → Out → Type 0) (r s : RingView M) → DriveDid view P r s → DriveHad view (answered_some P) r s
+did_had view P r s did = (did.0, (did.1.0, did.1.1), (did.1.0, did.1.2))
+
+pub device_did : {M : Type 0} (view : M → MediumView) (P : Frame → Out → Type 0) (r s : RingView M) (held : Option Flight) (f : Flight) (answer : Arrival) (entries : List Entry) (to : Option ℕ) (quiet : IsQuiet f) (ready : IsReady f (devices_of r)) (round : Round view r held f answer s)
+    (log : s.books.log ≡ r.books.log ++ entries) (new : holding (round_counts view r s held f answer ready round).new ≡ to) (did : DriveDid view P r s)
+    → (g : Frame) × ((out : Out) × P g out × ((device_adds view (answered_some P) r s held f answer entries to quiet ready round log new (inr (did_had view P r s did))).came ≡ g ∷ []) × ((device_adds view (answered_some P) r s held f answer entries to quiet ready round log new (inr (did_had view P r s did))).answers ≡ out ∷ []))
+unfolding device_adds round_adds drive_ran
+device_did view P r s held f answer entries to quiet ready round log new did = (did.0, (did.1.0, did.1.1, refl, refl))
+
+pub host_did : {M : Type 0} (view : M → MediumView) (P : Frame → Out → Type 0) (r s : RingView M) (held : Option Flight) (f : Frame) (answer : Arrival) (entries : List Entry) (to : Option ℕ) (carries : Carries (message_of f) f) (round : Round view r held (sourced 0 f) answer s)
+    (log : s.books.log ≡ r.books.log ++ entries) (new : holding (round_counts view r s held (sourced 0 f) answer (inl refl) round).new ≡ to) (did : DriveDid view P r s)
+    → (g : Frame) × ((out : Out) × P g out × ((host_adds view (answered_some P) r s held f answer entries to carries round log new (inr (did_had view P r s did))).came ≡ g ∷ []) × ((host_adds view (answered_some P) r s held f answer entries to carries round log new (inr (did_had view P r s did))).answers ≡ out ∷ []))
+unfolding host_adds round_adds drive_ran
+host_did view P r s held f answer entries to carries round log new did = (did.0, (did.1.0, did.1.1, refl, refl))
 
 -- ---- which frame is held then
 

@@ -68,6 +68,24 @@ lies_before (x ∷ xs) ys (b ∷ bs) rest y d same lt =
       behind = more.behind;
     }
 
+-- d is y, where as many lie before the one as before the other
+pub record LiesAt (xs ys bs rest : List DeviceState) (y d : DeviceState) : Type 0 where
+  pub is : y ≡ d
+  pub before : xs ≡ bs
+  pub behind : ys ≡ rest
+
+pub lies_at : (xs ys bs rest : List DeviceState) (y d : DeviceState) → xs ++ y ∷ ys ≡ bs ++ d ∷ rest → length xs ≡ length bs → LiesAt xs ys bs rest y d
+lies_at [] ys [] rest y d same at = record { is = same_first y d ys rest same; before = refl; behind = same_rest y d ys rest same }
+lies_at (x ∷ xs) ys (b ∷ bs) rest y d same at =
+    let more = lies_at xs ys bs rest y d (same_rest x b (xs ++ y ∷ ys) (bs ++ d ∷ rest) same) (omega (arith, at)) in
+    record {
+      is = more.is;
+      before = ap (λ x. x ∷ xs) (same_first x b (xs ++ y ∷ ys) (bs ++ d ∷ rest) same) ∙ ap (λ xs. b ∷ xs) more.before;
+      behind = more.behind;
+    }
+lies_at [] ys (b ∷ bs) rest y d same at = absurd (omega (arith, at))
+lies_at (x ∷ xs) ys [] rest y d same at = absurd (omega (arith, at))
+
 -- ---- silent devices
 
 pub each_silent : (k : ℕ) (ds : List DeviceState) → AllSilent ds → Each Silent k ds

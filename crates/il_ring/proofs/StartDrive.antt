@@ -7,9 +7,12 @@ use Rattle.il_frames.specs.declared.entry.Outcome.TheVariants as outcome
 use Rattle.il_frames.specs.declared.message.Message.{Message}
 use Rattle.il_frames.specs.declared.message.Message.TheVariants as msg
 use Rattle.il_frames.specs.Messages.{message_of}
+use Rattle.il_device.specs.declared.device.Out.TheVariants.{Source}
+use Rattle.il_device.specs.declared.interface.OwnFrame.{OwnFrame}
 use Rattle.il_device.specs.declared.roles.Roles.{Roles}
 use Rattle.il_device.specs.Roles.{own_after}
 use Rattle.il_device.specs.State.{DeviceState}
+use Rattle.il_device.specs.Takes.{Takes}
 use Rattle.il_device.proofs.Laws.{risen_by, is_start}
 use Rattle.il_drive.specs.State.{device_of}
 use Rattle.il_ports.specs.Media.{MediumView}
@@ -23,14 +26,15 @@ use Rattle.il_ring.specs.Journeys.{trip}
 use Rattle.il_ring.specs.Lists.{First, NoneSends}
 use Rattle.il_ring.specs.Rings.{RingView, Round, devices_of, roles_of, drive_party}
 use Rattle.il_ring.specs.Outcomes as ring
-use Rattle.il_ring.specs.Outcomes.{LetsPass, StartReturned, StartGone, DriveTook, DriveHad, StartAtDrive, IsBrought}
+use Rattle.il_ring.specs.Outcomes.{LetsPass, StartReturned, StartGone, DriveTook, DriveHad, DriveDid, StartAtDrive, IsBrought}
 use Rattle.il_ring.proofs.DataDrive.{data_took}
 use Rattle.il_ring.proofs.DriveRounds.{NotAtDrive, plain_there, lost_ahead}
 use Rattle.il_ring.proofs.Journeys.{Journey-append}
 use Rattle.il_ring.proofs.PassKinds.{start_no_data}
 use Rattle.il_ring.proofs.Rings.{before-length}
 use Rattle.il_ring.proofs.RoundCounts.{drive_journey}
-use Rattle.il_ring.proofs.Splits.{each_silent, silent_front, none_sends_front, none_sends_at, lies_before}
+use Rattle.il_ring.proofs.Splits.{each_silent, silent_front, none_sends_front, none_sends_at, lies_before, lies_at}
+use Rattle.il_ring.proofs.Starts.{StartAnswer, start_answer}
 use Rattle.il_ring.proofs.StartJourneys.{StartPassed, StartLost, StartTaken, start_goes}
 use Rattle.il_ring.proofs.StartRounds.{start_round, taken_round, length_split}
 use Rattle.il_ring.proofs.Talkers.{one_talks}
@@ -74,6 +78,35 @@ taken_behind r s f answer taken none same low =
     let there = lies_before s.before s.after talking.before talking.behind (device_of s.drive.state) talking.talker talking.devices_are (omega (arith, low, same, talking.party)) in
     let clash = sym (none_sends_at talking.before there.between talking.talker (subst NoneSends there.first none)) ∙ talking.own_is in cc
 
+-- the drive took it, where it is that party, and answered by what this one sent
+said_here : {M : Type 0} (view : M → MediumView) (r s : RingView M) (f : Frame) (answer : Arrival) → is_start (message_of f) ≡ true → NoneSends (devices_of r) → length s.before ≡ length r.before → DriveHad view (λ g. g ≡ f) r s
+    → (taken : ring.StartTaken r f answer s) → drive_party r ≡ taken.party → DriveDid view (λ g out. (g ≡ f) × (out ≡ Source taken.sent)) r s
+said_here view r s f answer start none same had taken at = (had.0, (had.2.0, (had.1, by_answer (start_answer d e f had.2.0 start none_here takes)), had.2.1))
+  where
+    d : DeviceState
+    d = device_of r.drive.state
+
+    e : DeviceState
+    e = device_of s.drive.state
+
+    none_here : d.own ≡ None
+    none_here = none_sends_at r.before r.after d none
+
+    takes : Takes d f had.2.0 e
+    takes = subst (λ g. Takes d g had.2.0 e) had.1 had.2.1.takes
+
+    own_is : e.own ≡ Some taken.own
+    own_is =
+        let talking = taken.talking in
+        let lies = lies_at s.before s.after talking.before talking.behind e talking.talker talking.devices_are (omega (arith, at, same, talking.party)) in
+        ap (λ (d : DeviceState). d.own) lies.is ∙ talking.own_is
+
+    by_answer : StartAnswer f d had.2.0 e → had.2.0 ≡ Source taken.sent
+    by_answer (inl passes) = let clash = sym own_is ∙ passes.1.obeyed.own ∙ ap (λ own. own_after d.roles own (message_of f)) none_here ∙ start_own d.roles (message_of f) start in cc
+    by_answer (inr sends) =
+        let own : sends.2.own ≡ taken.own = ap (λ own. elim own [ None ↦ taken.own | Some own ↦ own ]) (sym sends.2.on_loop ∙ own_is) in
+        sends.1 ∙ ap (λ h. Source h) (sym sends.2.frame ∙ ap (λ (own : OwnFrame). own.frame) own ∙ taken.own_frame)
+
 -- ---- the whole round
 
 module _ {M : Type 0} (view : M → MediumView) (r s : RingView M) (held : Option Flight) (f : Frame) (answer : Arrival) (within : r.books.crossings ≤ last_crossing) (plan : IsPlan r.books.plan) (start : is_start (message_of f) ≡ true) (none : NoneSends (devices_of r))
@@ -88,7 +121,7 @@ module _ {M : Type 0} (view : M → MediumView) (r s : RingView M) (held : Optio
       (λ back. inl (back, had))
       (⊎_elim
       (λ gone. inr (inl (gone, inr had)))
-      (λ taken. inr (inr (taken, record { up_to = λ _. had; behind = λ low. absurd (taken_behind r s f answer taken (passed_none f (length r.before) r.before s.before start took none_before) same low) }))))
+      (λ taken. inr (inr (taken, record { up_to = λ _. had; behind = λ low. absurd (taken_behind r s f answer taken (passed_none f (length r.before) r.before s.before start took none_before) same low); said = said_here view r s f answer start none same had taken }))))
       (start_round view r s held f answer within plan start none one round)
 
   -- it was lost before
@@ -139,6 +172,7 @@ module _ {M : Type 0} (view : M → MediumView) (r s : RingView M) (held : Optio
         record {
           up_to = λ far. absurd (omega (arith, far, size, taken.1));
           behind = λ _. subst (λ g. DriveTook view (IsBrought r s g) r s) (sym taken.2) sent;
+          said = λ here. absurd (omega (arith, here, size, taken.1));
         },
       ))
 

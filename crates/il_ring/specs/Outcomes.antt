@@ -6,6 +6,7 @@ use Rattle.il_frames.specs.declared.entry.Entry.{Entry}
 use Rattle.il_frames.specs.declared.entry.Outcome.TheVariants as outcome
 use Rattle.il_frames.specs.Frames.{byte_of, is_data, with_service}
 use Rattle.il_device.specs.declared.device.Out.{Out}
+use Rattle.il_device.specs.declared.device.Out.TheVariants.{Source}
 use Rattle.il_device.specs.declared.interface.OwnFrame.{OwnFrame}
 use Rattle.il_device.specs.Roles.{roles_after, own_after, assignment_after}
 use Rattle.il_device.specs.State.{DeviceState, risen}
@@ -51,6 +52,10 @@ DriveTook view P r s = ((s.drive ≡ r.drive) × (met_between r s ≢ [])) ⊎ (
 -- such a frame came to the drive
 abbrev pub DriveHad : {M : Type 0} → (M → MediumView) → (Frame → Type 0) → RingView M → RingView M → Type 0
 DriveHad view P r s = (g : Frame) × P g × ((out : Out) × DriveTakes view r.drive g out s.drive)
+
+-- such a frame came to the drive, and this was its answer
+abbrev pub DriveDid : {M : Type 0} → (M → MediumView) → (Frame → Out → Type 0) → RingView M → RingView M → Type 0
+DriveDid view P r s = (g : Frame) × ((out : Out) × P g out × DriveTakes view r.drive g out s.drive)
 
 -- it came back to the host as g, and no planned hop was met
 pub record Returned {M : Type 0} (r : RingView M) (held : Option Flight) (f g : Frame) (answer : Arrival) (s : RingView M) : Type 0 where
@@ -175,10 +180,11 @@ pub record StartTaken {M : Type 0} (r : RingView M) (f : Frame) (answer : Arriva
       ⊎ IsLostNow r (entry 0 f (outcome.Taken party) ∷ []) party sent answer s
 
 -- party p took the start message f and sent this frame in its place: up to that party the message came to the drive, behind
--- it the frame, if a planned hop was not met
+-- it the frame, if a planned hop was not met; the drive, where it is that party, answered by it
 pub record DriveSawStart {M : Type 0} (view : M → MediumView) (f : Frame) (p : ℕ) (sent : Frame) (r s : RingView M) : Type 0 where
   pub up_to : drive_party r ≤ p → DriveHad view (λ g. g ≡ f) r s
   pub behind : p < drive_party r → DriveTook view (IsBrought r s sent) r s
+  pub said : drive_party r ≡ p → DriveDid view (λ g out. (g ≡ f) × (out ≡ Source sent)) r s
 
 -- what came of a start message, and what of it came to the drive
 abbrev pub StartAtDrive : {M : Type 0} → (M → MediumView) → RingView M → Option Flight → Frame → Arrival → RingView M → Type 0
@@ -235,15 +241,23 @@ abbrev pub Relayed : {M : Type 0} → RingView M → Flight → OwnFrame → Arr
 Relayed r held own answer s = IsLostNow r [] held.source held.sent answer s
     ⊎ ((right : Bool) × (back : Frame) × CameBack r s held right back × (SendsMore r held own back answer s ⊎ EndsSending r held right back answer s))
 
--- What came of it, and what of it came to the drive: up to its source the frame on its way back, behind it what the source
--- sent then, if a planned hop was not met.
+-- What its source sent then, and what of it came to the drive: behind the source the frame that it sent, if a planned hop was
+-- not met. The drive, where it is the source, answered by that.
+abbrev pub SentAtDrive : {M : Type 0} → (M → MediumView) → RingView M → Flight → OwnFrame → Bool → Frame → Arrival → RingView M → Type 0
+SentAtDrive view r held own right back answer s = ((more : SendsMore r held own back answer s)
+    × (held.source < drive_party r → DriveTook view (IsBrought r s more.sent) r s)
+    × (drive_party r ≡ held.source → DriveDid view (λ g out. CameAs right held.sent g × (out ≡ Source more.sent)) r s))
+    ⊎ (EndsSending r held right back answer s
+    × (held.source < drive_party r → DriveTook view (λ g. g ≡ (if right then eto else ete)) r s)
+    × (drive_party r ≡ held.source → DriveDid view (λ g out. CameAs right held.sent g × (out ≡ Source (if right then eto else ete))) r s))
+
+-- What came of it, and what of it came to the drive: up to its source the frame on its way back, and what the source sent then.
 abbrev pub RelayedAtDrive : {M : Type 0} → (M → MediumView) → RingView M → Flight → OwnFrame → Arrival → RingView M → Type 0
 RelayedAtDrive view r held own answer s = (IsLostNow r [] held.source held.sent answer s
     × (drive_party r ≤ held.source → DriveTook view (λ g. is_data g ≡ true) r s) × (held.source < drive_party r → s.drive ≡ r.drive))
     ⊎ ((right : Bool) × (back : Frame) × CameBack r s held right back
     × (drive_party r ≤ held.source → DriveHad view (CameAs right held.sent) r s)
-    × (((more : SendsMore r held own back answer s) × (held.source < drive_party r → DriveTook view (IsBrought r s more.sent) r s))
-    ⊎ (EndsSending r held right back answer s × (held.source < drive_party r → DriveTook view (λ g. g ≡ (if right then eto else ete)) r s))))
+    × SentAtDrive view r held own right back answer s)
 
 -- ---- in every round
 

@@ -5,3 +5,5 @@ mod Indexing
 mod Searching
 mod TableLemmas
 mod Examples
+mod Shapes
+mod Edited

@@ -1,5 +1,5 @@
 -- Names, entries and slots as bytes: 32 bytes an entry, every number high byte first (the LIF directory format).
-use Rattle.std.specs.Prelude.{◌==◌, ◌++◌, ◌-◌, if◌then◌else◌, ℕ, Bool, true, false, List, [], length, replicate}
+use Rattle.std.specs.Prelude.{◌≡◌, ◌==◌, ◌<◌, ◌≤◌, ◌++◌, ◌-◌, if◌then◌else◌, ℕ, Bool, true, false, List, [], length, get_or, replicate}
 use Rattle.std.specs.Int.{w16, w32, to_be_bytes}
 use Rattle.lif_model.specs.Directory.{name_of, type_of, start_of, length_of, date_of, volume_word_of, implementation_of, is_end, is_purged}
 use Rattle.lif_dir.specs.declared.entries.Name.{Name}
@@ -52,3 +52,9 @@ abbrev pub is_entry : Slot → Bool
 is_entry (Live _) = true
 is_entry (Purged _) = true
 is_entry End = false
+
+-- slots of a directory that has room for so many, by their bytes: each has 32, and none is an end
+pub record AreSlots (room : ℕ) (slots : List (List ℕ)) : Type 0 where
+  pub few : length slots ≤ room
+  pub entries : (i : ℕ) → i < length slots → length (get_or slots i []) ≡ 32
+  pub kinds : (i : ℕ) → i < length slots → is_end (get_or slots i []) ≡ false

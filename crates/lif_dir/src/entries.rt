@@ -1,9 +1,10 @@
-ghost use Rattle.std.specs.Prelude.{◌≡◌, ◌≢◌, ◌<◌, ◌≤◌, ◌+◌, ◌^◌, ◌++◌, ◌&&◌, ◌↔◌, nat_lt, false, length, take, IsSome, IfSome};
+ghost use Rattle.std.specs.Prelude.{◌≡◌, ◌≢◌, ◌<◌, ◌≤◌, ◌+◌, ◌^◌, ◌++◌, ◌&&◌, ◌↔◌, nat_lt, true, false, length, take, IsSome, IfSome};
 ghost use Rattle.std.specs.Ordering.{nat_cmp};
 ghost use Rattle.std.specs.Cmp.Lexicographic.{slice_cmp};
 ghost use Rattle.lif_model.specs.Directory.{is_end, name_of, start_of};
+ghost use Rattle.lif_model.specs.Made.{new_entry, with_name, with_type, with_extent};
 ghost use Rattle.lif_model.specs.Legal.{is_live, is_live_named, has_records, end_of};
-ghost use Rattle.lif_dir.specs.Entries.{spaced, name_bytes, entry_bytes, entry_from, slot_of, slot_from, slot_bytes};
+ghost use Rattle.lif_dir.specs.Entries.{spaced, name_bytes, entry_bytes, entry_from, slot_of, slot_from, slot_bytes, is_entry};
 
 use lif_header::{bytes_at, four_at, two_at};
 use std::cmp::Ordering;
@@ -13,6 +14,9 @@ const END: u16 = 0xFFFF;
 
 /// The type of a purged file.
 const PURGED: u16 = 0;
+
+/// The volume word of a file on one volume.
+const ONE_VOLUME: u16 = 0x8001;
 
 /// The name of a file: ten bytes, those behind the name being spaces.
 #[derive(Clone, Copy, Debug, PartialEq, Eq)]
@@ -126,6 +130,53 @@ impl FileEntry {
         bytes
     }
 
+    /// The entry of a new file on one volume, without a date.
+    pub fn new(name: Name, kind: u16, start: u32, length: u32, implementation: [u8; 4]) -> FileEntry
+        ensures { entry_bytes result
+            ≡ new_entry (name_bytes name) kind start length implementation }
+    {
+        FileEntry {
+            name,
+            kind,
+            start,
+            length,
+            date: [0; 6],
+            volume: ONE_VOLUME,
+            implementation,
+        }
+    }
+
+    /// The entry under another name. All else stays.
+    pub fn renamed(self, name: Name) -> FileEntry
+        ensures { entry_bytes result ≡ with_name (name_bytes name) (entry_bytes self) }
+    {
+        FileEntry { name, ..self }
+    }
+
+    /// The entry of the file once it is purged. All else stays.
+    pub fn purged(self) -> FileEntry
+        ensures { entry_bytes result ≡ with_type 0 (entry_bytes self) }
+    {
+        FileEntry {
+            kind: PURGED,
+            ..self
+        }
+    }
+
+    /// The entry at another extent, with an implementation field of its own. Its name, type, date
+    /// and volume word stay.
+    pub fn moved(self, start: u32, length: u32, implementation: [u8; 4]) -> FileEntry
+        ensures { entry_bytes result
+            ≡ with_extent start length implementation (entry_bytes self) }
+    {
+        FileEntry {
+            start,
+            length,
+            implementation,
+            ..self
+        }
+    }
+
     /// The name, as its bytes tell it.
     pub(crate) fn name(self) -> Name
         ensures { name_bytes result ≡ name_of (entry_bytes self) }
@@ -173,6 +224,20 @@ impl FileEntry {
 }
 
 impl Slot {
+    /// The slot of this entry, live or purged, which does not end a directory.
+    pub fn holding(entry: FileEntry) -> Slot
+        requires { entry.kind ≢ 0xFFFF }
+        ensures slot { result ≡ slot_of entry }
+        ensures bytes { slot_bytes result ≡ entry_bytes entry }
+        ensures told { slot_from (entry_bytes entry) ≡ result }
+        ensures entry { is_entry result ≡ true }
+    {
+        match entry.kind {
+            PURGED => Slot::Purged(entry),
+            _ => Slot::Live(entry),
+        }
+    }
+
     /// What 32 bytes of a directory tell of: its end where the type is FFFF hex, a purged file
     /// where it is 0, and a live one otherwise.
     pub fn of(bytes: &[u8; 32]) -> Slot
@@ -182,8 +247,7 @@ impl Slot {
         let entry = FileEntry::of(bytes);
         match entry.kind {
             END => Slot::End,
-            PURGED => Slot::Purged(entry),
-            _ => Slot::Live(entry),
+            _ => Slot::holding(entry),
         }
     }
 

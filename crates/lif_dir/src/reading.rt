@@ -4,7 +4,7 @@ ghost use Rattle.lif_model.specs.Tape.{Tape};
 ghost use Rattle.lif_model.specs.Directory.{is_end, entries_of, before_end, slots_from};
 ghost use Rattle.il_ports.specs.Stores.{IsReady, GoesOn, IsQuiet};
 ghost use Rattle.il_ports.specs.Transfers.{AddsOnly};
-ghost use Rattle.lif_dir.specs.Entries.{slot_from, slot_bytes};
+ghost use Rattle.lif_dir.specs.Entries.{slot_from, slot_bytes, AreSlots};
 
 use crate::entries::Slot;
 use crate::table::SlotTable;
@@ -55,6 +55,9 @@ pub fn slots_of<R: Records>(
         table.new.slots ≡ map slot_from (slots_from t header.now.start header.now.length)) }
     ensures bytes { OnOk result ((t : Tape) → (R.view records.old).tape ≡ Some t →
         map slot_bytes table.new.slots ≡ slots_from t header.now.start header.now.length) }
+
+    // Whether the tape is told or not, these are slots of such a directory.
+    ensures shape { OnOk result (AreSlots (8 * header.now.length) (map slot_bytes table.new.slots)) }
 
     // No record changes. No more records are read than the directory has; there are reads alone,
     // and no call of `resume`.

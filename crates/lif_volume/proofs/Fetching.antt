@@ -38,7 +38,7 @@ pub record Fits (n : ℕ) (header : HeaderParts) (slot : List ℕ) : Type 0 wher
   pub directory : header.length + length_of slot + 1 ≤ n
   pub within : 0 < length_of slot → start_of slot + length_of slot ≤ n
 
-pub file_fits : (n : ℕ) (header : HeaderParts) (slots : List (List ℕ)) (name slot : List ℕ) → 34 < n → IsLegalDirectory n header slots → slot_named slots name ≡ Some slot → Fits n header slot
+pub file_fits : (n : ℕ) (header : HeaderParts) (slots : List (List ℕ)) (name slot : List ℕ) → 37 < n → IsLegalDirectory n header slots → slot_named slots name ≡ Some slot → Fits n header slot
 file_fits n header slots name slot size legal named = elim (found slots name) [
   | nowhere lacks place none ↦ let both : None ≡ Some slot = sym none ∙ named in cc
   | at k lt live place here ↦
@@ -67,7 +67,7 @@ few_mounted n None new = omega arith
 few_mounted n (Some old) new = omega arith
 
 module _ {R S : Type 0} (view : R → RecordsView S) (x y : VolumeView R) (header : HeaderParts) (name slot : List ℕ) (count : ℕ)
-    (size : 34 < (view x.records).record_count) (kept : y.kept ≡ Some header)
+    (size : 37 < (view x.records).record_count) (kept : y.kept ≡ Some header)
     (mounted : Consults {T = HeaderParts} (mounting (view x.records).record_count x.kept y.kept) (λ t. mounting_on t x.kept) view x y (Ok header))
     (legal : IsLegalDirectory (view x.records).record_count header (map slot_bytes y.slots))
     (named : slot_named (map slot_bytes y.slots) name ≡ Some slot) (same : count ≡ length_of slot) where
@@ -130,6 +130,7 @@ pub open_reading : {R S : Type 0} (view : R → RecordsView S) (y : VolumeView R
 open_reading view y records is valid size tape = record {
   valid = valid;
   size = omega (arith, size, is.size);
+  small = omega (arith, size, is.small);
   room = is.room ∙ ap (λ (n : ℕ). 8 * (n - 5)) (sym size);
   legal = subst (λ (n : ℕ). IfSome y.kept (λ h. IsLegalDirectory n h (map slot_bytes y.slots))) (sym size) is.legal;
   known = λ t told. is.known t (sym tape ∙ told);

@@ -2,4 +2,8 @@ mod LegalExtents
 mod Found
 mod Mounting
 mod Fetching
+mod Staging
+mod Planning
+mod Carrying
+mod Joining
 mod Examples

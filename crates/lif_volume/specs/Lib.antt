@@ -2,4 +2,6 @@ pub mod Views
 pub mod Answers
 pub mod Entries
 pub mod Commands
+pub mod Changing
+pub mod Plans
 pub mod Lending

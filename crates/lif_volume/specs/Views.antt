@@ -1,12 +1,12 @@
 -- What contracts see of a volume, and what holds of it between its calls.
-use Rattle.std.specs.Prelude.{◌≡◌, ◌<◌, ◌*◌, ◌-◌, ℕ, List, true, map, Option, Some, IfSome}
+use Rattle.std.specs.Prelude.{◌≡◌, ◌<◌, ◌*◌, ◌-◌, ◌^◌, ℕ, List, true, length, map, Option, Some, IfSome}
 use Rattle.lif_model.specs.Tape.{Tape, record_at}
 use Rattle.lif_model.specs.Header.{HeaderParts, header_of}
 use Rattle.lif_model.specs.Directory.{slots_of}
 use Rattle.lif_model.specs.Redo.{IsSettled}
 use Rattle.lif_model.specs.Legal.{is_legal_with, is_legal}
 use Rattle.il_ports.specs.Stores.{RecordsView}
-use Rattle.lif_dir.specs.Entries.{slot_from, slot_bytes}
+use Rattle.lif_dir.specs.Entries.{slot_from, slot_bytes, AreSlots}
 use Rattle.lif_dir.specs.declared.entries.Slot.{Slot}
 
 -- a volume over a store R
@@ -19,11 +19,14 @@ pub record VolumeView (R : Type 0) : Type 0 where
   -- how many slots there is memory for
   pub room : ℕ
 
--- what some record 0 says, with which these slots are a legal directory on a tape of n records
+-- What some record 0 says, with which these slots are a legal directory on a tape of n records. They
+-- fit into the directory, and none is an end.
 pub record IsLegalDirectory (n : ℕ) (header : HeaderParts) (slots : List (List ℕ)) : Type 0 where
   pub bytes : List ℕ
   pub told : header ≡ header_of bytes
   pub legal : is_legal_with n bytes slots ≡ true
+  pub whole : length bytes ≡ 256
+  pub shape : AreSlots (8 * header.length) slots
 
 -- what record 0 of this tape says, and its slots; the tape is legal
 pub record IsDirectoryOn (t : Tape) (kept : HeaderParts) (found : List Slot) : Type 0 where
@@ -41,7 +44,8 @@ pub record IsDirectoryOf (t : Tape) (kept : HeaderParts) (found : List Slot) : T
 -- version, there is memory for every directory, and what is kept is that of the tape.
 pub record IsOpen {R S : Type 0} (view : R → RecordsView S) (volume : VolumeView R) : Type 0 where
   pub valid : (view volume.records).valid
-  pub size : 34 < (view volume.records).record_count
+  pub size : 37 < (view volume.records).record_count
+  pub small : (view volume.records).record_count < 2 ^ 16
   pub room : volume.room ≡ 8 * ((view volume.records).record_count - 5)
   pub legal : IfSome volume.kept (λ header.
       IsLegalDirectory (view volume.records).record_count header (map slot_bytes volume.slots))

@@ -142,7 +142,7 @@ impl File {
 }
 
 /// The place of the live slot of this name, with the comparisons of names counted on a new ledger.
-fn place_of<L: Ledger>(table: &SlotTable, name: &Name, blank: Blank) -> Option<usize>
+pub fn place_of<L: Ledger>(table: &SlotTable, name: &Name, blank: Blank) -> Option<usize>
     requires name { blank.name ≡ L.name }
     requires parts { blank.parts ≡ L.parts }
     requires some { 0 < blank.parts }
@@ -158,14 +158,14 @@ fn place_of<L: Ledger>(table: &SlotTable, name: &Name, blank: Blank) -> Option<u
 }
 
 /// Whether the entry is that of the redo file of either version.
-fn is_redo_file(entry: FileEntry, size: u16) -> bool
+pub fn is_redo_file(entry: FileEntry, size: u16) -> bool
     ensures { result ≡ is_redo_file size (entry_bytes entry) }
 {
     is_redo_entry(entry, size, Version::One) || is_redo_entry(entry, size, Version::Two)
 }
 
 /// Whether the entry is that of the redo file of this version.
-fn is_redo_entry(entry: FileEntry, size: u16, version: Version) -> bool
+pub fn is_redo_entry(entry: FileEntry, size: u16, version: Version) -> bool
     ensures { result ≡ is_redo_entry size (version_of version) (entry_bytes entry) }
 {
     entry.name.bytes() == *REDO_NAME
@@ -175,7 +175,7 @@ fn is_redo_entry(entry: FileEntry, size: u16, version: Version) -> bool
 }
 
 /// The name of the redo file, with its spaces.
-const REDO_NAME: &[u8; 10] = b"REDOFILE  ";
+pub const REDO_NAME: &[u8; 10] = b"REDOFILE  ";
 
 /// The type of the redo file.
-const REDO_KIND: u16 = 0xE0D0;
+pub const REDO_KIND: u16 = 0xE0D0;

@@ -28,7 +28,7 @@ impl Extent {
 }
 
 /// Whether the file is live and has records.
-fn occupies(entry: FileEntry) -> bool
+pub fn occupies(entry: FileEntry) -> bool
     ensures { result ≡ occupies (entry_bytes entry) }
 {
     entry.is_live() && entry.has_records()

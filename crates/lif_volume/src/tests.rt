@@ -3,7 +3,7 @@ ghost use Rattle.lif_volume.specs.Views.{IsOpen};
 
 use crate::{Fetched, Listing, Refusal, Seen, Volume, VolumeFault};
 use il_ports::{MemoryRecords, Records, Trouble};
-use lif_dir::{Name, without_end_spaces};
+use lif_dir::{Name, NewName, without_end_spaces};
 use lif_model::RECORD;
 use std::alloc::{AllocError, Global};
 use std::process::Abort;
@@ -77,7 +77,7 @@ fn open_now(
     ensures { IfOk result (λ volume. IsOpen ⟦<MemoryRecords as Records>⟧.view
         (⟦<Volume<MemoryRecords> as Seen<MemoryRecords>>⟧.seen volume)) }
 {
-    assert!(rt; 34 < tape.len() && tape.len() < 3000);
+    assert!(rt; 37 < tape.len() && tape.len() < 3000);
     let records = MemoryRecords::new(alloc, tape, fails, 10000)?;
     match Volume::open(alloc, records) {
         Ok(volume) => Ok(volume),
@@ -267,6 +267,291 @@ fn protects_the_redo_file_and_forgets_after_a_trouble(rt: HostRuntime) -> Result
             Err(VolumeFault::Refused(Refusal::Protected))
         );
         assert!(rt; volume.is_kept());
+    }
+    Ok(())
+}
+
+/// A command that changes the directory.
+#[derive(Clone, Copy, Debug)]
+enum Step<'a> {
+    Purge(&'a [u8]),
+    Rename(&'a [u8], &'a [u8]),
+    Adopt,
+    Upgrade,
+}
+
+/// Changes a volume whose store is ready for it. Names that cannot be given are not tried.
+fn change_now<R: Records>(
+    rt: &impl Abort,
+    volume: &mut Volume<R>,
+    step: Step,
+) -> Result<(), VolumeFault>
+    requires { IsOpen R.view (⟦<Volume<R> as Seen<R>>⟧.seen volume.old) }
+    ensures { IsOpen R.view (⟦<Volume<R> as Seen<R>>⟧.seen volume.new) }
+{
+    let size = u32::from(volume.records().size());
+    assert!(rt; volume.records().is_sound());
+    assert!(rt; 2 * size + 40 <= volume.records().left());
+    match step {
+        Step::Purge(name) => match Name::of(name) {
+            Some(name) => volume.purge(&name),
+            None => Ok(()),
+        },
+        Step::Rename(old, new) => match (Name::of(old), new_name(new)) {
+            (Some(old), Some(new)) => volume.rename(&old, &new),
+            _ => Ok(()),
+        },
+        Step::Adopt => volume.adopt(),
+        Step::Upgrade => volume.upgrade(),
+    }
+}
+
+fn new_name(bytes: &[u8]) -> Option<NewName> {
+    NewName::of(&Name::of(bytes)?)
+}
+
+/// Whether the slots are those of these names, in order; a purged slot has none.
+fn slots_are<R: Records>(volume: &Volume<R>, names: &[&[u8]]) -> bool {
+    let slots = volume.slots();
+    if slots.len() != names.len() {
+        return false;
+    }
+    for k in 0..slots.len() {
+        let entry = slots.entry(k);
+        let name = entry.name.bytes();
+        let right = match names.get(k) {
+            Some(name_of_slot) if entry.is_live() => without_end_spaces(&name) == *name_of_slot,
+            Some(name_of_slot) => name_of_slot.is_empty(),
+            None => false,
+        };
+        if !right {
+            return false;
+        }
+    }
+    true
+}
+
+const NO_REDO: Result<(), VolumeFault> = Err(VolumeFault::Refused(Refusal::NoRedo));
+
+const PROTECTED: Result<(), VolumeFault> = Err(VolumeFault::Refused(Refusal::Protected));
+
+const NO_FILE: Result<(), VolumeFault> = Err(VolumeFault::Refused(Refusal::NoFile));
+
+const EXISTS: Result<(), VolumeFault> = Err(VolumeFault::Refused(Refusal::Exists));
+
+const IN_USE: Result<(), VolumeFault> = Err(VolumeFault::Refused(Refusal::InUse));
+
+/// A file in the last record but one, and one in record 480.
+const LATE: &[u8] = b"L         \0\x01\0\0\x01\xFE\0\0\0\x01\0\0\0\0\0\0\x80\x01\0\0\0\0";
+
+const HIGH: &[u8] = b"H         \0\x01\0\0\x01\xE0\0\0\0\x01\0\0\0\0\0\0\x80\x01\0\0\0\0";
+
+/// A file that is no redo file, under its name.
+const OTHER_REDO: &[u8] = b"REDOFILE  \0\x01\0\0\0\x04\0\0\0\x01\0\0\0\0\0\0\x80\x01\0\0\0\0";
+
+/// The slots of a directory, a command, its answer, and the names in the slots behind it.
+type Row = (
+    &'static [&'static [u8]],
+    Step<'static>,
+    Result<(), VolumeFault>,
+    &'static [&'static [u8]],
+);
+
+const ROWS: [Row; 15] = [
+    (&[FILE, END], Step::Purge(b"A"), NO_REDO, &[b"A"]),
+    (&[FILE, END], Step::Upgrade, NO_REDO, &[b"A"]),
+    (&[FILE, END], Step::Adopt, Ok(()), &[b"A", b"REDOFILE"]),
+    (
+        &[FILE, REDO, END],
+        Step::Adopt,
+        Ok(()),
+        &[b"A", b"REDOFILE"],
+    ),
+    (
+        &[FILE, REDO, END],
+        Step::Purge(b"REDOFILE"),
+        PROTECTED,
+        &[b"A", b"REDOFILE"],
+    ),
+    (
+        &[FILE, REDO, END],
+        Step::Rename(b"B", b"REDOFILE"),
+        PROTECTED,
+        &[b"A", b"REDOFILE"],
+    ),
+    (
+        &[FILE, REDO, END],
+        Step::Rename(b"B", b"A"),
+        NO_FILE,
+        &[b"A", b"REDOFILE"],
+    ),
+    (
+        &[FILE, REDO, END],
+        Step::Rename(b"A", b"A"),
+        Ok(()),
+        &[b"A", b"REDOFILE"],
+    ),
+    (
+        &[FILE, REDO, END],
+        Step::Rename(b"A", b"B"),
+        Ok(()),
+        &[b"B", b"REDOFILE"],
+    ),
+    (
+        &[FILE, HIGH, REDO, END],
+        Step::Rename(b"A", b"H"),
+        EXISTS,
+        &[b"A", b"H", b"REDOFILE"],
+    ),
+    (
+        &[FILE, REDO_TWO, END],
+        Step::Purge(b"A"),
+        Ok(()),
+        &[b"", b"REDOFILE"],
+    ),
+    (
+        &[FILE, REDO_TWO, END],
+        Step::Upgrade,
+        Ok(()),
+        &[b"A", b"REDOFILE"],
+    ),
+    (
+        &[HIGH, REDO, END],
+        Step::Upgrade,
+        IN_USE,
+        &[b"H", b"REDOFILE"],
+    ),
+    (
+        &[OTHER_REDO, LATE, END],
+        Step::Adopt,
+        EXISTS,
+        &[b"REDOFILE", b"L"],
+    ),
+    (&[LATE, END], Step::Adopt, IN_USE, &[b"L"]),
+];
+
+#[test]
+fn changes_the_directory(rt: HostRuntime) -> Result<(), Fail> {
+    let alloc = rt.alloc();
+    for (slots, step, answer, names) in ROWS {
+        let tape = tape_of(&rt, alloc, 512, HEADER, slots, &[])?;
+        let mut volume = open_now(&rt, alloc, tape, Vec::new(alloc))?;
+        assert_eq!(rt; change_now(&rt, &mut volume, step), answer);
+        assert!(rt; volume.is_kept() && slots_are(&volume, names));
+        assert!(rt; answer.is_ok() || volume.records().writes().is_empty());
+        // The same as it is read again.
+        assert_eq!(rt; resume_now(&rt, &mut volume), Ok(()));
+        dir_now(&rt, &mut volume)?;
+        assert!(rt; slots_are(&volume, names));
+    }
+    Ok(())
+}
+
+#[test]
+fn adopts_and_upgrades(rt: HostRuntime) -> Result<(), Fail> {
+    let alloc = rt.alloc();
+    let tape = tape_of(&rt, alloc, 512, HEADER, &[FILE, END], &[])?;
+    let mut volume = open_now(&rt, alloc, tape, Vec::new(alloc))?;
+    assert_eq!(rt; change_now(&rt, &mut volume, Step::Adopt), Ok(()));
+    assert_eq!(rt; change_now(&rt, &mut volume, Step::Upgrade), Ok(()));
+    let record = volume
+        .records()
+        .records()
+        .get(2)
+        .copied()
+        .unwrap_or([0; RECORD]);
+    assert_eq!(rt; &record[32..64], REDO_TWO);
+    assert_eq!(rt; &record[74..76], b"\xFF\xFF".as_slice());
+    let blank = tape_of(&rt, alloc, 512, b"", &[], &[])?;
+    let mut volume = open_now(&rt, alloc, blank, Vec::new(alloc))?;
+    let not_lif = Err(VolumeFault::Refused(Refusal::NotLif));
+    assert_eq!(rt; change_now(&rt, &mut volume, Step::Purge(b"A")), not_lif);
+    assert!(rt; !volume.is_kept());
+    Ok(())
+}
+
+/// The tape with these slots behind the first `k` writes, torn within the next.
+fn left_behind(
+    rt: &impl Abort,
+    alloc: Global,
+    slots: &[&[u8]],
+    writes: &[(u16, [u8; 256])],
+    k: usize,
+    torn: &[u8; 256],
+) -> Result<Vec<[u8; 256]>, AllocError> {
+    let mut left = tape_of(rt, alloc, 512, HEADER, slots, &[])?;
+    for (n, bytes) in writes.iter().take(k) {
+        put(rt, &mut left, usize::from(*n), 0, bytes);
+    }
+    if let Some((n, _)) = writes.get(k) {
+        put(rt, &mut left, usize::from(*n), 0, torn);
+    }
+    Ok(left)
+}
+
+/// What a command makes of a directory: its slots before and behind.
+const TURNS: [(&[&[u8]], Step<'static>, &[&[u8]], &[&[u8]]); 4] = [
+    (
+        &[FILE, REDO, END],
+        Step::Purge(b"A"),
+        &[b"A", b"REDOFILE"],
+        &[b"", b"REDOFILE"],
+    ),
+    (
+        &[FILE, REDO_TWO, END],
+        Step::Rename(b"A", b"B"),
+        &[b"A", b"REDOFILE"],
+        &[b"B", b"REDOFILE"],
+    ),
+    (&[FILE, END], Step::Adopt, &[b"A"], &[b"A", b"REDOFILE"]),
+    (
+        &[FILE, REDO, END],
+        Step::Upgrade,
+        &[b"A", b"REDOFILE"],
+        &[b"A", b"REDOFILE"],
+    ),
+];
+
+#[test]
+fn a_stop_leaves_the_old_or_the_new_directory(rt: HostRuntime) -> Result<(), Fail> {
+    let alloc = rt.alloc();
+    let mut gate = [0; RECORD];
+    gate[..GATE.len()].copy_from_slice(GATE);
+    for (slots, step, old, new) in TURNS {
+        let tape = tape_of(&rt, alloc, 512, HEADER, slots, &[])?;
+        let mut volume = open_now(&rt, alloc, tape, Vec::new(alloc))?;
+        assert_eq!(rt; change_now(&rt, &mut volume, step), Ok(()));
+        let records = volume.into_records();
+        for k in 0..records.writes().len() {
+            for torn in [[0; RECORD], [0xFF; RECORD], gate] {
+                let left = left_behind(&rt, alloc, slots, records.writes(), k, &torn)?;
+                let mut stopped = open_now(&rt, alloc, left, Vec::new(alloc))?;
+                dir_now(&rt, &mut stopped)?;
+                assert!(rt; slots_are(&stopped, old) || slots_are(&stopped, new));
+            }
+        }
+    }
+    Ok(())
+}
+
+#[test]
+fn a_trouble_leaves_the_old_or_the_new_directory(rt: HostRuntime) -> Result<(), Fail> {
+    let alloc = rt.alloc();
+    for (slots, step, old, new) in TURNS {
+        for call in 1..12 {
+            let mut fails = Vec::new(alloc);
+            fails.push((call, Trouble::Medium))?;
+            let tape = tape_of(&rt, alloc, 512, HEADER, slots, &[])?;
+            let mut volume = open_now(&rt, alloc, tape, fails)?;
+            let answer = change_now(&rt, &mut volume, step);
+            if answer.is_err() {
+                assert_eq!(rt; answer, Err(VolumeFault::Trouble(Trouble::Medium)));
+                assert!(rt; !volume.is_kept());
+                assert_eq!(rt; resume_now(&rt, &mut volume), Ok(()));
+            }
+            dir_now(&rt, &mut volume)?;
+            assert!(rt; slots_are(&volume, old) || slots_are(&volume, new));
+        }
     }
     Ok(())
 }

@@ -1,6 +1,8 @@
 use crate::directory::Directory;
 use crate::fault::VolumeFault;
+use crate::plans::ENTRIES;
 use crate::reading::{read_directory, read_front};
+use crate::staged::Staged;
 use il_ports::Records;
 use lif_dir::{Name, SlotTable};
 use lif_header::Header;
@@ -46,9 +48,10 @@ pub trait Seen<R> {
 /// A LIF volume on a store of records.
 #[derive(Drop)]
 pub struct Volume<R> {
-    records: R,
-    directory: Directory,
-    kept: Option<Header>,
+    pub(crate) records: R,
+    pub(crate) directory: Directory,
+    pub(crate) staged: Staged,
+    pub(crate) kept: Option<Header>,
 }
 
 impl<R: Records> Seen<R> for Volume<R> {
@@ -80,7 +83,7 @@ impl<R: Records> Volume<R> {
     /// here; where there is none the records are handed back.
     pub fn open(alloc: Global, records: R) -> Result<Volume<R>, Kept<R>>
         requires valid { (R.view records).valid }
-        requires size { 34 < (R.view records).record_count }
+        requires size { 37 < (R.view records).record_count }
         ensures open { IfOk result (λ volume.
             IsOpen R.view (⟦<Volume<R> as Seen<R>>⟧.seen volume)) }
         ensures records { IfOk result (λ volume.
@@ -90,13 +93,14 @@ impl<R: Records> Volume<R> {
         ensures handed_back { IfErr result (λ kept. kept.records ≡ records) }
     {
         let room = ENTRIES * (usize::from(records.size()) - BESIDE);
-        match Directory::new(alloc, room) {
-            Ok(directory) => Ok(Volume {
+        match (Directory::new(alloc, room), Staged::new(alloc)) {
+            (Ok(directory), Ok(staged)) => Ok(Volume {
                 records,
                 directory,
+                staged,
                 kept: None,
             }),
-            Err(_) => Err(Kept { records }),
+            _ => Err(Kept { records }),
         }
     }
 
@@ -153,7 +157,7 @@ impl<R: Records> Volume<R> {
 
     // Settles the tape, reads record 0 and the directory, tests that they are legal, and keeps
     // them. Where they are kept it does nothing.
-    fn mount(&mut self) -> Result<Header, VolumeFault>
+    pub(crate) fn mount(&mut self) -> Result<Header, VolumeFault>
         requires open { IsOpen R.view (⟦<Volume<R> as Seen<R>>⟧.seen self.old) }
         requires ready { IsReadyFor R.view (⟦<Volume<R> as Seen<R>>⟧.seen self.old) }
         ensures open { IsOpen R.view (⟦<Volume<R> as Seen<R>>⟧.seen self.new) }
@@ -277,9 +281,6 @@ impl<R: Records> Volume<R> {
         })
     }
 }
-
-/// How many entries a record of a directory has.
-const ENTRIES: usize = 8;
 
 /// How many records of a medium no directory has: record 0, and the four of the redo file.
 const BESIDE: usize = 5;

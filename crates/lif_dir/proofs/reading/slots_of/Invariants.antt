@@ -4,7 +4,7 @@ use Rattle.lif_model.specs.Tape.{Tape}
 use Rattle.il_ports.specs.Stores.{GoesOn, IsQuiet}
 use Rattle.il_ports.specs.Transfers.{GoesOnBy}
 use Rattle.lif_model.specs.Directory.{slots_from}
-use Rattle.lif_dir.specs.Entries.{slot_from, slot_bytes}
+use Rattle.lif_dir.specs.Entries.{slot_from, slot_bytes, AreSlots}
 use Rattle.lif_dir.proofs.reading.slots_of.Given as goal
 
 -- what is still to come of the directory, after the slots that the table has
@@ -14,6 +14,7 @@ invariant-loop-n g l = record {
   quiet : IsQuiet (g.R.Records.view l.fn.records) (g.R.Records.view l.records);
   transfers : GoesOnBy (λ n. ⊥) (g.R.Records.view l.fn.records).transferred (g.R.Records.view l.records).transferred;
   room : l.table.room ≡ l.fn.table.room;
+  shape : AreSlots (8 * (l.n - l.header.start)) (map slot_bytes l.table.slots);
   count : length l.table.slots ≤ 8 * (l.n - l.header.start);
   slots : (t : Tape) → (g.R.Records.view l.fn.records).tape ≡ Some t
       → map slot_from (slots_from t l.header.start l.header.length) ≡ l.table.slots ++ map slot_from (slots_from t l.n (l.header.start + l.header.length - l.n));

@@ -1,5 +1,12 @@
-use Rattle.std.proofs.Common.{◌≡◌, ap, ◌∙◌, rules}
-use Rattle.std.specs.Prelude.{Err}
+use Rattle.std.proofs.Common.{◌≡◌, ◌≤◌, ◌+◌, ◌-◌, ◌*◌, ℕ, map, refl, ap, sym, subst, ◌∙◌, arith, rules}
+use Rattle.std.specs.Prelude.{Option, None, Some, Ok, Err}
+use Rattle.lif_model.specs.Header.{HeaderParts}
+use Rattle.lif_model.specs.Redo.{settled}
+use Rattle.il_ports.specs.Stores.{GoesOn}
+use Rattle.il_ports.proofs.Stores.{goes_further, goes_within}
+use Rattle.lif_dir.specs.Entries.{slot_bytes}
+use Rattle.lif_volume.specs.Views.{IsLegalDirectory}
+use Rattle.lif_volume.specs.Commands.{mounting, mounting_on}
 use Rattle.lif_model.specs.Legal.{is_legal}
 use Rattle.lif_volume.proofs.Mounting.{seen, stays_here, stays_settling, stays_reading, reads_behind, adds_behind, consults_nothing, kept_is_of}
 use Rattle.lif_volume.proofs.volume.Volume.mount.Goals as goal
@@ -38,3 +45,36 @@ returns-in_err-header-clause-transfers g c = λ t told.
 
 pub returns-clause-transfers : goal.returns-clause-transfers
 returns-clause-transfers g c = λ t told. reads_behind _ _ _ _ (c.in_ok-settle.ensures.transfers t told) c.in_ok-header.ensures.transfers
+
+pub returns-clause-open : goal.returns-clause-open
+returns-clause-open g c =
+    let s = c.in_ok-settle.ensures in
+    let r = c.in_ok-header.ensures in
+    record {
+      valid = r.goes_on.continues.valid;
+      size = omega (arith, c.requires.open.size, s.goes_on.continues.size, r.goes_on.continues.size);
+      small = omega (arith, c.requires.open.small, s.goes_on.continues.size, r.goes_on.continues.size);
+      room = r.room ∙ c.requires.open.room ∙ ap (λ (n : ℕ). 8 * (n - 5)) (sym (r.goes_on.continues.size ∙ s.goes_on.continues.size));
+      legal = subst (λ (n : ℕ). IsLegalDirectory n c.in_ok-header.header (map slot_bytes c.read_directory.new.directory.table.slots)) (sym r.goes_on.continues.size) r.legal;
+      known = λ t told. record { settled = s.settled t (sym r.quiet.tape ∙ told); directory = r.found t (sym r.quiet.tape ∙ told) };
+    }
+
+pub returns-clause-consults : goal.returns-clause-consults
+returns-clause-consults g c =
+    let view = g.R.Records.view in
+    let n = (view c.args.self.now.records).record_count in
+    let header = c.in_ok-header.header in
+    let s = c.in_ok-settle.ensures in
+    let r = c.in_ok-header.ensures in
+    let none : c.args.self.now.kept ≡ None = search rules in
+    record {
+      goes_on = subst (λ (o : Option HeaderParts). GoesOn (mounting n o (Some header)) (view c.args.self.now.records) (view c.read_directory.new.records) (Ok tt)) (sym none)
+          (goes_within (70 + (1 + header.length)) (71 + header.length) _ _ _ (omega arith) (goes_further 70 (1 + header.length) _ _ _ c.in_ok-settle.field-0 _ s.goes_on r.reads));
+      few = λ t told. subst (λ (o : Option HeaderParts). (view c.args.self.now.records).calls_left ≤ (view c.read_directory.new.records).calls_left + mounting_on t o) (sym none)
+          (omega (arith, s.goes_on.continues.left, r.few (settled t) (s.done t told)));
+      settles = λ t told. r.quiet.tape ∙ s.done t told;
+      kept = refl;
+    }
+
+pub returns-clause-exactly : goal.returns-clause-exactly
+returns-clause-exactly g c = λ t told. c.in_ok-header.ensures.exactly (settled t) (c.in_ok-settle.ensures.done t told)

@@ -1,0 +1,259 @@
+-- The records that are set aside for a commit, as slots are put into them.
+use Rattle.std.proofs.Common.{◌≡◌, ◌≢◌, ◌<◌, ◌≤◌, ◌+◌, ◌-◌, ◌*◌, ◌%◌, ◌++◌, ◌==◌, ℕ, zero, suc, List, [], ◌∷◌, Bool, true, false, if◌then◌else◌, Option, Some, length, get_or, set, map, replicate, refl, sym, ap, subst, ◌∙◌, arith}
+use Rattle.std.proofs.lemmas.Bool.{ne_eqb}
+use Rattle.std.specs.Prelude.{Result, Ok, Err, OnOk}
+use Rattle.std.proofs.lemmas.List.{length-map, length-replicate, get_or_push}
+use Rattle.std.proofs.Math.Seq.{set-append_seam}
+use Rattle.lif_model.specs.Tape.{Tape, IsTape, record_at}
+use Rattle.lif_model.specs.Directory.{entry_at}
+use Rattle.lif_model.specs.Made.{with_type}
+use Rattle.lif_model.specs.Redo.{Version, One, Two, most_targets, redo_start, are_targets, Changes, targets_in}
+use Rattle.lif_model.specs.Commit.{AreChanges, SettlesBelow}
+use Rattle.lif_model.specs.Redo.{IsSettled}
+use Rattle.lif_model.specs.Writing.{with_entry, slot_record, entry_from, SlotWrites, with_slots, touched, changes_by}
+use Rattle.lif_model.proofs.Writing.{AreEntries, AreOther, last_written, touches_two, changes_are, targets_are, slot_written, slots_elsewhere, others_untouched}
+use Rattle.lif_model.proofs.Growing.{changes_again, changes_new}
+use Rattle.lif_model.specs.Gate.{has_open_gate}
+use Rattle.lif_model.specs.Commit.{commit_writes}
+use Rattle.lif_model.specs.Transfers.{Transfer}
+use Rattle.il_ports.specs.declared.records.Trouble.{Trouble}
+use Rattle.lif_redo.specs.Writing.{AddsWrites}
+use Rattle.lif_redo.proofs.Writes.{then_writes, same_writes}
+use Rattle.lif_dir.specs.Entries.{entry_bytes}
+use Rattle.lif_volume.specs.declared.plans.SlotChange.{SlotChange}
+use Rattle.lif_volume.specs.Plans.{BroughtIn, there, read, IsStagedAs, AreOthers, change_writes}
+
+targets_count : (cs : Changes) → length (targets_in cs) ≡ length cs
+targets_count cs = length-map cs (λ c. c.0)
+
+number_at : (cs : Changes) (p : ℕ) → p < length cs → get_or (targets_in cs) p 0 ≡ (get_or cs p (0, [])).0
+number_at [] p lt = absurd (omega (arith, lt))
+number_at (c ∷ cs) zero lt = refl
+number_at (c ∷ cs) (suc p) lt = number_at cs p (omega (arith, lt))
+
+targets_set : (cs : Changes) (p : ℕ) (c : ℕ × List ℕ) → (get_or cs p (0, [])).0 ≡ c.0 → targets_in (set cs p c) ≡ targets_in cs
+targets_set [] p c same = refl
+targets_set (b ∷ cs) zero c same = λ i. sym same i ∷ targets_in cs
+targets_set (b ∷ cs) (suc p) c same = ap (λ (ks : List ℕ). b.0 ∷ ks) (targets_set cs p c same)
+
+targets_push : (cs : Changes) (c : ℕ × List ℕ) → targets_in (cs ++ c ∷ []) ≡ targets_in cs ++ c.0 ∷ []
+targets_push [] c = refl
+targets_push (b ∷ cs) c = ap (λ (ks : List ℕ). b.0 ∷ ks) (targets_push cs c)
+
+-- ---- which records they are
+
+module _ (start : ℕ) (ws : SlotWrites) (w : ℕ × List ℕ) (cs : Changes) (same : targets_in cs ≡ touched start ws) where
+  abbrev r : ℕ
+  r = slot_record start w.0
+
+  -- any tape that has the record
+  abbrev some : Tape
+  some = replicate (suc r) []
+
+  within : r < length some
+  within = omega (arith, length-replicate {A = List ℕ} (suc r) [])
+
+  on_some : targets_in (changes_by start ws some) ≡ targets_in cs
+  on_some = targets_are (touched start ws) (with_slots start ws some) ∙ sym same
+
+  count : length (changes_by start ws some) ≡ length cs
+  count = sym (targets_count (changes_by start ws some)) ∙ ap length on_some ∙ targets_count cs
+
+  number_same : (p : ℕ) → p < length cs → (get_or (changes_by start ws some) p (0, [])).0 ≡ (get_or cs p (0, [])).0
+  number_same p lt = sym (number_at (changes_by start ws some) p (omega (arith, lt, count))) ∙ ap (λ (ks : List ℕ). get_or ks p 0) on_some ∙ number_at cs p lt
+
+  after_is : targets_in (changes_by start (ws ++ w ∷ []) some) ≡ touched start (ws ++ w ∷ [])
+  after_is = targets_are (touched start (ws ++ w ∷ [])) (with_slots start (ws ++ w ∷ []) some)
+
+  again : (p : ℕ) → p < length cs → (get_or cs p (0, [])).0 ≡ r → targets_in cs ≡ touched start (ws ++ w ∷ [])
+  again p lt at =
+      let here : (get_or (changes_by start ws some) p (0, [])).0 ≡ r = number_same p lt ∙ at in
+      sym (sym after_is ∙ ap targets_in (changes_again start ws w some within p (omega (arith, lt, count)) here)
+      ∙ targets_set (changes_by start ws some) p (r, with_entry (get_or (changes_by start ws some) p (0, [])).1 (w.0 % 8) w.1) here ∙ on_some)
+
+  one_more : ((p : ℕ) → p < length cs → (get_or cs p (0, [])).0 ≢ r) → targets_in cs ++ r ∷ [] ≡ touched start (ws ++ w ∷ [])
+  one_more off =
+      sym (sym after_is ∙ ap targets_in (changes_new start ws w some within (λ p lt e. off p (omega (arith, lt, count)) (sym (number_same p (omega (arith, lt, count))) ∙ e)))
+      ∙ targets_push (changes_by start ws some) (r, with_entry (record_at some r) (w.0 % 8) w.1) ∙ ap (λ (ks : List ℕ). ks ++ r ∷ []) on_some)
+
+-- ---- a slot that is put into them
+
+module _ (start slot : ℕ) (tape : Option Tape) (writes : Tape → SlotWrites) (e : Tape → List ℕ) (old : Changes)
+    (staged : IsStagedAs start tape writes old) (within : (t : Tape) → tape ≡ Some t → slot_record start slot < length t) where
+  abbrev row : ℕ
+  row = slot_record start slot
+
+  put_there : (place : ℕ) (entry : List ℕ) → ((t : Tape) → tape ≡ Some t → entry ≡ e t) → place < length old → (get_or old place (0, [])).0 ≡ row
+      → IsStagedAs start tape (λ x. writes x ++ (slot, e x) ∷ []) (set old place (row, with_entry (get_or old place (0, [])).1 (slot % 8) entry))
+  put_there place entry is lt at = record {
+    targets = λ x. targets_set old place (row, with_entry (get_or old place (0, [])).1 (slot % 8) entry) at ∙ again start (writes x) (slot, e x) old (staged.targets x) place lt at;
+    contents = λ t told.
+        let now : old ≡ changes_by start (writes t) t = staged.contents t told in
+        (λ i. set (now i) place (row, with_entry (get_or (now i) place (0, [])).1 (slot % 8) (is t told i)))
+        ∙ sym (changes_again start (writes t) (slot, e t) t (within t told) place (omega (arith, lt, ap length now)) (sym (ap (λ (cs : Changes). (get_or cs place (0, [])).0) now) ∙ at));
+  }
+
+  put_new : (bytes entry : List ℕ) → ((t : Tape) → tape ≡ Some t → entry ≡ e t) → ((p : ℕ) → p < length old → (get_or old p (0, [])).0 ≢ row)
+      → ((t : Tape) → tape ≡ Some t → bytes ≡ record_at t row)
+      → IsStagedAs start tape (λ x. writes x ++ (slot, e x) ∷ []) (old ++ (row, with_entry bytes (slot % 8) entry) ∷ [])
+  put_new bytes entry is off read_as = record {
+    targets = λ x. targets_push old (row, with_entry bytes (slot % 8) entry) ∙ one_more start (writes x) (slot, e x) old (staged.targets x) off;
+    contents = λ t told.
+        let now : old ≡ changes_by start (writes t) t = staged.contents t told in
+        (λ i. now i ++ (row, with_entry (read_as t told i) (slot % 8) (is t told i)) ∷ [])
+        ∙ sym (changes_new start (writes t) (slot, e t) t (within t told) (λ p lt at. off p (omega (arith, lt, ap length now)) (ap (λ (cs : Changes). (get_or cs p (0, [])).0) now ∙ at)));
+  }
+
+  pub put_brought : (place : ℕ) (mid new : Changes) (entry : List ℕ) → BroughtIn row place tape old mid
+      → ((t : Tape) → tape ≡ Some t → entry ≡ e t)
+      → new ≡ set mid place ((get_or mid place (0, [])).0, with_entry (get_or mid place (0, [])).1 (slot % 8) entry)
+      → IsStagedAs start tape (λ x. writes x ++ (slot, e x) ∷ []) new
+  put_brought place mid new entry (there lt at same) is new_is =
+      subst (IsStagedAs start tape (λ x. writes x ++ (slot, e x) ∷ []))
+      (sym (new_is ∙ (λ i. set (same i) place ((get_or (same i) place (0, [])).0, with_entry (get_or (same i) place (0, [])).1 (slot % 8) entry))
+      ∙ ap (λ (k : ℕ). set old place (k, with_entry (get_or old place (0, [])).1 (slot % 8) entry)) at))
+      (put_there place entry is lt at)
+  put_brought place mid new entry (read off last bytes same read_as) is new_is =
+      let here : get_or mid place (0, []) ≡ (row, bytes) = (λ i. get_or (same i) (last i) (0, [])) ∙ get_or_push old (row, bytes) (0, []) (length old) refl in
+      subst (IsStagedAs start tape (λ x. writes x ++ (slot, e x) ∷ []))
+      (sym (new_is ∙ (λ i. set (same i) (last i) ((here i).0, with_entry (here i).1 (slot % 8) entry))
+      ∙ set-append_seam old (row, bytes) [] (row, with_entry bytes (slot % 8) entry)))
+      (put_new bytes entry is off read_as)
+
+  -- the record that was brought in is that of the tape with the slots so far
+  others_from : (ks : List ℕ) (k : ℕ) → ((p : ℕ) → p < length ks → get_or ks p 0 ≢ k) → AreOther ks k
+  others_from [] k off = tt
+  others_from (j ∷ js) k off = ((λ e. off 0 (omega arith) (sym e)), others_from js k (λ p lt. off (suc p) (omega (arith, lt))))
+
+  pub brought_record : (place : ℕ) (mid : Changes) → BroughtIn row place tape old mid → (t : Tape) → tape ≡ Some t
+      → (get_or mid place (0, [])).1 ≡ record_at (with_slots start (writes t) t) row
+  brought_record place mid (there lt at same) t told =
+      let now : old ≡ changes_by start (writes t) t = staged.contents t told in
+      let less : place < length (touched start (writes t)) = omega (arith, lt, ap length (staged.targets t), targets_count old) in
+      let number : get_or (touched start (writes t)) place 0 ≡ row = sym (ap (λ (ks : List ℕ). get_or ks place 0) (staged.targets t)) ∙ number_at old place lt ∙ at in
+      ap (λ (cs : Changes). (get_or cs place (0, [])).1) (same ∙ now) ∙ content_at (touched start (writes t)) place (with_slots start (writes t) t) less ∙ ap (record_at (with_slots start (writes t) t)) number
+    where
+      content_at : (ks : List ℕ) (p : ℕ) (y : Tape) → p < length ks → (get_or (map {A = ℕ} {B = ℕ × List ℕ} (λ k. (k, record_at y k)) ks) p (0, [])).1 ≡ record_at y (get_or ks p 0)
+      content_at [] p y lt = absurd (omega (arith, lt))
+      content_at (k ∷ ks) zero y lt = refl
+      content_at (k ∷ ks) (suc p) y lt = content_at ks p y (omega (arith, lt))
+  brought_record place mid (read off last bytes same read_as) t told =
+      let here : get_or mid place (0, []) ≡ (row, bytes) = (λ i. get_or (same i) (last i) (0, [])) ∙ get_or_push old (row, bytes) (0, []) (length old) refl in
+      let others : AreOther (touched start (writes t)) row = others_from (touched start (writes t)) row (λ p lt at.
+      let less : p < length old = omega (arith, lt, ap length (staged.targets t), targets_count old) in
+      off p less (sym (number_at old p less) ∙ ap (λ (ks : List ℕ). get_or ks p 0) (staged.targets t) ∙ at)) in
+      ap (λ (c : ℕ × List ℕ). c.1) here ∙ read_as t told ∙ sym (slots_elsewhere start (writes t) t row (others_untouched start (writes t) row others))
+
+-- ---- a slot that was not written
+
+entries_of_others : (room k : ℕ) (ws : SlotWrites) → AreOthers room k ws → AreEntries room ws
+entries_of_others room k [] are = tt
+entries_of_others room k (w ∷ ws) are = (are.0, are.2, entries_of_others room k ws are.3)
+
+last_of_others : (room k : ℕ) (ws : SlotWrites) (old : List ℕ) → AreOthers room k ws → last_written ws k old ≡ old
+last_of_others room k [] old are = refl
+last_of_others room k (w ∷ ws) old are =
+    last_of_others room k ws (if w.0 == k then w.1 else old) are.3 ∙ ap (λ (b : Bool). if b then w.1 else old) (ne_eqb w.0 k are.1)
+
+pub others_leave : (start n slot : ℕ) (ws : SlotWrites) (t : Tape) → IsTape n t → slot_record start slot < n → AreOthers (8 * (n - start)) slot ws
+    → entry_at (record_at (with_slots start ws t) (slot_record start slot)) (slot % 8) ≡ entry_from t start slot
+others_leave start n slot ws t is lt are =
+    slot_written start n (n - start) ws t slot is (omega (arith, lt)) (entries_of_others (8 * (n - start)) slot ws are) (omega (arith, lt))
+    ∙ last_of_others (8 * (n - start)) slot ws (entry_from t start slot) are
+
+-- an element that is there, whatever stands for those that are not
+pub value_at : (cs : Changes) (p : ℕ) (c : ℕ × List ℕ) → c ≡ get_or cs p c → p < length cs → c ≡ get_or cs p (0, [])
+value_at cs p c is lt = is ∙ there_is cs p lt
+  where
+    there_is : (cs : Changes) (p : ℕ) → p < length cs → get_or cs p c ≡ get_or cs p (0, [])
+    there_is [] p lt = absurd (omega (arith, lt))
+    there_is (b ∷ cs) zero lt = refl
+    there_is (b ∷ cs) (suc p) lt = there_is cs p (omega (arith, lt))
+
+-- ---- the slots of a change
+
+pub none_staged : (start : ℕ) (tape : Option Tape) (cs : Changes) → cs ≡ [] → IsStagedAs start tape (λ x. []) cs
+none_staged start tape cs none = record { targets = λ x. ap targets_in none; contents = λ t told. none }
+
+module _ (start : ℕ) (tape mid : Option Tape) (change : SlotChange) (bytes : List ℕ) (cs : Changes) (same : mid ≡ tape) (is : bytes ≡ entry_bytes change.entry) where
+  again_as : (writes : Tape → SlotWrites) → ((x : Tape) → writes x ≡ change_writes start change x) → IsStagedAs start mid writes cs → IsStagedAs start tape (change_writes start change) cs
+  again_as writes path staged = record {
+    targets = λ x. staged.targets x ∙ ap (touched start) (path x);
+    contents = λ t told. staged.contents t (same ∙ told) ∙ ap (λ (ws : SlotWrites). changes_by start ws t) (path t);
+  }
+
+  pub staged_plain : change.ended ≡ false → IsStagedAs start mid (λ x. (change.slot, bytes) ∷ []) cs → IsStagedAs start tape (change_writes start change) cs
+  staged_plain off staged = again_as (λ x. (change.slot, bytes) ∷ []) (λ x.
+      ap (λ (b : List ℕ). (change.slot, b) ∷ []) is
+      ∙ sym (ap (λ (b : Bool). (change.slot, entry_bytes change.entry) ∷ (if b then (suc change.slot, with_type 0xFFFF (entry_from x start (suc change.slot))) ∷ [] else [])) off)) staged
+
+  pub staged_ended : (next : ℕ) → next ≡ suc change.slot → change.ended ≡ true
+      → IsStagedAs start mid (λ x. (change.slot, bytes) ∷ (next, with_type 0xFFFF (entry_from x start next)) ∷ []) cs → IsStagedAs start tape (change_writes start change) cs
+  staged_ended next at on staged = again_as (λ x. (change.slot, bytes) ∷ (next, with_type 0xFFFF (entry_from x start next)) ∷ []) (λ x.
+      (λ i. (change.slot, is i) ∷ (at i, with_type 0xFFFF (entry_from x start (at i))) ∷ [])
+      ∙ sym (ap (λ (b : Bool). (change.slot, entry_bytes change.entry) ∷ (if b then (suc change.slot, with_type 0xFFFF (entry_from x start (suc change.slot))) ∷ [] else [])) on)) staged
+
+-- ---- one commit takes them
+
+two_most : (version : Version) → 2 ≤ most_targets version
+two_most One = omega arith
+two_most Two = omega arith
+
+blank : List ℕ
+blank = replicate 32 0
+
+blank_size : length blank ≡ 32
+unfolding blank
+blank_size = refl
+
+module _ (version : Version) (n start slot : ℕ) (within : slot_record start slot < redo_start version n) where
+  abbrev writes_of : Bool → List ℕ → List ℕ → SlotWrites
+  writes_of b e f = (slot, e) ∷ (if b then (suc slot, f) ∷ [] else [])
+
+  room : ℕ
+  room = redo_start version n - start
+
+  takes : (b : Bool) → (b ≡ true → slot_record start (suc slot) < redo_start version n) → (e f : List ℕ)
+      → (are_targets version n (touched start (writes_of b e f)) ≡ true) × (length (touched start (writes_of b e f)) ≤ 2)
+  takes true end_within e f =
+      let next : slot_record start (suc slot) < redo_start version n = end_within refl in
+      let two : SlotWrites = (slot, blank) ∷ (suc slot, blank) ∷ [] in
+      let ends : suc slot < 8 * (redo_start version n - start) = omega (arith, next) in
+      let are : AreEntries (8 * (redo_start version n - start)) two = (omega (arith, ends), blank_size, (ends, blank_size, tt)) in
+      let few : length (touched start two) ≤ 2 = touches_two start (slot_record start slot) two (omega arith, omega arith, (omega arith, omega arith, tt)) in (
+        sym (ap (λ (ks : List ℕ). are_targets version n ks) (targets_are (touched start two) (with_slots start two [])))
+            ∙ changes_are start (redo_start version n - start) two are version n [] (omega arith) (omega (arith, few, two_most version)) (omega (arith, within)),
+        few,
+      )
+  takes false end_within e f =
+      let one : SlotWrites = (slot, blank) ∷ [] in
+      let are : AreEntries (8 * (redo_start version n - start)) one = (omega (arith, within), blank_size, tt) in (
+        sym (ap (λ (ks : List ℕ). are_targets version n ks) (targets_are (touched start one) (with_slots start one [])))
+            ∙ changes_are start (redo_start version n - start) one are version n [] (omega arith) (omega (arith, two_most version)) (omega (arith, within)),
+        omega arith,
+      )
+
+pub change_takes : (version : Version) (n start : ℕ) (tape : Option Tape) (change : SlotChange) (cs : Changes) → slot_record start change.slot < redo_start version n
+    → (change.ended ≡ true → slot_record start (change.slot + 1) < redo_start version n) → IsStagedAs start tape (change_writes start change) cs
+    → AreChanges version n cs × (length cs ≤ 2)
+change_takes version n start tape change cs within end_within staged =
+    let next : change.slot + 1 ≡ suc change.slot = omega arith in
+    let both = takes version n start change.slot within change.ended (λ on. subst (λ (k : ℕ). slot_record start k < redo_start version n) next (end_within on))
+    (entry_bytes change.entry) (with_type 0xFFFF (entry_from [] start (suc change.slot))) in
+    (ap (are_targets version n) (staged.targets []) ∙ both.0, omega (arith, both.1, ap length (staged.targets []), targets_count cs))
+
+-- ---- before the commit
+
+pub settles_here : (version : Version) (t : Tape) → IsSettled t → SettlesBelow version t t
+settles_here version t settled = record { records = refl; same = λ k lt. ap (λ (s : Tape). record_at s k) settled }
+
+-- ---- what is written
+
+pub commit_adds : (version : Version) (n m start : ℕ) (tape mid : Option Tape) (change : SlotChange) (cs now : Changes) (old first new : List Transfer → Type 0) (r : Result (Unit {0}) Trouble)
+    → now ≡ cs → m ≡ n → mid ≡ tape → IsStagedAs start tape (change_writes start change) cs → AddsWrites [] old first
+    → OnOk r ((was_open : Bool) × ((t : Tape) → mid ≡ Some t → was_open ≡ has_open_gate t) × AddsWrites (commit_writes version m was_open now) first new)
+    → OnOk r ((t : Tape) → tape ≡ Some t → AddsWrites (commit_writes version n (has_open_gate t) (changes_by start (change_writes start change t) t)) old new)
+commit_adds version n m start tape mid change cs now old first new (Ok v) is size same staged reads given = λ t told.
+    same_writes ([] ++ commit_writes version m given.0 now) (commit_writes version n (has_open_gate t) (changes_by start (change_writes start change t) t)) old new
+    (λ i. commit_writes version (size i) (given.1 t (same ∙ told) i) ((is ∙ staged.contents t told) i)) (then_writes [] (commit_writes version m given.0 now) old first new reads given.2)
+commit_adds version n m start tape mid change cs now old first new (Err e) is size same staged reads given = tt
