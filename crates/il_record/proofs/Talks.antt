@@ -1,24 +1,22 @@
 -- Exchanges one behind the other.
-use Rattle.std.proofs.Common.{◌≡◌, ◌≢◌, ◌∙◌, ◌++◌, ◌&&◌, ℕ, Bool, true, false, List, [], ◌∷◌, Option, None, length, flat_map, ◌+◌, refl, sym, ap, ap₂, subst, append-nil}
+use Rattle.std.proofs.Common.{◌≡◌, ◌≢◌, ◌∙◌, ◌++◌, ℕ, Bool, true, false, List, [], ◌∷◌, Option, None, ◌+◌, refl, sym, ap, ap₂, subst, append-nil}
 use Rattle.std.specs.Prelude.{MatchBool}
 use Rattle.std.specs.List.{list_all}
-use Rattle.std.proofs.lemmas.Bool.{and_parts, and_from}
+use Rattle.std.proofs.lemmas.Bool.{and_from}
 use Rattle.std.proofs.lemmas.Grind.{flat_map-append}
 use Rattle.std.proofs.lemmas.List.Folds.{list_all-append}
 use Rattle.il_frames.specs.declared.entry.Entry.{Entry}
 use Rattle.il_ports.specs.Media.{MediumView}
 use Rattle.loop_model.specs.Effect.{ends_as}
-use Rattle.loop_model.specs.Exchanges.{Break, Exchange, Piece, Whole as WholeOne, Cut, is_exchange, is_piece, piece_entries, entries_of, cut_at, are_whole, breaks_off}
+use Rattle.loop_model.specs.Exchanges.{Exchange, Piece, Whole as WholeOne, Cut, is_exchange, is_piece, piece_entries, are_whole}
 use Rattle.loop_model.specs.Loops.{host_loop}
-use Rattle.loop_model.specs.Roles.{OneTalker, talkers, is_at_most_one}
+use Rattle.loop_model.specs.Roles.{OneTalker}
 use Rattle.loop_model.proofs.RoleLaws.{OneTalker-append}
-use Rattle.il_ring.specs.Rings.{RingView, devices_of, roles_of, drive_party}
+use Rattle.il_ring.specs.Rings.{RingView, devices_of, roles_of}
 use Rattle.il_ring.specs.Outcomes.{met_between}
-use Rattle.il_ring.specs.Plans.{hops_of}
 use Rattle.il_ring.specs.Adds.{Adds}
-use Rattle.il_ring.proofs.Adding.{adds_nothing, adds_more}
-use Rattle.il_ring.proofs.Faults.{met_nowhere}
-use Rattle.il_control.specs.Calls.{IsIdle, IsLost, Made, BrokenOff, loop_of}
+use Rattle.il_ring.proofs.Adding.{adds_more}
+use Rattle.il_control.specs.Calls.{IsIdle, Made, BrokenOff, loop_of}
 use Rattle.il_control.proofs.Calls.{met_parts}
 use Rattle.il_record.specs.Talks.{Talked, all_entries}
 

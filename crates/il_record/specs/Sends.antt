@@ -1,9 +1,11 @@
 -- Sends of many bytes.
-use Rattle.std.specs.Prelude.{◌≡◌, ◌≤◌, ℕ, List, length, take, Some}
+use Rattle.std.specs.Prelude.{◌≡◌, ◌≤◌, ◌<◌, ℕ, List, length, take, Some}
 use Rattle.il_ports.specs.Media.{MediumView}
 use Rattle.loop_model.specs.Exchanges.{Echo, Send}
 use Rattle.loop_model.proofs.UnitLaws.{bytes_of}
-use Rattle.il_ring.specs.Rings.{RingView}
+use Rattle.il_drive.proofs.Exchanges.{IsFree}
+use Rattle.il_drive.proofs.ExchangesAddressed.{HasSought}
+use Rattle.il_ring.specs.Rings.{RingView, drive_party}
 use Rattle.il_control.specs.Calls.{Made, BrokenOff}
 
 -- the first i bytes were sent, behind DDL n to the device of address a
@@ -23,3 +25,7 @@ pub record SendBroke {M : Type 0} (view : M → MediumView) (a n : ℕ) (bytes :
   pub sent : bytes_of ds ≡ take (length ds) bytes
   pub within : length ds ≤ length bytes
   pub broken : BrokenOff view (Send a (Some n) ds) r s
+
+-- The drive, of which every exchange begins so, has sought record n.
+abbrev pub Sought : {M : Type 0} → (M → MediumView) → ℕ → ℕ → RingView M → RingView M → Type 0
+Sought view d n r s = drive_party r ≡ d → IsFree d r.drive.state → n < (view r.drive.medium).record_count → HasSought view d n r.drive s.drive
