@@ -1,0 +1,121 @@
+-- Sends, byte behind byte.
+use Rattle.std.proofs.Common.{◌≡◌, ◌∙◌, ◌^◌, ◌*◌, ◌/◌, ◌%◌, ap₂, true, ◌≤◌, ◌<◌, ◌+◌, ◌++◌, ℕ, zero, suc, List, [], ◌∷◌, Some, length, take, get_or, refl, sym, ap, subst, arith, length-append}
+use Rattle.std.proofs.Math.Nat.{mod-eq_of_lt, div-lt_iff_lt-mul, div-add-mod}
+use Rattle.std.proofs.Math.Seq.{take-length}
+use Rattle.std.specs.Prelude.{Result, Ok, Err, IfErr, IsErr}
+use Rattle.std.specs.Result.{IsErrAnd}
+use Rattle.std.proofs.lemmas.List.{map-append}
+use Rattle.il_frames.specs.declared.frame.Class.TheVariants as class
+use Rattle.il_frames.specs.Frames.{byte_of, framed, is_data}
+use Rattle.il_ports.specs.Media.{MediumView}
+use Rattle.loop_model.specs.Exchanges.{Echo, Send, entries_of}
+use Rattle.loop_model.proofs.UnitLaws.{bytes_of, length-send}
+use Rattle.il_ring.specs.Rings.{RingView, spare_of}
+use Rattle.il_control.specs.Calls.{IsIdle, Made, BrokenOff, Sent, NotSent, sent_as}
+use Rattle.il_control.proofs.Calls.{room_behind}
+use Rattle.il_control.specs.Brought.{AllCome}
+use Rattle.il_control.proofs.Brings.{send_brings}
+use Rattle.il_control.proofs.Sends.{send_more, send_breaks}
+use Rattle.il_frames.specs.declared.frame.Frame.{Frame}
+use Rattle.std.specs.Int.{to_be_bytes, w16}
+use Rattle.il_drive.specs.Runs.{Ran}
+use Rattle.il_drive.proofs.ExchangesAddressed.{seeks_record}
+use Rattle.loop_model.specs.Entries.{unl, rfc, lad, ddl}
+use Rattle.il_record.specs.Sends.{SentSo, SentAll, SendBroke, Sought}
+
+-- an error that is handed on
+pub if_err : {T E : Type 0} (result : Result T E) (x : E) (P : E → Type 0) → IsErr result × IsErrAnd result (λ e. e ≡ x) → P x → IfErr result P
+if_err (Err e) x P is so = subst P (sym is.1) so
+if_err (Ok y) x P is so = tt
+
+take_more : (bytes : List ℕ) (i : ℕ) → i < length bytes → take (suc i) bytes ≡ take i bytes ++ get_or bytes i 0 ∷ []
+take_more [] i within = absurd (omega (arith, within))
+take_more (b ∷ bytes) zero within = refl
+take_more (b ∷ bytes) (suc i) within = ap (λ bytes. b ∷ bytes) (take_more bytes i (omega (arith, within)))
+
+-- nothing was sent yet
+pub sent_nothing : {M : Type 0} (view : M → MediumView) (a n : ℕ) (bytes : List ℕ) (r s : RingView M) → Made view (Send a (Some n) []) r s → SentSo view a n 0 bytes r s
+sent_nothing view a n bytes r s made = record { ds = []; sent = refl; many = refl; made = made }
+
+-- one byte more
+pub sent_more : {M : Type 0} (view : M → MediumView) (a n i byte : ℕ) (bytes : List ℕ) (r m s : RingView M) → IsIdle r → i < length bytes → byte ≡ get_or bytes i 0 → SentSo view a n i bytes r m → Sent view byte m s → SentSo view a n (i + 1) bytes r s
+sent_more view a n i byte bytes r m s idle within is so sent =
+    let d : Echo = sent_as byte sent.back in
+    let up : i + 1 ≡ suc i = omega arith in
+    record {
+      ds = so.ds ++ d ∷ [];
+      sent =
+          map-append (λ (d : Echo). byte_of d.sent) so.ds (d ∷ [])
+          ∙ ap (λ bytes. bytes ++ byte ∷ []) so.sent
+          ∙ ap (λ byte. take i bytes ++ byte ∷ []) is
+          ∙ sym (take_more bytes i within)
+          ∙ ap (λ k. take k bytes) (sym up);
+      many = length-append so.ds (d ∷ []) ∙ ap (λ k. k + 1) so.many;
+      made = send_more view a (Some n) so.ds byte r m s idle so.made sent;
+    }
+
+-- it broke off at this byte
+pub send_broke : {M : Type 0} (view : M → MediumView) (a n i byte : ℕ) (bytes : List ℕ) (r m s : RingView M) → IsIdle r → i < length bytes → byte ≡ get_or bytes i 0 → SentSo view a n i bytes r m → NotSent view byte m s → SendBroke view a n bytes r s
+send_broke view a n i byte bytes r m s idle within is so not_sent =
+    let d : Echo = sent_as byte (framed class.Dab byte) in
+    let long = length-append so.ds (d ∷ []) in
+    let many = so.many in
+    let up : length (so.ds ++ d ∷ []) ≡ suc i = omega (arith, long, many) in
+    record {
+      ds = so.ds ++ d ∷ [];
+      sent =
+          map-append (λ (d : Echo). byte_of d.sent) so.ds (d ∷ [])
+          ∙ ap (λ bytes. bytes ++ byte ∷ []) so.sent
+          ∙ ap (λ byte. take i bytes ++ byte ∷ []) is
+          ∙ sym (take_more bytes i within)
+          ∙ ap (λ k. take k bytes) (sym up);
+      within = omega (arith, up, within);
+      broken = send_breaks view a (Some n) so.ds byte r m s idle so.made not_sent;
+    }
+
+-- it broke off before the first byte
+pub send_broke_first : {M : Type 0} (view : M → MediumView) (a n : ℕ) (bytes : List ℕ) (r s : RingView M) → BrokenOff view (Send a (Some n) []) r s → SendBroke view a n bytes r s
+send_broke_first view a n bytes r s broken = record { ds = []; sent = refl; within = omega arith; broken = broken }
+
+-- the room that is left
+pub sent_room : {M : Type 0} (view : M → MediumView) (a n i more : ℕ) (bytes : List ℕ) (r s : RingView M) → SentSo view a n i bytes r s → i + 6 + more ≤ spare_of r → more ≤ spare_of s
+sent_room view a n i more bytes r s so room =
+    let long = length-send 0 a (Some n) so.ds in
+    let many = so.many in
+    room_behind view r s (entries_of 0 (Send a (Some n) so.ds)) more so.made.whole (omega (arith, long, many, room))
+
+-- ---- a seek
+
+-- the two frames of two bytes
+two_frames : (ds : List Echo) (gs : List Frame) (high low : ℕ) → bytes_of ds ≡ high ∷ low ∷ [] → AllCome ds gs → (f : Frame) × (g : Frame) × (gs ≡ f ∷ g ∷ []) × (is_data f ≡ true) × (is_data g ≡ true) × (byte_of f ≡ high) × (byte_of g ≡ low)
+two_frames (c ∷ d ∷ []) (f ∷ g ∷ []) high low bytes come =
+    (f, g, refl, come.0.0, come.1.0.0, ap byte_of come.0.1 ∙ first_byte bytes, ap byte_of come.1.0.1 ∙ second_byte bytes)
+  where
+    first_byte : byte_of c.sent ∷ byte_of d.sent ∷ [] ≡ high ∷ low ∷ [] → byte_of c.sent ≡ high
+    first_byte same = cc
+
+    second_byte : byte_of c.sent ∷ byte_of d.sent ∷ [] ≡ high ∷ low ∷ [] → byte_of d.sent ≡ low
+    second_byte same = cc
+two_frames [] gs high low bytes come = cc
+two_frames (c ∷ []) gs high low bytes come = cc
+two_frames (c ∷ d ∷ e ∷ ds) gs high low bytes come = cc
+two_frames (c ∷ d ∷ []) [] high low bytes come = absurd come
+two_frames (c ∷ d ∷ []) (f ∷ []) high low bytes come = absurd come.1
+two_frames (c ∷ d ∷ []) (f ∷ g ∷ h ∷ gs) high low bytes come = absurd come.1.1
+
+-- a number in two bytes, high byte first
+two_bytes : (n : ℕ) → n < 2 ^ 16 → (high : ℕ) × (low : ℕ) × (to_be_bytes w16 n ≡ high ∷ low ∷ []) × (256 * high + low ≡ n)
+two_bytes n small =
+    let high : n / 256 % 256 ≡ n / 256 = mod-eq_of_lt ((div-lt_iff_lt-mul (omega arith)).1 (omega (arith, small))) in
+    (n / 256 % 256, n % 256, (search), ap (λ high. 256 * high + n % 256) high ∙ div-add-mod n 256)
+
+pub sought : {M : Type 0} (view : M → MediumView) (d n : ℕ) (r s : RingView M) → d ≤ 30 → n < 2 ^ 16 → SentAll view d 4 (to_be_bytes w16 n) r s → Sought view d n r s
+sought view d n r s low small so = λ at free within.
+    let brings = send_brings view d (Some 4) so.ds r s so.made in
+    let bytes = two_bytes n small in
+    let all = so.sent ∙ take-length (to_be_bytes w16 n) ∙ bytes.2 in
+    let frames = two_frames so.ds brings.0 bytes.0 bytes.1 all brings.2 in
+    let adds = so.made.whole.adds in
+    let came : adds.came ≡ unl ∷ rfc ∷ lad d ∷ rfc ∷ ddl 4 ∷ rfc ∷ frames.0 ∷ frames.1 ∷ [] = brings.1 ∙ ap (λ gs. unl ∷ rfc ∷ lad d ∷ rfc ∷ ddl 4 ∷ rfc ∷ gs) frames.2 in
+    let value : 256 * byte_of frames.0 + byte_of frames.1 ≡ n = ap₂ (λ high low. 256 * high + low) frames.5 frames.6 ∙ bytes.3 in
+    seeks_record view d n frames.0 frames.1 adds.answers r.drive s.drive low free frames.3 frames.4 value within (subst (λ fs. Ran view r.drive fs adds.answers s.drive) came adds.drive)

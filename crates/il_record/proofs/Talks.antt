@@ -1,0 +1,92 @@
+-- Exchanges one behind the other.
+use Rattle.std.proofs.Common.{◌≡◌, ◌≢◌, ◌∙◌, ◌++◌, ℕ, Bool, true, false, List, [], ◌∷◌, Option, None, ◌+◌, refl, sym, ap, ap₂, subst, append-nil}
+use Rattle.std.specs.Prelude.{MatchBool}
+use Rattle.std.specs.List.{list_all}
+use Rattle.std.proofs.lemmas.Bool.{and_from}
+use Rattle.std.proofs.lemmas.Grind.{flat_map-append}
+use Rattle.std.proofs.lemmas.List.Folds.{list_all-append}
+use Rattle.il_frames.specs.declared.entry.Entry.{Entry}
+use Rattle.il_ports.specs.Media.{MediumView}
+use Rattle.loop_model.specs.Effect.{ends_as}
+use Rattle.loop_model.specs.Exchanges.{Exchange, Piece, Whole as WholeOne, Cut, is_exchange, is_piece, piece_entries, are_whole}
+use Rattle.loop_model.specs.Loops.{host_loop}
+use Rattle.loop_model.specs.Roles.{OneTalker}
+use Rattle.loop_model.proofs.RoleLaws.{OneTalker-append}
+use Rattle.il_ring.specs.Rings.{RingView, devices_of, roles_of}
+use Rattle.il_ring.specs.Outcomes.{met_between}
+use Rattle.il_ring.specs.Adds.{Adds}
+use Rattle.il_ring.proofs.Adding.{adds_more}
+use Rattle.il_control.specs.Calls.{IsIdle, Made, BrokenOff, loop_of}
+use Rattle.il_control.proofs.Calls.{met_parts}
+use Rattle.il_record.specs.Talks.{Talked, all_entries}
+
+-- ---- one
+
+one_entries : (p : Piece) → piece_entries 0 p ≡ all_entries (p ∷ [])
+one_entries p = sym (append-nil (piece_entries 0 p))
+
+pub made_talked : {M : Type 0} (view : M → MediumView) (x : Exchange) (r s : RingView M) → Made view x r s → Talked view true (WholeOne x ∷ []) r s
+made_talked view x r s made =
+    let entries = one_entries (WholeOne x) in
+    record {
+      legal = and_from (is_piece (loop_of r) (WholeOne x)) true made.legal refl;
+      ends = refl;
+      held_at_end = None;
+      none_held = λ whole. refl;
+      adds = subst (λ es. Adds view r None es None s) entries made.whole.adds;
+      met = made.whole.met_none;
+      one = subst (OneTalker (roles_of (devices_of r))) entries made.one;
+      state = made.idle;
+    }
+
+pub broken_talked : {M : Type 0} (view : M → MediumView) (x : Exchange) (r s : RingView M) → (broken : BrokenOff view x r s) → Talked view false (Cut x broken.broke.standing broken.broke.break ∷ []) r s
+broken_talked view x r s broken =
+    let broke = broken.broke in
+    let entries = one_entries (Cut x broke.standing broke.break) in
+    record {
+      legal = and_from (is_piece (loop_of r) (Cut x broke.standing broke.break)) true (and_from (is_exchange (loop_of r) x) _ broken.legal broke.legal) refl;
+      ends = refl;
+      held_at_end = broke.held_at_end;
+      none_held = λ whole. cc;
+      adds = subst (λ es. Adds view r None es broke.held_at_end s) entries broke.adds;
+      met = broke.met_some;
+      one = subst (OneTalker (roles_of (devices_of r))) entries broken.one;
+      state = broken.lost;
+    }
+
+-- ---- one behind the other
+
+ends_behind : (whole : Bool) (ps qs : List Piece) → are_whole ps ≡ true → ends_as whole qs ≡ true → ends_as whole (ps ++ qs) ≡ true
+ends_behind whole [] qs first more = more
+ends_behind whole (WholeOne x ∷ ps) qs first more = by whole (ends_behind whole ps qs first more)
+  where
+    by : (whole : Bool) → ends_as whole (ps ++ qs) ≡ true → ends_as whole (WholeOne x ∷ (ps ++ qs)) ≡ true
+    by true e = e
+    by false e = e
+ends_behind whole (Cut x n b ∷ ps) qs first more = cc
+
+same_loop : {M : Type 0} (view : M → MediumView) (r m : RingView M) (a b : Option ℕ) (xs : List Entry) → Adds view r a xs b m → loop_of m ≡ loop_of r
+same_loop view r m a b xs adds = ap₂ (λ k q. host_loop k q) adds.size (ap (λ n. n + 1) adds.before)
+
+pub talked_then : {M : Type 0} (view : M → MediumView) (whole : Bool) (ps qs : List Piece) (r m s : RingView M) → IsIdle r → Talked view true ps r m → Talked view whole qs m s → Talked view whole (ps ++ qs) r s
+talked_then view whole ps qs r m s idle first more =
+    let xs = all_entries ps in
+    let ys = all_entries qs in
+    let entries : xs ++ ys ≡ all_entries (ps ++ qs) = sym (flat_map-append (piece_entries 0) ps qs) in
+    let before : Adds view r None xs None m = subst (λ held. Adds view r None xs held m) (first.none_held refl) first.adds in
+    let split = met_parts view r m s None None None more.held_at_end xs ys idle.free.ring first.state.free.ring before more.adds in
+    record {
+      legal = list_all-append (is_piece (loop_of r)) ps qs ∙ and_from (list_all (is_piece (loop_of r)) ps) (list_all (is_piece (loop_of r)) qs) first.legal (ap (λ l. list_all (is_piece l) qs) (sym (same_loop view r m None None xs before)) ∙ more.legal);
+      ends = ends_behind whole ps qs first.ends more.ends;
+      held_at_end = more.held_at_end;
+      none_held = more.none_held;
+      adds = subst (λ es. Adds view r None es more.held_at_end s) entries (adds_more view r m s None None more.held_at_end xs ys before more.adds);
+      met = by whole first.met more.met split;
+      one = subst (OneTalker (roles_of (devices_of r))) entries ((OneTalker-append (roles_of (devices_of r)) xs ys).1 (first.one, subst (λ rs. OneTalker rs ys) before.roles more.one));
+      state = more.state;
+    }
+  where
+    by : (whole : Bool) → met_between r m ≡ [] → MatchBool whole (met_between m s ≡ []) (met_between m s ≢ [])
+        → (met_between r s ≡ [] → (met_between r m ≡ []) × (met_between m s ≡ [])) × (((met_between r m ≡ []) × (met_between m s ≡ [])) → met_between r s ≡ []) → MatchBool whole (met_between r s ≡ []) (met_between r s ≢ [])
+    by true none more split = split.1 (none, more)
+    by false none more split = λ all. more (split.0 all).1
