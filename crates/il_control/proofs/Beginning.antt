@@ -131,6 +131,7 @@ module _ {M : Type 0} (view : M → MediumView) (r s : RingView M) (held : Optio
         break = FrameLost lost.party;
         legal = refl;
         held_at_end = None;
+        told = λ none. refl;
         adds = host_adds view (λ g. g ≡ f) r s held f answer (entry 0 f (outcome.Lost lost.party) ∷ []) None carries round lost.log (none_new r s held (sourced 0 f) answer counts lost.held_is) took;
         ring = ring;
         held = lost.held_is;
@@ -220,6 +221,7 @@ module _ {M : Type 0} (view : M → MediumView) (r s : RingView M) (held : Optio
         break = FrameLost lost.party;
         legal = refl;
         held_at_end = None;
+        told = λ none. refl;
         adds = added.adds;
         ring = ring;
         held = lost.held_is;

@@ -111,6 +111,7 @@ module _ {M : Type 0} (view : M → MediumView) (byte : ℕ) (r s : RingView M) 
             break = HostAltered altered.back;
             legal = ap not other;
             held_at_end = None;
+            told = λ none. refl;
             adds = end.0;
             ring = now.free.ring;
             held = free;
@@ -135,6 +136,7 @@ module _ {M : Type 0} (view : M → MediumView) (byte : ℕ) (r s : RingView M) 
             break = FrameLost lost.party;
             legal = refl;
             held_at_end = None;
+            told = λ none. refl;
             adds = end.0;
             ring = now.free.ring;
             held = lost.held_is;

@@ -44,6 +44,9 @@ use Rattle.il_ring.proofs.Rings.{IsRing-round}
 use Rattle.il_ring.specs.Outcomes.{Obeys}
 use Rattle.il_control.specs.Brought.{ComesAs, Brought, CutBrought, is_from_here}
 use Rattle.il_control.specs.Calls.{Unheard, Whole, Broke, IsFree}
+use Rattle.il_control.proofs.HeldAtEnd.{cut_held, quiet_parts}
+use Rattle.loop_model.specs.Reach.{held_at_end as held_after}
+use Rattle.loop_model.proofs.ReachLaws.{sourcing}
 use Rattle.il_control.proofs.Brought.{brought_then, cut_brought_first, cut_brought_front, from_here_parts, same_place, may_come, brought_one, cut_brought_one, plain_comes}
 
 -- ---- cuts
@@ -171,6 +174,7 @@ broke_behind view r m s xs ys ring first more =
       break = more.break;
       legal = cut.legal;
       held_at_end = more.held_at_end;
+      told = λ none. more.told (quiet_parts xs ys none).1;
       adds = added.0;
       ring = more.ring;
       held = more.held;
@@ -182,6 +186,13 @@ broke_behind view r m s xs ys ring first more =
 pub broke_behind_came : {M : Type 0} (view : M → MediumView) (r m s : RingView M) (xs ys : List Entry) (ring : IsRing r) (first : Whole view r xs m) (more : Broke view m ys s) → (broke_behind view r m s xs ys ring first more).adds.came ≡ first.adds.came ++ more.adds.came
 unfolding broke_behind
 broke_behind_came view r m s xs ys ring first more = (cut_added_behind view r m s xs ys first more (cut_behind xs ys more.standing more.break more.legal)).2
+
+-- whether a frame was held is read off both, where it is read off the second
+pub broke_behind_ended : {M : Type 0} (view : M → MediumView) (r m s : RingView M) (xs ys : List Entry) (ring : IsRing r) (first : Whole view r xs m) (more : Broke view m ys s) → more.held_at_end ≡ held_after (sourcing None xs) (cut_at ys more.standing more.break)
+    → (broke_behind view r m s xs ys ring first more).held_at_end ≡ held_after None (cut_at (xs ++ ys) (broke_behind view r m s xs ys ring first more).standing (broke_behind view r m s xs ys ring first more).break)
+unfolding broke_behind
+broke_behind_ended view r m s xs ys ring first more ended =
+    ended ∙ sym (cut_held None xs ys more.standing more.break more.legal) ∙ ap (held_after None) (sym (cut_behind xs ys more.standing more.break more.legal).entries)
 
 cut_added_before : {M : Type 0} (view : M → MediumView) (r s : RingView M) (xs ys : List Entry) (broke : Broke view r xs s) → AddsCut view r (xs ++ ys) broke.standing broke.held_at_end s broke.adds.came (cut_at (xs ++ ys) broke.standing broke.break)
 cut_added_before view r s xs ys broke =
@@ -198,6 +209,7 @@ broke_before view r s xs ys broke =
       break = broke.break;
       legal = cut.1;
       held_at_end = broke.held_at_end;
+      told = λ none. broke.told (quiet_parts xs ys none).0;
       adds = added.0;
       ring = broke.ring;
       held = broke.held;
@@ -209,6 +221,11 @@ broke_before view r s xs ys broke =
 pub broke_before_came : {M : Type 0} (view : M → MediumView) (r s : RingView M) (xs ys : List Entry) (broke : Broke view r xs s) → (broke_before view r s xs ys broke).adds.came ≡ broke.adds.came
 unfolding broke_before
 broke_before_came view r s xs ys broke = (cut_added_before view r s xs ys broke).2
+
+pub broke_before_ended : {M : Type 0} (view : M → MediumView) (r s : RingView M) (xs ys : List Entry) (broke : Broke view r xs s) → broke.held_at_end ≡ held_after None (cut_at xs broke.standing broke.break)
+    → (broke_before view r s xs ys broke).held_at_end ≡ held_after None (cut_at (xs ++ ys) (broke_before view r s xs ys broke).standing (broke_before view r s xs ys broke).break)
+unfolding broke_before
+broke_before_ended view r s xs ys broke ended = ended ∙ ap (held_after None) (sym (cut_front xs ys broke.standing broke.break broke.legal).0)
 
 -- whether it was done whole
 abbrev pub Done : {M : Type 0} → (M → MediumView) → RingView M → List Entry → Bool → RingView M → Type 0
@@ -281,6 +298,7 @@ pass_call view Q P R passes hears r s held f answer round none free fit is carri
         break = FrameLost lost.party;
         legal = refl;
         held_at_end = None;
+        told = λ none. refl;
         adds = added.0;
         ring = ring;
         held = lost.held_is;

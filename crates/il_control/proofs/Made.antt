@@ -1,5 +1,6 @@
 -- Behind an exchange: the state, and that at most one party talked.
-use Rattle.std.proofs.Common.{◌≡◌, ◌∙◌, ◌<◌, ◌&&◌, ℕ, true, not, List, [], ◌∷◌, length, refl, sym, ap, append-nil}
+use Rattle.std.proofs.Common.{◌≡◌, ◌∙◌, ◌<◌, ◌&&◌, ℕ, true, not, List, [], ◌∷◌, None, length, refl, sym, ap, append-nil}
+use Rattle.std.specs.List.{list_all}
 use Rattle.std.proofs.lemmas.Bool.{and_parts, and_from, agree_below_at}
 use Rattle.il_frames.specs.declared.frame.Class.{Class}
 use Rattle.il_frames.specs.declared.frame.Class.TheVariants as class
@@ -11,7 +12,9 @@ use Rattle.il_device.specs.declared.roles.Roles.{Roles}
 use Rattle.il_device.proofs.Laws.{is_plain}
 use Rattle.il_ports.specs.Media.{MediumView}
 use Rattle.loop_model.specs.Roles.{talkers, is_at_most_one, is_in_turn, has_one_talker, roles_after, roles_after_entry, OneTalker}
-use Rattle.loop_model.specs.Exchanges.{Exchange, Command, commanded, entries_of, is_exchange, is_talk_address, IsWhole}
+use Rattle.loop_model.specs.Exchanges.{Exchange, Command, commanded, entries_of, cut_at, is_exchange, is_talk_address, IsWhole}
+use Rattle.loop_model.specs.Reach.{held_at_end as held_after}
+use Rattle.loop_model.proofs.ReachLaws.{is_no_nrd}
 use Rattle.loop_model.specs.Exchanges.Piece.{Whole as WholeOne}
 use Rattle.loop_model.proofs.RoleLaws.{talkers-whole}
 use Rattle.loop_model.proofs.RoleSteps.{are_numbered}
@@ -20,6 +23,7 @@ use Rattle.loop_model.proofs.TalkLaws.{is_aau}
 use Rattle.il_ring.specs.Rings.{RingView, devices_of, roles_of, drive_party}
 use Rattle.il_ring.proofs.Rings.{IsRing-clear}
 use Rattle.il_control.specs.Calls.{Whole, Broke, IsIdle, IsLost, loop_of, is_command, Made, BrokenOff}
+use Rattle.il_control.proofs.HeldAtEnd.{quiet_ended, command_quiet}
 
 -- at most one device talks at the end of such a log
 pub one_at_end : (rs : List Roles) (log : List Entry) → OneTalker rs log → is_at_most_one (talkers (roles_after rs log)) ≡ true
@@ -49,12 +53,13 @@ made view x r s idle legal asked keeps whole =
     }
 
 pub broken_off : {M : Type 0} (view : M → MediumView) (x : Exchange) (r s : RingView M) → IsIdle r → is_exchange (loop_of r) x ≡ true → answers_as_asked (length (roles_of (devices_of r))) x ≡ true
-    → Broke view r (entries_of 0 x) s → BrokenOff view x r s
-broken_off view x r s idle legal asked broke =
+    → (broke : Broke view r (entries_of 0 x) s) → broke.held_at_end ≡ held_after None (cut_at (entries_of 0 x) broke.standing broke.break) → BrokenOff view x r s
+broken_off view x r s idle legal asked broke ended =
     let rs = roles_of (devices_of r) in
     let one = OneTalker-cut rs (entries_of 0 x) broke.standing broke.break (safe_exchange (length (devices_of r)) (drive_party r) rs x legal asked idle.numbered idle.silent) broke.legal in
     record {
       broke = broke;
+      ended = ended;
       legal = legal;
       one = one;
       lost = record {
@@ -70,9 +75,14 @@ unfolding made
 made_whole view x r s idle legal asked keeps whole = refl
 
 pub broken_off_broke : {M : Type 0} (view : M → MediumView) (x : Exchange) (r s : RingView M) (idle : IsIdle r) (legal : is_exchange (loop_of r) x ≡ true) (asked : answers_as_asked (length (roles_of (devices_of r))) x ≡ true)
-    (broke : Broke view r (entries_of 0 x) s) → (broken_off view x r s idle legal asked broke).broke ≡ broke
+    (broke : Broke view r (entries_of 0 x) s) (ended : broke.held_at_end ≡ held_after None (cut_at (entries_of 0 x) broke.standing broke.break)) → (broken_off view x r s idle legal asked broke ended).broke ≡ broke
 unfolding broken_off
-broken_off_broke view x r s idle legal asked broke = refl
+broken_off_broke view x r s idle legal asked broke ended = refl
+
+-- an exchange without NRD was broken off
+pub quiet_broken_off : {M : Type 0} (view : M → MediumView) (x : Exchange) (r s : RingView M) → IsIdle r → is_exchange (loop_of r) x ≡ true → answers_as_asked (length (roles_of (devices_of r))) x ≡ true
+    → list_all is_no_nrd (entries_of 0 x) ≡ true → Broke view r (entries_of 0 x) s → BrokenOff view x r s
+quiet_broken_off view x r s idle legal asked quiet broke = broken_off view x r s idle legal asked broke (quiet_ended view r s (entries_of 0 x) broke quiet)
 
 -- ---- commands
 
@@ -95,7 +105,7 @@ pub command_broken : {M : Type 0} (view : M → MediumView) (f : Frame) (r s : R
 command_broken view f r s idle is broke =
     let parts = and_parts (same_class (class_of f) class.Cmd) (not (is_talk_address (message_of f)) && not (is_aau (message_of f))) is in
     let says = and_parts (not (is_talk_address (message_of f))) (not (is_aau (message_of f))) parts.1 in
-    broken_off view (Command f) r s idle (and_from _ _ parts.0 says.0) refl broke
+    quiet_broken_off view (Command f) r s idle (and_from _ _ parts.0 says.0) refl (command_quiet f parts.0) broke
 
 -- ---- an emptied log
 

@@ -20,7 +20,7 @@ use Rattle.il_ring.proofs.Passing.{AsIdentify, is_identify_class}
 use Rattle.il_control.specs.Calls.{idy, IsIdle, Made, BrokenOff}
 use Rattle.il_control.proofs.Brought.{poll_comes}
 use Rattle.il_control.proofs.Calls.{pass_call}
-use Rattle.il_control.proofs.Made.{made, broken_off}
+use Rattle.il_control.proofs.Made.{made, quiet_broken_off}
 
 identify_class : (k : Class) → is_identify_class k ≡ true → (same_class k class.Idy || same_class k class.Isr) ≡ true
 identify_class class.Idy is = refl
@@ -47,5 +47,5 @@ identify_call view r s held f answer round is none idle =
       made view (Identify back) r s idle (identify_class (class_of back) leads.identify) refl refl came.3,
       sym past ∙ leads.behind,
     ))
-    (λ lost. subst (λ answer. Polled view r answer s) (sym lost.0) (broken_off view (Identify idy) r s idle refl refl (lost.1 (outcome.Back idy))))
+    (λ lost. subst (λ answer. Polled view r answer s) (sym lost.0) (quiet_broken_off view (Identify idy) r s idle refl refl refl (lost.1 (outcome.Back idy))))
     (pass_call view (LeadsTo all end) (IsParty all) OnlyPassed (identify_passes all end) (λ d e passed. passed.0) r s held idy answer sent none idle.free (parties [] all) (record { identify = refl; behind = refl }) (AsIdentify refl refl) (λ g leads. poll_comes (drive_party r) g leads.identify))

@@ -9,7 +9,7 @@ use Rattle.il_control.specs.Brought.{Brought, CutBrought, is_from_here}
 use Rattle.std.proofs.Common.{Bool, ◌≡◌, ◌∙◌, ◌≤◌, ◌<◌, ◌+◌, ◌++◌, ◌&&◌, ◌==◌, ⊎_elim, ℕ, suc, true, false, not, List, [], ◌∷◌, Option, Some, None, length, drop, map, refl, sym, ap, subst, arith, length-append, append_assoc, append-nil, inl, ◌||◌}
 use Rattle.std.specs.Prelude.{MatchBool, MatchOption, IfSome, IsSome, nat_le}
 use Rattle.std.specs.List.{list_all}
-use Rattle.std.proofs.lemmas.Bool.{and_from, eq-eqb, eqb-true, le-leb, ne_eqb}
+use Rattle.std.proofs.lemmas.Bool.{and_from, and_parts, eq-eqb, eqb-true, le-leb, ne_eqb}
 use Rattle.il_frames.specs.declared.frame.Frame.{Frame}
 use Rattle.il_frames.specs.declared.entry.Entry.{Entry}
 use Rattle.il_frames.specs.declared.entry.Outcome.TheVariants as outcome
@@ -27,7 +27,10 @@ use Rattle.std.proofs.lemmas.List.{length-map}
 use Rattle.il_device.specs.State.{DeviceState}
 use Rattle.il_control.specs.Calls.{Unheard, Whole, Broke, IsIdle, loop_of}
 use Rattle.il_control.specs.Receives.{Began, NotBegun, StartLost, FirstLost, TakesBytes, TookInto, NotTook, WasTalking, Answered, NotAnswered, Asked, Received, NotReceived, behind_start, talker_of, is_stopped, received, fits, AllSpoken, Brings, CutBrings, PassedBy, PassedInPart, StandsBehind, SpokenBy, sent_frames}
-use Rattle.il_control.proofs.Calls.{met_parts, room_behind, unheard_then, whole_then, broke_behind, broke_before, whole_then_came, broke_before_came, broke_behind_came, whole_then_answers}
+use Rattle.loop_model.specs.Reach.{held_at_end as held_after}
+use Rattle.loop_model.proofs.ReachLaws.{is_no_nrd, sourcing}
+use Rattle.il_control.proofs.HeldAtEnd.{cut_held, cut_holds_none, echo_quiet, front_quiet, front_source, quiet_ended, start_quiet}
+use Rattle.il_control.proofs.Calls.{broke_before_ended, broke_behind_ended, met_parts, room_behind, unheard_then, whole_then, broke_behind, broke_before, whole_then_came, broke_before_came, broke_behind_came, whole_then_answers}
 use Rattle.il_control.proofs.Made.{made, broken_off, made_whole, broken_off_broke}
 use Rattle.il_control.proofs.Talking.{asked_one}
 use Rattle.il_control.proofs.Telling.{number_fits}
@@ -53,13 +56,16 @@ first_lost : {M : Type 0} (view : M → MediumView) (r s : RingView M) (start : 
 first_lost view r s start p d broke spoken = subst AllSpoken (sym (broke_before_came view r s (entry 0 (start_frame start) (outcome.Taken p) ∷ echoed p d ∷ []) (entry p eto (outcome.Taken 0) ∷ []) broke)) spoken
 
 pub lost_answered : {M : Type 0} (view : M → MediumView) (r s : RingView M) (start : Start) (w : ℕ) → 0 < w → NotBegun view (start_frame start) r s → NotAnswered view start w r s
-lost_answered view r s start w some (StartLost broke unheard) = record { answer = NotTaken; legal = refl; talked = tt; fitting = refl; broke = broke; far = λ behind. nobody _ _ behind; unheard = unheard }
+lost_answered view r s start w some (StartLost broke unheard) = record { answer = NotTaken; legal = refl; talked = tt; fitting = refl; broke = broke; ended = quiet_ended view r s (returned 0 (start_frame start) ∷ []) broke (and_from _ true (start_quiet start (outcome.Back (start_frame start))) refl); far = λ behind. nobody _ _ behind; unheard = unheard }
 lost_answered view r s start w some (FirstLost p d echo talking broke far unheard) = record {
   answer = ToItsEnd p (d ∷ []);
   legal = one_answer r p d echo talking;
   talked = talking;
   fitting = le-leb 1 w (omega (arith, some));
   broke = broke_before view r s (entry 0 (start_frame start) (outcome.Taken p) ∷ echoed p d ∷ []) (entry p eto (outcome.Taken 0) ∷ []) broke;
+  ended = quiet_ended view r s (entry 0 (start_frame start) (outcome.Taken p) ∷ echoed p d ∷ entry p eto (outcome.Taken 0) ∷ [])
+      (broke_before view r s (entry 0 (start_frame start) (outcome.Taken p) ∷ echoed p d ∷ []) (entry p eto (outcome.Taken 0) ∷ []) broke)
+      (and_from _ _ (start_quiet start (outcome.Taken p)) (and_from _ true (echo_quiet p d echo) refl));
   far = λ behind. first_lost view r s start p d broke (far behind.0);
   unheard = unheard;
 }
@@ -159,6 +165,7 @@ module _ {M : Type 0} (view : M → MediumView) (r m s : RingView M) (start : St
           break = not_took.break;
           legal = ap (λ es. can_cut 0 es (suc not_took.standing) not_took.break) entries ∙ not_took.cuts;
           held_at_end = not_took.held_at_end;
+          told = λ none. not_took.ended ∙ cut_holds_none (Some p) (behind_start answer) not_took.standing not_took.break (and_parts _ _ (subst (λ es. list_all is_no_nrd es ≡ true) entries none)).1;
           adds = (cut_added answer not_took.standing not_took.break not_took.held_at_end not_took.added not_took.talker).adds;
           ring = not_took.ring;
           held = not_took.held;
@@ -166,6 +173,7 @@ module _ {M : Type 0} (view : M → MediumView) (r m s : RingView M) (start : St
           unheard = λ none. all_unheard;
           brought = λ from. (cut_added answer not_took.standing not_took.break not_took.held_at_end not_took.added not_took.talker).near (near_talker answer not_took.talker from);
         };
+        ended = not_took.ended ∙ sym (cut_held None first (behind_start answer) not_took.standing not_took.break not_took.cuts) ∙ ap (λ es. held_after None (cut_at es (suc not_took.standing) not_took.break)) (sym entries);
         far = λ behind. (cut_added answer not_took.standing not_took.break not_took.held_at_end not_took.added not_took.talker).far (far_talker answer not_took.talker behind);
         unheard = all_unheard;
       }
@@ -272,25 +280,29 @@ module _ {M : Type 0} (view : M → MediumView) (a : ℕ) (number : Option ℕ) 
   abbrev Passed : Answer → List Frame → Type 0
   Passed answer came = StandsBehind answer r → PassedInPart (length (devices_of r)) (drive_party r) a number came
 
+  -- whether a frame was held is read off
+  abbrev EndedSo : {s : RingView M} (es : List Entry) → Broke view r es s → Type 0
+  EndedSo es broke = broke.held_at_end ≡ held_after None (cut_at es broke.standing broke.break)
+
   broken : (answer : Answer) (w : ℕ) (s : RingView M) → answers_as_asked (length (devices_of r)) (Receive a number start answer) ≡ true → is_answer 0 answer ≡ true → fits w answer ≡ true
-      → (broke : Broke view r (front ++ (all answer ++ commanded 0 unt)) s) → Passed answer broke.adds.came → Unheard r s → NotReceived view a number start w r s
-  broken answer w s asked legal fit broke passed unheard =
+      → (broke : Broke view r (front ++ (all answer ++ commanded 0 unt)) s) → EndedSo (front ++ (all answer ++ commanded 0 unt)) broke → Passed answer broke.adds.came → Unheard r s → NotReceived view a number start w r s
+  broken answer w s asked legal fit broke ended passed unheard =
       let x = Receive a number start answer in
       let is = is_receive r a number start answer low small legal in
-      let told : (broke : Broke view r (entries_of 0 x) s) × Passed answer broke.adds.came =
-      subst (λ es. (broke : Broke view r es s) × Passed answer broke.adds.came) (sym (entries_of-receive 0 a number start answer)) (broke, passed) in
+      let told : (broke : Broke view r (entries_of 0 x) s) × EndedSo (entries_of 0 x) broke × Passed answer broke.adds.came =
+      subst (λ es. (broke : Broke view r es s) × EndedSo es broke × Passed answer broke.adds.came) (sym (entries_of-receive 0 a number start answer)) (broke, ended, passed) in
       record {
         answer = answer;
         asked = asked;
         fitting = fit;
-        broken = broken_off view x r s idle is (as_asked answer asked) told.0;
+        broken = broken_off view x r s idle is (as_asked answer asked) told.0 told.1;
         unheard = unheard;
-        passed = subst (λ (broke : Broke view r (entries_of 0 x) s). Passed answer broke.adds.came) (sym (broken_off_broke view x r s idle is (as_asked answer asked) told.0)) told.1;
+        passed = subst (λ (broke : Broke view r (entries_of 0 x) s). Passed answer broke.adds.came) (sym (broken_off_broke view x r s idle is (as_asked answer asked) told.0 told.1)) told.2;
       }
 
   -- no device was told to talk
   pub not_asked : (w : ℕ) (s : RingView M) → Broke view r front s → NotReceived view a number start w r s
-  not_asked w s broke = broken NotTaken w s refl refl refl (broke_before view r s front (all NotTaken ++ commanded 0 unt) broke) (λ behind. let clash = behind.1 in cc) (broke.unheard (front_no_data a number))
+  not_asked w s broke = broken NotTaken w s refl refl refl (broke_before view r s front (all NotTaken ++ commanded 0 unt) broke) (broke_before_ended view r s front (all NotTaken ++ commanded 0 unt) broke (quiet_ended view r s front broke (front_quiet a number))) (λ behind. let clash = behind.1 in cc) (broke.unheard (front_no_data a number))
 
   module _ (m : RingView M) (asked : Asked view a number r m) where
     front_unheard : Unheard r m
@@ -310,7 +322,9 @@ module _ {M : Type 0} (view : M → MediumView) (a : ℕ) (number : Option ℕ) 
         let came : whole.adds.came ≡ asked.whole.adds.came ++ (off.broke.adds.came ++ []) =
         broke_behind_came view r m s front (all off.answer ++ commanded 0 unt) idle.free.ring asked.whole part
         ∙ ap (λ gs. asked.whole.adds.came ++ gs) (broke_before_came view m s (all off.answer) (commanded 0 unt) off.broke ∙ sym (append-nil off.broke.adds.came)) in
-        broken off.answer w s (asked_one view r m a number start off.answer idle some low (number_fits number small) asked off.talked) off.legal off.fitting whole
+        let rest = broke_before_ended view m s (all off.answer) (commanded 0 unt) off.broke off.ended in
+        let ended = broke_behind_ended view r m s front (all off.answer ++ commanded 0 unt) idle.free.ring asked.whole part (rest ∙ ap (λ before. held_after before (cut_at (all off.answer ++ commanded 0 unt) part.standing part.break)) (sym (front_source a number))) in
+        broken off.answer w s (asked_one view r m a number start off.answer idle some low (number_fits number small) asked off.talked) off.legal off.fitting whole ended
         (λ behind. record {
           before = asked.whole.adds.came;
           spoken = off.broke.adds.came;
@@ -344,7 +358,9 @@ module _ {M : Type 0} (view : M → MediumView) (a : ℕ) (number : Option ℕ) 
           let came : whole.adds.came ≡ asked.whole.adds.came ++ (answered.whole.adds.came ++ off.adds.came) =
           broke_behind_came view r m s front (all answer ++ commanded 0 unt) idle.free.ring asked.whole more
           ∙ ap (λ gs. asked.whole.adds.came ++ gs) (broke_behind_came view m u s (all answer) (commanded 0 unt) asked.whole.ring answered.whole off) in
-          broken answer (length old) s told answered.legal (answered_fits answer n (length old) answered.count answered.within answered.stops) whole
+          let rest = broke_behind_ended view m u s (all answer) (commanded 0 unt) asked.whole.ring answered.whole off (off.told refl ∙ sym (cut_holds_none (sourcing None (all answer)) (commanded 0 unt) off.standing off.break refl)) in
+          let ended = broke_behind_ended view r m s front (all answer ++ commanded 0 unt) idle.free.ring asked.whole more (rest ∙ ap (λ before. held_after before (cut_at (all answer ++ commanded 0 unt) more.standing more.break)) (sym (front_source a number))) in
+          broken answer (length old) s told answered.legal (answered_fits answer n (length old) answered.count answered.within answered.stops) whole ended
           (λ behind. record {
             before = asked.whole.adds.came;
             spoken = answered.whole.adds.came;

@@ -12,7 +12,8 @@ use Rattle.loop_model.specs.Exchanges.{Echo, Send, echoed, commanded, numbered, 
 use Rattle.il_ring.specs.Rings.{RingView}
 use Rattle.il_control.specs.Calls.{Whole, Broke, IsIdle, loop_of, Made, BrokenOff, sent_as, Sent, NotSent}
 use Rattle.il_control.proofs.Calls.{whole_then, broke_behind}
-use Rattle.il_control.proofs.Made.{made, broken_off}
+use Rattle.il_control.proofs.Made.{made, quiet_broken_off}
+use Rattle.il_control.proofs.HeldAtEnd.{send_quiet}
 
 -- the entries with one more data frame
 more_entries : (a : ℕ) (number : Option ℕ) (ds : List Echo) (d : Echo) → entries_of 0 (Send a number ds) ++ echoed 0 d ∷ [] ≡ entries_of 0 (Send a number (ds ++ d ∷ []))
@@ -44,4 +45,5 @@ pub send_breaks : {M : Type 0} (view : M → MediumView) (a : ℕ) (number : Opt
 send_breaks view a number ds byte r m s idle before not_sent =
     let d = sent_as byte (framed class.Dab byte) in
     let broke = broke_behind view r m s (entries_of 0 (Send a number ds)) (echoed 0 d ∷ []) idle.free.ring before.whole not_sent.broke in
-    broken_off view (Send a number (ds ++ d ∷ [])) r s idle (more_legal r a number ds d before.legal (own_echo byte)) refl (subst (λ es. Broke view r es s) (more_entries a number ds d) broke)
+    let legal = more_legal r a number ds d before.legal (own_echo byte) in
+    quiet_broken_off view (Send a number (ds ++ d ∷ [])) r s idle legal refl (send_quiet a number (ds ++ d ∷ []) (and_parts (is_number number) (list_all is_host_echo (ds ++ d ∷ [])) (and_parts (is_address a) (is_number number && list_all is_host_echo (ds ++ d ∷ [])) legal).1).1) (subst (λ es. Broke view r es s) (more_entries a number ds d) broke)

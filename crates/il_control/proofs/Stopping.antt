@@ -49,7 +49,8 @@ use Rattle.il_control.proofs.Calls.{met_parts, unheard_then}
 use Rattle.il_control.proofs.Brought.{cut_brought_one, may_come, plain_comes, same_place}
 use Rattle.il_control.proofs.Relaying.{deaf_unheard, right_echo, spoken_one}
 use Rattle.il_control.proofs.Spoken.{brings_more, cut_behind_brought, spoken_then, added_as}
-use Rattle.il_control.proofs.Taking.{breaks_at, is_device, severed_at}
+use Rattle.il_control.proofs.HeldAtEnd.{stopped_holds_none}
+use Rattle.il_control.proofs.Taking.{breaks_at, is_device, one_device, severed_at}
 
 -- ---- the talker among devices that obeyed
 
@@ -195,7 +196,7 @@ module _ {M : Type 0} (view : M → MediumView) (m n : RingView M) (h : IsHoldin
       let d : Echo = record { sent = h.flight.sent; back = h.flight.sent } in
       NrdLost gone.answer_is
       (breaks_at view m n h 1 (Stopped h.flight.source [] d) [] (echoed h.flight.source d ∷ entry h.flight.source eto (outcome.Taken 0) ∷ []) (returned 0 nrd) (FrameLost gone.party) (Some h.flight.source) refl
-      (own_last m h d (right_echo h.flight.sent h.flight.sent h.data_frame refl)) refl refl refl
+      (own_last m h d (right_echo h.flight.sent h.flight.sent h.data_frame refl)) refl refl refl refl
       (lost_by (entry 0 nrd (outcome.Lost gone.party) ∷ []) (λ k q gs outs. CutBrought k q (returned 0 nrd ∷ []) 0 gs) gone.log (none_new m n held (sourced 0 nrd) answer counts gone.held_is)
       (λ gs outs came. cut_brought_one (Is nrd (1 + length m.before)) m n (length (devices_of m)) (drive_party m) nrd (outcome.Back nrd) gs (λ g is. may_come (drive_party m) nrd g (plain_comes (drive_party m) nrd g refl is)) came))
       ring gone.held_is (inr gone.met_some) unheard)
@@ -281,12 +282,13 @@ module _ {M : Type 0} (view : M → MediumView) (m n s : RingView M) (h : IsHold
       by (AtHeld d echo whole due) =
           let due_is : off.due ≡ echoed p d = due ∙ ap (λ p. echoed p d) at_source in
           breaks_at view m s h 1 (Stopped p [] d) (returned 0 nrd ∷ []) (entry p eto (outcome.Taken 0) ∷ []) (echoed p d) off.break None refl (own_last m h d echo) refl refl
-          (subst (λ due. is_break 0 due off.break ≡ true) due_is off.legal) (added [] (echoed p d) whole due_is) off.ring off.held (spoilt_behind _ off.added.adds off.spoilt) (all_unheard off.unheard)
+          (subst (λ due. is_break 0 due off.break ≡ true) due_is off.legal) (stopped_holds_none (Some p) [] (echoed p d) off.break refl (is_device m h)) (added [] (echoed p d) whole due_is) off.ring off.held (spoilt_behind _ off.added.adds off.spoilt) (all_unheard off.unheard)
       by (AtNext c d first echo goes_on whole due) = let clash : true ≡ false = sym (ap (λ stopped. stopped || k.own.last) back.stops) ∙ goes_on in cc
       by (AtEnd d echo whole due) =
           let due_is : off.due ≡ entry p eto (outcome.Taken 0) = due ∙ ap (λ p. entry p eto (outcome.Taken 0)) at_source in
           breaks_at view m s h 1 (Stopped p [] d) (returned 0 nrd ∷ echoed p d ∷ []) [] (entry p eto (outcome.Taken 0)) off.break None refl (own_last m h d echo) refl refl
           (subst (λ due. is_break 0 due off.break ≡ true) due_is off.legal)
+          (stopped_holds_none (Some p) (echoed p d ∷ []) (entry p eto (outcome.Taken 0)) off.break (one_device m h) (is_device m h))
           (subst (λ q. AddsBy view m p (Some p) (returned 0 nrd ∷ echoed q d ∷ break_entries (entry p eto (outcome.Taken 0)) off.break) None (λ j r gs outs. CutBrought j r (returned 0 nrd ∷ echoed q d ∷ entry p eto (outcome.Taken 0) ∷ []) 2 gs) s) at_source (added (d ∷ []) (entry p eto (outcome.Taken 0)) whole due_is))
           off.ring off.held (spoilt_behind _ off.added.adds off.spoilt) (all_unheard off.unheard)
 

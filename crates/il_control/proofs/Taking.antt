@@ -14,6 +14,7 @@ use Rattle.il_device.specs.Takes.{eto}
 use Rattle.il_ports.specs.Media.{MediumView}
 use Rattle.loop_model.specs.Entries.{entry, nrd}
 use Rattle.loop_model.specs.Exchanges.{Echo, Break, Answer, NotTaken, ToItsEnd, Stopped, echoed, returned, break_entries, cut_at, can_cut, is_answer, is_break, is_echo, is_some_data}
+use Rattle.loop_model.specs.Reach.{held_at_end as held_after}
 use Rattle.loop_model.proofs.UnitLaws.{bytes_of}
 use Rattle.il_ring.specs.Plans.{hops_of}
 use Rattle.il_ring.specs.Rings.{RingView, IsRing, devices_of, spare_of}
@@ -24,6 +25,7 @@ use Rattle.il_control.specs.Brought.{CutBrought}
 use Rattle.il_control.specs.Receives.{AddsBy, Brings, CutBrings, IsHolding, Spoilt, Clean, WentOn, Ended, DueAt, AtHeld, AtNext, AtEnd, Severed, SoFar, Took, NotTook, WentAs, FrontAt, Fronts, Stops, TookInto, behind_start, talker_of, is_stopped, received, fits, frames_of, sent_frames}
 use Rattle.il_control.specs.declared.receiving.Front.TheVariants as front
 use Rattle.il_control.specs.declared.receiving.Onward.TheVariants as onward
+use Rattle.il_control.proofs.HeldAtEnd.{cut_held, echoes_source, severed_holds_none}
 use Rattle.il_control.proofs.Calls.{met_parts, unheard_then, unheard_nothing}
 use Rattle.il_control.proofs.Spoken.{added_as, behind_all, brings_nothing, brings_more, cut_brings_more, cut_entries, cut_legal, cut_more}
 
@@ -174,6 +176,12 @@ took_then view m n s h stops bytes more so took =
       unheard = unheard_then (devices_of m) (devices_of n) (devices_of s) so.unheard took.unheard;
     }
 
+pub is_device : {M : Type 0} (m : RingView M) (h : IsHolding m) → not (h.flight.source == 0) ≡ true
+is_device m h = ap not (ne_eqb h.flight.source 0 (λ e. omega (arith, e, h.talking.party)))
+
+pub one_device : {M : Type 0} (m : RingView M) (h : IsHolding m) → (not (h.flight.source == 0) && true) ≡ true
+one_device m h = and_from (not (h.flight.source == 0)) true (is_device m h) refl
+
 pub not_took_then : {M : Type 0} (view : M → MediumView) (m n s : RingView M) (h : IsHolding m) (bytes : List ℕ) (v w : ℕ) (so : SoFar view m h bytes n) → NotTook view n so.now v s → length bytes + v ≡ w → NotTook view m h w s
 not_took_then view m n s h bytes v w so not_took sum =
     let p = h.flight.source in
@@ -195,6 +203,13 @@ not_took_then view m n s h bytes v w so not_took sum =
       break = not_took.break;
       cuts = ap (λ es. can_cut 0 es standing not_took.break) entries ∙ cut_legal (map (echoed p) so.ds) (behind_start answer) not_took.standing not_took.break ∙ not_took.cuts;
       held_at_end = not_took.held_at_end;
+      ended =
+          not_took.ended
+          ∙ ap (λ p. held_after (Some p) cut) so.source
+          ∙ ap (λ before. held_after before cut) (sym (echoes_source p so.ds (is_device m h)))
+          ∙ sym (cut_held (Some p) (map (echoed p) so.ds) (behind_start answer) not_took.standing not_took.break not_took.cuts)
+          ∙ ap (held_after (Some p)) (sym (cut_entries (map (echoed p) so.ds) (behind_start answer) not_took.standing not_took.break))
+          ∙ ap (λ es. held_after (Some p) (cut_at es standing not_took.break)) (sym entries);
       added = subst (λ es. CutBrings view m p (Some p) es standing not_took.break not_took.held_at_end s) (sym entries)
           (cut_brings_more view m n p (λ gs. h.flight.sent ∷ gs ≡ frames_of so.ds ++ so.now.flight.sent ∷ []) (Some p) (Some p) (map (echoed p) so.ds) so.added s not_took.held_at_end (behind_start answer) not_took.standing not_took.break after);
       ring = not_took.ring;
@@ -208,9 +223,6 @@ not_took_then view m n s h bytes v w so not_took sum =
     }
 
 -- ---- the last step of itself
-
-pub is_device : {M : Type 0} (m : RingView M) (h : IsHolding m) → not (h.flight.source == 0) ≡ true
-is_device m h = ap not (ne_eqb h.flight.source 0 (λ e. omega (arith, e, h.talking.party)))
 
 -- the talker ended behind one byte
 pub ended_took : {M : Type 0} (view : M → MediumView) (m s : RingView M) (h : IsHolding m) (byte : ℕ) → Ended view m h s → byte ≡ byte_of h.flight.now → Took view m h false (byte ∷ []) s
@@ -232,9 +244,9 @@ ended_took view m s h byte ended is_byte =
 
 -- a break at this entry of an answer
 pub breaks_at : {M : Type 0} (view : M → MediumView) (m s : RingView M) (h : IsHolding m) (w : ℕ) (answer : Answer) (xs rest : List Entry) (due : Entry) (break : Break) (held_at_end : Option ℕ) → talker_of answer ≡ Some h.flight.source → is_answer 0 answer ≡ true → fits w answer ≡ true
-    → behind_start answer ≡ xs ++ due ∷ rest → is_break 0 due break ≡ true
+    → behind_start answer ≡ xs ++ due ∷ rest → is_break 0 due break ≡ true → held_at_end ≡ held_after (Some h.flight.source) (xs ++ break_entries due break)
     → AddsBy view m h.flight.source (Some h.flight.source) (xs ++ break_entries due break) held_at_end (λ k q gs outs. CutBrought k q (xs ++ due ∷ []) (behind_all xs 0) gs) s → IsRing s → s.books.held ≡ None → Spoilt m h s → Unheard m s → NotTook view m h w s
-breaks_at view m s h w answer xs rest due break held_at_end talker legal fit entries is added ring held spoilt unheard =
+breaks_at view m s h w answer xs rest due break held_at_end talker legal fit entries is ended added ring held spoilt unheard =
     let standing = behind_all xs 0 in
     record {
       answer = answer;
@@ -245,6 +257,7 @@ breaks_at view m s h w answer xs rest due break held_at_end talker legal fit ent
       break = break;
       cuts = ap (λ es. can_cut 0 es standing break) entries ∙ cut_legal xs (due ∷ rest) 0 break ∙ is;
       held_at_end = held_at_end;
+      ended = ended ∙ ap (held_after (Some h.flight.source)) (sym (cut_entries xs (due ∷ rest) 0 break)) ∙ ap (λ es. held_after (Some h.flight.source) (cut_at es standing break)) (sym entries);
       added = subst (λ es. CutBrings view m h.flight.source (Some h.flight.source) es standing break held_at_end s) (sym entries)
           (added_as view m s h.flight.source (Some h.flight.source) (cut_at (xs ++ due ∷ rest) standing break) held_at_end (λ k q gs outs. CutBrought k q (xs ++ due ∷ []) standing gs) (λ k q gs outs. CutBrought k q (xs ++ due ∷ rest) standing gs)
           (subst (λ es. AddsBy view m h.flight.source (Some h.flight.source) es held_at_end (λ k q gs outs. CutBrought k q (xs ++ due ∷ []) standing gs) s) (sym (cut_entries xs (due ∷ rest) 0 break)) added)
@@ -273,14 +286,14 @@ severed_not_took view m s h w room off = by off.due_at
     by : DueAt h.flight.source h.own off.whole off.due → NotTook view m h w s
     by (AtHeld d echo whole due) =
         breaks_at view m s h w (ToItsEnd h.flight.source (d ∷ [])) [] (entry h.flight.source eto (outcome.Taken 0) ∷ []) (echoed h.flight.source d) off.break None refl (ends_legal m h d [] echo refl) (le-leb 1 w (omega (arith, room))) refl
-        (subst (λ due. is_break 0 due off.break ≡ true) due off.legal) (severed_at view m s h off [] (echoed h.flight.source d) whole due) off.ring off.held off.spoilt off.unheard
+        (subst (λ due. is_break 0 due off.break ≡ true) due off.legal) (severed_holds_none (Some h.flight.source) [] (echoed h.flight.source d) off.break refl (is_device m h)) (severed_at view m s h off [] (echoed h.flight.source d) whole due) off.ring off.held off.spoilt off.unheard
     by (AtNext c d first echo goes_on whole due) =
         breaks_at view m s h w (ToItsEnd h.flight.source (c ∷ d ∷ [])) (echoed h.flight.source c ∷ []) (entry h.flight.source eto (outcome.Taken 0) ∷ []) (echoed h.flight.source d) off.break None refl
         (ends_legal m h c (d ∷ []) first (and_from (is_echo d) true echo refl)) (le-leb 2 w (omega (arith, room))) refl
-        (subst (λ due. is_break 0 due off.break ≡ true) due off.legal) (severed_at view m s h off (c ∷ []) (echoed h.flight.source d) whole due) off.ring off.held off.spoilt off.unheard
+        (subst (λ due. is_break 0 due off.break ≡ true) due off.legal) (severed_holds_none (Some h.flight.source) (echoed h.flight.source c ∷ []) (echoed h.flight.source d) off.break (one_device m h) (is_device m h)) (severed_at view m s h off (c ∷ []) (echoed h.flight.source d) whole due) off.ring off.held off.spoilt off.unheard
     by (AtEnd d echo whole due) =
         breaks_at view m s h w (ToItsEnd h.flight.source (d ∷ [])) (echoed h.flight.source d ∷ []) [] (entry h.flight.source eto (outcome.Taken 0)) off.break None refl (ends_legal m h d [] echo refl) (le-leb 1 w (omega (arith, room))) refl
-        (subst (λ due. is_break 0 due off.break ≡ true) due off.legal) (severed_at view m s h off (d ∷ []) (entry h.flight.source eto (outcome.Taken 0)) whole due) off.ring off.held off.spoilt off.unheard
+        (subst (λ due. is_break 0 due off.break ≡ true) due off.legal) (severed_holds_none (Some h.flight.source) (echoed h.flight.source d ∷ []) (entry h.flight.source eto (outcome.Taken 0)) off.break (one_device m h) (is_device m h)) (severed_at view m s h off (d ∷ []) (entry h.flight.source eto (outcome.Taken 0)) whole due) off.ring off.held off.spoilt off.unheard
 
 -- ---- the places in front of the last one
 

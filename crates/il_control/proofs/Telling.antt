@@ -18,7 +18,8 @@ use Rattle.il_frames.specs.declared.frame.Frame.{Frame}
 use Rattle.il_ring.specs.Rings.{RingView, IsRing, devices_of, roles_of}
 use Rattle.il_control.specs.Calls.{Whole, Broke, IsIdle, loop_of, IsFree, Made, BrokenOff, IsTold}
 use Rattle.il_control.proofs.Calls.{Done, told_then, told_not, whole_nothing}
-use Rattle.il_control.proofs.Made.{made, broken_off}
+use Rattle.il_control.proofs.Made.{made, quiet_broken_off}
+use Rattle.il_control.proofs.HeldAtEnd.{send_quiet}
 
 -- the entries of a send before its data
 abbrev pub head_of : ℕ → Option ℕ → List Entry
@@ -96,4 +97,4 @@ pub listen_made : {M : Type 0} (view : M → MediumView) (r s : RingView M) (a :
 listen_made view r s a number idle low small whole = made view (Send a number []) r s idle (is_send r a number low small) refl refl whole
 
 pub listen_broken : {M : Type 0} (view : M → MediumView) (r s : RingView M) (a : ℕ) (number : Option ℕ) → IsIdle r → a ≤ 30 → IfSome number (λ n. n < 32) → Broke view r (entries_of 0 (Send a number [])) s → BrokenOff view (Send a number []) r s
-listen_broken view r s a number idle low small broke = broken_off view (Send a number []) r s idle (is_send r a number low small) refl broke
+listen_broken view r s a number idle low small broke = quiet_broken_off view (Send a number []) r s idle (is_send r a number low small) refl (send_quiet a number [] refl) broke

@@ -13,7 +13,9 @@ use Rattle.loop_model.specs.Entries.{ifc, aau}
 use Rattle.loop_model.specs.Loops.{Loop, host_loop}
 use Rattle.loop_model.specs.Roles.{talkers, is_at_most_one, OneTalker}
 use Rattle.loop_model.specs.Exchanges.{Break, Echo, Exchange, Command, Address, echoed, entries_of, is_exchange, is_host_echo, is_talk_address, cut_at, can_cut}
+use Rattle.loop_model.specs.Reach.{held_at_end as held_after}
 use Rattle.loop_model.proofs.HearLaws.{has_no_data}
+use Rattle.loop_model.proofs.ReachLaws.{is_no_nrd}
 use Rattle.loop_model.proofs.RoleSteps.{are_numbered}
 use Rattle.loop_model.proofs.TalkLaws.{is_aau}
 use Rattle.il_ring.specs.Rings.{RingView, IsRing, devices_of, roles_of, drive_party}
@@ -40,12 +42,14 @@ pub record Whole {M : Type 0} (view : M → MediumView) (r : RingView M) (entrie
   pub unheard : list_all has_no_data entries ≡ true → Unheard r s
   pub brought : list_all (is_from_here (drive_party r)) entries ≡ true → Brought (length (devices_of r)) (drive_party r) entries adds.came
 
--- so many of them, and then a break in the place of the next: a planned hop was met, and no frame is held
+-- So many of them, and then a break in the place of the next: a planned hop was met, and no frame is held. A frame was held as they
+-- ended at most where NRD is one of them.
 pub record Broke {M : Type 0} (view : M → MediumView) (r : RingView M) (entries : List Entry) (s : RingView M) : Type 0 where
   pub standing : ℕ
   pub break : Break
   pub legal : can_cut 0 entries standing break ≡ true
   pub held_at_end : Option ℕ
+  pub told : list_all is_no_nrd entries ≡ true → held_at_end ≡ None
   pub adds : Adds view r None (cut_at entries standing break) held_at_end s
   pub ring : IsRing s
   pub held : s.books.held ≡ None
@@ -92,9 +96,10 @@ pub record Made {M : Type 0} (view : M → MediumView) (x : Exchange) (r s : Rin
   pub one : OneTalker (roles_of (devices_of r)) (entries_of 0 x)
   pub idle : IsIdle s
 
--- it was broken off
+-- it was broken off; whether a frame was held as it ended is read off its entries
 pub record BrokenOff {M : Type 0} (view : M → MediumView) (x : Exchange) (r s : RingView M) : Type 0 where
   pub broke : Broke view r (entries_of 0 x) s
+  pub ended : broke.held_at_end ≡ held_after None (cut_at (entries_of 0 x) broke.standing broke.break)
   pub legal : is_exchange (loop_of r) x ≡ true
   pub one : OneTalker (roles_of (devices_of r)) (cut_at (entries_of 0 x) broke.standing broke.break)
   pub lost : IsLost s

@@ -13,6 +13,7 @@ use Rattle.il_device.specs.Takes.{eto, ete}
 use Rattle.il_ports.specs.Media.{MediumView}
 use Rattle.loop_model.specs.Entries.{entry, nrd, unt}
 use Rattle.loop_model.specs.Exchanges.{Start, Sda, Sst, Sdi, Sai, Answer, NotTaken, ToItsEnd, Stopped, Receive, Echo, Break, echoed, returned, commanded, answer_entries, start_frame, break_entries, cut_at, can_cut, is_answer, is_break, is_echo}
+use Rattle.loop_model.specs.Reach.{held_at_end as held_after}
 use Rattle.loop_model.proofs.RoundLaws.{answers_as_asked}
 use Rattle.loop_model.proofs.UnitLaws.{bytes_of, receive_front}
 use Rattle.il_ring.specs.declared.flight.Flight.{Flight}
@@ -324,6 +325,7 @@ pub record NotTook {M : Type 0} (view : M → MediumView) (m : RingView M) (h : 
   pub break : Break
   pub cuts : can_cut 0 (behind_start answer) standing break ≡ true
   pub held_at_end : Option ℕ
+  pub ended : held_at_end ≡ held_after (Some h.flight.source) (cut_at (behind_start answer) standing break)
   pub added : CutBrings view m h.flight.source (Some h.flight.source) (behind_start answer) standing break held_at_end s
   pub ring : IsRing s
   pub held : s.books.held ≡ None
@@ -379,6 +381,7 @@ pub record NotAnswered {M : Type 0} (view : M → MediumView) (start : Start) (w
   pub talked : WasTalking answer r
   pub fitting : fits w answer ≡ true
   pub broke : Broke view r (answer_entries 0 (start_frame start) answer) s
+  pub ended : broke.held_at_end ≡ held_after None (cut_at (answer_entries 0 (start_frame start) answer) broke.standing broke.break)
   pub far : StandsBehind answer r → AllSpoken broke.adds.came
   pub unheard : Unheard r s
 
