@@ -41,9 +41,10 @@ header = record { label = []; start = 2; length = 2 }
 -- how many records are read at most on a cassette
 counts : (calls_needed 512 ≡ 1064) × (mounting 512 None None ≡ 578) × (mounting 512 None (Some header) ≡ 73) × (mounting 512 (Some header) (Some header) ≡ 0)
     × (mounting_on base.formatted None ≡ 73) × (mounting_on base.formatted (Some header) ≡ 0)
-    × (fetching 512 a_name None [] ≡ 582) × (fetching 512 a_name (Some header) (file a_name 5 2 ∷ []) ≡ 2) × (fetching_on base.formatted a_name (Some header) ≡ 0)
+    × (fetching {T = ℕ} 512 a_name None [] (Ok 0) ≡ 582) × (fetching {T = ℕ} 512 a_name (Some header) (file a_name 5 2 ∷ []) (Ok 0) ≡ 2)
+    × (fetching {T = ℕ} 512 a_name (Some header) (file a_name 5 2 ∷ []) (Err (Refused refusal.Protected)) ≡ 0) × (fetching_on {T = ℕ} base.formatted a_name (Some header) (Ok 0) ≡ 0)
 unfolding four_at two_at name_of entry_at entries_of is_open
-counts = (refl, refl, refl, refl, refl, refl, refl, refl, refl)
+counts = (refl, refl, refl, refl, refl, refl, refl, refl, refl, refl)
 
 -- behind which answers the directory is kept
 kept : (keeps {T = ℕ} (Err (Refused refusal.NotLif)) ≡ false) × (keeps {T = ℕ} (Err (Refused refusal.NoFile)) ≡ true) × (keeps {T = ℕ} (Ok 0) ≡ true)

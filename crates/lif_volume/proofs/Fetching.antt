@@ -22,9 +22,10 @@ use Rattle.il_ports.proofs.Stores.{goes_further, goes_within}
 use Rattle.il_ports.proofs.Transfers.{one_read, then_more}
 use Rattle.lif_dir.specs.Entries.{slot_bytes}
 use Rattle.lif_volume.specs.declared.directory.File.{File}
+use Rattle.lif_volume.specs.declared.fault.VolumeFault.{VolumeFault}
 use Rattle.lif_volume.specs.Entries.{IsFileOf}
 use Rattle.lif_volume.specs.Views.{VolumeView, IsOpen, IsLegalDirectory}
-use Rattle.lif_volume.specs.Commands.{Consults, EndsWithRead, FetchedFile, mounting, mounting_on, fetching, fetching_on, records_named}
+use Rattle.lif_volume.specs.Commands.{Consults, EndsWithRead, FetchedFile, mounting, mounting_on, reading, fetching, fetching_on, records_named}
 use Rattle.lif_volume.proofs.Found.{found, at, nowhere}
 use Rattle.lif_volume.proofs.Mounting.{volume_on}
 
@@ -90,10 +91,10 @@ module _ {R S : Type 0} (view : R → RecordsView S) (x y : VolumeView R) (heade
   pub file_within : (first : ℕ) → first ≡ start_of slot → 0 < count → first + count ≤ (view y.records).record_count
   file_within first start some = omega (arith, fits.within (omega (arith, some, same)), goes.continues.size, start, same)
 
-  -- so many at most, and whatever the reading answers
-  pub file_goes_on : {T : Type 0} (records : R) (answer : Result T Trouble) → ((h : HeaderParts) → x.kept ≡ Some h → map slot_bytes y.slots ≡ map slot_bytes x.slots) → GoesOn count (view y.records) (view records) answer
-      → GoesOn (fetching (view x.records).record_count name x.kept (map slot_bytes x.slots)) (view x.records) (view records) answer
-  file_goes_on records answer still read = go x.kept refl
+  -- so many at most, and whatever the reading answers; `a` is no refusal
+  pub file_goes_on : {T F : Type 0} (records : R) (answer : Result T Trouble) (a : Result F VolumeFault) → ((s : List (List ℕ)) → reading s name a ≡ records_named s name) → ((h : HeaderParts) → x.kept ≡ Some h → map slot_bytes y.slots ≡ map slot_bytes x.slots) → GoesOn count (view y.records) (view records) answer
+      → GoesOn (fetching (view x.records).record_count name x.kept (map slot_bytes x.slots) a) (view x.records) (view records) answer
+  file_goes_on records answer a whole still read = go x.kept refl
     where
       n : ℕ
       n = (view x.records).record_count
@@ -101,21 +102,21 @@ module _ {R S : Type 0} (view : R → RecordsView S) (x y : VolumeView R) (heade
       far : GoesOn (mounting n x.kept (Some header) + count) (view x.records) (view records) answer
       far = goes_further (mounting n x.kept (Some header)) count (view x.records) (view y.records) (view records) tt answer goes read
 
-      go : (k : Option HeaderParts) → x.kept ≡ k → GoesOn (fetching n name k (map slot_bytes x.slots)) (view x.records) (view records) answer
+      go : (k : Option HeaderParts) → x.kept ≡ k → GoesOn (fetching n name k (map slot_bytes x.slots) a) (view x.records) (view records) answer
       go None e =
           let calls : mounting n x.kept (Some header) ≡ 71 + header.length = ap (λ (k : Option HeaderParts). mounting n k (Some header)) e in
           goes_within (mounting n x.kept (Some header) + count) (n + 70) (view x.records) (view records) answer (omega (arith, calls, fits.directory, same)) far
       go (Some h) e =
           let calls : mounting n x.kept (Some header) ≡ 0 = ap (λ (k : Option HeaderParts). mounting n k (Some header)) e in
-          let all : records_named (map slot_bytes x.slots) name ≡ length_of slot =
-          ap (λ (s : List (List ℕ)). records_named s name) (sym (still h e)) ∙ ap (λ (o : Option (List ℕ)). unwrap_or (option_map length_of o) 0) named in
-          goes_within (mounting n x.kept (Some header) + count) (records_named (map slot_bytes x.slots) name) (view x.records) (view records) answer (omega (arith, calls, all, same)) far
+          let all : reading (map slot_bytes x.slots) name a ≡ length_of slot =
+          whole (map slot_bytes x.slots) ∙ ap (λ (s : List (List ℕ)). records_named s name) (sym (still h e)) ∙ ap (λ (o : Option (List ℕ)). unwrap_or (option_map length_of o) 0) named in
+          goes_within (mounting n x.kept (Some header) + count) (reading (map slot_bytes x.slots) name a) (view x.records) (view records) answer (omega (arith, calls, all, same)) far
 
-  pub file_few : {T : Type 0} (records : R) (answer : Result T Trouble) (t : Tape) → (view x.records).tape ≡ Some t → map slot_bytes y.slots ≡ slots_of (settled t) → GoesOn count (view y.records) (view records) answer
-      → (view x.records).calls_left ≤ (view records).calls_left + fetching_on t name x.kept
-  file_few records answer t told bytes read =
-      let all : records_named (slots_of (settled t)) name ≡ length_of slot =
-      ap (λ (s : List (List ℕ)). records_named s name) (sym bytes) ∙ ap (λ (o : Option (List ℕ)). unwrap_or (option_map length_of o) 0) named in
+  pub file_few : {T F : Type 0} (records : R) (answer : Result T Trouble) (a : Result F VolumeFault) → ((s : List (List ℕ)) → reading s name a ≡ records_named s name) → (t : Tape) → (view x.records).tape ≡ Some t → map slot_bytes y.slots ≡ slots_of (settled t) → GoesOn count (view y.records) (view records) answer
+      → (view x.records).calls_left ≤ (view records).calls_left + fetching_on t name x.kept a
+  file_few records answer a whole t told bytes read =
+      let all : reading (slots_of (settled t)) name a ≡ length_of slot =
+      whole (slots_of (settled t)) ∙ ap (λ (s : List (List ℕ)). records_named s name) (sym bytes) ∙ ap (λ (o : Option (List ℕ)). unwrap_or (option_map length_of o) 0) named in
       omega (arith, mounted.few t told, read.continues.left, all, same)
 
 -- ---- between the calls

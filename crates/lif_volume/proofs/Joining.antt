@@ -251,6 +251,7 @@ module _ {R S : Type 0} (view : R → RecordsView S) (x y : VolumeView R) (heade
       record { valid = goes.continues.valid; sound = goes.continues.sound; left = omega (arith, left, size, goes.continues.left, few_mounted (view x.records).record_count x.kept header, long_there) }
 
 -- `fetch` may ask for more than mounting does
-pub fetch_bound : (n : ℕ) (name : List ℕ) (old : Option HeaderParts) (header : HeaderParts) (slots : List (List ℕ)) → header.length + 5 ≤ n → mounting n old (Some header) ≤ fetching n name old slots
-fetch_bound n name None header slots long = omega (arith, long)
-fetch_bound n name (Some h) header slots long = omega arith
+pub fetch_bound : {T : Type 0} (n : ℕ) (name : List ℕ) (old : Option HeaderParts) (header : HeaderParts) (slots : List (List ℕ)) (a : Result T VolumeFault) → header.length + 5 ≤ n
+    → mounting n old (Some header) ≤ fetching n name old slots a
+fetch_bound n name None header slots a long = omega (arith, long)
+fetch_bound n name (Some h) header slots a long = omega arith

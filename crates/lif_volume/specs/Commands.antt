@@ -1,5 +1,5 @@
 -- What the commands that read a volume do.
-use Rattle.std.specs.Prelude.{◌≡◌, ◌≤◌, ◌<◌, ◌+◌, ◌*◌, ◌++◌, if◌then◌else◌, ℕ, List, [], ◌∷◌, false, length, map, take, Option, option_map, Some, None, Result, IfSome, is_some, unwrap_or}
+use Rattle.std.specs.Prelude.{◌≡◌, ◌≤◌, ◌<◌, ◌+◌, ◌*◌, ◌++◌, if◌then◌else◌, ℕ, List, [], ◌∷◌, false, length, map, take, Option, option_map, Some, None, Result, Ok, Err, IfSome, is_some, unwrap_or}
 use Rattle.std.specs.FinMap.{get}
 use Rattle.lif_model.specs.Tape.{Tape, record_at}
 use Rattle.lif_model.specs.Header.{is_readable, directory_length, label_of, HeaderParts, header_of}
@@ -15,6 +15,7 @@ use Rattle.il_ports.specs.Transfers.{WritesOnly, AddsOnly}
 use Rattle.lif_dir.specs.Entries.{slot_from, slot_bytes}
 use Rattle.lif_dir.specs.declared.entries.Slot.{Slot}
 use Rattle.lif_volume.specs.declared.fault.VolumeFault.{VolumeFault}
+use Rattle.lif_volume.specs.declared.fault.VolumeFault.TheVariants.{Refused, Trouble as Troubled}
 use Rattle.lif_volume.specs.declared.volume.Listing.{Listing}
 use Rattle.lif_volume.specs.declared.volume.Fetched.{Fetched}
 use Rattle.lif_volume.specs.Views.{VolumeView}
@@ -47,13 +48,19 @@ abbrev pub mounting_on : Tape → Option HeaderParts → ℕ
 mounting_on t (Some old) = 0
 mounting_on t None = 71 + directory_records (settled t)
 
--- the same with the records of a file behind them
-abbrev pub fetching : ℕ → List ℕ → Option HeaderParts → List (List ℕ) → ℕ
-fetching n name (Some old) slots = records_named slots name
-fetching n name None slots = n + 70
+-- the records of the file of that name, none where the command is refused
+abbrev pub reading : {T : Type 0} → List (List ℕ) → List ℕ → Result T VolumeFault → ℕ
+reading slots name (Err (Refused why)) = 0
+reading slots name (Ok _) = records_named slots name
+reading slots name (Err (Troubled trouble)) = records_named slots name
 
-abbrev pub fetching_on : Tape → List ℕ → Option HeaderParts → ℕ
-fetching_on t name old = mounting_on t old + records_named (slots_of (settled t)) name
+-- the same as mounting, with the records of a file behind them
+abbrev pub fetching : {T : Type 0} → ℕ → List ℕ → Option HeaderParts → List (List ℕ) → Result T VolumeFault → ℕ
+fetching n name (Some old) slots answer = reading slots name answer
+fetching n name None slots answer = n + 70
+
+abbrev pub fetching_on : {T : Type 0} → Tape → List ℕ → Option HeaderParts → Result T VolumeFault → ℕ
+fetching_on t name old answer = mounting_on t old + reading (slots_of (settled t)) name answer
 
 -- ---- every command
 
@@ -123,11 +130,12 @@ abbrev pub Mounts : {R S T : Type 0} → (R → RecordsView S) → (old new : Vo
 Mounts view old new answer = Consults (mounting (view old.records).record_count old.kept new.kept)
     (λ t. mounting_on t old.kept) view old new answer
 
--- it mounts, and reads the records of the file of that name
+-- it mounts, and reads the records of the file of that name; of a kept directory nothing where it is
+-- refused
 abbrev pub MountsAndReads : {R S T : Type 0} → List ℕ → (R → RecordsView S) → (old new : VolumeView R) → Result T VolumeFault → Type 0
 MountsAndReads name view old new answer =
-    Consults (fetching (view old.records).record_count name old.kept (map slot_bytes old.slots))
-    (λ t. fetching_on t name old.kept) view old new answer
+    Consults (fetching (view old.records).record_count name old.kept (map slot_bytes old.slots) answer)
+    (λ t. fetching_on t name old.kept answer) view old new answer
 
 -- the answer and the volume behind it are those of the command
 abbrev pub AnswersTo : {R S T : Type 0} → VolumeCommand → (R → RecordsView S) → (old new : VolumeView R) → Result T VolumeFault → Type 0

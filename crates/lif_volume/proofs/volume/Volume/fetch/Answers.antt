@@ -10,9 +10,10 @@ use Rattle.lif_model.specs.Apply.{Fetch, refusal_of}
 use Rattle.lif_model.proofs.Redo.{length_settled}
 use Rattle.lif_dir.specs.Entries.{name_bytes, slot_bytes}
 use Rattle.lif_volume.specs.declared.fault.VolumeFault.{VolumeFault}
+use Rattle.lif_volume.specs.declared.volume.Fetched.{Fetched}
 use Rattle.lif_volume.specs.declared.volume.Volume.{Volume}
 use Rattle.lif_volume.specs.Views.{IsLegalDirectory, IsDirectoryOf}
-use Rattle.lif_volume.specs.Answers.{reason, refused}
+use Rattle.lif_volume.specs.Answers.{reason, refused, troubled}
 use Rattle.il_ports.specs.declared.records.Trouble.{Trouble}
 use Rattle.il_ports.specs.Transfers.{GoesOnBy}
 use Rattle.il_ports.specs.Stores.{GoesOn}
@@ -84,9 +85,10 @@ returns-in_err-file-clause-consults g c =
     let n = (view c.args.self.now.records).record_count in
     let e = c.in_ok-mount.ensures in
     let header : HeaderParts = c.in_ok-mount.field-0 in
+    let failed : Result Fetched VolumeFault = Err (refused c.in_err-file.field-0.0) in
     rw is (record {
-      goes_on = goes_within (mounting n x.kept (Some header)) (fetching n (name_bytes c.args.name.now) x.kept (map slot_bytes x.slots)) _ _ _
-          (fetch_bound n (name_bytes c.args.name.now) x.kept header (map slot_bytes x.slots) (long_there view x y header e.kept e.consults e.open))
+      goes_on = goes_within (mounting n x.kept (Some header)) (fetching n (name_bytes c.args.name.now) x.kept (map slot_bytes x.slots) failed) _ _ _
+          (fetch_bound n (name_bytes c.args.name.now) x.kept header (map slot_bytes x.slots) failed (long_there view x y header e.kept e.consults e.open))
           (subst (λ (o : Option HeaderParts). GoesOn {T = Unit {0}} (mounting n x.kept o) (view x.records) (view y.records) (Ok tt)) e.kept e.consults.goes_on);
       few = λ t told. omega (arith, e.consults.few t told);
       settles = e.consults.settles;
@@ -106,10 +108,11 @@ returns-in-Err-clause-consults g c =
     let on : (t : Tape) → (view c.args.self.now.records).tape ≡ Some t → IsDirectoryOf (settled t) header c.mount.new.self.directory.table.slots = λ t told.
     kept_is_of y header (settled t) e.kept (e.open.known (settled t) (e.consults.settles t told)) in
     let failed : Result (Unit {0}) Trouble = Err c.in-Err.trouble in
+    let answer : Result Fetched VolumeFault = Err (troubled c.in-Err.trouble) in
     record {
-      goes_on = file_goes_on view x y header (name_bytes c.args.name.now) file.0 c.in_ok-file.file.count c.requires.open.size e.kept e.consults legal file.1 file.2.count c.read_front.new.records (Err c.in-Err.trouble) (λ h k. let both = subst (λ (o : Option HeaderParts). IfSome o (λ p. (◌≡◌ {A = Result HeaderParts VolumeFault} (Ok header) (Ok p)) × (c.mount.new.self ≡ c.args.self.now))) k e.still in
+      goes_on = file_goes_on view x y header (name_bytes c.args.name.now) file.0 c.in_ok-file.file.count c.requires.open.size e.kept e.consults legal file.1 file.2.count c.read_front.new.records failed answer (λ s. refl) (λ h k. let both = subst (λ (o : Option HeaderParts). IfSome o (λ p. (◌≡◌ {A = Result HeaderParts VolumeFault} (Ok header) (Ok p)) × (c.mount.new.self ≡ c.args.self.now))) k e.still in
           ap (λ (v : Volume g.row.R.Denot). map slot_bytes v.directory.table.slots) both.1) c.in-Err.ensures.goes_on;
-      few = λ t told. file_few view x y header (name_bytes c.args.name.now) file.0 c.in_ok-file.file.count c.requires.open.size e.kept e.consults legal file.1 file.2.count c.read_front.new.records failed t told (on t told).directory.bytes c.in-Err.ensures.goes_on;
+      few = λ t told. file_few view x y header (name_bytes c.args.name.now) file.0 c.in_ok-file.file.count c.requires.open.size e.kept e.consults legal file.1 file.2.count c.read_front.new.records failed answer (λ s. refl) t told (on t told).directory.bytes c.in-Err.ensures.goes_on;
       settles = λ t told. tt;
       kept = refl;
     }
@@ -144,10 +147,11 @@ returns-clause-consults g c =
     let on : (t : Tape) → (view c.args.self.now.records).tape ≡ Some t → IsDirectoryOf (settled t) header c.mount.new.self.directory.table.slots = λ t told.
     kept_is_of y header (settled t) e.kept (e.open.known (settled t) (e.consults.settles t told)) in
     let done : Result (Unit {0}) Trouble = Ok tt in
+    let answer : Result Fetched VolumeFault = Ok (record { kind = c.in_ok-file.file.kind; implementation = c.in_ok-file.file.implementation; length = 256 * c.in_ok-file.file.count }) in
     record {
-      goes_on = file_goes_on view x y header (name_bytes c.args.name.now) file.0 c.in_ok-file.file.count c.requires.open.size e.kept e.consults legal file.1 file.2.count c.read_front.new.records (Ok tt) (λ h k. let both = subst (λ (o : Option HeaderParts). IfSome o (λ p. (◌≡◌ {A = Result HeaderParts VolumeFault} (Ok header) (Ok p)) × (c.mount.new.self ≡ c.args.self.now))) k e.still in
+      goes_on = file_goes_on view x y header (name_bytes c.args.name.now) file.0 c.in_ok-file.file.count c.requires.open.size e.kept e.consults legal file.1 file.2.count c.read_front.new.records done answer (λ s. refl) (λ h k. let both = subst (λ (o : Option HeaderParts). IfSome o (λ p. (◌≡◌ {A = Result HeaderParts VolumeFault} (Ok header) (Ok p)) × (c.mount.new.self ≡ c.args.self.now))) k e.still in
           ap (λ (v : Volume g.row.R.Denot). map slot_bytes v.directory.table.slots) both.1) c.in_default.ensures.goes_on;
-      few = λ t told. file_few view x y header (name_bytes c.args.name.now) file.0 c.in_ok-file.file.count c.requires.open.size e.kept e.consults legal file.1 file.2.count c.read_front.new.records done t told (on t told).directory.bytes c.in_default.ensures.goes_on;
+      few = λ t told. file_few view x y header (name_bytes c.args.name.now) file.0 c.in_ok-file.file.count c.requires.open.size e.kept e.consults legal file.1 file.2.count c.read_front.new.records done answer (λ s. refl) t told (on t told).directory.bytes c.in_default.ensures.goes_on;
       settles = λ t told. c.read_front.ensures.quiet.tape ∙ e.consults.settles t told;
       kept = e.consults.kept;
     }
