@@ -111,7 +111,9 @@ impl<M: Medium> Drive<M> {
 
     /// The medium.
     pub fn medium(&self) -> &M
-        ensures { result.now ≡ self.now.medium }
+        ensures medium { result.now ≡ self.now.medium }
+        // What holds of the drive at every moment.
+        ensures drive { IsDrive (M.view self.now.medium).record_count self.now.state }
     {
         &self.medium
     }

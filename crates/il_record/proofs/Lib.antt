@@ -1,2 +1,4 @@
+pub mod Asked
+pub mod Readings
 pub mod Sends
 pub mod Talks

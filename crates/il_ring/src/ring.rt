@@ -5,7 +5,7 @@ ghost use Rattle.il_device.specs.declared.interface.OwnFrame.{OwnFrame};
 ghost use Rattle.il_device.proofs.Laws.{is_plain, is_start};
 ghost use Rattle.loop_model.specs.Entries.{nrd};
 ghost use Rattle.loop_model.specs.Roles.{talkers, is_at_most_one};
-ghost use Rattle.il_drive.specs.State.{fresh_drive};
+ghost use Rattle.il_drive.specs.State.{fresh_drive, IsDrive};
 ghost use Rattle.il_ring.specs.Plans.{IsPlan};
 ghost use Rattle.il_ring.specs.Flights.{sourced};
 ghost use Rattle.il_ring.specs.Rings.{RingView, IsRing, Round, devices_of, roles_of, drive_party, spare_of, fresh_books, paper_of};
@@ -137,7 +137,9 @@ impl<M: Medium> Ring<M> {
 
     /// The medium of the drive, whose tape stays in.
     pub fn medium(&self) -> &M
-        ensures { result.now ≡ (⟦<Ring<M> as Seen<M>>⟧.seen self.now).drive.medium }
+        ensures medium { result.now ≡ (⟦<Ring<M> as Seen<M>>⟧.seen self.now).drive.medium }
+        // What holds of the drive at every moment.
+        ensures drive { IsDrive (M.view (⟦<Ring<M> as Seen<M>>⟧.seen self.now).drive.medium).record_count (⟦<Ring<M> as Seen<M>>⟧.seen self.now).drive.state }
     {
         self.drive.medium()
     }
