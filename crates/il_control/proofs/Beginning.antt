@@ -1,6 +1,6 @@
 -- A start message, as a call.
 use Rattle.il_ring.specs.Adds.{Adds}
-use Rattle.il_device.specs.declared.device.Out.TheVariants.{Source}
+use Rattle.il_device.specs.declared.device.Out.TheVariants.{Pass, Source}
 use Rattle.il_device.specs.declared.device.Out.{Out}
 use Rattle.std.proofs.Common.{◌≡◌, ◌≢◌, ◌∙◌, ◌+◌, ◌-◌, ◌++◌, inl, inr, ⊎_elim, ℕ, Bool, true, false, not, List, [], ◌∷◌, Option, Some, None, refl, sym, ap, subst, arith, length, ◌≤◌, ◌<◌}
 use Rattle.std.specs.Prelude.{MatchBool, is_some, option_map}
@@ -27,10 +27,10 @@ use Rattle.il_ring.specs.Flights.{sourced}
 use Rattle.il_ring.specs.Lists.{Each, NoneSends}
 use Rattle.il_ring.specs.Rings.{RingView, IsRing, Round, devices_of, roles_of, drive_party}
 use Rattle.il_ring.specs.Rounded.{Rounded, holding}
-use Rattle.il_ring.specs.Outcomes.{met_between, DriveTook, DriveHad, IsBrought, IsHeldNow, IsLostNow, StartReturned, StartGone, StartTaken, DriveSawStart, DriveDid}
+use Rattle.il_ring.specs.Outcomes.{met_between, DriveTook, IsBrought, IsHeldNow, IsLostNow, StartReturned, StartGone, StartTaken, DriveSawStart, DriveDid}
 use Rattle.il_ring.proofs.Passing.{Carries, Exactly, is_exact}
 use Rattle.il_ring.proofs.Rings.{IsRing-round}
-use Rattle.il_ring.proofs.RoundAdds.{answered_some, did_had, host_did, host_adds, host_came, host_had, none_new, held_new}
+use Rattle.il_ring.proofs.RoundAdds.{answered_some, did_had, host_did, host_adds, host_came, none_new, held_new}
 use Rattle.il_ring.proofs.RoundCounts.{round_counts}
 use Rattle.il_ring.proofs.SendLaws.{kept_sent}
 use Rattle.il_ring.proofs.StartDrive.{start_at_drive}
@@ -79,7 +79,7 @@ start_roles rs s p = roles_after-kept rs (entry 0 (start_frame s) (outcome.Taken
 
 -- what came of it, by what arrived and whether a frame is held then
 pub data StartEnd {M : Type 0} (view : M → MediumView) (r : RingView M) (f : Frame) (answer : Arrival) (s : RingView M) : Type 0 where
-  ItPassed : (g : Frame) → answer ≡ arrival.Frame g → s.books.held ≡ None → Whole view r (returned 0 f ∷ []) s → Unheard r s → StartEnd view r f answer s
+  ItPassed : (g : Frame) → answer ≡ arrival.Frame g → s.books.held ≡ None → (whole : Whole view r (returned 0 f ∷ []) s) → own_frames whole.adds.answers ≡ [] → Unheard r s → StartEnd view r f answer s
   ItBegan : (g : Frame) → answer ≡ arrival.Frame g → (flight : Flight) → s.books.held ≡ Some flight → Began view f r s → StartEnd view r f answer s
   ItFailed : answer ≡ arrival.Lost → NotBegun view f r s → StartEnd view r f answer s
 
@@ -104,21 +104,26 @@ module _ {M : Type 0} (view : M → MediumView) (r s : RingView M) (held : Optio
   deaf : roles_of (devices_of s) ≡ roles_of (devices_of r) → Each IsDeaf 1 (devices_of s)
   deaf same = deaf_still 1 (devices_of r) (devices_of s) same (calm_deaf 1 (devices_of r) calm)
 
-  passed : StartReturned r held f answer s → DriveHad view (λ g. g ≡ f) r s → StartEnd view r f answer s
-  passed back had =
+  -- every device passed it on, the drive too
+  passed : StartReturned r held f answer s → DriveDid view (λ g out. (g ≡ f) × (out ≡ Pass f)) r s → StartEnd view r f answer s
+  passed back did =
       let returned = back.returned in
       let held_is = returned.held_is ∙ none in
+      let P : Frame → Out → Type 0 = λ g out. (g ≡ f) × (out ≡ Pass f) in
+      let new = none_new r s held (sourced 0 f) answer counts held_is in
+      let entries : List Entry = entry 0 f (outcome.Back f) ∷ [] in
+      let so = host_did view P r s held f answer entries None carries round returned.log new did in
+      let adds : Adds view r None entries None s = host_adds view (answered_some P) r s held f answer entries None carries round returned.log new (inr (did_had view P r s did)) in
       ItPassed f returned.answer_is held_is
       (record {
-        adds = host_adds view (λ g. g ≡ f) r s held f answer (entry 0 f (outcome.Back f) ∷ []) None carries round returned.log (none_new r s held (sourced 0 f) answer counts held_is) (inr had);
+        adds = adds;
         ring = ring;
         held = held_is;
         met_none = returned.met_none;
         unheard = λ none. unheard;
-        brought = λ from.
-            let came = host_had view (λ g. g ≡ f) r s held f answer (entry 0 f (outcome.Back f) ∷ []) None carries round returned.log (none_new r s held (sourced 0 f) answer counts held_is) had in
-            subst (Brought (length (devices_of r)) (drive_party r) (entry 0 f (outcome.Back f) ∷ [])) (sym came.2) (start_comes (drive_party r) start came.0 came.1, refl);
+        brought = λ from. subst (Brought (length (devices_of r)) (drive_party r) entries) (sym so.1.2) (start_comes (drive_party r) start so.0 so.1.1.0, refl);
       })
+      (ap own_frames so.1.3 ∙ ap (λ out. own_frames (out ∷ [])) so.1.1.1)
       unheard
 
   gone : StartGone r f answer s → DriveTook view (λ g. g ≡ f) r s → StartEnd view r f answer s
@@ -260,21 +265,21 @@ some_held held shown is some none = let clash = sym some ∙ ap is_some (is ∙ 
 
 pub passed_begins : {M : Type 0} (view : M → MediumView) (r s : RingView M) (f g : Frame) (answer : Arrival) → StartEnd view r f answer s → answer ≡ arrival.Frame g → s.books.held ≡ None → Begins view f r begun.NotTaken s
 passed_begins view r s f g answer end arrives none = elim end [
-  | ItPassed h is held whole unheard ↦ (whole, unheard)
+  | ItPassed h is held whole nothing unheard ↦ (whole, nothing, unheard)
   | ItBegan h is flight held began ↦ (let clash = sym none ∙ held in cc)
   | ItFailed is not_begun ↦ (let clash = sym arrives ∙ is in cc)
 ]
 
 pub taken_begins : {M : Type 0} (view : M → MediumView) (r s : RingView M) (f g : Frame) (answer : Arrival) → StartEnd view r f answer s → answer ≡ arrival.Frame g → (s.books.held ≡ None → ⊥) → Begins view f r begun.Taken s
 taken_begins view r s f g answer end arrives some = elim end [
-  | ItPassed h is held whole unheard ↦ absurd (some held)
+  | ItPassed h is held whole nothing unheard ↦ absurd (some held)
   | ItBegan h is flight held began ↦ began
   | ItFailed is not_begun ↦ (let clash = sym arrives ∙ is in cc)
 ]
 
 pub lost_begins : {M : Type 0} (view : M → MediumView) (r s : RingView M) (f : Frame) (answer : Arrival) → StartEnd view r f answer s → answer ≡ arrival.Lost → Begins view f r begun.Broken s
 lost_begins view r s f answer end lost = elim end [
-  | ItPassed h is held whole unheard ↦ (let clash = sym lost ∙ is in cc)
+  | ItPassed h is held whole nothing unheard ↦ (let clash = sym lost ∙ is in cc)
   | ItBegan h is flight held began ↦ (let clash = sym lost ∙ is in cc)
   | ItFailed is not_begun ↦ not_begun
 ]

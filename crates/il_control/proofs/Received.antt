@@ -26,7 +26,7 @@ use Rattle.il_ring.specs.Outcomes.{met_between, IsTalking}
 use Rattle.std.proofs.lemmas.List.{length-map}
 use Rattle.il_device.specs.State.{DeviceState}
 use Rattle.il_control.specs.Calls.{Unheard, Whole, Broke, IsIdle, loop_of}
-use Rattle.il_control.specs.Receives.{Began, NotBegun, StartLost, FirstLost, TakesBytes, TookInto, NotTook, WasTalking, Answered, NotAnswered, Asked, Received, NotReceived, behind_start, talker_of, is_stopped, received, fits, AllSpoken, Brings, CutBrings, PassedBy, PassedInPart, StandsBehind, SpokenBy, sent_frames}
+use Rattle.il_control.specs.Receives.{Began, NotBegun, StartLost, FirstLost, TakesBytes, TookInto, NotTook, WasTalking, Answered, NotAnswered, Asked, Received, NotReceived, behind_start, talker_of, is_stopped, received, fits, AllSpoken, Brings, CutBrings, PassedBy, PassedInPart, StandsBehind, SaysOf, SpokenBy, own_frames, said_of, sent_frames}
 use Rattle.loop_model.specs.Reach.{held_at_end as held_after}
 use Rattle.loop_model.proofs.ReachLaws.{is_no_nrd, sourcing}
 use Rattle.il_control.proofs.HeldAtEnd.{cut_held, cut_holds_none, echo_quiet, front_quiet, front_source, quiet_ended, start_quiet}
@@ -44,8 +44,8 @@ never_full w some = sym (ne_eqb 0 w (λ e. omega (arith, e, some)))
 nobody : (gs : List Frame) (R : Type 0) → R × IsSome (talker_of NotTaken) → AllSpoken gs
 nobody gs R behind = let clash = behind.1 in cc
 
-pub passed_answered : {M : Type 0} (view : M → MediumView) (r s : RingView M) (start : Start) (old : List ℕ) → 0 < length old → Whole view r (returned 0 (start_frame start) ∷ []) s × Unheard r s → Answered view start 0 r old old s
-passed_answered view r s start old some passed = record { answer = NotTaken; legal = refl; talked = tt; whole = passed.0; far = λ behind. nobody _ _ behind; said = λ is. cc; count = refl; within = omega arith; bytes = refl; stops = never_full (length old) some; unheard = passed.1 }
+pub passed_answered : {M : Type 0} (view : M → MediumView) (r s : RingView M) (start : Start) (old : List ℕ) → 0 < length old → (whole : Whole view r (returned 0 (start_frame start) ∷ []) s) × (own_frames whole.adds.answers ≡ []) × Unheard r s → Answered view start 0 r old old s
+passed_answered view r s start old some passed = record { answer = NotTaken; legal = refl; talked = tt; whole = passed.0; far = λ behind. nobody _ _ behind; said = λ is. passed.1; count = refl; within = omega arith; bytes = refl; stops = never_full (length old) some; unheard = passed.2 }
 
 one_answer : {M : Type 0} (r : RingView M) (p : ℕ) (d : Echo) → is_echo d ≡ true → IsTalking p None (devices_of r) → is_answer 0 (ToItsEnd p (d ∷ [])) ≡ true
 one_answer r p d echo talking = and_from (not (p == 0)) (true && list_all is_echo (d ∷ [])) (ap not (ne_eqb p 0 (λ e. omega (arith, e, talking.party)))) (and_from true (list_all is_echo (d ∷ [])) refl (and_from (is_echo d) true echo refl))
@@ -70,8 +70,11 @@ lost_answered view r s start w some (FirstLost p d echo talking broke far unhear
   unheard = unheard;
 }
 
-one_party : (p q : ℕ) → Some p ≡ Some q → p ≡ q
-one_party p q is = cc
+-- what a talker sent
+said_by : (answer : Answer) (p : ℕ) → talker_of answer ≡ Some p → said_of answer ≡ sent_frames answer ++ eto ∷ []
+said_by NotTaken p is = cc
+said_by (ToItsEnd q ds) p is = refl
+said_by (Stopped q ds last) p is = refl
 
 -- the entries of an answer by this talker
 taken_entries : (f : Frame) (answer : Answer) (p : ℕ) → talker_of answer ≡ Some p → answer_entries 0 f answer ≡ entry 0 f (outcome.Taken p) ∷ behind_start answer
@@ -118,6 +121,9 @@ module _ {M : Type 0} (view : M → MediumView) (r m s : RingView M) (start : St
   near_talker : (answer : Answer) → talker_of answer ≡ Some p → list_all (is_from_here (drive_party r)) (answer_entries 0 (start_frame start) answer) ≡ true → drive_party r ≤ p
   near_talker answer talker from = near_of (start_frame start) answer (drive_party r) p talker (device_source p (omega (arith, began.now.talking.party))) from
 
+  says_talker : (answer : Answer) → talker_of answer ≡ Some p → SaysOf answer r → drive_party r ≡ p
+  says_talker answer talker says = sym (subst (λ o. IfSome o (λ p. p ≡ drive_party r)) talker says)
+
   far_talker : (answer : Answer) → talker_of answer ≡ Some p → StandsBehind answer r → p < drive_party r
   far_talker answer talker behind = subst (λ o. IfSome o (λ p. p < drive_party r)) talker behind.0
 
@@ -140,7 +146,7 @@ module _ {M : Type 0} (view : M → MediumView) (r m s : RingView M) (start : St
           brought = λ from. ((all_added answer took.added took.talker).near (near_talker answer took.talker from)).0;
         };
         far = λ behind. (all_added answer took.added took.talker).far (far_talker answer took.talker behind);
-        said = λ is. let at : drive_party r ≡ p = one_party (drive_party r) p (sym is ∙ took.talker) in ((all_added answer took.added took.talker).near (omega (arith, at))).1 at;
+        said = λ is. let at : drive_party r ≡ p = says_talker answer took.talker is in ((all_added answer took.added took.talker).near (omega (arith, at))).1 at ∙ sym (said_by answer p took.talker);
         count = into.count ∙ ap length took.bytes_are;
         within = into.within;
         bytes = into.filled ∙ ap (λ bytes. bytes ++ drop n old) took.bytes_are;
@@ -242,14 +248,12 @@ echoes_here p q [] same = refl
 echoes_here p q (d ∷ ds) same = and_from ((p == 0) || nat_le q p) (list_all (is_from_here q) (map (echoed p) ds)) (source_here p q same) (echoes_here p q ds same)
 
 -- each entry of an answer is the host's or of this talker
-answer_from_here : (f : Frame) (answer : Answer) (q : ℕ) → talker_of answer ≡ Some q → list_all (is_from_here q) (answer_entries 0 f answer) ≡ true
+answer_from_here : (f : Frame) (answer : Answer) (q : ℕ) → IfSome (talker_of answer) (λ p. p ≡ q) → list_all (is_from_here q) (answer_entries 0 f answer) ≡ true
 answer_from_here f NotTaken q is = refl
-answer_from_here f (ToItsEnd p ds) q is =
-    let same : p ≡ q = cc in
+answer_from_here f (ToItsEnd p ds) q same =
     list_all-append (is_from_here q) (map (echoed p) ds) (entry p eto (outcome.Taken 0) ∷ [])
     ∙ and_from (list_all (is_from_here q) (map (echoed p) ds)) (list_all (is_from_here q) (entry p eto (outcome.Taken 0) ∷ [])) (echoes_here p q ds same) (and_from (is_from_here q (entry p eto (outcome.Taken 0))) true (source_here p q same) refl)
-answer_from_here f (Stopped p ds last) q is =
-    let same : p ≡ q = cc in
+answer_from_here f (Stopped p ds last) q same =
     list_all-append (is_from_here q) (map (echoed p) ds) (returned 0 nrd ∷ echoed p last ∷ entry p eto (outcome.Taken 0) ∷ [])
     ∙ and_from (list_all (is_from_here q) (map (echoed p) ds)) (list_all (is_from_here q) (returned 0 nrd ∷ echoed p last ∷ entry p eto (outcome.Taken 0) ∷ [])) (echoes_here p q ds same)
     (and_from (is_from_here q (echoed p last)) (list_all (is_from_here q) (entry p eto (outcome.Taken 0) ∷ [])) (source_here p q same) (and_from (is_from_here q (entry p eto (outcome.Taken 0))) true (source_here p q same) refl))
@@ -311,6 +315,10 @@ module _ {M : Type 0} (view : M → MediumView) (a : ℕ) (number : Option ℕ) 
     -- the drive stands behind the talker still
     behind_still : (answer : Answer) → StandsBehind answer r → StandsBehind answer m
     behind_still answer behind = (subst (λ q. IfSome (talker_of answer) (λ p. p < q)) (sym (ap (λ n. n + 1) asked.whole.adds.before)) behind.0, behind.1)
+
+    -- and so where it is the talker
+    says_still : (answer : Answer) → SaysOf answer r → SaysOf answer m
+    says_still answer says = subst (λ q. IfSome (talker_of answer) (λ p. p ≡ q)) (sym (ap (λ n. n + 1) asked.whole.adds.before)) says
 
     front_cut : CutBrought (length (devices_of r)) (drive_party r) front (behind_all front 0) asked.whole.adds.came
     front_cut = whole_cut (length (devices_of r)) (drive_party r) 0 front asked.whole.adds.came (asked.whole.brought (front_from_here (drive_party r) a number))
@@ -389,7 +397,7 @@ module _ {M : Type 0} (view : M → MediumView) (a : ℕ) (number : Option ℕ) 
           whole_then_answers view r m s front (all answer ++ commanded 0 unt) idle.free.ring asked.whole more
           ∙ ap (λ outs. asked.whole.adds.answers ++ outs) (whole_then_answers view m u s (all answer) (commanded 0 unt) asked.whole.ring answered.whole last) in
           let P : List Frame → List Out → Type 0 = λ came answers.
-          (StandsBehind answer r → PassedBy (length (devices_of r)) (drive_party r) a number came) × (talker_of answer ≡ Some (drive_party r) → SpokenBy (length (devices_of r)) (drive_party r) a number start answer came answers) in
+          (StandsBehind answer r → PassedBy (length (devices_of r)) (drive_party r) a number came) × (SaysOf answer r → SpokenBy (length (devices_of r)) (drive_party r) a number start answer came answers) in
           let passed : StandsBehind answer r → PassedBy (length (devices_of r)) (drive_party r) a number done.adds.came = λ behind. record {
             before = asked.whole.adds.came;
             spoken = answered.whole.adds.came;
@@ -399,8 +407,8 @@ module _ {M : Type 0} (view : M → MediumView) (a : ℕ) (number : Option ℕ) 
             during = answered.far (behind_still answer behind);
             last = same_place r u (λ k q. Brought k q (commanded 0 unt) last.adds.came) before_still size_still (last.brought refl);
           } in
-          let spoken : talker_of answer ≡ Some (drive_party r) → SpokenBy (length (devices_of r)) (drive_party r) a number start answer done.adds.came done.adds.answers = λ is.
-          let here : talker_of answer ≡ Some (drive_party m) = is ∙ ap (λ n. Some (n + 1)) (sym asked.whole.adds.before) in
+          let spoken : SaysOf answer r → SpokenBy (length (devices_of r)) (drive_party r) a number start answer done.adds.came done.adds.answers = λ is.
+          let here = says_still answer is in
           record {
             before = asked.whole.adds.came;
             during = answered.whole.adds.came;

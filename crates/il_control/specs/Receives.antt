@@ -114,8 +114,18 @@ own_frames [] = []
 own_frames (Pass g ∷ outs) = own_frames outs
 own_frames (Source g ∷ outs) = g ∷ own_frames outs
 
--- What came to the drive, which is the talker, and what it answered: the commands before the start message; that message and the echoes, for
--- which it sent these data frames and ETO; and the commands behind them.
+-- what the talker sends to a start message and to the echoes of its frames; nothing where no device took the message
+abbrev pub said_of : Answer → List Frame
+said_of NotTaken = []
+said_of (ToItsEnd p ds) = sent_frames (ToItsEnd p ds) ++ eto ∷ []
+said_of (Stopped p ds last) = sent_frames (Stopped p ds last) ++ eto ∷ []
+
+-- no device took the start message, or the drive did
+abbrev pub SaysOf : {M : Type 0} → Answer → RingView M → Type 0
+SaysOf answer r = IfSome (talker_of answer) (λ p. p ≡ drive_party r)
+
+-- What came to the drive and what it answered, where it is the talker or no device took the start message: the commands before that
+-- message; the message and the echoes, for which it sent its data frames and ETO, or nothing of its own; and the commands behind them.
 pub record SpokenBy (k q a : ℕ) (number : Option ℕ) (start : Start) (answer : Answer) (came : List Frame) (answers : List Out) : Type 0 where
   pub before : List Frame
   pub during : List Frame
@@ -130,7 +140,7 @@ pub record SpokenBy (k q a : ℕ) (number : Option ℕ) (start : Start) (answer 
   pub all_answers : answers ≡ answers_before ++ (answers_during ++ answers_behind)
   pub many_before : length answers_before ≡ length before
   pub many_during : length answers_during ≡ length during
-  pub said : own_frames answers_during ≡ sent_frames answer ++ eto ∷ []
+  pub said : own_frames answers_during ≡ said_of answer
 
 -- a device took the start message, and the drive stands behind it
 abbrev pub StandsBehind : {M : Type 0} → Answer → RingView M → Type 0
@@ -148,7 +158,7 @@ pub record Received {M : Type 0} (view : M → MediumView) (a : ℕ) (number : O
   pub stops : is_stopped answer ≡ (n == length old)
   pub unheard : Unheard r s
   pub passed : StandsBehind answer r → PassedBy (length (devices_of r)) (drive_party r) a number made.whole.adds.came
-  pub spoken : talker_of answer ≡ Some (drive_party r) → SpokenBy (length (devices_of r)) (drive_party r) a number start answer made.whole.adds.came made.whole.adds.answers
+  pub spoken : SaysOf answer r → SpokenBy (length (devices_of r)) (drive_party r) a number start answer made.whole.adds.came made.whole.adds.answers
 
 -- it was broken off
 pub record NotReceived {M : Type 0} (view : M → MediumView) (a : ℕ) (number : Option ℕ) (start : Start) (w : ℕ) (r s : RingView M) : Type 0 where
@@ -279,7 +289,7 @@ pub data NotBegun {M : Type 0} (view : M → MediumView) (start : Frame) (r s : 
   FirstLost : (p : ℕ) (d : Echo) → is_echo d ≡ true → IsTalking p None (devices_of r) → (broke : Broke view r (entry 0 start (outcome.Taken p) ∷ echoed p d ∷ []) s) → (p < drive_party r → AllSpoken broke.adds.came) → Unheard r s → NotBegun view start r s
 
 abbrev pub Begins : {M : Type 0} → (M → MediumView) → Frame → RingView M → Begun → RingView M → Type 0
-Begins view start r begun.NotTaken s = Whole view r (returned 0 start ∷ []) s × Unheard r s
+Begins view start r begun.NotTaken s = (whole : Whole view r (returned 0 start ∷ []) s) × (own_frames whole.adds.answers ≡ []) × Unheard r s
 Begins view start r begun.Taken s = Began view start r s
 Begins view start r begun.Broken s = NotBegun view start r s
 
@@ -368,7 +378,7 @@ pub record Answered {M : Type 0} (view : M → MediumView) (start : Start) (n : 
   pub talked : WasTalking answer r
   pub whole : Whole view r (answer_entries 0 (start_frame start) answer) s
   pub far : StandsBehind answer r → AllSpoken whole.adds.came
-  pub said : talker_of answer ≡ Some (drive_party r) → own_frames whole.adds.answers ≡ sent_frames answer ++ eto ∷ []
+  pub said : SaysOf answer r → own_frames whole.adds.answers ≡ said_of answer
   pub count : n ≡ length (received answer)
   pub within : n ≤ length old
   pub bytes : new ≡ received answer ++ drop n old

@@ -7,7 +7,7 @@ use Rattle.il_frames.specs.declared.entry.Outcome.TheVariants as outcome
 use Rattle.il_frames.specs.declared.message.Message.{Message}
 use Rattle.il_frames.specs.declared.message.Message.TheVariants as msg
 use Rattle.il_frames.specs.Messages.{message_of}
-use Rattle.il_device.specs.declared.device.Out.TheVariants.{Source}
+use Rattle.il_device.specs.declared.device.Out.TheVariants.{Pass, Source}
 use Rattle.il_device.specs.declared.interface.OwnFrame.{OwnFrame}
 use Rattle.il_device.specs.declared.roles.Roles.{Roles}
 use Rattle.il_device.specs.Roles.{own_after}
@@ -107,6 +107,27 @@ said_here view r s f answer start none same had taken at = (had.0, (had.2.0, (ha
         let own : sends.2.own ≡ taken.own = ap (λ own. elim own [ None ↦ taken.own | Some own ↦ own ]) (sym sends.2.on_loop ∙ own_is) in
         sends.1 ∙ ap (λ h. Source h) (sym sends.2.frame ∙ ap (λ (own : OwnFrame). own.frame) own ∙ taken.own_frame)
 
+-- no device took it, and the drive passed it on
+passed_here : {M : Type 0} (view : M → MediumView) (r s : RingView M) (held : Option Flight) (f : Frame) (answer : Arrival) → is_start (message_of f) ≡ true → NoneSends (devices_of r) → DriveHad view (λ g. g ≡ f) r s → StartReturned r held f answer s
+    → DriveDid view (λ g out. (g ≡ f) × (out ≡ Pass f)) r s
+passed_here view r s held f answer start none had back = (had.0, (had.2.0, (had.1, by_answer (start_answer d e f had.2.0 start (none_sends_at r.before r.after d none) takes)), had.2.1))
+  where
+    d : DeviceState
+    d = device_of r.drive.state
+
+    e : DeviceState
+    e = device_of s.drive.state
+
+    takes : Takes d f had.2.0 e
+    takes = subst (λ g. Takes d g had.2.0 e) had.1 had.2.1.takes
+
+    none_then : e.own ≡ None
+    none_then = none_sends_at s.before s.after e (passed_none f (length (devices_of r)) (devices_of r) (devices_of s) start back.took none)
+
+    by_answer : StartAnswer f d had.2.0 e → had.2.0 ≡ Pass f
+    by_answer (inl passes) = passes.0
+    by_answer (inr sends) = let clash = sym none_then ∙ sends.2.on_loop in cc
+
 -- ---- the whole round
 
 module _ {M : Type 0} (view : M → MediumView) (r s : RingView M) (held : Option Flight) (f : Frame) (answer : Arrival) (within : r.books.crossings ≤ last_crossing) (plan : IsPlan r.books.plan) (start : is_start (message_of f) ≡ true) (none : NoneSends (devices_of r))
@@ -118,7 +139,7 @@ module _ {M : Type 0} (view : M → MediumView) (r s : RingView M) (held : Optio
   came : First (LetsPass f) (length r.before) r.before s.before → length s.before ≡ length r.before → DriveHad view (λ g. g ≡ f) r s → StartAtDrive view r held f answer s
   came took same had =
       ⊎_elim
-      (λ back. inl (back, had))
+      (λ back. inl (back, passed_here view r s held f answer start none had back))
       (⊎_elim
       (λ gone. inr (inl (gone, inr had)))
       (λ taken. inr (inr (taken, record { up_to = λ _. had; behind = λ low. absurd (taken_behind r s f answer taken (passed_none f (length r.before) r.before s.before start took none_before) same low); said = said_here view r s f answer start none same had taken }))))

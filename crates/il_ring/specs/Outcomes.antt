@@ -6,7 +6,7 @@ use Rattle.il_frames.specs.declared.entry.Entry.{Entry}
 use Rattle.il_frames.specs.declared.entry.Outcome.TheVariants as outcome
 use Rattle.il_frames.specs.Frames.{byte_of, is_data, with_service}
 use Rattle.il_device.specs.declared.device.Out.{Out}
-use Rattle.il_device.specs.declared.device.Out.TheVariants.{Source}
+use Rattle.il_device.specs.declared.device.Out.TheVariants.{Pass, Source}
 use Rattle.il_device.specs.declared.interface.OwnFrame.{OwnFrame}
 use Rattle.il_device.specs.Roles.{roles_after, own_after, assignment_after}
 use Rattle.il_device.specs.State.{DeviceState, risen}
@@ -186,9 +186,9 @@ pub record DriveSawStart {M : Type 0} (view : M → MediumView) (f : Frame) (p :
   pub behind : p < drive_party r → DriveTook view (IsBrought r s sent) r s
   pub said : drive_party r ≡ p → DriveDid view (λ g out. (g ≡ f) × (out ≡ Source sent)) r s
 
--- what came of a start message, and what of it came to the drive
+-- What came of a start message, and what of it came to the drive, which passed it on where no device took it.
 abbrev pub StartAtDrive : {M : Type 0} → (M → MediumView) → RingView M → Option Flight → Frame → Arrival → RingView M → Type 0
-StartAtDrive view r held f answer s = (StartReturned r held f answer s × DriveHad view (λ g. g ≡ f) r s)
+StartAtDrive view r held f answer s = (StartReturned r held f answer s × DriveDid view (λ g out. (g ≡ f) × (out ≡ Pass f)) r s)
     ⊎ ((StartGone r f answer s × DriveTook view (λ g. g ≡ f) r s)
     ⊎ ((taken : StartTaken r f answer s) × DriveSawStart view f taken.party taken.sent r s))
 
