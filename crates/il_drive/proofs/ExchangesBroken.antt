@@ -91,7 +91,7 @@ nothing_partly first pieces t u part =
 abbrev pub AsSent : List ℕ → List ℕ → Type 0
 AsSent came sent = (i : ℕ) → suc i < length came → get_or came i 0 ≡ get_or sent i 0
 
-cut_changed : (j k : ℕ) (came sent : List ℕ) → 256 * (j + 1) ≤ length came → j < k → length sent ≡ 256 * k → AsSent came sent
+cut_changed : (j k : ℕ) (came sent : List ℕ) → 256 * (j + 1) ≤ length came → j < k → 256 * k ≤ length sent → AsSent came sent
     → (other : List ℕ) × (length other ≡ 256) × (cut_up (suc j) came ≡ take j (cut_up k sent) ++ other ∷ [])
 cut_changed zero k came sent enough lt long as_sent = (take 256 came, length-take-le 256 came (omega (arith, enough)), refl)
 cut_changed (suc j) zero came sent enough lt long as_sent = absurd (omega (arith, lt))
@@ -106,7 +106,7 @@ cut_changed (suc j) (suc k) came sent enough lt long as_sent =
     (λ i lt. get_or-drop 256 came i 0 ∙ as_sent (256 + i) (omega (arith, lt, length-drop 256 came)) ∙ sym (get_or-drop 256 sent i 0)) in
     (more.0, more.1, λ i. same i ∷ more.2 i)
 
-whole_records : (k n : ℕ) → n ≤ 256 * k → (q : ℕ) × (q ≤ k) × (256 * q ≤ n) × (n ≤ 256 * q + 255)
+whole_records : (k n : ℕ) → n ≤ 256 * k + 255 → (q : ℕ) × (q ≤ k) × (256 * q ≤ n) × (n ≤ 256 * q + 255)
 whole_records zero n le = (0, omega arith, omega arith, omega (arith, le))
 whole_records (suc k) n le = elim (cases_lt n (256 * k)) [
   | inl lt ↦ let less = whole_records k n (omega (arith, lt)) in (less.0, omega (arith, less.1), less.2, less.3)
@@ -142,9 +142,10 @@ module _ {M : Type 0} (view : M → MediumView) where
     stand = λ t told. let u = left_partly view p first some v w sent t told in (u.0, u.1, wider t told u.0 u.2);
   }
 
-  -- Of a send of k records, whose bytes are these, at most the data frames came, all but the last one with their bytes.
+  -- Of a send of these bytes, which hold k records and fewer bytes than one more, at most the data frames came, all but the
+  -- last one with their bytes.
   pub breaks_off : (p k : ℕ) (sent : List ℕ) (fs : List Frame) (outs : List Out) (v w : DriveView M) → p ≤ 30 → IsFree p v.state → length v.state.buffer_0 ≡ 256 → IsMedium (view v.medium)
-      → AllData fs → length sent ≡ 256 * k → length fs ≤ 256 * k → AsSent (bytes_of fs) sent → v.state.position + k ≤ (view v.medium).record_count
+      → AllData fs → 256 * k ≤ length sent → length fs ≤ 256 * k + 255 → AsSent (bytes_of fs) sent → v.state.position + k ≤ (view v.medium).record_count
       → Ran view v (unl ∷ rfc ∷ lad p ∷ rfc ∷ write_message ∷ rfc ∷ fs) outs w → HasBrokenOff v.state.position (cut_up k sent) v w
   breaks_off p k sent fs outs v w le free room medium all long few as_sent fits ran =
       let whole = whole_records k (length fs) few in

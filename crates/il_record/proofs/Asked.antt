@@ -1,6 +1,6 @@
 -- A receive of which the drive is the talker: which frames came to it, what it answered to each part of them, and which of
 -- its own frames went out.
-use Rattle.std.proofs.Common.{◌≡◌, ◌∙◌, ◌≤◌, ◌+◌, ◌++◌, ◌&&◌, ◌==◌, ℕ, suc, Bool, true, false, List, [], ◌∷◌, Some, None, map, length, refl, sym, ap, ap₂, subst, arith, length-append, append-nil}
+use Rattle.std.proofs.Common.{◌≡◌, ◌∙◌, ◌≤◌, ◌++◌, ◌==◌, ℕ, suc, true, List, [], ◌∷◌, Some, None, map, length, refl, sym, ap, subst, arith, length-append, append-nil}
 use Rattle.std.specs.List.{list_all}
 use Rattle.std.specs.Prelude.{take, drop}
 use Rattle.std.proofs.Math.Seq.{take-append_seam, drop-append_seam}
@@ -19,15 +19,14 @@ use Rattle.il_drive.specs.State.{DriveView}
 use Rattle.il_drive.specs.Runs.{Ran, AllData}
 use Rattle.il_drive.proofs.Exchanges.{parts, goes_by, all_pass}
 use Rattle.il_drive.proofs.ExchangesReading.{EchoesOf}
-use Rattle.il_drive.proofs.Reading.{IsEcho, ComeBack}
-use Rattle.loop_model.specs.Entries.{entry, unl, unt, rfc, nrd, tad, ddt}
-use Rattle.loop_model.specs.Exchanges.{Echo, Start, Sda, Sst, Sdi, Sai, Answer, NotTaken, ToItsEnd, Stopped, start_frame, commanded, echoed, returned, answer_entries, is_echo}
-use Rattle.loop_model.specs.Reach.{brings_to}
+use Rattle.il_drive.proofs.Reading.{IsEcho}
+use Rattle.loop_model.specs.Entries.{entry, unl, rfc, nrd, tad, ddt}
+use Rattle.loop_model.specs.Exchanges.{Echo, Start, Sda, Sst, Sdi, Sai, NotTaken, ToItsEnd, Stopped, start_frame, echoed, returned, answer_entries, is_echo}
 use Rattle.loop_model.proofs.UnitLaws.{receive_front}
 use Rattle.il_control.specs.Brought.{ComesAs, Brought, BroughtIf, AllCome}
-use Rattle.il_control.specs.Receives.{SpokenBy, own_frames, frames_of, sent_frames}
-use Rattle.il_control.proofs.Brings.{command_comes, command_frames}
-use Rattle.il_control.proofs.Spoken.{eto_not, taken_brings, start_comes}
+use Rattle.il_control.specs.Receives.{own_frames, frames_of}
+use Rattle.il_control.proofs.Brings.{command_comes}
+use Rattle.il_control.proofs.Spoken.{eto_not, taken_brings}
 
 -- ---- the commands before the start message
 
@@ -146,7 +145,7 @@ stopped_frames k q s ds last gs some within echoes echo brought =
 
 -- ---- what the drive answered
 
-few_own : (outs : List Out) → length (own_frames outs) ≤ length outs
+pub few_own : (outs : List Out) → length (own_frames outs) ≤ length outs
 few_own [] = omega arith
 few_own (Pass g ∷ outs) = let less = few_own outs in omega (arith, less)
 few_own (Source g ∷ outs) = let less = few_own outs in omega (arith, less)
@@ -164,7 +163,7 @@ all_own (Source g ∷ outs) many = ap (λ outs. Source g ∷ outs) (all_own outs
 
 -- ---- echoes
 
-all_data : (ds : List Echo) (gs : List Frame) → AllCome ds gs → AllData gs
+pub all_data : (ds : List Echo) (gs : List Frame) → AllCome ds gs → AllData gs
 all_data [] [] come = tt
 all_data [] (g ∷ gs) come = absurd come
 all_data (d ∷ ds) [] come = absurd come
@@ -176,7 +175,7 @@ come_length [] (g ∷ gs) come = absurd come
 come_length (d ∷ ds) [] come = absurd come
 come_length (d ∷ ds) (g ∷ gs) come = ap suc (come_length ds gs come.1)
 
-same_frames : (f g : Frame) → with_service g ≡ with_service f → same_but_service f g ≡ true
+pub same_frames : (f g : Frame) → with_service g ≡ with_service f → same_but_service f g ≡ true
 same_frames f g same =
     let classes = ap (λ (h : Frame). number_of_class (class_of h)) same in
     and_from (same_class (class_of (with_service f)) (class_of (with_service g))) (byte_of f == byte_of g)

@@ -1,4 +1,9 @@
 pub mod Asked
+pub mod Heard
+pub mod Polling
+pub mod ReadRuns
 pub mod Readings
+pub mod CutSends
+pub mod Cuts
 pub mod Sends
 pub mod Talks

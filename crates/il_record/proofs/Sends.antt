@@ -1,17 +1,18 @@
 -- Sends, byte behind byte.
 use Rattle.std.proofs.Common.{◌≡◌, ◌∙◌, ◌^◌, ◌*◌, ◌/◌, ◌%◌, ap₂, true, ◌≤◌, ◌<◌, ◌+◌, ◌++◌, ℕ, zero, suc, List, [], ◌∷◌, Some, length, take, get_or, refl, sym, ap, subst, arith, length-append}
 use Rattle.std.proofs.Math.Nat.{mod-eq_of_lt, div-lt_iff_lt-mul, div-add-mod}
-use Rattle.std.proofs.Math.Seq.{take-length}
-use Rattle.std.specs.Prelude.{Result, Ok, Err, IfErr, IsErr}
+use Rattle.std.proofs.Math.Seq.{take-length, take-append_seam}
+use Rattle.std.specs.Prelude.{replicate, Result, Ok, Err, IfErr, IsErr}
 use Rattle.std.specs.Result.{IsErrAnd}
-use Rattle.std.proofs.lemmas.List.{map-append}
+use Rattle.std.proofs.lemmas.List.{map-append, length-take-le, get_or-take, length-replicate}
 use Rattle.il_frames.specs.declared.frame.Class.TheVariants as class
 use Rattle.il_frames.specs.Frames.{byte_of, framed, is_data}
 use Rattle.il_ports.specs.Media.{MediumView}
 use Rattle.loop_model.specs.Exchanges.{Echo, Send, entries_of}
 use Rattle.loop_model.proofs.UnitLaws.{bytes_of, length-send}
-use Rattle.il_ring.specs.Rings.{RingView, spare_of}
-use Rattle.il_control.specs.Calls.{IsIdle, Made, BrokenOff, Sent, NotSent, sent_as}
+use Rattle.il_ring.specs.Rings.{RingView, devices_of, spare_of}
+use Rattle.il_ring.specs.Lists.{Each}
+use Rattle.il_control.specs.Calls.{IsIdle, IsTold, Made, BrokenOff, Sent, NotSent, sent_as}
 use Rattle.il_control.proofs.Calls.{room_behind}
 use Rattle.il_control.specs.Brought.{AllCome}
 use Rattle.il_control.proofs.Brings.{send_brings}
@@ -21,7 +22,8 @@ use Rattle.std.specs.Int.{to_be_bytes, w16}
 use Rattle.il_drive.specs.Runs.{Ran}
 use Rattle.il_drive.proofs.ExchangesAddressed.{seeks_record}
 use Rattle.loop_model.specs.Entries.{unl, rfc, lad, ddl}
-use Rattle.il_record.specs.Sends.{SentSo, SentAll, SendBroke, Sought}
+use Rattle.il_record.proofs.Heard.{nothing_heard, others_then, others_deaf, others_deaf_to_any, told_on}
+use Rattle.il_record.specs.Sends.{filled, SentSo, SentAll, SendBroke, Sought}
 
 -- an error that is handed on
 pub if_err : {T E : Type 0} (result : Result T E) (x : E) (P : E → Type 0) → IsErr result × IsErrAnd result (λ e. e ≡ x) → P x → IfErr result P
@@ -33,9 +35,33 @@ take_more [] i within = absurd (omega (arith, within))
 take_more (b ∷ bytes) zero within = refl
 take_more (b ∷ bytes) (suc i) within = ap (λ bytes. b ∷ bytes) (take_more bytes i (omega (arith, within)))
 
+-- ---- bytes that zeros follow
+
+pub length-filled : (n : ℕ) (bytes : List ℕ) → length (filled n bytes) ≡ n
+length-filled n bytes = let a = length-append bytes (replicate n 0) in let b = length-replicate {A = ℕ} n 0 in length-take-le n (bytes ++ replicate n 0) (omega (arith, a, b))
+
+pub filled_at : (n i : ℕ) (bytes : List ℕ) → i < n → get_or (filled n bytes) i 0 ≡ get_or bytes i 0
+filled_at n i bytes within = get_or-take n (bytes ++ replicate n 0) i 0 within ∙ by bytes i
+  where
+    zeros : (n i : ℕ) → get_or {A = ℕ} (replicate n 0) i 0 ≡ 0
+    zeros zero i = refl
+    zeros (suc n) zero = refl
+    zeros (suc n) (suc i) = zeros n i
+
+    by : (bytes : List ℕ) (i : ℕ) → get_or (bytes ++ replicate n 0) i 0 ≡ get_or bytes i 0
+    by [] i = zeros n i
+    by (byte ∷ bytes) zero = refl
+    by (byte ∷ bytes) (suc i) = by bytes i
+
+-- as many as there are
+pub filled_exact : (n : ℕ) (bytes : List ℕ) → length bytes ≡ n → filled n bytes ≡ bytes
+filled_exact n bytes long = ap (λ n. take n (bytes ++ replicate n 0)) (sym long) ∙ take-append_seam bytes (replicate (length bytes) 0)
+
+-- ---- byte behind byte
+
 -- nothing was sent yet
-pub sent_nothing : {M : Type 0} (view : M → MediumView) (a n : ℕ) (bytes : List ℕ) (r s : RingView M) → Made view (Send a (Some n) []) r s → SentSo view a n 0 bytes r s
-sent_nothing view a n bytes r s made = record { ds = []; sent = refl; many = refl; made = made }
+pub sent_nothing : {M : Type 0} (view : M → MediumView) (a n : ℕ) (bytes : List ℕ) (r s : RingView M) → Made view (Send a (Some n) []) r s → Each (IsTold a) 1 (devices_of s) → SentSo view a n 0 bytes r s
+sent_nothing view a n bytes r s made told = record { ds = []; sent = refl; many = refl; made = made; told = told; unheard = nothing_heard a 1 _ (devices_of r) (devices_of s) (made.whole.unheard refl) }
 
 -- one byte more
 pub sent_more : {M : Type 0} (view : M → MediumView) (a n i byte : ℕ) (bytes : List ℕ) (r m s : RingView M) → IsIdle r → i < length bytes → byte ≡ get_or bytes i 0 → SentSo view a n i bytes r m → Sent view byte m s → SentSo view a n (i + 1) bytes r s
@@ -52,7 +78,13 @@ sent_more view a n i byte bytes r m s idle within is so sent =
           ∙ ap (λ k. take k bytes) (sym up);
       many = length-append so.ds (d ∷ []) ∙ ap (λ k. k + 1) so.many;
       made = send_more view a (Some n) so.ds byte r m s idle so.made sent;
+      told = told_on byte a 1 _ (devices_of m) (devices_of s) so.told sent.heard;
+      unheard = others_then a 1 (devices_of r) (devices_of m) (devices_of s) so.unheard (others_deaf byte a 1 _ (devices_of m) (devices_of s) so.told sent.heard);
     }
+
+-- all were
+pub sent_all : {M : Type 0} (view : M → MediumView) (a n i : ℕ) (bytes : List ℕ) (r s t : RingView M) → t ≡ s → i ≡ length bytes → SentSo view a n i bytes r s → SentAll view a n bytes r t
+sent_all view a n i bytes r s t same all so = subst (λ t. SentAll view a n bytes r t) (sym same) (subst (λ i. SentSo view a n i bytes r s) all so)
 
 -- it broke off at this byte
 pub send_broke : {M : Type 0} (view : M → MediumView) (a n i byte : ℕ) (bytes : List ℕ) (r m s : RingView M) → IsIdle r → i < length bytes → byte ≡ get_or bytes i 0 → SentSo view a n i bytes r m → NotSent view byte m s → SendBroke view a n bytes r s
@@ -71,11 +103,12 @@ send_broke view a n i byte bytes r m s idle within is so not_sent =
           ∙ ap (λ k. take k bytes) (sym up);
       within = omega (arith, up, within);
       broken = send_breaks view a (Some n) so.ds byte r m s idle so.made not_sent;
+      unheard = others_then a 1 (devices_of r) (devices_of m) (devices_of s) so.unheard (others_deaf_to_any a 1 not_sent.reached (devices_of m) (devices_of s) so.told not_sent.heard);
     }
 
 -- it broke off before the first byte
 pub send_broke_first : {M : Type 0} (view : M → MediumView) (a n : ℕ) (bytes : List ℕ) (r s : RingView M) → BrokenOff view (Send a (Some n) []) r s → SendBroke view a n bytes r s
-send_broke_first view a n bytes r s broken = record { ds = []; sent = refl; within = omega arith; broken = broken }
+send_broke_first view a n bytes r s broken = record { ds = []; sent = refl; within = omega arith; broken = broken; unheard = nothing_heard a 1 _ (devices_of r) (devices_of s) (broken.broke.unheard refl) }
 
 -- the room that is left
 pub sent_room : {M : Type 0} (view : M → MediumView) (a n i more : ℕ) (bytes : List ℕ) (r s : RingView M) → SentSo view a n i bytes r s → i + 6 + more ≤ spare_of r → more ≤ spare_of s
@@ -104,16 +137,17 @@ two_frames (c ∷ d ∷ []) (f ∷ []) high low bytes come = absurd come.1
 two_frames (c ∷ d ∷ []) (f ∷ g ∷ h ∷ gs) high low bytes come = absurd come.1.1
 
 -- a number in two bytes, high byte first
-two_bytes : (n : ℕ) → n < 2 ^ 16 → (high : ℕ) × (low : ℕ) × (to_be_bytes w16 n ≡ high ∷ low ∷ []) × (256 * high + low ≡ n)
+pub two_bytes : (n : ℕ) → n < 2 ^ 16 → (high : ℕ) × (low : ℕ) × (to_be_bytes w16 n ≡ high ∷ low ∷ []) × (256 * high + low ≡ n)
 two_bytes n small =
     let high : n / 256 % 256 ≡ n / 256 = mod-eq_of_lt ((div-lt_iff_lt-mul (omega arith)).1 (omega (arith, small))) in
     (n / 256 % 256, n % 256, (search), ap (λ high. 256 * high + n % 256) high ∙ div-add-mod n 256)
 
-pub sought : {M : Type 0} (view : M → MediumView) (d n : ℕ) (r s : RingView M) → d ≤ 30 → n < 2 ^ 16 → SentAll view d 4 (to_be_bytes w16 n) r s → Sought view d n r s
+pub sought : {M : Type 0} (view : M → MediumView) (d n : ℕ) (r s : RingView M) → d ≤ 30 → n < 2 ^ 16 → SentAll view d 4 (filled 2 (to_be_bytes w16 n)) r s → Sought view d n r s
 sought view d n r s low small so = λ at free within.
     let brings = send_brings view d (Some 4) so.ds r s so.made in
     let bytes = two_bytes n small in
-    let all = so.sent ∙ take-length (to_be_bytes w16 n) ∙ bytes.2 in
+    let exact : filled 2 (to_be_bytes w16 n) ≡ to_be_bytes w16 n = filled_exact 2 (to_be_bytes w16 n) (ap length bytes.2) in
+    let all = so.sent ∙ take-length (filled 2 (to_be_bytes w16 n)) ∙ exact ∙ bytes.2 in
     let frames = two_frames so.ds brings.0 bytes.0 bytes.1 all brings.2 in
     let adds = so.made.whole.adds in
     let came : adds.came ≡ unl ∷ rfc ∷ lad d ∷ rfc ∷ ddl 4 ∷ rfc ∷ frames.0 ∷ frames.1 ∷ [] = brings.1 ∙ ap (λ gs. unl ∷ rfc ∷ lad d ∷ rfc ∷ ddl 4 ∷ rfc ∷ gs) frames.2 in

@@ -1,2 +1,4 @@
+pub mod Came
+pub mod Runs
 pub mod Sends
 pub mod Talks

@@ -1,10 +1,11 @@
 -- Exchanges one behind the other.
-use Rattle.std.specs.Prelude.{◌≡◌, ◌≢◌, ℕ, Bool, true, MatchBool, List, [], flat_map, Option, None}
+use Rattle.std.specs.Prelude.{◌≡◌, ◌≢◌, Bool, true, MatchBool, List, [], flat_map, None}
 use Rattle.std.specs.List.{list_all}
 use Rattle.il_frames.specs.declared.entry.Entry.{Entry}
 use Rattle.il_ports.specs.Media.{MediumView}
 use Rattle.loop_model.specs.Effect.{ends_as}
 use Rattle.loop_model.specs.Exchanges.{Piece, is_piece, piece_entries}
+use Rattle.loop_model.specs.Reach.{held_at_end}
 use Rattle.loop_model.specs.Roles.{OneTalker}
 use Rattle.il_ring.specs.Rings.{RingView, devices_of, roles_of}
 use Rattle.il_ring.specs.Outcomes.{met_between}
@@ -20,9 +21,7 @@ all_entries ps = flat_map (piece_entries 0) ps
 pub record Talked {M : Type 0} (view : M → MediumView) (whole : Bool) (ps : List Piece) (r s : RingView M) : Type 0 where
   pub legal : list_all (is_piece (loop_of r)) ps ≡ true
   pub ends : ends_as whole ps ≡ true
-  pub held_at_end : Option ℕ
-  pub none_held : whole ≡ true → held_at_end ≡ None
-  pub adds : Adds view r None (all_entries ps) held_at_end s
+  pub adds : Adds view r None (all_entries ps) (held_at_end None (all_entries ps)) s
   pub met : MatchBool whole (met_between r s ≡ []) (met_between r s ≢ [])
   pub one : OneTalker (roles_of (devices_of r)) (all_entries ps)
   pub state : MatchBool whole (IsIdle s) (IsLost s)

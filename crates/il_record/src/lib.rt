@@ -3,5 +3,6 @@
 #![tactic(auto)]
 
 mod exchanges;
+mod runs;
 #[cfg(test)]
 mod tests;

@@ -148,6 +148,15 @@ module _ (l : Loop) where
       (sought-seek high low h k) refl refl (told_status-cut answer n b)
       (ap (λ (bs : List ℕ). unit_of l.drive (named high low) (read came) bs None) brought ∙ unit_of-read (named high low) came bytes None)
 
+  -- and one that broke off when these bytes had been sent
+  pub units_of-read_cut : (high low : Echo) (came : Answer) (n : ℕ) (b : Break) → is_echo high ≡ true → is_echo low ≡ true →
+      units_of l (Whole (seek high low) ∷ Cut (read came) n b ∷ []) ≡ one_unit false (named high low) (sent_bytes (cut_at (entries_of l.controller (read came)) n b)) None ∷ []
+  units_of-read_cut high low came n b h k =
+      list_of _ (one_unit false (named high low) (sent_bytes (cut_at (entries_of l.controller (read came)) n b)) None) _
+      (ap (option_and_then (unit_after_seek l (Cut (read came) n b ∷ []))) (sought-seek high low h k)
+      ∙ unit_of-read (named high low) came (sent_bytes (cut_at (entries_of l.controller (read came)) n b)) None)
+      refl
+
   -- a seek that broke off is no unit
   pub units_of-seek_cut : (high low : Echo) (n : ℕ) (b : Break) → units_of l (Cut (seek high low) n b ∷ []) ≡ []
   units_of-seek_cut high low n b = refl

@@ -1,9 +1,25 @@
-use Rattle.std.proofs.Common.{refl, arith}
-use Rattle.il_record.proofs.Sends.{if_err, sent_more, send_broke}
+use Rattle.std.proofs.Common.{sym, ◌∙◌, arith}
+use Rattle.il_record.proofs.Sends.{if_err, sent_nothing, sent_more, sent_all, send_broke, send_broke_first, length-filled, filled_at}
 use Rattle.il_record.proofs.exchanges.send.Goals as goal
 
-pub loop-byte-preserved : goal.loop-byte-preserved
-loop-byte-preserved g c = sent_more g.M.Medium.view _ _ _ _ _ _ _ _ c.requires.idle (omega arith) refl c.loop-byte.invariant c.in_ok-sending-2.ensures.sent
+pub loop-place-init : goal.loop-place-init
+loop-place-init g c = sent_nothing g.M.Medium.view _ _ _ _ _ c.in_ok-sending.ensures.made c.in_ok-sending.ensures.told
+
+pub loop-place-preserved : goal.loop-place-preserved
+loop-place-preserved g c =
+    let long = length-filled c.args.length c.args.bytes.now in
+    sent_more g.M.Medium.view _ _ _ _ _ _ _ _ c.requires.idle (omega (arith, long, c.loop-place-test.true)) (c.byte_at.ensures ∙ sym (filled_at c.args.length c.loop-place.place c.args.bytes.now c.loop-place-test.true)) c.loop-place.invariant c.in_ok-sending-2.ensures.sent
+
+pub returns-in_err-sending-clause-broken : goal.returns-in_err-sending-clause-broken
+returns-in_err-sending-clause-broken g c = if_err _ _ _ c.from_residual.ensures (send_broke_first g.M.Medium.view _ _ _ _ _ c.in_err-sending.ensures.broken)
 
 pub returns-in_err-sending-2-clause-broken : goal.returns-in_err-sending-2-clause-broken
-returns-in_err-sending-2-clause-broken g c = if_err _ _ _ c.from_residual-in_err-sending-2.ensures (send_broke g.M.Medium.view _ _ _ _ _ _ _ _ c.requires.idle (omega arith) refl c.loop-byte.invariant c.in_err-sending-2.ensures.not_sent)
+returns-in_err-sending-2-clause-broken g c =
+    let long = length-filled c.args.length c.args.bytes.now in
+    if_err _ _ _ c.from_residual-in_err-sending-2.ensures
+    (send_broke g.M.Medium.view _ _ _ _ _ _ _ _ c.requires.idle (omega (arith, long, c.loop-place-test.true)) (c.byte_at.ensures ∙ sym (filled_at c.args.length c.loop-place.place c.args.bytes.now c.loop-place-test.true)) c.loop-place.invariant c.in_err-sending-2.ensures.not_sent)
+
+pub returns-clause-sent : goal.returns-clause-sent
+returns-clause-sent g c =
+    let long = length-filled c.args.length c.args.bytes.now in
+    sent_all g.M.Medium.view _ _ _ _ _ _ _ c.done.ensures (omega (arith, long, c.loop-place-test.false, c.loop-place.auto.place-end)) c.loop-place.invariant

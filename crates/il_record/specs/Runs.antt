@@ -1,0 +1,91 @@
+-- A run of records: the seek, the transfer and the status poll, each over the loop, and what the drive did meanwhile.
+use Rattle.std.specs.Prelude.{◌≡◌, ◌≢◌, ◌≤◌, ◌*◌, ◌/◌, ℕ, Bool, true, false, List, [], ◌∷◌, length, Some, None}
+use Rattle.lif_model.specs.Tape.{Tape, bytes_from}
+use Rattle.lif_model.specs.Causes.{Rose}
+use Rattle.il_frames.specs.Frames.{byte_of}
+use Rattle.il_poll.specs.Service.{status_byte_of}
+use Rattle.il_ports.specs.Media.{MediumView}
+use Rattle.il_drive.specs.State.{DriveView, status_of}
+use Rattle.il_drive.specs.Steps.{IsStill}
+use Rattle.il_drive.proofs.Exchanges.{IsAtRest}
+use Rattle.il_drive.proofs.Reading.{IsRead}
+use Rattle.loop_model.specs.Exchanges.{Answer, Echo, Stopped, Receive, Sst}
+use Rattle.loop_model.specs.Units.{RecordUnit}
+use Rattle.il_ring.specs.Rings.{RingView}
+use Rattle.il_control.specs.Calls.{Made, BrokenOff, Unheard}
+use Rattle.il_record.specs.Came.{OnlyHeard, CameBy, CameUnits}
+
+-- ---- what the drive did, which has address d
+
+-- no record changed, and no count of the medium fell
+pub record LeavesRecords {M : Type 0} (view : M → MediumView) (v w : DriveView M) : Type 0 where
+  pub still : IsStill (view v.medium) (view w.medium)
+  pub count : (view v.medium).faults ≤ (view w.medium).faults
+
+-- it told its status by this byte; behind that the status is 0, and the drive rests
+pub record TellsStatus {M : Type 0} (d byte : ℕ) (v w : DriveView M) : Type 0 where
+  pub byte_is : byte ≡ status_byte_of (status_of v.state)
+  pub rests : IsAtRest d w.state
+  pub medium : w.medium ≡ v.medium
+
+-- it sent all bytes of k records
+pub record ReadAll {M : Type 0} (view : M → MediumView) (d k first : ℕ) (bytes : List ℕ) (v w : DriveView M) : Type 0 where
+  pub long : length bytes ≡ 256 * k
+  pub content : (t : Tape) → (view v.medium).tape ≡ Some t → bytes ≡ bytes_from t first k
+  pub rests : IsAtRest d w.state
+  pub medium : IsRead (view v.medium) (view w.medium)
+
+-- it could not read one of them
+pub record ReadPart {M : Type 0} (view : M → MediumView) (v w : DriveView M) : Type 0 where
+  pub status : status_of w.state ≡ 1
+  pub still : IsStill (view v.medium) (view w.medium)
+  pub rose : Rose (view v.medium).faults (view w.medium).faults
+
+-- ---- the status
+
+-- the drive was asked for its status, and told this byte
+pub record Polled {M : Type 0} (view : M → MediumView) (d byte : ℕ) (r s : RingView M) : Type 0 where
+  pub echo : Echo
+  pub byte_is : byte ≡ byte_of echo.sent
+  pub made : Made view (Receive d None Sst (Stopped d [] echo)) r s
+  pub unheard : Unheard r s
+  pub drive : TellsStatus d byte r.drive s.drive
+
+-- that was broken off
+pub record NotPolled {M : Type 0} (view : M → MediumView) (d : ℕ) (r s : RingView M) : Type 0 where
+  pub answer : Answer
+  pub broken : BrokenOff view (Receive d None Sst answer) r s
+  pub unheard : Unheard r s
+  pub drive : LeavesRecords view r.drive s.drive
+
+-- ---- a read
+
+-- the unit of a run from record `first` on
+abbrev pub unit : Bool → ℕ → List ℕ → ℕ → RecordUnit
+unit writes first bytes status = record { writes = writes; first = first; bytes = bytes; status = Some status }
+
+-- these are the bytes of k records
+pub record ReadRun {M : Type 0} (view : M → MediumView) (d k first : ℕ) (bytes : List ℕ) (r s : RingView M) : Type 0 where
+  pub came : CameUnits view true (unit false first bytes 0 ∷ []) r s
+  pub unheard : OnlyHeard d r s
+  pub drive : ReadAll view d k first bytes r.drive s.drive
+
+-- the medium could not read one of them, and the status told it
+pub record NotRead {M : Type 0} (view : M → MediumView) (d first : ℕ) (r s : RingView M) : Type 0 where
+  pub bytes : List ℕ
+  pub status : ℕ
+  pub bad : status ≢ 0
+  pub came : CameUnits view true (unit false first bytes status ∷ []) r s
+  pub unheard : OnlyHeard d r s
+  pub still : IsStill (view r.drive.medium) (view s.drive.medium)
+  pub rose : Rose (view r.drive.medium).faults (view s.drive.medium).faults
+
+-- an exchange was broken off
+pub record ReadBroke {M : Type 0} (view : M → MediumView) (d : ℕ) (r s : RingView M) : Type 0 where
+  pub came : CameBy view false r s
+  pub unheard : OnlyHeard d r s
+  pub drive : LeavesRecords view r.drive s.drive
+
+abbrev pub ReadAs : {M : Type 0} → (M → MediumView) → ℕ → ℕ → List ℕ → Bool → RingView M → RingView M → Type 0
+ReadAs view d first bytes true r s = ReadRun view d (length bytes / 256) first bytes r s
+ReadAs view d first bytes false r s = NotRead view d first r s

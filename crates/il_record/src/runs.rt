@@ -1,0 +1,50 @@
+// Runs of records over the loop: a seek, a transfer and a status poll, directly after each other.
+ghost use Rattle.std.specs.Prelude.{◌≡◌, ◌≤◌, ◌<◌, ◌+◌, ◌/◌, length, get_or, IfOk, IfErr};
+ghost use Rattle.il_drive.proofs.Exchanges.{IsFree};
+ghost use Rattle.il_ports.specs.Stores.{AreRecords};
+ghost use Rattle.il_ring.specs.Rings.{spare_of, drive_party};
+ghost use Rattle.il_control.specs.Calls.{IsIdle};
+ghost use Rattle.il_record.specs.Runs.{Polled, NotPolled, ReadAs, ReadBroke};
+
+use crate::exchanges::seek;
+use il_control::{Idle, Lost, Sot};
+use il_ports::Medium;
+use il_ring::Seen;
+
+/// Asks the drive, which has this address, for its status, and answers the status byte.
+pub(crate) fn status<M: Medium>(idle: Idle<M>, drive: u8) -> Result<(Idle<M>, u8), Lost<M>>
+    requires room { 44 ≤ spare_of (⟦<Idle<M> as Seen<M>>⟧.seen idle) }
+    requires idle { IsIdle (⟦<Idle<M> as Seen<M>>⟧.seen idle) }
+    requires address { drive ≤ 30 }
+    requires at { drive ≡ drive_party (⟦<Idle<M> as Seen<M>>⟧.seen idle) }
+    ensures told { IfOk result (λ told. Polled M.view drive told.1 (⟦<Idle<M> as Seen<M>>⟧.seen idle) (⟦<Idle<M> as Seen<M>>⟧.seen told.0)) }
+    ensures broken { IfErr result (λ lost. NotPolled M.view drive (⟦<Idle<M> as Seen<M>>⟧.seen idle) (⟦<Lost<M> as Seen<M>>⟧.seen lost)) }
+{
+    let mut status = [0; 1];
+    let (idle, _) = idle.receive(drive, None, Sot::Sst, &mut status)?;
+    Ok((idle, status[0]))
+}
+
+/// Reads records from record `first` on, as many as fill `into`. Answers whether all came; if not, the medium could not
+/// read one of them.
+pub(crate) fn read_run<M: Medium>(
+    idle: Idle<M>,
+    drive: u8,
+    first: u16,
+    into: &mut [u8],
+) -> Result<(Idle<M>, bool), Lost<M>>
+    requires room { 95 + length into.old ≤ spare_of (⟦<Idle<M> as Seen<M>>⟧.seen idle) }
+    requires idle { IsIdle (⟦<Idle<M> as Seen<M>>⟧.seen idle) }
+    requires address { drive ≤ 30 }
+    requires at { drive ≡ drive_party (⟦<Idle<M> as Seen<M>>⟧.seen idle) }
+    requires free { IsFree drive (⟦<Idle<M> as Seen<M>>⟧.seen idle).drive.state }
+    requires records { AreRecords (length into.old) }
+    requires within { first + length into.old / 256 ≤ (M.view (⟦<Idle<M> as Seen<M>>⟧.seen idle).drive.medium).record_count }
+    ensures read { IfOk result (λ read. ReadAs M.view drive first into.new read.1 (⟦<Idle<M> as Seen<M>>⟧.seen idle) (⟦<Idle<M> as Seen<M>>⟧.seen read.0)) }
+    ensures broken { IfErr result (λ lost. ReadBroke M.view drive (⟦<Idle<M> as Seen<M>>⟧.seen idle) (⟦<Lost<M> as Seen<M>>⟧.seen lost)) }
+{
+    let idle = seek(idle, drive, first)?;
+    let (idle, count) = idle.receive(drive, Some(2), Sot::Sda, into)?;
+    let (idle, status) = status(idle, drive)?;
+    Ok((idle, count == into.len() && status == 0))
+}
