@@ -32,6 +32,7 @@ use Rattle.loop_model.proofs.ReachLaws.{is_no_nrd, sourcing}
 use Rattle.il_control.proofs.HeldAtEnd.{cut_held, cut_holds_none, echo_quiet, front_quiet, front_source, quiet_ended, start_quiet}
 use Rattle.il_control.proofs.Calls.{broke_before_ended, broke_behind_ended, met_parts, room_behind, unheard_then, whole_then, broke_behind, broke_before, whole_then_came, broke_before_came, broke_behind_came, whole_then_answers}
 use Rattle.il_control.proofs.Made.{made, broken_off, made_whole, broken_off_broke}
+use Rattle.il_control.proofs.Places.{cut_no_poll, receive_no_poll, unheard_stay}
 use Rattle.il_control.proofs.Talking.{asked_one}
 use Rattle.il_control.proofs.Telling.{number_fits}
 
@@ -301,6 +302,7 @@ module _ {M : Type 0} (view : M → MediumView) (a : ℕ) (number : Option ℕ) 
         fitting = fit;
         broken = broken_off view x r s idle is (as_asked answer asked) told.0 told.1;
         unheard = unheard;
+        stays = unheard_stay r s unheard (broke.adds.places (cut_no_poll (front ++ (all answer ++ commanded 0 unt)) broke.standing broke.break (receive_no_poll a number start answer low small legal)));
         passed = subst (λ (broke : Broke view r (entries_of 0 x) s). Passed answer broke.adds.came) (sym (broken_off_broke view x r s idle is (as_asked answer asked) told.0 told.1)) told.2;
       }
 
@@ -393,6 +395,7 @@ module _ {M : Type 0} (view : M → MediumView) (a : ℕ) (number : Option ℕ) 
           whole_then_came view r m s front (all answer ++ commanded 0 unt) idle.free.ring asked.whole more
           ∙ ap (λ gs. asked.whole.adds.came ++ gs) (whole_then_came view m u s (all answer) (commanded 0 unt) asked.whole.ring answered.whole last) in
           let legal = is_receive r a number start answer low small answered.legal in
+          let unheard = unheard_then (devices_of r) (devices_of m) (devices_of s) front_unheard (unheard_then (devices_of m) (devices_of u) (devices_of s) answered.unheard (last.unheard refl)) in
           let answers : done.adds.answers ≡ asked.whole.adds.answers ++ (answered.whole.adds.answers ++ last.adds.answers) =
           whole_then_answers view r m s front (all answer ++ commanded 0 unt) idle.free.ring asked.whole more
           ∙ ap (λ outs. asked.whole.adds.answers ++ outs) (whole_then_answers view m u s (all answer) (commanded 0 unt) asked.whole.ring answered.whole last) in
@@ -437,7 +440,8 @@ module _ {M : Type 0} (view : M → MediumView) (a : ℕ) (number : Option ℕ) 
             within = answered.within;
             bytes = answered.bytes;
             stops = answered.stops;
-            unheard = unheard_then (devices_of r) (devices_of m) (devices_of s) front_unheard (unheard_then (devices_of m) (devices_of u) (devices_of s) answered.unheard (last.unheard refl));
+            unheard = unheard;
+            stays = unheard_stay r s unheard (done.adds.places (receive_no_poll a number start answer low small answered.legal));
             passed = made_so.0;
             spoken = made_so.1;
           }

@@ -32,7 +32,7 @@ use Rattle.il_control.specs.declared.receiving.Begun.TheVariants as begun
 use Rattle.il_control.specs.declared.receiving.Front.{Front}
 use Rattle.il_control.specs.declared.receiving.Front.TheVariants as front
 use Rattle.il_control.specs.Brought.{Brought, CutBrought}
-use Rattle.il_control.specs.Calls.{Whole, Broke, Made, BrokenOff, Unheard}
+use Rattle.il_control.specs.Calls.{Whole, Broke, Made, BrokenOff, Unheard, AllStay}
 
 -- ---- what came of it
 
@@ -147,7 +147,7 @@ abbrev pub StandsBehind : {M : Type 0} → Answer → RingView M → Type 0
 StandsBehind answer r = IfSome (talker_of answer) (λ p. p < drive_party r) × IsSome (talker_of answer)
 
 -- The exchange was made. The talker was the device of that address; it was stopped exactly where it brought as many bytes as there
--- was room for, and the first n bytes are those that it brought. No device heard anything.
+-- was room for, and the first n bytes are those that it brought. No device heard anything, and each keeps its place in the poll.
 pub record Received {M : Type 0} (view : M → MediumView) (a : ℕ) (number : Option ℕ) (start : Start) (n : ℕ) (r : RingView M) (old new : List ℕ) (s : RingView M) : Type 0 where
   pub answer : Answer
   pub asked : answers_as_asked (length (devices_of r)) (Receive a number start answer) ≡ true
@@ -157,6 +157,7 @@ pub record Received {M : Type 0} (view : M → MediumView) (a : ℕ) (number : O
   pub bytes : new ≡ received answer ++ drop n old
   pub stops : is_stopped answer ≡ (n == length old)
   pub unheard : Unheard r s
+  pub stays : AllStay false r s
   pub passed : StandsBehind answer r → PassedBy (length (devices_of r)) (drive_party r) a number made.whole.adds.came
   pub spoken : SaysOf answer r → SpokenBy (length (devices_of r)) (drive_party r) a number start answer made.whole.adds.came made.whole.adds.answers
 
@@ -167,6 +168,7 @@ pub record NotReceived {M : Type 0} (view : M → MediumView) (a : ℕ) (number 
   pub fitting : fits w answer ≡ true
   pub broken : BrokenOff view (Receive a number start answer) r s
   pub unheard : Unheard r s
+  pub stays : AllStay false r s
   pub passed : StandsBehind answer r → PassedInPart (length (devices_of r)) (drive_party r) a number broken.broke.adds.came
 
 -- ---- before the start message

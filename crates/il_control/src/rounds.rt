@@ -1,11 +1,11 @@
 // What the controller does on the ring, one round behind the other. Each answers whether it was done whole.
-ghost use Rattle.std.specs.Prelude.{◌≡◌, ◌≤◌, ◌<◌, [], ◌∷◌, ◌++◌, true, MatchBool, MatchOption, IfSome};
+ghost use Rattle.std.specs.Prelude.{◌≡◌, ◌≤◌, ◌<◌, [], ◌∷◌, ◌++◌, true, MatchBool, MatchOption, IfSome, not, is_some};
 ghost use Rattle.il_frames.specs.Messages.{message_of};
 ghost use Rattle.il_device.proofs.Laws.{is_plain};
 ghost use Rattle.loop_model.specs.Exchanges.{Send, entries_of, numbered, returned, commanded};
 ghost use Rattle.loop_model.specs.Entries.{ifc, aau, lad, ddl};
 ghost use Rattle.il_ring.specs.Rings.{spare_of};
-ghost use Rattle.il_control.specs.Calls.{Obeyed, Whole, Broke, IsFree, IsIdle, IsLost, Resumed, NotResumed, Sent, NotSent};
+ghost use Rattle.il_control.specs.Calls.{AllStay, Obeyed, Whole, Broke, IsFree, IsIdle, IsLost, Resumed, NotResumed, Sent, NotSent};
 
 use crate::frames::{aad, aau, dab, ddl, ifc, lad, rfc, unl};
 use il_frames::Frame;
@@ -45,8 +45,9 @@ pub(crate) fn tell<M: Medium>(ring: &mut Ring<M>, address: u8, number: Option<u8
     requires free { IsFree (⟦<Ring<M> as Seen<M>>⟧.seen ring.old) }
     requires address { address ≤ 30 }
     requires number { IfSome number (λ n. n < 32) }
-    ensures { MatchBool result (Whole M.view (⟦<Ring<M> as Seen<M>>⟧.seen ring.old) (entries_of 0 (Send address number [])) (⟦<Ring<M> as Seen<M>>⟧.seen ring.new))
+    ensures done { MatchBool result (Whole M.view (⟦<Ring<M> as Seen<M>>⟧.seen ring.old) (entries_of 0 (Send address number [])) (⟦<Ring<M> as Seen<M>>⟧.seen ring.new))
         (Broke M.view (⟦<Ring<M> as Seen<M>>⟧.seen ring.old) (entries_of 0 (Send address number [])) (⟦<Ring<M> as Seen<M>>⟧.seen ring.new)) }
+    ensures stays { result ≡ true → AllStay (not (is_some number)) (⟦<Ring<M> as Seen<M>>⟧.seen ring.old) (⟦<Ring<M> as Seen<M>>⟧.seen ring.new) }
 {
     command(ring, unl()) && tell_one(ring, address, number)
 }
@@ -57,8 +58,9 @@ fn tell_one<M: Medium>(ring: &mut Ring<M>, address: u8, number: Option<u8>) -> b
     requires free { IsFree (⟦<Ring<M> as Seen<M>>⟧.seen ring.old) }
     requires address { address ≤ 30 }
     requires number { IfSome number (λ n. n < 32) }
-    ensures { MatchBool result (Whole M.view (⟦<Ring<M> as Seen<M>>⟧.seen ring.old) (commanded 0 (lad address) ++ numbered 0 ddl number) (⟦<Ring<M> as Seen<M>>⟧.seen ring.new))
+    ensures done { MatchBool result (Whole M.view (⟦<Ring<M> as Seen<M>>⟧.seen ring.old) (commanded 0 (lad address) ++ numbered 0 ddl number) (⟦<Ring<M> as Seen<M>>⟧.seen ring.new))
         (Broke M.view (⟦<Ring<M> as Seen<M>>⟧.seen ring.old) (commanded 0 (lad address) ++ numbered 0 ddl number) (⟦<Ring<M> as Seen<M>>⟧.seen ring.new)) }
+    ensures stays { result ≡ true → AllStay (not (is_some number)) (⟦<Ring<M> as Seen<M>>⟧.seen ring.old) (⟦<Ring<M> as Seen<M>>⟧.seen ring.new) }
 {
     command(ring, lad(address)) && command_of(ring, number)
 }
@@ -68,8 +70,9 @@ fn command_of<M: Medium>(ring: &mut Ring<M>, number: Option<u8>) -> bool
     requires room { 34 ≤ spare_of (⟦<Ring<M> as Seen<M>>⟧.seen ring.old) }
     requires free { IsFree (⟦<Ring<M> as Seen<M>>⟧.seen ring.old) }
     requires number { IfSome number (λ n. n < 32) }
-    ensures { MatchBool result (Whole M.view (⟦<Ring<M> as Seen<M>>⟧.seen ring.old) (numbered 0 ddl number) (⟦<Ring<M> as Seen<M>>⟧.seen ring.new))
+    ensures done { MatchBool result (Whole M.view (⟦<Ring<M> as Seen<M>>⟧.seen ring.old) (numbered 0 ddl number) (⟦<Ring<M> as Seen<M>>⟧.seen ring.new))
         (Broke M.view (⟦<Ring<M> as Seen<M>>⟧.seen ring.old) (numbered 0 ddl number) (⟦<Ring<M> as Seen<M>>⟧.seen ring.new)) }
+    ensures stays { result ≡ true → AllStay (not (is_some number)) (⟦<Ring<M> as Seen<M>>⟧.seen ring.old) (⟦<Ring<M> as Seen<M>>⟧.seen ring.new) }
 {
     match number {
         None => true,

@@ -1,8 +1,13 @@
+use Rattle.std.proofs.Common.{refl}
+use Rattle.il_control.proofs.Places.{unlistened_stay}
 use Rattle.il_control.proofs.Telling.{tell_done, tell_not}
 use Rattle.il_control.proofs.rounds.tell.Goals as goal
 
-pub returns-then-command : goal.returns-then-command
-returns-then-command g c = tell_done g.M.Medium.view _ _ _ _ _ _ _ c.requires.free.ring c.unl.ensures c.if-command.ensures.done c.tell_one.ensures
+pub returns-then-command-clause-done : goal.returns-then-command-clause-done
+returns-then-command-clause-done g c = tell_done g.M.Medium.view _ _ _ _ _ _ _ c.requires.free.ring c.unl.ensures c.if-command.ensures.done c.tell_one.ensures.done
 
-pub returns-else-command : goal.returns-else-command
-returns-else-command g c = tell_not g.M.Medium.view _ _ _ _ _ _ c.unl.ensures c.if-command.false c.if-command.ensures.done
+pub returns-then-command-clause-stays : goal.returns-then-command-clause-stays
+returns-then-command-clause-stays g c = unlistened_stay g.M.Medium.view _ _ _ _ _ _ _ c.if-command.ensures.done c.tell_one.ensures.done c.unl.ensures (c.if-command.ensures.obeyed refl) c.tell_one.ensures.stays
+
+pub returns-else-command-clause-done : goal.returns-else-command-clause-done
+returns-else-command-clause-done g c = tell_not g.M.Medium.view _ _ _ _ _ _ c.unl.ensures c.if-command.false c.if-command.ensures.done
