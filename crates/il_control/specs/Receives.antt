@@ -1,5 +1,5 @@
 -- A receive: what a talker sent, and what the controller took of it.
-use Rattle.std.specs.Prelude.{◌≡◌, ◌≢◌, ◌≤◌, ◌<◌, ◌⊎◌, ◌++◌, ◌||◌, ◌==◌, nat_le, ℕ, suc, Bool, true, false, MatchBool, List, [], ◌∷◌, length, take, drop, map, Option, Some, None, IfSome, IsSome}
+use Rattle.std.specs.Prelude.{◌≡◌, ◌≢◌, ◌≤◌, ◌<◌, ◌+◌, ◌-◌, ◌⊎◌, ◌++◌, ◌||◌, ◌==◌, nat_le, ℕ, suc, Bool, true, false, MatchBool, List, [], ◌∷◌, length, take, drop, map, Option, Some, None, IfSome, IsSome}
 use Rattle.std.specs.List.{list_all}
 use Rattle.il_frames.specs.declared.frame.Frame.{Frame}
 use Rattle.il_frames.specs.declared.entry.Entry.{Entry}
@@ -96,17 +96,21 @@ pub record PassedBy (k q a : ℕ) (number : Option ℕ) (came : List Frame) : Ty
   pub during : AllSpoken spoken
   pub last : Brought k q (commanded 0 unt) behind
 
--- the same of a receive that was broken off: so many of the commands came, or all
-pub record PassedInPart (k q a : ℕ) (number : Option ℕ) (came : List Frame) : Type 0 where
+-- how many entries a receive has up to the end of the talker's
+abbrev pub up_to_end : ℕ → Option ℕ → Start → Answer → ℕ
+up_to_end a number start answer = length (receive_front 0 a number) + length (answer_entries 0 (start_frame start) answer)
+
+-- The same of a receive that was broken off once a device had taken the start message. So many of its entries stand, and up to the end of the
+-- talker's there are `ended`. The commands before the start message all came; of those behind the talker's frames none came where the break
+-- was before them, and else those of the entries that stand, and of the one that broke off at most its frame.
+pub record PassedInPart (k q a : ℕ) (number : Option ℕ) (ended standing : ℕ) (came : List Frame) : Type 0 where
   pub before : List Frame
   pub spoken : List Frame
   pub behind : List Frame
   pub all : came ≡ before ++ (spoken ++ behind)
-  pub standing : ℕ
-  pub first : CutBrought k q (receive_front 0 a number) standing before
+  pub first : Brought k q (receive_front 0 a number) before
   pub during : AllSpoken spoken
-  pub standing_behind : ℕ
-  pub last : CutBrought k q (commanded 0 unt) standing_behind behind
+  pub last : ((standing < ended) × (behind ≡ [])) ⊎ ((ended ≤ standing) × CutBrought k q (commanded 0 unt) (standing - ended) behind)
 
 -- the frames that the drive sent of its own among its answers
 abbrev pub own_frames : List Out → List Frame
@@ -169,7 +173,7 @@ pub record NotReceived {M : Type 0} (view : M → MediumView) (a : ℕ) (number 
   pub broken : BrokenOff view (Receive a number start answer) r s
   pub unheard : Unheard r s
   pub stays : AllStay false r s
-  pub passed : StandsBehind answer r → PassedInPart (length (devices_of r)) (drive_party r) a number broken.broke.adds.came
+  pub passed : StandsBehind answer r → PassedInPart (length (devices_of r)) (drive_party r) a number (up_to_end a number start answer) broken.broke.standing broken.broke.adds.came
 
 -- ---- before the start message
 
