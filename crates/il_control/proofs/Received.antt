@@ -14,10 +14,14 @@ use Rattle.il_frames.specs.declared.frame.Frame.{Frame}
 use Rattle.il_frames.specs.declared.entry.Entry.{Entry}
 use Rattle.il_frames.specs.declared.entry.Outcome.TheVariants as outcome
 use Rattle.il_frames.specs.Frames.{byte_of}
+use Rattle.il_frames.specs.Messages.{message_of}
+use Rattle.il_frames.specs.declared.message.Message.TheVariants as msg
+use Rattle.il_device.specs.declared.interface.OwnFrame.{OwnFrame}
+use Rattle.il_ring.specs.Lists.{Each}
 use Rattle.il_device.specs.Takes.{eto}
 use Rattle.il_ports.specs.Media.{MediumView}
 use Rattle.loop_model.specs.Entries.{entry, nrd, unt}
-use Rattle.loop_model.specs.Exchanges.{Start, Answer, NotTaken, ToItsEnd, Stopped, Receive, Echo, start_frame, echoed, returned, commanded, answer_entries, cut_at, can_cut, is_address, is_answer, is_echo, is_exchange, is_number, Break, entries_of}
+use Rattle.loop_model.specs.Exchanges.{Start, Sai, Answer, NotTaken, ToItsEnd, Stopped, Receive, Echo, start_frame, echoed, returned, commanded, answer_entries, cut_at, can_cut, is_address, is_answer, is_echo, is_exchange, is_number, Break, entries_of}
 use Rattle.loop_model.proofs.HearLaws.{has_no_data}
 use Rattle.loop_model.proofs.RoundLaws.{answers_as_asked}
 use Rattle.loop_model.proofs.UnitLaws.{bytes_of, receive_front, entries_of-receive}
@@ -26,12 +30,13 @@ use Rattle.il_ring.specs.Outcomes.{met_between, IsTalking}
 use Rattle.std.proofs.lemmas.List.{length-map}
 use Rattle.il_device.specs.State.{DeviceState}
 use Rattle.il_control.specs.Calls.{Unheard, Whole, Broke, IsIdle, loop_of}
-use Rattle.il_control.specs.Receives.{Began, NotBegun, StartLost, FirstLost, TakesBytes, TookInto, NotTook, WasTalking, Answered, NotAnswered, Asked, Received, NotReceived, behind_start, talker_of, is_stopped, received, fits, AllSpoken, Brings, CutBrings, PassedBy, PassedInPart, up_to_end, StandsBehind, SaysOf, SpokenBy, own_frames, said_of, sent_frames}
+use Rattle.il_control.specs.Receives.{Began, NotBegun, StartLost, FirstLost, TakesBytes, TookInto, NotTook, WasTalking, Answered, NotAnswered, Asked, Received, NotReceived, behind_start, talker_of, is_stopped, received, fits, AllSpoken, Brings, CutBrings, PassedBy, PassedInPart, up_to_end, StandsBehind, SaysOf, SpokenBy, IsNameless, accessory_at, id_bytes, own_frames, said_of, sent_frames}
 use Rattle.loop_model.specs.Reach.{held_at_end as held_after}
 use Rattle.loop_model.proofs.ReachLaws.{is_no_nrd, sourcing}
 use Rattle.il_control.proofs.HeldAtEnd.{cut_held, cut_holds_none, echo_quiet, front_quiet, front_source, quiet_ended, start_quiet}
 use Rattle.il_control.proofs.Calls.{broke_before_ended, broke_behind_ended, met_parts, room_behind, unheard_then, whole_then, broke_behind, broke_before, broke_behind_standing, broke_before_standing, cut_within, whole_then_came, broke_before_came, broke_behind_came, whole_then_answers}
 use Rattle.il_control.proofs.Made.{made, broken_off, made_whole, broken_off_broke}
+use Rattle.il_control.proofs.Names.{named, talker_there}
 use Rattle.il_control.proofs.Places.{cut_no_poll, receive_no_poll, unheard_stay}
 use Rattle.il_control.proofs.Talking.{asked_one}
 use Rattle.il_control.proofs.Telling.{number_fits}
@@ -45,8 +50,11 @@ never_full w some = sym (ne_eqb 0 w (λ e. omega (arith, e, some)))
 nobody : (gs : List Frame) (R : Type 0) → R × IsSome (talker_of NotTaken) → AllSpoken gs
 nobody gs R behind = let clash = behind.1 in cc
 
-pub passed_answered : {M : Type 0} (view : M → MediumView) (r s : RingView M) (start : Start) (old : List ℕ) → 0 < length old → (whole : Whole view r (returned 0 (start_frame start) ∷ []) s) × (own_frames whole.adds.answers ≡ []) × Unheard r s → Answered view start 0 r old old s
-passed_answered view r s start old some passed = record { answer = NotTaken; legal = refl; talked = tt; whole = passed.0; far = λ behind. nobody _ _ behind; said = λ is. passed.1; count = refl; within = omega arith; bytes = refl; stops = never_full (length old) some; unheard = passed.2 }
+says_sai : (start : Start) → start ≡ Sai → message_of (start_frame start) ≡ msg.Sai
+says_sai start is = ap (λ start. message_of (start_frame start)) is
+
+pub passed_answered : {M : Type 0} (view : M → MediumView) (r s : RingView M) (start : Start) (old : List ℕ) → 0 < length old → (whole : Whole view r (returned 0 (start_frame start) ∷ []) s) × (own_frames whole.adds.answers ≡ []) × (message_of (start_frame start) ≡ msg.Sai → Each IsNameless 1 (devices_of r)) × Unheard r s → Answered view start 0 r old old s
+passed_answered view r s start old some passed = record { answer = NotTaken; legal = refl; talked = tt; whole = passed.0; far = λ behind. nobody _ _ behind; said = λ is. passed.1; count = refl; within = omega arith; bytes = refl; stops = never_full (length old) some; unheard = passed.3; id = λ sai. passed.2 (says_sai start sai) }
 
 one_answer : {M : Type 0} (r : RingView M) (p : ℕ) (d : Echo) → is_echo d ≡ true → IsTalking p None (devices_of r) → is_answer 0 (ToItsEnd p (d ∷ [])) ≡ true
 one_answer r p d echo talking = and_from (not (p == 0)) (true && list_all is_echo (d ∷ [])) (ap not (ne_eqb p 0 (λ e. omega (arith, e, talking.party)))) (and_from true (list_all is_echo (d ∷ [])) refl (and_from (is_echo d) true echo refl))
@@ -153,6 +161,12 @@ module _ {M : Type 0} (view : M → MediumView) (r m s : RingView M) (start : St
         bytes = into.filled ∙ ap (λ bytes. bytes ++ drop n old) took.bytes_are;
         stops = took.stopped;
         unheard = unheard_then (devices_of r) (devices_of m) (devices_of s) began.unheard took.unheard;
+        id = λ sai.
+            let id = began.id (says_sai start sai) in
+            let last : began.now.own.last ≡ true = ap (λ (own : OwnFrame). own.last) id.2 in
+            let byte : byte_of began.now.flight.sent ≡ id.0 = ap byte_of (sym began.now.frame) ∙ ap (λ (own : OwnFrame). byte_of own.frame) id.2 in
+            let told : received answer ≡ id_bytes (accessory_at (p - 1) (devices_of r)) = sym took.bytes_are ∙ took.alone last ∙ ap (λ byte. byte ∷ []) byte ∙ ap id_bytes (sym id.1) ∙ ap id_bytes (sym (talker_there p None (devices_of r) began.talked)) in
+            subst (λ o. MatchOption o (Each IsNameless 1 (devices_of r)) (λ p. received answer ≡ id_bytes (accessory_at (p - 1) (devices_of r)))) (sym took.talker) told;
       }
 
   pub not_took_answered : (w : ℕ) → NotTook view m began.now w s → NotAnswered view start w r s
@@ -446,6 +460,7 @@ module _ {M : Type 0} (view : M → MediumView) (a : ℕ) (number : Option ℕ) 
             bytes = answered.bytes;
             stops = answered.stops;
             unheard = unheard;
+            id = λ sai. named view r m a number start answer idle some low (number_fits number small) asked front_unheard told (answered.id sai);
             stays = unheard_stay r s unheard (done.adds.places (receive_no_poll a number start answer low small answered.legal));
             passed = made_so.0;
             spoken = made_so.1;
