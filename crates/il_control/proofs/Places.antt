@@ -1,5 +1,5 @@
 -- What each device keeps of its part in the parallel poll.
-use Rattle.std.proofs.Common.{◌≡◌, ◌∙◌, ◌≤◌, ◌<◌, ◌++◌, ◌&&◌, ⊎_elim, ℕ, zero, suc, Bool, true, false, not, List, [], ◌∷◌, Option, Some, None, map, length, refl, sym, ap, subst}
+use Rattle.std.proofs.Common.{◌≡◌, ◌∙◌, ◌≤◌, ◌<◌, ◌++◌, ◌&&◌, ℕ, zero, suc, Bool, true, false, not, List, [], ◌∷◌, Option, Some, None, map, length, refl, sym, ap, subst}
 use Rattle.std.specs.Prelude.{IfSome, is_some}
 use Rattle.std.specs.List.{list_all}
 use Rattle.std.proofs.lemmas.Bool.{agree_below_at, and_from, and_parts, le-leb}
@@ -9,13 +9,12 @@ use Rattle.il_frames.specs.declared.entry.Outcome.{Outcome}
 use Rattle.il_frames.specs.declared.entry.Outcome.TheVariants as outcome
 use Rattle.il_frames.specs.declared.frame.Frame.{Frame}
 use Rattle.il_frames.specs.declared.message.Message.{Message}
-use Rattle.il_frames.specs.declared.message.Message.TheVariants as msg
 use Rattle.il_frames.specs.Frames.{byte_of, class_of, is_data}
 use Rattle.il_frames.specs.Messages.{message_of}
 use Rattle.il_device.specs.State.{DeviceState}
 use Rattle.il_device.specs.Takes.{eto, may_change_service}
 use Rattle.il_ports.specs.Media.{MediumView}
-use Rattle.loop_model.specs.Entries.{entry, ddl, ddt, lad, nrd, tad, unl, unt}
+use Rattle.loop_model.specs.Entries.{entry, aad, aau, ifc, ddl, ddt, lad, nrd, tad, unt}
 use Rattle.loop_model.specs.Exchanges.{Answer, Break, Echo, FrameLost, HostAltered, NotTaken, Sai, Sda, Sdi, Sst, Start, Stopped, TalkerAltered, ToItsEnd, answer_entries, break_entries, commanded, cut_at, echoed, is_answer, is_echo, returned, start_frame}
 use Rattle.loop_model.proofs.RoundLaws.{message_of-tad}
 use Rattle.loop_model.proofs.SendLaws.{message_of-lad}
@@ -28,11 +27,12 @@ use Rattle.il_ring.specs.Outcomes.{HearsNothing, Obeys}
 use Rattle.il_ring.specs.Polls.{KeepsPlace, identified_along, is_no_poll, is_poll}
 use Rattle.il_ring.specs.Rings.{RingView, Round, devices_of}
 use Rattle.il_ring.proofs.Identify.{IsParty, LeadsTo, identify_passes, parties}
-use Rattle.il_ring.proofs.PassKinds.{OnlyPassed}
+use Rattle.il_ring.proofs.PassKinds.{OnlyPassed, Unaddressed, aad_passes}
 use Rattle.il_ring.proofs.PassRounds.{passed_round}
 use Rattle.il_ring.proofs.RoundPlaces.{data_no_poll, place_kept}
-use Rattle.il_control.specs.Calls.{AllStay, IsFree, IsIdle, Obeyed, Stays, Unheard, Whole, idy}
-use Rattle.il_control.proofs.Calls.{Done, arrives, hears_then}
+use Rattle.il_control.specs.Calls.{AllStay, Broke, IsFree, IsIdle, IsLost, ObeyedInPart, Stays, Unheard, Whole, idy}
+use Rattle.il_control.proofs.Addressing.{unaddressed}
+use Rattle.il_control.proofs.Calls.{Done, hears_then}
 
 -- ---- one device
 
@@ -78,44 +78,68 @@ both_kept (d ∷ ds) [] unheard places = absurd places
 pub unheard_stay : {M : Type 0} (r s : RingView M) → Unheard r s → First KeepsPlace (length (devices_of r)) (devices_of r) (devices_of s) → AllStay false r s
 unheard_stay r s unheard places = both_kept (devices_of r) (devices_of s) unheard places
 
-obeyed_stay : {M : Type 0} (still : Bool) (m : Message) (r s : RingView M) → is_poll m ≡ false → (still ≡ true → may_change_service m ≡ false) → Obeyed m r s → AllStay still r s
-obeyed_stay still m r s kept same obeyed = each_as (Obeys m) (Stays still) (λ d e obeys. obeys_stay still m d e kept same obeys) (devices_of r) (devices_of s) obeyed
+-- the first so many of them
+part_as : (R S : DeviceState → DeviceState → Type 0) → ((d e : DeviceState) → R d e → S d e) → ((d : DeviceState) → S d d) → (j : ℕ) (ds es : List DeviceState) → First R j ds es → First S (length ds) ds es
+part_as R S rule same j [] [] each = tt
+part_as R S rule same zero (d ∷ ds) (e ∷ es) each = (subst (S d) (sym each.0) (same d), part_as R S rule same zero ds es each.1)
+part_as R S rule same (suc j) (d ∷ ds) (e ∷ es) each = (rule d e each.0, part_as R S rule same j ds es each.1)
+part_as R S rule same j [] (e ∷ es) each = absurd each
+part_as R S rule same j (d ∷ ds) [] each = absurd each
+
+part_stay : {M : Type 0} (still : Bool) (m : Message) (r s : RingView M) → is_poll m ≡ false → (still ≡ true → may_change_service m ≡ false) → ObeyedInPart m r s → AllStay still r s
+part_stay still m r s kept same obeyed = part_as (Obeys m) (Stays still) (λ d e obeys. obeys_stay still m d e kept same obeys) (as_it_was still) obeyed.0 (devices_of r) (devices_of s) obeyed.1
 
 stay_behind : {M : Type 0} (still : Bool) (r m s : RingView M) → AllStay still r m → AllStay still m s → AllStay still r s
 stay_behind still r m s first more = each_then (Stays still) (stay_then still) (devices_of r) (devices_of m) (devices_of s) first more
 
--- ---- a device is told to listen
+-- ---- commands
 
-pub unlistened_stay : {M : Type 0} (view : M → MediumView) (still : Bool) (r m s : RingView M) (f : Frame) (rest : List Entry) (whole : Bool) → Whole view r (commanded 0 f) m → Done view m rest whole s → f ≡ unl → Obeyed (message_of f) r m
-    → (whole ≡ true → AllStay still m s) → whole ≡ true → AllStay still r s
-unlistened_stay view still r m s f rest whole before after is obeyed more done = stay_behind still r m s (obeyed_stay still msg.Unl r m refl (λ is. refl) (subst (λ f. Obeyed (message_of f) r m) is obeyed)) (more done)
+-- behind a message that was done whole
+pub stay_then_more : {M : Type 0} (view : M → MediumView) (still : Bool) (r m s : RingView M) (xs ys : List Entry) (whole : Bool) → Whole view r xs m → Done view m ys whole s → AllStay still r m → AllStay still m s → AllStay still r s
+stay_then_more view still r m s xs ys whole before after first more = stay_behind still r m s first more
 
-pub listened_stay : {M : Type 0} (view : M → MediumView) (still : Bool) (r m s : RingView M) (f : Frame) (a : ℕ) (rest : List Entry) (whole : Bool) → Whole view r (commanded 0 f) m → Done view m rest whole s → f ≡ lad a → a ≤ 30 → Obeyed (message_of f) r m
-    → (whole ≡ true → AllStay still m s) → whole ≡ true → AllStay still r s
-listened_stay view still r m s f a rest whole before after is low obeyed more done =
-    stay_behind still r m s (obeyed_stay still (msg.Lad a) r m refl (λ is. refl) (subst (λ message. Obeyed message r m) (ap message_of is ∙ message_of-lad a (le-leb a 30 low)) obeyed)) (more done)
+by_message : {M : Type 0} (still : Bool) (r s : RingView M) (f g : Frame) → f ≡ g → is_poll (message_of g) ≡ false → may_change_service (message_of g) ≡ false → ObeyedInPart (message_of f) r s → AllStay still r s
+by_message still r s f g is kept same obeyed = part_stay still (message_of g) r s kept (λ still. same) (subst (λ f. ObeyedInPart (message_of f) r s) is obeyed)
+
+-- a message that asks nothing of polls, whole
+pub whole_stay : {M : Type 0} (view : M → MediumView) (still : Bool) (r s : RingView M) (f g : Frame) → Whole view r (commanded 0 f) s → f ≡ g → is_poll (message_of g) ≡ false → may_change_service (message_of g) ≡ false → ObeyedInPart (message_of f) r s → AllStay still r s
+whole_stay view still r s f g whole is kept same obeyed = by_message still r s f g is kept same obeyed
+
+-- broken off
+pub broke_stay : {M : Type 0} (view : M → MediumView) (still : Bool) (r s : RingView M) (f g : Frame) → Broke view r (commanded 0 f) s → f ≡ g → is_poll (message_of g) ≡ false → may_change_service (message_of g) ≡ false → ObeyedInPart (message_of f) r s → AllStay still r s
+broke_stay view still r s f g broke is kept same obeyed = by_message still r s f g is kept same obeyed
+
+-- either
+pub done_stay : {M : Type 0} (view : M → MediumView) (still : Bool) (r s : RingView M) (f g : Frame) (whole : Bool) → Done view r (commanded 0 f) whole s → f ≡ g → is_poll (message_of g) ≡ false → may_change_service (message_of g) ≡ false → ObeyedInPart (message_of f) r s → AllStay still r s
+done_stay view still r s f g whole done is kept same obeyed = by_message still r s f g is kept same obeyed
+
+-- a listen address is one
+pub lad_asks : (a : ℕ) → a ≤ 30 → (is_poll (message_of (lad a)) ≡ false) × (may_change_service (message_of (lad a)) ≡ false)
+lad_asks a low = let says = message_of-lad a (le-leb a 30 low) in (ap is_poll says, ap may_change_service says)
 
 pub no_number_stay : {M : Type 0} (view : M → MediumView) (still : Bool) (r : RingView M) → IsFree r → AllStay still r r
 no_number_stay view still r free = each_same (Stays still) (as_it_was still) (devices_of r)
 
-pub number_stay : {M : Type 0} (view : M → MediumView) (r s : RingView M) (f : Frame) (n : ℕ) (number : Option ℕ) (whole : Bool) → Done view r (commanded 0 f) whole s → f ≡ ddl n → number ≡ Some n → IfSome number (λ n. n < 32) → (whole ≡ true → Obeyed (message_of f) r s)
-    → whole ≡ true → AllStay (not (is_some number)) r s
-number_stay view r s f n number whole after is some small obeyed done =
+pub number_stay : {M : Type 0} (view : M → MediumView) (r s : RingView M) (f : Frame) (n : ℕ) (number : Option ℕ) (whole : Bool) → Done view r (commanded 0 f) whole s → f ≡ ddl n → number ≡ Some n → IfSome number (λ n. n < 32) → ObeyedInPart (message_of f) r s → AllStay (not (is_some number)) r s
+number_stay view r s f n number whole after is some small obeyed =
     let low : n < 32 = subst (λ number. IfSome number (λ n. n < 32)) some small in
     let no_poll : is_poll (message_of (ddl n)) ≡ false = agree_below_at (λ n. is_poll (message_of (ddl n))) (λ n. false) 32 n refl low in
-    subst (λ number. AllStay (not (is_some number)) r s) (sym some) (obeyed_stay false (message_of (ddl n)) r s no_poll (λ is. cc) (subst (λ f. Obeyed (message_of f) r s) is (obeyed done)))
+    subst (λ number. AllStay (not (is_some number)) r s) (sym some) (part_stay false (message_of (ddl n)) r s no_poll (λ is. cc) (subst (λ f. ObeyedInPart (message_of f) r s) is obeyed))
+
+-- AAD behind IFC and AAU
+pub address_stay : {M : Type 0} (view : M → MediumView) (r m s : RingView M) (held : Option Flight) (f : Frame) (answer : Arrival) → IsLost r → Whole view r (commanded 0 ifc ++ commanded 0 aau) m → AllStay true r m → Round view m held (sourced 0 f) answer s → f ≡ aad 1 → AllStay true r s
+address_stay view r m s held f answer lost cleared first round is =
+    let passed = passed_round view (λ k g. g ≡ aad k) Unaddressed OnlyPassed aad_passes m s held (aad 1) answer cleared.ring.crossings (unaddressed view r lost m cleared) refl (subst (λ f. Round view m held (sourced 0 f) answer s) is round) in
+    stay_behind true r m s first (part_as OnlyPassed (Stays true) passed_stay (as_it_was true) passed.reached (devices_of m) (devices_of s) passed.took)
 
 -- ---- the identify frame
 
-pub identify_stay : {M : Type 0} (view : M → MediumView) (r s : RingView M) (held : Option Flight) (f : Frame) (answer : Arrival) → Round view r held (sourced 0 f) answer s → f ≡ idy → IsIdle r → arrives answer ≡ true → AllStay true r s
-identify_stay view r s held f answer round is idle came =
+pub identify_stay : {M : Type 0} (view : M → MediumView) (r s : RingView M) (held : Option Flight) (f : Frame) (answer : Arrival) → Round view r held (sourced 0 f) answer s → f ≡ idy → IsIdle r → AllStay true r s
+identify_stay view r s held f answer round is idle =
     let all = devices_of r in
     let end = identified_along all idy in
     let passed = passed_round view (LeadsTo all end) (IsParty all) OnlyPassed (identify_passes all end) r s held idy answer idle.free.ring.crossings (parties [] all) (record { identify = refl; behind = refl }) (subst (λ f. Round view r held (sourced 0 f) answer s) is round) in
-    ⊎_elim
-    (λ back. each_as OnlyPassed (Stays true) passed_stay all (devices_of s) (subst (λ n. First OnlyPassed n all (devices_of s)) back.2 passed.took))
-    (λ lost. let clash = sym came ∙ ap arrives lost.answer_is in cc)
-    passed.end
+    part_as OnlyPassed (Stays true) passed_stay (as_it_was true) passed.reached all (devices_of s) passed.took
 
 -- ---- a receive has no poll message
 

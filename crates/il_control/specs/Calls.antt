@@ -33,6 +33,10 @@ Unheard r s = First HearsNothing (length (devices_of r)) (devices_of r) (devices
 abbrev pub Obeyed : {M : Type 0} → Message → RingView M → RingView M → Type 0
 Obeyed m r s = First (Obeys m) (length (devices_of r)) (devices_of r) (devices_of s)
 
+-- the first so many devices obeyed it, and the others are as they were
+abbrev pub ObeyedInPart : {M : Type 0} → Message → RingView M → RingView M → Type 0
+ObeyedInPart m r s = (reached : ℕ) × First (Obeys m) reached (devices_of r) (devices_of s)
+
 -- What a device keeps that is told no poll message and hears nothing: its place in the parallel poll too; and, where `still`, whether it
 -- wants service.
 pub record Stays (still : Bool) (d e : DeviceState) : Type 0 where

@@ -1,4 +1,3 @@
-use Rattle.std.proofs.Common.{refl}
 use Rattle.il_control.proofs.Telling.{listening, listen_made, listen_broken}
 use Rattle.il_control.proofs.states.Idle.listen.Goals as goal
 
@@ -10,6 +9,3 @@ returns-then-tell-clause-told g c = listening g.M.Medium.view _ _ _ _ c.requires
 
 pub returns-else-tell-clause-broken : goal.returns-else-tell-clause-broken
 returns-else-tell-clause-broken g c = listen_broken g.M.Medium.view _ _ _ _ c.requires.idle c.requires.address.1 c.requires.number c.if-tell.ensures.done
-
-pub returns-then-tell-clause-stays : goal.returns-then-tell-clause-stays
-returns-then-tell-clause-stays g c = c.if-tell.ensures.stays refl
