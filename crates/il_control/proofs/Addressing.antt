@@ -107,6 +107,12 @@ module _ {M : Type 0} (view : M → MediumView) (r : RingView M) (lost : IsLost 
   pub not_cleared : (s : RingView M) → Broke view r (commanded 0 ifc ++ commanded 0 aau) s → NotResumed view r s
   not_cleared s broke = not_resumed s (broke_before view r s (commanded 0 ifc ++ commanded 0 aau) (entries_of 0 (Address (length (devices_of r)))) broke)
 
+  -- behind IFC and AAU no device has an address
+  pub unaddressed : (m : RingView M) → Whole view r (commanded 0 ifc ++ commanded 0 aau) m → Each Unaddressed 1 (devices_of m)
+  unaddressed m first =
+      each_unaddressed 1 (devices_of m) (roles_after rs (commanded 0 ifc)) (omega arith) (omega (arith, few, first.adds.size))
+      (first.adds.roles ∙ roles_after-append rs (commanded 0 ifc) (commanded 0 aau) ∙ roles_after-aau (roles_after rs (commanded 0 ifc)))
+
   -- AAD behind IFC and AAU
   pub address_call : (m s : RingView M) (held : Option Flight) (f : Frame) (answer : Arrival) → Whole view r (commanded 0 ifc ++ commanded 0 aau) m → Round view m held (sourced 0 f) answer s → f ≡ aad 1 → held ≡ None → AddressEnd view r answer s
   address_call m s held f answer first round is none =
@@ -119,17 +125,13 @@ module _ {M : Type 0} (view : M → MediumView) (r : RingView M) (lost : IsLost 
       let count : byte_of came.0 - 0x81 ≡ k = ap (λ g. byte_of g - 0x81) back ∙ counted k in
       subst (λ answer. AddressEnd view r answer s) (sym came.2) (subst (λ g. 0x81 ≤ byte_of g) (sym back) (at_least k), subst (λ n. Resumed view n r s) (sym count) (resumed s whole)))
       (λ lost_now. subst (λ answer. AddressEnd view r answer s) (sym lost_now.0) (not_resumed s (broke_behind view r m s (commanded 0 ifc ++ commanded 0 aau) (entries_of 0 (Address (length (devices_of r)))) lost.free.ring first (lost_now.1 (outcome.Back (aad (suc (length (devices_of r)))))))))
-      (pass_call view (λ k g. g ≡ aad k) Unaddressed OnlyPassed aad_passes (λ d e passed. passed.0) m s held (aad 1) answer (subst (λ f. Round view m held (sourced 0 f) answer s) is round) none (record { ring = first.ring; held = first.held }) unaddressed refl (Exactly refl refl) (λ g at. address_comes (drive_party m) g at))
+      (pass_call view (λ k g. g ≡ aad k) Unaddressed OnlyPassed aad_passes (λ d e passed. passed.0) m s held (aad 1) answer (subst (λ f. Round view m held (sourced 0 f) answer s) is round) none (record { ring = first.ring; held = first.held }) (unaddressed m first) refl (Exactly refl refl) (λ g at. address_comes (drive_party m) g at))
     where
       counted : (k : ℕ) → 0x80 + suc k - 0x81 ≡ k
       counted k = omega arith
 
       at_least : (k : ℕ) → 0x81 ≤ 0x80 + suc k
       at_least k = omega arith
-
-      unaddressed : Each Unaddressed 1 (devices_of m)
-      unaddressed = each_unaddressed 1 (devices_of m) (roles_after rs (commanded 0 ifc)) (omega arith) (omega (arith, few, first.adds.size))
-          (first.adds.roles ∙ roles_after-append rs (commanded 0 ifc) (commanded 0 aau) ∙ roles_after-aau (roles_after rs (commanded 0 ifc)))
 
 -- the count, by the byte that came back
 pub count_of : {M : Type 0} (view : M → MediumView) (r s : RingView M) (g : Frame) (n : ℕ) → n ≡ byte_of g → AddressEnd view r (arrival.Frame g) s → (0x81 ≤ n) × Resumed view (n - 0x81) r s

@@ -1,5 +1,5 @@
 -- What devices obeyed, and how they stand when one of them was told to talk.
-use Rattle.std.proofs.Common.{◌≡◌, ◌∙◌, ◌≤◌, ◌<◌, ◌+◌, ◌++◌, ⊎_elim, ℕ, Bool, true, false, List, [], ◌∷◌, Option, Some, length, refl, sym, ap, subst}
+use Rattle.std.proofs.Common.{◌≡◌, ◌∙◌, ◌≤◌, ◌<◌, ◌+◌, ◌++◌, ⊎_elim, ℕ, zero, suc, Bool, true, false, List, [], ◌∷◌, Option, Some, length, refl, sym, ap, subst}
 use Rattle.std.specs.Prelude.{if◌then◌else◌, MatchBool, IfSome}
 use Rattle.std.proofs.lemmas.Bool.{agree_below_at, le-leb}
 use Rattle.il_frames.specs.declared.frame.Frame.{Frame}
@@ -26,7 +26,7 @@ use Rattle.il_ring.specs.Rings.{RingView, IsRing, Round, devices_of}
 use Rattle.il_ring.proofs.EndsHome.{any_each}
 use Rattle.il_ring.proofs.PassKinds.{Is, Any, plain_passes}
 use Rattle.il_ring.proofs.PassRounds.{passed_round}
-use Rattle.il_control.specs.Calls.{IsFree, Obeyed, Whole, Broke}
+use Rattle.il_control.specs.Calls.{IsFree, Obeyed, ObeyedInPart, Whole, Broke}
 use Rattle.il_control.specs.Receives.{Asked, IsCalm, IsDeaf}
 use Rattle.il_control.proofs.Calls.{Done, arrives, hears_then, told_then, broke_before}
 
@@ -38,6 +38,12 @@ plain_obeyed view r s held f answer round free plain came =
     (λ back. subst (λ n. First (Obeys (message_of f)) n (devices_of r) (devices_of s)) back.2 passed.took)
     (λ lost. let clash = sym came ∙ ap arrives lost.answer_is in cc)
     passed.end
+
+-- and one that was lost by the first
+pub plain_part : {M : Type 0} (view : M → MediumView) (r s : RingView M) (held : Option Flight) (f : Frame) (answer : Arrival) → Round view r held (sourced 0 f) answer s → IsFree r → is_plain (message_of f) ≡ true → ObeyedInPart (message_of f) r s
+plain_part view r s held f answer round free plain =
+    let passed = passed_round view (Is f) Any (Obeys (message_of f)) (plain_passes f plain) r s held f answer free.ring.crossings (any_each 1 (devices_of r)) refl round in
+    (passed.reached, passed.took)
 
 -- ---- one message behind another
 
@@ -57,6 +63,19 @@ all_then m [] [] (e ∷ es) first more = absurd more
 all_then m [] (d ∷ ds) es first more = absurd first
 all_then m (c ∷ cs) [] es first more = absurd first
 all_then m (c ∷ cs) (d ∷ ds) [] first more = absurd more
+
+part_then : (m : Message) (j : ℕ) (cs ds es : List DeviceState) → First (Obeys m) (length cs) cs ds → First (Obeys msg.Rfc) j ds es → First (Obeys m) (length cs) cs es
+part_then m j [] [] [] first more = tt
+part_then m zero (c ∷ cs) (d ∷ ds) (e ∷ es) first more = (subst (Obeys m c) (sym more.0) first.0, part_then m zero cs ds es first.1 more.1)
+part_then m (suc j) (c ∷ cs) (d ∷ ds) (e ∷ es) first more = (rfc_then m c d e first.0 more.0, part_then m j cs ds es first.1 more.1)
+part_then m j [] [] (e ∷ es) first more = absurd more
+part_then m j [] (d ∷ ds) es first more = absurd first
+part_then m j (c ∷ cs) [] es first more = absurd first
+part_then m j (c ∷ cs) (d ∷ ds) [] first more = absurd more
+
+pub part_then_rfc : {M : Type 0} (view : M → MediumView) (message : Message) (r m s : RingView M) (f : Frame) (xs : List Entry) (whole : Bool) → Whole view r xs m → Done view m (returned 0 f ∷ []) whole s → f ≡ rfc → Obeyed message r m → ObeyedInPart (message_of f) m s → ObeyedInPart message r s
+part_then_rfc view message r m s f xs whole before after is first more =
+    (length (devices_of r), part_then message more.0 (devices_of r) (devices_of m) (devices_of s) first (subst (λ f. First (Obeys (message_of f)) more.0 (devices_of m) (devices_of s)) is more.1))
 
 pub obeyed_then_rfc : {M : Type 0} (view : M → MediumView) (message : Message) (r m s : RingView M) (f : Frame) (xs : List Entry) (whole : Bool) → Whole view r xs m → Done view m (returned 0 f ∷ []) whole s → f ≡ rfc → Obeyed message r m → Obeyed (message_of f) m s → Obeyed message r s
 obeyed_then_rfc view message r m s f xs whole before after is first more = all_then message (devices_of r) (devices_of m) (devices_of s) first (subst (λ f. First (Obeys (message_of f)) (length (devices_of m)) (devices_of m) (devices_of s)) is more)

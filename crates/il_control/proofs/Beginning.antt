@@ -10,6 +10,7 @@ use Rattle.il_frames.specs.declared.frame.Frame.{Frame}
 use Rattle.il_frames.specs.declared.entry.Entry.{Entry}
 use Rattle.il_frames.specs.declared.entry.Outcome.TheVariants as outcome
 use Rattle.il_frames.specs.Messages.{message_of}
+use Rattle.il_frames.specs.declared.message.Message.TheVariants as msg
 use Rattle.il_device.specs.State.{DeviceState}
 use Rattle.il_device.specs.declared.roles.Roles.{Roles}
 use Rattle.il_device.proofs.Laws.{is_start, changes_roles}
@@ -24,10 +25,10 @@ use Rattle.il_ring.specs.declared.plan.Arrival.TheVariants as arrival
 use Rattle.il_ring.specs.declared.flight.Flight.{Flight}
 use Rattle.il_ring.specs.Books.{IsHeld}
 use Rattle.il_ring.specs.Flights.{sourced}
-use Rattle.il_ring.specs.Lists.{Each, NoneSends}
+use Rattle.il_ring.specs.Lists.{Each, First, NoneSends}
 use Rattle.il_ring.specs.Rings.{RingView, IsRing, Round, devices_of, roles_of, drive_party}
 use Rattle.il_ring.specs.Rounded.{Rounded, holding}
-use Rattle.il_ring.specs.Outcomes.{met_between, DriveTook, IsBrought, IsHeldNow, IsLostNow, StartReturned, StartGone, StartTaken, DriveSawStart, DriveDid}
+use Rattle.il_ring.specs.Outcomes.{met_between, DriveTook, IsBrought, IsHeldNow, IsLostNow, LetsPass, StartReturned, StartGone, StartTaken, DriveSawStart, DriveDid}
 use Rattle.il_ring.proofs.Passing.{Carries, Exactly, is_exact}
 use Rattle.il_ring.proofs.Rings.{IsRing-round}
 use Rattle.il_ring.proofs.RoundAdds.{answered_some, did_had, host_did, host_adds, host_came, none_new, held_new}
@@ -36,7 +37,7 @@ use Rattle.il_ring.proofs.SendLaws.{kept_sent}
 use Rattle.il_ring.proofs.StartDrive.{start_at_drive}
 use Rattle.il_control.specs.Calls.{IsFree, Unheard, Whole}
 use Rattle.il_control.specs.Brought.{Brought, BroughtIf, CutBrought, ComesAs}
-use Rattle.il_control.specs.Receives.{AddsBy, Brings, IsCalm, IsDeaf, Began, NotBegun, StartLost, FirstLost, Begins, own_frames}
+use Rattle.il_control.specs.Receives.{AddsBy, Brings, IsCalm, IsDeaf, IsNameless, Began, NotBegun, StartLost, FirstLost, Begins, own_frames}
 use Rattle.il_control.specs.declared.receiving.Begun.TheVariants as begun
 use Rattle.il_control.proofs.Brought.{cut_brought_one, may_come}
 use Rattle.il_control.proofs.Relaying.{deaf_unheard, deaf_still, right_echo, spoken_one}
@@ -53,6 +54,13 @@ calm_deaf k [] calm = tt
 calm_deaf k (d ∷ ds) calm = (calm.0.0, calm_deaf (k + 1) ds calm.1)
 
 -- ---- start messages
+
+-- no talker that let SAI pass has an accessory ID
+nameless : (f : Frame) (k : ℕ) (ds es : List DeviceState) → message_of f ≡ msg.Sai → First (LetsPass f) (length ds) ds es → Each IsNameless k ds
+nameless f k [] [] sai took = tt
+nameless f k (d ∷ ds) (e ∷ es) sai took = (took.0.no_id sai, nameless f (k + 1) ds es sai took.1)
+nameless f k [] (e ∷ es) sai took = absurd took
+nameless f k (d ∷ ds) [] sai took = absurd took
 
 pub starts : (s : Start) → is_start (message_of (start_frame s)) ≡ true
 starts Sda = refl
@@ -79,7 +87,7 @@ start_roles rs s p = roles_after-kept rs (entry 0 (start_frame s) (outcome.Taken
 
 -- what came of it, by what arrived and whether a frame is held then
 pub data StartEnd {M : Type 0} (view : M → MediumView) (r : RingView M) (f : Frame) (answer : Arrival) (s : RingView M) : Type 0 where
-  ItPassed : (g : Frame) → answer ≡ arrival.Frame g → s.books.held ≡ None → (whole : Whole view r (returned 0 f ∷ []) s) → own_frames whole.adds.answers ≡ [] → Unheard r s → StartEnd view r f answer s
+  ItPassed : (g : Frame) → answer ≡ arrival.Frame g → s.books.held ≡ None → (whole : Whole view r (returned 0 f ∷ []) s) → own_frames whole.adds.answers ≡ [] → (message_of f ≡ msg.Sai → Each IsNameless 1 (devices_of r)) → Unheard r s → StartEnd view r f answer s
   ItBegan : (g : Frame) → answer ≡ arrival.Frame g → (flight : Flight) → s.books.held ≡ Some flight → Began view f r s → StartEnd view r f answer s
   ItFailed : answer ≡ arrival.Lost → NotBegun view f r s → StartEnd view r f answer s
 
@@ -124,6 +132,7 @@ module _ {M : Type 0} (view : M → MediumView) (r s : RingView M) (held : Optio
         brought = λ from. subst (Brought (length (devices_of r)) (drive_party r) entries) (sym so.1.2) (start_comes (drive_party r) start so.0 so.1.1.0, refl);
       })
       (ap own_frames so.1.3 ∙ ap (λ out. own_frames (out ∷ [])) so.1.1.1)
+      (λ sai. nameless f 1 (devices_of r) (devices_of s) sai back.took)
       unheard
 
   gone : StartGone r f answer s → DriveTook view (λ g. g ≡ f) r s → StartEnd view r f answer s
@@ -211,6 +220,7 @@ module _ {M : Type 0} (view : M → MediumView) (r s : RingView M) (held : Optio
         };
         added = added;
         talked = taken.talking_before;
+        id = taken.id;
         met = end.2;
         unheard = unheard;
       }))
@@ -265,21 +275,21 @@ some_held held shown is some none = let clash = sym some ∙ ap is_some (is ∙ 
 
 pub passed_begins : {M : Type 0} (view : M → MediumView) (r s : RingView M) (f g : Frame) (answer : Arrival) → StartEnd view r f answer s → answer ≡ arrival.Frame g → s.books.held ≡ None → Begins view f r begun.NotTaken s
 passed_begins view r s f g answer end arrives none = elim end [
-  | ItPassed h is held whole nothing unheard ↦ (whole, nothing, unheard)
+  | ItPassed h is held whole nothing nameless unheard ↦ (whole, nothing, nameless, unheard)
   | ItBegan h is flight held began ↦ (let clash = sym none ∙ held in cc)
   | ItFailed is not_begun ↦ (let clash = sym arrives ∙ is in cc)
 ]
 
 pub taken_begins : {M : Type 0} (view : M → MediumView) (r s : RingView M) (f g : Frame) (answer : Arrival) → StartEnd view r f answer s → answer ≡ arrival.Frame g → (s.books.held ≡ None → ⊥) → Begins view f r begun.Taken s
 taken_begins view r s f g answer end arrives some = elim end [
-  | ItPassed h is held whole nothing unheard ↦ absurd (some held)
+  | ItPassed h is held whole nothing nameless unheard ↦ absurd (some held)
   | ItBegan h is flight held began ↦ began
   | ItFailed is not_begun ↦ (let clash = sym arrives ∙ is in cc)
 ]
 
 pub lost_begins : {M : Type 0} (view : M → MediumView) (r s : RingView M) (f : Frame) (answer : Arrival) → StartEnd view r f answer s → answer ≡ arrival.Lost → Begins view f r begun.Broken s
 lost_begins view r s f answer end lost = elim end [
-  | ItPassed h is held whole nothing unheard ↦ (let clash = sym lost ∙ is in cc)
+  | ItPassed h is held whole nothing nameless unheard ↦ (let clash = sym lost ∙ is in cc)
   | ItBegan h is flight held began ↦ (let clash = sym lost ∙ is in cc)
   | ItFailed is not_begun ↦ not_begun
 ]

@@ -1,5 +1,5 @@
 -- Calls one behind the other, and single rounds as calls.
-use Rattle.std.proofs.Common.{◌≡◌, ◌≤◌, ◌+◌, ◌-◌, ◌++◌, ◌⊎◌, inl, inr, ⊎_elim, ℕ, zero, suc, Bool, true, false, List, [], ◌∷◌, Option, None, length, refl, sym, ap, ap₂, subst, ◌∙◌, arith, length-append}
+use Rattle.std.proofs.Common.{◌≡◌, ◌≤◌, ◌<◌, ◌+◌, ◌-◌, ◌++◌, ◌⊎◌, inl, inr, ⊎_elim, ℕ, zero, suc, Bool, true, false, List, [], ◌∷◌, Option, None, length, refl, sym, ap, ap₂, subst, ◌∙◌, arith, length-append}
 use Rattle.std.specs.Prelude.{MatchBool}
 use Rattle.std.specs.List.{list_all}
 use Rattle.std.proofs.lemmas.Bool.{and_parts}
@@ -74,6 +74,18 @@ cut_behind (x ∷ xs) ys n b legal =
       legal = more.legal;
       brings = λ k q gs hs first cut. cut_brought_first k q more.standing x xs ys hs (λ gs first. more.brings k q gs hs first cut) gs first;
     }
+
+-- behind all of the first
+cut_behind_standing : (xs ys : List Entry) (n : ℕ) (b : Break) (legal : can_cut 0 ys n b ≡ true) → (cut_behind xs ys n b legal).standing ≡ length xs + n
+unfolding cut_behind
+cut_behind_standing [] ys n b legal = omega arith
+cut_behind_standing (x ∷ xs) ys n b legal = let up : suc (length xs + n) ≡ length (x ∷ xs) + n = omega arith in ap suc (cut_behind_standing xs ys n b legal) ∙ up
+
+-- a cut leaves out an entry
+pub cut_within : (es : List Entry) (n : ℕ) (b : Break) → can_cut 0 es n b ≡ true → n < length es
+cut_within [] n b legal = cc
+cut_within (e ∷ es) zero b legal = omega arith
+cut_within (e ∷ es) (suc n) b legal = let more = cut_within es n b legal in omega (arith, more)
 
 -- ---- planned hops over calls
 
@@ -187,6 +199,11 @@ pub broke_behind_came : {M : Type 0} (view : M → MediumView) (r m s : RingView
 unfolding broke_behind
 broke_behind_came view r m s xs ys ring first more = (cut_added_behind view r m s xs ys first more (cut_behind xs ys more.standing more.break more.legal)).2
 
+-- so many stand
+pub broke_behind_standing : {M : Type 0} (view : M → MediumView) (r m s : RingView M) (xs ys : List Entry) (ring : IsRing r) (first : Whole view r xs m) (more : Broke view m ys s) → (broke_behind view r m s xs ys ring first more).standing ≡ length xs + more.standing
+unfolding broke_behind
+broke_behind_standing view r m s xs ys ring first more = cut_behind_standing xs ys more.standing more.break more.legal
+
 -- whether a frame was held is read off both, where it is read off the second
 pub broke_behind_ended : {M : Type 0} (view : M → MediumView) (r m s : RingView M) (xs ys : List Entry) (ring : IsRing r) (first : Whole view r xs m) (more : Broke view m ys s) → more.held_at_end ≡ held_after (sourcing None xs) (cut_at ys more.standing more.break)
     → (broke_behind view r m s xs ys ring first more).held_at_end ≡ held_after None (cut_at (xs ++ ys) (broke_behind view r m s xs ys ring first more).standing (broke_behind view r m s xs ys ring first more).break)
@@ -221,6 +238,10 @@ broke_before view r s xs ys broke =
 pub broke_before_came : {M : Type 0} (view : M → MediumView) (r s : RingView M) (xs ys : List Entry) (broke : Broke view r xs s) → (broke_before view r s xs ys broke).adds.came ≡ broke.adds.came
 unfolding broke_before
 broke_before_came view r s xs ys broke = (cut_added_before view r s xs ys broke).2
+
+pub broke_before_standing : {M : Type 0} (view : M → MediumView) (r s : RingView M) (xs ys : List Entry) (broke : Broke view r xs s) → (broke_before view r s xs ys broke).standing ≡ broke.standing
+unfolding broke_before
+broke_before_standing view r s xs ys broke = refl
 
 pub broke_before_ended : {M : Type 0} (view : M → MediumView) (r s : RingView M) (xs ys : List Entry) (broke : Broke view r xs s) → broke.held_at_end ≡ held_after None (cut_at xs broke.standing broke.break)
     → (broke_before view r s xs ys broke).held_at_end ≡ held_after None (cut_at (xs ++ ys) (broke_before view r s xs ys broke).standing (broke_before view r s xs ys broke).break)

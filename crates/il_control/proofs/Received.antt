@@ -3,10 +3,10 @@ use Rattle.il_drive.specs.Runs.{Ran}
 use Rattle.il_drive.specs.State.{DriveView}
 use Rattle.il_device.specs.declared.device.Out.{Out}
 use Rattle.std.proofs.lemmas.List.Folds.{list_all-append}
-use Rattle.il_control.proofs.Spoken.{behind_all, brings_more, cut_brings_more, device_source, near_source, whole_cut}
+use Rattle.il_control.proofs.Spoken.{brings_more, cut_brings_more, device_source, near_source}
 use Rattle.il_control.proofs.Brought.{same_place}
 use Rattle.il_control.specs.Brought.{Brought, CutBrought, is_from_here}
-use Rattle.std.proofs.Common.{Bool, ◌≡◌, ◌∙◌, ◌≤◌, ◌<◌, ◌+◌, ◌++◌, ◌&&◌, ◌==◌, ⊎_elim, ℕ, suc, true, false, not, List, [], ◌∷◌, Option, Some, None, length, drop, map, refl, sym, ap, subst, arith, length-append, append_assoc, append-nil, inl, ◌||◌}
+use Rattle.std.proofs.Common.{Bool, ◌≡◌, ◌∙◌, ◌≤◌, ◌<◌, ◌+◌, ◌-◌, ◌++◌, ◌&&◌, ◌==◌, ⊎_elim, ℕ, suc, true, false, not, List, [], ◌∷◌, Option, Some, None, length, drop, map, refl, sym, ap, subst, arith, length-append, append_assoc, append-nil, inl, inr, ◌||◌}
 use Rattle.std.specs.Prelude.{MatchBool, MatchOption, IfSome, IsSome, nat_le}
 use Rattle.std.specs.List.{list_all}
 use Rattle.std.proofs.lemmas.Bool.{and_from, and_parts, eq-eqb, eqb-true, le-leb, ne_eqb}
@@ -14,10 +14,14 @@ use Rattle.il_frames.specs.declared.frame.Frame.{Frame}
 use Rattle.il_frames.specs.declared.entry.Entry.{Entry}
 use Rattle.il_frames.specs.declared.entry.Outcome.TheVariants as outcome
 use Rattle.il_frames.specs.Frames.{byte_of}
+use Rattle.il_frames.specs.Messages.{message_of}
+use Rattle.il_frames.specs.declared.message.Message.TheVariants as msg
+use Rattle.il_device.specs.declared.interface.OwnFrame.{OwnFrame}
+use Rattle.il_ring.specs.Lists.{Each}
 use Rattle.il_device.specs.Takes.{eto}
 use Rattle.il_ports.specs.Media.{MediumView}
 use Rattle.loop_model.specs.Entries.{entry, nrd, unt}
-use Rattle.loop_model.specs.Exchanges.{Start, Answer, NotTaken, ToItsEnd, Stopped, Receive, Echo, start_frame, echoed, returned, commanded, answer_entries, cut_at, can_cut, is_address, is_answer, is_echo, is_exchange, is_number, Break, entries_of}
+use Rattle.loop_model.specs.Exchanges.{Start, Sai, Answer, NotTaken, ToItsEnd, Stopped, Receive, Echo, start_frame, echoed, returned, commanded, answer_entries, cut_at, can_cut, is_address, is_answer, is_echo, is_exchange, is_number, Break, entries_of}
 use Rattle.loop_model.proofs.HearLaws.{has_no_data}
 use Rattle.loop_model.proofs.RoundLaws.{answers_as_asked}
 use Rattle.loop_model.proofs.UnitLaws.{bytes_of, receive_front, entries_of-receive}
@@ -26,12 +30,14 @@ use Rattle.il_ring.specs.Outcomes.{met_between, IsTalking}
 use Rattle.std.proofs.lemmas.List.{length-map}
 use Rattle.il_device.specs.State.{DeviceState}
 use Rattle.il_control.specs.Calls.{Unheard, Whole, Broke, IsIdle, loop_of}
-use Rattle.il_control.specs.Receives.{Began, NotBegun, StartLost, FirstLost, TakesBytes, TookInto, NotTook, WasTalking, Answered, NotAnswered, Asked, Received, NotReceived, behind_start, talker_of, is_stopped, received, fits, AllSpoken, Brings, CutBrings, PassedBy, PassedInPart, StandsBehind, SaysOf, SpokenBy, own_frames, said_of, sent_frames}
+use Rattle.il_control.specs.Receives.{Began, NotBegun, StartLost, FirstLost, TakesBytes, TookInto, NotTook, WasTalking, Answered, NotAnswered, Asked, Received, NotReceived, behind_start, talker_of, is_stopped, received, fits, AllSpoken, Brings, CutBrings, PassedBy, PassedInPart, up_to_end, StandsBehind, SaysOf, SpokenBy, IsNameless, accessory_at, id_bytes, own_frames, said_of, sent_frames}
 use Rattle.loop_model.specs.Reach.{held_at_end as held_after}
 use Rattle.loop_model.proofs.ReachLaws.{is_no_nrd, sourcing}
 use Rattle.il_control.proofs.HeldAtEnd.{cut_held, cut_holds_none, echo_quiet, front_quiet, front_source, quiet_ended, start_quiet}
-use Rattle.il_control.proofs.Calls.{broke_before_ended, broke_behind_ended, met_parts, room_behind, unheard_then, whole_then, broke_behind, broke_before, whole_then_came, broke_before_came, broke_behind_came, whole_then_answers}
+use Rattle.il_control.proofs.Calls.{broke_before_ended, broke_behind_ended, met_parts, room_behind, unheard_then, whole_then, broke_behind, broke_before, broke_behind_standing, broke_before_standing, cut_within, whole_then_came, broke_before_came, broke_behind_came, whole_then_answers}
 use Rattle.il_control.proofs.Made.{made, broken_off, made_whole, broken_off_broke}
+use Rattle.il_control.proofs.Names.{named, talker_there}
+use Rattle.il_control.proofs.Places.{cut_no_poll, receive_no_poll, unheard_stay}
 use Rattle.il_control.proofs.Talking.{asked_one}
 use Rattle.il_control.proofs.Telling.{number_fits}
 
@@ -44,8 +50,11 @@ never_full w some = sym (ne_eqb 0 w (λ e. omega (arith, e, some)))
 nobody : (gs : List Frame) (R : Type 0) → R × IsSome (talker_of NotTaken) → AllSpoken gs
 nobody gs R behind = let clash = behind.1 in cc
 
-pub passed_answered : {M : Type 0} (view : M → MediumView) (r s : RingView M) (start : Start) (old : List ℕ) → 0 < length old → (whole : Whole view r (returned 0 (start_frame start) ∷ []) s) × (own_frames whole.adds.answers ≡ []) × Unheard r s → Answered view start 0 r old old s
-passed_answered view r s start old some passed = record { answer = NotTaken; legal = refl; talked = tt; whole = passed.0; far = λ behind. nobody _ _ behind; said = λ is. passed.1; count = refl; within = omega arith; bytes = refl; stops = never_full (length old) some; unheard = passed.2 }
+says_sai : (start : Start) → start ≡ Sai → message_of (start_frame start) ≡ msg.Sai
+says_sai start is = ap (λ start. message_of (start_frame start)) is
+
+pub passed_answered : {M : Type 0} (view : M → MediumView) (r s : RingView M) (start : Start) (old : List ℕ) → 0 < length old → (whole : Whole view r (returned 0 (start_frame start) ∷ []) s) × (own_frames whole.adds.answers ≡ []) × (message_of (start_frame start) ≡ msg.Sai → Each IsNameless 1 (devices_of r)) × Unheard r s → Answered view start 0 r old old s
+passed_answered view r s start old some passed = record { answer = NotTaken; legal = refl; talked = tt; whole = passed.0; far = λ behind. nobody _ _ behind; said = λ is. passed.1; count = refl; within = omega arith; bytes = refl; stops = never_full (length old) some; unheard = passed.3; id = λ sai. passed.2 (says_sai start sai) }
 
 one_answer : {M : Type 0} (r : RingView M) (p : ℕ) (d : Echo) → is_echo d ≡ true → IsTalking p None (devices_of r) → is_answer 0 (ToItsEnd p (d ∷ [])) ≡ true
 one_answer r p d echo talking = and_from (not (p == 0)) (true && list_all is_echo (d ∷ [])) (ap not (ne_eqb p 0 (λ e. omega (arith, e, talking.party)))) (and_from true (list_all is_echo (d ∷ [])) refl (and_from (is_echo d) true echo refl))
@@ -152,6 +161,12 @@ module _ {M : Type 0} (view : M → MediumView) (r m s : RingView M) (start : St
         bytes = into.filled ∙ ap (λ bytes. bytes ++ drop n old) took.bytes_are;
         stops = took.stopped;
         unheard = unheard_then (devices_of r) (devices_of m) (devices_of s) began.unheard took.unheard;
+        id = λ sai.
+            let id = began.id (says_sai start sai) in
+            let last : began.now.own.last ≡ true = ap (λ (own : OwnFrame). own.last) id.2 in
+            let byte : byte_of began.now.flight.sent ≡ id.0 = ap byte_of (sym began.now.frame) ∙ ap (λ (own : OwnFrame). byte_of own.frame) id.2 in
+            let told : received answer ≡ id_bytes (accessory_at (p - 1) (devices_of r)) = sym took.bytes_are ∙ took.alone last ∙ ap (λ byte. byte ∷ []) byte ∙ ap id_bytes (sym id.1) ∙ ap id_bytes (sym (talker_there p None (devices_of r) began.talked)) in
+            subst (λ o. MatchOption o (Each IsNameless 1 (devices_of r)) (λ p. received answer ≡ id_bytes (accessory_at (p - 1) (devices_of r)))) (sym took.talker) told;
       }
 
   pub not_took_answered : (w : ℕ) → NotTook view m began.now w s → NotAnswered view start w r s
@@ -281,27 +296,28 @@ module _ {M : Type 0} (view : M → MediumView) (a : ℕ) (number : Option ℕ) 
   as_asked answer asked = ap (λ k. answers_as_asked k (Receive a number start answer)) (length-map (devices_of r) (λ (d : DeviceState). d.roles)) ∙ asked
 
   -- what came to the drive, where it stands behind the talker
-  abbrev Passed : Answer → List Frame → Type 0
-  Passed answer came = StandsBehind answer r → PassedInPart (length (devices_of r)) (drive_party r) a number came
+  abbrev Passed : Answer → ℕ → List Frame → Type 0
+  Passed answer standing came = StandsBehind answer r → PassedInPart (length (devices_of r)) (drive_party r) a number (up_to_end a number start answer) standing came
 
   -- whether a frame was held is read off
   abbrev EndedSo : {s : RingView M} (es : List Entry) → Broke view r es s → Type 0
   EndedSo es broke = broke.held_at_end ≡ held_after None (cut_at es broke.standing broke.break)
 
   broken : (answer : Answer) (w : ℕ) (s : RingView M) → answers_as_asked (length (devices_of r)) (Receive a number start answer) ≡ true → is_answer 0 answer ≡ true → fits w answer ≡ true
-      → (broke : Broke view r (front ++ (all answer ++ commanded 0 unt)) s) → EndedSo (front ++ (all answer ++ commanded 0 unt)) broke → Passed answer broke.adds.came → Unheard r s → NotReceived view a number start w r s
+      → (broke : Broke view r (front ++ (all answer ++ commanded 0 unt)) s) → EndedSo (front ++ (all answer ++ commanded 0 unt)) broke → Passed answer broke.standing broke.adds.came → Unheard r s → NotReceived view a number start w r s
   broken answer w s asked legal fit broke ended passed unheard =
       let x = Receive a number start answer in
       let is = is_receive r a number start answer low small legal in
-      let told : (broke : Broke view r (entries_of 0 x) s) × EndedSo (entries_of 0 x) broke × Passed answer broke.adds.came =
-      subst (λ es. (broke : Broke view r es s) × EndedSo es broke × Passed answer broke.adds.came) (sym (entries_of-receive 0 a number start answer)) (broke, ended, passed) in
+      let told : (broke : Broke view r (entries_of 0 x) s) × EndedSo (entries_of 0 x) broke × Passed answer broke.standing broke.adds.came =
+      subst (λ es. (broke : Broke view r es s) × EndedSo es broke × Passed answer broke.standing broke.adds.came) (sym (entries_of-receive 0 a number start answer)) (broke, ended, passed) in
       record {
         answer = answer;
         asked = asked;
         fitting = fit;
         broken = broken_off view x r s idle is (as_asked answer asked) told.0 told.1;
         unheard = unheard;
-        passed = subst (λ (broke : Broke view r (entries_of 0 x) s). Passed answer broke.adds.came) (sym (broken_off_broke view x r s idle is (as_asked answer asked) told.0 told.1)) told.2;
+        stays = unheard_stay r s unheard (broke.adds.places (cut_no_poll (front ++ (all answer ++ commanded 0 unt)) broke.standing broke.break (receive_no_poll a number start answer low small legal)));
+        passed = subst (λ (broke : Broke view r (entries_of 0 x) s). Passed answer broke.standing broke.adds.came) (sym (broken_off_broke view x r s idle is (as_asked answer asked) told.0 told.1)) told.2;
       }
 
   -- no device was told to talk
@@ -320,8 +336,8 @@ module _ {M : Type 0} (view : M → MediumView) (a : ℕ) (number : Option ℕ) 
     says_still : (answer : Answer) → SaysOf answer r → SaysOf answer m
     says_still answer says = subst (λ q. IfSome (talker_of answer) (λ p. p ≡ q)) (sym (ap (λ n. n + 1) asked.whole.adds.before)) says
 
-    front_cut : CutBrought (length (devices_of r)) (drive_party r) front (behind_all front 0) asked.whole.adds.came
-    front_cut = whole_cut (length (devices_of r)) (drive_party r) 0 front asked.whole.adds.came (asked.whole.brought (front_from_here (drive_party r) a number))
+    front_brought : Brought (length (devices_of r)) (drive_party r) front asked.whole.adds.came
+    front_brought = asked.whole.brought (front_from_here (drive_party r) a number)
 
     pub not_answered : (w : ℕ) (s : RingView M) → NotAnswered view start w m s → NotReceived view a number start w r s
     not_answered w s off =
@@ -330,6 +346,8 @@ module _ {M : Type 0} (view : M → MediumView) (a : ℕ) (number : Option ℕ) 
         let came : whole.adds.came ≡ asked.whole.adds.came ++ (off.broke.adds.came ++ []) =
         broke_behind_came view r m s front (all off.answer ++ commanded 0 unt) idle.free.ring asked.whole part
         ∙ ap (λ gs. asked.whole.adds.came ++ gs) (broke_before_came view m s (all off.answer) (commanded 0 unt) off.broke ∙ sym (append-nil off.broke.adds.came)) in
+        let stands = broke_behind_standing view r m s front (all off.answer ++ commanded 0 unt) idle.free.ring asked.whole part ∙ ap (λ n. length front + n) (broke_before_standing view m s (all off.answer) (commanded 0 unt) off.broke) in
+        let short = cut_within (all off.answer) off.broke.standing off.broke.break off.broke.legal in
         let rest = broke_before_ended view m s (all off.answer) (commanded 0 unt) off.broke off.ended in
         let ended = broke_behind_ended view r m s front (all off.answer ++ commanded 0 unt) idle.free.ring asked.whole part (rest ∙ ap (λ before. held_after before (cut_at (all off.answer ++ commanded 0 unt) part.standing part.break)) (sym (front_source a number))) in
         broken off.answer w s (asked_one view r m a number start off.answer idle some low (number_fits number small) asked off.talked) off.legal off.fitting whole ended
@@ -338,11 +356,9 @@ module _ {M : Type 0} (view : M → MediumView) (a : ℕ) (number : Option ℕ) 
           spoken = off.broke.adds.came;
           behind = [];
           all = came;
-          standing = behind_all front 0;
-          first = front_cut;
+          first = front_brought;
           during = off.far (behind_still off.answer behind);
-          standing_behind = 0;
-          last = inl refl;
+          last = inl (omega (arith, stands, short), refl);
         })
         (unheard_then (devices_of r) (devices_of m) (devices_of s) front_unheard off.unheard)
 
@@ -366,6 +382,7 @@ module _ {M : Type 0} (view : M → MediumView) (a : ℕ) (number : Option ℕ) 
           let came : whole.adds.came ≡ asked.whole.adds.came ++ (answered.whole.adds.came ++ off.adds.came) =
           broke_behind_came view r m s front (all answer ++ commanded 0 unt) idle.free.ring asked.whole more
           ∙ ap (λ gs. asked.whole.adds.came ++ gs) (broke_behind_came view m u s (all answer) (commanded 0 unt) asked.whole.ring answered.whole off) in
+          let stands = broke_behind_standing view r m s front (all answer ++ commanded 0 unt) idle.free.ring asked.whole more ∙ ap (λ n. length front + n) (broke_behind_standing view m u s (all answer) (commanded 0 unt) asked.whole.ring answered.whole off) in
           let rest = broke_behind_ended view m u s (all answer) (commanded 0 unt) asked.whole.ring answered.whole off (off.told refl ∙ sym (cut_holds_none (sourcing None (all answer)) (commanded 0 unt) off.standing off.break refl)) in
           let ended = broke_behind_ended view r m s front (all answer ++ commanded 0 unt) idle.free.ring asked.whole more (rest ∙ ap (λ before. held_after before (cut_at (all answer ++ commanded 0 unt) more.standing more.break)) (sym (front_source a number))) in
           broken answer (length old) s told answered.legal (answered_fits answer n (length old) answered.count answered.within answered.stops) whole ended
@@ -374,11 +391,15 @@ module _ {M : Type 0} (view : M → MediumView) (a : ℕ) (number : Option ℕ) 
             spoken = answered.whole.adds.came;
             behind = off.adds.came;
             all = came;
-            standing = behind_all front 0;
-            first = front_cut;
+            first = front_brought;
             during = answered.far (behind_still answer behind);
-            standing_behind = off.standing;
-            last = same_place r u (λ k q. CutBrought k q (commanded 0 unt) off.standing off.adds.came) before_still size_still (off.brought refl);
+            last =
+                let behind_end : off.standing ≡ whole.standing - up_to_end a number start answer = omega (arith, stands) in
+                inr (
+                  omega (arith, stands),
+                  subst (λ n. CutBrought (length (devices_of r)) (drive_party r) (commanded 0 unt) n off.adds.came) behind_end
+                      (same_place r u (λ k q. CutBrought k q (commanded 0 unt) off.standing off.adds.came) before_still size_still (off.brought refl)),
+                );
           })
           (unheard_then (devices_of r) (devices_of m) (devices_of s) front_unheard (unheard_then (devices_of m) (devices_of u) (devices_of s) answered.unheard (off.unheard refl)))
 
@@ -393,6 +414,7 @@ module _ {M : Type 0} (view : M → MediumView) (a : ℕ) (number : Option ℕ) 
           whole_then_came view r m s front (all answer ++ commanded 0 unt) idle.free.ring asked.whole more
           ∙ ap (λ gs. asked.whole.adds.came ++ gs) (whole_then_came view m u s (all answer) (commanded 0 unt) asked.whole.ring answered.whole last) in
           let legal = is_receive r a number start answer low small answered.legal in
+          let unheard = unheard_then (devices_of r) (devices_of m) (devices_of s) front_unheard (unheard_then (devices_of m) (devices_of u) (devices_of s) answered.unheard (last.unheard refl)) in
           let answers : done.adds.answers ≡ asked.whole.adds.answers ++ (answered.whole.adds.answers ++ last.adds.answers) =
           whole_then_answers view r m s front (all answer ++ commanded 0 unt) idle.free.ring asked.whole more
           ∙ ap (λ outs. asked.whole.adds.answers ++ outs) (whole_then_answers view m u s (all answer) (commanded 0 unt) asked.whole.ring answered.whole last) in
@@ -437,7 +459,9 @@ module _ {M : Type 0} (view : M → MediumView) (a : ℕ) (number : Option ℕ) 
             within = answered.within;
             bytes = answered.bytes;
             stops = answered.stops;
-            unheard = unheard_then (devices_of r) (devices_of m) (devices_of s) front_unheard (unheard_then (devices_of m) (devices_of u) (devices_of s) answered.unheard (last.unheard refl));
+            unheard = unheard;
+            id = λ sai. named view r m a number start answer idle some low (number_fits number small) asked front_unheard told (answered.id sai);
+            stays = unheard_stay r s unheard (done.adds.places (receive_no_poll a number start answer low small answered.legal));
             passed = made_so.0;
             spoken = made_so.1;
           }

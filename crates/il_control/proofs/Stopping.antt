@@ -255,6 +255,7 @@ module _ {M : Type 0} (view : M → MediumView) (m n s : RingView M) (h : IsHold
         legal = own_last m h (record { sent = h.flight.sent; back = ended.back }) (ap (λ (f : Flight). is_echo (record { sent = f.sent; back = ended.back })) (sym same) ∙ ended.right);
         stopped = refl;
         bytes_are = refl;
+        alone = λ last. refl;
         added = subst (λ (f : Flight). Brings view m p (λ gs. h.flight.sent ∷ gs ≡ h.flight.sent ∷ eto ∷ []) (Some p) (returned 0 nrd ∷ echoed f.source (record { sent = f.sent; back = ended.back }) ∷ entry f.source eto (outcome.Taken 0) ∷ []) None s) same
             (added_as view m s p (Some p) _ None _ _ (brings_behind _ (λ gs. gs ≡ eto ∷ []) ended.added) (λ j q gs outs said. (said.0, λ at. ap (λ gs. h.flight.sent ∷ gs) (said.1 at))));
         ring = ended.ring;

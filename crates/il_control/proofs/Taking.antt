@@ -1,6 +1,6 @@
 -- The frames of a talker, one behind the other.
 use Rattle.il_frames.specs.declared.frame.Frame.{Frame}
-use Rattle.std.proofs.Common.{◌≡◌, ◌≢◌, ◌∙◌, ◌≤◌, ◌<◌, ◌+◌, ◌-◌, ◌++◌, ◌&&◌, ◌==◌, inl, inr, ⊎_elim, ℕ, suc, Bool, true, false, not, List, [], ◌∷◌, Option, Some, None, length, take, drop, set, map, refl, sym, ap, ap₂, subst, arith, append_assoc, append-nil, length-append}
+use Rattle.std.proofs.Common.{◌||◌, ◌≡◌, ◌≢◌, ◌∙◌, ◌≤◌, ◌<◌, ◌+◌, ◌-◌, ◌++◌, ◌&&◌, ◌==◌, inl, inr, ⊎_elim, ℕ, suc, Bool, true, false, not, List, [], ◌∷◌, Option, Some, None, length, take, drop, set, map, refl, sym, ap, ap₂, subst, arith, append_assoc, append-nil, length-append}
 use Rattle.std.proofs.Math.Seq.{take-suc-set, take-length}
 use Rattle.std.specs.Prelude.{MatchBool, IfSome, IsSome}
 use Rattle.std.specs.List.{list_all}
@@ -100,6 +100,7 @@ so_far_nothing view m h = record {
   bytes_are = refl;
   now = h;
   source = refl;
+  alone = λ last. (refl, last, refl);
   added = brings_nothing view m h.flight.source (λ gs. h.flight.sent ∷ gs ≡ h.flight.sent ∷ []) refl;
   met = by h.flight.altered refl;
   unheard = unheard_nothing m;
@@ -120,6 +121,11 @@ was_clean view m s h bytes so unaltered = subst (λ altered. MatchBool altered (
 was_spoilt : {M : Type 0} (view : M → MediumView) (m s : RingView M) (h : IsHolding m) (bytes : List ℕ) (so : SoFar view m h bytes s) → so.now.flight.altered ≡ true → Spoilt m h s
 was_spoilt view m s h bytes so altered = subst (λ altered. MatchBool altered (Spoilt m h s) (Clean m h s)) altered so.met
 
+-- a talker that goes on did not send its last frame
+not_last : (stopped last : Bool) → last ≡ true → (stopped || last) ≡ false → ⊥
+not_last true last is goes_on = cc
+not_last false last is goes_on = cc
+
 -- one byte more
 pub so_far_more : {M : Type 0} (view : M → MediumView) (m n s : RingView M) (h : IsHolding m) (bytes : List ℕ) (byte : ℕ) (so : SoFar view m h bytes n) → WentOn view n so.now s → byte ≡ byte_of so.now.flight.now → SoFar view m h (bytes ++ byte ∷ []) s
 so_far_more view m n s h bytes byte so went is_byte =
@@ -138,6 +144,7 @@ so_far_more view m n s h bytes byte so went is_byte =
           (λ gs hs first last. ap₂ (λ gs hs. gs ++ hs) first last ∙ ap (λ gs. gs ++ next ∷ []) (sym (map-append (λ (d : Echo). d.sent) so.ds (d ∷ [])))));
       now = went.next;
       source = went.source ∙ so.source;
+      alone = λ last. absurd (not_last so.now.own.stopped so.now.own.last (so.alone last).1 went.goes_on);
       met = by went.next.flight.altered went.met clean split;
       unheard = unheard_then (devices_of m) (devices_of n) (devices_of s) so.unheard went.unheard;
     }
@@ -164,6 +171,7 @@ took_then view m n s h stops bytes more so took =
       talker = prepended_talker so.ds took.answer ∙ talker;
       legal = prepended_legal so.ds took.answer so.echoes took.legal;
       stopped = prepended_stopped so.ds took.answer ∙ took.stopped;
+      alone = λ last. let so_alone = so.alone last in ap₂ (λ bytes more. bytes ++ more) so_alone.0 (took.alone so_alone.1) ∙ ap (λ f. byte_of f ∷ []) so_alone.2;
       bytes_are = ap (λ bytes. bytes ++ more) so.bytes_are ∙ ap (λ more. bytes_of so.ds ++ more) took.bytes_are ∙ sym (prepended_bytes so.ds took.answer p talker);
       added = subst (λ es. Brings view m p U (Some p) es None s) (sym (prepended_entries so.ds took.answer p talker))
           (brings_more view m n p (λ gs. h.flight.sent ∷ gs ≡ frames_of so.ds ++ so.now.flight.sent ∷ []) (Some p) (Some p) (map (echoed p) so.ds) so.added s T U None (behind_start took.answer) after
@@ -235,6 +243,7 @@ ended_took view m s h byte ended is_byte =
       legal = and_from (not (p == 0)) (true && list_all is_echo (d ∷ [])) (is_device m h) (and_from true (list_all is_echo (d ∷ [])) refl (and_from (is_echo d) true ended.right refl));
       stopped = refl;
       bytes_are = ap (λ byte. byte ∷ []) (is_byte ∙ byte_sent m h ended.clean.0);
+      alone = λ last. ap (λ byte. byte ∷ []) (is_byte ∙ byte_sent m h ended.clean.0);
       added = added_as view m s p (Some p) (behind_start (ToItsEnd p (d ∷ []))) None _ _ ended.added (λ k q gs outs said. (said.0, λ at. ap (λ gs. h.flight.sent ∷ gs) (said.1 at)));
       ring = ended.ring;
       held = ended.held;

@@ -89,12 +89,16 @@ module _ (rs : List Roles) (a : ℕ) (number : Option ℕ) (numbers : are_number
   pub one_asked : is_at_most_one (talkers (roles_after rs (receive_front 0 a number))) ≡ true
   one_asked = ap (λ rs. is_at_most_one (talkers rs)) front_roles ∙ one_talker-addressed between a (returned 0 (tad a)) numbered_still still (message_of-tad a low)
 
+  -- the device of that address talks, where there is one, and no other
+  pub asked_alone : 1 ≤ a → a ≤ length rs → talkers (roles_after rs (receive_front 0 a number)) ≡ a ∷ []
+  asked_alone some within = ap talkers front_roles ∙ talkers-tad between a (returned 0 (tad a)) numbered_still still refl (message_of-tad a low) some (omega (arith, many, within)) refl
+
   pub asked_talks : (p : ℕ) → 1 ≤ a → talkers (roles_after rs (receive_front 0 a number)) ≡ p ∷ [] → is_asked_for (length rs) a p ≡ true
   asked_talks p some talks =
       ⊎_elim
       (λ (none : a - length rs ≡ 0).
       let within : a ≤ length rs = omega (arith, none) in
-      let same = ap first_of (sym talks ∙ ap talkers front_roles ∙ talkers-tad between a (returned 0 (tad a)) numbered_still still refl (message_of-tad a low) some (omega (arith, many, within)) refl) in
+      let same = ap first_of (sym talks ∙ asked_alone some within) in
       and_from (p == a) (nat_le 1 a && nat_le a (length rs)) (eq-eqb p a same) (and_from (nat_le 1 a) (nat_le a (length rs)) (le-leb 1 a some) (le-leb a (length rs) within)))
       (λ far.
       let nobody = ap talkers front_roles ∙ ap (λ m. talkers (roles_along 0 (outcome.Back (tad a)) 1 m between)) (message_of-tad a low) ∙ none_addressed (outcome.Back (tad a)) 1 a between numbered_still (all_quiet 1 between still) (omega (arith, many, far)) in

@@ -22,6 +22,7 @@ use Rattle.il_ring.specs.Rings.{RingView, IsRing, devices_of, roles_of, drive_pa
 use Rattle.il_ring.specs.Lists.{Each, First}
 use Rattle.il_ring.specs.Outcomes.{met_between, Obeys, HearsNothing, HearsByte, HearsAny}
 use Rattle.il_ring.specs.Adds.{Adds}
+use Rattle.il_ring.specs.Polls.{KeepsPlace}
 use Rattle.il_control.specs.Brought.{Brought, CutBrought, is_from_here}
 
 -- no device heard anything
@@ -31,6 +32,21 @@ Unheard r s = First HearsNothing (length (devices_of r)) (devices_of r) (devices
 -- each device obeyed this message, and nothing else came to it that changes roles
 abbrev pub Obeyed : {M : Type 0} → Message → RingView M → RingView M → Type 0
 Obeyed m r s = First (Obeys m) (length (devices_of r)) (devices_of r) (devices_of s)
+
+-- the first so many devices obeyed it, and the others are as they were
+abbrev pub ObeyedInPart : {M : Type 0} → Message → RingView M → RingView M → Type 0
+ObeyedInPart m r s = (reached : ℕ) × First (Obeys m) reached (devices_of r) (devices_of s)
+
+-- What a device keeps that is told no poll message and hears nothing: its place in the parallel poll too; and, where `still`, whether it
+-- wants service.
+pub record Stays (still : Bool) (d e : DeviceState) : Type 0 where
+  pub nothing : HearsNothing d e
+  pub place : KeepsPlace d e
+  pub wants : still ≡ true → e.wants ≡ d.wants
+
+-- each of them
+abbrev pub AllStay : {M : Type 0} → Bool → RingView M → RingView M → Type 0
+AllStay still r s = First (Stays still) (length (devices_of r)) (devices_of r) (devices_of s)
 
 -- The entries, whole: no planned hop was met, no frame is held, and where none of them is a data frame no device heard anything.
 -- Where each is of the host, the drive or a device behind it, the frames that they brought to the drive came to it in their order.

@@ -1,15 +1,17 @@
 -- A receive: what a talker sent, and what the controller took of it.
-use Rattle.std.specs.Prelude.{◌≡◌, ◌≢◌, ◌≤◌, ◌<◌, ◌⊎◌, ◌++◌, ◌||◌, ◌==◌, nat_le, ℕ, suc, Bool, true, false, MatchBool, List, [], ◌∷◌, length, take, drop, map, Option, Some, None, IfSome, IsSome}
+use Rattle.std.specs.Prelude.{◌≡◌, ◌≢◌, ◌≤◌, ◌<◌, ◌+◌, ◌-◌, ◌⊎◌, ◌++◌, ◌||◌, ◌==◌, nat_le, ℕ, zero, suc, Bool, true, false, MatchBool, MatchOption, List, [], ◌∷◌, length, take, drop, map, Option, Some, None, IfSome, IsSome}
 use Rattle.std.specs.List.{list_all}
 use Rattle.il_frames.specs.declared.frame.Frame.{Frame}
 use Rattle.il_frames.specs.declared.entry.Entry.{Entry}
 use Rattle.il_frames.specs.declared.entry.Outcome.TheVariants as outcome
 use Rattle.il_frames.specs.Frames.{byte_of, is_data}
+use Rattle.il_frames.specs.Messages.{message_of}
+use Rattle.il_frames.specs.declared.message.Message.TheVariants as msg
 use Rattle.il_device.specs.declared.device.Out.{Out}
 use Rattle.il_device.specs.declared.device.Out.TheVariants.{Pass, Source}
 use Rattle.il_device.specs.declared.interface.OwnFrame.{OwnFrame}
 use Rattle.il_device.specs.State.{DeviceState}
-use Rattle.il_device.specs.Takes.{eto, ete}
+use Rattle.il_device.specs.Takes.{eto, ete, identity}
 use Rattle.il_ports.specs.Media.{MediumView}
 use Rattle.loop_model.specs.Entries.{entry, nrd, unt}
 use Rattle.loop_model.specs.Exchanges.{Start, Sda, Sst, Sdi, Sai, Answer, NotTaken, ToItsEnd, Stopped, Receive, Echo, Break, echoed, returned, commanded, answer_entries, start_frame, break_entries, cut_at, can_cut, is_answer, is_break, is_echo}
@@ -32,7 +34,7 @@ use Rattle.il_control.specs.declared.receiving.Begun.TheVariants as begun
 use Rattle.il_control.specs.declared.receiving.Front.{Front}
 use Rattle.il_control.specs.declared.receiving.Front.TheVariants as front
 use Rattle.il_control.specs.Brought.{Brought, CutBrought}
-use Rattle.il_control.specs.Calls.{Whole, Broke, Made, BrokenOff, Unheard}
+use Rattle.il_control.specs.Calls.{Whole, Broke, Made, BrokenOff, Unheard, AllStay}
 
 -- ---- what came of it
 
@@ -96,17 +98,21 @@ pub record PassedBy (k q a : ℕ) (number : Option ℕ) (came : List Frame) : Ty
   pub during : AllSpoken spoken
   pub last : Brought k q (commanded 0 unt) behind
 
--- the same of a receive that was broken off: so many of the commands came, or all
-pub record PassedInPart (k q a : ℕ) (number : Option ℕ) (came : List Frame) : Type 0 where
+-- how many entries a receive has up to the end of the talker's
+abbrev pub up_to_end : ℕ → Option ℕ → Start → Answer → ℕ
+up_to_end a number start answer = length (receive_front 0 a number) + length (answer_entries 0 (start_frame start) answer)
+
+-- The same of a receive that was broken off once a device had taken the start message. So many of its entries stand, and up to the end of the
+-- talker's there are `ended`. The commands before the start message all came; of those behind the talker's frames none came where the break
+-- was before them, and else those of the entries that stand, and of the one that broke off at most its frame.
+pub record PassedInPart (k q a : ℕ) (number : Option ℕ) (ended standing : ℕ) (came : List Frame) : Type 0 where
   pub before : List Frame
   pub spoken : List Frame
   pub behind : List Frame
   pub all : came ≡ before ++ (spoken ++ behind)
-  pub standing : ℕ
-  pub first : CutBrought k q (receive_front 0 a number) standing before
+  pub first : Brought k q (receive_front 0 a number) before
   pub during : AllSpoken spoken
-  pub standing_behind : ℕ
-  pub last : CutBrought k q (commanded 0 unt) standing_behind behind
+  pub last : ((standing < ended) × (behind ≡ [])) ⊎ ((ended ≤ standing) × CutBrought k q (commanded 0 unt) (standing - ended) behind)
 
 -- the frames that the drive sent of its own among its answers
 abbrev pub own_frames : List Out → List Frame
@@ -146,8 +152,20 @@ pub record SpokenBy (k q a : ℕ) (number : Option ℕ) (start : Start) (answer 
 abbrev pub StandsBehind : {M : Type 0} → Answer → RingView M → Type 0
 StandsBehind answer r = IfSome (talker_of answer) (λ p. p < drive_party r) × IsSome (talker_of answer)
 
+-- the accessory ID of the device at this place, counted from 0, if there is one and it has one
+abbrev pub accessory_at : ℕ → List DeviceState → Option ℕ
+accessory_at i [] = None
+accessory_at zero (d ∷ ds) = d.accessory
+accessory_at (suc i) (d ∷ ds) = accessory_at i ds
+
+-- as the bytes that tell it
+abbrev pub id_bytes : Option ℕ → List ℕ
+id_bytes None = []
+id_bytes (Some id) = id ∷ []
+
 -- The exchange was made. The talker was the device of that address; it was stopped exactly where it brought as many bytes as there
--- was room for, and the first n bytes are those that it brought. No device heard anything.
+-- was room for, and the first n bytes are those that it brought. No device heard anything, and each keeps its place in the poll.
+-- To SAI it brought the accessory ID of the device of that address, and nothing where there is none.
 pub record Received {M : Type 0} (view : M → MediumView) (a : ℕ) (number : Option ℕ) (start : Start) (n : ℕ) (r : RingView M) (old new : List ℕ) (s : RingView M) : Type 0 where
   pub answer : Answer
   pub asked : answers_as_asked (length (devices_of r)) (Receive a number start answer) ≡ true
@@ -157,6 +175,8 @@ pub record Received {M : Type 0} (view : M → MediumView) (a : ℕ) (number : O
   pub bytes : new ≡ received answer ++ drop n old
   pub stops : is_stopped answer ≡ (n == length old)
   pub unheard : Unheard r s
+  pub stays : AllStay false r s
+  pub id : start ≡ Sai → received answer ≡ id_bytes (accessory_at (a - 1) (devices_of r))
   pub passed : StandsBehind answer r → PassedBy (length (devices_of r)) (drive_party r) a number made.whole.adds.came
   pub spoken : SaysOf answer r → SpokenBy (length (devices_of r)) (drive_party r) a number start answer made.whole.adds.came made.whole.adds.answers
 
@@ -167,7 +187,8 @@ pub record NotReceived {M : Type 0} (view : M → MediumView) (a : ℕ) (number 
   pub fitting : fits w answer ≡ true
   pub broken : BrokenOff view (Receive a number start answer) r s
   pub unheard : Unheard r s
-  pub passed : StandsBehind answer r → PassedInPart (length (devices_of r)) (drive_party r) a number broken.broke.adds.came
+  pub stays : AllStay false r s
+  pub passed : StandsBehind answer r → PassedInPart (length (devices_of r)) (drive_party r) a number (up_to_end a number start answer) broken.broke.standing broken.broke.adds.came
 
 -- ---- before the start message
 
@@ -275,11 +296,16 @@ IsOnward answer onward.Broken = (answer ≡ arrival.Lost) ⊎ ((g : Frame) × (a
 
 -- ---- the start message
 
+-- a talker has no accessory ID
+abbrev pub IsNameless : ℕ → DeviceState → Type 0
+IsNameless k d = d.roles.talks ≡ true → d.accessory ≡ None
+
 -- Party p took it, and its first frame is held, which was altered exactly where a planned hop was met.
 pub record Began {M : Type 0} (view : M → MediumView) (start : Frame) (r m : RingView M) : Type 0 where
   pub now : IsHolding m
   pub added : Brings view r now.flight.source (λ gs. gs ≡ now.flight.sent ∷ []) None (entry 0 start (outcome.Taken now.flight.source) ∷ []) (Some now.flight.source) m
   pub talked : IsTalking now.flight.source None (devices_of r)
+  pub id : message_of start ≡ msg.Sai → (n : ℕ) × (talked.talker.accessory ≡ Some n) × (now.own ≡ identity n)
   pub met : MatchBool now.flight.altered (met_between r m ≢ []) (met_between r m ≡ [])
   pub unheard : Unheard r m
 
@@ -289,7 +315,7 @@ pub data NotBegun {M : Type 0} (view : M → MediumView) (start : Frame) (r s : 
   FirstLost : (p : ℕ) (d : Echo) → is_echo d ≡ true → IsTalking p None (devices_of r) → (broke : Broke view r (entry 0 start (outcome.Taken p) ∷ echoed p d ∷ []) s) → (p < drive_party r → AllSpoken broke.adds.came) → Unheard r s → NotBegun view start r s
 
 abbrev pub Begins : {M : Type 0} → (M → MediumView) → Frame → RingView M → Begun → RingView M → Type 0
-Begins view start r begun.NotTaken s = (whole : Whole view r (returned 0 start ∷ []) s) × (own_frames whole.adds.answers ≡ []) × Unheard r s
+Begins view start r begun.NotTaken s = (whole : Whole view r (returned 0 start ∷ []) s) × (own_frames whole.adds.answers ≡ []) × (message_of start ≡ msg.Sai → Each IsNameless 1 (devices_of r)) × Unheard r s
 Begins view start r begun.Taken s = Began view start r s
 Begins view start r begun.Broken s = NotBegun view start r s
 
@@ -301,13 +327,14 @@ behind_start NotTaken = []
 behind_start (ToItsEnd p ds) = map (echoed p) ds ++ entry p eto (outcome.Taken 0) ∷ []
 behind_start (Stopped p ds last) = map (echoed p) ds ++ returned 0 nrd ∷ echoed p last ∷ entry p eto (outcome.Taken 0) ∷ []
 
--- so many of them came back right, and the next is held
+-- So many of them came back right, and the next is held. There are none where the first is the last.
 pub record SoFar {M : Type 0} (view : M → MediumView) (m : RingView M) (h : IsHolding m) (bytes : List ℕ) (s : RingView M) : Type 0 where
   pub ds : List Echo
   pub echoes : list_all is_echo ds ≡ true
   pub bytes_are : bytes ≡ bytes_of ds
   pub now : IsHolding s
   pub source : now.flight.source ≡ h.flight.source
+  pub alone : h.own.last ≡ true → (bytes ≡ []) × (now.own.last ≡ true) × (now.flight.sent ≡ h.flight.sent)
   pub added : Brings view m h.flight.source (λ gs. h.flight.sent ∷ gs ≡ frames_of ds ++ now.flight.sent ∷ []) (Some h.flight.source) (map (echoed h.flight.source) ds) (Some h.flight.source) s
   pub met : MatchBool now.flight.altered (Spoilt m h s) (Clean m h s)
   pub unheard : Unheard m s
@@ -319,6 +346,7 @@ pub record Took {M : Type 0} (view : M → MediumView) (m : RingView M) (h : IsH
   pub legal : is_answer 0 answer ≡ true
   pub stopped : is_stopped answer ≡ stops
   pub bytes_are : bytes ≡ received answer
+  pub alone : h.own.last ≡ true → bytes ≡ byte_of h.flight.sent ∷ []
   pub added : Brings view m h.flight.source (λ gs. h.flight.sent ∷ gs ≡ sent_frames answer ++ eto ∷ []) (Some h.flight.source) (behind_start answer) None s
   pub ring : IsRing s
   pub held : s.books.held ≡ None
@@ -371,6 +399,10 @@ TakesBytes view m old new (Some n) s = (h : IsHolding m) → TookInto view m h o
 abbrev pub WasTalking : {M : Type 0} → Answer → RingView M → Type 0
 WasTalking answer r = IfSome (talker_of answer) (λ p. IsTalking p None (devices_of r))
 
+-- Of SAI: the bytes tell the talker's accessory ID. It was not taken where no talker has one.
+abbrev pub SaysId : Answer → List DeviceState → Type 0
+SaysId answer ds = MatchOption (talker_of answer) (Each IsNameless 1 ds) (λ p. received answer ≡ id_bytes (accessory_at (p - 1) ds))
+
 -- what came of the start message
 pub record Answered {M : Type 0} (view : M → MediumView) (start : Start) (n : ℕ) (r : RingView M) (old new : List ℕ) (s : RingView M) : Type 0 where
   pub answer : Answer
@@ -384,6 +416,7 @@ pub record Answered {M : Type 0} (view : M → MediumView) (start : Start) (n : 
   pub bytes : new ≡ received answer ++ drop n old
   pub stops : is_stopped answer ≡ (n == length old)
   pub unheard : Unheard r s
+  pub id : start ≡ Sai → SaysId answer (devices_of r)
 
 pub record NotAnswered {M : Type 0} (view : M → MediumView) (start : Start) (w : ℕ) (r s : RingView M) : Type 0 where
   pub answer : Answer

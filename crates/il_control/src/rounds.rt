@@ -1,11 +1,11 @@
 // What the controller does on the ring, one round behind the other. Each answers whether it was done whole.
-ghost use Rattle.std.specs.Prelude.{◌≡◌, ◌≤◌, ◌<◌, [], ◌∷◌, ◌++◌, true, MatchBool, MatchOption, IfSome};
+ghost use Rattle.std.specs.Prelude.{◌≡◌, ◌≤◌, ◌<◌, [], ◌∷◌, ◌++◌, true, MatchBool, MatchOption, IfSome, not, is_some};
 ghost use Rattle.il_frames.specs.Messages.{message_of};
 ghost use Rattle.il_device.proofs.Laws.{is_plain};
 ghost use Rattle.loop_model.specs.Exchanges.{Send, entries_of, numbered, returned, commanded};
 ghost use Rattle.loop_model.specs.Entries.{ifc, aau, lad, ddl};
 ghost use Rattle.il_ring.specs.Rings.{spare_of};
-ghost use Rattle.il_control.specs.Calls.{Obeyed, Whole, Broke, IsFree, IsIdle, IsLost, Resumed, NotResumed, Sent, NotSent};
+ghost use Rattle.il_control.specs.Calls.{AllStay, Obeyed, ObeyedInPart, Whole, Broke, IsFree, IsIdle, IsLost, Resumed, NotResumed, Sent, NotSent};
 
 use crate::frames::{aad, aau, dab, ddl, ifc, lad, rfc, unl};
 use il_frames::Frame;
@@ -20,6 +20,7 @@ pub(crate) fn pass_round<M: Medium>(ring: &mut Ring<M>, frame: Frame) -> bool
     ensures done { MatchBool result (Whole M.view (⟦<Ring<M> as Seen<M>>⟧.seen ring.old) (returned 0 frame ∷ []) (⟦<Ring<M> as Seen<M>>⟧.seen ring.new))
         (Broke M.view (⟦<Ring<M> as Seen<M>>⟧.seen ring.old) (returned 0 frame ∷ []) (⟦<Ring<M> as Seen<M>>⟧.seen ring.new)) }
     ensures obeyed { result ≡ true → Obeyed (message_of frame) (⟦<Ring<M> as Seen<M>>⟧.seen ring.old) (⟦<Ring<M> as Seen<M>>⟧.seen ring.new) }
+    ensures part { ObeyedInPart (message_of frame) (⟦<Ring<M> as Seen<M>>⟧.seen ring.old) (⟦<Ring<M> as Seen<M>>⟧.seen ring.new) }
 {
     match ring.send(frame) {
         Arrival::Frame(_) => true,
@@ -35,6 +36,7 @@ pub(crate) fn command<M: Medium>(ring: &mut Ring<M>, frame: Frame) -> bool
     ensures done { MatchBool result (Whole M.view (⟦<Ring<M> as Seen<M>>⟧.seen ring.old) (commanded 0 frame) (⟦<Ring<M> as Seen<M>>⟧.seen ring.new))
         (Broke M.view (⟦<Ring<M> as Seen<M>>⟧.seen ring.old) (commanded 0 frame) (⟦<Ring<M> as Seen<M>>⟧.seen ring.new)) }
     ensures obeyed { result ≡ true → Obeyed (message_of frame) (⟦<Ring<M> as Seen<M>>⟧.seen ring.old) (⟦<Ring<M> as Seen<M>>⟧.seen ring.new) }
+    ensures part { ObeyedInPart (message_of frame) (⟦<Ring<M> as Seen<M>>⟧.seen ring.old) (⟦<Ring<M> as Seen<M>>⟧.seen ring.new) }
 {
     pass_round(ring, frame) && pass_round(ring, rfc())
 }
@@ -45,8 +47,9 @@ pub(crate) fn tell<M: Medium>(ring: &mut Ring<M>, address: u8, number: Option<u8
     requires free { IsFree (⟦<Ring<M> as Seen<M>>⟧.seen ring.old) }
     requires address { address ≤ 30 }
     requires number { IfSome number (λ n. n < 32) }
-    ensures { MatchBool result (Whole M.view (⟦<Ring<M> as Seen<M>>⟧.seen ring.old) (entries_of 0 (Send address number [])) (⟦<Ring<M> as Seen<M>>⟧.seen ring.new))
+    ensures done { MatchBool result (Whole M.view (⟦<Ring<M> as Seen<M>>⟧.seen ring.old) (entries_of 0 (Send address number [])) (⟦<Ring<M> as Seen<M>>⟧.seen ring.new))
         (Broke M.view (⟦<Ring<M> as Seen<M>>⟧.seen ring.old) (entries_of 0 (Send address number [])) (⟦<Ring<M> as Seen<M>>⟧.seen ring.new)) }
+    ensures stays { AllStay (not (is_some number)) (⟦<Ring<M> as Seen<M>>⟧.seen ring.old) (⟦<Ring<M> as Seen<M>>⟧.seen ring.new) }
 {
     command(ring, unl()) && tell_one(ring, address, number)
 }
@@ -57,8 +60,9 @@ fn tell_one<M: Medium>(ring: &mut Ring<M>, address: u8, number: Option<u8>) -> b
     requires free { IsFree (⟦<Ring<M> as Seen<M>>⟧.seen ring.old) }
     requires address { address ≤ 30 }
     requires number { IfSome number (λ n. n < 32) }
-    ensures { MatchBool result (Whole M.view (⟦<Ring<M> as Seen<M>>⟧.seen ring.old) (commanded 0 (lad address) ++ numbered 0 ddl number) (⟦<Ring<M> as Seen<M>>⟧.seen ring.new))
+    ensures done { MatchBool result (Whole M.view (⟦<Ring<M> as Seen<M>>⟧.seen ring.old) (commanded 0 (lad address) ++ numbered 0 ddl number) (⟦<Ring<M> as Seen<M>>⟧.seen ring.new))
         (Broke M.view (⟦<Ring<M> as Seen<M>>⟧.seen ring.old) (commanded 0 (lad address) ++ numbered 0 ddl number) (⟦<Ring<M> as Seen<M>>⟧.seen ring.new)) }
+    ensures stays { AllStay (not (is_some number)) (⟦<Ring<M> as Seen<M>>⟧.seen ring.old) (⟦<Ring<M> as Seen<M>>⟧.seen ring.new) }
 {
     command(ring, lad(address)) && command_of(ring, number)
 }
@@ -68,8 +72,9 @@ fn command_of<M: Medium>(ring: &mut Ring<M>, number: Option<u8>) -> bool
     requires room { 34 ≤ spare_of (⟦<Ring<M> as Seen<M>>⟧.seen ring.old) }
     requires free { IsFree (⟦<Ring<M> as Seen<M>>⟧.seen ring.old) }
     requires number { IfSome number (λ n. n < 32) }
-    ensures { MatchBool result (Whole M.view (⟦<Ring<M> as Seen<M>>⟧.seen ring.old) (numbered 0 ddl number) (⟦<Ring<M> as Seen<M>>⟧.seen ring.new))
+    ensures done { MatchBool result (Whole M.view (⟦<Ring<M> as Seen<M>>⟧.seen ring.old) (numbered 0 ddl number) (⟦<Ring<M> as Seen<M>>⟧.seen ring.new))
         (Broke M.view (⟦<Ring<M> as Seen<M>>⟧.seen ring.old) (numbered 0 ddl number) (⟦<Ring<M> as Seen<M>>⟧.seen ring.new)) }
+    ensures stays { AllStay (not (is_some number)) (⟦<Ring<M> as Seen<M>>⟧.seen ring.old) (⟦<Ring<M> as Seen<M>>⟧.seen ring.new) }
 {
     match number {
         None => true,
@@ -95,8 +100,9 @@ pub(crate) fn send_byte<M: Medium>(ring: &mut Ring<M>, byte: u8) -> bool
 fn clear<M: Medium>(ring: &mut Ring<M>) -> bool
     requires room { 36 ≤ spare_of (⟦<Ring<M> as Seen<M>>⟧.seen ring.old) }
     requires free { IsFree (⟦<Ring<M> as Seen<M>>⟧.seen ring.old) }
-    ensures { MatchBool result (Whole M.view (⟦<Ring<M> as Seen<M>>⟧.seen ring.old) (commanded 0 ifc ++ commanded 0 aau) (⟦<Ring<M> as Seen<M>>⟧.seen ring.new))
+    ensures done { MatchBool result (Whole M.view (⟦<Ring<M> as Seen<M>>⟧.seen ring.old) (commanded 0 ifc ++ commanded 0 aau) (⟦<Ring<M> as Seen<M>>⟧.seen ring.new))
         (Broke M.view (⟦<Ring<M> as Seen<M>>⟧.seen ring.old) (commanded 0 ifc ++ commanded 0 aau) (⟦<Ring<M> as Seen<M>>⟧.seen ring.new)) }
+    ensures stays { AllStay true (⟦<Ring<M> as Seen<M>>⟧.seen ring.old) (⟦<Ring<M> as Seen<M>>⟧.seen ring.new) }
 {
     command(ring, ifc()) && command(ring, aau())
 }
@@ -105,8 +111,9 @@ fn clear<M: Medium>(ring: &mut Ring<M>) -> bool
 pub(crate) fn address<M: Medium>(ring: &mut Ring<M>) -> Option<u8>
     requires room { 37 ≤ spare_of (⟦<Ring<M> as Seen<M>>⟧.seen ring.old) }
     requires lost { IsLost (⟦<Ring<M> as Seen<M>>⟧.seen ring.old) }
-    ensures { MatchOption result (NotResumed M.view (⟦<Ring<M> as Seen<M>>⟧.seen ring.old) (⟦<Ring<M> as Seen<M>>⟧.seen ring.new))
+    ensures done { MatchOption result (NotResumed M.view (⟦<Ring<M> as Seen<M>>⟧.seen ring.old) (⟦<Ring<M> as Seen<M>>⟧.seen ring.new))
         (λ n. Resumed M.view n (⟦<Ring<M> as Seen<M>>⟧.seen ring.old) (⟦<Ring<M> as Seen<M>>⟧.seen ring.new)) }
+    ensures stays { AllStay true (⟦<Ring<M> as Seen<M>>⟧.seen ring.old) (⟦<Ring<M> as Seen<M>>⟧.seen ring.new) }
 {
     if !clear(ring) {
         return None;

@@ -1,9 +1,10 @@
-ghost use Rattle.std.specs.Prelude.{◌≡◌, ◌≤◌, ◌<◌, ◌+◌, [], true, length, IfSome, IfOk, IfErr};
+ghost use Rattle.std.specs.Prelude.{◌≡◌, ◌≤◌, ◌<◌, ◌+◌, [], true, length, IfSome, IfOk, IfErr, not, is_some};
+ghost use Rattle.il_frames.specs.Messages.{message_of};
 ghost use Rattle.loop_model.specs.Exchanges.Exchange.{Command, Identify, Send};
 ghost use Rattle.il_ring.specs.Rings.{spare_of, devices_of};
 ghost use Rattle.il_ring.specs.Lists.{Each};
 ghost use Rattle.il_ring.specs.Polls.{identified_along};
-ghost use Rattle.il_control.specs.Calls.{idy, IsIdle, IsLost, is_command, Made, BrokenOff, Resumed, NotResumed, IsTold, Sent, NotSent};
+ghost use Rattle.il_control.specs.Calls.{idy, IsIdle, IsLost, is_command, Made, BrokenOff, Obeyed, ObeyedInPart, AllStay, Resumed, NotResumed, IsTold, Sent, NotSent};
 ghost use Rattle.il_control.specs.Receives.{start_of, Received, NotReceived};
 
 use crate::frames;
@@ -132,6 +133,9 @@ impl<M: Medium> Lost<M> {
         requires room { 37 ≤ spare_of (⟦<Lost<M> as Seen<M>>⟧.seen self) }
         requires lost { IsLost (⟦<Lost<M> as Seen<M>>⟧.seen self) }
         ensures resumed { IfOk result (λ told. Resumed M.view told.1 (⟦<Lost<M> as Seen<M>>⟧.seen self) (⟦<Idle<M> as Seen<M>>⟧.seen told.0)) }
+        // No device hears anything, and each keeps its place in the parallel poll and its wish for service.
+        ensures stays { IfOk result (λ told. AllStay true (⟦<Lost<M> as Seen<M>>⟧.seen self) (⟦<Idle<M> as Seen<M>>⟧.seen told.0)) }
+        ensures stays_lost { IfErr result (λ lost. AllStay true (⟦<Lost<M> as Seen<M>>⟧.seen self) (⟦<Lost<M> as Seen<M>>⟧.seen lost)) }
         ensures not_resumed { IfErr result (λ lost. NotResumed M.view (⟦<Lost<M> as Seen<M>>⟧.seen self) (⟦<Lost<M> as Seen<M>>⟧.seen lost)) }
     {
         let Lost { mut ring, devices } = self;
@@ -172,7 +176,11 @@ impl<M: Medium> Idle<M> {
         requires idle { IsIdle (⟦<Idle<M> as Seen<M>>⟧.seen self) }
         requires command { is_command frame ≡ true }
         ensures made { IfOk result (λ idle. Made M.view (Command frame) (⟦<Idle<M> as Seen<M>>⟧.seen self) (⟦<Idle<M> as Seen<M>>⟧.seen idle)) }
+        // Each device did what the command asks: roles and places in the parallel poll are those that it gives.
+        ensures obeyed { IfOk result (λ idle. Obeyed (message_of frame) (⟦<Idle<M> as Seen<M>>⟧.seen self) (⟦<Idle<M> as Seen<M>>⟧.seen idle)) }
         ensures broken { IfErr result (λ lost. BrokenOff M.view (Command frame) (⟦<Idle<M> as Seen<M>>⟧.seen self) (⟦<Lost<M> as Seen<M>>⟧.seen lost)) }
+        // Broken off, it was so for the devices that the command came to.
+        ensures part { IfErr result (λ lost. ObeyedInPart (message_of frame) (⟦<Idle<M> as Seen<M>>⟧.seen self) (⟦<Lost<M> as Seen<M>>⟧.seen lost)) }
     {
         let Idle { mut ring, devices } = self;
         if command(&mut ring, frame) {
@@ -189,6 +197,9 @@ impl<M: Medium> Idle<M> {
         requires idle { IsIdle (⟦<Idle<M> as Seen<M>>⟧.seen self) }
         ensures made { IfOk result (λ told. Made M.view (Identify told.1) (⟦<Idle<M> as Seen<M>>⟧.seen self) (⟦<Idle<M> as Seen<M>>⟧.seen told.0)) }
         ensures poll { IfOk result (λ told. told.1 ≡ identified_along (devices_of (⟦<Idle<M> as Seen<M>>⟧.seen self)) idy) }
+        // No device hears anything, and each keeps its place in the poll and its wish for service.
+        ensures stays { IfOk result (λ told. AllStay true (⟦<Idle<M> as Seen<M>>⟧.seen self) (⟦<Idle<M> as Seen<M>>⟧.seen told.0)) }
+        ensures stays_lost { IfErr result (λ lost. AllStay true (⟦<Idle<M> as Seen<M>>⟧.seen self) (⟦<Lost<M> as Seen<M>>⟧.seen lost)) }
         ensures broken { IfErr result (λ lost. BrokenOff M.view (Identify idy) (⟦<Idle<M> as Seen<M>>⟧.seen self) (⟦<Lost<M> as Seen<M>>⟧.seen lost)) }
     {
         let Idle { mut ring, devices } = self;
@@ -206,6 +217,9 @@ impl<M: Medium> Idle<M> {
         requires address { (1 ≤ address) × (address ≤ 30) }
         requires number { IfSome number (λ n. n < 32) }
         ensures made { IfOk result (λ sending. Made M.view (Send address number []) (⟦<Idle<M> as Seen<M>>⟧.seen self) (⟦<Sending<M> as Seen<M>>⟧.seen sending)) }
+        // No device hears anything, and each keeps its place in the parallel poll; and where no command is given, its wish for service.
+        ensures stays { IfOk result (λ sending. AllStay (not (is_some number)) (⟦<Idle<M> as Seen<M>>⟧.seen self) (⟦<Sending<M> as Seen<M>>⟧.seen sending)) }
+        ensures stays_lost { IfErr result (λ lost. AllStay (not (is_some number)) (⟦<Idle<M> as Seen<M>>⟧.seen self) (⟦<Lost<M> as Seen<M>>⟧.seen lost)) }
         ensures told { IfOk result (λ sending. Each (IsTold address) 1 (devices_of (⟦<Sending<M> as Seen<M>>⟧.seen sending))) }
         ensures broken { IfErr result (λ lost. BrokenOff M.view (Send address number []) (⟦<Idle<M> as Seen<M>>⟧.seen self) (⟦<Lost<M> as Seen<M>>⟧.seen lost)) }
     {

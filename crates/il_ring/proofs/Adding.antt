@@ -13,6 +13,7 @@ use Rattle.il_ring.specs.Rings.{RingView, devices_of, roles_of}
 use Rattle.il_ring.specs.Rounded.{AllTook}
 use Rattle.il_ring.specs.Adds.{Adds}
 use Rattle.il_ring.proofs.Counts.{risen_by-add}
+use Rattle.il_ring.proofs.RoundPlaces.{no_poll_parts, places_nothing, places_then}
 
 -- ---- frames of devices
 
@@ -56,6 +57,7 @@ adds_nothing view r a = record {
   linked = omega arith;
   frames = took_nothing (length (devices_of r)) 0 a (devices_of r);
   roles = refl;
+  places = λ none. places_nothing (devices_of r);
   came = [];
   answers = [];
   drive = refl;
@@ -87,6 +89,7 @@ adds_more view r m s a b c xs ys first more =
       linked = let sum = links_so_far-append k xs ys c in omega (arith, sum, first.linked, linked);
       frames = took_then k 0 a b c xs ys (devices_of r) (devices_of m) (devices_of s) first.frames (subst (λ k. AllTook k b ys c 0 (devices_of m) (devices_of s)) size more.frames);
       roles = more.roles ∙ ap (λ rs. roles_after rs ys) first.roles ∙ sym (roles_after-append (roles_of (devices_of r)) xs ys);
+      places = λ none. let parts = no_poll_parts xs ys none in places_then (devices_of r) (devices_of m) (devices_of s) (first.places parts.0) (more.places parts.1);
       came = first.came ++ more.came;
       answers = first.answers ++ more.answers;
       drive = joins view first.came more.came first.answers more.answers r.drive m.drive s.drive first.drive more.drive;
@@ -115,6 +118,7 @@ adds_held view r s a xs adds = record {
   linked = omega (arith, adds.linked);
   frames = took_held (length (devices_of r)) 0 a xs (devices_of r) (devices_of s) adds.frames;
   roles = adds.roles;
+  places = adds.places;
   came = adds.came;
   answers = adds.answers;
   drive = adds.drive;

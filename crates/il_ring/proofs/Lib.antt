@@ -9,6 +9,7 @@ pub mod Passing
 pub mod RoundRoles
 pub mod HostRoles
 pub mod RolesHome
+pub mod RoundPlaces
 pub mod Faults
 pub mod Passes
 pub mod PassRounds

@@ -30,6 +30,7 @@ use Rattle.il_ring.specs.Plans.{next_fault}
 use Rattle.il_ring.specs.Flights.{sourced, altered_by, hit, lost_at, ended_at}
 use Rattle.il_ring.specs.Journeys.{Trip, answered, Meets, Reaches, Journey}
 use Rattle.il_ring.specs.Rings.{roles_of}
+use Rattle.il_ring.specs.Polls.{is_poll}
 use Rattle.il_ring.specs.Outcomes.{is_other}
 use Rattle.il_ring.proofs.CountSteps.{hit_same}
 use Rattle.il_ring.proofs.Passing.{Carries, Exactly, AsData, AsIdentify, is_exact, is_identify_class, keeps_on, kept_by, carries_on, carried_roles}
@@ -70,11 +71,12 @@ hit_carries m (Some (Alter change)) f g carries is = altered_by_link m f g chang
 
 -- ---- a frame that a device sends
 
--- it is a device's, and changes no role
+-- it is a device's, and changes neither a role nor a place in the poll
 pub record IsQuiet (f : Flight) : Type 0 where
   pub from_device : 1 ≤ f.source
   pub message : Message
   pub keeps : changes_roles message ≡ false
+  pub no_poll : is_poll message ≡ false
   pub carries : Carries message f.now
 
 -- none, or a quiet one
@@ -86,18 +88,18 @@ sent_frame : (g h : Frame) → Source g ≡ Source h → g ≡ h
 sent_frame g h e = ap (λ out. elim out [ Pass f ↦ f | Source f ↦ f ]) e
 
 sent_data : (party : ℕ) (h own : Frame) → 1 ≤ party → Source h ≡ Source own → is_data own ≡ true → IsQuiet (sourced party h)
-sent_data party h own some is data_frame = record { from_device = some; message = msg.Dab 0; keeps = refl; carries = AsData refl (ap is_data (sent_frame h own is) ∙ data_frame) }
+sent_data party h own some is data_frame = record { from_device = some; message = msg.Dab 0; keeps = refl; no_poll = refl; carries = AsData refl (ap is_data (sent_frame h own is) ∙ data_frame) }
 
-sent_end : (party : ℕ) (h with_ : Frame) (m : Message) → 1 ≤ party → Source h ≡ Source with_ → message_of with_ ≡ m → is_exact m ≡ true → changes_roles m ≡ false → IsQuiet (sourced party h)
-sent_end party h with_ m some is says exact keeps = record { from_device = some; message = m; keeps = keeps; carries = Exactly exact (ap message_of (sent_frame h with_ is) ∙ says) }
+sent_end : (party : ℕ) (h with_ : Frame) (m : Message) → 1 ≤ party → Source h ≡ Source with_ → message_of with_ ≡ m → is_exact m ≡ true → changes_roles m ≡ false → is_poll m ≡ false → IsQuiet (sourced party h)
+sent_end party h with_ m some is says exact keeps no_poll = record { from_device = some; message = m; keeps = keeps; no_poll = no_poll; carries = Exactly exact (ap message_of (sent_frame h with_ is) ∙ says) }
 
 sent_on_echo : (over : Bool) (party : ℕ) (h : Frame) (out : Out) (e : DeviceState) → 1 ≤ party → GoesOn over out e → out ≡ Source h → IsQuiet (sourced party h)
-sent_on_echo true party h out e some ends is = sent_end party h eto msg.Eto some (sym is ∙ ends.answer) refl refl refl
-sent_on_echo false party h out e some (inl ends) is = sent_end party h eto msg.Eto some (sym is ∙ ends.answer) refl refl refl
+sent_on_echo true party h out e some ends is = sent_end party h eto msg.Eto some (sym is ∙ ends.answer) refl refl refl refl
+sent_on_echo false party h out e some (inl ends) is = sent_end party h eto msg.Eto some (sym is ∙ ends.answer) refl refl refl refl
 sent_on_echo false party h out e some (inr sends) is = sent_data party h sends.0.frame some (sym is ∙ sends.1.answer) sends.1.is_data
 
 sent_echo : (right : Bool) (party : ℕ) (h : Frame) (out : Out) (e : DeviceState) (own : OwnFrame) → 1 ≤ party → AnswersEcho right own out e → out ≡ Source h → IsQuiet (sourced party h)
-sent_echo false party h out e own some ends is = sent_end party h ete msg.Ete some (sym is ∙ ends.answer) refl refl refl
+sent_echo false party h out e own some ends is = sent_end party h ete msg.Ete some (sym is ∙ ends.answer) refl refl refl refl
 sent_echo true party h out e own some on is = sent_on_echo _ party h out e some on is
 
 sent_as : (asked : Turn) (party : ℕ) (d e : DeviceState) (f h : Frame) (out : Out) → 1 ≤ party → Answers asked d f out e → out ≡ Source h → IsQuiet (sourced party h)
@@ -146,6 +148,7 @@ quiet_hit fault f g quiet is = record {
   from_device = omega (arith, quiet.from_device, (hit_same fault f g is).source);
   message = quiet.message;
   keeps = quiet.keeps;
+  no_poll = quiet.no_poll;
   carries = hit_carries quiet.message fault f g quiet.carries is;
 }
 
@@ -159,6 +162,7 @@ quiet_answered k n log t g (Pass h) d e some same quiet takes = record {
     from_device = quiet.from_device;
     message = quiet.message;
     keeps = quiet.keeps;
+    no_poll = quiet.no_poll;
     carries = subst (λ m. Carries m h) (keeps_on quiet.message d.roles quiet.keeps) (carries_on quiet.message d e g.now h quiet.carries takes);
   };
 }

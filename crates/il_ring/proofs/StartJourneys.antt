@@ -50,7 +50,7 @@ pub record StartTaken (plan : List Planned) (k n : ℕ) (log : List Entry) (f : 
   pub clear : IsClear plan n (suc (length before))
   pub sent : Frame
   pub takes : Takes taker f.now (Source sent) taker_then
-  pub sends : SendsFirst taker taker_then sent
+  pub sends : SendsFirst f.now taker taker_then sent
   pub journey : Journey plan (k + length before + 1) (trip (risen_by (suc (length before)) n) (log ++ ended_at f (k + length before) ∷ []) (Some (sourced (k + length before) sent))) behind u behind_then
 
 abbrev pub StartGoes : List Planned → ℕ → ℕ → List Entry → Flight → List DeviceState → Trip → List DeviceState → Type 0

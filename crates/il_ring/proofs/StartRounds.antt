@@ -145,6 +145,7 @@ taken_round view r s held f answer within plan one none round taken =
           own_is = none_sends_at taken.before taken.behind taken.taker (subst NoneSends taken.devices none);
           silent_behind = silent.1;
         };
+        id = taken.sends.id;
         talking = record {
           before = taken.before_then;
           talker = taken.taker_then;

@@ -2,6 +2,7 @@
 use Rattle.std.specs.Prelude.{◌||◌, ◌==◌, not, ◌≡◌, ◌≢◌, ◌⊎◌, ◌≤◌, ◌<◌, ◌+◌, ◌++◌, ℕ, Bool, true, false, if◌then◌else◌, List, [], ◌∷◌, length, Option, Some, None, MatchBool}
 use Rattle.il_frames.specs.declared.frame.Frame.{Frame}
 use Rattle.il_frames.specs.declared.message.Message.{Message}
+use Rattle.il_frames.specs.declared.message.Message.TheVariants as msg
 use Rattle.il_frames.specs.declared.entry.Entry.{Entry}
 use Rattle.il_frames.specs.declared.entry.Outcome.TheVariants as outcome
 use Rattle.il_frames.specs.Frames.{byte_of, is_data, with_service}
@@ -10,7 +11,7 @@ use Rattle.il_device.specs.declared.device.Out.TheVariants.{Pass, Source}
 use Rattle.il_device.specs.declared.interface.OwnFrame.{OwnFrame}
 use Rattle.il_device.specs.Roles.{roles_after, own_after, assignment_after}
 use Rattle.il_device.specs.State.{DeviceState, risen}
-use Rattle.il_device.specs.Takes.{eto, ete, kept, may_change_service}
+use Rattle.il_device.specs.Takes.{eto, ete, identity, kept, may_change_service}
 use Rattle.il_ports.specs.Media.{MediumView}
 use Rattle.loop_model.specs.Entries.{entry}
 use Rattle.loop_model.specs.Reach.{met}
@@ -116,10 +117,11 @@ pub record DataBroken {M : Type 0} (r : RingView M) (held : Option Flight) (f : 
 
 -- ---- start messages that no device took
 
--- it passed the message on
+-- it passed the message on: SAI only where it does not talk, or has no accessory ID
 pub record LetsPass (f : Frame) (d e : DeviceState) : Type 0 where
   pub obeyed : Obeys (message_of f) d e
   pub roles : e.roles ≡ d.roles
+  pub no_id : message_of f ≡ msg.Sai → d.roles.talks ≡ true → d.accessory ≡ None
 
 -- it was not taken
 pub record StartReturned {M : Type 0} (r : RingView M) (held : Option Flight) (f : Frame) (answer : Arrival) (s : RingView M) : Type 0 where
@@ -165,7 +167,8 @@ pub record IsLostNow {M : Type 0} (r : RingView M) (entries : List Entry) (p : �
   pub held_is : s.books.held ≡ None
   pub met_some : met_between r s ≢ []
 
--- a start message was taken by party p, which sent a data frame in its place; that frame is held at the host, or was lost
+-- A start message was taken by party p, which sent a data frame in its place: to SAI its accessory ID, as the last one. That frame is held at
+-- the host, or was lost.
 pub record StartTaken {M : Type 0} (r : RingView M) (f : Frame) (answer : Arrival) (s : RingView M) : Type 0 where
   pub party : ℕ
   pub on_ring : (1 ≤ party) × (party ≤ length (devices_of r))
@@ -175,6 +178,7 @@ pub record StartTaken {M : Type 0} (r : RingView M) (f : Frame) (answer : Arriva
   pub own_frame : own.frame ≡ sent
   pub runs : own.stopped ≡ false
   pub talking_before : IsTalking party None (devices_of r)
+  pub id : message_of f ≡ msg.Sai → (n : ℕ) × (talking_before.talker.accessory ≡ Some n) × (own ≡ identity n)
   pub talking : IsTalking party (Some own) (devices_of s)
   pub end : ((altered : Bool) × IsHeldNow r (entry 0 f (outcome.Taken party) ∷ []) party sent altered answer s × MatchBool altered (met_between r s ≢ []) (met_between r s ≡ []))
       ⊎ IsLostNow r (entry 0 f (outcome.Taken party) ∷ []) party sent answer s

@@ -1,5 +1,5 @@
 use Rattle.std.proofs.Common.{refl}
-use Rattle.il_control.proofs.Asking.{plain_obeyed}
+use Rattle.il_control.proofs.Asking.{plain_obeyed, plain_part}
 use Rattle.il_control.proofs.Calls.{plain_call}
 use Rattle.il_control.proofs.rounds.pass_round.Goals as goal
 
@@ -11,3 +11,9 @@ returns-in-Lost-clause-done g c = plain_call g.M.Medium.view _ _ _ _ _ c.in-Lost
 
 pub returns-in-Frame-clause-obeyed : goal.returns-in-Frame-clause-obeyed
 returns-in-Frame-clause-obeyed g c = λ done. plain_obeyed g.M.Medium.view _ _ _ _ _ c.in-Frame.ensures.round c.requires.free c.requires.plain refl
+
+pub returns-in-Frame-clause-part : goal.returns-in-Frame-clause-part
+returns-in-Frame-clause-part g c = plain_part g.M.Medium.view _ _ _ _ _ c.in-Frame.ensures.round c.requires.free c.requires.plain
+
+pub returns-in-Lost-clause-part : goal.returns-in-Lost-clause-part
+returns-in-Lost-clause-part g c = plain_part g.M.Medium.view _ _ _ _ _ c.in-Lost.ensures.round c.requires.free c.requires.plain

@@ -1,3 +1,4 @@
+use Rattle.std.proofs.Common.{refl}
 use Rattle.il_control.proofs.Made.{command_plain, command_made, command_broken}
 use Rattle.il_control.proofs.states.Idle.command.Goals as goal
 
@@ -9,3 +10,6 @@ returns-then-command-clause-made g c = command_made g.M.Medium.view _ _ _ c.requ
 
 pub returns-else-command-clause-broken : goal.returns-else-command-clause-broken
 returns-else-command-clause-broken g c = command_broken g.M.Medium.view _ _ _ c.requires.idle c.requires.command c.if-command.ensures.done
+
+pub returns-then-command-clause-obeyed : goal.returns-then-command-clause-obeyed
+returns-then-command-clause-obeyed g c = c.if-command.ensures.obeyed refl

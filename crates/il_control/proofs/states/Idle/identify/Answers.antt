@@ -1,3 +1,4 @@
+use Rattle.il_control.proofs.Places.{identify_stay}
 use Rattle.il_control.proofs.Polls.{identify_call}
 use Rattle.il_control.proofs.states.Idle.identify.Goals as goal
 
@@ -9,3 +10,9 @@ returns-in-Frame-clause-poll g c = (identify_call g.M.Medium.view _ _ _ _ _ c.in
 
 pub returns-in-Lost-clause-broken : goal.returns-in-Lost-clause-broken
 returns-in-Lost-clause-broken g c = identify_call g.M.Medium.view _ _ _ _ _ c.in-Lost.ensures.round c.idy.ensures c.requires.idle.free.held c.requires.idle
+
+pub returns-in-Frame-clause-stays : goal.returns-in-Frame-clause-stays
+returns-in-Frame-clause-stays g c = identify_stay g.M.Medium.view _ _ _ _ _ c.in-Frame.ensures.round c.idy.ensures c.requires.idle
+
+pub returns-in-Lost-clause-stays_lost : goal.returns-in-Lost-clause-stays_lost
+returns-in-Lost-clause-stays_lost g c = identify_stay g.M.Medium.view _ _ _ _ _ c.in-Lost.ensures.round c.idy.ensures c.requires.idle
