@@ -1,7 +1,9 @@
 -- A send that broke off: which frames came to the drive, and which bytes had been sent.
 use Rattle.std.proofs.Common.{◌≡◌, ◌∙◌, ◌≤◌, ◌<◌, ◌+◌, ◌++◌, ⊎_elim, ℕ, zero, suc, true, false, List, [], ◌∷◌, Some, map, take, length, get_or, refl, sym, ap, subst, arith}
+use Rattle.std.specs.Prelude.{if◌then◌else◌, Bool}
 use Rattle.std.specs.List.{list_all}
 use Rattle.std.proofs.lemmas.Bool.{and_parts}
+use Rattle.std.proofs.lemmas.List.{length-map}
 use Rattle.il_frames.specs.declared.frame.Frame.{Frame}
 use Rattle.il_frames.specs.declared.entry.Entry.{Entry}
 use Rattle.il_frames.specs.Frames.{byte_of, is_data, same_but_service}
@@ -16,8 +18,9 @@ use Rattle.il_drive.proofs.ExchangesBroken.{AsSent}
 use Rattle.il_drive.proofs.ExchangesStill.{leaves_records, puts-seek, puts-taken, seek_leaves}
 use Rattle.il_drive.proofs.Reading.{nothing_read}
 use Rattle.loop_model.specs.Entries.{unl, rfc, lad, ddl}
-use Rattle.loop_model.specs.Exchanges.{Echo, Send, echoed, returned, entries_of, is_echo}
-use Rattle.loop_model.proofs.UnitLaws.{bytes_of}
+use Rattle.loop_model.specs.Exchanges.{Echo, Break, FrameLost, HostAltered, TalkerAltered, Send, echoed, returned, entries_of, break_entries, cut_at, can_cut, is_echo}
+use Rattle.loop_model.specs.Units.{sent_bytes}
+use Rattle.loop_model.proofs.UnitLaws.{bytes_of, one_byte}
 use Rattle.il_ring.proofs.Passing.{is_exact}
 use Rattle.il_control.specs.Brought.{MayComeAs, CutBrought, is_auto_address}
 use Rattle.il_record.specs.Runs.{LeavesRecords}
@@ -130,3 +133,58 @@ seek_cut view k q m d ds gs outs v w low address legal came ran = record {
 NoData : List Frame → Type 0
 NoData [] = Unit {0}
 NoData (f ∷ fs) = (is_data f ≡ false) × NoData fs
+
+can_cut_within : (es : List Entry) (n : ℕ) (b : Break) → can_cut 0 es n b ≡ true → n < length es
+can_cut_within [] n b legal = cc
+can_cut_within (e ∷ es) zero b legal = omega arith
+can_cut_within (e ∷ es) (suc n) b legal = let more = can_cut_within es n b legal in omega (arith, more)
+
+no_byte : (b : Bool) (byte : ℕ) (bytes : List ℕ) → b ≡ false → (if b then byte ∷ [] else []) ++ bytes ≡ bytes
+no_byte true byte bytes h = cc
+no_byte false byte bytes h = refl
+
+-- none where it broke off among frames that are no data
+sent_in_front : (fs : List Frame) (rest : List Entry) (m : ℕ) (b : Break) → NoData fs → m < length fs → sent_bytes (cut_at (map (returned 0) fs ++ rest) m b) ≡ []
+unfolding NoData
+sent_in_front [] rest m b none within = absurd (omega (arith, within))
+sent_in_front (f ∷ fs) rest zero (FrameLost q) none within = no_byte (is_data f) (byte_of f) [] none.0
+sent_in_front (f ∷ fs) rest zero (HostAltered g) none within = no_byte (is_data f) (byte_of f) [] none.0
+sent_in_front (f ∷ fs) rest zero (TalkerAltered g o) none within = no_byte (is_data f) (byte_of f) [] none.0
+sent_in_front (f ∷ fs) rest (suc m) b none within = no_byte (is_data f) (byte_of f) (sent_bytes (cut_at (map (returned 0) fs ++ rest) m b)) none.0 ∙ sent_in_front fs rest m b none.1 (omega (arith, within))
+
+sent_behind : (fs : List Frame) (rest : List Entry) (n : ℕ) (b : Break) → NoData fs → sent_bytes (cut_at (map (returned 0) fs ++ rest) (length fs + n) b) ≡ sent_bytes (cut_at rest n b)
+unfolding NoData
+sent_behind [] rest n b none = let same : 0 + n ≡ n = omega arith in ap (λ n. sent_bytes (cut_at rest n b)) same
+sent_behind (f ∷ fs) rest n b none =
+    let up : suc (length fs) + n ≡ suc (length fs + n) = omega arith in
+    ap (λ n. sent_bytes (cut_at (map (returned 0) (f ∷ fs) ++ rest) n b)) up ∙ no_byte (is_data f) (byte_of f) (sent_bytes (cut_at (map (returned 0) fs ++ rest) (length fs + n) b)) none.0 ∙ sent_behind fs rest n b none.1
+
+-- the last one too
+sent_echoes : (ds : List Echo) (i : ℕ) (b : Break) → list_all is_echo ds ≡ true → i < length ds → sent_bytes (cut_at (map (echoed 0) ds) i b) ≡ take (suc i) (bytes_of ds)
+sent_echoes [] i b legal within = absurd (omega (arith, within))
+sent_echoes (d ∷ ds) zero b legal within = by b (and_parts (is_data d.sent) (same_but_service d.sent d.back) (and_parts (is_echo d) (list_all is_echo ds) legal).0).0
+  where
+    by : (b : Break) → is_data d.sent ≡ true → sent_bytes (break_entries (echoed 0 d) b) ≡ byte_of d.sent ∷ []
+    by (FrameLost q) h = one_byte (is_data d.sent) (byte_of d.sent) [] h
+    by (HostAltered g) h = one_byte (is_data d.sent) (byte_of d.sent) [] h
+    by (TalkerAltered g o) h = one_byte (is_data d.sent) (byte_of d.sent) [] h
+sent_echoes (d ∷ ds) (suc i) b legal within =
+    let both = and_parts (is_echo d) (list_all is_echo ds) legal in
+    let h = (and_parts (is_data d.sent) (same_but_service d.sent d.back) both.0).0 in
+    one_byte (is_data d.sent) (byte_of d.sent) (sent_bytes (cut_at (map (echoed 0) ds) i b)) h ∙ ap (λ bytes. byte_of d.sent ∷ bytes) (sent_echoes ds i b both.1 (omega (arith, within)))
+
+front_no_data : (a n : ℕ) → NoData (send_front a n)
+unfolding NoData
+front_no_data a n = (refl, (refl, (refl, (refl, (refl, (refl, tt))))))
+
+pub none_sent : (m a n : ℕ) (ds : List Echo) (b : Break) → m < 6 → sent_bytes (cut_at (entries_of 0 (Send a (Some n) ds)) m b) ≡ []
+none_sent m a n ds b within = sent_in_front (send_front a n) (map (echoed 0) ds) m b (front_no_data a n) within
+
+pub some_sent : (i a n : ℕ) (ds : List Echo) (b : Break) → list_all is_echo ds ≡ true → i < length ds → sent_bytes (cut_at (entries_of 0 (Send a (Some n) ds)) (6 + i) b) ≡ take (suc i) (bytes_of ds)
+some_sent i a n ds b legal within = sent_behind (send_front a n) (map (echoed 0) ds) i b (front_no_data a n) ∙ sent_echoes ds i b legal within
+
+pub cut_within : (m a n : ℕ) (ds : List Echo) (b : Break) → can_cut 0 (entries_of 0 (Send a (Some n) ds)) m b ≡ true → m < 6 + length ds
+cut_within m a n ds b legal =
+    let within = can_cut_within (entries_of 0 (Send a (Some n) ds)) m b legal in
+    let long = length-map ds (echoed 0) in
+    omega (arith, within, long)

@@ -140,14 +140,14 @@ read_so view k n first old new r s low free medium at fits many long got =
     read_by view (drive_party r) (length (devices_of r)) low party.0 party.1 got.answer k n first old new r s free medium at fits many long (legal_answer r (drive_party r) (Some 2) Sda got.answer got.made.legal) meant got.count got.within got.bytes got.stops got.made (got.spoken meant)
 
 -- the bytes that an answer brought were sent
-sent_received : (a : ℕ) (answer : Answer) → is_answer 0 answer ≡ true → (number : Option ℕ) (s : Start) → sent_bytes (entries_of 0 (Receive a number s answer)) ≡ received answer
+pub sent_received : (a : ℕ) (answer : Answer) → is_answer 0 answer ≡ true → (number : Option ℕ) (s : Start) → sent_bytes (entries_of 0 (Receive a number s answer)) ≡ received answer
 sent_received a NotTaken legal number s = sent_bytes-not_taken 0 a number s
 sent_received a (ToItsEnd p ds) legal number s = sent_bytes-to_its_end 0 a number s p ds (end_echoes p ds legal).1
 sent_received a (Stopped p ds last) legal number s = let echoes = stop_echoes p ds last legal in sent_bytes-stopped 0 a number s p ds last echoes.0 echoes.1
 
 -- ---- exchanges one behind the other
 
-talked_three : {M : Type 0} (view : M → MediumView) (x y z : Exchange) (r a b s : RingView M) → IsIdle r → Made view x r a → Made view y a b → Made view z b s → Talked view true (WholeOne x ∷ WholeOne y ∷ WholeOne z ∷ []) r s
+pub talked_three : {M : Type 0} (view : M → MediumView) (x y z : Exchange) (r a b s : RingView M) → IsIdle r → Made view x r a → Made view y a b → Made view z b s → Talked view true (WholeOne x ∷ WholeOne y ∷ WholeOne z ∷ []) r s
 talked_three view x y z r a b s idle one two three =
     talked_then view true (WholeOne x ∷ []) (WholeOne y ∷ WholeOne z ∷ []) r a s idle.free (made_talked view x r a one) (talked_then view true (WholeOne y ∷ []) (WholeOne z ∷ []) a b s one.idle.free (made_talked view y a b two) (made_talked view z b s three))
 
@@ -158,7 +158,7 @@ leaves_then view u v w first more = record { still = still_longer _ _ _ first.st
 still_same : {M : Type 0} (view : M → MediumView) (v w : DriveView M) → w.medium ≡ v.medium → IsStill (view v.medium) (view w.medium)
 still_same view v w same = subst (λ m. IsStill (view v.medium) (view m)) (sym same) (nothing_read (view v.medium)).still
 
-leaves_same : {M : Type 0} (view : M → MediumView) (v w : DriveView M) → w.medium ≡ v.medium → LeavesRecords view v w
+pub leaves_same : {M : Type 0} (view : M → MediumView) (v w : DriveView M) → w.medium ≡ v.medium → LeavesRecords view v w
 leaves_same view v w same = record { still = still_same view v w same; count = let e = ap (λ m. (view m).faults) same in omega (arith, e) }
 
 -- ---- what exchanges that read make of the ring
@@ -201,13 +201,13 @@ seek_broke view bytes r s low idle so =
     }
 
 -- party d is the drive's at each step
-same_party : {M : Type 0} (view : M → MediumView) (x : Exchange) (r s : RingView M) → Made view x r s → drive_party s ≡ drive_party r
+pub same_party : {M : Type 0} (view : M → MediumView) (x : Exchange) (r s : RingView M) → Made view x r s → drive_party s ≡ drive_party r
 same_party view x r s made = ap (λ n. n + 1) made.whole.adds.before
 
-others_of : {M : Type 0} (a : ℕ) (r s : RingView M) → Unheard r s → OnlyHeard a r s
+pub others_of : {M : Type 0} (a : ℕ) (r s : RingView M) → Unheard r s → OnlyHeard a r s
 others_of a r s none = nothing_heard a 1 (length (devices_of r)) (devices_of r) (devices_of s) none
 
-others_more : {M : Type 0} (a : ℕ) (r m s : RingView M) → OnlyHeard a r m → OnlyHeard a m s → OnlyHeard a r s
+pub others_more : {M : Type 0} (a : ℕ) (r m s : RingView M) → OnlyHeard a r m → OnlyHeard a m s → OnlyHeard a r s
 others_more a r m s first more = others_then a 1 (devices_of r) (devices_of m) (devices_of s) first more
 
 -- a receive of records that broke off
@@ -261,7 +261,7 @@ poll_broke view k first n old new r a b s low idle so got read not =
 
 -- ---- all of it
 
-count_same : {M : Type 0} (view : M → MediumView) (v w : DriveView M) → w.medium ≡ v.medium → (view w.medium).faults ≡ (view v.medium).faults
+pub count_same : {M : Type 0} (view : M → MediumView) (v w : DriveView M) → w.medium ≡ v.medium → (view w.medium).faults ≡ (view v.medium).faults
 count_same view v w same = ap (λ m. (view m).faults) same
 
 no_status : (byte : ℕ) → byte ≡ 65 → (byte == 0) ≡ false

@@ -2,12 +2,15 @@
 use Rattle.std.specs.Prelude.{◌≡◌, ◌≢◌, ◌≤◌, ◌*◌, ◌/◌, ℕ, Bool, true, false, List, [], ◌∷◌, length, Some, None}
 use Rattle.lif_model.specs.Tape.{Tape, bytes_from}
 use Rattle.lif_model.specs.Causes.{Rose}
+use Rattle.lif_model.specs.Shelf.{bytes_of}
+use Rattle.lif_model.specs.Transfers.{Replaced, PartlyReplaced}
 use Rattle.il_frames.specs.Frames.{byte_of}
 use Rattle.il_poll.specs.Service.{status_byte_of}
 use Rattle.il_ports.specs.Media.{MediumView}
 use Rattle.il_drive.specs.State.{DriveView, status_of}
 use Rattle.il_drive.specs.Steps.{IsStill}
 use Rattle.il_drive.proofs.Exchanges.{IsAtRest}
+use Rattle.il_drive.proofs.ExchangesWriting.{HasKept}
 use Rattle.il_drive.proofs.Reading.{IsRead}
 use Rattle.loop_model.specs.Exchanges.{Answer, Echo, Stopped, Receive, Sst}
 use Rattle.loop_model.specs.Units.{RecordUnit}
@@ -89,3 +92,39 @@ pub record ReadBroke {M : Type 0} (view : M → MediumView) (d : ℕ) (r s : Rin
 abbrev pub ReadAs : {M : Type 0} → (M → MediumView) → ℕ → ℕ → List ℕ → Bool → RingView M → RingView M → Type 0
 ReadAs view d first bytes true r s = ReadRun view d (length bytes / 256) first bytes r s
 ReadAs view d first bytes false r s = NotRead view d first r s
+
+-- ---- a write
+
+-- of these pieces, from record `first` on, some stand, the first ones, and the record of the next may hold any bytes
+pub record WrotePartly {M : Type 0} (view : M → MediumView) (first : ℕ) (pieces : List (List ℕ)) (v w : DriveView M) : Type 0 where
+  pub kept : HasKept first pieces (view v.medium) (view w.medium)
+  pub stand : (t : Tape) → (view v.medium).tape ≡ Some t → (u : Tape) × ((view w.medium).tape ≡ Some u) × PartlyReplaced first pieces t u
+  pub count : (view v.medium).faults ≤ (view w.medium).faults
+
+-- all stand
+pub record WriteRun {M : Type 0} (view : M → MediumView) (d first : ℕ) (bytes : List ℕ) (pieces : List (List ℕ)) (r s : RingView M) : Type 0 where
+  pub came : CameUnits view true (unit true first bytes 0 ∷ []) r s
+  pub unheard : OnlyHeard d r s
+  pub kept : HasKept first pieces (view r.drive.medium) (view s.drive.medium)
+  pub stand : (t : Tape) → (view r.drive.medium).tape ≡ Some t → (u : Tape) × ((view s.drive.medium).tape ≡ Some u) × Replaced first pieces t u
+  pub count : (view s.drive.medium).faults ≡ (view r.drive.medium).faults
+  pub rests : IsAtRest d s.drive.state
+
+-- the medium could not write one of them, and the status told it
+pub record NotWritten {M : Type 0} (view : M → MediumView) (d first : ℕ) (bytes : List ℕ) (pieces : List (List ℕ)) (r s : RingView M) : Type 0 where
+  pub status : ℕ
+  pub bad : status ≢ 0
+  pub came : CameUnits view true (unit true first bytes status ∷ []) r s
+  pub unheard : OnlyHeard d r s
+  pub left : WrotePartly view first pieces r.drive s.drive
+  pub rose : Rose (view r.drive.medium).faults (view s.drive.medium).faults
+
+-- an exchange was broken off
+pub record WriteBroke {M : Type 0} (view : M → MediumView) (d first : ℕ) (pieces : List (List ℕ)) (r s : RingView M) : Type 0 where
+  pub came : CameBy view false r s
+  pub unheard : OnlyHeard d r s
+  pub left : WrotePartly view first pieces r.drive s.drive
+
+abbrev pub WroteAs : {M : Type 0} → (M → MediumView) → ℕ → ℕ → List (List ℕ) → Bool → RingView M → RingView M → Type 0
+WroteAs view d first pieces true r s = WriteRun view d first (bytes_of pieces) pieces r s
+WroteAs view d first pieces false r s = NotWritten view d first (bytes_of pieces) pieces r s

@@ -1,12 +1,13 @@
 // Runs of records over the loop: a seek, a transfer and a status poll, directly after each other.
-ghost use Rattle.std.specs.Prelude.{◌≡◌, ◌≤◌, ◌<◌, ◌+◌, ◌/◌, length, get_or, IfOk, IfErr};
+ghost use Rattle.std.specs.Prelude.{◌≡◌, ◌≤◌, ◌<◌, ◌+◌, ◌*◌, ◌/◌, length, get_or, IfOk, IfErr};
 ghost use Rattle.il_drive.proofs.Exchanges.{IsFree};
+ghost use Rattle.lif_model.specs.Shelf.{cut};
 ghost use Rattle.il_ports.specs.Stores.{AreRecords};
 ghost use Rattle.il_ring.specs.Rings.{spare_of, drive_party};
 ghost use Rattle.il_control.specs.Calls.{IsIdle};
-ghost use Rattle.il_record.specs.Runs.{Polled, NotPolled, ReadAs, ReadBroke};
+ghost use Rattle.il_record.specs.Runs.{Polled, NotPolled, ReadAs, ReadBroke, WroteAs, WriteBroke};
 
-use crate::exchanges::seek;
+use crate::exchanges::{seek, send};
 use il_control::{Idle, Lost, Sot};
 use il_ports::Medium;
 use il_ring::Seen;
@@ -47,4 +48,30 @@ pub(crate) fn read_run<M: Medium>(
     let (idle, count) = idle.receive(drive, Some(2), Sot::Sda, into)?;
     let (idle, status) = status(idle, drive)?;
     Ok((idle, count == into.len() && status == 0))
+}
+
+/// Writes `count` records from record `first` on: the bytes of `from`, filled up with zeros. Answers whether all stand; if
+/// not, the medium could not write one of them.
+pub(crate) fn write_run<M: Medium>(
+    idle: Idle<M>,
+    drive: u8,
+    first: u16,
+    count: u16,
+    from: &[u8],
+) -> Result<(Idle<M>, bool), Lost<M>>
+    requires room { 91 + 256 * count ≤ spare_of (⟦<Idle<M> as Seen<M>>⟧.seen idle) }
+    requires idle { IsIdle (⟦<Idle<M> as Seen<M>>⟧.seen idle) }
+    requires address { drive ≤ 30 }
+    requires at { drive ≡ drive_party (⟦<Idle<M> as Seen<M>>⟧.seen idle) }
+    requires free { IsFree drive (⟦<Idle<M> as Seen<M>>⟧.seen idle).drive.state }
+    requires buffer { length (⟦<Idle<M> as Seen<M>>⟧.seen idle).drive.state.buffer_0 ≡ 256 }
+    requires some { 1 ≤ count }
+    requires within { first + count ≤ (M.view (⟦<Idle<M> as Seen<M>>⟧.seen idle).drive.medium).record_count }
+    ensures wrote { IfOk result (λ wrote. WroteAs M.view drive first (cut count from.now) wrote.1 (⟦<Idle<M> as Seen<M>>⟧.seen idle) (⟦<Idle<M> as Seen<M>>⟧.seen wrote.0)) }
+    ensures broken { IfErr result (λ lost. WriteBroke M.view drive first (cut count from.now) (⟦<Idle<M> as Seen<M>>⟧.seen idle) (⟦<Lost<M> as Seen<M>>⟧.seen lost)) }
+{
+    let idle = seek(idle, drive, first)?;
+    let idle = send(idle, drive, 2, from, 256 * usize::from(count))?;
+    let (idle, status) = status(idle, drive)?;
+    Ok((idle, status == 0))
 }

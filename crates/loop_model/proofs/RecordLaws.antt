@@ -40,7 +40,7 @@ module _ (l : Loop) where
       let bytes = sent_bytes-send l.controller l.drive (Some 4) (high ∷ low ∷ []) (two_echoes high low h k) in
       rw (same_drive) (ap number_of bytes)
 
-  sought-write : (ds : List Echo) → sought l (Whole (write ds)) ≡ None
+  pub sought-write : (ds : List Echo) → sought l (Whole (write ds)) ≡ None
   sought-write ds = rw (same_drive) refl
 
   -- the unit on record k with these bytes
