@@ -1,5 +1,6 @@
 pub mod Asked
 pub mod Heard
+pub mod Mild
 pub mod Pieces
 pub mod Polling
 pub mod ReadRuns
