@@ -1,6 +1,7 @@
 pub mod Asked
 pub mod Heard
 pub mod Mild
+pub mod MildCame
 pub mod Pieces
 pub mod Polling
 pub mod ReadRuns
