@@ -1,7 +1,9 @@
 pub mod Asked
+pub mod CameLaws
 pub mod Heard
 pub mod Mild
 pub mod MildCame
+pub mod Naming
 pub mod Pieces
 pub mod Polling
 pub mod ReadRuns

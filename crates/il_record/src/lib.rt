@@ -2,6 +2,7 @@
 //! of which reads and writes begin.
 #![tactic(auto)]
 
+mod calls;
 mod exchanges;
 mod runs;
 #[cfg(test)]

@@ -1,10 +1,11 @@
 // Runs of records over the loop: a seek, a transfer and a status poll, directly after each other.
-ghost use Rattle.std.specs.Prelude.{◌≡◌, ◌≤◌, ◌<◌, ◌+◌, ◌*◌, ◌/◌, length, get_or, IfOk, IfErr};
+ghost use Rattle.std.specs.Prelude.{◌≡◌, ◌≤◌, ◌<◌, ◌+◌, ◌*◌, ◌/◌, true, false, [], length, get_or, IfOk, IfErr};
 ghost use Rattle.il_drive.proofs.Exchanges.{IsFree};
 ghost use Rattle.lif_model.specs.Shelf.{cut};
 ghost use Rattle.il_ports.specs.Stores.{AreRecords};
 ghost use Rattle.il_ring.specs.Rings.{spare_of, drive_party};
 ghost use Rattle.il_control.specs.Calls.{IsIdle};
+ghost use Rattle.il_record.specs.Came.{CameUnits};
 ghost use Rattle.il_record.specs.Runs.{Polled, NotPolled, ReadAs, ReadBroke, WroteAs, WriteBroke};
 
 use crate::exchanges::{seek, send};
@@ -20,6 +21,8 @@ pub(crate) fn status<M: Medium>(idle: Idle<M>, drive: u8) -> Result<(Idle<M>, u8
     requires at { drive ≡ drive_party (⟦<Idle<M> as Seen<M>>⟧.seen idle) }
     ensures told { IfOk result (λ told. Polled M.view drive told.1 (⟦<Idle<M> as Seen<M>>⟧.seen idle) (⟦<Idle<M> as Seen<M>>⟧.seen told.0)) }
     ensures broken { IfErr result (λ lost. NotPolled M.view drive (⟦<Idle<M> as Seen<M>>⟧.seen idle) (⟦<Lost<M> as Seen<M>>⟧.seen lost)) }
+    ensures came { IfOk result (λ told. CameUnits M.view true [] (⟦<Idle<M> as Seen<M>>⟧.seen idle) (⟦<Idle<M> as Seen<M>>⟧.seen told.0)) }
+    ensures came_in_part { IfErr result (λ lost. CameUnits M.view false [] (⟦<Idle<M> as Seen<M>>⟧.seen idle) (⟦<Lost<M> as Seen<M>>⟧.seen lost)) }
 {
     let mut status = [0; 1];
     let (idle, _) = idle.receive(drive, None, Sot::Sst, &mut status)?;
