@@ -1,6 +1,7 @@
 pub mod Asked
 pub mod CameLaws
 pub mod Heard
+pub mod Listened
 pub mod Mild
 pub mod MildCame
 pub mod Naming
@@ -10,6 +11,7 @@ pub mod ReadRuns
 pub mod Readings
 pub mod CutSends
 pub mod Cuts
+pub mod Saying
 pub mod Sends
 pub mod WriteRuns
 pub mod Talks

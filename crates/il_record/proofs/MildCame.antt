@@ -152,7 +152,7 @@ left_by view gs outs v w silent (inr some) ran = leaves_mild view v w (unl_ran v
 
 -- ---- a receive of the accessory ID
 
-echo_mild : (d : Echo) → is_echo d ≡ true → mild_frame d.sent ≡ true
+pub echo_mild : (d : Echo) → is_echo d ≡ true → mild_frame d.sent ≡ true
 echo_mild d echo = ap (λ b. b || (is_identify d.sent || (is_exact (message_of d.sent) && (not (is_auto_address (message_of d.sent)) && is_mild (message_of d.sent))))) (and_parts (is_data d.sent) (same_but_service d.sent d.back) echo).0
 
 pub echoes_mild : (p : ℕ) (ds : List Echo) (rest : List Entry) → list_all is_echo ds ≡ true → list_all mild_entry rest ≡ true → list_all mild_entry (map (echoed p) ds ++ rest) ≡ true

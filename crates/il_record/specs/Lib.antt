@@ -1,4 +1,5 @@
 pub mod Came
+pub mod Listening
 pub mod LoopCalls
 pub mod Runs
 pub mod Sends

@@ -6,7 +6,9 @@ use Rattle.il_drive.specs.State.{DriveView, status_of}
 use Rattle.il_ring.specs.Rings.{RingView, devices_of, spare_of}
 use Rattle.il_control.specs.Calls.{AllStay}
 use Rattle.il_control.specs.Receives.{accessory_at}
+use Rattle.il_control.proofs.Assigning.{EachTo}
 use Rattle.il_record.specs.Came.{CameUnits}
+use Rattle.il_record.specs.Listening.{Hears, HearsPart}
 
 -- What such a call leaves of the drive, whole or broken off: its status and its medium. Where it does not talk it sends nothing.
 pub record LeavesDrive {M : Type 0} (v w : DriveView M) : Type 0 where
@@ -36,3 +38,17 @@ ids_of devices = map (λ d. d.accessory) devices
 pub record AllNamed {M : Type 0} (view : M → MediumView) (ids : List (Option ℕ)) (r s : RingView M) : Type 0 where
   pub ids_are : ids ≡ ids_of (devices_of r)
   pub left : LeftAlone view true r s
+
+-- ---- bytes for a device
+
+-- the device of that address heard these bytes, and no other device anything
+pub record Said {M : Type 0} (view : M → MediumView) (a : ℕ) (bytes : List ℕ) (r s : RingView M) : Type 0 where
+  pub came : CameUnits view true [] r s
+  pub heard : EachTo (Hears a bytes) 1 (devices_of r) (devices_of s)
+  pub drive : LeavesDrive r.drive s.drive
+
+-- that was broken off
+pub record NotSaid {M : Type 0} (view : M → MediumView) (a : ℕ) (bytes : List ℕ) (r s : RingView M) : Type 0 where
+  pub came : CameUnits view false [] r s
+  pub heard : EachTo (HearsPart a bytes) 1 (devices_of r) (devices_of s)
+  pub drive : LeavesDrive r.drive s.drive

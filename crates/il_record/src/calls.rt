@@ -2,8 +2,9 @@
 ghost use Rattle.std.specs.Prelude.{◌≡◌, ◌≤◌, ◌<◌, ◌+◌, ◌*◌, ◌==◌, false, None, Some, length, if◌then◌else◌, IfOk, IfErr};
 ghost use Rattle.il_ring.specs.Rings.{spare_of, devices_of};
 ghost use Rattle.il_control.specs.Calls.{IsIdle};
-ghost use Rattle.il_record.specs.LoopCalls.{AllNamed, LeftAlone, Named};
+ghost use Rattle.il_record.specs.LoopCalls.{AllNamed, LeftAlone, Named, NotSaid, Said};
 
+use crate::exchanges::send;
 use arrayvec::ArrayVec;
 use il_control::{Idle, Lost, Sot};
 use il_ports::Medium;
@@ -51,4 +52,16 @@ pub(crate) fn accessories<M: Medium>(
         into.push(id);
     }
     Ok(idle)
+}
+
+/// Sends bytes to the device of this address.
+pub(crate) fn say<M: Medium>(idle: Idle<M>, printer: u8, bytes: &[u8]) -> Result<Idle<M>, Lost<M>>
+    requires room { 39 + length bytes.now ≤ spare_of (⟦<Idle<M> as Seen<M>>⟧.seen idle) }
+    requires idle { IsIdle (⟦<Idle<M> as Seen<M>>⟧.seen idle) }
+    requires silent { (⟦<Idle<M> as Seen<M>>⟧.seen idle).drive.state.interface.own ≡ None }
+    requires address { (1 ≤ printer) × (printer ≤ 30) }
+    ensures said { IfOk result (λ said. Said M.view printer bytes.now (⟦<Idle<M> as Seen<M>>⟧.seen idle) (⟦<Idle<M> as Seen<M>>⟧.seen said)) }
+    ensures broken { IfErr result (λ lost. NotSaid M.view printer bytes.now (⟦<Idle<M> as Seen<M>>⟧.seen idle) (⟦<Lost<M> as Seen<M>>⟧.seen lost)) }
+{
+    send(idle, printer, None, bytes, bytes.len())
 }

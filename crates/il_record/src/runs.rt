@@ -74,7 +74,7 @@ pub(crate) fn write_run<M: Medium>(
     ensures broken { IfErr result (λ lost. WriteBroke M.view drive first (cut count from.now) (⟦<Idle<M> as Seen<M>>⟧.seen idle) (⟦<Lost<M> as Seen<M>>⟧.seen lost)) }
 {
     let idle = seek(idle, drive, first)?;
-    let idle = send(idle, drive, 2, from, 256 * usize::from(count))?;
+    let idle = send(idle, drive, Some(2), from, 256 * usize::from(count))?;
     let (idle, status) = status(idle, drive)?;
     Ok((idle, status == 0))
 }

@@ -3,7 +3,7 @@ use Rattle.il_record.proofs.Sends.{if_err, sent_nothing, sent_more, sent_all, se
 use Rattle.il_record.proofs.exchanges.send.Goals as goal
 
 pub loop-place-init : goal.loop-place-init
-loop-place-init g c = sent_nothing g.M.Medium.view _ _ _ _ _ c.in_ok-sending.ensures.made c.in_ok-sending.ensures.told
+loop-place-init g c = sent_nothing g.M.Medium.view _ _ _ _ _ c.in_ok-sending.ensures.made c.in_ok-sending.ensures.told c.in_ok-sending.ensures.stays
 
 pub loop-place-preserved : goal.loop-place-preserved
 loop-place-preserved g c =
@@ -11,7 +11,7 @@ loop-place-preserved g c =
     sent_more g.M.Medium.view _ _ _ _ _ _ _ _ c.requires.idle (omega (arith, long, c.loop-place-test.true)) (c.byte_at.ensures ∙ sym (filled_at c.args.length c.loop-place.place c.args.bytes.now c.loop-place-test.true)) c.loop-place.invariant c.in_ok-sending-2.ensures.sent
 
 pub returns-in_err-sending-clause-broken : goal.returns-in_err-sending-clause-broken
-returns-in_err-sending-clause-broken g c = if_err _ _ _ c.from_residual.ensures (send_broke_first g.M.Medium.view _ _ _ _ _ c.in_err-sending.ensures.broken)
+returns-in_err-sending-clause-broken g c = if_err _ _ _ c.from_residual.ensures (send_broke_first g.M.Medium.view _ _ _ _ _ c.in_err-sending.ensures.broken c.in_err-sending.ensures.stays_lost)
 
 pub returns-in_err-sending-2-clause-broken : goal.returns-in_err-sending-2-clause-broken
 returns-in_err-sending-2-clause-broken g c =
