@@ -1,6 +1,7 @@
 pub mod Asked
 pub mod CameLaws
 pub mod Heard
+pub mod Commands
 pub mod Listened
 pub mod Mild
 pub mod MildCame

@@ -4,6 +4,8 @@
 
 mod calls;
 mod exchanges;
+mod frames;
+mod poll;
 mod runs;
 #[cfg(test)]
 mod tests;
