@@ -92,7 +92,7 @@ module _ {M : Type 0} (view : M → MediumView) (r s : RingView M) where
 
 -- ---- one device in a poll
 
-place_is : (a : ℕ) → 1 ≤ a → a ≤ 8 → Some (assigned (7 + a)) ≡ poll_place a
+pub place_is : (a : ℕ) → 1 ≤ a → a ≤ 8 → Some (assigned (7 + a)) ≡ poll_place a
 place_is a some few =
     let bit : (7 + a) % 8 ≡ a - 1 = omega (arith, some, few) in
     let sense : (7 + a) / 8 ≡ 1 = omega (arith, some, few) in
@@ -138,7 +138,7 @@ each_first R S rule same k j [] (e ∷ es) took = absurd took
 each_first R S rule same k j (d ∷ ds) [] took = absurd took
 
 -- of all of them
-each_all : (R : DeviceState → DeviceState → Type 0) (S : ℕ → DeviceState → DeviceState → Type 0) → ((k : ℕ) (d e : DeviceState) → R d e → S k d e) → (k : ℕ) (ds es : List DeviceState) → First R (length ds) ds es → EachTo S k ds es
+pub each_all : (R : DeviceState → DeviceState → Type 0) (S : ℕ → DeviceState → DeviceState → Type 0) → ((k : ℕ) (d e : DeviceState) → R d e → S k d e) → (k : ℕ) (ds es : List DeviceState) → First R (length ds) ds es → EachTo S k ds es
 each_all R S rule k [] [] took = tt
 each_all R S rule k (d ∷ ds) (e ∷ es) took = (rule k d e took.0, each_all R S rule (k + 1) ds es took.1)
 each_all R S rule k [] (e ∷ es) took = absurd took

@@ -1,6 +1,7 @@
 pub mod Asked
 pub mod CameLaws
 pub mod Heard
+pub mod Collecting
 pub mod Commands
 pub mod Listened
 pub mod Mild

@@ -181,3 +181,11 @@ ok_as (Err e) P Q rule so = tt
 pub err_as : {T E : Type 0} (result : Result T E) (P Q : E → Type 0) → ((e : E) → P e → Q e) → IfErr result P → IfErr result Q
 err_as (Ok x) P Q rule so = tt
 err_as (Err e) P Q rule so = rule e so
+
+pub ok_both : {T E : Type 0} (result : Result T E) (P Q R : T → Type 0) → ((x : T) → P x → Q x → R x) → IfOk result P → IfOk result Q → IfOk result R
+ok_both (Ok x) P Q R rule one two = rule x one two
+ok_both (Err e) P Q R rule one two = tt
+
+pub err_both : {T E : Type 0} (result : Result T E) (P Q R : E → Type 0) → ((e : E) → P e → Q e → R e) → IfErr result P → IfErr result Q → IfErr result R
+err_both (Ok x) P Q R rule one two = tt
+err_both (Err e) P Q R rule one two = rule e one two
