@@ -8,6 +8,7 @@ pub mod Mild
 pub mod MildCame
 pub mod Naming
 pub mod Pieces
+pub mod Places
 pub mod Polling
 pub mod ReadRuns
 pub mod Readings

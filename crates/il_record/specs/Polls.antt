@@ -1,5 +1,5 @@
 -- A parallel poll of the first eight devices, and what its answer is (HP-IL Interface Specification, parallel poll).
-use Rattle.std.specs.Prelude.{◌≡◌, ◌≤◌, ◌⊎◌, ◌+◌, ◌-◌, nat_le, ℕ, true, false, if◌then◌else◌, List, [], ◌∷◌, Option, Some, None}
+use Rattle.std.specs.Prelude.{◌≡◌, ◌≤◌, ◌⊎◌, ◌+◌, ◌-◌, nat_le, ℕ, true, false, if◌then◌else◌, List, [], ◌∷◌, length, Option, Some, None}
 use Rattle.il_frames.specs.declared.frame.Class.TheVariants as class
 use Rattle.il_frames.specs.declared.frame.Frame.{Frame}
 use Rattle.il_frames.specs.Frames.{framed}
@@ -8,7 +8,8 @@ use Rattle.il_device.specs.Passing.{identified}
 use Rattle.il_device.specs.State.{DeviceState}
 use Rattle.il_ports.specs.Media.{MediumView}
 use Rattle.il_ring.specs.Outcomes.{HearsNothing}
-use Rattle.il_ring.specs.Polls.{identified_along}
+use Rattle.il_ring.specs.Lists.{First}
+use Rattle.il_ring.specs.Polls.{identified_along, KeepsPlace}
 use Rattle.il_ring.specs.Rings.{RingView, devices_of, spare_of}
 use Rattle.il_control.specs.Calls.{idy}
 use Rattle.il_control.proofs.Assigning.{EachTo, GivenPlace}
@@ -37,6 +38,10 @@ pub record PollsOn (k : ℕ) (d e : DeviceState) : Type 0 where
   pub place : MayPoll k d → MayPoll k e
   pub nothing : HearsNothing d e
   pub wants : e.wants ≡ d.wants
+
+-- each device has the place in the poll that it had
+pub record PlacesKept {M : Type 0} (r s : RingView M) : Type 0 where
+  pub kept : First KeepsPlace (length (devices_of r)) (devices_of r) (devices_of s)
 
 -- it has no place any more
 pub record Released (k : ℕ) (d e : DeviceState) : Type 0 where

@@ -6,6 +6,7 @@ ghost use Rattle.il_ports.specs.Stores.{AreRecords};
 ghost use Rattle.il_ring.specs.Rings.{spare_of, drive_party};
 ghost use Rattle.il_control.specs.Calls.{IsIdle};
 ghost use Rattle.il_record.specs.Came.{CameUnits};
+ghost use Rattle.il_record.specs.Polls.{PlacesKept};
 ghost use Rattle.il_record.specs.Runs.{Polled, NotPolled, ReadAs, ReadBroke, WroteAs, WriteBroke};
 
 use crate::exchanges::{seek, send};
@@ -23,6 +24,8 @@ pub(crate) fn status<M: Medium>(idle: Idle<M>, drive: u8) -> Result<(Idle<M>, u8
     ensures broken { IfErr result (λ lost. NotPolled M.view drive (⟦<Idle<M> as Seen<M>>⟧.seen idle) (⟦<Lost<M> as Seen<M>>⟧.seen lost)) }
     ensures came { IfOk result (λ told. CameUnits M.view true [] (⟦<Idle<M> as Seen<M>>⟧.seen idle) (⟦<Idle<M> as Seen<M>>⟧.seen told.0)) }
     ensures came_in_part { IfErr result (λ lost. CameUnits M.view false [] (⟦<Idle<M> as Seen<M>>⟧.seen idle) (⟦<Lost<M> as Seen<M>>⟧.seen lost)) }
+    ensures places { IfOk result (λ told. PlacesKept (⟦<Idle<M> as Seen<M>>⟧.seen idle) (⟦<Idle<M> as Seen<M>>⟧.seen told.0)) }
+    ensures places_in_part { IfErr result (λ lost. PlacesKept (⟦<Idle<M> as Seen<M>>⟧.seen idle) (⟦<Lost<M> as Seen<M>>⟧.seen lost)) }
 {
     let mut status = [0; 1];
     let (idle, _) = idle.receive(drive, None, Sot::Sst, &mut status)?;
@@ -46,6 +49,8 @@ pub(crate) fn read_run<M: Medium>(
     requires within { first + length into.old / 256 ≤ (M.view (⟦<Idle<M> as Seen<M>>⟧.seen idle).drive.medium).record_count }
     ensures read { IfOk result (λ read. ReadAs M.view drive first into.new read.1 (⟦<Idle<M> as Seen<M>>⟧.seen idle) (⟦<Idle<M> as Seen<M>>⟧.seen read.0)) }
     ensures broken { IfErr result (λ lost. ReadBroke M.view drive (⟦<Idle<M> as Seen<M>>⟧.seen idle) (⟦<Lost<M> as Seen<M>>⟧.seen lost)) }
+    ensures places { IfOk result (λ read. PlacesKept (⟦<Idle<M> as Seen<M>>⟧.seen idle) (⟦<Idle<M> as Seen<M>>⟧.seen read.0)) }
+    ensures places_in_part { IfErr result (λ lost. PlacesKept (⟦<Idle<M> as Seen<M>>⟧.seen idle) (⟦<Lost<M> as Seen<M>>⟧.seen lost)) }
 {
     let idle = seek(idle, drive, first)?;
     let (idle, count) = idle.receive(drive, Some(2), Sot::Sda, into)?;
@@ -72,6 +77,8 @@ pub(crate) fn write_run<M: Medium>(
     requires within { first + count ≤ (M.view (⟦<Idle<M> as Seen<M>>⟧.seen idle).drive.medium).record_count }
     ensures wrote { IfOk result (λ wrote. WroteAs M.view drive first (cut count from.now) wrote.1 (⟦<Idle<M> as Seen<M>>⟧.seen idle) (⟦<Idle<M> as Seen<M>>⟧.seen wrote.0)) }
     ensures broken { IfErr result (λ lost. WriteBroke M.view drive first (cut count from.now) (⟦<Idle<M> as Seen<M>>⟧.seen idle) (⟦<Lost<M> as Seen<M>>⟧.seen lost)) }
+    ensures places { IfOk result (λ wrote. PlacesKept (⟦<Idle<M> as Seen<M>>⟧.seen idle) (⟦<Idle<M> as Seen<M>>⟧.seen wrote.0)) }
+    ensures places_in_part { IfErr result (λ lost. PlacesKept (⟦<Idle<M> as Seen<M>>⟧.seen idle) (⟦<Lost<M> as Seen<M>>⟧.seen lost)) }
 {
     let idle = seek(idle, drive, first)?;
     let idle = send(idle, drive, Some(2), from, 256 * usize::from(count))?;
