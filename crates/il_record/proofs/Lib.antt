@@ -1,3 +1,4 @@
+pub mod Addressed
 pub mod Asked
 pub mod CameLaws
 pub mod Heard
