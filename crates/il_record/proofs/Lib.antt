@@ -1,4 +1,4 @@
-pub mod Addressed
+pub mod AddressedDrive
 pub mod Asked
 pub mod CameLaws
 pub mod Heard

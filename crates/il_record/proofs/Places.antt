@@ -1,13 +1,15 @@
 -- Which places in the poll devices have behind a call, and that the drive stays free.
-use Rattle.std.proofs.Common.{◌≡◌, ◌∙◌, ◌+◌, inl, inr, ⊎_elim, ℕ, Bool, true, false, List, [], ◌∷◌, Option, Some, None, length, sym, ap}
+use Rattle.std.proofs.Common.{◌≡◌, ◌∙◌, ◌+◌, inl, inr, ⊎_elim, ◌++◌, ℕ, suc, Bool, true, false, List, [], ◌∷◌, Option, Some, None, length, sym, ap, arith}
 use Rattle.il_device.specs.State.{DeviceState}
 use Rattle.il_ports.specs.Media.{MediumView}
+use Rattle.std.specs.List.{All}
+use Rattle.il_drive.specs.State.{device_of, fresh_drive}
 use Rattle.il_drive.proofs.Exchanges.{IsFree}
 use Rattle.loop_model.specs.Exchanges.{Start}
 use Rattle.loop_model.specs.Units.{RecordUnit}
 use Rattle.il_ring.specs.Lists.{Each, First}
 use Rattle.il_ring.specs.Polls.{KeepsPlace}
-use Rattle.il_ring.specs.Rings.{RingView, devices_of, drive_party}
+use Rattle.il_ring.specs.Rings.{MayStand, RingView, devices_of, drive_party}
 use Rattle.il_control.specs.Calls.{AllStay, IsIdle, Stays}
 use Rattle.il_control.specs.Receives.{NotReceived, Received}
 use Rattle.il_control.proofs.Assigning.{EachTo}
@@ -116,3 +118,17 @@ module _ {M : Type 0} (view : M → MediumView) (r s : RingView M) where
         silent = drive.silent (idle_mute s idle);
         status = drive.status ∙ free.status;
       }
+
+-- ---- a new ring
+
+may_before : (k : ℕ) (ds rest : List DeviceState) → All MayStand ds → ((k : ℕ) → Each MayPoll k rest) → Each MayPoll k (ds ++ rest)
+may_before k [] rest all more = more k
+may_before k (d ∷ ds) rest all more = let first : MayStand d = all 0 d (omega (arith)) in (inl first.0.assignment, may_before (k + 1) ds rest (λ i x within. all (suc i) x (omega (arith, within))) more)
+
+may_alone : (k : ℕ) (ds : List DeviceState) → All MayStand ds → Each MayPoll k ds
+may_alone k [] all = tt
+may_alone k (d ∷ ds) all = let first : MayStand d = all 0 d (omega arith) in (inl first.0.assignment, may_alone (k + 1) ds (λ i x within. all (suc i) x (omega (arith, within))))
+
+-- no device of it has a place in the poll
+pub new_may_poll : {M : Type 0} (r : RingView M) → r.drive.state ≡ fresh_drive → All MayStand r.before → All MayStand r.after → Each MayPoll 1 (devices_of r)
+new_may_poll r drive before after = may_before 1 r.before (device_of r.drive.state ∷ r.after) before (λ k. (inl (ap (λ state. (device_of state).assignment) drive), may_alone (k + 1) r.after after))
