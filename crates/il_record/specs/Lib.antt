@@ -1,4 +1,5 @@
 pub mod Came
+pub mod LoopStores
 pub mod Runs
 pub mod Sends
 pub mod Talks

@@ -3,6 +3,7 @@
 #![tactic(auto)]
 
 mod exchanges;
+mod records;
 mod runs;
 #[cfg(test)]
 mod tests;
