@@ -1,9 +1,11 @@
+pub mod Addressed
 pub mod Asked
 pub mod Heard
 pub mod Pieces
 pub mod Polling
 pub mod ReadRuns
 pub mod Readings
+pub mod Clearing
 pub mod CutSends
 pub mod Cuts
 pub mod Sends

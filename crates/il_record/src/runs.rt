@@ -1,16 +1,72 @@
 // Runs of records over the loop: a seek, a transfer and a status poll, directly after each other.
-ghost use Rattle.std.specs.Prelude.{◌≡◌, ◌≤◌, ◌<◌, ◌+◌, ◌*◌, ◌/◌, length, get_or, IfOk, IfErr};
+ghost use Rattle.std.specs.Prelude.{◌≡◌, ◌≤◌, ◌<◌, true, ◌+◌, ◌*◌, ◌/◌, length, get_or, IfOk, IfErr};
 ghost use Rattle.il_drive.proofs.Exchanges.{IsFree};
 ghost use Rattle.lif_model.specs.Shelf.{cut};
 ghost use Rattle.il_ports.specs.Stores.{AreRecords};
 ghost use Rattle.il_ring.specs.Rings.{spare_of, drive_party};
-ghost use Rattle.il_control.specs.Calls.{IsIdle};
-ghost use Rattle.il_record.specs.Runs.{Polled, NotPolled, ReadAs, ReadBroke, WroteAs, WriteBroke};
+ghost use Rattle.il_control.specs.Calls.{IsIdle, is_command};
+ghost use Rattle.loop_model.specs.Entries.{unl, lad};
+ghost use Rattle.il_drive.specs.State.{IsDrive};
+ghost use Rattle.il_drive.proofs.ExchangesAddressed.{sdc};
+ghost use Rattle.il_record.specs.Runs.{Cleared, Polled, NotPolled, ReadAs, ReadBroke, WroteAs, WriteBroke};
 
 use crate::exchanges::{seek, send};
 use il_control::{Idle, Lost, Sot};
+use il_frames::{Class, Frame};
 use il_ports::Medium;
 use il_ring::Seen;
+
+/// Unlisten (HP-IL Interface Specification, HP 82166-90017, the table of commands).
+fn unlisten() -> Frame
+    ensures frame { result ≡ unl }
+    ensures command { is_command result ≡ true }
+{
+    Frame::new(Class::Cmd, 0x3F)
+}
+
+/// Listen address `address`, 0 to 30.
+fn listen_address(address: u8) -> Frame
+    requires { address ≤ 30 }
+    ensures frame { result ≡ lad address }
+    ensures command { is_command result ≡ true }
+{
+    Frame::new(Class::Cmd, 0x20 + address)
+}
+
+/// Selected device clear.
+fn selected_device_clear() -> Frame
+    ensures frame { result ≡ sdc }
+    ensures command { is_command result ≡ true }
+{
+    Frame::new(Class::Cmd, 0x04)
+}
+
+/// The address of the drive.
+pub(crate) fn drive_of<M: Medium>(idle: &Idle<M>) -> u8
+    ensures party { result ≡ drive_party (⟦<Idle<M> as Seen<M>>⟧.seen idle.now) }
+    ensures range { result ≤ 30 }
+    ensures drive { IsDrive (M.view (⟦<Idle<M> as Seen<M>>⟧.seen idle.now).drive.medium).record_count (⟦<Idle<M> as Seen<M>>⟧.seen idle.now).drive.state }
+{
+    let ring = idle.ring();
+    // Behind it the proof sees what holds of the drive.
+    let _ = ring.medium();
+    ring.party()
+}
+
+/// Has the drive, which has this address, rest with status 0.
+pub(crate) fn clear<M: Medium>(idle: Idle<M>, drive: u8) -> Result<Idle<M>, Lost<M>>
+    requires room { 40 ≤ spare_of (⟦<Idle<M> as Seen<M>>⟧.seen idle) }
+    requires idle { IsIdle (⟦<Idle<M> as Seen<M>>⟧.seen idle) }
+    requires address { drive ≤ 30 }
+    requires at { drive ≡ drive_party (⟦<Idle<M> as Seen<M>>⟧.seen idle) }
+    ensures cleared { IfOk result (λ cleared. Cleared M.view drive (⟦<Idle<M> as Seen<M>>⟧.seen idle) (⟦<Idle<M> as Seen<M>>⟧.seen cleared)) }
+    ensures broken { IfErr result (λ lost. ReadBroke M.view drive (⟦<Idle<M> as Seen<M>>⟧.seen idle) (⟦<Lost<M> as Seen<M>>⟧.seen lost)) }
+{
+    let idle = idle.command(unlisten())?;
+    let idle = idle.command(listen_address(drive))?;
+    let idle = idle.command(selected_device_clear())?;
+    Ok(idle)
+}
 
 /// Asks the drive, which has this address, for its status, and answers the status byte.
 pub(crate) fn status<M: Medium>(idle: Idle<M>, drive: u8) -> Result<(Idle<M>, u8), Lost<M>>
