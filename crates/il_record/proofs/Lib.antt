@@ -9,5 +9,6 @@ pub mod Clearing
 pub mod CutSends
 pub mod Cuts
 pub mod Sends
+pub mod Used
 pub mod WriteRuns
 pub mod Talks

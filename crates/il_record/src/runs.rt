@@ -61,6 +61,8 @@ pub(crate) fn clear<M: Medium>(idle: Idle<M>, drive: u8) -> Result<Idle<M>, Lost
     requires at { drive ≡ drive_party (⟦<Idle<M> as Seen<M>>⟧.seen idle) }
     ensures cleared { IfOk result (λ cleared. Cleared M.view drive (⟦<Idle<M> as Seen<M>>⟧.seen idle) (⟦<Idle<M> as Seen<M>>⟧.seen cleared)) }
     ensures broken { IfErr result (λ lost. ReadBroke M.view drive (⟦<Idle<M> as Seen<M>>⟧.seen idle) (⟦<Lost<M> as Seen<M>>⟧.seen lost)) }
+    ensures used { IfOk result (λ cleared. spare_of (⟦<Idle<M> as Seen<M>>⟧.seen idle) ≤ spare_of (⟦<Idle<M> as Seen<M>>⟧.seen cleared) + 6) }
+    ensures used_lost { IfErr result (λ lost. spare_of (⟦<Idle<M> as Seen<M>>⟧.seen idle) ≤ spare_of (⟦<Lost<M> as Seen<M>>⟧.seen lost) + 7) }
 {
     let idle = idle.command(unlisten())?;
     let idle = idle.command(listen_address(drive))?;
@@ -76,6 +78,8 @@ pub(crate) fn status<M: Medium>(idle: Idle<M>, drive: u8) -> Result<(Idle<M>, u8
     requires at { drive ≡ drive_party (⟦<Idle<M> as Seen<M>>⟧.seen idle) }
     ensures told { IfOk result (λ told. Polled M.view drive told.1 (⟦<Idle<M> as Seen<M>>⟧.seen idle) (⟦<Idle<M> as Seen<M>>⟧.seen told.0)) }
     ensures broken { IfErr result (λ lost. NotPolled M.view drive (⟦<Idle<M> as Seen<M>>⟧.seen idle) (⟦<Lost<M> as Seen<M>>⟧.seen lost)) }
+    ensures used { IfOk result (λ told. spare_of (⟦<Idle<M> as Seen<M>>⟧.seen idle) ≤ spare_of (⟦<Idle<M> as Seen<M>>⟧.seen told.0) + 13) }
+    ensures used_lost { IfErr result (λ lost. spare_of (⟦<Idle<M> as Seen<M>>⟧.seen idle) ≤ spare_of (⟦<Lost<M> as Seen<M>>⟧.seen lost) + 14) }
 {
     let mut status = [0; 1];
     let (idle, _) = idle.receive(drive, None, Sot::Sst, &mut status)?;
@@ -99,6 +103,8 @@ pub(crate) fn read_run<M: Medium>(
     requires within { first + length into.old / 256 ≤ (M.view (⟦<Idle<M> as Seen<M>>⟧.seen idle).drive.medium).record_count }
     ensures read { IfOk result (λ read. ReadAs M.view drive first into.new read.1 (⟦<Idle<M> as Seen<M>>⟧.seen idle) (⟦<Idle<M> as Seen<M>>⟧.seen read.0)) }
     ensures broken { IfErr result (λ lost. ReadBroke M.view drive (⟦<Idle<M> as Seen<M>>⟧.seen idle) (⟦<Lost<M> as Seen<M>>⟧.seen lost)) }
+    ensures used { IfOk result (λ read. spare_of (⟦<Idle<M> as Seen<M>>⟧.seen idle) ≤ spare_of (⟦<Idle<M> as Seen<M>>⟧.seen read.0) + (33 + length into.old)) }
+    ensures used_lost { IfErr result (λ lost. spare_of (⟦<Idle<M> as Seen<M>>⟧.seen idle) ≤ spare_of (⟦<Lost<M> as Seen<M>>⟧.seen lost) + (34 + length into.old)) }
 {
     let idle = seek(idle, drive, first)?;
     let (idle, count) = idle.receive(drive, Some(2), Sot::Sda, into)?;
@@ -125,6 +131,8 @@ pub(crate) fn write_run<M: Medium>(
     requires within { first + count ≤ (M.view (⟦<Idle<M> as Seen<M>>⟧.seen idle).drive.medium).record_count }
     ensures wrote { IfOk result (λ wrote. WroteAs M.view drive first (cut count from.now) wrote.1 (⟦<Idle<M> as Seen<M>>⟧.seen idle) (⟦<Idle<M> as Seen<M>>⟧.seen wrote.0)) }
     ensures broken { IfErr result (λ lost. WriteBroke M.view drive first (cut count from.now) (⟦<Idle<M> as Seen<M>>⟧.seen idle) (⟦<Lost<M> as Seen<M>>⟧.seen lost)) }
+    ensures used { IfOk result (λ wrote. spare_of (⟦<Idle<M> as Seen<M>>⟧.seen idle) ≤ spare_of (⟦<Idle<M> as Seen<M>>⟧.seen wrote.0) + (27 + 256 * count)) }
+    ensures used_lost { IfErr result (λ lost. spare_of (⟦<Idle<M> as Seen<M>>⟧.seen idle) ≤ spare_of (⟦<Lost<M> as Seen<M>>⟧.seen lost) + (28 + 256 * count)) }
 {
     let idle = seek(idle, drive, first)?;
     let idle = send(idle, drive, 2, from, 256 * usize::from(count))?;
