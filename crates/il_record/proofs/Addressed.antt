@@ -26,7 +26,7 @@ use Rattle.il_control.specs.Brought.{Brought, BroughtIf, CutBrought, ComesAs, Ma
 use Rattle.il_control.specs.Calls.{IsIdle, IsLost, Resumed, NotResumed, addressing, loop_of}
 use Rattle.il_control.proofs.HeldAtEnd.{quiet_ended}
 use Rattle.il_record.specs.Came.{OnlyHeard, CameBy, CameUnits}
-use Rattle.il_record.specs.Runs.{LeavesRecords, ReadBroke, Readied}
+use Rattle.il_record.specs.Runs.{LeavesRecords, Interrupted, Readied}
 use Rattle.il_record.specs.Talks.{Talked, all_entries}
 use Rattle.il_record.proofs.Cuts.{counts_up, comes_may}
 use Rattle.il_record.proofs.Readings.{party_within}
@@ -121,7 +121,7 @@ addressing_may k q low =
     let handshake = may_come q rfc refl refl refl in
     (may_come q ifc refl refl refl, (handshake, (may_come q aau refl refl refl, (handshake, ((λ g comes. ap (λ f. may_put (message_of f)) (comes.address refl) ∙ aad_puts q low), tt)))))
 
-pub not_readied : {M : Type 0} (view : M → MediumView) (r s : RingView M) → drive_party r ≤ 30 → NotResumed view r s → ReadBroke view (drive_party r) r s
+pub not_readied : {M : Type 0} (view : M → MediumView) (r s : RingView M) → drive_party r ≤ 30 → NotResumed view r s → Interrupted view (drive_party r) r s
 not_readied view r s low not =
     let k = length (devices_of r) in
     let q = drive_party r in
@@ -143,7 +143,7 @@ not_readied view r s low not =
       count = counts_up view broke.adds.came broke.adds.answers r.drive s.drive broke.adds.drive;
     } in
     record {
-      came = (came_still view false cut.pieces [] r s talked (ends_within-broken (loop_of r) cut.pieces cut.ends) cut.none (λ t. refl) left.still.tape).came;
+      came = came_still view false cut.pieces [] r s talked (ends_within-broken (loop_of r) cut.pieces cut.ends) cut.none (λ t. refl) left.still.tape;
       unheard = others_of q r s (broke.unheard refl);
       drive = left;
     }

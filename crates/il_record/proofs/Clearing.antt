@@ -23,7 +23,7 @@ use Rattle.il_control.specs.Brought.{CutBrought, MayComeAs, is_auto_address}
 use Rattle.il_control.specs.Calls.{IsIdle, Made, BrokenOff, loop_of}
 use Rattle.il_control.proofs.Brings.{command_brings}
 use Rattle.il_record.specs.Came.{OnlyHeard, CameBy, CameUnits}
-use Rattle.il_record.specs.Runs.{LeavesRecords, Cleared, ReadBroke}
+use Rattle.il_record.specs.Runs.{LeavesRecords, Cleared, Interrupted}
 use Rattle.il_record.specs.Talks.{Talked}
 use Rattle.il_record.proofs.Cuts.{counts_up}
 use Rattle.il_record.proofs.Readings.{idle_address}
@@ -83,36 +83,36 @@ command_leaves view f r s plain made =
 
 module _ {M : Type 0} (view : M → MediumView) (d : ℕ) (f g h : Frame) (r : RingView M) (idle : IsIdle r) (plain_f : IsPlainCommand f) (plain_g : IsPlainCommand g) (plain_h : IsPlainCommand h) where
   -- broken off at the first, the second, the third
-  pub broke_first : (s : RingView M) → BrokenOff view (Command f) r s → ReadBroke view d r s
+  pub broke_first : (s : RingView M) → BrokenOff view (Command f) r s → Interrupted view d r s
   broke_first s not =
       let left = command_left view f r s plain_f not in
       let ps : List Piece = Cut (Command f) not.broke.standing not.broke.break ∷ [] in
       let talked = broken_talked view (Command f) r s not in
       record {
-        came = (came_still view false ps [] r s talked (ends_within-broken (loop_of r) ps talked.ends) refl (λ t. refl) left.still.tape).came;
+        came = came_still view false ps [] r s talked (ends_within-broken (loop_of r) ps talked.ends) refl (λ t. refl) left.still.tape;
         unheard = others_of d r s (not.broke.unheard plain_f.no_data);
         drive = left;
       }
 
-  pub broke_second : (a s : RingView M) → Made view (Command f) r a → BrokenOff view (Command g) a s → ReadBroke view d r s
+  pub broke_second : (a s : RingView M) → Made view (Command f) r a → BrokenOff view (Command g) a s → Interrupted view d r s
   broke_second a s made not =
       let left = leaves_then view r.drive a.drive s.drive (command_leaves view f r a plain_f made) (command_left view g a s plain_g not) in
       let ps : List Piece = WholeOne (Command f) ∷ Cut (Command g) not.broke.standing not.broke.break ∷ [] in
       let talked = talked_then view false (WholeOne (Command f) ∷ []) (Cut (Command g) not.broke.standing not.broke.break ∷ []) r a s idle.free (made_talked view (Command f) r a made) (broken_talked view (Command g) a s not) in
       record {
-        came = (came_still view false ps [] r s talked (ends_within-broken (loop_of r) ps talked.ends) refl (λ t. refl) left.still.tape).came;
+        came = came_still view false ps [] r s talked (ends_within-broken (loop_of r) ps talked.ends) refl (λ t. refl) left.still.tape;
         unheard = others_more d r a s (others_of d r a (made.whole.unheard plain_f.no_data)) (others_of d a s (not.broke.unheard plain_g.no_data));
         drive = left;
       }
 
-  pub broke_third : (a b s : RingView M) → Made view (Command f) r a → Made view (Command g) a b → BrokenOff view (Command h) b s → ReadBroke view d r s
+  pub broke_third : (a b s : RingView M) → Made view (Command f) r a → Made view (Command g) a b → BrokenOff view (Command h) b s → Interrupted view d r s
   broke_third a b s first second not =
       let left = leaves_then view r.drive a.drive s.drive (command_leaves view f r a plain_f first) (leaves_then view a.drive b.drive s.drive (command_leaves view g a b plain_g second) (command_left view h b s plain_h not)) in
       let ps : List Piece = WholeOne (Command f) ∷ WholeOne (Command g) ∷ Cut (Command h) not.broke.standing not.broke.break ∷ [] in
       let talked = talked_then view false (WholeOne (Command f) ∷ []) (WholeOne (Command g) ∷ Cut (Command h) not.broke.standing not.broke.break ∷ []) r a s idle.free (made_talked view (Command f) r a first)
           (talked_then view false (WholeOne (Command g) ∷ []) (Cut (Command h) not.broke.standing not.broke.break ∷ []) a b s first.idle.free (made_talked view (Command g) a b second) (broken_talked view (Command h) b s not)) in
       record {
-        came = (came_still view false ps [] r s talked (ends_within-broken (loop_of r) ps talked.ends) refl (λ t. refl) left.still.tape).came;
+        came = came_still view false ps [] r s talked (ends_within-broken (loop_of r) ps talked.ends) refl (λ t. refl) left.still.tape;
         unheard = others_more d r b s (others_more d r a b (others_of d r a (first.whole.unheard plain_f.no_data)) (others_of d a b (second.whole.unheard plain_g.no_data))) (others_of d b s (not.broke.unheard plain_h.no_data));
         drive = left;
       }

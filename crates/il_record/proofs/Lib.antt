@@ -11,4 +11,5 @@ pub mod Cuts
 pub mod Sends
 pub mod Used
 pub mod WriteRuns
+pub mod StoreCalls
 pub mod Talks

@@ -68,7 +68,7 @@ ends_behind whole (WholeOne x ∷ ps) qs first more = by whole (ends_behind whol
     by false e = e
 ends_behind whole (Cut x n b ∷ ps) qs first more = cc
 
-same_loop : {M : Type 0} (view : M → MediumView) (r m : RingView M) (a b : Option ℕ) (xs : List Entry) → Adds view r a xs b m → loop_of m ≡ loop_of r
+pub same_loop : {M : Type 0} (view : M → MediumView) (r m : RingView M) (a b : Option ℕ) (xs : List Entry) → Adds view r a xs b m → loop_of m ≡ loop_of r
 same_loop view r m a b xs adds = ap₂ (λ k q. host_loop k q) adds.size (ap (λ n. n + 1) adds.before)
 
 -- behind whole exchanges a frame is held where one is by these alone

@@ -13,7 +13,7 @@ use Rattle.loop_model.specs.Reach.{met}
 use Rattle.loop_model.specs.Units.{RecordUnit, units_of, ends_within}
 use Rattle.il_ring.specs.Plans.{hops_of}
 use Rattle.il_ring.specs.Rings.{RingView, drive_party, spare_of}
-use Rattle.il_control.specs.Calls.{IsIdle, IsLost, loop_of}
+use Rattle.il_control.specs.Calls.{IsFree as IsFreeRing, IsIdle, IsLost, loop_of}
 use Rattle.il_record.specs.declared.records.Since.{Since}
 use Rattle.il_record.specs.declared.records.Since.TheVariants as since
 use Rattle.il_record.specs.Came.{OnlyHeard, CameBy}
@@ -51,13 +51,19 @@ StandsSo Nowhere sound log = ⊥
 abbrev pub all_good : List RecordUnit → Bool
 all_good us = list_all (λ u. is_good u.status) us
 
--- The ring r became s since the log was emptied: as CameBy says, and only the drive heard anything. Where no call failed each unit has
--- status 0, and where the medium failed one has not.
-abbrev pub Stood : {M : Type 0} → (M → MediumView) → Since → RingView M → RingView M → Type 0
-Stood view since.Unbroken r s = (came : CameBy view true r s) × OnlyHeard (drive_party r) r s × (all_good (units_of (loop_of r) came.pieces) ≡ true)
-Stood view since.Failed r s = (came : CameBy view true r s) × OnlyHeard (drive_party r) r s × (all_good (units_of (loop_of r) came.pieces) ≡ false)
-Stood view since.Broken r s = CameBy view false r s × OnlyHeard (drive_party r) r s
-Stood view since.Mended r s = ⊥
+-- The exchanges by which r became s, by how the log stands. Where no call failed each unit has status 0, and where the medium
+-- failed one has not.
+abbrev pub StoodBy : {M : Type 0} → (M → MediumView) → Since → RingView M → RingView M → Type 0
+StoodBy view since.Unbroken r s = (came : CameBy view true r s) × (all_good (units_of (loop_of r) came.pieces) ≡ true)
+StoodBy view since.Failed r s = (came : CameBy view true r s) × (all_good (units_of (loop_of r) came.pieces) ≡ false)
+StoodBy view since.Broken r s = CameBy view false r s
+StoodBy view since.Mended r s = ⊥
+
+-- The ring r, on which no frame was held, became s since the log was emptied, and no device but the drive heard anything.
+pub record Stood {M : Type 0} (view : M → MediumView) (log : Since) (r s : RingView M) : Type 0 where
+  pub free : IsFreeRing r
+  pub unheard : OnlyHeard (drive_party r) r s
+  pub by : StoodBy view log r s
 
 -- The log reads as exchanges whose units all have status 0 and are, in order, these transfers.
 pub record Transferred (l : Loop) (log : List Entry) (list : List Transfer) : Type 0 where

@@ -44,6 +44,14 @@ pub record ReadPart {M : Type 0} (view : M → MediumView) (v w : DriveView M) :
   pub still : IsStill (view v.medium) (view w.medium)
   pub rose : Rose (view v.medium).faults (view w.medium).faults
 
+-- ---- exchanges that move no record
+
+-- they were broken off
+pub record Interrupted {M : Type 0} (view : M → MediumView) (d : ℕ) (r s : RingView M) : Type 0 where
+  pub came : CameUnits view false [] r s
+  pub unheard : OnlyHeard d r s
+  pub drive : LeavesRecords view r.drive s.drive
+
 -- ---- addressing
 
 -- each device has its number as address, and none has a role

@@ -8,7 +8,7 @@ ghost use Rattle.il_control.specs.Calls.{IsIdle, is_command};
 ghost use Rattle.loop_model.specs.Entries.{unl, lad};
 ghost use Rattle.il_drive.specs.State.{IsDrive};
 ghost use Rattle.il_drive.proofs.ExchangesAddressed.{sdc};
-ghost use Rattle.il_record.specs.Runs.{Cleared, Polled, NotPolled, ReadAs, ReadBroke, WroteAs, WriteBroke};
+ghost use Rattle.il_record.specs.Runs.{Cleared, Interrupted, Polled, NotPolled, ReadAs, ReadBroke, WroteAs, WriteBroke};
 
 use crate::exchanges::{seek, send};
 use il_control::{Idle, Lost, Sot};
@@ -60,7 +60,7 @@ pub(crate) fn clear<M: Medium>(idle: Idle<M>, drive: u8) -> Result<Idle<M>, Lost
     requires address { drive ≤ 30 }
     requires at { drive ≡ drive_party (⟦<Idle<M> as Seen<M>>⟧.seen idle) }
     ensures cleared { IfOk result (λ cleared. Cleared M.view drive (⟦<Idle<M> as Seen<M>>⟧.seen idle) (⟦<Idle<M> as Seen<M>>⟧.seen cleared)) }
-    ensures broken { IfErr result (λ lost. ReadBroke M.view drive (⟦<Idle<M> as Seen<M>>⟧.seen idle) (⟦<Lost<M> as Seen<M>>⟧.seen lost)) }
+    ensures broken { IfErr result (λ lost. Interrupted M.view drive (⟦<Idle<M> as Seen<M>>⟧.seen idle) (⟦<Lost<M> as Seen<M>>⟧.seen lost)) }
     ensures used { IfOk result (λ cleared. spare_of (⟦<Idle<M> as Seen<M>>⟧.seen idle) ≤ spare_of (⟦<Idle<M> as Seen<M>>⟧.seen cleared) + 6) }
     ensures used_lost { IfErr result (λ lost. spare_of (⟦<Idle<M> as Seen<M>>⟧.seen idle) ≤ spare_of (⟦<Lost<M> as Seen<M>>⟧.seen lost) + 7) }
 {
