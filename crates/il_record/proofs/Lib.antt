@@ -12,4 +12,5 @@ pub mod Sends
 pub mod Used
 pub mod WriteRuns
 pub mod StoreCalls
+pub mod StoreRuns
 pub mod Talks
