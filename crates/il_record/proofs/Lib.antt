@@ -13,4 +13,5 @@ pub mod Used
 pub mod WriteRuns
 pub mod StoreCalls
 pub mod StoreRuns
+pub mod StoreStarts
 pub mod Talks

@@ -1,5 +1,5 @@
 -- What the calls of a store over the loop keep: the log since it was emptied, the list of transfers, and the counts.
-use Rattle.std.proofs.Common.{◌≡◌, ◌≢◌, ◌∙◌, ◌≤◌, ◌<◌, ◌+◌, ◌-◌, ◌*◌, ◌/◌, ◌++◌, ◌&&◌, ◌==◌, ℕ, Bool, true, false, List, [], ◌∷◌, Option, None, length, map, refl, sym, ap, ap₂, subst, arith, append-nil, append_assoc, length-append}
+use Rattle.std.proofs.Common.{inl, inr, ⊎_elim, ◌⊎◌, ◌≡◌, ◌≢◌, ◌∙◌, ◌≤◌, ◌<◌, ◌+◌, ◌-◌, ◌*◌, ◌/◌, ◌++◌, ◌&&◌, ◌==◌, ℕ, Bool, true, false, List, [], ◌∷◌, Option, None, length, map, refl, sym, ap, ap₂, subst, arith, append-nil, append_assoc, length-append}
 use Rattle.std.specs.Prelude.{min, MatchBool}
 use Rattle.std.specs.List.{list_all}
 use Rattle.std.proofs.lemmas.Bool.{and_from}
@@ -70,45 +70,55 @@ party_stays view whole r s came = ap (λ n. n + 1) came.talked.adds.before
 heard_then : {M : Type 0} (d : ℕ) (r m s : RingView M) → OnlyHeard d r m → OnlyHeard d m s → OnlyHeard d r s
 heard_then d r m s first more = others_then d 1 (devices_of r) (devices_of m) (devices_of s) first more
 
-module _ {M : Type 0} (view : M → MediumView) (log : Since) (start r s : RingView M) (stood : Stood view log start r) (alive : is_broken log ≡ false) (unheard : OnlyHeard (drive_party r) r s) where
-  -- the drive's party, at each of them
-  heard : (came : CameBy view true start r) → OnlyHeard (drive_party start) start s
-  heard came = heard_then (drive_party start) start r s stood.unheard (subst (λ d. OnlyHeard d r s) (party_stays view true start r came) unheard)
+heard : {M : Type 0} (view : M → MediumView) (start r s : RingView M) → OnlyHeard (drive_party start) start r → OnlyHeard (drive_party r) r s → CameBy view true start r → OnlyHeard (drive_party start) start s
+heard view start r s before unheard came = heard_then (drive_party start) start r s before (subst (λ d. OnlyHeard d r s) (party_stays view true start r came) unheard)
+
+-- behind such exchanges, units that all have status 0, or one that has another
+then_whole : {M : Type 0} (view : M → MediumView) (before good : Bool) (us : List RecordUnit) (start r s : RingView M) → IsFree start → (came : CameBy view true start r) → all_good (units_of (loop_of start) came.pieces) ≡ before → CameUnits view true us r s
+    → all_good us ≡ good → (both : CameBy view true start s) × (all_good (units_of (loop_of start) both.pieces) ≡ (before && good))
+then_whole view before good us start r s free came was units is = (came_then view true start r s free came units.came, good_then view true start r s free came units.came before good was (ap all_good units.are ∙ is))
+
+-- behind nothing
+first_whole : {M : Type 0} (view : M → MediumView) (good : Bool) (us : List RecordUnit) (start r s : RingView M) → r ≡ start → CameUnits view true us r s → all_good us ≡ good → OnlyHeard (drive_party r) r s
+    → ((came : CameBy view true start s) × (all_good (units_of (loop_of start) came.pieces) ≡ good)) × OnlyHeard (drive_party start) start s
+first_whole {M} view good us start r s same units is unheard =
+    subst (λ (r : RingView M). ((came : CameBy view true r s) × (all_good (units_of (loop_of r) came.pieces) ≡ good)) × OnlyHeard (drive_party r) r s) same ((units.came, ap all_good units.are ∙ is), unheard)
 
 -- exchanges whose units all have status 0
 pub stood_whole : {M : Type 0} (view : M → MediumView) (log : Since) (us : List RecordUnit) (start r s : RingView M) → Stood view log start r → is_broken log ≡ false → CameUnits view true us r s → all_good us ≡ true → OnlyHeard (drive_party r) r s → Stood view log start s
-stood_whole view since.Unbroken us start r s stood alive units good unheard = record {
-  free = stood.free;
-  unheard = heard view since.Unbroken start r s stood alive unheard stood.by.0;
-  by = (came_then view true start r s stood.free stood.by.0 units.came, good_then view true start r s stood.free stood.by.0 units.came true true stood.by.1 (ap all_good units.are ∙ good));
-}
+stood_whole view since.Unbroken us start r s stood alive units good unheard = ⊎_elim
+    (λ same. let first = first_whole view true us start r s same units good unheard in record { free = stood.free; unheard = first.1; by = inr first.0 })
+    (λ so. record { free = stood.free; unheard = heard view start r s stood.unheard unheard so.0; by = inr (then_whole view true true us start r s stood.free so.0 so.1 units good) })
+    stood.by
 stood_whole view since.Failed us start r s stood alive units good unheard = record {
   free = stood.free;
-  unheard = heard view since.Failed start r s stood alive unheard stood.by.0;
-  by = (came_then view true start r s stood.free stood.by.0 units.came, good_then view true start r s stood.free stood.by.0 units.came false true stood.by.1 (ap all_good units.are ∙ good));
+  unheard = heard view start r s stood.unheard unheard stood.by.0;
+  by = then_whole view false true us start r s stood.free stood.by.0 stood.by.1 units good;
 }
 stood_whole view since.Broken us start r s stood alive units good unheard = cc
 stood_whole view since.Mended us start r s stood alive units good unheard = absurd stood.by
 
 -- a unit that has another status
 pub stood_medium : {M : Type 0} (view : M → MediumView) (log : Since) (us : List RecordUnit) (start r s : RingView M) → Stood view log start r → is_broken log ≡ false → CameUnits view true us r s → all_good us ≡ false → OnlyHeard (drive_party r) r s → Stood view (since_medium log) start s
-stood_medium view since.Unbroken us start r s stood alive units bad unheard = record {
-  free = stood.free;
-  unheard = heard view since.Unbroken start r s stood alive unheard stood.by.0;
-  by = (came_then view true start r s stood.free stood.by.0 units.came, good_then view true start r s stood.free stood.by.0 units.came true false stood.by.1 (ap all_good units.are ∙ bad));
-}
+stood_medium view since.Unbroken us start r s stood alive units bad unheard = ⊎_elim
+    (λ same. let first = first_whole view false us start r s same units bad unheard in record { free = stood.free; unheard = first.1; by = first.0 })
+    (λ so. record { free = stood.free; unheard = heard view start r s stood.unheard unheard so.0; by = then_whole view true false us start r s stood.free so.0 so.1 units bad })
+    stood.by
 stood_medium view since.Failed us start r s stood alive units bad unheard = record {
   free = stood.free;
-  unheard = heard view since.Failed start r s stood alive unheard stood.by.0;
-  by = (came_then view true start r s stood.free stood.by.0 units.came, good_then view true start r s stood.free stood.by.0 units.came false false stood.by.1 (ap all_good units.are ∙ bad));
+  unheard = heard view start r s stood.unheard unheard stood.by.0;
+  by = then_whole view false false us start r s stood.free stood.by.0 stood.by.1 units bad;
 }
 stood_medium view since.Broken us start r s stood alive units bad unheard = cc
 stood_medium view since.Mended us start r s stood alive units bad unheard = absurd stood.by
 
 -- an exchange that was broken off
 pub stood_frame : {M : Type 0} (view : M → MediumView) (log : Since) (start r s : RingView M) → Stood view log start r → is_broken log ≡ false → CameBy view false r s → OnlyHeard (drive_party r) r s → Stood view (since_frame log) start s
-stood_frame view since.Unbroken start r s stood alive came unheard = record { free = stood.free; unheard = heard view since.Unbroken start r s stood alive unheard stood.by.0; by = came_then view false start r s stood.free stood.by.0 came }
-stood_frame view since.Failed start r s stood alive came unheard = record { free = stood.free; unheard = heard view since.Failed start r s stood alive unheard stood.by.0; by = came_then view false start r s stood.free stood.by.0 came }
+stood_frame {M} view since.Unbroken start r s stood alive came unheard = ⊎_elim
+    (λ same. subst (λ (r : RingView M). IsFree r → Stood view since.Broken r s) same (λ free. record { free = free; unheard = unheard; by = came }) stood.free)
+    (λ so. record { free = stood.free; unheard = heard view start r s stood.unheard unheard so.0; by = came_then view false start r s stood.free so.0 came })
+    stood.by
+stood_frame view since.Failed start r s stood alive came unheard = record { free = stood.free; unheard = heard view start r s stood.unheard unheard stood.by.0; by = came_then view false start r s stood.free stood.by.0 came }
 stood_frame view since.Broken start r s stood alive came unheard = cc
 stood_frame view since.Mended start r s stood alive came unheard = absurd stood.by
 

@@ -24,7 +24,7 @@ use Rattle.il_record.specs.LoopStores.{AtIdle, AtLost, FromStart, Stood, Transfe
 use Rattle.il_record.specs.Runs.{unit, ReadAs, ReadBroke, WroteAs, WriteBroke, WriteRun, NotWritten, ReadRun, NotRead}
 use Rattle.il_record.proofs.StoreCalls.{stood_whole, stood_medium, stood_frame, transferred_then, frames_same, frames_rose, calls_less}
 
-from_start : {M S : Type 0} (seen : S → RingView M) (start : Option S) (P Q : RingView M → Type 0) → ((r : RingView M) → P r → Q r) → FromStart seen start P → FromStart seen start Q
+pub from_start : {M S : Type 0} (seen : S → RingView M) (start : Option S) (P Q : RingView M → Type 0) → ((r : RingView M) → P r → Q r) → FromStart seen start P → FromStart seen start Q
 from_start seen None P Q wider so = so
 from_start seen (Some s) P Q wider so = wider (seen s) so
 
@@ -102,7 +102,7 @@ module _ {M S : Type 0} (view : M → MediumView) (seen : S → RingView M) (p q
 -- ---- reads
 
 -- the drive's party stays
-party_of : {M : Type 0} (view : M → MediumView) (whole : Bool) (r s : RingView M) → CameBy view whole r s → drive_party s ≡ drive_party r
+pub party_of : {M : Type 0} (view : M → MediumView) (whole : Bool) (r s : RingView M) → CameBy view whole r s → drive_party s ≡ drive_party r
 party_of view whole r s came = ap (λ n. n + 1) came.talked.adds.before
 
 module _ {M S : Type 0} (view : M → MediumView) (seen : S → RingView M) (p q : Option S) (log : Since) (resumes k first : ℕ) (bytes : List ℕ) (r s : RingView M) (idle : IsIdle r) (alive : is_broken log ≡ false) (long : length bytes ≡ 256 * k) (some : 1 ≤ k) where

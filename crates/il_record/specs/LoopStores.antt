@@ -1,5 +1,5 @@
 -- What contracts see of a store of records over the loop.
-use Rattle.std.specs.Prelude.{◌≡◌, ◌-◌, ◌/◌, ℕ, Bool, true, false, min, List, [], length, map, Option, Some, None}
+use Rattle.std.specs.Prelude.{◌≡◌, ◌⊎◌, ◌≤◌, ◌+◌, ◌-◌, ◌/◌, ℕ, Bool, true, false, min, List, [], length, map, Option, Some, None, Result, Ok, Err}
 use Rattle.std.specs.List.{list_all}
 use Rattle.lif_model.specs.Transfers.{Transfer}
 use Rattle.il_frames.specs.declared.entry.Entry.{Entry}
@@ -16,7 +16,10 @@ use Rattle.il_ring.specs.Rings.{RingView, drive_party, spare_of}
 use Rattle.il_control.specs.Calls.{IsFree as IsFreeRing, IsIdle, IsLost, loop_of}
 use Rattle.il_record.specs.declared.records.Since.{Since}
 use Rattle.il_record.specs.declared.records.Since.TheVariants as since
+use Rattle.il_ports.specs.declared.records.Trouble.{Trouble}
+use Rattle.il_ports.specs.declared.records.Trouble.TheVariants as trouble
 use Rattle.il_record.specs.Came.{OnlyHeard, CameBy}
+use Rattle.il_record.specs.Runs.{Readied, Interrupted}
 
 -- the controller, by its ring
 pub data Standing (M : Type 0) : Type 0 where
@@ -51,10 +54,10 @@ StandsSo Nowhere sound log = ⊥
 abbrev pub all_good : List RecordUnit → Bool
 all_good us = list_all (λ u. is_good u.status) us
 
--- The exchanges by which r became s, by how the log stands. Where no call failed each unit has status 0, and where the medium
--- failed one has not.
+-- The exchanges by which r became s, if there were any, by how the log stands. Where no call failed each unit has status 0, and
+-- where the medium failed one has not.
 abbrev pub StoodBy : {M : Type 0} → (M → MediumView) → Since → RingView M → RingView M → Type 0
-StoodBy view since.Unbroken r s = (came : CameBy view true r s) × (all_good (units_of (loop_of r) came.pieces) ≡ true)
+StoodBy view since.Unbroken r s = (s ≡ r) ⊎ ((came : CameBy view true r s) × (all_good (units_of (loop_of r) came.pieces) ≡ true))
 StoodBy view since.Failed r s = (came : CameBy view true r s) × (all_good (units_of (loop_of r) came.pieces) ≡ false)
 StoodBy view since.Broken r s = CameBy view false r s
 StoodBy view since.Mended r s = ⊥
@@ -180,3 +183,33 @@ since_frame _ = since.Broken
 abbrev pub since_more : Since → Since
 since_more since.Broken = since.Mended
 since_more other = other
+
+-- with the log of its ring emptied
+abbrev pub with_empty_log : {M : Type 0} → Standing M → Standing M
+with_empty_log (AtIdle r) = AtIdle (record r { books = record r.books { log = [] } })
+with_empty_log (AtLost r) = AtLost (record r { books = record r.books { log = [] } })
+with_empty_log Nowhere = Nowhere
+
+abbrev pub log_emptied : {M : Type 0} → LoopView M → LoopView M
+log_emptied l = record l { control = with_empty_log l.control; since = since.Unbroken; resumes = 0 }
+
+-- What `ready` does, by where the controller is: nothing where it is idle. Else the devices are addressed, or an exchange was broken
+-- off.
+pub record Addressed {M : Type 0} (view : M → MediumView) (r : RingView M) (old new : LoopView M) : Type 0 where
+  pub ring : RingView M
+  pub left : new ≡ record old { control = AtIdle ring; since = since_more old.since }
+  pub readied : Readied view r ring
+  pub used : spare_of r ≤ spare_of ring + 5
+
+pub record NotAddressed {M : Type 0} (view : M → MediumView) (r : RingView M) (old new : LoopView M) : Type 0 where
+  pub ring : RingView M
+  pub left : new ≡ record old { control = AtLost ring; sound = false; since = since_frame old.since }
+  pub interrupted : Interrupted view (drive_party r) r ring
+  pub used : spare_of r ≤ spare_of ring + 6
+
+abbrev pub Addresses : {M T : Type 0} → (M → MediumView) → Standing M → LoopView M → LoopView M → Result T Trouble → Type 0
+Addresses view (AtIdle r) old new (Ok x) = new ≡ old
+Addresses view (AtIdle r) old new (Err e) = ⊥
+Addresses view (AtLost r) old new (Ok x) = Addressed view r old new
+Addresses view (AtLost r) old new (Err e) = (e ≡ trouble.Frame) × NotAddressed view r old new
+Addresses view Nowhere old new answer = ⊥
