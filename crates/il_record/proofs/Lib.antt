@@ -11,6 +11,7 @@ pub mod Cuts
 pub mod Sends
 pub mod Used
 pub mod WriteRuns
+pub mod StoreAnswers
 pub mod StoreCalls
 pub mod StoreRuns
 pub mod StoreStarts

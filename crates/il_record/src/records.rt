@@ -4,13 +4,13 @@ ghost use Rattle.il_drive.proofs.Exchanges.{IsFree};
 ghost use Rattle.il_ring.specs.Rings.{spare_of, drive_party};
 ghost use Rattle.il_control.specs.Calls.{IsIdle, IsLost};
 ghost use Rattle.il_record.specs.declared.records.Since.TheVariants as since_is;
-ghost use Rattle.il_record.specs.LoopStores.{AtIdle, AtLost, Nowhere, is_idle, HasRing, StandsSo, log_emptied, Addresses, since_frame, since_medium, since_more};
+ghost use Rattle.il_record.specs.LoopStores.{calls_in as calls_of, AtIdle, AtLost, Nowhere, is_idle, HasRing, StandsSo, log_emptied, Addresses, since_frame, since_medium, since_more};
 ghost use Rattle.il_ports.specs.declared.records.Trouble.TheVariants as trouble_is;
 
-use crate::runs::{read_run, write_run};
+
 use il_control::{Idle, Lost};
 use il_device::Device;
-use il_ports::{Medium, Records, Trouble};
+use il_ports::{Medium, Trouble};
 use il_ring::{Ring, Seen};
 use std::marker::PhantomData;
 
@@ -66,6 +66,14 @@ impl Since {
             other => other,
         }
     }
+}
+
+/// How many records the room for so many entries is enough for: each takes at most 300, and 32 are kept for the last frame.
+fn calls_in(spare: usize) -> u32
+    ensures { result ≡ calls_of spare }
+{
+    let calls = spare.saturating_sub(32) / 300;
+    u32::try_from(calls).unwrap_or(u32::MAX)
 }
 
 /// The ring of an idle controller.

@@ -94,7 +94,7 @@ pub(crate) fn read_run<M: Medium>(
     first: u16,
     into: &mut [u8],
 ) -> Result<(Idle<M>, bool), Lost<M>>
-    requires room { 95 + length into.old ≤ spare_of (⟦<Idle<M> as Seen<M>>⟧.seen idle) }
+    requires room { 64 + length into.old ≤ spare_of (⟦<Idle<M> as Seen<M>>⟧.seen idle) }
     requires idle { IsIdle (⟦<Idle<M> as Seen<M>>⟧.seen idle) }
     requires address { drive ≤ 30 }
     requires at { drive ≡ drive_party (⟦<Idle<M> as Seen<M>>⟧.seen idle) }
@@ -121,7 +121,7 @@ pub(crate) fn write_run<M: Medium>(
     count: u16,
     from: &[u8],
 ) -> Result<(Idle<M>, bool), Lost<M>>
-    requires room { 91 + 256 * count ≤ spare_of (⟦<Idle<M> as Seen<M>>⟧.seen idle) }
+    requires room { 58 + 256 * count ≤ spare_of (⟦<Idle<M> as Seen<M>>⟧.seen idle) }
     requires idle { IsIdle (⟦<Idle<M> as Seen<M>>⟧.seen idle) }
     requires address { drive ≤ 30 }
     requires at { drive ≡ drive_party (⟦<Idle<M> as Seen<M>>⟧.seen idle) }
