@@ -13,6 +13,7 @@ pub mod Used
 pub mod WriteRuns
 pub mod StoreAnswers
 pub mod StoreCalls
+pub mod StoreResumes
 pub mod StoreRuns
 pub mod StoreStarts
 pub mod Talks

@@ -67,7 +67,7 @@ party_stays view whole r s came = ap (λ n. n + 1) came.talked.adds.before
 
 -- ---- what stood
 
-heard_then : {M : Type 0} (d : ℕ) (r m s : RingView M) → OnlyHeard d r m → OnlyHeard d m s → OnlyHeard d r s
+pub heard_then : {M : Type 0} (d : ℕ) (r m s : RingView M) → OnlyHeard d r m → OnlyHeard d m s → OnlyHeard d r s
 heard_then d r m s first more = others_then d 1 (devices_of r) (devices_of m) (devices_of s) first more
 
 heard : {M : Type 0} (view : M → MediumView) (start r s : RingView M) → OnlyHeard (drive_party start) start r → OnlyHeard (drive_party r) r s → CameBy view true start r → OnlyHeard (drive_party start) start s
