@@ -1,4 +1,5 @@
 pub mod AddressedDrive
+pub mod Addressed
 pub mod Asked
 pub mod CameLaws
 pub mod Heard
@@ -13,9 +14,16 @@ pub mod Places
 pub mod Polling
 pub mod ReadRuns
 pub mod Readings
+pub mod Clearing
 pub mod CutSends
 pub mod Cuts
 pub mod Saying
 pub mod Sends
+pub mod Used
 pub mod WriteRuns
+pub mod StoreAnswers
+pub mod StoreCalls
+pub mod StoreResumes
+pub mod StoreRuns
+pub mod StoreStarts
 pub mod Talks

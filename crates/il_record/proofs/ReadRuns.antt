@@ -152,7 +152,7 @@ talked_three view x y z r a b s idle one two three =
     talked_then view true (WholeOne x ∷ []) (WholeOne y ∷ WholeOne z ∷ []) r a s idle.free (made_talked view x r a one) (talked_then view true (WholeOne y ∷ []) (WholeOne z ∷ []) a b s one.idle.free (made_talked view y a b two) (made_talked view z b s three))
 
 -- a read that broke off: the seek, the receive of records, or the poll of the status
-leaves_then : {M : Type 0} (view : M → MediumView) (u v w : DriveView M) → LeavesRecords view u v → LeavesRecords view v w → LeavesRecords view u w
+pub leaves_then : {M : Type 0} (view : M → MediumView) (u v w : DriveView M) → LeavesRecords view u v → LeavesRecords view v w → LeavesRecords view u w
 leaves_then view u v w first more = record { still = still_longer _ _ _ first.still more.still; count = let a = first.count in let b = more.count in omega (arith, a, b) }
 
 still_same : {M : Type 0} (view : M → MediumView) (v w : DriveView M) → w.medium ≡ v.medium → IsStill (view v.medium) (view w.medium)

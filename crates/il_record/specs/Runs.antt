@@ -14,8 +14,8 @@ use Rattle.il_drive.proofs.ExchangesWriting.{HasKept}
 use Rattle.il_drive.proofs.Reading.{IsRead}
 use Rattle.loop_model.specs.Exchanges.{Answer, Echo, Stopped, Receive, Sst}
 use Rattle.loop_model.specs.Units.{RecordUnit}
-use Rattle.il_ring.specs.Rings.{RingView}
-use Rattle.il_control.specs.Calls.{Made, BrokenOff, Unheard}
+use Rattle.il_ring.specs.Rings.{RingView, drive_party}
+use Rattle.il_control.specs.Calls.{IsIdle, Made, BrokenOff, Unheard}
 use Rattle.il_record.specs.Came.{OnlyHeard, CameBy, CameUnits}
 
 -- ---- what the drive did, which has address d
@@ -43,6 +43,33 @@ pub record ReadPart {M : Type 0} (view : M → MediumView) (v w : DriveView M) :
   pub status : status_of w.state ≡ 1
   pub still : IsStill (view v.medium) (view w.medium)
   pub rose : Rose (view v.medium).faults (view w.medium).faults
+
+-- ---- exchanges that move no record
+
+-- they were broken off
+pub record Interrupted {M : Type 0} (view : M → MediumView) (d : ℕ) (r s : RingView M) : Type 0 where
+  pub came : CameUnits view false [] r s
+  pub unheard : OnlyHeard d r s
+  pub drive : LeavesRecords view r.drive s.drive
+
+-- ---- addressing
+
+-- each device has its number as address, and none has a role
+pub record Readied {M : Type 0} (view : M → MediumView) (r s : RingView M) : Type 0 where
+  pub came : CameUnits view true [] r s
+  pub unheard : OnlyHeard (drive_party r) r s
+  pub medium : s.drive.medium ≡ r.drive.medium
+  pub idle : IsIdle s
+
+-- ---- clearing
+
+-- the drive was cleared: it rests with status 0
+pub record Cleared {M : Type 0} (view : M → MediumView) (d : ℕ) (r s : RingView M) : Type 0 where
+  pub came : CameUnits view true [] r s
+  pub unheard : OnlyHeard d r s
+  pub rests : IsAtRest d s.drive.state
+  pub medium : s.drive.medium ≡ r.drive.medium
+  pub idle : IsIdle s
 
 -- ---- the status
 

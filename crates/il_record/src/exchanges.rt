@@ -31,6 +31,8 @@ pub(crate) fn send<M: Medium>(
     requires number { IfSome number (λ n. n < 32) }
     ensures sent { IfOk result (λ sent. SentAll M.view address number (filled length bytes.now) (⟦<Idle<M> as Seen<M>>⟧.seen idle) (⟦<Idle<M> as Seen<M>>⟧.seen sent)) }
     ensures broken { IfErr result (λ lost. SendBroke M.view address number (filled length bytes.now) (⟦<Idle<M> as Seen<M>>⟧.seen idle) (⟦<Lost<M> as Seen<M>>⟧.seen lost)) }
+    ensures used { IfOk result (λ sent. spare_of (⟦<Idle<M> as Seen<M>>⟧.seen idle) ≤ spare_of (⟦<Idle<M> as Seen<M>>⟧.seen sent) + (length + 6)) }
+    ensures used_lost { IfErr result (λ lost. spare_of (⟦<Idle<M> as Seen<M>>⟧.seen idle) ≤ spare_of (⟦<Lost<M> as Seen<M>>⟧.seen lost) + (length + 7)) }
 {
     let mut sending = idle.listen(address, number)?;
     for place in 0..length {
@@ -46,6 +48,8 @@ pub(crate) fn seek<M: Medium>(idle: Idle<M>, drive: u8, n: u16) -> Result<Idle<M
     requires address { (1 ≤ drive) × (drive ≤ 30) }
     ensures sent { IfOk result (λ sought. SentAll M.view drive (Some 4) (filled 2 (to_be_bytes w16 n)) (⟦<Idle<M> as Seen<M>>⟧.seen idle) (⟦<Idle<M> as Seen<M>>⟧.seen sought)) }
     ensures broken { IfErr result (λ lost. SendBroke M.view drive (Some 4) (filled 2 (to_be_bytes w16 n)) (⟦<Idle<M> as Seen<M>>⟧.seen idle) (⟦<Lost<M> as Seen<M>>⟧.seen lost)) }
+    ensures used { IfOk result (λ sought. spare_of (⟦<Idle<M> as Seen<M>>⟧.seen idle) ≤ spare_of (⟦<Idle<M> as Seen<M>>⟧.seen sought) + 8) }
+    ensures used_lost { IfErr result (λ lost. spare_of (⟦<Idle<M> as Seen<M>>⟧.seen idle) ≤ spare_of (⟦<Lost<M> as Seen<M>>⟧.seen lost) + 9) }
 {
     send(idle, drive, Some(4), &n.to_be_bytes(), 2)
 }

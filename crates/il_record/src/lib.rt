@@ -6,6 +6,7 @@ mod calls;
 mod exchanges;
 mod frames;
 mod poll;
+mod records;
 mod runs;
 #[cfg(test)]
 mod call_tests;

@@ -1,7 +1,8 @@
-use Rattle.std.proofs.Common.{◌≡◌, ◌*◌, ◌/◌, ◌≤◌, length, arith}
+use Rattle.std.proofs.Common.{◌≡◌, ◌*◌, ◌/◌, ◌≤◌, ◌+◌, length, arith}
 use Rattle.il_record.proofs.Places.{kept_then, kept_sent, kept_not_sent, kept_received, kept_not_received}
 use Rattle.il_record.proofs.ReadRuns.{read_broke_at_seek, read_broke_at_receive, read_broke_at_status, read_done, received_room, same_length, all_came, some_came}
 use Rattle.il_record.proofs.Sends.{if_err, sent_room}
+use Rattle.il_record.proofs.Used.{used_on, received_used, not_received_used}
 use Rattle.il_record.proofs.runs.read_run.Goals as goal
 use Rattle.il_record.proofs.runs.read_run.Goals.{then-count-into, else-count-into}
 
@@ -59,3 +60,16 @@ returns-clause-places g c =
     let first = kept_sent g.M.Medium.view _ _ _ _ _ _ c.in_ok-idle.ensures.sent in
     let second = kept_then _ _ _ first (kept_received g.M.Medium.view _ _ _ _ _ _ _ _ c.in_ok-idle-2.ensures.received) in
     kept_then _ _ _ second c.in_ok-idle-3.ensures.places
+
+pub returns-in_err-idle-2-clause-used_lost : goal.returns-in_err-idle-2-clause-used_lost
+returns-in_err-idle-2-clause-used_lost g c =
+    if_err _ _ _ c.from_residual-in_err-idle-2.ensures (used_on _ _ _ 8 (length c.args.into.now + 13) _ c.in_ok-idle.ensures.used (not_received_used g.M.Medium.view _ _ _ _ _ _ c.in_err-idle-2.ensures.not_received) (omega arith))
+
+pub returns-in_err-idle-3-clause-used_lost : goal.returns-in_err-idle-3-clause-used_lost
+returns-in_err-idle-3-clause-used_lost g c =
+    if_err _ _ _ c.from_residual-in_err-idle-3.ensures
+    (used_on _ _ _ 8 (length c.args.into.now + 26) _ c.in_ok-idle.ensures.used (used_on _ _ _ (length c.args.into.now + 12) 14 _ (received_used g.M.Medium.view _ _ _ _ _ _ _ _ c.in_ok-idle-2.ensures.received) c.in_err-idle-3.ensures.used_lost (omega arith)) (omega arith))
+
+pub returns-clause-used : goal.returns-clause-used
+returns-clause-used g c =
+    used_on _ _ _ 8 (length c.args.into.now + 25) _ c.in_ok-idle.ensures.used (used_on _ _ _ (length c.args.into.now + 12) 13 _ (received_used g.M.Medium.view _ _ _ _ _ _ _ _ c.in_ok-idle-2.ensures.received) c.in_ok-idle-3.ensures.used (omega arith)) (omega arith)

@@ -1,0 +1,164 @@
+-- What emptying the log, addressing the loop and clearing the drive mean to a store over the loop.
+use Rattle.std.proofs.Common.{◌≡◌, ◌∙◌, ◌≤◌, ◌+◌, ◌-◌, ◌*◌, ◌++◌, ℕ, Bool, true, false, inl, List, [], Option, Some, None, length, refl, sym, ap, subst, arith, append-nil}
+use Rattle.std.specs.Prelude.{Result, Ok, Err, is_some, min}
+use Rattle.lif_model.specs.Transfers.{Transfer}
+use Rattle.il_ports.specs.declared.records.Trouble.{Trouble}
+use Rattle.il_ports.specs.declared.records.Trouble.TheVariants as trouble
+use Rattle.il_ports.specs.Media.{MediumView}
+use Rattle.il_ports.specs.Stores.{RecordsView, Begun, Continues, IsQuiet, Resumed}
+use Rattle.il_drive.specs.Steps.{IsStill}
+use Rattle.il_drive.proofs.Exchanges.{IsFree}
+use Rattle.il_ring.specs.Rings.{RingView, devices_of, drive_party, spare_of}
+use Rattle.il_control.specs.Calls.{IsFree as IsFreeRing, IsIdle, IsLost, loop_of}
+use Rattle.il_control.specs.Calls as calls
+use Rattle.il_record.proofs.Addressed.{readied, not_readied}
+use Rattle.il_record.proofs.Used.{resumed_used, not_resumed_used}
+use Rattle.il_record.specs.declared.records.Since.{Since}
+use Rattle.il_record.specs.declared.records.Since.TheVariants as since
+use Rattle.il_record.specs.Came.{OnlyHeard, CameBy, CameUnits}
+use Rattle.il_record.specs.LoopStores.{LoopView, Standing, Nowhere, Addresses, AtIdle, AtLost, Addressed, NotAddressed, since_more, since_frame, FromStart, IsEmptied, Stood, Transferred, calls_in, is_broken, is_unbroken, most_resumes, over_ring, view_at}
+use Rattle.il_record.proofs.Heard.{others_same}
+use Rattle.il_record.proofs.StoreCalls.{stood_whole, stood_frame, transferred_then, frames_same, frames_rose, calls_less}
+use Rattle.il_record.proofs.StoreRuns.{from_start}
+
+-- a log that is unbroken
+unbroken_is : (log : Since) → is_unbroken log ≡ true → log ≡ since.Unbroken
+unbroken_is since.Unbroken is = refl
+unbroken_is since.Failed is = cc
+unbroken_is since.Broken is = cc
+unbroken_is since.Mended is = cc
+
+module _ {M S : Type 0} (view : M → MediumView) (seen : S → RingView M) (p q : Option S) (valid : Type 0) (log : Since) (resumes more n : ℕ) (r s : RingView M) (free : IsFreeRing r) (unheard : OnlyHeard (drive_party r) r s)
+    (used : spare_of r ≤ spare_of s + n) (few : n ≤ 300) (still : IsStill (view r.drive.medium) (view s.drive.medium)) (counted : more ≡ min (resumes + 1) most_resumes) where
+  abbrev old : RecordsView (Option S)
+  old = over_ring view seen p valid false log resumes r
+
+  resumed_more : (k : ℕ) → min k most_resumes ≡ resumes → min (k + 1) most_resumes ≡ more
+  resumed_more k is = omega (arith, is, counted)
+
+  -- the store is sound again
+  pub resumed_ok : {T : Type 0} (x : T) (new : Since) → CameUnits view true [] r s → IsFree (drive_party s) s.drive.state → (view s.drive.medium).faults ≡ (view r.drive.medium).faults → is_broken new ≡ false → (is_unbroken log ≡ true → new ≡ log)
+      → Resumed old (view_at view seen q true new more (AtIdle s)) (Ok x)
+  resumed_ok x new units rest count alive same = record {
+    goes_on = record {
+      valid = (units.came.talked.state, (λ sound. rest), alive);
+      told = still.stays_in.told;
+      size = still.stays_in.size;
+      sound = refl;
+      left = calls_less 1 n r s used (omega (arith, few));
+      room = ap calls_in units.came.talked.adds.room;
+      unbroken = λ unbroken ok. ap is_unbroken (same unbroken) ∙ unbroken;
+      cause = (frames_same view units.came.pieces r s free.ring units.came.talked, count);
+    };
+    quiet = record { tape = still.tape; moment = still.moment; since = still.since };
+    transferred = λ list so. subst (λ list. Transferred (loop_of s) s.books.log list) (append-nil list) (transferred_then view true [] r s list units refl so);
+    stood = λ unbroken start so. from_start seen start _ _
+        (λ at stood. subst (λ log. Stood view log at s) (sym (same unbroken)) (stood_whole view log [] at r s stood (ap is_broken (unbroken_is log unbroken)) units refl unheard)) so;
+    resumed = λ k so. resumed_more k so;
+  }
+
+  -- an exchange was broken off
+  pub resumed_not : {T : Type 0} → (new : Since) → CameUnits view false [] r s → (view r.drive.medium).faults ≤ (view s.drive.medium).faults → (is_unbroken log ≡ true → new ≡ since.Broken)
+      → Resumed {T = T} old (view_at view seen q false new more (AtLost s)) (Err trouble.Frame)
+  resumed_not new units count broke = record {
+    goes_on = record {
+      valid = (units.came.talked.state, refl);
+      told = still.stays_in.told;
+      size = still.stays_in.size;
+      sound = refl;
+      left = calls_less 1 n r s used (omega (arith, few));
+      room = ap calls_in units.came.talked.adds.room;
+      unbroken = λ unbroken ok. cc;
+      cause = (frames_rose view units.came.pieces r s free.ring units.came.talked, count);
+    };
+    quiet = record { tape = still.tape; moment = still.moment; since = still.since };
+    transferred = λ list so. subst (λ list. Transferred (loop_of s) s.books.log list) (append-nil list) (transferred_then view false [] r s list units refl so);
+    stood = λ unbroken start so. from_start seen start _ _
+        (λ at stood. subst (λ log. Stood view log at s) (sym (broke unbroken)) (stood_frame view since.Unbroken at r s (subst (λ log. Stood view log at r) (unbroken_is log unbroken) stood) refl units.came unheard)) so;
+    resumed = λ k so. resumed_more k so;
+  }
+
+-- a sound store does nothing
+pub resumed_sound : {M S T : Type 0} (view : M → MediumView) (seen : S → RingView M) (p q : Option S) (log : Since) (resumes more : ℕ) (r : RingView M) (x : T) → IsIdle r → IsFree (drive_party r) r.drive.state → is_broken log ≡ false → more ≡ min (resumes + 1) most_resumes
+    → Resumed (view_at view seen p true log resumes (AtIdle r)) (view_at view seen q true log more (AtIdle r)) (Ok x)
+resumed_sound view seen p q log resumes more r x idle free alive counted = record {
+  goes_on = record {
+    valid = (idle, (λ sound. free), alive);
+    told = refl;
+    size = refl;
+    sound = refl;
+    left = omega arith;
+    room = refl;
+    unbroken = λ unbroken ok. unbroken;
+    cause = (refl, refl);
+  };
+  quiet = record { tape = refl; moment = refl; since = record { nothing_else = λ m t left. left; keeps = λ m t left. left } };
+  transferred = λ list so. so;
+  stood = λ unbroken start so. so;
+  resumed = λ k is. omega (arith, is, counted);
+}
+
+-- ---- the log is emptied
+
+abbrev pub cleared : {M : Type 0} → RingView M → RingView M
+cleared r = record r { books = record r.books { log = [] } }
+
+-- a start that is this ring
+abbrev pub IsStart : {M S : Type 0} → (S → RingView M) → Option S → RingView M → Type 0
+IsStart seen start r = FromStart seen start (λ s. s ≡ r)
+
+emptied_is : {M S : Type 0} (seen : S → RingView M) (p q : Option S) (r : RingView M) → IsStart seen p r → IsStart seen q (cleared r) → IsEmptied seen p q
+emptied_is seen None q r one two = absurd one
+emptied_is seen (Some a) None r one two = absurd two
+emptied_is {M} seen (Some a) (Some b) r one two = subst (λ (r : RingView M). seen b ≡ cleared r) (sym one) two
+
+nothing_since : {M S : Type 0} (view : M → MediumView) (seen : S → RingView M) (q : Option S) (s : RingView M) → IsFreeRing s → IsStart seen q s → FromStart seen q (λ start. Stood view since.Unbroken start s)
+nothing_since view seen None s free is = absurd is
+nothing_since {M} view seen (Some b) s free is =
+    subst (λ (start : RingView M). Stood view since.Unbroken start s) (sym is) (record { free = free; unheard = others_same (drive_party s) 1 (devices_of s); by = inl refl })
+
+module _ {M S : Type 0} (view : M → MediumView) (seen : S → RingView M) (p q : Option S) (sound : Bool) (log : Since) (resumes : ℕ) (valid_old valid_new : Type 0) (r : RingView M) (free : IsFreeRing r) (here : IsStart seen p r) (there : IsStart seen q (cleared r)) where
+  pub begun : valid_new → Begun (over_ring view seen p valid_old sound log resumes r) (over_ring view seen q valid_new sound since.Unbroken 0 (cleared r))
+  begun valid = record {
+    valid = valid;
+    quiet = record { tape = refl; moment = refl; since = record { nothing_else = λ m t left. left; keeps = λ m t left. left } };
+    size = refl;
+    sound = refl;
+    frame_faults = refl;
+    medium_faults = refl;
+    left = omega arith;
+    enough = omega arith;
+    room = refl;
+    emptied = emptied_is seen p q r here there;
+    stood = nothing_since view seen q (cleared r) free_cleared there;
+    transferred = record { reading = record { pieces = []; legal = refl; entries = refl }; outside = refl; good = refl; are = refl };
+    unbroken = refl;
+    resumed = refl;
+  }
+    where
+      free_cleared : IsFreeRing (cleared r)
+      free_cleared = record { ring = record { few = free.ring.few; plan = free.ring.plan; crossings = free.ring.crossings; held = free.ring.held }; held = free.held }
+
+-- ---- the loop is addressed
+
+low_party : {M : Type 0} (r t : RingView M) (party : ℕ) → t ≡ r → party ≡ drive_party t → party ≤ 30 → drive_party r ≤ 30
+low_party r t party same is low = let e = ap (λ (r : RingView _). drive_party r) same in omega (arith, e, is, low)
+
+pub addressed : {M : Type 0} (view : M → MediumView) (n party : ℕ) (r t s : RingView M) (log : Since) (old new : LoopView M) → t ≡ r → party ≡ drive_party t → party ≤ 30 → calls.Resumed view n r s → log ≡ since_more old.since → new ≡ record old { control = AtIdle s; since = log } → Addressed view r old new
+addressed {M} view n party r t s log old new same is low done logged left = record {
+  ring = s;
+  left = subst (λ (log : Since). new ≡ record old { control = AtIdle s; since = log }) logged left;
+  readied = readied view n r s (low_party r t party same is low) done;
+  used = resumed_used view n r s done;
+}
+
+pub not_addressed : {M : Type 0} (view : M → MediumView) (party : ℕ) (r t s : RingView M) (old new : LoopView M) → t ≡ r → party ≡ drive_party t → party ≤ 30 → calls.NotResumed view r s → new ≡ record old { control = AtLost s; sound = false; since = since_frame old.since } → NotAddressed view r old new
+not_addressed view party r t s old new same is low not left = record { ring = s; left = left; interrupted = not_readied view r s (low_party r t party same is low) not; used = not_resumed_used view r s not }
+
+-- a call in which the controller was taken out
+pub addresses_as : {M T : Type 0} (view : M → MediumView) (r : RingView M) (old mid new : LoopView M) (answer : Result T Trouble) → old.control ≡ AtLost r → mid ≡ record old { control = Nowhere } → Addresses view (AtLost r) mid new answer → Addresses view old.control old new answer
+addresses_as {M} {T} view r old mid new answer at taken so = subst (λ (c : Standing M). Addresses view c old new answer) (sym at) (by answer (subst (λ (mid : LoopView M). Addresses view (AtLost r) mid new answer) taken so))
+  where
+    by : (answer : Result T Trouble) → Addresses view (AtLost r) (record old { control = Nowhere }) new answer → Addresses view (AtLost r) old new answer
+    by (Ok x) so = record { ring = so.ring; left = so.left; readied = so.readied; used = so.used }
+    by (Err e) so = (so.0, record { ring = so.1.ring; left = so.1.left; interrupted = so.1.interrupted; used = so.1.used })

@@ -1,0 +1,215 @@
+-- What contracts see of a store of records over the loop.
+use Rattle.std.specs.Prelude.{◌≡◌, ◌⊎◌, ◌≤◌, ◌+◌, ◌-◌, ◌/◌, ℕ, Bool, true, false, min, List, [], length, map, Option, Some, None, Result, Ok, Err}
+use Rattle.std.specs.List.{list_all}
+use Rattle.lif_model.specs.Transfers.{Transfer}
+use Rattle.il_frames.specs.declared.entry.Entry.{Entry}
+use Rattle.il_ports.specs.Media.{MediumView}
+use Rattle.il_ports.specs.Stores.{RecordsView}
+use Rattle.il_drive.proofs.Exchanges.{IsFree}
+use Rattle.loop_model.specs.Effect.{is_good, transfer_of}
+use Rattle.loop_model.specs.Exchanges.{Reading}
+use Rattle.loop_model.specs.Loops.{Loop}
+use Rattle.loop_model.specs.Reach.{met}
+use Rattle.loop_model.specs.Units.{RecordUnit, units_of, ends_within}
+use Rattle.il_ring.specs.Plans.{hops_of}
+use Rattle.il_ring.specs.Rings.{RingView, drive_party, spare_of}
+use Rattle.il_control.specs.Calls.{IsFree as IsFreeRing, IsIdle, IsLost, loop_of}
+use Rattle.il_record.specs.declared.records.Since.{Since}
+use Rattle.il_record.specs.declared.records.Since.TheVariants as since
+use Rattle.il_ports.specs.declared.records.Trouble.{Trouble}
+use Rattle.il_ports.specs.declared.records.Trouble.TheVariants as trouble
+use Rattle.il_record.specs.Came.{OnlyHeard, CameBy}
+use Rattle.il_record.specs.Runs.{Readied, Interrupted}
+
+-- the controller, by its ring
+pub data Standing (M : Type 0) : Type 0 where
+  AtIdle : RingView M → Standing M
+  AtLost : RingView M → Standing M
+  Nowhere : Standing M
+
+-- the controller; whether records can be read and written; how the log stands since it was last emptied; and how many calls of
+-- `resume` there were since, a count that stays at its greatest value
+pub record LoopView (M : Type 0) : Type 0 where
+  pub control : Standing M
+  pub sound : Bool
+  pub since : Since
+  pub resumes : ℕ
+
+-- ---- what holds between two calls
+
+-- the last exchange of the log was broken off
+abbrev pub is_broken : Since → Bool
+is_broken since.Broken = true
+is_broken _ = false
+
+-- An idle controller's drive rests, with status 0, where the store is sound; a lost one's store is not sound.
+abbrev pub StandsSo : {M : Type 0} → Standing M → Bool → Since → Type 0
+StandsSo (AtIdle r) sound log = IsIdle r × (sound ≡ true → IsFree (drive_party r) r.drive.state) × (is_broken log ≡ false)
+StandsSo (AtLost r) sound log = IsLost r × (sound ≡ false)
+StandsSo Nowhere sound log = ⊥
+
+-- ---- what became of the ring
+
+-- the status of each unit is 0
+abbrev pub all_good : List RecordUnit → Bool
+all_good us = list_all (λ u. is_good u.status) us
+
+-- The exchanges by which r became s, if there were any, by how the log stands. Where no call failed each unit has status 0, and
+-- where the medium failed one has not.
+abbrev pub StoodBy : {M : Type 0} → (M → MediumView) → Since → RingView M → RingView M → Type 0
+StoodBy view since.Unbroken r s = (s ≡ r) ⊎ ((came : CameBy view true r s) × (all_good (units_of (loop_of r) came.pieces) ≡ true))
+StoodBy view since.Failed r s = (came : CameBy view true r s) × (all_good (units_of (loop_of r) came.pieces) ≡ false)
+StoodBy view since.Broken r s = CameBy view false r s
+StoodBy view since.Mended r s = ⊥
+
+-- The ring r, on which no frame was held, became s since the log was emptied, and no device but the drive heard anything.
+pub record Stood {M : Type 0} (view : M → MediumView) (log : Since) (r s : RingView M) : Type 0 where
+  pub free : IsFreeRing r
+  pub unheard : OnlyHeard (drive_party r) r s
+  pub by : StoodBy view log r s
+
+-- The log reads as exchanges whose units all have status 0 and are, in order, these transfers.
+pub record Transferred (l : Loop) (log : List Entry) (list : List Transfer) : Type 0 where
+  pub reading : Reading l log
+  pub outside : ends_within l reading.pieces ≡ false
+  pub good : all_good (units_of l reading.pieces) ≡ true
+  pub are : map transfer_of (units_of l reading.pieces) ≡ list
+
+-- ---- counts
+
+-- how many records the room for so many entries is enough for
+abbrev pub calls_in : ℕ → ℕ
+calls_in spare = min 4294967295 ((spare - 32) / 300)
+
+-- how many planned hops were crossed so far
+abbrev pub crossed_hops : {M : Type 0} → RingView M → ℕ
+crossed_hops r = length (met (hops_of r.books.plan) 0 r.books.crossings)
+
+-- the greatest count of calls of `resume`
+abbrev pub most_resumes : ℕ
+most_resumes = 4294967295
+
+-- ---- the view
+
+-- no call failed since the log was last emptied
+abbrev pub is_unbroken : Since → Bool
+is_unbroken since.Unbroken = true
+is_unbroken _ = false
+
+-- a start, as a ring
+abbrev pub FromStart : {M S : Type 0} → (S → RingView M) → Option S → (RingView M → Type 0) → Type 0
+FromStart seen None P = ⊥
+FromStart seen (Some s) P = P (seen s)
+
+-- the second start is the first with its log emptied
+abbrev pub IsEmptied : {M S : Type 0} → (S → RingView M) → Option S → Option S → Type 0
+IsEmptied seen a b = FromStart seen a (λ r. FromStart seen b (λ s. s ≡ record r { books = record r.books { log = [] } }))
+
+-- of a store whose ring is r
+abbrev pub over_ring : {M S : Type 0} → (M → MediumView) → (S → RingView M) → Option S → Type 0 → Bool → Since → ℕ → RingView M → RecordsView (Option S)
+over_ring view seen present valid sound log resumes r = record {
+  valid = valid;
+  tape = (view r.drive.medium).tape;
+  record_count = (view r.drive.medium).record_count;
+  sound = sound;
+  calls_left = calls_in (spare_of r);
+  room = calls_in r.books.room;
+  frame_faults = crossed_hops r;
+  medium_faults = (view r.drive.medium).faults;
+  moment = (view r.drive.medium).moment;
+  left_since = (view r.drive.medium).left_since;
+  transferred = Transferred (loop_of r) r.books.log;
+  present = present;
+  emptied = IsEmptied seen;
+  stood = λ start. FromStart seen start (λ s. Stood view log s r);
+  unbroken = is_unbroken log;
+  resumed = λ k. min k most_resumes ≡ resumes;
+}
+
+-- of one that is at work
+abbrev pub at_work : {M S : Type 0} → (S → RingView M) → Option S → RecordsView (Option S)
+at_work seen present = record {
+  valid = ⊥;
+  tape = None;
+  record_count = 0;
+  sound = false;
+  calls_left = 0;
+  room = 0;
+  frame_faults = 0;
+  medium_faults = 0;
+  moment = 0;
+  left_since = λ m t. ⊥;
+  transferred = λ list. ⊥;
+  present = present;
+  emptied = IsEmptied seen;
+  stood = λ start. ⊥;
+  unbroken = false;
+  resumed = λ k. ⊥;
+}
+
+-- by the controller
+abbrev pub view_at : {M S : Type 0} → (M → MediumView) → (S → RingView M) → Option S → Bool → Since → ℕ → Standing M → RecordsView (Option S)
+view_at view seen present sound log resumes (AtIdle r) = over_ring view seen present (StandsSo (AtIdle r) sound log) sound log resumes r
+view_at view seen present sound log resumes (AtLost r) = over_ring view seen present (StandsSo (AtLost r) sound log) sound log resumes r
+view_at view seen present sound log resumes Nowhere = at_work seen present
+
+abbrev pub view_of : {M S : Type 0} → (M → MediumView) → (S → RingView M) → Option S → LoopView M → RecordsView (Option S)
+view_of view seen present l = view_at view seen present l.sound l.since l.resumes l.control
+
+-- ---- for the calls
+
+-- the controller is idle
+abbrev pub is_idle : {M : Type 0} → Standing M → Bool
+is_idle (AtIdle r) = true
+is_idle _ = false
+
+-- its ring has this
+abbrev pub HasRing : {M : Type 0} → Standing M → (RingView M → Type 0) → Type 0
+HasRing (AtIdle r) P = P r
+HasRing (AtLost r) P = P r
+HasRing Nowhere P = ⊥
+
+-- how the log stands behind a call that failed
+abbrev pub since_medium : Since → Since
+since_medium since.Unbroken = since.Failed
+since_medium other = other
+
+abbrev pub since_frame : Since → Since
+since_frame since.Mended = since.Mended
+since_frame since.Broken = since.Mended
+since_frame _ = since.Broken
+
+-- how it goes on behind a broken exchange
+abbrev pub since_more : Since → Since
+since_more since.Broken = since.Mended
+since_more other = other
+
+-- with the log of its ring emptied
+abbrev pub with_empty_log : {M : Type 0} → Standing M → Standing M
+with_empty_log (AtIdle r) = AtIdle (record r { books = record r.books { log = [] } })
+with_empty_log (AtLost r) = AtLost (record r { books = record r.books { log = [] } })
+with_empty_log Nowhere = Nowhere
+
+abbrev pub log_emptied : {M : Type 0} → LoopView M → LoopView M
+log_emptied l = record l { control = with_empty_log l.control; since = since.Unbroken; resumes = 0 }
+
+-- What `ready` does, by where the controller is: nothing where it is idle. Else the devices are addressed, or an exchange was broken
+-- off.
+pub record Addressed {M : Type 0} (view : M → MediumView) (r : RingView M) (old new : LoopView M) : Type 0 where
+  pub ring : RingView M
+  pub left : new ≡ record old { control = AtIdle ring; since = since_more old.since }
+  pub readied : Readied view r ring
+  pub used : spare_of r ≤ spare_of ring + 5
+
+pub record NotAddressed {M : Type 0} (view : M → MediumView) (r : RingView M) (old new : LoopView M) : Type 0 where
+  pub ring : RingView M
+  pub left : new ≡ record old { control = AtLost ring; sound = false; since = since_frame old.since }
+  pub interrupted : Interrupted view (drive_party r) r ring
+  pub used : spare_of r ≤ spare_of ring + 6
+
+abbrev pub Addresses : {M T : Type 0} → (M → MediumView) → Standing M → LoopView M → LoopView M → Result T Trouble → Type 0
+Addresses view (AtIdle r) old new (Ok x) = new ≡ old
+Addresses view (AtIdle r) old new (Err e) = ⊥
+Addresses view (AtLost r) old new (Ok x) = Addressed view r old new
+Addresses view (AtLost r) old new (Err e) = (e ≡ trouble.Frame) × NotAddressed view r old new
+Addresses view Nowhere old new answer = ⊥

@@ -1,0 +1,287 @@
+ghost use Rattle.std.specs.Prelude.{◌≡◌, ◌≤◌, ◌<◌, ◌+◌, ◌/◌, ℕ, true, false, Some, None, [], length, Err, IfOk, IfErr, MatchBool};
+ghost use Rattle.lif_model.specs.Shelf.{cut};
+ghost use Rattle.il_drive.proofs.Exchanges.{IsFree};
+ghost use Rattle.il_ring.specs.Rings.{spare_of, drive_party};
+ghost use Rattle.il_control.specs.Calls.{IsIdle, IsLost};
+ghost use Rattle.il_record.specs.declared.records.Since.TheVariants as since_is;
+ghost use Rattle.il_record.specs.LoopStores.{calls_in as calls_of, AtIdle, AtLost, Nowhere, is_idle, HasRing, StandsSo, log_emptied, Addresses, since_frame, since_medium, since_more};
+ghost use Rattle.il_ports.specs.declared.records.Trouble.TheVariants as trouble_is;
+
+
+use il_control::{Idle, Lost};
+use il_device::Device;
+use il_ports::{Medium, Trouble};
+use il_ring::{Ring, Seen};
+use std::marker::PhantomData;
+
+/// What the host knows of the loop.
+#[derive(Drop)]
+pub(crate) enum Control<M: Medium> {
+    Idle(Idle<M>),
+    Lost(Lost<M>),
+    /// The controller is at work within a call.
+    Gone,
+}
+
+/// How the log stands since it was last emptied.
+#[derive(Clone, Copy, PartialEq, Eq)]
+pub(crate) enum Since {
+    /// No call has failed.
+    Unbroken,
+    /// The exchanges are whole, but the medium failed in one.
+    Failed,
+    /// The last exchange was broken off.
+    Broken,
+    /// It goes on behind an exchange that was broken off.
+    Mended,
+}
+
+impl Since {
+    /// Behind a call that was broken off.
+    fn broken(self) -> Since
+        ensures { result ≡ since_frame self }
+    {
+        match self {
+            Since::Unbroken | Since::Failed => Since::Broken,
+            Since::Broken | Since::Mended => Since::Mended,
+        }
+    }
+
+    /// Behind a call in which the medium failed.
+    fn failed(self) -> Since
+        ensures { result ≡ since_medium self }
+    {
+        match self {
+            Since::Unbroken => Since::Failed,
+            other => other,
+        }
+    }
+
+    /// Where exchanges follow.
+    fn more(self) -> Since
+        ensures { result ≡ since_more self }
+    {
+        match self {
+            Since::Broken => Since::Mended,
+            other => other,
+        }
+    }
+}
+
+/// How many records the room for so many entries is enough for: each takes at most 300, and 32 are kept for the last frame.
+fn calls_in(spare: usize) -> u32
+    ensures { result ≡ calls_of spare }
+{
+    let calls = spare.saturating_sub(32) / 300;
+    u32::try_from(calls).unwrap_or(u32::MAX)
+}
+
+/// The ring of an idle controller.
+fn ring_of<M: Medium>(idle: Idle<M>) -> Ring<M>
+    requires { IsIdle (⟦<Idle<M> as Seen<M>>⟧.seen idle) }
+    ensures { ⟦<Ring<M> as Seen<M>>⟧.seen result ≡ ⟦<Idle<M> as Seen<M>>⟧.seen idle }
+{
+    idle.give_up().into_ring()
+}
+
+/// The records of the tape in the drive, over the loop: each read and write seeks, moves all its records in one
+/// transmission and asks the drive for its status. The log of the ring has every frame.
+#[derive(Drop)]
+pub struct LoopRecords<M: Medium> {
+    control: Control<M>,
+    sound: bool,
+    since: Since,
+    resumes: u32,
+    devices: PhantomData<Box<dyn Device>>,
+}
+
+/// What contracts see of a store over the loop.
+pub trait Looped<M> {
+    ghost use Rattle.il_record.specs.LoopStores.{LoopView};
+
+    ghost looped: { Self → LoopView M };
+}
+
+impl<M: Medium> Looped<M> for LoopRecords<M> {
+    ghost use Rattle.std.specs.Prelude.{map};
+    ghost use Rattle.il_ring.specs.Rings.{RingView};
+    ghost use Rattle.il_record.specs.LoopStores.{LoopView, Standing, AtIdle, AtLost, Nowhere};
+    ghost use Rattle.il_record.specs.declared.records.Control.TheVariants as control_is;
+
+    ghost looped = { λ l. record {
+      control = elim l.control [
+        | control_is.Idle i ↦ AtIdle (record {
+            before = map (λ b. (Device-box b).state b.value) i.ring.boxes.before.items;
+            drive = i.ring.drive;
+            after = map (λ b. (Device-box b).state b.value) i.ring.boxes.after.items;
+            books = i.ring.books;
+          })
+        | control_is.Lost i ↦ AtLost (record {
+            before = map (λ b. (Device-box b).state b.value) i.ring.boxes.before.items;
+            drive = i.ring.drive;
+            after = map (λ b. (Device-box b).state b.value) i.ring.boxes.after.items;
+            books = i.ring.books;
+          })
+        | control_is.Gone ↦ Nowhere
+      ];
+      sound = l.sound;
+      since = l.since;
+      resumes = l.resumes;
+    } };
+}
+
+impl<M: Medium + Drop> LoopRecords<M> {
+    /// A store over the loop of this controller: not ready and not sound. The log of its ring is empty, and this counts as
+    /// its first emptying.
+    pub fn new(lost: Lost<M>) -> LoopRecords<M>
+        requires lost { IsLost (⟦<Lost<M> as Seen<M>>⟧.seen lost) }
+        requires empty { (⟦<Lost<M> as Seen<M>>⟧.seen lost).books.log ≡ [] }
+        ensures { ⟦<LoopRecords<M> as Looped<M>>⟧.looped result ≡ record { control = AtLost (⟦<Lost<M> as Seen<M>>⟧.seen lost); sound = false; since = since_is.Unbroken; resumes = 0 } }
+    {
+        LoopRecords {
+            control: Control::Lost(lost),
+            sound: false,
+            since: Since::Unbroken,
+            resumes: 0,
+            devices: PhantomData,
+        }
+    }
+
+    /// Whether the loop is addressed and no device talks, so that a call can begin.
+    pub fn is_ready(&self) -> bool
+        ensures { result ≡ is_idle (⟦<LoopRecords<M> as Looped<M>>⟧.looped self.now).control }
+    {
+        matches!(self.control, Control::Idle(_))
+    }
+
+    /// How many calls of `resume` there were since the log was last emptied. The count stays at its greatest value.
+    pub fn resumes(&self) -> u32
+        ensures { result ≡ (⟦<LoopRecords<M> as Looped<M>>⟧.looped self.now).resumes }
+    {
+        self.resumes
+    }
+
+    /// The ring.
+    pub fn ring(&self) -> &Ring<M>
+        requires valid { StandsSo (⟦<LoopRecords<M> as Looped<M>>⟧.looped self.now).control (⟦<LoopRecords<M> as Looped<M>>⟧.looped self.now).sound (⟦<LoopRecords<M> as Looped<M>>⟧.looped self.now).since }
+        ensures { HasRing (⟦<LoopRecords<M> as Looped<M>>⟧.looped self.now).control (λ r. ⟦<Ring<M> as Seen<M>>⟧.seen result.now ≡ r) }
+    {
+        match &self.control {
+            Control::Idle(idle) => idle.ring(),
+            Control::Lost(lost) => lost.ring(),
+            Control::Gone => unreachable!(),
+        }
+    }
+
+    /// Empties the log of the ring. From now on it counts what stands.
+    pub fn clear_log(&mut self)
+        requires valid { StandsSo (⟦<LoopRecords<M> as Looped<M>>⟧.looped self.old).control (⟦<LoopRecords<M> as Looped<M>>⟧.looped self.old).sound (⟦<LoopRecords<M> as Looped<M>>⟧.looped self.old).since }
+        ensures { ⟦<LoopRecords<M> as Looped<M>>⟧.looped self.new ≡ log_emptied (⟦<LoopRecords<M> as Looped<M>>⟧.looped self.old) }
+    {
+        self.control = match std::mem::replace(&mut self.control, Control::Gone) {
+            Control::Idle(mut idle) => {
+                idle.clear_log();
+                Control::Idle(idle)
+            }
+            Control::Lost(mut lost) => {
+                lost.clear_log();
+                Control::Lost(lost)
+            }
+            Control::Gone => Control::Gone,
+        };
+        self.since = Since::Unbroken;
+        self.resumes = 0;
+    }
+
+    /// The ring, as it stands.
+    pub fn into_ring(self) -> Ring<M>
+        requires valid { StandsSo (⟦<LoopRecords<M> as Looped<M>>⟧.looped self).control (⟦<LoopRecords<M> as Looped<M>>⟧.looped self).sound (⟦<LoopRecords<M> as Looped<M>>⟧.looped self).since }
+        ensures { HasRing (⟦<LoopRecords<M> as Looped<M>>⟧.looped self).control (λ r. ⟦<Ring<M> as Seen<M>>⟧.seen result ≡ r) }
+    {
+        match self.control {
+            Control::Idle(idle) => ring_of(idle),
+            Control::Lost(lost) => lost.into_ring(),
+            Control::Gone => unreachable!(),
+        }
+    }
+
+    /// Addresses the loop where it is not ready, and else does nothing.
+    ///
+    /// The error comes exactly where a planned fault acted on a frame of the call.
+    pub fn ready(&mut self) -> Result<(), Trouble>
+        requires valid { StandsSo (⟦<LoopRecords<M> as Looped<M>>⟧.looped self.old).control (⟦<LoopRecords<M> as Looped<M>>⟧.looped self.old).sound (⟦<LoopRecords<M> as Looped<M>>⟧.looped self.old).since }
+        requires room { HasRing (⟦<LoopRecords<M> as Looped<M>>⟧.looped self.old).control (λ r. 64 ≤ spare_of r) }
+        ensures { Addresses M.view (⟦<LoopRecords<M> as Looped<M>>⟧.looped self.old).control (⟦<LoopRecords<M> as Looped<M>>⟧.looped self.old) (⟦<LoopRecords<M> as Looped<M>>⟧.looped self.new) result }
+    {
+        if self.is_ready() {
+            return Ok(());
+        }
+        let lost = self.take_lost();
+        self.address(lost)
+    }
+
+    /// The controller, which is lost, for the time of a call.
+    fn take_lost(&mut self) -> Lost<M>
+        requires valid { StandsSo (⟦<LoopRecords<M> as Looped<M>>⟧.looped self.old).control (⟦<LoopRecords<M> as Looped<M>>⟧.looped self.old).sound (⟦<LoopRecords<M> as Looped<M>>⟧.looped self.old).since }
+        requires unready { is_idle (⟦<LoopRecords<M> as Looped<M>>⟧.looped self.old).control ≡ false }
+        ensures lost { (⟦<LoopRecords<M> as Looped<M>>⟧.looped self.old).control ≡ AtLost (⟦<Lost<M> as Seen<M>>⟧.seen result) }
+        ensures left { ⟦<LoopRecords<M> as Looped<M>>⟧.looped self.new ≡ record (⟦<LoopRecords<M> as Looped<M>>⟧.looped self.old) { control = Nowhere } }
+    {
+        match std::mem::replace(&mut self.control, Control::Gone) {
+            Control::Lost(lost) => lost,
+            _ => unreachable!(),
+        }
+    }
+
+    /// The controller, which is idle, for the time of a call.
+    fn take_idle(&mut self) -> Idle<M>
+        requires ready { is_idle (⟦<LoopRecords<M> as Looped<M>>⟧.looped self.old).control ≡ true }
+        ensures idle { (⟦<LoopRecords<M> as Looped<M>>⟧.looped self.old).control ≡ AtIdle (⟦<Idle<M> as Seen<M>>⟧.seen result) }
+        ensures left { ⟦<LoopRecords<M> as Looped<M>>⟧.looped self.new ≡ record (⟦<LoopRecords<M> as Looped<M>>⟧.looped self.old) { control = Nowhere } }
+    {
+        match std::mem::replace(&mut self.control, Control::Gone) {
+            Control::Idle(idle) => idle,
+            _ => unreachable!(),
+        }
+    }
+
+    /// Addresses the loop.
+    fn address(&mut self, lost: Lost<M>) -> Result<(), Trouble>
+        requires lost { IsLost (⟦<Lost<M> as Seen<M>>⟧.seen lost) }
+        requires room { 64 ≤ spare_of (⟦<Lost<M> as Seen<M>>⟧.seen lost) }
+        ensures { Addresses M.view (AtLost (⟦<Lost<M> as Seen<M>>⟧.seen lost)) (⟦<LoopRecords<M> as Looped<M>>⟧.looped self.old) (⟦<LoopRecords<M> as Looped<M>>⟧.looped self.new) result }
+    {
+        // Behind it the proof sees the range of parties.
+        let _ = lost.ring().party();
+        match lost.resume() {
+            Ok((idle, _)) => {
+                self.control = Control::Idle(idle);
+                self.since = self.since.more();
+                Ok(())
+            }
+            Err(lost) => Err(self.broke(lost)),
+        }
+    }
+
+    /// A call that broke off.
+    fn broke(&mut self, lost: Lost<M>) -> Trouble
+        ensures left { ⟦<LoopRecords<M> as Looped<M>>⟧.looped self.new ≡ record (⟦<LoopRecords<M> as Looped<M>>⟧.looped self.old) { control = AtLost (⟦<Lost<M> as Seen<M>>⟧.seen lost); sound = false; since = since_frame (⟦<LoopRecords<M> as Looped<M>>⟧.looped self.old).since } }
+        ensures answer { result ≡ trouble_is.Frame }
+    {
+        self.control = Control::Lost(lost);
+        self.sound = false;
+        self.since = self.since.broken();
+        Trouble::Frame
+    }
+
+    /// A call in which the medium failed.
+    fn failed(&mut self, idle: Idle<M>) -> Trouble
+        ensures left { ⟦<LoopRecords<M> as Looped<M>>⟧.looped self.new ≡ record (⟦<LoopRecords<M> as Looped<M>>⟧.looped self.old) { control = AtIdle (⟦<Idle<M> as Seen<M>>⟧.seen idle); sound = false; since = since_medium (⟦<LoopRecords<M> as Looped<M>>⟧.looped self.old).since } }
+        ensures answer { result ≡ trouble_is.Medium }
+    {
+        self.control = Control::Idle(idle);
+        self.sound = false;
+        self.since = self.since.failed();
+        Trouble::Medium
+    }
+}
