@@ -32,6 +32,7 @@ use Rattle.il_record.proofs.Mild.{StaysMild, mild_then}
 use Rattle.il_record.proofs.MildCame.{left_as_was, left_by, leaves_mild, leaves_then, mild_frame}
 use Rattle.il_record.proofs.Readings.{idle_mute}
 use Rattle.il_record.proofs.Saying.{lad_mild}
+use Rattle.il_record.proofs.Used.{broken_used, command_not_used, command_used}
 
 -- ---- commands and the poll, one behind the other, from UNL on
 
@@ -57,7 +58,7 @@ module _ {M : Type 0} (view : M → MediumView) (r : RingView M) (idle : IsIdle 
   pub begun : (f : Frame) (m : RingView M) → f ≡ unl → 2 ≤ spare_of r → Made view (Command f) r m → Obeyed (message_of f) r m → Begun view 2 r m
   begun f m is room made obeyed = begun_by m room (subst (λ f. Made view (Command f) r m) is made) (subst (λ f. Obeyed (message_of f) r m) is obeyed)
 
-  not_begun_by : (s : RingView M) → BrokenOff view (Command unl) r s → ObeyedInPart msg.Unl r s → PollBroke view r s
+  not_begun_by : (s : RingView M) → BrokenOff view (Command unl) r s → ObeyedInPart msg.Unl r s → PollBroke view 3 r s
   not_begun_by s broken part =
       let came = unl_broken view r s broken in
       let drive = left_by view came.0 came.2.0 r.drive s.drive silent came.1 came.2.1 in
@@ -65,9 +66,10 @@ module _ {M : Type 0} (view : M → MediumView) (r : RingView M) (idle : IsIdle 
         came = broken_came view (Command unl) r s broken (tape_same view r.drive s.drive drive.medium);
         devices = part_polls r s msg.Unl refl refl part;
         drive = drive;
+        room = command_not_used view unl r s broken;
       }
 
-  pub not_begun : (f : Frame) (s : RingView M) → f ≡ unl → BrokenOff view (Command f) r s → ObeyedInPart (message_of f) r s → PollBroke view r s
+  pub not_begun : (f : Frame) (s : RingView M) → f ≡ unl → BrokenOff view (Command f) r s → ObeyedInPart (message_of f) r s → PollBroke view 3 r s
   not_begun f s is broken part = not_begun_by s (subst (λ f. BrokenOff view (Command f) r s) is broken) (subst (λ f. ObeyedInPart (message_of f) r s) is part)
 
   pub next_made : (n : ℕ) (f : Frame) (m s : RingView M) → mild_frame f ≡ true → Begun view n r m → 2 ≤ spare_of m → Made view (Command f) m s → EachTo PollsOn 1 (devices_of m) (devices_of s) → Begun view (n + 2) r s
@@ -96,22 +98,28 @@ module _ {M : Type 0} (view : M → MediumView) (r : RingView M) (idle : IsIdle 
         room = omega (arith, before, spent);
       }
 
-  pub next_broken : (n : ℕ) (f : Frame) (m s : RingView M) → mild_frame f ≡ true → Begun view n r m → BrokenOff view (Command f) m s → EachTo PollsOn 1 (devices_of m) (devices_of s) → PollBroke view r s
+  pub next_broken : (n : ℕ) (f : Frame) (m s : RingView M) → mild_frame f ≡ true → Begun view n r m → BrokenOff view (Command f) m s → EachTo PollsOn 1 (devices_of m) (devices_of s) → PollBroke view (n + 3) r s
   next_broken n f m s mild so broken devices =
       let drive = command_broken view m s f mild so.drive.mild broken in
+      let before = so.room in
+      let spent = command_not_used view f m s broken in
       record {
         came = came_then view false [] [] r m s idle so.came (broken_came view (Command f) m s broken (tape_same view m.drive s.drive drive.medium));
         devices = all_polls r m s so.devices devices;
         drive = leaves_mild view r.drive s.drive (mild_then view r.drive m.drive s.drive so.drive drive);
+        room = omega (arith, before, spent);
       }
 
-  pub identify_not : (n : ℕ) (m s : RingView M) → Begun view n r m → BrokenOff view (Identify idy) m s → AllStay true m s → PollBroke view r s
+  pub identify_not : (n : ℕ) (m s : RingView M) → Begun view n r m → BrokenOff view (Identify idy) m s → AllStay true m s → PollBroke view (n + 2) r s
   identify_not n m s so broken stays =
       let drive = identify_broken view m s idy so.drive.mild broken in
+      let before = so.room in
+      let spent : spare_of m ≤ spare_of s + 2 = broken_used view (Identify idy) 2 m s broken (omega arith) in
       record {
         came = came_then view false [] [] r m s idle so.came (broken_came view (Identify idy) m s broken (tape_same view m.drive s.drive drive.medium));
         devices = all_polls r m s so.devices (stays_polls m s stays);
         drive = leaves_mild view r.drive s.drive (mild_then view r.drive m.drive s.drive so.drive drive);
+        room = omega (arith, before, spent);
       }
 
   -- ---- a place is given
@@ -131,7 +139,7 @@ module _ {M : Type 0} (view : M → MediumView) (r : RingView M) (idle : IsIdle 
         next_made 2 (lad a) m u (lad_mild a low) so room (subst (λ f. Made view (Command f) m u) is made)
         (obeyed_polls m u (msg.Lad a) refl refl (subst (λ message. Obeyed message m u) (ap message_of is ∙ lad_says) obeyed))
 
-    pub told_not : (g : Frame) (m s : RingView M) → g ≡ lad a → Begun view 2 r m → BrokenOff view (Command g) m s → ObeyedInPart (message_of g) m s → PollBroke view r s
+    pub told_not : (g : Frame) (m s : RingView M) → g ≡ lad a → Begun view 2 r m → BrokenOff view (Command g) m s → ObeyedInPart (message_of g) m s → PollBroke view 5 r s
     told_not g m s is so broken part =
         next_broken 2 (lad a) m s (lad_mild a low) so (subst (λ f. BrokenOff view (Command f) m s) is broken)
         (part_polls m s (msg.Lad a) refl refl (subst (λ message. ObeyedInPart message m s) (ap message_of is ∙ lad_says) part))
@@ -149,14 +157,17 @@ module _ {M : Type 0} (view : M → MediumView) (r : RingView M) (idle : IsIdle 
           room = omega (arith, before, spent);
         }
 
-    pub assigned_not : (f g h : Frame) (m u s : RingView M) → f ≡ unl → g ≡ lad a → h ≡ ppe (7 + a) → Begun view 2 r m → Begun view 4 r u → Obeyed (message_of f) r m → Obeyed (message_of g) m u → BrokenOff view (Command h) u s → ObeyedInPart (message_of h) u s → PollBroke view r s
+    pub assigned_not : (f g h : Frame) (m u s : RingView M) → f ≡ unl → g ≡ lad a → h ≡ ppe (7 + a) → Begun view 2 r m → Begun view 4 r u → Obeyed (message_of f) r m → Obeyed (message_of g) m u → BrokenOff view (Command h) u s → ObeyedInPart (message_of h) u s → PollBroke view 7 r s
     assigned_not f g h m u s is_unl is_lad is_ppe begun so first more broken part =
         let now : BrokenOff view (Command (ppe (7 + a))) u s = subst (λ f. BrokenOff view (Command f) u s) is_ppe broken in
         let drive = command_broken view u s (ppe (7 + a)) (ppe_mild (7 + a) small) so.drive.mild now in
+        let before = so.room in
+        let spent = command_not_used view (ppe (7 + a)) u s now in
         record {
           came = came_then view false [] [] r u s idle so.came (broken_came view (Command (ppe (7 + a))) u s now (tape_same view u.drive s.drive drive.medium));
           devices = may_polls r s a some few (place_in_part r m u s a (7 + a) f g h idle low small is_unl is_lad is_ppe first more part);
           drive = leaves_mild view r.drive s.drive (mild_then view r.drive u.drive s.drive so.drive drive);
+          room = omega (arith, before, spent);
         }
 
   -- ---- the answers are collected
@@ -173,14 +184,17 @@ module _ {M : Type 0} (view : M → MediumView) (r : RingView M) (idle : IsIdle 
   collected f g h m u s is_unl is_ppu begun first so back made last =
       let now : Made view (Command ppu) u s = subst (λ f. Made view (Command f) u s) is_ppu made in
       let drive = command_made view u s ppu refl so.drive.mild now in
+      let before = so.room in
+      let spent = command_used view ppu u s now in
       record {
         frame = back ∙ along_same msg.Unl refl refl (devices_of r) (devices_of m) idy (subst (λ f. Obeyed (message_of f) r m) is_unl first);
         came = came_then view true [] [] r u s idle so.came (made_came view (Command ppu) u s now refl (tape_same view u.drive s.drive drive.medium));
         released = all_released r u s so.devices (ppu_released u s (subst (λ f. Obeyed (message_of f) u s) is_ppu last));
         drive = leaves_mild view r.drive s.drive (mild_then view r.drive u.drive s.drive so.drive drive);
+        room = omega (arith, before, spent);
       }
 
-  pub collected_not : (h : Frame) (u s : RingView M) → h ≡ ppu → Begun view 3 r u → BrokenOff view (Command h) u s → ObeyedInPart (message_of h) u s → PollBroke view r s
+  pub collected_not : (h : Frame) (u s : RingView M) → h ≡ ppu → Begun view 3 r u → BrokenOff view (Command h) u s → ObeyedInPart (message_of h) u s → PollBroke view 6 r s
   collected_not h u s is so broken part =
       next_broken 3 ppu u s refl so (subst (λ f. BrokenOff view (Command f) u s) is broken) (ppu_polls u s (subst (λ f. ObeyedInPart (message_of f) u s) is part))
 
@@ -265,17 +279,28 @@ module _ {M : Type 0} (view : M → MediumView) (r : RingView M) (idle : IsIdle 
         room = omega (arith, before, spent);
       }
 
-  pub broke_behind : (i : ℕ) (m s : RingView M) → AssignedSo view i r m → PollBroke view m s → PollBroke view r s
-  broke_behind i m s so broke = record {
-    came = came_then view false [] [] r m s idle so.came broke.came;
-    devices = all_polls r m s (each_as (PlacedTo i) PollsOn (left_placed i) 1 (devices_of r) (devices_of m) so.placed) broke.devices;
-    drive = leaves_then r.drive m.drive s.drive so.drive broke.drive;
-  }
+  pub broke_behind : (i n most : ℕ) (m s : RingView M) → 6 * i + n ≤ most → AssignedSo view i r m → PollBroke view n m s → PollBroke view most r s
+  broke_behind i n most m s few so broke =
+      let before = so.room in
+      let spent = broke.room in
+      record {
+        came = came_then view false [] [] r m s idle so.came broke.came;
+        devices = all_polls r m s (each_as (PlacedTo i) PollsOn (left_placed i) 1 (devices_of r) (devices_of m) so.placed) broke.devices;
+        drive = leaves_then r.drive m.drive s.drive so.drive broke.drive;
+        room = omega (arith, before, spent, few);
+      }
 
   pub polled : (i n : ℕ) (f : Frame) (m s : RingView M) → i ≡ min n 8 → n ≡ length (devices_of r) → Each MayPoll 1 (devices_of r) → AssignedSo view i r m → Collected view f m s → HasPolled view f r s
-  polled i n f m s most count may so got = record {
-    frame = got.frame ∙ along_placed i n 1 (devices_of r) (devices_of m) idy most (omega (arith, count)) so.placed may;
-    came = came_then view true [] [] r m s idle so.came got.came;
-    released = all_released r m s (each_as (PlacedTo i) PollsOn (left_placed i) 1 (devices_of r) (devices_of m) so.placed) got.released;
-    drive = leaves_then r.drive m.drive s.drive so.drive got.drive;
-  }
+  polled i n f m s most count may so got =
+      let before = so.room in
+      let spent = got.room in
+      record {
+        frame = got.frame ∙ along_placed i n 1 (devices_of r) (devices_of m) idy most (omega (arith, count)) so.placed may;
+        came = came_then view true [] [] r m s idle so.came got.came;
+        released = all_released r m s (each_as (PlacedTo i) PollsOn (left_placed i) 1 (devices_of r) (devices_of m) so.placed) got.released;
+        drive = leaves_then r.drive m.drive s.drive so.drive got.drive;
+        room = omega (arith, before, spent, most);
+      }
+
+pub broke_within : {M : Type 0} (view : M → MediumView) (n most : ℕ) (r s : RingView M) → n ≤ most → PollBroke view n r s → PollBroke view most r s
+broke_within view n most r s few broke = let spent = broke.room in record { came = broke.came; devices = broke.devices; drive = broke.drive; room = omega (arith, spent, few) }

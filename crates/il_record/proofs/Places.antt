@@ -100,8 +100,8 @@ module _ {M : Type 0} (view : M → MediumView) (r s : RingView M) where
   pub kept_not_said : (a : ℕ) (bytes : List ℕ) → NotSaid view a bytes r s → PlacesKept r s
   kept_not_said a bytes not = kept_heard_part r s a bytes not.heard
 
-  pub may_poll_broke : PollBroke view r s → Each MayPoll 1 (devices_of r) → Each MayPoll 1 (devices_of s)
-  may_poll_broke broke may = polls_may 1 (devices_of r) (devices_of s) broke.devices may
+  pub may_poll_broke : (n : ℕ) → PollBroke view n r s → Each MayPoll 1 (devices_of r) → Each MayPoll 1 (devices_of s)
+  may_poll_broke n broke may = polls_may 1 (devices_of r) (devices_of s) broke.devices may
 
   pub may_poll_polled : (f : _) → HasPolled view f r s → Each MayPoll 1 (devices_of s)
   may_poll_polled f polled = released_may 1 (devices_of r) (devices_of s) polled.released

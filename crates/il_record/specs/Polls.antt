@@ -55,12 +55,14 @@ pub record HasPolled {M : Type 0} (view : M → MediumView) (f : Frame) (r s : R
   pub came : CameUnits view true [] r s
   pub released : EachTo Released 1 (devices_of r) (devices_of s)
   pub drive : LeavesDrive r.drive s.drive
+  pub room : spare_of r ≤ spare_of s + 53
 
--- it was broken off
-pub record PollBroke {M : Type 0} (view : M → MediumView) (r s : RingView M) : Type 0 where
+-- it was broken off, and took n entries of the log at most
+pub record PollBroke {M : Type 0} (view : M → MediumView) (n : ℕ) (r s : RingView M) : Type 0 where
   pub came : CameUnits view false [] r s
   pub devices : EachTo PollsOn 1 (devices_of r) (devices_of s)
   pub drive : LeavesDrive r.drive s.drive
+  pub room : spare_of r ≤ spare_of s + n
 
 -- ---- its parts
 
@@ -77,3 +79,4 @@ pub record Collected {M : Type 0} (view : M → MediumView) (f : Frame) (r s : R
   pub came : CameUnits view true [] r s
   pub released : EachTo Released 1 (devices_of r) (devices_of s)
   pub drive : LeavesDrive r.drive s.drive
+  pub room : spare_of r ≤ spare_of s + 5

@@ -5,6 +5,7 @@ ghost use Rattle.il_control.specs.Calls.{IsIdle};
 ghost use Rattle.il_record.specs.LoopCalls.{AllNamed, LeftAlone, Named, NotSaid, Said};
 
 use crate::exchanges::send;
+use crate::runs::drive_of;
 use arrayvec::ArrayVec;
 use il_control::{Idle, Lost, Sot};
 use il_ports::Medium;
@@ -25,6 +26,7 @@ fn accessory<M: Medium>(idle: Idle<M>, address: u8) -> Result<(Idle<M>, Option<u
     requires address { (1 ≤ address) × (address ≤ 30) }
     ensures named { IfOk result (λ told. Named M.view address told.1 (⟦<Idle<M> as Seen<M>>⟧.seen idle) (⟦<Idle<M> as Seen<M>>⟧.seen told.0)) }
     ensures broken { IfErr result (λ lost. LeftAlone M.view false (⟦<Idle<M> as Seen<M>>⟧.seen idle) (⟦<Lost<M> as Seen<M>>⟧.seen lost)) }
+    ensures used_lost { IfErr result (λ lost. spare_of (⟦<Idle<M> as Seen<M>>⟧.seen idle) ≤ spare_of (⟦<Lost<M> as Seen<M>>⟧.seen lost) + 14) }
 {
     let mut id = [0; 1];
     let (idle, count) = idle.receive(address, None, Sot::Sai, &mut id)?;
@@ -39,11 +41,14 @@ pub(crate) fn accessories<M: Medium>(
 ) -> Result<Idle<M>, Lost<M>>
     requires room { 31 + 13 * count ≤ spare_of (⟦<Idle<M> as Seen<M>>⟧.seen idle) }
     requires idle { IsIdle (⟦<Idle<M> as Seen<M>>⟧.seen idle) }
-    requires silent { (⟦<Idle<M> as Seen<M>>⟧.seen idle).drive.state.interface.own ≡ None }
     requires count { count ≡ length (devices_of (⟦<Idle<M> as Seen<M>>⟧.seen idle)) }
     ensures named { IfOk result (λ named. AllNamed M.view into.new.items (⟦<Idle<M> as Seen<M>>⟧.seen idle) (⟦<Idle<M> as Seen<M>>⟧.seen named)) }
     ensures broken { IfErr result (λ lost. LeftAlone M.view false (⟦<Idle<M> as Seen<M>>⟧.seen idle) (⟦<Lost<M> as Seen<M>>⟧.seen lost)) }
+    ensures used { IfOk result (λ named. spare_of (⟦<Idle<M> as Seen<M>>⟧.seen idle) ≤ spare_of (⟦<Idle<M> as Seen<M>>⟧.seen named) + 13 * count) }
+    ensures used_lost { IfErr result (λ lost. spare_of (⟦<Idle<M> as Seen<M>>⟧.seen idle) ≤ spare_of (⟦<Lost<M> as Seen<M>>⟧.seen lost) + (13 * count + 1)) }
 {
+    // Behind it the proof sees that the drive sends nothing.
+    let _ = drive_of(&idle);
     into.clear();
     let mut idle = idle;
     for place in 0..count {
@@ -58,10 +63,13 @@ pub(crate) fn accessories<M: Medium>(
 pub(crate) fn say<M: Medium>(idle: Idle<M>, printer: u8, bytes: &[u8]) -> Result<Idle<M>, Lost<M>>
     requires room { 39 + length bytes.now ≤ spare_of (⟦<Idle<M> as Seen<M>>⟧.seen idle) }
     requires idle { IsIdle (⟦<Idle<M> as Seen<M>>⟧.seen idle) }
-    requires silent { (⟦<Idle<M> as Seen<M>>⟧.seen idle).drive.state.interface.own ≡ None }
     requires address { (1 ≤ printer) × (printer ≤ 30) }
     ensures said { IfOk result (λ said. Said M.view printer bytes.now (⟦<Idle<M> as Seen<M>>⟧.seen idle) (⟦<Idle<M> as Seen<M>>⟧.seen said)) }
     ensures broken { IfErr result (λ lost. NotSaid M.view printer bytes.now (⟦<Idle<M> as Seen<M>>⟧.seen idle) (⟦<Lost<M> as Seen<M>>⟧.seen lost)) }
+    ensures used { IfOk result (λ said. spare_of (⟦<Idle<M> as Seen<M>>⟧.seen idle) ≤ spare_of (⟦<Idle<M> as Seen<M>>⟧.seen said) + (length bytes.now + 6)) }
+    ensures used_lost { IfErr result (λ lost. spare_of (⟦<Idle<M> as Seen<M>>⟧.seen idle) ≤ spare_of (⟦<Lost<M> as Seen<M>>⟧.seen lost) + (length bytes.now + 7)) }
 {
+    // Behind it the proof sees that the drive sends nothing.
+    let _ = drive_of(&idle);
     send(idle, printer, None, bytes, bytes.len())
 }

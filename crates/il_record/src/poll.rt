@@ -6,6 +6,7 @@ ghost use Rattle.il_control.specs.Calls.{IsIdle};
 ghost use Rattle.il_record.specs.Polls.{Assigned, Collected, HasPolled, MayPoll, PollBroke};
 
 use crate::frames::{lad, ppe, ppu, unl};
+use crate::runs::drive_of;
 use il_control::{Idle, Lost};
 use il_frames::Frame;
 use il_ports::Medium;
@@ -18,7 +19,7 @@ fn assign<M: Medium>(idle: Idle<M>, address: u8) -> Result<Idle<M>, Lost<M>>
     requires silent { (⟦<Idle<M> as Seen<M>>⟧.seen idle).drive.state.interface.own ≡ None }
     requires address { (1 ≤ address) × (address ≤ 8) }
     ensures assigned { IfOk result (λ assigned. Assigned M.view address (⟦<Idle<M> as Seen<M>>⟧.seen idle) (⟦<Idle<M> as Seen<M>>⟧.seen assigned)) }
-    ensures broken { IfErr result (λ lost. PollBroke M.view (⟦<Idle<M> as Seen<M>>⟧.seen idle) (⟦<Lost<M> as Seen<M>>⟧.seen lost)) }
+    ensures broken { IfErr result (λ lost. PollBroke M.view 7 (⟦<Idle<M> as Seen<M>>⟧.seen idle) (⟦<Lost<M> as Seen<M>>⟧.seen lost)) }
 {
     let idle = idle.command(unl())?;
     let idle = idle.command(lad(address))?;
@@ -31,7 +32,7 @@ fn collect<M: Medium>(idle: Idle<M>) -> Result<(Idle<M>, Frame), Lost<M>>
     requires idle { IsIdle (⟦<Idle<M> as Seen<M>>⟧.seen idle) }
     requires silent { (⟦<Idle<M> as Seen<M>>⟧.seen idle).drive.state.interface.own ≡ None }
     ensures collected { IfOk result (λ told. Collected M.view told.1 (⟦<Idle<M> as Seen<M>>⟧.seen idle) (⟦<Idle<M> as Seen<M>>⟧.seen told.0)) }
-    ensures broken { IfErr result (λ lost. PollBroke M.view (⟦<Idle<M> as Seen<M>>⟧.seen idle) (⟦<Lost<M> as Seen<M>>⟧.seen lost)) }
+    ensures broken { IfErr result (λ lost. PollBroke M.view 6 (⟦<Idle<M> as Seen<M>>⟧.seen idle) (⟦<Lost<M> as Seen<M>>⟧.seen lost)) }
 {
     let idle = idle.command(unl())?;
     let (idle, frame) = idle.identify()?;
@@ -46,12 +47,13 @@ pub(crate) fn parallel_poll<M: Medium>(
 ) -> Result<(Idle<M>, Frame), Lost<M>>
     requires room { 100 ≤ spare_of (⟦<Idle<M> as Seen<M>>⟧.seen idle) }
     requires idle { IsIdle (⟦<Idle<M> as Seen<M>>⟧.seen idle) }
-    requires silent { (⟦<Idle<M> as Seen<M>>⟧.seen idle).drive.state.interface.own ≡ None }
     requires count { count ≡ length (devices_of (⟦<Idle<M> as Seen<M>>⟧.seen idle)) }
     requires places { Each MayPoll 1 (devices_of (⟦<Idle<M> as Seen<M>>⟧.seen idle)) }
     ensures polled { IfOk result (λ told. HasPolled M.view told.1 (⟦<Idle<M> as Seen<M>>⟧.seen idle) (⟦<Idle<M> as Seen<M>>⟧.seen told.0)) }
-    ensures broken { IfErr result (λ lost. PollBroke M.view (⟦<Idle<M> as Seen<M>>⟧.seen idle) (⟦<Lost<M> as Seen<M>>⟧.seen lost)) }
+    ensures broken { IfErr result (λ lost. PollBroke M.view 54 (⟦<Idle<M> as Seen<M>>⟧.seen idle) (⟦<Lost<M> as Seen<M>>⟧.seen lost)) }
 {
+    // Behind it the proof sees that the drive sends nothing.
+    let _ = drive_of(&idle);
     let mut idle = idle;
     for place in 0..count.min(8) {
         idle = assign(idle, place + 1)?;

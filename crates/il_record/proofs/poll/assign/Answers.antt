@@ -1,18 +1,18 @@
 use Rattle.std.proofs.Common.{◌∙◌, ◌+◌, arith, ap}
 use Rattle.il_control.specs.Calls.{is_command}
-use Rattle.il_record.proofs.Collecting.{begun, not_begun, told_next, told_not, assigned_by, assigned_not}
+use Rattle.il_record.proofs.Collecting.{begun, broke_within, not_begun, told_next, told_not, assigned_by, assigned_not}
 use Rattle.il_record.proofs.Commands.{ppe_command}
 use Rattle.il_record.proofs.Sends.{if_err, ok_both, err_both}
 use Rattle.il_record.proofs.poll.assign.Goals as goal
 
 pub returns-in_err-idle-clause-broken : goal.returns-in_err-idle-clause-broken
-returns-in_err-idle-clause-broken g c = if_err _ _ _ c.from_residual.ensures (not_begun g.M.Medium.view _ c.requires.idle c.requires.silent _ _ c.unl.ensures c.in_err-idle.ensures.broken c.in_err-idle.ensures.part)
+returns-in_err-idle-clause-broken g c = if_err _ _ _ c.from_residual.ensures (broke_within g.M.Medium.view _ _ _ _ (omega arith) (not_begun g.M.Medium.view _ c.requires.idle c.requires.silent _ _ c.unl.ensures c.in_err-idle.ensures.broken c.in_err-idle.ensures.part))
 
 pub returns-in_err-idle-2-clause-broken : goal.returns-in_err-idle-2-clause-broken
 returns-in_err-idle-2-clause-broken g c =
     let first = begun g.M.Medium.view _ c.requires.idle c.requires.silent _ _ c.unl.ensures (omega (arith, c.requires.room)) c.in_ok-idle.ensures.made c.in_ok-idle.ensures.obeyed in
     if_err _ _ _ c.from_residual-in_err-idle-2.ensures
-    (told_not g.M.Medium.view _ c.requires.idle c.requires.silent _ c.requires.address.0 c.requires.address.1 _ _ _ c.lad.ensures first c.in_err-idle-2.ensures.broken c.in_err-idle-2.ensures.part)
+    (broke_within g.M.Medium.view _ _ _ _ (omega arith) (told_not g.M.Medium.view _ c.requires.idle c.requires.silent _ c.requires.address.0 c.requires.address.1 _ _ _ c.lad.ensures first c.in_err-idle-2.ensures.broken c.in_err-idle-2.ensures.part))
 
 pub command-requires-3-clause-command : goal.command-requires-3-clause-command
 command-requires-3-clause-command g c = ap is_command c.ppe.ensures ∙ ppe_command (7 + c.args.address) (omega (arith, c.requires.address.1))
