@@ -1,5 +1,5 @@
 -- Which places in the poll devices have behind a call, and that the drive stays free.
-use Rattle.std.proofs.Common.{◌≡◌, ◌∙◌, ◌+◌, inl, inr, ⊎_elim, ◌++◌, ℕ, suc, Bool, true, false, List, [], ◌∷◌, Option, Some, None, length, sym, ap, arith}
+use Rattle.std.proofs.Common.{◌≡◌, ◌∙◌, ◌+◌, inl, inr, ⊎_elim, ◌++◌, ℕ, zero, suc, Bool, true, false, List, [], ◌∷◌, Option, Some, None, length, map, sym, ap, arith}
 use Rattle.il_device.specs.State.{DeviceState}
 use Rattle.il_ports.specs.Media.{MediumView}
 use Rattle.std.specs.List.{All}
@@ -9,8 +9,8 @@ use Rattle.loop_model.specs.Exchanges.{Start}
 use Rattle.loop_model.specs.Units.{RecordUnit}
 use Rattle.il_ring.specs.Lists.{Each, First}
 use Rattle.il_ring.specs.Polls.{KeepsPlace}
-use Rattle.il_ring.specs.Rings.{MayStand, RingView, devices_of, drive_party}
-use Rattle.il_control.specs.Calls.{AllStay, IsIdle, Stays}
+use Rattle.il_ring.specs.Rings.{IsRing, MayStand, RingView, devices_of, drive_party}
+use Rattle.il_control.specs.Calls.{AllStay, IsIdle, Resumed, Stays}
 use Rattle.il_control.specs.Receives.{NotReceived, Received}
 use Rattle.il_control.proofs.Assigning.{EachTo}
 use Rattle.il_record.specs.Came.{CameUnits}
@@ -129,6 +129,18 @@ may_alone : (k : ℕ) (ds : List DeviceState) → All MayStand ds → Each MayPo
 may_alone k [] all = tt
 may_alone k (d ∷ ds) all = let first : MayStand d = all 0 d (omega arith) in (inl first.0.assignment, may_alone (k + 1) ds (λ i x within. all (suc i) x (omega (arith, within))))
 
+all_behind : {A : Type 0} (P : A → Type 0) (x : A) (xs : List A) → P x → All P xs → All P (x ∷ xs)
+all_behind P x xs first more zero y within = first
+all_behind P x xs first more (suc k) y within = more k y (omega (arith, within))
+
+pub all_mapped : {A B : Type 0} (P : B → Type 0) (f : A → B) (xs : List A) → All (λ x. P (f x)) xs → All P (map f xs)
+all_mapped P f [] all = λ k y within. absurd (omega (arith, within))
+all_mapped P f (x ∷ xs) all = all_behind P (f x) (map f xs) (all 0 x (omega arith)) (all_mapped P f xs (λ i z less. all (suc i) z (omega (arith, less))))
+
 -- no device of it has a place in the poll
-pub new_may_poll : {M : Type 0} (r : RingView M) → r.drive.state ≡ fresh_drive → All MayStand r.before → All MayStand r.after → Each MayPoll 1 (devices_of r)
-new_may_poll r drive before after = may_before 1 r.before (device_of r.drive.state ∷ r.after) before (λ k. (inl (ap (λ state. (device_of state).assignment) drive), may_alone (k + 1) r.after after))
+pub new_may_poll : {M : Type 0} (r : RingView M) → IsRing r → r.drive.state ≡ fresh_drive → All MayStand r.before → All MayStand r.after → Each MayPoll 1 (devices_of r)
+new_may_poll r ring drive before after = may_before 1 r.before (device_of r.drive.state ∷ r.after) before (λ k. (inl (ap (λ state. (device_of state).assignment) drive), may_alone (k + 1) r.after after))
+
+-- and behind its addressing each may have the place that it might
+pub resumed_may_poll : {M : Type 0} (view : M → MediumView) (n : ℕ) (r s : RingView M) → Resumed view n r s → AllStay true r s → Each MayPoll 1 (devices_of r) → Each MayPoll 1 (devices_of s)
+resumed_may_poll view n r s resumed stays may = may_poll_kept r s (kept_stays r s true stays) may

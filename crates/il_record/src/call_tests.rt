@@ -1,4 +1,4 @@
-ghost use Rattle.std.specs.Prelude.{◌≡◌, ◌≤◌, None, length, IfOk};
+ghost use Rattle.std.specs.Prelude.{◌≡◌, ◌≤◌, length, IfOk};
 ghost use Rattle.std.specs.List.{All};
 ghost use Rattle.il_device.specs.Takes.{Takes};
 ghost use Rattle.il_ring.specs.Lists.{Each};
@@ -90,24 +90,6 @@ fn blank_tape(rt: &(impl Abort + AllocGlobal)) -> Result<MemoryMedium, Fail> {
     Ok(medium)
 }
 
-/// Devices of these kinds: a printer, a caller, or else a quiet one.
-fn devices_of_kinds(
-    rt: &(impl Abort + AllocGlobal),
-    kinds: &[u8],
-) -> Result<Vec<Box<dyn Device>>, Fail> {
-    let alloc = rt.alloc();
-    let mut devices = Vec::new(alloc);
-    for kind in kinds {
-        let device: Box<dyn Device> = match kind {
-            b'P' => Box::new(alloc, Printer::new(alloc)?)?,
-            b'C' => Box::new(alloc, Caller::new())?,
-            _ => Box::new(alloc, Quiet::new())?,
-        };
-        devices.push(device)?;
-    }
-    Ok(devices)
-}
-
 /// The controller of a new ring.
 fn controller_of(ring: Ring<MemoryMedium>) -> Lost<MemoryMedium>
     requires lost { IsLost (⟦<Ring<MemoryMedium> as Seen<MemoryMedium>>⟧.seen ring) }
@@ -118,11 +100,11 @@ fn controller_of(ring: Ring<MemoryMedium>) -> Lost<MemoryMedium>
     Lost::new(ring)
 }
 
-/// The controller of a new ring of the drive between devices of these kinds.
+/// The controller of a new ring of the drive between these devices.
 fn controller(
     rt: &(impl Abort + AllocGlobal),
-    before: &[u8],
-    after: &[u8],
+    before: Vec<Box<dyn Device>>,
+    after: Vec<Box<dyn Device>>,
     plan: &[Planned],
     room: usize,
 ) -> Result<Lost<MemoryMedium>, Fail>
@@ -131,16 +113,20 @@ fn controller(
 {
     let rig = Rig {
         medium: blank_tape(rt)?,
-        before: devices_of_kinds(rt, before)?,
-        after: devices_of_kinds(rt, after)?,
+        before,
+        after,
     };
-    assert!(rt; rig.fits());
     assert!(rt; is_plan(plan));
     assert!(rt; rig.medium.size() > 0);
-    let ring = Ring::new(rt.alloc(), rig, plan, room)
-        .ok()
-        .expect(rt, "memory for a ring");
-    Ok(controller_of(ring))
+    let fits = rig.fits();
+    if fits {
+        match Ring::new(rt.alloc(), rig, plan, room) {
+            Ok(ring) => Ok(controller_of(ring)),
+            Err(_) => Err(Fail::from("no memory for a ring")),
+        }
+    } else {
+        Err(Fail::from("the devices do not fit"))
+    }
 }
 
 /// The loop behind its addressing, and how many devices there are.
@@ -151,12 +137,14 @@ fn addressed(
     requires lost { IsLost (⟦<Lost<MemoryMedium> as Seen<MemoryMedium>>⟧.seen lost) }
     requires places { Each MayPoll 1 (devices_of (⟦<Lost<MemoryMedium> as Seen<MemoryMedium>>⟧.seen lost)) }
     ensures idle { IfOk result (λ told. IsIdle (⟦<Idle<MemoryMedium> as Seen<MemoryMedium>>⟧.seen told.0)) }
-    ensures silent { IfOk result (λ told. (⟦<Idle<MemoryMedium> as Seen<MemoryMedium>>⟧.seen told.0).drive.state.interface.own ≡ None) }
     ensures count { IfOk result (λ told. told.1 ≡ length (devices_of (⟦<Idle<MemoryMedium> as Seen<MemoryMedium>>⟧.seen told.0))) }
     ensures places { IfOk result (λ told. Each MayPoll 1 (devices_of (⟦<Idle<MemoryMedium> as Seen<MemoryMedium>>⟧.seen told.0))) }
 {
     assert!(rt; lost.ring().spare() >= 37);
-    Ok(lost.resume().ok().expect(rt, "no fault in the addressing"))
+    match lost.resume() {
+        Ok(told) => Ok(told),
+        Err(_) => Err(Fail::from("a fault in the addressing")),
+    }
 }
 
 /// Devices before and behind the drive, and what a poll of them answers.
@@ -205,41 +193,74 @@ fn id_of(kind: u8) -> Option<u8> {
     }
 }
 
-#[test]
-fn names(rt: HostRuntime) -> Result<(), Fail> {
-    for devices in &LOOPS {
-        let lost = controller(&rt, devices.before, devices.after, &[], 1000)?;
-        let (idle, count) = addressed(&rt, lost)?;
-        assert!(rt; count <= 30 && idle.ring().spare() >= 421);
-        let mut ids = ArrayVec::new();
-        let idle = accessories(idle, count, &mut ids)
-            .ok()
-            .expect(&rt, "no fault");
-        let mut want: ArrayVec<Option<u8>, 30> = ArrayVec::new();
-        for kind in devices.before {
-            assert!(rt; !want.is_full());
-            want.push(id_of(*kind));
-        }
+/// Compares the accessory IDs of all devices.
+fn compare_names(
+    rt: &impl Abort,
+    devices: &Loop,
+    lost: Lost<MemoryMedium>,
+) -> Result<(), Fail>
+    requires lost { IsLost (⟦<Lost<MemoryMedium> as Seen<MemoryMedium>>⟧.seen lost) }
+    requires places { Each MayPoll 1 (devices_of (⟦<Lost<MemoryMedium> as Seen<MemoryMedium>>⟧.seen lost)) }
+{
+    let (idle, count) = addressed(rt, lost)?;
+    assert!(rt; count <= 30 && idle.ring().spare() >= 421);
+    let mut ids = ArrayVec::new();
+    let Ok(idle) = accessories(idle, count, &mut ids) else {
+        return Err(Fail::from("a fault"));
+    };
+    let mut want: ArrayVec<Option<u8>, 30> = ArrayVec::new();
+    for kind in devices.before {
         assert!(rt; !want.is_full());
-        want.push(Some(16));
-        for kind in devices.after {
-            assert!(rt; !want.is_full());
-            want.push(id_of(*kind));
-        }
-        assert_eq!(rt; ids.as_slice(), want.as_slice());
-        assert_eq!(rt; idle.ring().party(), u8::try_from(devices.before.len())? + 1);
+        want.push(id_of(*kind));
     }
+    assert!(rt; !want.is_full());
+    want.push(Some(16));
+    for kind in devices.after {
+        assert!(rt; !want.is_full());
+        want.push(id_of(*kind));
+    }
+    assert_eq!(rt; ids.as_slice(), want.as_slice());
+    assert_eq!(rt; usize::from(idle.ring().party()), devices.before.len() + 1);
+    Ok(())
+}
+
+/// Compares the answer of a poll.
+fn compare_poll(rt: &impl Abort, devices: &Loop, lost: Lost<MemoryMedium>) -> Result<(), Fail>
+    requires lost { IsLost (⟦<Lost<MemoryMedium> as Seen<MemoryMedium>>⟧.seen lost) }
+    requires places { Each MayPoll 1 (devices_of (⟦<Lost<MemoryMedium> as Seen<MemoryMedium>>⟧.seen lost)) }
+{
+    let (idle, count) = addressed(rt, lost)?;
+    assert!(rt; idle.ring().spare() >= 100);
+    let Ok((_, frame)) = parallel_poll(idle, count) else {
+        return Err(Fail::from("a fault"));
+    };
+    assert_eq!(rt; Some(frame), Frame::read_text(devices.poll.as_bytes()));
     Ok(())
 }
 
 #[test]
-fn polls(rt: HostRuntime) -> Result<(), Fail> {
+fn names_and_polls(rt: HostRuntime) -> Result<(), Fail> {
+    let alloc = rt.alloc();
     for devices in &LOOPS {
-        let lost = controller(&rt, devices.before, devices.after, &[], 1000)?;
-        let (idle, count) = addressed(&rt, lost)?;
-        assert!(rt; idle.ring().spare() >= 100);
-        let (_, frame) = parallel_poll(idle, count).ok().expect(&rt, "no fault");
-        assert_eq!(rt; Some(frame), Frame::read_text(devices.poll.as_bytes()));
+        for polls in [false, true] {
+            let (mut before, mut after) = (Vec::new(alloc), Vec::new(alloc));
+            for (kinds, list) in [(devices.before, &mut before), (devices.after, &mut after)] {
+                for kind in kinds {
+                    let device: Box<dyn Device> = match kind {
+                        b'P' => Box::new(alloc, Printer::new(alloc)?)?,
+                        b'C' => Box::new(alloc, Caller::new())?,
+                        _ => Box::new(alloc, Quiet::new())?,
+                    };
+                    list.push(device)?;
+                }
+            }
+            let lost = controller(&rt, before, after, &[], 1000)?;
+            if polls {
+                compare_poll(&rt, devices, lost)?;
+            } else {
+                compare_names(&rt, devices, lost)?;
+            }
+        }
     }
     Ok(())
 }
@@ -249,10 +270,16 @@ static LONG: [u8; 8200] = [0x48; 8200];
 
 #[test]
 fn prints_past_the_paper(rt: HostRuntime) -> Result<(), Fail> {
-    let lost = controller(&rt, b"", b"P", &[], 9000)?;
+    let alloc = rt.alloc();
+    let printer: Box<dyn Device> = Box::new(alloc, Printer::new(alloc)?)?;
+    let mut after = Vec::new(alloc);
+    after.push(printer)?;
+    let lost = controller(&rt, Vec::new(alloc), after, &[], 9000)?;
     let (idle, _) = addressed(&rt, lost)?;
     assert!(rt; idle.ring().spare() >= 8239);
-    let idle = say(idle, 2, &LONG).ok().expect(&rt, "no fault");
+    let Ok(idle) = say(idle, 2, &LONG) else {
+        return Err(Fail::from("a fault"));
+    };
     let (paper, count) = idle.ring().paper().expect(&rt, "a printer");
     assert_eq!(rt; (paper.len(), count), (8192, 8200));
     Ok(())
@@ -261,13 +288,17 @@ fn prints_past_the_paper(rt: HostRuntime) -> Result<(), Fail> {
 /// Two bytes for the printer behind the drive, which a frame that is lost at this crossing breaks off.
 #[test]
 fn printing_lost_at_each_crossing(rt: HostRuntime) -> Result<(), Fail> {
+    let alloc = rt.alloc();
     // The addressing has 5 frames, the commands in front 4, and there are 2 bytes, each over three links.
-    for link in 1..=18 {
+    for link in 1..=18_u64 {
         let plan = [Planned {
             hop: 15 + link,
             fault: Lose,
         }];
-        let lost = controller(&rt, b"", b"P", &plan, 100)?;
+        let printer: Box<dyn Device> = Box::new(alloc, Printer::new(alloc)?)?;
+        let mut after = Vec::new(alloc);
+        after.push(printer)?;
+        let lost = controller(&rt, Vec::new(alloc), after, &plan, 100)?;
         let (idle, _) = addressed(&rt, lost)?;
         assert!(rt; idle.ring().spare() >= 41);
         let ring = match say(idle, 2, b"HP") {
