@@ -148,7 +148,7 @@ receive_cut view k q n a number s answer gs outs v w low small legal came ran = 
 
 -- ---- all entries are of the host or of the drive
 
-from_drive : (q p : ℕ) (ds : List Echo) (rest : List Entry) → q ≤ p → list_all (is_from_here q) rest ≡ true → list_all (is_from_here q) (map (echoed p) ds ++ rest) ≡ true
+pub from_drive : (q p : ℕ) (ds : List Echo) (rest : List Entry) → q ≤ p → list_all (is_from_here q) rest ≡ true → list_all (is_from_here q) (map (echoed p) ds ++ rest) ≡ true
 from_drive q p [] rest near all = all
 from_drive q p (d ∷ ds) rest near all = and_from (is_from_here q (echoed p d)) _ (here (p == 0)) (from_drive q p ds rest near all)
   where

@@ -44,7 +44,7 @@ not_told : {A : Type 0} (b : Bool) (x y : A) → b ≡ false → (if b then x el
 not_told true x y is = cc
 not_told false x y is = refl
 
-deaf : (byte : ℕ) (d e : DeviceState) → d.roles.listens ≡ false → HearsByte byte d e → HearsNothing d e
+pub deaf : (byte : ℕ) (d e : DeviceState) → d.roles.listens ≡ false → HearsByte byte d e → HearsNothing d e
 deaf byte d e none hears = record {
   heard = hears.heard ∙ not_told d.roles.listens _ _ none;
   heard_count = hears.heard_count ∙ not_told d.roles.listens _ _ none;

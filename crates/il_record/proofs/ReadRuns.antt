@@ -84,7 +84,7 @@ pub record SoughtBy {M : Type 0} (view : M → MediumView) (n : ℕ) (r s : Ring
   pub drive : HasSought view (drive_party r) n r.drive s.drive
 
 pub sought_by : {M : Type 0} (view : M → MediumView) (n : ℕ) (r s : RingView M) → drive_party r ≤ 30 → n < 2 ^ 16 → IsFree (drive_party r) r.drive.state → n < (view r.drive.medium).record_count
-    → SentAll view (drive_party r) 4 (filled 2 (to_be_bytes w16 n)) r s → SoughtBy view n r s
+    → SentAll view (drive_party r) (Some 4) (filled 2 (to_be_bytes w16 n)) r s → SoughtBy view n r s
 sought_by view n r s low small free there so =
     let bytes = two_bytes n small in
     let exact : filled 2 (to_be_bytes w16 n) ≡ to_be_bytes w16 n = filled_exact 2 (to_be_bytes w16 n) (ap length bytes.2) in
@@ -187,7 +187,7 @@ came_still view whole ps us r s talked outside units leaves same = record {
 }
 
 -- a seek that broke off
-pub seek_broke : {M : Type 0} (view : M → MediumView) (bytes : List ℕ) (r s : RingView M) → drive_party r ≤ 30 → IsIdle r → SendBroke view (drive_party r) 4 bytes r s → ReadBroke view (drive_party r) r s
+pub seek_broke : {M : Type 0} (view : M → MediumView) (bytes : List ℕ) (r s : RingView M) → drive_party r ≤ 30 → IsIdle r → SendBroke view (drive_party r) (Some 4) bytes r s → ReadBroke view (drive_party r) r s
 seek_broke view bytes r s low idle so =
     let d = drive_party r in
     let broke = so.broken.broke in
@@ -336,8 +336,8 @@ module _ {M : Type 0} (view : M → MediumView) (d first k : ℕ) (r : RingView 
   there : first < (view r.drive.medium).record_count
   there = omega (arith, fits, many)
 
-  sought_at : (s : RingView M) → SentAll view d 4 (filled 2 (to_be_bytes w16 first)) r s → SoughtBy view first r s
-  sought_at s so = sought_by view first r s low_party small (subst (λ d. IsFree d r.drive.state) at free) there (subst (λ d. SentAll view d 4 (filled 2 (to_be_bytes w16 first)) r s) at so)
+  sought_at : (s : RingView M) → SentAll view d (Some 4) (filled 2 (to_be_bytes w16 first)) r s → SoughtBy view first r s
+  sought_at s so = sought_by view first r s low_party small (subst (λ d. IsFree d r.drive.state) at free) there (subst (λ d. SentAll view d (Some 4) (filled 2 (to_be_bytes w16 first)) r s) at so)
 
   -- the receive behind the seek
   read_at : (n : ℕ) (old new : List ℕ) (a b : RingView M) → length old ≡ 256 * k → SoughtBy view first r a → Received view (drive_party r) (Some 2) Sda n a old new b → ReadSo view (drive_party r) k first n old new a.drive b.drive
@@ -348,19 +348,19 @@ module _ {M : Type 0} (view : M → MediumView) (d first k : ℕ) (r : RingView 
       (read_so view k n first old new a b (omega (arith, party, low_party)) (subst (λ d. IsFree d a.drive.state) (sym party) so.drive.rests.free) (subst (λ m. IsMedium (view m)) (sym same) medium) so.drive.position
       (omega (arith, fits, ap (λ m. (view m).record_count) same)) many long (subst (λ d. Received view d (Some 2) Sda n a old new b) (sym party) got))
 
-  pub read_broke_at_seek : (bytes : List ℕ) (s : RingView M) → SendBroke view d 4 bytes r s → ReadBroke view d r s
-  read_broke_at_seek bytes s so = subst (λ d. ReadBroke view d r s) (sym at) (seek_broke view bytes r s low_party idle (subst (λ d. SendBroke view d 4 bytes r s) at so))
+  pub read_broke_at_seek : (bytes : List ℕ) (s : RingView M) → SendBroke view d (Some 4) bytes r s → ReadBroke view d r s
+  read_broke_at_seek bytes s so = subst (λ d. ReadBroke view d r s) (sym at) (seek_broke view bytes r s low_party idle (subst (λ d. SendBroke view d (Some 4) bytes r s) at so))
 
-  pub read_broke_at_receive : (w : ℕ) (a s : RingView M) → SentAll view d 4 (filled 2 (to_be_bytes w16 first)) r a → NotReceived view d (Some 2) Sda w a s → ReadBroke view d r s
+  pub read_broke_at_receive : (w : ℕ) (a s : RingView M) → SentAll view d (Some 4) (filled 2 (to_be_bytes w16 first)) r a → NotReceived view d (Some 2) Sda w a s → ReadBroke view d r s
   read_broke_at_receive w a s so not = subst (λ d. ReadBroke view d r s) (sym at) (receive_broke view first w r a s low_party idle (sought_at a so) (subst (λ d. NotReceived view d (Some 2) Sda w a s) at not))
 
-  pub read_broke_at_status : (n : ℕ) (old new : List ℕ) (a b s : RingView M) → length old ≡ 256 * k → SentAll view d 4 (filled 2 (to_be_bytes w16 first)) r a → Received view d (Some 2) Sda n a old new b → NotPolled view d b s → ReadBroke view d r s
+  pub read_broke_at_status : (n : ℕ) (old new : List ℕ) (a b s : RingView M) → length old ≡ 256 * k → SentAll view d (Some 4) (filled 2 (to_be_bytes w16 first)) r a → Received view d (Some 2) Sda n a old new b → NotPolled view d b s → ReadBroke view d r s
   read_broke_at_status n old new a b s long so got not =
       let seek = sought_at a so in
       let here : Received view (drive_party r) (Some 2) Sda n a old new b = subst (λ d. Received view d (Some 2) Sda n a old new b) at got in
       subst (λ d. ReadBroke view d r s) (sym at) (poll_broke view k first n old new r a b s low_party idle seek here (read_at n old new a b long seek here) (subst (λ d. NotPolled view d b s) at not))
 
-  pub read_done : (n byte : ℕ) (old new : List ℕ) (a b s : RingView M) → length old ≡ 256 * k → SentAll view d 4 (filled 2 (to_be_bytes w16 first)) r a → Received view d (Some 2) Sda n a old new b → Polled view d byte b s
+  pub read_done : (n byte : ℕ) (old new : List ℕ) (a b s : RingView M) → length old ≡ 256 * k → SentAll view d (Some 4) (filled 2 (to_be_bytes w16 first)) r a → Received view d (Some 2) Sda n a old new b → Polled view d byte b s
       → (good : Bool) → good ≡ ((n == length old) && (byte == 0)) → ReadAs view d first new good r s
   read_done n byte old new a b s long so got told good is =
       let seek = sought_at a so in
@@ -370,7 +370,7 @@ module _ {M : Type 0} (view : M → MediumView) (d first k : ℕ) (r : RingView 
 
 -- ---- parties and room on the way
 
-pub party_on : {M : Type 0} (view : M → MediumView) (d n : ℕ) (bytes : List ℕ) (r s : RingView M) → d ≡ drive_party r → SentAll view d n bytes r s → d ≡ drive_party s
+pub party_on : {M : Type 0} (view : M → MediumView) (d : ℕ) (number : Option ℕ) (bytes : List ℕ) (r s : RingView M) → d ≡ drive_party r → SentAll view d number bytes r s → d ≡ drive_party s
 party_on view d n bytes r s at so = at ∙ sym (same_party view _ r s so.made)
 
 pub party_behind : {M : Type 0} (view : M → MediumView) (d n : ℕ) (number : Option ℕ) (start : Start) (r : RingView M) (old new : List ℕ) (s : RingView M) → d ≡ drive_party r → Received view d number start n r old new s → d ≡ drive_party s

@@ -11,11 +11,12 @@ use Rattle.il_frames.specs.Frames.{byte_of, framed, class_of, same_class, same_b
 use Rattle.il_device.specs.declared.device.Out.{Out}
 use Rattle.il_device.specs.declared.device.Out.TheVariants.{Pass, Source}
 use Rattle.il_device.specs.Takes.{eto}
-use Rattle.il_device.specs.State.{DeviceState}
+use Rattle.il_device.specs.State.{DeviceState, IsSent}
+use Rattle.il_device.specs.declared.interface.OwnFrame.{OwnFrame}
 use Rattle.il_device.specs.Roles.{is_own}
 use Rattle.il_ports.specs.Media.{MediumView, IsMedium}
 use Rattle.lif_model.specs.Tape.{bytes_from}
-use Rattle.il_drive.specs.State.{DriveView, device_of}
+use Rattle.il_drive.specs.State.{DriveView, IsDrive, device_of}
 use Rattle.il_drive.specs.Runs.{Ran, AllData}
 use Rattle.il_drive.proofs.Beginning.{joins}
 use Rattle.il_drive.proofs.Exchanges.{IsFree, parts}
@@ -59,6 +60,14 @@ idle_address r idle = numbered_here 1 r.before (device_of r.drive.state) r.after
 
 pub idle_mute : {M : Type 0} (r : RingView M) → IsIdle r → r.drive.state.interface.roles.talks ≡ false
 idle_mute r idle = silent_here r.before (device_of r.drive.state) r.after (none_talk 1 (devices_of r) idle.silent)
+
+-- and sends nothing
+pub idle_silent : {M : Type 0} (n : ℕ) (r : RingView M) → IsIdle r → IsDrive n r.drive.state → r.drive.state.interface.own ≡ None
+idle_silent n r idle drive = by r.drive.state.interface.own refl drive.standing.standing.sender
+  where
+    by : (own : Option OwnFrame) → r.drive.state.interface.own ≡ own → IsSent own r.drive.state.interface.roles.talks → r.drive.state.interface.own ≡ None
+    by None is sent = is
+    by (Some own) is sent = let clash : false ≡ true = sym (idle_mute r idle) ∙ sent.0 in cc
 
 pub party_within : {M : Type 0} (r : RingView M) → (1 ≤ drive_party r) × (drive_party r ≤ length (devices_of r))
 party_within r = let long = length-append r.before (device_of r.drive.state ∷ r.after) in (omega arith, omega (arith, long))

@@ -2,7 +2,7 @@
 use Rattle.std.proofs.Common.{◌≡◌, ◌∙◌, ◌^◌, ◌*◌, ◌/◌, ◌%◌, ap₂, true, ◌≤◌, ◌<◌, ◌+◌, ◌++◌, ℕ, zero, suc, List, [], ◌∷◌, Some, length, take, get_or, refl, sym, ap, subst, arith, length-append}
 use Rattle.std.proofs.Math.Nat.{mod-eq_of_lt, div-lt_iff_lt-mul, div-add-mod}
 use Rattle.std.proofs.Math.Seq.{take-length, take-append_seam}
-use Rattle.std.specs.Prelude.{replicate, Result, Ok, Err, IfErr, IsErr}
+use Rattle.std.specs.Prelude.{replicate, not, is_some, Option, Result, Ok, Err, IfOk, IfErr, IsErr}
 use Rattle.std.specs.Result.{IsErrAnd}
 use Rattle.std.proofs.lemmas.List.{map-append, length-take-le, get_or-take, length-replicate}
 use Rattle.il_frames.specs.declared.frame.Class.TheVariants as class
@@ -12,7 +12,7 @@ use Rattle.loop_model.specs.Exchanges.{Echo, Send, entries_of}
 use Rattle.loop_model.proofs.UnitLaws.{bytes_of, length-send}
 use Rattle.il_ring.specs.Rings.{RingView, devices_of, spare_of}
 use Rattle.il_ring.specs.Lists.{Each}
-use Rattle.il_control.specs.Calls.{IsIdle, IsTold, Made, BrokenOff, Sent, NotSent, sent_as}
+use Rattle.il_control.specs.Calls.{AllStay, IsIdle, IsTold, Made, BrokenOff, Sent, NotSent, sent_as}
 use Rattle.il_control.proofs.Calls.{room_behind}
 use Rattle.il_control.specs.Brought.{AllCome}
 use Rattle.il_control.proofs.Brings.{send_brings}
@@ -23,6 +23,9 @@ use Rattle.il_drive.specs.Runs.{Ran}
 use Rattle.il_drive.proofs.ExchangesAddressed.{seeks_record}
 use Rattle.loop_model.specs.Entries.{unl, rfc, lad, ddl}
 use Rattle.il_record.proofs.Heard.{nothing_heard, others_then, others_deaf, others_deaf_to_any, told_on}
+use Rattle.il_control.proofs.Assigning.{EachTo}
+use Rattle.il_record.specs.Listening.{Hears}
+use Rattle.il_record.proofs.Listened.{hears_more, hears_no_part, hears_none, hears_part, unheard_of}
 use Rattle.il_record.specs.Sends.{filled, SentSo, SentAll, SendBroke, Sought}
 
 -- an error that is handed on
@@ -60,35 +63,43 @@ filled_exact n bytes long = ap (λ n. take n (bytes ++ replicate n 0)) (sym long
 -- ---- byte behind byte
 
 -- nothing was sent yet
-pub sent_nothing : {M : Type 0} (view : M → MediumView) (a n : ℕ) (bytes : List ℕ) (r s : RingView M) → Made view (Send a (Some n) []) r s → Each (IsTold a) 1 (devices_of s) → SentSo view a n 0 bytes r s
-sent_nothing view a n bytes r s made told = record { ds = []; sent = refl; many = refl; made = made; told = told; unheard = nothing_heard a 1 _ (devices_of r) (devices_of s) (made.whole.unheard refl) }
+pub sent_nothing : {M : Type 0} (view : M → MediumView) (a : ℕ) (number : Option ℕ) (bytes : List ℕ) (r s : RingView M) → Made view (Send a number []) r s → Each (IsTold a) 1 (devices_of s) → AllStay (not (is_some number)) r s → SentSo view a number 0 bytes r s
+sent_nothing view a number bytes r s made told stays = record {
+  ds = [];
+  sent = refl;
+  many = refl;
+  made = made;
+  told = told;
+  unheard = nothing_heard a 1 _ (devices_of r) (devices_of s) (unheard_of (not (is_some number)) r s stays);
+  heard = hears_none a (not (is_some number)) 1 (devices_of r) (devices_of s) stays;
+}
 
 -- one byte more
-pub sent_more : {M : Type 0} (view : M → MediumView) (a n i byte : ℕ) (bytes : List ℕ) (r m s : RingView M) → IsIdle r → i < length bytes → byte ≡ get_or bytes i 0 → SentSo view a n i bytes r m → Sent view byte m s → SentSo view a n (i + 1) bytes r s
-sent_more view a n i byte bytes r m s idle within is so sent =
+pub sent_more : {M : Type 0} (view : M → MediumView) (a : ℕ) (number : Option ℕ) (i byte : ℕ) (bytes : List ℕ) (r m s : RingView M) → IsIdle r → i < length bytes → byte ≡ get_or bytes i 0 → SentSo view a number i bytes r m → Sent view byte m s → SentSo view a number (i + 1) bytes r s
+sent_more view a number i byte bytes r m s idle within is so sent =
     let d : Echo = sent_as byte sent.back in
     let up : i + 1 ≡ suc i = omega arith in
+    let next : take i bytes ++ byte ∷ [] ≡ take (i + 1) bytes = ap (λ byte. take i bytes ++ byte ∷ []) is ∙ sym (take_more bytes i within) ∙ ap (λ k. take k bytes) (sym up) in
     record {
       ds = so.ds ++ d ∷ [];
       sent =
           map-append (λ (d : Echo). byte_of d.sent) so.ds (d ∷ [])
           ∙ ap (λ bytes. bytes ++ byte ∷ []) so.sent
-          ∙ ap (λ byte. take i bytes ++ byte ∷ []) is
-          ∙ sym (take_more bytes i within)
-          ∙ ap (λ k. take k bytes) (sym up);
+          ∙ next;
       many = length-append so.ds (d ∷ []) ∙ ap (λ k. k + 1) so.many;
-      made = send_more view a (Some n) so.ds byte r m s idle so.made sent;
+      made = send_more view a number so.ds byte r m s idle so.made sent;
       told = told_on byte a 1 _ (devices_of m) (devices_of s) so.told sent.heard;
       unheard = others_then a 1 (devices_of r) (devices_of m) (devices_of s) so.unheard (others_deaf byte a 1 _ (devices_of m) (devices_of s) so.told sent.heard);
+      heard = subst (λ bytes. EachTo (Hears a bytes) 1 (devices_of r) (devices_of s)) next (hears_more a byte (take i bytes) 1 (devices_of r) (devices_of m) (devices_of s) so.heard so.told sent.heard);
     }
 
 -- all were
-pub sent_all : {M : Type 0} (view : M → MediumView) (a n i : ℕ) (bytes : List ℕ) (r s t : RingView M) → t ≡ s → i ≡ length bytes → SentSo view a n i bytes r s → SentAll view a n bytes r t
-sent_all view a n i bytes r s t same all so = subst (λ t. SentAll view a n bytes r t) (sym same) (subst (λ i. SentSo view a n i bytes r s) all so)
+pub sent_all : {M : Type 0} (view : M → MediumView) (a : ℕ) (number : Option ℕ) (i : ℕ) (bytes : List ℕ) (r s t : RingView M) → t ≡ s → i ≡ length bytes → SentSo view a number i bytes r s → SentAll view a number bytes r t
+sent_all view a number i bytes r s t same all so = subst (λ t. SentAll view a number bytes r t) (sym same) (subst (λ i. SentSo view a number i bytes r s) all so)
 
 -- it broke off at this byte
-pub send_broke : {M : Type 0} (view : M → MediumView) (a n i byte : ℕ) (bytes : List ℕ) (r m s : RingView M) → IsIdle r → i < length bytes → byte ≡ get_or bytes i 0 → SentSo view a n i bytes r m → NotSent view byte m s → SendBroke view a n bytes r s
-send_broke view a n i byte bytes r m s idle within is so not_sent =
+pub send_broke : {M : Type 0} (view : M → MediumView) (a : ℕ) (number : Option ℕ) (i byte : ℕ) (bytes : List ℕ) (r m s : RingView M) → IsIdle r → i < length bytes → byte ≡ get_or bytes i 0 → SentSo view a number i bytes r m → NotSent view byte m s → SendBroke view a number bytes r s
+send_broke view a number i byte bytes r m s idle within is so not_sent =
     let d : Echo = sent_as byte (framed class.Dab byte) in
     let long = length-append so.ds (d ∷ []) in
     let many = so.many in
@@ -102,20 +113,28 @@ send_broke view a n i byte bytes r m s idle within is so not_sent =
           ∙ sym (take_more bytes i within)
           ∙ ap (λ k. take k bytes) (sym up);
       within = omega (arith, up, within);
-      broken = send_breaks view a (Some n) so.ds byte r m s idle so.made not_sent;
+      broken = send_breaks view a number so.ds byte r m s idle so.made not_sent;
       unheard = others_then a 1 (devices_of r) (devices_of m) (devices_of s) so.unheard (others_deaf_to_any a 1 not_sent.reached (devices_of m) (devices_of s) so.told not_sent.heard);
+      heard = hears_part a i bytes (omega (arith, within)) 1 not_sent.reached (devices_of r) (devices_of m) (devices_of s) so.heard so.told not_sent.heard;
     }
 
 -- it broke off before the first byte
-pub send_broke_first : {M : Type 0} (view : M → MediumView) (a n : ℕ) (bytes : List ℕ) (r s : RingView M) → BrokenOff view (Send a (Some n) []) r s → SendBroke view a n bytes r s
-send_broke_first view a n bytes r s broken = record { ds = []; sent = refl; within = omega arith; broken = broken; unheard = nothing_heard a 1 _ (devices_of r) (devices_of s) (broken.broke.unheard refl) }
+pub send_broke_first : {M : Type 0} (view : M → MediumView) (a : ℕ) (number : Option ℕ) (bytes : List ℕ) (r s : RingView M) → BrokenOff view (Send a number []) r s → AllStay (not (is_some number)) r s → SendBroke view a number bytes r s
+send_broke_first view a number bytes r s broken stays = record {
+  ds = [];
+  sent = refl;
+  within = omega arith;
+  broken = broken;
+  unheard = nothing_heard a 1 _ (devices_of r) (devices_of s) (unheard_of (not (is_some number)) r s stays);
+  heard = hears_no_part a (not (is_some number)) bytes 1 (devices_of r) (devices_of s) stays;
+}
 
 -- the room that is left
-pub sent_room : {M : Type 0} (view : M → MediumView) (a n i more : ℕ) (bytes : List ℕ) (r s : RingView M) → SentSo view a n i bytes r s → i + 6 + more ≤ spare_of r → more ≤ spare_of s
-sent_room view a n i more bytes r s so room =
-    let long = length-send 0 a (Some n) so.ds in
+pub sent_room : {M : Type 0} (view : M → MediumView) (a : ℕ) (number : Option ℕ) (i more : ℕ) (bytes : List ℕ) (r s : RingView M) → SentSo view a number i bytes r s → i + 6 + more ≤ spare_of r → more ≤ spare_of s
+sent_room view a number i more bytes r s so room =
+    let long = length-send 0 a number so.ds in
     let many = so.many in
-    room_behind view r s (entries_of 0 (Send a (Some n) so.ds)) more so.made.whole (omega (arith, long, many, room))
+    room_behind view r s (entries_of 0 (Send a number so.ds)) more so.made.whole (omega (arith, long, many, room))
 
 -- ---- a seek
 
@@ -142,7 +161,7 @@ two_bytes n small =
     let high : n / 256 % 256 ≡ n / 256 = mod-eq_of_lt ((div-lt_iff_lt-mul (omega arith)).1 (omega (arith, small))) in
     (n / 256 % 256, n % 256, (search), ap (λ high. 256 * high + n % 256) high ∙ div-add-mod n 256)
 
-pub sought : {M : Type 0} (view : M → MediumView) (d n : ℕ) (r s : RingView M) → d ≤ 30 → n < 2 ^ 16 → SentAll view d 4 (filled 2 (to_be_bytes w16 n)) r s → Sought view d n r s
+pub sought : {M : Type 0} (view : M → MediumView) (d n : ℕ) (r s : RingView M) → d ≤ 30 → n < 2 ^ 16 → SentAll view d (Some 4) (filled 2 (to_be_bytes w16 n)) r s → Sought view d n r s
 sought view d n r s low small so = λ at free within.
     let brings = send_brings view d (Some 4) so.ds r s so.made in
     let bytes = two_bytes n small in
@@ -153,3 +172,20 @@ sought view d n r s low small so = λ at free within.
     let came : adds.came ≡ unl ∷ rfc ∷ lad d ∷ rfc ∷ ddl 4 ∷ rfc ∷ frames.0 ∷ frames.1 ∷ [] = brings.1 ∙ ap (λ gs. unl ∷ rfc ∷ lad d ∷ rfc ∷ ddl 4 ∷ rfc ∷ gs) frames.2 in
     let value : 256 * byte_of frames.0 + byte_of frames.1 ≡ n = ap₂ (λ high low. 256 * high + low) frames.5 frames.6 ∙ bytes.3 in
     seeks_record view d n frames.0 frames.1 adds.answers r.drive s.drive low free frames.3 frames.4 value within (subst (λ fs. Ran view r.drive fs adds.answers s.drive) came adds.drive)
+
+-- a result that is handed on as it is
+pub ok_as : {T E : Type 0} (result : Result T E) (P Q : T → Type 0) → ((x : T) → P x → Q x) → IfOk result P → IfOk result Q
+ok_as (Ok x) P Q rule so = rule x so
+ok_as (Err e) P Q rule so = tt
+
+pub err_as : {T E : Type 0} (result : Result T E) (P Q : E → Type 0) → ((e : E) → P e → Q e) → IfErr result P → IfErr result Q
+err_as (Ok x) P Q rule so = tt
+err_as (Err e) P Q rule so = rule e so
+
+pub ok_both : {T E : Type 0} (result : Result T E) (P Q R : T → Type 0) → ((x : T) → P x → Q x → R x) → IfOk result P → IfOk result Q → IfOk result R
+ok_both (Ok x) P Q R rule one two = rule x one two
+ok_both (Err e) P Q R rule one two = tt
+
+pub err_both : {T E : Type 0} (result : Result T E) (P Q R : E → Type 0) → ((e : E) → P e → Q e → R e) → IfErr result P → IfErr result Q → IfErr result R
+err_both (Ok x) P Q R rule one two = tt
+err_both (Err e) P Q R rule one two = rule e one two

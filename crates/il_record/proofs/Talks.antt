@@ -28,7 +28,7 @@ one_entries : (p : Piece) → piece_entries 0 p ≡ all_entries (p ∷ [])
 one_entries p = sym (append-nil (piece_entries 0 p))
 
 -- no frame is held where all is whole
-none_held : (l : Loop) (k d : ℕ) (ps : List Piece) → l ≡ host_loop k d → list_all (is_piece l) ps ≡ true → are_whole ps ≡ true → held_at_end None (all_entries ps) ≡ None
+pub none_held : (l : Loop) (k d : ℕ) (ps : List Piece) → l ≡ host_loop k d → list_all (is_piece l) ps ≡ true → are_whole ps ≡ true → held_at_end None (all_entries ps) ≡ None
 none_held l k d ps is legal whole = held_at_end-whole k d (all_entries ps) (record { reading = record { pieces = ps; legal = ap (λ l. list_all (is_piece l) ps) (sym is) ∙ legal; entries = refl }; whole = whole })
 
 pub made_talked : {M : Type 0} (view : M → MediumView) (x : Exchange) (r s : RingView M) → Made view x r s → Talked view true (WholeOne x ∷ []) r s

@@ -38,17 +38,17 @@ used_on r m s first more n one two few = omega (arith, one, two, few)
 
 -- ---- calls
 
-pub sent_used : {M : Type 0} (view : M → MediumView) (a n m : ℕ) (bytes : List ℕ) (r s : RingView M) → SentAll view a n bytes r s → length bytes ≡ m → spare_of r ≤ spare_of s + (m + 6)
-sent_used view a n m bytes r s so long =
-    let entries = length-send 0 a (Some n) so.ds in
+pub sent_used : {M : Type 0} (view : M → MediumView) (a : ℕ) (number : Option ℕ) (m : ℕ) (bytes : List ℕ) (r s : RingView M) → SentAll view a number bytes r s → length bytes ≡ m → spare_of r ≤ spare_of s + (m + 6)
+sent_used view a number m bytes r s so long =
+    let entries = length-send 0 a number so.ds in
     let many = so.many in
-    made_used view (Send a (Some n) so.ds) (m + 6) r s so.made (omega (arith, entries, many, long))
+    made_used view (Send a number so.ds) (m + 6) r s so.made (omega (arith, entries, many, long))
 
-pub send_broke_used : {M : Type 0} (view : M → MediumView) (a n m : ℕ) (bytes : List ℕ) (r s : RingView M) → SendBroke view a n bytes r s → length bytes ≡ m → spare_of r ≤ spare_of s + (m + 7)
-send_broke_used view a n m bytes r s not long =
-    let entries = length-send 0 a (Some n) not.ds in
+pub send_broke_used : {M : Type 0} (view : M → MediumView) (a : ℕ) (number : Option ℕ) (m : ℕ) (bytes : List ℕ) (r s : RingView M) → SendBroke view a number bytes r s → length bytes ≡ m → spare_of r ≤ spare_of s + (m + 7)
+send_broke_used view a number m bytes r s not long =
+    let entries = length-send 0 a number not.ds in
     let within = not.within in
-    broken_used view (Send a (Some n) not.ds) (m + 7) r s not.broken (omega (arith, entries, within, long))
+    broken_used view (Send a number not.ds) (m + 7) r s not.broken (omega (arith, entries, within, long))
 
 pub received_used : {M : Type 0} (view : M → MediumView) (a n : ℕ) (number : Option ℕ) (start : Start) (r : RingView M) (old new : List ℕ) (s : RingView M) → Received view a number start n r old new s → spare_of r ≤ spare_of s + (length old + 12)
 received_used view a n number start r old new s got =

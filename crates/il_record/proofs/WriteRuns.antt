@@ -121,7 +121,7 @@ module _ {M : Type 0} (view : M → MediumView) (c first : ℕ) (sent : List ℕ
   room_there = ap length so.drive.buffer_0 ∙ room
 
   -- whole: the drive put them
-  sent_out : (b : RingView M) → SentAll view d 2 sent a b → HasSentOut view d first pieces a.drive b.drive
+  sent_out : (b : RingView M) → SentAll view d (Some 2) sent a b → HasSentOut view d first pieces a.drive b.drive
   sent_out b all =
       let brings = send_brings view d (Some 2) all.ds a b all.made in
       let adds = all.made.whole.adds in
@@ -131,7 +131,7 @@ module _ {M : Type 0} (view : M → MediumView) (c first : ℕ) (sent : List ℕ
       (let at = so.drive.position in omega (arith, there, at)) (subst (λ fs. runs.Ran view a.drive fs adds.answers b.drive) brings.1 adds.drive) in
       subst (λ bytes. HasSentOut view d first (cut_up c bytes) a.drive b.drive) bytes (subst (λ n. HasSentOut view d n (cut_up c (runs.bytes_of brings.0)) a.drive b.drive) so.drive.position put)
 
-  left_of : (b : RingView M) → SentAll view d 2 sent a b → WrotePartly view first pieces a.drive b.drive
+  left_of : (b : RingView M) → SentAll view d (Some 2) sent a b → WrotePartly view first pieces a.drive b.drive
   left_of b all =
       let put = sent_out b all in
       let adds = all.made.whole.adds in
@@ -234,7 +234,7 @@ module _ {M : Type 0} (view : M → MediumView) (c first : ℕ) (sent : List ℕ
       }
 
   -- the send broke off
-  pub write_broke_at_send : (s : RingView M) → SendBroke view drive 2 sent a s → WriteBroke view drive first all r s
+  pub write_broke_at_send : (s : RingView M) → SendBroke view drive (Some 2) sent a s → WriteBroke view drive first all r s
   write_broke_at_send s not =
       let broke = not.broken.broke in
       let x : Exchange = Send drive (Some 2) not.ds in
@@ -244,11 +244,11 @@ module _ {M : Type 0} (view : M → MediumView) (c first : ℕ) (sent : List ℕ
       write_broke_by broke.standing broke.break not.ds broke.adds.came broke.adds.answers s cut talked (cut_within broke.standing drive 2 not.ds broke.break broke.legal) broke.adds.drive legal not.sent not.within not.unheard
 
   -- the bytes of the unit
-  sent_is : (b : RingView M) (whole : SentAll view drive 2 sent a b) → bytes_of whole.ds ≡ sent
+  sent_is : (b : RingView M) (whole : SentAll view drive (Some 2) sent a b) → bytes_of whole.ds ≡ sent
   sent_is b whole = whole.sent ∙ take-length sent
 
   -- the poll of the status broke off
-  pub write_broke_at_status : (b s : RingView M) → SentAll view drive 2 sent a b → NotPolled view drive b s → WriteBroke view drive first all r s
+  pub write_broke_at_status : (b s : RingView M) → SentAll view drive (Some 2) sent a b → NotPolled view drive b s → WriteBroke view drive first all r s
   write_broke_at_status b s whole not =
       let broke = not.broken.broke in
       let transfer : Exchange = Send drive (Some 2) whole.ds in
@@ -271,7 +271,7 @@ module _ {M : Type 0} (view : M → MediumView) (c first : ℕ) (sent : List ℕ
   -- ---- whole
 
   -- the log and the units, by the status byte
-  write_units : (byte : ℕ) (b s : RingView M) → SentAll view drive 2 sent a b → Polled view drive byte b s → ((t : Tape) → (view r.drive.medium).tape ≡ Some t → (u : Tape) × ((view s.drive.medium).tape ≡ Some u) × UnitsEffect (unit true first sent byte ∷ []) t u)
+  write_units : (byte : ℕ) (b s : RingView M) → SentAll view drive (Some 2) sent a b → Polled view drive byte b s → ((t : Tape) → (view r.drive.medium).tape ≡ Some t → (u : Tape) × ((view s.drive.medium).tape ≡ Some u) × UnitsEffect (unit true first sent byte ∷ []) t u)
       → CameUnits view true (unit true first sent byte ∷ []) r s
   write_units byte b s whole told effect =
       let transfer : Exchange = Send drive (Some 2) whole.ds in
@@ -286,7 +286,7 @@ module _ {M : Type 0} (view : M → MediumView) (c first : ℕ) (sent : List ℕ
       effect
 
   -- all stand, and the status is 0; or one could not be written, and the status tells it
-  pub write_done : (byte : ℕ) (b s : RingView M) → SentAll view drive 2 sent a b → Polled view drive byte b s → (good : Bool) → good ≡ (byte == 0) → WrittenAs view drive first sent all good r s
+  pub write_done : (byte : ℕ) (b s : RingView M) → SentAll view drive (Some 2) sent a b → Polled view drive byte b s → (good : Bool) → good ≡ (byte == 0) → WrittenAs view drive first sent all good r s
   write_done byte b s whole told good is =
       let put = sent_out view c first sent r a low idle so medium fits room long b whole in
       let left = left_of view c first sent r a low idle so medium fits room long b whole in
@@ -341,27 +341,27 @@ module _ {M : Type 0} (view : M → MediumView) (d first c : ℕ) (from : List �
   low_party : drive_party r ≤ 30
   low_party = omega (arith, low, at)
 
-  so_at : (s : RingView M) → SentAll view d 4 (filled 2 (to_be_bytes w16 first)) r s → SoughtBy view first r s
-  so_at s so = sought_by view first r s low_party small (subst (λ d. IsFree d r.drive.state) at free) (omega (arith, fits, some)) (subst (λ d. SentAll view d 4 (filled 2 (to_be_bytes w16 first)) r s) at so)
+  so_at : (s : RingView M) → SentAll view d (Some 4) (filled 2 (to_be_bytes w16 first)) r s → SoughtBy view first r s
+  so_at s so = sought_by view first r s low_party small (subst (λ d. IsFree d r.drive.state) at free) (omega (arith, fits, some)) (subst (λ d. SentAll view d (Some 4) (filled 2 (to_be_bytes w16 first)) r s) at so)
 
   broke_as : (s : RingView M) → WriteBroke view (drive_party r) first (cut_up c bytes) r s → WriteBroke view d first (cut c from) r s
   broke_as s broke = subst (λ d. WriteBroke view d first (cut c from) r s) (sym at) (subst (λ ps. WriteBroke view (drive_party r) first ps r s) (cut_filled c from) broke)
 
-  pub wrote_not_at_seek : (sought : List ℕ) (s : RingView M) → SendBroke view d 4 sought r s → WriteBroke view d first (cut c from) r s
+  pub wrote_not_at_seek : (sought : List ℕ) (s : RingView M) → SendBroke view d (Some 4) sought r s → WriteBroke view d first (cut c from) r s
   wrote_not_at_seek sought s not =
-      let broke = seek_broke view sought r s low_party idle (subst (λ d. SendBroke view d 4 sought r s) at not) in
+      let broke = seek_broke view sought r s low_party idle (subst (λ d. SendBroke view d (Some 4) sought r s) at not) in
       broke_as s (record { came = broke.came; unheard = broke.unheard; left = wrote_nothing view first (cut_up c bytes) r.drive s.drive broke.drive })
 
-  pub wrote_not_at_send : (n : ℕ) (a s : RingView M) → n ≡ 256 * c → SentAll view d 4 (filled 2 (to_be_bytes w16 first)) r a → SendBroke view d 2 (filled n from) a s → WriteBroke view d first (cut c from) r s
+  pub wrote_not_at_send : (n : ℕ) (a s : RingView M) → n ≡ 256 * c → SentAll view d (Some 4) (filled 2 (to_be_bytes w16 first)) r a → SendBroke view d (Some 2) (filled n from) a s → WriteBroke view d first (cut c from) r s
   wrote_not_at_send n a s is so not =
-      broke_as s (write_broke_at_send view c first bytes r a low_party idle (so_at a so) medium fits room (length-filled (256 * c) from) some s (subst (λ d. SendBroke view d 2 bytes a s) at (subst (λ n. SendBroke view d 2 (filled n from) a s) is not)))
+      broke_as s (write_broke_at_send view c first bytes r a low_party idle (so_at a so) medium fits room (length-filled (256 * c) from) some s (subst (λ d. SendBroke view d (Some 2) bytes a s) at (subst (λ n. SendBroke view d (Some 2) (filled n from) a s) is not)))
 
-  pub wrote_not_at_status : (n : ℕ) (a b s : RingView M) → n ≡ 256 * c → SentAll view d 4 (filled 2 (to_be_bytes w16 first)) r a → SentAll view d 2 (filled n from) a b → NotPolled view d b s → WriteBroke view d first (cut c from) r s
+  pub wrote_not_at_status : (n : ℕ) (a b s : RingView M) → n ≡ 256 * c → SentAll view d (Some 4) (filled 2 (to_be_bytes w16 first)) r a → SentAll view d (Some 2) (filled n from) a b → NotPolled view d b s → WriteBroke view d first (cut c from) r s
   wrote_not_at_status n a b s is so whole not =
-      broke_as s (write_broke_at_status view c first bytes r a low_party idle (so_at a so) medium fits room (length-filled (256 * c) from) some b s (subst (λ d. SentAll view d 2 bytes a b) at (subst (λ n. SentAll view d 2 (filled n from) a b) is whole)) (subst (λ d. NotPolled view d b s) at not))
+      broke_as s (write_broke_at_status view c first bytes r a low_party idle (so_at a so) medium fits room (length-filled (256 * c) from) some b s (subst (λ d. SentAll view d (Some 2) bytes a b) at (subst (λ n. SentAll view d (Some 2) (filled n from) a b) is whole)) (subst (λ d. NotPolled view d b s) at not))
 
-  pub wrote : (n byte : ℕ) (a b s : RingView M) → n ≡ 256 * c → SentAll view d 4 (filled 2 (to_be_bytes w16 first)) r a → SentAll view d 2 (filled n from) a b → Polled view d byte b s → (good : Bool) → good ≡ (byte == 0) → WroteAs view d first (cut c from) good r s
+  pub wrote : (n byte : ℕ) (a b s : RingView M) → n ≡ 256 * c → SentAll view d (Some 4) (filled 2 (to_be_bytes w16 first)) r a → SentAll view d (Some 2) (filled n from) a b → Polled view d byte b s → (good : Bool) → good ≡ (byte == 0) → WroteAs view d first (cut c from) good r s
   wrote n byte a b s long so whole told good is =
       subst (λ d. WroteAs view d first (cut c from) good r s) (sym at)
       (as_run view (drive_party r) first c from good r s
-      (write_done view c first bytes r a low_party idle (so_at a so) medium fits room (length-filled (256 * c) from) some byte b s (subst (λ d. SentAll view d 2 bytes a b) at (subst (λ n. SentAll view d 2 (filled n from) a b) long whole)) (subst (λ d. Polled view d byte b s) at told) good is))
+      (write_done view c first bytes r a low_party idle (so_at a so) medium fits room (length-filled (256 * c) from) some byte b s (subst (λ d. SentAll view d (Some 2) bytes a b) at (subst (λ n. SentAll view d (Some 2) (filled n from) a b) long whole)) (subst (λ d. Polled view d byte b s) at told) good is))

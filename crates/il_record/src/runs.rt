@@ -1,5 +1,5 @@
 // Runs of records over the loop: a seek, a transfer and a status poll, directly after each other.
-ghost use Rattle.std.specs.Prelude.{◌≡◌, ◌≤◌, ◌<◌, true, ◌+◌, ◌*◌, ◌/◌, length, get_or, IfOk, IfErr};
+ghost use Rattle.std.specs.Prelude.{◌≡◌, ◌≤◌, ◌<◌, ◌+◌, ◌*◌, ◌/◌, true, false, [], length, get_or, IfOk, IfErr};
 ghost use Rattle.il_drive.proofs.Exchanges.{IsFree};
 ghost use Rattle.lif_model.specs.Shelf.{cut};
 ghost use Rattle.il_ports.specs.Stores.{AreRecords};
@@ -8,6 +8,8 @@ ghost use Rattle.il_control.specs.Calls.{IsIdle, is_command};
 ghost use Rattle.loop_model.specs.Entries.{unl, lad};
 ghost use Rattle.il_drive.specs.State.{IsDrive};
 ghost use Rattle.il_drive.proofs.ExchangesAddressed.{sdc};
+ghost use Rattle.il_record.specs.Came.{CameUnits};
+ghost use Rattle.il_record.specs.Polls.{PlacesKept};
 ghost use Rattle.il_record.specs.Runs.{Cleared, Interrupted, Polled, NotPolled, ReadAs, ReadBroke, WroteAs, WriteBroke};
 
 use crate::exchanges::{seek, send};
@@ -78,6 +80,10 @@ pub(crate) fn status<M: Medium>(idle: Idle<M>, drive: u8) -> Result<(Idle<M>, u8
     requires at { drive ≡ drive_party (⟦<Idle<M> as Seen<M>>⟧.seen idle) }
     ensures told { IfOk result (λ told. Polled M.view drive told.1 (⟦<Idle<M> as Seen<M>>⟧.seen idle) (⟦<Idle<M> as Seen<M>>⟧.seen told.0)) }
     ensures broken { IfErr result (λ lost. NotPolled M.view drive (⟦<Idle<M> as Seen<M>>⟧.seen idle) (⟦<Lost<M> as Seen<M>>⟧.seen lost)) }
+    ensures came { IfOk result (λ told. CameUnits M.view true [] (⟦<Idle<M> as Seen<M>>⟧.seen idle) (⟦<Idle<M> as Seen<M>>⟧.seen told.0)) }
+    ensures came_in_part { IfErr result (λ lost. CameUnits M.view false [] (⟦<Idle<M> as Seen<M>>⟧.seen idle) (⟦<Lost<M> as Seen<M>>⟧.seen lost)) }
+    ensures places { IfOk result (λ told. PlacesKept (⟦<Idle<M> as Seen<M>>⟧.seen idle) (⟦<Idle<M> as Seen<M>>⟧.seen told.0)) }
+    ensures places_in_part { IfErr result (λ lost. PlacesKept (⟦<Idle<M> as Seen<M>>⟧.seen idle) (⟦<Lost<M> as Seen<M>>⟧.seen lost)) }
     ensures used { IfOk result (λ told. spare_of (⟦<Idle<M> as Seen<M>>⟧.seen idle) ≤ spare_of (⟦<Idle<M> as Seen<M>>⟧.seen told.0) + 13) }
     ensures used_lost { IfErr result (λ lost. spare_of (⟦<Idle<M> as Seen<M>>⟧.seen idle) ≤ spare_of (⟦<Lost<M> as Seen<M>>⟧.seen lost) + 14) }
 {
@@ -103,6 +109,8 @@ pub(crate) fn read_run<M: Medium>(
     requires within { first + length into.old / 256 ≤ (M.view (⟦<Idle<M> as Seen<M>>⟧.seen idle).drive.medium).record_count }
     ensures read { IfOk result (λ read. ReadAs M.view drive first into.new read.1 (⟦<Idle<M> as Seen<M>>⟧.seen idle) (⟦<Idle<M> as Seen<M>>⟧.seen read.0)) }
     ensures broken { IfErr result (λ lost. ReadBroke M.view drive (⟦<Idle<M> as Seen<M>>⟧.seen idle) (⟦<Lost<M> as Seen<M>>⟧.seen lost)) }
+    ensures places { IfOk result (λ read. PlacesKept (⟦<Idle<M> as Seen<M>>⟧.seen idle) (⟦<Idle<M> as Seen<M>>⟧.seen read.0)) }
+    ensures places_in_part { IfErr result (λ lost. PlacesKept (⟦<Idle<M> as Seen<M>>⟧.seen idle) (⟦<Lost<M> as Seen<M>>⟧.seen lost)) }
     ensures used { IfOk result (λ read. spare_of (⟦<Idle<M> as Seen<M>>⟧.seen idle) ≤ spare_of (⟦<Idle<M> as Seen<M>>⟧.seen read.0) + (33 + length into.old)) }
     ensures used_lost { IfErr result (λ lost. spare_of (⟦<Idle<M> as Seen<M>>⟧.seen idle) ≤ spare_of (⟦<Lost<M> as Seen<M>>⟧.seen lost) + (34 + length into.old)) }
 {
@@ -131,11 +139,13 @@ pub(crate) fn write_run<M: Medium>(
     requires within { first + count ≤ (M.view (⟦<Idle<M> as Seen<M>>⟧.seen idle).drive.medium).record_count }
     ensures wrote { IfOk result (λ wrote. WroteAs M.view drive first (cut count from.now) wrote.1 (⟦<Idle<M> as Seen<M>>⟧.seen idle) (⟦<Idle<M> as Seen<M>>⟧.seen wrote.0)) }
     ensures broken { IfErr result (λ lost. WriteBroke M.view drive first (cut count from.now) (⟦<Idle<M> as Seen<M>>⟧.seen idle) (⟦<Lost<M> as Seen<M>>⟧.seen lost)) }
+    ensures places { IfOk result (λ wrote. PlacesKept (⟦<Idle<M> as Seen<M>>⟧.seen idle) (⟦<Idle<M> as Seen<M>>⟧.seen wrote.0)) }
+    ensures places_in_part { IfErr result (λ lost. PlacesKept (⟦<Idle<M> as Seen<M>>⟧.seen idle) (⟦<Lost<M> as Seen<M>>⟧.seen lost)) }
     ensures used { IfOk result (λ wrote. spare_of (⟦<Idle<M> as Seen<M>>⟧.seen idle) ≤ spare_of (⟦<Idle<M> as Seen<M>>⟧.seen wrote.0) + (27 + 256 * count)) }
     ensures used_lost { IfErr result (λ lost. spare_of (⟦<Idle<M> as Seen<M>>⟧.seen idle) ≤ spare_of (⟦<Lost<M> as Seen<M>>⟧.seen lost) + (28 + 256 * count)) }
 {
     let idle = seek(idle, drive, first)?;
-    let idle = send(idle, drive, 2, from, 256 * usize::from(count))?;
+    let idle = send(idle, drive, Some(2), from, 256 * usize::from(count))?;
     let (idle, byte) = status(idle, drive)?;
     Ok((idle, byte == 0))
 }

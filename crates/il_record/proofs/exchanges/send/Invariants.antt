@@ -17,4 +17,4 @@ invariant-loop-place g l =
       after = map (λ b. (goal.Device-dyn g (b.vtable, b.value)).state b.value) l.sending.ring.boxes.after.items;
       books = l.sending.ring.books;
     } in
-    SentSo g.M.Medium.view l.address l.number l.place (filled l.length l.bytes) old now
+    SentSo g.M.Medium.view l.address l.fn.number l.place (filled l.length l.bytes) old now

@@ -1,4 +1,5 @@
 use Rattle.std.proofs.Common.{◌≡◌, ◌*◌, ◌/◌, ◌≤◌, ◌+◌, length, arith}
+use Rattle.il_record.proofs.Places.{kept_then, kept_sent, kept_not_sent, kept_received, kept_not_received}
 use Rattle.il_record.proofs.ReadRuns.{read_broke_at_seek, read_broke_at_receive, read_broke_at_status, read_done, received_room, same_length, all_came, some_came}
 use Rattle.il_record.proofs.Sends.{if_err, sent_room}
 use Rattle.il_record.proofs.Used.{used_on, received_used, not_received_used}
@@ -39,6 +40,26 @@ returns-clause-read g c =
       | then-count-into w ↦ all_came _ _ _ _ _ same w.if-count-into.true w.result-is
       | else-count-into w ↦ some_came _ _ _ _ _ same w.if-count-into.false w.result-is
     ])
+
+pub returns-in_err-idle-clause-places_in_part : goal.returns-in_err-idle-clause-places_in_part
+returns-in_err-idle-clause-places_in_part g c = if_err _ _ _ c.from_residual.ensures (kept_not_sent g.M.Medium.view _ _ _ _ _ c.in_err-idle.ensures.broken)
+
+pub returns-in_err-idle-2-clause-places_in_part : goal.returns-in_err-idle-2-clause-places_in_part
+returns-in_err-idle-2-clause-places_in_part g c =
+    let first = kept_sent g.M.Medium.view _ _ _ _ _ _ c.in_ok-idle.ensures.sent in
+    if_err _ _ _ c.from_residual-in_err-idle-2.ensures (kept_then _ _ _ first (kept_not_received g.M.Medium.view _ _ _ _ _ _ c.in_err-idle-2.ensures.not_received))
+
+pub returns-in_err-idle-3-clause-places_in_part : goal.returns-in_err-idle-3-clause-places_in_part
+returns-in_err-idle-3-clause-places_in_part g c =
+    let first = kept_sent g.M.Medium.view _ _ _ _ _ _ c.in_ok-idle.ensures.sent in
+    let second = kept_then _ _ _ first (kept_received g.M.Medium.view _ _ _ _ _ _ _ _ c.in_ok-idle-2.ensures.received) in
+    if_err _ _ _ c.from_residual-in_err-idle-3.ensures (kept_then _ _ _ second c.in_err-idle-3.ensures.places_in_part)
+
+pub returns-clause-places : goal.returns-clause-places
+returns-clause-places g c =
+    let first = kept_sent g.M.Medium.view _ _ _ _ _ _ c.in_ok-idle.ensures.sent in
+    let second = kept_then _ _ _ first (kept_received g.M.Medium.view _ _ _ _ _ _ _ _ c.in_ok-idle-2.ensures.received) in
+    kept_then _ _ _ second c.in_ok-idle-3.ensures.places
 
 pub returns-in_err-idle-2-clause-used_lost : goal.returns-in_err-idle-2-clause-used_lost
 returns-in_err-idle-2-clause-used_lost g c =

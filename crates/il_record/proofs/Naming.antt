@@ -1,0 +1,130 @@
+-- Accessory IDs, device by device.
+use Rattle.std.proofs.Common.{◌≡◌, ◌∙◌, ◌≤◌, ◌<◌, ◌+◌, ◌*◌, ◌-◌, ◌++◌, ◌==◌, ℕ, zero, suc, Bool, true, false, List, [], ◌∷◌, Option, Some, None, take, drop, map, length, get_or, refl, sym, ap, subst, arith, length-append}
+use Rattle.std.specs.Prelude.{if◌then◌else◌}
+use Rattle.il_device.specs.State.{DeviceState}
+use Rattle.il_ports.specs.Media.{MediumView}
+use Rattle.loop_model.specs.Exchanges.{Receive, Sai}
+use Rattle.il_ring.specs.Lists.{First}
+use Rattle.il_ring.specs.Rings.{RingView, devices_of, spare_of}
+use Rattle.il_control.specs.Calls.{AllStay, IsIdle, Stays}
+use Rattle.il_control.specs.Receives.{Received, NotReceived, accessory_at, id_bytes, received}
+use Rattle.il_control.proofs.Calls.{hears_then}
+use Rattle.il_record.specs.LoopCalls.{AllNamed, LeavesDrive, LeftAlone, Named, ids_of}
+use Rattle.il_record.proofs.CameLaws.{broken_came, came_then, made_came, nothing_came, tape_same}
+use Rattle.il_record.proofs.MildCame.{left_as_was, leaves_then, not_received_leaves, received_leaves}
+use Rattle.il_record.proofs.ReadRuns.{received_room}
+use Rattle.il_record.proofs.Readings.{idle_mute}
+
+-- ---- what devices keep
+
+keeps_then : (c d e : DeviceState) → Stays false c d → Stays false d e → Stays false c e
+keeps_then c d e first more = record { nothing = hears_then c d e first.nothing more.nothing; place = more.place ∙ first.place; wants = λ is. cc }
+
+all_then : (cs ds es : List DeviceState) → First (Stays false) (length cs) cs ds → First (Stays false) (length ds) ds es → First (Stays false) (length cs) cs es
+all_then [] [] [] first more = tt
+all_then (c ∷ cs) (d ∷ ds) (e ∷ es) first more = (keeps_then c d e first.0 more.0, all_then cs ds es first.1 more.1)
+all_then [] [] (e ∷ es) first more = absurd more
+all_then [] (d ∷ ds) es first more = absurd first
+all_then (c ∷ cs) [] es first more = absurd first
+all_then (c ∷ cs) (d ∷ ds) [] first more = absurd more
+
+all_same : (ds : List DeviceState) → First (Stays false) (length ds) ds ds
+all_same [] = tt
+all_same (d ∷ ds) = (record { nothing = record { heard = refl; heard_count = refl; room = refl; accessory = refl }; place = refl; wants = λ is. cc }, all_same ds)
+
+ids_stay : (i : ℕ) (ds es : List DeviceState) → First (Stays false) (length ds) ds es → accessory_at i es ≡ accessory_at i ds
+ids_stay i [] [] stays = refl
+ids_stay zero (d ∷ ds) (e ∷ es) stays = stays.0.nothing.accessory
+ids_stay (suc i) (d ∷ ds) (e ∷ es) stays = ids_stay i ds es stays.1
+ids_stay i [] (e ∷ es) stays = absurd stays
+ids_stay i (d ∷ ds) [] stays = absurd stays
+
+module _ {M : Type 0} (view : M → MediumView) where
+  pub left_then : (whole : Bool) (r m s : RingView M) → IsIdle r → LeftAlone view true r m → LeftAlone view whole m s → LeftAlone view whole r s
+  left_then whole r m s idle first more = record {
+    came = came_then view whole [] [] r m s idle first.came more.came;
+    stays = all_then (devices_of r) (devices_of m) (devices_of s) first.stays more.stays;
+    drive = leaves_then r.drive m.drive s.drive first.drive more.drive;
+  }
+
+  pub left_nothing : (r : RingView M) → IsIdle r → r.drive.state.interface.own ≡ None → LeftAlone view true r r
+  left_nothing r idle silent = record { came = nothing_came view r idle; stays = all_same (devices_of r); drive = left_as_was r.drive silent }
+
+-- ---- one device
+
+told_by : (id : Option ℕ) (n : ℕ) (bytes old new : List ℕ) → bytes ≡ id_bytes id → n ≡ length bytes → new ≡ bytes ++ drop n old → (if n == 0 then None else Some (get_or new 0 0)) ≡ id
+told_by None n bytes old new is count are =
+    let none : n ≡ 0 = count ∙ ap length is in
+    ap (λ n. if n == 0 then None else Some (get_or new 0 0)) none
+told_by (Some id) n bytes old new is count are =
+    let one : n ≡ 1 = count ∙ ap length is in
+    ap (λ n. if n == 0 then None else Some (get_or new 0 0)) one ∙ ap (λ bytes. Some (get_or bytes 0 0)) (are ∙ ap (λ bytes. bytes ++ drop n old) is)
+
+module _ {M : Type 0} (view : M → MediumView) (a : ℕ) (r s : RingView M) (low : a ≤ 30) (silent : r.drive.state.interface.own ≡ None) where
+  pub named : (n : ℕ) (old new : List ℕ) (id : Option ℕ) → length old ≡ 1 → 44 ≤ spare_of r → id ≡ (if n == 0 then None else Some (get_or new 0 0)) → Received view a None Sai n r old new s → Named view a id r s
+  named n old new id one room is got =
+      let drive = received_leaves view a n r old new s low silent got in
+      let few = got.within in
+      let left = received_room view a n (spare_of r - 13) None Sai r old new s got (omega (arith, few, one, room)) in
+      record {
+        id_is = is ∙ told_by (accessory_at (a - 1) (devices_of r)) n (received got.answer) old new (got.id refl) got.count got.bytes;
+        left = record { came = made_came view (Receive a None Sai got.answer) r s got.made refl (tape_same view r.drive s.drive drive.medium); stays = got.stays; drive = drive };
+        room = omega (arith, left);
+      }
+
+  pub not_named : (w : ℕ) → NotReceived view a None Sai w r s → LeftAlone view false r s
+  not_named w got =
+      let drive = not_received_leaves view a w r s low silent got in
+      record { came = broken_came view (Receive a None Sai got.answer) r s got.broken (tape_same view r.drive s.drive drive.medium); stays = got.stays; drive = drive }
+
+-- ---- one behind the other
+
+take_ids : (i : ℕ) (ds : List DeviceState) → i < length ds → take (suc i) (ids_of ds) ≡ take i (ids_of ds) ++ accessory_at i ds ∷ []
+take_ids i [] within = absurd (omega (arith, within))
+take_ids zero (d ∷ ds) within = refl
+take_ids (suc i) (d ∷ ds) within = ap (λ ids. d.accessory ∷ ids) (take_ids i ds (omega (arith, within)))
+
+take_all_ids : (ds : List DeviceState) → take (length ds) (ids_of ds) ≡ ids_of ds
+take_all_ids [] = refl
+take_all_ids (d ∷ ds) = ap (λ ids. d.accessory ∷ ids) (take_all_ids ds)
+
+-- the first i devices were asked
+pub record NamedSo {M : Type 0} (view : M → MediumView) (i : ℕ) (ids : List (Option ℕ)) (r s : RingView M) : Type 0 where
+  pub ids_are : ids ≡ take i (ids_of (devices_of r))
+  pub many : length ids ≡ i
+  pub left : LeftAlone view true r s
+  pub idle : IsIdle s
+  pub silent : s.drive.state.interface.own ≡ None
+  pub room : spare_of r ≤ spare_of s + 13 * i
+
+module _ {M : Type 0} (view : M → MediumView) (r : RingView M) (idle : IsIdle r) where
+  pub named_none : r.drive.state.interface.own ≡ None → (ids : List (Option ℕ)) → ids ≡ [] → NamedSo view 0 ids r r
+  named_none silent ids none = record { ids_are = none; many = ap length none; left = left_nothing view r idle silent; idle = idle; silent = silent; room = omega arith }
+
+  pub named_more : (i : ℕ) (ids more : List (Option ℕ)) (id : Option ℕ) (m s : RingView M) → i < length (devices_of r) → more ≡ ids ++ id ∷ [] → NamedSo view i ids r m → Named view (i + 1) id m s → NamedSo view (i + 1) more r s
+  named_more i ids more id m s within are so named =
+      let left = left_then view true r m s idle so.left named.left in
+      let now : IsIdle s = named.left.came.came.talked.state in
+      let place : i + 1 - 1 ≡ i = omega arith in
+      let up : suc i ≡ i + 1 = omega arith in
+      let room = so.room in
+      let spent = named.room in
+      let long = so.many in
+      let all = ap length are in
+      let one_more = length-append ids (id ∷ []) in
+      record {
+        ids_are =
+            are ∙ ap (λ ids. ids ++ id ∷ []) so.ids_are
+            ∙ ap (λ id. take i (ids_of (devices_of r)) ++ id ∷ []) (named.id_is ∙ ap (λ i. accessory_at i (devices_of m)) place ∙ ids_stay i (devices_of r) (devices_of m) so.left.stays)
+            ∙ sym (take_ids i (devices_of r) within) ∙ ap (λ n. take n (ids_of (devices_of r))) up;
+        many = omega (arith, all, one_more, long);
+        left = left;
+        idle = now;
+        silent = named.left.drive.silent (idle_mute s now);
+        room = omega (arith, room, spent);
+      }
+  pub named_all : (i : ℕ) (ids : List (Option ℕ)) (s : RingView M) → i ≡ length (devices_of r) → NamedSo view i ids r s → AllNamed view ids r s
+  named_all i ids s all so = record { ids_are = so.ids_are ∙ ap (λ n. take n (ids_of (devices_of r))) all ∙ take_all_ids (devices_of r); left = so.left }
+
+  pub named_part : (i : ℕ) (ids : List (Option ℕ)) (m s : RingView M) → NamedSo view i ids r m → LeftAlone view false m s → LeftAlone view false r s
+  named_part i ids m s so broken = left_then view false r m s idle so.left broken

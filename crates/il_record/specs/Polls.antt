@@ -1,0 +1,82 @@
+-- A parallel poll of the first eight devices, and what its answer is (HP-IL Interface Specification, parallel poll).
+use Rattle.std.specs.Prelude.{◌≡◌, ◌≤◌, ◌⊎◌, ◌+◌, ◌-◌, nat_le, ℕ, true, false, if◌then◌else◌, List, [], ◌∷◌, length, Option, Some, None}
+use Rattle.il_frames.specs.declared.frame.Class.TheVariants as class
+use Rattle.il_frames.specs.declared.frame.Frame.{Frame}
+use Rattle.il_frames.specs.Frames.{framed}
+use Rattle.il_poll.specs.declared.service.Assignment.{Assignment}
+use Rattle.il_device.specs.Passing.{identified}
+use Rattle.il_device.specs.State.{DeviceState}
+use Rattle.il_ports.specs.Media.{MediumView}
+use Rattle.il_ring.specs.Outcomes.{HearsNothing}
+use Rattle.il_ring.specs.Lists.{First}
+use Rattle.il_ring.specs.Polls.{identified_along, KeepsPlace}
+use Rattle.il_ring.specs.Rings.{RingView, devices_of, spare_of}
+use Rattle.il_control.specs.Calls.{idy}
+use Rattle.il_control.proofs.Assigning.{EachTo, GivenPlace}
+use Rattle.il_record.specs.Came.{CameUnits}
+use Rattle.il_record.specs.LoopCalls.{LeavesDrive}
+
+-- parallel poll unconfigure
+abbrev pub ppu : Frame
+ppu = framed class.Cmd 0x15
+
+-- The place of party k: of the first eight each has a bit of its own, from bit 0 on, and sets it where it wants service.
+abbrev pub poll_place : ℕ → Option Assignment
+poll_place k = if nat_le k 8 then Some (record { bit = k - 1; sense = true }) else None
+
+-- the identify frame behind devices that have these places, of which the first is party k
+abbrev pub polled_along : ℕ → List DeviceState → Frame → Frame
+polled_along k [] f = f
+polled_along k (d ∷ ds) f = polled_along (k + 1) ds (identified (poll_place k) d.wants f)
+
+-- party k has no place in the poll, or has this one
+abbrev pub MayPoll : ℕ → DeviceState → Type 0
+MayPoll k d = (d.assignment ≡ None) ⊎ (d.assignment ≡ poll_place k)
+
+-- party k may have a place behind the call if it might before. It heard nothing, and wants service if it did.
+pub record PollsOn (k : ℕ) (d e : DeviceState) : Type 0 where
+  pub place : MayPoll k d → MayPoll k e
+  pub nothing : HearsNothing d e
+  pub wants : e.wants ≡ d.wants
+
+-- each device has the place in the poll that it had
+pub record PlacesKept {M : Type 0} (r s : RingView M) : Type 0 where
+  pub kept : First KeepsPlace (length (devices_of r)) (devices_of r) (devices_of s)
+
+-- it has no place any more
+pub record Released (k : ℕ) (d e : DeviceState) : Type 0 where
+  pub place : e.assignment ≡ None
+  pub nothing : HearsNothing d e
+  pub wants : e.wants ≡ d.wants
+
+-- the poll was made, and this came back
+pub record HasPolled {M : Type 0} (view : M → MediumView) (f : Frame) (r s : RingView M) : Type 0 where
+  pub frame : f ≡ polled_along 1 (devices_of r) idy
+  pub came : CameUnits view true [] r s
+  pub released : EachTo Released 1 (devices_of r) (devices_of s)
+  pub drive : LeavesDrive r.drive s.drive
+  pub room : spare_of r ≤ spare_of s + 53
+
+-- it was broken off, and took n entries of the log at most
+pub record PollBroke {M : Type 0} (view : M → MediumView) (n : ℕ) (r s : RingView M) : Type 0 where
+  pub came : CameUnits view false [] r s
+  pub devices : EachTo PollsOn 1 (devices_of r) (devices_of s)
+  pub drive : LeavesDrive r.drive s.drive
+  pub room : spare_of r ≤ spare_of s + n
+
+-- ---- its parts
+
+-- the device of that address, 1 to 8, was given its place
+pub record Assigned {M : Type 0} (view : M → MediumView) (a : ℕ) (r s : RingView M) : Type 0 where
+  pub came : CameUnits view true [] r s
+  pub given : EachTo (GivenPlace a (7 + a)) 1 (devices_of r) (devices_of s)
+  pub drive : LeavesDrive r.drive s.drive
+  pub room : spare_of r ≤ spare_of s + 6
+
+-- the poll was made with the places that devices had
+pub record Collected {M : Type 0} (view : M → MediumView) (f : Frame) (r s : RingView M) : Type 0 where
+  pub frame : f ≡ identified_along (devices_of r) idy
+  pub came : CameUnits view true [] r s
+  pub released : EachTo Released 1 (devices_of r) (devices_of s)
+  pub drive : LeavesDrive r.drive s.drive
+  pub room : spare_of r ≤ spare_of s + 5
