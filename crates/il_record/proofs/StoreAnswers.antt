@@ -5,7 +5,11 @@ use Rattle.lif_model.specs.Tape.{Tape, IsTape}
 use Rattle.il_ports.specs.declared.records.Trouble.{Trouble}
 use Rattle.il_ports.specs.declared.records.Trouble.TheVariants as trouble
 use Rattle.il_ports.specs.Media.{MediumView, IsMedium}
-use Rattle.il_ports.specs.Stores.{RecordsView, IsReady, IsStore, AreRecords, FetchedRun, StoredRun}
+use Rattle.il_ports.specs.Stores.{RecordsView, IsReady, IsStore, Fetched, Stored, FetchedRun, StoredRun}
+use Rattle.il_ports.proofs.OneRecord.{run_fetched, run_stored}
+use Rattle.lif_model.specs.Shelf.{cut}
+use Rattle.lif_model.proofs.Made.{piece_long}
+use Rattle.std.proofs.lemmas.List.{take_all}
 use Rattle.il_drive.proofs.Exchanges.{IsFree}
 use Rattle.il_ring.specs.Rings.{RingView, drive_party, spare_of}
 use Rattle.il_control.specs.Calls.{IsIdle, IsLost}
@@ -13,16 +17,6 @@ use Rattle.il_record.specs.declared.records.Since.{Since}
 use Rattle.il_record.specs.LoopStores.{LoopView, Standing, AtIdle, AtLost, Nowhere, calls_in, is_broken, since_frame, since_medium, view_at, view_of}
 use Rattle.il_record.specs.Runs.{ReadAs, ReadBroke, WroteAs, WriteBroke}
 use Rattle.il_record.proofs.StoreRuns.{fetched, not_fetched, broke_fetching, stored, not_stored, broke_storing}
-
--- ---- every store over the loop is a store
-
-no_tape : {t : Tape} → None ≡ Some t → ⊥
-no_tape is = cc
-
-pub is_store_at : {M S : Type 0} (view : M → MediumView) (seen : S → RingView M) (p : Option S) (sound : Bool) (log : Since) (resumes : ℕ) (c : Standing M) → ((m : M) → IsMedium (view m)) → IsStore (view_at view seen p sound log resumes c)
-is_store_at view seen p sound log resumes (AtIdle r) law = let m = law r.drive.medium in record { is_tape = m.is_tape; leaves_now = m.leaves_now; leaves_only = m.leaves_only }
-is_store_at view seen p sound log resumes (AtLost r) law = let m = law r.drive.medium in record { is_tape = m.is_tape; leaves_now = m.leaves_now; leaves_only = m.leaves_only }
-is_store_at view seen p sound log resumes Nowhere law = record { is_tape = λ t is. absurd (no_tape is); leaves_now = λ m t le is. absurd (no_tape is); leaves_only = λ t c is left. absurd left }
 
 -- ---- an idle controller
 
@@ -46,6 +40,9 @@ at_idle view seen p sound log resumes c r at is = λ i. view_at view seen p (sym
 pub room_for : (k bytes spare : ℕ) → k ≤ calls_in spare → bytes ≡ 256 * k → 1 ≤ k → 64 + bytes ≤ spare
 room_for k bytes spare left long some = omega (arith, left, long, some)
 
+pub room_for_write : (k spare : ℕ) → k ≤ calls_in spare → 1 ≤ k → 58 + 256 * k ≤ spare
+room_for_write k spare left some = omega (arith, left, some)
+
 -- the view of a store by how it was left
 left_as : {M S : Type 0} (view : M → MediumView) (seen : S → RingView M) (q : Option S) (old mid new : LoopView M) (change : LoopView M → LoopView M) → mid ≡ record old { control = Nowhere } → new ≡ change mid → (P : RecordsView (Option S) → Type 0)
     → P (view_of view seen q (change (record old { control = Nowhere }))) → P (view_of view seen q new)
@@ -58,6 +55,9 @@ module _ {M S : Type 0} (view : M → MediumView) (seen : S → RingView M) (p q
   before : view_at view seen p true old.since old.resumes (AtIdle r) ≡ view_of view seen p old
   before = at_idle view seen p old.sound old.since old.resumes old.control r at begin.sound_is
 
+  done_left : LoopView M → LoopView M
+  done_left l = record l { control = AtIdle s }
+
   medium_left : LoopView M → LoopView M
   medium_left l = record l { control = AtIdle s; sound = false; since = since_medium l.since }
 
@@ -67,49 +67,53 @@ module _ {M S : Type 0} (view : M → MediumView) (seen : S → RingView M) (p q
   -- ---- reads
 
   module _ (bytes : List ℕ) (long : length bytes ≡ 256 * k) (some : 1 ≤ k) where
-    pub fetched_at : {T : Type 0} (x : T) → ReadAs view d first bytes true r s → spare_of r ≤ spare_of s + (33 + length bytes)
-        → FetchedRun first k bytes (view_of view seen p old) (view_at view seen q old.sound old.since old.resumes (AtIdle s)) (Ok x)
-    fetched_at {T} x read used =
-        subst (λ (b : Bool). FetchedRun first k bytes (view_of view seen p old) (view_at view seen q b old.since old.resumes (AtIdle s)) (Ok x)) (sym begin.sound_is)
+    pub fetched_at : {T : Type 0} (x : T) (mid new : LoopView M) (good : Bool) (m : ℕ) → good ≡ true → m ≡ length bytes → mid ≡ record old { control = Nowhere } → new ≡ record mid { control = AtIdle s } → ReadAs view d first bytes good r s → spare_of r ≤ spare_of s + (33 + m)
+        → FetchedRun first k bytes (view_of view seen p old) (view_of view seen q new) (Ok x)
+    unfolding done_left
+    fetched_at {T} x mid new good m is all taken left read used =
+        left_as view seen q old mid new done_left taken left (λ w. FetchedRun first k bytes (view_of view seen p old) w (Ok x))
+        (subst (λ (b : Bool). FetchedRun first k bytes (view_of view seen p old) (view_at view seen q b old.since old.resumes (AtIdle s)) (Ok x)) (sym begin.sound_is)
         (subst (λ (v : RecordsView (Option S)). FetchedRun first k bytes v (view_at view seen q true old.since old.resumes (AtIdle s)) (Ok x)) before
-        (fetched view seen p q old.since old.resumes k first bytes r s begin.idle begin.alive long some x (subst (λ d. ReadAs view d first bytes true r s) party read) used))
+        (fetched view seen p q old.since old.resumes k first bytes r s begin.idle begin.alive long some x (subst (λ d. ReadAs view d first bytes true r s) party (subst (λ (b : Bool). ReadAs view d first bytes b r s) is read)) (subst (λ m. spare_of r ≤ spare_of s + (33 + m)) all used))))
 
-    pub not_fetched_at : {T : Type 0} (e : Trouble) (mid new : LoopView M) → e ≡ trouble.Medium → mid ≡ record old { control = Nowhere } → new ≡ record mid { control = AtIdle s; sound = false; since = since_medium mid.since }
-        → ReadAs view d first bytes false r s → spare_of r ≤ spare_of s + (33 + length bytes) → FetchedRun {T = T} first k bytes (view_of view seen p old) (view_of view seen q new) (Err e)
+    pub not_fetched_at : {T : Type 0} (e : Trouble) (mid new : LoopView M) (good : Bool) (m : ℕ) → good ≡ false → m ≡ length bytes → e ≡ trouble.Medium → mid ≡ record old { control = Nowhere } → new ≡ record mid { control = AtIdle s; sound = false; since = since_medium mid.since }
+        → ReadAs view d first bytes good r s → spare_of r ≤ spare_of s + (33 + m) → FetchedRun {T = T} first k bytes (view_of view seen p old) (view_of view seen q new) (Err e)
     unfolding medium_left
-    not_fetched_at {T} e mid new is taken left read used =
+    not_fetched_at {T} e mid new good m bad all is taken left read used =
         subst (λ (e : Trouble). FetchedRun {T = T} first k bytes (view_of view seen p old) (view_of view seen q new) (Err e)) (sym is)
         (left_as view seen q old mid new medium_left taken left (λ w. FetchedRun {T = T} first k bytes (view_of view seen p old) w (Err trouble.Medium))
         (subst (λ (v : RecordsView (Option S)). FetchedRun {T = T} first k bytes v (view_at view seen q false (since_medium old.since) old.resumes (AtIdle s)) (Err trouble.Medium)) before
-        (not_fetched view seen p q old.since old.resumes k first bytes r s begin.idle begin.alive long some (subst (λ d. ReadAs view d first bytes false r s) party read) used)))
+        (not_fetched view seen p q old.since old.resumes k first bytes r s begin.idle begin.alive long some (subst (λ d. ReadAs view d first bytes false r s) party (subst (λ (b : Bool). ReadAs view d first bytes b r s) bad read)) (subst (λ m. spare_of r ≤ spare_of s + (33 + m)) all used))))
 
-    pub broke_fetching_at : {T : Type 0} (e : Trouble) (mid new : LoopView M) → e ≡ trouble.Frame → mid ≡ record old { control = Nowhere } → new ≡ record mid { control = AtLost s; sound = false; since = since_frame mid.since }
-        → ReadBroke view d r s → spare_of r ≤ spare_of s + (34 + length bytes) → FetchedRun {T = T} first k bytes (view_of view seen p old) (view_of view seen q new) (Err e)
+    pub broke_fetching_at : {T : Type 0} (e : Trouble) (mid new : LoopView M) (m : ℕ) → m ≡ length bytes → e ≡ trouble.Frame → mid ≡ record old { control = Nowhere } → new ≡ record mid { control = AtLost s; sound = false; since = since_frame mid.since }
+        → ReadBroke view d r s → spare_of r ≤ spare_of s + (34 + m) → FetchedRun {T = T} first k bytes (view_of view seen p old) (view_of view seen q new) (Err e)
     unfolding frame_left
-    broke_fetching_at {T} e mid new is taken left broke used =
+    broke_fetching_at {T} e mid new m all is taken left broke used =
         subst (λ (e : Trouble). FetchedRun {T = T} first k bytes (view_of view seen p old) (view_of view seen q new) (Err e)) (sym is)
         (left_as view seen q old mid new frame_left taken left (λ w. FetchedRun {T = T} first k bytes (view_of view seen p old) w (Err trouble.Frame))
         (subst (λ (v : RecordsView (Option S)). FetchedRun {T = T} first k bytes v (view_at view seen q false (since_frame old.since) old.resumes (AtLost s)) (Err trouble.Frame)) before
-        (broke_fetching view seen p q old.since old.resumes k first bytes r s begin.idle begin.alive long some (subst (λ d. ReadBroke view d r s) party broke) used)))
+        (broke_fetching view seen p q old.since old.resumes k first bytes r s begin.idle begin.alive long some (subst (λ d. ReadBroke view d r s) party broke) (subst (λ m. spare_of r ≤ spare_of s + (34 + m)) all used))))
 
   -- ---- writes
 
   module _ (pieces : List (List ℕ)) (many : length pieces ≡ k) (some : 1 ≤ k) where
-    pub stored_at : {T : Type 0} (x : T) → WroteAs view d first pieces true r s → spare_of r ≤ spare_of s + (27 + 256 * k)
-        → StoredRun first pieces (view_of view seen p old) (view_at view seen q old.sound old.since old.resumes (AtIdle s)) (Ok x)
-    stored_at {T} x wrote used =
-        subst (λ (b : Bool). StoredRun first pieces (view_of view seen p old) (view_at view seen q b old.since old.resumes (AtIdle s)) (Ok x)) (sym begin.sound_is)
+    pub stored_at : {T : Type 0} (x : T) (mid new : LoopView M) (good : Bool) → good ≡ true → mid ≡ record old { control = Nowhere } → new ≡ record mid { control = AtIdle s } → WroteAs view d first pieces good r s → spare_of r ≤ spare_of s + (27 + 256 * k)
+        → StoredRun first pieces (view_of view seen p old) (view_of view seen q new) (Ok x)
+    unfolding done_left
+    stored_at {T} x mid new good is taken left wrote used =
+        left_as view seen q old mid new done_left taken left (λ w. StoredRun first pieces (view_of view seen p old) w (Ok x))
+        (subst (λ (b : Bool). StoredRun first pieces (view_of view seen p old) (view_at view seen q b old.since old.resumes (AtIdle s)) (Ok x)) (sym begin.sound_is)
         (subst (λ (v : RecordsView (Option S)). StoredRun first pieces v (view_at view seen q true old.since old.resumes (AtIdle s)) (Ok x)) before
-        (stored view seen p q old.since old.resumes k first pieces r s begin.idle begin.alive many some x (subst (λ d. WroteAs view d first pieces true r s) party wrote) used))
+        (stored view seen p q old.since old.resumes k first pieces r s begin.idle begin.alive many some x (subst (λ d. WroteAs view d first pieces true r s) party (subst (λ (b : Bool). WroteAs view d first pieces b r s) is wrote)) used)))
 
-    pub not_stored_at : {T : Type 0} (e : Trouble) (mid new : LoopView M) → e ≡ trouble.Medium → mid ≡ record old { control = Nowhere } → new ≡ record mid { control = AtIdle s; sound = false; since = since_medium mid.since }
-        → WroteAs view d first pieces false r s → spare_of r ≤ spare_of s + (27 + 256 * k) → StoredRun {T = T} first pieces (view_of view seen p old) (view_of view seen q new) (Err e)
+    pub not_stored_at : {T : Type 0} (e : Trouble) (mid new : LoopView M) (good : Bool) → good ≡ false → e ≡ trouble.Medium → mid ≡ record old { control = Nowhere } → new ≡ record mid { control = AtIdle s; sound = false; since = since_medium mid.since }
+        → WroteAs view d first pieces good r s → spare_of r ≤ spare_of s + (27 + 256 * k) → StoredRun {T = T} first pieces (view_of view seen p old) (view_of view seen q new) (Err e)
     unfolding medium_left
-    not_stored_at {T} e mid new is taken left wrote used =
+    not_stored_at {T} e mid new good bad is taken left wrote used =
         subst (λ (e : Trouble). StoredRun {T = T} first pieces (view_of view seen p old) (view_of view seen q new) (Err e)) (sym is)
         (left_as view seen q old mid new medium_left taken left (λ w. StoredRun {T = T} first pieces (view_of view seen p old) w (Err trouble.Medium))
         (subst (λ (v : RecordsView (Option S)). StoredRun {T = T} first pieces v (view_at view seen q false (since_medium old.since) old.resumes (AtIdle s)) (Err trouble.Medium)) before
-        (not_stored view seen p q old.since old.resumes k first pieces r s begin.idle begin.alive many some (subst (λ d. WroteAs view d first pieces false r s) party wrote) used)))
+        (not_stored view seen p q old.since old.resumes k first pieces r s begin.idle begin.alive many some (subst (λ d. WroteAs view d first pieces false r s) party (subst (λ (b : Bool). WroteAs view d first pieces b r s) bad wrote)) used)))
 
     pub broke_storing_at : {T : Type 0} (e : Trouble) (mid new : LoopView M) → e ≡ trouble.Frame → mid ≡ record old { control = Nowhere } → new ≡ record mid { control = AtLost s; sound = false; since = since_frame mid.since }
         → WriteBroke view d first pieces r s → spare_of r ≤ spare_of s + (28 + 256 * k) → StoredRun {T = T} first pieces (view_of view seen p old) (view_of view seen q new) (Err e)
@@ -119,3 +123,15 @@ module _ {M S : Type 0} (view : M → MediumView) (seen : S → RingView M) (p q
         (left_as view seen q old mid new frame_left taken left (λ w. StoredRun {T = T} first pieces (view_of view seen p old) w (Err trouble.Frame))
         (subst (λ (v : RecordsView (Option S)). StoredRun {T = T} first pieces v (view_at view seen q false (since_frame old.since) old.resumes (AtLost s)) (Err trouble.Frame)) before
         (broke_storing view seen p q old.since old.resumes k first pieces r s begin.idle begin.alive many some (subst (λ d. WriteBroke view d first pieces r s) party broke) used)))
+
+-- ---- one record
+
+pub fetched_one : {S T : Type 0} (n count : ℕ) (bytes : List ℕ) (v w : RecordsView S) (answer : Result T Trouble) → count ≡ 1 → FetchedRun n count bytes v w answer → Fetched n bytes v w answer
+fetched_one n count bytes v w answer one did = run_fetched n bytes v w answer (subst (λ count. FetchedRun n count bytes v w answer) one did)
+
+-- a piece of 256 bytes is these
+one_piece : (bytes : List ℕ) → length bytes ≡ 256 → cut 1 bytes ≡ bytes ∷ []
+one_piece bytes long = ap (λ b. b ∷ []) (piece_long bytes (omega (arith, long)) ∙ take_all 256 bytes (omega (arith, long)))
+
+pub stored_one : {S T : Type 0} (n : ℕ) (bytes : List ℕ) (v w : RecordsView S) (answer : Result T Trouble) → IsStore v → n < v.record_count → length bytes ≡ 256 → StoredRun n (cut 1 bytes) v w answer → Stored n bytes v w answer
+stored_one n bytes v w answer store within long did = run_stored n bytes v w answer store within long (subst (λ pieces. StoredRun n pieces v w answer) (one_piece bytes long) did)

@@ -14,6 +14,10 @@ use Rattle.il_control.specs.Calls.{IsFree as IsFreeRing, IsIdle, IsLost, loop_of
 use Rattle.il_control.proofs.Made.{idle_cleared, lost_cleared}
 use Rattle.il_record.specs.declared.records.Since.{Since}
 use Rattle.il_record.specs.declared.records.Since.TheVariants as since
+use Rattle.il_ring.specs.declared.ring.Ring.{Ring}
+use Rattle.il_record.specs.declared.records.Control.{Control}
+use Rattle.il_record.specs.declared.records.Control.TheVariants as control_is
+use Rattle.il_record.specs.Controls.{ring_in, standing_of}
 use Rattle.il_record.specs.Came.{OnlyHeard, CameBy, CameUnits}
 use Rattle.il_record.specs.LoopStores.{LoopView, Standing, AtIdle, AtLost, Nowhere, Addressed, NotAddressed, Addresses, calls_in, is_broken, is_unbroken, log_emptied, most_resumes, since_frame, since_more, view_at, view_of, with_empty_log}
 use Rattle.il_record.specs.Runs.{Cleared, Interrupted, Readied, LeavesRecords}
@@ -44,6 +48,12 @@ pub begun_at : {M S : Type 0} (view : M → MediumView) (seen : S → RingView M
     → Begun (view_of view seen p old) (view_of view seen q new)
 begun_at {M} view seen p q old new is valid here there =
     subst (λ (l : LoopView M). Begun (view_of view seen p old) (view_of view seen q l)) (sym is) (begun_by view seen p q old.sound old.since old.resumes old.control valid here (subst (λ (l : LoopView M). Agrees seen q l.control) is there))
+
+-- a controller and its ring
+pub agrees : {M I : Type 0} {D : I → Type 0} (seen : Ring M I D → RingView M) (c : Control M I D) → Agrees seen (ring_in c) (standing_of seen c)
+agrees seen (control_is.Idle i) = refl
+agrees seen (control_is.Lost i) = refl
+agrees seen control_is.Gone = tt
 
 -- ---- resuming
 
@@ -182,3 +192,52 @@ module _ {M S : Type 0} (view : M → MediumView) (seen : S → RingView M) (p q
       (subst (λ (e : Trouble). Resumed {T = T} (view_at view seen p false log resumes (AtLost r)) (view_at view seen q false (since_frame (since_more log)) more (AtLost s)) (Err e)) (sym frame)
       (broke_lost view seen p q log resumes more counted r m s valid.0 readied used_m (subst (λ d. Interrupted view d m s) party not) used))
   ready_broke_by {T} y Nowhere log resumes d old ready mid new m s e counted is valid so at taken left frame party not used = absurd so
+
+-- ---- for a store by its parts
+
+sound_by : {M S T : Type 0} (view : M → MediumView) (seen : S → RingView M) (p q : Option S) (log : Since) (resumes more : ℕ) (c : Standing M) (x : T) → more ≡ min (resumes + 1) most_resumes → (view_at view seen p true log resumes c).valid
+    → Resumed (view_at view seen p true log resumes c) (view_at view seen q true log more c) (Ok x)
+sound_by view seen p q log resumes more (AtIdle r) x counted valid = resumed_sound view seen p q log resumes more r x valid.0 (valid.1 refl) valid.2 counted
+sound_by view seen p q log resumes more (AtLost r) x counted valid = let clash = valid.1 in cc
+sound_by view seen p q log resumes more Nowhere x counted valid = absurd valid
+
+module _ {M S : Type 0} (T : Type 0) (view : M → MediumView) (seen : S → RingView M) (p q : Option S) (more : ℕ) (before : LoopView M) (counted : more ≡ min (before.resumes + 1) most_resumes) (valid : (view_of view seen p before).valid) where
+  -- a sound store
+  pub resumes_sound : (x : T) → before.sound ≡ true → Resumed (view_of view seen p before) (view_at view seen q before.sound before.since more before.control) (Ok x)
+  resumes_sound x sound =
+      subst (λ (b : Bool). (view_at view seen p b before.since before.resumes before.control).valid → Resumed (view_at view seen p b before.since before.resumes before.control) (view_at view seen q b before.since more before.control) (Ok x)) (sym sound)
+      (sound_by view seen p q before.since before.resumes more before.control x counted) valid
+
+  unsound : before.sound ≡ false → (view_at view seen p false before.since before.resumes before.control).valid
+  unsound is = subst (λ (b : Bool). (view_at view seen p b before.since before.resumes before.control).valid) is valid
+
+  -- as it was seen before
+  seen_before : before.sound ≡ false → (w : RecordsView (Option S)) (answer : Result T Trouble) → Resumed (view_at view seen p false before.since before.resumes before.control) w answer → Resumed (view_of view seen p before) w answer
+  seen_before is w answer so = subst (λ (b : Bool). Resumed (view_at view seen p b before.since before.resumes before.control) w answer) (sym is) so
+
+  -- the store that `ready` was called on
+  abbrev counted_store : LoopView M
+  counted_store = record before { resumes = more }
+
+  counted_is : before.sound ≡ false → counted_store ≡ record { control = before.control; sound = false; since = before.since; resumes = more }
+  counted_is is = ap (λ (b : Bool). record before { sound = b; resumes = more }) is
+
+  -- `ready` answered an error
+  pub resumes_not_ready : (result : Result T Trouble) (new : LoopView M) (e : Trouble) → before.sound ≡ false → Addresses {T = T} view before.control counted_store new (Err e) → IsErr result × IsErrAnd result (λ x. x ≡ e) → Resumed (view_of view seen p before) (view_of view seen q new) result
+  resumes_not_ready result new e is so handed =
+      on_error result e (λ result. Resumed (view_of view seen p before) (view_of view seen q new) result) handed
+      (seen_before is (view_of view seen q new) (Err e) (ready_not_by view seen p q more before.control before.since before.resumes counted_store new e counted (counted_is is) (unsound is) so))
+
+  -- the drive was cleared
+  pub resumes_done : {U : Type 0} (x : T) (y : U) (d : ℕ) (ready mid new : LoopView M) (m s : RingView M) → before.sound ≡ false → Addresses view before.control counted_store ready (Ok y) → ready.control ≡ AtIdle m → mid ≡ record ready { control = Nowhere } → new ≡ record mid { control = AtIdle s }
+      → d ≡ drive_party m → Cleared view d m s → spare_of m ≤ spare_of s + 6 → Resumed (view_of view seen p before) (view_of view seen q (record new { sound = true })) (Ok x)
+  resumes_done x y d ready mid new m s is so at taken left party done used =
+      let new_is : new ≡ record ready { control = AtIdle s } = left ∙ ap (λ (l : LoopView M). record l { control = AtIdle s }) taken in
+      subst (λ (l : LoopView M). Resumed (view_of view seen p before) (view_of view seen q (record l { sound = true })) (Ok x)) (sym new_is)
+      (seen_before is (view_at view seen q true ready.since ready.resumes (AtIdle s)) (Ok x) (ready_done_by view seen p q more x y before.control before.since before.resumes d counted_store ready m s counted (counted_is is) (unsound is) so at party done used))
+
+  -- or an exchange was broken off
+  pub resumes_broke : {U : Type 0} (y : U) (d : ℕ) (ready mid new : LoopView M) (m s : RingView M) (e : Trouble) → before.sound ≡ false → Addresses view before.control counted_store ready (Ok y) → ready.control ≡ AtIdle m → mid ≡ record ready { control = Nowhere }
+      → new ≡ record mid { control = AtLost s; sound = false; since = since_frame mid.since } → e ≡ trouble.Frame → d ≡ drive_party m → Interrupted view d m s → spare_of m ≤ spare_of s + 7 → Resumed {T = T} (view_of view seen p before) (view_of view seen q new) (Err e)
+  resumes_broke y d ready mid new m s e is so at taken left frame party not used =
+      seen_before is (view_of view seen q new) (Err e) (ready_broke_by view seen p q more y before.control before.since before.resumes d counted_store ready mid new m s e counted (counted_is is) (unsound is) so at taken left frame party not used)

@@ -40,13 +40,13 @@ bad_unit writes first bytes status bad = ap (λ b. b && true) (ne_eqb status 0 b
 
 module _ {M S : Type 0} (view : M → MediumView) (seen : S → RingView M) (p q : Option S) (log : Since) (resumes k n : ℕ) (r s : RingView M) (idle : IsIdle r) (alive : is_broken log ≡ false) (unheard : OnlyHeard (drive_party r) r s)
     (used : spare_of r ≤ spare_of s + n) (few : n ≤ 300 * k) (told : is_some (view s.drive.medium).tape ≡ is_some (view r.drive.medium).tape) (size : (view s.drive.medium).record_count ≡ (view r.drive.medium).record_count) where
-  abbrev old : RecordsView (Option S)
-  old = view_at view seen p true log resumes (AtIdle r)
+  abbrev earlier : RecordsView (Option S)
+  earlier = view_at view seen p true log resumes (AtIdle r)
 
   -- ---- the three ends of a call
 
   pub goes_on_ok : {T : Type 0} (x : T) (us : List RecordUnit) → CameUnits view true us r s → all_good us ≡ true → IsFree (drive_party s) s.drive.state → (view s.drive.medium).faults ≡ (view r.drive.medium).faults
-      → GoesOn k old (view_at view seen q true log resumes (AtIdle s)) (Ok x)
+      → GoesOn k earlier (view_at view seen q true log resumes (AtIdle s)) (Ok x)
   goes_on_ok x us units good free count = record {
     continues = record {
       valid = (units.came.talked.state, (λ sound. free), alive);
@@ -63,7 +63,7 @@ module _ {M S : Type 0} (view : M → MediumView) (seen : S → RingView M) (p q
   }
 
   pub goes_on_medium : {T : Type 0} (us : List RecordUnit) → CameUnits view true us r s → all_good us ≡ false → Rose (view r.drive.medium).faults (view s.drive.medium).faults
-      → GoesOn {T = T} k old (view_at view seen q false (since_medium log) resumes (AtIdle s)) (Err trouble.Medium)
+      → GoesOn {T = T} k earlier (view_at view seen q false (since_medium log) resumes (AtIdle s)) (Err trouble.Medium)
   goes_on_medium us units bad rose = record {
     continues = record {
       valid = (units.came.talked.state, (λ sound. cc), alive_medium log alive);
@@ -79,7 +79,7 @@ module _ {M S : Type 0} (view : M → MediumView) (seen : S → RingView M) (p q
     resumed = λ k so. so;
   }
 
-  pub goes_on_frame : {T : Type 0} → (came : CameBy view false r s) → (view r.drive.medium).faults ≤ (view s.drive.medium).faults → GoesOn {T = T} k old (view_at view seen q false (since_frame log) resumes (AtLost s)) (Err trouble.Frame)
+  pub goes_on_frame : {T : Type 0} → (came : CameBy view false r s) → (view r.drive.medium).faults ≤ (view s.drive.medium).faults → GoesOn {T = T} k earlier (view_at view seen q false (since_frame log) resumes (AtLost s)) (Err trouble.Frame)
   goes_on_frame came count = record {
     continues = record {
       valid = (came.talked.state, refl);

@@ -30,15 +30,15 @@ unbroken_is since.Mended is = cc
 
 module _ {M S : Type 0} (view : M → MediumView) (seen : S → RingView M) (p q : Option S) (valid : Type 0) (log : Since) (resumes more n : ℕ) (r s : RingView M) (free : IsFreeRing r) (unheard : OnlyHeard (drive_party r) r s)
     (used : spare_of r ≤ spare_of s + n) (few : n ≤ 300) (still : IsStill (view r.drive.medium) (view s.drive.medium)) (counted : more ≡ min (resumes + 1) most_resumes) where
-  abbrev old : RecordsView (Option S)
-  old = over_ring view seen p valid false log resumes r
+  abbrev earlier : RecordsView (Option S)
+  earlier = over_ring view seen p valid false log resumes r
 
   resumed_more : (k : ℕ) → min k most_resumes ≡ resumes → min (k + 1) most_resumes ≡ more
   resumed_more k is = omega (arith, is, counted)
 
   -- the store is sound again
   pub resumed_ok : {T : Type 0} (x : T) (new : Since) → CameUnits view true [] r s → IsFree (drive_party s) s.drive.state → (view s.drive.medium).faults ≡ (view r.drive.medium).faults → is_broken new ≡ false → (is_unbroken log ≡ true → new ≡ log)
-      → Resumed old (view_at view seen q true new more (AtIdle s)) (Ok x)
+      → Resumed earlier (view_at view seen q true new more (AtIdle s)) (Ok x)
   resumed_ok x new units rest count alive same = record {
     goes_on = record {
       valid = (units.came.talked.state, (λ sound. rest), alive);
@@ -59,7 +59,7 @@ module _ {M S : Type 0} (view : M → MediumView) (seen : S → RingView M) (p q
 
   -- an exchange was broken off
   pub resumed_not : {T : Type 0} → (new : Since) → CameUnits view false [] r s → (view r.drive.medium).faults ≤ (view s.drive.medium).faults → (is_unbroken log ≡ true → new ≡ since.Broken)
-      → Resumed {T = T} old (view_at view seen q false new more (AtLost s)) (Err trouble.Frame)
+      → Resumed {T = T} earlier (view_at view seen q false new more (AtLost s)) (Err trouble.Frame)
   resumed_not new units count broke = record {
     goes_on = record {
       valid = (units.came.talked.state, refl);

@@ -1,8 +1,10 @@
 pub mod Came
+pub mod Controls
+pub mod IsStore
 pub mod Listening
 pub mod LoopCalls
-pub mod Polls
 pub mod LoopStores
+pub mod Polls
 pub mod Runs
 pub mod Sends
 pub mod Talks

@@ -7,10 +7,10 @@ ghost use Rattle.il_record.specs.declared.records.Since.TheVariants as since_is;
 ghost use Rattle.il_record.specs.LoopStores.{calls_in as calls_of, AtIdle, AtLost, Nowhere, is_idle, HasRing, StandsSo, log_emptied, Addresses, since_frame, since_medium, since_more};
 ghost use Rattle.il_ports.specs.declared.records.Trouble.TheVariants as trouble_is;
 
-
+use crate::runs::{clear, drive_of, read_run, write_run};
 use il_control::{Idle, Lost};
 use il_device::Device;
-use il_ports::{Medium, Trouble};
+use il_ports::{Medium, Records, Trouble};
 use il_ring::{Ring, Seen};
 use std::marker::PhantomData;
 
@@ -105,25 +105,18 @@ pub trait Looped<M> {
 impl<M: Medium> Looped<M> for LoopRecords<M> {
     ghost use Rattle.std.specs.Prelude.{map};
     ghost use Rattle.il_ring.specs.Rings.{RingView};
-    ghost use Rattle.il_record.specs.LoopStores.{LoopView, Standing, AtIdle, AtLost, Nowhere};
-    ghost use Rattle.il_record.specs.declared.records.Control.TheVariants as control_is;
+    ghost use Rattle.il_record.specs.LoopStores.{LoopView};
+    ghost use Rattle.il_record.specs.Controls.{standing_of};
 
     ghost looped = { λ l. record {
-      control = elim l.control [
-        | control_is.Idle i ↦ AtIdle (record {
-            before = map (λ b. (Device-box b).state b.value) i.ring.boxes.before.items;
-            drive = i.ring.drive;
-            after = map (λ b. (Device-box b).state b.value) i.ring.boxes.after.items;
-            books = i.ring.books;
-          })
-        | control_is.Lost i ↦ AtLost (record {
-            before = map (λ b. (Device-box b).state b.value) i.ring.boxes.before.items;
-            drive = i.ring.drive;
-            after = map (λ b. (Device-box b).state b.value) i.ring.boxes.after.items;
-            books = i.ring.books;
-          })
-        | control_is.Gone ↦ Nowhere
-      ];
+      control = standing_of
+        (λ r. record {
+          before = map (λ b. (Device-box b).state b.value) r.boxes.before.items;
+          drive = r.drive;
+          after = map (λ b. (Device-box b).state b.value) r.boxes.after.items;
+          books = r.books;
+        })
+        l.control;
       sound = l.sound;
       since = l.since;
       resumes = l.resumes;
@@ -263,6 +256,13 @@ impl<M: Medium + Drop> LoopRecords<M> {
         }
     }
 
+    /// The controller behind a call.
+    fn put_back(&mut self, idle: Idle<M>)
+        ensures { ⟦<LoopRecords<M> as Looped<M>>⟧.looped self.new ≡ record (⟦<LoopRecords<M> as Looped<M>>⟧.looped self.old) { control = AtIdle (⟦<Idle<M> as Seen<M>>⟧.seen idle) } }
+    {
+        self.control = Control::Idle(idle);
+    }
+
     /// A call that broke off.
     fn broke(&mut self, lost: Lost<M>) -> Trouble
         ensures left { ⟦<LoopRecords<M> as Looped<M>>⟧.looped self.new ≡ record (⟦<LoopRecords<M> as Looped<M>>⟧.looped self.old) { control = AtLost (⟦<Lost<M> as Seen<M>>⟧.seen lost); sound = false; since = since_frame (⟦<LoopRecords<M> as Looped<M>>⟧.looped self.old).since } }
@@ -283,5 +283,102 @@ impl<M: Medium + Drop> LoopRecords<M> {
         self.sound = false;
         self.since = self.since.failed();
         Trouble::Medium
+    }
+}
+
+impl<M: Medium + Drop> Records for LoopRecords<M> {
+    ghost use Rattle.std.specs.Prelude.{map, Some, None};
+    ghost use Rattle.il_ring.specs.Rings.{RingView};
+    ghost use Rattle.il_record.specs.LoopStores.{view_at};
+    ghost use Rattle.il_record.specs.Controls.{ring_in, standing_of};
+    ghost use Rattle.il_record.specs.IsStore.{is_store_at};
+
+    type Start = Option<Ring<M>>;
+
+    ghost view = { λ l. view_at M.view
+      (λ r. record {
+        before = map (λ b. (Device-box b).state b.value) r.boxes.before.items;
+        drive = r.drive;
+        after = map (λ b. (Device-box b).state b.value) r.boxes.after.items;
+        books = r.books;
+      })
+      (ring_in l.control) l.sound l.since l.resumes
+      (standing_of
+        (λ r. record {
+          before = map (λ b. (Device-box b).state b.value) r.boxes.before.items;
+          drive = r.drive;
+          after = map (λ b. (Device-box b).state b.value) r.boxes.after.items;
+          books = r.books;
+        })
+        l.control) };
+
+    ghost is_store = { λ l. is_store_at M.view _ _ l.sound l.since l.resumes _ M.is_medium };
+
+    fn size(&self) -> u16 {
+        self.ring().medium().size()
+    }
+
+    fn is_sound(&self) -> bool {
+        self.sound
+    }
+
+    fn left(&self) -> u32 {
+        calls_in(self.ring().spare())
+    }
+
+    fn begin(&mut self) {
+        self.clear_log();
+    }
+
+    fn resume(&mut self) -> Result<(), Trouble> {
+        self.resumes = self.resumes.saturating_add(1);
+        if self.sound {
+            return Ok(());
+        }
+        self.ready()?;
+        let idle = self.take_idle();
+        let drive = drive_of(&idle);
+        match clear(idle, drive) {
+            Ok(idle) => {
+                self.put_back(idle);
+                self.sound = true;
+                Ok(())
+            }
+            Err(lost) => Err(self.broke(lost)),
+        }
+    }
+
+    fn read(&mut self, n: u16, into: &mut [u8; 256]) -> Result<(), Trouble> {
+        self.read_run(n, into)
+    }
+
+    fn write(&mut self, n: u16, from: &[u8; 256]) -> Result<(), Trouble> {
+        self.write_run(n, 1, from)
+    }
+
+    fn read_run(&mut self, first: u16, into: &mut [u8]) -> Result<(), Trouble> {
+        let idle = self.take_idle();
+        let drive = drive_of(&idle);
+        match read_run(idle, drive, first, into) {
+            Ok((idle, true)) => {
+                self.put_back(idle);
+                Ok(())
+            }
+            Ok((idle, false)) => Err(self.failed(idle)),
+            Err(lost) => Err(self.broke(lost)),
+        }
+    }
+
+    fn write_run(&mut self, first: u16, count: u16, from: &[u8]) -> Result<(), Trouble> {
+        let idle = self.take_idle();
+        let drive = drive_of(&idle);
+        match write_run(idle, drive, first, count, from) {
+            Ok((idle, true)) => {
+                self.put_back(idle);
+                Ok(())
+            }
+            Ok((idle, false)) => Err(self.failed(idle)),
+            Err(lost) => Err(self.broke(lost)),
+        }
     }
 }

@@ -116,8 +116,8 @@ pub(crate) fn read_run<M: Medium>(
 {
     let idle = seek(idle, drive, first)?;
     let (idle, count) = idle.receive(drive, Some(2), Sot::Sda, into)?;
-    let (idle, status) = status(idle, drive)?;
-    Ok((idle, count == into.len() && status == 0))
+    let (idle, told) = status(idle, drive)?;
+    Ok((idle, count == into.len() && told == 0))
 }
 
 /// Writes `count` records from record `first` on: the bytes of `from`, filled up with zeros. Answers whether all stand; if
@@ -146,6 +146,6 @@ pub(crate) fn write_run<M: Medium>(
 {
     let idle = seek(idle, drive, first)?;
     let idle = send(idle, drive, Some(2), from, 256 * usize::from(count))?;
-    let (idle, status) = status(idle, drive)?;
-    Ok((idle, status == 0))
+    let (idle, byte) = status(idle, drive)?;
+    Ok((idle, byte == 0))
 }
