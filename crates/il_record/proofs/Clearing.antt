@@ -110,7 +110,7 @@ module _ {M : Type 0} (view : M → MediumView) (d : ℕ) (f g h : Frame) (r : R
       let left = leaves_then view r.drive a.drive s.drive (command_leaves view f r a plain_f first) (leaves_then view a.drive b.drive s.drive (command_leaves view g a b plain_g second) (command_left view h b s plain_h not)) in
       let ps : List Piece = WholeOne (Command f) ∷ WholeOne (Command g) ∷ Cut (Command h) not.broke.standing not.broke.break ∷ [] in
       let talked = talked_then view false (WholeOne (Command f) ∷ []) (WholeOne (Command g) ∷ Cut (Command h) not.broke.standing not.broke.break ∷ []) r a s idle.free (made_talked view (Command f) r a first)
-          (talked_then view false (WholeOne (Command g) ∷ []) (Cut (Command h) not.broke.standing not.broke.break ∷ []) a b s first.idle.free (made_talked view (Command g) a b second) (broken_talked view (Command h) b s not)) in
+      (talked_then view false (WholeOne (Command g) ∷ []) (Cut (Command h) not.broke.standing not.broke.break ∷ []) a b s first.idle.free (made_talked view (Command g) a b second) (broken_talked view (Command h) b s not)) in
       record {
         came = came_still view false ps [] r s talked (ends_within-broken (loop_of r) ps talked.ends) refl (λ t. refl) left.still.tape;
         unheard = others_more d r b s (others_more d r a b (others_of d r a (first.whole.unheard plain_f.no_data)) (others_of d a b (second.whole.unheard plain_g.no_data))) (others_of d b s (not.broke.unheard plain_h.no_data));
@@ -122,7 +122,7 @@ pub cleared : {M : Type 0} (view : M → MediumView) (d : ℕ) (r a b s : RingVi
 cleared view d r a b s idle low at first second third =
     let ps : List Piece = WholeOne (Command unl) ∷ WholeOne (Command (lad d)) ∷ WholeOne (Command sdc) ∷ [] in
     let talked = talked_then view true (WholeOne (Command unl) ∷ []) (WholeOne (Command (lad d)) ∷ WholeOne (Command sdc) ∷ []) r a s idle.free (made_talked view (Command unl) r a first)
-        (talked_then view true (WholeOne (Command (lad d)) ∷ []) (WholeOne (Command sdc) ∷ []) a b s first.idle.free (made_talked view (Command (lad d)) a b second) (made_talked view (Command sdc) b s third)) in
+    (talked_then view true (WholeOne (Command (lad d)) ∷ []) (WholeOne (Command sdc) ∷ []) a b s first.idle.free (made_talked view (Command (lad d)) a b second) (made_talked view (Command sdc) b s third)) in
     let one = subst (λ fs. Ran view r.drive fs first.whole.adds.answers a.drive) (command_brings view unl r a first) first.whole.adds.drive in
     let two = subst (λ fs. Ran view a.drive fs second.whole.adds.answers b.drive) (command_brings view (lad d) a b second) second.whole.adds.drive in
     let three = subst (λ fs. Ran view b.drive fs third.whole.adds.answers s.drive) (command_brings view sdc b s third) third.whole.adds.drive in

@@ -244,9 +244,9 @@ along_placed i n k (d ∷ ds) (e ∷ es) f most within placed may =
     here : e.assignment ≡ poll_place k
     here = elim (cases_lt i k) [
       | inl past ↦ (
-        placed.0.place ∙ ap (λ b. if b then poll_place k else d.assignment) (lt-leb k i past)
-        ∙ ⊎_elim (λ is. is ∙ sym (none (omega (arith, past, most, within)))) (λ is. is) may.0
-      )
+          placed.0.place ∙ ap (λ b. if b then poll_place k else d.assignment) (lt-leb k i past)
+          ∙ ⊎_elim (λ is. is ∙ sym (none (omega (arith, past, most, within)))) (λ is. is) may.0
+          )
       | inr within ↦ (placed.0.place ∙ ap (λ b. if b then poll_place k else d.assignment) (le-leb k i within))
     ]
 along_placed i n k [] (e ∷ es) f most within placed may = absurd placed

@@ -123,6 +123,7 @@ module _ {M : Type 0} (view : M → MediumView) (r : RingView M) (idle : IsIdle 
         silent = named.left.drive.silent (idle_mute s now);
         room = omega (arith, room, spent);
       }
+
   pub named_all : (i : ℕ) (ids : List (Option ℕ)) (s : RingView M) → i ≡ length (devices_of r) → NamedSo view i ids r s → AllNamed view ids r s
   named_all i ids s all so = record { ids_are = so.ids_are ∙ ap (λ n. take n (ids_of (devices_of r))) all ∙ take_all_ids (devices_of r); left = so.left }
 

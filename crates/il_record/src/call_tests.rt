@@ -130,10 +130,7 @@ fn controller(
 }
 
 /// The loop behind its addressing, and how many devices there are.
-fn addressed(
-    rt: &impl Abort,
-    lost: Lost<MemoryMedium>,
-) -> Result<(Idle<MemoryMedium>, u8), Fail>
+fn addressed(rt: &impl Abort, lost: Lost<MemoryMedium>) -> Result<(Idle<MemoryMedium>, u8), Fail>
     requires lost { IsLost (⟦<Lost<MemoryMedium> as Seen<MemoryMedium>>⟧.seen lost) }
     requires places { Each MayPoll 1 (devices_of (⟦<Lost<MemoryMedium> as Seen<MemoryMedium>>⟧.seen lost)) }
     ensures idle { IfOk result (λ told. IsIdle (⟦<Idle<MemoryMedium> as Seen<MemoryMedium>>⟧.seen told.0)) }
@@ -147,39 +144,33 @@ fn addressed(
     }
 }
 
-/// Devices before and behind the drive, and what a poll of them answers.
+/// The devices of a loop in order, the drive (D) among printers (P), callers (C) and quiet ones, and what a poll answers.
 struct Loop {
-    before: &'static [u8],
-    after: &'static [u8],
+    devices: &'static [u8],
     poll: &'static str,
 }
 
 static LOOPS: [Loop; 5] = [
     Loop {
-        before: b"",
-        after: b"",
+        devices: b"D",
         poll: "IDY 00",
     },
     Loop {
-        before: b"P",
-        after: b"QCP",
+        devices: b"PDQCP",
         poll: "ISR 08",
     },
     Loop {
-        before: b"C",
-        after: b"C",
+        devices: b"CDC",
         poll: "ISR 05",
     },
     // Thirty devices: the eighth wants service, and so do the ninth and the last, which have no bit.
     Loop {
-        before: b"QQQQPQQCCQ",
-        after: b"QQQQQQQQQQPQQQQQQQC",
+        devices: b"QQQQPQQCCQDQQQQQQQQQQPQQQQQQQC",
         poll: "ISR 80",
     },
     // None of the first eight does.
     Loop {
-        before: b"QQQQPQQ",
-        after: b"CC",
+        devices: b"QQQQPQQDCC",
         poll: "ISR 00",
     },
 ];
@@ -187,6 +178,7 @@ static LOOPS: [Loop; 5] = [
 /// The accessory ID of a device of this kind.
 fn id_of(kind: u8) -> Option<u8> {
     match kind {
+        b'D' => Some(16),
         b'P' => Some(32),
         b'C' => Some(5),
         _ => None,
@@ -194,11 +186,7 @@ fn id_of(kind: u8) -> Option<u8> {
 }
 
 /// Compares the accessory IDs of all devices.
-fn compare_names(
-    rt: &impl Abort,
-    devices: &Loop,
-    lost: Lost<MemoryMedium>,
-) -> Result<(), Fail>
+fn compare_names(rt: &impl Abort, devices: &Loop, lost: Lost<MemoryMedium>) -> Result<(), Fail>
     requires lost { IsLost (⟦<Lost<MemoryMedium> as Seen<MemoryMedium>>⟧.seen lost) }
     requires places { Each MayPoll 1 (devices_of (⟦<Lost<MemoryMedium> as Seen<MemoryMedium>>⟧.seen lost)) }
 {
@@ -209,18 +197,15 @@ fn compare_names(
         return Err(Fail::from("a fault"));
     };
     let mut want: ArrayVec<Option<u8>, 30> = ArrayVec::new();
-    for kind in devices.before {
-        assert!(rt; !want.is_full());
-        want.push(id_of(*kind));
-    }
-    assert!(rt; !want.is_full());
-    want.push(Some(16));
-    for kind in devices.after {
+    for kind in devices.devices {
         assert!(rt; !want.is_full());
         want.push(id_of(*kind));
     }
     assert_eq!(rt; ids.as_slice(), want.as_slice());
-    assert_eq!(rt; usize::from(idle.ring().party()), devices.before.len() + 1);
+    assert_eq!(rt;
+        idle.ring().paper().is_some(),
+        devices.devices.contains(&b'P')
+    );
     Ok(())
 }
 
@@ -244,14 +229,21 @@ fn names_and_polls(rt: HostRuntime) -> Result<(), Fail> {
     for devices in &LOOPS {
         for polls in [false, true] {
             let (mut before, mut after) = (Vec::new(alloc), Vec::new(alloc));
-            for (kinds, list) in [(devices.before, &mut before), (devices.after, &mut after)] {
-                for kind in kinds {
-                    let device: Box<dyn Device> = match kind {
-                        b'P' => Box::new(alloc, Printer::new(alloc)?)?,
-                        b'C' => Box::new(alloc, Caller::new())?,
-                        _ => Box::new(alloc, Quiet::new())?,
-                    };
-                    list.push(device)?;
+            let mut behind = false;
+            for kind in devices.devices {
+                let device: Box<dyn Device> = match kind {
+                    b'D' => {
+                        behind = true;
+                        continue;
+                    }
+                    b'P' => Box::new(alloc, Printer::new(alloc)?)?,
+                    b'C' => Box::new(alloc, Caller::new())?,
+                    _ => Box::new(alloc, Quiet::new())?,
+                };
+                if behind {
+                    after.push(device)?;
+                } else {
+                    before.push(device)?;
                 }
             }
             let lost = controller(&rt, before, after, &[], 1000)?;

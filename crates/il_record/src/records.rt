@@ -110,13 +110,13 @@ impl<M: Medium> Looped<M> for LoopRecords<M> {
 
     ghost looped = { λ l. record {
       control = standing_of
-        (λ r. record {
-          before = map (λ b. (Device-box b).state b.value) r.boxes.before.items;
-          drive = r.drive;
-          after = map (λ b. (Device-box b).state b.value) r.boxes.after.items;
-          books = r.books;
-        })
-        l.control;
+          (λ r. record {
+            before = map (λ b. (Device-box b).state b.value) r.boxes.before.items;
+            drive = r.drive;
+            after = map (λ b. (Device-box b).state b.value) r.boxes.after.items;
+            books = r.books;
+          })
+          l.control;
       sound = l.sound;
       since = l.since;
       resumes = l.resumes;
@@ -296,14 +296,14 @@ impl<M: Medium + Drop> Records for LoopRecords<M> {
     type Start = Option<Ring<M>>;
 
     ghost view = { λ l. view_at M.view
-      (λ r. record {
-        before = map (λ b. (Device-box b).state b.value) r.boxes.before.items;
-        drive = r.drive;
-        after = map (λ b. (Device-box b).state b.value) r.boxes.after.items;
-        books = r.books;
-      })
-      (ring_in l.control) l.sound l.since l.resumes
-      (standing_of
+        (λ r. record {
+          before = map (λ b. (Device-box b).state b.value) r.boxes.before.items;
+          drive = r.drive;
+          after = map (λ b. (Device-box b).state b.value) r.boxes.after.items;
+          books = r.books;
+        })
+        (ring_in l.control) l.sound l.since l.resumes
+        (standing_of
         (λ r. record {
           before = map (λ b. (Device-box b).state b.value) r.boxes.before.items;
           drive = r.drive;
