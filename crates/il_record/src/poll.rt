@@ -5,8 +5,8 @@ ghost use Rattle.il_ring.specs.Lists.{Each};
 ghost use Rattle.il_control.specs.Calls.{IsIdle};
 ghost use Rattle.il_record.specs.Polls.{Assigned, Collected, HasPolled, MayPoll, PollBroke};
 
-use crate::frames::{lad, ppe, ppu, unl};
-use crate::runs::drive_of;
+use crate::frames::{poll_enable, poll_unconfigure};
+use crate::runs::{drive_of, listen_address, unlisten};
 use il_control::{Idle, Lost};
 use il_frames::Frame;
 use il_ports::Medium;
@@ -21,9 +21,9 @@ fn assign<M: Medium>(idle: Idle<M>, address: u8) -> Result<Idle<M>, Lost<M>>
     ensures assigned { IfOk result (λ assigned. Assigned M.view address (⟦<Idle<M> as Seen<M>>⟧.seen idle) (⟦<Idle<M> as Seen<M>>⟧.seen assigned)) }
     ensures broken { IfErr result (λ lost. PollBroke M.view 7 (⟦<Idle<M> as Seen<M>>⟧.seen idle) (⟦<Lost<M> as Seen<M>>⟧.seen lost)) }
 {
-    let idle = idle.command(unl())?;
-    let idle = idle.command(lad(address))?;
-    idle.command(ppe(7 + address))
+    let idle = idle.command(unlisten())?;
+    let idle = idle.command(listen_address(address))?;
+    idle.command(poll_enable(7 + address))
 }
 
 /// Polls the devices that have places, and takes all places away.
@@ -34,9 +34,9 @@ fn collect<M: Medium>(idle: Idle<M>) -> Result<(Idle<M>, Frame), Lost<M>>
     ensures collected { IfOk result (λ told. Collected M.view told.1 (⟦<Idle<M> as Seen<M>>⟧.seen idle) (⟦<Idle<M> as Seen<M>>⟧.seen told.0)) }
     ensures broken { IfErr result (λ lost. PollBroke M.view 6 (⟦<Idle<M> as Seen<M>>⟧.seen idle) (⟦<Lost<M> as Seen<M>>⟧.seen lost)) }
 {
-    let idle = idle.command(unl())?;
+    let idle = idle.command(unlisten())?;
     let (idle, frame) = idle.identify()?;
-    let idle = idle.command(ppu())?;
+    let idle = idle.command(poll_unconfigure())?;
     Ok((idle, frame))
 }
 

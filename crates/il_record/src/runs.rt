@@ -19,7 +19,7 @@ use il_ports::Medium;
 use il_ring::Seen;
 
 /// Unlisten (HP-IL Interface Specification, HP 82166-90017, the table of commands).
-fn unlisten() -> Frame
+pub(crate) fn unlisten() -> Frame
     ensures frame { result ≡ unl }
     ensures command { is_command result ≡ true }
 {
@@ -27,7 +27,7 @@ fn unlisten() -> Frame
 }
 
 /// Listen address `address`, 0 to 30.
-fn listen_address(address: u8) -> Frame
+pub(crate) fn listen_address(address: u8) -> Frame
     requires { address ≤ 30 }
     ensures frame { result ≡ lad address }
     ensures command { is_command result ≡ true }
