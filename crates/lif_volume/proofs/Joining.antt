@@ -15,14 +15,17 @@ use Rattle.lif_model.proofs.Redo.{settled_twice}
 use Rattle.il_ports.specs.Stores.{RecordsView, IsReady, GoesOn}
 use Rattle.il_ports.specs.Transfers.{GoesOnBy, AddsOnly}
 use Rattle.il_ports.proofs.Stores.{goes_further, goes_within}
-use Rattle.lif_volume.specs.declared.fault.Refusal.{Refusal}
-use Rattle.lif_volume.specs.declared.fault.Refusal.TheVariants as refusal
+use Rattle.lif_plan.specs.declared.refusal.Refusal.{Refusal}
+use Rattle.lif_plan.specs.declared.refusal.Refusal.TheVariants as refusal
 use Rattle.lif_volume.specs.declared.fault.VolumeFault.{VolumeFault}
 use Rattle.lif_volume.specs.declared.fault.VolumeFault.TheVariants.{Refused, Trouble as Troubled}
-use Rattle.lif_volume.specs.Views.{VolumeView, IsOpen, IsLegalDirectory}
-use Rattle.lif_volume.specs.Answers.{reason, store_answer, keeps, Answers, IsNotLif, IsLegalAs, IsSettledAs, HasVolumeOf}
+use Rattle.lif_volume.specs.Views.{VolumeView, IsOpen}
+use Rattle.lif_plan.specs.Directories.{IsLegalDirectory}
+use Rattle.lif_plan.specs.Refusals.{reason}
+use Rattle.lif_volume.specs.Answers.{store_answer, keeps, Answers, IsNotLif, IsLegalAs, IsSettledAs, HasVolumeOf}
 use Rattle.lif_volume.specs.Commands.{fetching, Consults, mounting, mounting_on, AnswersTo, KeepsVolume}
-use Rattle.lif_volume.specs.Changing.{changes_when, version_for, IsChanged, refused_tape, IsWrittenAs, keeps_behind_command, committing, committing_on, HasEitherVolume, writes_if_any, SettlesAndWrites, AddsCommit, IsOneOf, MountsAndCommits, Writes, TurnsVolume, WritesByCommit}
+use Rattle.lif_volume.specs.Changing.{changes_when, IsChanged, refused_tape, IsWrittenAs, keeps_behind_command, committing, committing_on, HasEitherVolume, writes_if_any, SettlesAndWrites, AddsCommit, IsOneOf, MountsAndCommits, Writes, TurnsVolume, WritesByCommit}
+use Rattle.lif_plan.specs.Plans.{version_for}
 use Rattle.lif_volume.specs.Plans.{IsOfDirectory, IsWrittenOn, IsAddedOn, CarriesOutOn, CarriesOut}
 use Rattle.lif_volume.proofs.Mounting.{behind, answers_fault}
 use Rattle.lif_volume.proofs.Fetching.{legal_of}

@@ -1,9 +1,6 @@
-mod LegalExtents
-mod Found
 mod Mounting
 mod Fetching
 mod Staging
-mod Planning
 mod Carrying
 mod Joining
 mod Examples

@@ -1,6 +1,5 @@
 pub mod Views
 pub mod Answers
-pub mod Entries
 pub mod Commands
 pub mod Changing
 pub mod Plans

@@ -5,15 +5,13 @@
 #![tactic(auto)]
 
 mod changing;
-mod directory;
-mod extents;
 mod fault;
-mod plans;
 mod reading;
 mod staged;
 mod volume;
 
-pub use fault::{Refusal, VolumeFault};
+pub use fault::VolumeFault;
+pub use lif_plan::Refusal;
 pub use volume::{Fetched, Kept, Listing, Seen, Volume};
 
 #[cfg(test)]

@@ -1,12 +1,11 @@
-use crate::directory::Directory;
 use crate::fault::VolumeFault;
-use crate::plans::ENTRIES;
 use crate::reading::{read_directory, read_front};
 use crate::staged::Staged;
 use il_ports::Records;
 use lif_dir::{Name, SlotTable};
 use lif_header::Header;
 use lif_model::RECORD;
+use lif_plan::{Directory, ENTRIES};
 use lif_redo::settle;
 use std::alloc::Global;
 

@@ -12,8 +12,10 @@ use Rattle.lif_dir.specs.Entries.{name_bytes, slot_bytes}
 use Rattle.lif_volume.specs.declared.fault.VolumeFault.{VolumeFault}
 use Rattle.lif_volume.specs.declared.volume.Fetched.{Fetched}
 use Rattle.lif_volume.specs.declared.volume.Volume.{Volume}
-use Rattle.lif_volume.specs.Views.{IsLegalDirectory, IsDirectoryOf}
-use Rattle.lif_volume.specs.Answers.{reason, refused, troubled}
+use Rattle.lif_plan.specs.Directories.{IsLegalDirectory}
+use Rattle.lif_volume.specs.Views.{IsDirectoryOf}
+use Rattle.lif_plan.specs.Refusals.{reason}
+use Rattle.lif_volume.specs.Answers.{refused, troubled}
 use Rattle.il_ports.specs.declared.records.Trouble.{Trouble}
 use Rattle.il_ports.specs.Transfers.{GoesOnBy}
 use Rattle.il_ports.specs.Stores.{GoesOn}

@@ -5,7 +5,7 @@ use Rattle.lif_model.specs.Redo.{settled}
 use Rattle.il_ports.specs.Stores.{GoesOn}
 use Rattle.il_ports.proofs.Stores.{goes_further, goes_within}
 use Rattle.lif_dir.specs.Entries.{slot_bytes}
-use Rattle.lif_volume.specs.Views.{IsLegalDirectory}
+use Rattle.lif_plan.specs.Directories.{IsLegalDirectory}
 use Rattle.lif_volume.specs.Commands.{mounting, mounting_on}
 use Rattle.lif_model.specs.Legal.{is_legal}
 use Rattle.lif_volume.proofs.Mounting.{seen, stays_here, stays_settling, stays_reading, reads_behind, adds_behind, consults_nothing, kept_is_of}

@@ -1,0 +1,3 @@
+mod LegalExtents
+pub mod Found
+pub mod Planning

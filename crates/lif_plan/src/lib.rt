@@ -1,0 +1,12 @@
+//! What the commands of a LIF volume change in its directory: over the slots in memory, before
+//! anything is written.
+#![tactic(auto)]
+
+mod directory;
+mod extents;
+mod plans;
+mod refusal;
+
+pub use directory::{Directory, File};
+pub use plans::{ENTRIES, SlotChange};
+pub use refusal::Refusal;
