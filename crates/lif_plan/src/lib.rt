@@ -4,9 +4,11 @@
 
 mod directory;
 mod extents;
+mod fresh;
 mod plans;
 mod refusal;
 
 pub use directory::{Directory, File};
+pub use fresh::FreshVolume;
 pub use plans::{ENTRIES, SlotChange};
 pub use refusal::Refusal;

@@ -144,7 +144,10 @@ impl Directory {
 impl Directory {
     ghost use Rattle.lif_model.specs.Pairs.{all_pairs};
     ghost use Rattle.lif_model.specs.Legal.{is_live, have_other_names};
-    ghost use Rattle.std.specs.Prelude.{filter};
+    ghost use Rattle.std.specs.Prelude.{filter, ◌&&◌};
+    ghost use Rattle.lif_model.specs.Volume.{Volume};
+    ghost use Rattle.lif_model.specs.Redo.{One};
+    ghost use Rattle.lif_model.specs.Apply.{lacks_redo, runs_past_gate};
 
     /// What `upgrade` is to write, nothing where the redo file is of version 2, or why it is
     /// refused.
@@ -178,6 +181,30 @@ impl Directory {
                 .moved(u32::from(start), length, [0; 4]),
             ended: false,
         }))
+    }
+
+    /// Whether no slot is that of a redo file, and a live file reaches into the records that one is
+    /// to have: then `format` is refused. Live names are distinct.
+    pub fn is_in_use(&self, size: u16) -> bool
+        requires distinct { all_pairs have_other_names
+            (filter is_live (map slot_bytes self.now.table.slots)) ≡ true }
+        ensures { (v : Volume) → v.slots ≡ map slot_bytes self.now.table.slots
+            → result ≡ (lacks_redo size v && runs_past_gate size v) }
+    {
+        self.redo_version(size).is_none() && self.runs_past(Version::One.start(size), size)
+    }
+
+    /// Makes the slots in memory those of a new volume on a medium of `size` records: that of the
+    /// redo file alone.
+    pub fn renew(&mut self, size: u16)
+        requires { 0 < self.old.table.room }
+        ensures slots { self.new.table.slots ≡ slot_from (redo_entry One size) ∷ [] }
+        ensures bytes { map slot_bytes self.new.table.slots ≡ redo_entry One size ∷ [] }
+        ensures room { self.new.table.room ≡ self.old.table.room }
+    {
+        let entry = redo_entry(Version::One, size);
+        self.table.clear();
+        self.table.push(Slot::holding(entry));
     }
 
     /// The version of the redo file of a medium of `size` records, or `None` where no slot is that
@@ -277,8 +304,9 @@ fn version_of(entry: FileEntry, size: u16) -> Option<Version>
 }
 
 /// The entry of a redo file on a medium of `size` records.
-fn redo_entry(version: Version, size: u16) -> FileEntry
-    ensures { entry_bytes result ≡ redo_entry (version_of version) size }
+pub fn redo_entry(version: Version, size: u16) -> FileEntry
+    ensures entry { entry_bytes result ≡ redo_entry (version_of version) size }
+    ensures kind { result.kind ≢ 0xFFFF }
 {
     FileEntry::new(
         redo_name(),

@@ -3,4 +3,5 @@ mod Fetching
 mod Staging
 mod Carrying
 mod Joining
+mod Renewing
 mod Examples

@@ -5,7 +5,6 @@ use Rattle.lif_model.specs.Redo.{settled}
 use Rattle.lif_model.specs.Legal.{is_legal}
 use Rattle.lif_model.specs.Volume.{volume_of, is_foreign_gated}
 use Rattle.lif_model.specs.Apply.{VolumeCommand, apply}
-use Rattle.lif_model.specs.Apply as model
 use Rattle.il_ports.specs.declared.records.Trouble.{Trouble}
 use Rattle.lif_plan.specs.declared.refusal.Refusal.{Refusal}
 use Rattle.lif_plan.specs.declared.refusal.Refusal.TheVariants as refusal

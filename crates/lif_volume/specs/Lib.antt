@@ -3,4 +3,5 @@ pub mod Answers
 pub mod Commands
 pub mod Changing
 pub mod Plans
+pub mod Formatting
 pub mod Lending

@@ -9,7 +9,6 @@ use Rattle.lif_model.specs.Volume.{volume_of}
 use Rattle.lif_model.specs.Transfers.{Transfer}
 use Rattle.il_ports.specs.Stores.{RecordsView, GoesOn}
 use Rattle.lif_redo.specs.Writing.{AddsWrites}
-use Rattle.lif_redo.specs.declared.versions.Version as redo
 use Rattle.lif_volume.specs.declared.fault.VolumeFault.{VolumeFault}
 use Rattle.lif_volume.specs.declared.fault.VolumeFault.TheVariants.{Refused, Trouble as Troubled}
 use Rattle.lif_volume.specs.Views.{VolumeView}

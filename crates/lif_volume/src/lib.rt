@@ -6,6 +6,7 @@
 
 mod changing;
 mod fault;
+mod formatting;
 mod reading;
 mod staged;
 mod volume;

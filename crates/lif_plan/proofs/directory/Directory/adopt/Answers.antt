@@ -80,13 +80,13 @@ returns-clause-plan c =
       place = omega (arith, spot);
       within = omega (arith, spot, room);
       end_within = λ on. let less : suc (length slots) < 8 * c.args.header.now.length = ltb-true _ _ (sym ended ∙ on) in omega (arith, less, spot);
-      kind = not_end_kind c.redo_entry.result (search rules) (ap is_end c.redo_entry.ensures ∙ redo_end n);
+      kind = not_end_kind c.redo_entry.result (search rules) (ap is_end c.redo_entry.ensures.entry ∙ redo_end n);
       free = λ v is. adopt_is n v false false false false (ap (is_adopted n) is.same ∙ off) (ap (λ (xs : List (List ℕ)). has_file xs redo_name) is.same ∙ has)
           (lt-leb (capacity_of v.header) (length v.slots) (omega (arith, room, ap (λ (h : HeaderParts). h.length) is.told, ap length is.same)))
           (ap (λ (xs : List (List ℕ)). runs_past_gate n (record v { slots = xs })) is.same ∙ sym (past_gate n slots c.start.result c.start.ensures off) ∙ sym c.runs_past.ensures ∙ c.if-runs_past.false);
       commits = λ v is. (refl, ap (is_adopted n) is.same ∙ off);
       writes = λ v is u shape told. ap (λ (b : Bool). if b then [] else last_slot (capacity_of v.header) u (length v.slots) (redo_entry One n)) (ap (is_adopted n) is.same ∙ off)
-          ∙ last_write n c.args.header.now slots v is change spot c.redo_entry.ensures ended u told;
+          ∙ last_write n c.args.header.now slots v is change spot c.redo_entry.ensures.entry ended u told;
       after = λ v is. ap (λ (b : Bool). (if b then v else record v { slots = v.slots ++ redo_entry One n ∷ [] }).slots) (ap (is_adopted n) is.same ∙ off)
-          ∙ last_after n c.args.header.now slots v is change spot c.redo_entry.ensures ended;
+          ∙ last_after n c.args.header.now slots v is change spot c.redo_entry.ensures.entry ended;
     }
