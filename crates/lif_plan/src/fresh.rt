@@ -23,8 +23,7 @@ const ENTRY: usize = 32;
 /// Where the type of an entry stands in it.
 const TYPE: usize = 10;
 
-/// How many records of a medium a new directory leaves at least: record 0 and the next, one for a
-/// file, and those of the redo file, of which one may be the file's.
+/// How many records of a medium a new directory cannot have: two before it, and the redo file's.
 const LEFT: u16 = 6;
 
 /// A new volume: what its record 0 says, and the records that are to change.
