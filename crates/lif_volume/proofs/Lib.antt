@@ -7,3 +7,5 @@ mod Planning
 mod Carrying
 mod Joining
 mod Examples
+mod ExamplesChanging
+mod ExamplesPlans
