@@ -5,3 +5,5 @@ mod Carrying
 mod Joining
 mod Renewing
 mod Examples
+mod ExamplesChanging
+mod ExamplesPlans

@@ -26,6 +26,25 @@ use Rattle.lif_volume.proofs.Mounting.{seen, behind, kept_is_of, stays_reading, 
 use Rattle.lif_volume.proofs.Fetching.{legal_of, file_ready, file_within, file_room, file_goes_on, file_few, open_reading, ends_with_read, run_behind, file_is_fetched}
 use Rattle.lif_volume.proofs.volume.Volume.fetch.Goals as goal
 
+pub returns-in_err-file-clause-consults : goal.returns-in_err-file-clause-consults
+returns-in_err-file-clause-consults g c =
+    let is : c.from_residual-in_err-file.result ≡ Err (refused c.in_err-file.field-0.0) = search rules in
+    let x = seen c.args.self.now in
+    let y = seen c.mount.new.self in
+    let view = g.R.Records.view in
+    let n = (view c.args.self.now.records).record_count in
+    let e = c.in_ok-mount.ensures in
+    let header : HeaderParts = c.in_ok-mount.field-0 in
+    let failed : Result Fetched VolumeFault = Err (refused c.in_err-file.field-0.0) in
+    rw is (record {
+      goes_on = goes_within (mounting n x.kept (Some header)) (fetching n (name_bytes c.args.name.now) x.kept (map slot_bytes x.slots) failed) _ _ _
+          (fetch_bound n (name_bytes c.args.name.now) x.kept header (map slot_bytes x.slots) failed (long_there view x y header e.kept e.consults e.open))
+          (subst (λ (o : Option HeaderParts). GoesOn {T = Unit {0}} (mounting n x.kept o) (view x.records) (view y.records) (Ok tt)) e.kept e.consults.goes_on);
+      few = λ t told. omega (arith, e.consults.few t told);
+      settles = e.consults.settles;
+      kept = e.consults.kept ∙ sym c.in_err-file.ensures.known;
+    })
+
 pub read_front-requires-clause-ready : goal.read_front-requires-clause-ready
 read_front-requires-clause-ready g c =
     let x = seen c.args.self.now in
@@ -77,25 +96,6 @@ returns-in_err-file-clause-answers g c =
     let size : c.size.result ≡ n = c.size.ensures ∙ e.consults.goes_on.continues.size in
     rw is (answers_refused n t u (behind t u _ now (e.consults.settles t told)) (Fetch (name_bytes c.args.name.now)) (reason c.in_err-file.field-0.0) (e.exactly t told)
     (λ v same. ap (λ (m : ℕ). refusal_of m (Fetch (name_bytes c.args.name.now)) (Some v)) (sym size) ∙ c.in_err-file.ensures.refusal v (same ∙ sym on.directory.bytes)))
-
-pub returns-in_err-file-clause-consults : goal.returns-in_err-file-clause-consults
-returns-in_err-file-clause-consults g c =
-    let is : c.from_residual-in_err-file.result ≡ Err (refused c.in_err-file.field-0.0) = search rules in
-    let x = seen c.args.self.now in
-    let y = seen c.mount.new.self in
-    let view = g.R.Records.view in
-    let n = (view c.args.self.now.records).record_count in
-    let e = c.in_ok-mount.ensures in
-    let header : HeaderParts = c.in_ok-mount.field-0 in
-    let failed : Result Fetched VolumeFault = Err (refused c.in_err-file.field-0.0) in
-    rw is (record {
-      goes_on = goes_within (mounting n x.kept (Some header)) (fetching n (name_bytes c.args.name.now) x.kept (map slot_bytes x.slots) failed) _ _ _
-          (fetch_bound n (name_bytes c.args.name.now) x.kept header (map slot_bytes x.slots) failed (long_there view x y header e.kept e.consults e.open))
-          (subst (λ (o : Option HeaderParts). GoesOn {T = Unit {0}} (mounting n x.kept o) (view x.records) (view y.records) (Ok tt)) e.kept e.consults.goes_on);
-      few = λ t told. omega (arith, e.consults.few t told);
-      settles = e.consults.settles;
-      kept = e.consults.kept ∙ sym c.in_err-file.ensures.known;
-    })
 
 pub returns-in-Err-clause-consults : goal.returns-in-Err-clause-consults
 returns-in-Err-clause-consults g c =
