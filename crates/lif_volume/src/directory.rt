@@ -13,6 +13,9 @@ ghost use Rattle.lif_redo.specs.Reading.{version_of};
 ghost use Rattle.lif_dir.specs.Entries.{name_bytes, entry_bytes, slot_bytes};
 ghost use Rattle.lif_volume.specs.Answers.{reason, keeps_behind};
 ghost use Rattle.lif_volume.specs.Entries.{IsFileOf};
+ghost use Rattle.std.specs.Prelude.{◌∷◌};
+ghost use Rattle.lif_volume.specs.Changing.{IsAmong};
+ghost use Rattle.lif_volume.specs.declared.fault.Refusal.TheVariants as refusal;
 
 use crate::extents::{Extent, follow_each_other, gather, lie_within, sort_by_start};
 use crate::fault::Refusal;
@@ -86,6 +89,7 @@ impl Directory {
             × (slot_named (map slot_bytes self.now.table.slots) (name_bytes name.now)
             ≡ Some slot)
             × IsFileOf slot file) }
+        ensures only { IfErr result (IsAmong (refusal.Protected ∷ refusal.NoFile ∷ [])) }
         ensures known { IfErr result (λ refusal. keeps_behind refusal ≡ true) }
     {
         if name.bytes() == *REDO_NAME && self.is_adopted(size) {
