@@ -11,8 +11,10 @@ ghost use Rattle.lif_model.specs.Volume.{Volume, is_redo_entry, is_redo_file, is
 ghost use Rattle.lif_model.specs.Apply.{Fetch, refusal_of};
 ghost use Rattle.lif_redo.specs.Reading.{version_of};
 ghost use Rattle.lif_dir.specs.Entries.{name_bytes, entry_bytes, slot_bytes};
-ghost use Rattle.lif_plan.specs.Refusals.{reason, keeps_behind};
+ghost use Rattle.lif_plan.specs.Refusals.{IsAmong, reason, keeps_behind};
 ghost use Rattle.lif_plan.specs.Entries.{IsFileOf};
+ghost use Rattle.lif_plan.specs.declared.refusal.Refusal.TheVariants as refusal;
+ghost use Rattle.std.specs.Prelude.{◌∷◌};
 
 use crate::extents::{Extent, follow_each_other, gather, lie_within, sort_by_start};
 use crate::refusal::Refusal;
@@ -86,6 +88,7 @@ impl Directory {
             × (slot_named (map slot_bytes self.now.table.slots) (name_bytes name.now)
             ≡ Some slot)
             × IsFileOf slot file) }
+        ensures only { IfErr result (IsAmong (refusal.Protected ∷ refusal.NoFile ∷ [])) }
         ensures known { IfErr result (λ refusal. keeps_behind refusal ≡ true) }
     {
         if name.bytes() == *REDO_NAME && self.is_adopted(size) {

@@ -1,15 +1,15 @@
 -- Worked examples of what commands change, computed by the checker, on a tape of twelve records: the
 -- directory is records 2 and 3, files begin at record 4, and the redo file at record 8.
-use Rattle.std.proofs.Common.{◌≡◌, ◌++◌, inl, inr, ℕ, List, [], ◌∷◌, true, false, refl, ap, arith, codes}
+use Rattle.std.proofs.Common.{◌≡◌, ◌<◌, ◌++◌, inl, inr, ℕ, zero, suc, List, [], ◌∷◌, true, false, refl, ap, arith, codes}
 use Rattle.std.specs.Prelude.{Option, Some, None, Ok, Err, replicate, get_or}
 use Rattle.std.specs.FinMap.{empty}
 use Rattle.lif_model.specs.Numbers.{two_at, four_at}
-use Rattle.lif_model.specs.Tape.{Tape}
+use Rattle.lif_model.specs.Tape.{Tape, record_at}
 use Rattle.lif_model.specs.Gate.{is_open}
 use Rattle.lif_model.specs.Directory.{name_of, entry_at, entries_of}
 use Rattle.lif_model.specs.Made.{new_entry, with_type, first_directory_record, fresh_header}
 use Rattle.lif_model.specs.Shelf.{piece}
-use Rattle.lif_model.specs.Redo.{One, Two, Changes, open_gate, zeros, targets_record, is_valid}
+use Rattle.lif_model.specs.Redo.{One, Two, Changes, changed, open_gate, zeros, targets_record, is_valid}
 use Rattle.lif_model.specs.Volume.{Volume}
 use Rattle.lif_model.specs.Apply.{Dir, Rename, Purge, Adopt, Upgrade, Format}
 use Rattle.lif_model.specs.Writing.{with_entry}
@@ -77,6 +77,30 @@ not_another is = let byte : 0 ≡ 1 = ap second_kind is in absurd (omega (arith,
   where
     second_kind : Tape → ℕ
     second_kind tape = get_or (get_or tape 2 []) 11 0
+
+-- the record of the directory is as it is to be, and the gate is zeros
+abbrev purged_tape : Tape
+purged_tape = tape without_a base.blank (numbered 9) (numbered 10)
+
+changed_tape : IsChanged One ((2, base.filled without_a) ∷ []) old purged_tape
+unfolding zeros with_type
+changed_tape = record { records = refl; below = below; gate = refl }
+  where
+    below : (k : ℕ) → k < 8 → record_at purged_tape k ≡ record_at (changed ((2, base.filled without_a) ∷ []) old) k
+    below zero lt = refl
+    below (suc zero) lt = refl
+    below (suc (suc zero)) lt = refl
+    below (suc (suc (suc zero))) lt = refl
+    below (suc (suc (suc (suc zero)))) lt = refl
+    below (suc (suc (suc (suc (suc zero))))) lt = refl
+    below (suc (suc (suc (suc (suc (suc zero)))))) lt = refl
+    below (suc (suc (suc (suc (suc (suc (suc zero))))))) lt = refl
+    below (suc (suc (suc (suc (suc (suc (suc (suc k)))))))) lt = absurd (omega (arith, lt))
+
+-- not where the gate is left open
+not_shut : IsChanged One ((2, base.filled without_a) ∷ []) old (tape without_a (base.filled (codes "LIFREDO1 OPEN   ")) (numbered 9) (numbered 10)) → ⊥
+unfolding zeros with_type
+not_shut ended = let gate : base.filled (codes "LIFREDO1 OPEN   ") ≡ base.blank = ended.gate in cc
 
 -- ---- refusals
 

@@ -10,7 +10,8 @@ use Rattle.lif_model.specs.Directory.{name_of, entry_at}
 use Rattle.lif_model.specs.Made.{with_type}
 use Rattle.lif_model.specs.Redo.{One, Two, Changes}
 use Rattle.lif_model.specs.Volume.{Volume}
-use Rattle.lif_model.specs.Apply.{Dir, Rename, Purge, Adopt, Upgrade, Format}
+use Rattle.lif_model.specs.Apply.{Dir, Rename, Purge, Adopt, Upgrade, Format, refusal_of}
+use Rattle.lif_model.specs.Header.{HeaderParts}
 use Rattle.lif_model.specs.Writing.{with_entry, changes_by}
 use Rattle.lif_model.proofs.Examples as base
 use Rattle.lif_model.proofs.VolumeExamples.{file, purged, a_name, b_name, numbered}
@@ -20,7 +21,7 @@ use Rattle.lif_dir.specs.declared.entries.FileEntry.{FileEntry}
 use Rattle.lif_plan.specs.declared.plans.SlotChange.{SlotChange}
 use Rattle.lif_plan.specs.declared.refusal.Refusal.TheVariants as refusal
 use Rattle.lif_volume.specs.declared.fault.VolumeFault.TheVariants.{Refused}
-use Rattle.lif_plan.specs.Plans.{IsVersionOf, IsVersionOfEntry, CommitsWith, reaches_past, change_writes, slots_with, bytes_with}
+use Rattle.lif_plan.specs.Plans.{IsVersionOf, IsVersionOfEntry, IsPlan, CommitsWith, reaches_past, change_writes, slots_with, bytes_with}
 use Rattle.lif_volume.specs.Plans.{BroughtIn, there, read, IsStagedAs, AreOthers, IsOfDirectory, IsWrittenOn}
 
 -- the redo file of version 1 on a tape of twelve records, and of version 2 on one of 44
@@ -107,6 +108,28 @@ writes = (refl, refl)
 slots : (bytes_with first (a_file ∷ redo_one ∷ []) ≡ file b_name 4 1 ∷ redo_one ∷ []) × (bytes_with second (a_file ∷ []) ≡ a_file ∷ file b_name 4 1 ∷ [])
     × (slots_with second (slot_of b_entry ∷ []) ≡ slot_of b_entry ∷ slot_of b_entry ∷ [])
 slots = (refl, refl, refl)
+
+-- ---- plans
+
+abbrev header : HeaderParts
+header = record { label = codes "HPTAPE"; start = 2; length = 2 }
+
+-- without a redo file nothing is purged
+refused : IsPlan 12 (Purge a_name) header (a_file ∷ []) (Err refusal.NoRedo)
+unfolding four_at two_at name_of
+refused = record { refused = λ v is. ap (λ (slots : List (List ℕ)). refusal_of 12 (Purge a_name) (Some (record v { slots = slots }))) is.same; known = refl }
+
+-- a name that is not there is not purged, and not that of the redo file
+refused_too : IsPlan 12 (Purge b_name) header (a_file ∷ redo_one ∷ []) (Err refusal.NoFile) × IsPlan 12 (Purge (codes "REDOFILE  ")) header (a_file ∷ redo_one ∷ []) (Err refusal.Protected)
+unfolding four_at two_at name_of
+refused_too = (
+  record { refused = λ v is. ap (λ (slots : List (List ℕ)). refusal_of 12 (Purge b_name) (Some (record v { slots = slots }))) is.same; known = refl },
+  record { refused = λ v is. ap (λ (slots : List (List ℕ)). refusal_of 12 (Purge (codes "REDOFILE  ")) (Some (record v { slots = slots }))) is.same; known = refl },
+)
+
+-- where the directory is not kept it is no plan
+not_planned : IsPlan 12 (Purge b_name) header (a_file ∷ redo_one ∷ []) (Err refusal.NotLif) → ⊥
+not_planned plan = let kept : false ≡ true = plan.known in cc
 
 -- ---- records that are set aside
 

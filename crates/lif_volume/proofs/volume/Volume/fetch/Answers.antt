@@ -1,4 +1,4 @@
-use Rattle.std.proofs.Common.{◌≡◌, ◌*◌, ℕ, List, length, map, refl, sym, ap, subst, ◌∙◌, arith, rules}
+use Rattle.std.proofs.Common.{◌≡◌, ◌*◌, inr, ℕ, List, [], ◌∷◌, length, map, refl, sym, ap, subst, ◌∙◌, arith, rules}
 use Rattle.std.specs.Prelude.{Option, Some, Result, Ok, Err, IfSome, take}
 use Rattle.lif_model.specs.Tape.{Tape}
 use Rattle.lif_model.specs.Header.{HeaderParts}
@@ -21,7 +21,8 @@ use Rattle.il_ports.specs.Transfers.{GoesOnBy}
 use Rattle.il_ports.specs.Stores.{GoesOn}
 use Rattle.il_ports.proofs.Stores.{goes_within}
 use Rattle.lif_volume.specs.Commands.{EndsWithRead, mounting, fetching}
-use Rattle.lif_volume.proofs.Joining.{long_there, fetch_bound}
+use Rattle.lif_plan.specs.declared.refusal.Refusal.TheVariants as refusal
+use Rattle.lif_volume.proofs.Joining.{long_there, fetch_bound, not_lif_only}
 use Rattle.lif_volume.proofs.Mounting.{seen, behind, kept_is_of, stays_reading, answers_refused, answers_fetch}
 use Rattle.lif_volume.proofs.Fetching.{legal_of, file_ready, file_within, file_room, file_goes_on, file_few, open_reading, ends_with_read, run_behind, file_is_fetched}
 use Rattle.lif_volume.proofs.volume.Volume.fetch.Goals as goal
@@ -233,3 +234,13 @@ returns-clause-transfers g c =
     let old = (view c.args.self.now.records).transferred in
     run_behind P c.in_ok-file.file.first c.in_ok-file.file.count _ old _ (view c.read_front.new.records).transferred (e.transfers t told) c.in_default.ensures.run
     (λ none. subst (λ (r : g.row.R.Denot). GoesOnBy P old (view r).transferred) (sym (c.in_default.ensures.none none).1) (e.transfers t told))
+
+pub returns-in_err-mount-clause-only : goal.returns-in_err-mount-clause-only
+returns-in_err-mount-clause-only g c =
+    let is : c.from_residual.result ≡ Err c.in_err-mount.field-0.0 = search rules in
+    rw is (not_lif_only (refusal.Protected ∷ refusal.NoFile ∷ []) c.in_err-mount.field-0.0 c.in_err-mount.ensures.only)
+
+pub returns-in_err-file-clause-only : goal.returns-in_err-file-clause-only
+returns-in_err-file-clause-only g c =
+    let is : c.from_residual-in_err-file.result ≡ Err (refused c.in_err-file.field-0.0) = search rules in
+    rw is (inr c.in_err-file.ensures.only)
