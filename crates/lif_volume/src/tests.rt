@@ -3,7 +3,7 @@ ghost use Rattle.lif_volume.specs.Views.{IsOpen};
 
 use crate::{Fetched, Listing, Refusal, Seen, Volume, VolumeFault};
 use il_ports::{MemoryRecords, Records, Trouble};
-use lif_dir::{Name, NewName};
+use lif_dir::{Name, NewLabel, NewName};
 use lif_model::RECORD;
 use std::alloc::{AllocError, Global};
 use std::process::Abort;
@@ -309,9 +309,10 @@ fn protects_the_redo_file_and_forgets_after_a_trouble(rt: HostRuntime) -> Result
     Ok(())
 }
 
-/// A command that changes the directory.
+/// A command that changes a volume.
 #[derive(Clone, Copy, Debug)]
 enum Step<'a> {
+    Format(&'a [u8], u16),
     Purge(&'a [u8]),
     Rename(&'a [u8], &'a [u8]),
     Adopt,
@@ -331,6 +332,13 @@ fn change_now<R: Records>(
     assert!(rt; volume.records().is_sound());
     assert!(rt; 2 * size + 40 <= volume.records().left());
     match step {
+        Step::Format(label, slots) => {
+            assert!(rt; 0 < slots);
+            match NewLabel::of(label) {
+                Some(label) => volume.format(&label, slots),
+                None => Ok(()),
+            }
+        }
         Step::Purge(name) => match Name::of(name) {
             Some(name) => volume.purge(&name),
             None => Ok(()),
@@ -357,6 +365,8 @@ const NO_FILE: Result<(), VolumeFault> = Err(VolumeFault::Refused(Refusal::NoFil
 const EXISTS: Result<(), VolumeFault> = Err(VolumeFault::Refused(Refusal::Exists));
 
 const IN_USE: Result<(), VolumeFault> = Err(VolumeFault::Refused(Refusal::InUse));
+
+const NO_ROOM: Result<(), VolumeFault> = Err(VolumeFault::Refused(Refusal::NoRoom));
 
 /// A file in the last record but one, and one in record 480.
 const LATE: &[u8] = b"L         \0\x01\0\0\x01\xFE\0\0\0\x01\0\0\0\0\0\0\x80\x01\0\0\0\0";
@@ -440,30 +450,55 @@ const ROWS: [Row; 17] = [
     (&[FILE, REDO_TWO], Step::Upgrade, Ok(()), &[FILE, REDO_TWO]),
 ];
 
-/// A tape with this directory and an end behind it.
+/// A tape with this header and this directory, and an end behind it.
 fn tape_with(
     rt: &impl Abort,
     alloc: Global,
+    header: &[u8],
     slots: &[&[u8]],
 ) -> Result<Vec<[u8; 256]>, AllocError> {
     assert!(rt; slots.len() < 8);
-    let mut tape = tape_of(rt, alloc, 512, HEADER, slots, &[])?;
+    let mut tape = tape_of(rt, alloc, 512, header, slots, &[])?;
     put(rt, &mut tape, 2, 32 * slots.len(), END);
     Ok(tape)
+}
+
+/// Whether `dir` lists these slots, of a volume with this record 0; or no volume, where that is
+/// empty.
+fn shows(
+    rt: &impl Abort,
+    volume: &mut Volume<MemoryRecords>,
+    header: &[u8],
+    slots: &[&[u8]],
+) -> bool
+    requires { IsOpen ⟦<MemoryRecords as Records>⟧.view
+        (⟦<Volume<MemoryRecords> as Seen<MemoryRecords>>⟧.seen volume.old) }
+    ensures { IsOpen ⟦<MemoryRecords as Records>⟧.view
+        (⟦<Volume<MemoryRecords> as Seen<MemoryRecords>>⟧.seen volume.new) }
+{
+    let answer = dir_now(rt, volume);
+    if header.is_empty() {
+        return !volume.is_kept() && answer == Err(VolumeFault::Refused(Refusal::NotLif));
+    }
+    let front = match volume.records().records().get(0) {
+        Some(record) => record.starts_with(header),
+        None => false,
+    };
+    answer.is_ok() && volume.is_kept() && front && holds(volume, slots)
 }
 
 #[test]
 fn changes_the_directory(rt: HostRuntime) -> Result<(), Fail> {
     let alloc = rt.alloc();
     for (slots, step, answer, behind) in ROWS {
-        let mut volume = open_now(&rt, alloc, tape_with(&rt, alloc, slots)?, Vec::new(alloc))?;
+        let tape = tape_with(&rt, alloc, HEADER, slots)?;
+        let mut volume = open_now(&rt, alloc, tape, Vec::new(alloc))?;
         assert_eq!(rt; change_now(&rt, &mut volume, step), answer);
         assert!(rt; volume.is_kept() && holds(&volume, behind));
         assert!(rt; slots != behind || volume.records().writes().is_empty());
         // The same as it is read again.
         assert_eq!(rt; resume_now(&rt, &mut volume), Ok(()));
-        dir_now(&rt, &mut volume)?;
-        assert!(rt; holds(&volume, behind));
+        assert!(rt; shows(&rt, &mut volume, HEADER, behind));
     }
     // A tape of zeros is no volume.
     let blank = tape_of(&rt, alloc, 512, b"", &[], &[])?;
@@ -478,63 +513,295 @@ fn changes_the_directory(rt: HostRuntime) -> Result<(), Fail> {
     Ok(())
 }
 
-/// The slots before a command, the command, and the slots behind it, which another commit makes.
-const TURNS: [(&[&[u8]], Step<'static>, &[&[u8]]); 5] = [
-    (&[FILE, REDO], Step::Purge(b"A"), &[PURGED, REDO]),
-    (&[FILE, REDO], Step::Rename(b"A", b"B"), &[RENAMED, REDO]),
+/// The header that is formatted with another label, of a longer directory, and of a disc; and the
+/// redo file of a disc.
+const SECOND_HEADER: &[u8] =
+    b"\x80\0SECOND\0\0\0\x02\x10\0\0\0\0\0\0\x01\0\x01\0\0\0\0\0\x02\0\0\0\x01\0\0\x01\0";
+
+const LONG_HEADER: &[u8] =
+    b"\x80\0HPTAPE\0\0\0\x02\x10\0\0\0\0\0\x01\xFA\0\x01\0\0\0\0\0\x02\0\0\0\x01\0\0\x01\0";
+
+const DISC_HEADER: &[u8] =
+    b"\x80\0HPDISC\0\0\0\x02\x10\0\0\0\0\0\0\x10\0\x01\0\0\0\0\0\x4D\0\0\0\x02\0\0\0\x10";
+
+const LONG_DISC_HEADER: &[u8] =
+    b"\x80\0HPDISC\0\0\0\x02\x10\0\0\0\0\0\x09\x9A\0\x01\0\0\0\0\0\x4D\0\0\0\x02\0\0\0\x10";
+
+const DISC_REDO: &[u8] = b"REDOFILE  \xE0\xD0\0\0\x09\x9C\0\0\0\x04\0\0\0\0\0\0\x80\x01\0\0\0\0";
+
+/// How many records a medium has, its header and its slots, what is formatted, the answer, and the
+/// header and the slots behind it.
+type Formatted = (
+    usize,
+    &'static [u8],
+    &'static [&'static [u8]],
+    Step<'static>,
+    Result<(), VolumeFault>,
+    &'static [u8],
+    &'static [&'static [u8]],
+);
+
+const FORMATS: [Formatted; 9] = [
     (
-        &[FILE, REDO_TWO],
-        Step::Rename(b"A", b"B"),
-        &[RENAMED, REDO_TWO],
+        512,
+        b"",
+        &[],
+        Step::Format(b"HPTAPE", 4049),
+        NO_ROOM,
+        b"",
+        &[],
     ),
-    (&[FILE], Step::Adopt, &[FILE, REDO]),
-    (&[FILE, REDO], Step::Upgrade, &[FILE, REDO_TWO]),
+    (
+        512,
+        b"",
+        &[],
+        Step::Format(b"HPTAPE", 16),
+        Ok(()),
+        HEADER,
+        &[REDO],
+    ),
+    (
+        512,
+        HEADER,
+        &[REDO],
+        Step::Format(b"HPTAPE", 4049),
+        NO_ROOM,
+        HEADER,
+        &[REDO],
+    ),
+    (
+        512,
+        HEADER,
+        &[FILE, REDO_TWO],
+        Step::Format(b"HPTAPE", 4048),
+        Ok(()),
+        LONG_HEADER,
+        &[REDO],
+    ),
+    (
+        512,
+        FOREIGN_HEADER,
+        &[PROGRAM, LAST],
+        Step::Format(b"HPTAPE", 8),
+        IN_USE,
+        FOREIGN_HEADER,
+        &[PROGRAM, LAST],
+    ),
+    (
+        512,
+        FOREIGN_HEADER,
+        &[PROGRAM, LAST],
+        Step::Format(b"HPTAPE", 4049),
+        NO_ROOM,
+        FOREIGN_HEADER,
+        &[PROGRAM, LAST],
+    ),
+    (
+        2464,
+        b"",
+        &[],
+        Step::Format(b"HPDISC", 19665),
+        NO_ROOM,
+        b"",
+        &[],
+    ),
+    (
+        2464,
+        b"",
+        &[],
+        Step::Format(b"HPDISC", 128),
+        Ok(()),
+        DISC_HEADER,
+        &[DISC_REDO],
+    ),
+    (
+        2464,
+        HEADER,
+        &[REDO],
+        Step::Format(b"HPDISC", 19664),
+        Ok(()),
+        LONG_DISC_HEADER,
+        &[DISC_REDO],
+    ),
 ];
 
-/// How many records each of them reads and writes: the gate, record 0 and the directory; the
-/// directory and the gate again for the commit; and its five writes.
-const CALLS: u64 = 10;
-
-/// The tape with these slots behind the first `k` writes, torn within the next.
-fn left_behind(
+/// A medium with this header and this directory, an end behind it, a gate that is open with targets
+/// that are not valid, and bytes in records 3 and 500.
+fn medium_of(
     rt: &impl Abort,
     alloc: Global,
+    size: usize,
+    header: &[u8],
     slots: &[&[u8]],
-    writes: &[(u16, [u8; 256])],
-    k: usize,
-    torn: &[u8; 256],
 ) -> Result<Vec<[u8; 256]>, AllocError> {
-    let mut left = tape_with(rt, alloc, slots)?;
-    for (n, bytes) in writes.iter().take(k) {
-        put(rt, &mut left, usize::from(*n), 0, bytes);
-    }
-    if let Some((n, _)) = writes.get(k) {
-        put(rt, &mut left, usize::from(*n), 0, torn);
-    }
-    Ok(left)
+    assert!(rt; 4 < size && slots.len() < 8);
+    let others = [
+        (3, [7; RECORD].as_slice()),
+        (500, PROGRAM),
+        (size - 4, GATE),
+        (size - 3, TARGETS_THREE),
+    ];
+    let mut medium = tape_of(rt, alloc, size, header, slots, &others)?;
+    put(rt, &mut medium, 2, 32 * slots.len(), END);
+    Ok(medium)
 }
 
 #[test]
-fn a_stop_leaves_the_old_or_the_new_directory(rt: HostRuntime) -> Result<(), Fail> {
+fn formats_any_tape(rt: HostRuntime) -> Result<(), Fail> {
+    let alloc = rt.alloc();
+    for (size, header, slots, step, answer, header_behind, slots_behind) in FORMATS {
+        let mut medium = medium_of(&rt, alloc, size, header, slots)?;
+        put(&rt, &mut medium, 2, 200, b"old");
+        let mut volume = open_now(&rt, alloc, medium, Vec::new(alloc))?;
+        assert!(rt; shows(&rt, &mut volume, header, slots));
+        let left = volume.records().left();
+        assert_eq!(rt; change_now(&rt, &mut volume, step), answer);
+        // A refusal leaves all as it was; it is told without a call, as the directory is kept.
+        assert!(rt; answer.is_ok() || volume.records().left() == left);
+        assert_eq!(rt; volume.is_kept(), !header_behind.is_empty());
+        let mut behind = medium_of(&rt, alloc, size, header_behind, slots_behind)?;
+        if answer.is_ok() {
+            // The gate again, two contents, the targets, the gate twice, record 0 and record 2.
+            assert_eq!(rt; volume.records().writes().len(), 8);
+            put(&rt, &mut behind, size - 4, 0, &[0; RECORD]);
+        } else {
+            put(&rt, &mut behind, 2, 200, b"old");
+        }
+        for n in 0..size - 3 {
+            assert_eq!(rt; volume.records().records().get(n), behind.get(n));
+        }
+        assert_eq!(rt; resume_now(&rt, &mut volume), Ok(()));
+        assert!(rt; shows(&rt, &mut volume, header_behind, slots_behind));
+    }
+    Ok(())
+}
+
+/// The header and the slots before a command, the command, and the header and the slots behind it,
+/// which another commit makes; how many records change, and how many records are read before them.
+type Turn = (
+    &'static [u8],
+    &'static [&'static [u8]],
+    Step<'static>,
+    &'static [u8],
+    &'static [&'static [u8]],
+    usize,
+    usize,
+);
+
+/// What is read is the gate, record 0 and the directory; and for the commit the directory, where it
+/// is changed, and the gate. A tape without a header has no directory to be read.
+const TURNS: [Turn; 8] = [
+    (
+        HEADER,
+        &[FILE, REDO],
+        Step::Purge(b"A"),
+        HEADER,
+        &[PURGED, REDO],
+        1,
+        5,
+    ),
+    (
+        HEADER,
+        &[FILE, REDO],
+        Step::Rename(b"A", b"B"),
+        HEADER,
+        &[RENAMED, REDO],
+        1,
+        5,
+    ),
+    (
+        HEADER,
+        &[FILE, REDO_TWO],
+        Step::Rename(b"A", b"B"),
+        HEADER,
+        &[RENAMED, REDO_TWO],
+        1,
+        5,
+    ),
+    (HEADER, &[FILE], Step::Adopt, HEADER, &[FILE, REDO], 1, 5),
+    (
+        HEADER,
+        &[FILE, REDO],
+        Step::Upgrade,
+        HEADER,
+        &[FILE, REDO_TWO],
+        1,
+        5,
+    ),
+    (
+        HEADER,
+        &[FILE, REDO_TWO],
+        Step::Format(b"SECOND", 8),
+        SECOND_HEADER,
+        &[REDO],
+        2,
+        4,
+    ),
+    (
+        FOREIGN_HEADER,
+        &[PROGRAM],
+        Step::Format(b"SECOND", 8),
+        SECOND_HEADER,
+        &[REDO],
+        2,
+        4,
+    ),
+    (
+        b"",
+        &[FILE],
+        Step::Format(b"SECOND", 8),
+        SECOND_HEADER,
+        &[REDO],
+        2,
+        3,
+    ),
+];
+
+/// The tape behind the first `k` writes, torn within the next.
+fn stopped(
+    rt: &impl Abort,
+    mut tape: Vec<[u8; 256]>,
+    writes: &[(u16, [u8; 256])],
+    k: usize,
+    torn: &[u8; 256],
+) -> Vec<[u8; 256]> {
+    for (n, bytes) in writes.iter().take(k) {
+        put(rt, &mut tape, usize::from(*n), 0, bytes);
+    }
+    if let Some((n, _)) = writes.get(k) {
+        put(rt, &mut tape, usize::from(*n), 0, torn);
+    }
+    tape
+}
+
+#[test]
+fn a_stop_leaves_the_old_or_the_new_volume(rt: HostRuntime) -> Result<(), Fail> {
     let alloc = rt.alloc();
     let mut gate = [0; RECORD];
     gate[..GATE.len()].copy_from_slice(GATE);
-    for (old, step, new) in TURNS {
-        let mut volume = open_now(&rt, alloc, tape_with(&rt, alloc, old)?, Vec::new(alloc))?;
+    for (header, slots, step, header_behind, slots_behind, changed, reads) in TURNS {
+        let tape = tape_with(&rt, alloc, header, slots)?;
+        let mut volume = open_now(&rt, alloc, tape, Vec::new(alloc))?;
         assert_eq!(rt; change_now(&rt, &mut volume, step), Ok(()));
-        assert!(rt; holds(&volume, new));
+        assert!(rt; shows(&rt, &mut volume, header_behind, slots_behind));
         let records = volume.into_records();
-        // The content, the targets, the gate, the directory, and the gate again. The gate opens
-        // with the third.
-        assert_eq!(rt; records.writes().len(), 5);
-        assert_eq!(rt; u64::from(records.left()) + CALLS, 10000);
-        for k in 0..6 {
+        // The contents, the targets, the gate, the records in place, and the gate again.
+        assert_eq!(rt; records.writes().len(), 2 * changed + 3);
+        let calls = reads + records.writes().len();
+        assert_eq!(rt; records.left() as usize + calls, 10000);
+        for k in 0..records.writes().len() + 1 {
             for (torn, opens) in [([0; RECORD], false), ([0xFF; RECORD], false), (gate, true)] {
-                let left = left_behind(&rt, alloc, old, records.writes(), k, &torn)?;
-                let mut stopped = open_now(&rt, alloc, left, Vec::new(alloc))?;
-                dir_now(&rt, &mut stopped)?;
-                let slots = if k > 2 || k == 2 && opens { new } else { old };
-                assert!(rt; holds(&stopped, slots));
+                let tape = tape_with(&rt, alloc, header, slots)?;
+                let tape = stopped(&rt, tape, records.writes(), k, &torn);
+                let mut volume = open_now(&rt, alloc, tape, Vec::new(alloc))?;
+                let is_new = k > changed + 1 || k == changed + 1 && opens;
+                assert!(rt;
+                    if is_new {
+                        shows(&rt, &mut volume, header_behind, slots_behind)
+                    } else {
+                        shows(&rt, &mut volume, header, slots)
+                    }
+                );
             }
         }
     }
@@ -542,19 +809,22 @@ fn a_stop_leaves_the_old_or_the_new_directory(rt: HostRuntime) -> Result<(), Fai
 }
 
 #[test]
-fn a_trouble_leaves_the_old_or_the_new_directory(rt: HostRuntime) -> Result<(), Fail> {
+fn a_trouble_leaves_the_old_or_the_new_volume(rt: HostRuntime) -> Result<(), Fail> {
     let alloc = rt.alloc();
     let trouble = Err(VolumeFault::Trouble(Trouble::Medium));
-    for (old, step, new) in TURNS {
-        for call in 1..=CALLS {
+    for (header, slots, step, header_behind, slots_behind, changed, reads) in TURNS {
+        for call in 1..reads + 2 * changed + 4 {
             let mut fails = Vec::new(alloc);
-            fails.push((call, Trouble::Medium))?;
-            let mut volume = open_now(&rt, alloc, tape_with(&rt, alloc, old)?, fails)?;
+            fails.push((call as u64, Trouble::Medium))?;
+            let tape = tape_with(&rt, alloc, header, slots)?;
+            let mut volume = open_now(&rt, alloc, tape, fails)?;
             assert_eq!(rt; change_now(&rt, &mut volume, step), trouble);
             assert!(rt; !volume.is_kept());
             assert_eq!(rt; resume_now(&rt, &mut volume), Ok(()));
-            dir_now(&rt, &mut volume)?;
-            assert!(rt; holds(&volume, old) || holds(&volume, new));
+            assert!(rt;
+                shows(&rt, &mut volume, header, slots)
+                    || shows(&rt, &mut volume, header_behind, slots_behind)
+            );
         }
     }
     Ok(())
