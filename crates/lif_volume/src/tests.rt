@@ -529,100 +529,35 @@ const LONG_DISC_HEADER: &[u8] =
 
 const DISC_REDO: &[u8] = b"REDOFILE  \xE0\xD0\0\0\x09\x9C\0\0\0\x04\0\0\0\0\0\0\x80\x01\0\0\0\0";
 
-/// How many records a medium has, its header and its slots, what is formatted, the answer, and the
-/// header and the slots behind it.
-type Formatted = (
-    usize,
-    &'static [u8],
-    &'static [&'static [u8]],
-    Step<'static>,
-    Result<(), VolumeFault>,
-    &'static [u8],
-    &'static [&'static [u8]],
-);
+/// The header of a medium and the slots of its directory.
+type Shown = (&'static [u8], &'static [&'static [u8]]);
 
-const FORMATS: [Formatted; 9] = [
-    (
-        512,
-        b"",
-        &[],
-        Step::Format(b"HPTAPE", 4049),
-        NO_ROOM,
-        b"",
-        &[],
-    ),
-    (
-        512,
-        b"",
-        &[],
-        Step::Format(b"HPTAPE", 16),
-        Ok(()),
-        HEADER,
-        &[REDO],
-    ),
-    (
-        512,
-        HEADER,
-        &[REDO],
-        Step::Format(b"HPTAPE", 4049),
-        NO_ROOM,
-        HEADER,
-        &[REDO],
-    ),
-    (
-        512,
-        HEADER,
-        &[FILE, REDO_TWO],
-        Step::Format(b"HPTAPE", 4048),
-        Ok(()),
-        LONG_HEADER,
-        &[REDO],
-    ),
-    (
-        512,
-        FOREIGN_HEADER,
-        &[PROGRAM, LAST],
-        Step::Format(b"HPTAPE", 8),
-        IN_USE,
-        FOREIGN_HEADER,
-        &[PROGRAM, LAST],
-    ),
-    (
-        512,
-        FOREIGN_HEADER,
-        &[PROGRAM, LAST],
-        Step::Format(b"HPTAPE", 4049),
-        NO_ROOM,
-        FOREIGN_HEADER,
-        &[PROGRAM, LAST],
-    ),
-    (
-        2464,
-        b"",
-        &[],
-        Step::Format(b"HPDISC", 19665),
-        NO_ROOM,
-        b"",
-        &[],
-    ),
-    (
-        2464,
-        b"",
-        &[],
-        Step::Format(b"HPDISC", 128),
-        Ok(()),
-        DISC_HEADER,
-        &[DISC_REDO],
-    ),
-    (
-        2464,
-        HEADER,
-        &[REDO],
-        Step::Format(b"HPDISC", 19664),
-        Ok(()),
-        LONG_DISC_HEADER,
-        &[DISC_REDO],
-    ),
+const NONE: Shown = (b"", &[]);
+
+const BASE: Shown = (HEADER, &[REDO]);
+
+const TWO: Shown = (HEADER, &[FILE, REDO_TWO]);
+
+const FULL: Shown = (FOREIGN_HEADER, &[PROGRAM, LAST]);
+
+const LONG: Shown = (LONG_HEADER, &[REDO]);
+
+const DISC: Shown = (DISC_HEADER, &[DISC_REDO]);
+
+const LONG_DISC: Shown = (LONG_DISC_HEADER, &[DISC_REDO]);
+
+/// How many records a medium has, what it shows, the label and the slots that it is formatted with,
+/// the answer, and what it shows behind that.
+const FORMATS: [(usize, Shown, (&[u8], u16), Result<(), VolumeFault>, Shown); 9] = [
+    (512, NONE, (b"HPTAPE", 4049), NO_ROOM, NONE),
+    (512, NONE, (b"HPTAPE", 16), Ok(()), BASE),
+    (512, BASE, (b"HPTAPE", 4049), NO_ROOM, BASE),
+    (512, TWO, (b"HPTAPE", 4048), Ok(()), LONG),
+    (512, FULL, (b"HPTAPE", 8), IN_USE, FULL),
+    (512, FULL, (b"HPTAPE", 4049), NO_ROOM, FULL),
+    (2464, NONE, (b"HPDISC", 19665), NO_ROOM, NONE),
+    (2464, NONE, (b"HPDISC", 128), Ok(()), DISC),
+    (2464, BASE, (b"HPDISC", 19664), Ok(()), LONG_DISC),
 ];
 
 /// A medium with this header and this directory, an end behind it, a gate that is open with targets
@@ -649,18 +584,21 @@ fn medium_of(
 #[test]
 fn formats_any_tape(rt: HostRuntime) -> Result<(), Fail> {
     let alloc = rt.alloc();
-    for (size, header, slots, step, answer, header_behind, slots_behind) in FORMATS {
+    for (size, (header, slots), (label, count), answer, (front, listed)) in FORMATS {
         assert!(rt; 500 < size && size < 3000);
         let mut medium = medium_of(&rt, alloc, size, header, slots)?;
         put(&rt, &mut medium, 2, 200, b"old");
         let mut volume = open_now(&rt, alloc, medium, Vec::new(alloc))?;
         assert!(rt; shows(&rt, &mut volume, header, slots));
         let left = volume.records().left();
-        assert_eq!(rt; change_now(&rt, &mut volume, step), answer);
+        assert_eq!(rt;
+            change_now(&rt, &mut volume, Step::Format(label, count)),
+            answer
+        );
         // A refusal makes no call: it is NoRoom, or the directory is kept.
         assert!(rt; answer.is_ok() || volume.records().left() == left);
-        assert_eq!(rt; volume.is_kept(), !header_behind.is_empty());
-        let mut behind = medium_of(&rt, alloc, size, header_behind, slots_behind)?;
+        assert_eq!(rt; volume.is_kept(), !front.is_empty());
+        let mut behind = medium_of(&rt, alloc, size, front, listed)?;
         if answer.is_ok() {
             // The gate is closed; then two contents, the targets, the gate, record 0, record 2, and
             // the gate again.
@@ -673,109 +611,48 @@ fn formats_any_tape(rt: HostRuntime) -> Result<(), Fail> {
             assert_eq!(rt; volume.records().records().get(n), behind.get(n));
         }
         assert_eq!(rt; resume_now(&rt, &mut volume), Ok(()));
-        assert!(rt; shows(&rt, &mut volume, header_behind, slots_behind));
+        assert!(rt; shows(&rt, &mut volume, front, listed));
     }
     Ok(())
 }
 
-/// The header and the slots before a command, the command, and the header and the slots behind it,
-/// which another commit makes; which write opens the gate, how many writes there are, and how many
-/// calls of the store.
-type Turn = (
-    &'static [u8],
-    &'static [&'static [u8]],
-    Step<'static>,
-    &'static [u8],
-    &'static [&'static [u8]],
-    usize,
-    usize,
-    u64,
-);
+/// What a tape shows before a command, the command, and what it shows behind it, which another
+/// commit makes; which write opens the gate, how many writes there are, and how many calls of the
+/// store.
+type Turn = (Shown, Step<'static>, Shown, usize, usize, u64);
+
+const ONE: Shown = (HEADER, &[FILE, REDO]);
+
+const SECOND: Shown = (SECOND_HEADER, &[REDO]);
+
+const SECOND_STEP: Step<'static> = Step::Format(b"SECOND", 8);
 
 /// A commit writes the contents, the targets, the gate, the records in place, and the gate again.
 /// What is read is the gate, record 0 and the directory; and for the commit the record of a slot,
 /// and the gate. A tape without a header has no directory to be read.
 const TURNS: [Turn; 8] = [
+    (ONE, Step::Purge(b"A"), (HEADER, &[PURGED, REDO]), 2, 5, 10),
     (
-        HEADER,
-        &[FILE, REDO],
-        Step::Purge(b"A"),
-        HEADER,
-        &[PURGED, REDO],
-        2,
-        5,
-        10,
-    ),
-    (
-        HEADER,
-        &[FILE, REDO],
+        ONE,
         Step::Rename(b"A", b"B"),
-        HEADER,
-        &[RENAMED, REDO],
+        (HEADER, &[RENAMED, REDO]),
         2,
         5,
         10,
     ),
     (
-        HEADER,
-        &[FILE, REDO_TWO],
+        TWO,
         Step::Rename(b"A", b"B"),
-        HEADER,
-        &[RENAMED, REDO_TWO],
+        (HEADER, &[RENAMED, REDO_TWO]),
         2,
         5,
         10,
     ),
-    (
-        HEADER,
-        &[FILE],
-        Step::Adopt,
-        HEADER,
-        &[FILE, REDO],
-        2,
-        5,
-        10,
-    ),
-    (
-        HEADER,
-        &[FILE, REDO],
-        Step::Upgrade,
-        HEADER,
-        &[FILE, REDO_TWO],
-        2,
-        5,
-        10,
-    ),
-    (
-        HEADER,
-        &[FILE, REDO_TWO],
-        Step::Format(b"SECOND", 8),
-        SECOND_HEADER,
-        &[REDO],
-        3,
-        7,
-        11,
-    ),
-    (
-        FOREIGN_HEADER,
-        &[PROGRAM],
-        Step::Format(b"SECOND", 8),
-        SECOND_HEADER,
-        &[REDO],
-        3,
-        7,
-        11,
-    ),
-    (
-        b"",
-        &[FILE],
-        Step::Format(b"SECOND", 8),
-        SECOND_HEADER,
-        &[REDO],
-        3,
-        7,
-        10,
-    ),
+    ((HEADER, &[FILE]), Step::Adopt, ONE, 2, 5, 10),
+    (ONE, Step::Upgrade, TWO, 2, 5, 10),
+    (TWO, SECOND_STEP, SECOND, 3, 7, 11),
+    ((FOREIGN_HEADER, &[PROGRAM]), SECOND_STEP, SECOND, 3, 7, 11),
+    ((b"", &[FILE]), SECOND_STEP, SECOND, 3, 7, 10),
 ];
 
 /// The tape behind the first `k` writes, torn within the next.
@@ -800,11 +677,11 @@ fn a_stop_leaves_the_old_or_the_new_volume(rt: HostRuntime) -> Result<(), Fail> 
     let alloc = rt.alloc();
     let mut gate = [0; RECORD];
     gate[..GATE.len()].copy_from_slice(GATE);
-    for (header, slots, step, header_behind, slots_behind, opening, writes, calls) in TURNS {
+    for ((header, slots), step, (front, listed), opening, writes, calls) in TURNS {
         let tape = tape_with(&rt, alloc, header, slots)?;
         let mut volume = open_now(&rt, alloc, tape, Vec::new(alloc))?;
         assert_eq!(rt; change_now(&rt, &mut volume, step), Ok(()));
-        assert!(rt; shows(&rt, &mut volume, header_behind, slots_behind));
+        assert!(rt; shows(&rt, &mut volume, front, listed));
         let records = volume.into_records();
         assert_eq!(rt; records.writes().len(), writes);
         assert!(rt; calls < 20);
@@ -817,7 +694,7 @@ fn a_stop_leaves_the_old_or_the_new_volume(rt: HostRuntime) -> Result<(), Fail> 
                 let is_new = k > opening || k == opening && opens;
                 assert!(rt;
                     if is_new {
-                        shows(&rt, &mut volume, header_behind, slots_behind)
+                        shows(&rt, &mut volume, front, listed)
                     } else {
                         shows(&rt, &mut volume, header, slots)
                     }
@@ -832,7 +709,7 @@ fn a_stop_leaves_the_old_or_the_new_volume(rt: HostRuntime) -> Result<(), Fail> 
 fn a_trouble_leaves_the_old_or_the_new_volume(rt: HostRuntime) -> Result<(), Fail> {
     let alloc = rt.alloc();
     let trouble = Err(VolumeFault::Trouble(Trouble::Medium));
-    for (header, slots, step, header_behind, slots_behind, _, _, calls) in TURNS {
+    for ((header, slots), step, (front, listed), _, _, calls) in TURNS {
         for call in 1..=calls {
             let mut fails = Vec::new(alloc);
             fails.push((call, Trouble::Medium))?;
@@ -842,8 +719,7 @@ fn a_trouble_leaves_the_old_or_the_new_volume(rt: HostRuntime) -> Result<(), Fai
             assert!(rt; !volume.is_kept());
             assert_eq!(rt; resume_now(&rt, &mut volume), Ok(()));
             assert!(rt;
-                shows(&rt, &mut volume, header, slots)
-                    || shows(&rt, &mut volume, header_behind, slots_behind)
+                shows(&rt, &mut volume, header, slots) || shows(&rt, &mut volume, front, listed)
             );
         }
     }
