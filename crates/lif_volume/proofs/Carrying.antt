@@ -22,7 +22,8 @@ use Rattle.lif_model.proofs.Apply.{refused_stays, accepted, next_is_adopted, ado
 use Rattle.lif_model.proofs.Directory.{volume_tells, volume_from, volume_in_is}
 use Rattle.lif_model.proofs.Outcomes.{committed_settled}
 use Rattle.lif_model.proofs.Commands.{command_stops, command_commits, adopt_stops, adopt_commits, upgrade_stops, upgrade_commits}
-use Rattle.lif_volume.specs.Plans.{CommitsWith, IsOfDirectory, IsVolumeWith}
+use Rattle.lif_plan.specs.Plans.{CommitsWith, IsVolumeWith}
+use Rattle.lif_volume.specs.Plans.{IsOfDirectory}
 use Rattle.std.proofs.lemmas.List.{length-map, map-append, map-set}
 use Rattle.il_ports.specs.declared.records.Trouble.{Trouble}
 use Rattle.il_ports.specs.Stores.{RecordsView, IsStore, IsReady, GoesOn, RunLeaves}
@@ -33,16 +34,19 @@ use Rattle.lif_redo.proofs.Writes.{no_write}
 use Rattle.lif_redo.proofs.Told.{was_told}
 use Rattle.lif_dir.specs.declared.entries.Slot.{Slot}
 use Rattle.lif_dir.specs.Entries.{entry_bytes, slot_of, slot_from, slot_bytes}
-use Rattle.lif_volume.specs.declared.fault.Refusal.{Refusal}
+use Rattle.lif_plan.specs.declared.refusal.Refusal.{Refusal}
 use Rattle.lif_volume.specs.declared.fault.VolumeFault.TheVariants.{Refused, Trouble as Troubled}
-use Rattle.lif_volume.specs.declared.plans.SlotChange.{SlotChange}
-use Rattle.lif_volume.specs.Views.{VolumeView, IsOpen, IsLegalDirectory, IsDirectoryOf}
-use Rattle.lif_volume.specs.Answers.{reason}
-use Rattle.lif_volume.specs.Changing.{changes_when, version_for, IsChanged, committing_on, HasEitherVolume, VolumeTurns, writes_if_any}
-use Rattle.lif_volume.specs.Plans.{change_writes, slots_with, bytes_with, RefusesAs, ChangesNothing, ChangesSlot, CarriesOut}
+use Rattle.lif_plan.specs.declared.plans.SlotChange.{SlotChange}
+use Rattle.lif_volume.specs.Views.{VolumeView, IsOpen, IsDirectoryOf}
+use Rattle.lif_plan.specs.Directories.{IsLegalDirectory}
+use Rattle.lif_plan.specs.Refusals.{reason}
+use Rattle.lif_volume.specs.Changing.{changes_when, IsChanged, committing_on, HasEitherVolume, VolumeTurns, writes_if_any}
+use Rattle.lif_plan.specs.Plans.{version_for}
+use Rattle.lif_plan.specs.Plans.{change_writes, slots_with, bytes_with, RefusesAs, ChangesNothing, ChangesSlot}
+use Rattle.lif_volume.specs.Plans.{CarriesOut}
 use Rattle.lif_volume.proofs.Mounting.{kept_is_of, volume_on}
 use Rattle.lif_volume.proofs.Fetching.{legal_of}
-use Rattle.lif_volume.proofs.Planning.{version_agrees}
+use Rattle.lif_plan.proofs.Planning.{version_agrees}
 use Rattle.lif_model.specs.Apply as model
 
 -- ---- the four commands

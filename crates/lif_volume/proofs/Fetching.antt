@@ -21,12 +21,13 @@ use Rattle.il_ports.specs.Transfers.{Added, GoesOnBy}
 use Rattle.il_ports.proofs.Stores.{goes_further, goes_within}
 use Rattle.il_ports.proofs.Transfers.{one_read, then_more}
 use Rattle.lif_dir.specs.Entries.{slot_bytes}
-use Rattle.lif_volume.specs.declared.directory.File.{File}
+use Rattle.lif_plan.specs.declared.directory.File.{File}
 use Rattle.lif_volume.specs.declared.fault.VolumeFault.{VolumeFault}
-use Rattle.lif_volume.specs.Entries.{IsFileOf}
-use Rattle.lif_volume.specs.Views.{VolumeView, IsOpen, IsLegalDirectory}
+use Rattle.lif_plan.specs.Entries.{IsFileOf}
+use Rattle.lif_volume.specs.Views.{VolumeView, IsOpen}
+use Rattle.lif_plan.specs.Directories.{IsLegalDirectory}
 use Rattle.lif_volume.specs.Commands.{Consults, EndsWithRead, FetchedFile, mounting, mounting_on, reading, fetching, fetching_on, records_named}
-use Rattle.lif_volume.proofs.Found.{found, at, nowhere}
+use Rattle.lif_plan.proofs.Found.{found, at, nowhere}
 use Rattle.lif_volume.proofs.Mounting.{volume_on}
 
 same_some : {X : Type 0} (x y : X) → Some x ≡ Some y → x ≡ y

@@ -15,14 +15,17 @@ use Rattle.lif_model.proofs.Redo.{settled_twice}
 use Rattle.il_ports.specs.Stores.{RecordsView, IsReady, GoesOn}
 use Rattle.il_ports.specs.Transfers.{GoesOnBy, AddsOnly}
 use Rattle.il_ports.proofs.Stores.{goes_further, goes_within}
-use Rattle.lif_volume.specs.declared.fault.Refusal.{Refusal}
-use Rattle.lif_volume.specs.declared.fault.Refusal.TheVariants as refusal
+use Rattle.lif_plan.specs.declared.refusal.Refusal.{Refusal}
+use Rattle.lif_plan.specs.declared.refusal.Refusal.TheVariants as refusal
 use Rattle.lif_volume.specs.declared.fault.VolumeFault.{VolumeFault}
 use Rattle.lif_volume.specs.declared.fault.VolumeFault.TheVariants.{Refused, Trouble as Troubled}
-use Rattle.lif_volume.specs.Views.{VolumeView, IsOpen, IsLegalDirectory}
-use Rattle.lif_volume.specs.Answers.{reason, store_answer, keeps, Answers, IsNotLif, IsLegalAs, IsSettledAs, HasVolumeOf}
+use Rattle.lif_volume.specs.Views.{VolumeView, IsOpen}
+use Rattle.lif_plan.specs.Directories.{IsLegalDirectory}
+use Rattle.lif_plan.specs.Refusals.{reason}
+use Rattle.lif_volume.specs.Answers.{store_answer, keeps, Answers, IsNotLif, IsLegalAs, IsSettledAs, HasVolumeOf}
 use Rattle.lif_volume.specs.Commands.{fetching, Consults, mounting, mounting_on, AnswersTo, KeepsVolume}
-use Rattle.lif_volume.specs.Changing.{changes_when, version_for, IsChanged, refused_tape, IsWrittenAs, keeps_behind_command, committing, committing_on, HasEitherVolume, writes_if_any, SettlesAndWrites, AddsCommit, IsOneOf, MountsAndCommits, Writes, TurnsVolume, WritesByCommit}
+use Rattle.lif_volume.specs.Changing.{changes_when, IsChanged, refused_tape, IsWrittenAs, keeps_behind_command, committing, committing_on, HasEitherVolume, writes_if_any, SettlesAndWrites, AddsCommit, IsOneOf, MountsAndCommits, Writes, TurnsVolume, WritesByCommit}
+use Rattle.lif_plan.specs.Plans.{version_for}
 use Rattle.lif_volume.specs.Plans.{IsOfDirectory, IsWrittenOn, IsAddedOn, CarriesOutOn, CarriesOut}
 use Rattle.lif_volume.proofs.Mounting.{behind, answers_fault}
 use Rattle.lif_volume.proofs.Fetching.{legal_of}
@@ -102,6 +105,43 @@ few_bound n old header after a long is = go (keeps a) refl old
     go false e None = let same : after ≡ None = is ∙ ap (λ (b : Bool). if b then Some header else None) e in subst (λ (w : Option HeaderParts). 71 + header.length + committing a ≤ mounting n None w + committing a) (sym same) (omega (arith, long))
     go false e (Some h) = omega arith
 
+-- the second part begins on the settled tape
+module _ {R S : Type 0} (view : R → RecordsView S) (x y z : VolumeView R) (command : VolumeCommand) (a : Result (Unit {0}) VolumeFault)
+    (size : (view y.records).record_count ≡ (view x.records).record_count) (settles : (t : Tape) → (view x.records).tape ≡ Some t → (view y.records).tape ≡ Some (settled t))
+    (carried : (t : Tape) → (view y.records).tape ≡ Some t → CarriesOutOn (view y.records).record_count command (view y.records) (view z.records) t a) where
+  module _ (t : Tape) (told : (view x.records).tape ≡ Some t) where
+    pub settled_same : volume_of (settled t) ≡ volume_of t
+    settled_same = ap volume_in (settled_twice t)
+
+    pub carried_on : CarriesOutOn (view x.records).record_count command (view y.records) (view z.records) (settled t) a
+    carried_on = subst (λ (n : ℕ). CarriesOutOn n command (view y.records) (view z.records) (settled t) a) size (carried (settled t) (settles t told))
+
+  pub parts_answers : AnswersTo command view x z a
+  parts_answers t u told now = answers_from (view x.records).record_count command (settled t) t u a (settled_same t told) ((carried_on t told).answers u now)
+
+  pub parts_stops : KeepsVolume view x y → TurnsVolume command view x z
+  parts_stops stays t told own =
+      let first = stays t told own in
+      let next = (carried_on t told).stops in
+      record {
+        stops = follows _ _ _ _ _ _ (HasEitherVolume n command t) (HasEitherVolume n command (settled t)) (weaker _ _ _ _ (HasEitherVolume n command t) (HasVolumeOf t) first.stops (λ c is. record { volume = inl is.volume; own_gate = is.own_gate }))
+            next.stops (λ c is. again c is);
+        after = (next.after.0, next.after.1, again next.after.0 next.after.2);
+      }
+    where
+      n : ℕ
+      n = (view x.records).record_count
+
+      again : (c : Tape) → HasEitherVolume (view x.records).record_count command (settled t) c → HasEitherVolume (view x.records).record_count command t c
+      again c is = record {
+        volume = subst (λ (v : Option Volume). (volume_of c ≡ v) ⊎ (volume_of c ≡ (apply (view x.records).record_count command v).1)) (settled_same t told) is.volume;
+        own_gate = is.own_gate;
+      }
+
+  pub parts_transfers : ((t : Tape) → (view x.records).tape ≡ Some t → GoesOnBy (IsSettleWrite (view x.records).record_count (redo_of t)) (view x.records).transferred (view y.records).transferred)
+      → WritesByCommit command view x z a
+  parts_transfers first t told = added_from (view x.records).record_count command t _ _ _ a (settled_same t told) (first t told) (carried_on t told).added
+
 module _ {R S : Type 0} (view : R → RecordsView S) (x y z : VolumeView R) (header : HeaderParts) (command : VolumeCommand) (of : IsOfDirectory command) (a : Result (Unit {0}) VolumeFault)
     (mounted : Consults {T = HeaderParts} (mounting (view x.records).record_count x.kept y.kept) (λ t. mounting_on t x.kept) view x y (Ok header)) (kept : y.kept ≡ Some header)
     (long : header.length + 5 ≤ (view x.records).record_count) (carried : CarriesOut command view y z a) where
@@ -110,10 +150,10 @@ module _ {R S : Type 0} (view : R → RecordsView S) (x y z : VolumeView R) (hea
 
   module _ (t : Tape) (told : (view x.records).tape ≡ Some t) where
     same : volume_of (settled t) ≡ volume_of t
-    same = ap volume_in (settled_twice t)
+    same = settled_same view x y z command a size mounted.settles carried.on_tape t told
 
     on : CarriesOutOn (view x.records).record_count command (view y.records) (view z.records) (settled t) a
-    on = subst (λ (n : ℕ). CarriesOutOn n command (view y.records) (view z.records) (settled t) a) size (carried.on_tape (settled t) (mounted.settles t told))
+    on = carried_on view x y z command a size mounted.settles carried.on_tape t told
 
   pub joined_commits : MountsAndCommits command view x z a
   joined_commits =
@@ -134,33 +174,17 @@ module _ {R S : Type 0} (view : R → RecordsView S) (x y z : VolumeView R) (hea
       go false e = ap is_some (carried.kept ∙ ap (λ (b : Bool). if b then y.kept else None) e) ∙ sym e
 
   pub joined_answers : AnswersTo command view x z a
-  joined_answers t u told now = answers_from (view x.records).record_count command (settled t) t u a (same t told) ((on t told).answers u now)
+  joined_answers = parts_answers view x y z command a size mounted.settles carried.on_tape
 
   pub joined_written : Writes command view x z a
   joined_written t u told now = written_from (view x.records).record_count command t u a of (same t told) ((on t told).written u now)
 
   pub joined_stops : KeepsVolume view x y → TurnsVolume command view x z
-  joined_stops stays t told own =
-      let first = stays t told own in
-      let next = (on t told).stops in
-      record {
-        stops = follows _ _ _ _ _ _ (HasEitherVolume n command t) (HasEitherVolume n command (settled t)) (weaker _ _ _ _ (HasEitherVolume n command t) (HasVolumeOf t) first.stops (λ c is. record { volume = inl is.volume; own_gate = is.own_gate }))
-            next.stops (λ c is. again c is);
-        after = (next.after.0, next.after.1, again next.after.0 next.after.2);
-      }
-    where
-      n : ℕ
-      n = (view x.records).record_count
-
-      again : (c : Tape) → HasEitherVolume (view x.records).record_count command (settled t) c → HasEitherVolume (view x.records).record_count command t c
-      again c is = record {
-        volume = subst (λ (v : Option Volume). (volume_of c ≡ v) ⊎ (volume_of c ≡ (apply (view x.records).record_count command v).1)) (same t told) is.volume;
-        own_gate = is.own_gate;
-      }
+  joined_stops = parts_stops view x y z command a size mounted.settles carried.on_tape
 
   pub joined_transfers : ((t : Tape) → (view x.records).tape ≡ Some t → GoesOnBy (IsSettleWrite (view x.records).record_count (redo_of t)) (view x.records).transferred (view y.records).transferred)
       → WritesByCommit command view x z a
-  joined_transfers first t told = added_from (view x.records).record_count command t _ _ _ a (same t told) (first t told) (on t told).added
+  joined_transfers = parts_transfers view x y z command a size mounted.settles carried.on_tape
 
 -- ---- where mounting is refused, or the store fails in it
 

@@ -1,9 +1,9 @@
-mod LegalExtents
-mod Found
 mod Mounting
 mod Fetching
 mod Staging
-mod Planning
 mod Carrying
 mod Joining
+mod Renewing
 mod Examples
+mod ExamplesChanging
+mod ExamplesPlans

@@ -22,7 +22,8 @@ use Rattle.lif_volume.specs.declared.fault.VolumeFault.{VolumeFault}
 use Rattle.lif_volume.specs.declared.fault.VolumeFault.TheVariants.{Refused, Trouble as Troubled}
 use Rattle.lif_volume.specs.declared.volume.Volume as declared
 use Rattle.lif_volume.specs.Views.{VolumeView, IsDirectoryOf}
-use Rattle.lif_volume.specs.Answers.{HasVolumeOf, Answers, IsSettledAs, IsLegalAs, IsNotLif, reason, store_answer}
+use Rattle.lif_volume.specs.Answers.{HasVolumeOf, Answers, IsSettledAs, IsLegalAs, IsNotLif, store_answer}
+use Rattle.lif_plan.specs.Refusals.{reason}
 use Rattle.lif_volume.specs.Commands.{VolumeStays, Consults, mounting, mounting_on}
 
 -- what contracts see of a volume

@@ -20,8 +20,9 @@ use Rattle.il_ports.specs.declared.records.Trouble.{Trouble}
 use Rattle.lif_redo.specs.Writing.{AddsWrites}
 use Rattle.lif_redo.proofs.Writes.{then_writes, same_writes}
 use Rattle.lif_dir.specs.Entries.{entry_bytes}
-use Rattle.lif_volume.specs.declared.plans.SlotChange.{SlotChange}
-use Rattle.lif_volume.specs.Plans.{BroughtIn, there, read, IsStagedAs, AreOthers, change_writes}
+use Rattle.lif_plan.specs.declared.plans.SlotChange.{SlotChange}
+use Rattle.lif_volume.specs.Plans.{BroughtIn, there, read, IsStagedAs, AreOthers}
+use Rattle.lif_plan.specs.Plans.{change_writes}
 
 targets_count : (cs : Changes) → length (targets_in cs) ≡ length cs
 targets_count cs = length-map cs (λ c. c.0)

@@ -5,10 +5,10 @@ use Rattle.lif_model.specs.Redo.{settled}
 use Rattle.lif_model.specs.Legal.{is_legal}
 use Rattle.lif_model.specs.Volume.{volume_of, is_foreign_gated}
 use Rattle.lif_model.specs.Apply.{VolumeCommand, apply}
-use Rattle.lif_model.specs.Apply as model
 use Rattle.il_ports.specs.declared.records.Trouble.{Trouble}
-use Rattle.lif_volume.specs.declared.fault.Refusal.{Refusal}
-use Rattle.lif_volume.specs.declared.fault.Refusal.TheVariants as refusal
+use Rattle.lif_plan.specs.declared.refusal.Refusal.{Refusal}
+use Rattle.lif_plan.specs.declared.refusal.Refusal.TheVariants as refusal
+use Rattle.lif_plan.specs.Refusals.{reason, keeps_behind}
 use Rattle.lif_volume.specs.declared.fault.VolumeFault.{VolumeFault}
 use Rattle.lif_volume.specs.declared.fault.VolumeFault.TheVariants.{Refused, Trouble as Troubled}
 
@@ -17,17 +17,6 @@ troubled trouble = Troubled trouble
 
 abbrev pub refused : Refusal → VolumeFault
 refused why = Refused why
-
--- a refusal in the words of the definitions
-abbrev pub reason : Refusal → model.Refusal
-reason refusal.NotLif = model.NotLif
-reason refusal.NoFile = model.NoFile
-reason refusal.Exists = model.Exists
-reason refusal.NoSlot = model.NoSlot
-reason refusal.NoRoom = model.NoRoom
-reason refusal.NoRedo = model.NoRedo
-reason refusal.InUse = model.InUse
-reason refusal.Protected = model.Protected
 
 -- how the store answered: it did not fail where a command is refused
 abbrev pub store_answer : {T : Type 0} → Result T VolumeFault → Result (Unit {0}) Trouble
@@ -48,11 +37,6 @@ Answers n command t u (Ok _) = apply n command (volume_of t) ≡ (None, volume_o
 Answers n command t u (Err (Refused why)) =
     apply n command (volume_of t) ≡ (Some (reason why), volume_of u)
 Answers n command t u (Err (Troubled _)) = Unit {0}
-
--- whether the directory is kept behind a refusal: behind all but NotLif
-abbrev pub keeps_behind : Refusal → Bool
-keeps_behind refusal.NotLif = false
-keeps_behind other = true
 
 -- whether it is kept behind this answer: behind an Ok and these refusals
 abbrev pub keeps : {T : Type 0} → Result T VolumeFault → Bool

@@ -1,18 +1,20 @@
 -- What the commands that change a volume do.
-use Rattle.std.specs.Prelude.{◌≡◌, ◌⊎◌, ◌≤◌, ◌+◌, ◌++◌, if◌then◌else◌, ℕ, Bool, List, [], ◌∷◌, false, Option, Some, None, Result, Ok, Err, is_some}
+use Rattle.std.specs.Prelude.{◌≡◌, ◌⊎◌, ◌≤◌, ◌+◌, ◌++◌, ℕ, Bool, List, [], ◌∷◌, false, Option, Some, None, Result, Ok, Err, is_some}
 use Rattle.lif_model.specs.Tape.{Tape}
 use Rattle.lif_model.specs.Gate.{has_open_gate}
-use Rattle.lif_model.specs.Redo.{Version, One, Two, Changes, redo_of, settled}
+use Rattle.lif_model.specs.Redo.{Version, Changes, redo_of, settled}
 use Rattle.lif_model.specs.Commit.{IsSettleWrite, IsCommitted, commit_writes}
-use Rattle.lif_model.specs.Volume.{Volume, is_adopted_with, volume_of, is_foreign_gated}
+use Rattle.lif_model.specs.Volume.{Volume, volume_of, is_foreign_gated}
 use Rattle.lif_model.specs.Apply.{VolumeCommand, Format, apply}
 use Rattle.lif_model.specs.Writing.{format_changes, changes_of}
 use Rattle.lif_model.specs.Transfers.{Transfer}
 use Rattle.il_ports.specs.Stores.{RecordsView, GoesOn, RunLeaves}
 use Rattle.il_ports.specs.Transfers.{WritesOnly, GoesOnBy}
 use Rattle.lif_redo.specs.Writing.{writes_among, AreSingle}
-use Rattle.lif_volume.specs.declared.fault.Refusal.{Refusal}
-use Rattle.lif_volume.specs.declared.fault.Refusal.TheVariants as refusal
+use Rattle.lif_plan.specs.declared.refusal.Refusal.{Refusal}
+use Rattle.lif_plan.specs.declared.refusal.Refusal.TheVariants as refusal
+use Rattle.lif_plan.specs.Refusals.{IsAmong}
+use Rattle.lif_plan.specs.Plans.{version_for}
 use Rattle.lif_volume.specs.declared.fault.VolumeFault.{VolumeFault}
 use Rattle.lif_volume.specs.declared.fault.VolumeFault.TheVariants.{Refused, Trouble as Troubled}
 use Rattle.lif_volume.specs.Views.{VolumeView}
@@ -26,16 +28,6 @@ abbrev pub changes_when : ℕ → VolumeCommand → Option Volume → Tape → C
 changes_when n command (Some v) tape = changes_of n command v tape
 changes_when n (Format label slots) None tape = format_changes n label slots
 changes_when n command None tape = []
-
--- the version of the redo file in the directory, and version 1 where there is none
-abbrev pub redo_version : ℕ → List (List ℕ) → Version
-redo_version n slots = if is_adopted_with n Two slots then Two else One
-
--- The version of the redo file by which a command commits. `format` makes one of version 1.
-abbrev pub version_for : ℕ → VolumeCommand → Option Volume → Version
-version_for n (Format label slots) volume = One
-version_for n command None = One
-version_for n command (Some v) = redo_version n v.slots
 
 -- the tape behind a commit of these changes, or the same tape where there are none
 abbrev pub IsChanged : Version → Changes → Tape → Tape → Type 0
@@ -56,10 +48,6 @@ IsWrittenAs n command t u (Err (Refused why)) = u ≡ refused_tape command why t
 IsWrittenAs n command t u (Err (Troubled _)) = Unit {0}
 
 -- ---- refusals
-
-abbrev pub IsAmong : List Refusal → Refusal → Type 0
-IsAmong [] why = ⊥
-IsAmong (one ∷ more) why = (why ≡ one) ⊎ IsAmong more why
 
 -- it is refused by one of these alone
 abbrev pub IsOneOf : List Refusal → VolumeFault → Type 0

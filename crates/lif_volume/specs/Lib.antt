@@ -1,7 +1,7 @@
 pub mod Views
 pub mod Answers
-pub mod Entries
 pub mod Commands
 pub mod Changing
 pub mod Plans
+pub mod Formatting
 pub mod Lending

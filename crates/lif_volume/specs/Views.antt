@@ -1,12 +1,13 @@
 -- What contracts see of a volume, and what holds of it between its calls.
-use Rattle.std.specs.Prelude.{◌≡◌, ◌<◌, ◌*◌, ◌-◌, ◌^◌, ℕ, List, true, length, map, Option, Some, IfSome}
+use Rattle.std.specs.Prelude.{◌≡◌, ◌<◌, ◌*◌, ◌-◌, ◌^◌, ℕ, List, true, map, Option, Some, IfSome}
 use Rattle.lif_model.specs.Tape.{Tape, record_at}
 use Rattle.lif_model.specs.Header.{HeaderParts, header_of}
 use Rattle.lif_model.specs.Directory.{slots_of}
 use Rattle.lif_model.specs.Redo.{IsSettled}
-use Rattle.lif_model.specs.Legal.{is_legal_with, is_legal}
+use Rattle.lif_model.specs.Legal.{is_legal}
 use Rattle.il_ports.specs.Stores.{RecordsView}
-use Rattle.lif_dir.specs.Entries.{slot_from, slot_bytes, AreSlots}
+use Rattle.lif_dir.specs.Entries.{slot_from, slot_bytes}
+use Rattle.lif_plan.specs.Directories.{IsLegalDirectory}
 use Rattle.lif_dir.specs.declared.entries.Slot.{Slot}
 
 -- a volume over a store R
@@ -18,15 +19,6 @@ pub record VolumeView (R : Type 0) : Type 0 where
   pub slots : List Slot
   -- how many slots there is memory for
   pub room : ℕ
-
--- What some record 0 says, with which these slots are a legal directory on a tape of n records. They
--- fit into the directory, and none is an end.
-pub record IsLegalDirectory (n : ℕ) (header : HeaderParts) (slots : List (List ℕ)) : Type 0 where
-  pub bytes : List ℕ
-  pub told : header ≡ header_of bytes
-  pub legal : is_legal_with n bytes slots ≡ true
-  pub whole : length bytes ≡ 256
-  pub shape : AreSlots (8 * header.length) slots
 
 -- what record 0 of this tape says, and its slots; the tape is legal
 pub record IsDirectoryOn (t : Tape) (kept : HeaderParts) (found : List Slot) : Type 0 where

@@ -6,18 +6,20 @@ ghost use Rattle.lif_dir.specs.Entries.{name_bytes, slot_bytes};
 ghost use Rattle.lif_dir.specs.Names.{made_name};
 ghost use Rattle.lif_volume.specs.Views.{IsOpen};
 ghost use Rattle.lif_volume.specs.Commands.{IsReadyFor, AnswersTo};
-ghost use Rattle.lif_volume.specs.Changing.{IsAmong, IsOneOf, MountsAndCommits, Writes};
+ghost use Rattle.lif_plan.specs.Refusals.{IsAmong};
+ghost use Rattle.lif_volume.specs.Changing.{IsOneOf, MountsAndCommits, Writes};
 ghost use Rattle.lif_volume.specs.Changing.{TurnsVolume, WritesByCommit};
-ghost use Rattle.lif_volume.specs.Plans.{IsOfDirectory, IsPlan, CarriesOut};
-ghost use Rattle.lif_volume.specs.declared.fault.Refusal.{Refusal};
-ghost use Rattle.lif_volume.specs.declared.fault.Refusal.TheVariants as refusal;
+ghost use Rattle.lif_volume.specs.Plans.{IsOfDirectory, CarriesOut};
+ghost use Rattle.lif_plan.specs.Plans.{IsPlan};
+ghost use Rattle.lif_plan.specs.declared.refusal.Refusal.{Refusal};
+ghost use Rattle.lif_plan.specs.declared.refusal.Refusal.TheVariants as refusal;
 
-use crate::fault::{Refusal, VolumeFault};
-use crate::plans::SlotChange;
+use crate::fault::VolumeFault;
 use crate::volume::{Seen, Volume};
 use il_ports::Records;
 use lif_dir::{Name, NewName};
 use lif_header::Header;
+use lif_plan::{Refusal, SlotChange};
 
 impl<R: Records> Volume<R> {
     /// Purges the file of this name: its slot gets the type 0, and all else in the directory stays.

@@ -1,25 +1,5 @@
 use il_ports::Trouble;
-
-/// Why a command of a volume is refused. A refused command leaves the volume.
-#[derive(Clone, Copy, Debug, PartialEq, Eq)]
-pub enum Refusal {
-    /// The tape is no legal LIF volume.
-    NotLif,
-    /// No file has the name.
-    NoFile,
-    /// A file has the new name.
-    Exists,
-    /// The directory has no slot for the file.
-    NoSlot,
-    /// No place has room for the file.
-    NoRoom,
-    /// The volume has no redo file.
-    NoRedo,
-    /// A file stands where the redo file is to be.
-    InUse,
-    /// The name is that of the redo file.
-    Protected,
-}
+use lif_plan::Refusal;
 
 /// Why a command of a volume did not do what it was asked.
 #[derive(Clone, Copy, Debug, PartialEq, Eq)]

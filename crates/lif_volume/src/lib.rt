@@ -5,15 +5,14 @@
 #![tactic(auto)]
 
 mod changing;
-mod directory;
-mod extents;
 mod fault;
-mod plans;
+mod formatting;
 mod reading;
 mod staged;
 mod volume;
 
-pub use fault::{Refusal, VolumeFault};
+pub use fault::VolumeFault;
+pub use lif_plan::Refusal;
 pub use volume::{Fetched, Kept, Listing, Seen, Volume};
 
 #[cfg(test)]

@@ -4,16 +4,17 @@ ghost use Rattle.lif_model.specs.Tape.{Tape, DidReadRun};
 ghost use Rattle.il_ports.specs.Stores.{IsReady, GoesOn, IsQuiet};
 ghost use Rattle.il_ports.specs.Transfers.{Adds, AddsOnly};
 ghost use Rattle.lif_dir.specs.Entries.{slot_bytes};
-ghost use Rattle.lif_volume.specs.Views.{IsLegalDirectory, IsDirectoryOn};
+ghost use Rattle.lif_plan.specs.Directories.{IsLegalDirectory};
+ghost use Rattle.lif_volume.specs.Views.{IsDirectoryOn};
 ghost use Rattle.lif_volume.specs.Answers.{store_answer, IsNotLif, IsLegalAs};
 ghost use Rattle.lif_volume.specs.Commands.{directory_records};
 
-use crate::directory::Directory;
-use crate::fault::{Refusal, VolumeFault};
+use crate::fault::VolumeFault;
 use il_ports::{Records, Trouble};
 use lif_dir::slots_of;
 use lif_header::Header;
 use lif_model::RECORD;
+use lif_plan::{Directory, Refusal};
 
 /// Reads record 0 and the directory, and tests that they are legal: if not, the answer is NotLif.
 /// No record changes. After any other answer than Ok the slots in memory are any.

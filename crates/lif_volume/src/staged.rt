@@ -12,12 +12,13 @@ ghost use Rattle.lif_model.specs.Writing.{changes_by};
 ghost use Rattle.il_ports.specs.Stores.{IsReady, GoesOn, IsQuiet, RunLeaves};
 ghost use Rattle.lif_redo.specs.Reading.{version_of};
 ghost use Rattle.lif_redo.specs.Writing.{AddsWrites};
-ghost use Rattle.lif_volume.specs.Plans.{BroughtIn, AreOthers, IsStagedAs, change_writes};
+ghost use Rattle.lif_volume.specs.Plans.{BroughtIn, AreOthers, IsStagedAs};
+ghost use Rattle.lif_plan.specs.Plans.{change_writes};
 
-use crate::plans::{ENTRIES, SlotChange};
 use il_ports::{Records, Trouble};
 use lif_header::bytes_at;
 use lif_model::RECORD;
+use lif_plan::{ENTRIES, SlotChange};
 use lif_redo::commit;
 use std::alloc::{AllocError, Global};
 

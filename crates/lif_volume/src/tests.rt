@@ -3,27 +3,36 @@ ghost use Rattle.lif_volume.specs.Views.{IsOpen};
 
 use crate::{Fetched, Listing, Refusal, Seen, Volume, VolumeFault};
 use il_ports::{MemoryRecords, Records, Trouble};
-use lif_dir::{Name, NewName, without_end_spaces};
+use lif_dir::{Name, NewLabel, NewName};
 use lif_model::RECORD;
 use std::alloc::{AllocError, Global};
 use std::process::Abort;
 use std::test::Fail;
 
-/// The headers of a volume HPTAPE and of one without a label. The directories are records 2 and 3.
-const HEADER: &[u8] = b"\x80\0HPTAPE\0\0\0\x02\x10\0\0\0\0\0\0\x02\0\x01\0\0";
+/// The headers of a volume HPTAPE, as it is formatted, and of one without a label. The directories
+/// are records 2 and 3.
+const HEADER: &[u8] =
+    b"\x80\0HPTAPE\0\0\0\x02\x10\0\0\0\0\0\0\x02\0\x01\0\0\0\0\0\x02\0\0\0\x01\0\0\x01\0";
 
 const FOREIGN_HEADER: &[u8] = b"\x80\0      \0\0\0\x02\x10\0\0\0\0\0\0\x02";
 
-/// The end of a directory.
+/// The end of a directory, and a slot of zeros, which is purged.
 const END: &[u8] = b"\0\0\0\0\0\0\0\0\0\0\xFF\xFF";
+
+const ZEROS: &[u8] = &[0; 32];
 
 /// A program of an HP-41, in records 4 and 5.
 const PROGRAM: &[u8] = b"PROG1     \xE0\x80\0\0\0\x04\0\0\0\x02\0\0\0\0\0\0\x80\x01\0\0\x01\x80";
 
-/// A file in record 4, and another one that shares the record.
+/// A file in the last record of a cassette.
+const LAST: &[u8] = b"LAST      \0\x01\0\0\x01\xFF\0\0\0\x01\0\0\0\0\0\0\x80\x01\0\0\0\0";
+
+/// A file in record 4; the same purged, and under another name.
 const FILE: &[u8] = b"A         \0\x01\0\0\0\x04\0\0\0\x01\0\0\0\0\0\0\x80\x01\0\0\0\0";
 
-const OTHER: &[u8] = b"B         \0\x01\0\0\0\x03\0\0\0\x02\0\0\0\0\0\0\x80\x01\0\0\0\0";
+const PURGED: &[u8] = b"A         \0\0\0\0\0\x04\0\0\0\x01\0\0\0\0\0\0\x80\x01\0\0\0\0";
+
+const RENAMED: &[u8] = b"B         \0\x01\0\0\0\x04\0\0\0\x01\0\0\0\0\0\0\x80\x01\0\0\0\0";
 
 /// The redo file of a cassette, of version 1 and of version 2.
 const REDO: &[u8] = b"REDOFILE  \xE0\xD0\0\0\x01\xFC\0\0\0\x04\0\0\0\0\0\0\x80\x01\0\0\0\0";
@@ -125,19 +134,15 @@ fn resume_now<R: Records>(rt: &impl Abort, volume: &mut Volume<R>) -> Result<(),
     volume.records_mut().resume()
 }
 
-/// Whether the slots are those of these live files, and so many purged ones behind them.
-fn shows<R: Records>(volume: &Volume<R>, names: &[&[u8]], purged: usize) -> bool {
-    let slots = volume.slots();
-    if slots.len().checked_sub(names.len()) != Some(purged) {
+/// Whether the slots are these, with all their bytes.
+fn holds<R: Records>(volume: &Volume<R>, slots: &[&[u8]]) -> bool {
+    let table = volume.slots();
+    if table.len() != slots.len() {
         return false;
     }
-    for k in 0..slots.len() {
-        let entry = slots.entry(k);
-        let right = match names.get(k) {
-            Some(name) => entry.is_live() && without_end_spaces(&entry.name.bytes()) == *name,
-            None => !entry.is_live(),
-        };
-        if !right {
+    for k in 0..table.len() {
+        let bytes = table.entry(k).bytes();
+        if slots.get(k).copied() != Some(bytes.as_slice()) {
             return false;
         }
     }
@@ -160,7 +165,7 @@ fn lists_and_fetches_a_foreign_volume(rt: HostRuntime) -> Result<(), Fail> {
     let listing = dir_now(&rt, &mut volume)?;
     assert_eq!(rt; listing.label.as_slice(), b"      ".as_slice());
     assert_eq!(rt; (listing.start, listing.length), (2, 2));
-    assert!(rt; shows(&volume, &[b"PROG1"], 0));
+    assert!(rt; holds(&volume, &[PROGRAM]));
     let mut into = Vec::with_capacity(alloc, 512 * RECORD)?;
     into.resize(512 * RECORD, 0)?;
     let fetched = fetch_now(&rt, &mut volume, b"PROG1", &mut into)?;
@@ -173,62 +178,82 @@ fn lists_and_fetches_a_foreign_volume(rt: HostRuntime) -> Result<(), Fail> {
     );
     assert_eq!(rt; volume.records().left(), 10000 - 5);
     assert!(rt; volume.is_kept());
+    assert_eq!(rt;
+        change_now(&rt, &mut volume, Step::Purge(b"PROG1")),
+        NO_REDO
+    );
+    assert_eq!(rt; change_now(&rt, &mut volume, Step::Adopt), Ok(()));
+    assert!(rt; holds(&volume, &[PROGRAM, REDO]));
+    assert_eq!(rt;
+        volume.records().records().get(2).map(|record| record[74]),
+        Some(0xFF)
+    );
+    let tape = tape_of(&rt, alloc, 512, FOREIGN_HEADER, &[PROGRAM, LAST, END], &[])?;
+    let mut volume = open_now(&rt, alloc, tape, Vec::new(alloc))?;
+    assert_eq!(rt; change_now(&rt, &mut volume, Step::Adopt), IN_USE);
     Ok(())
 }
 
-/// Whether `dir` lists these live files and so many purged ones, and keeps them.
+/// Whether `dir` lists the volume HPTAPE with these slots, keeps them, and leaves a gate that begins
+/// so.
 fn lists(
     rt: &impl Abort,
     alloc: Global,
     tape: Vec<[u8; 256]>,
-    names: &[&[u8]],
-    purged: usize,
+    slots: &[&[u8]],
+    gate: &[u8],
 ) -> Result<bool, Fail> {
     let mut volume = open_now(rt, alloc, tape, Vec::new(alloc))?;
-    dir_now(rt, &mut volume)?;
-    Ok(volume.is_kept() && shows(&volume, names, purged))
+    let listing = dir_now(rt, &mut volume)?;
+    assert_eq!(rt; listing.label.as_slice(), b"HPTAPE".as_slice());
+    assert_eq!(rt; (listing.start, listing.length), (2, 2));
+    let shut = match volume.records().records().get(508) {
+        Some(record) => record.starts_with(gate),
+        None => false,
+    };
+    Ok(volume.is_kept() && holds(&volume, slots) && shut)
 }
 
 #[test]
 fn settles_before_it_lists(rt: HostRuntime) -> Result<(), Fail> {
     let alloc = rt.alloc();
+    let zeros = [0; RECORD];
+    let tape = tape_of(&rt, alloc, 512, HEADER, &[REDO, END], &[])?;
+    assert!(rt; lists(&rt, alloc, tape, &[REDO], &zeros)?);
     let mut changed = [0; RECORD];
     changed[..32].copy_from_slice(FILE);
     changed[32..64].copy_from_slice(REDO);
     changed[64..64 + END.len()].copy_from_slice(END);
     // An open redo, a gate that is not open, and targets that are not valid.
-    let rows = [
-        (GATE, TARGETS, true),
-        (b"LIFREDO1 OPEN  X".as_slice(), TARGETS, false),
-        (GATE, TARGETS_THREE, false),
+    let shut = b"LIFREDO1 OPEN  X".as_slice();
+    let rows: [(&[u8], &[u8], &[&[u8]], &[u8]); 3] = [
+        (GATE, TARGETS, &[FILE, REDO], &zeros),
+        (shut, TARGETS, &[REDO], shut),
+        (GATE, TARGETS_THREE, &[REDO], GATE),
     ];
-    for (gate, targets, redone) in rows {
+    for (gate, targets, slots, left) in rows {
         let others = [(508, gate), (509, targets), (510, changed.as_slice())];
         let tape = tape_of(&rt, alloc, 512, HEADER, &[REDO, END], &others)?;
-        let names: &[&[u8]] = if redone {
-            &[b"A", b"REDOFILE"]
-        } else {
-            &[b"REDOFILE"]
-        };
-        assert!(rt; lists(&rt, alloc, tape, names, 0)?);
+        assert!(rt; lists(&rt, alloc, tape, slots, left)?);
     }
     // The same of version 2, and of version 1 where the change is a record of zeros.
     changed[32..64].copy_from_slice(REDO_TWO);
     let others = [(508, GATE), (509, TARGETS_TWO), (478, changed.as_slice())];
     let tape = tape_of(&rt, alloc, 512, HEADER, &[REDO_TWO, END], &others)?;
-    assert!(rt; lists(&rt, alloc, tape, &[b"A", b"REDOFILE"], 0)?);
+    assert!(rt; lists(&rt, alloc, tape, &[FILE, REDO_TWO], &zeros)?);
     let others = [(508, GATE), (509, TARGETS), (478, changed.as_slice())];
     let tape = tape_of(&rt, alloc, 512, HEADER, &[REDO_TWO, END], &others)?;
-    assert!(rt; lists(&rt, alloc, tape, &[], 16)?);
+    assert!(rt; lists(&rt, alloc, tape, &[ZEROS; 16], &zeros)?);
     Ok(())
 }
 
 #[test]
 fn tells_legal_discs(rt: HostRuntime) -> Result<(), Fail> {
     let alloc = rt.alloc();
+    let zeros = [0; RECORD];
     let far = b"C         \0\x01\0\0\x09\x9F\0\0\0\x01\0\0\0\0\0\0\x80\x01\0\0\0\0";
     let legal = tape_of(&rt, alloc, 2464, HEADER, &[far, FILE, END], &[])?;
-    assert!(rt; lists(&rt, alloc, legal, &[b"C", b"A"], 0)?);
+    assert!(rt; lists(&rt, alloc, legal, &[far, FILE], &zeros)?);
     let past = b"C         \0\x01\0\0\x09\x9F\0\0\0\x02\0\0\0\0\0\0\x80\x01\0\0\0\0";
     let in_directory = b"D         \0\x01\0\0\0\x03\0\0\0\x01\0\0\0\0\0\0\x80\x01\0\0\0\0";
     let twin = b"A         \0\x01\0\0\0\x09\0\0\0\x01\0\0\0\0\0\0\x80\x01\0\0\0\0";
@@ -242,6 +267,16 @@ fn tells_legal_discs(rt: HostRuntime) -> Result<(), Fail> {
         );
         assert!(rt; !volume.is_kept());
     }
+    // The redo file of a cassette adopts no disc.
+    let cassette = tape_of(&rt, alloc, 2464, HEADER, &[REDO, END], &[])?;
+    let mut volume = open_now(&rt, alloc, cassette, Vec::new(alloc))?;
+    dir_now(&rt, &mut volume)?;
+    assert!(rt; holds(&volume, &[REDO]));
+    assert_eq!(rt;
+        change_now(&rt, &mut volume, Step::Purge(b"REDOFILE")),
+        NO_REDO
+    );
+    assert_eq!(rt; change_now(&rt, &mut volume, Step::Adopt), EXISTS);
     Ok(())
 }
 
@@ -262,18 +297,22 @@ fn protects_the_redo_file_and_forgets_after_a_trouble(rt: HostRuntime) -> Result
         assert_eq!(rt; resume_now(&rt, &mut volume), Ok(()));
         volume.begin();
         assert_eq!(rt; fetch_now(&rt, &mut volume, b"A", &mut into)?.length, 256);
+        let protected = Err(VolumeFault::Refused(Refusal::Protected));
         assert_eq!(rt;
             fetch_now(&rt, &mut volume, b"REDOFILE", &mut into),
-            Err(VolumeFault::Refused(Refusal::Protected))
+            protected
         );
+        let no_file = Err(VolumeFault::Refused(Refusal::NoFile));
+        assert_eq!(rt; fetch_now(&rt, &mut volume, b"B", &mut into), no_file);
         assert!(rt; volume.is_kept());
     }
     Ok(())
 }
 
-/// A command that changes the directory.
+/// A command that changes a volume.
 #[derive(Clone, Copy, Debug)]
 enum Step<'a> {
+    Format(&'a [u8], u16),
     Purge(&'a [u8]),
     Rename(&'a [u8], &'a [u8]),
     Adopt,
@@ -293,6 +332,13 @@ fn change_now<R: Records>(
     assert!(rt; volume.records().is_sound());
     assert!(rt; 2 * size + 40 <= volume.records().left());
     match step {
+        Step::Format(label, slots) => {
+            assert!(rt; 0 < slots);
+            match NewLabel::of(label) {
+                Some(label) => volume.format(&label, slots),
+                None => Ok(()),
+            }
+        }
         Step::Purge(name) => match Name::of(name) {
             Some(name) => volume.purge(&name),
             None => Ok(()),
@@ -310,27 +356,6 @@ fn new_name(bytes: &[u8]) -> Option<NewName> {
     NewName::of(&Name::of(bytes)?)
 }
 
-/// Whether the slots are those of these names, in order; a purged slot has none.
-fn slots_are<R: Records>(volume: &Volume<R>, names: &[&[u8]]) -> bool {
-    let slots = volume.slots();
-    if slots.len() != names.len() {
-        return false;
-    }
-    for k in 0..slots.len() {
-        let entry = slots.entry(k);
-        let name = entry.name.bytes();
-        let right = match names.get(k) {
-            Some(name_of_slot) if entry.is_live() => without_end_spaces(&name) == *name_of_slot,
-            Some(name_of_slot) => name_of_slot.is_empty(),
-            None => false,
-        };
-        if !right {
-            return false;
-        }
-    }
-    true
-}
-
 const NO_REDO: Result<(), VolumeFault> = Err(VolumeFault::Refused(Refusal::NoRedo));
 
 const PROTECTED: Result<(), VolumeFault> = Err(VolumeFault::Refused(Refusal::Protected));
@@ -341,6 +366,8 @@ const EXISTS: Result<(), VolumeFault> = Err(VolumeFault::Refused(Refusal::Exists
 
 const IN_USE: Result<(), VolumeFault> = Err(VolumeFault::Refused(Refusal::InUse));
 
+const NO_ROOM: Result<(), VolumeFault> = Err(VolumeFault::Refused(Refusal::NoRoom));
+
 /// A file in the last record but one, and one in record 480.
 const LATE: &[u8] = b"L         \0\x01\0\0\x01\xFE\0\0\0\x01\0\0\0\0\0\0\x80\x01\0\0\0\0";
 
@@ -349,7 +376,7 @@ const HIGH: &[u8] = b"H         \0\x01\0\0\x01\xE0\0\0\0\x01\0\0\0\0\0\0\x80\x01
 /// A file that is no redo file, under its name.
 const OTHER_REDO: &[u8] = b"REDOFILE  \0\x01\0\0\0\x04\0\0\0\x01\0\0\0\0\0\0\x80\x01\0\0\0\0";
 
-/// The slots of a directory, a command, its answer, and the names in the slots behind it.
+/// The slots of a directory, a command, its answer, and the slots behind it.
 type Row = (
     &'static [&'static [u8]],
     Step<'static>,
@@ -357,177 +384,321 @@ type Row = (
     &'static [&'static [u8]],
 );
 
-const ROWS: [Row; 15] = [
-    (&[FILE, END], Step::Purge(b"A"), NO_REDO, &[b"A"]),
-    (&[FILE, END], Step::Upgrade, NO_REDO, &[b"A"]),
-    (&[FILE, END], Step::Adopt, Ok(()), &[b"A", b"REDOFILE"]),
+/// What commands answer, and what they make of a directory.
+const ROWS: [Row; 17] = [
+    (&[FILE], Step::Purge(b"A"), NO_REDO, &[FILE]),
+    (&[FILE], Step::Upgrade, NO_REDO, &[FILE]),
     (
-        &[FILE, REDO, END],
+        &[OTHER_REDO, LATE],
         Step::Adopt,
-        Ok(()),
-        &[b"A", b"REDOFILE"],
+        EXISTS,
+        &[OTHER_REDO, LATE],
     ),
+    (&[FILE, LATE], Step::Adopt, IN_USE, &[FILE, LATE]),
+    (&[FILE, REDO], Step::Adopt, Ok(()), &[FILE, REDO]),
     (
-        &[FILE, REDO, END],
-        Step::Purge(b"REDOFILE"),
-        PROTECTED,
-        &[b"A", b"REDOFILE"],
-    ),
-    (
-        &[FILE, REDO, END],
-        Step::Rename(b"B", b"REDOFILE"),
-        PROTECTED,
-        &[b"A", b"REDOFILE"],
-    ),
-    (
-        &[FILE, REDO, END],
-        Step::Rename(b"B", b"A"),
-        NO_FILE,
-        &[b"A", b"REDOFILE"],
-    ),
-    (
-        &[FILE, REDO, END],
+        &[FILE, REDO],
         Step::Rename(b"A", b"A"),
         Ok(()),
-        &[b"A", b"REDOFILE"],
+        &[FILE, REDO],
     ),
     (
-        &[FILE, REDO, END],
-        Step::Rename(b"A", b"B"),
-        Ok(()),
-        &[b"B", b"REDOFILE"],
+        &[FILE, REDO],
+        Step::Rename(b"A", b"REDOFILE"),
+        PROTECTED,
+        &[FILE, REDO],
     ),
     (
-        &[FILE, HIGH, REDO, END],
+        &[FILE, REDO],
+        Step::Rename(b"B", b"REDOFILE"),
+        PROTECTED,
+        &[FILE, REDO],
+    ),
+    (
+        &[FILE, REDO],
+        Step::Rename(b"REDOFILE", b"C"),
+        PROTECTED,
+        &[FILE, REDO],
+    ),
+    (
+        &[FILE, REDO],
+        Step::Rename(b"B", b"C"),
+        NO_FILE,
+        &[FILE, REDO],
+    ),
+    (
+        &[FILE, REDO],
+        Step::Rename(b"B", b"A"),
+        NO_FILE,
+        &[FILE, REDO],
+    ),
+    (
+        &[FILE, HIGH, REDO],
         Step::Rename(b"A", b"H"),
         EXISTS,
-        &[b"A", b"H", b"REDOFILE"],
+        &[FILE, HIGH, REDO],
     ),
     (
-        &[FILE, REDO_TWO, END],
-        Step::Purge(b"A"),
-        Ok(()),
-        &[b"", b"REDOFILE"],
+        &[FILE, REDO],
+        Step::Purge(b"REDOFILE"),
+        PROTECTED,
+        &[FILE, REDO],
     ),
-    (
-        &[FILE, REDO_TWO, END],
-        Step::Upgrade,
-        Ok(()),
-        &[b"A", b"REDOFILE"],
-    ),
-    (
-        &[HIGH, REDO, END],
-        Step::Upgrade,
-        IN_USE,
-        &[b"H", b"REDOFILE"],
-    ),
-    (
-        &[OTHER_REDO, LATE, END],
-        Step::Adopt,
-        EXISTS,
-        &[b"REDOFILE", b"L"],
-    ),
-    (&[LATE, END], Step::Adopt, IN_USE, &[b"L"]),
+    (&[FILE, REDO], Step::Purge(b"A"), Ok(()), &[PURGED, REDO]),
+    (&[PURGED, REDO], Step::Purge(b"A"), NO_FILE, &[PURGED, REDO]),
+    (&[HIGH, REDO], Step::Upgrade, IN_USE, &[HIGH, REDO]),
+    (&[FILE, REDO_TWO], Step::Upgrade, Ok(()), &[FILE, REDO_TWO]),
 ];
+
+/// A tape with this header and this directory, and an end behind it.
+fn tape_with(
+    rt: &impl Abort,
+    alloc: Global,
+    header: &[u8],
+    slots: &[&[u8]],
+) -> Result<Vec<[u8; 256]>, AllocError> {
+    assert!(rt; slots.len() < 8);
+    let mut tape = tape_of(rt, alloc, 512, header, slots, &[])?;
+    put(rt, &mut tape, 2, 32 * slots.len(), END);
+    Ok(tape)
+}
+
+/// Whether `dir` lists these slots, of a volume with this record 0; or no volume, where that is
+/// empty.
+fn shows(
+    rt: &impl Abort,
+    volume: &mut Volume<MemoryRecords>,
+    header: &[u8],
+    slots: &[&[u8]],
+) -> bool
+    requires { IsOpen ⟦<MemoryRecords as Records>⟧.view
+        (⟦<Volume<MemoryRecords> as Seen<MemoryRecords>>⟧.seen volume.old) }
+    ensures { IsOpen ⟦<MemoryRecords as Records>⟧.view
+        (⟦<Volume<MemoryRecords> as Seen<MemoryRecords>>⟧.seen volume.new) }
+{
+    let answer = dir_now(rt, volume);
+    if header.is_empty() {
+        return !volume.is_kept() && answer == Err(VolumeFault::Refused(Refusal::NotLif));
+    }
+    let front = match volume.records().records().get(0) {
+        Some(record) => record.starts_with(header),
+        None => false,
+    };
+    answer.is_ok() && volume.is_kept() && front && holds(volume, slots)
+}
 
 #[test]
 fn changes_the_directory(rt: HostRuntime) -> Result<(), Fail> {
     let alloc = rt.alloc();
-    for (slots, step, answer, names) in ROWS {
-        let tape = tape_of(&rt, alloc, 512, HEADER, slots, &[])?;
+    for (slots, step, answer, behind) in ROWS {
+        let tape = tape_with(&rt, alloc, HEADER, slots)?;
         let mut volume = open_now(&rt, alloc, tape, Vec::new(alloc))?;
         assert_eq!(rt; change_now(&rt, &mut volume, step), answer);
-        assert!(rt; volume.is_kept() && slots_are(&volume, names));
-        assert!(rt; answer.is_ok() || volume.records().writes().is_empty());
+        assert!(rt; volume.is_kept() && holds(&volume, behind));
+        assert!(rt; slots != behind || volume.records().writes().is_empty());
         // The same as it is read again.
         assert_eq!(rt; resume_now(&rt, &mut volume), Ok(()));
-        dir_now(&rt, &mut volume)?;
-        assert!(rt; slots_are(&volume, names));
+        assert!(rt; shows(&rt, &mut volume, HEADER, behind));
     }
-    Ok(())
-}
-
-#[test]
-fn adopts_and_upgrades(rt: HostRuntime) -> Result<(), Fail> {
-    let alloc = rt.alloc();
-    let tape = tape_of(&rt, alloc, 512, HEADER, &[FILE, END], &[])?;
-    let mut volume = open_now(&rt, alloc, tape, Vec::new(alloc))?;
-    assert_eq!(rt; change_now(&rt, &mut volume, Step::Adopt), Ok(()));
-    assert_eq!(rt; change_now(&rt, &mut volume, Step::Upgrade), Ok(()));
-    let record = volume
-        .records()
-        .records()
-        .get(2)
-        .copied()
-        .unwrap_or([0; RECORD]);
-    assert_eq!(rt; &record[32..64], REDO_TWO);
-    assert_eq!(rt; &record[74..76], b"\xFF\xFF".as_slice());
+    // A tape of zeros is no volume.
     let blank = tape_of(&rt, alloc, 512, b"", &[], &[])?;
     let mut volume = open_now(&rt, alloc, blank, Vec::new(alloc))?;
-    let not_lif = Err(VolumeFault::Refused(Refusal::NotLif));
-    assert_eq!(rt; change_now(&rt, &mut volume, Step::Purge(b"A")), not_lif);
+    let not_lif = VolumeFault::Refused(Refusal::NotLif);
+    assert_eq!(rt; dir_now(&rt, &mut volume), Err(not_lif));
+    assert_eq!(rt;
+        change_now(&rt, &mut volume, Step::Purge(b"A")),
+        Err(not_lif)
+    );
     assert!(rt; !volume.is_kept());
     Ok(())
 }
 
-/// The tape with these slots behind the first `k` writes, torn within the next.
-fn left_behind(
+/// The header that is formatted with another label, of a longer directory, and of a disc; and the
+/// redo file of a disc.
+const SECOND_HEADER: &[u8] =
+    b"\x80\0SECOND\0\0\0\x02\x10\0\0\0\0\0\0\x01\0\x01\0\0\0\0\0\x02\0\0\0\x01\0\0\x01\0";
+
+const LONG_HEADER: &[u8] =
+    b"\x80\0HPTAPE\0\0\0\x02\x10\0\0\0\0\0\x01\xFA\0\x01\0\0\0\0\0\x02\0\0\0\x01\0\0\x01\0";
+
+const DISC_HEADER: &[u8] =
+    b"\x80\0HPDISC\0\0\0\x02\x10\0\0\0\0\0\0\x10\0\x01\0\0\0\0\0\x4D\0\0\0\x02\0\0\0\x10";
+
+const LONG_DISC_HEADER: &[u8] =
+    b"\x80\0HPDISC\0\0\0\x02\x10\0\0\0\0\0\x09\x9A\0\x01\0\0\0\0\0\x4D\0\0\0\x02\0\0\0\x10";
+
+const DISC_REDO: &[u8] = b"REDOFILE  \xE0\xD0\0\0\x09\x9C\0\0\0\x04\0\0\0\0\0\0\x80\x01\0\0\0\0";
+
+/// The header of a medium and the slots of its directory.
+type Shown = (&'static [u8], &'static [&'static [u8]]);
+
+const NONE: Shown = (b"", &[]);
+
+const BASE: Shown = (HEADER, &[REDO]);
+
+const TWO: Shown = (HEADER, &[FILE, REDO_TWO]);
+
+const FULL: Shown = (FOREIGN_HEADER, &[PROGRAM, LAST]);
+
+const LONG: Shown = (LONG_HEADER, &[REDO]);
+
+const DISC: Shown = (DISC_HEADER, &[DISC_REDO]);
+
+const LONG_DISC: Shown = (LONG_DISC_HEADER, &[DISC_REDO]);
+
+/// How many records a medium has, what it shows, the label and the slots that it is formatted with,
+/// the answer, and what it shows behind that.
+const FORMATS: [(usize, Shown, (&[u8], u16), Result<(), VolumeFault>, Shown); 9] = [
+    (512, NONE, (b"HPTAPE", 4049), NO_ROOM, NONE),
+    (512, NONE, (b"HPTAPE", 16), Ok(()), BASE),
+    (512, BASE, (b"HPTAPE", 4049), NO_ROOM, BASE),
+    (512, TWO, (b"HPTAPE", 4048), Ok(()), LONG),
+    (512, FULL, (b"HPTAPE", 8), IN_USE, FULL),
+    (512, FULL, (b"HPTAPE", 4049), NO_ROOM, FULL),
+    (2464, NONE, (b"HPDISC", 19665), NO_ROOM, NONE),
+    (2464, NONE, (b"HPDISC", 128), Ok(()), DISC),
+    (2464, BASE, (b"HPDISC", 19664), Ok(()), LONG_DISC),
+];
+
+/// A medium with this header and this directory, an end behind it, a gate that is open with targets
+/// that are not valid, and bytes in records 3 and 500.
+fn medium_of(
     rt: &impl Abort,
     alloc: Global,
+    size: usize,
+    header: &[u8],
     slots: &[&[u8]],
+) -> Result<Vec<[u8; 256]>, AllocError> {
+    assert!(rt; 4 < size && slots.len() < 8);
+    let others = [
+        (3, [7; RECORD].as_slice()),
+        (500, PROGRAM),
+        (size - 4, GATE),
+        (size - 3, TARGETS_THREE),
+    ];
+    let mut medium = tape_of(rt, alloc, size, header, slots, &others)?;
+    put(rt, &mut medium, 2, 32 * slots.len(), END);
+    Ok(medium)
+}
+
+#[test]
+fn formats_any_tape(rt: HostRuntime) -> Result<(), Fail> {
+    let alloc = rt.alloc();
+    for (size, (header, slots), (label, count), answer, (front, listed)) in FORMATS {
+        assert!(rt; 500 < size && size < 3000);
+        let mut medium = medium_of(&rt, alloc, size, header, slots)?;
+        put(&rt, &mut medium, 2, 200, b"old");
+        let mut volume = open_now(&rt, alloc, medium, Vec::new(alloc))?;
+        assert!(rt; shows(&rt, &mut volume, header, slots));
+        let left = volume.records().left();
+        assert_eq!(rt;
+            change_now(&rt, &mut volume, Step::Format(label, count)),
+            answer
+        );
+        // A refusal makes no call: it is NoRoom, or the directory is kept.
+        assert!(rt; answer.is_ok() || volume.records().left() == left);
+        assert_eq!(rt; volume.is_kept(), !front.is_empty());
+        let mut behind = medium_of(&rt, alloc, size, front, listed)?;
+        if answer.is_ok() {
+            // The gate is closed; then two contents, the targets, the gate, record 0, record 2, and
+            // the gate again.
+            assert_eq!(rt; volume.records().writes().len(), 8);
+            put(&rt, &mut behind, size - 4, 0, &[0; RECORD]);
+        } else {
+            put(&rt, &mut behind, 2, 200, b"old");
+        }
+        for n in 0..size - 3 {
+            assert_eq!(rt; volume.records().records().get(n), behind.get(n));
+        }
+        assert_eq!(rt; resume_now(&rt, &mut volume), Ok(()));
+        assert!(rt; shows(&rt, &mut volume, front, listed));
+    }
+    Ok(())
+}
+
+/// What a tape shows before a command, the command, and what it shows behind it, which another
+/// commit makes; which write opens the gate, how many writes there are, and how many calls of the
+/// store.
+type Turn = (Shown, Step<'static>, Shown, usize, usize, u64);
+
+const ONE: Shown = (HEADER, &[FILE, REDO]);
+
+const SECOND: Shown = (SECOND_HEADER, &[REDO]);
+
+const SECOND_STEP: Step<'static> = Step::Format(b"SECOND", 8);
+
+/// A commit writes the contents, the targets, the gate, the records in place, and the gate again.
+/// What is read is the gate, record 0 and the directory; and for the commit the record of a slot,
+/// and the gate. A tape without a header has no directory to be read.
+const TURNS: [Turn; 8] = [
+    (ONE, Step::Purge(b"A"), (HEADER, &[PURGED, REDO]), 2, 5, 10),
+    (
+        ONE,
+        Step::Rename(b"A", b"B"),
+        (HEADER, &[RENAMED, REDO]),
+        2,
+        5,
+        10,
+    ),
+    (
+        TWO,
+        Step::Rename(b"A", b"B"),
+        (HEADER, &[RENAMED, REDO_TWO]),
+        2,
+        5,
+        10,
+    ),
+    ((HEADER, &[FILE]), Step::Adopt, ONE, 2, 5, 10),
+    (ONE, Step::Upgrade, TWO, 2, 5, 10),
+    (TWO, SECOND_STEP, SECOND, 3, 7, 11),
+    ((FOREIGN_HEADER, &[PROGRAM]), SECOND_STEP, SECOND, 3, 7, 11),
+    ((b"", &[FILE]), SECOND_STEP, SECOND, 3, 7, 10),
+];
+
+/// The tape behind the first `k` writes, torn within the next.
+fn stopped(
+    rt: &impl Abort,
+    mut tape: Vec<[u8; 256]>,
     writes: &[(u16, [u8; 256])],
     k: usize,
     torn: &[u8; 256],
-) -> Result<Vec<[u8; 256]>, AllocError> {
-    let mut left = tape_of(rt, alloc, 512, HEADER, slots, &[])?;
+) -> Vec<[u8; 256]> {
     for (n, bytes) in writes.iter().take(k) {
-        put(rt, &mut left, usize::from(*n), 0, bytes);
+        put(rt, &mut tape, usize::from(*n), 0, bytes);
     }
     if let Some((n, _)) = writes.get(k) {
-        put(rt, &mut left, usize::from(*n), 0, torn);
+        put(rt, &mut tape, usize::from(*n), 0, torn);
     }
-    Ok(left)
+    tape
 }
 
-/// What a command makes of a directory: its slots before and behind.
-const TURNS: [(&[&[u8]], Step<'static>, &[&[u8]], &[&[u8]]); 4] = [
-    (
-        &[FILE, REDO, END],
-        Step::Purge(b"A"),
-        &[b"A", b"REDOFILE"],
-        &[b"", b"REDOFILE"],
-    ),
-    (
-        &[FILE, REDO_TWO, END],
-        Step::Rename(b"A", b"B"),
-        &[b"A", b"REDOFILE"],
-        &[b"B", b"REDOFILE"],
-    ),
-    (&[FILE, END], Step::Adopt, &[b"A"], &[b"A", b"REDOFILE"]),
-    (
-        &[FILE, REDO, END],
-        Step::Upgrade,
-        &[b"A", b"REDOFILE"],
-        &[b"A", b"REDOFILE"],
-    ),
-];
-
 #[test]
-fn a_stop_leaves_the_old_or_the_new_directory(rt: HostRuntime) -> Result<(), Fail> {
+fn a_stop_leaves_the_old_or_the_new_volume(rt: HostRuntime) -> Result<(), Fail> {
     let alloc = rt.alloc();
     let mut gate = [0; RECORD];
     gate[..GATE.len()].copy_from_slice(GATE);
-    for (slots, step, old, new) in TURNS {
-        let tape = tape_of(&rt, alloc, 512, HEADER, slots, &[])?;
+    for ((header, slots), step, (front, listed), opening, writes, calls) in TURNS {
+        let tape = tape_with(&rt, alloc, header, slots)?;
         let mut volume = open_now(&rt, alloc, tape, Vec::new(alloc))?;
         assert_eq!(rt; change_now(&rt, &mut volume, step), Ok(()));
+        assert!(rt; shows(&rt, &mut volume, front, listed));
         let records = volume.into_records();
-        for k in 0..records.writes().len() {
-            for torn in [[0; RECORD], [0xFF; RECORD], gate] {
-                let left = left_behind(&rt, alloc, slots, records.writes(), k, &torn)?;
-                let mut stopped = open_now(&rt, alloc, left, Vec::new(alloc))?;
-                dir_now(&rt, &mut stopped)?;
-                assert!(rt; slots_are(&stopped, old) || slots_are(&stopped, new));
+        assert_eq!(rt; records.writes().len(), writes);
+        assert!(rt; calls < 20);
+        assert_eq!(rt; u64::from(records.left()) + calls, 10000);
+        for k in 0..=writes {
+            for (torn, opens) in [([0; RECORD], false), ([0xFF; RECORD], false), (gate, true)] {
+                let tape = tape_with(&rt, alloc, header, slots)?;
+                let tape = stopped(&rt, tape, records.writes(), k, &torn);
+                let mut volume = open_now(&rt, alloc, tape, Vec::new(alloc))?;
+                let is_new = k > opening || k == opening && opens;
+                assert!(rt;
+                    if is_new {
+                        shows(&rt, &mut volume, front, listed)
+                    } else {
+                        shows(&rt, &mut volume, header, slots)
+                    }
+                );
             }
         }
     }
@@ -535,22 +706,21 @@ fn a_stop_leaves_the_old_or_the_new_directory(rt: HostRuntime) -> Result<(), Fai
 }
 
 #[test]
-fn a_trouble_leaves_the_old_or_the_new_directory(rt: HostRuntime) -> Result<(), Fail> {
+fn a_trouble_leaves_the_old_or_the_new_volume(rt: HostRuntime) -> Result<(), Fail> {
     let alloc = rt.alloc();
-    for (slots, step, old, new) in TURNS {
-        for call in 1..12 {
+    let trouble = Err(VolumeFault::Trouble(Trouble::Medium));
+    for ((header, slots), step, (front, listed), _, _, calls) in TURNS {
+        for call in 1..=calls {
             let mut fails = Vec::new(alloc);
             fails.push((call, Trouble::Medium))?;
-            let tape = tape_of(&rt, alloc, 512, HEADER, slots, &[])?;
+            let tape = tape_with(&rt, alloc, header, slots)?;
             let mut volume = open_now(&rt, alloc, tape, fails)?;
-            let answer = change_now(&rt, &mut volume, step);
-            if answer.is_err() {
-                assert_eq!(rt; answer, Err(VolumeFault::Trouble(Trouble::Medium)));
-                assert!(rt; !volume.is_kept());
-                assert_eq!(rt; resume_now(&rt, &mut volume), Ok(()));
-            }
-            dir_now(&rt, &mut volume)?;
-            assert!(rt; slots_are(&volume, old) || slots_are(&volume, new));
+            assert_eq!(rt; change_now(&rt, &mut volume, step), trouble);
+            assert!(rt; !volume.is_kept());
+            assert_eq!(rt; resume_now(&rt, &mut volume), Ok(()));
+            assert!(rt;
+                shows(&rt, &mut volume, header, slots) || shows(&rt, &mut volume, front, listed)
+            );
         }
     }
     Ok(())

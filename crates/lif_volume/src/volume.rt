@@ -1,12 +1,11 @@
-use crate::directory::Directory;
 use crate::fault::VolumeFault;
-use crate::plans::ENTRIES;
 use crate::reading::{read_directory, read_front};
 use crate::staged::Staged;
 use il_ports::Records;
 use lif_dir::{Name, SlotTable};
 use lif_header::Header;
 use lif_model::RECORD;
+use lif_plan::{Directory, ENTRIES};
 use lif_redo::settle;
 use std::alloc::Global;
 
@@ -78,6 +77,9 @@ impl<R: Records> Volume<R> {
     ghost use Rattle.lif_volume.specs.Commands.{IsReadyFor, Mounts, MountsAndReads, AnswersTo};
     ghost use Rattle.lif_volume.specs.Commands.{IsRefusedExactly, KeepsVolume, WritesBySettling};
     ghost use Rattle.lif_volume.specs.Commands.{Lists, Labels, FetchesFile, FetchesByRun};
+    ghost use Rattle.std.specs.Prelude.{[], ◌∷◌};
+    ghost use Rattle.lif_volume.specs.Changing.{IsOneOf};
+    ghost use Rattle.lif_plan.specs.declared.refusal.Refusal.TheVariants as refusal;
 
     /// A volume on these records, of which nothing is read yet. All memory of the volume is taken
     /// here; where there is none the records are handed back.
@@ -251,6 +253,8 @@ impl<R: Records> Volume<R> {
         ensures consults { MountsAndReads (name_bytes name.now) R.view
             (⟦<Volume<R> as Seen<R>>⟧.seen self.old)
             (⟦<Volume<R> as Seen<R>>⟧.seen self.new) result }
+        ensures only { IfErr result
+            (IsOneOf (refusal.NotLif ∷ refusal.Protected ∷ refusal.NoFile ∷ [])) }
         ensures answers { AnswersTo (Fetch (name_bytes name.now)) R.view
             (⟦<Volume<R> as Seen<R>>⟧.seen self.old)
             (⟦<Volume<R> as Seen<R>>⟧.seen self.new) result }

@@ -6,6 +6,13 @@ use Rattle.il_ports.proofs.Stores.{quiet_run, goes_further, goes_within}
 use Rattle.lif_volume.proofs.Staging.{change_takes, settles_here, commit_adds}
 use Rattle.lif_volume.proofs.staged.Staged.commit.Goals as goal
 
+pub returns-clause-writes : goal.returns-clause-writes
+returns-clause-writes g c =
+    let view = g.R.Records.view in
+    commit_adds (version_of c.args.change.now.version) (view c.args.records.now).record_count (view c.stage.new.records).record_count c.args.start (view c.args.records.now).tape (view c.stage.new.records).tape
+    c.args.change.now c.stage.new.self.changes.items c.deref.result.now _ _ _ c.commit.result c.deref.ensures.value c.stage.ensures.goes_on.continues.size c.stage.ensures.quiet.tape c.in_ok-stage.ensures.staged
+    c.in_ok-stage.ensures.reads c.commit.ensures.writes
+
 pub returns-in_err-stage-clause-any_moment : goal.returns-in_err-stage-clause-any_moment
 returns-in_err-stage-clause-any_moment g c = λ t told.
     quiet_run _ _ _ t (g.met.R.Records.is_store c.args.records.now) c.stage.ensures.quiet told (inl (settles_here (version_of c.args.change.now.version) t (c.requires.settled t told)))
@@ -27,10 +34,3 @@ returns-clause-goes_on g c =
     let both = change_takes (version_of c.args.change.now.version) (g.R.Records.view c.args.records.now).record_count c.args.start _ c.args.change.now c.stage.new.self.changes.items c.requires.within c.requires.end_within c.in_ok-stage.ensures.staged in
     goes_within (2 + (2 * length c.deref.result.now + 6)) 12 _ _ _ (omega (arith, both.1, ap length c.deref.ensures.value))
     (goes_further 2 (2 * length c.deref.result.now + 6) _ _ _ tt _ c.in_ok-stage.ensures.goes_on c.commit.ensures.goes_on)
-
-pub returns-clause-writes : goal.returns-clause-writes
-returns-clause-writes g c =
-    let view = g.R.Records.view in
-    commit_adds (version_of c.args.change.now.version) (view c.args.records.now).record_count (view c.stage.new.records).record_count c.args.start (view c.args.records.now).tape (view c.stage.new.records).tape
-    c.args.change.now c.stage.new.self.changes.items c.deref.result.now _ _ _ c.commit.result c.deref.ensures.value c.stage.ensures.goes_on.continues.size c.stage.ensures.quiet.tape c.in_ok-stage.ensures.staged
-    c.in_ok-stage.ensures.reads c.commit.ensures.writes

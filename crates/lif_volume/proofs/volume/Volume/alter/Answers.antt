@@ -10,7 +10,7 @@ use Rattle.lif_redo.specs.Writing.{AddsWrites}
 use Rattle.lif_dir.specs.Entries.{slot_bytes}
 use Rattle.lif_volume.specs.Views.{VolumeView}
 use Rattle.lif_volume.specs.Answers.{refused}
-use Rattle.lif_volume.specs.Plans.{IsPlan, ChangesSlot, change_writes}
+use Rattle.lif_plan.specs.Plans.{IsPlan, ChangesSlot, change_writes}
 use Rattle.lif_volume.proofs.Mounting.{seen, kept_is_of}
 use Rattle.lif_volume.proofs.Carrying.{refuses, changes_nothing, before_redo, fails, commits, commits_open}
 use Rattle.lif_volume.proofs.volume.Volume.alter.Goals as goal

@@ -1,4 +1,4 @@
-use Rattle.std.proofs.Common.{◌≡◌, ◌*◌, ℕ, List, length, map, refl, sym, ap, subst, ◌∙◌, arith, rules}
+use Rattle.std.proofs.Common.{◌≡◌, ◌*◌, inr, ℕ, List, [], ◌∷◌, length, map, refl, sym, ap, subst, ◌∙◌, arith, rules}
 use Rattle.std.specs.Prelude.{Option, Some, Result, Ok, Err, IfSome, take}
 use Rattle.lif_model.specs.Tape.{Tape}
 use Rattle.lif_model.specs.Header.{HeaderParts}
@@ -12,17 +12,39 @@ use Rattle.lif_dir.specs.Entries.{name_bytes, slot_bytes}
 use Rattle.lif_volume.specs.declared.fault.VolumeFault.{VolumeFault}
 use Rattle.lif_volume.specs.declared.volume.Fetched.{Fetched}
 use Rattle.lif_volume.specs.declared.volume.Volume.{Volume}
-use Rattle.lif_volume.specs.Views.{IsLegalDirectory, IsDirectoryOf}
-use Rattle.lif_volume.specs.Answers.{reason, refused, troubled}
+use Rattle.lif_plan.specs.Directories.{IsLegalDirectory}
+use Rattle.lif_volume.specs.Views.{IsDirectoryOf}
+use Rattle.lif_plan.specs.Refusals.{reason}
+use Rattle.lif_volume.specs.Answers.{refused, troubled}
 use Rattle.il_ports.specs.declared.records.Trouble.{Trouble}
 use Rattle.il_ports.specs.Transfers.{GoesOnBy}
 use Rattle.il_ports.specs.Stores.{GoesOn}
 use Rattle.il_ports.proofs.Stores.{goes_within}
 use Rattle.lif_volume.specs.Commands.{EndsWithRead, mounting, fetching}
-use Rattle.lif_volume.proofs.Joining.{long_there, fetch_bound}
+use Rattle.lif_plan.specs.declared.refusal.Refusal.TheVariants as refusal
+use Rattle.lif_volume.proofs.Joining.{long_there, fetch_bound, not_lif_only}
 use Rattle.lif_volume.proofs.Mounting.{seen, behind, kept_is_of, stays_reading, answers_refused, answers_fetch}
 use Rattle.lif_volume.proofs.Fetching.{legal_of, file_ready, file_within, file_room, file_goes_on, file_few, open_reading, ends_with_read, run_behind, file_is_fetched}
 use Rattle.lif_volume.proofs.volume.Volume.fetch.Goals as goal
+
+pub returns-in_err-file-clause-consults : goal.returns-in_err-file-clause-consults
+returns-in_err-file-clause-consults g c =
+    let is : c.from_residual-in_err-file.result ≡ Err (refused c.in_err-file.field-0.0) = search rules in
+    let x = seen c.args.self.now in
+    let y = seen c.mount.new.self in
+    let view = g.R.Records.view in
+    let n = (view c.args.self.now.records).record_count in
+    let e = c.in_ok-mount.ensures in
+    let header : HeaderParts = c.in_ok-mount.field-0 in
+    let failed : Result Fetched VolumeFault = Err (refused c.in_err-file.field-0.0) in
+    rw is (record {
+      goes_on = goes_within (mounting n x.kept (Some header)) (fetching n (name_bytes c.args.name.now) x.kept (map slot_bytes x.slots) failed) _ _ _
+          (fetch_bound n (name_bytes c.args.name.now) x.kept header (map slot_bytes x.slots) failed (long_there view x y header e.kept e.consults e.open))
+          (subst (λ (o : Option HeaderParts). GoesOn {T = Unit {0}} (mounting n x.kept o) (view x.records) (view y.records) (Ok tt)) e.kept e.consults.goes_on);
+      few = λ t told. omega (arith, e.consults.few t told);
+      settles = e.consults.settles;
+      kept = e.consults.kept ∙ sym c.in_err-file.ensures.known;
+    })
 
 pub read_front-requires-clause-ready : goal.read_front-requires-clause-ready
 read_front-requires-clause-ready g c =
@@ -75,25 +97,6 @@ returns-in_err-file-clause-answers g c =
     let size : c.size.result ≡ n = c.size.ensures ∙ e.consults.goes_on.continues.size in
     rw is (answers_refused n t u (behind t u _ now (e.consults.settles t told)) (Fetch (name_bytes c.args.name.now)) (reason c.in_err-file.field-0.0) (e.exactly t told)
     (λ v same. ap (λ (m : ℕ). refusal_of m (Fetch (name_bytes c.args.name.now)) (Some v)) (sym size) ∙ c.in_err-file.ensures.refusal v (same ∙ sym on.directory.bytes)))
-
-pub returns-in_err-file-clause-consults : goal.returns-in_err-file-clause-consults
-returns-in_err-file-clause-consults g c =
-    let is : c.from_residual-in_err-file.result ≡ Err (refused c.in_err-file.field-0.0) = search rules in
-    let x = seen c.args.self.now in
-    let y = seen c.mount.new.self in
-    let view = g.R.Records.view in
-    let n = (view c.args.self.now.records).record_count in
-    let e = c.in_ok-mount.ensures in
-    let header : HeaderParts = c.in_ok-mount.field-0 in
-    let failed : Result Fetched VolumeFault = Err (refused c.in_err-file.field-0.0) in
-    rw is (record {
-      goes_on = goes_within (mounting n x.kept (Some header)) (fetching n (name_bytes c.args.name.now) x.kept (map slot_bytes x.slots) failed) _ _ _
-          (fetch_bound n (name_bytes c.args.name.now) x.kept header (map slot_bytes x.slots) failed (long_there view x y header e.kept e.consults e.open))
-          (subst (λ (o : Option HeaderParts). GoesOn {T = Unit {0}} (mounting n x.kept o) (view x.records) (view y.records) (Ok tt)) e.kept e.consults.goes_on);
-      few = λ t told. omega (arith, e.consults.few t told);
-      settles = e.consults.settles;
-      kept = e.consults.kept ∙ sym c.in_err-file.ensures.known;
-    })
 
 pub returns-in-Err-clause-consults : goal.returns-in-Err-clause-consults
 returns-in-Err-clause-consults g c =
@@ -231,3 +234,13 @@ returns-clause-transfers g c =
     let old = (view c.args.self.now.records).transferred in
     run_behind P c.in_ok-file.file.first c.in_ok-file.file.count _ old _ (view c.read_front.new.records).transferred (e.transfers t told) c.in_default.ensures.run
     (λ none. subst (λ (r : g.row.R.Denot). GoesOnBy P old (view r).transferred) (sym (c.in_default.ensures.none none).1) (e.transfers t told))
+
+pub returns-in_err-mount-clause-only : goal.returns-in_err-mount-clause-only
+returns-in_err-mount-clause-only g c =
+    let is : c.from_residual.result ≡ Err c.in_err-mount.field-0.0 = search rules in
+    rw is (not_lif_only (refusal.Protected ∷ refusal.NoFile ∷ []) c.in_err-mount.field-0.0 c.in_err-mount.ensures.only)
+
+pub returns-in_err-file-clause-only : goal.returns-in_err-file-clause-only
+returns-in_err-file-clause-only g c =
+    let is : c.from_residual-in_err-file.result ≡ Err (refused c.in_err-file.field-0.0) = search rules in
+    rw is (inr c.in_err-file.ensures.only)

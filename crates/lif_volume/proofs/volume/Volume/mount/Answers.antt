@@ -5,11 +5,14 @@ use Rattle.lif_model.specs.Redo.{settled}
 use Rattle.il_ports.specs.Stores.{GoesOn}
 use Rattle.il_ports.proofs.Stores.{goes_further, goes_within}
 use Rattle.lif_dir.specs.Entries.{slot_bytes}
-use Rattle.lif_volume.specs.Views.{IsLegalDirectory}
+use Rattle.lif_plan.specs.Directories.{IsLegalDirectory}
 use Rattle.lif_volume.specs.Commands.{mounting, mounting_on}
 use Rattle.lif_model.specs.Legal.{is_legal}
 use Rattle.lif_volume.proofs.Mounting.{seen, stays_here, stays_settling, stays_reading, reads_behind, adds_behind, consults_nothing, kept_is_of}
 use Rattle.lif_volume.proofs.volume.Volume.mount.Goals as goal
+
+pub returns-clause-exactly : goal.returns-clause-exactly
+returns-clause-exactly g c = λ t told. c.in_ok-header.ensures.exactly (settled t) (c.in_ok-settle.ensures.done t told)
 
 pub returns-in-Some-clause-consults : goal.returns-in-Some-clause-consults
 returns-in-Some-clause-consults g c =
@@ -75,6 +78,3 @@ returns-clause-consults g c =
       settles = λ t told. r.quiet.tape ∙ s.done t told;
       kept = refl;
     }
-
-pub returns-clause-exactly : goal.returns-clause-exactly
-returns-clause-exactly g c = λ t told. c.in_ok-header.ensures.exactly (settled t) (c.in_ok-settle.ensures.done t told)

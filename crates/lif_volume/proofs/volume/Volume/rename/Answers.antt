@@ -4,8 +4,8 @@ use Rattle.lif_model.specs.Apply.{Rename}
 use Rattle.lif_dir.specs.Entries.{name_bytes}
 use Rattle.lif_dir.specs.Names.{made_name}
 use Rattle.lif_dir.specs.Entries.{slot_bytes}
-use Rattle.lif_volume.specs.declared.fault.Refusal.TheVariants as refusal
-use Rattle.lif_volume.specs.Plans.{IsPlan}
+use Rattle.lif_plan.specs.declared.refusal.Refusal.TheVariants as refusal
+use Rattle.lif_plan.specs.Plans.{IsPlan}
 use Rattle.lif_volume.proofs.Mounting.{seen}
 use Rattle.lif_volume.proofs.Joining.{joined_commits, joined_answers, joined_written, joined_stops, joined_transfers, fault_commits, fault_answers, fault_written, fault_stops, fault_transfers, not_lif_only, among_more, long_there, ready_there}
 use Rattle.lif_volume.proofs.volume.Volume.rename.Goals as goal

@@ -1,0 +1,4 @@
+mod LegalExtents
+pub mod Found
+pub mod Planning
+mod Formats

@@ -1,0 +1,4 @@
+pub mod Entries
+pub mod Directories
+pub mod Refusals
+pub mod Plans

@@ -1,0 +1,14 @@
+//! What the commands of a LIF volume change in its directory: over the slots in memory, before
+//! anything is written.
+#![tactic(auto)]
+
+mod directory;
+mod extents;
+mod fresh;
+mod plans;
+mod refusal;
+
+pub use directory::{Directory, File};
+pub use fresh::FreshVolume;
+pub use plans::{ENTRIES, SlotChange};
+pub use refusal::Refusal;

@@ -1,0 +1,350 @@
+-- `format`: any tape becomes an empty volume.
+use Rattle.std.proofs.Common.{◌≡◌, ◌<◌, ◌≤◌, ◌+◌, ◌-◌, ◌*◌, ◌&&◌, ℕ, List, [], ◌∷◌, Bool, true, false, if◌then◌else◌, length, map, inl, inr, refl, sym, ap, subst, ◌∙◌, arith}
+use Rattle.std.specs.Prelude.{Option, Some, None, Result, Ok, Err, IfErr, IfSome, is_some, filter, not}
+use Rattle.lif_model.specs.Tape.{Tape, IsTape}
+use Rattle.lif_model.specs.Gate.{has_open_gate}
+use Rattle.lif_model.specs.Header.{HeaderParts, header_of, is_readable, directory_end}
+use Rattle.lif_model.specs.Made.{fresh_header, records_for_slots}
+use Rattle.lif_model.specs.Redo.{One, Changes, settled, IsSettled}
+use Rattle.lif_model.specs.Commit.{IsOldOrNew, IsCommitted, commit_writes}
+use Rattle.lif_model.specs.Pairs.{all_pairs}
+use Rattle.std.specs.List.{list_all}
+use Rattle.lif_model.specs.Legal.{is_live, occupies, lies_between, are_apart, have_other_names}
+use Rattle.std.proofs.lemmas.Bool.{and_parts}
+use Rattle.lif_model.specs.Volume.{Volume, IsVolume, redo_entry, volume_in, volume_of}
+use Rattle.lif_model.specs.Apply.{VolumeCommand, Format, IsWellFormed, is_too_long, lacks_redo, runs_past_gate, refusal_of, fresh_volume, next_unless, apply}
+use Rattle.lif_model.specs.Apply as model
+use Rattle.lif_model.specs.Writing.{format_changes}
+use Rattle.lif_model.proofs.Moments.{weaker}
+use Rattle.lif_model.proofs.Redo.{settled_twice}
+use Rattle.lif_model.proofs.Legal.{legal_from}
+use Rattle.lif_model.proofs.Apply.{refused_stays, format_is_adopted}
+use Rattle.lif_model.proofs.Directory.{volume_tells, volume_from}
+use Rattle.lif_model.proofs.Outcomes.{committed_settled}
+use Rattle.lif_model.proofs.Commands.{format_stops, format_commits}
+use Rattle.il_ports.specs.declared.records.Trouble.{Trouble}
+use Rattle.il_ports.specs.Stores.{RecordsView, IsStore, GoesOn, RunLeaves}
+use Rattle.il_ports.proofs.Stores.{goes_within, goes_further, quiet_run, quiet_nowhere}
+use Rattle.lif_redo.specs.Writing.{AddsWrites}
+use Rattle.lif_redo.proofs.Told.{was_told}
+use Rattle.lif_dir.specs.Entries.{slot_from, slot_bytes}
+use Rattle.lif_plan.specs.declared.refusal.Refusal.TheVariants as refusal
+use Rattle.lif_plan.specs.Directories.{IsLegalDirectory}
+use Rattle.lif_plan.specs.Refusals.{reason}
+use Rattle.lif_volume.specs.declared.fault.VolumeFault.{VolumeFault}
+use Rattle.lif_volume.specs.declared.fault.VolumeFault.TheVariants.{Refused, Trouble as Troubled}
+use Rattle.lif_volume.specs.Views.{VolumeView, IsOpen, IsDirectoryOf}
+use Rattle.lif_volume.specs.Answers.{store_answer, keeps, HasVolumeOf}
+use Rattle.lif_volume.specs.Commands.{Consults, mounting, mounting_on, AnswersTo, KeepsVolume}
+use Rattle.lif_volume.specs.Changing.{changes_when, IsChanged, IsWrittenAs, keeps_behind_command, committing, committing_on, HasEitherVolume, VolumeTurns, writes_if_any, IsOneOf, Writes, TurnsVolume}
+use Rattle.lif_volume.specs.Plans.{IsWrittenOn, CarriesOutOn}
+use Rattle.lif_volume.specs.Formatting.{MountsAnyAndCommits, Clears, Renews}
+use Rattle.lif_volume.proofs.Mounting.{behind, volume_on, kept_is_of}
+use Rattle.lif_volume.proofs.Joining.{long_there, legal_there, carried_on, settled_same}
+
+-- ---- what is tested
+
+pub free_without : (n : ℕ) (label : List ℕ) (slots : ℕ) → is_too_long n slots ≡ false → refusal_of n (Format label slots) None ≡ None
+free_without n label slots fits = λ i. if fits i then Some model.NoRoom else None
+
+in_use_is : (n : ℕ) (v : Volume) (label : List ℕ) (slots : ℕ) (b : Bool) → is_too_long n slots ≡ false → (lacks_redo n v && runs_past_gate n v) ≡ b
+    → refusal_of n (Format label slots) (Some v) ≡ (if b then Some model.InUse else None)
+in_use_is n v label slots b fits is = λ i. if fits i then Some model.NoRoom else if is i then Some model.InUse else None
+
+-- by the test that the code makes
+pub room_is : (n size slots : ℕ) (b : Bool) → size ≡ n → b ≡ not (is_too_long size slots) → b ≡ true → is_too_long n slots ≡ false
+room_is n size slots b same is on = ap (λ (k : ℕ). is_too_long k slots) (sym same) ∙ go (is_too_long size slots) (sym on ∙ is)
+  where
+    go : (x : Bool) → true ≡ not x → x ≡ false
+    go true e = cc
+    go false e = refl
+
+-- ---- behind mounting
+
+-- more than mounting may ask for
+mounting_any : (n : ℕ) (old : Option HeaderParts) (header : HeaderParts) → header.length + 5 ≤ n → mounting n old (Some header) ≤ mounting n old None
+mounting_any n None header long = omega (arith, long)
+mounting_any n (Some h) header long = omega arith
+
+module _ {R S : Type 0} (view : R → RecordsView S) (x y : VolumeView R) (header : HeaderParts) (opened : IsOpen view y) (kept : y.kept ≡ Some header)
+    (mounted : Consults {T = HeaderParts} (mounting (view x.records).record_count x.kept y.kept) (λ t. mounting_on t x.kept) view x y (Ok header)) where
+  goes : GoesOn {T = Unit {0}} (mounting (view x.records).record_count x.kept None) (view x.records) (view y.records) (Ok tt)
+  goes = goes_within (mounting (view x.records).record_count x.kept y.kept) (mounting (view x.records).record_count x.kept None) _ _ _
+      (subst (λ (k : Option HeaderParts). mounting (view x.records).record_count x.kept k ≤ mounting (view x.records).record_count x.kept None) (sym kept)
+      (mounting_any (view x.records).record_count x.kept header (long_there view x y header kept mounted opened))) mounted.goes_on
+
+  is_kept : is_some y.kept ≡ true
+  is_kept = ap is_some kept
+
+  -- live names are distinct
+  pub names_there : all_pairs have_other_names (filter is_live (map slot_bytes y.slots)) ≡ true
+  names_there =
+      let legal = legal_there view x y header kept mounted opened in
+      let slots : List (List ℕ) = map slot_bytes y.slots in
+      let names : Bool = all_pairs have_other_names (filter is_live slots) in
+      let apart : Bool = all_pairs are_apart (filter occupies slots) in
+      let between : Bool = list_all (lies_between (directory_end legal.bytes) (view y.records).record_count) (filter occupies slots) in
+      (and_parts apart names (and_parts between (apart && names) (and_parts (is_readable (view y.records).record_count legal.bytes) (between && (apart && names)) legal.legal).1).1).1
+
+  -- the tape has a volume, whose slots are kept
+  module _ (size : ℕ) (is : size ≡ (view y.records).record_count) (b : Bool)
+      (tested : (v : Volume) → v.slots ≡ map slot_bytes y.slots → b ≡ (lacks_redo size v && runs_past_gate size v)) (t : Tape) (told : (view x.records).tape ≡ Some t) (label : List ℕ) (slots : ℕ)
+      (fits : is_too_long (view x.records).record_count slots ≡ false) where
+    answer_is : refusal_of (view x.records).record_count (Format label slots) (volume_in (settled t)) ≡ (if b then Some model.InUse else None)
+    answer_is =
+        let on : IsDirectoryOf (settled t) header y.slots = kept_is_of y header (settled t) kept (opened.known (settled t) (mounted.settles t told)) in
+        let same : size ≡ (view x.records).record_count = is ∙ mounted.goes_on.continues.size in
+        ap (refusal_of (view x.records).record_count (Format label slots)) (volume_from (settled t) on.directory.legal)
+        ∙ in_use_is (view x.records).record_count (volume_on (settled t)) label slots b fits
+        (sym (tested (volume_on (settled t)) (sym on.directory.bytes) ∙ ap (λ (k : ℕ). lacks_redo k (volume_on (settled t)) && runs_past_gate k (volume_on (settled t))) same))
+
+  pub clears_used : (size : ℕ) → size ≡ (view y.records).record_count → ((v : Volume) → v.slots ≡ map slot_bytes y.slots → true ≡ (lacks_redo size v && runs_past_gate size v))
+      → Clears {T = Unit {0}} view x y (Err (Refused refusal.InUse))
+  clears_used size is tested = record {
+    goes_on = goes;
+    few = mounted.few;
+    settles = mounted.settles;
+    kept = is_kept;
+    free = λ t told label slots fits. answer_is size is true tested t told label slots fits;
+  }
+
+  pub clears_free : (size : ℕ) → size ≡ (view y.records).record_count → ((v : Volume) → v.slots ≡ map slot_bytes y.slots → false ≡ (lacks_redo size v && runs_past_gate size v))
+      → Clears {T = Unit {0}} view x y (Ok tt)
+  clears_free size is tested = record {
+    goes_on = goes;
+    few = mounted.few;
+    settles = mounted.settles;
+    kept = tt;
+    free = λ t told label slots fits. answer_is size is false tested t told label slots fits;
+  }
+
+-- ---- from a settled tape that may be formatted
+
+same_tape : (t u : Tape) (tape : Option Tape) → tape ≡ Some t → tape ≡ Some u → u ≡ t
+same_tape t u tape first second = let both : Some t ≡ Some u = sym first ∙ second in cc
+
+module _ {R S : Type 0} (view : R → RecordsView S) (x : VolumeView R) (label : List ℕ) (slots : ℕ) (opened : IsOpen view x) (store : IsStore (view x.records)) (six : length label ≡ 6) (some : 0 < slots)
+    (fits : is_too_long (view x.records).record_count slots ≡ false) (settled_here : (t : Tape) → (view x.records).tape ≡ Some t → IsSettled t)
+    (free : (t : Tape) → (view x.records).tape ≡ Some t → refusal_of (view x.records).record_count (Format label slots) (volume_in t) ≡ None) where
+  abbrev n : ℕ
+  n = (view x.records).record_count
+
+  abbrev command : VolumeCommand
+  command = Format label slots
+
+  abbrev changes : Changes
+  changes = format_changes (view x.records).record_count label slots
+
+  abbrev made : Volume
+  made = fresh_volume (view x.records).record_count label slots
+
+  module _ (t : Tape) (told : (view x.records).tape ≡ Some t) where
+    tape : IsTape (view x.records).record_count t
+    tape = store.is_tape t told
+
+    volume_is : volume_of t ≡ volume_in t
+    volume_is = ap volume_in (settled_here t told)
+
+    refusal_is : refusal_of n command (volume_of t) ≡ None
+    refusal_is = ap (refusal_of n command) volume_is ∙ free t told
+
+    applied : apply n command (volume_of t) ≡ (None, Some made)
+    applied = λ i. (refusal_is i, next_unless n command (volume_of t) (refusal_is i))
+
+    changes_is : changes_when n command (volume_of t) t ≡ changes
+    changes_is = of (volume_of t)
+      where
+        of : (v : Option Volume) → changes_when (view x.records).record_count (Format label slots) v t ≡ format_changes (view x.records).record_count label slots
+        of None = refl
+        of (Some v) = refl
+
+    either : (c : Tape) → IsOldOrNew One changes t c → HasEitherVolume n command t c
+    either c left =
+        let both = format_stops n t label slots tape (six, some) (free t told) c left in
+        record {
+          volume = elim both.0 [
+            | inl e ↦ inl (e ∙ sym volume_is)
+            | inr e ↦ inr (e ∙ sym (ap (λ (p : Option model.Refusal × Option Volume). p.1) applied))
+          ];
+          own_gate = both.1;
+        }
+
+    now_is : (u : Tape) → IsCommitted One changes t u → volume_of u ≡ Some made
+    now_is u done = (format_commits n t label slots tape (six, some) (free t told) u done).0
+
+  module _ (y : VolumeView R) (cs : Changes) (is : cs ≡ format_changes (view x.records).record_count label slots)
+      (any_moment : (t : Tape) → (view x.records).tape ≡ Some t → RunLeaves (view x.records) (view y.records) (IsOldOrNew One cs t))
+      (after : (t : Tape) → (view x.records).tape ≡ Some t → (u : Tape) × ((view y.records).tape ≡ Some u) × IsOldOrNew One cs t u) where
+    count : 2 * length cs + 6 ≤ 12
+    count = omega (arith, ap length is)
+
+    turns : (t : Tape) → (view x.records).tape ≡ Some t → VolumeTurns n command (view x.records) (view y.records) t
+    turns t told =
+        let left = after t told in
+        let each : (c : Tape) → IsOldOrNew One cs t c → HasEitherVolume n command t c = λ c old_or_new. either t told c (subst (λ (ds : Changes). IsOldOrNew One ds t c) is old_or_new) in
+        record { stops = weaker _ _ _ _ _ _ (any_moment t told) each; after = (left.0, left.1, each left.0 left.2) }
+
+    -- the store failed
+    pub renewing_fails : (trouble : Trouble) → GoesOn {T = Unit {0}} (2 * length cs + 6) (view x.records) (view y.records) (Err trouble) → y.kept ≡ None
+        → Renews {T = Unit {0}} command view x y (Err (Troubled trouble))
+    renewing_fails trouble goes none =
+        let within : GoesOn {T = Unit {0}} 12 (view x.records) (view y.records) (Err trouble) = goes_within (2 * length cs + 6) 12 _ _ _ count goes in
+        record {
+          goes_on = within;
+          kept = ap is_some none;
+          on_tape = λ t told. record {
+            few = subst (λ (ds : Changes). (view x.records).calls_left ≤ (view y.records).calls_left + committing_on {T = Unit {0}} ds (Err (Troubled trouble))) (sym (changes_is t told)) within.continues.left;
+            written = λ u now. tt;
+            answers = λ u now. tt;
+            stops = turns t told;
+            added = tt;
+          };
+        }
+
+    module _ (goes : GoesOn {T = Unit {0}} (2 * length cs + 6) (view x.records) (view y.records) (Ok tt))
+        (done : (t : Tape) → (view x.records).tape ≡ Some t → (u : Tape) × ((view y.records).tape ≡ Some u) × IsCommitted One cs t u)
+        (header : HeaderParts) (kept : y.kept ≡ Some header) where
+      within : GoesOn {T = Unit {0}} 12 (view x.records) (view y.records) (Ok tt)
+      within = goes_within (2 * length cs + 6) 12 _ _ _ count goes
+
+      made_there : (t : Tape) (told : (view x.records).tape ≡ Some t) → (u : Tape) → (view y.records).tape ≡ Some u → IsCommitted One changes t u
+      made_there t told u now =
+          let left = done t told in
+          subst (IsCommitted One changes t) (sym (same_tape left.0 u _ left.1 now)) (subst (λ (ds : Changes). IsCommitted One ds t left.0) is left.2)
+
+      pub renewed : ((was_open : Bool) × ((t : Tape) → (view x.records).tape ≡ Some t → was_open ≡ has_open_gate t)
+          × AddsWrites (commit_writes One (view x.records).record_count was_open cs) (view x.records).transferred (view y.records).transferred)
+          → Renews {T = Unit {0}} command view x y (Ok tt)
+      renewed writes = record {
+        goes_on = within;
+        kept = ap is_some kept;
+        on_tape = λ t told. record {
+          few = subst (λ (ds : Changes). (view x.records).calls_left ≤ (view y.records).calls_left + committing_on {T = Unit {0}} ds (Ok tt)) (sym (changes_is t told)) within.continues.left;
+          written = λ u now. subst (λ (ds : Changes). IsChanged One ds t u) (sym (changes_is t told)) (made_there t told u now);
+          answers = λ u now. applied t told ∙ ap (λ (v : Option Volume). (None, v)) (sym (now_is t told u (made_there t told u now)));
+          stops = turns t told;
+          added = subst (λ (ds : Changes). AddsWrites (writes_if_any One n (has_open_gate t) ds) (view x.records).transferred (view y.records).transferred) (sym (changes_is t told))
+              (subst (λ (w : Bool). AddsWrites (commit_writes One n w changes) (view x.records).transferred (view y.records).transferred) (writes.1 t told)
+              (subst (λ (ds : Changes). AddsWrites (commit_writes One n writes.0 ds) (view x.records).transferred (view y.records).transferred) is writes.2));
+        };
+      }
+
+      -- and the slots in memory are those of the tape
+      module _ (header_is : header ≡ header_of (fresh_header (view x.records).record_count label (records_for_slots slots)))
+          (slots_are : y.slots ≡ slot_from (redo_entry One (view x.records).record_count) ∷ []) (bytes_are : map slot_bytes y.slots ≡ redo_entry One (view x.records).record_count ∷ []) where
+        whole : IsVolume n made
+        whole = (format_is_adopted n label slots (six, some) fits).volume
+
+        legal_now : IsLegalDirectory n header (map slot_bytes y.slots)
+        legal_now = subst (IsLegalDirectory n header) (sym bytes_are) (record {
+          bytes = made.header;
+          told = header_is;
+          legal = legal_from n made.header made.slots whole.legal;
+          whole = whole.header;
+          shape = record { few = omega (arith, whole.room, ap (λ (h : HeaderParts). h.length) header_is); entries = whole.entries; kinds = whole.kinds };
+        })
+
+        directory_now : (u : Tape) → (view y.records).tape ≡ Some u → IsDirectoryOf u header y.slots
+        directory_now u now =
+            let was = was_told _ _ goes.continues.told u now in
+            let there = made_there was.0 was.1 u now in
+            let settles : IsSettled u = committed_settled One changes was.0 u there in
+            let told : volume_in u ≡ Some made = ap volume_in (sym settles) ∙ now_is was.0 was.1 u there in
+            let tells = volume_tells u made told in
+            record {
+              settled = settles;
+              directory = record {
+                legal = tells.0;
+                header = header_is ∙ ap header_of tells.1;
+                slots = slots_are ∙ ap (map slot_from) tells.2;
+                bytes = bytes_are ∙ tells.2;
+              };
+            }
+
+        pub renewed_open : y.room ≡ x.room → IsOpen view y
+        renewed_open room = record {
+          valid = goes.continues.valid;
+          size = omega (arith, opened.size, goes.continues.size);
+          small = omega (arith, opened.small, goes.continues.size);
+          room = room ∙ opened.room ∙ ap (λ (k : ℕ). 8 * (k - 5)) (sym goes.continues.size);
+          legal = subst (λ (k : Option HeaderParts). IfSome k (λ h. IsLegalDirectory (view y.records).record_count h (map slot_bytes y.slots))) (sym kept)
+              (subst (λ (m : ℕ). IsLegalDirectory m header (map slot_bytes y.slots)) (sym goes.continues.size) legal_now);
+          known = λ u now. subst (λ (k : Option HeaderParts). IfSome k (λ h. IsDirectoryOf u h y.slots)) (sym kept) (directory_now u now);
+        }
+
+-- ---- both parts
+
+module _ {R S : Type 0} (view : R → RecordsView S) (x y z : VolumeView R) (label : List ℕ) (slots : ℕ) (cleared : Clears {T = Unit {0}} view x y (Ok tt)) where
+  pub settled_there : (u : Tape) → (view y.records).tape ≡ Some u → IsSettled u
+  settled_there u now =
+      let was = was_told _ _ cleared.goes_on.continues.told u now in
+      let same : u ≡ settled was.0 = same_tape (settled was.0) u _ (cleared.settles was.0 was.1) now in
+      subst (λ (c : Tape). IsSettled c) (sym same) (settled_twice was.0)
+
+  pub free_there : is_too_long (view x.records).record_count slots ≡ false → (u : Tape) → (view y.records).tape ≡ Some u
+      → refusal_of (view y.records).record_count (Format label slots) (volume_in u) ≡ None
+  free_there fits u now =
+      let was = was_told _ _ cleared.goes_on.continues.told u now in
+      let same : u ≡ settled was.0 = same_tape (settled was.0) u _ (cleared.settles was.0 was.1) now in
+      (λ i. refusal_of (cleared.goes_on.continues.size i) (Format label slots) (volume_in (same i))) ∙ cleared.free was.0 was.1 label slots fits
+
+  module _ (a : Result (Unit {0}) VolumeFault) (renews : Renews (Format label slots) view y z a) (only : IfErr a (IsOneOf [])) where
+    pub formatted_commits : MountsAnyAndCommits (Format label slots) view x z a
+    formatted_commits =
+        let n = (view x.records).record_count in
+        record {
+          goes_on = goes_further (mounting n x.kept None) (committing a) (view x.records) (view y.records) (view z.records) tt (store_answer a) cleared.goes_on renews.goes_on;
+          few = λ t told.
+              let on = carried_on view x y z (Format label slots) a cleared.goes_on.continues.size cleared.settles renews.on_tape t told in
+              let same = settled_same view x y z (Format label slots) a cleared.goes_on.continues.size cleared.settles renews.on_tape t told in
+              let cs : changes_when n (Format label slots) (volume_of (settled t)) (settled t) ≡ changes_when n (Format label slots) (volume_of t) (settled t) = ap (λ (v : Option Volume). changes_when n (Format label slots) v (settled t)) same in
+              omega (arith, cleared.few t told, on.few, ap (λ (c : Changes). committing_on c a) cs);
+          kept = renews.kept ∙ sym (as_kept a only);
+        }
+      where
+        as_kept : (a : Result (Unit {0}) VolumeFault) → IfErr a (IsOneOf []) → keeps_behind_command (Format label slots) (is_some x.kept) a ≡ keeps a
+        as_kept (Ok v) only = refl
+        as_kept (Err (Refused why)) only = absurd only
+        as_kept (Err (Troubled trouble)) only = refl
+
+    pub formatted_written : Writes (Format label slots) view x z a
+    formatted_written t u told now = by a only (on.written u now)
+      where
+        n : ℕ
+        n = (view x.records).record_count
+
+        on : CarriesOutOn (view x.records).record_count (Format label slots) (view y.records) (view z.records) (settled t) a
+        on = carried_on view x y z (Format label slots) a cleared.goes_on.continues.size cleared.settles renews.on_tape t told
+
+        same : volume_of (settled t) ≡ volume_of t
+        same = settled_same view x y z (Format label slots) a cleared.goes_on.continues.size cleared.settles renews.on_tape t told
+
+        by : (a : Result (Unit {0}) VolumeFault) → IfErr a (IsOneOf []) → IsWrittenOn (view x.records).record_count (Format label slots) (settled t) u a → IsWrittenAs (view x.records).record_count (Format label slots) t u a
+        by (Ok v) only is = subst (λ (v : Option Volume). IsChanged One (changes_when (view x.records).record_count (Format label slots) v (settled t)) (settled t) u) same is
+        by (Err (Refused why)) only is = absurd only
+        by (Err (Troubled trouble)) only is = tt
+
+-- ---- refused, or the store failed before
+
+module _ {R S : Type 0} (view : R → RecordsView S) (x y : VolumeView R) (label : List ℕ) (slots : ℕ) where
+  pub refused_answers : (fault : VolumeFault) → Clears {T = Unit {0}} view x y (Err fault) → is_too_long (view x.records).record_count slots ≡ false → AnswersTo {T = Unit {0}} (Format label slots) view x y (Err fault)
+  refused_answers (Refused why) cleared fits t u told now =
+      let n = (view x.records).record_count in
+      let same : u ≡ settled t = behind t u (view y.records).tape now (cleared.settles t told) in
+      refused_stays n (Format label slots) (volume_of t) (reason why) (cleared.free t told label slots fits)
+      ∙ ap (λ (v : Option Volume). (Some (reason why), v)) (sym (ap volume_of same ∙ ap volume_in (settled_twice t)))
+  refused_answers (Troubled trouble) cleared fits t u told now = tt
+
+  pub refused_stops : KeepsVolume view x y → TurnsVolume (Format label slots) view x y
+  refused_stops stays t told own =
+      let first = stays t told own in
+      record {
+        stops = weaker _ _ _ _ (HasEitherVolume (view x.records).record_count (Format label slots) t) (HasVolumeOf t) first.stops (λ c is. record { volume = inl is.volume; own_gate = is.own_gate });
+        after = (first.after.0, first.after.1, record { volume = inl first.after.2.volume; own_gate = first.after.2.own_gate });
+      }
+
+-- nothing is done
+pub nothing_stops : {R S : Type 0} (view : R → RecordsView S) (x : VolumeView R) (command : VolumeCommand) → IsStore (view x.records) → TurnsVolume command view x x
+nothing_stops view x command store t told own =
+    let here : HasEitherVolume (view x.records).record_count command t t = record { volume = inl refl; own_gate = own } in
+    record { stops = quiet_run (view x.records) (view x.records) _ t store (quiet_nowhere (view x.records)) told here; after = (t, told, here) }
