@@ -89,7 +89,7 @@ module _ (capacity : ℕ) (slots : List (List ℕ)) (k : ℕ) (may : MayTake cap
 
 -- ---- slots in memory
 
-map-insert : {X Y : Type 0} (f : X → Y) (xs : List X) (k : ℕ) (x : X) → map f (insert xs k x) ≡ insert (map f xs) k (f x)
+pub map-insert : {X Y : Type 0} (f : X → Y) (xs : List X) (k : ℕ) (x : X) → map f (insert xs k x) ≡ insert (map f xs) k (f x)
 map-insert f xs k x = map-append f (take k xs) (x ∷ drop k xs) ∙ (λ i. sym (take-map f k xs) i ++ f x ∷ sym (drop-map f k xs) i)
 
 pub bytes_put_in : (slots : List Slot) (k : ℕ) (moved : Option Moved) (slot : Slot) (entry : List ℕ) → slot_bytes slot ≡ entry

@@ -9,6 +9,7 @@ mod fault;
 mod formatting;
 mod reading;
 mod staged;
+mod storing;
 mod volume;
 
 pub use fault::VolumeFault;
