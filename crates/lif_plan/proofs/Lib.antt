@@ -2,3 +2,4 @@ mod LegalExtents
 pub mod Found
 pub mod Planning
 mod Formats
+pub mod Taking

@@ -59,7 +59,7 @@ one_version n v is one = false_from_ne_true _ (λ two.
 lacks_two : (n : ℕ) (slots : List (List ℕ)) → is_adopted n slots ≡ false → is_adopted_with n Two slots ≡ false
 lacks_two n slots off = false_from_ne_true _ (λ two. let no : true ≡ false = sym (adopted_some n Two slots two) ∙ off in cc)
 
-version_is_redo : (n : ℕ) (version : Version) (v : Volume) → IsVolume n v → is_adopted_with n version v.slots ≡ true → redo_version n v.slots ≡ version
+pub version_is_redo : (n : ℕ) (version : Version) (v : Volume) → IsVolume n v → is_adopted_with n version v.slots ≡ true → redo_version n v.slots ≡ version
 version_is_redo n One v is adopted = ap (λ (b : Bool). if b then Two else One) (one_version n v is adopted)
 version_is_redo n Two v is adopted = ap (λ (b : Bool). if b then Two else One) adopted
 

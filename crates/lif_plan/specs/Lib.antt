@@ -2,3 +2,4 @@ pub mod Entries
 pub mod Directories
 pub mod Refusals
 pub mod Plans
+pub mod Placements

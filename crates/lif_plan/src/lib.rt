@@ -5,10 +5,12 @@
 mod directory;
 mod extents;
 mod fresh;
+mod placing;
 mod plans;
 mod refusal;
 
 pub use directory::{Directory, File};
 pub use fresh::FreshVolume;
+pub use placing::{Moved, Placement};
 pub use plans::{ENTRIES, SlotChange};
 pub use refusal::Refusal;

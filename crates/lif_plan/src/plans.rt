@@ -209,7 +209,7 @@ impl Directory {
 
     /// The version of the redo file of a medium of `size` records, or `None` where no slot is that
     /// of a redo file. Live names are distinct.
-    fn redo_version(&self, size: u16) -> Option<Version>
+    pub(crate) fn redo_version(&self, size: u16) -> Option<Version>
         requires distinct { all_pairs have_other_names
             (filter is_live (map slot_bytes self.now.table.slots)) ≡ true }
         ensures { IsVersionOf size (map slot_bytes self.now.table.slots) result }
@@ -220,7 +220,7 @@ impl Directory {
 
     /// The place of the live slot of this name, or `None` where no live slot has it. Live names are
     /// distinct.
-    fn place_named(&self, name: &Name) -> Option<usize>
+    pub(crate) fn place_named(&self, name: &Name) -> Option<usize>
         requires distinct { all_pairs have_other_names
             (filter is_live (map slot_bytes self.now.table.slots)) ≡ true }
         ensures place { result ≡ position (is_live_named (name_bytes name.now))
@@ -283,7 +283,7 @@ fn redo_name() -> Name
 }
 
 /// Whether the name is that of the redo file.
-fn is_redo_name(name: &Name) -> bool
+pub fn is_redo_name(name: &Name) -> bool
     ensures same { result ≡ bytes_eq (name_bytes name.now) redo_name }
     ensures wide { length (name_bytes name.now) ≡ 10 }
 {

@@ -24,7 +24,7 @@ use Rattle.lif_plan.specs.Directories.{IsLegalDirectory}
 use Rattle.lif_plan.specs.Refusals.{reason}
 use Rattle.lif_volume.specs.Answers.{store_answer, keeps, Answers, IsNotLif, IsLegalAs, IsSettledAs, HasVolumeOf}
 use Rattle.lif_volume.specs.Commands.{fetching, Consults, mounting, mounting_on, AnswersTo, KeepsVolume}
-use Rattle.lif_volume.specs.Changing.{changes_when, IsChanged, refused_tape, IsWrittenAs, keeps_behind_command, committing, committing_on, HasEitherVolume, writes_if_any, SettlesAndWrites, AddsCommit, IsOneOf, MountsAndCommits, Writes, TurnsVolume, WritesByCommit}
+use Rattle.lif_volume.specs.Changing.{changes_when, IsChanged, refused_tape, IsWrittenAs, keeps_behind_command, committing, committing_on, HasEitherVolume, VolumeTurns, writes_if_any, SettlesAndWrites, AddsCommit, IsOneOf, MountsAndCommits, Writes, TurnsVolume, WritesByCommit}
 use Rattle.lif_plan.specs.Plans.{version_for}
 use Rattle.lif_volume.specs.Plans.{IsOfDirectory, IsWrittenOn, IsAddedOn, CarriesOutOn, CarriesOut}
 use Rattle.lif_volume.proofs.Mounting.{behind, answers_fault}
@@ -71,7 +71,7 @@ not_lif n (Format label slots) of = absurd of
 
 -- ---- by cases on the answer
 
-answers_from : {T : Type 0} (n : ℕ) (command : VolumeCommand) (s t u : Tape) (a : Result T VolumeFault) → volume_of s ≡ volume_of t → Answers n command s u a → Answers n command t u a
+pub answers_from : {T : Type 0} (n : ℕ) (command : VolumeCommand) (s t u : Tape) (a : Result T VolumeFault) → volume_of s ≡ volume_of t → Answers n command s u a → Answers n command t u a
 answers_from n command s t u (Ok x) same is = subst (λ (v : Option Volume). apply n command v ≡ (None, volume_of u)) same is
 answers_from n command s t u (Err (Refused why)) same is = subst (λ (v : Option Volume). apply n command v ≡ (Some (reason why), volume_of u)) same is
 answers_from n command s t u (Err (Troubled trouble)) same is = tt
@@ -105,6 +105,29 @@ few_bound n old header after a long is = go (keeps a) refl old
     go false e None = let same : after ≡ None = is ∙ ap (λ (b : Bool). if b then Some header else None) e in subst (λ (w : Option HeaderParts). 71 + header.length + committing a ≤ mounting n None w + committing a) (sym same) (omega (arith, long))
     go false e (Some h) = omega arith
 
+-- the stops of both parts
+pub joined_turns : {R S : Type 0} (view : R → RecordsView S) (x y z : VolumeView R) (command : VolumeCommand) → (view y.records).record_count ≡ (view x.records).record_count
+    → ((t : Tape) → (view x.records).tape ≡ Some t → (view y.records).tape ≡ Some (settled t))
+    → ((t : Tape) → (view y.records).tape ≡ Some t → VolumeTurns (view y.records).record_count command (view y.records) (view z.records) t)
+    → KeepsVolume view x y → TurnsVolume command view x z
+joined_turns view x y z command size settles turns stays t told own =
+    let first = stays t told own in
+    let next = subst (λ (n : ℕ). VolumeTurns n command (view y.records) (view z.records) (settled t)) size (turns (settled t) (settles t told)) in
+    record {
+      stops = follows _ _ _ _ _ _ (HasEitherVolume n command t) (HasEitherVolume n command (settled t)) (weaker _ _ _ _ (HasEitherVolume n command t) (HasVolumeOf t) first.stops (λ c is. record { volume = inl is.volume; own_gate = is.own_gate }))
+          next.stops (λ c is. again c is);
+      after = (next.after.0, next.after.1, again next.after.0 next.after.2);
+    }
+  where
+    n : ℕ
+    n = (view x.records).record_count
+
+    again : (c : Tape) → HasEitherVolume (view x.records).record_count command (settled t) c → HasEitherVolume (view x.records).record_count command t c
+    again c is = record {
+      volume = subst (λ (v : Option Volume). (volume_of c ≡ v) ⊎ (volume_of c ≡ (apply (view x.records).record_count command v).1)) (ap volume_in (settled_twice t)) is.volume;
+      own_gate = is.own_gate;
+    }
+
 -- the second part begins on the settled tape
 module _ {R S : Type 0} (view : R → RecordsView S) (x y z : VolumeView R) (command : VolumeCommand) (a : Result (Unit {0}) VolumeFault)
     (size : (view y.records).record_count ≡ (view x.records).record_count) (settles : (t : Tape) → (view x.records).tape ≡ Some t → (view y.records).tape ≡ Some (settled t))
@@ -120,23 +143,7 @@ module _ {R S : Type 0} (view : R → RecordsView S) (x y z : VolumeView R) (com
   parts_answers t u told now = answers_from (view x.records).record_count command (settled t) t u a (settled_same t told) ((carried_on t told).answers u now)
 
   pub parts_stops : KeepsVolume view x y → TurnsVolume command view x z
-  parts_stops stays t told own =
-      let first = stays t told own in
-      let next = (carried_on t told).stops in
-      record {
-        stops = follows _ _ _ _ _ _ (HasEitherVolume n command t) (HasEitherVolume n command (settled t)) (weaker _ _ _ _ (HasEitherVolume n command t) (HasVolumeOf t) first.stops (λ c is. record { volume = inl is.volume; own_gate = is.own_gate }))
-            next.stops (λ c is. again c is);
-        after = (next.after.0, next.after.1, again next.after.0 next.after.2);
-      }
-    where
-      n : ℕ
-      n = (view x.records).record_count
-
-      again : (c : Tape) → HasEitherVolume (view x.records).record_count command (settled t) c → HasEitherVolume (view x.records).record_count command t c
-      again c is = record {
-        volume = subst (λ (v : Option Volume). (volume_of c ≡ v) ⊎ (volume_of c ≡ (apply (view x.records).record_count command v).1)) (settled_same t told) is.volume;
-        own_gate = is.own_gate;
-      }
+  parts_stops = joined_turns view x y z command size settles (λ t told. (carried t told).stops)
 
   pub parts_transfers : ((t : Tape) → (view x.records).tape ≡ Some t → GoesOnBy (IsSettleWrite (view x.records).record_count (redo_of t)) (view x.records).transferred (view y.records).transferred)
       → WritesByCommit command view x z a
@@ -254,7 +261,7 @@ among_more one names (Err f) is = one_more one names f is
 
 -- ---- behind mounting
 
-few_mounted : (n : ℕ) (old : Option HeaderParts) (new : HeaderParts) → mounting n old (Some new) ≤ 71 + new.length
+pub few_mounted : (n : ℕ) (old : Option HeaderParts) (new : HeaderParts) → mounting n old (Some new) ≤ 71 + new.length
 few_mounted n None new = omega arith
 few_mounted n (Some old) new = omega arith
 

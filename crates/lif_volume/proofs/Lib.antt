@@ -7,3 +7,7 @@ mod Renewing
 mod Examples
 mod ExamplesChanging
 mod ExamplesPlans
+mod Placed
+mod Chosen
+mod Filed
+mod Stored

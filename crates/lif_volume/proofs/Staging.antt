@@ -24,7 +24,7 @@ use Rattle.lif_plan.specs.declared.plans.SlotChange.{SlotChange}
 use Rattle.lif_volume.specs.Plans.{BroughtIn, there, read, IsStagedAs, AreOthers}
 use Rattle.lif_plan.specs.Plans.{change_writes}
 
-targets_count : (cs : Changes) → length (targets_in cs) ≡ length cs
+pub targets_count : (cs : Changes) → length (targets_in cs) ≡ length cs
 targets_count cs = length-map cs (λ c. c.0)
 
 number_at : (cs : Changes) (p : ℕ) → p < length cs → get_or (targets_in cs) p 0 ≡ (get_or cs p (0, [])).0
@@ -196,14 +196,14 @@ module _ (start : ℕ) (tape mid : Option Tape) (change : SlotChange) (bytes : L
 
 -- ---- one commit takes them
 
-two_most : (version : Version) → 2 ≤ most_targets version
+pub two_most : (version : Version) → 2 ≤ most_targets version
 two_most One = omega arith
 two_most Two = omega arith
 
-blank : List ℕ
+pub blank : List ℕ
 blank = replicate 32 0
 
-blank_size : length blank ≡ 32
+pub blank_size : length blank ≡ 32
 unfolding blank
 blank_size = refl
 

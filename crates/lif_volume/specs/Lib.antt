@@ -4,4 +4,5 @@ pub mod Commands
 pub mod Changing
 pub mod Plans
 pub mod Formatting
+pub mod Storing
 pub mod Lending

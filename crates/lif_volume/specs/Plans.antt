@@ -1,9 +1,9 @@
 -- What a command is to write of the directory, before it is written.
-use Rattle.std.specs.Prelude.{◌≡◌, ◌≢◌, ◌<◌, ◌≤◌, ◌+◌, ◌++◌, if◌then◌else◌, ℕ, List, [], ◌∷◌, length, get_or, Option, Some, None, Result, Ok, Err}
+use Rattle.std.specs.Prelude.{◌≡◌, ◌≢◌, ◌<◌, ◌≤◌, ◌+◌, ◌++◌, if◌then◌else◌, ℕ, suc, List, [], ◌∷◌, true, length, get_or, Option, Some, None, IfSome, Result, Ok, Err}
 use Rattle.lif_model.specs.Tape.{Tape, record_at}
 use Rattle.lif_model.specs.Redo.{Changes, targets_in}
 use Rattle.lif_model.specs.Apply.{VolumeCommand, Rename, Purge, Adopt, Upgrade}
-use Rattle.lif_model.specs.Writing.{SlotWrites, touched, changes_by}
+use Rattle.lif_model.specs.Writing.{SlotWrites, slot_record, touched, changes_by}
 use Rattle.lif_model.specs.Gate.{has_open_gate}
 use Rattle.lif_model.specs.Volume.{volume_of}
 use Rattle.lif_model.specs.Transfers.{Transfer}
@@ -11,6 +11,7 @@ use Rattle.il_ports.specs.Stores.{RecordsView, GoesOn}
 use Rattle.lif_redo.specs.Writing.{AddsWrites}
 use Rattle.lif_volume.specs.declared.fault.VolumeFault.{VolumeFault}
 use Rattle.lif_volume.specs.declared.fault.VolumeFault.TheVariants.{Refused, Trouble as Troubled}
+use Rattle.lif_plan.specs.declared.placing.Placement.{Placement}
 use Rattle.lif_volume.specs.Views.{VolumeView}
 use Rattle.lif_volume.specs.Answers.{keeps, store_answer, Answers}
 use Rattle.lif_volume.specs.Changing.{changes_when, IsChanged, committing, committing_on, VolumeTurns, writes_if_any}
@@ -35,6 +36,13 @@ pub record IsStagedAs (start : ℕ) (tape : Option Tape) (writes : Tape → Slot
 abbrev pub AreOthers : ℕ → ℕ → SlotWrites → Type 0
 AreOthers room k [] = Unit {0}
 AreOthers room k (w ∷ ws) = (w.0 < room) × (w.0 ≢ k) × (length w.1 ≡ 32) × AreOthers room k ws
+
+-- the slots that a new entry changes, of a directory that begins at record `start`, lie in records
+-- below that one
+pub record LiesBelow (start limit : ℕ) (placed : Placement) : Type 0 where
+  pub slot : slot_record start placed.slot < limit
+  pub moved : IfSome placed.moved (λ moved. (slot_record start (suc placed.slot) < limit)
+      × (moved.ended ≡ true → slot_record start (suc (suc placed.slot)) < limit))
 
 -- ---- what carrying out a plan does
 

@@ -9,11 +9,14 @@ mod fault;
 mod formatting;
 mod reading;
 mod staged;
+mod storing;
 mod volume;
 
 pub use fault::VolumeFault;
 pub use lif_plan::Refusal;
 pub use volume::{Fetched, Kept, Listing, Seen, Volume};
 
+#[cfg(test)]
+mod store_tests;
 #[cfg(test)]
 mod tests;

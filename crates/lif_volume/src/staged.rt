@@ -12,13 +12,14 @@ ghost use Rattle.lif_model.specs.Writing.{changes_by};
 ghost use Rattle.il_ports.specs.Stores.{IsReady, GoesOn, IsQuiet, RunLeaves};
 ghost use Rattle.lif_redo.specs.Reading.{version_of};
 ghost use Rattle.lif_redo.specs.Writing.{AddsWrites};
-ghost use Rattle.lif_volume.specs.Plans.{BroughtIn, AreOthers, IsStagedAs};
+ghost use Rattle.lif_volume.specs.Plans.{BroughtIn, AreOthers, IsStagedAs, LiesBelow};
 ghost use Rattle.lif_plan.specs.Plans.{change_writes};
+ghost use Rattle.lif_plan.specs.Placements.{placed_writes};
 
 use il_ports::{Records, Trouble};
 use lif_header::bytes_at;
 use lif_model::RECORD;
-use lif_plan::{ENTRIES, SlotChange};
+use lif_plan::{ENTRIES, Placement, SlotChange};
 use lif_redo::commit;
 use std::alloc::{AllocError, Global};
 
@@ -109,6 +110,75 @@ impl Staged {
         Ok(())
     }
 
+    /// Puts the entry of a new file into a settled directory, which begins at record `start`, by one
+    /// commit: where it takes the redo entry's slot, that entry moves on by one, and an end is put
+    /// behind it where there is to be one. At most 12 records are read and written.
+    pub fn commit_placed<R: Records>(
+        &mut self,
+        records: &mut R,
+        start: u16,
+        placed: &Placement,
+    ) -> Result<(), Trouble>
+        requires ready { IsReady 12 (R.view records.old) }
+        requires settled { (t : Tape) → (R.view records.old).tape ≡ Some t → IsSettled t }
+        requires small { (R.view records.old).record_count < 2 ^ 16 }
+        requires below { LiesBelow start
+            (redo_start (version_of placed.now.version) (R.view records.old).record_count)
+            placed.now }
+        ensures goes_on { GoesOn 12 (R.view records.old) (R.view records.new) result }
+        ensures done { OnOk result ((t : Tape) → (R.view records.old).tape ≡ Some t
+            → (u : Tape) × ((R.view records.new).tape ≡ Some u)
+            × IsCommitted (version_of placed.now.version)
+            (changes_by start (placed_writes start placed.now t) t) t u) }
+        ensures any_moment { (t : Tape) → (R.view records.old).tape ≡ Some t
+            → RunLeaves (R.view records.old) (R.view records.new)
+            (IsOldOrNew (version_of placed.now.version)
+            (changes_by start (placed_writes start placed.now t) t) t) }
+        ensures after { (t : Tape) → (R.view records.old).tape ≡ Some t
+            → (u : Tape) × ((R.view records.new).tape ≡ Some u)
+            × IsOldOrNew (version_of placed.now.version)
+            (changes_by start (placed_writes start placed.now t) t) t u }
+        ensures writes { OnOk result ((t : Tape) → (R.view records.old).tape ≡ Some t
+            → AddsWrites (commit_writes (version_of placed.now.version)
+            (R.view records.old).record_count (has_open_gate t)
+            (changes_by start (placed_writes start placed.now t) t))
+            (R.view records.old).transferred (R.view records.new).transferred) }
+    {
+        self.stage_placed(records, start, placed)?;
+        commit(records, placed.version, &self.changes)
+    }
+
+    // Reads the records of the slots that a new entry changes, and changes them in memory.
+    fn stage_placed<R: Records>(
+        &mut self,
+        records: &mut R,
+        start: u16,
+        placed: &Placement,
+    ) -> Result<(), Trouble>
+        requires ready { IsReady 3 (R.view records.old) }
+        requires small { (R.view records.old).record_count < 2 ^ 16 }
+        requires below { LiesBelow start (R.view records.old).record_count placed.now }
+        ensures goes_on { GoesOn 3 (R.view records.old) (R.view records.new) result }
+        ensures few { OnOk result ((R.view records.old).calls_left
+            ≤ (R.view records.new).calls_left + length self.new.changes.items) }
+        ensures quiet { IsQuiet (R.view records.old) (R.view records.new) }
+        ensures reads { OnOk result (AddsWrites [] (R.view records.old).transferred
+            (R.view records.new).transferred) }
+        ensures staged { OnOk result (IsStagedAs start (R.view records.old).tape
+            (placed_writes start placed.now) self.new.changes.items) }
+    {
+        self.changes.clear();
+        self.put(records, start, placed.slot, &placed.entry.bytes())?;
+        let Some(moved) = &placed.moved else {
+            return Ok(());
+        };
+        self.put(records, start, placed.slot + 1, &moved.entry.bytes())?;
+        if moved.ended {
+            self.end(records, start, placed.slot + 2)?;
+        }
+        Ok(())
+    }
+
     // Puts an entry into a slot of a directory that begins at record `start`.
     fn put<R: Records>(
         &mut self,
@@ -122,6 +192,9 @@ impl Staged {
         requires within { slot_record start slot < (R.view records.old).record_count }
         requires room { length self.old.changes.items < 32 }
         ensures goes_on { GoesOn 1 (R.view records.old) (R.view records.new) result }
+        ensures few { OnOk result
+            ((R.view records.old).calls_left + length self.old.changes.items
+            ≤ (R.view records.new).calls_left + length self.new.changes.items) }
         ensures quiet { IsQuiet (R.view records.old) (R.view records.new) }
         ensures reads { OnOk result (AddsWrites [] (R.view records.old).transferred
             (R.view records.new).transferred) }
@@ -143,6 +216,9 @@ impl Staged {
         requires within { slot_record start slot < (R.view records.old).record_count }
         requires room { length self.old.changes.items < 32 }
         ensures goes_on { GoesOn 1 (R.view records.old) (R.view records.new) result }
+        ensures few { OnOk result
+            ((R.view records.old).calls_left + length self.old.changes.items
+            ≤ (R.view records.new).calls_left + length self.new.changes.items) }
         ensures quiet { IsQuiet (R.view records.old) (R.view records.new) }
         ensures reads { OnOk result (AddsWrites [] (R.view records.old).transferred
             (R.view records.new).transferred) }
@@ -166,6 +242,9 @@ impl Staged {
         requires within { n < (R.view records.old).record_count }
         requires room { length self.old.changes.items < 32 }
         ensures goes_on { GoesOn 1 (R.view records.old) (R.view records.new) result }
+        ensures few { OnOk result
+            ((R.view records.old).calls_left + length self.old.changes.items
+            ≤ (R.view records.new).calls_left + length self.new.changes.items) }
         ensures quiet { IsQuiet (R.view records.old) (R.view records.new) }
         ensures reads { OnOk result (AddsWrites [] (R.view records.old).transferred
             (R.view records.new).transferred) }
