@@ -1,5 +1,5 @@
-//! Records over the loop: a store of records whose reads and writes go by frames to the drive. So far it has the calls of
-//! which the store is made: runs of records, the drive's status, accessory IDs, the parallel poll, and bytes for a printer.
+//! Records over the loop: a store of records whose reads and writes go by frames to the drive. Each run of records is a
+//! seek, one transmission and a poll of the drive's status.
 #![tactic(auto)]
 
 #[cfg(test)]
@@ -11,4 +11,8 @@ mod poll;
 mod records;
 mod runs;
 #[cfg(test)]
+mod store_tests;
+#[cfg(test)]
 mod tests;
+
+pub use records::{LoopRecords, Looped};

@@ -11,7 +11,7 @@ use std::process::Abort;
 use std::test::Fail;
 
 /// A medium of 512 records of zeros.
-fn blank_tape(rt: &(impl Abort + AllocGlobal)) -> Result<MemoryMedium, Fail> {
+pub(crate) fn blank_tape(rt: &(impl Abort + AllocGlobal)) -> Result<MemoryMedium, Fail> {
     let alloc = rt.alloc();
     let mut shelf = Vec::new(alloc);
     shelf.push((String::from_str(alloc, "TAPE")?, Vec::new(alloc)))?;
@@ -22,7 +22,7 @@ fn blank_tape(rt: &(impl Abort + AllocGlobal)) -> Result<MemoryMedium, Fail> {
 }
 
 /// The controller of a new ring.
-fn controller_of(ring: Ring<MemoryMedium>) -> Lost<MemoryMedium>
+pub(crate) fn controller_of(ring: Ring<MemoryMedium>) -> Lost<MemoryMedium>
     requires { IsLost (⟦<Ring<MemoryMedium> as Seen<MemoryMedium>>⟧.seen ring) }
     ensures { IsLost (⟦<Lost<MemoryMedium> as Seen<MemoryMedium>>⟧.seen result) }
 {

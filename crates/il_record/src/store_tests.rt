@@ -1,0 +1,268 @@
+ghost use Rattle.std.specs.Prelude.{◌≡◌, true, IfOk};
+ghost use Rattle.il_control.specs.Calls.{IsLost};
+
+use crate::LoopRecords;
+use crate::tests::controller_of;
+use il_device::{Device, Printer};
+use il_frames::Entry;
+use il_ports::{Inserted, Medium, MemoryMedium, New, Records, Trouble};
+use il_ring::PlanFault::{Alter, Lose};
+use il_ring::{Planned, Rig, Ring, is_plan};
+use std::process::Abort;
+use std::test::Fail;
+
+/// A medium of 512 records of zeros, of which these reads and writes fail, counted from 1; a write that fails leaves 7s.
+fn tape(
+    rt: &(impl Abort + AllocGlobal),
+    failing_read: u64,
+    failing_write: u64,
+) -> Result<MemoryMedium, Fail> {
+    let alloc = rt.alloc();
+    let mut shelf = Vec::new(alloc);
+    shelf.push((String::from_str(alloc, "TAPE")?, Vec::new(alloc)))?;
+    let (mut reads, mut writes) = (Vec::new(alloc), Vec::new(alloc));
+    reads.push(failing_read)?;
+    writes.push((failing_write, [7; 256]))?;
+    let mut medium = MemoryMedium::new(alloc, shelf, reads, writes, Vec::new(alloc), 20)?;
+    assert_eq!(rt; medium.insert("TAPE", New::No), Ok(Inserted::Tape));
+    Ok(medium)
+}
+
+/// A store over a new ring of a printer, if one is wanted, and the drive.
+fn store(
+    rt: &(impl Abort + AllocGlobal),
+    medium: MemoryMedium,
+    printer: bool,
+    plan: &[Planned],
+) -> Result<LoopRecords<MemoryMedium>, Fail>
+    ensures { IfOk result (λ records. (⟦<LoopRecords<MemoryMedium> as Records>⟧.view records).valid) }
+{
+    let alloc = rt.alloc();
+    let mut before = Vec::new(alloc);
+    if printer {
+        let printer: Box<dyn Device> = Box::new(alloc, Printer::new(alloc)?)?;
+        before.push(printer)?;
+    }
+    let rig = Rig {
+        medium,
+        before,
+        after: Vec::new(alloc),
+    };
+    assert!(rt; rig.fits());
+    assert!(rt; is_plan(plan));
+    assert!(rt; rig.medium.size() > 0);
+    let ring = Ring::new(alloc, rig, plan, 5000)
+        .ok()
+        .expect(rt, "memory for a ring");
+    let lost = controller_of(ring);
+    assert!(rt; lost.ring().log().is_empty());
+    Ok(LoopRecords::new(lost))
+}
+
+/// What a call answers, as a word.
+fn answer(answer: Result<(), Trouble>) -> &'static str {
+    match answer {
+        Ok(()) => "ok",
+        Err(Trouble::Frame) => "frame",
+        Err(Trouble::Medium) => "medium",
+    }
+}
+
+/// Makes the store sound, and says what it answered.
+fn resume<R: Records>(rt: &impl Abort, records: &mut R) -> &'static str
+    requires { (R.view records.old).valid }
+    ensures { (R.view records.new).valid }
+{
+    assert!(rt; records.left() >= 1);
+    answer(records.resume())
+}
+
+/// Writes bytes from a record on, two records or as many as they fill, and says what it answered.
+fn write<R: Records>(
+    rt: &impl Abort,
+    records: &mut R,
+    first: u16,
+    count: u16,
+    bytes: &[u8],
+) -> &'static str
+    requires { (R.view records.old).valid }
+    ensures { (R.view records.new).valid }
+{
+    assert!(rt; records.is_sound());
+    assert!(rt; count >= 1);
+    assert!(rt; bytes.len() <= 256 * usize::from(count));
+    assert!(rt; records.left() >= u32::from(count));
+    assert!(rt; u32::from(first) + u32::from(count) <= u32::from(records.size()));
+    answer(records.write_run(first, count, bytes))
+}
+
+/// Reads records, as many as fill `into`, and says what it answered.
+fn read<R: Records>(rt: &impl Abort, records: &mut R, first: u16, into: &mut [u8]) -> &'static str
+    requires { (R.view records.old).valid }
+    ensures { (R.view records.new).valid }
+{
+    assert!(rt; records.is_sound());
+    let count = into.len() / 256;
+    assert!(rt; count >= 1 && into.len() % 256 == 0 && count <= 3);
+    assert!(rt; records.left() >= count as u32);
+    assert!(rt; usize::from(first) + count <= usize::from(records.size()));
+    answer(records.read_run(first, into))
+}
+
+/// The log since it was last emptied.
+fn log(records: &LoopRecords<MemoryMedium>) -> &[Entry]
+    requires { (⟦<LoopRecords<MemoryMedium> as Records>⟧.view records.now).valid }
+{
+    records.ring().log()
+}
+
+/// Whether each of these bytes is that one.
+fn are_all(bytes: &[u8], byte: u8) -> bool {
+    for b in bytes {
+        if *b != byte {
+            return false;
+        }
+    }
+    true
+}
+
+/// A run of so many records, at most three, goes out and comes back, the last record filled up with zeros, by one
+/// transmission each, and each frame of the log comes past a device that stands before the drive.
+fn round_trip(rt: &(impl Abort + AllocGlobal), count: u16) -> Result<(), Fail> {
+    assert!(rt; count >= 1 && count <= 3);
+    let size = 256 * usize::from(count);
+    let mut records = store(rt, tape(rt, 0, 0)?, true, &[])?;
+    assert_eq!(rt; resume(rt, &mut records), "ok");
+    assert_eq!(rt; log(&records).len(), 11);
+    let bytes = [6; 768];
+    records.begin();
+    assert_eq!(rt;
+        write(rt, &mut records, 7, count, &bytes[..size - 100]),
+        "ok"
+    );
+    assert_eq!(rt; log(&records).len(), 24 + size);
+    records.begin();
+    let mut into = [9; 768];
+    assert_eq!(rt; read(rt, &mut records, 7, &mut into[..size]), "ok");
+    assert_eq!(rt; log(&records).len(), 29 + size);
+    assert!(rt; are_all(&into[..size - 100], 6));
+    assert!(rt; are_all(&into[size - 100..size], 0));
+    assert!(rt; are_all(&into[size..], 9));
+    let rig = records.into_ring().into_rig();
+    let printer = rig.before.get(0).expect(rt, "a printer");
+    // All entries but the ETO of each receive, which goes from the drive to the host.
+    assert_eq!(rt; printer.frames(), (61 + 2 * size) as u64);
+    Ok(())
+}
+
+#[test]
+fn writes_and_reads_back(rt: HostRuntime) -> Result<(), Fail> {
+    round_trip(&rt, 1)?;
+    round_trip(&rt, 3)
+}
+
+/// What stands of two records, of 1s and of 2s, that were written with a fault planned at that crossing, and the answer.
+fn written_with(
+    rt: &(impl Abort + AllocGlobal),
+    planned: Planned,
+    image: &mut [u8; 512],
+) -> Result<&'static str, Fail> {
+    let mut records = store(rt, tape(rt, 0, 0)?, false, &[planned])?;
+    assert_eq!(rt; resume(rt, &mut records), "ok");
+    records.begin();
+    let mut bytes = [1; 512];
+    for place in 256..512 {
+        bytes[place] = 2;
+    }
+    let answer = write(rt, &mut records, 7, 2, &bytes);
+    assert_eq!(rt; records.is_sound(), answer == "ok");
+    assert_eq!(rt; resume(rt, &mut records), "ok");
+    assert_eq!(rt; read(rt, &mut records, 7, image), "ok");
+    Ok(answer)
+}
+
+/// Whether a record of these bytes stands where the fault was planned behind the crossing at which its last byte came to
+/// the drive, and else nothing; at that crossing an altered last byte is the only one that is another.
+fn stands(record: &[u8], byte: u8, end: u64, planned: Planned) -> bool {
+    let altered = planned.hop == end && planned.fault == Alter(4);
+    let Some((last, front)) = record.split_last() else {
+        return false;
+    };
+    if planned.hop > end {
+        are_all(record, byte)
+    } else if altered {
+        are_all(front, byte) && *last == byte ^ 4
+    } else {
+        are_all(record, 0)
+    }
+}
+
+/// The same of two records, of 1s and of 2s.
+fn both_stand(image: &[u8; 512], first: u64, second: u64, planned: Planned) -> bool {
+    stands(&image[..256], 1, first, planned) && stands(&image[256..], 2, second, planned)
+}
+
+/// A loss and an alteration at every crossing of a write of two records: the answer is a fault of frames, and each record
+/// stands as its frames came to the drive. The next resume and read work.
+#[test]
+fn faults_at_every_crossing(rt: HostRuntime) -> Result<(), Fail> {
+    // Addressing and clearing have 11 frames of two links each, the seek has 8, and the commands of the write 6.
+    let first = 2 * (11 + 8 + 6 + 255) + 1;
+    let second = first + 512;
+    // The poll of the status behind the last byte crosses 18 links.
+    let last = second + 19;
+    for hop in 23..=last {
+        for fault in [Lose, Alter(4)] {
+            let mut image = [9; 512];
+            let planned = Planned { hop, fault };
+            assert_eq!(rt; written_with(&rt, planned, &mut image)?, "frame");
+            assert!(rt; both_stand(&image, first, second, planned));
+        }
+    }
+    Ok(())
+}
+
+/// A medium that fails to write record k of a run of three, 1 to 3: the answer is a fault of the medium, the exchanges are
+/// whole, the records before it stand, it holds what the medium left, and those behind it are as before.
+fn failing_write(rt: &(impl Abort + AllocGlobal), k: usize) -> Result<(), Fail> {
+    assert!(rt; k >= 1 && k <= 3);
+    let mut records = store(rt, tape(rt, 0, k as u64)?, false, &[])?;
+    assert_eq!(rt; resume(rt, &mut records), "ok");
+    records.begin();
+    assert_eq!(rt; write(rt, &mut records, 508, 3, &[5; 768]), "medium");
+    assert_eq!(rt; log(&records).len(), 24 + 768);
+    assert!(rt; records.is_ready() && !records.is_sound());
+    assert_eq!(rt; resume(rt, &mut records), "ok");
+    let mut into = [9; 768];
+    assert_eq!(rt; read(rt, &mut records, 508, &mut into), "ok");
+    assert!(rt; are_all(&into[..256 * (k - 1)], 5));
+    assert!(rt; are_all(&into[256 * (k - 1)..256 * k], 7));
+    assert!(rt; are_all(&into[256 * k..], 0));
+    Ok(())
+}
+
+/// One that fails to read record k of a run of three: the receive ends behind the records before it, without NRD, and the
+/// status tells it.
+fn failing_read(rt: &(impl Abort + AllocGlobal), k: usize) -> Result<(), Fail> {
+    assert!(rt; k >= 1 && k <= 3);
+    let mut records = store(rt, tape(rt, k as u64, 0)?, false, &[])?;
+    assert_eq!(rt; resume(rt, &mut records), "ok");
+    records.begin();
+    let mut into = [9; 768];
+    assert_eq!(rt; read(rt, &mut records, 508, &mut into), "medium");
+    // Where the first record fails, SDA comes back, and there is no ETO.
+    let no_end = usize::from(k == 1);
+    assert_eq!(rt; log(&records).len(), 28 + 256 * (k - 1) - no_end);
+    assert_eq!(rt; resume(rt, &mut records), "ok");
+    assert_eq!(rt; read(rt, &mut records, 508, &mut into), "ok");
+    Ok(())
+}
+
+#[test]
+fn failing_medium(rt: HostRuntime) -> Result<(), Fail> {
+    for k in 1..=3 {
+        failing_write(&rt, k)?;
+        failing_read(&rt, k)?;
+    }
+    Ok(())
+}
