@@ -1,5 +1,5 @@
 -- The addressing of a loop: no records in the log, none on the tape, and nothing heard.
-use Rattle.std.proofs.Common.{◌≡◌, ◌∙◌, ◌≤◌, ◌+◌, ◌++◌, ◌&&◌, ◌==◌, ⊎_elim, ℕ, zero, suc, Bool, true, false, List, [], ◌∷◌, None, length, refl, sym, ap, subst, arith, append-nil}
+use Rattle.std.proofs.Common.{◌≡◌, ◌∙◌, ◌≤◌, ◌&&◌, ◌==◌, ⊎_elim, ℕ, zero, suc, Bool, true, false, List, [], ◌∷◌, None, length, refl, sym, ap, subst, append-nil}
 use Rattle.std.specs.List.{list_all}
 use Rattle.std.proofs.lemmas.Bool.{and_from, eq-eqb}
 use Rattle.il_frames.specs.declared.frame.Frame.{Frame}
@@ -7,12 +7,11 @@ use Rattle.il_frames.specs.declared.entry.Entry.{Entry}
 use Rattle.il_frames.specs.Messages.{message_of}
 use Rattle.il_device.proofs.Laws.{message_of-aad}
 use Rattle.il_ports.specs.Media.{MediumView}
-use Rattle.il_drive.specs.State.{DriveView}
 use Rattle.il_drive.specs.Runs.{Ran}
 use Rattle.il_drive.proofs.ExchangesAddressed.{is_addressed}
 use Rattle.il_drive.proofs.ExchangesStill.{NonePuts, may_put, leaves_records}
 use Rattle.loop_model.specs.Entries.{ifc, aau, rfc, aad}
-use Rattle.loop_model.specs.Exchanges.{Command, Address, Piece, Whole as WholeOne, Cut, Break, is_piece, piece_entries, breaks_off, entries_of, cut_at, can_cut}
+use Rattle.loop_model.specs.Exchanges.{Command, Address, Piece, Whole as WholeOne, Cut, Break, is_piece, breaks_off, entries_of, cut_at, can_cut}
 use Rattle.loop_model.specs.Loops.{Loop, host_loop}
 use Rattle.loop_model.specs.Reach.{held_at_end}
 use Rattle.loop_model.specs.Roles.{OneTalker}
@@ -23,9 +22,8 @@ use Rattle.il_ring.specs.Rings.{RingView, devices_of, roles_of, drive_party}
 use Rattle.il_ring.proofs.Passing.{is_exact}
 use Rattle.loop_model.specs.Reach.{brings_to}
 use Rattle.il_control.specs.Brought.{Brought, BroughtIf, CutBrought, ComesAs, MayComeAs, is_auto_address}
-use Rattle.il_control.specs.Calls.{IsIdle, IsLost, Resumed, NotResumed, addressing, loop_of}
+use Rattle.il_control.specs.Calls.{Resumed, NotResumed, addressing, loop_of}
 use Rattle.il_control.proofs.HeldAtEnd.{quiet_ended}
-use Rattle.il_record.specs.Came.{OnlyHeard, CameBy, CameUnits}
 use Rattle.il_record.specs.Runs.{LeavesRecords, Interrupted, Readied}
 use Rattle.il_record.specs.Talks.{Talked, all_entries}
 use Rattle.il_record.proofs.Cuts.{counts_up, comes_may}

@@ -1,5 +1,5 @@
 -- What addressing the loop leaves of the drive: its status and its medium. It awaits nothing and sends nothing.
-use Rattle.std.proofs.Common.{◌≡◌, ◌∙◌, ◌≤◌, ◌+◌, ℕ, List, [], ◌∷◌, None, length, refl, ap, subst, arith}
+use Rattle.std.proofs.Common.{◌≡◌, ◌≤◌, ℕ, List, [], ◌∷◌, None, length, refl, ap, subst, arith}
 use Rattle.il_frames.specs.declared.frame.Frame.{Frame}
 use Rattle.il_ports.specs.Media.{MediumView}
 use Rattle.il_drive.specs.declared.mode.Mode.TheVariants as mode

@@ -1,21 +1,19 @@
 -- What exchanges made, one call behind the other, and exchanges of which none begins a unit of records.
 use Rattle.std.proofs.Common.{◌≡◌, ◌∙◌, ◌++◌, ◌&&◌, ◌||◌, ℕ, Bool, true, false, List, [], ◌∷◌, Option, Some, None, refl, sym, ap, ap₂, subst}
 use Rattle.std.specs.Prelude.{is_some, option_and_then, option_to_list}
-use Rattle.lif_model.specs.Tape.{Tape}
 use Rattle.il_ports.specs.Media.{MediumView}
 use Rattle.il_drive.specs.State.{DriveView}
-use Rattle.loop_model.specs.Loops.{Loop}
 use Rattle.loop_model.specs.Effect.{UnitsEffect}
 use Rattle.loop_model.specs.Exchanges.{Exchange, Receive, Sst, Stopped, Piece, Whole as WholeOne, Cut}
-use Rattle.loop_model.specs.Roles.{OneTalker, talkers, is_at_most_one}
+use Rattle.loop_model.specs.Roles.{is_at_most_one}
 use Rattle.loop_model.specs.Units.{RecordUnit, units_of, ends_within, is_open, sought as named_by, unit_after_seek}
 use Rattle.loop_model.proofs.EffectLaws.{ends_within-append, ends_within-broken, units_of-append, UnitsEffect-append}
-use Rattle.il_ring.specs.Rings.{RingView, devices_of, roles_of}
+use Rattle.il_ring.specs.Rings.{RingView}
 use Rattle.il_control.specs.Calls.{IsIdle, Made, BrokenOff, loop_of}
 use Rattle.il_control.proofs.Calls.{whole_nothing}
-use Rattle.il_record.specs.Came.{CameBy, CameUnits}
+use Rattle.il_record.specs.Came.{CameUnits}
 use Rattle.il_record.specs.Runs.{Polled, NotPolled}
-use Rattle.il_record.specs.Talks.{Talked, all_entries}
+use Rattle.il_record.specs.Talks.{Talked}
 use Rattle.il_record.proofs.ReadRuns.{came_still}
 use Rattle.il_record.proofs.Talks.{made_talked, broken_talked, talked_then, same_loop}
 

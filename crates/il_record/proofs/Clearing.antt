@@ -1,33 +1,28 @@
 -- Commands one behind the other that clear the drive, and those that address the loop: no records in the log, none on the tape.
-use Rattle.std.proofs.Common.{◌≡◌, ◌∙◌, ◌≤◌, ◌<◌, ◌+◌, ◌++◌, ◌&&◌, ⊎_elim, ℕ, zero, suc, Bool, true, false, List, [], ◌∷◌, Option, Some, None, map, length, refl, sym, ap, ap₂, subst, arith}
+use Rattle.std.proofs.Common.{◌≡◌, ◌∙◌, ◌≤◌, ◌++◌, ⊎_elim, ℕ, zero, suc, true, false, List, [], ◌∷◌, Some, length, refl, sym, ap, subst}
 use Rattle.std.specs.List.{list_all}
 use Rattle.il_frames.specs.declared.frame.Class.TheVariants as class
 use Rattle.il_frames.specs.declared.frame.Frame.{Frame}
 use Rattle.il_frames.specs.Frames.{class_of, same_class}
 use Rattle.il_frames.specs.Messages.{message_of}
-use Rattle.il_device.specs.declared.device.Out.{Out}
 use Rattle.il_ports.specs.Media.{MediumView}
-use Rattle.il_drive.specs.State.{DriveView}
 use Rattle.il_drive.specs.Runs.{Ran}
 use Rattle.il_drive.proofs.Beginning.{joins}
 use Rattle.il_drive.proofs.ExchangesAddressed.{sdc, clears, message_of-lad}
 use Rattle.il_drive.proofs.ExchangesStill.{NonePuts, may_put, leaves_records}
-use Rattle.loop_model.specs.Effect.{UnitsEffect}
 use Rattle.loop_model.specs.Entries.{unl, rfc, lad}
-use Rattle.loop_model.specs.Exchanges.{Exchange, Command, Piece, Whole as WholeOne, Cut, commanded, entries_of}
+use Rattle.loop_model.specs.Exchanges.{Command, Piece, Whole as WholeOne, Cut, commanded}
 use Rattle.loop_model.proofs.HearLaws.{has_no_data}
 use Rattle.loop_model.proofs.EffectLaws.{ends_within-broken}
 use Rattle.il_ring.specs.Rings.{RingView, devices_of, drive_party}
 use Rattle.il_ring.proofs.Passing.{is_exact}
-use Rattle.il_control.specs.Brought.{CutBrought, MayComeAs, is_auto_address}
+use Rattle.il_control.specs.Brought.{CutBrought, is_auto_address}
 use Rattle.il_control.specs.Calls.{IsIdle, Made, BrokenOff, loop_of}
 use Rattle.il_control.proofs.Brings.{command_brings}
-use Rattle.il_record.specs.Came.{OnlyHeard, CameBy, CameUnits}
 use Rattle.il_record.specs.Runs.{LeavesRecords, Cleared, Interrupted}
-use Rattle.il_record.specs.Talks.{Talked}
 use Rattle.il_record.proofs.Cuts.{counts_up}
 use Rattle.il_record.proofs.Readings.{idle_address}
-use Rattle.il_record.proofs.ReadRuns.{came_still, same_party, others_of, others_more, leaves_then, leaves_same}
+use Rattle.il_record.proofs.ReadRuns.{came_still, others_of, others_more, leaves_then}
 use Rattle.il_record.proofs.Talks.{made_talked, broken_talked, talked_then}
 
 -- ---- a command

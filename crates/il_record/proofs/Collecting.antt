@@ -1,12 +1,11 @@
 -- A parallel poll, command by command.
-use Rattle.std.proofs.Common.{◌≡◌, ◌≢◌, ◌∙◌, ◌≤◌, ◌<◌, ◌+◌, ◌-◌, ◌*◌, ◌++◌, ◌==◌, ◌⊎◌, inl, inr, ⊎_elim, ℕ, zero, suc, Bool, true, false, List, [], ◌∷◌, Option, Some, None, length, refl, sym, ap, ap₂, subst, arith, nat_le}
+use Rattle.std.proofs.Common.{◌≡◌, ◌≢◌, ◌∙◌, ◌≤◌, ◌<◌, ◌+◌, ◌-◌, ◌*◌, ◌==◌, inl, inr, ⊎_elim, ℕ, Bool, true, false, List, [], ◌∷◌, Some, None, length, refl, sym, ap, ap₂, subst, arith, nat_le}
 use Rattle.std.specs.Prelude.{if◌then◌else◌, min}
 use Rattle.std.proofs.lemmas.Bool.{cases_lt, eqb-true, eqb-false, le-leb, lt-leb}
 use Rattle.il_frames.specs.declared.frame.Frame.{Frame}
 use Rattle.il_frames.specs.declared.message.Message.{Message}
 use Rattle.il_frames.specs.declared.message.Message.TheVariants as msg
 use Rattle.il_frames.specs.Messages.{message_of}
-use Rattle.il_poll.specs.declared.service.Assignment.{Assignment}
 use Rattle.il_poll.specs.Service.{assigned}
 use Rattle.il_device.specs.Passing.{identified}
 use Rattle.il_device.specs.State.{DeviceState}
@@ -20,14 +19,14 @@ use Rattle.il_ring.specs.Outcomes.{Obeys}
 use Rattle.il_ring.specs.Polls.{identified_along, is_poll}
 use Rattle.il_ring.specs.Rings.{RingView, devices_of, spare_of}
 use Rattle.il_control.specs.Calls.{AllStay, BrokenOff, IsIdle, Made, Obeyed, ObeyedInPart, idy}
-use Rattle.il_control.proofs.Assigning.{EachTo, GivenPlace, MayHavePlace, message_of-ppe, place_given, place_in_part, ppe}
+use Rattle.il_control.proofs.Assigning.{EachTo, GivenPlace, place_given, place_in_part, ppe}
 use Rattle.il_control.proofs.Calls.{hears_then}
 use Rattle.loop_model.proofs.SendLaws.{message_of-lad}
 use Rattle.il_record.specs.Came.{CameUnits}
 use Rattle.il_record.specs.LoopCalls.{LeavesDrive}
-use Rattle.il_record.specs.Polls.{Assigned, Collected, HasPolled, MayPoll, PollBroke, PollsOn, Released, poll_place, polled_along, ppu}
+use Rattle.il_record.specs.Polls.{Assigned, Collected, HasPolled, MayPoll, PollBroke, PollsOn, poll_place, polled_along, ppu}
 use Rattle.il_record.proofs.CameLaws.{broken_came, came_then, made_came, nothing_came, tape_same}
-use Rattle.il_record.proofs.Commands.{PlacedTo, all_polls, all_released, command_broken, command_made, command_room, each_as, each_then, identify_broken, identify_made, identify_room, may_polls, obeyed_polls, part_polls, place_is, ppe_mild, ppu_polls, ppu_released, released_polls, stays_polls, unl_broken, unl_made}
+use Rattle.il_record.proofs.Commands.{PlacedTo, all_polls, all_released, command_broken, command_made, command_room, each_as, each_then, identify_broken, identify_made, identify_room, may_polls, obeyed_polls, part_polls, place_is, ppe_mild, ppu_polls, ppu_released, stays_polls, unl_broken, unl_made}
 use Rattle.il_record.proofs.Mild.{StaysMild, mild_then}
 use Rattle.il_record.proofs.MildCame.{left_as_was, left_by, leaves_mild, leaves_then, mild_frame}
 use Rattle.il_record.proofs.Readings.{idle_mute}

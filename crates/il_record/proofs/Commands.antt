@@ -1,20 +1,15 @@
 -- Commands of a poll: what they leave of the drive, and which places in the poll devices have behind them.
-use Rattle.std.proofs.Common.{◌≡◌, ◌∙◌, ◌≤◌, ◌<◌, ◌+◌, ◌-◌, ◌/◌, ◌%◌, ◌++◌, ◌&&◌, ◌==◌, inl, inr, ⊎_elim, ℕ, zero, suc, Bool, true, false, not, List, [], ◌∷◌, Option, Some, None, length, refl, sym, ap, subst, arith, nat_le}
+use Rattle.std.proofs.Common.{◌≡◌, ◌∙◌, ◌≤◌, ◌<◌, ◌+◌, ◌-◌, ◌/◌, ◌%◌, ◌&&◌, ◌==◌, inl, inr, ⊎_elim, ℕ, zero, suc, true, false, not, List, [], ◌∷◌, Some, None, length, refl, sym, ap, subst, arith, nat_le}
 use Rattle.std.specs.Prelude.{if◌then◌else◌}
 use Rattle.std.specs.List.{list_all}
 use Rattle.std.proofs.lemmas.Bool.{and_from, le-leb}
 use Rattle.il_frames.specs.declared.frame.Frame.{Frame}
-use Rattle.il_frames.specs.declared.entry.Entry.{Entry}
 use Rattle.il_frames.specs.declared.message.Message.{Message}
 use Rattle.il_frames.specs.declared.message.Message.TheVariants as msg
-use Rattle.il_frames.specs.Messages.{message_of}
-use Rattle.il_poll.specs.declared.service.Assignment.{Assignment}
 use Rattle.il_poll.specs.Service.{assigned}
 use Rattle.il_device.specs.State.{DeviceState}
 use Rattle.il_device.specs.Takes.{may_change_service}
-use Rattle.il_device.specs.Passing.{identified}
 use Rattle.il_ports.specs.Media.{MediumView}
-use Rattle.il_drive.specs.State.{DriveView}
 use Rattle.il_drive.specs.Runs.{Ran}
 use Rattle.loop_model.specs.Entries.{lad, rfc, unl}
 use Rattle.loop_model.specs.Exchanges.{Command, Identify, commanded, entries_of, returned, is_talk_address}
@@ -22,18 +17,17 @@ use Rattle.loop_model.proofs.SendLaws.{message_of-lad}
 use Rattle.loop_model.proofs.TalkLaws.{is_aau}
 use Rattle.il_ring.proofs.RoundPlaces.{place_kept}
 use Rattle.il_ring.proofs.Passing.{is_exact}
-use Rattle.il_ring.specs.Lists.{Each, First}
+use Rattle.il_ring.specs.Lists.{First}
 use Rattle.il_ring.specs.Outcomes.{HearsNothing, Obeys}
-use Rattle.il_ring.specs.Polls.{identified_along, is_poll}
+use Rattle.il_ring.specs.Polls.{is_poll}
 use Rattle.il_ring.specs.Rings.{RingView, devices_of, drive_party, spare_of}
 use Rattle.il_control.specs.Brought.{is_auto_address}
-use Rattle.il_control.specs.Calls.{AllStay, BrokenOff, IsIdle, Made, Obeyed, ObeyedInPart, Stays, idy, is_command}
-use Rattle.il_control.proofs.Assigning.{EachTo, GivenPlace, MayHavePlace, message_of-ppe, ppe}
+use Rattle.il_control.specs.Calls.{AllStay, BrokenOff, Made, Obeyed, ObeyedInPart, Stays, is_command}
+use Rattle.il_control.proofs.Assigning.{EachTo, MayHavePlace, message_of-ppe, ppe}
 use Rattle.il_control.proofs.Calls.{hears_then, room_behind}
-use Rattle.il_record.specs.Polls.{MayPoll, PollsOn, Released, poll_place, polled_along, ppu}
-use Rattle.il_record.proofs.Mild.{AllMild, IsMild, StaysMild, is_mild, mild_ran, unl_ran}
-use Rattle.il_record.proofs.MildCame.{UnlFirst, brought_mild, cut_mild, mild_entry, mild_frame, unl_brought, unl_cut}
-use Rattle.il_record.proofs.Saying.{lad_mild}
+use Rattle.il_record.specs.Polls.{PollsOn, Released, poll_place}
+use Rattle.il_record.proofs.Mild.{IsMild, StaysMild, is_mild, mild_ran, unl_ran}
+use Rattle.il_record.proofs.MildCame.{UnlFirst, brought_mild, cut_mild, mild_entry, mild_frame, unl_cut}
 use Rattle.il_control.proofs.Brings.{command_brings}
 
 -- ---- which commands they are

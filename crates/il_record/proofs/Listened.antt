@@ -1,11 +1,10 @@
 -- What devices heard of bytes that were sent, byte behind byte.
-use Rattle.std.proofs.Common.{◌≡◌, ◌∙◌, ◌≤◌, ◌+◌, ◌++◌, ◌==◌, ℕ, zero, suc, Bool, true, false, not, List, [], ◌∷◌, length, take, refl, sym, ap, subst, arith, append-nil}
+use Rattle.std.proofs.Common.{◌≡◌, ◌∙◌, ◌≤◌, ◌+◌, ◌++◌, ◌==◌, ℕ, zero, suc, Bool, true, false, List, [], ◌∷◌, length, take, refl, sym, ap, subst, arith, append-nil}
 use Rattle.std.specs.Prelude.{if◌then◌else◌, MatchBool}
 use Rattle.il_device.specs.State.{DeviceState, risen}
 use Rattle.il_device.specs.Takes.{kept}
 use Rattle.il_ring.specs.Lists.{Each, First}
 use Rattle.il_ring.specs.Outcomes.{HearsNothing, HearsByte, HearsAny}
-use Rattle.il_ring.specs.Polls.{KeepsPlace}
 use Rattle.il_ring.specs.Rings.{RingView, devices_of}
 use Rattle.il_control.specs.Calls.{AllStay, IsTold, Stays, Unheard}
 use Rattle.il_control.proofs.Assigning.{EachTo}

@@ -1,5 +1,5 @@
 -- Frames that ask nothing of the drive but its name: they leave its status and its medium, also where they break off.
-use Rattle.std.proofs.Common.{◌≡◌, ◌≢◌, ◌∙◌, ◌⊎◌, inl, inr, ℕ, Bool, true, false, List, [], ◌∷◌, Option, Some, None, refl, sym, ap, subst}
+use Rattle.std.proofs.Common.{◌≡◌, ◌∙◌, ◌⊎◌, inl, inr, ℕ, Bool, true, false, List, [], ◌∷◌, Option, Some, None, refl, sym, ap, subst}
 use Rattle.std.specs.Prelude.{◌&&◌, ◌||◌, if◌then◌else◌}
 use Rattle.std.proofs.lemmas.Bool.{and_parts}
 use Rattle.il_frames.specs.declared.frame.Frame.{Frame}
@@ -13,9 +13,8 @@ use Rattle.il_device.specs.declared.interface.OwnFrame.{OwnFrame}
 use Rattle.il_device.specs.declared.roles.Roles.{Roles}
 use Rattle.il_device.specs.Roles.{roles_after, own_after, assignment_after, is_own, takes_address}
 use Rattle.il_device.specs.State.{risen}
-use Rattle.il_device.specs.Interfaces.{InterfaceState, placed, turn_on}
+use Rattle.il_device.specs.Interfaces.{placed, turn_on}
 use Rattle.il_device.specs.Takes.{turn_at, count_after, eto, ete, turn_at_data, turn_at_start, asked_for_id}
-use Rattle.il_device.specs.declared.interface.Turn.{Turn}
 use Rattle.il_device.specs.declared.interface.Turn.TheVariants as turn
 use Rattle.il_ports.specs.Media.{MediumView}
 use Rattle.il_drive.specs.declared.mode.Mode.{Mode}

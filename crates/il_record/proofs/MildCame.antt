@@ -1,6 +1,6 @@
 -- Which exchanges ask nothing of the drive but its name: the frames that came to it are mild, whatever broke off.
-use Rattle.std.proofs.Common.{◌≡◌, ◌∙◌, ◌≤◌, ◌<◌, ◌++◌, ◌&&◌, ◌||◌, ◌⊎◌, inl, inr, ⊎_elim, ℕ, zero, suc, Bool, true, false, not, List, [], ◌∷◌, Option, Some, None, map, length, refl, sym, ap, subst, arith, append_assoc}
-use Rattle.std.specs.Prelude.{◌==◌, IfSome, IsSome}
+use Rattle.std.proofs.Common.{◌≡◌, ◌∙◌, ◌≤◌, ◌<◌, ◌++◌, ◌&&◌, ◌||◌, ◌⊎◌, inl, inr, ⊎_elim, ℕ, zero, suc, Bool, true, false, not, List, [], ◌∷◌, Option, Some, None, map, length, refl, sym, ap, subst, append_assoc}
+use Rattle.std.specs.Prelude.{IfSome, IsSome}
 use Rattle.std.specs.List.{list_all}
 use Rattle.std.proofs.lemmas.Bool.{and_parts, and_from, cases_lt}
 use Rattle.il_frames.specs.declared.frame.Class.{Class}
@@ -15,20 +15,19 @@ use Rattle.il_device.specs.Takes.{eto}
 use Rattle.il_ports.specs.Media.{MediumView}
 use Rattle.il_drive.specs.State.{DriveView}
 use Rattle.il_drive.specs.Runs.{Ran}
-use Rattle.il_drive.proofs.ExchangesAddressed.{message_of-tad, message_of-lad}
-use Rattle.loop_model.specs.Entries.{entry, unl, unt, rfc, nrd, tad, lad}
-use Rattle.loop_model.specs.Exchanges.{Echo, Answer, NotTaken, ToItsEnd, Stopped, Start, Sai, Receive, Send, start_frame, echoed, returned, commanded, answer_entries, entries_of, is_answer, is_echo, is_some_data}
+use Rattle.il_drive.proofs.ExchangesAddressed.{message_of-tad}
+use Rattle.loop_model.specs.Entries.{entry, unl, unt, rfc, nrd, tad}
+use Rattle.loop_model.specs.Exchanges.{Echo, Answer, NotTaken, ToItsEnd, Stopped, Sai, Receive, start_frame, echoed, returned, commanded, answer_entries, entries_of, is_answer, is_echo}
 use Rattle.loop_model.specs.Reach.{brings_to}
 use Rattle.loop_model.proofs.UnitLaws.{entries_of-receive, receive_front}
 use Rattle.il_ring.proofs.Passing.{is_exact, is_identify, is_identify_class}
 use Rattle.il_ring.specs.Rings.{RingView, devices_of, drive_party}
 use Rattle.il_control.specs.Brought.{ComesAs, MayComeAs, Brought, BroughtIf, CutBrought, is_auto_address, is_from_here}
-use Rattle.il_control.specs.Receives.{Received, NotReceived, PassedBy, PassedInPart, IsSpoken, AllSpoken, StandsBehind, talker_of}
-use Rattle.il_control.proofs.Brings.{command_frames}
+use Rattle.il_control.specs.Receives.{Received, NotReceived, IsSpoken, AllSpoken, StandsBehind, talker_of}
 use Rattle.il_record.specs.LoopCalls.{LeavesDrive}
 use Rattle.il_record.proofs.Asked.{front_plain}
 use Rattle.il_record.proofs.Cuts.{comes_may, from_drive}
-use Rattle.il_record.proofs.Mild.{is_mild, AllMild, IsMild, OneByte, StaysMild, mild_ran, unl_ran}
+use Rattle.il_record.proofs.Mild.{is_mild, AllMild, IsMild, OneByte, StaysMild, unl_ran}
 use Rattle.il_record.proofs.Readings.{legal_answer, end_echoes, stop_echoes}
 
 -- ---- frames

@@ -1,15 +1,15 @@
 -- Accessory IDs, device by device.
-use Rattle.std.proofs.Common.{◌≡◌, ◌∙◌, ◌≤◌, ◌<◌, ◌+◌, ◌*◌, ◌-◌, ◌++◌, ◌==◌, ℕ, zero, suc, Bool, true, false, List, [], ◌∷◌, Option, Some, None, take, drop, map, length, get_or, refl, sym, ap, subst, arith, length-append}
+use Rattle.std.proofs.Common.{◌≡◌, ◌∙◌, ◌≤◌, ◌<◌, ◌+◌, ◌*◌, ◌-◌, ◌++◌, ◌==◌, ℕ, zero, suc, Bool, true, false, List, [], ◌∷◌, Option, Some, None, take, drop, length, get_or, refl, sym, ap, arith, length-append}
 use Rattle.std.specs.Prelude.{if◌then◌else◌}
 use Rattle.il_device.specs.State.{DeviceState}
 use Rattle.il_ports.specs.Media.{MediumView}
 use Rattle.loop_model.specs.Exchanges.{Receive, Sai}
 use Rattle.il_ring.specs.Lists.{First}
 use Rattle.il_ring.specs.Rings.{RingView, devices_of, spare_of}
-use Rattle.il_control.specs.Calls.{AllStay, IsIdle, Stays}
+use Rattle.il_control.specs.Calls.{IsIdle, Stays}
 use Rattle.il_control.specs.Receives.{Received, NotReceived, accessory_at, id_bytes, received}
 use Rattle.il_control.proofs.Calls.{hears_then}
-use Rattle.il_record.specs.LoopCalls.{AllNamed, LeavesDrive, LeftAlone, Named, ids_of}
+use Rattle.il_record.specs.LoopCalls.{AllNamed, LeftAlone, Named, ids_of}
 use Rattle.il_record.proofs.CameLaws.{broken_came, came_then, made_came, nothing_came, tape_same}
 use Rattle.il_record.proofs.MildCame.{left_as_was, leaves_then, not_received_leaves, received_leaves}
 use Rattle.il_record.proofs.ReadRuns.{received_room}

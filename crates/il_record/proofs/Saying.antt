@@ -1,9 +1,8 @@
 -- Bytes for a device, with no command in front: the drive heeds none of them.
-use Rattle.std.proofs.Common.{◌≡◌, ◌∙◌, ◌≤◌, ◌++◌, ◌&&◌, ◌||◌, ℕ, true, not, List, [], ◌∷◌, Option, None, map, length, take, refl, sym, ap, subst}
+use Rattle.std.proofs.Common.{◌≡◌, ◌∙◌, ◌≤◌, ◌++◌, ◌&&◌, ℕ, true, not, List, [], ◌∷◌, None, map, length, refl, sym, ap, subst}
 use Rattle.std.specs.List.{list_all}
 use Rattle.std.proofs.lemmas.Bool.{and_parts, and_from}
 use Rattle.std.proofs.Math.Seq.{take-length}
-use Rattle.il_frames.specs.declared.frame.Frame.{Frame}
 use Rattle.il_frames.specs.declared.entry.Entry.{Entry}
 use Rattle.il_ports.specs.Media.{MediumView}
 use Rattle.il_drive.proofs.ExchangesAddressed.{message_of-lad}

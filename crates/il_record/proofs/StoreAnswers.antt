@@ -1,10 +1,9 @@
 -- A store over the loop whose controller was taken out for a call, and put back.
-use Rattle.std.proofs.Common.{◌≡◌, ◌∙◌, ◌≤◌, ◌<◌, ◌+◌, ◌*◌, ◌/◌, ◌%◌, ℕ, Bool, true, false, List, [], ◌∷◌, Option, Some, None, length, refl, sym, ap, subst, arith}
-use Rattle.std.specs.Prelude.{Result, Ok, Err, min}
-use Rattle.lif_model.specs.Tape.{Tape, IsTape}
+use Rattle.std.proofs.Common.{◌≡◌, ◌∙◌, ◌≤◌, ◌<◌, ◌+◌, ◌*◌, ℕ, Bool, true, false, List, [], ◌∷◌, Option, length, sym, ap, subst, arith}
+use Rattle.std.specs.Prelude.{Result, Ok, Err}
 use Rattle.il_ports.specs.declared.records.Trouble.{Trouble}
 use Rattle.il_ports.specs.declared.records.Trouble.TheVariants as trouble
-use Rattle.il_ports.specs.Media.{MediumView, IsMedium}
+use Rattle.il_ports.specs.Media.{MediumView}
 use Rattle.il_ports.specs.Stores.{RecordsView, IsReady, IsStore, Fetched, Stored, FetchedRun, StoredRun}
 use Rattle.il_ports.proofs.OneRecord.{run_fetched, run_stored}
 use Rattle.lif_model.specs.Shelf.{cut}
@@ -12,7 +11,7 @@ use Rattle.lif_model.proofs.Made.{piece_long}
 use Rattle.std.proofs.lemmas.List.{take_all}
 use Rattle.il_drive.proofs.Exchanges.{IsFree}
 use Rattle.il_ring.specs.Rings.{RingView, drive_party, spare_of}
-use Rattle.il_control.specs.Calls.{IsIdle, IsLost}
+use Rattle.il_control.specs.Calls.{IsIdle}
 use Rattle.il_record.specs.declared.records.Since.{Since}
 use Rattle.il_record.specs.LoopStores.{LoopView, Standing, AtIdle, AtLost, Nowhere, calls_in, is_broken, since_frame, since_medium, view_at, view_of}
 use Rattle.il_record.specs.Runs.{ReadAs, ReadBroke, WroteAs, WriteBroke}

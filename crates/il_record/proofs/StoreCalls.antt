@@ -1,19 +1,15 @@
 -- What the calls of a store over the loop keep: the log since it was emptied, the list of transfers, and the counts.
-use Rattle.std.proofs.Common.{inl, inr, ⊎_elim, ◌⊎◌, ◌≡◌, ◌≢◌, ◌∙◌, ◌≤◌, ◌<◌, ◌+◌, ◌-◌, ◌*◌, ◌/◌, ◌++◌, ◌&&◌, ◌==◌, ℕ, Bool, true, false, List, [], ◌∷◌, Option, None, length, map, refl, sym, ap, ap₂, subst, arith, append-nil, append_assoc, length-append}
-use Rattle.std.specs.Prelude.{min, MatchBool}
+use Rattle.std.proofs.Common.{inr, ⊎_elim, ◌≡◌, ◌≢◌, ◌∙◌, ◌≤◌, ◌+◌, ◌*◌, ◌++◌, ◌&&◌, ℕ, Bool, true, false, List, [], ◌∷◌, None, length, map, refl, sym, ap, ap₂, subst, arith}
 use Rattle.std.specs.List.{list_all}
 use Rattle.std.proofs.lemmas.Bool.{and_from}
 use Rattle.std.proofs.lemmas.Grind.{flat_map-append}
 use Rattle.std.proofs.lemmas.List.{map-append}
 use Rattle.std.proofs.lemmas.List.Folds.{list_all-append}
-use Rattle.il_frames.specs.declared.entry.Entry.{Entry}
-use Rattle.lif_model.specs.Causes.{Rose, next_count}
-use Rattle.lif_model.specs.Tape.{Tape}
+use Rattle.lif_model.specs.Causes.{Rose}
 use Rattle.lif_model.specs.Transfers.{Transfer}
 use Rattle.il_ports.specs.Media.{MediumView}
 use Rattle.loop_model.specs.Effect.{UnitsEffect, is_good, transfer_of}
 use Rattle.loop_model.specs.Exchanges.{Piece, is_piece, piece_entries}
-use Rattle.loop_model.specs.Loops.{Loop}
 use Rattle.loop_model.specs.Reach.{met}
 use Rattle.loop_model.specs.Units.{RecordUnit, units_of, ends_within}
 use Rattle.loop_model.proofs.EffectLaws.{units_of-append, UnitsEffect-append, ends_within-append}
@@ -26,7 +22,7 @@ use Rattle.il_control.specs.Calls.{IsFree, loop_of}
 use Rattle.il_record.specs.declared.records.Since.{Since}
 use Rattle.il_record.specs.declared.records.Since.TheVariants as since
 use Rattle.il_record.specs.Came.{OnlyHeard, CameBy, CameUnits}
-use Rattle.il_record.specs.LoopStores.{all_good, Stood, StoodBy, Transferred, calls_in, crossed_hops, is_broken, since_frame, since_medium}
+use Rattle.il_record.specs.LoopStores.{all_good, Stood, Transferred, calls_in, crossed_hops, is_broken, since_frame, since_medium}
 use Rattle.il_record.specs.Talks.{Talked, all_entries}
 use Rattle.il_record.proofs.Heard.{others_then}
 use Rattle.il_record.proofs.Talks.{talked_then, same_loop}

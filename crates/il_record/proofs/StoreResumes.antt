@@ -1,5 +1,5 @@
 -- Emptying and resuming a store over the loop, whatever its controller.
-use Rattle.std.proofs.Common.{◌≡◌, ◌∙◌, ◌≤◌, ◌+◌, ◌++◌, ℕ, Bool, true, false, List, [], Option, Some, None, refl, sym, ap, subst, arith}
+use Rattle.std.proofs.Common.{◌≡◌, ◌∙◌, ◌≤◌, ◌+◌, ◌++◌, ℕ, Bool, true, false, [], Option, refl, sym, ap, subst, arith}
 use Rattle.std.specs.Prelude.{Result, Ok, Err, IsErr, min}
 use Rattle.std.specs.Result.{IsErrAnd}
 use Rattle.il_ports.specs.declared.records.Trouble.{Trouble}
@@ -10,7 +10,7 @@ use Rattle.il_drive.proofs.Exchanges.{IsFree}
 use Rattle.il_drive.proofs.Reading.{nothing_read}
 use Rattle.il_drive.specs.Steps.{IsStill}
 use Rattle.il_ring.specs.Rings.{RingView, drive_party, spare_of}
-use Rattle.il_control.specs.Calls.{IsFree as IsFreeRing, IsIdle, IsLost, loop_of}
+use Rattle.il_control.specs.Calls.{IsFree as IsFreeRing, IsIdle, IsLost}
 use Rattle.il_control.proofs.Made.{idle_cleared, lost_cleared}
 use Rattle.il_record.specs.declared.records.Since.{Since}
 use Rattle.il_record.specs.declared.records.Since.TheVariants as since
@@ -18,12 +18,12 @@ use Rattle.il_ring.specs.declared.ring.Ring.{Ring}
 use Rattle.il_record.specs.declared.records.Control.{Control}
 use Rattle.il_record.specs.declared.records.Control.TheVariants as control_is
 use Rattle.il_record.specs.Controls.{ring_in, standing_of}
-use Rattle.il_record.specs.Came.{OnlyHeard, CameBy, CameUnits}
-use Rattle.il_record.specs.LoopStores.{LoopView, Standing, AtIdle, AtLost, Nowhere, Addressed, NotAddressed, Addresses, calls_in, is_broken, is_unbroken, log_emptied, most_resumes, since_frame, since_more, view_at, view_of, with_empty_log}
-use Rattle.il_record.specs.Runs.{Cleared, Interrupted, Readied, LeavesRecords}
+use Rattle.il_record.specs.Came.{OnlyHeard, CameUnits}
+use Rattle.il_record.specs.LoopStores.{LoopView, Standing, AtIdle, AtLost, Nowhere, Addresses, is_broken, is_unbroken, log_emptied, most_resumes, since_frame, since_more, view_at, view_of, with_empty_log}
+use Rattle.il_record.specs.Runs.{Cleared, Interrupted, Readied}
 use Rattle.il_record.proofs.ReadRuns.{leaves_then, leaves_same}
 use Rattle.il_record.proofs.StoreCalls.{came_then, came_then_units, heard_then}
-use Rattle.il_record.proofs.StoreStarts.{IsStart, begun, cleared, resumed_ok, resumed_not, resumed_sound}
+use Rattle.il_record.proofs.StoreStarts.{IsStart, begun, resumed_ok, resumed_not, resumed_sound}
 
 -- an answer that is handed on
 pub on_error : {T E : Type 0} (result : Result T E) (x : E) (P : Result T E → Type 0) → IsErr result × IsErrAnd result (λ e. e ≡ x) → P (Err x) → P result

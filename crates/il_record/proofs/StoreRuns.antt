@@ -1,27 +1,23 @@
 -- What a run of records means to a store over the loop.
-use Rattle.std.proofs.Common.{◌≡◌, ◌≢◌, ◌∙◌, ◌≤◌, ◌<◌, ◌+◌, ◌*◌, ◌/◌, ◌++◌, ◌&&◌, ◌==◌, ℕ, Bool, true, false, List, [], ◌∷◌, Option, Some, None, length, map, refl, sym, ap, subst, arith}
-use Rattle.std.specs.Prelude.{Result, Ok, Err, is_some}
+use Rattle.std.proofs.Common.{◌≡◌, ◌≢◌, ◌∙◌, ◌≤◌, ◌+◌, ◌*◌, ◌/◌, ◌&&◌, ℕ, Bool, true, false, List, [], ◌∷◌, Option, Some, None, length, refl, sym, ap, subst, arith}
+use Rattle.std.specs.Prelude.{Ok, Err, is_some}
 use Rattle.std.proofs.lemmas.Bool.{ne_eqb}
 use Rattle.lif_model.specs.Causes.{Rose}
 use Rattle.lif_model.specs.Tape.{bytes_from}
 use Rattle.lif_model.specs.Shelf.{bytes_of}
-use Rattle.lif_model.specs.Transfers.{Transfer}
-use Rattle.il_ports.specs.declared.records.Trouble.{Trouble}
 use Rattle.il_ports.specs.declared.records.Trouble.TheVariants as trouble
 use Rattle.il_ports.specs.Media.{MediumView}
-use Rattle.il_ports.specs.Stores.{RecordsView, GoesOn, IsQuiet, FetchedRun, StoredRun}
+use Rattle.il_ports.specs.Stores.{RecordsView, GoesOn, FetchedRun, StoredRun}
 use Rattle.il_ports.specs.Transfers.{Added}
-use Rattle.il_drive.specs.Steps.{IsStill}
 use Rattle.il_drive.proofs.Exchanges.{IsFree}
-use Rattle.loop_model.specs.Effect.{transfer_of}
 use Rattle.loop_model.specs.Units.{RecordUnit}
 use Rattle.il_ring.specs.Rings.{RingView, drive_party, spare_of}
-use Rattle.il_control.specs.Calls.{IsIdle, IsLost, loop_of}
+use Rattle.il_control.specs.Calls.{IsIdle, loop_of}
 use Rattle.il_record.specs.declared.records.Since.{Since}
 use Rattle.il_record.specs.declared.records.Since.TheVariants as since
 use Rattle.il_record.specs.Came.{OnlyHeard, CameBy, CameUnits}
-use Rattle.il_record.specs.LoopStores.{AtIdle, AtLost, FromStart, Stood, Transferred, all_good, calls_in, crossed_hops, is_broken, is_unbroken, since_frame, since_medium, view_at}
-use Rattle.il_record.specs.Runs.{unit, ReadAs, ReadBroke, WroteAs, WriteBroke, WriteRun, NotWritten, ReadRun, NotRead}
+use Rattle.il_record.specs.LoopStores.{AtIdle, AtLost, FromStart, Transferred, all_good, calls_in, is_broken, since_frame, since_medium, view_at}
+use Rattle.il_record.specs.Runs.{unit, ReadAs, ReadBroke, WroteAs, WriteBroke}
 use Rattle.il_record.proofs.StoreCalls.{stood_whole, stood_medium, stood_frame, transferred_then, frames_same, frames_rose, calls_less}
 
 pub from_start : {M S : Type 0} (seen : S → RingView M) (start : Option S) (P Q : RingView M → Type 0) → ((r : RingView M) → P r → Q r) → FromStart seen start P → FromStart seen start Q

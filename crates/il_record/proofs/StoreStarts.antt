@@ -1,11 +1,10 @@
 -- What emptying the log, addressing the loop and clearing the drive mean to a store over the loop.
-use Rattle.std.proofs.Common.{◌≡◌, ◌∙◌, ◌≤◌, ◌+◌, ◌-◌, ◌*◌, ◌++◌, ℕ, Bool, true, false, inl, List, [], Option, Some, None, length, refl, sym, ap, subst, arith, append-nil}
-use Rattle.std.specs.Prelude.{Result, Ok, Err, is_some, min}
-use Rattle.lif_model.specs.Transfers.{Transfer}
+use Rattle.std.proofs.Common.{◌≡◌, ◌∙◌, ◌≤◌, ◌+◌, ℕ, Bool, true, false, inl, [], Option, Some, None, refl, sym, ap, subst, arith, append-nil}
+use Rattle.std.specs.Prelude.{Result, Ok, Err, min}
 use Rattle.il_ports.specs.declared.records.Trouble.{Trouble}
 use Rattle.il_ports.specs.declared.records.Trouble.TheVariants as trouble
 use Rattle.il_ports.specs.Media.{MediumView}
-use Rattle.il_ports.specs.Stores.{RecordsView, Begun, Continues, IsQuiet, Resumed}
+use Rattle.il_ports.specs.Stores.{RecordsView, Begun, Resumed}
 use Rattle.il_drive.specs.Steps.{IsStill}
 use Rattle.il_drive.proofs.Exchanges.{IsFree}
 use Rattle.il_ring.specs.Rings.{RingView, devices_of, drive_party, spare_of}
@@ -15,7 +14,7 @@ use Rattle.il_record.proofs.Addressed.{readied, not_readied}
 use Rattle.il_record.proofs.Used.{resumed_used, not_resumed_used}
 use Rattle.il_record.specs.declared.records.Since.{Since}
 use Rattle.il_record.specs.declared.records.Since.TheVariants as since
-use Rattle.il_record.specs.Came.{OnlyHeard, CameBy, CameUnits}
+use Rattle.il_record.specs.Came.{OnlyHeard, CameUnits}
 use Rattle.il_record.specs.LoopStores.{LoopView, Standing, Nowhere, Addresses, AtIdle, AtLost, Addressed, NotAddressed, since_more, since_frame, FromStart, IsEmptied, Stood, Transferred, calls_in, is_broken, is_unbroken, most_resumes, over_ring, view_at}
 use Rattle.il_record.proofs.Heard.{others_same}
 use Rattle.il_record.proofs.StoreCalls.{stood_whole, stood_frame, transferred_then, frames_same, frames_rose, calls_less}

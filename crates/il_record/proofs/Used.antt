@@ -1,5 +1,5 @@
 -- How much room of the log exchanges take.
-use Rattle.std.proofs.Common.{◌≡◌, ◌∙◌, ◌≤◌, ◌+◌, ◌-◌, ◌++◌, ℕ, suc, true, [], ◌∷◌, List, length, Some, Option, None, refl, sym, ap, subst, arith, length-append}
+use Rattle.std.proofs.Common.{◌≡◌, ◌≤◌, ◌+◌, ℕ, suc, true, [], ◌∷◌, List, length, Option, None, ap, arith, length-append}
 use Rattle.std.proofs.lemmas.Bool.{eqb-true, leb-true}
 use Rattle.std.proofs.lemmas.List.{length-map}
 use Rattle.il_frames.specs.Frames.{byte_of}

@@ -1,5 +1,5 @@
 -- A controller by its ring.
-use Rattle.std.specs.Prelude.{◌≡◌, Option, Some, None, refl}
+use Rattle.std.specs.Prelude.{Option, Some, None}
 use Rattle.il_ring.specs.declared.ring.Ring.{Ring}
 use Rattle.il_ring.specs.Rings.{RingView}
 use Rattle.il_record.specs.declared.records.Control.{Control}

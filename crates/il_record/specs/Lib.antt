@@ -1,5 +1,6 @@
 pub mod Came
 pub mod Controls
+pub mod Copying
 pub mod IsStore
 pub mod Listening
 pub mod LoopCalls

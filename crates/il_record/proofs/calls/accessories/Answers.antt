@@ -1,5 +1,5 @@
-use Rattle.std.proofs.Common.{◌∙◌, ◌*◌, arith}
-use Rattle.il_record.proofs.Naming.{named_none, named_more, named_all, named_part}
+use Rattle.std.proofs.Common.{◌*◌, arith}
+use Rattle.il_record.proofs.Naming.{named_none, named_more, named_part}
 use Rattle.il_record.proofs.Readings.{idle_silent}
 use Rattle.il_record.proofs.Sends.{if_err}
 use Rattle.il_record.proofs.Used.{used_on}

@@ -1,4 +1,4 @@
-use Rattle.std.proofs.Common.{◌∙◌, arith}
+use Rattle.std.proofs.Common.{arith}
 use Rattle.il_record.proofs.Collecting.{assigned_none, assigned_more, broke_behind, polled}
 use Rattle.il_record.proofs.Readings.{idle_silent}
 use Rattle.il_record.proofs.Sends.{if_err, ok_as, err_as}

@@ -1,4 +1,4 @@
-use Rattle.std.proofs.Common.{◌≡◌, ◌*◌, ◌/◌, ◌≤◌, ◌∙◌, length, arith}
+use Rattle.std.proofs.Common.{◌≡◌, ◌*◌, ◌/◌, ◌≤◌, length, arith}
 use Rattle.il_record.proofs.StoreAnswers.{begins, room_for, fetched_at, not_fetched_at, broke_fetching_at}
 use Rattle.il_record.proofs.records.LoopRecordsRecords.read_run.Goals as goal
 
