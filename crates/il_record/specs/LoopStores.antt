@@ -19,7 +19,7 @@ use Rattle.il_record.specs.declared.records.Since.TheVariants as since
 use Rattle.il_ports.specs.declared.records.Trouble.{Trouble}
 use Rattle.il_ports.specs.declared.records.Trouble.TheVariants as trouble
 use Rattle.il_record.specs.Came.{OnlyHeard, CameBy}
-use Rattle.il_record.specs.Runs.{Readied, Interrupted}
+use Rattle.il_record.specs.Runs.{Readied, Interrupted, Cleared}
 
 -- the controller, by its ring
 pub data Standing (M : Type 0) : Type 0 where
@@ -213,3 +213,36 @@ Addresses view (AtIdle r) old new (Err e) = ⊥
 Addresses view (AtLost r) old new (Ok x) = Addressed view r old new
 Addresses view (AtLost r) old new (Err e) = (e ≡ trouble.Frame) × NotAddressed view r old new
 Addresses view Nowhere old new answer = ⊥
+
+-- ---- resuming
+
+-- one call of `resume` more
+abbrev pub counted_resume : {M : Type 0} → LoopView M → LoopView M
+counted_resume l = record l { resumes = min (l.resumes + 1) most_resumes }
+
+-- The loop is as `ready` leaves it, and then the drive was cleared.
+pub record Mended {M : Type 0} (view : M → MediumView) (old new : LoopView M) : Type 0 where
+  pub ready : LoopView M
+  pub addressed : Addresses {T = Unit {0}} view old.control old ready (Ok tt)
+  pub ring : RingView M
+  pub at : ready.control ≡ AtIdle ring
+  pub behind : RingView M
+  pub cleared : Cleared view (drive_party ring) ring behind
+  pub left : new ≡ record ready { control = AtIdle behind; sound = true }
+
+-- Then an exchange of the clearing was broken off.
+pub record NotMended {M : Type 0} (view : M → MediumView) (old new : LoopView M) : Type 0 where
+  pub ready : LoopView M
+  pub addressed : Addresses {T = Unit {0}} view old.control old ready (Ok tt)
+  pub ring : RingView M
+  pub at : ready.control ≡ AtIdle ring
+  pub behind : RingView M
+  pub interrupted : Interrupted view (drive_party ring) ring behind
+  pub left : new ≡ record ready { control = AtLost behind; sound = false; since = since_frame ready.since }
+
+-- What `resume` does, by whether the store is sound: nothing where it is. An error comes from addressing or from clearing.
+abbrev pub Resumes : {M T : Type 0} → (M → MediumView) → Bool → LoopView M → LoopView M → Result T Trouble → Type 0
+Resumes view true old new (Ok x) = new ≡ old
+Resumes view true old new (Err e) = ⊥
+Resumes view false old new (Ok x) = Mended view old new
+Resumes {T = T} view false old new (Err e) = Addresses {T = T} view old.control old new (Err e) ⊎ ((e ≡ trouble.Frame) × NotMended view old new)

@@ -4,7 +4,7 @@ ghost use Rattle.il_drive.proofs.Exchanges.{IsFree};
 ghost use Rattle.il_ring.specs.Rings.{spare_of, drive_party};
 ghost use Rattle.il_control.specs.Calls.{IsIdle, IsLost};
 ghost use Rattle.il_record.specs.declared.records.Since.TheVariants as since_is;
-ghost use Rattle.il_record.specs.LoopStores.{calls_in as calls_of, AtIdle, AtLost, Nowhere, is_idle, HasRing, StandsSo, log_emptied, Addresses, since_frame, since_medium, since_more};
+ghost use Rattle.il_record.specs.LoopStores.{calls_in as calls_of, AtIdle, AtLost, Nowhere, is_idle, HasRing, StandsSo, log_emptied, Addresses, Resumes, counted_resume, since_frame, since_medium, since_more};
 ghost use Rattle.il_ports.specs.declared.records.Trouble.TheVariants as trouble_is;
 
 use crate::runs::{clear, drive_of, read_run, write_run};
@@ -289,6 +289,7 @@ impl<M: Medium + Drop> LoopRecords<M> {
 impl<M: Medium + Drop> Records for LoopRecords<M> {
     ghost use Rattle.std.specs.Prelude.{map, Some, None};
     ghost use Rattle.il_ring.specs.Rings.{RingView};
+    ghost use Rattle.il_ports.specs.Stores.{Resumed};
     ghost use Rattle.il_record.specs.LoopStores.{view_at};
     ghost use Rattle.il_record.specs.Controls.{ring_in, standing_of};
     ghost use Rattle.il_record.specs.IsStore.{is_store_at};
@@ -330,7 +331,14 @@ impl<M: Medium + Drop> Records for LoopRecords<M> {
         self.clear_log();
     }
 
-    fn resume(&mut self) -> Result<(), Trouble> {
+    /// Makes the store sound where it is not: addresses the loop where it is not ready, and clears the drive. Where it is sound,
+    /// nothing is sent.
+    fn resume(&mut self) -> Result<(), Trouble>
+        requires valid { (⟦<LoopRecords<M> as Records>⟧.view self.old).valid }
+        requires left { 1 ≤ (⟦<LoopRecords<M> as Records>⟧.view self.old).calls_left }
+        ensures resumed { Resumed (⟦<LoopRecords<M> as Records>⟧.view self.old) (⟦<LoopRecords<M> as Records>⟧.view self.new) result }
+        ensures resumes { Resumes M.view (⟦<LoopRecords<M> as Looped<M>>⟧.looped self.old).sound (counted_resume (⟦<LoopRecords<M> as Looped<M>>⟧.looped self.old)) (⟦<LoopRecords<M> as Looped<M>>⟧.looped self.new) result }
+    {
         self.resumes = self.resumes.saturating_add(1);
         if self.sound {
             return Ok(());
