@@ -152,6 +152,14 @@ impl<M: Medium> Ring<M> {
         self.boxes.before.len() as u8 + 1
     }
 
+    /// The number of devices on the loop, the drive among them: 1 to 30.
+    pub fn devices(&self) -> u8
+        ensures count { result ≡ length (devices_of (⟦<Ring<M> as Seen<M>>⟧.seen self.now)) }
+        ensures range { result ≤ 30 }
+    {
+        self.party() + self.boxes.after.len() as u8
+    }
+
     /// The paper of the first printer, counted from the host's output: the first bytes that it
     /// heard, as far as it keeps them, and how many it heard, a count that stays at its greatest
     /// value. `None` where no device has the accessory ID 32 of a printer.
