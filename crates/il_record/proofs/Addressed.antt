@@ -22,11 +22,13 @@ use Rattle.il_ring.specs.Rings.{RingView, devices_of, roles_of, drive_party}
 use Rattle.il_ring.proofs.Passing.{is_exact}
 use Rattle.loop_model.specs.Reach.{brings_to}
 use Rattle.il_control.specs.Brought.{Brought, BroughtIf, CutBrought, ComesAs, MayComeAs, is_auto_address}
-use Rattle.il_control.specs.Calls.{Resumed, NotResumed, addressing, loop_of}
+use Rattle.il_control.specs.Calls.{AllStay, Resumed, NotResumed, addressing, loop_of}
 use Rattle.il_control.proofs.HeldAtEnd.{quiet_ended}
-use Rattle.il_record.specs.Runs.{LeavesRecords, Interrupted, Readied}
+use Rattle.il_record.specs.Asks.{Asked}
+use Rattle.il_record.specs.Runs.{LeavesRecords, Interrupted, Readied, address_asks}
 use Rattle.il_record.specs.Talks.{Talked, all_entries}
 use Rattle.il_record.proofs.Cuts.{counts_up, comes_may}
+use Rattle.il_record.proofs.Places.{kept_stays}
 use Rattle.il_record.proofs.Readings.{party_within}
 use Rattle.il_record.proofs.ReadRuns.{came_still, others_of}
 
@@ -41,8 +43,8 @@ frames_came k q (a ∷ b ∷ c ∷ e ∷ []) brought = absurd brought.1.1.1.1
 frames_came k q (a ∷ b ∷ c ∷ e ∷ g ∷ gs) brought =
     λ i. brought.0.other refl refl i ∷ brought.1.0.other refl refl i ∷ brought.1.1.0.other refl refl i ∷ brought.1.1.1.0.other refl refl i ∷ brought.1.1.1.1.0.address refl i ∷ brought.1.1.1.1.1 i
 
-pub readied : {M : Type 0} (view : M → MediumView) (n : ℕ) (r s : RingView M) → drive_party r ≤ 30 → Resumed view n r s → Readied view r s
-readied view n r s low done =
+pub readied : {M : Type 0} (view : M → MediumView) (n : ℕ) (r s : RingView M) → drive_party r ≤ 30 → Resumed view n r s → AllStay true r s → Readied view r s
+readied view n r s low done stays =
     let k = length (devices_of r) in
     let ps : List Piece = WholeOne (Command ifc) ∷ WholeOne (Command aau) ∷ WholeOne (Address n) ∷ [] in
     let adds = done.whole.adds in
@@ -59,8 +61,9 @@ readied view n r s low done =
     let run = subst (λ fs. Ran view r.drive fs adds.answers s.drive) (frames_came k q adds.came brought) adds.drive in
     let medium = (is_addressed view q adds.answers r.drive s.drive (party_within r).0 low run).1 in
     record {
-      came = came_still view true ps [] r s talked refl refl (λ t. refl) (ap (λ m. (view m).tape) medium);
+      came = record { units = came_still view true ps [] r s talked refl refl (λ t. refl) (ap (λ m. (view m).tape) medium); asked = (refl, (refl, (refl, tt))) };
       unheard = others_of q r s (done.whole.unheard refl);
+      places = kept_stays r s true stays;
       medium = medium;
       idle = done.idle;
     }
@@ -74,18 +77,20 @@ record CutPieces (l : Loop) (n : ℕ) (b : Break) : Type 0 where
   legal : list_all (is_piece l) pieces ≡ true
   ends : breaks_off pieces ≡ true
   none : units_of l pieces ≡ []
+  asked : Asked address_asks pieces false
 
 cut_pieces : (k q n : ℕ) (b : Break) → can_cut 0 (addressing k) n b ≡ true → CutPieces (host_loop k q) n b
-cut_pieces k q zero b legal = record { pieces = Cut (Command ifc) 0 b ∷ []; entries = append-nil (cut_at (addressing k) 0 b); legal = and_from _ true legal refl; ends = refl; none = refl }
-cut_pieces k q (suc zero) b legal = record { pieces = Cut (Command ifc) 1 b ∷ []; entries = append-nil (cut_at (addressing k) 1 b); legal = and_from _ true legal refl; ends = refl; none = refl }
-cut_pieces k q (suc (suc zero)) b legal = record { pieces = WholeOne (Command ifc) ∷ Cut (Command aau) 0 b ∷ []; entries = append-nil (cut_at (addressing k) 2 b); legal = and_from _ true legal refl; ends = refl; none = refl }
-cut_pieces k q (suc (suc (suc zero))) b legal = record { pieces = WholeOne (Command ifc) ∷ Cut (Command aau) 1 b ∷ []; entries = append-nil (cut_at (addressing k) 3 b); legal = and_from _ true legal refl; ends = refl; none = refl }
+cut_pieces k q zero b legal = record { pieces = Cut (Command ifc) 0 b ∷ []; entries = append-nil (cut_at (addressing k) 0 b); legal = and_from _ true legal refl; ends = refl; none = refl; asked = refl }
+cut_pieces k q (suc zero) b legal = record { pieces = Cut (Command ifc) 1 b ∷ []; entries = append-nil (cut_at (addressing k) 1 b); legal = and_from _ true legal refl; ends = refl; none = refl; asked = refl }
+cut_pieces k q (suc (suc zero)) b legal = record { pieces = WholeOne (Command ifc) ∷ Cut (Command aau) 0 b ∷ []; entries = append-nil (cut_at (addressing k) 2 b); legal = and_from _ true legal refl; ends = refl; none = refl; asked = (refl, refl) }
+cut_pieces k q (suc (suc (suc zero))) b legal = record { pieces = WholeOne (Command ifc) ∷ Cut (Command aau) 1 b ∷ []; entries = append-nil (cut_at (addressing k) 3 b); legal = and_from _ true legal refl; ends = refl; none = refl; asked = (refl, refl) }
 cut_pieces k q (suc (suc (suc (suc zero)))) b legal = record {
   pieces = WholeOne (Command ifc) ∷ WholeOne (Command aau) ∷ Cut (Address k) 0 b ∷ [];
   entries = append-nil (cut_at (addressing k) 4 b);
   legal = and_from ((k == k) && can_cut 0 (entries_of 0 (Address k)) 0 b) true (and_from (k == k) _ (eq-eqb k k refl) legal) refl;
   ends = refl;
   none = refl;
+  asked = (refl, (refl, refl));
 }
 cut_pieces k q (suc (suc (suc (suc (suc n))))) b legal = cc
 
@@ -119,8 +124,8 @@ addressing_may k q low =
     let handshake = may_come q rfc refl refl refl in
     (may_come q ifc refl refl refl, (handshake, (may_come q aau refl refl refl, (handshake, ((λ g comes. ap (λ f. may_put (message_of f)) (comes.address refl) ∙ aad_puts q low), tt)))))
 
-pub not_readied : {M : Type 0} (view : M → MediumView) (r s : RingView M) → drive_party r ≤ 30 → NotResumed view r s → Interrupted view (drive_party r) r s
-not_readied view r s low not =
+pub not_readied : {M : Type 0} (view : M → MediumView) (r s : RingView M) → drive_party r ≤ 30 → NotResumed view r s → AllStay true r s → Interrupted view address_asks (drive_party r) r s
+not_readied view r s low not stays =
     let k = length (devices_of r) in
     let q = drive_party r in
     let broke = not.broke in
@@ -141,7 +146,8 @@ not_readied view r s low not =
       count = counts_up view broke.adds.came broke.adds.answers r.drive s.drive broke.adds.drive;
     } in
     record {
-      came = came_still view false cut.pieces [] r s talked (ends_within-broken (loop_of r) cut.pieces cut.ends) cut.none (λ t. refl) left.still.tape;
+      came = record { units = came_still view false cut.pieces [] r s talked (ends_within-broken (loop_of r) cut.pieces cut.ends) cut.none (λ t. refl) left.still.tape; asked = cut.asked };
       unheard = others_of q r s (broke.unheard refl);
+      places = kept_stays r s true stays;
       drive = left;
     }

@@ -19,11 +19,11 @@ use Rattle.il_record.proofs.Talks.{made_talked, broken_talked, talked_then, same
 
 -- ---- none begins a unit
 
-none_within : (o : Option ℕ) (b : Bool) → o ≡ None → ((is_some o && b) || false) ≡ false
+pub none_within : (o : Option ℕ) (b : Bool) → o ≡ None → ((is_some o && b) || false) ≡ false
 none_within None b is = refl
 none_within (Some k) b is = cc
 
-no_unit : (o : Option ℕ) (unit : ℕ → Option RecordUnit) → o ≡ None → option_to_list (option_and_then unit o) ++ [] ≡ []
+pub no_unit : (o : Option ℕ) (unit : ℕ → Option RecordUnit) → o ≡ None → option_to_list (option_and_then unit o) ++ [] ≡ []
 no_unit None unit is = refl
 no_unit (Some k) unit is = cc
 
@@ -32,20 +32,20 @@ tape_same view v w same = ap (λ m. (view m).tape) same
 
 module _ {M : Type 0} (view : M → MediumView) where
   -- one exchange that names no record
-  pub made_came : (x : Exchange) (r s : RingView M) → Made view x r s → named_by (loop_of r) (WholeOne x) ≡ None → (view s.drive.medium).tape ≡ (view r.drive.medium).tape → CameUnits view true [] r s
+  abbrev pub made_came : (x : Exchange) (r s : RingView M) → Made view x r s → named_by (loop_of r) (WholeOne x) ≡ None → (view s.drive.medium).tape ≡ (view r.drive.medium).tape → CameUnits view true [] r s
   made_came x r s made none same =
       let l = loop_of r in
       came_still view true (WholeOne x ∷ []) [] r s (made_talked view x r s made) (none_within (named_by l (WholeOne x)) (is_open l []) none) (no_unit (named_by l (WholeOne x)) (unit_after_seek l []) none) (λ t. refl) same
 
   -- one that broke off
-  pub broken_came : (x : Exchange) (r s : RingView M) → BrokenOff view x r s → (view s.drive.medium).tape ≡ (view r.drive.medium).tape → CameUnits view false [] r s
+  abbrev pub broken_came : (x : Exchange) (r s : RingView M) → BrokenOff view x r s → (view s.drive.medium).tape ≡ (view r.drive.medium).tape → CameUnits view false [] r s
   broken_came x r s broken same =
       let cut : List Piece = Cut x broken.broke.standing broken.broke.break ∷ [] in
       let talked = broken_talked view x r s broken in
       came_still view false cut [] r s talked (ends_within-broken (loop_of r) cut talked.ends) refl (λ t. refl) same
 
   -- nothing
-  pub nothing_came : (r : RingView M) → IsIdle r → CameUnits view true [] r r
+  abbrev pub nothing_came : (r : RingView M) → IsIdle r → CameUnits view true [] r r
   nothing_came r idle =
       let whole = whole_nothing view r idle.free in
       let talked : Talked view true [] r r = record {
@@ -59,7 +59,7 @@ module _ {M : Type 0} (view : M → MediumView) where
       came_still view true [] [] r r talked refl refl (λ t. refl) refl
 
   -- one call behind the other
-  pub came_then : (whole : Bool) (us ws : List RecordUnit) (r m s : RingView M) → IsIdle r → CameUnits view true us r m → CameUnits view whole ws m s → CameUnits view whole (us ++ ws) r s
+  abbrev pub came_then : (whole : Bool) (us ws : List RecordUnit) (r m s : RingView M) → IsIdle r → CameUnits view true us r m → CameUnits view whole ws m s → CameUnits view whole (us ++ ws) r s
   came_then whole us ws r m s idle first more =
       let ps = first.came.pieces in
       let qs = more.came.pieces in

@@ -4,6 +4,8 @@ use Rattle.std.specs.List.{list_all}
 use Rattle.il_frames.specs.declared.frame.Class.TheVariants as class
 use Rattle.il_frames.specs.declared.frame.Frame.{Frame}
 use Rattle.il_frames.specs.Frames.{class_of, same_class}
+use Rattle.il_frames.specs.declared.message.Message.{Message}
+use Rattle.il_frames.specs.declared.message.Message.TheVariants as msg
 use Rattle.il_frames.specs.Messages.{message_of}
 use Rattle.il_ports.specs.Media.{MediumView}
 use Rattle.il_drive.specs.Runs.{Ran}
@@ -11,19 +13,22 @@ use Rattle.il_drive.proofs.Beginning.{joins}
 use Rattle.il_drive.proofs.ExchangesAddressed.{sdc, clears, message_of-lad}
 use Rattle.il_drive.proofs.ExchangesStill.{NonePuts, may_put, leaves_records}
 use Rattle.loop_model.specs.Entries.{unl, rfc, lad}
-use Rattle.loop_model.specs.Exchanges.{Command, Piece, Whole as WholeOne, Cut, commanded}
+use Rattle.loop_model.specs.Exchanges.{Command, Piece, Whole as WholeOne, commanded}
 use Rattle.loop_model.proofs.HearLaws.{has_no_data}
-use Rattle.loop_model.proofs.EffectLaws.{ends_within-broken}
 use Rattle.il_ring.specs.Rings.{RingView, devices_of, drive_party}
 use Rattle.il_ring.proofs.Passing.{is_exact}
 use Rattle.il_control.specs.Brought.{CutBrought, is_auto_address}
-use Rattle.il_control.specs.Calls.{IsIdle, Made, BrokenOff, loop_of}
+use Rattle.il_control.specs.Calls.{IsIdle, Made, BrokenOff, Obeyed, ObeyedInPart}
 use Rattle.il_control.proofs.Brings.{command_brings}
-use Rattle.il_record.specs.Runs.{LeavesRecords, Cleared, Interrupted}
+use Rattle.il_record.specs.Asks.{AskCommand}
+use Rattle.il_record.specs.Polls.{PlacesKept}
+use Rattle.il_record.specs.Runs.{LeavesRecords, Cleared, Interrupted, clear_asks}
+use Rattle.il_record.proofs.Asking.{asked_broken, asked_made, asked_on}
 use Rattle.il_record.proofs.Cuts.{counts_up}
+use Rattle.il_record.proofs.Places.{kept_in_part, kept_obeyed, kept_then}
 use Rattle.il_record.proofs.Readings.{idle_address}
 use Rattle.il_record.proofs.ReadRuns.{came_still, others_of, others_more, leaves_then}
-use Rattle.il_record.proofs.Talks.{made_talked, broken_talked, talked_then}
+use Rattle.il_record.proofs.Talks.{made_talked, talked_then}
 
 -- ---- a command
 
@@ -74,47 +79,51 @@ command_leaves view f r s plain made =
       count = counts_up view adds.came adds.answers r.drive s.drive adds.drive;
     }
 
--- ---- three commands
+-- ---- UNL, LAD of the drive, SDC
 
-module _ {M : Type 0} (view : M → MediumView) (d : ℕ) (f g h : Frame) (r : RingView M) (idle : IsIdle r) (plain_f : IsPlainCommand f) (plain_g : IsPlainCommand g) (plain_h : IsPlainCommand h) where
+module _ {M : Type 0} (view : M → MediumView) (d : ℕ) (r : RingView M) (idle : IsIdle r) (low : d ≤ 30) where
   -- broken off at the first, the second, the third
-  pub broke_first : (s : RingView M) → BrokenOff view (Command f) r s → Interrupted view d r s
-  broke_first s not =
-      let left = command_left view f r s plain_f not in
-      let ps : List Piece = Cut (Command f) not.broke.standing not.broke.break ∷ [] in
-      let talked = broken_talked view (Command f) r s not in
+  pub broke_first : (s : RingView M) → BrokenOff view (Command unl) r s → ObeyedInPart msg.Unl r s → Interrupted view (clear_asks d) d r s
+  broke_first s not part =
+      let left = command_left view unl r s plain_unl not in
       record {
-        came = came_still view false ps [] r s talked (ends_within-broken (loop_of r) ps talked.ends) refl (λ t. refl) left.still.tape;
-        unheard = others_of d r s (not.broke.unheard plain_f.no_data);
+        came = asked_broken view (AskCommand unl) (AskCommand (lad d) ∷ AskCommand sdc ∷ []) (Command unl) r s refl not left.still.tape;
+        unheard = others_of d r s (not.broke.unheard refl);
+        places = kept_in_part r s msg.Unl refl part;
         drive = left;
       }
 
-  pub broke_second : (a s : RingView M) → Made view (Command f) r a → BrokenOff view (Command g) a s → Interrupted view d r s
-  broke_second a s made not =
-      let left = leaves_then view r.drive a.drive s.drive (command_leaves view f r a plain_f made) (command_left view g a s plain_g not) in
-      let ps : List Piece = WholeOne (Command f) ∷ Cut (Command g) not.broke.standing not.broke.break ∷ [] in
-      let talked = talked_then view false (WholeOne (Command f) ∷ []) (Cut (Command g) not.broke.standing not.broke.break ∷ []) r a s idle.free (made_talked view (Command f) r a made) (broken_talked view (Command g) a s not) in
-      record {
-        came = came_still view false ps [] r s talked (ends_within-broken (loop_of r) ps talked.ends) refl (λ t. refl) left.still.tape;
-        unheard = others_more d r a s (others_of d r a (made.whole.unheard plain_f.no_data)) (others_of d a s (not.broke.unheard plain_g.no_data));
-        drive = left;
-      }
+  module _ (a : RingView M) (first : Made view (Command unl) r a) (unlistened : Obeyed msg.Unl r a) where
+    pub broke_second : (s : RingView M) → BrokenOff view (Command (lad d)) a s → ObeyedInPart (msg.Lad d) a s → Interrupted view (clear_asks d) d r s
+    broke_second s not part =
+        let before = command_leaves view unl r a plain_unl first in
+        let behind = command_left view (lad d) a s (plain_lad d low) not in
+        record {
+          came = asked_on view false (AskCommand unl ∷ []) (AskCommand (lad d) ∷ AskCommand sdc ∷ []) r a s idle (asked_made view (Command unl) r a first refl before.still.tape)
+              (asked_broken view (AskCommand (lad d)) (AskCommand sdc ∷ []) (Command (lad d)) a s refl not behind.still.tape);
+          unheard = others_more d r a s (others_of d r a (first.whole.unheard refl)) (others_of d a s (not.broke.unheard refl));
+          places = kept_then r a s (kept_obeyed r a msg.Unl refl unlistened) (kept_in_part a s (msg.Lad d) refl part);
+          drive = leaves_then view r.drive a.drive s.drive before behind;
+        }
 
-  pub broke_third : (a b s : RingView M) → Made view (Command f) r a → Made view (Command g) a b → BrokenOff view (Command h) b s → Interrupted view d r s
-  broke_third a b s first second not =
-      let left = leaves_then view r.drive a.drive s.drive (command_leaves view f r a plain_f first) (leaves_then view a.drive b.drive s.drive (command_leaves view g a b plain_g second) (command_left view h b s plain_h not)) in
-      let ps : List Piece = WholeOne (Command f) ∷ WholeOne (Command g) ∷ Cut (Command h) not.broke.standing not.broke.break ∷ [] in
-      let talked = talked_then view false (WholeOne (Command f) ∷ []) (WholeOne (Command g) ∷ Cut (Command h) not.broke.standing not.broke.break ∷ []) r a s idle.free (made_talked view (Command f) r a first)
-      (talked_then view false (WholeOne (Command g) ∷ []) (Cut (Command h) not.broke.standing not.broke.break ∷ []) a b s first.idle.free (made_talked view (Command g) a b second) (broken_talked view (Command h) b s not)) in
-      record {
-        came = came_still view false ps [] r s talked (ends_within-broken (loop_of r) ps talked.ends) refl (λ t. refl) left.still.tape;
-        unheard = others_more d r b s (others_more d r a b (others_of d r a (first.whole.unheard plain_f.no_data)) (others_of d a b (second.whole.unheard plain_g.no_data))) (others_of d b s (not.broke.unheard plain_h.no_data));
-        drive = left;
-      }
+    module _ (b : RingView M) (second : Made view (Command (lad d)) a b) (listened : Obeyed (msg.Lad d) a b) where
+      pub broke_third : (s : RingView M) → BrokenOff view (Command sdc) b s → ObeyedInPart msg.Sdc b s → Interrupted view (clear_asks d) d r s
+      broke_third s not part =
+          let one = command_leaves view unl r a plain_unl first in
+          let two = command_leaves view (lad d) a b (plain_lad d low) second in
+          let three = command_left view sdc b s plain_sdc not in
+          record {
+            came = asked_on view false (AskCommand unl ∷ []) (AskCommand (lad d) ∷ AskCommand sdc ∷ []) r a s idle (asked_made view (Command unl) r a first refl one.still.tape)
+                (asked_on view false (AskCommand (lad d) ∷ []) (AskCommand sdc ∷ []) a b s first.idle (asked_made view (Command (lad d)) a b second refl two.still.tape)
+                (asked_broken view (AskCommand sdc) [] (Command sdc) b s refl not three.still.tape));
+            unheard = others_more d r b s (others_more d r a b (others_of d r a (first.whole.unheard refl)) (others_of d a b (second.whole.unheard refl))) (others_of d b s (not.broke.unheard refl));
+            places = kept_then r a s (kept_obeyed r a msg.Unl refl unlistened) (kept_then a b s (kept_obeyed a b (msg.Lad d) refl listened) (kept_in_part b s msg.Sdc refl part));
+            drive = leaves_then view r.drive a.drive s.drive one (leaves_then view a.drive b.drive s.drive two three);
+          }
 
 -- UNL, LAD of the drive, SDC
-pub cleared : {M : Type 0} (view : M → MediumView) (d : ℕ) (r a b s : RingView M) → IsIdle r → d ≤ 30 → d ≡ drive_party r → Made view (Command unl) r a → Made view (Command (lad d)) a b → Made view (Command sdc) b s → Cleared view d r s
-cleared view d r a b s idle low at first second third =
+pub cleared : {M : Type 0} (view : M → MediumView) (d : ℕ) (r a b s : RingView M) → IsIdle r → d ≤ 30 → d ≡ drive_party r → Made view (Command unl) r a → Made view (Command (lad d)) a b → Made view (Command sdc) b s → PlacesKept r s → Cleared view d r s
+cleared view d r a b s idle low at first second third places =
     let ps : List Piece = WholeOne (Command unl) ∷ WholeOne (Command (lad d)) ∷ WholeOne (Command sdc) ∷ [] in
     let talked = talked_then view true (WholeOne (Command unl) ∷ []) (WholeOne (Command (lad d)) ∷ WholeOne (Command sdc) ∷ []) r a s idle.free (made_talked view (Command unl) r a first)
     (talked_then view true (WholeOne (Command (lad d)) ∷ []) (WholeOne (Command sdc) ∷ []) a b s first.idle.free (made_talked view (Command (lad d)) a b second) (made_talked view (Command sdc) b s third)) in
@@ -125,8 +134,9 @@ cleared view d r a b s idle low at first second third =
     let all = joins view (unl ∷ rfc ∷ []) (lad d ∷ rfc ∷ sdc ∷ rfc ∷ []) first.whole.adds.answers (second.whole.adds.answers ++ third.whole.adds.answers) r.drive a.drive s.drive one behind in
     let done = clears view d (first.whole.adds.answers ++ (second.whole.adds.answers ++ third.whole.adds.answers)) r.drive s.drive low (idle_address r idle ∙ ap Some (sym at)) all in
     record {
-      came = came_still view true ps [] r s talked refl refl (λ t. refl) (ap (λ m. (view m).tape) done.1);
+      came = record { units = came_still view true ps [] r s talked refl refl (λ t. refl) (ap (λ m. (view m).tape) done.1); asked = (refl, (refl, (refl, tt))) };
       unheard = others_more d r b s (others_more d r a b (others_of d r a (first.whole.unheard refl)) (others_of d a b (second.whole.unheard refl))) (others_of d b s (third.whole.unheard refl));
+      places = places;
       rests = done.0;
       medium = done.1;
       idle = third.idle;
@@ -134,9 +144,26 @@ cleared view d r a b s idle low at first second third =
 
 -- ---- for frames by other names
 
-pub plain_is : (f g : Frame) → f ≡ g → IsPlainCommand g → IsPlainCommand f
-plain_is f g is plain = subst IsPlainCommand (sym is) plain
+pub lad_says : (a : ℕ) → a ≤ 30 → message_of (lad a) ≡ msg.Lad a
+lad_says a low = message_of-lad a low
 
-pub cleared_by : {M : Type 0} (view : M → MediumView) (d : ℕ) (f g h : Frame) (r a b s : RingView M) → IsIdle r → d ≤ 30 → d ≡ drive_party r → f ≡ unl → g ≡ lad d → h ≡ sdc → Made view (Command f) r a → Made view (Command g) a b → Made view (Command h) b s → Cleared view d r s
-cleared_by view d f g h r a b s idle low at is_unl is_lad is_sdc first second third =
-    cleared view d r a b s idle low at (subst (λ f. Made view (Command f) r a) is_unl first) (subst (λ f. Made view (Command f) a b) is_lad second) (subst (λ f. Made view (Command f) b s) is_sdc third)
+-- a command was made, or broken off, and obeyed
+pub record Commanded {M : Type 0} (view : M → MediumView) (f : Frame) (m : Message) (r s : RingView M) : Type 0 where
+  pub made : Made view (Command f) r s
+  pub obeyed : Obeyed m r s
+
+pub record Uncommanded {M : Type 0} (view : M → MediumView) (f : Frame) (m : Message) (r s : RingView M) : Type 0 where
+  pub broken : BrokenOff view (Command f) r s
+  pub part : ObeyedInPart m r s
+
+module _ {M : Type 0} (view : M → MediumView) (f g : Frame) (m : Message) (r s : RingView M) (is : f ≡ g) (says : message_of g ≡ m) where
+  pub commanded_as : Made view (Command f) r s → Obeyed (message_of f) r s → Commanded view g m r s
+  commanded_as made obeyed = record { made = subst (λ f. Made view (Command f) r s) is made; obeyed = subst (λ m. Obeyed m r s) (ap message_of is ∙ says) obeyed }
+
+  pub uncommanded_as : BrokenOff view (Command f) r s → ObeyedInPart (message_of f) r s → Uncommanded view g m r s
+  uncommanded_as broken part = record { broken = subst (λ f. BrokenOff view (Command f) r s) is broken; part = subst (λ m. ObeyedInPart m r s) (ap message_of is ∙ says) part }
+
+-- all three
+pub cleared_by : {M : Type 0} (view : M → MediumView) (d : ℕ) (r a b s : RingView M) → IsIdle r → d ≤ 30 → d ≡ drive_party r → Commanded view unl msg.Unl r a → Commanded view (lad d) (msg.Lad d) a b → Commanded view sdc msg.Sdc b s → Cleared view d r s
+cleared_by view d r a b s idle low at first second third =
+    cleared view d r a b s idle low at first.made second.made third.made (kept_then r a s (kept_obeyed r a msg.Unl refl first.obeyed) (kept_then a b s (kept_obeyed a b (msg.Lad d) refl second.obeyed) (kept_obeyed b s msg.Sdc refl third.obeyed)))

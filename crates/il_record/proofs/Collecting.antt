@@ -1,5 +1,5 @@
 -- A parallel poll, command by command.
-use Rattle.std.proofs.Common.{◌≡◌, ◌≢◌, ◌∙◌, ◌≤◌, ◌<◌, ◌+◌, ◌-◌, ◌*◌, ◌==◌, inl, inr, ⊎_elim, ℕ, Bool, true, false, List, [], ◌∷◌, Some, None, length, refl, sym, ap, ap₂, subst, arith, nat_le}
+use Rattle.std.proofs.Common.{◌≡◌, ◌≢◌, ◌∙◌, ◌≤◌, ◌<◌, ◌+◌, ◌-◌, ◌*◌, ◌==◌, ◌++◌, inl, inr, ⊎_elim, ℕ, Bool, true, false, List, [], ◌∷◌, Some, None, length, refl, sym, ap, ap₂, subst, arith, nat_le}
 use Rattle.std.specs.Prelude.{if◌then◌else◌, min}
 use Rattle.std.proofs.lemmas.Bool.{cases_lt, eqb-true, eqb-false, le-leb, lt-leb}
 use Rattle.il_frames.specs.declared.frame.Frame.{Frame}
@@ -22,10 +22,11 @@ use Rattle.il_control.specs.Calls.{AllStay, BrokenOff, IsIdle, Made, Obeyed, Obe
 use Rattle.il_control.proofs.Assigning.{EachTo, GivenPlace, place_given, place_in_part, ppe}
 use Rattle.il_control.proofs.Calls.{hears_then}
 use Rattle.loop_model.proofs.SendLaws.{message_of-lad}
-use Rattle.il_record.specs.Came.{CameUnits}
+use Rattle.il_record.specs.Asks.{Ask, AskCommand, AskIdentify, CameAsked, up_to}
 use Rattle.il_record.specs.LoopCalls.{LeavesDrive}
-use Rattle.il_record.specs.Polls.{Assigned, Collected, HasPolled, MayPoll, PollBroke, PollsOn, poll_place, polled_along, ppu}
-use Rattle.il_record.proofs.CameLaws.{broken_came, came_then, made_came, nothing_came, tape_same}
+use Rattle.il_record.specs.Polls.{Assigned, Collected, HasPolled, MayPoll, PollBroke, PollsOn, collect_asks, place_asks, poll_asks, poll_place, polled_along, ppu}
+use Rattle.il_record.proofs.Asking.{asked_broken, asked_made, asked_nothing, asked_on, asked_up_to, up_to_next}
+use Rattle.il_record.proofs.CameLaws.{tape_same}
 use Rattle.il_record.proofs.Commands.{PlacedTo, all_polls, all_released, command_broken, command_made, command_room, each_as, each_then, identify_broken, identify_made, identify_room, may_polls, obeyed_polls, part_polls, place_is, ppe_mild, ppu_polls, ppu_released, stays_polls, unl_broken, unl_made}
 use Rattle.il_record.proofs.Mild.{StaysMild, mild_then}
 use Rattle.il_record.proofs.MildCame.{left_as_was, left_by, leaves_mild, leaves_then, mild_frame}
@@ -35,87 +36,87 @@ use Rattle.il_record.proofs.Used.{broken_used, command_not_used, command_used}
 
 -- ---- commands and the poll, one behind the other, from UNL on
 
-pub record Begun {M : Type 0} (view : M → MediumView) (n : ℕ) (r s : RingView M) : Type 0 where
-  pub came : CameUnits view true [] r s
+pub record Begun {M : Type 0} (view : M → MediumView) (n : ℕ) (asks : List Ask) (r s : RingView M) : Type 0 where
+  pub came : CameAsked view true asks r s
   pub devices : EachTo PollsOn 1 (devices_of r) (devices_of s)
   pub drive : StaysMild view r.drive s.drive
   pub idle : IsIdle s
   pub room : spare_of r ≤ spare_of s + n
 
 module _ {M : Type 0} (view : M → MediumView) (r : RingView M) (idle : IsIdle r) (silent : r.drive.state.interface.own ≡ None) where
-  begun_by : (m : RingView M) → 2 ≤ spare_of r → Made view (Command unl) r m → Obeyed msg.Unl r m → Begun view 2 r m
+  begun_by : (m : RingView M) → 2 ≤ spare_of r → Made view (Command unl) r m → Obeyed msg.Unl r m → Begun view 2 (AskCommand unl ∷ []) r m
   begun_by m room made obeyed =
       let drive = unl_made view r m silent made in
       record {
-        came = made_came view (Command unl) r m made refl (tape_same view r.drive m.drive drive.medium);
+        came = asked_made view (Command unl) r m made refl (tape_same view r.drive m.drive drive.medium);
         devices = obeyed_polls r m msg.Unl refl refl obeyed;
         drive = drive;
         idle = made.idle;
         room = command_room view r m unl room made;
       }
 
-  pub begun : (f : Frame) (m : RingView M) → f ≡ unl → 2 ≤ spare_of r → Made view (Command f) r m → Obeyed (message_of f) r m → Begun view 2 r m
+  pub begun : (f : Frame) (m : RingView M) → f ≡ unl → 2 ≤ spare_of r → Made view (Command f) r m → Obeyed (message_of f) r m → Begun view 2 (AskCommand unl ∷ []) r m
   begun f m is room made obeyed = begun_by m room (subst (λ f. Made view (Command f) r m) is made) (subst (λ f. Obeyed (message_of f) r m) is obeyed)
 
-  not_begun_by : (s : RingView M) → BrokenOff view (Command unl) r s → ObeyedInPart msg.Unl r s → PollBroke view 3 r s
-  not_begun_by s broken part =
+  not_begun_by : (more : List Ask) (s : RingView M) → BrokenOff view (Command unl) r s → ObeyedInPart msg.Unl r s → PollBroke view 3 (AskCommand unl ∷ more) r s
+  not_begun_by more s broken part =
       let came = unl_broken view r s broken in
       let drive = left_by view came.0 came.2.0 r.drive s.drive silent came.1 came.2.1 in
       record {
-        came = broken_came view (Command unl) r s broken (tape_same view r.drive s.drive drive.medium);
+        came = asked_broken view (AskCommand unl) more (Command unl) r s refl broken (tape_same view r.drive s.drive drive.medium);
         devices = part_polls r s msg.Unl refl refl part;
         drive = drive;
         room = command_not_used view unl r s broken;
       }
 
-  pub not_begun : (f : Frame) (s : RingView M) → f ≡ unl → BrokenOff view (Command f) r s → ObeyedInPart (message_of f) r s → PollBroke view 3 r s
-  not_begun f s is broken part = not_begun_by s (subst (λ f. BrokenOff view (Command f) r s) is broken) (subst (λ f. ObeyedInPart (message_of f) r s) is part)
+  pub not_begun : (more : List Ask) (f : Frame) (s : RingView M) → f ≡ unl → BrokenOff view (Command f) r s → ObeyedInPart (message_of f) r s → PollBroke view 3 (AskCommand unl ∷ more) r s
+  not_begun more f s is broken part = not_begun_by more s (subst (λ f. BrokenOff view (Command f) r s) is broken) (subst (λ f. ObeyedInPart (message_of f) r s) is part)
 
-  pub next_made : (n : ℕ) (f : Frame) (m s : RingView M) → mild_frame f ≡ true → Begun view n r m → 2 ≤ spare_of m → Made view (Command f) m s → EachTo PollsOn 1 (devices_of m) (devices_of s) → Begun view (n + 2) r s
-  next_made n f m s mild so room made devices =
+  pub next_made : (n : ℕ) (asks : List Ask) (f : Frame) (m s : RingView M) → mild_frame f ≡ true → Begun view n asks r m → 2 ≤ spare_of m → Made view (Command f) m s → EachTo PollsOn 1 (devices_of m) (devices_of s) → Begun view (n + 2) (asks ++ AskCommand f ∷ []) r s
+  next_made n asks f m s mild so room made devices =
       let drive = command_made view m s f mild so.drive.mild made in
       let before = so.room in
       let spent = command_room view m s f room made in
       record {
-        came = came_then view true [] [] r m s idle so.came (made_came view (Command f) m s made refl (tape_same view m.drive s.drive drive.medium));
+        came = asked_on view true asks (AskCommand f ∷ []) r m s idle so.came (asked_made view (Command f) m s made refl (tape_same view m.drive s.drive drive.medium));
         devices = all_polls r m s so.devices devices;
         drive = mild_then view r.drive m.drive s.drive so.drive drive;
         idle = made.idle;
         room = omega (arith, before, spent);
       }
 
-  pub identified_next : (n : ℕ) (f : Frame) (m s : RingView M) → Begun view n r m → 1 ≤ spare_of m → Made view (Identify f) m s → AllStay true m s → Begun view (n + 1) r s
-  identified_next n f m s so room made stays =
+  pub identified_next : (n : ℕ) (asks : List Ask) (f : Frame) (m s : RingView M) → Begun view n asks r m → 1 ≤ spare_of m → Made view (Identify f) m s → AllStay true m s → Begun view (n + 1) (asks ++ AskIdentify ∷ []) r s
+  identified_next n asks f m s so room made stays =
       let drive = identify_made view m s f so.drive.mild made in
       let before = so.room in
       let spent = identify_room view m s f room made in
       record {
-        came = came_then view true [] [] r m s idle so.came (made_came view (Identify f) m s made refl (tape_same view m.drive s.drive drive.medium));
+        came = asked_on view true asks (AskIdentify ∷ []) r m s idle so.came (asked_made view (Identify f) m s made refl (tape_same view m.drive s.drive drive.medium));
         devices = all_polls r m s so.devices (stays_polls m s stays);
         drive = mild_then view r.drive m.drive s.drive so.drive drive;
         idle = made.idle;
         room = omega (arith, before, spent);
       }
 
-  pub next_broken : (n : ℕ) (f : Frame) (m s : RingView M) → mild_frame f ≡ true → Begun view n r m → BrokenOff view (Command f) m s → EachTo PollsOn 1 (devices_of m) (devices_of s) → PollBroke view (n + 3) r s
-  next_broken n f m s mild so broken devices =
+  pub next_broken : (n : ℕ) (asks more : List Ask) (f : Frame) (m s : RingView M) → mild_frame f ≡ true → Begun view n asks r m → BrokenOff view (Command f) m s → EachTo PollsOn 1 (devices_of m) (devices_of s) → PollBroke view (n + 3) (asks ++ AskCommand f ∷ more) r s
+  next_broken n asks more f m s mild so broken devices =
       let drive = command_broken view m s f mild so.drive.mild broken in
       let before = so.room in
       let spent = command_not_used view f m s broken in
       record {
-        came = came_then view false [] [] r m s idle so.came (broken_came view (Command f) m s broken (tape_same view m.drive s.drive drive.medium));
+        came = asked_on view false asks (AskCommand f ∷ more) r m s idle so.came (asked_broken view (AskCommand f) more (Command f) m s refl broken (tape_same view m.drive s.drive drive.medium));
         devices = all_polls r m s so.devices devices;
         drive = leaves_mild view r.drive s.drive (mild_then view r.drive m.drive s.drive so.drive drive);
         room = omega (arith, before, spent);
       }
 
-  pub identify_not : (n : ℕ) (m s : RingView M) → Begun view n r m → BrokenOff view (Identify idy) m s → AllStay true m s → PollBroke view (n + 2) r s
-  identify_not n m s so broken stays =
+  pub identify_not : (n : ℕ) (asks more : List Ask) (m s : RingView M) → Begun view n asks r m → BrokenOff view (Identify idy) m s → AllStay true m s → PollBroke view (n + 2) (asks ++ AskIdentify ∷ more) r s
+  identify_not n asks more m s so broken stays =
       let drive = identify_broken view m s idy so.drive.mild broken in
       let before = so.room in
       let spent : spare_of m ≤ spare_of s + 2 = broken_used view (Identify idy) 2 m s broken (omega arith) in
       record {
-        came = came_then view false [] [] r m s idle so.came (broken_came view (Identify idy) m s broken (tape_same view m.drive s.drive drive.medium));
+        came = asked_on view false asks (AskIdentify ∷ more) r m s idle so.came (asked_broken view AskIdentify more (Identify idy) m s refl broken (tape_same view m.drive s.drive drive.medium));
         devices = all_polls r m s so.devices (stays_polls m s stays);
         drive = leaves_mild view r.drive s.drive (mild_then view r.drive m.drive s.drive so.drive drive);
         room = omega (arith, before, spent);
@@ -133,37 +134,37 @@ module _ {M : Type 0} (view : M → MediumView) (r : RingView M) (idle : IsIdle 
     lad_says : message_of (lad a) ≡ msg.Lad a
     lad_says = message_of-lad a (le-leb a 30 low)
 
-    pub told_next : (g : Frame) (m u : RingView M) → g ≡ lad a → Begun view 2 r m → 2 ≤ spare_of m → Made view (Command g) m u → Obeyed (message_of g) m u → Begun view 4 r u
+    pub told_next : (g : Frame) (m u : RingView M) → g ≡ lad a → Begun view 2 (AskCommand unl ∷ []) r m → 2 ≤ spare_of m → Made view (Command g) m u → Obeyed (message_of g) m u → Begun view 4 (AskCommand unl ∷ AskCommand (lad a) ∷ []) r u
     told_next g m u is so room made obeyed =
-        next_made 2 (lad a) m u (lad_mild a low) so room (subst (λ f. Made view (Command f) m u) is made)
+        next_made 2 (AskCommand unl ∷ []) (lad a) m u (lad_mild a low) so room (subst (λ f. Made view (Command f) m u) is made)
         (obeyed_polls m u (msg.Lad a) refl refl (subst (λ message. Obeyed message m u) (ap message_of is ∙ lad_says) obeyed))
 
-    pub told_not : (g : Frame) (m s : RingView M) → g ≡ lad a → Begun view 2 r m → BrokenOff view (Command g) m s → ObeyedInPart (message_of g) m s → PollBroke view 5 r s
+    pub told_not : (g : Frame) (m s : RingView M) → g ≡ lad a → Begun view 2 (AskCommand unl ∷ []) r m → BrokenOff view (Command g) m s → ObeyedInPart (message_of g) m s → PollBroke view 5 (place_asks a) r s
     told_not g m s is so broken part =
-        next_broken 2 (lad a) m s (lad_mild a low) so (subst (λ f. BrokenOff view (Command f) m s) is broken)
+        next_broken 2 (AskCommand unl ∷ []) (AskCommand (ppe (7 + a)) ∷ []) (lad a) m s (lad_mild a low) so (subst (λ f. BrokenOff view (Command f) m s) is broken)
         (part_polls m s (msg.Lad a) refl refl (subst (λ message. ObeyedInPart message m s) (ap message_of is ∙ lad_says) part))
 
-    pub assigned_by : (f g h : Frame) (m u s : RingView M) → f ≡ unl → g ≡ lad a → h ≡ ppe (7 + a) → Begun view 2 r m → Begun view 4 r u → 2 ≤ spare_of u → Obeyed (message_of f) r m → Obeyed (message_of g) m u → Made view (Command h) u s → Obeyed (message_of h) u s → Assigned view a r s
+    pub assigned_by : (f g h : Frame) (m u s : RingView M) → f ≡ unl → g ≡ lad a → h ≡ ppe (7 + a) → Begun view 2 (AskCommand unl ∷ []) r m → Begun view 4 (AskCommand unl ∷ AskCommand (lad a) ∷ []) r u → 2 ≤ spare_of u → Obeyed (message_of f) r m → Obeyed (message_of g) m u → Made view (Command h) u s → Obeyed (message_of h) u s → Assigned view a r s
     assigned_by f g h m u s is_unl is_lad is_ppe begun so room first more made last =
         let now : Made view (Command (ppe (7 + a))) u s = subst (λ f. Made view (Command f) u s) is_ppe made in
         let drive = command_made view u s (ppe (7 + a)) (ppe_mild (7 + a) small) so.drive.mild now in
         let before = so.room in
         let spent = command_room view u s (ppe (7 + a)) room now in
         record {
-          came = came_then view true [] [] r u s idle so.came (made_came view (Command (ppe (7 + a))) u s now refl (tape_same view u.drive s.drive drive.medium));
+          came = asked_on view true (AskCommand unl ∷ AskCommand (lad a) ∷ []) (AskCommand (ppe (7 + a)) ∷ []) r u s idle so.came (asked_made view (Command (ppe (7 + a))) u s now refl (tape_same view u.drive s.drive drive.medium));
           given = place_given r m u s a (7 + a) f g h idle low small is_unl is_lad is_ppe first more last;
           drive = leaves_mild view r.drive s.drive (mild_then view r.drive u.drive s.drive so.drive drive);
           room = omega (arith, before, spent);
         }
 
-    pub assigned_not : (f g h : Frame) (m u s : RingView M) → f ≡ unl → g ≡ lad a → h ≡ ppe (7 + a) → Begun view 2 r m → Begun view 4 r u → Obeyed (message_of f) r m → Obeyed (message_of g) m u → BrokenOff view (Command h) u s → ObeyedInPart (message_of h) u s → PollBroke view 7 r s
+    pub assigned_not : (f g h : Frame) (m u s : RingView M) → f ≡ unl → g ≡ lad a → h ≡ ppe (7 + a) → Begun view 2 (AskCommand unl ∷ []) r m → Begun view 4 (AskCommand unl ∷ AskCommand (lad a) ∷ []) r u → Obeyed (message_of f) r m → Obeyed (message_of g) m u → BrokenOff view (Command h) u s → ObeyedInPart (message_of h) u s → PollBroke view 7 (place_asks a) r s
     assigned_not f g h m u s is_unl is_lad is_ppe begun so first more broken part =
         let now : BrokenOff view (Command (ppe (7 + a))) u s = subst (λ f. BrokenOff view (Command f) u s) is_ppe broken in
         let drive = command_broken view u s (ppe (7 + a)) (ppe_mild (7 + a) small) so.drive.mild now in
         let before = so.room in
         let spent = command_not_used view (ppe (7 + a)) u s now in
         record {
-          came = came_then view false [] [] r u s idle so.came (broken_came view (Command (ppe (7 + a))) u s now (tape_same view u.drive s.drive drive.medium));
+          came = asked_on view false (AskCommand unl ∷ AskCommand (lad a) ∷ []) (AskCommand (ppe (7 + a)) ∷ []) r u s idle so.came (asked_broken view (AskCommand (ppe (7 + a))) [] (Command (ppe (7 + a))) u s refl now (tape_same view u.drive s.drive drive.medium));
           devices = may_polls r s a some few (place_in_part r m u s a (7 + a) f g h idle low small is_unl is_lad is_ppe first more part);
           drive = leaves_mild view r.drive s.drive (mild_then view r.drive u.drive s.drive so.drive drive);
           room = omega (arith, before, spent);
@@ -179,7 +180,7 @@ module _ {M : Type 0} (view : M → MediumView) (r : RingView M) (idle : IsIdle 
   along_same m kept still [] (e ∷ es) f took = absurd took
   along_same m kept still (d ∷ ds) [] f took = absurd took
 
-  pub collected : (f g h : Frame) (m u s : RingView M) → f ≡ unl → h ≡ ppu → Begun view 2 r m → Obeyed (message_of f) r m → Begun view 3 r u → g ≡ identified_along (devices_of m) idy → Made view (Command h) u s → Obeyed (message_of h) u s → Collected view g r s
+  pub collected : (f g h : Frame) (m u s : RingView M) → f ≡ unl → h ≡ ppu → Begun view 2 (AskCommand unl ∷ []) r m → Obeyed (message_of f) r m → Begun view 3 (AskCommand unl ∷ AskIdentify ∷ []) r u → g ≡ identified_along (devices_of m) idy → Made view (Command h) u s → Obeyed (message_of h) u s → Collected view g r s
   collected f g h m u s is_unl is_ppu begun first so back made last =
       let now : Made view (Command ppu) u s = subst (λ f. Made view (Command f) u s) is_ppu made in
       let drive = command_made view u s ppu refl so.drive.mild now in
@@ -187,15 +188,15 @@ module _ {M : Type 0} (view : M → MediumView) (r : RingView M) (idle : IsIdle 
       let spent = command_used view ppu u s now in
       record {
         frame = back ∙ along_same msg.Unl refl refl (devices_of r) (devices_of m) idy (subst (λ f. Obeyed (message_of f) r m) is_unl first);
-        came = came_then view true [] [] r u s idle so.came (made_came view (Command ppu) u s now refl (tape_same view u.drive s.drive drive.medium));
+        came = asked_on view true (AskCommand unl ∷ AskIdentify ∷ []) (AskCommand ppu ∷ []) r u s idle so.came (asked_made view (Command ppu) u s now refl (tape_same view u.drive s.drive drive.medium));
         released = all_released r u s so.devices (ppu_released u s (subst (λ f. Obeyed (message_of f) u s) is_ppu last));
         drive = leaves_mild view r.drive s.drive (mild_then view r.drive u.drive s.drive so.drive drive);
         room = omega (arith, before, spent);
       }
 
-  pub collected_not : (h : Frame) (u s : RingView M) → h ≡ ppu → Begun view 3 r u → BrokenOff view (Command h) u s → ObeyedInPart (message_of h) u s → PollBroke view 6 r s
+  pub collected_not : (h : Frame) (u s : RingView M) → h ≡ ppu → Begun view 3 (AskCommand unl ∷ AskIdentify ∷ []) r u → BrokenOff view (Command h) u s → ObeyedInPart (message_of h) u s → PollBroke view 6 collect_asks r s
   collected_not h u s is so broken part =
-      next_broken 3 ppu u s refl so (subst (λ f. BrokenOff view (Command f) u s) is broken) (ppu_polls u s (subst (λ f. ObeyedInPart (message_of f) u s) is part))
+      next_broken 3 (AskCommand unl ∷ AskIdentify ∷ []) [] ppu u s refl so (subst (λ f. BrokenOff view (Command f) u s) is broken) (ppu_polls u s (subst (λ f. ObeyedInPart (message_of f) u s) is part))
 
 -- ---- place behind place
 
@@ -253,7 +254,7 @@ along_placed i n k (d ∷ ds) [] f most within placed may = absurd placed
 
 -- the first i devices have their places
 pub record AssignedSo {M : Type 0} (view : M → MediumView) (i : ℕ) (r s : RingView M) : Type 0 where
-  pub came : CameUnits view true [] r s
+  pub came : CameAsked view true (up_to place_asks i) r s
   pub placed : EachTo (PlacedTo i) 1 (devices_of r) (devices_of s)
   pub drive : LeavesDrive r.drive s.drive
   pub idle : IsIdle s
@@ -262,15 +263,15 @@ pub record AssignedSo {M : Type 0} (view : M → MediumView) (i : ℕ) (r s : Ri
 
 module _ {M : Type 0} (view : M → MediumView) (r : RingView M) (idle : IsIdle r) where
   pub assigned_none : r.drive.state.interface.own ≡ None → AssignedSo view 0 r r
-  assigned_none silent = record { came = nothing_came view r idle; placed = none_placed 1 (devices_of r) (omega arith); drive = left_as_was r.drive silent; idle = idle; silent = silent; room = omega arith }
+  assigned_none silent = record { came = asked_nothing view r idle; placed = none_placed 1 (devices_of r) (omega arith); drive = left_as_was r.drive silent; idle = idle; silent = silent; room = omega arith }
 
   pub assigned_more : (i : ℕ) (m s : RingView M) → i < 8 → AssignedSo view i r m → Assigned view (i + 1) m s → AssignedSo view (i + 1) r s
   assigned_more i m s few so given =
-      let now : IsIdle s = given.came.came.talked.state in
+      let now : IsIdle s = given.came.units.came.talked.state in
       let before = so.room in
       let spent = given.room in
       record {
-        came = came_then view true [] [] r m s idle so.came given.came;
+        came = subst (λ asks. CameAsked view true asks r s) (up_to_next place_asks i) (asked_on view true (up_to place_asks i) (place_asks (i + 1)) r m s idle so.came given.came);
         placed = each_then (PlacedTo i) (GivenPlace (i + 1) (7 + (i + 1))) (PlacedTo (i + 1)) (λ k c d e placed given. next_place i k c d e few placed given) 1 (devices_of r) (devices_of m) (devices_of s) so.placed given.given;
         drive = leaves_then r.drive m.drive s.drive so.drive given.drive;
         idle = now;
@@ -278,16 +279,31 @@ module _ {M : Type 0} (view : M → MediumView) (r : RingView M) (idle : IsIdle 
         room = omega (arith, before, spent);
       }
 
-  pub broke_behind : (i n most : ℕ) (m s : RingView M) → 6 * i + n ≤ most → AssignedSo view i r m → PollBroke view n m s → PollBroke view most r s
-  broke_behind i n most m s few so broke =
+  -- broken off behind the first i, as these asks
+  pub broke_behind : (i n most : ℕ) (asks : List Ask) (m s : RingView M) → 6 * i + n ≤ most → AssignedSo view i r m → PollBroke view n asks m s → PollBroke view most (up_to place_asks i ++ asks) r s
+  broke_behind i n most asks m s few so broke =
       let before = so.room in
       let spent = broke.room in
       record {
-        came = came_then view false [] [] r m s idle so.came broke.came;
+        came = asked_on view false (up_to place_asks i) asks r m s idle so.came broke.came;
         devices = all_polls r m s (each_as (PlacedTo i) PollsOn (left_placed i) 1 (devices_of r) (devices_of m) so.placed) broke.devices;
         drive = leaves_then r.drive m.drive s.drive so.drive broke.drive;
         room = omega (arith, before, spent, few);
       }
+
+  -- at the place of the next device, or as the answers were collected: as the poll of n devices
+  pub broke_placing : (i n : ℕ) (m s : RingView M) → i + 1 ≤ min n 8 → AssignedSo view i r m → PollBroke view 7 (place_asks (i + 1)) m s → PollBroke view 54 (poll_asks n) r s
+  broke_placing i n m s few so broke =
+      let behind = broke_behind i 7 54 (place_asks (i + 1)) m s (omega (arith, few)) so broke in
+      record {
+        came = asked_up_to view place_asks i (min n 8) collect_asks r m s few idle so.came broke.came;
+        devices = behind.devices;
+        drive = behind.drive;
+        room = behind.room;
+      }
+
+  pub broke_collecting : (i n : ℕ) (m s : RingView M) → i ≡ min n 8 → AssignedSo view i r m → PollBroke view 6 collect_asks m s → PollBroke view 54 (poll_asks n) r s
+  broke_collecting i n m s most so broke = subst (λ i. PollBroke view 54 (up_to place_asks i ++ collect_asks) r s) most (broke_behind i 6 54 collect_asks m s (omega (arith, most)) so broke)
 
   pub polled : (i n : ℕ) (f : Frame) (m s : RingView M) → i ≡ min n 8 → n ≡ length (devices_of r) → Each MayPoll 1 (devices_of r) → AssignedSo view i r m → Collected view f m s → HasPolled view f r s
   polled i n f m s most count may so got =
@@ -295,11 +311,11 @@ module _ {M : Type 0} (view : M → MediumView) (r : RingView M) (idle : IsIdle 
       let spent = got.room in
       record {
         frame = got.frame ∙ along_placed i n 1 (devices_of r) (devices_of m) idy most (omega (arith, count)) so.placed may;
-        came = came_then view true [] [] r m s idle so.came got.came;
+        came = subst (λ n. CameAsked view true (up_to place_asks n ++ collect_asks) r s) (most ∙ ap (λ n. min n 8) count) (asked_on view true (up_to place_asks i) collect_asks r m s idle so.came got.came);
         released = all_released r m s (each_as (PlacedTo i) PollsOn (left_placed i) 1 (devices_of r) (devices_of m) so.placed) got.released;
         drive = leaves_then r.drive m.drive s.drive so.drive got.drive;
         room = omega (arith, before, spent, most);
       }
 
-pub broke_within : {M : Type 0} (view : M → MediumView) (n most : ℕ) (r s : RingView M) → n ≤ most → PollBroke view n r s → PollBroke view most r s
-broke_within view n most r s few broke = let spent = broke.room in record { came = broke.came; devices = broke.devices; drive = broke.drive; room = omega (arith, spent, few) }
+pub broke_within : {M : Type 0} (view : M → MediumView) (n most : ℕ) (asks : List Ask) (r s : RingView M) → n ≤ most → PollBroke view n asks r s → PollBroke view most asks r s
+broke_within view n most asks r s few broke = let spent = broke.room in record { came = broke.came; devices = broke.devices; drive = broke.drive; room = omega (arith, spent, few) }

@@ -1,6 +1,8 @@
 pub mod AddressedDrive
 pub mod Addressed
 pub mod Asked
+pub mod Asking
+pub mod Calling
 pub mod CameLaws
 pub mod Heard
 pub mod Collecting

@@ -1,5 +1,5 @@
 -- Accessory IDs, device by device.
-use Rattle.std.proofs.Common.{◌≡◌, ◌∙◌, ◌≤◌, ◌<◌, ◌+◌, ◌*◌, ◌-◌, ◌++◌, ◌==◌, ℕ, zero, suc, Bool, true, false, List, [], ◌∷◌, Option, Some, None, take, drop, length, get_or, refl, sym, ap, arith, length-append}
+use Rattle.std.proofs.Common.{◌≡◌, ◌∙◌, ◌≤◌, ◌<◌, ◌+◌, ◌*◌, ◌-◌, ◌++◌, ◌==◌, ℕ, zero, suc, Bool, true, false, List, [], ◌∷◌, Option, Some, None, take, drop, length, get_or, refl, sym, ap, subst, arith, append-nil, length-append}
 use Rattle.std.specs.Prelude.{if◌then◌else◌}
 use Rattle.il_device.specs.State.{DeviceState}
 use Rattle.il_ports.specs.Media.{MediumView}
@@ -9,8 +9,10 @@ use Rattle.il_ring.specs.Rings.{RingView, devices_of, spare_of}
 use Rattle.il_control.specs.Calls.{IsIdle, Stays}
 use Rattle.il_control.specs.Receives.{Received, NotReceived, accessory_at, id_bytes, received}
 use Rattle.il_control.proofs.Calls.{hears_then}
-use Rattle.il_record.specs.LoopCalls.{AllNamed, LeftAlone, Named, ids_of}
-use Rattle.il_record.proofs.CameLaws.{broken_came, came_then, made_came, nothing_came, tape_same}
+use Rattle.il_record.specs.Asks.{Ask, AskTell, CameAsked, up_to}
+use Rattle.il_record.specs.LoopCalls.{AllNamed, LeftAlone, Named, id_asks, ids_of}
+use Rattle.il_record.proofs.Asking.{asked_broken, asked_made, asked_nothing, asked_on, asked_up_to, up_to_next}
+use Rattle.il_record.proofs.CameLaws.{tape_same}
 use Rattle.il_record.proofs.MildCame.{left_as_was, leaves_then, not_received_leaves, received_leaves}
 use Rattle.il_record.proofs.ReadRuns.{received_room}
 use Rattle.il_record.proofs.Readings.{idle_mute}
@@ -40,15 +42,15 @@ ids_stay i [] (e ∷ es) stays = absurd stays
 ids_stay i (d ∷ ds) [] stays = absurd stays
 
 module _ {M : Type 0} (view : M → MediumView) where
-  pub left_then : (whole : Bool) (r m s : RingView M) → IsIdle r → LeftAlone view true r m → LeftAlone view whole m s → LeftAlone view whole r s
-  left_then whole r m s idle first more = record {
-    came = came_then view whole [] [] r m s idle first.came more.came;
+  pub left_then : (whole : Bool) (asks more : List Ask) (r m s : RingView M) → IsIdle r → LeftAlone view true asks r m → LeftAlone view whole more m s → LeftAlone view whole (asks ++ more) r s
+  left_then whole asks rest r m s idle first more = record {
+    came = asked_on view whole asks rest r m s idle first.came more.came;
     stays = all_then (devices_of r) (devices_of m) (devices_of s) first.stays more.stays;
     drive = leaves_then r.drive m.drive s.drive first.drive more.drive;
   }
 
-  pub left_nothing : (r : RingView M) → IsIdle r → r.drive.state.interface.own ≡ None → LeftAlone view true r r
-  left_nothing r idle silent = record { came = nothing_came view r idle; stays = all_same (devices_of r); drive = left_as_was r.drive silent }
+  pub left_nothing : (r : RingView M) → IsIdle r → r.drive.state.interface.own ≡ None → LeftAlone view true [] r r
+  left_nothing r idle silent = record { came = asked_nothing view r idle; stays = all_same (devices_of r); drive = left_as_was r.drive silent }
 
 -- ---- one device
 
@@ -68,14 +70,14 @@ module _ {M : Type 0} (view : M → MediumView) (a : ℕ) (r s : RingView M) (lo
       let left = received_room view a n (spare_of r - 13) None Sai r old new s got (omega (arith, few, one, room)) in
       record {
         id_is = is ∙ told_by (accessory_at (a - 1) (devices_of r)) n (received got.answer) old new (got.id refl) got.count got.bytes;
-        left = record { came = made_came view (Receive a None Sai got.answer) r s got.made refl (tape_same view r.drive s.drive drive.medium); stays = got.stays; drive = drive };
+        left = record { came = asked_made view (Receive a None Sai got.answer) r s got.made refl (tape_same view r.drive s.drive drive.medium); stays = got.stays; drive = drive };
         room = omega (arith, left);
       }
 
-  pub not_named : (w : ℕ) → NotReceived view a None Sai w r s → LeftAlone view false r s
+  pub not_named : (w : ℕ) → NotReceived view a None Sai w r s → LeftAlone view false (id_asks a) r s
   not_named w got =
       let drive = not_received_leaves view a w r s low silent got in
-      record { came = broken_came view (Receive a None Sai got.answer) r s got.broken (tape_same view r.drive s.drive drive.medium); stays = got.stays; drive = drive }
+      record { came = asked_broken view (AskTell a None Sai) [] (Receive a None Sai got.answer) r s refl got.broken (tape_same view r.drive s.drive drive.medium); stays = got.stays; drive = drive }
 
 -- ---- one behind the other
 
@@ -92,7 +94,7 @@ take_all_ids (d ∷ ds) = ap (λ ids. d.accessory ∷ ids) (take_all_ids ds)
 pub record NamedSo {M : Type 0} (view : M → MediumView) (i : ℕ) (ids : List (Option ℕ)) (r s : RingView M) : Type 0 where
   pub ids_are : ids ≡ take i (ids_of (devices_of r))
   pub many : length ids ≡ i
-  pub left : LeftAlone view true r s
+  pub left : LeftAlone view true (up_to id_asks i) r s
   pub idle : IsIdle s
   pub silent : s.drive.state.interface.own ≡ None
   pub room : spare_of r ≤ spare_of s + 13 * i
@@ -103,8 +105,8 @@ module _ {M : Type 0} (view : M → MediumView) (r : RingView M) (idle : IsIdle 
 
   pub named_more : (i : ℕ) (ids more : List (Option ℕ)) (id : Option ℕ) (m s : RingView M) → i < length (devices_of r) → more ≡ ids ++ id ∷ [] → NamedSo view i ids r m → Named view (i + 1) id m s → NamedSo view (i + 1) more r s
   named_more i ids more id m s within are so named =
-      let left = left_then view true r m s idle so.left named.left in
-      let now : IsIdle s = named.left.came.came.talked.state in
+      let left = subst (λ asks. LeftAlone view true asks r s) (up_to_next id_asks i) (left_then view true (up_to id_asks i) (id_asks (i + 1)) r m s idle so.left named.left) in
+      let now : IsIdle s = named.left.came.units.came.talked.state in
       let place : i + 1 - 1 ≡ i = omega arith in
       let up : suc i ≡ i + 1 = omega arith in
       let room = so.room in
@@ -125,7 +127,13 @@ module _ {M : Type 0} (view : M → MediumView) (r : RingView M) (idle : IsIdle 
       }
 
   pub named_all : (i : ℕ) (ids : List (Option ℕ)) (s : RingView M) → i ≡ length (devices_of r) → NamedSo view i ids r s → AllNamed view ids r s
-  named_all i ids s all so = record { ids_are = so.ids_are ∙ ap (λ n. take n (ids_of (devices_of r))) all ∙ take_all_ids (devices_of r); left = so.left }
+  named_all i ids s all so = record { ids_are = so.ids_are ∙ ap (λ n. take n (ids_of (devices_of r))) all ∙ take_all_ids (devices_of r); left = subst (λ n. LeftAlone view true (up_to id_asks n) r s) all so.left }
 
-  pub named_part : (i : ℕ) (ids : List (Option ℕ)) (m s : RingView M) → NamedSo view i ids r m → LeftAlone view false m s → LeftAlone view false r s
-  named_part i ids m s so broken = left_then view false r m s idle so.left broken
+  pub named_part : (i n : ℕ) (ids : List (Option ℕ)) (m s : RingView M) → i + 1 ≤ n → NamedSo view i ids r m → LeftAlone view false (id_asks (i + 1)) m s → LeftAlone view false (up_to id_asks n) r s
+  named_part i n ids m s within so broken =
+      let came = asked_up_to view id_asks i n [] r m s within idle so.left.came broken.came in
+      record {
+        came = subst (λ asks. CameAsked view false asks r s) (append-nil (up_to id_asks n)) came;
+        stays = all_then (devices_of r) (devices_of m) (devices_of s) so.left.stays broken.stays;
+        drive = leaves_then r.drive m.drive s.drive so.left.drive broken.drive;
+      }

@@ -1,5 +1,6 @@
 -- Which places in the poll devices have behind a call, and that the drive stays free.
 use Rattle.std.proofs.Common.{◌≡◌, ◌∙◌, ◌+◌, inl, inr, ⊎_elim, ◌++◌, ℕ, zero, suc, Bool, true, false, List, [], ◌∷◌, Option, length, map, ap, arith}
+use Rattle.il_frames.specs.declared.message.Message.{Message}
 use Rattle.il_device.specs.State.{DeviceState}
 use Rattle.il_ports.specs.Media.{MediumView}
 use Rattle.std.specs.List.{All}
@@ -8,11 +9,14 @@ use Rattle.il_drive.proofs.Exchanges.{IsFree}
 use Rattle.loop_model.specs.Exchanges.{Start}
 use Rattle.loop_model.specs.Units.{RecordUnit}
 use Rattle.il_ring.specs.Lists.{Each, First}
-use Rattle.il_ring.specs.Polls.{KeepsPlace}
+use Rattle.il_ring.proofs.RoundPlaces.{place_kept}
+use Rattle.il_ring.specs.Outcomes.{Obeys}
+use Rattle.il_ring.specs.Polls.{KeepsPlace, is_poll}
 use Rattle.il_ring.specs.Rings.{IsRing, MayStand, RingView, devices_of, drive_party}
-use Rattle.il_control.specs.Calls.{AllStay, IsIdle, Resumed, Stays}
+use Rattle.il_control.specs.Calls.{AllStay, IsIdle, Obeyed, ObeyedInPart, Stays}
 use Rattle.il_control.specs.Receives.{NotReceived, Received}
 use Rattle.il_control.proofs.Assigning.{EachTo}
+use Rattle.il_record.specs.Asks.{Ask}
 use Rattle.il_record.specs.Came.{CameUnits}
 use Rattle.il_record.specs.Listening.{Hears, HearsPart}
 use Rattle.il_record.specs.LoopCalls.{LeavesDrive, LeftAlone, NotSaid, Said}
@@ -42,6 +46,13 @@ both_kept [] (d ∷ ds) es first more = absurd first
 both_kept (c ∷ cs) [] es first more = absurd first
 both_kept (c ∷ cs) (d ∷ ds) [] first more = absurd more
 
+first_kept : (m : Message) → is_poll m ≡ false → (j : ℕ) (ds es : List DeviceState) → First (Obeys m) j ds es → First KeepsPlace (length ds) ds es
+first_kept m none j [] [] took = tt
+first_kept m none zero (d ∷ ds) (e ∷ es) took = (ap (λ (d : DeviceState). d.assignment) took.0, first_kept m none zero ds es took.1)
+first_kept m none (suc j) (d ∷ ds) (e ∷ es) took = (took.0.assignment ∙ place_kept m d.roles d.assignment none, first_kept m none j ds es took.1)
+first_kept m none j [] (e ∷ es) took = absurd took
+first_kept m none j (d ∷ ds) [] took = absurd took
+
 may_on : (k : ℕ) (ds es : List DeviceState) → First KeepsPlace (length ds) ds es → Each MayPoll k ds → Each MayPoll k es
 may_on k [] [] kept may = tt
 may_on k (d ∷ ds) (e ∷ es) kept may = (⊎_elim (λ none. inl (kept.0 ∙ none)) (λ own. inr (kept.0 ∙ own)) may.0, may_on (k + 1) ds es kept.1 may.1)
@@ -65,6 +76,13 @@ released_may k (d ∷ ds) [] each = absurd each
 module _ {M : Type 0} (r s : RingView M) where
   pub kept_stays : (still : Bool) → AllStay still r s → PlacesKept r s
   kept_stays still stays = record { kept = all_kept still (devices_of r) (devices_of s) stays }
+
+  -- a command that gives and takes no place, to all devices or to the first ones
+  pub kept_obeyed : (m : Message) → is_poll m ≡ false → Obeyed m r s → PlacesKept r s
+  kept_obeyed m none obeyed = record { kept = first_kept m none (length (devices_of r)) (devices_of r) (devices_of s) obeyed }
+
+  pub kept_in_part : (m : Message) → is_poll m ≡ false → ObeyedInPart m r s → PlacesKept r s
+  kept_in_part m none part = record { kept = first_kept m none part.0 (devices_of r) (devices_of s) part.1 }
 
   pub kept_heard : (a : ℕ) (bytes : List ℕ) → EachTo (Hears a bytes) 1 (devices_of r) (devices_of s) → PlacesKept r s
   kept_heard a bytes heard = record { kept = each_kept (Hears a bytes) (λ k d e hears. hears.0) 1 (devices_of r) (devices_of s) heard }
@@ -91,8 +109,8 @@ module _ {M : Type 0} (view : M → MediumView) (r s : RingView M) where
   pub kept_not_received : (a : ℕ) (number : Option ℕ) (start : Start) (w : ℕ) → NotReceived view a number start w r s → PlacesKept r s
   kept_not_received a number start w got = kept_stays r s false got.stays
 
-  pub kept_left : (whole : Bool) → LeftAlone view whole r s → PlacesKept r s
-  kept_left whole left = kept_stays r s false left.stays
+  pub kept_left : (whole : Bool) (asks : List Ask) → LeftAlone view whole asks r s → PlacesKept r s
+  kept_left whole asks left = kept_stays r s false left.stays
 
   pub kept_said : (a : ℕ) (bytes : List ℕ) → Said view a bytes r s → PlacesKept r s
   kept_said a bytes said = kept_heard r s a bytes said.heard
@@ -100,8 +118,8 @@ module _ {M : Type 0} (view : M → MediumView) (r s : RingView M) where
   pub kept_not_said : (a : ℕ) (bytes : List ℕ) → NotSaid view a bytes r s → PlacesKept r s
   kept_not_said a bytes not = kept_heard_part r s a bytes not.heard
 
-  pub may_poll_broke : (n : ℕ) → PollBroke view n r s → Each MayPoll 1 (devices_of r) → Each MayPoll 1 (devices_of s)
-  may_poll_broke n broke may = polls_may 1 (devices_of r) (devices_of s) broke.devices may
+  pub may_poll_broke : (n : ℕ) (asks : List Ask) → PollBroke view n asks r s → Each MayPoll 1 (devices_of r) → Each MayPoll 1 (devices_of s)
+  may_poll_broke n asks broke may = polls_may 1 (devices_of r) (devices_of s) broke.devices may
 
   pub may_poll_polled : (f : _) → HasPolled view f r s → Each MayPoll 1 (devices_of s)
   may_poll_polled f polled = released_may 1 (devices_of r) (devices_of s) polled.released
@@ -140,7 +158,3 @@ all_mapped P f (x ∷ xs) all = all_behind P (f x) (map f xs) (all 0 x (omega ar
 -- no device of it has a place in the poll
 pub new_may_poll : {M : Type 0} (r : RingView M) → IsRing r → r.drive.state ≡ fresh_drive → All MayStand r.before → All MayStand r.after → Each MayPoll 1 (devices_of r)
 new_may_poll r ring drive before after = may_before 1 r.before (device_of r.drive.state ∷ r.after) before (λ k. (inl (ap (λ state. (device_of state).assignment) drive), may_alone (k + 1) r.after after))
-
--- and behind its addressing each may have the place that it might
-pub resumed_may_poll : {M : Type 0} (view : M → MediumView) (n : ℕ) (r s : RingView M) → Resumed view n r s → AllStay true r s → Each MayPoll 1 (devices_of r) → Each MayPoll 1 (devices_of s)
-resumed_may_poll view n r s resumed stays may = may_poll_kept r s (kept_stays r s true stays) may

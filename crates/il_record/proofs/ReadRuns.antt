@@ -174,7 +174,7 @@ outside_three l x y z none_y none_z =
     rw (first, none_y, none_z) refl
 
 -- the tape is as it was, and so the units leave it
-pub came_still : {M : Type 0} (view : M → MediumView) (whole : Bool) (ps : List Piece) (us : List RecordUnit) (r s : RingView M) → Talked view whole ps r s → ends_within (loop_of r) ps ≡ false → units_of (loop_of r) ps ≡ us
+abbrev pub came_still : {M : Type 0} (view : M → MediumView) (whole : Bool) (ps : List Piece) (us : List RecordUnit) (r s : RingView M) → Talked view whole ps r s → ends_within (loop_of r) ps ≡ false → units_of (loop_of r) ps ≡ us
     → ((t : Tape) → UnitsEffect us t t) → (view s.drive.medium).tape ≡ (view r.drive.medium).tape → CameUnits view whole us r s
 came_still view whole ps us r s talked outside units leaves same = record {
   came = record {

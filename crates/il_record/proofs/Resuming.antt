@@ -7,7 +7,7 @@ use Rattle.il_ports.specs.declared.records.Trouble.TheVariants as trouble
 use Rattle.il_ports.specs.Media.{MediumView}
 use Rattle.il_ring.specs.Rings.{RingView, drive_party}
 use Rattle.il_record.specs.LoopStores.{LoopView, Standing, AtIdle, AtLost, Nowhere, Addresses, Resumes, counted_resume, most_resumes, since_frame}
-use Rattle.il_record.specs.Runs.{Cleared, Interrupted}
+use Rattle.il_record.specs.Runs.{Cleared, Interrupted, clear_asks}
 use Rattle.il_record.proofs.StoreResumes.{on_error}
 
 -- addressing tells nothing by the value of its Ok
@@ -50,7 +50,7 @@ module _ {M : Type 0} (T : Type 0) (view : M → MediumView) (more : ℕ) (befor
         })
 
     pub tells_broke : {U : Type 0} (y : U) (d : ℕ) (ready mid new : LoopView M) (m s : RingView M) (e : Trouble) → Addresses view before.control (record before { resumes = more }) ready (Ok y) → ready.control ≡ AtIdle m → mid ≡ record ready { control = Nowhere }
-        → new ≡ record mid { control = AtLost s; sound = false; since = since_frame mid.since } → e ≡ trouble.Frame → d ≡ drive_party m → Interrupted view d m s → Resumes {T = T} view before.sound (counted_resume before) new (Err e)
+        → new ≡ record mid { control = AtLost s; sound = false; since = since_frame mid.since } → e ≡ trouble.Frame → d ≡ drive_party m → Interrupted view (clear_asks d) d m s → Resumes {T = T} view before.sound (counted_resume before) new (Err e)
     tells_broke y d ready mid new m s e so at taken left frame party not =
         as_unsound new (Err e) (inr (
           frame,
@@ -60,7 +60,7 @@ module _ {M : Type 0} (T : Type 0) (view : M → MediumView) (more : ℕ) (befor
             ring = m;
             at = at;
             behind = s;
-            interrupted = subst (λ d. Interrupted view d m s) party not;
+            interrupted = subst (λ d. Interrupted view (clear_asks d) d m s) party not;
             left = left ∙ ap (λ (l : LoopView M). record l { control = AtLost s; sound = false; since = since_frame l.since }) taken;
           },
         ))

@@ -2,7 +2,10 @@
 use Rattle.std.proofs.Common.{◌≡◌, ◌∙◌, ◌≤◌, ◌++◌, ◌&&◌, ℕ, true, not, List, [], ◌∷◌, None, map, length, refl, sym, ap, subst}
 use Rattle.std.specs.List.{list_all}
 use Rattle.std.proofs.lemmas.Bool.{and_parts, and_from}
+use Rattle.std.specs.Prelude.{drop}
 use Rattle.std.proofs.Math.Seq.{take-length}
+use Rattle.std.proofs.lemmas.List.{take-append-drop}
+use Rattle.loop_model.proofs.UnitLaws.{bytes_of}
 use Rattle.il_frames.specs.declared.entry.Entry.{Entry}
 use Rattle.il_ports.specs.Media.{MediumView}
 use Rattle.il_drive.proofs.ExchangesAddressed.{message_of-lad}
@@ -14,9 +17,11 @@ use Rattle.il_control.specs.Brought.{is_auto_address}
 use Rattle.il_control.proofs.Assigning.{EachTo}
 use Rattle.il_control.proofs.Brings.{send_from_here}
 use Rattle.il_record.specs.Listening.{Hears, HearsPart}
-use Rattle.il_record.specs.LoopCalls.{NotSaid, Said}
+use Rattle.il_record.specs.Asks.{AskHear, CameAsked}
+use Rattle.il_record.specs.LoopCalls.{NotSaid, Said, say_asks}
 use Rattle.il_record.specs.Sends.{filled, SentAll, SendBroke}
-use Rattle.il_record.proofs.CameLaws.{broken_came, made_came, tape_same}
+use Rattle.il_record.proofs.Asking.{asked_broken, asked_made}
+use Rattle.il_record.proofs.CameLaws.{tape_same}
 use Rattle.il_record.proofs.Mild.{is_mild}
 use Rattle.il_record.proofs.MildCame.{echo_mild, left_by, mild_entry, mild_frame, unl_brought, unl_cut}
 use Rattle.il_record.proofs.ReadRuns.{send_echoes}
@@ -46,7 +51,7 @@ module _ {M : Type 0} (view : M → MediumView) (a : ℕ) (bytes : List ℕ) (r 
       left_by view adds.came adds.answers r.drive s.drive silent
       (unl_brought (length (devices_of r)) (drive_party r) (behind_unl a so.ds) adds.came (behind_mild a so.ds low legal) (so.made.whole.brought (send_from_here (drive_party r) a None so.ds))) adds.drive in
       record {
-        came = made_came view (Send a None so.ds) r s so.made refl (tape_same view r.drive s.drive drive.medium);
+        came = subst (λ bytes. CameAsked view true (say_asks a bytes) r s) (so.sent ∙ take-length sent ∙ is) (asked_made view (Send a None so.ds) r s so.made refl (tape_same view r.drive s.drive drive.medium));
         heard = subst (λ bytes. EachTo (Hears a bytes) 1 (devices_of r) (devices_of s)) (take-length sent ∙ is) so.heard;
         drive = drive;
       }
@@ -58,8 +63,10 @@ module _ {M : Type 0} (view : M → MediumView) (a : ℕ) (bytes : List ℕ) (r 
       let drive =
       left_by view broke.adds.came broke.adds.answers r.drive s.drive silent
       (unl_cut (length (devices_of r)) (drive_party r) broke.standing (behind_unl a not.ds) broke.adds.came (behind_mild a not.ds low legal) (broke.brought (send_from_here (drive_party r) a None not.ds))) broke.adds.drive in
+      let rest = drop (length not.ds) sent in
+      let all : bytes ≡ bytes_of not.ds ++ rest = sym is ∙ sym (take-append-drop (length not.ds) sent) ∙ ap (λ front. front ++ rest) (sym not.sent) in
       record {
-        came = broken_came view (Send a None not.ds) r s not.broken (tape_same view r.drive s.drive drive.medium);
+        came = asked_broken view (AskHear a None bytes) [] (Send a None not.ds) r s (rest, ap (λ bytes. AskHear a None bytes) all) not.broken (tape_same view r.drive s.drive drive.medium);
         heard = subst (λ bytes. EachTo (HearsPart a bytes) 1 (devices_of r) (devices_of s)) is not.heard;
         drive = drive;
       }

@@ -10,7 +10,10 @@ use Rattle.lif_model.specs.Shelf.{cut}
 use Rattle.lif_model.proofs.Made.{piece_long}
 use Rattle.std.proofs.lemmas.List.{take_all}
 use Rattle.il_drive.proofs.Exchanges.{IsFree}
-use Rattle.il_ring.specs.Rings.{RingView, drive_party, spare_of}
+use Rattle.il_ring.specs.Lists.{Each}
+use Rattle.il_ring.specs.Rings.{RingView, devices_of, drive_party, spare_of}
+use Rattle.il_record.specs.Polls.{MayPoll, PlacesKept}
+use Rattle.il_record.proofs.Places.{may_poll_kept}
 use Rattle.il_control.specs.Calls.{IsIdle}
 use Rattle.il_record.specs.declared.records.Since.{Since}
 use Rattle.il_record.specs.LoopStores.{LoopView, Standing, AtIdle, AtLost, Nowhere, calls_in, is_broken, since_frame, since_medium, view_at, view_of}
@@ -24,13 +27,14 @@ pub record Begins {M : Type 0} (k : ℕ) (sound : Bool) (log : Since) (r : RingV
   pub idle : IsIdle r
   pub free : IsFree (drive_party r) r.drive.state
   pub alive : is_broken log ≡ false
+  pub may : Each MayPoll 1 (devices_of r)
   pub sound_is : sound ≡ true
   pub left : k ≤ calls_in (spare_of r)
 
 pub begins : {M S : Type 0} (view : M → MediumView) (seen : S → RingView M) (p : Option S) (sound : Bool) (log : Since) (resumes k : ℕ) (c : Standing M) (r : RingView M) → c ≡ AtIdle r → IsReady k (view_at view seen p sound log resumes c) → Begins k sound log r
 begins {M} view seen p sound log resumes k c r at ready =
     let so = subst (λ (c : Standing M). IsReady k (view_at view seen p sound log resumes c)) at ready in
-    record { idle = so.valid.0; free = so.valid.1 so.sound; alive = so.valid.2; sound_is = so.sound; left = so.left }
+    record { idle = so.valid.0; free = so.valid.1 so.sound; alive = so.valid.2; may = so.valid.3; sound_is = so.sound; left = so.left }
 
 -- the view of a sound store that is idle
 at_idle : {M S : Type 0} (view : M → MediumView) (seen : S → RingView M) (p : Option S) (sound : Bool) (log : Since) (resumes : ℕ) (c : Standing M) (r : RingView M) → c ≡ AtIdle r → sound ≡ true → view_at view seen p true log resumes (AtIdle r) ≡ view_at view seen p sound log resumes c
@@ -65,7 +69,7 @@ module _ {M S : Type 0} (view : M → MediumView) (seen : S → RingView M) (p q
 
   -- ---- reads
 
-  module _ (bytes : List ℕ) (long : length bytes ≡ 256 * k) (some : 1 ≤ k) where
+  module _ (bytes : List ℕ) (long : length bytes ≡ 256 * k) (some : 1 ≤ k) (places : PlacesKept r s) where
     pub fetched_at : {T : Type 0} (x : T) (mid new : LoopView M) (good : Bool) (m : ℕ) → good ≡ true → m ≡ length bytes → mid ≡ record old { control = Nowhere } → new ≡ record mid { control = AtIdle s } → ReadAs view d first bytes good r s → spare_of r ≤ spare_of s + (33 + m)
         → FetchedRun first k bytes (view_of view seen p old) (view_of view seen q new) (Ok x)
     unfolding done_left
@@ -73,7 +77,7 @@ module _ {M S : Type 0} (view : M → MediumView) (seen : S → RingView M) (p q
         left_as view seen q old mid new done_left taken left (λ w. FetchedRun first k bytes (view_of view seen p old) w (Ok x))
         (subst (λ (b : Bool). FetchedRun first k bytes (view_of view seen p old) (view_at view seen q b old.since old.resumes (AtIdle s)) (Ok x)) (sym begin.sound_is)
         (subst (λ (v : RecordsView (Option S)). FetchedRun first k bytes v (view_at view seen q true old.since old.resumes (AtIdle s)) (Ok x)) before
-        (fetched view seen p q old.since old.resumes k first bytes r s begin.idle begin.alive long some x (subst (λ d. ReadAs view d first bytes true r s) party (subst (λ (b : Bool). ReadAs view d first bytes b r s) is read)) (subst (λ m. spare_of r ≤ spare_of s + (33 + m)) all used))))
+        (fetched view seen p q old.since old.resumes k first bytes r s begin.idle begin.alive long some (may_poll_kept r s places begin.may) x (subst (λ d. ReadAs view d first bytes true r s) party (subst (λ (b : Bool). ReadAs view d first bytes b r s) is read)) (subst (λ m. spare_of r ≤ spare_of s + (33 + m)) all used))))
 
     pub not_fetched_at : {T : Type 0} (e : Trouble) (mid new : LoopView M) (good : Bool) (m : ℕ) → good ≡ false → m ≡ length bytes → e ≡ trouble.Medium → mid ≡ record old { control = Nowhere } → new ≡ record mid { control = AtIdle s; sound = false; since = since_medium mid.since }
         → ReadAs view d first bytes good r s → spare_of r ≤ spare_of s + (33 + m) → FetchedRun {T = T} first k bytes (view_of view seen p old) (view_of view seen q new) (Err e)
@@ -82,7 +86,7 @@ module _ {M S : Type 0} (view : M → MediumView) (seen : S → RingView M) (p q
         subst (λ (e : Trouble). FetchedRun {T = T} first k bytes (view_of view seen p old) (view_of view seen q new) (Err e)) (sym is)
         (left_as view seen q old mid new medium_left taken left (λ w. FetchedRun {T = T} first k bytes (view_of view seen p old) w (Err trouble.Medium))
         (subst (λ (v : RecordsView (Option S)). FetchedRun {T = T} first k bytes v (view_at view seen q false (since_medium old.since) old.resumes (AtIdle s)) (Err trouble.Medium)) before
-        (not_fetched view seen p q old.since old.resumes k first bytes r s begin.idle begin.alive long some (subst (λ d. ReadAs view d first bytes false r s) party (subst (λ (b : Bool). ReadAs view d first bytes b r s) bad read)) (subst (λ m. spare_of r ≤ spare_of s + (33 + m)) all used))))
+        (not_fetched view seen p q old.since old.resumes k first bytes r s begin.idle begin.alive long some (may_poll_kept r s places begin.may) (subst (λ d. ReadAs view d first bytes false r s) party (subst (λ (b : Bool). ReadAs view d first bytes b r s) bad read)) (subst (λ m. spare_of r ≤ spare_of s + (33 + m)) all used))))
 
     pub broke_fetching_at : {T : Type 0} (e : Trouble) (mid new : LoopView M) (m : ℕ) → m ≡ length bytes → e ≡ trouble.Frame → mid ≡ record old { control = Nowhere } → new ≡ record mid { control = AtLost s; sound = false; since = since_frame mid.since }
         → ReadBroke view d r s → spare_of r ≤ spare_of s + (34 + m) → FetchedRun {T = T} first k bytes (view_of view seen p old) (view_of view seen q new) (Err e)
@@ -91,11 +95,11 @@ module _ {M S : Type 0} (view : M → MediumView) (seen : S → RingView M) (p q
         subst (λ (e : Trouble). FetchedRun {T = T} first k bytes (view_of view seen p old) (view_of view seen q new) (Err e)) (sym is)
         (left_as view seen q old mid new frame_left taken left (λ w. FetchedRun {T = T} first k bytes (view_of view seen p old) w (Err trouble.Frame))
         (subst (λ (v : RecordsView (Option S)). FetchedRun {T = T} first k bytes v (view_at view seen q false (since_frame old.since) old.resumes (AtLost s)) (Err trouble.Frame)) before
-        (broke_fetching view seen p q old.since old.resumes k first bytes r s begin.idle begin.alive long some (subst (λ d. ReadBroke view d r s) party broke) (subst (λ m. spare_of r ≤ spare_of s + (34 + m)) all used))))
+        (broke_fetching view seen p q old.since old.resumes k first bytes r s begin.idle begin.alive long some (may_poll_kept r s places begin.may) (subst (λ d. ReadBroke view d r s) party broke) (subst (λ m. spare_of r ≤ spare_of s + (34 + m)) all used))))
 
   -- ---- writes
 
-  module _ (pieces : List (List ℕ)) (many : length pieces ≡ k) (some : 1 ≤ k) where
+  module _ (pieces : List (List ℕ)) (many : length pieces ≡ k) (some : 1 ≤ k) (places : PlacesKept r s) where
     pub stored_at : {T : Type 0} (x : T) (mid new : LoopView M) (good : Bool) → good ≡ true → mid ≡ record old { control = Nowhere } → new ≡ record mid { control = AtIdle s } → WroteAs view d first pieces good r s → spare_of r ≤ spare_of s + (27 + 256 * k)
         → StoredRun first pieces (view_of view seen p old) (view_of view seen q new) (Ok x)
     unfolding done_left
@@ -103,7 +107,7 @@ module _ {M S : Type 0} (view : M → MediumView) (seen : S → RingView M) (p q
         left_as view seen q old mid new done_left taken left (λ w. StoredRun first pieces (view_of view seen p old) w (Ok x))
         (subst (λ (b : Bool). StoredRun first pieces (view_of view seen p old) (view_at view seen q b old.since old.resumes (AtIdle s)) (Ok x)) (sym begin.sound_is)
         (subst (λ (v : RecordsView (Option S)). StoredRun first pieces v (view_at view seen q true old.since old.resumes (AtIdle s)) (Ok x)) before
-        (stored view seen p q old.since old.resumes k first pieces r s begin.idle begin.alive many some x (subst (λ d. WroteAs view d first pieces true r s) party (subst (λ (b : Bool). WroteAs view d first pieces b r s) is wrote)) used)))
+        (stored view seen p q old.since old.resumes k first pieces r s begin.idle begin.alive many some (may_poll_kept r s places begin.may) x (subst (λ d. WroteAs view d first pieces true r s) party (subst (λ (b : Bool). WroteAs view d first pieces b r s) is wrote)) used)))
 
     pub not_stored_at : {T : Type 0} (e : Trouble) (mid new : LoopView M) (good : Bool) → good ≡ false → e ≡ trouble.Medium → mid ≡ record old { control = Nowhere } → new ≡ record mid { control = AtIdle s; sound = false; since = since_medium mid.since }
         → WroteAs view d first pieces good r s → spare_of r ≤ spare_of s + (27 + 256 * k) → StoredRun {T = T} first pieces (view_of view seen p old) (view_of view seen q new) (Err e)
@@ -112,7 +116,7 @@ module _ {M S : Type 0} (view : M → MediumView) (seen : S → RingView M) (p q
         subst (λ (e : Trouble). StoredRun {T = T} first pieces (view_of view seen p old) (view_of view seen q new) (Err e)) (sym is)
         (left_as view seen q old mid new medium_left taken left (λ w. StoredRun {T = T} first pieces (view_of view seen p old) w (Err trouble.Medium))
         (subst (λ (v : RecordsView (Option S)). StoredRun {T = T} first pieces v (view_at view seen q false (since_medium old.since) old.resumes (AtIdle s)) (Err trouble.Medium)) before
-        (not_stored view seen p q old.since old.resumes k first pieces r s begin.idle begin.alive many some (subst (λ d. WroteAs view d first pieces false r s) party (subst (λ (b : Bool). WroteAs view d first pieces b r s) bad wrote)) used)))
+        (not_stored view seen p q old.since old.resumes k first pieces r s begin.idle begin.alive many some (may_poll_kept r s places begin.may) (subst (λ d. WroteAs view d first pieces false r s) party (subst (λ (b : Bool). WroteAs view d first pieces b r s) bad wrote)) used)))
 
     pub broke_storing_at : {T : Type 0} (e : Trouble) (mid new : LoopView M) → e ≡ trouble.Frame → mid ≡ record old { control = Nowhere } → new ≡ record mid { control = AtLost s; sound = false; since = since_frame mid.since }
         → WriteBroke view d first pieces r s → spare_of r ≤ spare_of s + (28 + 256 * k) → StoredRun {T = T} first pieces (view_of view seen p old) (view_of view seen q new) (Err e)
@@ -121,7 +125,7 @@ module _ {M S : Type 0} (view : M → MediumView) (seen : S → RingView M) (p q
         subst (λ (e : Trouble). StoredRun {T = T} first pieces (view_of view seen p old) (view_of view seen q new) (Err e)) (sym is)
         (left_as view seen q old mid new frame_left taken left (λ w. StoredRun {T = T} first pieces (view_of view seen p old) w (Err trouble.Frame))
         (subst (λ (v : RecordsView (Option S)). StoredRun {T = T} first pieces v (view_at view seen q false (since_frame old.since) old.resumes (AtLost s)) (Err trouble.Frame)) before
-        (broke_storing view seen p q old.since old.resumes k first pieces r s begin.idle begin.alive many some (subst (λ d. WriteBroke view d first pieces r s) party broke) used)))
+        (broke_storing view seen p q old.since old.resumes k first pieces r s begin.idle begin.alive many some (may_poll_kept r s places begin.may) (subst (λ d. WriteBroke view d first pieces r s) party broke) used)))
 
 -- ---- one record
 

@@ -22,7 +22,7 @@ use Rattle.il_control.specs.Calls.{IsFree, loop_of}
 use Rattle.il_record.specs.declared.records.Since.{Since}
 use Rattle.il_record.specs.declared.records.Since.TheVariants as since
 use Rattle.il_record.specs.Came.{OnlyHeard, CameBy, CameUnits}
-use Rattle.il_record.specs.LoopStores.{all_good, Stood, Transferred, calls_in, crossed_hops, is_broken, since_frame, since_medium}
+use Rattle.il_record.specs.LoopStores.{all_good, Stood, StoodBy, Transferred, calls_in, crossed_hops, is_broken, since_frame, since_medium, since_said}
 use Rattle.il_record.specs.Talks.{Talked, all_entries}
 use Rattle.il_record.proofs.Heard.{others_then}
 use Rattle.il_record.proofs.Talks.{talked_then, same_loop}
@@ -83,40 +83,66 @@ first_whole {M} view good us start r s same units is unheard =
 -- exchanges whose units all have status 0
 pub stood_whole : {M : Type 0} (view : M → MediumView) (log : Since) (us : List RecordUnit) (start r s : RingView M) → Stood view log start r → is_broken log ≡ false → CameUnits view true us r s → all_good us ≡ true → OnlyHeard (drive_party r) r s → Stood view log start s
 stood_whole view since.Unbroken us start r s stood alive units good unheard = ⊎_elim
-    (λ same. let first = first_whole view true us start r s same units good unheard in record { free = stood.free; unheard = first.1; by = inr first.0 })
-    (λ so. record { free = stood.free; unheard = heard view start r s stood.unheard unheard so.0; by = inr (then_whole view true true us start r s stood.free so.0 so.1 units good) })
+    (λ same. let first = first_whole view true us start r s same units good unheard in record { free = stood.free; unheard = λ none. first.1; by = inr first.0 })
+    (λ so. record { free = stood.free; unheard = λ none. heard view start r s (stood.unheard refl) unheard so.0; by = inr (then_whole view true true us start r s stood.free so.0 so.1 units good) })
     stood.by
 stood_whole view since.Failed us start r s stood alive units good unheard = record {
   free = stood.free;
-  unheard = heard view start r s stood.unheard unheard stood.by.0;
+  unheard = λ none. heard view start r s (stood.unheard refl) unheard stood.by.0;
   by = then_whole view false true us start r s stood.free stood.by.0 stood.by.1 units good;
 }
+stood_whole view since.Said us start r s stood alive units good unheard = record { free = stood.free; unheard = λ none. cc; by = came_then view true start r s stood.free stood.by units.came }
 stood_whole view since.Broken us start r s stood alive units good unheard = cc
+stood_whole view since.SaidBroken us start r s stood alive units good unheard = cc
 stood_whole view since.Mended us start r s stood alive units good unheard = absurd stood.by
 
 -- a unit that has another status
 pub stood_medium : {M : Type 0} (view : M → MediumView) (log : Since) (us : List RecordUnit) (start r s : RingView M) → Stood view log start r → is_broken log ≡ false → CameUnits view true us r s → all_good us ≡ false → OnlyHeard (drive_party r) r s → Stood view (since_medium log) start s
 stood_medium view since.Unbroken us start r s stood alive units bad unheard = ⊎_elim
-    (λ same. let first = first_whole view false us start r s same units bad unheard in record { free = stood.free; unheard = first.1; by = first.0 })
-    (λ so. record { free = stood.free; unheard = heard view start r s stood.unheard unheard so.0; by = then_whole view true false us start r s stood.free so.0 so.1 units bad })
+    (λ same. let first = first_whole view false us start r s same units bad unheard in record { free = stood.free; unheard = λ none. first.1; by = first.0 })
+    (λ so. record { free = stood.free; unheard = λ none. heard view start r s (stood.unheard refl) unheard so.0; by = then_whole view true false us start r s stood.free so.0 so.1 units bad })
     stood.by
 stood_medium view since.Failed us start r s stood alive units bad unheard = record {
   free = stood.free;
-  unheard = heard view start r s stood.unheard unheard stood.by.0;
+  unheard = λ none. heard view start r s (stood.unheard refl) unheard stood.by.0;
   by = then_whole view false false us start r s stood.free stood.by.0 stood.by.1 units bad;
 }
+stood_medium view since.Said us start r s stood alive units bad unheard = record { free = stood.free; unheard = λ none. cc; by = came_then view true start r s stood.free stood.by units.came }
 stood_medium view since.Broken us start r s stood alive units bad unheard = cc
+stood_medium view since.SaidBroken us start r s stood alive units bad unheard = cc
 stood_medium view since.Mended us start r s stood alive units bad unheard = absurd stood.by
 
 -- an exchange that was broken off
 pub stood_frame : {M : Type 0} (view : M → MediumView) (log : Since) (start r s : RingView M) → Stood view log start r → is_broken log ≡ false → CameBy view false r s → OnlyHeard (drive_party r) r s → Stood view (since_frame log) start s
 stood_frame {M} view since.Unbroken start r s stood alive came unheard = ⊎_elim
-    (λ same. subst (λ (r : RingView M). IsFree r → Stood view since.Broken r s) same (λ free. record { free = free; unheard = unheard; by = came }) stood.free)
-    (λ so. record { free = stood.free; unheard = heard view start r s stood.unheard unheard so.0; by = came_then view false start r s stood.free so.0 came })
+    (λ same. subst (λ (r : RingView M). IsFree r → Stood view since.Broken r s) same (λ free. record { free = free; unheard = λ none. unheard; by = came }) stood.free)
+    (λ so. record { free = stood.free; unheard = λ none. heard view start r s (stood.unheard refl) unheard so.0; by = came_then view false start r s stood.free so.0 came })
     stood.by
-stood_frame view since.Failed start r s stood alive came unheard = record { free = stood.free; unheard = heard view start r s stood.unheard unheard stood.by.0; by = came_then view false start r s stood.free stood.by.0 came }
+stood_frame view since.Failed start r s stood alive came unheard = record { free = stood.free; unheard = λ none. heard view start r s (stood.unheard refl) unheard stood.by.0; by = came_then view false start r s stood.free stood.by.0 came }
+stood_frame view since.Said start r s stood alive came unheard = record { free = stood.free; unheard = λ none. cc; by = came_then view false start r s stood.free stood.by came }
 stood_frame view since.Broken start r s stood alive came unheard = cc
+stood_frame view since.SaidBroken start r s stood alive came unheard = cc
 stood_frame view since.Mended start r s stood alive came unheard = absurd stood.by
+
+-- bytes for another device, sent whole or in part
+said_by : {M : Type 0} (view : M → MediumView) (whole : Bool) (start r s : RingView M) → IsFree start → StoodBy view since.Unbroken start r → CameBy view whole r s → CameBy view whole start s
+said_by {M} view whole start r s free by came = ⊎_elim (λ same. subst (λ (r : RingView M). CameBy view whole r s) same came) (λ so. came_then view whole start r s free so.0 came) by
+
+pub stood_said : {M : Type 0} (view : M → MediumView) (log : Since) (start r s : RingView M) → Stood view log start r → is_broken log ≡ false → CameBy view true r s → Stood view (since_said log) start s
+stood_said view since.Unbroken start r s stood alive came = record { free = stood.free; unheard = λ none. cc; by = said_by view true start r s stood.free stood.by came }
+stood_said view since.Failed start r s stood alive came = record { free = stood.free; unheard = λ none. cc; by = came_then view true start r s stood.free stood.by.0 came }
+stood_said view since.Said start r s stood alive came = record { free = stood.free; unheard = λ none. cc; by = came_then view true start r s stood.free stood.by came }
+stood_said view since.Broken start r s stood alive came = cc
+stood_said view since.SaidBroken start r s stood alive came = cc
+stood_said view since.Mended start r s stood alive came = absurd stood.by
+
+pub stood_not_said : {M : Type 0} (view : M → MediumView) (log : Since) (start r s : RingView M) → Stood view log start r → is_broken log ≡ false → CameBy view false r s → Stood view (since_frame (since_said log)) start s
+stood_not_said view since.Unbroken start r s stood alive came = record { free = stood.free; unheard = λ none. cc; by = said_by view false start r s stood.free stood.by came }
+stood_not_said view since.Failed start r s stood alive came = record { free = stood.free; unheard = λ none. cc; by = came_then view false start r s stood.free stood.by.0 came }
+stood_not_said view since.Said start r s stood alive came = record { free = stood.free; unheard = λ none. cc; by = came_then view false start r s stood.free stood.by came }
+stood_not_said view since.Broken start r s stood alive came = cc
+stood_not_said view since.SaidBroken start r s stood alive came = cc
+stood_not_said view since.Mended start r s stood alive came = absurd stood.by
 
 -- ---- the list of transfers
 

@@ -1,5 +1,5 @@
 -- Emptying and resuming a store over the loop, whatever its controller.
-use Rattle.std.proofs.Common.{◌≡◌, ◌∙◌, ◌≤◌, ◌+◌, ◌++◌, ℕ, Bool, true, false, [], Option, refl, sym, ap, subst, arith}
+use Rattle.std.proofs.Common.{◌≡◌, ◌∙◌, ◌≤◌, ◌+◌, ◌++◌, ℕ, Bool, true, false, List, [], Option, refl, sym, ap, subst, arith}
 use Rattle.std.specs.Prelude.{Result, Ok, Err, IsErr, min}
 use Rattle.std.specs.Result.{IsErrAnd}
 use Rattle.il_ports.specs.declared.records.Trouble.{Trouble}
@@ -9,7 +9,7 @@ use Rattle.il_ports.specs.Stores.{RecordsView, Begun, Resumed}
 use Rattle.il_drive.proofs.Exchanges.{IsFree}
 use Rattle.il_drive.proofs.Reading.{nothing_read}
 use Rattle.il_drive.specs.Steps.{IsStill}
-use Rattle.il_ring.specs.Rings.{RingView, drive_party, spare_of}
+use Rattle.il_ring.specs.Rings.{RingView, devices_of, drive_party, spare_of}
 use Rattle.il_control.specs.Calls.{IsFree as IsFreeRing, IsIdle, IsLost}
 use Rattle.il_control.proofs.Made.{idle_cleared, lost_cleared}
 use Rattle.il_record.specs.declared.records.Since.{Since}
@@ -20,7 +20,11 @@ use Rattle.il_record.specs.declared.records.Control.TheVariants as control_is
 use Rattle.il_record.specs.Controls.{ring_in, standing_of}
 use Rattle.il_record.specs.Came.{OnlyHeard, CameUnits}
 use Rattle.il_record.specs.LoopStores.{LoopView, Standing, AtIdle, AtLost, Nowhere, Addresses, is_broken, is_unbroken, log_emptied, most_resumes, since_frame, since_more, view_at, view_of, with_empty_log}
-use Rattle.il_record.specs.Runs.{Cleared, Interrupted, Readied}
+use Rattle.il_ring.specs.Lists.{Each}
+use Rattle.il_record.specs.Asks.{Ask}
+use Rattle.il_record.specs.Polls.{MayPoll}
+use Rattle.il_record.specs.Runs.{Cleared, Interrupted, Readied, clear_asks}
+use Rattle.il_record.proofs.Places.{may_poll_kept}
 use Rattle.il_record.proofs.ReadRuns.{leaves_then, leaves_same}
 use Rattle.il_record.proofs.StoreCalls.{came_then, came_then_units, heard_then}
 use Rattle.il_record.proofs.StoreStarts.{IsStart, begun, resumed_ok, resumed_not, resumed_sound}
@@ -40,8 +44,8 @@ Agrees seen p Nowhere = Unit {0}
 
 begun_by : {M S : Type 0} (view : M → MediumView) (seen : S → RingView M) (p q : Option S) (sound : Bool) (log : Since) (resumes : ℕ) (c : Standing M) → (view_at view seen p sound log resumes c).valid → Agrees seen p c → Agrees seen q (with_empty_log c)
     → Begun (view_at view seen p sound log resumes c) (view_at view seen q sound since.Unbroken 0 (with_empty_log c))
-begun_by view seen p q sound log resumes (AtIdle r) valid here there = begun view seen p q sound log resumes _ _ r valid.0.free here there (idle_cleared r valid.0, valid.1, refl)
-begun_by view seen p q sound log resumes (AtLost r) valid here there = begun view seen p q sound log resumes _ _ r valid.0.free here there (lost_cleared r valid.0, valid.1)
+begun_by view seen p q sound log resumes (AtIdle r) valid here there = begun view seen p q sound log resumes _ _ r valid.0.free here there (idle_cleared r valid.0, valid.1, refl, valid.3)
+begun_by view seen p q sound log resumes (AtLost r) valid here there = begun view seen p q sound log resumes _ _ r valid.0.free here there (lost_cleared r valid.0, valid.1, valid.2)
 begun_by view seen p q sound log resumes Nowhere valid here there = absurd valid
 
 pub begun_at : {M S : Type 0} (view : M → MediumView) (seen : S → RingView M) (p q : Option S) (old new : LoopView M) → new ≡ log_emptied old → (view_of view seen p old).valid → Agrees seen p old.control → Agrees seen q new.control
@@ -60,29 +64,37 @@ agrees seen control_is.Gone = tt
 same_idle : {M : Type 0} {r s : RingView M} → AtIdle r ≡ AtIdle s → r ≡ s
 same_idle is = cc
 
-alive_more : (log : Since) → is_broken (since_more log) ≡ false
+pub alive_more : (log : Since) → is_broken (since_more log) ≡ false
 alive_more since.Unbroken = refl
 alive_more since.Failed = refl
 alive_more since.Broken = refl
 alive_more since.Mended = refl
+alive_more since.Said = refl
+alive_more since.SaidBroken = refl
 
-more_same : (log : Since) → is_unbroken log ≡ true → since_more log ≡ log
+pub more_same : (log : Since) → is_unbroken log ≡ true → since_more log ≡ log
 more_same since.Unbroken is = refl
 more_same since.Failed is = cc
 more_same since.Broken is = cc
 more_same since.Mended is = cc
+more_same since.Said is = cc
+more_same since.SaidBroken is = cc
 
 frame_broken : (log : Since) → is_unbroken log ≡ true → since_frame log ≡ since.Broken
 frame_broken since.Unbroken is = refl
 frame_broken since.Failed is = cc
 frame_broken since.Broken is = cc
 frame_broken since.Mended is = cc
+frame_broken since.Said is = cc
+frame_broken since.SaidBroken is = cc
 
 frame_more : (log : Since) → is_unbroken log ≡ true → since_frame (since_more log) ≡ since.Broken
 frame_more since.Unbroken is = refl
 frame_more since.Failed is = cc
 frame_more since.Broken is = cc
 frame_more since.Mended is = cc
+frame_more since.Said is = cc
+frame_more since.SaidBroken is = cc
 
 -- two steps that move no record are one
 units_then : {M : Type 0} (view : M → MediumView) (whole : Bool) (r m s : RingView M) → IsFreeRing r → CameUnits view true [] r m → CameUnits view whole [] m s → CameUnits view whole [] r s
@@ -91,47 +103,47 @@ units_then view whole r m s free first more = record {
   are = came_then_units view whole r m s free first.came more.came ∙ (λ i. first.are i ++ more.are i);
 }
 
-party_same : {M : Type 0} (view : M → MediumView) (r m : RingView M) → CameUnits view true [] r m → drive_party m ≡ drive_party r
+pub party_same : {M : Type 0} (view : M → MediumView) (r m : RingView M) → CameUnits view true [] r m → drive_party m ≡ drive_party r
 party_same view r m units = ap (λ n. n + 1) units.came.talked.adds.before
 
-still_of : {M : Type 0} (view : M → MediumView) (r s : RingView M) → s.drive.medium ≡ r.drive.medium → IsStill (view r.drive.medium) (view s.drive.medium)
+pub still_of : {M : Type 0} (view : M → MediumView) (r s : RingView M) → s.drive.medium ≡ r.drive.medium → IsStill (view r.drive.medium) (view s.drive.medium)
 still_of view r s same = subst (λ m. IsStill (view r.drive.medium) (view m)) (sym same) (nothing_read (view r.drive.medium)).still
 
-count_of : {M : Type 0} (view : M → MediumView) (r s : RingView M) → s.drive.medium ≡ r.drive.medium → (view s.drive.medium).faults ≡ (view r.drive.medium).faults
+pub count_of : {M : Type 0} (view : M → MediumView) (r s : RingView M) → s.drive.medium ≡ r.drive.medium → (view s.drive.medium).faults ≡ (view r.drive.medium).faults
 count_of view r s same = ap (λ m. (view m).faults) same
 
 module _ {M S : Type 0} (view : M → MediumView) (seen : S → RingView M) (p q : Option S) (log : Since) (resumes more : ℕ) (counted : more ≡ min (resumes + 1) most_resumes) where
   -- from an idle controller: the drive was cleared
-  cleared_idle : {T : Type 0} (x : T) (r s : RingView M) → IsIdle r → is_broken log ≡ false → Cleared view (drive_party r) r s → spare_of r ≤ spare_of s + 6
+  cleared_idle : {T : Type 0} (x : T) (r s : RingView M) → IsIdle r → is_broken log ≡ false → Each MayPoll 1 (devices_of r) → Cleared view (drive_party r) r s → spare_of r ≤ spare_of s + 6
       → Resumed (view_at view seen p false log resumes (AtIdle r)) (view_at view seen q true log more (AtIdle s)) (Ok x)
-  cleared_idle x r s idle alive done used =
-      resumed_ok view seen p q _ log resumes more 6 r s idle.free done.unheard used (omega arith) (still_of view r s done.medium) counted x log done.came (subst (λ d. IsFree d s.drive.state) (sym (party_same view r s done.came)) done.rests.free) (count_of view r s done.medium) alive (λ unbroken. refl)
+  cleared_idle x r s idle alive may done used =
+      resumed_ok view seen p q _ log resumes more 6 r s idle.free done.unheard used (omega arith) (still_of view r s done.medium) counted (may_poll_kept r s done.places may) x log done.came.units (subst (λ d. IsFree d s.drive.state) (sym (party_same view r s done.came.units)) done.rests.free) (count_of view r s done.medium) alive (λ unbroken. refl)
 
-  broke_idle : {T : Type 0} (r s : RingView M) → IsIdle r → Interrupted view (drive_party r) r s → spare_of r ≤ spare_of s + 7
+  broke_idle : {T : Type 0} (asks : List Ask) (r s : RingView M) → IsIdle r → Each MayPoll 1 (devices_of r) → Interrupted view asks (drive_party r) r s → spare_of r ≤ spare_of s + 7
       → Resumed {T = T} (view_at view seen p false log resumes (AtIdle r)) (view_at view seen q false (since_frame log) more (AtLost s)) (Err trouble.Frame)
-  broke_idle r s idle not used = resumed_not view seen p q _ log resumes more 7 r s idle.free not.unheard used (omega arith) not.drive.still counted (since_frame log) not.came not.drive.count (frame_broken log)
+  broke_idle asks r s idle may not used = resumed_not view seen p q _ log resumes more 7 r s idle.free not.unheard used (omega arith) not.drive.still counted (may_poll_kept r s not.places may) (since_frame log) not.came.units not.drive.count (frame_broken log)
 
   -- from a lost one: the loop was addressed first
-  cleared_lost : {T : Type 0} (x : T) (r m s : RingView M) → IsLost r → Readied view r m → spare_of r ≤ spare_of m + 5 → Cleared view (drive_party m) m s → spare_of m ≤ spare_of s + 6
+  cleared_lost : {T : Type 0} (x : T) (r m s : RingView M) → IsLost r → Each MayPoll 1 (devices_of r) → Readied view r m → spare_of r ≤ spare_of m + 5 → Cleared view (drive_party m) m s → spare_of m ≤ spare_of s + 6
       → Resumed (view_at view seen p false log resumes (AtLost r)) (view_at view seen q true (since_more log) more (AtIdle s)) (Ok x)
-  cleared_lost x r m s lost ready first done used =
-      let party = party_same view r m ready.came in
+  cleared_lost x r m s lost may ready first done used =
+      let party = party_same view r m ready.came.units in
       let medium = done.medium ∙ ready.medium in
-      let units = units_then view true r m s lost.free ready.came done.came in
-      resumed_ok view seen p q _ log resumes more 11 r s lost.free (heard_then (drive_party r) r m s ready.unheard (subst (λ d. OnlyHeard d m s) party done.unheard)) (omega (arith, first, used)) (omega arith) (still_of view r s medium) counted x (since_more log) units
-      (subst (λ d. IsFree d s.drive.state) (sym (party_same view m s done.came)) done.rests.free) (count_of view r s medium) (alive_more log) (more_same log)
+      let units = units_then view true r m s lost.free ready.came.units done.came.units in
+      resumed_ok view seen p q _ log resumes more 11 r s lost.free (heard_then (drive_party r) r m s ready.unheard (subst (λ d. OnlyHeard d m s) party done.unheard)) (omega (arith, first, used)) (omega arith) (still_of view r s medium) counted (may_poll_kept m s done.places (may_poll_kept r m ready.places may)) x (since_more log) units
+      (subst (λ d. IsFree d s.drive.state) (sym (party_same view m s done.came.units)) done.rests.free) (count_of view r s medium) (alive_more log) (more_same log)
 
-  broke_lost : {T : Type 0} (r m s : RingView M) → IsLost r → Readied view r m → spare_of r ≤ spare_of m + 5 → Interrupted view (drive_party m) m s → spare_of m ≤ spare_of s + 7
+  broke_lost : {T : Type 0} (asks : List Ask) (r m s : RingView M) → IsLost r → Each MayPoll 1 (devices_of r) → Readied view r m → spare_of r ≤ spare_of m + 5 → Interrupted view asks (drive_party m) m s → spare_of m ≤ spare_of s + 7
       → Resumed {T = T} (view_at view seen p false log resumes (AtLost r)) (view_at view seen q false (since_frame (since_more log)) more (AtLost s)) (Err trouble.Frame)
-  broke_lost r m s lost ready first not used =
-      let party = party_same view r m ready.came in
+  broke_lost asks r m s lost may ready first not used =
+      let party = party_same view r m ready.came.units in
       let left = leaves_then view r.drive m.drive s.drive (leaves_same view r.drive m.drive ready.medium) not.drive in
-      resumed_not view seen p q _ log resumes more 12 r s lost.free (heard_then (drive_party r) r m s ready.unheard (subst (λ d. OnlyHeard d m s) party not.unheard)) (omega (arith, first, used)) (omega arith) left.still counted (since_frame (since_more log))
-      (units_then view false r m s lost.free ready.came not.came) left.count (frame_more log)
+      resumed_not view seen p q _ log resumes more 12 r s lost.free (heard_then (drive_party r) r m s ready.unheard (subst (λ d. OnlyHeard d m s) party not.unheard)) (omega (arith, first, used)) (omega arith) left.still counted (may_poll_kept m s not.places (may_poll_kept r m ready.places may)) (since_frame (since_more log))
+      (units_then view false r m s lost.free ready.came.units not.came.units) left.count (frame_more log)
 
-  broke_ready : {T : Type 0} (r s : RingView M) → IsLost r → Interrupted view (drive_party r) r s → spare_of r ≤ spare_of s + 6
+  broke_ready : {T : Type 0} (asks : List Ask) (r s : RingView M) → IsLost r → Each MayPoll 1 (devices_of r) → Interrupted view asks (drive_party r) r s → spare_of r ≤ spare_of s + 6
       → Resumed {T = T} (view_at view seen p false log resumes (AtLost r)) (view_at view seen q false (since_frame log) more (AtLost s)) (Err trouble.Frame)
-  broke_ready r s lost not used = resumed_not view seen p q _ log resumes more 6 r s lost.free not.unheard used (omega arith) not.drive.still counted (since_frame log) not.came not.drive.count (frame_broken log)
+  broke_ready asks r s lost may not used = resumed_not view seen p q _ log resumes more 6 r s lost.free not.unheard used (omega arith) not.drive.still counted (may_poll_kept r s not.places may) (since_frame log) not.came.units not.drive.count (frame_broken log)
 
 -- ---- by what `ready` did
 
@@ -148,7 +160,7 @@ module _ {M S : Type 0} (view : M → MediumView) (seen : S → RingView M) (p q
       let left : new ≡ record { control = AtLost not.ring; sound = false; since = since_frame log; resumes = more } = not.left ∙ ap (λ (l : LoopView M). record l { control = AtLost not.ring; sound = false; since = since_frame l.since }) is in
       subst (λ (l : LoopView M). Resumed {T = T} (view_at view seen p false log resumes (AtLost r)) (view_of view seen q l) (Err e)) (sym left)
       (subst (λ (e : Trouble). Resumed {T = T} (view_at view seen p false log resumes (AtLost r)) (view_at view seen q false (since_frame log) more (AtLost not.ring)) (Err e)) (sym so.0)
-      (broke_ready view seen p q log resumes more counted r not.ring valid.0 not.interrupted not.used))
+      (broke_ready view seen p q log resumes more counted _ r not.ring valid.0 valid.2 not.interrupted not.used))
   ready_not_by {T} Nowhere log resumes old new e counted is valid so = absurd so
 
   -- where `ready` answered Ok, the controller is idle: as before, or addressed
@@ -160,28 +172,28 @@ module _ {M S : Type 0} (view : M → MediumView) (seen : S → RingView M) (p q
       let cleared_r : Cleared view (drive_party r) r s = subst (λ (r : RingView M). Cleared view (drive_party r) r s) (sym same) (subst (λ d. Cleared view d m s) party done) in
       let used_r : spare_of r ≤ spare_of s + 6 = subst (λ (r : RingView M). spare_of r ≤ spare_of s + 6) (sym same) used in
       subst (λ (l : LoopView M). Resumed (view_at view seen p false log resumes (AtIdle r)) (view_at view seen q true l.since l.resumes (AtIdle s)) (Ok x)) (sym ready_is)
-      (cleared_idle view seen p q log resumes more counted x r s valid.0 valid.2 cleared_r used_r)
+      (cleared_idle view seen p q log resumes more counted x r s valid.0 valid.2 valid.3 cleared_r used_r)
   ready_done_by {T} x y (AtLost r) log resumes d old ready m s counted is valid so at party done used =
       let ready_is : ready ≡ record { control = AtIdle so.ring; sound = false; since = since_more log; resumes = more } = so.left ∙ ap (λ (l : LoopView M). record l { control = AtIdle so.ring; since = since_more l.since }) is in
       let same : so.ring ≡ m = same_idle (sym (ap (λ (l : LoopView M). l.control) ready_is) ∙ at) in
       let readied : Readied view r m = subst (λ (m : RingView M). Readied view r m) same so.readied in
       let used_m : spare_of r ≤ spare_of m + 5 = subst (λ (m : RingView M). spare_of r ≤ spare_of m + 5) same so.used in
       subst (λ (l : LoopView M). Resumed (view_at view seen p false log resumes (AtLost r)) (view_at view seen q true l.since l.resumes (AtIdle s)) (Ok x)) (sym ready_is)
-      (cleared_lost view seen p q log resumes more counted x r m s valid.0 readied used_m (subst (λ d. Cleared view d m s) party done) used)
+      (cleared_lost view seen p q log resumes more counted x r m s valid.0 valid.2 readied used_m (subst (λ d. Cleared view d m s) party done) used)
   ready_done_by {T} x y Nowhere log resumes d old ready m s counted is valid so at party done used = absurd so
 
   ready_broke_by : {T U : Type 0} (y : U) (c : Standing M) (log : Since) (resumes d : ℕ) (old ready mid new : LoopView M) (m s : RingView M) (e : Trouble) → more ≡ min (resumes + 1) most_resumes → old ≡ record { control = c; sound = false; since = log; resumes = more }
       → (view_at view seen p false log resumes c).valid → Addresses view c old ready (Ok y) → ready.control ≡ AtIdle m → mid ≡ record ready { control = Nowhere } → new ≡ record mid { control = AtLost s; sound = false; since = since_frame mid.since } → e ≡ trouble.Frame
-      → d ≡ drive_party m → Interrupted view d m s → spare_of m ≤ spare_of s + 7 → Resumed {T = T} (view_at view seen p false log resumes c) (view_of view seen q new) (Err e)
+      → d ≡ drive_party m → Interrupted view (clear_asks d) d m s → spare_of m ≤ spare_of s + 7 → Resumed {T = T} (view_at view seen p false log resumes c) (view_of view seen q new) (Err e)
   ready_broke_by {T} y (AtIdle r) log resumes d old ready mid new m s e counted is valid so at taken left frame party not used =
       let ready_is : ready ≡ record { control = AtIdle r; sound = false; since = log; resumes = more } = so ∙ is in
       let same : r ≡ m = same_idle (sym (ap (λ (l : LoopView M). l.control) ready_is) ∙ at) in
       let new_is : new ≡ record { control = AtLost s; sound = false; since = since_frame log; resumes = more } = left ∙ ap (λ (l : LoopView M). record l { control = AtLost s; sound = false; since = since_frame l.since }) (taken ∙ ap (λ (l : LoopView M). record l { control = Nowhere }) ready_is) in
-      let not_r : Interrupted view (drive_party r) r s = subst (λ (r : RingView M). Interrupted view (drive_party r) r s) (sym same) (subst (λ d. Interrupted view d m s) party not) in
+      let not_r : Interrupted view (clear_asks (drive_party r)) (drive_party r) r s = subst (λ (r : RingView M). Interrupted view (clear_asks (drive_party r)) (drive_party r) r s) (sym same) (subst (λ d. Interrupted view (clear_asks d) d m s) party not) in
       let used_r : spare_of r ≤ spare_of s + 7 = subst (λ (r : RingView M). spare_of r ≤ spare_of s + 7) (sym same) used in
       subst (λ (l : LoopView M). Resumed {T = T} (view_at view seen p false log resumes (AtIdle r)) (view_of view seen q l) (Err e)) (sym new_is)
       (subst (λ (e : Trouble). Resumed {T = T} (view_at view seen p false log resumes (AtIdle r)) (view_at view seen q false (since_frame log) more (AtLost s)) (Err e)) (sym frame)
-      (broke_idle view seen p q log resumes more counted r s valid.0 not_r used_r))
+      (broke_idle view seen p q log resumes more counted _ r s valid.0 valid.3 not_r used_r))
   ready_broke_by {T} y (AtLost r) log resumes d old ready mid new m s e counted is valid so at taken left frame party not used =
       let ready_is : ready ≡ record { control = AtIdle so.ring; sound = false; since = since_more log; resumes = more } = so.left ∙ ap (λ (l : LoopView M). record l { control = AtIdle so.ring; since = since_more l.since }) is in
       let same : so.ring ≡ m = same_idle (sym (ap (λ (l : LoopView M). l.control) ready_is) ∙ at) in
@@ -190,14 +202,14 @@ module _ {M S : Type 0} (view : M → MediumView) (seen : S → RingView M) (p q
       let used_m : spare_of r ≤ spare_of m + 5 = subst (λ (m : RingView M). spare_of r ≤ spare_of m + 5) same so.used in
       subst (λ (l : LoopView M). Resumed {T = T} (view_at view seen p false log resumes (AtLost r)) (view_of view seen q l) (Err e)) (sym new_is)
       (subst (λ (e : Trouble). Resumed {T = T} (view_at view seen p false log resumes (AtLost r)) (view_at view seen q false (since_frame (since_more log)) more (AtLost s)) (Err e)) (sym frame)
-      (broke_lost view seen p q log resumes more counted r m s valid.0 readied used_m (subst (λ d. Interrupted view d m s) party not) used))
+      (broke_lost view seen p q log resumes more counted _ r m s valid.0 valid.2 readied used_m (subst (λ d. Interrupted view (clear_asks d) d m s) party not) used))
   ready_broke_by {T} y Nowhere log resumes d old ready mid new m s e counted is valid so at taken left frame party not used = absurd so
 
 -- ---- for a store by its parts
 
 sound_by : {M S T : Type 0} (view : M → MediumView) (seen : S → RingView M) (p q : Option S) (log : Since) (resumes more : ℕ) (c : Standing M) (x : T) → more ≡ min (resumes + 1) most_resumes → (view_at view seen p true log resumes c).valid
     → Resumed (view_at view seen p true log resumes c) (view_at view seen q true log more c) (Ok x)
-sound_by view seen p q log resumes more (AtIdle r) x counted valid = resumed_sound view seen p q log resumes more r x valid.0 (valid.1 refl) valid.2 counted
+sound_by view seen p q log resumes more (AtIdle r) x counted valid = resumed_sound view seen p q log resumes more r x valid.0 (valid.1 refl) valid.2 valid.3 counted
 sound_by view seen p q log resumes more (AtLost r) x counted valid = let clash = valid.1 in cc
 sound_by view seen p q log resumes more Nowhere x counted valid = absurd valid
 
@@ -238,6 +250,6 @@ module _ {M S : Type 0} (T : Type 0) (view : M → MediumView) (seen : S → Rin
 
   -- or an exchange was broken off
   pub resumes_broke : {U : Type 0} (y : U) (d : ℕ) (ready mid new : LoopView M) (m s : RingView M) (e : Trouble) → before.sound ≡ false → Addresses view before.control counted_store ready (Ok y) → ready.control ≡ AtIdle m → mid ≡ record ready { control = Nowhere }
-      → new ≡ record mid { control = AtLost s; sound = false; since = since_frame mid.since } → e ≡ trouble.Frame → d ≡ drive_party m → Interrupted view d m s → spare_of m ≤ spare_of s + 7 → Resumed {T = T} (view_of view seen p before) (view_of view seen q new) (Err e)
+      → new ≡ record mid { control = AtLost s; sound = false; since = since_frame mid.since } → e ≡ trouble.Frame → d ≡ drive_party m → Interrupted view (clear_asks d) d m s → spare_of m ≤ spare_of s + 7 → Resumed {T = T} (view_of view seen p before) (view_of view seen q new) (Err e)
   resumes_broke y d ready mid new m s e is so at taken left frame party not used =
       seen_before is (view_of view seen q new) (Err e) (ready_broke_by view seen p q more y before.control before.since before.resumes d counted_store ready mid new m s e counted (counted_is is) (unsound is) so at taken left frame party not used)

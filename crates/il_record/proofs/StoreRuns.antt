@@ -11,7 +11,9 @@ use Rattle.il_ports.specs.Stores.{RecordsView, GoesOn, FetchedRun, StoredRun}
 use Rattle.il_ports.specs.Transfers.{Added}
 use Rattle.il_drive.proofs.Exchanges.{IsFree}
 use Rattle.loop_model.specs.Units.{RecordUnit}
-use Rattle.il_ring.specs.Rings.{RingView, drive_party, spare_of}
+use Rattle.il_ring.specs.Lists.{Each}
+use Rattle.il_ring.specs.Rings.{RingView, devices_of, drive_party, spare_of}
+use Rattle.il_record.specs.Polls.{MayPoll}
 use Rattle.il_control.specs.Calls.{IsIdle, loop_of}
 use Rattle.il_record.specs.declared.records.Since.{Since}
 use Rattle.il_record.specs.declared.records.Since.TheVariants as since
@@ -30,12 +32,14 @@ alive_medium since.Unbroken alive = refl
 alive_medium since.Failed alive = refl
 alive_medium since.Broken alive = alive
 alive_medium since.Mended alive = refl
+alive_medium since.Said alive = refl
+alive_medium since.SaidBroken alive = alive
 
 bad_unit : (writes : Bool) (first : ℕ) (bytes : List ℕ) (status : ℕ) → status ≢ 0 → all_good (unit writes first bytes status ∷ []) ≡ false
 bad_unit writes first bytes status bad = ap (λ b. b && true) (ne_eqb status 0 bad)
 
 module _ {M S : Type 0} (view : M → MediumView) (seen : S → RingView M) (p q : Option S) (log : Since) (resumes k n : ℕ) (r s : RingView M) (idle : IsIdle r) (alive : is_broken log ≡ false) (unheard : OnlyHeard (drive_party r) r s)
-    (used : spare_of r ≤ spare_of s + n) (few : n ≤ 300 * k) (told : is_some (view s.drive.medium).tape ≡ is_some (view r.drive.medium).tape) (size : (view s.drive.medium).record_count ≡ (view r.drive.medium).record_count) where
+    (used : spare_of r ≤ spare_of s + n) (few : n ≤ 300 * k) (told : is_some (view s.drive.medium).tape ≡ is_some (view r.drive.medium).tape) (size : (view s.drive.medium).record_count ≡ (view r.drive.medium).record_count) (may : Each MayPoll 1 (devices_of s)) where
   abbrev earlier : RecordsView (Option S)
   earlier = view_at view seen p true log resumes (AtIdle r)
 
@@ -45,7 +49,7 @@ module _ {M S : Type 0} (view : M → MediumView) (seen : S → RingView M) (p q
       → GoesOn k earlier (view_at view seen q true log resumes (AtIdle s)) (Ok x)
   goes_on_ok x us units good free count = record {
     continues = record {
-      valid = (units.came.talked.state, (λ sound. free), alive);
+      valid = (units.came.talked.state, (λ sound. free), alive, may);
       told = told;
       size = size;
       sound = refl;
@@ -62,7 +66,7 @@ module _ {M S : Type 0} (view : M → MediumView) (seen : S → RingView M) (p q
       → GoesOn {T = T} k earlier (view_at view seen q false (since_medium log) resumes (AtIdle s)) (Err trouble.Medium)
   goes_on_medium us units bad rose = record {
     continues = record {
-      valid = (units.came.talked.state, (λ sound. cc), alive_medium log alive);
+      valid = (units.came.talked.state, (λ sound. cc), alive_medium log alive, may);
       told = told;
       size = size;
       sound = refl;
@@ -78,7 +82,7 @@ module _ {M S : Type 0} (view : M → MediumView) (seen : S → RingView M) (p q
   pub goes_on_frame : {T : Type 0} → (came : CameBy view false r s) → (view r.drive.medium).faults ≤ (view s.drive.medium).faults → GoesOn {T = T} k earlier (view_at view seen q false (since_frame log) resumes (AtLost s)) (Err trouble.Frame)
   goes_on_frame came count = record {
     continues = record {
-      valid = (came.talked.state, refl);
+      valid = (came.talked.state, refl, may);
       told = told;
       size = size;
       sound = refl;
@@ -101,18 +105,18 @@ module _ {M S : Type 0} (view : M → MediumView) (seen : S → RingView M) (p q
 pub party_of : {M : Type 0} (view : M → MediumView) (whole : Bool) (r s : RingView M) → CameBy view whole r s → drive_party s ≡ drive_party r
 party_of view whole r s came = ap (λ n. n + 1) came.talked.adds.before
 
-module _ {M S : Type 0} (view : M → MediumView) (seen : S → RingView M) (p q : Option S) (log : Since) (resumes k first : ℕ) (bytes : List ℕ) (r s : RingView M) (idle : IsIdle r) (alive : is_broken log ≡ false) (long : length bytes ≡ 256 * k) (some : 1 ≤ k) where
+module _ {M S : Type 0} (view : M → MediumView) (seen : S → RingView M) (p q : Option S) (log : Since) (resumes k first : ℕ) (bytes : List ℕ) (r s : RingView M) (idle : IsIdle r) (alive : is_broken log ≡ false) (long : length bytes ≡ 256 * k) (some : 1 ≤ k) (may : Each MayPoll 1 (devices_of s)) where
   pub fetched : {T : Type 0} (x : T) → ReadAs view (drive_party r) first bytes true r s → spare_of r ≤ spare_of s + (33 + length bytes)
       → FetchedRun first k bytes (view_at view seen p true log resumes (AtIdle r)) (view_at view seen q true log resumes (AtIdle s)) (Ok x)
   fetched x read used =
       let still = read.drive.medium.still in
       let count : length bytes / 256 ≡ k = omega (arith, long) in
       record {
-        goes_on = goes_on_ok view seen p q log resumes k (33 + length bytes) r s idle alive read.unheard used (omega (arith, long, some)) still.stays_in.told still.stays_in.size x (unit false first bytes 0 ∷ []) read.came refl
+        goes_on = goes_on_ok view seen p q log resumes k (33 + length bytes) r s idle alive read.unheard used (omega (arith, long, some)) still.stays_in.told still.stays_in.size may x (unit false first bytes 0 ∷ []) read.came refl
             (subst (λ d. IsFree d s.drive.state) (sym (party_of view true r s read.came.came)) read.drive.rests.free) read.drive.medium.count;
         quiet = record { tape = still.tape; moment = still.moment; since = still.since };
         content = λ t told. read.drive.content t told ∙ ap (λ k. bytes_from t first k) count;
-        transfers = added view seen p q log resumes k (33 + length bytes) r s idle alive read.unheard used (omega (arith, long, some)) still.stays_in.told still.stays_in.size false first bytes read.came;
+        transfers = added view seen p q log resumes k (33 + length bytes) r s idle alive read.unheard used (omega (arith, long, some)) still.stays_in.told still.stays_in.size may false first bytes read.came;
       }
 
   pub not_fetched : {T : Type 0} → ReadAs view (drive_party r) first bytes false r s → spare_of r ≤ spare_of s + (33 + length bytes)
@@ -120,7 +124,7 @@ module _ {M S : Type 0} (view : M → MediumView) (seen : S → RingView M) (p q
   not_fetched read used =
       let still = read.still in
       record {
-        goes_on = goes_on_medium view seen p q log resumes k (33 + length bytes) r s idle alive read.unheard used (omega (arith, long, some)) still.stays_in.told still.stays_in.size (unit false first read.bytes read.status ∷ []) read.came (bad_unit false first read.bytes read.status read.bad) read.rose;
+        goes_on = goes_on_medium view seen p q log resumes k (33 + length bytes) r s idle alive read.unheard used (omega (arith, long, some)) still.stays_in.told still.stays_in.size may (unit false first read.bytes read.status ∷ []) read.came (bad_unit false first read.bytes read.status read.bad) read.rose;
         quiet = record { tape = still.tape; moment = still.moment; since = still.since };
         content = tt;
         transfers = tt;
@@ -131,7 +135,7 @@ module _ {M S : Type 0} (view : M → MediumView) (seen : S → RingView M) (p q
   broke_fetching broke used =
       let still = broke.drive.still in
       record {
-        goes_on = goes_on_frame view seen p q log resumes k (34 + length bytes) r s idle alive broke.unheard used (omega (arith, long, some)) still.stays_in.told still.stays_in.size broke.came broke.drive.count;
+        goes_on = goes_on_frame view seen p q log resumes k (34 + length bytes) r s idle alive broke.unheard used (omega (arith, long, some)) still.stays_in.told still.stays_in.size may broke.came broke.drive.count;
         quiet = record { tape = still.tape; moment = still.moment; since = still.since };
         content = tt;
         transfers = tt;
@@ -139,15 +143,15 @@ module _ {M S : Type 0} (view : M → MediumView) (seen : S → RingView M) (p q
 
 -- ---- writes
 
-module _ {M S : Type 0} (view : M → MediumView) (seen : S → RingView M) (p q : Option S) (log : Since) (resumes k first : ℕ) (pieces : List (List ℕ)) (r s : RingView M) (idle : IsIdle r) (alive : is_broken log ≡ false) (long : length pieces ≡ k) (some : 1 ≤ k) where
+module _ {M S : Type 0} (view : M → MediumView) (seen : S → RingView M) (p q : Option S) (log : Since) (resumes k first : ℕ) (pieces : List (List ℕ)) (r s : RingView M) (idle : IsIdle r) (alive : is_broken log ≡ false) (long : length pieces ≡ k) (some : 1 ≤ k) (may : Each MayPoll 1 (devices_of s)) where
   pub stored : {T : Type 0} (x : T) → WroteAs view (drive_party r) first pieces true r s → spare_of r ≤ spare_of s + (27 + 256 * k)
       → StoredRun first pieces (view_at view seen p true log resumes (AtIdle r)) (view_at view seen q true log resumes (AtIdle s)) (Ok x)
   stored x wrote used = record {
-    goes_on = goes_on_ok view seen p q log resumes (length pieces) (27 + 256 * k) r s idle alive wrote.unheard used (omega (arith, long, some)) wrote.kept.stays_in.told wrote.kept.stays_in.size x (unit true first (bytes_of pieces) 0 ∷ []) wrote.came refl
+    goes_on = goes_on_ok view seen p q log resumes (length pieces) (27 + 256 * k) r s idle alive wrote.unheard used (omega (arith, long, some)) wrote.kept.stays_in.told wrote.kept.stays_in.size may x (unit true first (bytes_of pieces) 0 ∷ []) wrote.came refl
         (subst (λ d. IsFree d s.drive.state) (sym (party_of view true r s wrote.came.came)) wrote.rests.free) wrote.count;
     content = wrote.stand;
     time = wrote.kept.time;
-    transfers = added view seen p q log resumes (length pieces) (27 + 256 * k) r s idle alive wrote.unheard used (omega (arith, long, some)) wrote.kept.stays_in.told wrote.kept.stays_in.size true first (bytes_of pieces) wrote.came;
+    transfers = added view seen p q log resumes (length pieces) (27 + 256 * k) r s idle alive wrote.unheard used (omega (arith, long, some)) wrote.kept.stays_in.told wrote.kept.stays_in.size may true first (bytes_of pieces) wrote.came;
   }
 
   pub not_stored : {T : Type 0} → WroteAs view (drive_party r) first pieces false r s → spare_of r ≤ spare_of s + (27 + 256 * k)
@@ -155,7 +159,7 @@ module _ {M S : Type 0} (view : M → MediumView) (seen : S → RingView M) (p q
   not_stored wrote used =
       let kept = wrote.left.kept in
       record {
-        goes_on = goes_on_medium view seen p q log resumes (length pieces) (27 + 256 * k) r s idle alive wrote.unheard used (omega (arith, long, some)) kept.stays_in.told kept.stays_in.size (unit true first (bytes_of pieces) wrote.status ∷ []) wrote.came
+        goes_on = goes_on_medium view seen p q log resumes (length pieces) (27 + 256 * k) r s idle alive wrote.unheard used (omega (arith, long, some)) kept.stays_in.told kept.stays_in.size may (unit true first (bytes_of pieces) wrote.status ∷ []) wrote.came
             (bad_unit true first (bytes_of pieces) wrote.status wrote.bad) wrote.rose;
         content = wrote.left.stand;
         time = kept.time;
@@ -167,7 +171,7 @@ module _ {M S : Type 0} (view : M → MediumView) (seen : S → RingView M) (p q
   broke_storing broke used =
       let kept = broke.left.kept in
       record {
-        goes_on = goes_on_frame view seen p q log resumes (length pieces) (28 + 256 * k) r s idle alive broke.unheard used (omega (arith, long, some)) kept.stays_in.told kept.stays_in.size broke.came broke.left.count;
+        goes_on = goes_on_frame view seen p q log resumes (length pieces) (28 + 256 * k) r s idle alive broke.unheard used (omega (arith, long, some)) kept.stays_in.told kept.stays_in.size may broke.came broke.left.count;
         content = broke.left.stand;
         time = kept.time;
         transfers = tt;

@@ -8,7 +8,9 @@ use Rattle.il_ports.specs.Stores.{RecordsView, Begun, Resumed}
 use Rattle.il_drive.specs.Steps.{IsStill}
 use Rattle.il_drive.proofs.Exchanges.{IsFree}
 use Rattle.il_ring.specs.Rings.{RingView, devices_of, drive_party, spare_of}
-use Rattle.il_control.specs.Calls.{IsFree as IsFreeRing, IsIdle, IsLost, loop_of}
+use Rattle.il_ring.specs.Lists.{Each}
+use Rattle.il_control.specs.Calls.{AllStay, IsFree as IsFreeRing, IsIdle, IsLost, loop_of}
+use Rattle.il_record.specs.Polls.{MayPoll}
 use Rattle.il_control.specs.Calls as calls
 use Rattle.il_record.proofs.Addressed.{readied, not_readied}
 use Rattle.il_record.proofs.Used.{resumed_used, not_resumed_used}
@@ -21,14 +23,16 @@ use Rattle.il_record.proofs.StoreCalls.{stood_whole, stood_frame, transferred_th
 use Rattle.il_record.proofs.StoreRuns.{from_start}
 
 -- a log that is unbroken
-unbroken_is : (log : Since) → is_unbroken log ≡ true → log ≡ since.Unbroken
+pub unbroken_is : (log : Since) → is_unbroken log ≡ true → log ≡ since.Unbroken
 unbroken_is since.Unbroken is = refl
 unbroken_is since.Failed is = cc
 unbroken_is since.Broken is = cc
 unbroken_is since.Mended is = cc
+unbroken_is since.Said is = cc
+unbroken_is since.SaidBroken is = cc
 
 module _ {M S : Type 0} (view : M → MediumView) (seen : S → RingView M) (p q : Option S) (valid : Type 0) (log : Since) (resumes more n : ℕ) (r s : RingView M) (free : IsFreeRing r) (unheard : OnlyHeard (drive_party r) r s)
-    (used : spare_of r ≤ spare_of s + n) (few : n ≤ 300) (still : IsStill (view r.drive.medium) (view s.drive.medium)) (counted : more ≡ min (resumes + 1) most_resumes) where
+    (used : spare_of r ≤ spare_of s + n) (few : n ≤ 300) (still : IsStill (view r.drive.medium) (view s.drive.medium)) (counted : more ≡ min (resumes + 1) most_resumes) (may : Each MayPoll 1 (devices_of s)) where
   abbrev earlier : RecordsView (Option S)
   earlier = over_ring view seen p valid false log resumes r
 
@@ -40,7 +44,7 @@ module _ {M S : Type 0} (view : M → MediumView) (seen : S → RingView M) (p q
       → Resumed earlier (view_at view seen q true new more (AtIdle s)) (Ok x)
   resumed_ok x new units rest count alive same = record {
     goes_on = record {
-      valid = (units.came.talked.state, (λ sound. rest), alive);
+      valid = (units.came.talked.state, (λ sound. rest), alive, may);
       told = still.stays_in.told;
       size = still.stays_in.size;
       sound = refl;
@@ -61,7 +65,7 @@ module _ {M S : Type 0} (view : M → MediumView) (seen : S → RingView M) (p q
       → Resumed {T = T} earlier (view_at view seen q false new more (AtLost s)) (Err trouble.Frame)
   resumed_not new units count broke = record {
     goes_on = record {
-      valid = (units.came.talked.state, refl);
+      valid = (units.came.talked.state, refl, may);
       told = still.stays_in.told;
       size = still.stays_in.size;
       sound = refl;
@@ -78,11 +82,11 @@ module _ {M S : Type 0} (view : M → MediumView) (seen : S → RingView M) (p q
   }
 
 -- a sound store does nothing
-pub resumed_sound : {M S T : Type 0} (view : M → MediumView) (seen : S → RingView M) (p q : Option S) (log : Since) (resumes more : ℕ) (r : RingView M) (x : T) → IsIdle r → IsFree (drive_party r) r.drive.state → is_broken log ≡ false → more ≡ min (resumes + 1) most_resumes
+pub resumed_sound : {M S T : Type 0} (view : M → MediumView) (seen : S → RingView M) (p q : Option S) (log : Since) (resumes more : ℕ) (r : RingView M) (x : T) → IsIdle r → IsFree (drive_party r) r.drive.state → is_broken log ≡ false → Each MayPoll 1 (devices_of r) → more ≡ min (resumes + 1) most_resumes
     → Resumed (view_at view seen p true log resumes (AtIdle r)) (view_at view seen q true log more (AtIdle r)) (Ok x)
-resumed_sound view seen p q log resumes more r x idle free alive counted = record {
+resumed_sound view seen p q log resumes more r x idle free alive may counted = record {
   goes_on = record {
-    valid = (idle, (λ sound. free), alive);
+    valid = (idle, (λ sound. free), alive, may);
     told = refl;
     size = refl;
     sound = refl;
@@ -114,7 +118,7 @@ emptied_is {M} seen (Some a) (Some b) r one two = subst (λ (r : RingView M). se
 nothing_since : {M S : Type 0} (view : M → MediumView) (seen : S → RingView M) (q : Option S) (s : RingView M) → IsFreeRing s → IsStart seen q s → FromStart seen q (λ start. Stood view since.Unbroken start s)
 nothing_since view seen None s free is = absurd is
 nothing_since {M} view seen (Some b) s free is =
-    subst (λ (start : RingView M). Stood view since.Unbroken start s) (sym is) (record { free = free; unheard = others_same (drive_party s) 1 (devices_of s); by = inl refl })
+    subst (λ (start : RingView M). Stood view since.Unbroken start s) (sym is) (record { free = free; unheard = λ none. others_same (drive_party s) 1 (devices_of s); by = inl refl })
 
 module _ {M S : Type 0} (view : M → MediumView) (seen : S → RingView M) (p q : Option S) (sound : Bool) (log : Since) (resumes : ℕ) (valid_old valid_new : Type 0) (r : RingView M) (free : IsFreeRing r) (here : IsStart seen p r) (there : IsStart seen q (cleared r)) where
   pub begun : valid_new → Begun (over_ring view seen p valid_old sound log resumes r) (over_ring view seen q valid_new sound since.Unbroken 0 (cleared r))
@@ -143,16 +147,16 @@ module _ {M S : Type 0} (view : M → MediumView) (seen : S → RingView M) (p q
 low_party : {M : Type 0} (r t : RingView M) (party : ℕ) → t ≡ r → party ≡ drive_party t → party ≤ 30 → drive_party r ≤ 30
 low_party r t party same is low = let e = ap (λ (r : RingView _). drive_party r) same in omega (arith, e, is, low)
 
-pub addressed : {M : Type 0} (view : M → MediumView) (n party : ℕ) (r t s : RingView M) (log : Since) (old new : LoopView M) → t ≡ r → party ≡ drive_party t → party ≤ 30 → calls.Resumed view n r s → log ≡ since_more old.since → new ≡ record old { control = AtIdle s; since = log } → Addressed view r old new
-addressed {M} view n party r t s log old new same is low done logged left = record {
+pub addressed : {M : Type 0} (view : M → MediumView) (n party : ℕ) (r t s : RingView M) (log : Since) (old new : LoopView M) → t ≡ r → party ≡ drive_party t → party ≤ 30 → calls.Resumed view n r s → AllStay true r s → log ≡ since_more old.since → new ≡ record old { control = AtIdle s; since = log } → Addressed view r old new
+addressed {M} view n party r t s log old new same is low done stays logged left = record {
   ring = s;
   left = subst (λ (log : Since). new ≡ record old { control = AtIdle s; since = log }) logged left;
-  readied = readied view n r s (low_party r t party same is low) done;
+  readied = readied view n r s (low_party r t party same is low) done stays;
   used = resumed_used view n r s done;
 }
 
-pub not_addressed : {M : Type 0} (view : M → MediumView) (party : ℕ) (r t s : RingView M) (old new : LoopView M) → t ≡ r → party ≡ drive_party t → party ≤ 30 → calls.NotResumed view r s → new ≡ record old { control = AtLost s; sound = false; since = since_frame old.since } → NotAddressed view r old new
-not_addressed view party r t s old new same is low not left = record { ring = s; left = left; interrupted = not_readied view r s (low_party r t party same is low) not; used = not_resumed_used view r s not }
+pub not_addressed : {M : Type 0} (view : M → MediumView) (party : ℕ) (r t s : RingView M) (old new : LoopView M) → t ≡ r → party ≡ drive_party t → party ≤ 30 → calls.NotResumed view r s → AllStay true r s → new ≡ record old { control = AtLost s; sound = false; since = since_frame old.since } → NotAddressed view r old new
+not_addressed view party r t s old new same is low not stays left = record { ring = s; left = left; interrupted = not_readied view r s (low_party r t party same is low) not stays; used = not_resumed_used view r s not }
 
 -- a call in which the controller was taken out
 pub addresses_as : {M T : Type 0} (view : M → MediumView) (r : RingView M) (old mid new : LoopView M) (answer : Result T Trouble) → old.control ≡ AtLost r → mid ≡ record old { control = Nowhere } → Addresses view (AtLost r) mid new answer → Addresses view old.control old new answer

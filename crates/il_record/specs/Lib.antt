@@ -1,3 +1,5 @@
+pub mod Asks
+pub mod Called
 pub mod Came
 pub mod Controls
 pub mod Copying

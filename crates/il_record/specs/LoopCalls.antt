@@ -1,13 +1,14 @@
 -- Calls over the loop that move no record: accessory IDs, the parallel poll, and bytes for a printer.
-use Rattle.std.specs.Prelude.{◌≡◌, ◌≤◌, ◌+◌, ◌-◌, ℕ, Bool, true, false, List, [], map, Option, None}
+use Rattle.std.specs.Prelude.{◌≡◌, ◌≤◌, ◌+◌, ◌-◌, ℕ, Bool, true, false, List, [], ◌∷◌, length, map, Option, None}
 use Rattle.il_device.specs.State.{DeviceState}
 use Rattle.il_ports.specs.Media.{MediumView}
 use Rattle.il_drive.specs.State.{DriveView, status_of}
+use Rattle.loop_model.specs.Exchanges.{Sai}
 use Rattle.il_ring.specs.Rings.{RingView, devices_of, spare_of}
 use Rattle.il_control.specs.Calls.{AllStay}
 use Rattle.il_control.specs.Receives.{accessory_at}
 use Rattle.il_control.proofs.Assigning.{EachTo}
-use Rattle.il_record.specs.Came.{CameUnits}
+use Rattle.il_record.specs.Asks.{Ask, AskTell, AskHear, CameAsked, up_to}
 use Rattle.il_record.specs.Listening.{Hears, HearsPart}
 
 -- What such a call leaves of the drive, whole or broken off: its status and its medium. Where it does not talk it sends nothing.
@@ -18,37 +19,45 @@ pub record LeavesDrive {M : Type 0} (v w : DriveView M) : Type 0 where
 
 -- ---- accessory IDs
 
--- Exchanges came, all whole or the last one broken off, that moved no record. No device heard anything, and each has its place in the poll.
-pub record LeftAlone {M : Type 0} (view : M → MediumView) (whole : Bool) (r s : RingView M) : Type 0 where
-  pub came : CameUnits view whole [] r s
+-- the device of that address is to tell its accessory ID
+abbrev pub id_asks : ℕ → List Ask
+id_asks a = AskTell a None Sai ∷ []
+
+-- This was asked for, and came whole or broken off. No device heard anything, and each has its place in the poll.
+pub record LeftAlone {M : Type 0} (view : M → MediumView) (whole : Bool) (asks : List Ask) (r s : RingView M) : Type 0 where
+  pub came : CameAsked view whole asks r s
   pub stays : AllStay false r s
   pub drive : LeavesDrive r.drive s.drive
 
 -- the device of that address told its accessory ID, or there is none that has one
 pub record Named {M : Type 0} (view : M → MediumView) (a : ℕ) (id : Option ℕ) (r s : RingView M) : Type 0 where
   pub id_is : id ≡ accessory_at (a - 1) (devices_of r)
-  pub left : LeftAlone view true r s
+  pub left : LeftAlone view true (id_asks a) r s
   pub room : spare_of r ≤ spare_of s + 13
 
 -- the accessory IDs of all devices, in the order of the ring
 abbrev pub ids_of : List DeviceState → List (Option ℕ)
 ids_of devices = map (λ d. d.accessory) devices
 
--- each told its own, if it has one
+-- each was asked, in this order, and told its own, if it has one
 pub record AllNamed {M : Type 0} (view : M → MediumView) (ids : List (Option ℕ)) (r s : RingView M) : Type 0 where
   pub ids_are : ids ≡ ids_of (devices_of r)
-  pub left : LeftAlone view true r s
+  pub left : LeftAlone view true (up_to id_asks (length (devices_of r))) r s
 
 -- ---- bytes for a device
 
+-- the device of that address is to hear these bytes
+abbrev pub say_asks : ℕ → List ℕ → List Ask
+say_asks a bytes = AskHear a None bytes ∷ []
+
 -- the device of that address heard these bytes, and no other device anything
 pub record Said {M : Type 0} (view : M → MediumView) (a : ℕ) (bytes : List ℕ) (r s : RingView M) : Type 0 where
-  pub came : CameUnits view true [] r s
+  pub came : CameAsked view true (say_asks a bytes) r s
   pub heard : EachTo (Hears a bytes) 1 (devices_of r) (devices_of s)
   pub drive : LeavesDrive r.drive s.drive
 
 -- that was broken off
 pub record NotSaid {M : Type 0} (view : M → MediumView) (a : ℕ) (bytes : List ℕ) (r s : RingView M) : Type 0 where
-  pub came : CameUnits view false [] r s
+  pub came : CameAsked view false (say_asks a bytes) r s
   pub heard : EachTo (HearsPart a bytes) 1 (devices_of r) (devices_of s)
   pub drive : LeavesDrive r.drive s.drive

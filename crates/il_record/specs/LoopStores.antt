@@ -12,14 +12,16 @@ use Rattle.loop_model.specs.Loops.{Loop}
 use Rattle.loop_model.specs.Reach.{met}
 use Rattle.loop_model.specs.Units.{RecordUnit, units_of, ends_within}
 use Rattle.il_ring.specs.Plans.{hops_of}
-use Rattle.il_ring.specs.Rings.{RingView, drive_party, spare_of}
+use Rattle.il_ring.specs.Lists.{Each}
+use Rattle.il_ring.specs.Rings.{RingView, devices_of, drive_party, spare_of}
 use Rattle.il_control.specs.Calls.{IsFree as IsFreeRing, IsIdle, IsLost, loop_of}
 use Rattle.il_record.specs.declared.records.Since.{Since}
 use Rattle.il_record.specs.declared.records.Since.TheVariants as since
 use Rattle.il_ports.specs.declared.records.Trouble.{Trouble}
 use Rattle.il_ports.specs.declared.records.Trouble.TheVariants as trouble
 use Rattle.il_record.specs.Came.{OnlyHeard, CameBy}
-use Rattle.il_record.specs.Runs.{Readied, Interrupted, Cleared}
+use Rattle.il_record.specs.Polls.{MayPoll}
+use Rattle.il_record.specs.Runs.{Readied, Interrupted, Cleared, address_asks, clear_asks}
 
 -- the controller, by its ring
 pub data Standing (M : Type 0) : Type 0 where
@@ -40,12 +42,20 @@ pub record LoopView (M : Type 0) : Type 0 where
 -- the last exchange of the log was broken off
 abbrev pub is_broken : Since → Bool
 is_broken since.Broken = true
+is_broken since.SaidBroken = true
 is_broken _ = false
 
--- An idle controller's drive rests, with status 0, where the store is sound; a lost one's store is not sound.
+-- bytes were sent to another device than the drive
+abbrev pub has_said : Since → Bool
+has_said since.Said = true
+has_said since.SaidBroken = true
+has_said _ = false
+
+-- Each device has no place in the parallel poll, or that of its party. An idle controller's drive rests, with status 0, where the
+-- store is sound; a lost one's store is not sound.
 abbrev pub StandsSo : {M : Type 0} → Standing M → Bool → Since → Type 0
-StandsSo (AtIdle r) sound log = IsIdle r × (sound ≡ true → IsFree (drive_party r) r.drive.state) × (is_broken log ≡ false)
-StandsSo (AtLost r) sound log = IsLost r × (sound ≡ false)
+StandsSo (AtIdle r) sound log = IsIdle r × (sound ≡ true → IsFree (drive_party r) r.drive.state) × (is_broken log ≡ false) × Each MayPoll 1 (devices_of r)
+StandsSo (AtLost r) sound log = IsLost r × (sound ≡ false) × Each MayPoll 1 (devices_of r)
 StandsSo Nowhere sound log = ⊥
 
 -- ---- what became of the ring
@@ -61,11 +71,14 @@ StoodBy view since.Unbroken r s = (s ≡ r) ⊎ ((came : CameBy view true r s) �
 StoodBy view since.Failed r s = (came : CameBy view true r s) × (all_good (units_of (loop_of r) came.pieces) ≡ false)
 StoodBy view since.Broken r s = CameBy view false r s
 StoodBy view since.Mended r s = ⊥
+StoodBy view since.Said r s = CameBy view true r s
+StoodBy view since.SaidBroken r s = CameBy view false r s
 
--- The ring r, on which no frame was held, became s since the log was emptied, and no device but the drive heard anything.
+-- The ring r, on which no frame was held, became s since the log was emptied. Where bytes were sent to no other device, none but the
+-- drive heard anything.
 pub record Stood {M : Type 0} (view : M → MediumView) (log : Since) (r s : RingView M) : Type 0 where
   pub free : IsFreeRing r
-  pub unheard : OnlyHeard (drive_party r) r s
+  pub unheard : has_said log ≡ false → OnlyHeard (drive_party r) r s
   pub by : StoodBy view log r s
 
 -- The log reads as exchanges whose units all have status 0 and are, in order, these transfers.
@@ -175,14 +188,23 @@ since_medium since.Unbroken = since.Failed
 since_medium other = other
 
 abbrev pub since_frame : Since → Since
-since_frame since.Mended = since.Mended
-since_frame since.Broken = since.Mended
-since_frame _ = since.Broken
+since_frame since.Unbroken = since.Broken
+since_frame since.Failed = since.Broken
+since_frame since.Said = since.SaidBroken
+since_frame _ = since.Mended
 
 -- how it goes on behind a broken exchange
 abbrev pub since_more : Since → Since
 since_more since.Broken = since.Mended
+since_more since.SaidBroken = since.Mended
 since_more other = other
+
+-- behind bytes for another device than the drive
+abbrev pub since_said : Since → Since
+since_said since.Unbroken = since.Said
+since_said since.Failed = since.Said
+since_said since.Said = since.Said
+since_said _ = since.Mended
 
 -- with the log of its ring emptied
 abbrev pub with_empty_log : {M : Type 0} → Standing M → Standing M
@@ -204,7 +226,7 @@ pub record Addressed {M : Type 0} (view : M → MediumView) (r : RingView M) (ol
 pub record NotAddressed {M : Type 0} (view : M → MediumView) (r : RingView M) (old new : LoopView M) : Type 0 where
   pub ring : RingView M
   pub left : new ≡ record old { control = AtLost ring; sound = false; since = since_frame old.since }
-  pub interrupted : Interrupted view (drive_party r) r ring
+  pub interrupted : Interrupted view address_asks (drive_party r) r ring
   pub used : spare_of r ≤ spare_of ring + 6
 
 abbrev pub Addresses : {M T : Type 0} → (M → MediumView) → Standing M → LoopView M → LoopView M → Result T Trouble → Type 0
@@ -237,7 +259,7 @@ pub record NotMended {M : Type 0} (view : M → MediumView) (old new : LoopView 
   pub ring : RingView M
   pub at : ready.control ≡ AtIdle ring
   pub behind : RingView M
-  pub interrupted : Interrupted view (drive_party ring) ring behind
+  pub interrupted : Interrupted view (clear_asks (drive_party ring)) (drive_party ring) ring behind
   pub left : new ≡ record ready { control = AtLost behind; sound = false; since = since_frame ready.since }
 
 -- What `resume` does, by whether the store is sound: nothing where it is. An error comes from addressing or from clearing.

@@ -1,5 +1,5 @@
 -- A parallel poll of the first eight devices, and what its answer is (HP-IL Interface Specification, parallel poll).
-use Rattle.std.specs.Prelude.{◌≡◌, ◌≤◌, ◌⊎◌, ◌+◌, ◌-◌, nat_le, ℕ, true, false, if◌then◌else◌, List, [], ◌∷◌, length, Option, Some, None}
+use Rattle.std.specs.Prelude.{◌≡◌, ◌≤◌, ◌⊎◌, ◌+◌, ◌-◌, ◌++◌, nat_le, ℕ, true, false, if◌then◌else◌, min, List, [], ◌∷◌, length, Option, Some, None}
 use Rattle.il_frames.specs.declared.frame.Class.TheVariants as class
 use Rattle.il_frames.specs.declared.frame.Frame.{Frame}
 use Rattle.il_frames.specs.Frames.{framed}
@@ -7,13 +7,14 @@ use Rattle.il_poll.specs.declared.service.Assignment.{Assignment}
 use Rattle.il_device.specs.Passing.{identified}
 use Rattle.il_device.specs.State.{DeviceState}
 use Rattle.il_ports.specs.Media.{MediumView}
+use Rattle.loop_model.specs.Entries.{lad, unl}
 use Rattle.il_ring.specs.Outcomes.{HearsNothing}
 use Rattle.il_ring.specs.Lists.{First}
 use Rattle.il_ring.specs.Polls.{identified_along, KeepsPlace}
 use Rattle.il_ring.specs.Rings.{RingView, devices_of, spare_of}
 use Rattle.il_control.specs.Calls.{idy}
-use Rattle.il_control.proofs.Assigning.{EachTo, GivenPlace}
-use Rattle.il_record.specs.Came.{CameUnits}
+use Rattle.il_control.proofs.Assigning.{EachTo, GivenPlace, ppe}
+use Rattle.il_record.specs.Asks.{Ask, AskCommand, AskIdentify, CameAsked, up_to}
 use Rattle.il_record.specs.LoopCalls.{LeavesDrive}
 
 -- parallel poll unconfigure
@@ -49,17 +50,33 @@ pub record Released (k : ℕ) (d e : DeviceState) : Type 0 where
   pub nothing : HearsNothing d e
   pub wants : e.wants ≡ d.wants
 
--- the poll was made, and this came back
+-- ---- what a poll asks for
+
+-- the device of that address takes its place
+abbrev pub place_asks : ℕ → List Ask
+place_asks a = AskCommand unl ∷ AskCommand (lad a) ∷ AskCommand (ppe (7 + a)) ∷ []
+
+-- the devices that have places answer, and give them up
+abbrev pub collect_asks : List Ask
+collect_asks = AskCommand unl ∷ AskIdentify ∷ AskCommand ppu ∷ []
+
+-- of so many devices
+abbrev pub poll_asks : ℕ → List Ask
+poll_asks n = up_to place_asks (min n 8) ++ collect_asks
+
+-- ---- the poll
+
+-- it was made, and this came back
 pub record HasPolled {M : Type 0} (view : M → MediumView) (f : Frame) (r s : RingView M) : Type 0 where
   pub frame : f ≡ polled_along 1 (devices_of r) idy
-  pub came : CameUnits view true [] r s
+  pub came : CameAsked view true (poll_asks (length (devices_of r))) r s
   pub released : EachTo Released 1 (devices_of r) (devices_of s)
   pub drive : LeavesDrive r.drive s.drive
   pub room : spare_of r ≤ spare_of s + 53
 
--- it was broken off, and took n entries of the log at most
-pub record PollBroke {M : Type 0} (view : M → MediumView) (n : ℕ) (r s : RingView M) : Type 0 where
-  pub came : CameUnits view false [] r s
+-- what was asked for was broken off, and took n entries of the log at most
+pub record PollBroke {M : Type 0} (view : M → MediumView) (n : ℕ) (asks : List Ask) (r s : RingView M) : Type 0 where
+  pub came : CameAsked view false asks r s
   pub devices : EachTo PollsOn 1 (devices_of r) (devices_of s)
   pub drive : LeavesDrive r.drive s.drive
   pub room : spare_of r ≤ spare_of s + n
@@ -68,7 +85,7 @@ pub record PollBroke {M : Type 0} (view : M → MediumView) (n : ℕ) (r s : Rin
 
 -- the device of that address, 1 to 8, was given its place
 pub record Assigned {M : Type 0} (view : M → MediumView) (a : ℕ) (r s : RingView M) : Type 0 where
-  pub came : CameUnits view true [] r s
+  pub came : CameAsked view true (place_asks a) r s
   pub given : EachTo (GivenPlace a (7 + a)) 1 (devices_of r) (devices_of s)
   pub drive : LeavesDrive r.drive s.drive
   pub room : spare_of r ≤ spare_of s + 6
@@ -76,7 +93,7 @@ pub record Assigned {M : Type 0} (view : M → MediumView) (a : ℕ) (r s : Ring
 -- the poll was made with the places that devices had
 pub record Collected {M : Type 0} (view : M → MediumView) (f : Frame) (r s : RingView M) : Type 0 where
   pub frame : f ≡ identified_along (devices_of r) idy
-  pub came : CameUnits view true [] r s
+  pub came : CameAsked view true collect_asks r s
   pub released : EachTo Released 1 (devices_of r) (devices_of s)
   pub drive : LeavesDrive r.drive s.drive
   pub room : spare_of r ≤ spare_of s + 5

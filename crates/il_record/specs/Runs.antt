@@ -10,13 +10,17 @@ use Rattle.il_ports.specs.Media.{MediumView}
 use Rattle.il_drive.specs.State.{DriveView, status_of}
 use Rattle.il_drive.specs.Steps.{IsStill}
 use Rattle.il_drive.proofs.Exchanges.{IsAtRest}
+use Rattle.il_drive.proofs.ExchangesAddressed.{sdc}
 use Rattle.il_drive.proofs.ExchangesWriting.{HasKept}
 use Rattle.il_drive.proofs.Reading.{IsRead}
+use Rattle.loop_model.specs.Entries.{aau, ifc, lad, unl}
 use Rattle.loop_model.specs.Exchanges.{Answer, Echo, Stopped, Receive, Sst}
 use Rattle.loop_model.specs.Units.{RecordUnit}
 use Rattle.il_ring.specs.Rings.{RingView, drive_party}
 use Rattle.il_control.specs.Calls.{IsIdle, Made, BrokenOff, Unheard}
+use Rattle.il_record.specs.Asks.{Ask, AskAddresses, AskCommand, CameAsked}
 use Rattle.il_record.specs.Came.{OnlyHeard, CameBy, CameUnits}
+use Rattle.il_record.specs.Polls.{PlacesKept}
 
 -- ---- what the drive did, which has address d
 
@@ -46,27 +50,38 @@ pub record ReadPart {M : Type 0} (view : M → MediumView) (v w : DriveView M) :
 
 -- ---- exchanges that move no record
 
--- they were broken off
-pub record Interrupted {M : Type 0} (view : M → MediumView) (d : ℕ) (r s : RingView M) : Type 0 where
-  pub came : CameUnits view false [] r s
+-- this was asked for, and broken off
+pub record Interrupted {M : Type 0} (view : M → MediumView) (asks : List Ask) (d : ℕ) (r s : RingView M) : Type 0 where
+  pub came : CameAsked view false asks r s
   pub unheard : OnlyHeard d r s
+  pub places : PlacesKept r s
   pub drive : LeavesRecords view r.drive s.drive
 
 -- ---- addressing
 
+-- interface clear, auto address unconfigure, and addresses for all
+abbrev pub address_asks : List Ask
+address_asks = AskCommand ifc ∷ AskCommand aau ∷ AskAddresses ∷ []
+
 -- each device has its number as address, and none has a role
 pub record Readied {M : Type 0} (view : M → MediumView) (r s : RingView M) : Type 0 where
-  pub came : CameUnits view true [] r s
+  pub came : CameAsked view true address_asks r s
   pub unheard : OnlyHeard (drive_party r) r s
+  pub places : PlacesKept r s
   pub medium : s.drive.medium ≡ r.drive.medium
   pub idle : IsIdle s
 
 -- ---- clearing
 
+-- the drive alone listens, and selected devices are cleared
+abbrev pub clear_asks : ℕ → List Ask
+clear_asks d = AskCommand unl ∷ AskCommand (lad d) ∷ AskCommand sdc ∷ []
+
 -- the drive was cleared: it rests with status 0
 pub record Cleared {M : Type 0} (view : M → MediumView) (d : ℕ) (r s : RingView M) : Type 0 where
-  pub came : CameUnits view true [] r s
+  pub came : CameAsked view true (clear_asks d) r s
   pub unheard : OnlyHeard d r s
+  pub places : PlacesKept r s
   pub rests : IsAtRest d s.drive.state
   pub medium : s.drive.medium ≡ r.drive.medium
   pub idle : IsIdle s

@@ -7,11 +7,14 @@ mod call_tests;
 mod calls;
 mod exchanges;
 mod frames;
+mod loop_calls;
 mod poll;
 mod records;
 mod runs;
 #[cfg(test)]
 mod store_tests;
+#[cfg(test)]
+mod test_tools;
 #[cfg(test)]
 mod tests;
 

@@ -3,7 +3,7 @@ ghost use Rattle.std.specs.Prelude.{◌≡◌, ◌≤◌, None, length, IfOk, If
 ghost use Rattle.il_ring.specs.Rings.{spare_of, devices_of};
 ghost use Rattle.il_ring.specs.Lists.{Each};
 ghost use Rattle.il_control.specs.Calls.{IsIdle};
-ghost use Rattle.il_record.specs.Polls.{Assigned, Collected, HasPolled, MayPoll, PollBroke};
+ghost use Rattle.il_record.specs.Polls.{Assigned, Collected, HasPolled, MayPoll, PollBroke, collect_asks, place_asks, poll_asks};
 
 use crate::frames::{poll_enable, poll_unconfigure};
 use crate::runs::{drive_of, listen_address, unlisten};
@@ -19,7 +19,7 @@ fn assign<M: Medium>(idle: Idle<M>, address: u8) -> Result<Idle<M>, Lost<M>>
     requires silent { (⟦<Idle<M> as Seen<M>>⟧.seen idle).drive.state.interface.own ≡ None }
     requires address { (1 ≤ address) × (address ≤ 8) }
     ensures assigned { IfOk result (λ assigned. Assigned M.view address (⟦<Idle<M> as Seen<M>>⟧.seen idle) (⟦<Idle<M> as Seen<M>>⟧.seen assigned)) }
-    ensures broken { IfErr result (λ lost. PollBroke M.view 7 (⟦<Idle<M> as Seen<M>>⟧.seen idle) (⟦<Lost<M> as Seen<M>>⟧.seen lost)) }
+    ensures broken { IfErr result (λ lost. PollBroke M.view 7 (place_asks address) (⟦<Idle<M> as Seen<M>>⟧.seen idle) (⟦<Lost<M> as Seen<M>>⟧.seen lost)) }
 {
     let idle = idle.command(unlisten())?;
     let idle = idle.command(listen_address(address))?;
@@ -32,7 +32,7 @@ fn collect<M: Medium>(idle: Idle<M>) -> Result<(Idle<M>, Frame), Lost<M>>
     requires idle { IsIdle (⟦<Idle<M> as Seen<M>>⟧.seen idle) }
     requires silent { (⟦<Idle<M> as Seen<M>>⟧.seen idle).drive.state.interface.own ≡ None }
     ensures collected { IfOk result (λ told. Collected M.view told.1 (⟦<Idle<M> as Seen<M>>⟧.seen idle) (⟦<Idle<M> as Seen<M>>⟧.seen told.0)) }
-    ensures broken { IfErr result (λ lost. PollBroke M.view 6 (⟦<Idle<M> as Seen<M>>⟧.seen idle) (⟦<Lost<M> as Seen<M>>⟧.seen lost)) }
+    ensures broken { IfErr result (λ lost. PollBroke M.view 6 collect_asks (⟦<Idle<M> as Seen<M>>⟧.seen idle) (⟦<Lost<M> as Seen<M>>⟧.seen lost)) }
 {
     let idle = idle.command(unlisten())?;
     let (idle, frame) = idle.identify()?;
@@ -50,7 +50,7 @@ pub(crate) fn parallel_poll<M: Medium>(
     requires count { count ≡ length (devices_of (⟦<Idle<M> as Seen<M>>⟧.seen idle)) }
     requires places { Each MayPoll 1 (devices_of (⟦<Idle<M> as Seen<M>>⟧.seen idle)) }
     ensures polled { IfOk result (λ told. HasPolled M.view told.1 (⟦<Idle<M> as Seen<M>>⟧.seen idle) (⟦<Idle<M> as Seen<M>>⟧.seen told.0)) }
-    ensures broken { IfErr result (λ lost. PollBroke M.view 54 (⟦<Idle<M> as Seen<M>>⟧.seen idle) (⟦<Lost<M> as Seen<M>>⟧.seen lost)) }
+    ensures broken { IfErr result (λ lost. PollBroke M.view 54 (poll_asks count) (⟦<Idle<M> as Seen<M>>⟧.seen idle) (⟦<Lost<M> as Seen<M>>⟧.seen lost)) }
 {
     // Behind it the proof sees that the drive sends nothing.
     let _ = drive_of(&idle);

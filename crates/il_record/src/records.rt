@@ -1,10 +1,13 @@
 ghost use Rattle.std.specs.Prelude.{◌≡◌, ◌≤◌, ◌<◌, ◌+◌, ◌/◌, ℕ, true, false, Some, None, [], length, Err, IfOk, IfErr, MatchBool};
 ghost use Rattle.lif_model.specs.Shelf.{cut};
 ghost use Rattle.il_drive.proofs.Exchanges.{IsFree};
-ghost use Rattle.il_ring.specs.Rings.{spare_of, drive_party};
+ghost use Rattle.il_ring.specs.Lists.{Each};
+ghost use Rattle.il_ring.specs.Rings.{spare_of, devices_of, drive_party};
+ghost use Rattle.il_record.specs.Polls.{MayPoll};
 ghost use Rattle.il_control.specs.Calls.{IsIdle, IsLost};
+ghost use Rattle.il_record.specs.Called.{LeavesStore};
 ghost use Rattle.il_record.specs.declared.records.Since.TheVariants as since_is;
-ghost use Rattle.il_record.specs.LoopStores.{calls_in as calls_of, AtIdle, AtLost, Nowhere, is_idle, HasRing, StandsSo, log_emptied, Addresses, Resumes, counted_resume, since_frame, since_medium, since_more};
+ghost use Rattle.il_record.specs.LoopStores.{calls_in as calls_of, AtIdle, AtLost, Nowhere, is_idle, HasRing, StandsSo, log_emptied, Addresses, Resumes, counted_resume, since_frame, since_medium, since_more, since_said};
 ghost use Rattle.il_ports.specs.declared.records.Trouble.TheVariants as trouble_is;
 
 use crate::runs::{clear, drive_of, read_run, write_run};
@@ -34,6 +37,10 @@ pub(crate) enum Since {
     Broken,
     /// It goes on behind an exchange that was broken off.
     Mended,
+    /// Bytes were sent to another device than the drive, and all exchanges are whole.
+    Said,
+    /// So they were, and the last exchange was broken off.
+    SaidBroken,
 }
 
 impl Since {
@@ -43,7 +50,8 @@ impl Since {
     {
         match self {
             Since::Unbroken | Since::Failed => Since::Broken,
-            Since::Broken | Since::Mended => Since::Mended,
+            Since::Said => Since::SaidBroken,
+            Since::Broken | Since::SaidBroken | Since::Mended => Since::Mended,
         }
     }
 
@@ -62,8 +70,18 @@ impl Since {
         ensures { result ≡ since_more self }
     {
         match self {
-            Since::Broken => Since::Mended,
+            Since::Broken | Since::SaidBroken => Since::Mended,
             other => other,
+        }
+    }
+
+    /// Behind bytes for another device than the drive.
+    fn said(self) -> Since
+        ensures { result ≡ since_said self }
+    {
+        match self {
+            Since::Unbroken | Since::Failed | Since::Said => Since::Said,
+            Since::Broken | Since::SaidBroken | Since::Mended => Since::Mended,
         }
     }
 }
@@ -125,9 +143,10 @@ impl<M: Medium> Looped<M> for LoopRecords<M> {
 
 impl<M: Medium + Drop> LoopRecords<M> {
     /// A store over the loop of this controller: not ready and not sound. The log of its ring is empty, and this counts as
-    /// its first emptying.
+    /// its first emptying. No device has another place in the parallel poll than that of its party.
     pub fn new(lost: Lost<M>) -> LoopRecords<M>
         requires lost { IsLost (⟦<Lost<M> as Seen<M>>⟧.seen lost) }
+        requires places { Each MayPoll 1 (devices_of (⟦<Lost<M> as Seen<M>>⟧.seen lost)) }
         requires empty { (⟦<Lost<M> as Seen<M>>⟧.seen lost).books.log ≡ [] }
         ensures { ⟦<LoopRecords<M> as Looped<M>>⟧.looped result ≡ record { control = AtLost (⟦<Lost<M> as Seen<M>>⟧.seen lost); sound = false; since = since_is.Unbroken; resumes = 0 } }
     {
@@ -204,7 +223,8 @@ impl<M: Medium + Drop> LoopRecords<M> {
     pub fn ready(&mut self) -> Result<(), Trouble>
         requires valid { StandsSo (⟦<LoopRecords<M> as Looped<M>>⟧.looped self.old).control (⟦<LoopRecords<M> as Looped<M>>⟧.looped self.old).sound (⟦<LoopRecords<M> as Looped<M>>⟧.looped self.old).since }
         requires room { HasRing (⟦<LoopRecords<M> as Looped<M>>⟧.looped self.old).control (λ r. 64 ≤ spare_of r) }
-        ensures { Addresses M.view (⟦<LoopRecords<M> as Looped<M>>⟧.looped self.old).control (⟦<LoopRecords<M> as Looped<M>>⟧.looped self.old) (⟦<LoopRecords<M> as Looped<M>>⟧.looped self.new) result }
+        ensures addresses { Addresses M.view (⟦<LoopRecords<M> as Looped<M>>⟧.looped self.old).control (⟦<LoopRecords<M> as Looped<M>>⟧.looped self.old) (⟦<LoopRecords<M> as Looped<M>>⟧.looped self.new) result }
+        ensures leaves { LeavesStore 1 (⟦<LoopRecords<M> as Records>⟧.view self.old).unbroken (⟦<LoopRecords<M> as Records>⟧.view self.old) (⟦<LoopRecords<M> as Records>⟧.view self.new) result }
     {
         if self.is_ready() {
             return Ok(());
@@ -227,7 +247,7 @@ impl<M: Medium + Drop> LoopRecords<M> {
     }
 
     /// The controller, which is idle, for the time of a call.
-    fn take_idle(&mut self) -> Idle<M>
+    pub(crate) fn take_idle(&mut self) -> Idle<M>
         requires ready { is_idle (⟦<LoopRecords<M> as Looped<M>>⟧.looped self.old).control ≡ true }
         ensures idle { (⟦<LoopRecords<M> as Looped<M>>⟧.looped self.old).control ≡ AtIdle (⟦<Idle<M> as Seen<M>>⟧.seen result) }
         ensures left { ⟦<LoopRecords<M> as Looped<M>>⟧.looped self.new ≡ record (⟦<LoopRecords<M> as Looped<M>>⟧.looped self.old) { control = Nowhere } }
@@ -257,14 +277,14 @@ impl<M: Medium + Drop> LoopRecords<M> {
     }
 
     /// The controller behind a call.
-    fn put_back(&mut self, idle: Idle<M>)
+    pub(crate) fn put_back(&mut self, idle: Idle<M>)
         ensures { ⟦<LoopRecords<M> as Looped<M>>⟧.looped self.new ≡ record (⟦<LoopRecords<M> as Looped<M>>⟧.looped self.old) { control = AtIdle (⟦<Idle<M> as Seen<M>>⟧.seen idle) } }
     {
         self.control = Control::Idle(idle);
     }
 
     /// A call that broke off.
-    fn broke(&mut self, lost: Lost<M>) -> Trouble
+    pub(crate) fn broke(&mut self, lost: Lost<M>) -> Trouble
         ensures left { ⟦<LoopRecords<M> as Looped<M>>⟧.looped self.new ≡ record (⟦<LoopRecords<M> as Looped<M>>⟧.looped self.old) { control = AtLost (⟦<Lost<M> as Seen<M>>⟧.seen lost); sound = false; since = since_frame (⟦<LoopRecords<M> as Looped<M>>⟧.looped self.old).since } }
         ensures answer { result ≡ trouble_is.Frame }
     {
@@ -272,6 +292,13 @@ impl<M: Medium + Drop> LoopRecords<M> {
         self.sound = false;
         self.since = self.since.broken();
         Trouble::Frame
+    }
+
+    /// Bytes go to another device than the drive.
+    pub(crate) fn speak(&mut self)
+        ensures { ⟦<LoopRecords<M> as Looped<M>>⟧.looped self.new ≡ record (⟦<LoopRecords<M> as Looped<M>>⟧.looped self.old) { since = since_said (⟦<LoopRecords<M> as Looped<M>>⟧.looped self.old).since } }
+    {
+        self.since = self.since.said();
     }
 
     /// A call in which the medium failed.

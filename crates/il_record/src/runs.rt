@@ -10,7 +10,7 @@ ghost use Rattle.il_drive.specs.State.{IsDrive};
 ghost use Rattle.il_drive.proofs.ExchangesAddressed.{sdc};
 ghost use Rattle.il_record.specs.Came.{CameUnits};
 ghost use Rattle.il_record.specs.Polls.{PlacesKept};
-ghost use Rattle.il_record.specs.Runs.{Cleared, Interrupted, Polled, NotPolled, ReadAs, ReadBroke, WroteAs, WriteBroke};
+ghost use Rattle.il_record.specs.Runs.{Cleared, Interrupted, clear_asks, Polled, NotPolled, ReadAs, ReadBroke, WroteAs, WriteBroke};
 
 use crate::exchanges::{seek, send};
 use il_control::{Idle, Lost, Sot};
@@ -62,7 +62,7 @@ pub(crate) fn clear<M: Medium>(idle: Idle<M>, drive: u8) -> Result<Idle<M>, Lost
     requires address { drive ≤ 30 }
     requires at { drive ≡ drive_party (⟦<Idle<M> as Seen<M>>⟧.seen idle) }
     ensures cleared { IfOk result (λ cleared. Cleared M.view drive (⟦<Idle<M> as Seen<M>>⟧.seen idle) (⟦<Idle<M> as Seen<M>>⟧.seen cleared)) }
-    ensures broken { IfErr result (λ lost. Interrupted M.view drive (⟦<Idle<M> as Seen<M>>⟧.seen idle) (⟦<Lost<M> as Seen<M>>⟧.seen lost)) }
+    ensures broken { IfErr result (λ lost. Interrupted M.view (clear_asks drive) drive (⟦<Idle<M> as Seen<M>>⟧.seen idle) (⟦<Lost<M> as Seen<M>>⟧.seen lost)) }
     ensures used { IfOk result (λ cleared. spare_of (⟦<Idle<M> as Seen<M>>⟧.seen idle) ≤ spare_of (⟦<Idle<M> as Seen<M>>⟧.seen cleared) + 6) }
     ensures used_lost { IfErr result (λ lost. spare_of (⟦<Idle<M> as Seen<M>>⟧.seen idle) ≤ spare_of (⟦<Lost<M> as Seen<M>>⟧.seen lost) + 7) }
 {

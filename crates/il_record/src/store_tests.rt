@@ -1,34 +1,16 @@
 ghost use Rattle.std.specs.Prelude.{◌≡◌, ◌<◌, true, IfOk};
-ghost use Rattle.il_control.specs.Calls.{IsLost};
 ghost use Rattle.il_ports.specs.Stores.{IsReady};
 ghost use Rattle.il_record.specs.Copying.{Copied};
 
 use crate::LoopRecords;
-use crate::tests::controller_of;
+use crate::test_tools::{self, tape};
 use il_device::{Device, Printer};
 use il_frames::Entry;
-use il_ports::{Inserted, Medium, MemoryMedium, New, Records, Trouble};
+use il_ports::{MemoryMedium, Records, Trouble};
 use il_ring::PlanFault::{Alter, Lose};
-use il_ring::{Planned, Rig, Ring, is_plan};
+use il_ring::Planned;
 use std::process::Abort;
 use std::test::Fail;
-
-/// A medium of 512 records of zeros, of which these reads and writes fail, counted from 1; a write that fails leaves 7s.
-fn tape(
-    rt: &(impl Abort + AllocGlobal),
-    failing_read: u64,
-    failing_write: u64,
-) -> Result<MemoryMedium, Fail> {
-    let alloc = rt.alloc();
-    let mut shelf = Vec::new(alloc);
-    shelf.push((String::from_str(alloc, "TAPE")?, Vec::new(alloc)))?;
-    let (mut reads, mut writes) = (Vec::new(alloc), Vec::new(alloc));
-    reads.push(failing_read)?;
-    writes.push((failing_write, [7; 256]))?;
-    let mut medium = MemoryMedium::new(alloc, shelf, reads, writes, Vec::new(alloc), 20)?;
-    assert_eq!(rt; medium.insert("TAPE", New::No), Ok(Inserted::Tape));
-    Ok(medium)
-}
 
 /// A store over a new ring of a printer, if one is wanted, and the drive.
 fn store(
@@ -45,20 +27,7 @@ fn store(
         let printer: Box<dyn Device> = Box::new(alloc, Printer::new(alloc)?)?;
         before.push(printer)?;
     }
-    let rig = Rig {
-        medium,
-        before,
-        after: Vec::new(alloc),
-    };
-    assert!(rt; rig.fits());
-    assert!(rt; is_plan(plan));
-    assert!(rt; rig.medium.size() > 0);
-    let ring = Ring::new(alloc, rig, plan, 5000)
-        .ok()
-        .expect(rt, "memory for a ring");
-    let lost = controller_of(ring);
-    assert!(rt; lost.ring().log().is_empty());
-    Ok(LoopRecords::new(lost))
+    test_tools::store(rt, medium, before, Vec::new(alloc), plan)
 }
 
 /// What a call answers, as a word.
@@ -295,5 +264,26 @@ fn failing_medium(rt: HostRuntime) -> Result<(), Fail> {
         failing_write(&rt, k)?;
         failing_read(&rt, k)?;
     }
+    Ok(())
+}
+
+/// A drive that failed to read, and whose poll was lost: it tells status 1 once, with bit 6 set, and 0 behind that.
+#[test]
+fn tells_the_status_once(rt: HostRuntime) -> Result<(), Fail> {
+    // Addressing and clearing have 11 frames of two links each, the seek has 8, and the receive that ends at once 9.
+    let planned = Planned {
+        hop: 57,
+        fault: Lose,
+    };
+    let mut records = store(&rt, tape(&rt, 1, 0)?, false, &[planned])?;
+    assert_eq!(rt; resume(&rt, &mut records), "ok");
+    let mut into = [9; 256];
+    assert_eq!(rt; read(&rt, &mut records, 508, &mut into), "frame");
+    assert!(rt; records.ring().spare() >= 64);
+    assert_eq!(rt; records.ready(), Ok(()));
+    assert!(rt; records.is_ready() && records.ring().spare() >= 1000);
+    assert_eq!(rt; records.drive_status(), Ok(0x41));
+    assert!(rt; records.is_ready() && records.ring().spare() >= 1000);
+    assert_eq!(rt; records.drive_status(), Ok(0));
     Ok(())
 }

@@ -1,52 +1,9 @@
-ghost use Rattle.std.specs.Prelude.{IfOk};
-ghost use Rattle.il_control.specs.Calls.{IsLost};
-
 use crate::exchanges::seek;
-use il_control::Lost;
+use crate::test_tools::{controller, tape};
 use il_frames::{Class, Frame, Outcome};
-use il_ports::{Inserted, Medium, MemoryMedium, New};
 use il_ring::PlanFault::Lose;
-use il_ring::{Planned, Rig, Ring, Seen, is_plan};
-use std::process::Abort;
+use il_ring::Planned;
 use std::test::Fail;
-
-/// A medium of 512 records of zeros.
-pub(crate) fn blank_tape(rt: &(impl Abort + AllocGlobal)) -> Result<MemoryMedium, Fail> {
-    let alloc = rt.alloc();
-    let mut shelf = Vec::new(alloc);
-    shelf.push((String::from_str(alloc, "TAPE")?, Vec::new(alloc)))?;
-    let (reads, writes, inserts) = (Vec::new(alloc), Vec::new(alloc), Vec::new(alloc));
-    let mut medium = MemoryMedium::new(alloc, shelf, reads, writes, inserts, 0)?;
-    assert_eq!(rt; medium.insert("TAPE", New::No), Ok(Inserted::Tape));
-    Ok(medium)
-}
-
-/// The controller of a new ring.
-pub(crate) fn controller_of(ring: Ring<MemoryMedium>) -> Lost<MemoryMedium>
-    requires { IsLost (⟦<Ring<MemoryMedium> as Seen<MemoryMedium>>⟧.seen ring) }
-    ensures { IsLost (⟦<Lost<MemoryMedium> as Seen<MemoryMedium>>⟧.seen result) }
-{
-    Lost::new(ring)
-}
-
-/// The controller of a new ring of the drive alone.
-fn controller(rt: &(impl Abort + AllocGlobal), plan: &[Planned]) -> Result<Lost<MemoryMedium>, Fail>
-    ensures { IfOk result (λ lost. IsLost (⟦<Lost<MemoryMedium> as Seen<MemoryMedium>>⟧.seen lost)) }
-{
-    let alloc = rt.alloc();
-    let rig = Rig {
-        medium: blank_tape(rt)?,
-        before: Vec::new(alloc),
-        after: Vec::new(alloc),
-    };
-    assert!(rt; rig.fits());
-    assert!(rt; is_plan(plan));
-    assert!(rt; rig.medium.size() > 0);
-    let ring = Ring::new(alloc, rig, plan, 100)
-        .ok()
-        .expect(rt, "memory for a ring");
-    Ok(controller_of(ring))
-}
 
 /// The two bytes of a record's number are the last frames of a seek; where the second is lost, so is the controller's state.
 #[test]
@@ -57,7 +14,8 @@ fn seeks(rt: HostRuntime) -> Result<(), Fail> {
         fault: Lose,
     };
     for plan in [&[] as &[Planned], &[planned]] {
-        let lost = controller(&rt, plan)?;
+        let (before, after) = (Vec::new(rt.alloc()), Vec::new(rt.alloc()));
+        let lost = controller(&rt, tape(&rt, 0, 0)?, before, after, plan)?;
         assert!(rt; lost.ring().spare() >= 37);
         let (idle, _) = lost.resume().ok().expect(&rt, "no fault in the addressing");
         assert!(rt; idle.ring().spare() >= 41);

@@ -9,7 +9,7 @@ pub loop-place-init : goal.loop-place-init
 loop-place-init g c = named_none g.M.Medium.view _ c.requires.idle (idle_silent _ _ c.requires.idle c.drive_of.ensures.drive) _ c.clear.ensures
 
 pub returns-in_err-next-clause-broken : goal.returns-in_err-next-clause-broken
-returns-in_err-next-clause-broken g c = if_err _ _ _ c.from_residual.ensures (named_part g.M.Medium.view _ c.requires.idle _ _ _ _ c.loop-place.invariant c.in_err-next.ensures.broken)
+returns-in_err-next-clause-broken g c = if_err _ _ _ c.from_residual.ensures (named_part g.M.Medium.view _ c.requires.idle c.loop-place.place c.args.count _ _ _ (omega (arith, c.loop-place-test.true)) c.loop-place.invariant c.in_err-next.ensures.broken)
 
 pub returns-in_err-next-clause-used_lost : goal.returns-in_err-next-clause-used_lost
 returns-in_err-next-clause-used_lost g c =

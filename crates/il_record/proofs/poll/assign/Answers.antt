@@ -4,13 +4,13 @@ use Rattle.il_record.proofs.Sends.{if_err, ok_both, err_both}
 use Rattle.il_record.proofs.poll.assign.Goals as goal
 
 pub returns-in_err-idle-clause-broken : goal.returns-in_err-idle-clause-broken
-returns-in_err-idle-clause-broken g c = if_err _ _ _ c.from_residual.ensures (broke_within g.M.Medium.view _ _ _ _ (omega arith) (not_begun g.M.Medium.view _ c.requires.idle c.requires.silent _ _ c.unlisten.ensures.frame c.in_err-idle.ensures.broken c.in_err-idle.ensures.part))
+returns-in_err-idle-clause-broken g c = if_err _ _ _ c.from_residual.ensures (broke_within g.M.Medium.view _ _ _ _ _ (omega arith) (not_begun g.M.Medium.view _ c.requires.idle c.requires.silent _ _ _ c.unlisten.ensures.frame c.in_err-idle.ensures.broken c.in_err-idle.ensures.part))
 
 pub returns-in_err-idle-2-clause-broken : goal.returns-in_err-idle-2-clause-broken
 returns-in_err-idle-2-clause-broken g c =
     let first = begun g.M.Medium.view _ c.requires.idle c.requires.silent _ _ c.unlisten.ensures.frame (omega (arith, c.requires.room)) c.in_ok-idle.ensures.made c.in_ok-idle.ensures.obeyed in
     if_err _ _ _ c.from_residual-in_err-idle-2.ensures
-    (broke_within g.M.Medium.view _ _ _ _ (omega arith) (told_not g.M.Medium.view _ c.requires.idle c.requires.silent _ c.requires.address.0 c.requires.address.1 _ _ _ c.listen_address.ensures.frame first c.in_err-idle-2.ensures.broken c.in_err-idle-2.ensures.part))
+    (broke_within g.M.Medium.view _ _ _ _ _ (omega arith) (told_not g.M.Medium.view _ c.requires.idle c.requires.silent _ c.requires.address.0 c.requires.address.1 _ _ _ c.listen_address.ensures.frame first c.in_err-idle-2.ensures.broken c.in_err-idle-2.ensures.part))
 
 pub returns-clause-assigned : goal.returns-clause-assigned
 returns-clause-assigned g c =

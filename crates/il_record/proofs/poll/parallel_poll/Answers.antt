@@ -1,5 +1,5 @@
 use Rattle.std.proofs.Common.{arith}
-use Rattle.il_record.proofs.Collecting.{assigned_none, assigned_more, broke_behind, polled}
+use Rattle.il_record.proofs.Collecting.{assigned_none, assigned_more, broke_collecting, broke_placing, polled}
 use Rattle.il_record.proofs.Readings.{idle_silent}
 use Rattle.il_record.proofs.Sends.{if_err, ok_as, err_as}
 use Rattle.il_record.proofs.poll.parallel_poll.Goals as goal
@@ -8,7 +8,7 @@ pub loop-place-init : goal.loop-place-init
 loop-place-init g c = assigned_none g.M.Medium.view _ c.requires.idle (idle_silent _ _ c.requires.idle c.drive_of.ensures.drive)
 
 pub returns-in_err-idle-clause-broken : goal.returns-in_err-idle-clause-broken
-returns-in_err-idle-clause-broken g c = if_err _ _ _ c.from_residual.ensures (broke_behind g.M.Medium.view _ c.requires.idle c.loop-place.place 7 54 _ _ (omega (arith, c.loop-place-test.true, c.min-place-end.ensures)) c.loop-place.invariant c.in_err-idle.ensures.broken)
+returns-in_err-idle-clause-broken g c = if_err _ _ _ c.from_residual.ensures (broke_placing g.M.Medium.view _ c.requires.idle c.loop-place.place c.args.count _ _ (omega (arith, c.loop-place-test.true, c.min-place-end.ensures)) c.loop-place.invariant c.in_err-idle.ensures.broken)
 
 pub loop-place-preserved : goal.loop-place-preserved
 loop-place-preserved g c = assigned_more g.M.Medium.view _ c.requires.idle _ _ _ (omega (arith, c.loop-place-test.true, c.min-place-end.ensures)) c.loop-place.invariant c.in_ok-idle.ensures.assigned
@@ -20,4 +20,4 @@ returns-clause-polled g c =
     c.collect.ensures.collected
 
 pub returns-clause-broken : goal.returns-clause-broken
-returns-clause-broken g c = err_as _ _ _ (λ lost broke. broke_behind g.M.Medium.view _ c.requires.idle c.loop-place.place 6 54 _ _ (omega (arith, c.loop-place-test.false, c.loop-place.auto.place-end, c.min-place-end.ensures)) c.loop-place.invariant broke) c.collect.ensures.broken
+returns-clause-broken g c = err_as _ _ _ (λ lost broke. broke_collecting g.M.Medium.view _ c.requires.idle c.loop-place.place c.args.count _ _ (omega (arith, c.loop-place-test.false, c.loop-place.auto.place-end, c.min-place-end.ensures)) c.loop-place.invariant broke) c.collect.ensures.broken

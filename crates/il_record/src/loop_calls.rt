@@ -1,0 +1,114 @@
+// Calls of a store over the loop that move no record.
+ghost use Rattle.std.specs.Prelude.{◌≡◌, ◌≤◌, ◌+◌, ◌/◌, true, false, length};
+ghost use Rattle.il_ring.specs.Rings.{spare_of, devices_of, drive_party};
+ghost use Rattle.il_record.specs.Asks.{up_to};
+ghost use Rattle.il_record.specs.Called.{Calls, LeavesStore};
+ghost use Rattle.il_record.specs.LoopCalls.{AllNamed, LeftAlone, NotSaid, Said, id_asks};
+ghost use Rattle.il_record.specs.LoopStores.{HasRing, StandsSo, is_idle, since_frame, since_said};
+ghost use Rattle.il_record.specs.Polls.{HasPolled, PollBroke, poll_asks};
+ghost use Rattle.il_record.specs.Runs.{NotPolled, Polled};
+
+use crate::records::{LoopRecords, Looped};
+use crate::runs::{drive_of, status};
+use crate::{calls, poll};
+use arrayvec::ArrayVec;
+use il_frames::Frame;
+use il_ports::{Medium, Records, Trouble};
+
+impl<M: Medium + Drop> LoopRecords<M> {
+    /// Asks the drive for its status, which is 0 behind it, and answers the status byte: 0, or 64 more than the status.
+    ///
+    /// The error is `Trouble::Frame`, and comes exactly where a planned fault acted on a frame of the call.
+    pub fn drive_status(&mut self) -> Result<u8, Trouble>
+        requires valid { StandsSo (⟦<LoopRecords<M> as Looped<M>>⟧.looped self.old).control (⟦<LoopRecords<M> as Looped<M>>⟧.looped self.old).sound (⟦<LoopRecords<M> as Looped<M>>⟧.looped self.old).since }
+        requires ready { is_idle (⟦<LoopRecords<M> as Looped<M>>⟧.looped self.old).control ≡ true }
+        requires room { HasRing (⟦<LoopRecords<M> as Looped<M>>⟧.looped self.old).control (λ r. 1000 ≤ spare_of r) }
+        ensures told { Calls (λ byte r s. Polled M.view (drive_party r) byte r s) (λ r s. NotPolled M.view (drive_party r) r s)
+            (⟦<LoopRecords<M> as Looped<M>>⟧.looped self.old).since (since_frame (⟦<LoopRecords<M> as Looped<M>>⟧.looped self.old).since)
+            (⟦<LoopRecords<M> as Looped<M>>⟧.looped self.old) (⟦<LoopRecords<M> as Looped<M>>⟧.looped self.new) result }
+        ensures leaves { LeavesStore 1 true (⟦<LoopRecords<M> as Records>⟧.view self.old) (⟦<LoopRecords<M> as Records>⟧.view self.new) result }
+    {
+        let idle = self.take_idle();
+        let drive = drive_of(&idle);
+        match status(idle, drive) {
+            Ok((idle, byte)) => {
+                self.put_back(idle);
+                Ok(byte)
+            }
+            Err(lost) => Err(self.broke(lost)),
+        }
+    }
+
+    /// Asks each device, in the order of the ring, for its accessory ID, and puts these into `into`: None for a device that
+    /// has none.
+    ///
+    /// The error is `Trouble::Frame`, and comes exactly where a planned fault acted on a frame of the call.
+    pub fn accessories(&mut self, into: &mut ArrayVec<Option<u8>, 30>) -> Result<(), Trouble>
+        requires valid { StandsSo (⟦<LoopRecords<M> as Looped<M>>⟧.looped self.old).control (⟦<LoopRecords<M> as Looped<M>>⟧.looped self.old).sound (⟦<LoopRecords<M> as Looped<M>>⟧.looped self.old).since }
+        requires ready { is_idle (⟦<LoopRecords<M> as Looped<M>>⟧.looped self.old).control ≡ true }
+        requires room { HasRing (⟦<LoopRecords<M> as Looped<M>>⟧.looped self.old).control (λ r. 1000 ≤ spare_of r) }
+        ensures named { Calls (λ x r s. AllNamed M.view into.new.items r s) (λ r s. LeftAlone M.view false (up_to id_asks (length (devices_of r))) r s)
+            (⟦<LoopRecords<M> as Looped<M>>⟧.looped self.old).since (since_frame (⟦<LoopRecords<M> as Looped<M>>⟧.looped self.old).since)
+            (⟦<LoopRecords<M> as Looped<M>>⟧.looped self.old) (⟦<LoopRecords<M> as Looped<M>>⟧.looped self.new) result }
+        ensures leaves { LeavesStore 2 true (⟦<LoopRecords<M> as Records>⟧.view self.old) (⟦<LoopRecords<M> as Records>⟧.view self.new) result }
+    {
+        let idle = self.take_idle();
+        let count = idle.ring().devices();
+        match calls::accessories(idle, count, into) {
+            Ok(idle) => {
+                self.put_back(idle);
+                Ok(())
+            }
+            Err(lost) => Err(self.broke(lost)),
+        }
+    }
+
+    /// Polls the first eight devices in parallel, and answers the identify frame as it came back: bit a - 1 is set where
+    /// device a wants service, and its class is ISR where any device on the ring does.
+    ///
+    /// The error is `Trouble::Frame`, and comes exactly where a planned fault acted on a frame of the call.
+    pub fn parallel_poll(&mut self) -> Result<Frame, Trouble>
+        requires valid { StandsSo (⟦<LoopRecords<M> as Looped<M>>⟧.looped self.old).control (⟦<LoopRecords<M> as Looped<M>>⟧.looped self.old).sound (⟦<LoopRecords<M> as Looped<M>>⟧.looped self.old).since }
+        requires ready { is_idle (⟦<LoopRecords<M> as Looped<M>>⟧.looped self.old).control ≡ true }
+        requires room { HasRing (⟦<LoopRecords<M> as Looped<M>>⟧.looped self.old).control (λ r. 1000 ≤ spare_of r) }
+        ensures polled { Calls (HasPolled M.view) (λ r s. PollBroke M.view 54 (poll_asks (length (devices_of r))) r s)
+            (⟦<LoopRecords<M> as Looped<M>>⟧.looped self.old).since (since_frame (⟦<LoopRecords<M> as Looped<M>>⟧.looped self.old).since)
+            (⟦<LoopRecords<M> as Looped<M>>⟧.looped self.old) (⟦<LoopRecords<M> as Looped<M>>⟧.looped self.new) result }
+        ensures leaves { LeavesStore 1 true (⟦<LoopRecords<M> as Records>⟧.view self.old) (⟦<LoopRecords<M> as Records>⟧.view self.new) result }
+    {
+        let idle = self.take_idle();
+        let count = idle.ring().devices();
+        match poll::parallel_poll(idle, count) {
+            Ok((idle, frame)) => {
+                self.put_back(idle);
+                Ok(frame)
+            }
+            Err(lost) => Err(self.broke(lost)),
+        }
+    }
+
+    /// Sends bytes to the device of this address, 1 to 30.
+    ///
+    /// The error is `Trouble::Frame`, and comes exactly where a planned fault acted on a frame of the call. The device then
+    /// heard some of the bytes, the first ones, and at most one byte more, of any value.
+    pub fn say(&mut self, printer: u8, bytes: &[u8]) -> Result<(), Trouble>
+        requires valid { StandsSo (⟦<LoopRecords<M> as Looped<M>>⟧.looped self.old).control (⟦<LoopRecords<M> as Looped<M>>⟧.looped self.old).sound (⟦<LoopRecords<M> as Looped<M>>⟧.looped self.old).since }
+        requires ready { is_idle (⟦<LoopRecords<M> as Looped<M>>⟧.looped self.old).control ≡ true }
+        requires room { HasRing (⟦<LoopRecords<M> as Looped<M>>⟧.looped self.old).control (λ r. length bytes.now + 1000 ≤ spare_of r) }
+        requires address { (1 ≤ printer) × (printer ≤ 30) }
+        ensures said { Calls (λ x r s. Said M.view printer bytes.now r s) (λ r s. NotSaid M.view printer bytes.now r s)
+            (since_said (⟦<LoopRecords<M> as Looped<M>>⟧.looped self.old).since) (since_frame (since_said (⟦<LoopRecords<M> as Looped<M>>⟧.looped self.old).since))
+            (⟦<LoopRecords<M> as Looped<M>>⟧.looped self.old) (⟦<LoopRecords<M> as Looped<M>>⟧.looped self.new) result }
+        ensures leaves { LeavesStore ((length bytes.now + 306) / 300) true (⟦<LoopRecords<M> as Records>⟧.view self.old) (⟦<LoopRecords<M> as Records>⟧.view self.new) result }
+    {
+        let idle = self.take_idle();
+        self.speak();
+        match calls::say(idle, printer, bytes) {
+            Ok(idle) => {
+                self.put_back(idle);
+                Ok(())
+            }
+            Err(lost) => Err(self.broke(lost)),
+        }
+    }
+}
