@@ -1,5 +1,5 @@
 -- The addressing of a loop: no records in the log, none on the tape, and nothing heard.
-use Rattle.std.proofs.Common.{◌≡◌, ◌∙◌, ◌≤◌, ◌&&◌, ◌==◌, ⊎_elim, ℕ, zero, suc, Bool, true, false, List, [], ◌∷◌, None, length, refl, sym, ap, subst, append-nil}
+use Rattle.std.proofs.Common.{◌≡◌, ◌∙◌, ◌≤◌, ◌&&◌, ◌==◌, ◌⊎◌, inl, inr, ⊎_elim, ℕ, zero, suc, Bool, true, false, List, [], ◌∷◌, None, length, refl, sym, ap, subst, append-nil}
 use Rattle.std.specs.List.{list_all}
 use Rattle.std.proofs.lemmas.Bool.{and_from, eq-eqb}
 use Rattle.il_frames.specs.declared.frame.Frame.{Frame}
@@ -7,8 +7,9 @@ use Rattle.il_frames.specs.declared.entry.Entry.{Entry}
 use Rattle.il_frames.specs.Messages.{message_of}
 use Rattle.il_device.proofs.Laws.{message_of-aad}
 use Rattle.il_ports.specs.Media.{MediumView}
+use Rattle.il_device.specs.declared.device.Out.{Out}
 use Rattle.il_drive.specs.Runs.{Ran}
-use Rattle.il_drive.proofs.ExchangesAddressed.{is_addressed}
+use Rattle.il_drive.specs.State.{DriveView, status_of}
 use Rattle.il_drive.proofs.ExchangesStill.{NonePuts, may_put, leaves_records}
 use Rattle.loop_model.specs.Entries.{ifc, aau, rfc, aad}
 use Rattle.loop_model.specs.Exchanges.{Command, Address, Piece, Whole as WholeOne, Cut, Break, is_piece, breaks_off, entries_of, cut_at, can_cut}
@@ -21,27 +22,19 @@ use Rattle.il_ring.specs.Adds.{Adds}
 use Rattle.il_ring.specs.Rings.{RingView, devices_of, roles_of, drive_party}
 use Rattle.il_ring.proofs.Passing.{is_exact}
 use Rattle.loop_model.specs.Reach.{brings_to}
-use Rattle.il_control.specs.Brought.{Brought, BroughtIf, CutBrought, ComesAs, MayComeAs, is_auto_address}
+use Rattle.il_control.specs.Brought.{BroughtIf, CutBrought, ComesAs, MayComeAs, is_auto_address}
 use Rattle.il_control.specs.Calls.{AllStay, Resumed, NotResumed, addressing, loop_of}
 use Rattle.il_control.proofs.HeldAtEnd.{quiet_ended}
 use Rattle.il_record.specs.Asks.{Asked}
-use Rattle.il_record.specs.Runs.{LeavesRecords, Interrupted, Readied, address_asks}
+use Rattle.il_record.specs.Runs.{LeavesDevices, LeavesRecords, Interrupted, Readied, address_asks}
 use Rattle.il_record.specs.Talks.{Talked, all_entries}
+use Rattle.il_record.proofs.AddressedDrive.{resumed_drive}
 use Rattle.il_record.proofs.Cuts.{counts_up, comes_may}
+use Rattle.il_record.proofs.Mild.{AllMild, ifc_ran, is_mild}
 use Rattle.il_record.proofs.Places.{kept_stays}
-use Rattle.il_record.proofs.Readings.{party_within}
 use Rattle.il_record.proofs.ReadRuns.{came_still, others_of}
 
 -- ---- whole
-
-frames_came : (k q : ℕ) (gs : List Frame) → Brought k q (addressing k) gs → gs ≡ ifc ∷ rfc ∷ aau ∷ rfc ∷ aad q ∷ []
-frames_came k q [] brought = absurd brought
-frames_came k q (a ∷ []) brought = absurd brought.1
-frames_came k q (a ∷ b ∷ []) brought = absurd brought.1.1
-frames_came k q (a ∷ b ∷ c ∷ []) brought = absurd brought.1.1.1
-frames_came k q (a ∷ b ∷ c ∷ e ∷ []) brought = absurd brought.1.1.1.1
-frames_came k q (a ∷ b ∷ c ∷ e ∷ g ∷ gs) brought =
-    λ i. brought.0.other refl refl i ∷ brought.1.0.other refl refl i ∷ brought.1.1.0.other refl refl i ∷ brought.1.1.1.0.other refl refl i ∷ brought.1.1.1.1.0.address refl i ∷ brought.1.1.1.1.1 i
 
 pub readied : {M : Type 0} (view : M → MediumView) (n : ℕ) (r s : RingView M) → drive_party r ≤ 30 → Resumed view n r s → AllStay true r s → Readied view r s
 readied view n r s low done stays =
@@ -57,14 +50,12 @@ readied view n r s low done stays =
       state = done.idle;
     } in
     let q = drive_party r in
-    let brought = subst (λ n. Brought k q (addressing n) adds.came) done.count (done.whole.brought refl) in
-    let run = subst (λ fs. Ran view r.drive fs adds.answers s.drive) (frames_came k q adds.came brought) adds.drive in
-    let medium = (is_addressed view q adds.answers r.drive s.drive (party_within r).0 low run).1 in
+    let drive = resumed_drive view n r s low done in
     record {
-      came = record { units = came_still view true ps [] r s talked refl refl (λ t. refl) (ap (λ m. (view m).tape) medium); asked = (refl, (refl, (refl, tt))) };
+      came = record { units = came_still view true ps [] r s talked refl refl (λ t. refl) (ap (λ m. (view m).tape) drive.medium); asked = (refl, (refl, (refl, tt))) };
       unheard = others_of q r s (done.whole.unheard refl);
-      places = kept_stays r s true stays;
-      medium = medium;
+      leaves = record { stays = stays; status = drive.status };
+      medium = drive.medium;
       idle = done.idle;
     }
 
@@ -95,36 +86,71 @@ cut_pieces k q (suc (suc (suc (suc zero)))) b legal = record {
 cut_pieces k q (suc (suc (suc (suc (suc n))))) b legal = cc
 
 -- how its frames come: as they were sent, or AAD with a number
-abbrev MayCome : ℕ → Frame → Type 0
-MayCome q f = (g : Frame) → MayComeAs q f g → may_put (message_of g) ≡ false
+abbrev MayCome : (Frame → Type 0) → ℕ → Frame → Type 0
+MayCome P q f = (g : Frame) → MayComeAs q f g → P g
 
-may_come : (q : ℕ) (f : Frame) → is_exact (message_of f) ≡ true → is_auto_address (message_of f) ≡ false → may_put (message_of f) ≡ false → MayCome q f
-may_come q f exact other none = λ g comes. ap (λ f. may_put (message_of f)) (comes.other exact other) ∙ none
+abbrev AllMayCome : (Frame → Type 0) → ℕ → List Entry → Type 0
+AllMayCome P q [] = Unit {0}
+AllMayCome P q (e ∷ es) = MayCome P q e.frame × AllMayCome P q es
 
--- AAD puts no record
-aad_puts : (n : ℕ) → n ≤ 30 → may_put (message_of (aad n)) ≡ false
-aad_puts n low = ap may_put (message_of-aad n low)
+abbrev AllHave : (Frame → Type 0) → List Frame → Type 0
+AllHave P [] = Unit {0}
+AllHave P (f ∷ fs) = P f × AllHave P fs
 
-abbrev AllMayCome : ℕ → List Entry → Type 0
-AllMayCome q [] = Unit {0}
-AllMayCome q (e ∷ es) = MayCome q e.frame × AllMayCome q es
-
-cut_puts_none : (k q n : ℕ) (es : List Entry) (gs : List Frame) → AllMayCome q es → CutBrought k q es n gs → NonePuts gs
-cut_puts_none k q n [] gs all came = subst NonePuts (sym came) tt
-cut_puts_none k q zero (e ∷ es) gs all came = ⊎_elim (λ nothing. subst NonePuts (sym nothing) tt) (λ one. subst NonePuts (sym one.2) (all.0 one.0 one.1, tt)) came
-cut_puts_none k q (suc n) (e ∷ es) gs all came = by (brings_to k q e) gs (λ gs came. cut_puts_none k q n es gs all.1 came) came
+cut_have : (P : Frame → Type 0) (k q n : ℕ) (es : List Entry) (gs : List Frame) → AllMayCome P q es → CutBrought k q es n gs → AllHave P gs
+cut_have P k q n [] gs all came = subst (AllHave P) (sym came) tt
+cut_have P k q zero (e ∷ es) gs all came = ⊎_elim (λ nothing. subst (AllHave P) (sym nothing) tt) (λ one. subst (AllHave P) (sym one.2) (all.0 one.0 one.1, tt)) came
+cut_have P k q (suc n) (e ∷ es) gs all came = by (brings_to k q e) gs (λ gs came. cut_have P k q n es gs all.1 came) came
   where
-    by : (b : Bool) (gs : List Frame) → ((gs : List Frame) → CutBrought k q es n gs → NonePuts gs) → BroughtIf b (ComesAs q e.frame) (CutBrought k q es n) gs → NonePuts gs
+    by : (b : Bool) (gs : List Frame) → ((gs : List Frame) → CutBrought k q es n gs → AllHave P gs) → BroughtIf b (ComesAs q e.frame) (CutBrought k q es n) gs → AllHave P gs
     by false gs rest came = rest gs came
     by true [] rest came = absurd came
     by true (g ∷ gs) rest came = (all.0 g (comes_may q e.frame g came.0), rest gs came.1)
 
-addressing_may : (k q : ℕ) → q ≤ 30 → AllMayCome q (addressing k)
-addressing_may k q low =
-    let handshake = may_come q rfc refl refl refl in
-    (may_come q ifc refl refl refl, (handshake, (may_come q aau refl refl refl, (handshake, ((λ g comes. ap (λ f. may_put (message_of f)) (comes.address refl) ∙ aad_puts q low), tt)))))
+-- it puts no record, and asks nothing of a drive
+record Harmless (f : Frame) : Type 0 where
+  puts_none : may_put (message_of f) ≡ false
+  mild : is_mild (message_of f) ≡ true
 
-pub not_readied : {M : Type 0} (view : M → MediumView) (r s : RingView M) → drive_party r ≤ 30 → NotResumed view r s → AllStay true r s → Interrupted view address_asks (drive_party r) r s
+none_puts : (gs : List Frame) → AllHave Harmless gs → NonePuts gs
+none_puts [] all = tt
+none_puts (g ∷ gs) all = (all.0.puts_none, none_puts gs all.1)
+
+all_mild : (gs : List Frame) → AllHave Harmless gs → AllMild gs
+all_mild [] all = tt
+all_mild (g ∷ gs) all = (all.0.mild, all_mild gs all.1)
+
+as_sent : (q : ℕ) (f : Frame) → is_exact (message_of f) ≡ true → is_auto_address (message_of f) ≡ false → Harmless f → MayCome Harmless q f
+as_sent q f exact other so g comes = subst Harmless (sym (comes.other exact other)) so
+
+-- AAD with a number
+numbered : (q : ℕ) (f g : Frame) → q ≤ 30 → g ≡ aad q → Harmless g
+numbered q f g low is = record { puts_none = ap (λ f. may_put (message_of f)) is ∙ ap may_put (message_of-aad q low); mild = ap (λ f. is_mild (message_of f)) is ∙ ap is_mild (message_of-aad q low) }
+
+addressing_may : (k q : ℕ) → q ≤ 30 → AllMayCome Harmless q (addressing k)
+addressing_may k q low =
+    let handshake = as_sent q rfc refl refl (record { puts_none = refl; mild = refl }) in
+    (as_sent q ifc refl refl (record { puts_none = refl; mild = refl }), (handshake, (as_sent q aau refl refl (record { puts_none = refl; mild = refl }), (handshake, ((λ g comes. numbered q (aad 1) g low (comes.address refl)), tt)))))
+
+-- nothing came, or IFC and then others of them
+first_came : (k q n : ℕ) (gs : List Frame) → CutBrought k q (addressing k) n gs → (gs ≡ []) ⊎ ((fs : List Frame) × (gs ≡ ifc ∷ fs))
+first_came k q zero gs came = ⊎_elim (λ nothing. inl nothing) (λ one. inr ([], one.2 ∙ ap (λ g. g ∷ []) (one.1.other refl refl))) came
+first_came k q (suc n) [] came = absurd came
+first_came k q (suc n) (g ∷ gs) came = inr (gs, ap (λ g. g ∷ gs) (came.0.other refl refl))
+
+nothing_ran : {M : Type 0} (view : M → MediumView) (outs : List Out) (v w : DriveView M) → Ran view v [] outs w → status_of w.state ≡ status_of v.state
+nothing_ran view [] v w ran = ap (λ (v : DriveView _). status_of v.state) ran
+nothing_ran view (out ∷ outs) v w ran = absurd ran
+
+status_kept : {M : Type 0} (view : M → MediumView) (k q n : ℕ) (gs : List Frame) (outs : List Out) (v w : DriveView M) → q ≤ 30 → CutBrought k q (addressing k) n gs → Ran view v gs outs w → status_of w.state ≡ status_of v.state
+status_kept view k q n gs outs v w low came ran = ⊎_elim
+    (λ nothing. nothing_ran view outs v w (subst (λ gs. Ran view v gs outs w) nothing ran))
+    (λ some.
+    let all : AllHave Harmless (ifc ∷ some.0) = subst (AllHave Harmless) some.1 (cut_have Harmless k q n (addressing k) gs (addressing_may k q low) came) in
+    (ifc_ran view some.0 outs v w (all_mild some.0 all.1) (subst (λ gs. Ran view v gs outs w) some.1 ran)).status)
+    (first_came k q n gs came)
+
+pub not_readied : {M : Type 0} (view : M → MediumView) (r s : RingView M) → drive_party r ≤ 30 → NotResumed view r s → AllStay true r s → Interrupted view address_asks (drive_party r) r s × LeavesDevices r s
 not_readied view r s low not stays =
     let k = length (devices_of r) in
     let q = drive_party r in
@@ -142,12 +168,14 @@ not_readied view r s low not stays =
       state = not.lost;
     } in
     let left : LeavesRecords view r.drive s.drive = record {
-      still = leaves_records view broke.adds.came broke.adds.answers r.drive s.drive (cut_puts_none k q broke.standing (addressing k) broke.adds.came (addressing_may k q low) (broke.brought refl)) broke.adds.drive;
+      still = leaves_records view broke.adds.came broke.adds.answers r.drive s.drive (none_puts broke.adds.came (cut_have Harmless k q broke.standing (addressing k) broke.adds.came (addressing_may k q low) (broke.brought refl))) broke.adds.drive;
       count = counts_up view broke.adds.came broke.adds.answers r.drive s.drive broke.adds.drive;
-    } in
-    record {
-      came = record { units = came_still view false cut.pieces [] r s talked (ends_within-broken (loop_of r) cut.pieces cut.ends) cut.none (λ t. refl) left.still.tape; asked = cut.asked };
-      unheard = others_of q r s (broke.unheard refl);
-      places = kept_stays r s true stays;
-      drive = left;
-    }
+    } in (
+      record {
+        came = record { units = came_still view false cut.pieces [] r s talked (ends_within-broken (loop_of r) cut.pieces cut.ends) cut.none (λ t. refl) left.still.tape; asked = cut.asked };
+        unheard = others_of q r s (broke.unheard refl);
+        places = kept_stays r s true stays;
+        drive = left;
+      },
+      record { stays = stays; status = status_kept view k q broke.standing broke.adds.came broke.adds.answers r.drive s.drive low (broke.brought refl) broke.adds.drive },
+    )

@@ -22,7 +22,7 @@ use Rattle.il_record.specs.LoopCalls.{AllNamed, LeftAlone, NotSaid, Said, id_ask
 use Rattle.il_record.specs.LoopStores.{LoopView, Standing, Addresses, AtIdle, AtLost, HasRing, Nowhere, StandsSo, Stood, Transferred, calls_in, is_broken, is_unbroken, since_frame, since_more, since_said, view_at, view_of}
 use Rattle.il_record.specs.Polls.{HasPolled, MayPoll, PlacesKept, PollBroke, PollsOn, Released, poll_asks}
 use Rattle.il_record.specs.Runs.{NotPolled, Polled}
-use Rattle.il_record.proofs.Places.{free_on, kept_left, kept_not_said, kept_said, may_poll_broke, may_poll_kept, may_poll_polled}
+use Rattle.il_record.proofs.Places.{free_on, kept_left, kept_not_said, kept_said, kept_stays, may_poll_broke, may_poll_kept, may_poll_polled}
 use Rattle.il_record.proofs.ReadRuns.{others_of}
 use Rattle.il_record.proofs.StoreCalls.{calls_less, frames_rose, frames_same, stood_frame, stood_not_said, stood_said, stood_whole, transferred_then}
 use Rattle.il_record.proofs.StoreResumes.{alive_more, count_of, more_same, party_same, still_of}
@@ -185,7 +185,7 @@ module _ {M S : Type 0} (view : M → MediumView) (seen : S → RingView M) (p q
       pub status_leaves : {T : Type 0} (x : T) (byte : ℕ) → new ≡ record mid { control = AtIdle s } → Polled view d byte r s → CameUnits view true [] r s → PlacesKept r s → spare_of r ≤ spare_of s + 13 → LeavesStore 1 told (view_of view seen p old) (view_of view seen q new) (Ok x)
       status_leaves x byte left polled units places used =
           leaves_ok view seen p q old new old.since 1 13 r s at begun (still_of view r s polled.drive.medium) (may_poll_kept r s places begun.may) used (omega arith) told x (left ∙ ap (λ (l : LoopView M). record l { control = AtIdle s }) taken) units
-          (λ sound. subst (λ d. IsFree d s.drive.state) (party ∙ sym (party_same view r s units)) polled.drive.rests.free) (count_of view r s polled.drive.medium) begun.alive (λ start so. stood_whole view old.since [] start r s so begun.alive units refl (others_of (drive_party r) r s polled.unheard))
+          (λ sound. subst (λ d. IsFree d s.drive.state) (party ∙ sym (party_same view r s units)) polled.drive.rests.free) (count_of view r s polled.drive.medium) begun.alive (λ start so. stood_whole view old.since [] start r s so begun.alive units refl (others_of (drive_party r) r s polled.unheard) (count_of view r s polled.drive.medium) (λ before. polled.drive.rests.free.status))
 
       pub status_breaks : {T : Type 0} (e : Trouble) → e ≡ trouble.Frame → new ≡ record mid { control = AtLost s; sound = false; since = since_frame mid.since } → NotPolled view d r s → CameUnits view false [] r s → PlacesKept r s → spare_of r ≤ spare_of s + 14
           → LeavesStore {T = T} 1 told (view_of view seen p old) (view_of view seen q new) (Err e)
@@ -201,7 +201,7 @@ module _ {M S : Type 0} (view : M → MediumView) (seen : S → RingView M) (p q
         let units = alone.came.units in
         leaves_ok view seen p q old new old.since 2 (13 * n) r s at begun (still_of view r s alone.drive.medium) (may_poll_kept r s (kept_left view r s true _ alone) begun.may) used (omega (arith, few)) told x (left ∙ ap (λ (l : LoopView M). record l { control = AtIdle s }) taken) units
         (λ sound. free_on view r s [] (begun.free sound) units alone.drive) (count_of view r s alone.drive.medium) begun.alive
-        (λ start so. stood_whole view old.since [] start r s so begun.alive units refl (others_stay (drive_party r) 1 (devices_of r) (devices_of s) alone.stays))
+        (λ start so. stood_whole view old.since [] start r s so begun.alive units refl (others_stay (drive_party r) 1 (devices_of r) (devices_of s) alone.stays) (count_of view r s alone.drive.medium) (λ before. alone.drive.status ∙ before))
 
     pub names_break : {T : Type 0} (e : Trouble) (n : ℕ) (asks : List Ask) → n ≤ 30 → e ≡ trouble.Frame → new ≡ record mid { control = AtLost s; sound = false; since = since_frame mid.since } → LeftAlone view false asks r s → spare_of r ≤ spare_of s + (13 * n + 1)
         → LeavesStore {T = T} 2 told (view_of view seen p old) (view_of view seen q new) (Err e)
@@ -218,7 +218,7 @@ module _ {M S : Type 0} (view : M → MediumView) (seen : S → RingView M) (p q
         let units = polled.came.units in
         leaves_ok view seen p q old new old.since 1 53 r s at begun (still_of view r s polled.drive.medium) (may_poll_polled view r s f polled) polled.room (omega arith) told x (left ∙ ap (λ (l : LoopView M). record l { control = AtIdle s }) taken) units
         (λ sound. free_on view r s [] (begun.free sound) units polled.drive) (count_of view r s polled.drive.medium) begun.alive
-        (λ start so. stood_whole view old.since [] start r s so begun.alive units refl (others_by Released (λ k d e released. released.nothing) (drive_party r) 1 (devices_of r) (devices_of s) polled.released))
+        (λ start so. stood_whole view old.since [] start r s so begun.alive units refl (others_by Released (λ k d e released. released.nothing) (drive_party r) 1 (devices_of r) (devices_of s) polled.released) (count_of view r s polled.drive.medium) (λ before. polled.drive.status ∙ before))
 
     pub poll_breaks : {T : Type 0} (e : Trouble) (asks : List Ask) → e ≡ trouble.Frame → new ≡ record mid { control = AtLost s; sound = false; since = since_frame mid.since } → PollBroke view 54 asks r s → LeavesStore {T = T} 1 told (view_of view seen p old) (view_of view seen q new) (Err e)
     poll_breaks e asks is left broke =
@@ -260,7 +260,7 @@ module _ {M S : Type 0} (view : M → MediumView) (seen : S → RingView M) (p q
       let s = so.ring in
       let still = still_of view r s so.readied.medium in
       let now : LeavesStore {T = T} 1 (is_unbroken old.since) (view_at view seen p old.sound old.since old.resumes (AtLost r)) (view_at view seen q old.sound (since_more old.since) old.resumes (AtIdle s)) (Ok x) = record {
-        valid = (so.readied.idle, not_sound old.sound valid.1, alive_more old.since, may_poll_kept r s so.readied.places valid.2);
+        valid = (so.readied.idle, not_sound old.sound valid.1, alive_more old.since, may_poll_kept r s (kept_stays r s true so.readied.leaves.stays) valid.2);
         quiet = record { tape = still.tape; moment = still.moment; since = still.since };
         size = still.stays_in.size;
         sound = sound_and old.sound;
@@ -269,7 +269,7 @@ module _ {M S : Type 0} (view : M → MediumView) (seen : S → RingView M) (p q
         cause = (frames_same view units.came.pieces r s valid.0.free.ring units.came.talked, count_of view r s so.readied.medium);
         transferred = λ list so. subst (λ list. Transferred (loop_of s) s.books.log list) (append-nil list) (transferred_then view true [] r s list units refl so);
         stood = λ whole start told. from_start seen start _ _
-            (λ at stood. subst (λ log. Stood view log at s) (sym (more_same old.since whole)) (stood_whole view old.since [] at r s stood (ap is_broken (unbroken_is old.since whole)) units refl so.readied.unheard)) told;
+            (λ at stood. subst (λ log. Stood view log at s) (sym (more_same old.since whole)) (stood_whole view old.since [] at r s stood (ap is_broken (unbroken_is old.since whole)) units refl so.readied.unheard (count_of view r s so.readied.medium) (λ before. so.readied.leaves.status ∙ before))) told;
         resumed = λ k so. so;
       } in
       subst (λ (l : LoopView M). LeavesStore {T = T} 1 (view_of view seen p old).unbroken (view_of view seen p old) (view_of view seen q l) (Ok x)) (sym so.left)

@@ -25,7 +25,7 @@ use Rattle.il_drive.specs.State.{DriveState, DriveView, status_of}
 use Rattle.il_drive.specs.Steps.{Step, Now, then_by, Did}
 use Rattle.il_drive.specs.Table as table
 use Rattle.il_drive.specs.Runs.{Ran}
-use Rattle.loop_model.specs.Entries.{unl}
+use Rattle.loop_model.specs.Entries.{ifc, unl}
 
 -- the message neither clears a drive nor asks it for data or for its status, nor is a command of a number
 abbrev pub is_mild : Message → Bool
@@ -259,3 +259,16 @@ module _ {M : Type 0} (view : M → MediumView) where
   unl_ran fs (out ∷ outs) v w silent all ran =
       let first = one_mild unl out v ran.0 (step_unl (view v.medium).record_count v.state silent) ran.1 in
       mild_then v ran.0 w first (mild_ran fs outs ran.0 w first.mild all ran.2)
+
+-- ---- from IFC on, whatever it did before
+
+step_ifc : (n : ℕ) (s : DriveState) → MildOut (table.drive_step n s ifc) s
+step_ifc n s =
+    let u = table.behind_effect ifc s in
+    record { state = table.at_rest u; out = (table.passes s.interface.roles ifc (table.at_rest u)).1; is = refl; status = refl; mild = record { deaf = inr refl; sends = tt } }
+
+pub ifc_ran : {M : Type 0} (view : M → MediumView) (fs : List Frame) (outs : List Out) (v w : DriveView M) → AllMild fs → Ran view v (ifc ∷ fs) outs w → StaysMild view v w
+ifc_ran view fs [] v w all ran = absurd ran
+ifc_ran view fs (out ∷ outs) v w all ran =
+    let first = one_mild view ifc out v ran.0 (step_ifc (view v.medium).record_count v.state) ran.1 in
+    mild_then view v ran.0 w first (mild_ran view fs outs ran.0 w first.mild all ran.2)

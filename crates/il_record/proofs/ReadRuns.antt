@@ -301,6 +301,7 @@ read_ends view d k first n byte old new r a b s long so (inr part) told bytes br
   bad = λ zero. absurd (omega (arith, zero, told.byte_is ∙ ap status_byte_of part.status));
   came = units;
   unheard = unheard;
+  rests = told.rests;
   still = left.still;
   rose =
       let before = count_same view r.drive a.drive so.medium in

@@ -8,6 +8,7 @@ use Rattle.std.proofs.lemmas.List.Folds.{list_all-append}
 use Rattle.lif_model.specs.Causes.{Rose}
 use Rattle.lif_model.specs.Transfers.{Transfer}
 use Rattle.il_ports.specs.Media.{MediumView}
+use Rattle.il_drive.specs.State.{status_of}
 use Rattle.loop_model.specs.Effect.{UnitsEffect, is_good, transfer_of}
 use Rattle.loop_model.specs.Exchanges.{Piece, is_piece, piece_entries}
 use Rattle.loop_model.specs.Reach.{met}
@@ -22,7 +23,7 @@ use Rattle.il_control.specs.Calls.{IsFree, loop_of}
 use Rattle.il_record.specs.declared.records.Since.{Since}
 use Rattle.il_record.specs.declared.records.Since.TheVariants as since
 use Rattle.il_record.specs.Came.{OnlyHeard, CameBy, CameUnits}
-use Rattle.il_record.specs.LoopStores.{all_good, Stood, StoodBy, Transferred, calls_in, crossed_hops, is_broken, since_frame, since_medium, since_said}
+use Rattle.il_record.specs.LoopStores.{CameBad, CameGood, all_good, Stood, StoodBy, Transferred, calls_in, crossed_hops, is_broken, since_frame, since_medium, since_said}
 use Rattle.il_record.specs.Talks.{Talked, all_entries}
 use Rattle.il_record.proofs.Heard.{others_then}
 use Rattle.il_record.proofs.Talks.{talked_then, same_loop}
@@ -69,56 +70,71 @@ heard_then d r m s first more = others_then d 1 (devices_of r) (devices_of m) (d
 heard : {M : Type 0} (view : M → MediumView) (start r s : RingView M) → OnlyHeard (drive_party start) start r → OnlyHeard (drive_party r) r s → CameBy view true start r → OnlyHeard (drive_party start) start s
 heard view start r s before unheard came = heard_then (drive_party start) start r s before (subst (λ d. OnlyHeard d r s) (party_stays view true start r came) unheard)
 
--- behind such exchanges, units that all have status 0, or one that has another
-then_whole : {M : Type 0} (view : M → MediumView) (before good : Bool) (us : List RecordUnit) (start r s : RingView M) → IsFree start → (came : CameBy view true start r) → all_good (units_of (loop_of start) came.pieces) ≡ before → CameUnits view true us r s
-    → all_good us ≡ good → (both : CameBy view true start s) × (all_good (units_of (loop_of start) both.pieces) ≡ (before && good))
-then_whole view before good us start r s free came was units is = (came_then view true start r s free came units.came, good_then view true start r s free came units.came before good was (ap all_good units.are ∙ is))
+-- Behind exchanges, or behind nothing: units that all have status 0, where the medium did not fail, or one that has another.
+module _ {M : Type 0} (view : M → MediumView) (us : List RecordUnit) (start r s : RingView M) (free : IsFree start) (units : CameUnits view true us r s) where
+  good_good : all_good us ≡ true → (view s.drive.medium).faults ≡ (view r.drive.medium).faults → CameGood view start r → CameGood view start s
+  good_good good count so = record {
+    came = came_then view true start r s free so.came units.came;
+    good = good_then view true start r s free so.came units.came true true so.good (ap all_good units.are ∙ good);
+    count = count ∙ so.count;
+  }
 
--- behind nothing
-first_whole : {M : Type 0} (view : M → MediumView) (good : Bool) (us : List RecordUnit) (start r s : RingView M) → r ≡ start → CameUnits view true us r s → all_good us ≡ good → OnlyHeard (drive_party r) r s
-    → ((came : CameBy view true start s) × (all_good (units_of (loop_of start) came.pieces) ≡ good)) × OnlyHeard (drive_party start) start s
-first_whole {M} view good us start r s same units is unheard =
-    subst (λ (r : RingView M). ((came : CameBy view true r s) × (all_good (units_of (loop_of r) came.pieces) ≡ good)) × OnlyHeard (drive_party r) r s) same ((units.came, ap all_good units.are ∙ is), unheard)
+  good_bad : all_good us ≡ false → status_of s.drive.state ≡ 0 → CameGood view start r → CameBad view start s
+  good_bad bad told so = record { came = came_then view true start r s free so.came units.came; bad = good_then view true start r s free so.came units.came true false so.good (ap all_good units.are ∙ bad); told = told }
 
--- exchanges whose units all have status 0
-pub stood_whole : {M : Type 0} (view : M → MediumView) (log : Since) (us : List RecordUnit) (start r s : RingView M) → Stood view log start r → is_broken log ≡ false → CameUnits view true us r s → all_good us ≡ true → OnlyHeard (drive_party r) r s → Stood view log start s
-stood_whole view since.Unbroken us start r s stood alive units good unheard = ⊎_elim
-    (λ same. let first = first_whole view true us start r s same units good unheard in record { free = stood.free; unheard = λ none. first.1; by = inr first.0 })
-    (λ so. record { free = stood.free; unheard = λ none. heard view start r s (stood.unheard refl) unheard so.0; by = inr (then_whole view true true us start r s stood.free so.0 so.1 units good) })
+  bad_any : (good : Bool) → all_good us ≡ good → status_of s.drive.state ≡ 0 → CameBad view start r → CameBad view start s
+  bad_any good is told so = record { came = came_then view true start r s free so.came units.came; bad = good_then view true start r s free so.came units.came false good so.bad (ap all_good units.are ∙ is); told = told }
+
+  first_good : all_good us ≡ true → (view s.drive.medium).faults ≡ (view r.drive.medium).faults → r ≡ start → CameGood view start s
+  first_good good count same = subst (λ (r : RingView M). CameGood view r s) same (record { came = units.came; good = ap all_good units.are ∙ good; count = count })
+
+  first_bad : all_good us ≡ false → status_of s.drive.state ≡ 0 → r ≡ start → CameBad view start s
+  first_bad bad told same = subst (λ (r : RingView M). CameBad view r s) same (record { came = units.came; bad = ap all_good units.are ∙ bad; told = told })
+
+first_heard : {M : Type 0} (start r s : RingView M) → r ≡ start → OnlyHeard (drive_party r) r s → OnlyHeard (drive_party start) start s
+first_heard {M} start r s same unheard = subst (λ (r : RingView M). OnlyHeard (drive_party r) r s) same unheard
+
+-- Exchanges whose units all have status 0. The medium did not fail, and a status of 0 stays.
+pub stood_whole : {M : Type 0} (view : M → MediumView) (log : Since) (us : List RecordUnit) (start r s : RingView M) → Stood view log start r → is_broken log ≡ false → CameUnits view true us r s → all_good us ≡ true → OnlyHeard (drive_party r) r s
+    → (view s.drive.medium).faults ≡ (view r.drive.medium).faults → (status_of r.drive.state ≡ 0 → status_of s.drive.state ≡ 0) → Stood view log start s
+stood_whole view since.Unbroken us start r s stood alive units good unheard count told = ⊎_elim
+    (λ same. record { free = stood.free; unheard = λ none. first_heard start r s same unheard; by = inr (first_good view us start r s stood.free units good count same) })
+    (λ so. record { free = stood.free; unheard = λ none. heard view start r s (stood.unheard refl) unheard so.came; by = inr (good_good view us start r s stood.free units good count so) })
     stood.by
-stood_whole view since.Failed us start r s stood alive units good unheard = record {
+stood_whole view since.Failed us start r s stood alive units good unheard count told = record {
   free = stood.free;
-  unheard = λ none. heard view start r s (stood.unheard refl) unheard stood.by.0;
-  by = then_whole view false true us start r s stood.free stood.by.0 stood.by.1 units good;
+  unheard = λ none. heard view start r s (stood.unheard refl) unheard stood.by.came;
+  by = bad_any view us start r s stood.free units true good (told stood.by.told) stood.by;
 }
-stood_whole view since.Said us start r s stood alive units good unheard = record { free = stood.free; unheard = λ none. cc; by = came_then view true start r s stood.free stood.by units.came }
-stood_whole view since.Broken us start r s stood alive units good unheard = cc
-stood_whole view since.SaidBroken us start r s stood alive units good unheard = cc
-stood_whole view since.Mended us start r s stood alive units good unheard = absurd stood.by
+stood_whole view since.Said us start r s stood alive units good unheard count told = record { free = stood.free; unheard = λ none. cc; by = came_then view true start r s stood.free stood.by units.came }
+stood_whole view since.Broken us start r s stood alive units good unheard count told = cc
+stood_whole view since.SaidBroken us start r s stood alive units good unheard count told = cc
+stood_whole view since.Mended us start r s stood alive units good unheard count told = absurd stood.by
 
--- a unit that has another status
-pub stood_medium : {M : Type 0} (view : M → MediumView) (log : Since) (us : List RecordUnit) (start r s : RingView M) → Stood view log start r → is_broken log ≡ false → CameUnits view true us r s → all_good us ≡ false → OnlyHeard (drive_party r) r s → Stood view (since_medium log) start s
-stood_medium view since.Unbroken us start r s stood alive units bad unheard = ⊎_elim
-    (λ same. let first = first_whole view false us start r s same units bad unheard in record { free = stood.free; unheard = λ none. first.1; by = first.0 })
-    (λ so. record { free = stood.free; unheard = λ none. heard view start r s (stood.unheard refl) unheard so.0; by = then_whole view true false us start r s stood.free so.0 so.1 units bad })
+-- a unit that has another status, which the drive told
+pub stood_medium : {M : Type 0} (view : M → MediumView) (log : Since) (us : List RecordUnit) (start r s : RingView M) → Stood view log start r → is_broken log ≡ false → CameUnits view true us r s → all_good us ≡ false → OnlyHeard (drive_party r) r s
+    → status_of s.drive.state ≡ 0 → Stood view (since_medium log) start s
+stood_medium view since.Unbroken us start r s stood alive units bad unheard told = ⊎_elim
+    (λ same. record { free = stood.free; unheard = λ none. first_heard start r s same unheard; by = first_bad view us start r s stood.free units bad told same })
+    (λ so. record { free = stood.free; unheard = λ none. heard view start r s (stood.unheard refl) unheard so.came; by = good_bad view us start r s stood.free units bad told so })
     stood.by
-stood_medium view since.Failed us start r s stood alive units bad unheard = record {
+stood_medium view since.Failed us start r s stood alive units bad unheard told = record {
   free = stood.free;
-  unheard = λ none. heard view start r s (stood.unheard refl) unheard stood.by.0;
-  by = then_whole view false false us start r s stood.free stood.by.0 stood.by.1 units bad;
+  unheard = λ none. heard view start r s (stood.unheard refl) unheard stood.by.came;
+  by = bad_any view us start r s stood.free units false bad told stood.by;
 }
-stood_medium view since.Said us start r s stood alive units bad unheard = record { free = stood.free; unheard = λ none. cc; by = came_then view true start r s stood.free stood.by units.came }
-stood_medium view since.Broken us start r s stood alive units bad unheard = cc
-stood_medium view since.SaidBroken us start r s stood alive units bad unheard = cc
-stood_medium view since.Mended us start r s stood alive units bad unheard = absurd stood.by
+stood_medium view since.Said us start r s stood alive units bad unheard told = record { free = stood.free; unheard = λ none. cc; by = came_then view true start r s stood.free stood.by units.came }
+stood_medium view since.Broken us start r s stood alive units bad unheard told = cc
+stood_medium view since.SaidBroken us start r s stood alive units bad unheard told = cc
+stood_medium view since.Mended us start r s stood alive units bad unheard told = absurd stood.by
 
 -- an exchange that was broken off
 pub stood_frame : {M : Type 0} (view : M → MediumView) (log : Since) (start r s : RingView M) → Stood view log start r → is_broken log ≡ false → CameBy view false r s → OnlyHeard (drive_party r) r s → Stood view (since_frame log) start s
 stood_frame {M} view since.Unbroken start r s stood alive came unheard = ⊎_elim
     (λ same. subst (λ (r : RingView M). IsFree r → Stood view since.Broken r s) same (λ free. record { free = free; unheard = λ none. unheard; by = came }) stood.free)
-    (λ so. record { free = stood.free; unheard = λ none. heard view start r s (stood.unheard refl) unheard so.0; by = came_then view false start r s stood.free so.0 came })
+    (λ so. record { free = stood.free; unheard = λ none. heard view start r s (stood.unheard refl) unheard so.came; by = came_then view false start r s stood.free so.came came })
     stood.by
-stood_frame view since.Failed start r s stood alive came unheard = record { free = stood.free; unheard = λ none. heard view start r s (stood.unheard refl) unheard stood.by.0; by = came_then view false start r s stood.free stood.by.0 came }
+stood_frame view since.Failed start r s stood alive came unheard = record { free = stood.free; unheard = λ none. heard view start r s (stood.unheard refl) unheard stood.by.came; by = came_then view false start r s stood.free stood.by.came came }
 stood_frame view since.Said start r s stood alive came unheard = record { free = stood.free; unheard = λ none. cc; by = came_then view false start r s stood.free stood.by came }
 stood_frame view since.Broken start r s stood alive came unheard = cc
 stood_frame view since.SaidBroken start r s stood alive came unheard = cc
@@ -126,11 +142,11 @@ stood_frame view since.Mended start r s stood alive came unheard = absurd stood.
 
 -- bytes for another device, sent whole or in part
 said_by : {M : Type 0} (view : M → MediumView) (whole : Bool) (start r s : RingView M) → IsFree start → StoodBy view since.Unbroken start r → CameBy view whole r s → CameBy view whole start s
-said_by {M} view whole start r s free by came = ⊎_elim (λ same. subst (λ (r : RingView M). CameBy view whole r s) same came) (λ so. came_then view whole start r s free so.0 came) by
+said_by {M} view whole start r s free by came = ⊎_elim (λ same. subst (λ (r : RingView M). CameBy view whole r s) same came) (λ so. came_then view whole start r s free so.came came) by
 
 pub stood_said : {M : Type 0} (view : M → MediumView) (log : Since) (start r s : RingView M) → Stood view log start r → is_broken log ≡ false → CameBy view true r s → Stood view (since_said log) start s
 stood_said view since.Unbroken start r s stood alive came = record { free = stood.free; unheard = λ none. cc; by = said_by view true start r s stood.free stood.by came }
-stood_said view since.Failed start r s stood alive came = record { free = stood.free; unheard = λ none. cc; by = came_then view true start r s stood.free stood.by.0 came }
+stood_said view since.Failed start r s stood alive came = record { free = stood.free; unheard = λ none. cc; by = came_then view true start r s stood.free stood.by.came came }
 stood_said view since.Said start r s stood alive came = record { free = stood.free; unheard = λ none. cc; by = came_then view true start r s stood.free stood.by came }
 stood_said view since.Broken start r s stood alive came = cc
 stood_said view since.SaidBroken start r s stood alive came = cc
@@ -138,7 +154,7 @@ stood_said view since.Mended start r s stood alive came = absurd stood.by
 
 pub stood_not_said : {M : Type 0} (view : M → MediumView) (log : Since) (start r s : RingView M) → Stood view log start r → is_broken log ≡ false → CameBy view false r s → Stood view (since_frame (since_said log)) start s
 stood_not_said view since.Unbroken start r s stood alive came = record { free = stood.free; unheard = λ none. cc; by = said_by view false start r s stood.free stood.by came }
-stood_not_said view since.Failed start r s stood alive came = record { free = stood.free; unheard = λ none. cc; by = came_then view false start r s stood.free stood.by.0 came }
+stood_not_said view since.Failed start r s stood alive came = record { free = stood.free; unheard = λ none. cc; by = came_then view false start r s stood.free stood.by.came came }
 stood_not_said view since.Said start r s stood alive came = record { free = stood.free; unheard = λ none. cc; by = came_then view false start r s stood.free stood.by came }
 stood_not_said view since.Broken start r s stood alive came = cc
 stood_not_said view since.SaidBroken start r s stood alive came = cc

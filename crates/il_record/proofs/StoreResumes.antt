@@ -24,7 +24,7 @@ use Rattle.il_ring.specs.Lists.{Each}
 use Rattle.il_record.specs.Asks.{Ask}
 use Rattle.il_record.specs.Polls.{MayPoll}
 use Rattle.il_record.specs.Runs.{Cleared, Interrupted, Readied, clear_asks}
-use Rattle.il_record.proofs.Places.{may_poll_kept}
+use Rattle.il_record.proofs.Places.{kept_stays, may_poll_kept}
 use Rattle.il_record.proofs.ReadRuns.{leaves_then, leaves_same}
 use Rattle.il_record.proofs.StoreCalls.{came_then, came_then_units, heard_then}
 use Rattle.il_record.proofs.StoreStarts.{IsStart, begun, resumed_ok, resumed_not, resumed_sound}
@@ -130,7 +130,7 @@ module _ {M S : Type 0} (view : M → MediumView) (seen : S → RingView M) (p q
       let party = party_same view r m ready.came.units in
       let medium = done.medium ∙ ready.medium in
       let units = units_then view true r m s lost.free ready.came.units done.came.units in
-      resumed_ok view seen p q _ log resumes more 11 r s lost.free (heard_then (drive_party r) r m s ready.unheard (subst (λ d. OnlyHeard d m s) party done.unheard)) (omega (arith, first, used)) (omega arith) (still_of view r s medium) counted (may_poll_kept m s done.places (may_poll_kept r m ready.places may)) x (since_more log) units
+      resumed_ok view seen p q _ log resumes more 11 r s lost.free (heard_then (drive_party r) r m s ready.unheard (subst (λ d. OnlyHeard d m s) party done.unheard)) (omega (arith, first, used)) (omega arith) (still_of view r s medium) counted (may_poll_kept m s done.places (may_poll_kept r m (kept_stays r m true ready.leaves.stays) may)) x (since_more log) units
       (subst (λ d. IsFree d s.drive.state) (sym (party_same view m s done.came.units)) done.rests.free) (count_of view r s medium) (alive_more log) (more_same log)
 
   broke_lost : {T : Type 0} (asks : List Ask) (r m s : RingView M) → IsLost r → Each MayPoll 1 (devices_of r) → Readied view r m → spare_of r ≤ spare_of m + 5 → Interrupted view asks (drive_party m) m s → spare_of m ≤ spare_of s + 7
@@ -138,7 +138,7 @@ module _ {M S : Type 0} (view : M → MediumView) (seen : S → RingView M) (p q
   broke_lost asks r m s lost may ready first not used =
       let party = party_same view r m ready.came.units in
       let left = leaves_then view r.drive m.drive s.drive (leaves_same view r.drive m.drive ready.medium) not.drive in
-      resumed_not view seen p q _ log resumes more 12 r s lost.free (heard_then (drive_party r) r m s ready.unheard (subst (λ d. OnlyHeard d m s) party not.unheard)) (omega (arith, first, used)) (omega arith) left.still counted (may_poll_kept m s not.places (may_poll_kept r m ready.places may)) (since_frame (since_more log))
+      resumed_not view seen p q _ log resumes more 12 r s lost.free (heard_then (drive_party r) r m s ready.unheard (subst (λ d. OnlyHeard d m s) party not.unheard)) (omega (arith, first, used)) (omega arith) left.still counted (may_poll_kept m s not.places (may_poll_kept r m (kept_stays r m true ready.leaves.stays) may)) (since_frame (since_more log))
       (units_then view false r m s lost.free ready.came.units not.came.units) left.count (frame_more log)
 
   broke_ready : {T : Type 0} (asks : List Ask) (r s : RingView M) → IsLost r → Each MayPoll 1 (devices_of r) → Interrupted view asks (drive_party r) r s → spare_of r ≤ spare_of s + 6

@@ -9,6 +9,7 @@ use Rattle.il_ports.specs.declared.records.Trouble.TheVariants as trouble
 use Rattle.il_ports.specs.Media.{MediumView}
 use Rattle.il_ports.specs.Stores.{RecordsView, GoesOn, FetchedRun, StoredRun}
 use Rattle.il_ports.specs.Transfers.{Added}
+use Rattle.il_drive.specs.State.{status_of}
 use Rattle.il_drive.proofs.Exchanges.{IsFree}
 use Rattle.loop_model.specs.Units.{RecordUnit}
 use Rattle.il_ring.specs.Lists.{Each}
@@ -58,13 +59,13 @@ module _ {M S : Type 0} (view : M → MediumView) (seen : S → RingView M) (p q
       unbroken = λ unbroken ok. unbroken;
       cause = (frames_same view units.came.pieces r s idle.free.ring units.came.talked, count);
     };
-    stood = λ start so. from_start seen start _ _ (λ at stood. stood_whole view log us at r s stood alive units good unheard) so;
+    stood = λ start so. from_start seen start _ _ (λ at stood. stood_whole view log us at r s stood alive units good unheard count (λ before. free.status)) so;
     resumed = λ k so. so;
   }
 
-  pub goes_on_medium : {T : Type 0} (us : List RecordUnit) → CameUnits view true us r s → all_good us ≡ false → Rose (view r.drive.medium).faults (view s.drive.medium).faults
+  pub goes_on_medium : {T : Type 0} (us : List RecordUnit) → CameUnits view true us r s → all_good us ≡ false → status_of s.drive.state ≡ 0 → Rose (view r.drive.medium).faults (view s.drive.medium).faults
       → GoesOn {T = T} k earlier (view_at view seen q false (since_medium log) resumes (AtIdle s)) (Err trouble.Medium)
-  goes_on_medium us units bad rose = record {
+  goes_on_medium us units bad status rose = record {
     continues = record {
       valid = (units.came.talked.state, (λ sound. cc), alive_medium log alive, may);
       told = told;
@@ -75,7 +76,7 @@ module _ {M S : Type 0} (view : M → MediumView) (seen : S → RingView M) (p q
       unbroken = λ unbroken ok. cc;
       cause = (frames_same view units.came.pieces r s idle.free.ring units.came.talked, rose);
     };
-    stood = λ start so. from_start seen start _ _ (λ at stood. stood_medium view log us at r s stood alive units bad unheard) so;
+    stood = λ start so. from_start seen start _ _ (λ at stood. stood_medium view log us at r s stood alive units bad unheard status) so;
     resumed = λ k so. so;
   }
 
@@ -124,7 +125,7 @@ module _ {M S : Type 0} (view : M → MediumView) (seen : S → RingView M) (p q
   not_fetched read used =
       let still = read.still in
       record {
-        goes_on = goes_on_medium view seen p q log resumes k (33 + length bytes) r s idle alive read.unheard used (omega (arith, long, some)) still.stays_in.told still.stays_in.size may (unit false first read.bytes read.status ∷ []) read.came (bad_unit false first read.bytes read.status read.bad) read.rose;
+        goes_on = goes_on_medium view seen p q log resumes k (33 + length bytes) r s idle alive read.unheard used (omega (arith, long, some)) still.stays_in.told still.stays_in.size may (unit false first read.bytes read.status ∷ []) read.came (bad_unit false first read.bytes read.status read.bad) read.rests.free.status read.rose;
         quiet = record { tape = still.tape; moment = still.moment; since = still.since };
         content = tt;
         transfers = tt;
@@ -160,7 +161,7 @@ module _ {M S : Type 0} (view : M → MediumView) (seen : S → RingView M) (p q
       let kept = wrote.left.kept in
       record {
         goes_on = goes_on_medium view seen p q log resumes (length pieces) (27 + 256 * k) r s idle alive wrote.unheard used (omega (arith, long, some)) kept.stays_in.told kept.stays_in.size may (unit true first (bytes_of pieces) wrote.status ∷ []) wrote.came
-            (bad_unit true first (bytes_of pieces) wrote.status wrote.bad) wrote.rose;
+            (bad_unit true first (bytes_of pieces) wrote.status wrote.bad) wrote.rests.free.status wrote.rose;
         content = wrote.left.stand;
         time = kept.time;
         transfers = tt;

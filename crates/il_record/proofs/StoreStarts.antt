@@ -56,7 +56,7 @@ module _ {M S : Type 0} (view : M → MediumView) (seen : S → RingView M) (p q
     quiet = record { tape = still.tape; moment = still.moment; since = still.since };
     transferred = λ list so. subst (λ list. Transferred (loop_of s) s.books.log list) (append-nil list) (transferred_then view true [] r s list units refl so);
     stood = λ unbroken start so. from_start seen start _ _
-        (λ at stood. subst (λ log. Stood view log at s) (sym (same unbroken)) (stood_whole view log [] at r s stood (ap is_broken (unbroken_is log unbroken)) units refl unheard)) so;
+        (λ at stood. subst (λ log. Stood view log at s) (sym (same unbroken)) (stood_whole view log [] at r s stood (ap is_broken (unbroken_is log unbroken)) units refl unheard count (λ before. rest.status))) so;
     resumed = λ k so. resumed_more k so;
   }
 
@@ -156,7 +156,7 @@ addressed {M} view n party r t s log old new same is low done stays logged left 
 }
 
 pub not_addressed : {M : Type 0} (view : M → MediumView) (party : ℕ) (r t s : RingView M) (old new : LoopView M) → t ≡ r → party ≡ drive_party t → party ≤ 30 → calls.NotResumed view r s → AllStay true r s → new ≡ record old { control = AtLost s; sound = false; since = since_frame old.since } → NotAddressed view r old new
-not_addressed view party r t s old new same is low not stays left = record { ring = s; left = left; interrupted = not_readied view r s (low_party r t party same is low) not stays; used = not_resumed_used view r s not }
+not_addressed view party r t s old new same is low not stays left = let so = not_readied view r s (low_party r t party same is low) not stays in record { ring = s; left = left; interrupted = so.0; leaves = so.1; used = not_resumed_used view r s not }
 
 -- a call in which the controller was taken out
 pub addresses_as : {M T : Type 0} (view : M → MediumView) (r : RingView M) (old mid new : LoopView M) (answer : Result T Trouble) → old.control ≡ AtLost r → mid ≡ record old { control = Nowhere } → Addresses view (AtLost r) mid new answer → Addresses view old.control old new answer
@@ -164,4 +164,4 @@ addresses_as {M} {T} view r old mid new answer at taken so = subst (λ (c : Stan
   where
     by : (answer : Result T Trouble) → Addresses view (AtLost r) (record old { control = Nowhere }) new answer → Addresses view (AtLost r) old new answer
     by (Ok x) so = record { ring = so.ring; left = so.left; readied = so.readied; used = so.used }
-    by (Err e) so = (so.0, record { ring = so.1.ring; left = so.1.left; interrupted = so.1.interrupted; used = so.1.used })
+    by (Err e) so = (so.0, record { ring = so.1.ring; left = so.1.left; interrupted = so.1.interrupted; leaves = so.1.leaves; used = so.1.used })

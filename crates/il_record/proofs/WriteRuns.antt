@@ -322,6 +322,7 @@ module _ {M : Type 0} (view : M → MediumView) (c first : ℕ) (sent : List ℕ
         bad = λ zero. absurd (omega (arith, zero, two));
         came = write_units byte b s whole told (λ t is. let u = behind.stand t is in (u.0, u.1, bad_unit first sent (Some byte) t u.0 bad (subst (λ ps. PartlyReplaced first ps t u.0) (sym (full_of c sent long)) u.2)));
         unheard = unheard;
+        rests = told.drive.rests;
         left = behind;
         rose = subst (λ n. Rose n (view s.drive.medium).faults) count_before (subst (λ n. Rose (view a.drive.medium).faults n) (sym count_behind) part.rose);
       }))

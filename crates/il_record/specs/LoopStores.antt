@@ -5,6 +5,7 @@ use Rattle.lif_model.specs.Transfers.{Transfer}
 use Rattle.il_frames.specs.declared.entry.Entry.{Entry}
 use Rattle.il_ports.specs.Media.{MediumView}
 use Rattle.il_ports.specs.Stores.{RecordsView}
+use Rattle.il_drive.specs.State.{status_of}
 use Rattle.il_drive.proofs.Exchanges.{IsFree}
 use Rattle.loop_model.specs.Effect.{is_good, transfer_of}
 use Rattle.loop_model.specs.Exchanges.{Reading}
@@ -21,7 +22,7 @@ use Rattle.il_ports.specs.declared.records.Trouble.{Trouble}
 use Rattle.il_ports.specs.declared.records.Trouble.TheVariants as trouble
 use Rattle.il_record.specs.Came.{OnlyHeard, CameBy}
 use Rattle.il_record.specs.Polls.{MayPoll}
-use Rattle.il_record.specs.Runs.{Readied, Interrupted, Cleared, address_asks, clear_asks}
+use Rattle.il_record.specs.Runs.{LeavesDevices, Readied, Interrupted, Cleared, address_asks, clear_asks}
 
 -- the controller, by its ring
 pub data Standing (M : Type 0) : Type 0 where
@@ -64,11 +65,23 @@ StandsSo Nowhere sound log = ⊥
 abbrev pub all_good : List RecordUnit → Bool
 all_good us = list_all (λ u. is_good u.status) us
 
--- The exchanges by which r became s, if there were any, by how the log stands. Where no call failed each unit has status 0, and
--- where the medium failed one has not.
+-- whole exchanges, of which each unit has status 0, and the medium did not fail
+pub record CameGood {M : Type 0} (view : M → MediumView) (r s : RingView M) : Type 0 where
+  pub came : CameBy view true r s
+  pub good : all_good (units_of (loop_of r) came.pieces) ≡ true
+  pub count : (view s.drive.medium).faults ≡ (view r.drive.medium).faults
+
+-- whole exchanges, of which a unit has another status; the drive has told it, and its status is 0 now
+pub record CameBad {M : Type 0} (view : M → MediumView) (r s : RingView M) : Type 0 where
+  pub came : CameBy view true r s
+  pub bad : all_good (units_of (loop_of r) came.pieces) ≡ false
+  pub told : status_of s.drive.state ≡ 0
+
+-- The exchanges by which r became s, if there were any, by how the log stands: where no call failed, where the medium failed, and
+-- where one was broken off.
 abbrev pub StoodBy : {M : Type 0} → (M → MediumView) → Since → RingView M → RingView M → Type 0
-StoodBy view since.Unbroken r s = (s ≡ r) ⊎ ((came : CameBy view true r s) × (all_good (units_of (loop_of r) came.pieces) ≡ true))
-StoodBy view since.Failed r s = (came : CameBy view true r s) × (all_good (units_of (loop_of r) came.pieces) ≡ false)
+StoodBy view since.Unbroken r s = (s ≡ r) ⊎ CameGood view r s
+StoodBy view since.Failed r s = CameBad view r s
 StoodBy view since.Broken r s = CameBy view false r s
 StoodBy view since.Mended r s = ⊥
 StoodBy view since.Said r s = CameBy view true r s
@@ -227,6 +240,7 @@ pub record NotAddressed {M : Type 0} (view : M → MediumView) (r : RingView M) 
   pub ring : RingView M
   pub left : new ≡ record old { control = AtLost ring; sound = false; since = since_frame old.since }
   pub interrupted : Interrupted view address_asks (drive_party r) r ring
+  pub leaves : LeavesDevices r ring
   pub used : spare_of r ≤ spare_of ring + 6
 
 abbrev pub Addresses : {M T : Type 0} → (M → MediumView) → Standing M → LoopView M → LoopView M → Result T Trouble → Type 0

@@ -17,7 +17,7 @@ use Rattle.loop_model.specs.Entries.{aau, ifc, lad, unl}
 use Rattle.loop_model.specs.Exchanges.{Answer, Echo, Stopped, Receive, Sst}
 use Rattle.loop_model.specs.Units.{RecordUnit}
 use Rattle.il_ring.specs.Rings.{RingView, drive_party}
-use Rattle.il_control.specs.Calls.{IsIdle, Made, BrokenOff, Unheard}
+use Rattle.il_control.specs.Calls.{AllStay, IsIdle, Made, BrokenOff, Unheard}
 use Rattle.il_record.specs.Asks.{Ask, AskAddresses, AskCommand, CameAsked}
 use Rattle.il_record.specs.Came.{OnlyHeard, CameBy, CameUnits}
 use Rattle.il_record.specs.Polls.{PlacesKept}
@@ -63,11 +63,17 @@ pub record Interrupted {M : Type 0} (view : M → MediumView) (asks : List Ask) 
 abbrev pub address_asks : List Ask
 address_asks = AskCommand ifc ∷ AskCommand aau ∷ AskAddresses ∷ []
 
+-- What addressing leaves, whole or broken off: what each device heard, its place in the poll and its wish for service, and the
+-- drive's status.
+pub record LeavesDevices {M : Type 0} (r s : RingView M) : Type 0 where
+  pub stays : AllStay true r s
+  pub status : status_of s.drive.state ≡ status_of r.drive.state
+
 -- each device has its number as address, and none has a role
 pub record Readied {M : Type 0} (view : M → MediumView) (r s : RingView M) : Type 0 where
   pub came : CameAsked view true address_asks r s
   pub unheard : OnlyHeard (drive_party r) r s
-  pub places : PlacesKept r s
+  pub leaves : LeavesDevices r s
   pub medium : s.drive.medium ≡ r.drive.medium
   pub idle : IsIdle s
 
@@ -122,6 +128,7 @@ pub record NotRead {M : Type 0} (view : M → MediumView) (d first : ℕ) (r s :
   pub bad : status ≢ 0
   pub came : CameUnits view true (unit false first bytes status ∷ []) r s
   pub unheard : OnlyHeard d r s
+  pub rests : IsAtRest d s.drive.state
   pub still : IsStill (view r.drive.medium) (view s.drive.medium)
   pub rose : Rose (view r.drive.medium).faults (view s.drive.medium).faults
 
@@ -158,6 +165,7 @@ pub record NotWritten {M : Type 0} (view : M → MediumView) (d first : ℕ) (by
   pub bad : status ≢ 0
   pub came : CameUnits view true (unit true first bytes status ∷ []) r s
   pub unheard : OnlyHeard d r s
+  pub rests : IsAtRest d s.drive.state
   pub left : WrotePartly view first pieces r.drive s.drive
   pub rose : Rose (view r.drive.medium).faults (view s.drive.medium).faults
 
