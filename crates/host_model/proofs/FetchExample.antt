@@ -1,0 +1,78 @@
+-- A worked example, computed by the checker: a file of one record is fetched, by one transfer over the loop.
+use Rattle.std.proofs.Common.{ℕ, List, [], ◌∷◌, Option, Some, None, refl, sym, subst, arith, map, take, true}
+use Rattle.lif_model.specs.Numbers.{two_at, four_at}
+use Rattle.lif_model.specs.Gate.{is_open}
+use Rattle.lif_model.specs.Directory.{name_of, entry_at, entries_of}
+use Rattle.lif_model.specs.Apply as volume
+use Rattle.lif_model.proofs.VolumeExamples.{file, a_name}
+use Rattle.loop_model.specs.Loops.{host_loop}
+use Rattle.loop_model.specs.Units.{units_of}
+use Rattle.loop_model.specs.Entries.{ifc, aau}
+use Rattle.loop_model.specs.Exchanges.{Echo, Command, Address, Send, Receive, Sda, Sst, Stopped, Piece, Whole}
+use Rattle.il_script.specs.declared.reply.Reply.TheVariants as reply
+use Rattle.host_model.specs.Requests.{OfVolume, Asks}
+use Rattle.host_model.specs.HostStates.{HostState}
+use Rattle.host_model.specs.Steps.{Event, IsStep, Travels, Exchanged, IsFetchedFrom}
+use Rattle.host_model.proofs.Small.{printer, a_host, a_tape, false_is_not_true}
+use Rattle.host_model.proofs.Texts.{a_bytes, a_found}
+use Rattle.host_model.proofs.StepExamples.{log_of, addressed}
+use Rattle.host_model.proofs.LoopExamples.{byte}
+
+abbrev echoes : List ℕ → List Echo
+echoes bytes = map byte bytes
+
+-- the loop is addressed, record 4 is sought, its bytes come and then the status 00
+abbrev pub fetch_pieces : List Piece
+fetch_pieces = Whole (Command ifc) ∷ Whole (Command aau) ∷ Whole (Address 2) ∷ Whole (Send 1 (Some 4) (echoes (0 ∷ 4 ∷ [])))
+    ∷ Whole (Receive 1 (Some 2) Sda (Stopped 1 (echoes (take 255 a_bytes)) (byte 0))) ∷ Whole (Receive 1 None Sst (Stopped 1 [] (byte 0))) ∷ []
+
+abbrev pub fetched_host : HostState
+fetched_host = record a_host {
+  crossings = 864;
+  ready = true;
+  loop = record { before = []; status = 0; drive = addressed 1; after = record printer { roles = addressed 2; frames = 288 } ∷ [] };
+}
+
+abbrev pub fetch_event : Event
+fetch_event = record { item = Asks (OfVolume (volume.Fetch a_name)); reply = reply.Ok; log = log_of fetch_pieces; before = a_host; after = fetched_host }
+
+fetch_travels : Travels fetch_event
+fetch_travels = record { one_talker = refl; roles = refl; crossings = refl; frames = record { before = tt; after = (refl, tt) }; short = omega arith }
+
+-- what is carried, by the bytes that the file map tells
+abbrev pub Carried : Option (List ℕ) → Type 0
+Carried found = IsFetchedFrom (Some (file a_name 4 1)) found (units_of (host_loop 2 1) fetch_pieces)
+
+fetch_exchanged : Exchanged [] fetch_event
+unfolding two_at four_at name_of is_open entry_at entries_of
+fetch_exchanged = record {
+  reading = record { pieces = fetch_pieces; legal = refl; entries = refl };
+  ends = refl;
+  course = refl;
+  outside = refl;
+  cause = (refl, refl, refl);
+  effect = (a_tape, refl, refl);
+  carried = subst Carried (sym a_found) refl;
+}
+
+fetch_step : IsStep [] fetch_event
+unfolding two_at four_at name_of is_open entry_at entries_of
+fetch_step = record {
+  replied = record { may = tt; whole = λ h. (refl, refl); stays = λ h. refl; told = refl; size = refl; gate = λ g. g };
+  next = record {
+    devices = record {
+      before = tt;
+      after = (record { accessory = refl; hears = record { heard = refl; heard_count = refl; room = refl; accessory = refl }; service = λ h. refl }, tt);
+    };
+    status = refl;
+  };
+  travels = fetch_travels;
+  exchanged = fetch_exchanged;
+  ready = λ h. refl;
+  still = λ h. absurd (false_is_not_true (sym h));
+}
+
+-- with bytes of another record it carries nothing of the file
+carried_of_another : IsFetchedFrom (Some (file a_name 5 1)) (Some a_bytes) (units_of (host_loop 2 1) fetch_pieces) → ⊥
+unfolding two_at four_at
+carried_of_another h = false_is_not_true h

@@ -1,0 +1,11 @@
+pub mod Steps
+pub mod RingStates
+pub mod Runs
+pub mod Growing
+mod Small
+mod Texts
+mod StepExamples
+mod LoopExamples
+mod RunExamples
+mod EndExamples
+mod FetchExample

@@ -1,0 +1,174 @@
+-- Worked examples of steps, computed by the checker: a drive, which is party 1, with a printer behind it, is asked for its status.
+use Rattle.std.proofs.Common.{◌≡◌, ◌++◌, ℕ, List, [], ◌∷◌, Some, None, false, inl, refl, sym, ap, arith, flat_map, codes, true}
+use Rattle.std.specs.Prelude.{unwrap_or}
+use Rattle.std.specs.Fmt.{digits}
+use Rattle.lif_model.specs.Tape.{record_at}
+use Rattle.lif_model.proofs.Examples as base
+use Rattle.il_frames.specs.declared.frame.Class.TheVariants as class
+use Rattle.il_frames.specs.declared.entry.Entry.{Entry}
+use Rattle.il_frames.specs.declared.entry.Outcome.TheVariants as outcome
+use Rattle.il_frames.specs.Frames.{framed}
+use Rattle.il_device.specs.declared.roles.Roles.{Roles}
+use Rattle.il_device.specs.Roles.{no_roles}
+use Rattle.loop_model.specs.Entries.{entry, ifc, aau, aad}
+use Rattle.loop_model.specs.Exchanges.{Echo, Exchange, Command, Address, Receive, Sst, Stopped, Piece, Whole, Cut, FrameLost, piece_entries}
+use Rattle.loop_model.specs.Hearing.{roles_at}
+use Rattle.il_script.specs.declared.reply.Code.TheVariants as code
+use Rattle.il_script.specs.declared.reply.Reply.TheVariants as reply
+use Rattle.host_model.specs.Requests.{Status, Asks}
+use Rattle.host_model.specs.HostStates.{HostState}
+use Rattle.host_model.specs.Replies.{trace_text}
+use Rattle.host_model.specs.Steps.{Event, IsStep}
+use Rattle.host_model.proofs.Small.{printer, empty_host, a_tape, texts_differ, numbers_differ, false_is_not_true}
+
+-- ---- asking for the status after power on
+
+-- the status 00, as the drive sends it and as it comes back
+abbrev pub told : Echo
+told = record { sent = framed class.Dab 0; back = framed class.Dab 0 }
+
+abbrev pub asking : Exchange
+asking = Receive 1 None Sst (Stopped 1 [] told)
+
+abbrev pub status_pieces : List Piece
+status_pieces = Whole (Command ifc) ∷ Whole (Command aau) ∷ Whole (Address 2) ∷ Whole asking ∷ []
+
+abbrev pub log_of : List Piece → List Entry
+log_of pieces = flat_map (piece_entries 0) pieces
+
+abbrev pub lines : List (List ℕ) → List ℕ
+lines texts = flat_map (λ text. text ++ 10 ∷ []) texts
+
+status_trace : trace_text (log_of status_pieces) ≡ lines (codes "~ 0 IFC = IFC" ∷ codes "~ 0 RFC = RFC" ∷ codes "~ 0 AAU = AAU" ∷ codes "~ 0 RFC = RFC"
+    ∷ codes "~ 0 AAD 01 = AAD 03" ∷ codes "~ 0 UNL = UNL" ∷ codes "~ 0 RFC = RFC" ∷ codes "~ 0 TAD 01 = TAD 01" ∷ codes "~ 0 RFC = RFC" ∷ codes "~ 0 SST > 1"
+    ∷ codes "~ 0 NRD = NRD" ∷ codes "~ 1 DAB 00 = DAB 00" ∷ codes "~ 1 ETO > 0" ∷ codes "~ 0 UNT = UNT" ∷ codes "~ 0 RFC = RFC" ∷ [])
+unfolding digits
+status_trace = refl
+
+-- the number of an AAD goes up by one at each device that takes it
+shared_address : trace_text (entry 0 (aad 1) (outcome.Back (aad 3)) ∷ []) ≡ codes "~ 0 AAD 01 = AAD 02" ++ 10 ∷ [] → ⊥
+unfolding digits
+shared_address = texts_differ _ _ refl
+
+abbrev pub addressed : ℕ → Roles
+addressed a = record { address = Some a; talks = false; listens = false }
+
+-- The devices have their addresses. The printer took the frame of every line but the one of SST.
+abbrev pub asked_host : HostState
+asked_host = record empty_host {
+  crossings = 42;
+  ready = true;
+  loop = record { before = []; status = 0; drive = addressed 1; after = record printer { roles = addressed 2; frames = 14 } ∷ [] };
+}
+
+abbrev pub status_event : Event
+status_event = record { item = Asks Status; reply = reply.Ok; log = log_of status_pieces; before = empty_host; after = asked_host }
+
+pub status_step : IsStep [] status_event
+status_step = record {
+  replied = record { may = tt; whole = λ h. (refl, refl); stays = λ h. refl; told = refl; size = refl; gate = λ g. g };
+  next = record {
+    devices = record {
+      before = tt;
+      after = (record { accessory = refl; hears = record { heard = refl; heard_count = refl; room = refl; accessory = refl }; service = λ h. refl }, tt);
+    };
+    status = refl;
+  };
+  travels = record { one_talker = refl; roles = refl; crossings = refl; frames = record { before = tt; after = (refl, tt) }; short = omega arith };
+  exchanged = record {
+    reading = record { pieces = status_pieces; legal = refl; entries = refl };
+    ends = refl;
+    course = refl;
+    outside = refl;
+    cause = (refl, refl, refl);
+    effect = refl;
+    carried = tt;
+  };
+  ready = λ h. refl;
+  still = λ h. absurd (false_is_not_true (sym h));
+}
+
+-- ---- what is no step
+
+abbrev pub sixth : List ℕ
+sixth = 6 ∷ []
+
+hop_is_none : sixth ≡ [] → ⊥
+hop_is_none h = cc
+
+-- one frame more at the printer
+one_more_frame : IsStep [] (record status_event { after = record asked_host { loop = record asked_host.loop { after = record printer { roles = addressed 2; frames = 15 } ∷ [] } } }) → ⊥
+one_more_frame s = numbers_differ 15 14 refl s.travels.frames.after.0
+
+-- a crossing that no entry stands for
+one_more_crossing : IsStep [] (record status_event { after = record asked_host { crossings = 43 } }) → ⊥
+one_more_crossing s = numbers_differ 43 42 refl s.travels.crossings
+
+-- the drive is left without its address
+no_address : IsStep [] (record status_event { after = record asked_host { loop = record asked_host.loop { drive = no_roles } } }) → ⊥
+no_address s = numbers_differ 0 1 refl (ap (λ rs. unwrap_or (roles_at 1 rs).address 0) s.travels.roles)
+
+-- a refusal, or a fault of the medium, of a command that has neither
+refused_status : IsStep [] (record status_event { reply = reply.No code.NotLif }) → ⊥
+refused_status s = no_is_ok (s.replied.whole (λ h. refl)).0
+  where
+    no_is_ok : reply.No code.NotLif ≡ reply.Ok → ⊥
+    no_is_ok h = cc
+
+medium_at_status : IsStep [] (record status_event { reply = reply.FaultMedium }) → ⊥
+medium_at_status s = false_is_not_true s.replied.may
+
+-- `fault frame` where no fault is planned, and ok where one was met
+fault_without_a_plan : IsStep [] (record status_event { reply = reply.FaultFrame }) → ⊥
+fault_without_a_plan s = s.exchanged.cause.0 refl
+
+ok_in_spite_of_a_hop : IsStep (6 ∷ []) status_event → ⊥
+ok_in_spite_of_a_hop s = hop_is_none s.exchanged.cause.0
+
+-- another tape behind it
+another_tape : IsStep [] (record status_event { after = record asked_host { tape = Some a_tape } }) → ⊥
+another_tape s = texts_differ (record_at a_tape 4) (record_at base.formatted 4) refl (ap (λ t. record_at (unwrap_or t []) 4) (s.replied.stays refl))
+
+-- ---- a loss at the sixth crossing
+
+-- RFC behind IFC comes past both devices and not back to the host
+abbrev pub lost_pieces : List Piece
+lost_pieces = Cut (Command ifc) 1 (FrameLost 0) ∷ []
+
+lost_trace : trace_text (log_of lost_pieces) ≡ lines (codes "~ 0 IFC = IFC" ∷ codes "~ 0 RFC ! 0" ∷ [])
+unfolding digits
+lost_trace = refl
+
+abbrev pub lost_host : HostState
+lost_host = record empty_host { crossings = 6; loop = record empty_host.loop { after = record printer { frames = 2 } ∷ [] } }
+
+abbrev pub lost_event : Event
+lost_event = record { item = Asks Status; reply = reply.FaultFrame; log = log_of lost_pieces; before = empty_host; after = lost_host }
+
+pub lost_step : IsStep (6 ∷ []) lost_event
+lost_step = record {
+  replied = record { may = refl; whole = λ h g. inl refl; stays = λ h. refl; told = refl; size = refl; gate = λ g. g };
+  next = record {
+    devices = record {
+      before = tt;
+      after = (record { accessory = refl; hears = record { heard = refl; heard_count = refl; room = refl; accessory = refl }; service = λ h. refl }, tt);
+    };
+    status = inl refl;
+  };
+  travels = record { one_talker = refl; roles = refl; crossings = refl; frames = record { before = tt; after = (refl, tt) }; short = omega arith };
+  exchanged = record {
+    reading = record { pieces = lost_pieces; legal = refl; entries = refl };
+    ends = refl;
+    course = refl;
+    outside = refl;
+    cause = (hop_is_none, omega arith);
+    effect = refl;
+    carried = tt;
+  };
+  ready = λ h. refl;
+  still = λ h. absurd (false_is_not_true (sym h));
+}
+
+-- with a plan of the seventh crossing the loss is no step
+lost_too_early : IsStep (7 ∷ []) lost_event → ⊥
+lost_too_early s = s.exchanged.cause.0 refl

@@ -1,0 +1,135 @@
+-- Laws of one step, for those who say a part of it by itself.
+use Rattle.std.proofs.Common.{◌≡◌, ◌≢◌, ◌≤◌, ◌+◌, ◌↔◌, ◌∙◌, ℕ, suc, true, false, not, cond, List, [], ◌∷◌, length, refl, sym, ap, subst, arith, Bool}
+use Rattle.il_device.specs.State.{DeviceState}
+use Rattle.loop_model.specs.Effect.{ends_as}
+use Rattle.loop_model.proofs.EffectLaws.{all_good}
+use Rattle.loop_model.proofs.ExchangeLaws.{not_both}
+use Rattle.loop_model.specs.Exchanges.{Piece, Whole, Cut, are_whole, breaks_off, IsWhole, IsBroken}
+use Rattle.loop_model.specs.Loops.{host_loop}
+use Rattle.loop_model.specs.Reach.{met}
+use Rattle.loop_model.specs.Units.{RecordUnit, units_of}
+use Rattle.il_script.specs.declared.reply.Reply.{Reply}
+use Rattle.il_script.specs.declared.reply.Reply.TheVariants as reply
+use Rattle.host_model.specs.LoopStates.{LoopState, device_count, drive_at, ring_of}
+use Rattle.host_model.specs.Next.{EachBecomes, BoxedBecome}
+use Rattle.host_model.specs.Steps.{Event, IsStep, HasReplyCause, is_frame_fault}
+
+-- ---- devices one by one
+
+pub each_length : (R : ℕ → DeviceState → DeviceState → Type 0) (party : ℕ) (ds es : List DeviceState) → EachBecomes R party ds es → length es ≡ length ds
+each_length R party [] [] h = refl
+each_length R party (d ∷ ds) (e ∷ es) h = ap suc (each_length R (party + 1) ds es h.1)
+each_length R party [] (e ∷ es) h = absurd h
+each_length R party (d ∷ ds) [] h = absurd h
+
+-- what holds of each device as it is
+pub each_same : (R : ℕ → DeviceState → DeviceState → Type 0) → ((party : ℕ) (d : DeviceState) → R party d d) → (party : ℕ) (ds : List DeviceState) → EachBecomes R party ds ds
+each_same R same party [] = tt
+each_same R same party (d ∷ ds) = (same party d, each_same R same (party + 1) ds)
+
+-- one step behind the other
+pub each_then : (R S T : ℕ → DeviceState → DeviceState → Type 0) → ((party : ℕ) (d e f : DeviceState) → R party d e → S party e f → T party d f)
+    → (party : ℕ) (ds es fs : List DeviceState) → EachBecomes R party ds es → EachBecomes S party es fs → EachBecomes T party ds fs
+each_then R S T join party [] [] [] a b = tt
+each_then R S T join party (d ∷ ds) (e ∷ es) (f ∷ fs) a b = (join party d e f a.0 b.0, each_then R S T join (party + 1) ds es fs a.1 b.1)
+each_then R S T join party [] (e ∷ es) fs a b = absurd a
+each_then R S T join party (d ∷ ds) [] fs a b = absurd a
+each_then R S T join party [] [] (f ∷ fs) a b = absurd b
+each_then R S T join party (d ∷ ds) (e ∷ es) [] a b = absurd b
+
+pub boxed_same : (R : ℕ → DeviceState → DeviceState → Type 0) → ((party : ℕ) (d : DeviceState) → R party d d) → (z : LoopState) → BoxedBecome R z z
+boxed_same R same z = record { before = each_same R same 1 z.before; after = each_same R same (length z.before + 2) z.after }
+
+pub boxed_then : (R S T : ℕ → DeviceState → DeviceState → Type 0) → ((party : ℕ) (d e f : DeviceState) → R party d e → S party e f → T party d f)
+    → (x y z : LoopState) → BoxedBecome R x y → BoxedBecome S y z → BoxedBecome T x z
+boxed_then R S T join x y z a b = record {
+  before = each_then R S T join 1 x.before y.before z.before a.before b.before;
+  after =
+      let same : length y.before + 2 ≡ length x.before + 2 = ap (λ k. k + 2) (each_length R 1 x.before y.before a.before) in
+      each_then R S T join (length x.before + 2) x.after y.after z.after a.after (subst (λ k. EachBecomes S k y.after z.after) same b.after);
+}
+
+-- the ring stays as large as it is, and the drive in its place
+pub count_stays : (R : ℕ → DeviceState → DeviceState → Type 0) (z y : LoopState) → BoxedBecome R z y → device_count y ≡ device_count z
+count_stays R z y h =
+    let first = each_length R 1 z.before y.before h.before in
+    let last = each_length R (length z.before + 2) z.after y.after h.after in
+    omega (arith, first, last)
+
+pub ring_stays : (R : ℕ → DeviceState → DeviceState → Type 0) (z y : LoopState) → BoxedBecome R z y → ring_of y ≡ ring_of z
+ring_stays R z y h =
+    let first = each_length R 1 z.before y.before h.before in
+    ap (λ k. host_loop k (drive_at y)) (count_stays R z y h) ∙ ap (λ k. host_loop (device_count z) (k + 1)) first
+
+-- ---- causes
+
+some_hop : (hops : List ℕ) → hops ≢ [] → 1 ≤ length hops
+some_hop [] h = absurd (h refl)
+some_hop (hop ∷ hops) h = omega arith
+
+-- a fault of the loop stands for a planned hop
+pub lost_once : (r : Reply) (hops : List ℕ) (before now : ℕ) (units : List RecordUnit) → HasReplyCause r hops before now units
+    → cond (is_frame_fault r) 1 0 ≤ length hops
+lost_once reply.FaultFrame hops before now units cause = some_hop hops cause.0
+lost_once reply.FaultMedium hops before now units cause = omega arith
+lost_once reply.Ok hops before now units cause = omega arith
+lost_once (reply.No c) hops before now units cause = omega arith
+
+-- the medium's count never falls
+pub faults_grow : (r : Reply) (hops : List ℕ) (before now : ℕ) (units : List RecordUnit) → HasReplyCause r hops before now units → before ≤ now
+faults_grow reply.FaultFrame hops before now units cause = cause.1
+faults_grow reply.FaultMedium hops before now units cause = cause.1.later
+faults_grow reply.Ok hops before now units cause = omega (arith, cause.1)
+faults_grow (reply.No c) hops before now units cause = omega (arith, cause.1)
+
+-- exchanges that are all whole, and of which the last broke off
+not_both_ways : (pieces : List Piece) → are_whole pieces ≡ true → breaks_off pieces ≡ true → ⊥
+not_both_ways [] whole broken = let clash : false ≡ true = broken in cc
+not_both_ways (Whole x ∷ pieces) whole broken = not_both_ways pieces whole broken
+not_both_ways (Cut x n b ∷ pieces) whole broken = let clash : false ≡ true = whole in cc
+
+-- ---- exactly
+
+-- the reply is `fault frame` exactly where a planned hop was met
+pub lost_exactly : (hops : List ℕ) (e : Event) → IsStep hops e → (e.reply ≡ reply.FaultFrame) ↔ (met hops e.before.crossings e.after.crossings ≢ [])
+lost_exactly hops e s = by_reply e.reply (met hops e.before.crossings e.after.crossings) _ _ _ s.exchanged.cause
+  where
+    by_reply : (r : Reply) (found : List ℕ) (before now : ℕ) (units : List RecordUnit) → HasReplyCause r found before now units → (r ≡ reply.FaultFrame) ↔ (found ≢ [])
+    by_reply reply.FaultFrame found before now units cause = (λ h. cause.0, λ h. refl)
+    by_reply reply.FaultMedium found before now units cause = (λ h. cc, λ h. absurd (h cause.0))
+    by_reply reply.Ok found before now units cause = (λ h. cc, λ h. absurd (h cause.0))
+    by_reply (reply.No c) found before now units cause = (λ h. cc, λ h. absurd (h cause.0))
+
+-- and exactly where the log breaks off; every other log is whole
+pub broken_exactly : (hops : List ℕ) (e : Event) → IsStep hops e → (e.reply ≡ reply.FaultFrame) ↔ IsBroken (ring_of e.before.loop) e.log
+broken_exactly hops e s = (
+  λ h. record { reading = s.exchanged.reading; broken = subst (λ r. ends_as (not (is_frame_fault r)) s.exchanged.reading.pieces ≡ true) h s.exchanged.ends },
+  λ h. by_reply e.reply refl h,
+)
+  where
+    whole_log : (r : Reply) → is_frame_fault r ≡ false → e.reply ≡ r → IsWhole (ring_of e.before.loop) e.log
+    whole_log r other is = record {
+      reading = s.exchanged.reading;
+      whole = subst (λ b. ends_as (not b) s.exchanged.reading.pieces ≡ true) (ap is_frame_fault is ∙ other) s.exchanged.ends;
+    }
+
+    by_reply : (r : Reply) → e.reply ≡ r → IsBroken (ring_of e.before.loop) e.log → r ≡ reply.FaultFrame
+    by_reply reply.FaultFrame is broken = refl
+    by_reply reply.FaultMedium is broken = absurd (not_both _ e.log (whole_log reply.FaultMedium refl is) broken)
+    by_reply reply.Ok is broken = absurd (not_both _ e.log (whole_log reply.Ok refl is) broken)
+    by_reply (reply.No c) is broken = absurd (not_both _ e.log (whole_log (reply.No c) refl is) broken)
+
+-- the reply is `fault medium` exactly where no exchange broke off and a transfer has another status than 0
+pub failed_exactly : (hops : List ℕ) (e : Event) → (s : IsStep hops e)
+    → (e.reply ≡ reply.FaultMedium) ↔ ((are_whole s.exchanged.reading.pieces ≡ true) × (all_good (units_of (ring_of e.before.loop) s.exchanged.reading.pieces) ≡ false))
+failed_exactly hops e s = by_reply e.reply s.exchanged.reading.pieces _ _ _ (units_of (ring_of e.before.loop) s.exchanged.reading.pieces) s.exchanged.cause s.exchanged.ends
+  where
+    not_good : (b : Bool) → b ≡ true → b ≡ false → ⊥
+    not_good b good bad = let clash : true ≡ false = sym good ∙ bad in cc
+
+    by_reply : (r : Reply) (pieces : List Piece) (found : List ℕ) (before now : ℕ) (units : List RecordUnit) → HasReplyCause r found before now units
+        → ends_as (not (is_frame_fault r)) pieces ≡ true → (r ≡ reply.FaultMedium) ↔ ((are_whole pieces ≡ true) × (all_good units ≡ false))
+    by_reply reply.FaultFrame pieces found before now units cause ends = (λ h. cc, λ h. absurd (not_both_ways pieces h.0 ends))
+    by_reply reply.FaultMedium pieces found before now units cause ends = (λ h. (ends, cause.2), λ h. refl)
+    by_reply reply.Ok pieces found before now units cause ends = (λ h. cc, λ h. absurd (not_good _ cause.2 h.1))
+    by_reply (reply.No c) pieces found before now units cause ends = (λ h. cc, λ h. absurd (not_good _ cause.2 h.1))

@@ -1,0 +1,19 @@
+-- What a device hears of bytes that a command sends it.
+use Rattle.std.specs.Prelude.{◌≡◌, ◌≤◌, ◌++◌, ℕ, List, length, take}
+use Rattle.il_device.specs.State.{DeviceState}
+use Rattle.il_device.proofs.Laws.{kept_all, risen_by}
+
+-- the device heard exactly these bytes, and keeps the first ones of all, as far as it has room
+pub record HearsAll (bytes : List ℕ) (d e : DeviceState) : Type 0 where
+  pub heard : e.heard ≡ kept_all d.room d.heard bytes
+  pub heard_count : e.heard_count ≡ risen_by (length bytes) d.heard_count
+  pub room : e.room ≡ d.room
+  pub accessory : e.accessory ≡ d.accessory
+
+-- the first ones of these bytes, and then at most one byte of any value
+pub record HearsFront (bytes : List ℕ) (d e : DeviceState) : Type 0 where
+  pub front : ℕ
+  pub within : front ≤ length bytes
+  pub more : List ℕ
+  pub few : length more ≤ 1
+  pub heard : HearsAll (take front bytes ++ more) d e

@@ -1,0 +1,70 @@
+-- What a whole run tells: all its logs and replies together.
+use Rattle.std.specs.Prelude.{◌≡◌, ◌≢◌, ◌↔◌, ◌++◌, ◌≤◌, ◌<◌, ◌+◌, ◌-◌, ◌^◌, min, ℕ, Bool, true, false, List, [], ◌∷◌, length, sum_by, count_by}
+use Rattle.il_device.specs.State.{DeviceState}
+use Rattle.il_device.proofs.Laws.{risen_by}
+use Rattle.loop_model.specs.Effect.{Effect}
+use Rattle.loop_model.specs.Reach.{links, passes, met}
+use Rattle.loop_model.specs.Roles.{OneTalker, roles_after}
+use Rattle.il_script.specs.declared.reply.Reply.{Reply}
+use Rattle.il_script.specs.declared.reply.Reply.TheVariants as reply
+use Rattle.host_model.specs.LoopStates.{all_roles, device_count, ring_of}
+use Rattle.host_model.specs.HostStates.{HostState, HasOwnGate}
+use Rattle.host_model.specs.Replies.{reply_of}
+use Rattle.host_model.specs.Next.{BoxedBecome}
+use Rattle.host_model.specs.Steps.{Event, TellsReply, OnTapes, is_frame_fault}
+use Rattle.host_model.specs.Runs.{joined_log}
+
+-- the crossings that all logs stand for, on a ring of k devices
+abbrev pub all_links : ℕ → List Event → ℕ
+all_links k events = sum_by (λ e. links k e.log) events
+
+-- the count of crossings behind these events
+abbrev pub crossed_behind : HostState → List Event → ℕ
+crossed_behind start events = risen_by (all_links (device_count start.loop) events) start.crossings
+
+-- the frames that all logs brought to a party
+abbrev pub all_passes : ℕ → ℕ → List Event → ℕ
+all_passes k party events = sum_by (λ e. passes k party e.log) events
+
+abbrev pub TookAll : ℕ → List Event → ℕ → DeviceState → DeviceState → Type 0
+TookAll k events party d e = e.frames ≡ risen_by (all_passes k party events) d.frames
+
+-- how many replies are `fault frame`, and how many `fault medium`
+abbrev pub lost_replies : List Event → ℕ
+lost_replies events = count_by (λ e. is_frame_fault e.reply) events
+
+abbrev pub is_medium_fault : Reply → Bool
+is_medium_fault reply.FaultMedium = true
+is_medium_fault _ = false
+
+abbrev pub failed_replies : List Event → ℕ
+failed_replies events = count_by (λ e. is_medium_fault e.reply) events
+
+-- the greatest count of faults, at which it stays
+abbrev pub last_count : ℕ
+last_count = 2 ^ 64 - 1
+
+-- each reply is the one that its item has without a fault
+abbrev pub AllAnswered : List Event → Type 0
+AllAnswered [] = Unit {0}
+AllAnswered (e ∷ events) = (TellsReply e.item e.before → e.reply ≡ reply_of e.item e.before) × AllAnswered events
+
+pub record RunTells (hops : List ℕ) (start : HostState) (events : List Event) (finish : HostState) : Type 0 where
+  -- in all logs joined at most one party talks at every moment, and they leave these roles
+  pub one_talker : OneTalker (all_roles start.loop) (joined_log events)
+  pub roles : all_roles finish.loop ≡ roles_after (all_roles start.loop) (joined_log events)
+  -- they made the tape at first into the tape at the end
+  pub effect : OnTapes start.tape finish.tape (λ t u. Effect (ring_of start.loop) t (joined_log events) u)
+  pub gate : HasOwnGate start → HasOwnGate finish
+  -- the crossings and the frames of each device are those that they stand for
+  pub crossings : finish.crossings ≡ crossed_behind start events
+  pub frames : BoxedBecome (TookAll (device_count start.loop) events) start.loop finish.loop
+  -- a reply is `fault frame` exactly where a planned hop lies behind the crossings of the logs before, and not behind those
+  -- of its own
+  pub lost : (done : List Event) (e : Event) (more : List Event) → events ≡ done ++ e ∷ more
+      → (e.reply ≡ reply.FaultFrame) ↔ (met hops (crossed_behind start done) (crossed_behind start (done ++ e ∷ [])) ≢ [])
+  -- no more frame faults than planned hops were crossed, and no more medium faults than the medium failed
+  pub few_lost : lost_replies events ≤ length (met hops start.crossings finish.crossings)
+  pub few_failed : min (start.faults + failed_replies events) last_count ≤ finish.faults
+  -- where nothing is planned and the medium does not fail, no command faults
+  pub complete : hops ≡ [] → finish.faults ≤ start.faults → start.faults < last_count → AllAnswered events

@@ -1,0 +1,41 @@
+-- What stands between two items of a run.
+use Rattle.std.specs.Prelude.{◌≡◌, ℕ, ◌+◌, ◌*◌, Bool, false, List, Option, option_and_then, IfSome}
+use Rattle.lif_model.specs.Tape.{Tape}
+use Rattle.lif_model.specs.Volume.{Volume, volume_of, is_foreign_gated}
+use Rattle.il_device.specs.State.{DeviceState}
+use Rattle.host_model.specs.LoopStates.{LoopState, fresh_loop}
+
+pub record HostState : Type 0 where
+  -- the tape in the drive, where the medium tells it, and how many records it has
+  pub tape : Option Tape
+  pub records : ℕ
+  -- the medium's count of faults
+  pub faults : ℕ
+  -- how many crossings of links there were so far; the count stays at its greatest value
+  pub crossings : ℕ
+  -- the devices have their addresses, since no exchange broke off behind the last addressing
+  pub ready : Bool
+  pub loop : LoopState
+
+-- a host that was just opened
+abbrev pub fresh_host : Option Tape → ℕ → ℕ → List DeviceState → List DeviceState → HostState
+fresh_host tape records faults before after =
+    record { tape = tape; records = records; faults = faults; crossings = 0; ready = false; loop = fresh_loop before after }
+
+-- the volume: none where the tape is not legal, or not told
+abbrev pub volume_at : HostState → Option Volume
+volume_at s = option_and_then volume_of s.tape
+
+-- no redo is open over a tape where a file that is not ours holds the gate record
+abbrev pub HasOwnGate : HostState → Type 0
+HasOwnGate s = IfSome s.tape (λ t. is_foreign_gated t ≡ false)
+
+-- ---- room
+
+-- how many entries the log of one command may have on a medium of so many records
+abbrev pub log_room : ℕ → ℕ
+log_room records = 1600 * records + 10000
+
+-- how many bytes the text of one reply may have
+abbrev pub text_room : ℕ → ℕ
+text_room records = 600 * records + 20000

@@ -1,0 +1,150 @@
+-- What a run leaves, by how it ends.
+use Rattle.std.specs.Prelude.{◌≡◌, ◌≤◌, ◌<◌, ℕ, true, false, List, [], ◌∷◌, ◌++◌, length, take, map, Option, Some, None, is_some}
+use Rattle.std.specs.Io.KnownBytes.{Appends, IsAtEnd}
+use Rattle.lif_model.specs.Shelf.{Shelf, image_of, largest_image}
+use Rattle.lif_model.specs.Tape.{Tape}
+use Rattle.il_script.specs.declared.limits.TheConstants.{LONGEST_SCRIPT}
+use Rattle.il_script.specs.LineCut.{line_cut, line_told}
+use Rattle.host_model.specs.Requests.{Item, items_in, items_of}
+use Rattle.host_model.specs.Generated.{items_generated}
+use Rattle.host_model.specs.HostStates.{HostState}
+use Rattle.host_model.specs.Steps.{Event}
+use Rattle.host_model.specs.Stops.{LeavesWithin}
+use Rattle.host_model.specs.Runs.{Chained, items_asked, all_ok, OutputMode, Summary, event_text, summary, output}
+use Rattle.host_model.specs.Histories.{RunTells}
+use Rattle.host_model.specs.Endings.{RunEnd, AllOk, SomeNotOk, BadWords, NoImage, ImageTooLarge, SourceFailed, SinkFailed, OutOfMemory, ScriptTooLong, InsertFailed}
+use Rattle.host_model.specs.Orders.{Order, Outside, Opens, Inserts, HandsBack, mode_of}
+
+-- ---- which items were answered
+
+-- the items of the complete lines of what was taken of the script
+pub record AsksTaken (script : List ℕ) (left : Option (List ℕ)) (items : List Item) : Type 0 where
+  pub taken : List ℕ
+  pub rest : List ℕ
+  pub known : left ≡ Some rest
+  pub whole : script ≡ taken ++ rest
+  pub are : items ≡ items_in (map line_told (line_cut taken).whole)
+
+-- the first items of the script
+pub record AsksFirst (script : List ℕ) (items : List Item) : Type 0 where
+  pub more : List Item
+  pub are : items_of script ≡ items ++ more
+
+-- By the ending: all items, at the end of the script; those of the complete lines before a read that failed, or before the
+-- first byte that is too much; or the first ones, where nothing more could be written.
+abbrev pub AsksScript : RunEnd → List ℕ → Option (List ℕ) → List Item → Type 0
+AsksScript AllOk script left items = (items ≡ items_of script) × IsAtEnd left × (length script ≤ LONGEST_SCRIPT)
+AsksScript SomeNotOk script left items = (items ≡ items_of script) × IsAtEnd left × (length script ≤ LONGEST_SCRIPT)
+AsksScript SourceFailed script left items = AsksTaken script left items
+AsksScript SinkFailed script left items = AsksFirst script items
+AsksScript ScriptTooLong script left items =
+    (LONGEST_SCRIPT < length script) × (items ≡ items_in (map line_told (line_cut (take LONGEST_SCRIPT script)).whole))
+AsksScript _ script left items = ⊥
+
+-- a generated script is answered whole, and the source is not read
+abbrev pub AsksGenerated : RunEnd → ℕ × ℕ → List Item → Type 0
+AsksGenerated AllOk script items = items ≡ items_generated script.0 script.1
+AsksGenerated SomeNotOk script items = items ≡ items_generated script.0 script.1
+AsksGenerated SinkFailed script items = items ≡ items_generated script.0 script.1
+AsksGenerated _ script items = ⊥
+
+abbrev pub AsksAs : Option (ℕ × ℕ) → RunEnd → Option (List ℕ) → Option (List ℕ) → List Item → Type 0
+AsksAs None end before left items = (script : List ℕ) → before ≡ Some script → AsksScript end script left items
+AsksAs (Some script) end before left items = AsksGenerated end script items × (left ≡ before)
+
+-- ---- what was written
+
+-- a front of the text
+abbrev pub WritesFront : Option (List ℕ) → Option (List ℕ) → List ℕ → Type 0
+WritesFront before now text = (size : ℕ) × (size ≤ length text) × Appends before now (take size text)
+
+-- the text of all events but the last, and of the last a front
+pub record WritesToLast (mode : OutputMode) (events : List Event) (before now : Option (List ℕ)) : Type 0 where
+  pub done : List Event
+  pub last : Event
+  pub are : events ≡ done ++ last ∷ []
+  pub size : ℕ
+  pub front : size ≤ length (event_text mode last)
+  pub written : Appends before now (output mode done ++ take size (event_text mode last))
+
+-- where the sink failed
+abbrev pub WritesPart : OutputMode → List Event → Option (List ℕ) → Option (List ℕ) → Type 0
+WritesPart Summary events before now = WritesFront before now (summary events)
+WritesPart mode events before now = WritesToLast mode events before now
+
+abbrev pub WritesAs : RunEnd → OutputMode → List Event → Option (List ℕ) → Option (List ℕ) → Type 0
+WritesAs SinkFailed mode events before now = WritesPart mode events before now
+WritesAs _ mode events before now = Appends before now (output mode events)
+
+-- ---- a run over a script
+
+-- the texts of replies are told by the tape; the summary needs none
+abbrev pub TellsTexts : OutputMode → HostState → Type 0
+TellsTexts Summary start = Unit {0}
+TellsTexts _ start = is_some start.tape ≡ true
+
+-- whether all replies are ok decides between two endings
+abbrev pub IsOkAs : RunEnd → List Event → Type 0
+IsOkAs AllOk events = all_ok events ≡ true
+IsOkAs SomeNotOk events = all_ok events ≡ false
+IsOkAs _ events = Unit {0}
+
+-- One list of events from the opened host on meets all that is said: each is a step, and begins where the one before it ends;
+-- together they tell what a run tells; the items are those of the script; their texts were written; the tape and the devices
+-- handed back are those behind the last one; and each tape that a stop since the run began may have left, `stopped`, is one of
+-- theirs.
+pub record RunsOver (end : RunEnd) (order : Order) (old now : Outside) (stopped : Tape → Type 0) : Type 0 where
+  pub events : List Event
+  pub start : HostState
+  pub finish : HostState
+  pub opens : Opens order old start
+  pub chain : Chained order.hops start events finish
+  pub tells : RunTells order.hops start events finish
+  pub asks : AsksAs order.generated end old.left now.left (items_asked events)
+  pub ok : IsOkAs end events
+  pub writes : TellsTexts (mode_of order) start → WritesAs end (mode_of order) events old.written now.written
+  pub back : HandsBack finish now
+  pub stops : LeavesWithin start events finish stopped
+
+-- ---- endings before the first item
+
+-- the shelf has no such image, and none is to be made
+pub record HasNoImage (order : Order) (old : Outside) : Type 0 where
+  pub missing : (shelf : Shelf) → old.shelf ≡ Some shelf → image_of order.image shelf ≡ None
+  pub kept : order.made ≡ None
+
+-- the image has more bytes than a medium
+pub record HasLargeImage (order : Order) (old : Outside) : Type 0 where
+  pub found : (shelf : Shelf) → old.shelf ≡ Some shelf → (image : List ℕ) × (image_of order.image shelf ≡ Some image) × (largest_image < length image)
+
+-- the script is as it was, nothing was written, and the devices are as they were
+pub record IsUntouched (old now : Outside) : Type 0 where
+  pub left : now.left ≡ old.left
+  pub written : now.written ≡ old.written
+  pub before : now.before ≡ old.before
+  pub after : now.after ≡ old.after
+
+-- and no tape is in, and the shelf is as it was
+pub record IsEmpty (old now : Outside) : Type 0 where
+  pub untouched : IsUntouched old now
+  pub tape : now.tape ≡ None
+  pub shelf : now.shelf ≡ old.shelf
+
+-- the image went into the drive, and a stop leaves it as it is there
+pub record LeavesImage (order : Order) (old now : Outside) (stopped : Tape → Type 0) : Type 0 where
+  pub untouched : IsUntouched old now
+  pub inserts : Inserts order old now.tape
+  pub stops : is_some now.tape ≡ true → (x : Tape) → stopped x → now.tape ≡ Some x
+
+-- ---- every ending
+
+-- by what the words ask for
+abbrev pub LeavesBy : RunEnd → Option Order → Outside → Outside → (Tape → Type 0) → Type 0
+LeavesBy BadWords None old now stopped = IsEmpty old now × (now.faults ≡ old.faults)
+LeavesBy _ None old now stopped = ⊥
+LeavesBy BadWords (Some order) old now stopped = ⊥
+LeavesBy NoImage (Some order) old now stopped = IsEmpty old now × HasNoImage order old
+LeavesBy ImageTooLarge (Some order) old now stopped = IsEmpty old now × HasLargeImage order old
+LeavesBy InsertFailed (Some order) old now stopped = IsEmpty old now
+LeavesBy OutOfMemory (Some order) old now stopped = LeavesImage order old now stopped
+LeavesBy end (Some order) old now stopped = RunsOver end order old now stopped

@@ -1,0 +1,17 @@
+pub mod Requests
+pub mod LoopStates
+pub mod HostStates
+pub mod RingStates
+pub mod Listing
+pub mod Replies
+pub mod Generated
+pub mod Hearing
+pub mod Next
+pub mod Courses
+pub mod Steps
+pub mod Stops
+pub mod Runs
+pub mod Histories
+pub mod Endings
+pub mod Orders
+pub mod Leaves

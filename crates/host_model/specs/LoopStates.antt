@@ -1,0 +1,85 @@
+-- What stands on the loop between two commands, and what the commands of the loop tell of it.
+use Rattle.std.specs.Prelude.{ℕ, suc, ◌+◌, ◌-◌, nat_le, Bool, true, if◌then◌else◌, List, [], ◌∷◌, ◌++◌, length, map, Option, Some, None, option_map}
+use Rattle.std.specs.List.{position}
+use Rattle.il_frames.specs.declared.frame.Class.TheVariants as class
+use Rattle.il_frames.specs.declared.frame.Frame.{Frame}
+use Rattle.il_frames.specs.Frames.{framed}
+use Rattle.il_poll.specs.Service.{wants_service, status_byte_of}
+use Rattle.il_poll.specs.declared.service.Assignment.{Assignment}
+use Rattle.il_device.specs.declared.roles.Roles.{Roles}
+use Rattle.il_device.specs.Roles.{no_roles}
+use Rattle.il_device.specs.State.{DeviceState}
+use Rattle.il_device.specs.Passing.{identified}
+use Rattle.il_drive.specs.State.{drive_id}
+use Rattle.il_ring.specs.Rings.{printer_id, has_id, paper_of}
+use Rattle.loop_model.specs.Loops.{Loop, host_loop}
+
+-- the devices before the drive, in the order of the ring; the drive's status, 0 to 3, and its roles; the devices behind it
+pub record LoopState : Type 0 where
+  pub before : List DeviceState
+  pub status : ℕ
+  pub drive : Roles
+  pub after : List DeviceState
+
+-- the devices as they were handed in, with a drive to which nothing has come yet
+abbrev pub fresh_loop : List DeviceState → List DeviceState → LoopState
+fresh_loop before after = record { before = before; status = 0; drive = no_roles; after = after }
+
+-- ---- all devices, in the order of the ring: the first is party 1
+
+-- the devices beside the drive
+abbrev pub boxed : LoopState → List DeviceState
+boxed z = z.before ++ z.after
+
+-- the drive's party
+abbrev pub drive_at : LoopState → ℕ
+drive_at z = length z.before + 1
+
+abbrev pub device_count : LoopState → ℕ
+device_count z = length z.before + suc (length z.after)
+
+-- the ring that logs are read on
+abbrev pub ring_of : LoopState → Loop
+ring_of z = host_loop (device_count z) (drive_at z)
+
+abbrev pub all_roles : LoopState → List Roles
+all_roles z = map (λ d. d.roles) z.before ++ z.drive ∷ map (λ d. d.roles) z.after
+
+-- the accessory IDs by address: every device takes its address in the order of the ring
+abbrev pub all_ids : LoopState → List (Option ℕ)
+all_ids z = map (λ d. d.accessory) z.before ++ Some drive_id ∷ map (λ d. d.accessory) z.after
+
+-- which of them want service: the drive does while its status is not 0
+abbrev pub all_wants : LoopState → List Bool
+all_wants z = map (λ d. d.wants) z.before ++ wants_service z.status ∷ map (λ d. d.wants) z.after
+
+-- ---- what the drive tells of itself
+
+-- the byte that answers a request for its status
+abbrev pub status_byte : LoopState → ℕ
+status_byte z = status_byte_of z.status
+
+-- ---- the parallel poll (HP-IL Interface Specification, parallel poll)
+
+-- the first eight parties have a bit each, from bit 0 on, and set it where they want service
+abbrev pub place_in_poll : ℕ → Option Assignment
+place_in_poll party = if nat_le party 8 then Some (record { bit = party - 1; sense = true }) else None
+
+-- the identify frame behind these devices, of which the first is that party
+abbrev pub polled_from : ℕ → List Bool → Frame → Frame
+polled_from party [] f = f
+polled_from party (wants ∷ more) f = polled_from (party + 1) more (identified (place_in_poll party) wants f)
+
+-- the frame that comes back to the host
+abbrev pub poll_frame : LoopState → Frame
+poll_frame z = polled_from 1 (all_wants z) (framed class.Idy 0x00)
+
+-- ---- the printer
+
+-- the lowest address at which a printer stands
+abbrev pub printer_at : LoopState → Option ℕ
+printer_at z = option_map suc (position (has_id printer_id) (all_ids z))
+
+-- what the first printer beside the drive has kept, and how many bytes it has heard
+abbrev pub paper_on : LoopState → Option (List ℕ × ℕ)
+paper_on z = paper_of (boxed z)

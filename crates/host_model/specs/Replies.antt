@@ -1,0 +1,135 @@
+-- What a command replies where no fault comes in between, and the texts of replies and logs.
+use Rattle.std.specs.Prelude.{ℕ, ◌+◌, List, [], ◌∷◌, ◌++◌, Option, Some, None, if◌then◌else◌, codes, decimal}
+use Rattle.std.specs.List.{flat_map}
+use Rattle.std.specs.FinMap.{get}
+use Rattle.hex.specs.Hex.{encode_upper}
+use Rattle.lif_model.specs.Header.{label_of}
+use Rattle.lif_model.specs.Directory.{type_of, implementation_of}
+use Rattle.lif_model.specs.Legal.{slot_named}
+use Rattle.lif_model.specs.Printed.{printed}
+use Rattle.lif_model.specs.Volume.{Volume}
+use Rattle.lif_model.specs.Apply.{VolumeCommand, Refusal, apply}
+use Rattle.lif_model.specs.Apply as volume
+use Rattle.il_frames.specs.declared.entry.Entry.{Entry}
+use Rattle.il_frames.specs.declared.frame.Frame.{Frame}
+use Rattle.il_frames.specs.Frames.{byte_of, has_service}
+use Rattle.il_frames.specs.Entries.{entry_text}
+use Rattle.il_script.specs.Replies.{text_line, next, reply_line}
+use Rattle.il_script.specs.declared.reply.Code.{Code}
+use Rattle.il_script.specs.declared.reply.Code.TheVariants as code
+use Rattle.il_script.specs.declared.reply.Reply.{Reply}
+use Rattle.il_script.specs.declared.reply.Reply.TheVariants as reply
+use Rattle.host_model.specs.Requests.{OfVolume, Devices, Status, Poll, Say, Paper, Item, Asks, NoCommand}
+use Rattle.host_model.specs.LoopStates.{all_ids, status_byte, poll_frame, printer_at, paper_on}
+use Rattle.host_model.specs.HostStates.{HostState, volume_at}
+use Rattle.host_model.specs.Listing.{type_text, listing}
+
+-- ---- replies
+
+-- the code of a refusal has its name
+abbrev pub code_of : Refusal → Code
+code_of volume.NotLif = code.NotLif
+code_of volume.NoRedo = code.NoRedo
+code_of volume.Protected = code.Protected
+code_of volume.NoFile = code.NoFile
+code_of volume.Exists = code.Exists
+code_of volume.NoSlot = code.NoSlot
+code_of volume.NoRoom = code.NoRoom
+code_of volume.InUse = code.InUse
+
+abbrev pub refused_as : Option Refusal → Reply
+refused_as None = reply.Ok
+refused_as (Some refusal) = reply.No (code_of refusal)
+
+-- ok where there is such a printer
+abbrev pub if_printer : {X : Type 0} → Option X → Reply
+if_printer None = reply.No code.NoPrinter
+if_printer (Some x) = reply.Ok
+
+-- the reply to an item by what stands before it, where no fault comes in between
+abbrev pub reply_of : Item → HostState → Reply
+reply_of (Asks (OfVolume command)) s = refused_as (apply s.records command (volume_at s)).0
+reply_of (Asks (Say bytes)) s = if_printer (printer_at s.loop)
+reply_of (Asks Paper) s = if_printer (paper_on s.loop)
+reply_of (Asks _) s = reply.Ok
+reply_of (NoCommand c) s = reply.No c
+
+-- the volume behind an item, where no fault comes in between
+abbrev pub volume_behind : Item → HostState → Option Volume
+volume_behind (Asks (OfVolume command)) s = (apply s.records command (volume_at s)).1
+volume_behind _ s = volume_at s
+
+-- ---- the lines before the last one, of a reply with ok
+
+-- bytes in hex digits; no bytes are a minus sign
+abbrev pub bytes_text : List ℕ → List ℕ
+bytes_text [] = codes "-"
+bytes_text (byte ∷ bytes) = encode_upper (byte ∷ bytes)
+
+-- a byte in two hex digits
+abbrev pub byte_text : ℕ → List ℕ
+byte_text byte = encode_upper (byte ∷ [])
+
+-- `label LABEL`
+unfoldable pub label_line : Volume → List ℕ
+label_line v = text_line (codes "label" ++ next (printed (label_of v.header)))
+
+-- `data TYPE IMPL HEX`: the type and the implementation field of the file's slot, and all bytes of its records
+abbrev pub data_line : Option (List ℕ) → Option (List ℕ) → List ℕ
+data_line (Some slot) (Some bytes) = text_line (codes "data" ++ next (type_text (type_of slot)) ++ next (bytes_text (implementation_of slot)) ++ next (bytes_text bytes))
+data_line _ _ = []
+
+-- of the commands of a volume these three tell something
+abbrev pub told_of_volume : VolumeCommand → Volume → List ℕ
+told_of_volume volume.Dir v = listing v
+told_of_volume volume.Label v = label_line v
+told_of_volume (volume.Fetch name) v = data_line (slot_named v.slots name) (get v.files name)
+told_of_volume _ v = []
+
+abbrev pub told_of : VolumeCommand → Option Volume → List ℕ
+told_of command None = []
+told_of command (Some v) = told_of_volume command v
+
+-- two hex digits, or `--` for a device that has no accessory ID
+abbrev pub id_text : Option ℕ → List ℕ
+id_text None = codes "--"
+id_text (Some id) = byte_text id
+
+-- `device A ID` of each, of which the first has that address
+abbrev pub device_lines : ℕ → List (Option ℕ) → List ℕ
+device_lines address [] = []
+device_lines address (id ∷ ids) = text_line (codes "device" ++ next (decimal address) ++ next (id_text id)) ++ device_lines (address + 1) ids
+
+-- `status HH`
+abbrev pub status_line : ℕ → List ℕ
+status_line byte = text_line (codes "status" ++ next (byte_text byte))
+
+-- `poll HH service` where a device asked for service, and else `poll HH quiet`
+abbrev pub poll_line : Frame → List ℕ
+poll_line f = text_line (codes "poll" ++ next (byte_text (byte_of f)) ++ next (if has_service f then codes "service" else codes "quiet"))
+
+-- `paper HEX COUNT`: the bytes that are kept, and how many were heard
+abbrev pub paper_line : Option (List ℕ × ℕ) → List ℕ
+paper_line None = []
+paper_line (Some paper) = text_line (codes "paper" ++ next (bytes_text paper.0) ++ next (decimal paper.1))
+
+-- by what stands before the command
+abbrev pub lines_before : Item → HostState → List ℕ
+lines_before (Asks (OfVolume command)) s = told_of command (volume_at s)
+lines_before (Asks Devices) s = device_lines 1 (all_ids s.loop)
+lines_before (Asks Status) s = status_line (status_byte s.loop)
+lines_before (Asks Poll) s = poll_line (poll_frame s.loop)
+lines_before (Asks (Say bytes)) s = []
+lines_before (Asks Paper) s = paper_line (paper_on s.loop)
+lines_before (NoCommand c) s = []
+
+-- ---- texts
+
+-- the text of a reply, by what stands before its item: only one with ok has lines before the last
+abbrev pub reply_text : Item → HostState → Reply → List ℕ
+reply_text item s reply.Ok = lines_before item s ++ reply_line reply.Ok
+reply_text item s r = reply_line r
+
+-- the text of a log: a line for each entry, oldest first
+abbrev pub trace_text : List Entry → List ℕ
+trace_text log = flat_map (λ e. text_line (entry_text e)) log

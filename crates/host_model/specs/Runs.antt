@@ -1,0 +1,88 @@
+-- Runs: lists of events, one behind the other, and what they tell.
+use Rattle.std.specs.Prelude.{◌≡◌, ℕ, ◌+◌, Bool, List, [], ◌∷◌, ◌++◌, length, map, codes, decimal}
+use Rattle.std.specs.List.{flat_map, list_all}
+use Rattle.il_frames.specs.declared.entry.Entry.{Entry}
+use Rattle.il_script.specs.Replies.{text_line, next, is_ok}
+use Rattle.il_script.specs.declared.reply.Reply.{Reply}
+use Rattle.il_script.specs.declared.reply.Reply.TheVariants as reply
+use Rattle.host_model.specs.Requests.{Item}
+use Rattle.host_model.specs.HostStates.{HostState}
+use Rattle.host_model.specs.Replies.{reply_text, trace_text}
+use Rattle.host_model.specs.Steps.{Event, IsStep}
+
+-- each event is a step, and begins where the one before it ends
+abbrev pub Chained : List ℕ → HostState → List Event → HostState → Type 0
+Chained hops start [] finish = finish ≡ start
+Chained hops start (e ∷ events) finish = (e.before ≡ start) × IsStep hops e × Chained hops e.after events finish
+
+-- ---- what the events tell
+
+abbrev pub items_asked : List Event → List Item
+items_asked events = map (λ e. e.item) events
+
+abbrev pub replies : List Event → List Reply
+replies events = map (λ e. e.reply) events
+
+-- all logs joined
+abbrev pub joined_log : List Event → List Entry
+joined_log events = flat_map (λ e. e.log) events
+
+-- every reply is ok
+abbrev pub all_ok : List Event → Bool
+all_ok events = list_all (λ e. is_ok e.reply) events
+
+-- ---- tallies
+
+-- how many replies are ok, errors and faults
+pub record Tally : Type 0 where
+  pub ok : ℕ
+  pub errors : ℕ
+  pub faults : ℕ
+
+-- with one reply more
+abbrev pub with_reply : Reply → Tally → Tally
+with_reply reply.Ok t = record t { ok = t.ok + 1 }
+with_reply (reply.No code) t = record t { errors = t.errors + 1 }
+with_reply reply.FaultFrame t = record t { faults = t.faults + 1 }
+with_reply reply.FaultMedium t = record t { faults = t.faults + 1 }
+
+abbrev pub tally_of : List Reply → Tally
+tally_of [] = record { ok = 0; errors = 0; faults = 0 }
+tally_of (r ∷ rs) = with_reply r (tally_of rs)
+
+-- ---- what is written
+
+-- each log and each reply; the replies alone; or, at the end, how many replies there were of each kind
+pub data OutputMode : Type 0 where
+  WithTrace : OutputMode
+  Quiet : OutputMode
+  Summary : OutputMode
+
+abbrev pub count_line : List ℕ → ℕ → List ℕ
+count_line name n = text_line (name ++ next (decimal n))
+
+-- `generated COUNT`, `ok A`, `error B`, `fault C`
+abbrev pub tally_text : ℕ → Tally → List ℕ
+tally_text count t = count_line (codes "generated") count ++ count_line (codes "ok") t.ok ++ count_line (codes "error") t.errors
+    ++ count_line (codes "fault") t.faults
+
+abbrev pub summary : List Event → List ℕ
+summary events = tally_text (length events) (tally_of (replies events))
+
+abbrev pub reply_text_of : Event → List ℕ
+reply_text_of e = reply_text e.item e.before e.reply
+
+-- what is written for one event, as it ends
+abbrev pub event_text : OutputMode → Event → List ℕ
+event_text WithTrace e = trace_text e.log ++ reply_text_of e
+event_text Quiet e = reply_text_of e
+event_text Summary e = []
+
+-- what is written behind the last event
+abbrev pub closing_text : OutputMode → List Event → List ℕ
+closing_text Summary events = summary events
+closing_text _ events = []
+
+-- all that a run writes
+abbrev pub output : OutputMode → List Event → List ℕ
+output mode events = flat_map (event_text mode) events ++ closing_text mode events

@@ -1,0 +1,144 @@
+-- One step of a run: an item, what was replied, the log, and what stands before and behind.
+use Rattle.std.specs.Prelude.{◌≡◌, ◌≢◌, ◌⊎◌, ◌≤◌, ℕ, Bool, true, false, not, List, [], length, Option, Some, None, is_some}
+use Rattle.std.specs.FinMap.{get}
+use Rattle.lif_model.specs.Causes.{Rose}
+use Rattle.lif_model.specs.Tape.{Tape}
+use Rattle.lif_model.specs.Directory.{start_of}
+use Rattle.lif_model.specs.Legal.{slot_named}
+use Rattle.lif_model.specs.Made.{file_length, filled}
+use Rattle.lif_model.specs.Fit.{Place, At, fit_in}
+use Rattle.lif_model.specs.Volume.{Volume}
+use Rattle.lif_model.specs.Apply.{Store, Fetch}
+use Rattle.lif_model.specs.Transfers.{carries}
+use Rattle.il_frames.specs.declared.entry.Entry.{Entry}
+use Rattle.il_device.specs.State.{DeviceState}
+use Rattle.il_device.proofs.Laws.{risen_by}
+use Rattle.loop_model.specs.Effect.{UnitsEffect, is_out, is_in, transfer_of, ends_as}
+use Rattle.loop_model.proofs.EffectLaws.{all_good}
+use Rattle.loop_model.specs.Exchanges.{Reading}
+use Rattle.loop_model.specs.Reach.{links, passes, met}
+use Rattle.loop_model.specs.Roles.{OneTalker, roles_after}
+use Rattle.loop_model.specs.Units.{RecordUnit, units_of, ends_within}
+use Rattle.il_script.specs.declared.reply.Reply.{Reply}
+use Rattle.il_script.specs.declared.reply.Reply.TheVariants as reply
+use Rattle.host_model.specs.Requests.{OfVolume, Item, Asks, is_of_volume, uses_frames}
+use Rattle.host_model.specs.LoopStates.{all_roles, device_count, ring_of}
+use Rattle.host_model.specs.HostStates.{HostState, volume_at, HasOwnGate, log_room}
+use Rattle.host_model.specs.Replies.{reply_of, volume_behind}
+use Rattle.host_model.specs.Courses.{course_of, keeps_course}
+use Rattle.host_model.specs.Next.{Next, BoxedBecome}
+
+pub record Event : Type 0 where
+  pub item : Item
+  pub reply : Reply
+  pub log : List Entry
+  pub before : HostState
+  pub after : HostState
+
+-- ---- reply and volume
+
+-- only a command that sends frames has the reply `fault frame`, and only one of the volume `fault medium`
+abbrev pub MayReply : Item → Reply → Type 0
+MayReply item reply.FaultFrame = uses_frames item ≡ true
+MayReply item reply.FaultMedium = is_of_volume item ≡ true
+MayReply item r = Unit {0}
+
+-- the volume before the item, or the one that it makes
+abbrev pub EitherVolume : Item → HostState → HostState → Type 0
+EitherVolume item s t = (volume_at t ≡ volume_at s) ⊎ (volume_at t ≡ volume_behind item s)
+
+-- Without a fault, reply and volume are those of the item. Behind one, all of the command was done or nothing of it; of a tape
+-- whose open redo would overwrite a file that is not ours this is not said.
+abbrev pub CountsWhole : Item → Reply → HostState → HostState → Type 0
+CountsWhole item reply.FaultFrame s t = HasOwnGate s → EitherVolume item s t
+CountsWhole item reply.FaultMedium s t = HasOwnGate s → EitherVolume item s t
+CountsWhole item r s t = (r ≡ reply_of item s) × (volume_at t ≡ volume_behind item s)
+
+-- what the reply depends on is told
+abbrev pub TellsReply : Item → HostState → Type 0
+TellsReply item s = is_of_volume item ≡ true → is_some s.tape ≡ true
+
+pub record Replied (e : Event) : Type 0 where
+  pub may : MayReply e.item e.reply
+  pub whole : TellsReply e.item e.before → CountsWhole e.item e.reply e.before e.after
+  -- no other item changes the tape, and none the size of the medium
+  pub stays : is_of_volume e.item ≡ false → e.after.tape ≡ e.before.tape
+  pub told : is_some e.after.tape ≡ is_some e.before.tape
+  pub size : e.after.records ≡ e.before.records
+  pub gate : HasOwnGate e.before → HasOwnGate e.after
+
+-- ---- what the frames of the log did on the ring
+
+-- the device at that party took as many frames more as the log brought there; the count stays at its greatest value
+abbrev pub TookFrames : ℕ → List Entry → ℕ → DeviceState → DeviceState → Type 0
+TookFrames k log party d e = e.frames ≡ risen_by (passes k party log) d.frames
+
+pub record Travels (e : Event) : Type 0 where
+  pub one_talker : OneTalker (all_roles e.before.loop) e.log
+  pub roles : all_roles e.after.loop ≡ roles_after (all_roles e.before.loop) e.log
+  pub crossings : e.after.crossings ≡ risen_by (links (device_count e.before.loop) e.log) e.before.crossings
+  pub frames : BoxedBecome (TookFrames (device_count e.before.loop) e.log) e.before.loop e.after.loop
+  pub short : length e.log ≤ log_room e.before.records
+
+-- ---- the exchanges of the log
+
+abbrev pub is_frame_fault : Reply → Bool
+is_frame_fault reply.FaultFrame = true
+is_frame_fault _ = false
+
+-- `fault frame` comes where a planned hop was met, and nowhere else. Without one, `fault medium` comes where the medium failed
+-- and the drive's status told it, and nowhere else: each status byte behind a transfer of records is 0, or one is not.
+abbrev pub HasReplyCause : Reply → List ℕ → ℕ → ℕ → List RecordUnit → Type 0
+HasReplyCause reply.FaultFrame hops before now units = (hops ≢ []) × (before ≤ now)
+HasReplyCause reply.FaultMedium hops before now units = (hops ≡ []) × Rose before now × (all_good units ≡ false)
+HasReplyCause r hops before now units = (hops ≡ []) × (now ≡ before) × (all_good units ≡ true)
+
+-- where the tape is told before, it is told behind, and the two stand so
+abbrev pub OnTapes : Option Tape → Option Tape → (Tape → Tape → Type 0) → Type 0
+OnTapes None now P = Unit {0}
+OnTapes (Some t) None P = ⊥
+OnTapes (Some t) (Some u) P = P t u
+
+-- the bytes of a store went out to its place, filled up to whole records
+abbrev pub IsStoredAt : Place → List ℕ → List RecordUnit → Type 0
+IsStoredAt (At slot start) bytes units = carries transfer_of is_out units start (filled bytes) ≡ true
+IsStoredAt _ bytes units = ⊥
+
+-- the bytes of a file came in from its records
+abbrev pub IsFetchedFrom : Option (List ℕ) → Option (List ℕ) → List RecordUnit → Type 0
+IsFetchedFrom (Some slot) (Some bytes) units = carries transfer_of is_in units (start_of slot) bytes ≡ true
+IsFetchedFrom _ _ units = ⊥
+
+-- with ok, the transfers of a store or fetch carry exactly the bytes of the file
+abbrev pub IsCarried : Item → Reply → ℕ → Option Volume → List RecordUnit → Type 0
+IsCarried (Asks (OfVolume (Store name kind implementation bytes))) reply.Ok n (Some v) units =
+    IsStoredAt (fit_in n v (file_length bytes)) bytes units
+IsCarried (Asks (OfVolume (Fetch name))) reply.Ok n (Some v) units =
+    IsFetchedFrom (slot_named v.slots name) (get v.files name) units
+IsCarried _ _ n volume units = Unit {0}
+
+-- By one reading the log is a list of exchanges, all whole, or the last one broken off exactly where the reply is `fault
+-- frame`: those that the command is to make, in their order. Its transfers of records, none left open, made the tape before
+-- into the one behind.
+pub record Exchanged (hops : List ℕ) (e : Event) : Type 0 where
+  pub reading : Reading (ring_of e.before.loop) e.log
+  pub ends : ends_as (not (is_frame_fault e.reply)) reading.pieces ≡ true
+  pub course : keeps_course e.before.loop e.before.ready (course_of e.item e.before.loop) reading.pieces ≡ true
+  pub outside : ends_within (ring_of e.before.loop) reading.pieces ≡ false
+  pub cause : HasReplyCause e.reply (met hops e.before.crossings e.after.crossings) e.before.faults e.after.faults
+      (units_of (ring_of e.before.loop) reading.pieces)
+  pub effect : OnTapes e.before.tape e.after.tape (UnitsEffect (units_of (ring_of e.before.loop) reading.pieces))
+  pub carried : IsCarried e.item e.reply e.before.records (volume_at e.before) (units_of (ring_of e.before.loop) reading.pieces)
+
+-- ---- a step
+
+-- what holds of each event, faults being planned at these crossings
+pub record IsStep (hops : List ℕ) (e : Event) : Type 0 where
+  pub replied : Replied e
+  pub next : Next e.item e.reply e.before.loop e.after.loop
+  pub travels : Travels e
+  pub exchanged : Exchanged hops e
+  -- behind a command that sends frames the loop is ready, unless an exchange broke off
+  pub ready : uses_frames e.item ≡ true → e.after.ready ≡ not (is_frame_fault e.reply)
+  -- an item that sends no frame has no log and leaves everything
+  pub still : uses_frames e.item ≡ false → (e.log ≡ []) × (e.after ≡ e.before)

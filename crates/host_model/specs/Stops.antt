@@ -1,0 +1,31 @@
+-- What a power stop leaves within one command, and within a run.
+use Rattle.std.specs.Prelude.{◌≡◌, ◌⊎◌, ℕ, true, false, List, [], ◌∷◌, Some, is_some}
+use Rattle.lif_model.specs.Stops.{LeavesOnly}
+use Rattle.lif_model.specs.Tape.{Tape}
+use Rattle.lif_model.specs.Volume.{volume_of, is_foreign_gated}
+use Rattle.host_model.specs.Requests.{OfVolume, Item, Asks}
+use Rattle.host_model.specs.HostStates.{HostState, volume_at, HasOwnGate}
+use Rattle.host_model.specs.Replies.{volume_behind}
+use Rattle.host_model.specs.Steps.{Event}
+
+-- Within a command of the volume a stop leaves a tape that has the volume before it or the one that it makes, and no gate that
+-- is not ours; within any other item, the tape as it is.
+abbrev pub MayBeLeft : Item → HostState → Tape → Type 0
+MayBeLeft (Asks (OfVolume command)) s x =
+    ((volume_of x ≡ volume_at s) ⊎ (volume_of x ≡ volume_behind (Asks (OfVolume command)) s)) × (is_foreign_gated x ≡ false)
+MayBeLeft _ s x = s.tape ≡ Some x
+
+-- the same of all stops since the moment `before` at which the item began; earlier ones are told by `past`
+abbrev pub StopsLeave : Event → ℕ → ℕ → (past since : ℕ → Tape → Type 0) → Type 0
+StopsLeave e before now past since =
+    is_some e.before.tape ≡ true → HasOwnGate e.before → LeavesOnly before now past since (MayBeLeft e.item e.before)
+
+-- what a stop leaves within a run of these items, or behind the last of them
+abbrev pub LeftWithin : List Event → HostState → Tape → Type 0
+LeftWithin [] finish x = finish.tape ≡ Some x
+LeftWithin (e ∷ events) finish x = MayBeLeft e.item e.before x ⊎ LeftWithin events finish x
+
+-- each tape that a stop since the run began may have left
+abbrev pub LeavesWithin : HostState → List Event → HostState → (Tape → Type 0) → Type 0
+LeavesWithin start events finish left =
+    is_some start.tape ≡ true → HasOwnGate start → (x : Tape) → left x → LeftWithin events finish x
