@@ -32,7 +32,8 @@ use Rattle.il_record.proofs.AddressedDrive.{resumed_drive}
 use Rattle.il_record.proofs.Cuts.{counts_up, comes_may}
 use Rattle.il_record.proofs.Mild.{AllMild, ifc_ran, is_mild}
 use Rattle.il_record.proofs.Places.{kept_stays}
-use Rattle.il_record.proofs.ReadRuns.{came_still, others_of}
+use Rattle.il_record.proofs.HeardLogs.{heard_none, none_broke, none_whole}
+use Rattle.il_record.proofs.ReadRuns.{came_still}
 
 -- ---- whole
 
@@ -53,7 +54,7 @@ readied view n r s low done stays =
     let drive = resumed_drive view n r s low done in
     record {
       came = record { units = came_still view true ps [] r s talked refl refl (λ t. refl) (ap (λ m. (view m).tape) drive.medium); asked = (refl, (refl, (refl, tt))) };
-      unheard = others_of q r s (done.whole.unheard refl);
+      unheard = heard_none q r s (none_whole view r s (addressing n) refl done.whole);
       leaves = record { stays = stays; status = drive.status };
       medium = drive.medium;
       idle = done.idle;
@@ -173,7 +174,7 @@ not_readied view r s low not stays =
     } in (
       record {
         came = record { units = came_still view false cut.pieces [] r s talked (ends_within-broken (loop_of r) cut.pieces cut.ends) cut.none (λ t. refl) left.still.tape; asked = cut.asked };
-        unheard = others_of q r s (broke.unheard refl);
+        unheard = heard_none q r s (none_broke view r s (addressing k) refl broke);
         places = kept_stays r s true stays;
         drive = left;
       },

@@ -1,29 +1,26 @@
 -- Calls of a store over the loop that move no record, of which the controller was taken out and put back.
-use Rattle.std.proofs.Common.{◌≡◌, ◌∙◌, ◌≤◌, ◌+◌, ◌*◌, ◌/◌, ◌&&◌, ℕ, Bool, true, false, List, [], ◌∷◌, Option, length, refl, sym, ap, subst, arith, append-nil}
+use Rattle.std.proofs.Common.{◌≡◌, ◌∙◌, ◌≤◌, ◌+◌, ◌*◌, ◌/◌, ◌&&◌, ℕ, Bool, true, false, List, [], Option, length, refl, sym, ap, subst, arith, append-nil}
 use Rattle.std.specs.Prelude.{Result, Ok, Err}
 use Rattle.il_ports.specs.declared.records.Trouble.{Trouble}
 use Rattle.il_ports.specs.declared.records.Trouble.TheVariants as trouble
 use Rattle.il_ports.specs.Media.{MediumView}
-use Rattle.il_device.specs.State.{DeviceState}
 use Rattle.il_drive.specs.Steps.{IsStill}
 use Rattle.il_drive.proofs.Exchanges.{IsFree}
-use Rattle.il_ring.specs.Lists.{Each, First}
-use Rattle.il_ring.specs.Outcomes.{HearsNothing}
+use Rattle.il_ring.specs.Lists.{Each}
 use Rattle.il_ring.specs.Rings.{RingView, devices_of, drive_party, spare_of}
-use Rattle.il_control.specs.Calls.{IsIdle, IsLost, Stays, loop_of}
-use Rattle.il_control.proofs.Assigning.{EachTo}
+use Rattle.il_control.specs.Calls.{IsIdle, IsLost, loop_of}
 use Rattle.il_frames.specs.declared.frame.Frame.{Frame}
 use Rattle.il_record.specs.declared.records.Since.{Since}
 use Rattle.il_record.specs.declared.records.Since.TheVariants as since
 use Rattle.il_record.specs.Asks.{Ask, up_to}
 use Rattle.il_record.specs.Called.{Called, CallBroke, LeavesStore}
-use Rattle.il_record.specs.Came.{CameUnits, OthersUnheard}
+use Rattle.il_record.specs.Came.{CameUnits}
 use Rattle.il_record.specs.LoopCalls.{AllNamed, LeftAlone, NotSaid, Said, id_asks}
 use Rattle.il_record.specs.LoopStores.{LoopView, Standing, Addresses, AtIdle, AtLost, HasRing, Nowhere, StandsSo, Stood, Transferred, calls_in, is_broken, is_unbroken, since_frame, since_more, since_said, view_at, view_of}
-use Rattle.il_record.specs.Polls.{HasPolled, MayPoll, PlacesKept, PollBroke, PollsOn, Released, poll_asks}
+use Rattle.il_record.specs.Polls.{HasPolled, MayPoll, PlacesKept, PollBroke, poll_asks}
 use Rattle.il_record.specs.Runs.{NotPolled, Polled}
+use Rattle.il_record.proofs.HeardLogs.{heard_none}
 use Rattle.il_record.proofs.Places.{free_on, kept_left, kept_not_said, kept_said, kept_stays, may_poll_broke, may_poll_kept, may_poll_polled}
-use Rattle.il_record.proofs.ReadRuns.{others_of}
 use Rattle.il_record.proofs.StoreCalls.{calls_less, frames_rose, frames_same, stood_frame, stood_not_said, stood_said, stood_whole, transferred_then}
 use Rattle.il_record.proofs.StoreResumes.{alive_more, count_of, more_same, party_same, still_of}
 use Rattle.il_record.proofs.StoreRuns.{from_start}
@@ -110,20 +107,6 @@ module _ {M S : Type 0} (view : M → MediumView) (seen : S → RingView M) (p q
         resumed = λ k so. so;
       }
 
--- ---- no device heard anything
-
-others_by : (R : ℕ → DeviceState → DeviceState → Type 0) → ((k : ℕ) (d e : DeviceState) → R k d e → HearsNothing d e) → (a k : ℕ) (ds es : List DeviceState) → EachTo R k ds es → OthersUnheard a k ds es
-others_by R rule a k [] [] each = tt
-others_by R rule a k (d ∷ ds) (e ∷ es) each = ((λ other. rule k d e each.0), others_by R rule a (k + 1) ds es each.1)
-others_by R rule a k [] (e ∷ es) each = absurd each
-others_by R rule a k (d ∷ ds) [] each = absurd each
-
-others_stay : (a k : ℕ) (ds es : List DeviceState) → First (Stays false) (length ds) ds es → OthersUnheard a k ds es
-others_stay a k [] [] stays = tt
-others_stay a k (d ∷ ds) (e ∷ es) stays = ((λ other. stays.0.nothing), others_stay a (k + 1) ds es stays.1)
-others_stay a k [] (e ∷ es) stays = absurd stays
-others_stay a k (d ∷ ds) [] stays = absurd stays
-
 -- ---- the calls
 
 said_alive : (log : Since) → is_broken (since_said log) ≡ false
@@ -185,13 +168,13 @@ module _ {M S : Type 0} (view : M → MediumView) (seen : S → RingView M) (p q
       pub status_leaves : {T : Type 0} (x : T) (byte : ℕ) → new ≡ record mid { control = AtIdle s } → Polled view d byte r s → CameUnits view true [] r s → PlacesKept r s → spare_of r ≤ spare_of s + 13 → LeavesStore 1 told (view_of view seen p old) (view_of view seen q new) (Ok x)
       status_leaves x byte left polled units places used =
           leaves_ok view seen p q old new old.since 1 13 r s at begun (still_of view r s polled.drive.medium) (may_poll_kept r s places begun.may) used (omega arith) told x (left ∙ ap (λ (l : LoopView M). record l { control = AtIdle s }) taken) units
-          (λ sound. subst (λ d. IsFree d s.drive.state) (party ∙ sym (party_same view r s units)) polled.drive.rests.free) (count_of view r s polled.drive.medium) begun.alive (λ start so. stood_whole view old.since [] start r s so begun.alive units refl (others_of (drive_party r) r s polled.unheard) (count_of view r s polled.drive.medium) (λ before. polled.drive.rests.free.status))
+          (λ sound. subst (λ d. IsFree d s.drive.state) (party ∙ sym (party_same view r s units)) polled.drive.rests.free) (count_of view r s polled.drive.medium) begun.alive (λ start so. stood_whole view old.since [] start r s so begun.alive units refl (heard_none (drive_party r) r s polled.unheard) (count_of view r s polled.drive.medium) (λ before. polled.drive.rests.free.status))
 
       pub status_breaks : {T : Type 0} (e : Trouble) → e ≡ trouble.Frame → new ≡ record mid { control = AtLost s; sound = false; since = since_frame mid.since } → NotPolled view d r s → CameUnits view false [] r s → PlacesKept r s → spare_of r ≤ spare_of s + 14
           → LeavesStore {T = T} 1 told (view_of view seen p old) (view_of view seen q new) (Err e)
       status_breaks e is left not units places used =
           leaves_not view seen p q old new (since_frame old.since) 1 14 r s at begun not.drive.still (may_poll_kept r s places begun.may) used (omega arith) told e is (left ∙ ap (λ (l : LoopView M). record l { control = AtLost s; sound = false; since = since_frame l.since }) taken) units not.drive.count
-          (λ start so. stood_frame view old.since start r s so begun.alive units.came (others_of (drive_party r) r s not.unheard))
+          (λ start so. stood_frame view old.since start r s so begun.alive units.came (heard_none (drive_party r) r s not.unheard))
 
     -- ---- accessory IDs
 
@@ -201,7 +184,7 @@ module _ {M S : Type 0} (view : M → MediumView) (seen : S → RingView M) (p q
         let units = alone.came.units in
         leaves_ok view seen p q old new old.since 2 (13 * n) r s at begun (still_of view r s alone.drive.medium) (may_poll_kept r s (kept_left view r s true _ alone) begun.may) used (omega (arith, few)) told x (left ∙ ap (λ (l : LoopView M). record l { control = AtIdle s }) taken) units
         (λ sound. free_on view r s [] (begun.free sound) units alone.drive) (count_of view r s alone.drive.medium) begun.alive
-        (λ start so. stood_whole view old.since [] start r s so begun.alive units refl (others_stay (drive_party r) 1 (devices_of r) (devices_of s) alone.stays) (count_of view r s alone.drive.medium) (λ before. alone.drive.status ∙ before))
+        (λ start so. stood_whole view old.since [] start r s so begun.alive units refl (heard_none (drive_party r) r s alone.unheard) (count_of view r s alone.drive.medium) (λ before. alone.drive.status ∙ before))
 
     pub names_break : {T : Type 0} (e : Trouble) (n : ℕ) (asks : List Ask) → n ≤ 30 → e ≡ trouble.Frame → new ≡ record mid { control = AtLost s; sound = false; since = since_frame mid.since } → LeftAlone view false asks r s → spare_of r ≤ spare_of s + (13 * n + 1)
         → LeavesStore {T = T} 2 told (view_of view seen p old) (view_of view seen q new) (Err e)
@@ -209,7 +192,7 @@ module _ {M S : Type 0} (view : M → MediumView) (seen : S → RingView M) (p q
         let count = count_of view r s alone.drive.medium in
         leaves_not view seen p q old new (since_frame old.since) 2 (13 * n + 1) r s at begun (still_of view r s alone.drive.medium) (may_poll_kept r s (kept_left view r s false asks alone) begun.may) used (omega (arith, few)) told e is
         (left ∙ ap (λ (l : LoopView M). record l { control = AtLost s; sound = false; since = since_frame l.since }) taken) alone.came.units (omega (arith, count))
-        (λ start so. stood_frame view old.since start r s so begun.alive alone.came.units.came (others_stay (drive_party r) 1 (devices_of r) (devices_of s) alone.stays))
+        (λ start so. stood_frame view old.since start r s so begun.alive alone.came.units.came (heard_none (drive_party r) r s alone.unheard))
 
     -- ---- the poll
 
@@ -218,14 +201,14 @@ module _ {M S : Type 0} (view : M → MediumView) (seen : S → RingView M) (p q
         let units = polled.came.units in
         leaves_ok view seen p q old new old.since 1 53 r s at begun (still_of view r s polled.drive.medium) (may_poll_polled view r s f polled) polled.room (omega arith) told x (left ∙ ap (λ (l : LoopView M). record l { control = AtIdle s }) taken) units
         (λ sound. free_on view r s [] (begun.free sound) units polled.drive) (count_of view r s polled.drive.medium) begun.alive
-        (λ start so. stood_whole view old.since [] start r s so begun.alive units refl (others_by Released (λ k d e released. released.nothing) (drive_party r) 1 (devices_of r) (devices_of s) polled.released) (count_of view r s polled.drive.medium) (λ before. polled.drive.status ∙ before))
+        (λ start so. stood_whole view old.since [] start r s so begun.alive units refl (heard_none (drive_party r) r s polled.unheard) (count_of view r s polled.drive.medium) (λ before. polled.drive.status ∙ before))
 
     pub poll_breaks : {T : Type 0} (e : Trouble) (asks : List Ask) → e ≡ trouble.Frame → new ≡ record mid { control = AtLost s; sound = false; since = since_frame mid.since } → PollBroke view 54 asks r s → LeavesStore {T = T} 1 told (view_of view seen p old) (view_of view seen q new) (Err e)
     poll_breaks e asks is left broke =
         let count = count_of view r s broke.drive.medium in
         leaves_not view seen p q old new (since_frame old.since) 1 54 r s at begun (still_of view r s broke.drive.medium) (may_poll_broke view r s 54 asks broke begun.may) broke.room (omega arith) told e is
         (left ∙ ap (λ (l : LoopView M). record l { control = AtLost s; sound = false; since = since_frame l.since }) taken) broke.came.units (omega (arith, count))
-        (λ start so. stood_frame view old.since start r s so begun.alive broke.came.units.came (others_by PollsOn (λ k d e polls. polls.nothing) (drive_party r) 1 (devices_of r) (devices_of s) broke.devices))
+        (λ start so. stood_frame view old.since start r s so begun.alive broke.came.units.came (heard_none (drive_party r) r s broke.unheard))
 
   -- ---- printing
 

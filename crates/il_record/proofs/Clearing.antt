@@ -27,7 +27,8 @@ use Rattle.il_record.proofs.Asking.{asked_broken, asked_made, asked_on}
 use Rattle.il_record.proofs.Cuts.{counts_up}
 use Rattle.il_record.proofs.Places.{kept_in_part, kept_obeyed, kept_then}
 use Rattle.il_record.proofs.Readings.{idle_address}
-use Rattle.il_record.proofs.ReadRuns.{came_still, others_of, others_more, leaves_then}
+use Rattle.il_record.proofs.HeardLogs.{heard_none, heard_then, none_broke, none_whole}
+use Rattle.il_record.proofs.ReadRuns.{came_still, leaves_then}
 use Rattle.il_record.proofs.Talks.{made_talked, talked_then}
 
 -- ---- a command
@@ -88,7 +89,7 @@ module _ {M : Type 0} (view : M → MediumView) (d : ℕ) (r : RingView M) (idle
       let left = command_left view unl r s plain_unl not in
       record {
         came = asked_broken view (AskCommand unl) (AskCommand (lad d) ∷ AskCommand sdc ∷ []) (Command unl) r s refl not left.still.tape;
-        unheard = others_of d r s (not.broke.unheard refl);
+        unheard = heard_none d r s (none_broke view r s (commanded 0 unl) refl not.broke);
         places = kept_in_part r s msg.Unl refl part;
         drive = left;
       }
@@ -101,7 +102,7 @@ module _ {M : Type 0} (view : M → MediumView) (d : ℕ) (r : RingView M) (idle
         record {
           came = asked_on view false (AskCommand unl ∷ []) (AskCommand (lad d) ∷ AskCommand sdc ∷ []) r a s idle (asked_made view (Command unl) r a first refl before.still.tape)
               (asked_broken view (AskCommand (lad d)) (AskCommand sdc ∷ []) (Command (lad d)) a s refl not behind.still.tape);
-          unheard = others_more d r a s (others_of d r a (first.whole.unheard refl)) (others_of d a s (not.broke.unheard refl));
+          unheard = heard_then d r a s (heard_none d r a (none_whole view r a (commanded 0 unl) refl first.whole)) (heard_none d a s (none_broke view a s (commanded 0 (lad d)) refl not.broke));
           places = kept_then r a s (kept_obeyed r a msg.Unl refl unlistened) (kept_in_part a s (msg.Lad d) refl part);
           drive = leaves_then view r.drive a.drive s.drive before behind;
         }
@@ -116,7 +117,7 @@ module _ {M : Type 0} (view : M → MediumView) (d : ℕ) (r : RingView M) (idle
             came = asked_on view false (AskCommand unl ∷ []) (AskCommand (lad d) ∷ AskCommand sdc ∷ []) r a s idle (asked_made view (Command unl) r a first refl one.still.tape)
                 (asked_on view false (AskCommand (lad d) ∷ []) (AskCommand sdc ∷ []) a b s first.idle (asked_made view (Command (lad d)) a b second refl two.still.tape)
                 (asked_broken view (AskCommand sdc) [] (Command sdc) b s refl not three.still.tape));
-            unheard = others_more d r b s (others_more d r a b (others_of d r a (first.whole.unheard refl)) (others_of d a b (second.whole.unheard refl))) (others_of d b s (not.broke.unheard refl));
+            unheard = heard_then d r b s (heard_then d r a b (heard_none d r a (none_whole view r a (commanded 0 unl) refl first.whole)) (heard_none d a b (none_whole view a b (commanded 0 (lad d)) refl second.whole))) (heard_none d b s (none_broke view b s (commanded 0 sdc) refl not.broke));
             places = kept_then r a s (kept_obeyed r a msg.Unl refl unlistened) (kept_then a b s (kept_obeyed a b (msg.Lad d) refl listened) (kept_in_part b s msg.Sdc refl part));
             drive = leaves_then view r.drive a.drive s.drive one (leaves_then view a.drive b.drive s.drive two three);
           }
@@ -135,7 +136,7 @@ cleared view d r a b s idle low at first second third places =
     let done = clears view d (first.whole.adds.answers ++ (second.whole.adds.answers ++ third.whole.adds.answers)) r.drive s.drive low (idle_address r idle ∙ ap Some (sym at)) all in
     record {
       came = record { units = came_still view true ps [] r s talked refl refl (λ t. refl) (ap (λ m. (view m).tape) done.1); asked = (refl, (refl, (refl, tt))) };
-      unheard = others_more d r b s (others_more d r a b (others_of d r a (first.whole.unheard refl)) (others_of d a b (second.whole.unheard refl))) (others_of d b s (third.whole.unheard refl));
+      unheard = heard_then d r b s (heard_then d r a b (heard_none d r a (none_whole view r a (commanded 0 unl) refl first.whole)) (heard_none d a b (none_whole view a b (commanded 0 (lad d)) refl second.whole))) (heard_none d b s (none_whole view b s (commanded 0 sdc) refl third.whole));
       places = places;
       rests = done.0;
       medium = done.1;

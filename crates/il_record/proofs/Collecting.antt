@@ -1,6 +1,7 @@
 -- A parallel poll, command by command.
 use Rattle.std.proofs.Common.{◌≡◌, ◌≢◌, ◌∙◌, ◌≤◌, ◌<◌, ◌+◌, ◌-◌, ◌*◌, ◌==◌, ◌++◌, inl, inr, ⊎_elim, ℕ, Bool, true, false, List, [], ◌∷◌, Some, None, length, refl, sym, ap, ap₂, subst, arith, nat_le}
 use Rattle.std.specs.Prelude.{if◌then◌else◌, min}
+use Rattle.std.specs.List.{list_all}
 use Rattle.std.proofs.lemmas.Bool.{cases_lt, eqb-true, eqb-false, le-leb, lt-leb}
 use Rattle.il_frames.specs.declared.frame.Frame.{Frame}
 use Rattle.il_frames.specs.declared.message.Message.{Message}
@@ -12,7 +13,8 @@ use Rattle.il_device.specs.State.{DeviceState}
 use Rattle.il_device.specs.Takes.{may_change_service}
 use Rattle.il_ports.specs.Media.{MediumView}
 use Rattle.loop_model.specs.Entries.{lad, unl}
-use Rattle.loop_model.specs.Exchanges.{Command, Identify}
+use Rattle.loop_model.specs.Exchanges.{Command, Identify, commanded, entries_of}
+use Rattle.loop_model.proofs.HearLaws.{has_no_data}
 use Rattle.il_ring.proofs.RoundPlaces.{place_kept}
 use Rattle.il_ring.specs.Lists.{Each, First}
 use Rattle.il_ring.specs.Outcomes.{Obeys}
@@ -23,11 +25,13 @@ use Rattle.il_control.proofs.Assigning.{EachTo, GivenPlace, place_given, place_i
 use Rattle.il_control.proofs.Calls.{hears_then}
 use Rattle.loop_model.proofs.SendLaws.{message_of-lad}
 use Rattle.il_record.specs.Asks.{Ask, AskCommand, AskIdentify, CameAsked, up_to}
+use Rattle.il_record.specs.Came.{NoneHeard}
 use Rattle.il_record.specs.LoopCalls.{LeavesDrive}
 use Rattle.il_record.specs.Polls.{Assigned, Collected, HasPolled, MayPoll, PollBroke, PollsOn, collect_asks, place_asks, poll_asks, poll_place, polled_along, ppu}
 use Rattle.il_record.proofs.Asking.{asked_broken, asked_made, asked_nothing, asked_on, asked_up_to, up_to_next}
 use Rattle.il_record.proofs.CameLaws.{tape_same}
 use Rattle.il_record.proofs.Commands.{PlacedTo, all_polls, all_released, command_broken, command_made, command_room, each_as, each_then, identify_broken, identify_made, identify_room, may_polls, obeyed_polls, part_polls, place_is, ppe_mild, ppu_polls, ppu_released, stays_polls, unl_broken, unl_made}
+use Rattle.il_record.proofs.HeardLogs.{heard_same, heard_then, none_broke, none_whole}
 use Rattle.il_record.proofs.Mild.{StaysMild, mild_then}
 use Rattle.il_record.proofs.MildCame.{left_as_was, left_by, leaves_mild, leaves_then, mild_frame}
 use Rattle.il_record.proofs.Readings.{idle_mute}
@@ -39,9 +43,17 @@ use Rattle.il_record.proofs.Used.{broken_used, command_not_used, command_used}
 pub record Begun {M : Type 0} (view : M → MediumView) (n : ℕ) (asks : List Ask) (r s : RingView M) : Type 0 where
   pub came : CameAsked view true asks r s
   pub devices : EachTo PollsOn 1 (devices_of r) (devices_of s)
+  pub unheard : NoneHeard r s
   pub drive : StaysMild view r.drive s.drive
   pub idle : IsIdle s
   pub room : spare_of r ≤ spare_of s + n
+
+module _ {M : Type 0} (view : M → MediumView) (r s : RingView M) (f : Frame) (plain : list_all has_no_data (commanded 0 f) ≡ true) where
+  command_heard : Made view (Command f) r s → NoneHeard r s
+  command_heard made = none_whole view r s (commanded 0 f) plain made.whole
+
+  command_unheard : BrokenOff view (Command f) r s → NoneHeard r s
+  command_unheard broken = none_broke view r s (commanded 0 f) plain broken.broke
 
 module _ {M : Type 0} (view : M → MediumView) (r : RingView M) (idle : IsIdle r) (silent : r.drive.state.interface.own ≡ None) where
   begun_by : (m : RingView M) → 2 ≤ spare_of r → Made view (Command unl) r m → Obeyed msg.Unl r m → Begun view 2 (AskCommand unl ∷ []) r m
@@ -50,6 +62,7 @@ module _ {M : Type 0} (view : M → MediumView) (r : RingView M) (idle : IsIdle 
       record {
         came = asked_made view (Command unl) r m made refl (tape_same view r.drive m.drive drive.medium);
         devices = obeyed_polls r m msg.Unl refl refl obeyed;
+        unheard = command_heard view r m unl refl made;
         drive = drive;
         idle = made.idle;
         room = command_room view r m unl room made;
@@ -65,6 +78,7 @@ module _ {M : Type 0} (view : M → MediumView) (r : RingView M) (idle : IsIdle 
       record {
         came = asked_broken view (AskCommand unl) more (Command unl) r s refl broken (tape_same view r.drive s.drive drive.medium);
         devices = part_polls r s msg.Unl refl refl part;
+        unheard = command_unheard view r s unl refl broken;
         drive = drive;
         room = command_not_used view unl r s broken;
       }
@@ -72,14 +86,15 @@ module _ {M : Type 0} (view : M → MediumView) (r : RingView M) (idle : IsIdle 
   pub not_begun : (more : List Ask) (f : Frame) (s : RingView M) → f ≡ unl → BrokenOff view (Command f) r s → ObeyedInPart (message_of f) r s → PollBroke view 3 (AskCommand unl ∷ more) r s
   not_begun more f s is broken part = not_begun_by more s (subst (λ f. BrokenOff view (Command f) r s) is broken) (subst (λ f. ObeyedInPart (message_of f) r s) is part)
 
-  pub next_made : (n : ℕ) (asks : List Ask) (f : Frame) (m s : RingView M) → mild_frame f ≡ true → Begun view n asks r m → 2 ≤ spare_of m → Made view (Command f) m s → EachTo PollsOn 1 (devices_of m) (devices_of s) → Begun view (n + 2) (asks ++ AskCommand f ∷ []) r s
-  next_made n asks f m s mild so room made devices =
+  pub next_made : (n : ℕ) (asks : List Ask) (f : Frame) (m s : RingView M) → mild_frame f ≡ true → list_all has_no_data (commanded 0 f) ≡ true → Begun view n asks r m → 2 ≤ spare_of m → Made view (Command f) m s → EachTo PollsOn 1 (devices_of m) (devices_of s) → Begun view (n + 2) (asks ++ AskCommand f ∷ []) r s
+  next_made n asks f m s mild plain so room made devices =
       let drive = command_made view m s f mild so.drive.mild made in
       let before = so.room in
       let spent = command_room view m s f room made in
       record {
         came = asked_on view true asks (AskCommand f ∷ []) r m s idle so.came (asked_made view (Command f) m s made refl (tape_same view m.drive s.drive drive.medium));
         devices = all_polls r m s so.devices devices;
+        unheard = heard_then 0 r m s so.unheard (command_heard view m s f plain made);
         drive = mild_then view r.drive m.drive s.drive so.drive drive;
         idle = made.idle;
         room = omega (arith, before, spent);
@@ -93,19 +108,21 @@ module _ {M : Type 0} (view : M → MediumView) (r : RingView M) (idle : IsIdle 
       record {
         came = asked_on view true asks (AskIdentify ∷ []) r m s idle so.came (asked_made view (Identify f) m s made refl (tape_same view m.drive s.drive drive.medium));
         devices = all_polls r m s so.devices (stays_polls m s stays);
+        unheard = heard_then 0 r m s so.unheard (none_whole view m s (entries_of 0 (Identify f)) refl made.whole);
         drive = mild_then view r.drive m.drive s.drive so.drive drive;
         idle = made.idle;
         room = omega (arith, before, spent);
       }
 
-  pub next_broken : (n : ℕ) (asks more : List Ask) (f : Frame) (m s : RingView M) → mild_frame f ≡ true → Begun view n asks r m → BrokenOff view (Command f) m s → EachTo PollsOn 1 (devices_of m) (devices_of s) → PollBroke view (n + 3) (asks ++ AskCommand f ∷ more) r s
-  next_broken n asks more f m s mild so broken devices =
+  pub next_broken : (n : ℕ) (asks more : List Ask) (f : Frame) (m s : RingView M) → mild_frame f ≡ true → list_all has_no_data (commanded 0 f) ≡ true → Begun view n asks r m → BrokenOff view (Command f) m s → EachTo PollsOn 1 (devices_of m) (devices_of s) → PollBroke view (n + 3) (asks ++ AskCommand f ∷ more) r s
+  next_broken n asks more f m s mild plain so broken devices =
       let drive = command_broken view m s f mild so.drive.mild broken in
       let before = so.room in
       let spent = command_not_used view f m s broken in
       record {
         came = asked_on view false asks (AskCommand f ∷ more) r m s idle so.came (asked_broken view (AskCommand f) more (Command f) m s refl broken (tape_same view m.drive s.drive drive.medium));
         devices = all_polls r m s so.devices devices;
+        unheard = heard_then 0 r m s so.unheard (command_unheard view m s f plain broken);
         drive = leaves_mild view r.drive s.drive (mild_then view r.drive m.drive s.drive so.drive drive);
         room = omega (arith, before, spent);
       }
@@ -118,6 +135,7 @@ module _ {M : Type 0} (view : M → MediumView) (r : RingView M) (idle : IsIdle 
       record {
         came = asked_on view false asks (AskIdentify ∷ more) r m s idle so.came (asked_broken view AskIdentify more (Identify idy) m s refl broken (tape_same view m.drive s.drive drive.medium));
         devices = all_polls r m s so.devices (stays_polls m s stays);
+        unheard = heard_then 0 r m s so.unheard (none_broke view m s (entries_of 0 (Identify idy)) refl broken.broke);
         drive = leaves_mild view r.drive s.drive (mild_then view r.drive m.drive s.drive so.drive drive);
         room = omega (arith, before, spent);
       }
@@ -136,12 +154,12 @@ module _ {M : Type 0} (view : M → MediumView) (r : RingView M) (idle : IsIdle 
 
     pub told_next : (g : Frame) (m u : RingView M) → g ≡ lad a → Begun view 2 (AskCommand unl ∷ []) r m → 2 ≤ spare_of m → Made view (Command g) m u → Obeyed (message_of g) m u → Begun view 4 (AskCommand unl ∷ AskCommand (lad a) ∷ []) r u
     told_next g m u is so room made obeyed =
-        next_made 2 (AskCommand unl ∷ []) (lad a) m u (lad_mild a low) so room (subst (λ f. Made view (Command f) m u) is made)
+        next_made 2 (AskCommand unl ∷ []) (lad a) m u (lad_mild a low) refl so room (subst (λ f. Made view (Command f) m u) is made)
         (obeyed_polls m u (msg.Lad a) refl refl (subst (λ message. Obeyed message m u) (ap message_of is ∙ lad_says) obeyed))
 
     pub told_not : (g : Frame) (m s : RingView M) → g ≡ lad a → Begun view 2 (AskCommand unl ∷ []) r m → BrokenOff view (Command g) m s → ObeyedInPart (message_of g) m s → PollBroke view 5 (place_asks a) r s
     told_not g m s is so broken part =
-        next_broken 2 (AskCommand unl ∷ []) (AskCommand (ppe (7 + a)) ∷ []) (lad a) m s (lad_mild a low) so (subst (λ f. BrokenOff view (Command f) m s) is broken)
+        next_broken 2 (AskCommand unl ∷ []) (AskCommand (ppe (7 + a)) ∷ []) (lad a) m s (lad_mild a low) refl so (subst (λ f. BrokenOff view (Command f) m s) is broken)
         (part_polls m s (msg.Lad a) refl refl (subst (λ message. ObeyedInPart message m s) (ap message_of is ∙ lad_says) part))
 
     pub assigned_by : (f g h : Frame) (m u s : RingView M) → f ≡ unl → g ≡ lad a → h ≡ ppe (7 + a) → Begun view 2 (AskCommand unl ∷ []) r m → Begun view 4 (AskCommand unl ∷ AskCommand (lad a) ∷ []) r u → 2 ≤ spare_of u → Obeyed (message_of f) r m → Obeyed (message_of g) m u → Made view (Command h) u s → Obeyed (message_of h) u s → Assigned view a r s
@@ -153,6 +171,7 @@ module _ {M : Type 0} (view : M → MediumView) (r : RingView M) (idle : IsIdle 
         record {
           came = asked_on view true (AskCommand unl ∷ AskCommand (lad a) ∷ []) (AskCommand (ppe (7 + a)) ∷ []) r u s idle so.came (asked_made view (Command (ppe (7 + a))) u s now refl (tape_same view u.drive s.drive drive.medium));
           given = place_given r m u s a (7 + a) f g h idle low small is_unl is_lad is_ppe first more last;
+          unheard = heard_then 0 r u s so.unheard (command_heard view u s (ppe (7 + a)) refl now);
           drive = leaves_mild view r.drive s.drive (mild_then view r.drive u.drive s.drive so.drive drive);
           room = omega (arith, before, spent);
         }
@@ -166,6 +185,7 @@ module _ {M : Type 0} (view : M → MediumView) (r : RingView M) (idle : IsIdle 
         record {
           came = asked_on view false (AskCommand unl ∷ AskCommand (lad a) ∷ []) (AskCommand (ppe (7 + a)) ∷ []) r u s idle so.came (asked_broken view (AskCommand (ppe (7 + a))) [] (Command (ppe (7 + a))) u s refl now (tape_same view u.drive s.drive drive.medium));
           devices = may_polls r s a some few (place_in_part r m u s a (7 + a) f g h idle low small is_unl is_lad is_ppe first more part);
+          unheard = heard_then 0 r u s so.unheard (command_unheard view u s (ppe (7 + a)) refl now);
           drive = leaves_mild view r.drive s.drive (mild_then view r.drive u.drive s.drive so.drive drive);
           room = omega (arith, before, spent);
         }
@@ -190,13 +210,14 @@ module _ {M : Type 0} (view : M → MediumView) (r : RingView M) (idle : IsIdle 
         frame = back ∙ along_same msg.Unl refl refl (devices_of r) (devices_of m) idy (subst (λ f. Obeyed (message_of f) r m) is_unl first);
         came = asked_on view true (AskCommand unl ∷ AskIdentify ∷ []) (AskCommand ppu ∷ []) r u s idle so.came (asked_made view (Command ppu) u s now refl (tape_same view u.drive s.drive drive.medium));
         released = all_released r u s so.devices (ppu_released u s (subst (λ f. Obeyed (message_of f) u s) is_ppu last));
+        unheard = heard_then 0 r u s so.unheard (command_heard view u s ppu refl now);
         drive = leaves_mild view r.drive s.drive (mild_then view r.drive u.drive s.drive so.drive drive);
         room = omega (arith, before, spent);
       }
 
   pub collected_not : (h : Frame) (u s : RingView M) → h ≡ ppu → Begun view 3 (AskCommand unl ∷ AskIdentify ∷ []) r u → BrokenOff view (Command h) u s → ObeyedInPart (message_of h) u s → PollBroke view 6 collect_asks r s
   collected_not h u s is so broken part =
-      next_broken 3 (AskCommand unl ∷ AskIdentify ∷ []) [] ppu u s refl so (subst (λ f. BrokenOff view (Command f) u s) is broken) (ppu_polls u s (subst (λ f. ObeyedInPart (message_of f) u s) is part))
+      next_broken 3 (AskCommand unl ∷ AskIdentify ∷ []) [] ppu u s refl refl so (subst (λ f. BrokenOff view (Command f) u s) is broken) (ppu_polls u s (subst (λ f. ObeyedInPart (message_of f) u s) is part))
 
 -- ---- place behind place
 
@@ -256,6 +277,7 @@ along_placed i n k (d ∷ ds) [] f most within placed may = absurd placed
 pub record AssignedSo {M : Type 0} (view : M → MediumView) (i : ℕ) (r s : RingView M) : Type 0 where
   pub came : CameAsked view true (up_to place_asks i) r s
   pub placed : EachTo (PlacedTo i) 1 (devices_of r) (devices_of s)
+  pub unheard : NoneHeard r s
   pub drive : LeavesDrive r.drive s.drive
   pub idle : IsIdle s
   pub silent : s.drive.state.interface.own ≡ None
@@ -263,7 +285,7 @@ pub record AssignedSo {M : Type 0} (view : M → MediumView) (i : ℕ) (r s : Ri
 
 module _ {M : Type 0} (view : M → MediumView) (r : RingView M) (idle : IsIdle r) where
   pub assigned_none : r.drive.state.interface.own ≡ None → AssignedSo view 0 r r
-  assigned_none silent = record { came = asked_nothing view r idle; placed = none_placed 1 (devices_of r) (omega arith); drive = left_as_was r.drive silent; idle = idle; silent = silent; room = omega arith }
+  assigned_none silent = record { came = asked_nothing view r idle; placed = none_placed 1 (devices_of r) (omega arith); unheard = heard_same 0 r; drive = left_as_was r.drive silent; idle = idle; silent = silent; room = omega arith }
 
   pub assigned_more : (i : ℕ) (m s : RingView M) → i < 8 → AssignedSo view i r m → Assigned view (i + 1) m s → AssignedSo view (i + 1) r s
   assigned_more i m s few so given =
@@ -273,6 +295,7 @@ module _ {M : Type 0} (view : M → MediumView) (r : RingView M) (idle : IsIdle 
       record {
         came = subst (λ asks. CameAsked view true asks r s) (up_to_next place_asks i) (asked_on view true (up_to place_asks i) (place_asks (i + 1)) r m s idle so.came given.came);
         placed = each_then (PlacedTo i) (GivenPlace (i + 1) (7 + (i + 1))) (PlacedTo (i + 1)) (λ k c d e placed given. next_place i k c d e few placed given) 1 (devices_of r) (devices_of m) (devices_of s) so.placed given.given;
+        unheard = heard_then 0 r m s so.unheard given.unheard;
         drive = leaves_then r.drive m.drive s.drive so.drive given.drive;
         idle = now;
         silent = given.drive.silent (idle_mute s now);
@@ -287,6 +310,7 @@ module _ {M : Type 0} (view : M → MediumView) (r : RingView M) (idle : IsIdle 
       record {
         came = asked_on view false (up_to place_asks i) asks r m s idle so.came broke.came;
         devices = all_polls r m s (each_as (PlacedTo i) PollsOn (left_placed i) 1 (devices_of r) (devices_of m) so.placed) broke.devices;
+        unheard = heard_then 0 r m s so.unheard broke.unheard;
         drive = leaves_then r.drive m.drive s.drive so.drive broke.drive;
         room = omega (arith, before, spent, few);
       }
@@ -298,6 +322,7 @@ module _ {M : Type 0} (view : M → MediumView) (r : RingView M) (idle : IsIdle 
       record {
         came = asked_up_to view place_asks i (min n 8) collect_asks r m s few idle so.came broke.came;
         devices = behind.devices;
+        unheard = behind.unheard;
         drive = behind.drive;
         room = behind.room;
       }
@@ -313,9 +338,10 @@ module _ {M : Type 0} (view : M → MediumView) (r : RingView M) (idle : IsIdle 
         frame = got.frame ∙ along_placed i n 1 (devices_of r) (devices_of m) idy most (omega (arith, count)) so.placed may;
         came = subst (λ n. CameAsked view true (up_to place_asks n ++ collect_asks) r s) (most ∙ ap (λ n. min n 8) count) (asked_on view true (up_to place_asks i) collect_asks r m s idle so.came got.came);
         released = all_released r m s (each_as (PlacedTo i) PollsOn (left_placed i) 1 (devices_of r) (devices_of m) so.placed) got.released;
+        unheard = heard_then 0 r m s so.unheard got.unheard;
         drive = leaves_then r.drive m.drive s.drive so.drive got.drive;
         room = omega (arith, before, spent, most);
       }
 
 pub broke_within : {M : Type 0} (view : M → MediumView) (n most : ℕ) (asks : List Ask) (r s : RingView M) → n ≤ most → PollBroke view n asks r s → PollBroke view most asks r s
-broke_within view n most asks r s few broke = let spent = broke.room in record { came = broke.came; devices = broke.devices; drive = broke.drive; room = omega (arith, spent, few) }
+broke_within view n most asks r s few broke = let spent = broke.room in record { came = broke.came; devices = broke.devices; unheard = broke.unheard; drive = broke.drive; room = omega (arith, spent, few) }

@@ -5,6 +5,8 @@ pub mod Asking
 pub mod Calling
 pub mod CameLaws
 pub mod Heard
+pub mod HeardLogs
+pub mod Hearing
 pub mod Collecting
 pub mod Commands
 pub mod Listened

@@ -1,12 +1,11 @@
 -- What devices heard of bytes that were sent, byte behind byte.
-use Rattle.std.proofs.Common.{◌≡◌, ◌∙◌, ◌≤◌, ◌+◌, ◌++◌, ◌==◌, ℕ, zero, suc, Bool, true, false, List, [], ◌∷◌, length, take, refl, sym, ap, subst, arith, append-nil}
+use Rattle.std.proofs.Common.{◌≡◌, ◌∙◌, ◌+◌, ◌++◌, ◌==◌, ℕ, zero, suc, Bool, true, false, List, [], ◌∷◌, length, take, refl, sym, ap, subst, arith, append-nil}
 use Rattle.std.specs.Prelude.{if◌then◌else◌, MatchBool}
 use Rattle.il_device.specs.State.{DeviceState, risen}
 use Rattle.il_device.specs.Takes.{kept}
 use Rattle.il_ring.specs.Lists.{Each, First}
 use Rattle.il_ring.specs.Outcomes.{HearsNothing, HearsByte, HearsAny}
-use Rattle.il_ring.specs.Rings.{RingView, devices_of}
-use Rattle.il_control.specs.Calls.{AllStay, IsTold, Stays, Unheard}
+use Rattle.il_control.specs.Calls.{IsTold, Stays}
 use Rattle.il_control.proofs.Assigning.{EachTo}
 use Rattle.il_control.proofs.Calls.{hears_then}
 use Rattle.il_record.specs.Listening.{Hears, HearsBytes, HearsInPart, HearsPart, counted_all, heard_all}
@@ -44,20 +43,20 @@ one_more byte bytes true c d e listens first more = bytes_more byte bytes c d e 
 one_more byte bytes false c d e listens first more = hears_then c d e first (deaf byte d e listens more)
 
 -- the first i, and then nothing more, or one byte
-part_same : (i : ℕ) (bytes : List ℕ) (here : Bool) (c d : DeviceState) → i ≤ length bytes → MatchBool here (HearsBytes (take i bytes) c d) (HearsNothing c d) → MatchBool here (HearsInPart bytes c d) (HearsNothing c d)
-part_same i bytes true c d within first = record { whole = i; within = within; more = []; few = omega arith; heard = subst (λ bytes. HearsBytes bytes c d) (sym (append-nil (take i bytes))) first }
-part_same i bytes false c d within first = first
+part_same : (i : ℕ) (bytes : List ℕ) (here : Bool) (c d : DeviceState) → MatchBool here (HearsBytes (take i bytes) c d) (HearsNothing c d) → MatchBool here (HearsInPart i bytes c d) (HearsNothing c d)
+part_same i bytes true c d first = record { more = []; few = omega arith; heard = subst (λ bytes. HearsBytes bytes c d) (sym (append-nil (take i bytes))) first }
+part_same i bytes false c d first = first
 
-part_more : (byte i : ℕ) (bytes : List ℕ) (here : Bool) (c d e : DeviceState) → i ≤ length bytes → d.roles.listens ≡ here → MatchBool here (HearsBytes (take i bytes) c d) (HearsNothing c d) → HearsByte byte d e → MatchBool here (HearsInPart bytes c e) (HearsNothing c e)
-part_more byte i bytes true c d e within listens first more = record { whole = i; within = within; more = byte ∷ []; few = omega arith; heard = bytes_more byte (take i bytes) c d e listens first more }
-part_more byte i bytes false c d e within listens first more = hears_then c d e first (deaf byte d e listens more)
+part_more : (byte i : ℕ) (bytes : List ℕ) (here : Bool) (c d e : DeviceState) → d.roles.listens ≡ here → MatchBool here (HearsBytes (take i bytes) c d) (HearsNothing c d) → HearsByte byte d e → MatchBool here (HearsInPart i bytes c e) (HearsNothing c e)
+part_more byte i bytes true c d e listens first more = record { more = byte ∷ []; few = omega arith; heard = bytes_more byte (take i bytes) c d e listens first more }
+part_more byte i bytes false c d e listens first more = hears_then c d e first (deaf byte d e listens more)
 
 nothing_whole : (here : Bool) (d e : DeviceState) → HearsNothing d e → MatchBool here (HearsBytes [] d e) (HearsNothing d e)
 nothing_whole true d e nothing = none_more d e nothing
 nothing_whole false d e nothing = nothing
 
-nothing_in_part : (bytes : List ℕ) (here : Bool) (d e : DeviceState) → HearsNothing d e → MatchBool here (HearsInPart bytes d e) (HearsNothing d e)
-nothing_in_part bytes true d e nothing = record { whole = 0; within = omega arith; more = []; few = omega arith; heard = none_more d e nothing }
+nothing_in_part : (bytes : List ℕ) (here : Bool) (d e : DeviceState) → HearsNothing d e → MatchBool here (HearsInPart 0 bytes d e) (HearsNothing d e)
+nothing_in_part bytes true d e nothing = record { more = []; few = omega arith; heard = none_more d e nothing }
 nothing_in_part bytes false d e nothing = nothing
 
 -- ---- all devices
@@ -68,7 +67,7 @@ hears_none a still k (d ∷ ds) (e ∷ es) stays = ((stays.0.place, nothing_whol
 hears_none a still k [] (e ∷ es) stays = absurd stays
 hears_none a still k (d ∷ ds) [] stays = absurd stays
 
-pub hears_no_part : (a : ℕ) (still : Bool) (bytes : List ℕ) (k : ℕ) (ds es : List DeviceState) → First (Stays still) (length ds) ds es → EachTo (HearsPart a bytes) k ds es
+pub hears_no_part : (a : ℕ) (still : Bool) (bytes : List ℕ) (k : ℕ) (ds es : List DeviceState) → First (Stays still) (length ds) ds es → EachTo (HearsPart a 0 bytes) k ds es
 hears_no_part a still bytes k [] [] stays = tt
 hears_no_part a still bytes k (d ∷ ds) (e ∷ es) stays = ((stays.0.place, nothing_in_part bytes (k == a) d e stays.0.nothing), hears_no_part a still bytes (k + 1) ds es stays.1)
 hears_no_part a still bytes k [] (e ∷ es) stays = absurd stays
@@ -83,22 +82,13 @@ hears_more a byte bytes k [] (d ∷ ds) es first told more = absurd first
 hears_more a byte bytes k (c ∷ cs) [] es first told more = absurd first
 hears_more a byte bytes k (c ∷ cs) (d ∷ ds) [] first told more = absurd more
 
-pub hears_part : (a i : ℕ) (bytes : List ℕ) → i ≤ length bytes → (k j : ℕ) (cs ds es : List DeviceState) → EachTo (Hears a (take i bytes)) k cs ds → Each (IsTold a) k ds → First HearsAny j ds es → EachTo (HearsPart a bytes) k cs es
-hears_part a i bytes within k j [] [] [] first told more = tt
-hears_part a i bytes within k zero (c ∷ cs) (d ∷ ds) (e ∷ es) first told more =
-    (subst (HearsPart a bytes k c) (sym more.0) (first.0.0, part_same i bytes (k == a) c d within first.0.1), hears_part a i bytes within (k + 1) 0 cs ds es first.1 told.1 more.1)
-hears_part a i bytes within k (suc j) (c ∷ cs) (d ∷ ds) (e ∷ es) first told more =
-    ((more.0.1.assignment ∙ first.0.0, part_more more.0.0 i bytes (k == a) c d e within told.0 first.0.1 more.0.1), hears_part a i bytes within (k + 1) j cs ds es first.1 told.1 more.1)
-hears_part a i bytes within k j [] [] (e ∷ es) first told more = absurd more
-hears_part a i bytes within k j [] (d ∷ ds) es first told more = absurd first
-hears_part a i bytes within k j (c ∷ cs) [] es first told more = absurd first
-hears_part a i bytes within k j (c ∷ cs) (d ∷ ds) [] first told more = absurd more
-
-none_heard : (still : Bool) (ds es : List DeviceState) → First (Stays still) (length ds) ds es → First HearsNothing (length ds) ds es
-none_heard still [] [] stays = tt
-none_heard still (d ∷ ds) (e ∷ es) stays = (stays.0.nothing, none_heard still ds es stays.1)
-none_heard still [] (e ∷ es) stays = absurd stays
-none_heard still (d ∷ ds) [] stays = absurd stays
-
-pub unheard_of : {M : Type 0} (still : Bool) (r s : RingView M) → AllStay still r s → Unheard r s
-unheard_of still r s stays = none_heard still (devices_of r) (devices_of s) stays
+pub hears_part : (a i : ℕ) (bytes : List ℕ) (k j : ℕ) (cs ds es : List DeviceState) → EachTo (Hears a (take i bytes)) k cs ds → Each (IsTold a) k ds → First HearsAny j ds es → EachTo (HearsPart a i bytes) k cs es
+hears_part a i bytes k j [] [] [] first told more = tt
+hears_part a i bytes k zero (c ∷ cs) (d ∷ ds) (e ∷ es) first told more =
+    (subst (HearsPart a i bytes k c) (sym more.0) (first.0.0, part_same i bytes (k == a) c d first.0.1), hears_part a i bytes (k + 1) 0 cs ds es first.1 told.1 more.1)
+hears_part a i bytes k (suc j) (c ∷ cs) (d ∷ ds) (e ∷ es) first told more =
+    ((more.0.1.assignment ∙ first.0.0, part_more more.0.0 i bytes (k == a) c d e told.0 first.0.1 more.0.1), hears_part a i bytes (k + 1) j cs ds es first.1 told.1 more.1)
+hears_part a i bytes k j [] [] (e ∷ es) first told more = absurd more
+hears_part a i bytes k j [] (d ∷ ds) es first told more = absurd first
+hears_part a i bytes k j (c ∷ cs) [] es first told more = absurd first
+hears_part a i bytes k j (c ∷ cs) (d ∷ ds) [] first told more = absurd more

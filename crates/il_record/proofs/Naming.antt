@@ -13,9 +13,10 @@ use Rattle.il_record.specs.Asks.{Ask, AskTell, CameAsked, up_to}
 use Rattle.il_record.specs.LoopCalls.{AllNamed, LeftAlone, Named, id_asks, ids_of}
 use Rattle.il_record.proofs.Asking.{asked_broken, asked_made, asked_nothing, asked_on, asked_up_to, up_to_next}
 use Rattle.il_record.proofs.CameLaws.{tape_same}
+use Rattle.il_record.proofs.HeardLogs.{heard_same, heard_then, none_not_received, none_received}
 use Rattle.il_record.proofs.MildCame.{left_as_was, leaves_then, not_received_leaves, received_leaves}
-use Rattle.il_record.proofs.ReadRuns.{received_room}
 use Rattle.il_record.proofs.Readings.{idle_mute}
+use Rattle.il_record.proofs.Used.{received_room}
 
 -- ---- what devices keep
 
@@ -46,11 +47,12 @@ module _ {M : Type 0} (view : M → MediumView) where
   left_then whole asks rest r m s idle first more = record {
     came = asked_on view whole asks rest r m s idle first.came more.came;
     stays = all_then (devices_of r) (devices_of m) (devices_of s) first.stays more.stays;
+    unheard = heard_then 0 r m s first.unheard more.unheard;
     drive = leaves_then r.drive m.drive s.drive first.drive more.drive;
   }
 
   pub left_nothing : (r : RingView M) → IsIdle r → r.drive.state.interface.own ≡ None → LeftAlone view true [] r r
-  left_nothing r idle silent = record { came = asked_nothing view r idle; stays = all_same (devices_of r); drive = left_as_was r.drive silent }
+  left_nothing r idle silent = record { came = asked_nothing view r idle; stays = all_same (devices_of r); unheard = heard_same 0 r; drive = left_as_was r.drive silent }
 
 -- ---- one device
 
@@ -70,14 +72,24 @@ module _ {M : Type 0} (view : M → MediumView) (a : ℕ) (r s : RingView M) (lo
       let left = received_room view a n (spare_of r - 13) None Sai r old new s got (omega (arith, few, one, room)) in
       record {
         id_is = is ∙ told_by (accessory_at (a - 1) (devices_of r)) n (received got.answer) old new (got.id refl) got.count got.bytes;
-        left = record { came = asked_made view (Receive a None Sai got.answer) r s got.made refl (tape_same view r.drive s.drive drive.medium); stays = got.stays; drive = drive };
+        left = record {
+          came = asked_made view (Receive a None Sai got.answer) r s got.made refl (tape_same view r.drive s.drive drive.medium);
+          stays = got.stays;
+          unheard = none_received view r s a None Sai got.answer got.made got.unheard;
+          drive = drive;
+        };
         room = omega (arith, left);
       }
 
   pub not_named : (w : ℕ) → NotReceived view a None Sai w r s → LeftAlone view false (id_asks a) r s
   not_named w got =
       let drive = not_received_leaves view a w r s low silent got in
-      record { came = asked_broken view (AskTell a None Sai) [] (Receive a None Sai got.answer) r s refl got.broken (tape_same view r.drive s.drive drive.medium); stays = got.stays; drive = drive }
+      record {
+        came = asked_broken view (AskTell a None Sai) [] (Receive a None Sai got.answer) r s refl got.broken (tape_same view r.drive s.drive drive.medium);
+        stays = got.stays;
+        unheard = none_not_received view r s a None Sai got.answer got.broken got.unheard;
+        drive = drive;
+      }
 
 -- ---- one behind the other
 
@@ -135,5 +147,6 @@ module _ {M : Type 0} (view : M → MediumView) (r : RingView M) (idle : IsIdle 
       record {
         came = subst (λ asks. CameAsked view false asks r s) (append-nil (up_to id_asks n)) came;
         stays = all_then (devices_of r) (devices_of m) (devices_of s) so.left.stays broken.stays;
+        unheard = heard_then 0 r m s so.left.unheard broken.unheard;
         drive = leaves_then r.drive m.drive s.drive so.left.drive broken.drive;
       }

@@ -87,8 +87,8 @@ module _ {M : Type 0} (r s : RingView M) where
   pub kept_heard : (a : ℕ) (bytes : List ℕ) → EachTo (Hears a bytes) 1 (devices_of r) (devices_of s) → PlacesKept r s
   kept_heard a bytes heard = record { kept = each_kept (Hears a bytes) (λ k d e hears. hears.0) 1 (devices_of r) (devices_of s) heard }
 
-  pub kept_heard_part : (a : ℕ) (bytes : List ℕ) → EachTo (HearsPart a bytes) 1 (devices_of r) (devices_of s) → PlacesKept r s
-  kept_heard_part a bytes heard = record { kept = each_kept (HearsPart a bytes) (λ k d e hears. hears.0) 1 (devices_of r) (devices_of s) heard }
+  pub kept_heard_part : (a whole : ℕ) (bytes : List ℕ) → EachTo (HearsPart a whole bytes) 1 (devices_of r) (devices_of s) → PlacesKept r s
+  kept_heard_part a whole bytes heard = record { kept = each_kept (HearsPart a whole bytes) (λ k d e hears. hears.0) 1 (devices_of r) (devices_of s) heard }
 
   pub may_poll_kept : PlacesKept r s → Each MayPoll 1 (devices_of r) → Each MayPoll 1 (devices_of s)
   may_poll_kept kept may = may_on 1 (devices_of r) (devices_of s) kept.kept may
@@ -101,7 +101,7 @@ module _ {M : Type 0} (view : M → MediumView) (r s : RingView M) where
   kept_sent a number i bytes so = kept_heard r s a _ so.heard
 
   pub kept_not_sent : (a : ℕ) (number : Option ℕ) (bytes : List ℕ) → SendBroke view a number bytes r s → PlacesKept r s
-  kept_not_sent a number bytes not = kept_heard_part r s a bytes not.heard
+  kept_not_sent a number bytes not = kept_heard_part r s a not.whole bytes not.heard
 
   pub kept_received : (a : ℕ) (number : Option ℕ) (start : Start) (n : ℕ) (old new : List ℕ) → Received view a number start n r old new s → PlacesKept r s
   kept_received a number start n old new got = kept_stays r s false got.stays
@@ -116,7 +116,7 @@ module _ {M : Type 0} (view : M → MediumView) (r s : RingView M) where
   kept_said a bytes said = kept_heard r s a bytes said.heard
 
   pub kept_not_said : (a : ℕ) (bytes : List ℕ) → NotSaid view a bytes r s → PlacesKept r s
-  kept_not_said a bytes not = kept_heard_part r s a bytes not.heard
+  kept_not_said a bytes not = kept_heard_part r s a not.whole bytes not.heard
 
   pub may_poll_broke : (n : ℕ) (asks : List Ask) → PollBroke view n asks r s → Each MayPoll 1 (devices_of r) → Each MayPoll 1 (devices_of s)
   may_poll_broke n asks broke may = polls_may 1 (devices_of r) (devices_of s) broke.devices may

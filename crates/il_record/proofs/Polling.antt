@@ -16,11 +16,13 @@ use Rattle.loop_model.specs.Exchanges.{Echo, Start, Sst, Answer, NotTaken, ToIts
 use Rattle.loop_model.proofs.RoundLaws.{answers_as_asked}
 use Rattle.loop_model.proofs.UnitLaws.{bytes_of}
 use Rattle.il_ring.specs.Rings.{RingView, devices_of, drive_party}
-use Rattle.il_control.specs.Calls.{IsIdle, Made, Unheard}
+use Rattle.il_control.specs.Calls.{IsIdle, Made}
 use Rattle.il_control.specs.Receives.{Received, NotReceived, SpokenBy, received, is_stopped, talker_of, own_frames}
+use Rattle.il_record.specs.Came.{NoneHeard}
 use Rattle.il_record.specs.Runs.{Polled, NotPolled, TellsStatus}
 use Rattle.il_record.proofs.Asked.{front_plain, untaken_frames, ran_asked, append_same, ran_length}
 use Rattle.il_record.proofs.Cuts.{receive_cut, receive_from_here}
+use Rattle.il_record.proofs.HeardLogs.{none_not_received, none_received}
 use Rattle.il_record.proofs.Readings.{asked_talker, legal_answer, end_echoes, stop_echoes, party_within, idle_address, idle_mute, told_status}
 
 -- no device but the drive takes the start message that was meant for it
@@ -48,7 +50,7 @@ module _ {M : Type 0} (view : M → MediumView) (d k₀ : ℕ) (low : d ≤ 30) 
 
   polled_by : (answer : Answer) (n : ℕ) (old new : List ℕ) (r s : RingView M) → IsIdle r → r.drive.state.interface.roles.address ≡ Some d → r.drive.state.interface.roles.talks ≡ false → is_answer 0 answer ≡ true
       → IfSome (talker_of answer) (λ p. p ≡ d) → n ≡ length (received answer) → n ≤ 1 → new ≡ received answer ++ drop n old → is_stopped answer ≡ (n == 1)
-      → (made : Made view (Receive d None Sst answer) r s) → Unheard r s → SpokenBy k₀ d d None Sst answer made.whole.adds.came made.whole.adds.answers → Polled view d (get_or new 0 0) r s
+      → (made : Made view (Receive d None Sst answer) r s) → NoneHeard r s → SpokenBy k₀ d d None Sst answer made.whole.adds.came made.whole.adds.answers → Polled view d (get_or new 0 0) r s
   polled_by NotTaken n old new r s idle address mute legal at count few bytes stops made unheard sp = absurd (untold made.whole.adds.came made.whole.adds.answers r.drive s.drive address mute sp made.whole.adds.drive)
   polled_by (ToItsEnd p ds) n old new r s idle address mute legal at count few bytes stops made unheard sp = absurd (by ds (end_echoes p ds legal).0 n count few stops)
     where
@@ -81,7 +83,7 @@ polled view d n r old new s low at idle one got =
     let meant = meant_for (length (devices_of r)) d (drive_party r) None Sst got.answer got.asked at in
     let spoken = subst (λ q. SpokenBy (length (devices_of r)) q d None Sst got.answer got.made.whole.adds.came got.made.whole.adds.answers) (sym at) (got.spoken meant) in
     polled_by view d (length (devices_of r)) low (omega (arith, at, party.0)) (omega (arith, at, party.1)) got.answer n old new r s idle (idle_address r idle ∙ ap Some (sym at)) (idle_mute r idle) (legal_answer r d None Sst got.answer got.made.legal)
-    (subst (λ q. IfSome (talker_of got.answer) (λ p. p ≡ q)) (sym at) meant) got.count (omega (arith, one, got.within)) got.bytes (got.stops ∙ ap (λ l. n == l) one) got.made got.unheard spoken
+    (subst (λ q. IfSome (talker_of got.answer) (λ p. p ≡ q)) (sym at) meant) got.count (omega (arith, one, got.within)) got.bytes (got.stops ∙ ap (λ l. n == l) one) got.made (none_received view r s d None Sst got.answer got.made got.unheard) spoken
 
 pub not_polled : {M : Type 0} (view : M → MediumView) (d w : ℕ) (r s : RingView M) → d ≤ 30 → d ≡ drive_party r → NotReceived view d None Sst w r s → NotPolled view d r s
 not_polled view d w r s low at got =
@@ -90,7 +92,7 @@ not_polled view d w r s low at got =
     record {
       answer = got.answer;
       broken = got.broken;
-      unheard = got.unheard;
+      unheard = none_not_received view r s d None Sst got.answer got.broken got.unheard;
       drive = receive_cut view (length (devices_of r)) (drive_party r) broke.standing d None Sst got.answer broke.adds.came broke.adds.answers r.drive s.drive low tt (legal_answer r d None Sst got.answer got.broken.legal)
           (broke.brought (receive_from_here (drive_party r) d None Sst got.answer meant)) broke.adds.drive;
     }

@@ -1,18 +1,12 @@
 -- A run of records that is read: its three exchanges make one unit, and the bytes are those of the records.
-use Rattle.std.proofs.Common.{◌≡◌, ◌∙◌, ◌≤◌, ◌<◌, ◌+◌, ◌*◌, ◌/◌, ◌^◌, ◌++◌, ◌&&◌, ◌==◌, ◌⊎◌, inl, inr, ⊎_elim, ℕ, Bool, true, false, List, [], ◌∷◌, Option, Some, None, map, drop, length, refl, sym, ap, ap₂, subst, arith, length-append, append-nil}
+use Rattle.std.proofs.Common.{◌≡◌, ◌∙◌, ◌≤◌, ◌<◌, ◌+◌, ◌*◌, ◌/◌, ◌^◌, ◌++◌, ◌&&◌, ◌==◌, ◌⊎◌, inl, inr, ⊎_elim, ℕ, Bool, true, false, List, [], ◌∷◌, Option, Some, None, drop, length, refl, sym, ap, ap₂, subst, arith, length-append, append-nil}
 use Rattle.std.specs.Prelude.{IfSome, is_some}
 use Rattle.std.specs.Int.{to_be_bytes, w16}
 use Rattle.std.specs.List.{list_all}
 use Rattle.std.proofs.lemmas.Bool.{and_parts, and_from, cases_lt, eqb-true, eq-eqb, ne_eqb}
 use Rattle.std.proofs.lemmas.List.{length-map, length-drop}
 use Rattle.std.proofs.Math.Seq.{take-length, drop-length}
-use Rattle.il_frames.specs.declared.frame.Frame.{Frame}
-use Rattle.il_frames.specs.declared.entry.Entry.{Entry}
-use Rattle.il_frames.specs.declared.entry.Outcome.TheVariants as outcome
-use Rattle.il_device.specs.Takes.{eto}
-use Rattle.loop_model.specs.Entries.{entry, unt, nrd}
-use Rattle.il_frames.specs.Frames.{byte_of, class_of, same_class}
-use Rattle.il_frames.specs.declared.frame.Class.TheVariants as class
+use Rattle.il_frames.specs.Frames.{byte_of}
 use Rattle.il_poll.specs.Service.{status_byte_of}
 use Rattle.il_ports.specs.Media.{MediumView, IsMedium}
 use Rattle.lif_model.specs.Tape.{Tape, bytes_from}
@@ -24,23 +18,22 @@ use Rattle.il_drive.proofs.ExchangesAddressed.{HasSought}
 use Rattle.il_drive.proofs.Reading.{nothing_read, still_longer}
 use Rattle.loop_model.specs.Loops.{Loop}
 use Rattle.loop_model.specs.Effect.{UnitsEffect}
-use Rattle.loop_model.specs.Exchanges.{Echo, Exchange, Send, Receive, Start, Sda, Sst, Answer, NotTaken, ToItsEnd, Stopped, Piece, Whole as WholeOne, Cut, start_frame, echoed, returned, commanded, answer_entries, entries_of, is_echo, is_host_echo, is_answer, is_exchange, is_address, is_number}
+use Rattle.loop_model.specs.Exchanges.{Echo, Exchange, Send, Receive, Start, Sda, Sst, Answer, NotTaken, ToItsEnd, Stopped, Piece, Whole as WholeOne, Cut, entries_of, is_echo, is_answer}
 use Rattle.loop_model.specs.Units.{RecordUnit, units_of, ends_within, sent_bytes, sought as named_by}
 use Rattle.loop_model.proofs.EffectLaws.{ends_within-broken}
 use Rattle.loop_model.proofs.RecordLaws.{one_unit, units_of-read, units_of-read_cut, units_of-read_untold}
-use Rattle.loop_model.proofs.UnitLaws.{bytes_of, receive_front, entries_of-receive, sent_bytes-not_taken, sent_bytes-to_its_end, sent_bytes-stopped}
-use Rattle.il_ring.specs.Rings.{RingView, devices_of, drive_party, spare_of}
-use Rattle.il_control.specs.Calls.{IsIdle, Made, loop_of, Unheard}
+use Rattle.loop_model.proofs.UnitLaws.{bytes_of, sent_bytes-not_taken, sent_bytes-to_its_end, sent_bytes-stopped}
+use Rattle.il_ring.specs.Rings.{RingView, devices_of, drive_party}
+use Rattle.il_control.specs.Calls.{IsIdle, Made, loop_of}
 use Rattle.il_control.specs.Receives.{Received, NotReceived, SpokenBy, received, is_stopped, talker_of}
 use Rattle.il_record.specs.Came.{OnlyHeard, CameUnits}
 use Rattle.il_record.specs.Sends.{filled, SentAll, SendBroke}
 use Rattle.il_record.specs.Talks.{Talked}
 use Rattle.il_record.specs.Runs.{LeavesRecords, TellsStatus, ReadAll, ReadPart, Polled, NotPolled, unit, ReadBroke, ReadAs}
-use Rattle.il_control.proofs.Calls.{room_behind}
 use Rattle.il_control.proofs.Brings.{send_from_here}
 use Rattle.il_record.proofs.Cuts.{receive_cut, receive_from_here}
 use Rattle.il_record.proofs.CutSends.{seek_cut}
-use Rattle.il_record.proofs.Heard.{nothing_heard, others_then}
+use Rattle.il_record.proofs.HeardLogs.{heard_none, heard_then, none_not_received, none_received, send_echoes}
 use Rattle.il_record.proofs.Polling.{meant_for}
 use Rattle.il_record.proofs.Readings.{legal_answer, end_echoes, stop_echoes, party_within, idle_address, not_taken, to_its_end, stopped}
 use Rattle.il_record.proofs.Sends.{two_bytes, filled_exact, sought}
@@ -61,16 +54,6 @@ two_echoes [] high low are = cc
 two_echoes (c ∷ []) high low are = cc
 two_echoes (c ∷ d ∷ e ∷ ds) high low are = cc
 two_echoes (c ∷ d ∷ []) high low are = record { first = c; second = d; are = refl; high_is = cc; low_is = cc }
-
-host_echo : (d : Echo) → is_host_echo d ≡ true → is_echo d ≡ true
-host_echo d h = (and_parts (same_class (class_of d.sent) class.Dab) (is_echo d) h).1
-
-host_echoes : (ds : List Echo) → list_all is_host_echo ds ≡ true → list_all is_echo ds ≡ true
-host_echoes [] h = refl
-host_echoes (d ∷ ds) h = let both = and_parts (is_host_echo d) (list_all is_host_echo ds) h in and_from (is_echo d) (list_all is_echo ds) (host_echo d both.0) (host_echoes ds both.1)
-
-pub send_echoes : {M : Type 0} (r : RingView M) (a : ℕ) (number : Option ℕ) (ds : List Echo) → is_exchange (loop_of r) (Send a number ds) ≡ true → list_all is_echo ds ≡ true
-send_echoes r a number ds legal = host_echoes ds (and_parts (is_number number) (list_all is_host_echo ds) (and_parts (is_address a) (is_number number && list_all is_host_echo ds) legal).1).1
 
 -- the drive has sought record n
 pub record SoughtBy {M : Type 0} (view : M → MediumView) (n : ℕ) (r s : RingView M) : Type 0 where
@@ -204,11 +187,9 @@ seek_broke view bytes r s low idle so =
 pub same_party : {M : Type 0} (view : M → MediumView) (x : Exchange) (r s : RingView M) → Made view x r s → drive_party s ≡ drive_party r
 same_party view x r s made = ap (λ n. n + 1) made.whole.adds.before
 
-pub others_of : {M : Type 0} (a : ℕ) (r s : RingView M) → Unheard r s → OnlyHeard a r s
-others_of a r s none = nothing_heard a 1 (length (devices_of r)) (devices_of r) (devices_of s) none
-
-pub others_more : {M : Type 0} (a : ℕ) (r m s : RingView M) → OnlyHeard a r m → OnlyHeard a m s → OnlyHeard a r s
-others_more a r m s first more = others_then a 1 (devices_of r) (devices_of m) (devices_of s) first more
+-- no device heard anything of a receive
+pub heard_got : {M : Type 0} (view : M → MediumView) (d n : ℕ) (number : Option ℕ) (start : Start) (r a b : RingView M) (old new : List ℕ) → OnlyHeard d r a → Received view d number start n a old new b → OnlyHeard d r b
+heard_got view d n number start r a b old new first got = heard_then d r a b first (heard_none d a b (none_received view a b d number start got.answer got.made got.unheard))
 
 -- a receive of records that broke off
 pub receive_broke : {M : Type 0} (view : M → MediumView) (first w : ℕ) (r a s : RingView M) → drive_party r ≤ 30 → IsIdle r → SoughtBy view first r a → NotReceived view (drive_party r) (Some 2) Sda w a s → ReadBroke view (drive_party r) r s
@@ -227,7 +208,7 @@ receive_broke view first w r a s low idle so got =
     record {
       came = (came_still view false (WholeOne seek ∷ Cut read broke.standing broke.break ∷ []) _ r s talked (ends_within-broken (loop_of r) (WholeOne seek ∷ Cut read broke.standing broke.break ∷ []) talked.ends)
           (units_of-read_cut (loop_of r) so.high so.low got.answer broke.standing broke.break so.right_high so.right_low) (λ t. (t, refl, refl)) all.still.tape).came;
-      unheard = others_more d r a s so.unheard (others_of d a s got.unheard);
+      unheard = heard_then d r a s so.unheard (heard_none d a s (none_not_received view a s d (Some 2) Sda got.answer got.broken got.unheard));
       drive = all;
     }
 
@@ -255,7 +236,7 @@ poll_broke view k first n old new r a b s low idle so got read not =
     record {
       came = (came_still view false (WholeOne seek ∷ WholeOne transfer ∷ Cut poll broke.standing broke.break ∷ []) _ r s talked (ends_within-broken (loop_of r) (WholeOne seek ∷ WholeOne transfer ∷ Cut poll broke.standing broke.break ∷ []) talked.ends)
           (units_of-read_untold (loop_of r) so.high so.low got.answer not.answer (received got.answer) broke.standing broke.break so.right_high so.right_low (sent_received d got.answer legal (Some 2) Sda)) (λ t. (t, refl, refl)) all.still.tape).came;
-      unheard = others_more d r b s (others_more d r a b so.unheard (others_of d a b got.unheard)) (others_of d b s not.unheard);
+      unheard = heard_then d r b s (heard_got view d n (Some 2) Sda r a b old new so.unheard got) (heard_none d b s not.unheard);
       drive = all;
     }
 
@@ -325,7 +306,7 @@ read_whole view k first n byte old new r a b s idle long so got read told good i
     let left = leaves_then view r.drive a.drive s.drive (leaves_same view r.drive a.drive so.drive.medium) (leaves_then view a.drive b.drive s.drive (read_leaves view d k first n old new a.drive b.drive read) (leaves_same view b.drive s.drive told.drive.medium)) in
     let units_came = came_still view true (WholeOne seek ∷ WholeOne transfer ∷ WholeOne poll ∷ []) (unit false first (received got.answer) byte ∷ []) r s talked (outside_three (loop_of r) seek transfer poll refl refl) units (λ t. (t, refl, refl)) left.still.tape in
     let brought : n ≡ length old → new ≡ received got.answer = λ all. got.bytes ∙ ap (λ n. received got.answer ++ drop n old) all ∙ ap (λ rest. received got.answer ++ rest) (drop-length old) ∙ append-nil (received got.answer) in
-    read_ends view d k first n byte old new r a b s long so.drive read told.drive (received got.answer) brought units_came (others_more d r b s (others_more d r a b so.unheard (others_of d a b got.unheard)) (others_of d b s told.unheard)) left good is
+    read_ends view d k first n byte old new r a b s long so.drive read told.drive (received got.answer) brought units_came (heard_then d r b s (heard_got view d n (Some 2) Sda r a b old new so.unheard got) (heard_none d b s told.unheard)) left good is
 
 -- ---- for the drive's address by another name
 
@@ -369,47 +350,13 @@ module _ {M : Type 0} (view : M → MediumView) (d first k : ℕ) (r : RingView 
       subst (λ d. ReadAs view d first new good r s) (sym at)
       (read_whole view k first n byte old new r a b s idle long seek here (read_at n old new a b long seek here) (subst (λ d. Polled view d byte b s) at told) good is)
 
--- ---- parties and room on the way
+-- ---- parties on the way
 
 pub party_on : {M : Type 0} (view : M → MediumView) (d : ℕ) (number : Option ℕ) (bytes : List ℕ) (r s : RingView M) → d ≡ drive_party r → SentAll view d number bytes r s → d ≡ drive_party s
 party_on view d n bytes r s at so = at ∙ sym (same_party view _ r s so.made)
 
 pub party_behind : {M : Type 0} (view : M → MediumView) (d n : ℕ) (number : Option ℕ) (start : Start) (r : RingView M) (old new : List ℕ) (s : RingView M) → d ≡ drive_party r → Received view d number start n r old new s → d ≡ drive_party s
 party_behind view d n number start r old new s at got = at ∙ sym (same_party view _ r s got.made)
-
-front_long : (a : ℕ) (number : Option ℕ) → length (receive_front 0 a number) ≤ 6
-front_long a None = omega arith
-front_long a (Some n) = omega arith
-
-answer_long : (start : Frame) (answer : Answer) → length (answer_entries 0 start answer) ≤ length (received answer) + 4
-answer_long start NotTaken = omega arith
-answer_long start (ToItsEnd p ds) =
-    let a = length-append (map (echoed p) ds) (entry p eto (outcome.Taken 0) ∷ []) in
-    let b = length-map ds (echoed p) in
-    let c = length-map ds (λ (d : Echo). byte_of d.sent) in
-    omega (arith, a, b, c)
-answer_long start (Stopped p ds last) =
-    let a = length-append (map (echoed p) ds) (returned 0 nrd ∷ echoed p last ∷ entry p eto (outcome.Taken 0) ∷ []) in
-    let b = length-map ds (echoed p) in
-    let c = length-map ds (λ (d : Echo). byte_of d.sent) in
-    let e = length-append (bytes_of ds) (byte_of last.sent ∷ []) in
-    omega (arith, a, b, c, e)
-
--- a receive has an entry for each byte, and at most twelve more
-pub received_long : (a : ℕ) (number : Option ℕ) (start : Start) (answer : Answer) → length (entries_of 0 (Receive a number start answer)) ≤ length (received answer) + 12
-received_long a number start answer =
-    let spread = ap (λ (es : List Entry). length es) (entries_of-receive 0 a number start answer) in
-    let front = length-append (receive_front 0 a number) (answer_entries 0 (start_frame start) answer ++ commanded 0 unt) in
-    let back = length-append (answer_entries 0 (start_frame start) answer) (commanded 0 unt) in
-    let head = front_long a number in
-    let middle = answer_long (start_frame start) answer in
-    omega (arith, spread, front, back, head, middle)
-
-pub received_room : {M : Type 0} (view : M → MediumView) (a n more : ℕ) (number : Option ℕ) (start : Start) (r : RingView M) (old new : List ℕ) (s : RingView M) → Received view a number start n r old new s → n + 12 + more ≤ spare_of r → more ≤ spare_of s
-received_room view a n more number start r old new s got room =
-    let long = received_long a number start got.answer in
-    let many = got.count in
-    room_behind view r s (entries_of 0 (Receive a number start got.answer)) more got.made.whole (omega (arith, long, many, room))
 
 -- ---- whether all came
 

@@ -1,5 +1,5 @@
 -- Bytes for a device, with no command in front: the drive heeds none of them.
-use Rattle.std.proofs.Common.{◌≡◌, ◌∙◌, ◌≤◌, ◌++◌, ◌&&◌, ℕ, true, not, List, [], ◌∷◌, None, map, length, refl, sym, ap, subst}
+use Rattle.std.proofs.Common.{◌≡◌, ◌∙◌, ◌≤◌, ◌++◌, ◌&&◌, ℕ, true, not, List, [], ◌∷◌, None, map, take, length, refl, sym, ap, subst}
 use Rattle.std.specs.List.{list_all}
 use Rattle.std.proofs.lemmas.Bool.{and_parts, and_from}
 use Rattle.std.specs.Prelude.{drop}
@@ -24,7 +24,7 @@ use Rattle.il_record.proofs.Asking.{asked_broken, asked_made}
 use Rattle.il_record.proofs.CameLaws.{tape_same}
 use Rattle.il_record.proofs.Mild.{is_mild}
 use Rattle.il_record.proofs.MildCame.{echo_mild, left_by, mild_entry, mild_frame, unl_brought, unl_cut}
-use Rattle.il_record.proofs.ReadRuns.{send_echoes}
+use Rattle.il_record.proofs.HeardLogs.{send_echoes}
 use Rattle.il_record.proofs.Sends.{filled_exact}
 
 pub lad_mild : (a : ℕ) → a ≤ 30 → mild_frame (lad a) ≡ true
@@ -53,6 +53,8 @@ module _ {M : Type 0} (view : M → MediumView) (a : ℕ) (bytes : List ℕ) (r 
       record {
         came = subst (λ bytes. CameAsked view true (say_asks a bytes) r s) (so.sent ∙ take-length sent ∙ is) (asked_made view (Send a None so.ds) r s so.made refl (tape_same view r.drive s.drive drive.medium));
         heard = subst (λ bytes. EachTo (Hears a bytes) 1 (devices_of r) (devices_of s)) (take-length sent ∙ is) so.heard;
+        unheard = so.unheard;
+        by_log = λ some here. so.by_log some here ∙ take-length sent ∙ is;
         drive = drive;
       }
 
@@ -67,7 +69,11 @@ module _ {M : Type 0} (view : M → MediumView) (a : ℕ) (bytes : List ℕ) (r 
       let all : bytes ≡ bytes_of not.ds ++ rest = sym is ∙ sym (take-append-drop (length not.ds) sent) ∙ ap (λ front. front ++ rest) (sym not.sent) in
       record {
         came = asked_broken view (AskHear a None bytes) [] (Send a None not.ds) r s (rest, ap (λ bytes. AskHear a None bytes) all) not.broken (tape_same view r.drive s.drive drive.medium);
-        heard = subst (λ bytes. EachTo (HearsPart a bytes) 1 (devices_of r) (devices_of s)) is not.heard;
+        whole = not.whole;
+        within = subst (λ bytes. not.whole ≤ length bytes) is not.whole_within;
+        heard = subst (λ bytes. EachTo (HearsPart a not.whole bytes) 1 (devices_of r) (devices_of s)) is not.heard;
+        unheard = not.unheard;
+        by_log = λ some here. not.by_log some here ∙ ap (take not.whole) is;
         drive = drive;
       }
 

@@ -22,10 +22,11 @@ use Rattle.std.specs.Int.{to_be_bytes, w16}
 use Rattle.il_drive.specs.Runs.{Ran}
 use Rattle.il_drive.proofs.ExchangesAddressed.{seeks_record}
 use Rattle.loop_model.specs.Entries.{unl, rfc, lad, ddl}
-use Rattle.il_record.proofs.Heard.{nothing_heard, others_then, others_deaf, others_deaf_to_any, told_on}
+use Rattle.il_record.proofs.Heard.{others_then, others_deaf, others_deaf_to_any, told_on}
+use Rattle.il_record.proofs.HeardLogs.{heard_in_part, heard_sent, no_data_sent, none_broke, none_by, none_whole}
 use Rattle.il_control.proofs.Assigning.{EachTo}
 use Rattle.il_record.specs.Listening.{Hears}
-use Rattle.il_record.proofs.Listened.{hears_more, hears_no_part, hears_none, hears_part, unheard_of}
+use Rattle.il_record.proofs.Listened.{hears_more, hears_no_part, hears_none, hears_part}
 use Rattle.il_record.specs.Sends.{filled, SentSo, SentAll, SendBroke, Sought}
 
 -- an error that is handed on
@@ -64,15 +65,18 @@ filled_exact n bytes long = ap (λ n. take n (bytes ++ replicate n 0)) (sym long
 
 -- nothing was sent yet
 pub sent_nothing : {M : Type 0} (view : M → MediumView) (a : ℕ) (number : Option ℕ) (bytes : List ℕ) (r s : RingView M) → Made view (Send a number []) r s → Each (IsTold a) 1 (devices_of s) → AllStay (not (is_some number)) r s → SentSo view a number 0 bytes r s
-sent_nothing view a number bytes r s made told stays = record {
-  ds = [];
-  sent = refl;
-  many = refl;
-  made = made;
-  told = told;
-  unheard = nothing_heard a 1 _ (devices_of r) (devices_of s) (unheard_of (not (is_some number)) r s stays);
-  heard = hears_none a (not (is_some number)) 1 (devices_of r) (devices_of s) stays;
-}
+sent_nothing view a number bytes r s made told stays =
+    let heard = none_by a r s (none_whole view r s (entries_of 0 (Send a number [])) (no_data_sent a number) made.whole) in
+    record {
+      ds = [];
+      sent = refl;
+      many = refl;
+      made = made;
+      told = told;
+      unheard = heard.0;
+      by_log = heard.1;
+      heard = hears_none a (not (is_some number)) 1 (devices_of r) (devices_of s) stays;
+    }
 
 -- one byte more
 pub sent_more : {M : Type 0} (view : M → MediumView) (a : ℕ) (number : Option ℕ) (i byte : ℕ) (bytes : List ℕ) (r m s : RingView M) → IsIdle r → i < length bytes → byte ≡ get_or bytes i 0 → SentSo view a number i bytes r m → Sent view byte m s → SentSo view a number (i + 1) bytes r s
@@ -80,16 +84,18 @@ sent_more view a number i byte bytes r m s idle within is so sent =
     let d : Echo = sent_as byte sent.back in
     let up : i + 1 ≡ suc i = omega arith in
     let next : take i bytes ++ byte ∷ [] ≡ take (i + 1) bytes = ap (λ byte. take i bytes ++ byte ∷ []) is ∙ sym (take_more bytes i within) ∙ ap (λ k. take k bytes) (sym up) in
+    let all : bytes_of (so.ds ++ d ∷ []) ≡ take (i + 1) bytes = map-append (λ (d : Echo). byte_of d.sent) so.ds (d ∷ []) ∙ ap (λ bytes. bytes ++ byte ∷ []) so.sent ∙ next in
+    let made = send_more view a number so.ds byte r m s idle so.made sent in
+    let others = others_then a 1 (devices_of r) (devices_of m) (devices_of s) so.unheard.unheard (others_deaf byte a 1 _ (devices_of m) (devices_of s) so.told sent.heard) in
+    let heard = heard_sent view a r s number (so.ds ++ d ∷ []) (take (i + 1) bytes) idle all made others in
     record {
       ds = so.ds ++ d ∷ [];
-      sent =
-          map-append (λ (d : Echo). byte_of d.sent) so.ds (d ∷ [])
-          ∙ ap (λ bytes. bytes ++ byte ∷ []) so.sent
-          ∙ next;
+      sent = all;
       many = length-append so.ds (d ∷ []) ∙ ap (λ k. k + 1) so.many;
-      made = send_more view a number so.ds byte r m s idle so.made sent;
+      made = made;
       told = told_on byte a 1 _ (devices_of m) (devices_of s) so.told sent.heard;
-      unheard = others_then a 1 (devices_of r) (devices_of m) (devices_of s) so.unheard (others_deaf byte a 1 _ (devices_of m) (devices_of s) so.told sent.heard);
+      unheard = heard.0;
+      by_log = heard.1;
       heard = subst (λ bytes. EachTo (Hears a bytes) 1 (devices_of r) (devices_of s)) next (hears_more a byte (take i bytes) 1 (devices_of r) (devices_of m) (devices_of s) so.heard so.told sent.heard);
     }
 
@@ -104,6 +110,7 @@ send_broke view a number i byte bytes r m s idle within is so not_sent =
     let long = length-append so.ds (d ∷ []) in
     let many = so.many in
     let up : length (so.ds ++ d ∷ []) ≡ suc i = omega (arith, long, many) in
+    let heard = heard_in_part view a byte (take i bytes) r m s (so.unheard, so.by_log) not_sent (others_deaf_to_any a 1 not_sent.reached (devices_of m) (devices_of s) so.told not_sent.heard) in
     record {
       ds = so.ds ++ d ∷ [];
       sent =
@@ -114,20 +121,28 @@ send_broke view a number i byte bytes r m s idle within is so not_sent =
           ∙ ap (λ k. take k bytes) (sym up);
       within = omega (arith, up, within);
       broken = send_breaks view a number so.ds byte r m s idle so.made not_sent;
-      unheard = others_then a 1 (devices_of r) (devices_of m) (devices_of s) so.unheard (others_deaf_to_any a 1 not_sent.reached (devices_of m) (devices_of s) so.told not_sent.heard);
-      heard = hears_part a i bytes (omega (arith, within)) 1 not_sent.reached (devices_of r) (devices_of m) (devices_of s) so.heard so.told not_sent.heard;
+      whole = i;
+      whole_within = omega (arith, within);
+      unheard = heard.0;
+      by_log = heard.1;
+      heard = hears_part a i bytes 1 not_sent.reached (devices_of r) (devices_of m) (devices_of s) so.heard so.told not_sent.heard;
     }
 
 -- it broke off before the first byte
 pub send_broke_first : {M : Type 0} (view : M → MediumView) (a : ℕ) (number : Option ℕ) (bytes : List ℕ) (r s : RingView M) → BrokenOff view (Send a number []) r s → AllStay (not (is_some number)) r s → SendBroke view a number bytes r s
-send_broke_first view a number bytes r s broken stays = record {
-  ds = [];
-  sent = refl;
-  within = omega arith;
-  broken = broken;
-  unheard = nothing_heard a 1 _ (devices_of r) (devices_of s) (unheard_of (not (is_some number)) r s stays);
-  heard = hears_no_part a (not (is_some number)) bytes 1 (devices_of r) (devices_of s) stays;
-}
+send_broke_first view a number bytes r s broken stays =
+    let heard = none_by a r s (none_broke view r s (entries_of 0 (Send a number [])) (no_data_sent a number) broken.broke) in
+    record {
+      ds = [];
+      sent = refl;
+      within = omega arith;
+      broken = broken;
+      whole = 0;
+      whole_within = omega arith;
+      unheard = heard.0;
+      by_log = heard.1;
+      heard = hears_no_part a (not (is_some number)) bytes 1 (devices_of r) (devices_of s) stays;
+    }
 
 -- the room that is left
 pub sent_room : {M : Type 0} (view : M → MediumView) (a : ℕ) (number : Option ℕ) (i more : ℕ) (bytes : List ℕ) (r s : RingView M) → SentSo view a number i bytes r s → i + 6 + more ≤ spare_of r → more ≤ spare_of s

@@ -17,7 +17,7 @@ use Rattle.loop_model.proofs.EffectLaws.{units_of-append, UnitsEffect-append, en
 use Rattle.loop_model.proofs.ReachLaws.{length-met}
 use Rattle.il_ring.specs.Outcomes.{met_between}
 use Rattle.il_ring.specs.Plans.{hops_of}
-use Rattle.il_ring.specs.Rings.{RingView, IsRing, devices_of, drive_party, spare_of}
+use Rattle.il_ring.specs.Rings.{RingView, IsRing, drive_party, spare_of}
 use Rattle.il_ring.proofs.Faults.{risen_by_later}
 use Rattle.il_control.specs.Calls.{IsFree, loop_of}
 use Rattle.il_record.specs.declared.records.Since.{Since}
@@ -25,7 +25,7 @@ use Rattle.il_record.specs.declared.records.Since.TheVariants as since
 use Rattle.il_record.specs.Came.{OnlyHeard, CameBy, CameUnits}
 use Rattle.il_record.specs.LoopStores.{CameBad, CameGood, all_good, Stood, StoodBy, Transferred, calls_in, crossed_hops, is_broken, since_frame, since_medium, since_said}
 use Rattle.il_record.specs.Talks.{Talked, all_entries}
-use Rattle.il_record.proofs.Heard.{others_then}
+use Rattle.il_record.proofs.HeardLogs.{heard_then}
 use Rattle.il_record.proofs.Talks.{talked_then, same_loop}
 
 -- ---- one behind the other
@@ -63,9 +63,6 @@ party_stays : {M : Type 0} (view : M → MediumView) (whole : Bool) (r s : RingV
 party_stays view whole r s came = ap (λ n. n + 1) came.talked.adds.before
 
 -- ---- what stood
-
-pub heard_then : {M : Type 0} (d : ℕ) (r m s : RingView M) → OnlyHeard d r m → OnlyHeard d m s → OnlyHeard d r s
-heard_then d r m s first more = others_then d 1 (devices_of r) (devices_of m) (devices_of s) first more
 
 heard : {M : Type 0} (view : M → MediumView) (start r s : RingView M) → OnlyHeard (drive_party start) start r → OnlyHeard (drive_party r) r s → CameBy view true start r → OnlyHeard (drive_party start) start s
 heard view start r s before unheard came = heard_then (drive_party start) start r s before (subst (λ d. OnlyHeard d r s) (party_stays view true start r came) unheard)

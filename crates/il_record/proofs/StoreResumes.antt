@@ -26,7 +26,8 @@ use Rattle.il_record.specs.Polls.{MayPoll}
 use Rattle.il_record.specs.Runs.{Cleared, Interrupted, Readied, clear_asks}
 use Rattle.il_record.proofs.Places.{kept_stays, may_poll_kept}
 use Rattle.il_record.proofs.ReadRuns.{leaves_then, leaves_same}
-use Rattle.il_record.proofs.StoreCalls.{came_then, came_then_units, heard_then}
+use Rattle.il_record.proofs.HeardLogs.{heard_then}
+use Rattle.il_record.proofs.StoreCalls.{came_then, came_then_units}
 use Rattle.il_record.proofs.StoreStarts.{IsStart, begun, resumed_ok, resumed_not, resumed_sound}
 
 -- an answer that is handed on

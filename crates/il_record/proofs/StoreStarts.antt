@@ -18,7 +18,7 @@ use Rattle.il_record.specs.declared.records.Since.{Since}
 use Rattle.il_record.specs.declared.records.Since.TheVariants as since
 use Rattle.il_record.specs.Came.{OnlyHeard, CameUnits}
 use Rattle.il_record.specs.LoopStores.{LoopView, Standing, Nowhere, Addresses, AtIdle, AtLost, Addressed, NotAddressed, since_more, since_frame, FromStart, IsEmptied, Stood, Transferred, calls_in, is_broken, is_unbroken, most_resumes, over_ring, view_at}
-use Rattle.il_record.proofs.Heard.{others_same}
+use Rattle.il_record.proofs.HeardLogs.{heard_same}
 use Rattle.il_record.proofs.StoreCalls.{stood_whole, stood_frame, transferred_then, frames_same, frames_rose, calls_less}
 use Rattle.il_record.proofs.StoreRuns.{from_start}
 
@@ -118,7 +118,7 @@ emptied_is {M} seen (Some a) (Some b) r one two = subst (λ (r : RingView M). se
 nothing_since : {M S : Type 0} (view : M → MediumView) (seen : S → RingView M) (q : Option S) (s : RingView M) → IsFreeRing s → IsStart seen q s → FromStart seen q (λ start. Stood view since.Unbroken start s)
 nothing_since view seen None s free is = absurd is
 nothing_since {M} view seen (Some b) s free is =
-    subst (λ (start : RingView M). Stood view since.Unbroken start s) (sym is) (record { free = free; unheard = λ none. others_same (drive_party s) 1 (devices_of s); by = inl refl })
+    subst (λ (start : RingView M). Stood view since.Unbroken start s) (sym is) (record { free = free; unheard = λ none. heard_same (drive_party s) s; by = inl refl })
 
 module _ {M S : Type 0} (view : M → MediumView) (seen : S → RingView M) (p q : Option S) (sound : Bool) (log : Since) (resumes : ℕ) (valid_old valid_new : Type 0) (r : RingView M) (free : IsFreeRing r) (here : IsStart seen p r) (there : IsStart seen q (cleared r)) where
   pub begun : valid_new → Begun (over_ring view seen p valid_old sound log resumes r) (over_ring view seen q valid_new sound since.Unbroken 0 (cleared r))

@@ -1,19 +1,22 @@
 -- How much room of the log exchanges take.
-use Rattle.std.proofs.Common.{◌≡◌, ◌≤◌, ◌+◌, ℕ, suc, true, [], ◌∷◌, List, length, Option, None, ap, arith, length-append}
+use Rattle.std.proofs.Common.{◌≡◌, ◌≤◌, ◌+◌, ◌++◌, ℕ, suc, true, [], ◌∷◌, List, length, map, Option, Some, None, ap, arith, length-append}
 use Rattle.std.proofs.lemmas.Bool.{eqb-true, leb-true}
 use Rattle.std.proofs.lemmas.List.{length-map}
 use Rattle.il_frames.specs.Frames.{byte_of}
 use Rattle.il_frames.specs.declared.frame.Frame.{Frame}
 use Rattle.il_frames.specs.declared.entry.Entry.{Entry}
+use Rattle.il_frames.specs.declared.entry.Outcome.TheVariants as outcome
+use Rattle.il_device.specs.Takes.{eto}
 use Rattle.il_ports.specs.Media.{MediumView}
-use Rattle.loop_model.specs.Exchanges.{Answer, NotTaken, ToItsEnd, Stopped, Echo, Exchange, Command, Send, Receive, Start, cut_at, entries_of}
-use Rattle.loop_model.proofs.UnitLaws.{bytes_of, length-send, length-cut}
+use Rattle.loop_model.specs.Entries.{entry, unt, nrd}
+use Rattle.loop_model.specs.Exchanges.{Answer, NotTaken, ToItsEnd, Stopped, Echo, Exchange, Command, Send, Receive, Start, answer_entries, commanded, cut_at, echoed, entries_of, returned, start_frame}
+use Rattle.loop_model.proofs.UnitLaws.{bytes_of, entries_of-receive, length-send, length-cut, receive_front}
 use Rattle.il_ring.specs.Adds.{Adds}
 use Rattle.il_ring.specs.Rings.{RingView, devices_of, spare_of}
 use Rattle.il_control.specs.Calls.{Made, BrokenOff, Resumed, NotResumed, addressing}
+use Rattle.il_control.proofs.Calls.{room_behind}
 use Rattle.il_control.specs.Receives.{Received, NotReceived, received, fits}
 use Rattle.il_record.specs.Sends.{SentAll, SendBroke}
-use Rattle.il_record.proofs.ReadRuns.{received_long}
 
 -- n entries at most
 used : {M : Type 0} (view : M → MediumView) (r s : RingView M) (a b : Option ℕ) (es : List Entry) (n : ℕ) → Adds view r a es b s → length es ≤ n → spare_of r ≤ spare_of s + n
@@ -35,6 +38,42 @@ broken_used view x n r s not few =
 -- one behind the other
 pub used_on : (r m s first more n : ℕ) → r ≤ m + first → m ≤ s + more → first + more ≤ n → r ≤ s + n
 used_on r m s first more n one two few = omega (arith, one, two, few)
+
+-- ---- a receive
+
+front_long : (a : ℕ) (number : Option ℕ) → length (receive_front 0 a number) ≤ 6
+front_long a None = omega arith
+front_long a (Some n) = omega arith
+
+answer_long : (start : Frame) (answer : Answer) → length (answer_entries 0 start answer) ≤ length (received answer) + 4
+answer_long start NotTaken = omega arith
+answer_long start (ToItsEnd p ds) =
+    let a = length-append (map (echoed p) ds) (entry p eto (outcome.Taken 0) ∷ []) in
+    let b = length-map ds (echoed p) in
+    let c = length-map ds (λ (d : Echo). byte_of d.sent) in
+    omega (arith, a, b, c)
+answer_long start (Stopped p ds last) =
+    let a = length-append (map (echoed p) ds) (returned 0 nrd ∷ echoed p last ∷ entry p eto (outcome.Taken 0) ∷ []) in
+    let b = length-map ds (echoed p) in
+    let c = length-map ds (λ (d : Echo). byte_of d.sent) in
+    let e = length-append (bytes_of ds) (byte_of last.sent ∷ []) in
+    omega (arith, a, b, c, e)
+
+-- a receive has an entry for each byte, and at most twelve more
+pub received_long : (a : ℕ) (number : Option ℕ) (start : Start) (answer : Answer) → length (entries_of 0 (Receive a number start answer)) ≤ length (received answer) + 12
+received_long a number start answer =
+    let spread = ap (λ (es : List Entry). length es) (entries_of-receive 0 a number start answer) in
+    let front = length-append (receive_front 0 a number) (answer_entries 0 (start_frame start) answer ++ commanded 0 unt) in
+    let back = length-append (answer_entries 0 (start_frame start) answer) (commanded 0 unt) in
+    let head = front_long a number in
+    let middle = answer_long (start_frame start) answer in
+    omega (arith, spread, front, back, head, middle)
+
+pub received_room : {M : Type 0} (view : M → MediumView) (a n more : ℕ) (number : Option ℕ) (start : Start) (r : RingView M) (old new : List ℕ) (s : RingView M) → Received view a number start n r old new s → n + 12 + more ≤ spare_of r → more ≤ spare_of s
+received_room view a n more number start r old new s got room =
+    let long = received_long a number start got.answer in
+    let many = got.count in
+    room_behind view r s (entries_of 0 (Receive a number start got.answer)) more got.made.whole (omega (arith, long, many, room))
 
 -- ---- calls
 

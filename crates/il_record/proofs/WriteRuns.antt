@@ -42,7 +42,8 @@ use Rattle.il_record.proofs.Cuts.{counts_up}
 use Rattle.il_record.proofs.CutSends.{CutSend, InFront, InData, CutData, cut_send, send_front, none_sent, some_sent, cut_within}
 use Rattle.il_record.proofs.Pieces.{cut_filled, bytes_filled, all_of, full_of}
 use Rattle.il_record.proofs.Readings.{legal_answer}
-use Rattle.il_record.proofs.ReadRuns.{SoughtBy, sought_by, send_echoes, seek_broke, others_of, others_more, outside_three, leaves_same, sent_received, talked_three, count_same}
+use Rattle.il_record.proofs.HeardLogs.{heard_none, heard_then, send_echoes}
+use Rattle.il_record.proofs.ReadRuns.{SoughtBy, sought_by, seek_broke, outside_three, leaves_same, sent_received, talked_three, count_same}
 use Rattle.il_record.proofs.Sends.{length-filled}
 use Rattle.il_record.proofs.Talks.{made_talked, broken_talked, talked_then}
 
@@ -215,7 +216,7 @@ module _ {M : Type 0} (view : M → MediumView) (c first : ℕ) (sent : List ℕ
       record {
         came = (came_by view false (WholeOne seek_exchange ∷ Cut (Send drive (Some 2) ds) m b ∷ []) [] r s talked (ends_within-broken (loop_of r) (WholeOne seek_exchange ∷ Cut (Send drive (Some 2) ds) m b ∷ []) talked.ends)
             (units_of-write_unbegun (loop_of r) so.high so.low ds m b so.right_high so.right_low (none_sent m drive 2 ds b few)) (λ t told. (t, left.still.tape ∙ before ∙ told, refl))).came;
-        unheard = others_more drive r a s so.unheard unheard;
+        unheard = heard_then drive r a s so.unheard unheard;
         left = from_before view first all r.drive a.drive s.drive so.drive.medium (wrote_nothing view first all a.drive s.drive left);
       }
   write_broke_by m b ds came outs s (InData i fs place are cut) talked within ran legal bytes less unheard =
@@ -229,7 +230,7 @@ module _ {M : Type 0} (view : M → MediumView) (c first : ℕ) (sent : List ℕ
             (units_of-write_cut (loop_of r) so.high so.low ds m b (take (suc i) (bytes_of ds)) so.right_high so.right_low (ap (λ m. sent_bytes (cut_at (entries_of 0 (Send drive (Some 2) ds)) m b)) place ∙ some_sent i drive 2 ds b legal here) (omega (arith, so_far))
             ∙ (λ j. one_unit (loop_of r) true (so.named j) (take (suc i) (bytes_of ds)) None ∷ []))
             (λ t told. let u = broke.stand t (before ∙ told) in (u.0, u.1, bad_unit first (take (suc i) (bytes_of ds)) None t u.0 refl u.2))).came;
-        unheard = others_more drive r a s so.unheard unheard;
+        unheard = heard_then drive r a s so.unheard unheard;
         left = from_before view first all r.drive a.drive s.drive so.drive.medium broke.left;
       }
 
@@ -264,7 +265,7 @@ module _ {M : Type 0} (view : M → MediumView) (c first : ℕ) (sent : List ℕ
             (units_of-write_untold (loop_of r) so.high so.low whole.ds not.answer broke.standing broke.break so.right_high so.right_low legal (let n = ap (λ (bytes : List ℕ). length bytes) bytes in omega (arith, n, long, some))
             ∙ (λ j. one_unit (loop_of r) true (so.named j) (bytes j) None ∷ []))
             (λ t told. let u = left.stand t (before ∙ told) in (u.0, u.1, bad_unit first sent None t u.0 refl (subst (λ ps. PartlyReplaced first ps t u.0) (sym (full_of c sent long)) u.2)))).came;
-        unheard = others_more drive r b s (others_more drive r a b so.unheard whole.unheard) (others_of drive b s not.unheard);
+        unheard = heard_then drive r b s (heard_then drive r a b so.unheard whole.unheard) (heard_none drive b s not.unheard);
         left = from_before view first all r.drive a.drive s.drive so.drive.medium left;
       }
 
@@ -291,7 +292,7 @@ module _ {M : Type 0} (view : M → MediumView) (c first : ℕ) (sent : List ℕ
       let put = sent_out view c first sent r a low idle so medium fits room long b whole in
       let left = left_of view c first sent r a low idle so medium fits room long b whole in
       let behind = from_before view first all r.drive a.drive s.drive so.drive.medium (partly_still view first all a.drive b.drive s.drive left (leaves_same view b.drive s.drive told.drive.medium)) in
-      let unheard = others_more drive r b s (others_more drive r a b so.unheard whole.unheard) (others_of drive b s told.unheard) in
+      let unheard = heard_then drive r b s (heard_then drive r a b so.unheard whole.unheard) (heard_none drive b s told.unheard) in
       let after : (view s.drive.medium).tape ≡ (view b.drive.medium).tape = ap (λ m. (view m).tape) told.drive.medium in
       let count_before = count_same view r.drive a.drive so.drive.medium in
       let count_behind = count_same view b.drive s.drive told.drive.medium in

@@ -1,12 +1,15 @@
 -- What exchanges one behind the other made of a ring and of the tape in its drive.
-use Rattle.std.specs.Prelude.{◌≡◌, ◌≢◌, ◌+◌, ℕ, Bool, false, List, [], ◌∷◌, Some}
+use Rattle.std.specs.Prelude.{◌≡◌, ◌≢◌, ◌≤◌, ◌+◌, ◌++◌, ℕ, Bool, false, List, [], ◌∷◌, length, Some}
 use Rattle.lif_model.specs.Tape.{Tape}
+use Rattle.il_frames.specs.declared.entry.Entry.{Entry}
 use Rattle.il_device.specs.State.{DeviceState}
 use Rattle.il_ports.specs.Media.{MediumView}
 use Rattle.loop_model.specs.Effect.{UnitsEffect}
 use Rattle.loop_model.specs.Exchanges.{Piece}
+use Rattle.loop_model.specs.Hearing.{heard_by}
+use Rattle.loop_model.specs.Roles.{roles_after}
 use Rattle.loop_model.specs.Units.{RecordUnit, units_of, ends_within}
-use Rattle.il_ring.specs.Rings.{RingView, devices_of}
+use Rattle.il_ring.specs.Rings.{RingView, devices_of, roles_of}
 use Rattle.il_ring.specs.Outcomes.{HearsNothing}
 use Rattle.il_control.specs.Calls.{loop_of}
 use Rattle.il_record.specs.Talks.{Talked}
@@ -26,9 +29,24 @@ pub record CameBy {M : Type 0} (view : M → MediumView) (whole : Bool) (r s : R
   pub outside : ends_within (loop_of r) pieces ≡ false
   pub effect : (t : Tape) → (view r.drive.medium).tape ≡ Some t → (u : Tape) × ((view s.drive.medium).tape ≡ Some u) × UnitsEffect (units_of (loop_of r) pieces) t u
 
--- no device but party a heard anything
-abbrev pub OnlyHeard : {M : Type 0} → ℕ → RingView M → RingView M → Type 0
-OnlyHeard a r s = OthersUnheard a 1 (devices_of r) (devices_of s)
+-- what party k heard of these entries, which the log of the ring r gained: the data bytes that came to it, as they were sent, while it
+-- listened
+abbrev pub heard_on : {M : Type 0} → RingView M → ℕ → List Entry → List ℕ
+heard_on r k entries = heard_by (length (devices_of r)) k (roles_of (devices_of r)) entries
+
+-- No device but party a heard anything. The log tells the same: of the entries that it gained, which give the roles too, no other party
+-- heard anything.
+pub record OnlyHeard {M : Type 0} (a : ℕ) (r s : RingView M) : Type 0 where
+  pub unheard : OthersUnheard a 1 (devices_of r) (devices_of s)
+  pub entries : List Entry
+  pub log : s.books.log ≡ r.books.log ++ entries
+  pub roles : roles_of (devices_of s) ≡ roles_after (roles_of (devices_of r)) entries
+  pub size : length (devices_of s) ≡ length (devices_of r)
+  pub by_log : (k : ℕ) → 1 ≤ k → k ≤ length (devices_of r) → k ≢ a → heard_on r k entries ≡ []
+
+-- no device heard anything: none is party 0
+abbrev pub NoneHeard : {M : Type 0} → RingView M → RingView M → Type 0
+NoneHeard r s = OnlyHeard 0 r s
 
 -- with these units
 pub record CameUnits {M : Type 0} (view : M → MediumView) (whole : Bool) (units : List RecordUnit) (r s : RingView M) : Type 0 where

@@ -22,10 +22,8 @@ pub record HearsBytes (bytes : List ℕ) (d e : DeviceState) : Type 0 where
   pub room : e.room ≡ d.room
   pub accessory : e.accessory ≡ d.accessory
 
--- the first ones of these bytes, and then at most one byte of any value
-pub record HearsInPart (bytes : List ℕ) (d e : DeviceState) : Type 0 where
-  pub whole : ℕ
-  pub within : whole ≤ length bytes
+-- the first `whole` of these bytes, and then at most one byte of any value
+pub record HearsInPart (whole : ℕ) (bytes : List ℕ) (d e : DeviceState) : Type 0 where
   pub more : List ℕ
   pub few : length more ≤ 1
   pub heard : HearsBytes (take whole bytes ++ more) d e
@@ -34,5 +32,5 @@ pub record HearsInPart (bytes : List ℕ) (d e : DeviceState) : Type 0 where
 abbrev pub Hears : ℕ → List ℕ → ℕ → DeviceState → DeviceState → Type 0
 Hears a bytes k d e = KeepsPlace d e × MatchBool (k == a) (HearsBytes bytes d e) (HearsNothing d e)
 
-abbrev pub HearsPart : ℕ → List ℕ → ℕ → DeviceState → DeviceState → Type 0
-HearsPart a bytes k d e = KeepsPlace d e × MatchBool (k == a) (HearsInPart bytes d e) (HearsNothing d e)
+abbrev pub HearsPart : ℕ → ℕ → List ℕ → ℕ → DeviceState → DeviceState → Type 0
+HearsPart a whole bytes k d e = KeepsPlace d e × MatchBool (k == a) (HearsInPart whole bytes d e) (HearsNothing d e)

@@ -1,5 +1,5 @@
 -- Calls over the loop that move no record: accessory IDs, the parallel poll, and bytes for a printer.
-use Rattle.std.specs.Prelude.{◌≡◌, ◌≤◌, ◌+◌, ◌-◌, ℕ, Bool, true, false, List, [], ◌∷◌, length, map, Option, None}
+use Rattle.std.specs.Prelude.{◌≡◌, ◌≤◌, ◌+◌, ◌-◌, ℕ, Bool, true, false, List, [], ◌∷◌, length, take, map, Option, None}
 use Rattle.il_device.specs.State.{DeviceState}
 use Rattle.il_ports.specs.Media.{MediumView}
 use Rattle.il_drive.specs.State.{DriveView, status_of}
@@ -9,6 +9,7 @@ use Rattle.il_control.specs.Calls.{AllStay}
 use Rattle.il_control.specs.Receives.{accessory_at}
 use Rattle.il_control.proofs.Assigning.{EachTo}
 use Rattle.il_record.specs.Asks.{Ask, AskTell, AskHear, CameAsked, up_to}
+use Rattle.il_record.specs.Came.{NoneHeard, OnlyHeard, heard_on}
 use Rattle.il_record.specs.Listening.{Hears, HearsPart}
 
 -- What such a call leaves of the drive, whole or broken off: its status and its medium. Where it does not talk it sends nothing.
@@ -23,10 +24,11 @@ pub record LeavesDrive {M : Type 0} (v w : DriveView M) : Type 0 where
 abbrev pub id_asks : ℕ → List Ask
 id_asks a = AskTell a None Sai ∷ []
 
--- This was asked for, and came whole or broken off. No device heard anything, and each has its place in the poll.
+-- This was asked for, and came whole or broken off. No device heard anything, by the log too, and each has its place in the poll.
 pub record LeftAlone {M : Type 0} (view : M → MediumView) (whole : Bool) (asks : List Ask) (r s : RingView M) : Type 0 where
   pub came : CameAsked view whole asks r s
   pub stays : AllStay false r s
+  pub unheard : NoneHeard r s
   pub drive : LeavesDrive r.drive s.drive
 
 -- the device of that address told its accessory ID, or there is none that has one
@@ -50,14 +52,22 @@ pub record AllNamed {M : Type 0} (view : M → MediumView) (ids : List (Option �
 abbrev pub say_asks : ℕ → List ℕ → List Ask
 say_asks a bytes = AskHear a None bytes ∷ []
 
--- the device of that address heard these bytes, and no other device anything
+-- The device of that address heard these bytes, and no other device anything. The log tells the same: of the entries that it gained the
+-- device heard exactly these bytes.
 pub record Said {M : Type 0} (view : M → MediumView) (a : ℕ) (bytes : List ℕ) (r s : RingView M) : Type 0 where
   pub came : CameAsked view true (say_asks a bytes) r s
   pub heard : EachTo (Hears a bytes) 1 (devices_of r) (devices_of s)
+  pub unheard : OnlyHeard a r s
+  pub by_log : 1 ≤ a → a ≤ length (devices_of r) → heard_on r a unheard.entries ≡ bytes
   pub drive : LeavesDrive r.drive s.drive
 
--- that was broken off
+-- That was broken off. Of the entries that the log gained the device heard so many bytes, whole, the first ones. It did hear these, and
+-- then at most one byte of any value; no other device heard anything.
 pub record NotSaid {M : Type 0} (view : M → MediumView) (a : ℕ) (bytes : List ℕ) (r s : RingView M) : Type 0 where
   pub came : CameAsked view false (say_asks a bytes) r s
-  pub heard : EachTo (HearsPart a bytes) 1 (devices_of r) (devices_of s)
+  pub whole : ℕ
+  pub within : whole ≤ length bytes
+  pub heard : EachTo (HearsPart a whole bytes) 1 (devices_of r) (devices_of s)
+  pub unheard : OnlyHeard a r s
+  pub by_log : 1 ≤ a → a ≤ length (devices_of r) → heard_on r a unheard.entries ≡ take whole bytes
   pub drive : LeavesDrive r.drive s.drive

@@ -88,7 +88,7 @@ StoodBy view since.Said r s = CameBy view true r s
 StoodBy view since.SaidBroken r s = CameBy view false r s
 
 -- The ring r, on which no frame was held, became s since the log was emptied. Where bytes were sent to no other device, none but the
--- drive heard anything.
+-- drive heard anything, by the log too.
 pub record Stood {M : Type 0} (view : M → MediumView) (log : Since) (r s : RingView M) : Type 0 where
   pub free : IsFreeRing r
   pub unheard : has_said log ≡ false → OnlyHeard (drive_party r) r s

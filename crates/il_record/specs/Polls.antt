@@ -15,6 +15,7 @@ use Rattle.il_ring.specs.Rings.{RingView, devices_of, spare_of}
 use Rattle.il_control.specs.Calls.{idy}
 use Rattle.il_control.proofs.Assigning.{EachTo, GivenPlace, ppe}
 use Rattle.il_record.specs.Asks.{Ask, AskCommand, AskIdentify, CameAsked, up_to}
+use Rattle.il_record.specs.Came.{NoneHeard}
 use Rattle.il_record.specs.LoopCalls.{LeavesDrive}
 
 -- parallel poll unconfigure
@@ -66,18 +67,20 @@ poll_asks n = up_to place_asks (min n 8) ++ collect_asks
 
 -- ---- the poll
 
--- it was made, and this came back
+-- it was made, and this came back; no device heard anything
 pub record HasPolled {M : Type 0} (view : M → MediumView) (f : Frame) (r s : RingView M) : Type 0 where
   pub frame : f ≡ polled_along 1 (devices_of r) idy
   pub came : CameAsked view true (poll_asks (length (devices_of r))) r s
   pub released : EachTo Released 1 (devices_of r) (devices_of s)
+  pub unheard : NoneHeard r s
   pub drive : LeavesDrive r.drive s.drive
   pub room : spare_of r ≤ spare_of s + 53
 
--- what was asked for was broken off, and took n entries of the log at most
+-- what was asked for was broken off, and took n entries of the log at most; no device heard anything
 pub record PollBroke {M : Type 0} (view : M → MediumView) (n : ℕ) (asks : List Ask) (r s : RingView M) : Type 0 where
   pub came : CameAsked view false asks r s
   pub devices : EachTo PollsOn 1 (devices_of r) (devices_of s)
+  pub unheard : NoneHeard r s
   pub drive : LeavesDrive r.drive s.drive
   pub room : spare_of r ≤ spare_of s + n
 
@@ -87,6 +90,7 @@ pub record PollBroke {M : Type 0} (view : M → MediumView) (n : ℕ) (asks : Li
 pub record Assigned {M : Type 0} (view : M → MediumView) (a : ℕ) (r s : RingView M) : Type 0 where
   pub came : CameAsked view true (place_asks a) r s
   pub given : EachTo (GivenPlace a (7 + a)) 1 (devices_of r) (devices_of s)
+  pub unheard : NoneHeard r s
   pub drive : LeavesDrive r.drive s.drive
   pub room : spare_of r ≤ spare_of s + 6
 
@@ -95,5 +99,6 @@ pub record Collected {M : Type 0} (view : M → MediumView) (f : Frame) (r s : R
   pub frame : f ≡ identified_along (devices_of r) idy
   pub came : CameAsked view true collect_asks r s
   pub released : EachTo Released 1 (devices_of r) (devices_of s)
+  pub unheard : NoneHeard r s
   pub drive : LeavesDrive r.drive s.drive
   pub room : spare_of r ≤ spare_of s + 5

@@ -17,9 +17,9 @@ use Rattle.loop_model.specs.Entries.{aau, ifc, lad, unl}
 use Rattle.loop_model.specs.Exchanges.{Answer, Echo, Stopped, Receive, Sst}
 use Rattle.loop_model.specs.Units.{RecordUnit}
 use Rattle.il_ring.specs.Rings.{RingView, drive_party}
-use Rattle.il_control.specs.Calls.{AllStay, IsIdle, Made, BrokenOff, Unheard}
+use Rattle.il_control.specs.Calls.{AllStay, IsIdle, Made, BrokenOff}
 use Rattle.il_record.specs.Asks.{Ask, AskAddresses, AskCommand, CameAsked}
-use Rattle.il_record.specs.Came.{OnlyHeard, CameBy, CameUnits}
+use Rattle.il_record.specs.Came.{NoneHeard, OnlyHeard, CameBy, CameUnits}
 use Rattle.il_record.specs.Polls.{PlacesKept}
 
 -- ---- what the drive did, which has address d
@@ -94,19 +94,19 @@ pub record Cleared {M : Type 0} (view : M → MediumView) (d : ℕ) (r s : RingV
 
 -- ---- the status
 
--- the drive was asked for its status, and told this byte
+-- the drive was asked for its status, and told this byte; no device heard anything
 pub record Polled {M : Type 0} (view : M → MediumView) (d byte : ℕ) (r s : RingView M) : Type 0 where
   pub echo : Echo
   pub byte_is : byte ≡ byte_of echo.sent
   pub made : Made view (Receive d None Sst (Stopped d [] echo)) r s
-  pub unheard : Unheard r s
+  pub unheard : NoneHeard r s
   pub drive : TellsStatus d byte r.drive s.drive
 
--- that was broken off
+-- that was broken off; no device heard anything
 pub record NotPolled {M : Type 0} (view : M → MediumView) (d : ℕ) (r s : RingView M) : Type 0 where
   pub answer : Answer
   pub broken : BrokenOff view (Receive d None Sst answer) r s
-  pub unheard : Unheard r s
+  pub unheard : NoneHeard r s
   pub drive : LeavesRecords view r.drive s.drive
 
 -- ---- a read

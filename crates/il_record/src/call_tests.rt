@@ -211,11 +211,24 @@ fn with_printer(
     Ok(records)
 }
 
+/// Sends bytes to the printer.
+fn say(
+    rt: &impl Abort,
+    records: &mut LoopRecords<MemoryMedium>,
+    bytes: &[u8],
+) -> Result<(), Trouble>
+    requires { (⟦<LoopRecords<MemoryMedium> as Records>⟧.view records.old).valid }
+    ensures { (⟦<LoopRecords<MemoryMedium> as Records>⟧.view records.new).valid }
+{
+    assert!(rt; bytes.len() <= 8200);
+    assert!(rt; records.is_ready() && records.ring().spare() >= bytes.len() + 1000);
+    records.say(2, bytes)
+}
+
 #[test]
 fn prints_past_the_paper(rt: HostRuntime) -> Result<(), Fail> {
     let mut records = with_printer(&rt, &[])?;
-    assert!(rt; records.is_ready() && records.ring().spare() >= 9200);
-    assert_eq!(rt; records.say(2, &LONG), Ok(()));
+    assert_eq!(rt; say(&rt, &mut records, &LONG), Ok(()));
     let (paper, count) = records.ring().paper().expect(&rt, "a printer");
     assert_eq!(rt; (paper.len(), count), (8192, 8200));
     Ok(())
@@ -226,24 +239,23 @@ fn printed_with(
     rt: &(impl Abort + AllocGlobal),
     planned: Planned,
     heard: &[u8],
-    entries: usize,
+    entries: u8,
 ) -> Result<(), Fail> {
     let mut records = with_printer(rt, &[planned])?;
-    assert!(rt; records.is_ready() && records.ring().spare() >= 1002);
-    assert_eq!(rt; records.say(2, b"HP"), Err(Trouble::Frame));
+    assert_eq!(rt; say(rt, &mut records, b"HP"), Err(Trouble::Frame));
     assert!(rt; !records.is_ready());
     let (paper, _) = records.ring().paper().expect(rt, "a printer");
     assert_eq!(rt; paper, heard);
-    assert_eq!(rt; records.ring().log().len(), 5 + entries);
+    assert_eq!(rt; records.ring().log().len(), 5 + usize::from(entries));
     Ok(())
 }
 
 #[test]
 fn printing_lost_at_each_crossing(rt: HostRuntime) -> Result<(), Fail> {
     // The addressing has 5 frames, the commands in front 4, and there are 2 bytes, each over three links.
-    for link in 1..=18 {
+    for link in 1..=18_u8 {
         let planned = Planned {
-            hop: 15 + link as u64,
+            hop: 15 + u64::from(link),
             fault: Lose,
         };
         let heard: &[u8] = match link {

@@ -90,7 +90,7 @@ impl<M: Medium + Drop> LoopRecords<M> {
     /// Sends bytes to the device of this address, 1 to 30.
     ///
     /// The error is `Trouble::Frame`, and comes exactly where a planned fault acted on a frame of the call. The device then
-    /// heard some of the bytes, the first ones, and at most one byte more, of any value.
+    /// heard those bytes that the log has whole, the first ones, and at most one byte more, of any value.
     pub fn say(&mut self, printer: u8, bytes: &[u8]) -> Result<(), Trouble>
         requires valid { StandsSo (⟦<LoopRecords<M> as Looped<M>>⟧.looped self.old).control (⟦<LoopRecords<M> as Looped<M>>⟧.looped self.old).sound (⟦<LoopRecords<M> as Looped<M>>⟧.looped self.old).since }
         requires ready { is_idle (⟦<LoopRecords<M> as Looped<M>>⟧.looped self.old).control ≡ true }

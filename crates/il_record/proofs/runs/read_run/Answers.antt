@@ -1,8 +1,8 @@
 use Rattle.std.proofs.Common.{◌≡◌, ◌*◌, ◌/◌, ◌≤◌, ◌+◌, length, arith}
 use Rattle.il_record.proofs.Places.{kept_then, kept_sent, kept_not_sent, kept_received, kept_not_received}
-use Rattle.il_record.proofs.ReadRuns.{read_broke_at_seek, read_broke_at_receive, read_broke_at_status, read_done, received_room, same_length, all_came, some_came}
+use Rattle.il_record.proofs.ReadRuns.{read_broke_at_seek, read_broke_at_receive, read_broke_at_status, read_done, same_length, all_came, some_came}
 use Rattle.il_record.proofs.Sends.{if_err, sent_room}
-use Rattle.il_record.proofs.Used.{used_on, received_used, not_received_used}
+use Rattle.il_record.proofs.Used.{used_on, received_room, received_used, not_received_used}
 use Rattle.il_record.proofs.runs.read_run.Goals as goal
 use Rattle.il_record.proofs.runs.read_run.Goals.{then-count-into, else-count-into}
 
