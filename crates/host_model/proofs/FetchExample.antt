@@ -67,6 +67,7 @@ fetch_step = record {
     status = refl;
   };
   travels = fetch_travels;
+  heard = record { before = tt; after = (record { more = []; few = omega arith; none = λ h. refl; heard = record { heard = refl; heard_count = refl; room = refl; accessory = refl } }, tt) };
   exchanged = fetch_exchanged;
   ready = λ h. refl;
   still = λ h. absurd (false_is_not_true (sym h));

@@ -47,6 +47,7 @@ late_step = record {
     status = refl;
   };
   travels = record { one_talker = refl; roles = refl; crossings = refl; frames = record { before = tt; after = (refl, tt) }; short = omega arith };
+  heard = record { before = tt; after = (record { more = []; few = omega arith; none = λ h. refl; heard = record { heard = refl; heard_count = refl; room = refl; accessory = refl } }, tt) };
   exchanged = record {
     reading = record { pieces = status_pieces; legal = refl; entries = refl };
     ends = refl;

@@ -1,5 +1,5 @@
 -- Worked examples of steps, computed by the checker: a drive, which is party 1, with a printer behind it, is asked for its status.
-use Rattle.std.proofs.Common.{◌≡◌, ◌++◌, ℕ, List, [], ◌∷◌, Some, None, false, inl, refl, sym, ap, arith, flat_map, codes, true}
+use Rattle.std.proofs.Common.{◌≡◌, ◌++◌, ℕ, List, [], ◌∷◌, Some, None, false, inl, length, refl, sym, ap, ◌∙◌, arith, flat_map, codes, true}
 use Rattle.std.specs.Prelude.{unwrap_or}
 use Rattle.std.specs.Fmt.{digits}
 use Rattle.lif_model.specs.Tape.{record_at}
@@ -10,6 +10,7 @@ use Rattle.il_frames.specs.declared.entry.Outcome.TheVariants as outcome
 use Rattle.il_frames.specs.Frames.{framed}
 use Rattle.il_device.specs.declared.roles.Roles.{Roles}
 use Rattle.il_device.specs.Roles.{no_roles}
+use Rattle.il_device.proofs.Laws.{risen_by}
 use Rattle.loop_model.specs.Entries.{entry, ifc, aau, aad}
 use Rattle.loop_model.specs.Exchanges.{Echo, Exchange, Command, Address, Receive, Sst, Stopped, Piece, Whole, Cut, FrameLost, piece_entries}
 use Rattle.loop_model.specs.Hearing.{roles_at}
@@ -75,6 +76,7 @@ status_step = record {
     status = refl;
   };
   travels = record { one_talker = refl; roles = refl; crossings = refl; frames = record { before = tt; after = (refl, tt) }; short = omega arith };
+  heard = record { before = tt; after = (record { more = []; few = omega arith; none = λ h. refl; heard = record { heard = refl; heard_count = refl; room = refl; accessory = refl } }, tt) };
   exchanged = record {
     reading = record { pieces = status_pieces; legal = refl; entries = refl };
     ends = refl;
@@ -99,6 +101,12 @@ hop_is_none h = cc
 -- one frame more at the printer
 one_more_frame : IsStep [] (record status_event { after = record asked_host { loop = record asked_host.loop { after = record printer { roles = addressed 2; frames = 15 } ∷ [] } } }) → ⊥
 one_more_frame s = numbers_differ 15 14 refl s.travels.frames.after.0
+
+-- a byte at the printer that no entry of the log has brought
+one_more_byte : IsStep [] (record status_event { after = record asked_host { loop = record asked_host.loop { after = record printer { roles = addressed 2; frames = 14; heard_count = 1 } ∷ [] } } }) → ⊥
+one_more_byte s =
+    let heard = s.heard.after.0 in
+    numbers_differ 1 0 refl (heard.heard.heard_count ∙ ap (λ more. risen_by (length more) 0) (heard.none refl))
 
 -- a crossing that no entry stands for
 one_more_crossing : IsStep [] (record status_event { after = record asked_host { crossings = 43 } }) → ⊥
@@ -156,6 +164,7 @@ lost_step = record {
     status = inl refl;
   };
   travels = record { one_talker = refl; roles = refl; crossings = refl; frames = record { before = tt; after = (refl, tt) }; short = omega arith };
+  heard = record { before = tt; after = (record { more = []; few = omega arith; none = λ h. refl; heard = record { heard = refl; heard_count = refl; room = refl; accessory = refl } }, tt) };
   exchanged = record {
     reading = record { pieces = lost_pieces; legal = refl; entries = refl };
     ends = refl;

@@ -1,5 +1,5 @@
 -- One step of a run: an item, what was replied, the log, and what stands before and behind.
-use Rattle.std.specs.Prelude.{◌≡◌, ◌≢◌, ◌⊎◌, ◌≤◌, ℕ, Bool, true, false, not, List, [], length, Option, Some, None, is_some}
+use Rattle.std.specs.Prelude.{◌≡◌, ◌≢◌, ◌⊎◌, ◌≤◌, ◌++◌, ℕ, Bool, true, false, not, List, [], length, Option, Some, None, is_some}
 use Rattle.std.specs.FinMap.{get}
 use Rattle.lif_model.specs.Causes.{Rose}
 use Rattle.lif_model.specs.Tape.{Tape}
@@ -17,6 +17,8 @@ use Rattle.loop_model.specs.Effect.{UnitsEffect, is_out, is_in, transfer_of, end
 use Rattle.loop_model.proofs.EffectLaws.{all_good}
 use Rattle.loop_model.specs.Exchanges.{Reading}
 use Rattle.loop_model.specs.Reach.{links, passes, met}
+use Rattle.il_device.specs.declared.roles.Roles.{Roles}
+use Rattle.loop_model.specs.Hearing.{heard_by}
 use Rattle.loop_model.specs.Roles.{OneTalker, roles_after}
 use Rattle.loop_model.specs.Units.{RecordUnit, units_of, ends_within}
 use Rattle.il_script.specs.declared.reply.Reply.{Reply}
@@ -26,6 +28,7 @@ use Rattle.host_model.specs.LoopStates.{all_roles, device_count, ring_of}
 use Rattle.host_model.specs.HostStates.{HostState, volume_at, HasOwnGate, log_room}
 use Rattle.host_model.specs.Replies.{reply_of, volume_behind}
 use Rattle.host_model.specs.Courses.{course_of, keeps_course}
+use Rattle.host_model.specs.Hearing.{HearsAll}
 use Rattle.host_model.specs.Next.{Next, BoxedBecome}
 
 pub record Event : Type 0 where
@@ -79,6 +82,16 @@ pub record Travels (e : Event) : Type 0 where
   pub crossings : e.after.crossings ≡ risen_by (links (device_count e.before.loop) e.log) e.before.crossings
   pub frames : BoxedBecome (TookFrames (device_count e.before.loop) e.log) e.before.loop e.after.loop
   pub short : length e.log ≤ log_room e.before.records
+
+-- ---- what the devices heard of the log
+
+-- By these entries the device at that party, while it listened, heard some data bytes, those of whole entries alone, and it did hear
+-- them; where the log broke off, at most one byte more, of any value.
+pub record HearsLog (k : ℕ) (roles : List Roles) (log : List Entry) (whole : Bool) (party : ℕ) (d e : DeviceState) : Type 0 where
+  pub more : List ℕ
+  pub few : length more ≤ 1
+  pub none : whole ≡ true → more ≡ []
+  pub heard : HearsAll (heard_by k party roles log ++ more) d e
 
 -- ---- the exchanges of the log
 
@@ -137,6 +150,7 @@ pub record IsStep (hops : List ℕ) (e : Event) : Type 0 where
   pub replied : Replied e
   pub next : Next e.item e.reply e.before.loop e.after.loop
   pub travels : Travels e
+  pub heard : BoxedBecome (HearsLog (device_count e.before.loop) (all_roles e.before.loop) e.log (not (is_frame_fault e.reply))) e.before.loop e.after.loop
   pub exchanged : Exchanged hops e
   -- behind a command that sends frames the loop is ready, unless an exchange broke off
   pub ready : uses_frames e.item ≡ true → e.after.ready ≡ not (is_frame_fault e.reply)
