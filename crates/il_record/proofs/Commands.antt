@@ -10,6 +10,7 @@ use Rattle.il_poll.specs.Service.{assigned}
 use Rattle.il_device.specs.State.{DeviceState}
 use Rattle.il_device.specs.Takes.{may_change_service}
 use Rattle.il_ports.specs.Media.{MediumView}
+use Rattle.il_drive.specs.declared.mode.Start.TheVariants as start
 use Rattle.il_drive.specs.Runs.{Ran}
 use Rattle.loop_model.specs.Entries.{lad, rfc, unl}
 use Rattle.loop_model.specs.Exchanges.{Command, Identify, commanded, entries_of, returned, is_talk_address}
@@ -52,7 +53,7 @@ module _ {M : Type 0} (view : M → MediumView) (r s : RingView M) where
   pub unl_broken : BrokenOff view (Command unl) r s → (gs : List Frame) × UnlFirst gs × ((outs : _) × Ran view r.drive gs outs s.drive)
   unl_broken broken =
       let broke = broken.broke in
-      (broke.adds.came, unl_cut (length (devices_of r)) (drive_party r) broke.standing (returned 0 rfc ∷ []) broke.adds.came refl (broke.brought refl), (broke.adds.answers, broke.adds.drive))
+      (broke.adds.came, unl_cut start.Identity (length (devices_of r)) (drive_party r) broke.standing (returned 0 rfc ∷ []) broke.adds.came refl (broke.brought refl), (broke.adds.answers, broke.adds.drive))
 
   commanded_mild : (f : Frame) → mild_frame f ≡ true → list_all mild_entry (commanded 0 f) ≡ true
   commanded_mild f mild = and_from (mild_frame f) true mild refl
@@ -60,22 +61,22 @@ module _ {M : Type 0} (view : M → MediumView) (r s : RingView M) where
   pub command_made : (f : Frame) → mild_frame f ≡ true → IsMild r.drive.state → Made view (Command f) r s → StaysMild view r.drive s.drive
   command_made f mild now made =
       let adds = made.whole.adds in
-      mild_ran view adds.came adds.answers r.drive s.drive now (brought_mild (length (devices_of r)) (drive_party r) (commanded 0 f) adds.came (commanded_mild f mild) (made.whole.brought refl)) adds.drive
+      mild_ran view adds.came adds.answers r.drive s.drive now (brought_mild start.Identity (length (devices_of r)) (drive_party r) (commanded 0 f) adds.came (commanded_mild f mild) (made.whole.brought refl)) adds.drive
 
   pub command_broken : (f : Frame) → mild_frame f ≡ true → IsMild r.drive.state → BrokenOff view (Command f) r s → StaysMild view r.drive s.drive
   command_broken f mild now broken =
       let broke = broken.broke in
-      mild_ran view broke.adds.came broke.adds.answers r.drive s.drive now (cut_mild (length (devices_of r)) (drive_party r) broke.standing (commanded 0 f) broke.adds.came (commanded_mild f mild) (broke.brought refl)) broke.adds.drive
+      mild_ran view broke.adds.came broke.adds.answers r.drive s.drive now (cut_mild start.Identity (length (devices_of r)) (drive_party r) broke.standing (commanded 0 f) broke.adds.came (commanded_mild f mild) (broke.brought refl)) broke.adds.drive
 
   pub identify_made : (f : Frame) → IsMild r.drive.state → Made view (Identify f) r s → StaysMild view r.drive s.drive
   identify_made f now made =
       let adds = made.whole.adds in
-      mild_ran view adds.came adds.answers r.drive s.drive now (brought_mild (length (devices_of r)) (drive_party r) (entries_of 0 (Identify f)) adds.came refl (made.whole.brought refl)) adds.drive
+      mild_ran view adds.came adds.answers r.drive s.drive now (brought_mild start.Identity (length (devices_of r)) (drive_party r) (entries_of 0 (Identify f)) adds.came refl (made.whole.brought refl)) adds.drive
 
   pub identify_broken : (f : Frame) → IsMild r.drive.state → BrokenOff view (Identify f) r s → StaysMild view r.drive s.drive
   identify_broken f now broken =
       let broke = broken.broke in
-      mild_ran view broke.adds.came broke.adds.answers r.drive s.drive now (cut_mild (length (devices_of r)) (drive_party r) broke.standing (entries_of 0 (Identify f)) broke.adds.came refl (broke.brought refl)) broke.adds.drive
+      mild_ran view broke.adds.came broke.adds.answers r.drive s.drive now (cut_mild start.Identity (length (devices_of r)) (drive_party r) broke.standing (entries_of 0 (Identify f)) broke.adds.came refl (broke.brought refl)) broke.adds.drive
 
   -- the room that a command leaves
   pub command_room : (f : Frame) → 2 ≤ spare_of r → Made view (Command f) r s → spare_of r ≤ spare_of s + 2

@@ -148,7 +148,7 @@ receive_cut view k q n a number s answer gs outs v w low small legal came ran = 
 
 -- ---- all entries are of the host or of the drive
 
-pub from_drive : (q p : ℕ) (ds : List Echo) (rest : List Entry) → q ≤ p → list_all (is_from_here q) rest ≡ true → list_all (is_from_here q) (map (echoed p) ds ++ rest) ≡ true
+from_drive : (q p : ℕ) (ds : List Echo) (rest : List Entry) → q ≤ p → list_all (is_from_here q) rest ≡ true → list_all (is_from_here q) (map (echoed p) ds ++ rest) ≡ true
 from_drive q p [] rest near all = all
 from_drive q p (d ∷ ds) rest near all = and_from (is_from_here q (echoed p d)) _ (here (p == 0)) (from_drive q p ds rest near all)
   where
@@ -156,14 +156,22 @@ from_drive q p (d ∷ ds) rest near all = and_from (is_from_here q (echoed p d))
     here true = refl
     here false = le-leb q p near
 
--- no device took the start message, or the drive did
-pub answer_from_here : (q : ℕ) (s : Start) (answer : Answer) → IfSome (talker_of answer) (λ p. p ≡ q) → list_all (is_from_here q) (answer_entries 0 (start_frame s) answer ++ commanded 0 unt) ≡ true
-answer_from_here q s NotTaken at = refl
-answer_from_here q s (ToItsEnd p ds) at = subst (λ es. list_all (is_from_here q) es ≡ true) (sym (append_assoc (map (echoed p) ds) (entry p eto (outcome.Taken 0) ∷ []) (commanded 0 unt))) (from_drive q p ds (entry p eto (outcome.Taken 0) ∷ commanded 0 unt) (omega (arith, at)) (from_drive q p (record { sent = eto; back = eto } ∷ []) (commanded 0 unt) (omega (arith, at)) refl))
-answer_from_here q s (Stopped p ds last) at =
+-- no device took the start message, or the drive did or one behind it
+answer_near : (q : ℕ) (s : Start) (answer : Answer) → IfSome (talker_of answer) (λ p. q ≤ p) → list_all (is_from_here q) (answer_entries 0 (start_frame s) answer ++ commanded 0 unt) ≡ true
+answer_near q s NotTaken near = refl
+answer_near q s (ToItsEnd p ds) near = subst (λ es. list_all (is_from_here q) es ≡ true) (sym (append_assoc (map (echoed p) ds) (entry p eto (outcome.Taken 0) ∷ []) (commanded 0 unt))) (from_drive q p ds (entry p eto (outcome.Taken 0) ∷ commanded 0 unt) near (from_drive q p (record { sent = eto; back = eto } ∷ []) (commanded 0 unt) near refl))
+answer_near q s (Stopped p ds last) near =
     subst (λ es. list_all (is_from_here q) es ≡ true) (sym (append_assoc (map (echoed p) ds) (returned 0 nrd ∷ echoed p last ∷ entry p eto (outcome.Taken 0) ∷ []) (commanded 0 unt)))
-    (from_drive q p ds (returned 0 nrd ∷ echoed p last ∷ entry p eto (outcome.Taken 0) ∷ commanded 0 unt) (omega (arith, at)) (from_drive q p (last ∷ record { sent = eto; back = eto } ∷ []) (commanded 0 unt) (omega (arith, at)) refl))
+    (from_drive q p ds (returned 0 nrd ∷ echoed p last ∷ entry p eto (outcome.Taken 0) ∷ commanded 0 unt) near (from_drive q p (last ∷ record { sent = eto; back = eto } ∷ []) (commanded 0 unt) near refl))
+
+pub receive_near : (q a : ℕ) (number : Option ℕ) (s : Start) (answer : Answer) → IfSome (talker_of answer) (λ p. q ≤ p) → list_all (is_from_here q) (entries_of 0 (Receive a number s answer)) ≡ true
+receive_near q a None s answer near = answer_near q s answer near
+receive_near q a (Some n) s answer near = answer_near q s answer near
 
 pub receive_from_here : (q a : ℕ) (number : Option ℕ) (s : Start) (answer : Answer) → IfSome (talker_of answer) (λ p. p ≡ q) → list_all (is_from_here q) (entries_of 0 (Receive a number s answer)) ≡ true
-receive_from_here q a None s answer at = answer_from_here q s answer at
-receive_from_here q a (Some n) s answer at = answer_from_here q s answer at
+receive_from_here q a number s answer at = receive_near q a number s answer (by answer at)
+  where
+    by : (answer : Answer) → IfSome (talker_of answer) (λ p. p ≡ q) → IfSome (talker_of answer) (λ p. q ≤ p)
+    by NotTaken at = tt
+    by (ToItsEnd p ds) at = omega (arith, at)
+    by (Stopped p ds last) at = omega (arith, at)

@@ -7,6 +7,7 @@ use Rattle.il_frames.specs.Frames.{byte_of}
 use Rattle.il_device.specs.declared.device.Out.{Out}
 use Rattle.il_device.specs.declared.device.Out.TheVariants.{Pass, Source}
 use Rattle.il_ports.specs.Media.{MediumView}
+use Rattle.il_drive.specs.declared.mode.Start.TheVariants as start
 use Rattle.il_drive.specs.State.{DriveView}
 use Rattle.il_drive.specs.Runs.{Ran}
 use Rattle.il_drive.proofs.Beginning.{joins}
@@ -23,6 +24,7 @@ use Rattle.il_record.specs.Runs.{Polled, NotPolled, TellsStatus}
 use Rattle.il_record.proofs.Asked.{front_plain, untaken_frames, ran_asked, append_same, ran_length}
 use Rattle.il_record.proofs.Cuts.{receive_cut, receive_from_here}
 use Rattle.il_record.proofs.HeardLogs.{none_not_received, none_received}
+use Rattle.il_record.proofs.MildCame.{not_received_for}
 use Rattle.il_record.proofs.Readings.{asked_talker, legal_answer, end_echoes, stop_echoes, party_within, idle_address, idle_mute, told_status}
 
 -- no device but the drive takes the start message that was meant for it
@@ -85,14 +87,17 @@ polled view d n r old new s low at idle one got =
     polled_by view d (length (devices_of r)) low (omega (arith, at, party.0)) (omega (arith, at, party.1)) got.answer n old new r s idle (idle_address r idle ∙ ap Some (sym at)) (idle_mute r idle) (legal_answer r d None Sst got.answer got.made.legal)
     (subst (λ q. IfSome (talker_of got.answer) (λ p. p ≡ q)) (sym at) meant) got.count (omega (arith, one, got.within)) got.bytes (got.stops ∙ ap (λ l. n == l) one) got.made (none_received view r s d None Sst got.answer got.made got.unheard) spoken
 
-pub not_polled : {M : Type 0} (view : M → MediumView) (d w : ℕ) (r s : RingView M) → d ≤ 30 → d ≡ drive_party r → NotReceived view d None Sst w r s → NotPolled view d r s
-not_polled view d w r s low at got =
+pub not_polled : {M : Type 0} (view : M → MediumView) (d w : ℕ) (r s : RingView M) → d ≤ 30 → d ≡ drive_party r → r.drive.state.interface.own ≡ None → NotReceived view d None Sst w r s → NotPolled view d r s
+not_polled view d w r s low at silent got =
     let broke = got.broken.broke in
     let meant = meant_for (length (devices_of r)) d (drive_party r) None Sst got.answer got.asked at in
+    let left = not_received_for start.Status Sst refl view d w r s low silent got in
     record {
       answer = got.answer;
       broken = got.broken;
       unheard = none_not_received view r s d None Sst got.answer got.broken got.unheard;
       drive = receive_cut view (length (devices_of r)) (drive_party r) broke.standing d None Sst got.answer broke.adds.came broke.adds.answers r.drive s.drive low tt (legal_answer r d None Sst got.answer got.broken.legal)
           (broke.brought (receive_from_here (drive_party r) d None Sst got.answer meant)) broke.adds.drive;
+      status = left.status;
+      medium = left.medium;
     }

@@ -8,6 +8,7 @@ use Rattle.std.proofs.lemmas.List.{take-append-drop}
 use Rattle.loop_model.proofs.UnitLaws.{bytes_of}
 use Rattle.il_frames.specs.declared.entry.Entry.{Entry}
 use Rattle.il_ports.specs.Media.{MediumView}
+use Rattle.il_drive.specs.declared.mode.Start.TheVariants as start
 use Rattle.il_drive.proofs.ExchangesAddressed.{message_of-lad}
 use Rattle.loop_model.specs.Entries.{rfc, lad}
 use Rattle.loop_model.specs.Exchanges.{Echo, Send, echoed, returned, commanded, is_echo}
@@ -34,7 +35,7 @@ all_mild : (ds : List Echo) → list_all is_echo ds ≡ true → list_all mild_e
 all_mild [] legal = refl
 all_mild (d ∷ ds) legal =
     let both = and_parts (is_echo d) (list_all is_echo ds) legal in
-    and_from (mild_frame d.sent) (list_all mild_entry (map (echoed 0) ds)) (echo_mild d both.0) (all_mild ds both.1)
+    and_from (mild_frame d.sent) (list_all mild_entry (map (echoed 0) ds)) (echo_mild start.Identity d both.0) (all_mild ds both.1)
 
 abbrev behind_unl : ℕ → List Echo → List Entry
 behind_unl a ds = returned 0 rfc ∷ commanded 0 (lad a) ++ ([] ++ map (echoed 0) ds)
@@ -49,7 +50,7 @@ module _ {M : Type 0} (view : M → MediumView) (a : ℕ) (bytes : List ℕ) (r 
       let legal = send_echoes r a None so.ds so.made.legal in
       let drive =
       left_by view adds.came adds.answers r.drive s.drive silent
-      (unl_brought (length (devices_of r)) (drive_party r) (behind_unl a so.ds) adds.came (behind_mild a so.ds low legal) (so.made.whole.brought (send_from_here (drive_party r) a None so.ds))) adds.drive in
+      (unl_brought start.Identity (length (devices_of r)) (drive_party r) (behind_unl a so.ds) adds.came (behind_mild a so.ds low legal) (so.made.whole.brought (send_from_here (drive_party r) a None so.ds))) adds.drive in
       record {
         came = subst (λ bytes. CameAsked view true (say_asks a bytes) r s) (so.sent ∙ take-length sent ∙ is) (asked_made view (Send a None so.ds) r s so.made refl (tape_same view r.drive s.drive drive.medium));
         heard = subst (λ bytes. EachTo (Hears a bytes) 1 (devices_of r) (devices_of s)) (take-length sent ∙ is) so.heard;
@@ -64,7 +65,7 @@ module _ {M : Type 0} (view : M → MediumView) (a : ℕ) (bytes : List ℕ) (r 
       let legal = send_echoes r a None not.ds not.broken.legal in
       let drive =
       left_by view broke.adds.came broke.adds.answers r.drive s.drive silent
-      (unl_cut (length (devices_of r)) (drive_party r) broke.standing (behind_unl a not.ds) broke.adds.came (behind_mild a not.ds low legal) (broke.brought (send_from_here (drive_party r) a None not.ds))) broke.adds.drive in
+      (unl_cut start.Identity (length (devices_of r)) (drive_party r) broke.standing (behind_unl a not.ds) broke.adds.came (behind_mild a not.ds low legal) (broke.brought (send_from_here (drive_party r) a None not.ds))) broke.adds.drive in
       let rest = drop (length not.ds) sent in
       let all : bytes ≡ bytes_of not.ds ++ rest = sym is ∙ sym (take-append-drop (length not.ds) sent) ∙ ap (λ front. front ++ rest) (sym not.sent) in
       record {

@@ -1,5 +1,5 @@
 -- A run of records: the seek, the transfer and the status poll, each over the loop, and what the drive did meanwhile.
-use Rattle.std.specs.Prelude.{◌≡◌, ◌≢◌, ◌≤◌, ◌*◌, ◌/◌, ℕ, Bool, true, false, List, [], ◌∷◌, length, Some, None}
+use Rattle.std.specs.Prelude.{◌≡◌, ◌≢◌, ◌≤◌, ◌*◌, ◌/◌, ◌⊎◌, ℕ, Bool, true, false, List, [], ◌∷◌, length, Some, None}
 use Rattle.lif_model.specs.Tape.{Tape, bytes_from}
 use Rattle.lif_model.specs.Causes.{Rose}
 use Rattle.lif_model.specs.Shelf.{bytes_of}
@@ -102,12 +102,14 @@ pub record Polled {M : Type 0} (view : M → MediumView) (d byte : ℕ) (r s : R
   pub unheard : NoneHeard r s
   pub drive : TellsStatus d byte r.drive s.drive
 
--- that was broken off; no device heard anything
+-- That was broken off: no device heard anything, and the status is as it was, or was told and is 0 then.
 pub record NotPolled {M : Type 0} (view : M → MediumView) (d : ℕ) (r s : RingView M) : Type 0 where
   pub answer : Answer
   pub broken : BrokenOff view (Receive d None Sst answer) r s
   pub unheard : NoneHeard r s
   pub drive : LeavesRecords view r.drive s.drive
+  pub status : (status_of s.drive.state ≡ status_of r.drive.state) ⊎ (status_of s.drive.state ≡ 0)
+  pub medium : s.drive.medium ≡ r.drive.medium
 
 -- ---- a read
 

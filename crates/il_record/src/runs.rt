@@ -87,6 +87,8 @@ pub(crate) fn status<M: Medium>(idle: Idle<M>, drive: u8) -> Result<(Idle<M>, u8
     ensures used { IfOk result (λ told. spare_of (⟦<Idle<M> as Seen<M>>⟧.seen idle) ≤ spare_of (⟦<Idle<M> as Seen<M>>⟧.seen told.0) + 13) }
     ensures used_lost { IfErr result (λ lost. spare_of (⟦<Idle<M> as Seen<M>>⟧.seen idle) ≤ spare_of (⟦<Lost<M> as Seen<M>>⟧.seen lost) + 14) }
 {
+    // Behind it the proof sees that the drive sends nothing.
+    let _ = drive_of(&idle);
     let mut status = [0; 1];
     let (idle, _) = idle.receive(drive, None, Sot::Sst, &mut status)?;
     Ok((idle, status[0]))
