@@ -1,6 +1,7 @@
 -- Which exchanges the commands of the loop make, in which order. The frames of each follow the HP-IL Interface
 -- Specification, HP 82166-90017; that a command asks exactly so is this project's own.
-use Rattle.std.specs.Prelude.{ℕ, zero, suc, ◌+◌, ◌==◌, Bool, true, false, ◌&&◌, List, [], ◌∷◌, ◌++◌, map, min, Option, Some, None}
+use Rattle.std.specs.Prelude.{ℕ, zero, suc, ◌+◌, ◌==◌, Bool, true, false, not, nat_eq, ◌&&◌, ◌||◌, List, [], ◌∷◌, ◌++◌, map, min, Option, Some, None}
+use Rattle.std.specs.List.{starts_with}
 use Rattle.std.specs.Str.{bytes_eq}
 use Rattle.il_frames.specs.declared.frame.Frame.{Frame}
 use Rattle.il_frames.specs.Frames.{byte_of}
@@ -11,19 +12,20 @@ use Rattle.host_model.specs.LoopStates.{LoopState, device_count, drive_at, all_i
 
 -- ---- what an exchange is to be
 
--- an exchange is due that passes this test
+-- An exchange is due that passes this test, as a whole one; or as one that broke off, of which what was asked for is told, and of bytes
+-- that the host sends a front.
 abbrev pub Due : Type 0
-Due = Exchange → Bool
+Due = Bool → Exchange → Bool
 
 -- this command
 abbrev pub is_commanding : Frame → Due
-is_commanding f (Command g) = is_frame f g
-is_commanding f _ = false
+is_commanding f whole (Command g) = is_frame f g
+is_commanding f whole _ = false
 
 -- the numbering of so many devices
 abbrev pub is_numbering : ℕ → Due
-is_numbering k (Address devices) = devices == k
-is_numbering k _ = false
+is_numbering k whole (Address devices) = devices == k
+is_numbering k whole _ = false
 
 -- the one byte of an answer that the host stops behind it
 abbrev pub is_one_byte : ℕ → ℕ → Answer → Bool
@@ -32,8 +34,8 @@ is_one_byte party byte _ = false
 
 -- that party tells its status by this byte
 abbrev pub is_status_told : ℕ → ℕ → Due
-is_status_told party byte (Receive a None Sst answer) = (a == party) && is_one_byte party byte answer
-is_status_told party byte _ = false
+is_status_told party byte whole (Receive a None Sst answer) = (a == party) && (not whole || is_one_byte party byte answer)
+is_status_told party byte whole _ = false
 
 -- that party tells its accessory ID, or has none
 abbrev pub is_id_answer : ℕ → Option ℕ → Answer → Bool
@@ -42,18 +44,19 @@ is_id_answer party None NotTaken = true
 is_id_answer party None _ = false
 
 abbrev pub is_id_told : ℕ → Option ℕ → Due
-is_id_told party id (Receive a None Sai answer) = (a == party) && is_id_answer party id answer
-is_id_told party id _ = false
+is_id_told party id whole (Receive a None Sai answer) = (a == party) && (not whole || is_id_answer party id answer)
+is_id_told party id whole _ = false
 
 -- this frame comes back
 abbrev pub is_identified : Frame → Due
-is_identified f (Identify g) = is_frame f g
-is_identified f _ = false
+is_identified f whole (Identify g) = not whole || is_frame f g
+is_identified f whole _ = false
 
 -- these bytes go to that party
 abbrev pub is_said : ℕ → List ℕ → Due
-is_said party bytes (Send a None echoes) = (a == party) && bytes_eq bytes (map (λ d. byte_of d.sent) echoes)
-is_said party bytes _ = false
+is_said party bytes true (Send a None echoes) = (a == party) && bytes_eq bytes (map (λ d. byte_of d.sent) echoes)
+is_said party bytes false (Send a None echoes) = (a == party) && starts_with nat_eq bytes (map (λ d. byte_of d.sent) echoes)
+is_said party bytes whole _ = false
 
 -- ---- courses
 
@@ -95,8 +98,8 @@ course_of _ z = None
 -- the exchanges are those that are due, each in its turn; a broken one ends them
 abbrev pub keeps_to : List Due → List Piece → Bool
 keeps_to [] [] = true
-keeps_to (test ∷ more) (Whole x ∷ pieces) = test x && keeps_to more pieces
-keeps_to (test ∷ more) (Cut x n b ∷ []) = test x
+keeps_to (test ∷ more) (Whole x ∷ pieces) = test true x && keeps_to more pieces
+keeps_to (test ∷ more) (Cut x n b ∷ []) = test false x
 keeps_to _ _ = false
 
 -- the loop is addressed first where it is not ready

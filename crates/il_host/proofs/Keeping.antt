@@ -1,0 +1,188 @@
+-- Exchanges that keep to what is due, stage by stage.
+use Rattle.std.proofs.Common.{◌≡◌, ◌++◌, ◌&&◌, ◌∙◌, ◌==◌, Bool, true, false, List, [], ◌∷◌, refl, sym, ap, ap₂, subst}
+use Rattle.std.specs.List.{list_all}
+use Rattle.std.proofs.lemmas.Bool.{and_parts, and_from, eq-eqb}
+use Rattle.il_frames.specs.declared.frame.Frame.{Frame}
+use Rattle.il_frames.specs.Frames.{byte_of, class_of, number_of_class, same_class}
+use Rattle.il_ports.specs.Media.{MediumView}
+use Rattle.loop_model.specs.Exchanges.{Exchange, Command, Address, Send, Receive, Identify, Piece, Whole, Cut, are_whole, breaks_off, can_cut, entries_of, is_exchange, is_piece}
+use Rattle.loop_model.specs.Effect.{UnitsEffect}
+use Rattle.loop_model.specs.Loops.{Loop}
+use Rattle.loop_model.specs.Units.{RecordUnit, units_of, ends_within}
+use Rattle.loop_model.proofs.EffectLaws.{ends_within-append, units_of-append, UnitsEffect-append}
+use Rattle.loop_model.specs.Entries.{is_frame}
+use Rattle.il_ring.specs.Rings.{RingView}
+use Rattle.il_control.specs.Calls.{IsFree, loop_of}
+use Rattle.il_record.specs.Asks.{Ask, AskCommand, AskAddresses, Asked, CameAsked, IsFirstOf, ask_of}
+use Rattle.il_record.specs.Came.{CameUnits}
+use Rattle.il_record.proofs.Talks.{talked_then, same_loop}
+use Rattle.host_model.specs.Courses.{Due, keeps_to, is_commanding, is_numbering}
+
+-- ---- one part behind the other
+
+-- what is due first was done whole, and then what is due behind it
+pub keeps_front : (front course : List Due) (ps qs : List Piece) → keeps_to front ps ≡ true → are_whole ps ≡ true → keeps_to course qs ≡ true → keeps_to (front ++ course) (ps ++ qs) ≡ true
+keeps_front [] course [] qs first whole more = more
+keeps_front [] course (p ∷ ps) qs first whole more = cc
+keeps_front (test ∷ front) course [] qs first whole more = cc
+keeps_front (test ∷ front) course (Whole x ∷ ps) qs first whole more =
+    let parts = and_parts (test true x) (keeps_to front ps) first in
+    and_from (test true x) (keeps_to (front ++ course) (ps ++ qs)) parts.0 (keeps_front front course ps qs parts.1 whole more)
+keeps_front (test ∷ front) course (Cut x n b ∷ ps) qs first whole more = cc
+
+-- what is due first was broken off, and with it the whole course
+pub keeps_cut : (front course : List Due) (ps : List Piece) → keeps_to front ps ≡ true → breaks_off ps ≡ true → keeps_to (front ++ course) ps ≡ true
+keeps_cut front course [] first broken = cc
+keeps_cut [] course (p ∷ ps) first broken = cc
+keeps_cut (test ∷ front) course (Whole x ∷ ps) first broken =
+    let parts = and_parts (test true x) (keeps_to front ps) first in
+    and_from (test true x) (keeps_to (front ++ course) ps) parts.0 (keeps_cut front course ps parts.1 broken)
+keeps_cut (test ∷ front) course (Cut x n b ∷ []) first broken = first
+keeps_cut (test ∷ front) course (Cut x n b ∷ p ∷ ps) first broken = cc
+
+-- ---- what was asked for
+
+-- A whole exchange of which T holds and that is what was asked for is the one that is due, and so is a broken one that is its beginning.
+pub record MeetsOne (T : Exchange → Type 0) (l : Loop) (ask : Ask) (due : Due) : Type 0 where
+  pub whole : (x : Exchange) → is_exchange l x ≡ true → T x → ask_of x ≡ ask → due true x ≡ true
+  pub broken : (x : Exchange) → is_exchange l x ≡ true → IsFirstOf (ask_of x) ask → due false x ≡ true
+
+-- one by one
+abbrev pub Meets : (Exchange → Type 0) → Loop → List Ask → List Due → Type 0
+Meets T l [] [] = Unit {0}
+Meets T l (ask ∷ asks) (due ∷ dues) = MeetsOne T l ask due × Meets T l asks dues
+Meets T l [] (due ∷ dues) = ⊥
+Meets T l (ask ∷ asks) [] = ⊥
+
+-- T holds of each whole exchange
+abbrev pub AllTell : (Exchange → Type 0) → List Piece → Type 0
+AllTell T [] = Unit {0}
+AllTell T (Whole x ∷ pieces) = T x × AllTell T pieces
+AllTell T (Cut x n b ∷ pieces) = AllTell T pieces
+
+-- nothing is said of an exchange
+abbrev pub Any : Exchange → Type 0
+Any x = Unit {0}
+
+-- so every exchange tells it
+pub all_tell_any : (pieces : List Piece) → AllTell Any pieces
+all_tell_any [] = tt
+all_tell_any (Whole x ∷ pieces) = (tt, all_tell_any pieces)
+all_tell_any (Cut x n b ∷ pieces) = all_tell_any pieces
+
+-- one list behind the other
+pub meets_then : (T : Exchange → Type 0) (l : Loop) (asks more : List Ask) (dues course : List Due) → Meets T l asks dues → Meets T l more course → Meets T l (asks ++ more) (dues ++ course)
+meets_then T l [] more [] course first rest = rest
+meets_then T l (ask ∷ asks) more (due ∷ dues) course first rest = (first.0, meets_then T l asks more dues course first.1 rest)
+meets_then T l [] more (due ∷ dues) course first rest = absurd first
+meets_then T l (ask ∷ asks) more [] course first rest = absurd first
+
+-- exchanges that are those asked for are those that are due
+pub asked_keeps : (T : Exchange → Type 0) (l : Loop) (asks : List Ask) (dues : List Due) (pieces : List Piece) (whole : Bool) → list_all (is_piece l) pieces ≡ true → Asked asks pieces whole → AllTell T pieces → Meets T l asks dues → keeps_to dues pieces ≡ true
+asked_keeps T l [] [] [] whole legal asked tell meets = refl
+asked_keeps T l [] [] (p ∷ pieces) whole legal asked tell meets = absurd asked
+asked_keeps T l [] (due ∷ dues) pieces whole legal asked tell meets = absurd meets
+asked_keeps T l (ask ∷ asks) [] pieces whole legal asked tell meets = absurd meets
+asked_keeps T l (ask ∷ asks) (due ∷ dues) [] whole legal asked tell meets = absurd asked
+asked_keeps T l (ask ∷ asks) (due ∷ dues) (Whole x ∷ pieces) whole legal asked tell meets =
+    let parts = and_parts (is_exchange l x) (list_all (is_piece l) pieces) legal in
+    and_from (due true x) (keeps_to dues pieces) (meets.0.whole x parts.0 tell.0 asked.0) (asked_keeps T l asks dues pieces whole parts.1 asked.1 tell.1 meets.1)
+asked_keeps T l (ask ∷ asks) (due ∷ dues) (Cut x n b ∷ []) true legal asked tell meets = absurd asked
+asked_keeps T l (ask ∷ asks) (due ∷ dues) (Cut x n b ∷ []) false legal asked tell meets =
+    let parts = and_parts (is_exchange l x && can_cut l.controller (entries_of l.controller x) n b) true legal in
+    meets.0.broken x (and_parts (is_exchange l x) (can_cut l.controller (entries_of l.controller x) n b) parts.0).0 asked
+asked_keeps T l (ask ∷ asks) (due ∷ dues) (Cut x n b ∷ p ∷ pieces) whole legal asked tell meets = absurd asked
+
+-- ---- commands and addresses
+
+-- a frame is itself
+pub same_frame : (f : Frame) → is_frame f f ≡ true
+same_frame f = and_from (same_class (class_of f) (class_of f)) (byte_of f == byte_of f) (eq-eqb (number_of_class (class_of f)) (number_of_class (class_of f)) refl) (eq-eqb (byte_of f) (byte_of f) refl)
+
+-- a command
+pub meets_command : (T : Exchange → Type 0) (l : Loop) (f : Frame) → MeetsOne T l (AskCommand f) (is_commanding f)
+meets_command T l f = record { whole = whole; broken = broken }
+  where
+    whole : (x : Exchange) → is_exchange l x ≡ true → T x → ask_of x ≡ AskCommand f → is_commanding f true x ≡ true
+    whole (Command g) legal tell is = let same : g ≡ f = cc in subst (λ g. is_frame f g ≡ true) (sym same) (same_frame f)
+    whole (Address devices) legal tell is = cc
+    whole (Send a number ds) legal tell is = cc
+    whole (Receive a number start answer) legal tell is = cc
+    whole (Identify g) legal tell is = cc
+
+    broken : (x : Exchange) → is_exchange l x ≡ true → IsFirstOf (ask_of x) (AskCommand f) → is_commanding f false x ≡ true
+    broken (Command g) legal is = let same : g ≡ f = cc in subst (λ g. is_frame f g ≡ true) (sym same) (same_frame f)
+    broken (Address devices) legal is = cc
+    broken (Send a number ds) legal is = let clash = is.1 in cc
+    broken (Receive a number start answer) legal is = cc
+    broken (Identify g) legal is = cc
+
+-- the addresses of all devices
+pub meets_addresses : (T : Exchange → Type 0) (l : Loop) → MeetsOne T l AskAddresses (is_numbering l.devices)
+meets_addresses T l = record { whole = whole; broken = broken }
+  where
+    whole : (x : Exchange) → is_exchange l x ≡ true → T x → ask_of x ≡ AskAddresses → is_numbering l.devices true x ≡ true
+    whole (Command g) legal tell is = cc
+    whole (Address devices) legal tell is = legal
+    whole (Send a number ds) legal tell is = cc
+    whole (Receive a number start answer) legal tell is = cc
+    whole (Identify g) legal tell is = cc
+
+    broken : (x : Exchange) → is_exchange l x ≡ true → IsFirstOf (ask_of x) AskAddresses → is_numbering l.devices false x ≡ true
+    broken (Command g) legal is = cc
+    broken (Address devices) legal is = legal
+    broken (Send a number ds) legal is = let clash = is.1 in cc
+    broken (Receive a number start answer) legal is = cc
+    broken (Identify g) legal is = cc
+
+-- ---- stages of a command
+
+-- The ring r became s by exchanges, whole or broken off, that keep to what is due, and no exchange of them moved a record.
+pub record Keeps {M : Type 0} (view : M → MediumView) (whole : Bool) (dues : List Due) (r s : RingView M) : Type 0 where
+  pub came : CameUnits view whole [] r s
+  pub keeps : keeps_to dues came.came.pieces ≡ true
+
+module _ {M : Type 0} (view : M → MediumView) where
+  -- from what was asked for, and what the exchanges tell
+  pub keeps_told : (T : Exchange → Type 0) (whole : Bool) (asks : List Ask) (dues : List Due) (r s : RingView M) → (came : CameAsked view whole asks r s) → AllTell T came.units.came.pieces → Meets T (loop_of r) asks dues → Keeps view whole dues r s
+  keeps_told T whole asks dues r s came tell meets = record {
+    came = came.units;
+    keeps = asked_keeps T (loop_of r) asks dues came.units.came.pieces whole came.units.came.talked.legal came.asked tell meets;
+  }
+
+  -- from what was asked for alone
+  pub keeps_asked : (whole : Bool) (asks : List Ask) (dues : List Due) (r s : RingView M) → CameAsked view whole asks r s → Meets Any (loop_of r) asks dues → Keeps view whole dues r s
+  keeps_asked whole asks dues r s came meets = keeps_told Any whole asks dues r s came (all_tell_any came.units.came.pieces) meets
+
+  -- one call behind the other, from a ring on which no frame is held
+  abbrev came_behind : (whole : Bool) (us ws : List RecordUnit) (r m s : RingView M) → IsFree r → CameUnits view true us r m → CameUnits view whole ws m s → CameUnits view whole (us ++ ws) r s
+  came_behind whole us ws r m s free first more =
+      let ps = first.came.pieces in
+      let qs = more.came.pieces in
+      let loops : loop_of m ≡ loop_of r = same_loop view r m _ _ _ first.came.talked.adds in
+      let outside : ends_within (loop_of r) qs ≡ false = ap (λ l. ends_within l qs) (sym loops) ∙ more.came.outside in
+      let behind : units_of (loop_of r) qs ≡ units_of (loop_of m) qs = ap (λ l. units_of l qs) (sym loops) in
+      let both = units_of-append (loop_of r) ps qs first.came.outside in
+      record {
+        came = record {
+          pieces = ps ++ qs;
+          talked = talked_then view whole ps qs r m s free first.came.talked more.came.talked;
+          outside = ends_within-append (loop_of r) ps qs first.came.outside outside;
+          effect = λ t told.
+              let u = first.came.effect t told in
+              let w = more.came.effect u.0 u.1 in
+              (w.0, w.1, subst (λ vs. UnitsEffect vs t w.0) (sym both) ((UnitsEffect-append (units_of (loop_of r) ps) (units_of (loop_of r) qs) t w.0).1 (u.0, u.2, subst (λ vs. UnitsEffect vs u.0 w.0) (sym behind) w.2)));
+        };
+        are = both ∙ ap₂ (λ us ws. us ++ ws) first.are (behind ∙ more.are);
+      }
+
+  -- one stage behind the other
+  pub keeps_then : (whole : Bool) (front course : List Due) (r m s : RingView M) → IsFree r → Keeps view true front r m → Keeps view whole course m s → Keeps view whole (front ++ course) r s
+  keeps_then whole front course r m s free first more = record {
+    came = came_behind whole [] [] r m s free first.came more.came;
+    keeps = keeps_front front course first.came.came.pieces more.came.came.pieces first.keeps first.came.came.talked.ends more.keeps;
+  }
+
+  -- a stage that was broken off ends the course
+  pub keeps_broken : (front course : List Due) (r s : RingView M) → Keeps view false front r s → Keeps view false (front ++ course) r s
+  keeps_broken front course r s first = record { came = first.came; keeps = keeps_cut front course first.came.came.pieces first.keeps first.came.came.talked.ends }

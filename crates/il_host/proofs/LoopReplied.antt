@@ -1,0 +1,78 @@
+-- What a command of the loop replies, and that it leaves the tape.
+use Rattle.std.proofs.Common.{◌≡◌, ◌∙◌, inl, Bool, true, false, refl, sym, ap, subst}
+use Rattle.std.specs.Prelude.{is_some, option_and_then, IfSome}
+use Rattle.lif_model.specs.Volume.{is_foreign_gated, volume_of}
+use Rattle.il_ports.specs.Media.{MediumView}
+use Rattle.il_ring.specs.Rings.{RingView}
+use Rattle.il_script.specs.declared.reply.Reply.TheVariants as reply
+use Rattle.il_script.specs.declared.reply.Code.{Code}
+use Rattle.host_model.specs.Requests.{Asks, Devices, Item, NoCommand, OfVolume, Paper, Poll, Say, Status, uses_frames}
+use Rattle.host_model.specs.HostStates.{HasOwnGate, HostState, volume_at}
+use Rattle.host_model.specs.Replies.{reply_of, volume_behind}
+use Rattle.host_model.specs.RingStates.{state_on}
+use Rattle.host_model.specs.Steps.{Replied}
+use Rattle.il_host.proofs.CommandTravels.{event_on}
+use Rattle.il_host.proofs.LoopEvents.{IsOfLoop}
+
+-- the tape is as it was, and so is its size
+pub record LeavesTape {M : Type 0} (view : M → MediumView) (r s : RingView M) : Type 0 where
+  pub tape : (view s.drive.medium).tape ≡ (view r.drive.medium).tape
+  pub size : (view s.drive.medium).record_count ≡ (view r.drive.medium).record_count
+
+sends_frames : (item : Item) → IsOfLoop item → uses_frames item ≡ true
+sends_frames (Asks (OfVolume command)) of_loop = absurd of_loop
+sends_frames (Asks Devices) of_loop = refl
+sends_frames (Asks Status) of_loop = refl
+sends_frames (Asks Poll) of_loop = refl
+sends_frames (Asks (Say bytes)) of_loop = refl
+sends_frames (Asks Paper) of_loop = absurd of_loop
+sends_frames (NoCommand code) of_loop = absurd of_loop
+
+same_volume : (item : Item) (s : HostState) → IsOfLoop item → volume_at s ≡ volume_behind item s
+same_volume (Asks (OfVolume command)) s of_loop = absurd of_loop
+same_volume (Asks Devices) s of_loop = refl
+same_volume (Asks Status) s of_loop = refl
+same_volume (Asks Poll) s of_loop = refl
+same_volume (Asks (Say bytes)) s of_loop = refl
+same_volume (Asks Paper) s of_loop = absurd of_loop
+same_volume (NoCommand code) s of_loop = absurd of_loop
+
+module _ {M : Type 0} (view : M → MediumView) (item : Item) (of_loop : IsOfLoop item) (was is : Bool) (r s : RingView M) (leaves : LeavesTape view r s) where
+  volume_stays : volume_at (state_on view is s) ≡ volume_at (state_on view was r)
+  volume_stays = ap (λ tape. option_and_then volume_of tape) leaves.tape
+
+  gate_stays : HasOwnGate (state_on view was r) → HasOwnGate (state_on view is s)
+  gate_stays own = subst (λ tape. IfSome tape (λ t. is_foreign_gated t ≡ false)) (sym leaves.tape) own
+
+  -- it was done
+  pub loop_replied : reply.Ok ≡ reply_of item (state_on view was r) → Replied (event_on view item reply.Ok was is r s)
+  loop_replied right = record {
+    may = tt;
+    whole = λ tells. (right, volume_stays ∙ same_volume item (state_on view was r) of_loop);
+    stays = λ other. leaves.tape;
+    told = ap (λ tape. is_some tape) leaves.tape;
+    size = leaves.size;
+    gate = gate_stays;
+  }
+
+  -- it was refused
+  pub loop_refusal_replied : (code : Code) → reply.No code ≡ reply_of item (state_on view was r) → Replied (event_on view item (reply.No code) was is r s)
+  loop_refusal_replied code right = record {
+    may = tt;
+    whole = λ tells. (right, volume_stays ∙ same_volume item (state_on view was r) of_loop);
+    stays = λ other. leaves.tape;
+    told = ap (λ tape. is_some tape) leaves.tape;
+    size = leaves.size;
+    gate = gate_stays;
+  }
+
+  -- an exchange of it was broken off
+  pub loop_fault_replied : Replied (event_on view item reply.FaultFrame was is r s)
+  loop_fault_replied = record {
+    may = sends_frames item of_loop;
+    whole = λ tells own. inl volume_stays;
+    stays = λ other. leaves.tape;
+    told = ap (λ tape. is_some tape) leaves.tape;
+    size = leaves.size;
+    gate = gate_stays;
+  }
