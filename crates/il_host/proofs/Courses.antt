@@ -1,5 +1,5 @@
 -- What calls of the loop ask for is what their courses have due.
-use Rattle.std.proofs.Common.{◌≡◌, ◌+◌, ◌-◌, ◌++◌, ◌==◌, ◌∙◌, ℕ, zero, suc, true, false, List, [], ◌∷◌, length, map, Option, Some, None, refl, sym, ap, ap₂, subst, arith, append_assoc, append-nil, length-append}
+use Rattle.std.proofs.Common.{◌≡◌, ◌+◌, ◌-◌, ◌++◌, ◌==◌, ◌∙◌, ℕ, zero, suc, Bool, true, false, List, [], ◌∷◌, length, map, get_or, Option, Some, None, refl, sym, ap, ap₂, subst, arith, append_assoc, append-nil, length-append}
 use Rattle.std.specs.List.{starts_with}
 use Rattle.std.specs.Prelude.{nat_eq, take}
 use Rattle.std.specs.Str.{bytes_eq}
@@ -15,12 +15,12 @@ use Rattle.loop_model.specs.Loops.{Loop}
 use Rattle.loop_model.proofs.UnitLaws.{bytes_of}
 use Rattle.il_control.specs.Receives.{accessory_at}
 use Rattle.il_control.proofs.Assigning.{ppe}
-use Rattle.il_record.specs.Asks.{Ask, AskHear, AskIdentify, AskTell, IsFirstOf, ask_of, up_to}
-use Rattle.il_record.specs.LoopCalls.{id_asks, ids_of, say_asks}
+use Rattle.il_record.specs.Asks.{Ask, AskHear, AskIdentify, AskTell, IsFirstOf, Told, ask_of, told_of, up_to}
+use Rattle.il_record.specs.LoopCalls.{id_asks, id_told, ids_of, say_asks}
 use Rattle.il_record.specs.Polls.{collect_asks, place_asks, polled_along, ppu}
 use Rattle.host_model.specs.LoopStates.{polled_from}
 use Rattle.host_model.specs.Courses.{bytes_due, ids_due, is_commanding, is_id_answer, is_id_told, is_identified, is_said, places_due, poll_unconfigure}
-use Rattle.il_host.proofs.Keeping.{Any, Meets, MeetsOne, meets_command, meets_then, same_frame}
+use Rattle.il_host.proofs.Keeping.{Meets, MeetsOne, meets_command, meets_then, same_frame}
 
 -- ---- address by address
 
@@ -43,118 +43,114 @@ up_to_from asks (suc n) =
 
 -- ---- accessory IDs
 
--- What came of the message that asks the device of that address for its accessory ID: that device told it by one byte, and was stopped behind
--- it; or it has none, and the message came back.
-abbrev pub AnswersId : ℕ → Option ℕ → Answer → Type 0
-AnswersId a (Some id) (Stopped p [] last) = (p ≡ a) × (byte_of last.sent ≡ id)
-AnswersId a None NotTaken = Unit {0}
-AnswersId a id answer = ⊥
+abbrev party_of : Option Told → ℕ
+party_of None = 0
+party_of (Some t) = t.party
 
--- a receive from one of these devices told the ID of that device
-abbrev pub TellsId : List DeviceState → Exchange → Type 0
-TellsId devices (Receive a number start answer) = AnswersId a (accessory_at (a - 1) devices) answer
-TellsId devices x = Unit {0}
+abbrev stopped_of : Option Told → Bool
+stopped_of None = true
+stopped_of (Some t) = t.stopped
 
-answered : (a : ℕ) (id : Option ℕ) (answer : Answer) → AnswersId a id answer → is_id_answer a id answer ≡ true
-answered a (Some id) NotTaken tells = absurd tells
-answered a (Some id) (ToItsEnd p ds) tells = absurd tells
-answered a (Some id) (Stopped p [] last) tells = and_from (p == a) (byte_of last.sent == id) (eq-eqb p a tells.0) (eq-eqb (byte_of last.sent) id tells.1)
-answered a (Some id) (Stopped p (d ∷ ds) last) tells = absurd tells
-answered a None NotTaken tells = refl
-answered a None (ToItsEnd p ds) tells = absurd tells
-answered a None (Stopped p [] last) tells = absurd tells
-answered a None (Stopped p (d ∷ ds) last) tells = absurd tells
+abbrev told_bytes : Option Told → List ℕ
+told_bytes None = []
+told_bytes (Some t) = t.bytes
 
-meets_id : (devices : List DeviceState) (l : Loop) (a : ℕ) (id : Option ℕ) → accessory_at (a - 1) devices ≡ id → MeetsOne (TellsId devices) l (AskTell a None Sai) (is_id_told a id)
-meets_id devices l a id at = record { whole = whole; broken = broken }
+-- an accessory ID is told as the host has it
+answered : (a : ℕ) (id : Option ℕ) (answer : Answer) → told_of answer ≡ id_told a id → is_id_answer a id answer ≡ true
+answered a None NotTaken told = refl
+answered a None (ToItsEnd p ds) told = cc
+answered a None (Stopped p ds last) told = cc
+answered a (Some id) NotTaken told = cc
+answered a (Some id) (ToItsEnd p ds) told = let stop : false ≡ true = ap stopped_of told in cc
+answered a (Some id) (Stopped p [] last) told =
+    let byte : byte_of last.sent ≡ id = ap (λ bytes. get_or bytes 0 0) (ap told_bytes told) in
+    and_from (p == a) (byte_of last.sent == id) (eq-eqb p a (ap party_of told)) (eq-eqb (byte_of last.sent) id byte)
+answered a (Some id) (Stopped p (d ∷ []) last) told = let two : byte_of d.sent ∷ byte_of last.sent ∷ [] ≡ id ∷ [] = ap told_bytes told in cc
+answered a (Some id) (Stopped p (d ∷ e ∷ ds) last) told = let more : byte_of d.sent ∷ byte_of e.sent ∷ (bytes_of ds ++ byte_of last.sent ∷ []) ≡ id ∷ [] = ap told_bytes told in cc
+
+meets_id : (l : Loop) (a : ℕ) (id : Option ℕ) → MeetsOne l (AskTell a None Sai (id_told a id)) (is_id_told a id)
+meets_id l a id = record { whole = whole; broken = broken }
   where
-    told : (b : ℕ) (answer : Answer) → b ≡ a → AnswersId b (accessory_at (b - 1) devices) answer → is_id_told a id true (Receive b None Sai answer) ≡ true
-    told b answer same tells =
-        let here = subst (λ b. AnswersId b (accessory_at (b - 1) devices) answer) same tells in
-        and_from (b == a) (is_id_answer a id answer) (eq-eqb b a same) (answered a id answer (subst (λ id. AnswersId a id answer) at here))
+    by : (b : ℕ) (number : Option ℕ) (start : Start) (answer : Answer) → AskTell b number start (told_of answer) ≡ AskTell a None Sai (id_told a id) → is_id_told a id true (Receive b number start answer) ≡ true
+    by b (Some n) start answer is = cc
+    by b None Sda answer is = cc
+    by b None Sst answer is = cc
+    by b None Sdi answer is = cc
+    by b None Sai answer is =
+        let same : b ≡ a = cc in
+        let told : told_of answer ≡ id_told a id = cc in
+        and_from (b == a) (is_id_answer a id answer) (eq-eqb b a same) (answered a id answer told)
 
-    by : (b : ℕ) (number : Option ℕ) (start : Start) (answer : Answer) → AskTell b number start ≡ AskTell a None Sai → AnswersId b (accessory_at (b - 1) devices) answer → is_id_told a id true (Receive b number start answer) ≡ true
-    by b (Some n) start answer is tells = cc
-    by b None Sda answer is tells = cc
-    by b None Sst answer is tells = cc
-    by b None Sdi answer is tells = cc
-    by b None Sai answer is tells = let same : b ≡ a = cc in told b answer same tells
+    begun : (b : ℕ) (number : Option ℕ) (start : Start) (answer : Answer) (told : Option Told) → AskTell a None Sai (id_told a id) ≡ AskTell b number start told → is_id_told a id false (Receive b number start answer) ≡ true
+    begun b (Some n) start answer told is = cc
+    begun b None Sda answer told is = cc
+    begun b None Sst answer told is = cc
+    begun b None Sdi answer told is = cc
+    begun b None Sai answer told is = let same : b ≡ a = cc in and_from (b == a) true (eq-eqb b a same) refl
 
-    begun : (b : ℕ) (number : Option ℕ) (start : Start) (answer : Answer) → AskTell a None Sai ≡ AskTell b number start → is_id_told a id false (Receive b number start answer) ≡ true
-    begun b (Some n) start answer is = cc
-    begun b None Sda answer is = cc
-    begun b None Sst answer is = cc
-    begun b None Sdi answer is = cc
-    begun b None Sai answer is = let same : b ≡ a = cc in and_from (b == a) true (eq-eqb b a same) refl
+    whole : (x : Exchange) → is_exchange l x ≡ true → ask_of x ≡ AskTell a None Sai (id_told a id) → is_id_told a id true x ≡ true
+    whole (Command g) legal is = cc
+    whole (Address n) legal is = cc
+    whole (Send b number ds) legal is = cc
+    whole (Receive b number start answer) legal is = by b number start answer is
+    whole (Identify g) legal is = cc
 
-    whole : (x : Exchange) → is_exchange l x ≡ true → TellsId devices x → ask_of x ≡ AskTell a None Sai → is_id_told a id true x ≡ true
-    whole (Command g) legal tell is = cc
-    whole (Address n) legal tell is = cc
-    whole (Send b number ds) legal tell is = cc
-    whole (Receive b number start answer) legal tell is = by b number start answer is tell
-    whole (Identify g) legal tell is = cc
-
-    broken : (x : Exchange) → is_exchange l x ≡ true → IsFirstOf (ask_of x) (AskTell a None Sai) → is_id_told a id false x ≡ true
+    broken : (x : Exchange) → is_exchange l x ≡ true → IsFirstOf (ask_of x) (AskTell a None Sai (id_told a id)) → is_id_told a id false x ≡ true
     broken (Command g) legal is = cc
     broken (Address n) legal is = cc
     broken (Send b number ds) legal is = let clash = is.1 in cc
-    broken (Receive b number start answer) legal is = begun b number start answer is
-    broken (Identify g) legal is = cc
+    broken (Receive b number start answer) legal is = begun b number start answer is.0 is.1
+    broken (Identify g) legal is = let clash = is.1 in cc
 
 -- the ID of the device behind these
 at_front : (front : List DeviceState) (d : DeviceState) (ds : List DeviceState) → accessory_at (length front) (front ++ d ∷ ds) ≡ d.accessory
 at_front [] d ds = refl
 at_front (e ∷ front) d ds = at_front front d ds
 
-meets_ids_from : (l : Loop) (front ds devices : List DeviceState) (k : ℕ) → devices ≡ front ++ ds → k ≡ length front + 1 → Meets (TellsId devices) l (from id_asks k (length ds)) (ids_due k (ids_of ds))
+meets_ids_from : (l : Loop) (front ds devices : List DeviceState) (k : ℕ) → devices ≡ front ++ ds → k ≡ length front + 1 → Meets l (from (id_asks devices) k (length ds)) (ids_due k (ids_of ds))
 meets_ids_from l front [] devices k are place = tt
 meets_ids_from l front (d ∷ ds) devices k are place =
     let before : k - 1 ≡ length front = omega (arith, place) in
     let id : accessory_at (k - 1) devices ≡ d.accessory = ap₂ accessory_at before are ∙ at_front front d ds in
     let behind : devices ≡ (front ++ d ∷ []) ++ ds = are ∙ sym (append_assoc front (d ∷ []) ds) in
     let count : length (front ++ d ∷ []) ≡ length front + 1 = length-append front (d ∷ []) in
-    (meets_id devices l k d.accessory id, meets_ids_from l (front ++ d ∷ []) ds devices (k + 1) behind (omega (arith, place, count)))
+    (subst (λ id. MeetsOne l (AskTell k None Sai (id_told k id)) (is_id_told k d.accessory)) (sym id) (meets_id l k d.accessory), meets_ids_from l (front ++ d ∷ []) ds devices (k + 1) behind (omega (arith, place, count)))
 
 -- each device is asked for its ID, in the order of the ring
-pub meets_ids : (l : Loop) (devices : List DeviceState) → Meets (TellsId devices) l (up_to id_asks (length devices)) (ids_due 1 (ids_of devices))
+pub meets_ids : (l : Loop) (devices : List DeviceState) → Meets l (up_to (id_asks devices) (length devices)) (ids_due 1 (ids_of devices))
 meets_ids l devices =
-    subst (λ asks. Meets (TellsId devices) l asks (ids_due 1 (ids_of devices))) (sym (up_to_from id_asks (length devices)))
+    subst (λ asks. Meets l asks (ids_due 1 (ids_of devices))) (sym (up_to_from (id_asks devices) (length devices)))
     (meets_ids_from l [] devices devices 1 refl (omega arith))
 
 -- ---- the parallel poll
 
--- an identify frame came back as this one
-abbrev pub TellsFrame : Frame → Exchange → Type 0
-TellsFrame f (Identify g) = g ≡ f
-TellsFrame f x = Unit {0}
-
-meets_identify : (l : Loop) (f : Frame) → MeetsOne (TellsFrame f) l AskIdentify (is_identified f)
+meets_identify : (l : Loop) (f : Frame) → MeetsOne l (AskIdentify f) (is_identified f)
 meets_identify l f = record { whole = whole; broken = broken }
   where
-    whole : (x : Exchange) → is_exchange l x ≡ true → TellsFrame f x → ask_of x ≡ AskIdentify → is_identified f true x ≡ true
-    whole (Command g) legal tell is = cc
-    whole (Address n) legal tell is = cc
-    whole (Send b number ds) legal tell is = cc
-    whole (Receive b number start answer) legal tell is = cc
-    whole (Identify g) legal tell is = subst (λ g. is_frame f g ≡ true) (sym tell) (same_frame f)
+    whole : (x : Exchange) → is_exchange l x ≡ true → ask_of x ≡ AskIdentify f → is_identified f true x ≡ true
+    whole (Command g) legal is = cc
+    whole (Address n) legal is = cc
+    whole (Send b number ds) legal is = cc
+    whole (Receive b number start answer) legal is = cc
+    whole (Identify g) legal is = let same : g ≡ f = cc in subst (λ g. is_frame f g ≡ true) (sym same) (same_frame f)
 
-    broken : (x : Exchange) → is_exchange l x ≡ true → IsFirstOf (ask_of x) AskIdentify → is_identified f false x ≡ true
+    broken : (x : Exchange) → is_exchange l x ≡ true → IsFirstOf (ask_of x) (AskIdentify f) → is_identified f false x ≡ true
     broken (Command g) legal is = cc
     broken (Address n) legal is = cc
     broken (Send b number ds) legal is = let clash = is.1 in cc
-    broken (Receive b number start answer) legal is = cc
+    broken (Receive b number start answer) legal is = let clash = is.1 in cc
     broken (Identify g) legal is = refl
 
-meets_places_from : (T : Exchange → Type 0) (l : Loop) (k n : ℕ) → Meets T l (from place_asks k n) (places_due k n)
-meets_places_from T l k zero = tt
-meets_places_from T l k (suc n) = (meets_command T l unl, (meets_command T l (lad k), (meets_command T l (ppe (7 + k)), meets_places_from T l (k + 1) n)))
+meets_places_from : (l : Loop) (k n : ℕ) → Meets l (from place_asks k n) (places_due k n)
+meets_places_from l k zero = tt
+meets_places_from l k (suc n) = (meets_command l unl, (meets_command l (lad k), (meets_command l (ppe (7 + k)), meets_places_from l (k + 1) n)))
 
 -- the first devices take their places, all answer, and the places are taken away
-pub meets_poll : (l : Loop) (f : Frame) (n : ℕ) → Meets (TellsFrame f) l (up_to place_asks n ++ collect_asks) (places_due 1 n ++ is_commanding unl ∷ is_identified f ∷ is_commanding poll_unconfigure ∷ [])
+pub meets_poll : (l : Loop) (f : Frame) (n : ℕ) → Meets l (up_to place_asks n ++ collect_asks f) (places_due 1 n ++ is_commanding unl ∷ is_identified f ∷ is_commanding poll_unconfigure ∷ [])
 meets_poll l f n =
-    meets_then (TellsFrame f) l (up_to place_asks n) collect_asks (places_due 1 n) (is_commanding unl ∷ is_identified f ∷ is_commanding poll_unconfigure ∷ [])
-    (subst (λ asks. Meets (TellsFrame f) l asks (places_due 1 n)) (sym (up_to_from place_asks n)) (meets_places_from (TellsFrame f) l 1 n))
-    (meets_command (TellsFrame f) l unl, (meets_identify l f, (meets_command (TellsFrame f) l ppu, tt)))
+    meets_then l (up_to place_asks n) (collect_asks f) (places_due 1 n) (is_commanding unl ∷ is_identified f ∷ is_commanding poll_unconfigure ∷ [])
+    (subst (λ asks. Meets l asks (places_due 1 n)) (sym (up_to_from place_asks n)) (meets_places_from l 1 n))
+    (meets_command l unl, (meets_identify l f, (meets_command l ppu, tt)))
 
 -- the frame that comes back, in the words of the host
 pub polled_wants : (k : ℕ) (ds : List DeviceState) (f : Frame) → polled_along k ds f ≡ polled_from k (map (λ d. d.wants) ds) f
@@ -170,7 +166,7 @@ same_bytes bytes = (bytes_eq-Decides bytes bytes).1 refl
 front_of : (front more bytes : List ℕ) → bytes ≡ front ++ more → starts_with nat_eq bytes front ≡ true
 front_of front more bytes are = ap (λ sent. bytes_eq front sent) (ap (λ bytes. take (length front) bytes) are ∙ take-append_seam front more) ∙ same_bytes front
 
-meets_said : (l : Loop) (a : ℕ) (bytes : List ℕ) → MeetsOne Any l (AskHear a None bytes) (is_said a bytes)
+meets_said : (l : Loop) (a : ℕ) (bytes : List ℕ) → MeetsOne l (AskHear a None bytes) (is_said a bytes)
 meets_said l a bytes = record { whole = whole; broken = broken }
   where
     by : (b : ℕ) (number : Option ℕ) (ds : List Echo) → AskHear b number (bytes_of ds) ≡ AskHear a None bytes → is_said a bytes true (Send b number ds) ≡ true
@@ -187,20 +183,20 @@ meets_said l a bytes = record { whole = whole; broken = broken }
         let all : bytes ≡ bytes_of ds ++ more = cc in
         and_from (b == a) (starts_with nat_eq bytes (bytes_of ds)) (eq-eqb b a same) (front_of (bytes_of ds) more bytes all)
 
-    whole : (x : Exchange) → is_exchange l x ≡ true → Any x → ask_of x ≡ AskHear a None bytes → is_said a bytes true x ≡ true
-    whole (Command g) legal tell is = cc
-    whole (Address n) legal tell is = cc
-    whole (Send b number ds) legal tell is = by b number ds is
-    whole (Receive b number start answer) legal tell is = cc
-    whole (Identify g) legal tell is = cc
+    whole : (x : Exchange) → is_exchange l x ≡ true → ask_of x ≡ AskHear a None bytes → is_said a bytes true x ≡ true
+    whole (Command g) legal is = cc
+    whole (Address n) legal is = cc
+    whole (Send b number ds) legal is = by b number ds is
+    whole (Receive b number start answer) legal is = cc
+    whole (Identify g) legal is = cc
 
     broken : (x : Exchange) → is_exchange l x ≡ true → IsFirstOf (ask_of x) (AskHear a None bytes) → is_said a bytes false x ≡ true
     broken (Command g) legal is = cc
     broken (Address n) legal is = cc
     broken (Send b number ds) legal is = begun b number ds is.0 is.1
-    broken (Receive b number start answer) legal is = cc
-    broken (Identify g) legal is = cc
+    broken (Receive b number start answer) legal is = let clash = is.1 in cc
+    broken (Identify g) legal is = let clash = is.1 in cc
 
 -- the device of that address is to hear these bytes
-pub meets_say : (l : Loop) (a : ℕ) (bytes : List ℕ) → Meets Any l (say_asks a bytes) (bytes_due (Some a) bytes)
+pub meets_say : (l : Loop) (a : ℕ) (bytes : List ℕ) → Meets l (say_asks a bytes) (bytes_due (Some a) bytes)
 meets_say l a bytes = (meets_said l a bytes, tt)

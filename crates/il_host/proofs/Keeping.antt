@@ -42,56 +42,40 @@ keeps_cut (test ∷ front) course (Cut x n b ∷ p ∷ ps) first broken = cc
 
 -- ---- what was asked for
 
--- A whole exchange of which T holds and that is what was asked for is the one that is due, and so is a broken one that is its beginning.
-pub record MeetsOne (T : Exchange → Type 0) (l : Loop) (ask : Ask) (due : Due) : Type 0 where
-  pub whole : (x : Exchange) → is_exchange l x ≡ true → T x → ask_of x ≡ ask → due true x ≡ true
+-- A whole exchange that is what was asked for is the one that is due, and so is a broken one that is its beginning.
+pub record MeetsOne (l : Loop) (ask : Ask) (due : Due) : Type 0 where
+  pub whole : (x : Exchange) → is_exchange l x ≡ true → ask_of x ≡ ask → due true x ≡ true
   pub broken : (x : Exchange) → is_exchange l x ≡ true → IsFirstOf (ask_of x) ask → due false x ≡ true
 
 -- one by one
-abbrev pub Meets : (Exchange → Type 0) → Loop → List Ask → List Due → Type 0
-Meets T l [] [] = Unit {0}
-Meets T l (ask ∷ asks) (due ∷ dues) = MeetsOne T l ask due × Meets T l asks dues
-Meets T l [] (due ∷ dues) = ⊥
-Meets T l (ask ∷ asks) [] = ⊥
-
--- T holds of each whole exchange
-abbrev pub AllTell : (Exchange → Type 0) → List Piece → Type 0
-AllTell T [] = Unit {0}
-AllTell T (Whole x ∷ pieces) = T x × AllTell T pieces
-AllTell T (Cut x n b ∷ pieces) = AllTell T pieces
-
--- nothing is said of an exchange
-abbrev pub Any : Exchange → Type 0
-Any x = Unit {0}
-
--- so every exchange tells it
-pub all_tell_any : (pieces : List Piece) → AllTell Any pieces
-all_tell_any [] = tt
-all_tell_any (Whole x ∷ pieces) = (tt, all_tell_any pieces)
-all_tell_any (Cut x n b ∷ pieces) = all_tell_any pieces
+abbrev pub Meets : Loop → List Ask → List Due → Type 0
+Meets l [] [] = Unit {0}
+Meets l (ask ∷ asks) (due ∷ dues) = MeetsOne l ask due × Meets l asks dues
+Meets l [] (due ∷ dues) = ⊥
+Meets l (ask ∷ asks) [] = ⊥
 
 -- one list behind the other
-pub meets_then : (T : Exchange → Type 0) (l : Loop) (asks more : List Ask) (dues course : List Due) → Meets T l asks dues → Meets T l more course → Meets T l (asks ++ more) (dues ++ course)
-meets_then T l [] more [] course first rest = rest
-meets_then T l (ask ∷ asks) more (due ∷ dues) course first rest = (first.0, meets_then T l asks more dues course first.1 rest)
-meets_then T l [] more (due ∷ dues) course first rest = absurd first
-meets_then T l (ask ∷ asks) more [] course first rest = absurd first
+pub meets_then : (l : Loop) (asks more : List Ask) (dues course : List Due) → Meets l asks dues → Meets l more course → Meets l (asks ++ more) (dues ++ course)
+meets_then l [] more [] course first rest = rest
+meets_then l (ask ∷ asks) more (due ∷ dues) course first rest = (first.0, meets_then l asks more dues course first.1 rest)
+meets_then l [] more (due ∷ dues) course first rest = absurd first
+meets_then l (ask ∷ asks) more [] course first rest = absurd first
 
 -- exchanges that are those asked for are those that are due
-pub asked_keeps : (T : Exchange → Type 0) (l : Loop) (asks : List Ask) (dues : List Due) (pieces : List Piece) (whole : Bool) → list_all (is_piece l) pieces ≡ true → Asked asks pieces whole → AllTell T pieces → Meets T l asks dues → keeps_to dues pieces ≡ true
-asked_keeps T l [] [] [] whole legal asked tell meets = refl
-asked_keeps T l [] [] (p ∷ pieces) whole legal asked tell meets = absurd asked
-asked_keeps T l [] (due ∷ dues) pieces whole legal asked tell meets = absurd meets
-asked_keeps T l (ask ∷ asks) [] pieces whole legal asked tell meets = absurd meets
-asked_keeps T l (ask ∷ asks) (due ∷ dues) [] whole legal asked tell meets = absurd asked
-asked_keeps T l (ask ∷ asks) (due ∷ dues) (Whole x ∷ pieces) whole legal asked tell meets =
+pub asked_keeps : (l : Loop) (asks : List Ask) (dues : List Due) (pieces : List Piece) (whole : Bool) → list_all (is_piece l) pieces ≡ true → Asked asks pieces whole → Meets l asks dues → keeps_to dues pieces ≡ true
+asked_keeps l [] [] [] whole legal asked meets = refl
+asked_keeps l [] [] (p ∷ pieces) whole legal asked meets = absurd asked
+asked_keeps l [] (due ∷ dues) pieces whole legal asked meets = absurd meets
+asked_keeps l (ask ∷ asks) [] pieces whole legal asked meets = absurd meets
+asked_keeps l (ask ∷ asks) (due ∷ dues) [] whole legal asked meets = absurd asked
+asked_keeps l (ask ∷ asks) (due ∷ dues) (Whole x ∷ pieces) whole legal asked meets =
     let parts = and_parts (is_exchange l x) (list_all (is_piece l) pieces) legal in
-    and_from (due true x) (keeps_to dues pieces) (meets.0.whole x parts.0 tell.0 asked.0) (asked_keeps T l asks dues pieces whole parts.1 asked.1 tell.1 meets.1)
-asked_keeps T l (ask ∷ asks) (due ∷ dues) (Cut x n b ∷ []) true legal asked tell meets = absurd asked
-asked_keeps T l (ask ∷ asks) (due ∷ dues) (Cut x n b ∷ []) false legal asked tell meets =
+    and_from (due true x) (keeps_to dues pieces) (meets.0.whole x parts.0 asked.0) (asked_keeps l asks dues pieces whole parts.1 asked.1 meets.1)
+asked_keeps l (ask ∷ asks) (due ∷ dues) (Cut x n b ∷ []) true legal asked meets = absurd asked
+asked_keeps l (ask ∷ asks) (due ∷ dues) (Cut x n b ∷ []) false legal asked meets =
     let parts = and_parts (is_exchange l x && can_cut l.controller (entries_of l.controller x) n b) true legal in
     meets.0.broken x (and_parts (is_exchange l x) (can_cut l.controller (entries_of l.controller x) n b) parts.0).0 asked
-asked_keeps T l (ask ∷ asks) (due ∷ dues) (Cut x n b ∷ p ∷ pieces) whole legal asked tell meets = absurd asked
+asked_keeps l (ask ∷ asks) (due ∷ dues) (Cut x n b ∷ p ∷ pieces) whole legal asked meets = absurd asked
 
 -- ---- commands and addresses
 
@@ -100,40 +84,40 @@ pub same_frame : (f : Frame) → is_frame f f ≡ true
 same_frame f = and_from (same_class (class_of f) (class_of f)) (byte_of f == byte_of f) (eq-eqb (number_of_class (class_of f)) (number_of_class (class_of f)) refl) (eq-eqb (byte_of f) (byte_of f) refl)
 
 -- a command
-pub meets_command : (T : Exchange → Type 0) (l : Loop) (f : Frame) → MeetsOne T l (AskCommand f) (is_commanding f)
-meets_command T l f = record { whole = whole; broken = broken }
+pub meets_command : (l : Loop) (f : Frame) → MeetsOne l (AskCommand f) (is_commanding f)
+meets_command l f = record { whole = whole; broken = broken }
   where
-    whole : (x : Exchange) → is_exchange l x ≡ true → T x → ask_of x ≡ AskCommand f → is_commanding f true x ≡ true
-    whole (Command g) legal tell is = let same : g ≡ f = cc in subst (λ g. is_frame f g ≡ true) (sym same) (same_frame f)
-    whole (Address devices) legal tell is = cc
-    whole (Send a number ds) legal tell is = cc
-    whole (Receive a number start answer) legal tell is = cc
-    whole (Identify g) legal tell is = cc
+    whole : (x : Exchange) → is_exchange l x ≡ true → ask_of x ≡ AskCommand f → is_commanding f true x ≡ true
+    whole (Command g) legal is = let same : g ≡ f = cc in subst (λ g. is_frame f g ≡ true) (sym same) (same_frame f)
+    whole (Address devices) legal is = cc
+    whole (Send a number ds) legal is = cc
+    whole (Receive a number start answer) legal is = cc
+    whole (Identify g) legal is = cc
 
     broken : (x : Exchange) → is_exchange l x ≡ true → IsFirstOf (ask_of x) (AskCommand f) → is_commanding f false x ≡ true
     broken (Command g) legal is = let same : g ≡ f = cc in subst (λ g. is_frame f g ≡ true) (sym same) (same_frame f)
     broken (Address devices) legal is = cc
     broken (Send a number ds) legal is = let clash = is.1 in cc
-    broken (Receive a number start answer) legal is = cc
-    broken (Identify g) legal is = cc
+    broken (Receive a number start answer) legal is = let clash = is.1 in cc
+    broken (Identify g) legal is = let clash = is.1 in cc
 
 -- the addresses of all devices
-pub meets_addresses : (T : Exchange → Type 0) (l : Loop) → MeetsOne T l AskAddresses (is_numbering l.devices)
-meets_addresses T l = record { whole = whole; broken = broken }
+pub meets_addresses : (l : Loop) → MeetsOne l AskAddresses (is_numbering l.devices)
+meets_addresses l = record { whole = whole; broken = broken }
   where
-    whole : (x : Exchange) → is_exchange l x ≡ true → T x → ask_of x ≡ AskAddresses → is_numbering l.devices true x ≡ true
-    whole (Command g) legal tell is = cc
-    whole (Address devices) legal tell is = legal
-    whole (Send a number ds) legal tell is = cc
-    whole (Receive a number start answer) legal tell is = cc
-    whole (Identify g) legal tell is = cc
+    whole : (x : Exchange) → is_exchange l x ≡ true → ask_of x ≡ AskAddresses → is_numbering l.devices true x ≡ true
+    whole (Command g) legal is = cc
+    whole (Address devices) legal is = legal
+    whole (Send a number ds) legal is = cc
+    whole (Receive a number start answer) legal is = cc
+    whole (Identify g) legal is = cc
 
     broken : (x : Exchange) → is_exchange l x ≡ true → IsFirstOf (ask_of x) AskAddresses → is_numbering l.devices false x ≡ true
     broken (Command g) legal is = cc
     broken (Address devices) legal is = legal
     broken (Send a number ds) legal is = let clash = is.1 in cc
-    broken (Receive a number start answer) legal is = cc
-    broken (Identify g) legal is = cc
+    broken (Receive a number start answer) legal is = let clash = is.1 in cc
+    broken (Identify g) legal is = let clash = is.1 in cc
 
 -- ---- stages of a command
 
@@ -143,16 +127,12 @@ pub record Keeps {M : Type 0} (view : M → MediumView) (whole : Bool) (dues : L
   pub keeps : keeps_to dues came.came.pieces ≡ true
 
 module _ {M : Type 0} (view : M → MediumView) where
-  -- from what was asked for, and what the exchanges tell
-  pub keeps_told : (T : Exchange → Type 0) (whole : Bool) (asks : List Ask) (dues : List Due) (r s : RingView M) → (came : CameAsked view whole asks r s) → AllTell T came.units.came.pieces → Meets T (loop_of r) asks dues → Keeps view whole dues r s
-  keeps_told T whole asks dues r s came tell meets = record {
+  -- from what was asked for
+  pub keeps_asked : (whole : Bool) (asks : List Ask) (dues : List Due) (r s : RingView M) → CameAsked view whole asks r s → Meets (loop_of r) asks dues → Keeps view whole dues r s
+  keeps_asked whole asks dues r s came meets = record {
     came = came.units;
-    keeps = asked_keeps T (loop_of r) asks dues came.units.came.pieces whole came.units.came.talked.legal came.asked tell meets;
+    keeps = asked_keeps (loop_of r) asks dues came.units.came.pieces whole came.units.came.talked.legal came.asked meets;
   }
-
-  -- from what was asked for alone
-  pub keeps_asked : (whole : Bool) (asks : List Ask) (dues : List Due) (r s : RingView M) → CameAsked view whole asks r s → Meets Any (loop_of r) asks dues → Keeps view whole dues r s
-  keeps_asked whole asks dues r s came meets = keeps_told Any whole asks dues r s came (all_tell_any came.units.came.pieces) meets
 
   -- one call behind the other, from a ring on which no frame is held
   abbrev came_behind : (whole : Bool) (us ws : List RecordUnit) (r m s : RingView M) → IsFree r → CameUnits view true us r m → CameUnits view whole ws m s → CameUnits view whole (us ++ ws) r s

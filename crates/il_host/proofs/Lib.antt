@@ -20,7 +20,6 @@ pub mod Courses
 pub mod LoopCallsEvents
 pub mod VolumeCarries
 pub mod LoopReady
-pub mod ToldIds
 pub mod VolumeTravels
 pub mod LoopReplied
 pub mod LoopTravels

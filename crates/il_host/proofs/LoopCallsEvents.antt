@@ -24,8 +24,8 @@ use Rattle.host_model.specs.Steps.{Exchanged, Travels}
 use Rattle.host_model.proofs.RingStates.{count_on, ids_on, wants_on}
 use Rattle.loop_model.specs.Entries.{unl}
 use Rattle.il_host.proofs.CommandTravels.{event_on, travels_came}
-use Rattle.il_host.proofs.Courses.{TellsFrame, TellsId, meets_ids, meets_poll, meets_say, polled_wants}
-use Rattle.il_host.proofs.Keeping.{AllTell, Keeps, keeps_asked, keeps_broken, keeps_then, keeps_told}
+use Rattle.il_host.proofs.Courses.{meets_ids, meets_poll, meets_say, polled_wants}
+use Rattle.il_host.proofs.Keeping.{Keeps, keeps_asked, keeps_broken, keeps_then}
 use Rattle.il_host.proofs.LoopEvents.{IsOfLoop, Readies, keeps_interrupted, keeps_ready, loop_broken, loop_done, loop_refused}
 use Rattle.il_host.proofs.StatusEvents.{ready_leaves}
 
@@ -80,25 +80,25 @@ module _ {M : Type 0} (view : M → MediumView) (was is : Bool) (r m s : RingVie
   less_faults drive = let same = same_faults drive in omega (arith, same)
 
   -- each device is asked for its accessory ID, whole or broken off
-  pub ids_kept : (whole : Bool) → r.drive.state.interface.accessory ≡ Some drive_id → (left : LeftAlone view whole (up_to id_asks (length (devices_of m))) m s) → AllTell (TellsId (devices_of m)) left.came.units.came.pieces
+  pub ids_kept : (whole : Bool) → r.drive.state.interface.accessory ≡ Some drive_id → (left : LeftAlone view whole (up_to (id_asks (devices_of m)) (length (devices_of m))) m s)
       → Keeps view whole (ids_due 1 (all_ids (loop_on r))) m s
-  ids_kept whole drive left tell =
+  ids_kept whole drive left =
       subst (λ ids. Keeps view whole (ids_due 1 ids) m s) (ready_ids view was r m ready drive)
-      (keeps_told view (TellsId (devices_of m)) whole (up_to id_asks (length (devices_of m))) (ids_due 1 (ids_of (devices_of m))) m s left.came tell (meets_ids (loop_of m) (devices_of m)))
+      (keeps_asked view whole (up_to (id_asks (devices_of m)) (length (devices_of m))) (ids_due 1 (ids_of (devices_of m))) m s left.came (meets_ids (loop_of m) (devices_of m)))
 
   -- each device told its accessory ID
-  pub devices_exchanged : (ids : List (Option ℕ)) → r.drive.state.interface.accessory ≡ Some drive_id → (named : AllNamed view ids m s) → AllTell (TellsId (devices_of m)) named.left.came.units.came.pieces
+  pub devices_exchanged : (ids : List (Option ℕ)) → r.drive.state.interface.accessory ≡ Some drive_id → (named : AllNamed view ids m s)
       → Exchanged (hops_of r.books.plan) (event_on view (Asks Devices) reply.Ok was is r s)
-  devices_exchanged ids drive named tell =
+  devices_exchanged ids drive named =
       loop_done view (Asks Devices) tt (ids_due 1 (all_ids (loop_on r))) was is r s empty refl
-      (keeps_ready view was true (ids_due 1 (all_ids (loop_on r))) r m s ready (ids_kept true drive named.left tell)) (same_faults named.left.drive)
+      (keeps_ready view was true (ids_due 1 (all_ids (loop_on r))) r m s ready (ids_kept true drive named.left)) (same_faults named.left.drive)
 
   -- that was broken off
-  pub devices_broken : r.drive.state.interface.accessory ≡ Some drive_id → (left : LeftAlone view false (up_to id_asks (length (devices_of m))) m s) → AllTell (TellsId (devices_of m)) left.came.units.came.pieces
+  pub devices_broken : r.drive.state.interface.accessory ≡ Some drive_id → (left : LeftAlone view false (up_to (id_asks (devices_of m)) (length (devices_of m))) m s)
       → Exchanged (hops_of r.books.plan) (event_on view (Asks Devices) reply.FaultFrame was is r s)
-  devices_broken drive left tell =
+  devices_broken drive left =
       loop_broken view (Asks Devices) tt (ids_due 1 (all_ids (loop_on r))) was is r s empty refl
-      (keeps_ready view was false (ids_due 1 (all_ids (loop_on r))) r m s ready (ids_kept false drive left tell)) (less_faults left.drive)
+      (keeps_ready view was false (ids_due 1 (all_ids (loop_on r))) r m s ready (ids_kept false drive left)) (less_faults left.drive)
 
   -- ---- the parallel poll
 
@@ -108,28 +108,28 @@ module _ {M : Type 0} (view : M → MediumView) (was is : Bool) (r m s : RingVie
   places : min (length (devices_of m)) 8 ≡ min 8 (device_count (loop_on r))
   places = let count = ready_count view was r m ready in let all = count_on r in omega (arith, count, all)
 
-  poll_kept : (whole : Bool) → (came : CameAsked view whole (poll_asks (length (devices_of m))) m s) → AllTell (TellsFrame (polled_along 1 (devices_of m) idy)) came.units.came.pieces
+  poll_kept : (whole : Bool) → (came : CameAsked view whole (poll_asks (length (devices_of m)) (polled_along 1 (devices_of m) idy)) m s)
       → Keeps view whole (poll_due (poll_frame (loop_on r)) (min 8 (device_count (loop_on r)))) m s
-  poll_kept whole came tell =
+  poll_kept whole came =
       let f = polled_along 1 (devices_of m) idy in
       let n = min (length (devices_of m)) 8 in
       subst (λ f. Keeps view whole (poll_due f (min 8 (device_count (loop_on r)))) m s) (ready_frame view was r m ready)
       (subst (λ n. Keeps view whole (poll_due f n) m s) places
-      (keeps_told view (TellsFrame f) whole (poll_asks (length (devices_of m))) (poll_due f n) m s came tell (meets_poll (loop_of m) f n)))
+      (keeps_asked view whole (poll_asks (length (devices_of m)) f) (poll_due f n) m s came (meets_poll (loop_of m) f n)))
 
   -- the devices answered, by this frame
-  pub poll_exchanged : (f : Frame) → (polled : HasPolled view f m s) → AllTell (TellsFrame (polled_along 1 (devices_of m) idy)) polled.came.units.came.pieces
+  pub poll_exchanged : (f : Frame) → (polled : HasPolled view f m s)
       → Exchanged (hops_of r.books.plan) (event_on view (Asks Poll) reply.Ok was is r s)
-  poll_exchanged f polled tell =
+  poll_exchanged f polled =
       loop_done view (Asks Poll) tt (poll_due (poll_frame (loop_on r)) (min 8 (device_count (loop_on r)))) was is r s empty refl
-      (keeps_ready view was true (poll_due (poll_frame (loop_on r)) (min 8 (device_count (loop_on r)))) r m s ready (poll_kept true polled.came tell)) (same_faults polled.drive)
+      (keeps_ready view was true (poll_due (poll_frame (loop_on r)) (min 8 (device_count (loop_on r)))) r m s ready (poll_kept true (subst (λ f. CameAsked view true (poll_asks (length (devices_of m)) f) m s) polled.frame polled.came))) (same_faults polled.drive)
 
   -- that was broken off
-  pub poll_broken : (n : ℕ) → (broke : PollBroke view n (poll_asks (length (devices_of m))) m s) → AllTell (TellsFrame (polled_along 1 (devices_of m) idy)) broke.came.units.came.pieces
+  pub poll_broken : (n : ℕ) → (broke : PollBroke view n (poll_asks (length (devices_of m)) (polled_along 1 (devices_of m) idy)) m s)
       → Exchanged (hops_of r.books.plan) (event_on view (Asks Poll) reply.FaultFrame was is r s)
-  poll_broken n broke tell =
+  poll_broken n broke =
       loop_broken view (Asks Poll) tt (poll_due (poll_frame (loop_on r)) (min 8 (device_count (loop_on r)))) was is r s empty refl
-      (keeps_ready view was false (poll_due (poll_frame (loop_on r)) (min 8 (device_count (loop_on r)))) r m s ready (poll_kept false broke.came tell)) (less_faults broke.drive)
+      (keeps_ready view was false (poll_due (poll_frame (loop_on r)) (min 8 (device_count (loop_on r)))) r m s ready (poll_kept false broke.came)) (less_faults broke.drive)
 
   -- ---- printing, where no byte was sent
 
@@ -137,30 +137,30 @@ module _ {M : Type 0} (view : M → MediumView) (was is : Bool) (r m s : RingVie
   say_due bytes printer = ids_due 1 (all_ids (loop_on r)) ++ bytes_due printer bytes
 
   -- no printer is on the loop
-  pub say_refused : (bytes : List ℕ) (code : Code) (ids : List (Option ℕ)) → r.drive.state.interface.accessory ≡ Some drive_id → printer_at (loop_on r) ≡ None → (named : AllNamed view ids m s) → AllTell (TellsId (devices_of m)) named.left.came.units.came.pieces
+  pub say_refused : (bytes : List ℕ) (code : Code) (ids : List (Option ℕ)) → r.drive.state.interface.accessory ≡ Some drive_id → printer_at (loop_on r) ≡ None → (named : AllNamed view ids m s)
       → Exchanged (hops_of r.books.plan) (event_on view (Asks (Say bytes)) (reply.No code) was is r s)
-  say_refused bytes code ids drive printer named tell =
+  say_refused bytes code ids drive printer named =
       loop_refused view (Asks (Say bytes)) tt (say_due bytes None) was is r s empty (ap (λ printer. Some (say_due bytes printer)) printer) code
-      (keeps_ready view was true (say_due bytes None) r m s ready (subst (λ dues. Keeps view true dues m s) (sym (append-nil (ids_due 1 (all_ids (loop_on r))))) (ids_kept true drive named.left tell))) (same_faults named.left.drive)
+      (keeps_ready view was true (say_due bytes None) r m s ready (subst (λ dues. Keeps view true dues m s) (sym (append-nil (ids_due 1 (all_ids (loop_on r))))) (ids_kept true drive named.left))) (same_faults named.left.drive)
 
   -- a device was asked for its ID, and that was broken off
-  pub say_unnamed : (bytes : List ℕ) → r.drive.state.interface.accessory ≡ Some drive_id → (left : LeftAlone view false (up_to id_asks (length (devices_of m))) m s) → AllTell (TellsId (devices_of m)) left.came.units.came.pieces
+  pub say_unnamed : (bytes : List ℕ) → r.drive.state.interface.accessory ≡ Some drive_id → (left : LeftAlone view false (up_to (id_asks (devices_of m)) (length (devices_of m))) m s)
       → Exchanged (hops_of r.books.plan) (event_on view (Asks (Say bytes)) reply.FaultFrame was is r s)
-  say_unnamed bytes drive left tell =
+  say_unnamed bytes drive left =
       loop_broken view (Asks (Say bytes)) tt (say_due bytes (printer_at (loop_on r))) was is r s empty refl
-      (keeps_ready view was false (say_due bytes (printer_at (loop_on r))) r m s ready (keeps_broken view (ids_due 1 (all_ids (loop_on r))) (bytes_due (printer_at (loop_on r)) bytes) m s (ids_kept false drive left tell))) (less_faults left.drive)
+      (keeps_ready view was false (say_due bytes (printer_at (loop_on r))) r m s ready (keeps_broken view (ids_due 1 (all_ids (loop_on r))) (bytes_due (printer_at (loop_on r)) bytes) m s (ids_kept false drive left))) (less_faults left.drive)
 
 -- ---- printing
 
 module _ {M : Type 0} (view : M → MediumView) (was is : Bool) (r m n s : RingView M) (empty : r.books.log ≡ []) (ready : Readies view was r m) (a : ℕ) (bytes : List ℕ) (printer : printer_at (loop_on r) ≡ Some a)
-    (drive : r.drive.state.interface.accessory ≡ Some drive_id) (ids : List (Option ℕ)) (named : AllNamed view ids m n) (tell : AllTell (TellsId (devices_of m)) named.left.came.units.came.pieces) where
+    (drive : r.drive.state.interface.accessory ≡ Some drive_id) (ids : List (Option ℕ)) (named : AllNamed view ids m n) where
   abbrev due_said : List Due
   due_said = ids_due 1 (all_ids (loop_on r)) ++ bytes_due (Some a) bytes
 
   said_kept : (whole : Bool) → Keeps view whole (bytes_due (Some a) bytes) n s → Keeps view whole (addressed_first (loop_on r) was due_said) r s
   said_kept whole more =
       keeps_ready view was whole due_said r m s ready
-      (keeps_then view whole (ids_due 1 (all_ids (loop_on r))) (bytes_due (Some a) bytes) m n s (ready_free view was r m ready) (ids_kept view was is r m n empty ready true drive named.left tell) more)
+      (keeps_then view whole (ids_due 1 (all_ids (loop_on r))) (bytes_due (Some a) bytes) m n s (ready_free view was r m ready) (ids_kept view was is r m n empty ready true drive named.left) more)
 
   said_faults : LeavesDrive n.drive s.drive → (view s.drive.medium).faults ≡ (view r.drive.medium).faults
   said_faults leaves = ap (λ medium. (view medium).faults) leaves.medium ∙ same_faults view was is r m n empty ready named.left.drive

@@ -21,7 +21,7 @@ use Rattle.host_model.specs.Steps.{Exchanged, IsCarried}
 use Rattle.host_model.proofs.RingStates.{count_on}
 use Rattle.il_host.proofs.CommandTravels.{event_on}
 use Rattle.il_host.proofs.CommandLogs.{exchanged_came}
-use Rattle.il_host.proofs.Keeping.{Any, Keeps, Meets, MeetsOne, keeps_asked, keeps_broken, keeps_then, meets_addresses, meets_command}
+use Rattle.il_host.proofs.Keeping.{Keeps, Meets, MeetsOne, keeps_asked, keeps_broken, keeps_then, meets_addresses, meets_command}
 
 -- ---- the loop is ready
 
@@ -30,9 +30,9 @@ abbrev pub Readies : {M : Type 0} → (M → MediumView) → Bool → RingView M
 Readies view true r m = (m ≡ r) × IsIdle r
 Readies view false r m = IsFree r × Readied view r m
 
-meets_addressing : {M : Type 0} (r : RingView M) → Meets Any (loop_of r) address_asks (addresses_due (loop_on r))
+meets_addressing : {M : Type 0} (r : RingView M) → Meets (loop_of r) address_asks (addresses_due (loop_on r))
 meets_addressing r =
-    (meets_command Any (loop_of r) ifc, (meets_command Any (loop_of r) aau, (subst (λ k. MeetsOne Any (loop_of r) AskAddresses (is_numbering k)) (sym (count_on r)) (meets_addresses Any (loop_of r)), tt)))
+    (meets_command (loop_of r) ifc, (meets_command (loop_of r) aau, (subst (λ k. MeetsOne (loop_of r) AskAddresses (is_numbering k)) (sym (count_on r)) (meets_addresses (loop_of r)), tt)))
 
 module _ {M : Type 0} (view : M → MediumView) where
   -- the addressing, and then the course of the command

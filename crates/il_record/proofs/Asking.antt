@@ -32,8 +32,8 @@ pub first_of_same : (a : Ask) → IsFirstOf a a
 first_of_same (Ask.AskCommand f) = refl
 first_of_same Ask.AskAddresses = refl
 first_of_same (Ask.AskHear a number bytes) = ([], ap (λ bytes. Ask.AskHear a number bytes) (sym (append-nil bytes)))
-first_of_same (Ask.AskTell a number start) = refl
-first_of_same Ask.AskIdentify = refl
+first_of_same (Ask.AskTell a number start told) = (told, refl)
+first_of_same (Ask.AskIdentify f) = (f, refl)
 
 -- ---- address by address
 

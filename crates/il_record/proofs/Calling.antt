@@ -8,7 +8,7 @@ use Rattle.il_drive.specs.Steps.{IsStill}
 use Rattle.il_drive.proofs.Exchanges.{IsFree}
 use Rattle.il_ring.specs.Lists.{Each}
 use Rattle.il_ring.specs.Rings.{RingView, devices_of, drive_party, spare_of}
-use Rattle.il_control.specs.Calls.{IsIdle, IsLost, loop_of}
+use Rattle.il_control.specs.Calls.{IsIdle, IsLost, idy, loop_of}
 use Rattle.il_frames.specs.declared.frame.Frame.{Frame}
 use Rattle.il_record.specs.declared.records.Since.{Since}
 use Rattle.il_record.specs.declared.records.Since.TheVariants as since
@@ -17,7 +17,7 @@ use Rattle.il_record.specs.Called.{Called, CallBroke, LeavesStore}
 use Rattle.il_record.specs.Came.{CameUnits}
 use Rattle.il_record.specs.LoopCalls.{AllNamed, LeftAlone, NotSaid, Said, id_asks}
 use Rattle.il_record.specs.LoopStores.{LoopView, Standing, Addresses, AtIdle, AtLost, HasRing, Nowhere, StandsSo, Stood, Transferred, calls_in, is_broken, is_unbroken, since_frame, since_more, since_said, view_at, view_of}
-use Rattle.il_record.specs.Polls.{HasPolled, MayPoll, PlacesKept, PollBroke, poll_asks}
+use Rattle.il_record.specs.Polls.{HasPolled, MayPoll, PlacesKept, PollBroke, poll_asks, polled_along}
 use Rattle.il_record.specs.Runs.{NotPolled, Polled}
 use Rattle.il_record.proofs.HeardLogs.{heard_none}
 use Rattle.il_record.proofs.Places.{free_on, kept_left, kept_not_said, kept_said, kept_stays, may_poll_broke, may_poll_kept, may_poll_polled}
@@ -133,16 +133,16 @@ module _ {M : Type 0} (view : M → MediumView) (old mid new : LoopView M) (r s 
     pub names_told : (ids : List (Option ℕ)) → new ≡ record mid { control = AtIdle s } → AllNamed view ids r s → Called (λ r s. AllNamed view ids r s) old.since old new
     names_told ids left named = called (λ r s. AllNamed view ids r s) old.since old mid new r s at taken named left
 
-    pub names_not_told : (n : ℕ) (e : Trouble) → n ≡ length (devices_of r) → e ≡ trouble.Frame → new ≡ record mid { control = AtLost s; sound = false; since = since_frame mid.since } → LeftAlone view false (up_to id_asks n) r s
-        → (e ≡ trouble.Frame) × CallBroke (λ r s. LeftAlone view false (up_to id_asks (length (devices_of r))) r s) (since_frame old.since) old new
-    names_not_told n e count is left not = (is, call_broke (λ r s. LeftAlone view false (up_to id_asks (length (devices_of r))) r s) old.since old mid new r s at taken (subst (λ n. LeftAlone view false (up_to id_asks n) r s) count not) left)
+    pub names_not_told : (n : ℕ) (e : Trouble) → n ≡ length (devices_of r) → e ≡ trouble.Frame → new ≡ record mid { control = AtLost s; sound = false; since = since_frame mid.since } → LeftAlone view false (up_to (id_asks (devices_of r)) n) r s
+        → (e ≡ trouble.Frame) × CallBroke (λ r s. LeftAlone view false (up_to (id_asks (devices_of r)) (length (devices_of r))) r s) (since_frame old.since) old new
+    names_not_told n e count is left not = (is, call_broke (λ r s. LeftAlone view false (up_to (id_asks (devices_of r)) (length (devices_of r))) r s) old.since old mid new r s at taken (subst (λ n. LeftAlone view false (up_to (id_asks (devices_of r)) n) r s) count not) left)
 
     pub poll_told : (f : Frame) → new ≡ record mid { control = AtIdle s } → HasPolled view f r s → Called (HasPolled view f) old.since old new
     poll_told f left polled = called (HasPolled view f) old.since old mid new r s at taken polled left
 
-    pub poll_not_told : (n : ℕ) (e : Trouble) → n ≡ length (devices_of r) → e ≡ trouble.Frame → new ≡ record mid { control = AtLost s; sound = false; since = since_frame mid.since } → PollBroke view 54 (poll_asks n) r s
-        → (e ≡ trouble.Frame) × CallBroke (λ r s. PollBroke view 54 (poll_asks (length (devices_of r))) r s) (since_frame old.since) old new
-    poll_not_told n e count is left not = (is, call_broke (λ r s. PollBroke view 54 (poll_asks (length (devices_of r))) r s) old.since old mid new r s at taken (subst (λ n. PollBroke view 54 (poll_asks n) r s) count not) left)
+    pub poll_not_told : (n : ℕ) (e : Trouble) → n ≡ length (devices_of r) → e ≡ trouble.Frame → new ≡ record mid { control = AtLost s; sound = false; since = since_frame mid.since } → PollBroke view 54 (poll_asks n (polled_along 1 (devices_of r) idy)) r s
+        → (e ≡ trouble.Frame) × CallBroke (λ r s. PollBroke view 54 (poll_asks (length (devices_of r)) (polled_along 1 (devices_of r) idy)) r s) (since_frame old.since) old new
+    poll_not_told n e count is left not = (is, call_broke (λ r s. PollBroke view 54 (poll_asks (length (devices_of r)) (polled_along 1 (devices_of r) idy)) r s) old.since old mid new r s at taken (subst (λ n. PollBroke view 54 (poll_asks n (polled_along 1 (devices_of r) idy)) r s) count not) left)
 
   module _ (between : LoopView M) (taken : between ≡ record old { control = Nowhere }) (spoken : mid ≡ record between { since = since_said between.since }) (a : ℕ) (bytes : List ℕ) where
     spoke : mid ≡ record old { control = Nowhere; since = since_said old.since }

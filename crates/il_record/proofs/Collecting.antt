@@ -100,13 +100,13 @@ module _ {M : Type 0} (view : M → MediumView) (r : RingView M) (idle : IsIdle 
         room = omega (arith, before, spent);
       }
 
-  pub identified_next : (n : ℕ) (asks : List Ask) (f : Frame) (m s : RingView M) → Begun view n asks r m → 1 ≤ spare_of m → Made view (Identify f) m s → AllStay true m s → Begun view (n + 1) (asks ++ AskIdentify ∷ []) r s
+  pub identified_next : (n : ℕ) (asks : List Ask) (f : Frame) (m s : RingView M) → Begun view n asks r m → 1 ≤ spare_of m → Made view (Identify f) m s → AllStay true m s → Begun view (n + 1) (asks ++ AskIdentify f ∷ []) r s
   identified_next n asks f m s so room made stays =
       let drive = identify_made view m s f so.drive.mild made in
       let before = so.room in
       let spent = identify_room view m s f room made in
       record {
-        came = asked_on view true asks (AskIdentify ∷ []) r m s idle so.came (asked_made view (Identify f) m s made refl (tape_same view m.drive s.drive drive.medium));
+        came = asked_on view true asks (AskIdentify f ∷ []) r m s idle so.came (asked_made view (Identify f) m s made refl (tape_same view m.drive s.drive drive.medium));
         devices = all_polls r m s so.devices (stays_polls m s stays);
         unheard = heard_then 0 r m s so.unheard (none_whole view m s (entries_of 0 (Identify f)) refl made.whole);
         drive = mild_then view r.drive m.drive s.drive so.drive drive;
@@ -127,13 +127,13 @@ module _ {M : Type 0} (view : M → MediumView) (r : RingView M) (idle : IsIdle 
         room = omega (arith, before, spent);
       }
 
-  pub identify_not : (n : ℕ) (asks more : List Ask) (m s : RingView M) → Begun view n asks r m → BrokenOff view (Identify idy) m s → AllStay true m s → PollBroke view (n + 2) (asks ++ AskIdentify ∷ more) r s
-  identify_not n asks more m s so broken stays =
+  pub identify_not : (n : ℕ) (asks more : List Ask) (g : Frame) (m s : RingView M) → Begun view n asks r m → BrokenOff view (Identify idy) m s → AllStay true m s → PollBroke view (n + 2) (asks ++ AskIdentify g ∷ more) r s
+  identify_not n asks more g m s so broken stays =
       let drive = identify_broken view m s idy so.drive.mild broken in
       let before = so.room in
       let spent : spare_of m ≤ spare_of s + 2 = broken_used view (Identify idy) 2 m s broken (omega arith) in
       record {
-        came = asked_on view false asks (AskIdentify ∷ more) r m s idle so.came (asked_broken view AskIdentify more (Identify idy) m s refl broken (tape_same view m.drive s.drive drive.medium));
+        came = asked_on view false asks (AskIdentify g ∷ more) r m s idle so.came (asked_broken view (AskIdentify g) more (Identify idy) m s (g, refl) broken (tape_same view m.drive s.drive drive.medium));
         devices = all_polls r m s so.devices (stays_polls m s stays);
         unheard = heard_then 0 r m s so.unheard (none_broke view m s (entries_of 0 (Identify idy)) refl broken.broke);
         drive = leaves_mild view r.drive s.drive (mild_then view r.drive m.drive s.drive so.drive drive);
@@ -200,7 +200,7 @@ module _ {M : Type 0} (view : M → MediumView) (r : RingView M) (idle : IsIdle 
   along_same m kept still [] (e ∷ es) f took = absurd took
   along_same m kept still (d ∷ ds) [] f took = absurd took
 
-  pub collected : (f g h : Frame) (m u s : RingView M) → f ≡ unl → h ≡ ppu → Begun view 2 (AskCommand unl ∷ []) r m → Obeyed (message_of f) r m → Begun view 3 (AskCommand unl ∷ AskIdentify ∷ []) r u → g ≡ identified_along (devices_of m) idy → Made view (Command h) u s → Obeyed (message_of h) u s → Collected view g r s
+  pub collected : (f g h : Frame) (m u s : RingView M) → f ≡ unl → h ≡ ppu → Begun view 2 (AskCommand unl ∷ []) r m → Obeyed (message_of f) r m → Begun view 3 (AskCommand unl ∷ AskIdentify g ∷ []) r u → g ≡ identified_along (devices_of m) idy → Made view (Command h) u s → Obeyed (message_of h) u s → Collected view g r s
   collected f g h m u s is_unl is_ppu begun first so back made last =
       let now : Made view (Command ppu) u s = subst (λ f. Made view (Command f) u s) is_ppu made in
       let drive = command_made view u s ppu refl so.drive.mild now in
@@ -208,16 +208,18 @@ module _ {M : Type 0} (view : M → MediumView) (r : RingView M) (idle : IsIdle 
       let spent = command_used view ppu u s now in
       record {
         frame = back ∙ along_same msg.Unl refl refl (devices_of r) (devices_of m) idy (subst (λ f. Obeyed (message_of f) r m) is_unl first);
-        came = asked_on view true (AskCommand unl ∷ AskIdentify ∷ []) (AskCommand ppu ∷ []) r u s idle so.came (asked_made view (Command ppu) u s now refl (tape_same view u.drive s.drive drive.medium));
+        came = asked_on view true (AskCommand unl ∷ AskIdentify g ∷ []) (AskCommand ppu ∷ []) r u s idle so.came (asked_made view (Command ppu) u s now refl (tape_same view u.drive s.drive drive.medium));
         released = all_released r u s so.devices (ppu_released u s (subst (λ f. Obeyed (message_of f) u s) is_ppu last));
         unheard = heard_then 0 r u s so.unheard (command_heard view u s ppu refl now);
         drive = leaves_mild view r.drive s.drive (mild_then view r.drive u.drive s.drive so.drive drive);
         room = omega (arith, before, spent);
       }
 
-  pub collected_not : (h : Frame) (u s : RingView M) → h ≡ ppu → Begun view 3 (AskCommand unl ∷ AskIdentify ∷ []) r u → BrokenOff view (Command h) u s → ObeyedInPart (message_of h) u s → PollBroke view 6 collect_asks r s
-  collected_not h u s is so broken part =
-      next_broken 3 (AskCommand unl ∷ AskIdentify ∷ []) [] ppu u s refl refl so (subst (λ f. BrokenOff view (Command f) u s) is broken) (ppu_polls u s (subst (λ f. ObeyedInPart (message_of f) u s) is part))
+  pub collected_not : (f g h : Frame) (m u s : RingView M) → f ≡ unl → h ≡ ppu → Begun view 2 (AskCommand unl ∷ []) r m → Obeyed (message_of f) r m → Begun view 3 (AskCommand unl ∷ AskIdentify g ∷ []) r u → g ≡ identified_along (devices_of m) idy → BrokenOff view (Command h) u s → ObeyedInPart (message_of h) u s → PollBroke view 6 (collect_asks (identified_along (devices_of r) idy)) r s
+  collected_not f g h m u s is_unl is begun first so back broken part =
+      let told : g ≡ identified_along (devices_of r) idy = back ∙ along_same msg.Unl refl refl (devices_of r) (devices_of m) idy (subst (λ f. Obeyed (message_of f) r m) is_unl first) in
+      subst (λ g. PollBroke view 6 (collect_asks g) r s) told
+      (next_broken 3 (AskCommand unl ∷ AskIdentify g ∷ []) [] ppu u s refl refl so (subst (λ f. BrokenOff view (Command f) u s) is broken) (ppu_polls u s (subst (λ f. ObeyedInPart (message_of f) u s) is part)))
 
 -- ---- place behind place
 
@@ -316,19 +318,22 @@ module _ {M : Type 0} (view : M → MediumView) (r : RingView M) (idle : IsIdle 
       }
 
   -- at the place of the next device, or as the answers were collected: as the poll of n devices
-  pub broke_placing : (i n : ℕ) (m s : RingView M) → i + 1 ≤ min n 8 → AssignedSo view i r m → PollBroke view 7 (place_asks (i + 1)) m s → PollBroke view 54 (poll_asks n) r s
+  pub broke_placing : (i n : ℕ) (m s : RingView M) → i + 1 ≤ min n 8 → AssignedSo view i r m → PollBroke view 7 (place_asks (i + 1)) m s → PollBroke view 54 (poll_asks n (polled_along 1 (devices_of r) idy)) r s
   broke_placing i n m s few so broke =
       let behind = broke_behind i 7 54 (place_asks (i + 1)) m s (omega (arith, few)) so broke in
       record {
-        came = asked_up_to view place_asks i (min n 8) collect_asks r m s few idle so.came broke.came;
+        came = asked_up_to view place_asks i (min n 8) (collect_asks (polled_along 1 (devices_of r) idy)) r m s few idle so.came broke.came;
         devices = behind.devices;
         unheard = behind.unheard;
         drive = behind.drive;
         room = behind.room;
       }
 
-  pub broke_collecting : (i n : ℕ) (m s : RingView M) → i ≡ min n 8 → AssignedSo view i r m → PollBroke view 6 collect_asks m s → PollBroke view 54 (poll_asks n) r s
-  broke_collecting i n m s most so broke = subst (λ i. PollBroke view 54 (up_to place_asks i ++ collect_asks) r s) most (broke_behind i 6 54 collect_asks m s (omega (arith, most)) so broke)
+  pub broke_collecting : (i n : ℕ) (m s : RingView M) → i ≡ min n 8 → n ≡ length (devices_of r) → Each MayPoll 1 (devices_of r) → AssignedSo view i r m → PollBroke view 6 (collect_asks (identified_along (devices_of m) idy)) m s → PollBroke view 54 (poll_asks n (polled_along 1 (devices_of r) idy)) r s
+  broke_collecting i n m s most count may so broke =
+      let told : identified_along (devices_of m) idy ≡ polled_along 1 (devices_of r) idy = along_placed i n 1 (devices_of r) (devices_of m) idy most (omega (arith, count)) so.placed may in
+      subst (λ f. PollBroke view 54 (poll_asks n f) r s) told
+      (subst (λ i. PollBroke view 54 (up_to place_asks i ++ collect_asks (identified_along (devices_of m) idy)) r s) most (broke_behind i 6 54 (collect_asks (identified_along (devices_of m) idy)) m s (omega (arith, most)) so broke))
 
   pub polled : (i n : ℕ) (f : Frame) (m s : RingView M) → i ≡ min n 8 → n ≡ length (devices_of r) → Each MayPoll 1 (devices_of r) → AssignedSo view i r m → Collected view f m s → HasPolled view f r s
   polled i n f m s most count may so got =
@@ -336,7 +341,7 @@ module _ {M : Type 0} (view : M → MediumView) (r : RingView M) (idle : IsIdle 
       let spent = got.room in
       record {
         frame = got.frame ∙ along_placed i n 1 (devices_of r) (devices_of m) idy most (omega (arith, count)) so.placed may;
-        came = subst (λ n. CameAsked view true (up_to place_asks n ++ collect_asks) r s) (most ∙ ap (λ n. min n 8) count) (asked_on view true (up_to place_asks i) collect_asks r m s idle so.came got.came);
+        came = subst (λ n. CameAsked view true (up_to place_asks n ++ collect_asks f) r s) (most ∙ ap (λ n. min n 8) count) (asked_on view true (up_to place_asks i) (collect_asks f) r m s idle so.came got.came);
         released = all_released r m s (each_as (PlacedTo i) PollsOn (left_placed i) 1 (devices_of r) (devices_of m) so.placed) got.released;
         unheard = heard_then 0 r m s so.unheard got.unheard;
         drive = leaves_then r.drive m.drive s.drive so.drive got.drive;

@@ -1,36 +1,51 @@
 -- What a controller asks for by an exchange, and exchanges that are those asked for: all whole, or the last of them broken off.
-use Rattle.std.specs.Prelude.{◌≡◌, ℕ, zero, suc, Bool, true, false, List, [], ◌∷◌, ◌++◌, Option}
+use Rattle.std.specs.Prelude.{◌≡◌, ℕ, zero, suc, Bool, true, false, List, [], ◌∷◌, ◌++◌, Option, Some, None}
+use Rattle.il_frames.specs.Frames.{byte_of}
 use Rattle.il_frames.specs.declared.frame.Frame.{Frame}
 use Rattle.il_ports.specs.Media.{MediumView}
-use Rattle.loop_model.specs.Exchanges.{Exchange, Command, Address, Send, Receive, Identify, Start, Piece, Whole, Cut}
+use Rattle.loop_model.specs.Exchanges.{Answer, NotTaken, ToItsEnd, Stopped, Exchange, Command, Address, Send, Receive, Identify, Start, Piece, Whole, Cut}
 use Rattle.loop_model.proofs.UnitLaws.{bytes_of}
 use Rattle.il_ring.specs.Rings.{RingView}
 use Rattle.il_record.specs.Came.{CameUnits}
 
+-- the bytes that a party told, and whether the controller stopped it behind them
+pub record Told : Type 0 where
+  pub party : ℕ
+  pub bytes : List ℕ
+  pub stopped : Bool
+
+-- nothing, where the start message came back
+abbrev pub told_of : Answer → Option Told
+told_of NotTaken = None
+told_of (ToItsEnd p ds) = Some (record { party = p; bytes = bytes_of ds; stopped = false })
+told_of (Stopped p ds last) = Some (record { party = p; bytes = bytes_of ds ++ byte_of last.sent ∷ []; stopped = true })
+
 -- All devices obey a command, or take their addresses; the device of an address hears bytes, behind a DDL of a number where one is
--- given; it tells what a start message asks of it, behind a DDT; all devices set their bits in an identify frame.
+-- given; a start message asks it to tell something, behind a DDT, and this is told; all devices set their bits in an identify frame,
+-- which comes back as this one.
 pub data Ask : Type 0 where
   AskCommand : Frame → Ask
   AskAddresses : Ask
   AskHear : ℕ → Option ℕ → List ℕ → Ask
-  AskTell : ℕ → Option ℕ → Start → Ask
-  AskIdentify : Ask
+  AskTell : ℕ → Option ℕ → Start → Option Told → Ask
+  AskIdentify : Frame → Ask
 
 -- what an exchange asked for
 abbrev pub ask_of : Exchange → Ask
 ask_of (Command f) = AskCommand f
 ask_of (Address devices) = AskAddresses
 ask_of (Send a number ds) = AskHear a number (bytes_of ds)
-ask_of (Receive a number start answer) = AskTell a number start
-ask_of (Identify f) = AskIdentify
+ask_of (Receive a number start answer) = AskTell a number start (told_of answer)
+ask_of (Identify f) = AskIdentify f
 
--- the first asks for as much as the second, or has the device hear only the first ones of its bytes
+-- Of an exchange that broke off: the first asks for as much as the second, or has the device hear only the first ones of its bytes.
+-- What is told does not count.
 abbrev pub IsFirstOf : Ask → Ask → Type 0
 IsFirstOf (AskHear a number bytes) ask = (more : List ℕ) × (ask ≡ AskHear a number (bytes ++ more))
 IsFirstOf (AskCommand f) ask = ask ≡ AskCommand f
 IsFirstOf AskAddresses ask = ask ≡ AskAddresses
-IsFirstOf (AskTell a number start) ask = ask ≡ AskTell a number start
-IsFirstOf AskIdentify ask = ask ≡ AskIdentify
+IsFirstOf (AskTell a number start told) ask = (other : Option Told) × (ask ≡ AskTell a number start other)
+IsFirstOf (AskIdentify f) ask = (g : Frame) × (ask ≡ AskIdentify g)
 
 -- Each exchange is what was asked for in its place. All are whole and nothing else was asked for; or the last is broken off.
 abbrev pub Asked : List Ask → List Piece → Bool → Type 0

@@ -1,5 +1,5 @@
 -- Calls over the loop that move no record: accessory IDs, the parallel poll, and bytes for a printer.
-use Rattle.std.specs.Prelude.{◌≡◌, ◌≤◌, ◌+◌, ◌-◌, ℕ, Bool, true, false, List, [], ◌∷◌, length, take, map, Option, None}
+use Rattle.std.specs.Prelude.{◌≡◌, ◌≤◌, ◌+◌, ◌-◌, ℕ, Bool, true, false, List, [], ◌∷◌, length, take, map, Option, Some, None}
 use Rattle.il_device.specs.State.{DeviceState}
 use Rattle.il_ports.specs.Media.{MediumView}
 use Rattle.il_drive.specs.State.{DriveView, status_of}
@@ -8,7 +8,7 @@ use Rattle.il_ring.specs.Rings.{RingView, devices_of, spare_of}
 use Rattle.il_control.specs.Calls.{AllStay}
 use Rattle.il_control.specs.Receives.{accessory_at}
 use Rattle.il_control.proofs.Assigning.{EachTo}
-use Rattle.il_record.specs.Asks.{Ask, AskTell, AskHear, CameAsked, up_to}
+use Rattle.il_record.specs.Asks.{Ask, AskTell, AskHear, CameAsked, Told, up_to}
 use Rattle.il_record.specs.Came.{NoneHeard, OnlyHeard, heard_on}
 use Rattle.il_record.specs.Listening.{Hears, HearsPart}
 
@@ -20,9 +20,14 @@ pub record LeavesDrive {M : Type 0} (v w : DriveView M) : Type 0 where
 
 -- ---- accessory IDs
 
--- the device of that address is to tell its accessory ID
-abbrev pub id_asks : ℕ → List Ask
-id_asks a = AskTell a None Sai ∷ []
+-- an accessory ID is told by one byte, behind which its device is stopped; a device that has none tells nothing
+abbrev pub id_told : ℕ → Option ℕ → Option Told
+id_told a None = None
+id_told a (Some id) = Some (record { party = a; bytes = id ∷ []; stopped = true })
+
+-- of these devices the one of that address is to tell its accessory ID
+abbrev pub id_asks : List DeviceState → ℕ → List Ask
+id_asks devices a = AskTell a None Sai (id_told a (accessory_at (a - 1) devices)) ∷ []
 
 -- This was asked for, and came whole or broken off. No device heard anything, by the log too, and each has its place in the poll.
 pub record LeftAlone {M : Type 0} (view : M → MediumView) (whole : Bool) (asks : List Ask) (r s : RingView M) : Type 0 where
@@ -34,7 +39,7 @@ pub record LeftAlone {M : Type 0} (view : M → MediumView) (whole : Bool) (asks
 -- the device of that address told its accessory ID, or there is none that has one
 pub record Named {M : Type 0} (view : M → MediumView) (a : ℕ) (id : Option ℕ) (r s : RingView M) : Type 0 where
   pub id_is : id ≡ accessory_at (a - 1) (devices_of r)
-  pub left : LeftAlone view true (id_asks a) r s
+  pub left : LeftAlone view true (id_asks (devices_of r) a) r s
   pub room : spare_of r ≤ spare_of s + 13
 
 -- the accessory IDs of all devices, in the order of the ring
@@ -44,7 +49,7 @@ ids_of devices = map (λ d. d.accessory) devices
 -- each was asked, in this order, and told its own, if it has one
 pub record AllNamed {M : Type 0} (view : M → MediumView) (ids : List (Option ℕ)) (r s : RingView M) : Type 0 where
   pub ids_are : ids ≡ ids_of (devices_of r)
-  pub left : LeftAlone view true (up_to id_asks (length (devices_of r))) r s
+  pub left : LeftAlone view true (up_to (id_asks (devices_of r)) (length (devices_of r))) r s
 
 -- ---- bytes for a device
 

@@ -57,20 +57,20 @@ pub record Released (k : ℕ) (d e : DeviceState) : Type 0 where
 abbrev pub place_asks : ℕ → List Ask
 place_asks a = AskCommand unl ∷ AskCommand (lad a) ∷ AskCommand (ppe (7 + a)) ∷ []
 
--- the devices that have places answer, and give them up
-abbrev pub collect_asks : List Ask
-collect_asks = AskCommand unl ∷ AskIdentify ∷ AskCommand ppu ∷ []
+-- the devices that have places answer by this frame, and give them up
+abbrev pub collect_asks : Frame → List Ask
+collect_asks f = AskCommand unl ∷ AskIdentify f ∷ AskCommand ppu ∷ []
 
 -- of so many devices
-abbrev pub poll_asks : ℕ → List Ask
-poll_asks n = up_to place_asks (min n 8) ++ collect_asks
+abbrev pub poll_asks : ℕ → Frame → List Ask
+poll_asks n f = up_to place_asks (min n 8) ++ collect_asks f
 
 -- ---- the poll
 
 -- it was made, and this came back; no device heard anything
 pub record HasPolled {M : Type 0} (view : M → MediumView) (f : Frame) (r s : RingView M) : Type 0 where
   pub frame : f ≡ polled_along 1 (devices_of r) idy
-  pub came : CameAsked view true (poll_asks (length (devices_of r))) r s
+  pub came : CameAsked view true (poll_asks (length (devices_of r)) f) r s
   pub released : EachTo Released 1 (devices_of r) (devices_of s)
   pub unheard : NoneHeard r s
   pub drive : LeavesDrive r.drive s.drive
@@ -97,7 +97,7 @@ pub record Assigned {M : Type 0} (view : M → MediumView) (a : ℕ) (r s : Ring
 -- the poll was made with the places that devices had
 pub record Collected {M : Type 0} (view : M → MediumView) (f : Frame) (r s : RingView M) : Type 0 where
   pub frame : f ≡ identified_along (devices_of r) idy
-  pub came : CameAsked view true collect_asks r s
+  pub came : CameAsked view true (collect_asks f) r s
   pub released : EachTo Released 1 (devices_of r) (devices_of s)
   pub unheard : NoneHeard r s
   pub drive : LeavesDrive r.drive s.drive

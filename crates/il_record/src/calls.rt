@@ -26,7 +26,7 @@ fn accessory<M: Medium>(idle: Idle<M>, address: u8) -> Result<(Idle<M>, Option<u
     requires silent { (⟦<Idle<M> as Seen<M>>⟧.seen idle).drive.state.interface.own ≡ None }
     requires address { (1 ≤ address) × (address ≤ 30) }
     ensures named { IfOk result (λ told. Named M.view address told.1 (⟦<Idle<M> as Seen<M>>⟧.seen idle) (⟦<Idle<M> as Seen<M>>⟧.seen told.0)) }
-    ensures broken { IfErr result (λ lost. LeftAlone M.view false (id_asks address) (⟦<Idle<M> as Seen<M>>⟧.seen idle) (⟦<Lost<M> as Seen<M>>⟧.seen lost)) }
+    ensures broken { IfErr result (λ lost. LeftAlone M.view false (id_asks (devices_of (⟦<Idle<M> as Seen<M>>⟧.seen idle)) address) (⟦<Idle<M> as Seen<M>>⟧.seen idle) (⟦<Lost<M> as Seen<M>>⟧.seen lost)) }
     ensures used_lost { IfErr result (λ lost. spare_of (⟦<Idle<M> as Seen<M>>⟧.seen idle) ≤ spare_of (⟦<Lost<M> as Seen<M>>⟧.seen lost) + 14) }
 {
     let mut id = [0; 1];
@@ -44,7 +44,7 @@ pub(crate) fn accessories<M: Medium>(
     requires idle { IsIdle (⟦<Idle<M> as Seen<M>>⟧.seen idle) }
     requires count { count ≡ length (devices_of (⟦<Idle<M> as Seen<M>>⟧.seen idle)) }
     ensures named { IfOk result (λ named. AllNamed M.view into.new.items (⟦<Idle<M> as Seen<M>>⟧.seen idle) (⟦<Idle<M> as Seen<M>>⟧.seen named)) }
-    ensures broken { IfErr result (λ lost. LeftAlone M.view false (up_to id_asks count) (⟦<Idle<M> as Seen<M>>⟧.seen idle) (⟦<Lost<M> as Seen<M>>⟧.seen lost)) }
+    ensures broken { IfErr result (λ lost. LeftAlone M.view false (up_to (id_asks (devices_of (⟦<Idle<M> as Seen<M>>⟧.seen idle))) count) (⟦<Idle<M> as Seen<M>>⟧.seen idle) (⟦<Lost<M> as Seen<M>>⟧.seen lost)) }
     ensures used { IfOk result (λ named. spare_of (⟦<Idle<M> as Seen<M>>⟧.seen idle) ≤ spare_of (⟦<Idle<M> as Seen<M>>⟧.seen named) + 13 * count) }
     ensures used_lost { IfErr result (λ lost. spare_of (⟦<Idle<M> as Seen<M>>⟧.seen idle) ≤ spare_of (⟦<Lost<M> as Seen<M>>⟧.seen lost) + (13 * count + 1)) }
 {

@@ -1,11 +1,12 @@
 // Calls of a store over the loop that move no record.
 ghost use Rattle.std.specs.Prelude.{◌≡◌, ◌≤◌, ◌+◌, ◌/◌, true, false, length};
 ghost use Rattle.il_ring.specs.Rings.{spare_of, devices_of, drive_party};
+ghost use Rattle.il_control.specs.Calls.{idy};
 ghost use Rattle.il_record.specs.Asks.{up_to};
 ghost use Rattle.il_record.specs.Called.{Calls, LeavesStore};
 ghost use Rattle.il_record.specs.LoopCalls.{AllNamed, LeftAlone, NotSaid, Said, id_asks};
 ghost use Rattle.il_record.specs.LoopStores.{HasRing, StandsSo, is_idle, since_frame, since_said};
-ghost use Rattle.il_record.specs.Polls.{HasPolled, PollBroke, poll_asks};
+ghost use Rattle.il_record.specs.Polls.{HasPolled, PollBroke, poll_asks, polled_along};
 ghost use Rattle.il_record.specs.Runs.{NotPolled, Polled};
 
 use crate::records::{LoopRecords, Looped};
@@ -47,7 +48,7 @@ impl<M: Medium + Drop> LoopRecords<M> {
         requires valid { StandsSo (⟦<LoopRecords<M> as Looped<M>>⟧.looped self.old).control (⟦<LoopRecords<M> as Looped<M>>⟧.looped self.old).sound (⟦<LoopRecords<M> as Looped<M>>⟧.looped self.old).since }
         requires ready { is_idle (⟦<LoopRecords<M> as Looped<M>>⟧.looped self.old).control ≡ true }
         requires room { HasRing (⟦<LoopRecords<M> as Looped<M>>⟧.looped self.old).control (λ r. 1000 ≤ spare_of r) }
-        ensures named { Calls (λ x r s. AllNamed M.view into.new.items r s) (λ r s. LeftAlone M.view false (up_to id_asks (length (devices_of r))) r s)
+        ensures named { Calls (λ x r s. AllNamed M.view into.new.items r s) (λ r s. LeftAlone M.view false (up_to (id_asks (devices_of r)) (length (devices_of r))) r s)
             (⟦<LoopRecords<M> as Looped<M>>⟧.looped self.old).since (since_frame (⟦<LoopRecords<M> as Looped<M>>⟧.looped self.old).since)
             (⟦<LoopRecords<M> as Looped<M>>⟧.looped self.old) (⟦<LoopRecords<M> as Looped<M>>⟧.looped self.new) result }
         ensures leaves { LeavesStore 2 true (⟦<LoopRecords<M> as Records>⟧.view self.old) (⟦<LoopRecords<M> as Records>⟧.view self.new) result }
@@ -71,7 +72,7 @@ impl<M: Medium + Drop> LoopRecords<M> {
         requires valid { StandsSo (⟦<LoopRecords<M> as Looped<M>>⟧.looped self.old).control (⟦<LoopRecords<M> as Looped<M>>⟧.looped self.old).sound (⟦<LoopRecords<M> as Looped<M>>⟧.looped self.old).since }
         requires ready { is_idle (⟦<LoopRecords<M> as Looped<M>>⟧.looped self.old).control ≡ true }
         requires room { HasRing (⟦<LoopRecords<M> as Looped<M>>⟧.looped self.old).control (λ r. 1000 ≤ spare_of r) }
-        ensures polled { Calls (HasPolled M.view) (λ r s. PollBroke M.view 54 (poll_asks (length (devices_of r))) r s)
+        ensures polled { Calls (HasPolled M.view) (λ r s. PollBroke M.view 54 (poll_asks (length (devices_of r)) (polled_along 1 (devices_of r) idy)) r s)
             (⟦<LoopRecords<M> as Looped<M>>⟧.looped self.old).since (since_frame (⟦<LoopRecords<M> as Looped<M>>⟧.looped self.old).since)
             (⟦<LoopRecords<M> as Looped<M>>⟧.looped self.old) (⟦<LoopRecords<M> as Looped<M>>⟧.looped self.new) result }
         ensures leaves { LeavesStore 1 true (⟦<LoopRecords<M> as Records>⟧.view self.old) (⟦<LoopRecords<M> as Records>⟧.view self.new) result }

@@ -2,8 +2,9 @@
 ghost use Rattle.std.specs.Prelude.{◌≡◌, ◌≤◌, None, length, IfOk, IfErr};
 ghost use Rattle.il_ring.specs.Rings.{spare_of, devices_of};
 ghost use Rattle.il_ring.specs.Lists.{Each};
-ghost use Rattle.il_control.specs.Calls.{IsIdle};
-ghost use Rattle.il_record.specs.Polls.{Assigned, Collected, HasPolled, MayPoll, PollBroke, collect_asks, place_asks, poll_asks};
+ghost use Rattle.il_ring.specs.Polls.{identified_along};
+ghost use Rattle.il_control.specs.Calls.{IsIdle, idy};
+ghost use Rattle.il_record.specs.Polls.{Assigned, Collected, HasPolled, MayPoll, PollBroke, collect_asks, place_asks, poll_asks, polled_along};
 
 use crate::frames::{poll_enable, poll_unconfigure};
 use crate::runs::{drive_of, listen_address, unlisten};
@@ -32,7 +33,7 @@ fn collect<M: Medium>(idle: Idle<M>) -> Result<(Idle<M>, Frame), Lost<M>>
     requires idle { IsIdle (⟦<Idle<M> as Seen<M>>⟧.seen idle) }
     requires silent { (⟦<Idle<M> as Seen<M>>⟧.seen idle).drive.state.interface.own ≡ None }
     ensures collected { IfOk result (λ told. Collected M.view told.1 (⟦<Idle<M> as Seen<M>>⟧.seen idle) (⟦<Idle<M> as Seen<M>>⟧.seen told.0)) }
-    ensures broken { IfErr result (λ lost. PollBroke M.view 6 collect_asks (⟦<Idle<M> as Seen<M>>⟧.seen idle) (⟦<Lost<M> as Seen<M>>⟧.seen lost)) }
+    ensures broken { IfErr result (λ lost. PollBroke M.view 6 (collect_asks (identified_along (devices_of (⟦<Idle<M> as Seen<M>>⟧.seen idle)) idy)) (⟦<Idle<M> as Seen<M>>⟧.seen idle) (⟦<Lost<M> as Seen<M>>⟧.seen lost)) }
 {
     let idle = idle.command(unlisten())?;
     let (idle, frame) = idle.identify()?;
@@ -50,7 +51,7 @@ pub(crate) fn parallel_poll<M: Medium>(
     requires count { count ≡ length (devices_of (⟦<Idle<M> as Seen<M>>⟧.seen idle)) }
     requires places { Each MayPoll 1 (devices_of (⟦<Idle<M> as Seen<M>>⟧.seen idle)) }
     ensures polled { IfOk result (λ told. HasPolled M.view told.1 (⟦<Idle<M> as Seen<M>>⟧.seen idle) (⟦<Idle<M> as Seen<M>>⟧.seen told.0)) }
-    ensures broken { IfErr result (λ lost. PollBroke M.view 54 (poll_asks count) (⟦<Idle<M> as Seen<M>>⟧.seen idle) (⟦<Lost<M> as Seen<M>>⟧.seen lost)) }
+    ensures broken { IfErr result (λ lost. PollBroke M.view 54 (poll_asks count (polled_along 1 (devices_of (⟦<Idle<M> as Seen<M>>⟧.seen idle)) idy)) (⟦<Idle<M> as Seen<M>>⟧.seen idle) (⟦<Lost<M> as Seen<M>>⟧.seen lost)) }
 {
     // Behind it the proof sees that the drive sends nothing.
     let _ = drive_of(&idle);

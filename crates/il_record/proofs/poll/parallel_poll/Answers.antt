@@ -20,4 +20,4 @@ returns-clause-polled g c =
     c.collect.ensures.collected
 
 pub returns-clause-broken : goal.returns-clause-broken
-returns-clause-broken g c = err_as _ _ _ (λ lost broke. broke_collecting g.M.Medium.view _ c.requires.idle c.loop-place.place c.args.count _ _ (omega (arith, c.loop-place-test.false, c.loop-place.auto.place-end, c.min-place-end.ensures)) c.loop-place.invariant broke) c.collect.ensures.broken
+returns-clause-broken g c = err_as _ _ _ (λ lost broke. broke_collecting g.M.Medium.view _ c.requires.idle c.loop-place.place c.args.count _ _ (omega (arith, c.loop-place-test.false, c.loop-place.auto.place-end, c.min-place-end.ensures)) c.requires.count c.requires.places c.loop-place.invariant broke) c.collect.ensures.broken
