@@ -19,7 +19,7 @@ use Rattle.il_record.specs.declared.records.Control.{Control}
 use Rattle.il_record.specs.declared.records.Control.TheVariants as control_is
 use Rattle.il_record.specs.Controls.{ring_in, standing_of}
 use Rattle.il_record.specs.Came.{OnlyHeard, CameUnits}
-use Rattle.il_record.specs.LoopStores.{LoopView, Standing, AtIdle, AtLost, Nowhere, Addresses, is_broken, is_unbroken, log_emptied, most_resumes, since_frame, since_more, view_at, view_of, with_empty_log}
+use Rattle.il_record.specs.LoopStores.{LoopView, Standing, AtIdle, AtLost, Nowhere, Addresses, IsFresh, StandsSo, is_broken, is_unbroken, log_emptied, most_resumes, since_frame, since_more, view_at, view_of, with_empty_log}
 use Rattle.il_ring.specs.Lists.{Each}
 use Rattle.il_record.specs.Asks.{Ask}
 use Rattle.il_record.specs.Polls.{MayPoll}
@@ -28,7 +28,7 @@ use Rattle.il_record.proofs.Places.{kept_stays, may_poll_kept}
 use Rattle.il_record.proofs.ReadRuns.{leaves_then, leaves_same}
 use Rattle.il_record.proofs.HeardLogs.{heard_then}
 use Rattle.il_record.proofs.StoreCalls.{came_then, came_then_units}
-use Rattle.il_record.proofs.StoreStarts.{IsStart, begun, resumed_ok, resumed_not, resumed_sound}
+use Rattle.il_record.proofs.StoreStarts.{IsStart, begun, fresh, resumed_ok, resumed_not, resumed_sound}
 
 -- an answer that is handed on
 pub on_error : {T E : Type 0} (result : Result T E) (x : E) (P : Result T E → Type 0) → IsErr result × IsErrAnd result (λ e. e ≡ x) → P (Err x) → P result
@@ -59,6 +59,20 @@ pub agrees : {M I : Type 0} {D : I → Type 0} (seen : Ring M I D → RingView M
 agrees seen (control_is.Idle i) = refl
 agrees seen (control_is.Lost i) = refl
 agrees seen control_is.Gone = tt
+
+-- what holds of a store between its calls, by its controller
+pub valid_at : {M S : Type 0} (view : M → MediumView) (seen : S → RingView M) (p : Option S) (l : LoopView M) → StandsSo l.control l.sound l.since → (view_of view seen p l).valid
+valid_at {M} view seen p l so = by l.control so
+  where
+    by : (c : Standing M) → StandsSo c l.sound l.since → (view_at view seen p l.sound l.since l.resumes c).valid
+    by (AtIdle r) so = so
+    by (AtLost r) so = so
+    by Nowhere so = absurd so
+
+-- a new store
+pub fresh_at : {M S : Type 0} (view : M → MediumView) (seen : S → RingView M) (q : Option S) (r : RingView M) (new : LoopView M) → new ≡ record { control = AtLost r; sound = false; since = since.Unbroken; resumes = 0 } → IsLost r → Each MayPoll 1 (devices_of r) → r.books.log ≡ [] → Agrees seen q new.control → IsFresh (view_of view seen q new)
+fresh_at {M} view seen q r new is lost may empty here =
+    subst (λ (l : LoopView M). IsFresh (view_of view seen q l)) (sym is) (fresh view seen q r lost may empty (subst (λ (l : LoopView M). Agrees seen q l.control) is here))
 
 -- ---- resuming
 

@@ -17,7 +17,7 @@ use Rattle.il_record.proofs.Used.{resumed_used, not_resumed_used}
 use Rattle.il_record.specs.declared.records.Since.{Since}
 use Rattle.il_record.specs.declared.records.Since.TheVariants as since
 use Rattle.il_record.specs.Came.{OnlyHeard, CameUnits}
-use Rattle.il_record.specs.LoopStores.{LoopView, Standing, Nowhere, Addresses, AtIdle, AtLost, Addressed, NotAddressed, since_more, since_frame, FromStart, IsEmptied, Stood, Transferred, calls_in, is_broken, is_unbroken, most_resumes, over_ring, view_at}
+use Rattle.il_record.specs.LoopStores.{LoopView, Standing, Nowhere, Addresses, AtIdle, AtLost, Addressed, NotAddressed, since_more, since_frame, FromStart, IsEmptied, IsFresh, Stood, Transferred, calls_in, is_broken, is_unbroken, most_resumes, over_ring, view_at}
 use Rattle.il_record.proofs.HeardLogs.{heard_same}
 use Rattle.il_record.proofs.StoreCalls.{stood_whole, stood_frame, transferred_then, frames_same, frames_rose, calls_less}
 use Rattle.il_record.proofs.StoreRuns.{from_start}
@@ -115,7 +115,7 @@ emptied_is seen None q r one two = absurd one
 emptied_is seen (Some a) None r one two = absurd two
 emptied_is {M} seen (Some a) (Some b) r one two = subst (λ (r : RingView M). seen b ≡ cleared r) (sym one) two
 
-nothing_since : {M S : Type 0} (view : M → MediumView) (seen : S → RingView M) (q : Option S) (s : RingView M) → IsFreeRing s → IsStart seen q s → FromStart seen q (λ start. Stood view since.Unbroken start s)
+pub nothing_since : {M S : Type 0} (view : M → MediumView) (seen : S → RingView M) (q : Option S) (s : RingView M) → IsFreeRing s → IsStart seen q s → FromStart seen q (λ start. Stood view since.Unbroken start s)
 nothing_since view seen None s free is = absurd is
 nothing_since {M} view seen (Some b) s free is =
     subst (λ (start : RingView M). Stood view since.Unbroken start s) (sym is) (record { free = free; unheard = λ none. heard_same (drive_party s) s; by = inl refl })
@@ -141,6 +141,16 @@ module _ {M S : Type 0} (view : M → MediumView) (seen : S → RingView M) (p q
     where
       free_cleared : IsFreeRing (cleared r)
       free_cleared = record { ring = record { few = free.ring.few; plan = free.ring.plan; crossings = free.ring.crossings; held = free.ring.held }; held = free.held }
+
+-- a new store
+pub fresh : {M S : Type 0} (view : M → MediumView) (seen : S → RingView M) (q : Option S) (r : RingView M) → IsLost r → Each MayPoll 1 (devices_of r) → r.books.log ≡ [] → IsStart seen q r → IsFresh (view_at view seen q false since.Unbroken 0 (AtLost r))
+fresh view seen q r lost may empty here = record {
+  valid = (lost, refl, may);
+  stood = nothing_since view seen q r lost.free here;
+  transferred = subst (λ log. Transferred (loop_of r) log []) (sym empty) (record { reading = record { pieces = []; legal = refl; entries = refl }; outside = refl; good = refl; are = refl });
+  unbroken = refl;
+  resumed = refl;
+}
 
 -- ---- the loop is addressed
 

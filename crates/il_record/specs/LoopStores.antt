@@ -117,7 +117,7 @@ most_resumes = 4294967295
 
 -- ---- the view
 
--- no call failed since the log was last emptied
+-- no call failed since the log was last emptied, and no bytes were sent to another device than the drive
 abbrev pub is_unbroken : Since → Bool
 is_unbroken since.Unbroken = true
 is_unbroken _ = false
@@ -181,6 +181,14 @@ view_at view seen present sound log resumes Nowhere = at_work seen present
 
 abbrev pub view_of : {M S : Type 0} → (M → MediumView) → (S → RingView M) → Option S → LoopView M → RecordsView (Option S)
 view_of view seen present l = view_at view seen present l.sound l.since l.resumes l.control
+
+-- of which no call was made yet
+pub record IsFresh {S : Type 0} (v : RecordsView S) : Type 0 where
+  pub valid : v.valid
+  pub stood : v.stood v.present
+  pub transferred : v.transferred []
+  pub unbroken : v.unbroken ≡ true
+  pub resumed : v.resumed 0
 
 -- ---- for the calls
 

@@ -7,8 +7,9 @@ ghost use Rattle.il_record.specs.Polls.{MayPoll};
 ghost use Rattle.il_control.specs.Calls.{IsIdle, IsLost};
 ghost use Rattle.il_record.specs.Called.{LeavesStore};
 ghost use Rattle.il_record.specs.declared.records.Since.TheVariants as since_is;
-ghost use Rattle.il_record.specs.LoopStores.{calls_in as calls_of, AtIdle, AtLost, Nowhere, is_idle, HasRing, StandsSo, log_emptied, Addresses, Resumes, counted_resume, since_frame, since_medium, since_more, since_said};
+ghost use Rattle.il_record.specs.LoopStores.{calls_in as calls_of, AtIdle, AtLost, Nowhere, is_idle, HasRing, IsFresh, StandsSo, log_emptied, Addresses, Resumes, counted_resume, since_frame, since_medium, since_more, since_said};
 ghost use Rattle.il_ports.specs.declared.records.Trouble.TheVariants as trouble_is;
+ghost use Rattle.il_ports.specs.Stores.{Begun};
 
 use crate::runs::{clear, drive_of, read_run, write_run};
 use il_control::{Idle, Lost};
@@ -148,7 +149,8 @@ impl<M: Medium + Drop> LoopRecords<M> {
         requires lost { IsLost (⟦<Lost<M> as Seen<M>>⟧.seen lost) }
         requires places { Each MayPoll 1 (devices_of (⟦<Lost<M> as Seen<M>>⟧.seen lost)) }
         requires empty { (⟦<Lost<M> as Seen<M>>⟧.seen lost).books.log ≡ [] }
-        ensures { ⟦<LoopRecords<M> as Looped<M>>⟧.looped result ≡ record { control = AtLost (⟦<Lost<M> as Seen<M>>⟧.seen lost); sound = false; since = since_is.Unbroken; resumes = 0 } }
+        ensures at { ⟦<LoopRecords<M> as Looped<M>>⟧.looped result ≡ record { control = AtLost (⟦<Lost<M> as Seen<M>>⟧.seen lost); sound = false; since = since_is.Unbroken; resumes = 0 } }
+        ensures fresh { IsFresh (⟦<LoopRecords<M> as Records>⟧.view result) }
     {
         LoopRecords {
             control: Control::Lost(lost),
@@ -185,8 +187,17 @@ impl<M: Medium + Drop> LoopRecords<M> {
         }
     }
 
-    /// Empties the log of the ring. From now on it counts what stands.
+    /// Empties the log of the ring, as `begin` does. From now on it counts what stands.
     pub fn clear_log(&mut self)
+        requires valid { StandsSo (⟦<LoopRecords<M> as Looped<M>>⟧.looped self.old).control (⟦<LoopRecords<M> as Looped<M>>⟧.looped self.old).sound (⟦<LoopRecords<M> as Looped<M>>⟧.looped self.old).since }
+        ensures emptied { ⟦<LoopRecords<M> as Looped<M>>⟧.looped self.new ≡ log_emptied (⟦<LoopRecords<M> as Looped<M>>⟧.looped self.old) }
+        ensures begun { Begun (⟦<LoopRecords<M> as Records>⟧.view self.old) (⟦<LoopRecords<M> as Records>⟧.view self.new) }
+    {
+        self.empty_log();
+    }
+
+    /// Empties the log of the ring, and counts anew.
+    fn empty_log(&mut self)
         requires valid { StandsSo (⟦<LoopRecords<M> as Looped<M>>⟧.looped self.old).control (⟦<LoopRecords<M> as Looped<M>>⟧.looped self.old).sound (⟦<LoopRecords<M> as Looped<M>>⟧.looped self.old).since }
         ensures { ⟦<LoopRecords<M> as Looped<M>>⟧.looped self.new ≡ log_emptied (⟦<LoopRecords<M> as Looped<M>>⟧.looped self.old) }
     {
@@ -354,8 +365,12 @@ impl<M: Medium + Drop> Records for LoopRecords<M> {
         calls_in(self.ring().spare())
     }
 
-    fn begin(&mut self) {
-        self.clear_log();
+    fn begin(&mut self)
+        requires { (⟦<LoopRecords<M> as Records>⟧.view self.old).valid }
+        ensures begun { Begun (⟦<LoopRecords<M> as Records>⟧.view self.old) (⟦<LoopRecords<M> as Records>⟧.view self.new) }
+        ensures emptied { ⟦<LoopRecords<M> as Looped<M>>⟧.looped self.new ≡ log_emptied (⟦<LoopRecords<M> as Looped<M>>⟧.looped self.old) }
+    {
+        self.empty_log();
     }
 
     /// Makes the store sound where it is not: addresses the loop where it is not ready, and clears the drive. Where it is sound,
