@@ -7,7 +7,8 @@ use Rattle.lif_model.specs.Apply as volume
 use Rattle.lif_model.proofs.VolumeExamples.{file, a_name}
 use Rattle.loop_model.specs.Loops.{host_loop}
 use Rattle.loop_model.specs.Units.{units_of}
-use Rattle.loop_model.specs.Entries.{ifc, aau}
+use Rattle.il_drive.proofs.ExchangesAddressed.{sdc}
+use Rattle.loop_model.specs.Entries.{ifc, aau, unl, lad}
 use Rattle.loop_model.specs.Exchanges.{Echo, Command, Address, Send, Receive, Sda, Sst, Stopped, Piece, Whole}
 use Rattle.il_script.specs.declared.reply.Reply.TheVariants as reply
 use Rattle.host_model.specs.Requests.{OfVolume, Asks}
@@ -21,16 +22,17 @@ use Rattle.host_model.proofs.LoopExamples.{byte}
 abbrev echoes : List ℕ → List Echo
 echoes bytes = map byte bytes
 
--- the loop is addressed, record 4 is sought, its bytes come and then the status 00
+-- the loop is addressed, the drive is cleared, record 4 is sought, its bytes come and then the status 00
 abbrev pub fetch_pieces : List Piece
-fetch_pieces = Whole (Command ifc) ∷ Whole (Command aau) ∷ Whole (Address 2) ∷ Whole (Send 1 (Some 4) (echoes (0 ∷ 4 ∷ [])))
-    ∷ Whole (Receive 1 (Some 2) Sda (Stopped 1 (echoes (take 255 a_bytes)) (byte 0))) ∷ Whole (Receive 1 None Sst (Stopped 1 [] (byte 0))) ∷ []
+fetch_pieces = Whole (Command ifc) ∷ Whole (Command aau) ∷ Whole (Address 2) ∷ Whole (Command unl) ∷ Whole (Command (lad 1)) ∷ Whole (Command sdc)
+    ∷ Whole (Send 1 (Some 4) (echoes (0 ∷ 4 ∷ []))) ∷ Whole (Receive 1 (Some 2) Sda (Stopped 1 (echoes (take 255 a_bytes)) (byte 0))) ∷ Whole (Receive 1 None Sst (Stopped 1 [] (byte 0))) ∷ []
 
 abbrev pub fetched_host : HostState
 fetched_host = record a_host {
-  crossings = 864;
+  crossings = 882;
   ready = true;
-  loop = record { before = []; status = 0; drive = addressed 1; after = record printer { roles = addressed 2; frames = 288 } ∷ [] };
+  sound = true;
+  loop = record { before = []; status = 0; drive = addressed 1; after = record printer { roles = addressed 2; frames = 294 } ∷ [] };
 }
 
 abbrev pub fetch_event : Event
@@ -49,6 +51,7 @@ fetch_exchanged = record {
   reading = record { pieces = fetch_pieces; legal = refl; entries = refl };
   ends = refl;
   course = refl;
+  begins = λ h. refl;
   outside = refl;
   cause = (refl, refl, refl);
   effect = (a_tape, refl, refl);
@@ -70,6 +73,8 @@ fetch_step = record {
   heard = record { before = tt; after = (record { more = []; few = omega arith; none = λ h. refl; heard = record { heard = refl; heard_count = refl; room = refl; accessory = refl } }, tt) };
   exchanged = fetch_exchanged;
   ready = λ h. refl;
+  sound = λ h. refl;
+  unsound = λ h. absurd (false_is_not_true (sym h));
   still = λ h. absurd (false_is_not_true (sym h));
 }
 

@@ -1,21 +1,52 @@
 -- Laws of a run that goes on by one event at its end.
-use Rattle.std.proofs.Common.{◌≡◌, ◌++◌, ◌∙◌, ℕ, false, List, [], ◌∷◌, Some, inl, inr, refl, sym, ap, subst}
+use Rattle.std.proofs.Common.{◌≡◌, ◌++◌, ◌∙◌, ◌&&◌, ℕ, true, false, List, [], ◌∷◌, Some, is_some, inl, inr, refl, sym, ap, subst, append_assoc, append-nil}
+use Rattle.std.proofs.Math.Bool.{and-true, and_assoc}
+use Rattle.std.proofs.lemmas.List.{map-append}
 use Rattle.std.specs.Prelude.{option_and_then, IfSome}
+use Rattle.std.specs.List.{flat_map}
+use Rattle.lif_model.specs.Stops.{LeavesOnly}
 use Rattle.lif_model.specs.Tape.{Tape}
 use Rattle.lif_model.specs.Volume.{volume_of, is_foreign_gated}
+use Rattle.lif_model.proofs.Moments.{started, follows, weaker}
+use Rattle.il_script.specs.Replies.{is_ok}
 use Rattle.il_script.specs.declared.reply.Reply.{Reply}
 use Rattle.il_script.specs.declared.reply.Reply.TheVariants as reply
 use Rattle.host_model.specs.Requests.{OfVolume, Devices, Status, Poll, Say, Paper, Item, Asks, NoCommand}
 use Rattle.host_model.specs.HostStates.{HostState, HasOwnGate}
 use Rattle.host_model.specs.Steps.{Event, IsStep}
 use Rattle.host_model.specs.Stops.{MayBeLeft, LeftWithin}
-use Rattle.host_model.specs.Runs.{Chained, Tally, with_reply, tally_of}
+use Rattle.host_model.specs.Runs.{Chained, items_asked, all_ok, OutputMode, event_text, Tally, with_reply, tally_of}
+use Rattle.host_model.proofs.NoCommands.{told_tape}
 
 -- the events still follow each other
 pub chained_more : (hops : List ℕ) (start : HostState) (events : List Event) (e : Event) → Chained hops start events e.before → IsStep hops e
     → Chained hops start (events ++ e ∷ []) e.after
 chained_more hops start [] e chain s = (chain, s, refl)
 chained_more hops start (d ∷ events) e chain s = (chain.0, chain.1, chained_more hops d.after events e chain.2 s)
+
+-- what is told of them grows by the last one
+pub items_more : (events : List Event) (e : Event) → items_asked (events ++ e ∷ []) ≡ items_asked events ++ e.item ∷ []
+items_more events e = map-append (λ (d : Event). d.item) events (e ∷ [])
+
+pub all_ok_more : (events : List Event) (e : Event) → all_ok (events ++ e ∷ []) ≡ (all_ok events && is_ok e.reply)
+all_ok_more [] e = and-true (is_ok e.reply)
+all_ok_more (d ∷ events) e = ap (λ b. is_ok d.reply && b) (all_ok_more events e) ∙ sym (and_assoc (is_ok d.reply) (all_ok events) (is_ok e.reply))
+
+pub texts_more : (mode : OutputMode) (events : List Event) (e : Event) → flat_map (event_text mode) (events ++ e ∷ []) ≡ flat_map (event_text mode) events ++ event_text mode e
+texts_more mode [] e = append-nil (event_text mode e)
+texts_more mode (d ∷ events) e =
+    ap (λ l. event_text mode d ++ l) (texts_more mode events e) ∙ sym (append_assoc (event_text mode d) (flat_map (event_text mode) events) (event_text mode e))
+
+-- a tape that is told stays told, and no gate that is not ours comes to be
+pub told_stays : (hops : List ℕ) (start : HostState) (events : List Event) (finish : HostState) → Chained hops start events finish → is_some finish.tape ≡ is_some start.tape
+told_stays hops start [] finish chain = ap (λ (s : HostState). is_some s.tape) chain
+told_stays hops start (e ∷ events) finish chain =
+    told_stays hops e.after events finish chain.2 ∙ chain.1.replied.told ∙ ap (λ (s : HostState). is_some s.tape) chain.0
+
+pub gate_stays : (hops : List ℕ) (start : HostState) (events : List Event) (finish : HostState) → Chained hops start events finish → HasOwnGate start → HasOwnGate finish
+gate_stays hops start [] finish chain gate = subst HasOwnGate (sym chain) gate
+gate_stays hops start (e ∷ events) finish chain gate =
+    gate_stays hops e.after events finish chain.2 (chain.1.replied.gate (subst HasOwnGate (sym chain.0) gate))
 
 -- one reply more at the end counts as one at the beginning
 turned : (r q : Reply) (t : Tally) → with_reply r (with_reply q t) ≡ with_reply q (with_reply r t)
@@ -62,3 +93,19 @@ left_more (d ∷ events) e x gate (inr left) = inr (left_more events e x gate le
 pub left_last : (events : List Event) (e : Event) (x : Tape) → MayBeLeft e.item e.before x → LeftWithin (events ++ e ∷ []) e.after x
 left_last [] e x left = inl left
 left_last (d ∷ events) e x left = inr (left_last events e x left)
+
+-- all together
+pub leaves_more : (events : List Event) (e : Event) (m₀ m₁ m₂ : ℕ) (s₀ s₁ s₂ : ℕ → Tape → Type 0) → HasOwnGate e.before
+    → LeavesOnly m₀ m₁ s₀ s₁ (LeftWithin events e.before) → LeavesOnly m₁ m₂ s₁ s₂ (MayBeLeft e.item e.before) → LeavesOnly m₀ m₂ s₀ s₂ (LeftWithin (events ++ e ∷ []) e.after)
+leaves_more events e m₀ m₁ m₂ s₀ s₁ s₂ gate so_far here =
+    let all = LeftWithin (events ++ e ∷ []) e.after in
+    follows m₀ m₁ m₂ s₀ s₁ s₂ all (MayBeLeft e.item e.before)
+    (weaker m₀ m₁ s₀ s₁ all (LeftWithin events e.before) so_far (λ x left. left_more events e x gate left))
+    here (λ x left. left_last events e x left)
+
+-- before the first item a stop leaves the tape as it is
+pub leaves_first : (s : HostState) (now : ℕ) (since : ℕ → Tape → Type 0) → ((t c : Tape) → s.tape ≡ Some t → since now c → c ≡ t)
+    → is_some s.tape ≡ true → LeavesOnly now now since since (LeftWithin [] s)
+leaves_first s now since only told =
+    let t = told_tape s.tape told in
+    started now since (λ x. s.tape ≡ Some x) t.0 (λ c left. only t.0 c t.1 left) t.1

@@ -9,3 +9,5 @@ mod LoopExamples
 mod RunExamples
 mod EndExamples
 mod FetchExample
+mod ClearExamples
+pub mod NoCommands

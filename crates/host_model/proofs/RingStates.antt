@@ -90,10 +90,10 @@ took_frames k log party d e h =
 -- ---- what the frames of a log did
 
 -- by what the ring tells of rounds behind each other, which began and ended without a held frame
-pub travels_on : {M : Type 0} (view : M → MediumView) (item : Item) (reply : Reply) (was is : Bool) (log : List Entry) (r s : RingView M)
+pub travels_on : {M : Type 0} (view : M → MediumView) (item : Item) (reply : Reply) (was is sound sound_now : Bool) (log : List Entry) (r s : RingView M)
     → Adds view r None log (held_at_end None log) s → OneTalker (roles_of (devices_of r)) log → length log ≤ log_room (view r.drive.medium).record_count
-    → Travels (record { item = item; reply = reply; log = log; before = state_on view was r; after = state_on view is s })
-travels_on view item reply was is log r s adds one short =
+    → Travels (record { item = item; reply = reply; log = log; before = state_on view was sound r; after = state_on view is sound_now s })
+travels_on view item reply was is sound sound_now log r s adds one short =
     let k = length (devices_of r) in
     let crossed : adds.links ≡ links k log = let same = adds.linked in omega (arith, same) in
     let frames = each_weaker (λ q d e. Took k None log (held_at_end None log) q d e) (TookFrames k log) (took_frames k log) 1 (devices_of r) (devices_of s)

@@ -52,12 +52,15 @@ late_step = record {
     reading = record { pieces = status_pieces; legal = refl; entries = refl };
     ends = refl;
     course = refl;
+    begins = λ h. absurd (false_is_not_true h);
     outside = refl;
     cause = (refl, refl, refl);
     effect = refl;
     carried = tt;
   };
   ready = λ h. refl;
+  sound = λ h. absurd (false_is_not_true h);
+  unsound = λ h g. refl;
   still = λ h. absurd (false_is_not_true (sym h));
 }
 

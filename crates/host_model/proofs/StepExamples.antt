@@ -81,12 +81,15 @@ status_step = record {
     reading = record { pieces = status_pieces; legal = refl; entries = refl };
     ends = refl;
     course = refl;
+    begins = λ h. absurd (false_is_not_true h);
     outside = refl;
     cause = (refl, refl, refl);
     effect = refl;
     carried = tt;
   };
   ready = λ h. refl;
+  sound = λ h. absurd (false_is_not_true h);
+  unsound = λ h g. refl;
   still = λ h. absurd (false_is_not_true (sym h));
 }
 
@@ -95,7 +98,7 @@ status_step = record {
 abbrev pub sixth : List ℕ
 sixth = 6 ∷ []
 
-hop_is_none : sixth ≡ [] → ⊥
+pub hop_is_none : sixth ≡ [] → ⊥
 hop_is_none h = cc
 
 -- one frame more at the printer
@@ -169,12 +172,15 @@ lost_step = record {
     reading = record { pieces = lost_pieces; legal = refl; entries = refl };
     ends = refl;
     course = refl;
+    begins = λ h. absurd (false_is_not_true h);
     outside = refl;
     cause = (hop_is_none, omega arith);
     effect = refl;
     carried = tt;
   };
   ready = λ h. refl;
+  sound = λ h. absurd (false_is_not_true h);
+  unsound = λ h g. refl;
   still = λ h. absurd (false_is_not_true (sym h));
 }
 

@@ -5,6 +5,7 @@ use Rattle.std.specs.List.{starts_with}
 use Rattle.std.specs.Str.{bytes_eq}
 use Rattle.il_frames.specs.declared.frame.Frame.{Frame}
 use Rattle.il_frames.specs.Frames.{byte_of}
+use Rattle.il_drive.proofs.ExchangesAddressed.{sdc}
 use Rattle.loop_model.specs.Entries.{command, ifc, aau, unl, lad, is_frame}
 use Rattle.loop_model.specs.Exchanges.{Exchange, Command, Address, Send, Receive, Identify, Answer, NotTaken, Stopped, Sst, Sai, Piece, Whole, Cut}
 use Rattle.host_model.specs.Requests.{Devices, Status, Poll, Say, Item, Asks}
@@ -64,6 +65,10 @@ is_said party bytes whole _ = false
 abbrev pub addresses_due : LoopState → List Due
 addresses_due z = is_commanding ifc ∷ is_commanding aau ∷ is_numbering (device_count z) ∷ []
 
+-- the drive alone listens, and selected devices are cleared
+abbrev pub clears_due : LoopState → List Due
+clears_due z = is_commanding unl ∷ is_commanding (lad (drive_at z)) ∷ is_commanding sdc ∷ []
+
 -- the parties from this one on tell their IDs
 abbrev pub ids_due : ℕ → List (Option ℕ) → List Due
 ids_due party [] = []
@@ -111,3 +116,17 @@ addressed_first z false course = addresses_due z ++ course
 abbrev pub keeps_course : LoopState → Bool → Option (List Due) → List Piece → Bool
 keeps_course z ready None pieces = true
 keeps_course z ready (Some course) pieces = keeps_to (addressed_first z ready course) pieces
+
+-- ---- logs that begin with one
+
+-- The exchanges begin with those that are due, each in its turn; a broken one ends them.
+abbrev pub begins_with : List Due → List Piece → Bool
+begins_with [] pieces = true
+begins_with (test ∷ more) (Whole x ∷ pieces) = test true x && begins_with more pieces
+begins_with (test ∷ more) (Cut x n b ∷ []) = test false x
+begins_with _ _ = false
+
+-- the drive is cleared first where the store is not sound
+abbrev pub cleared_first : LoopState → (ready sound : Bool) → List Due
+cleared_first z ready true = []
+cleared_first z ready false = addressed_first z ready (clears_due z)

@@ -14,13 +14,14 @@ loop_on r = record {
   after = r.after;
 }
 
--- of a host whose controller is ready or not
-abbrev pub state_on : {M : Type 0} → (M → MediumView) → Bool → RingView M → HostState
-state_on view ready r = record {
+-- of a host whose controller is ready or not, and whose store is sound or not
+abbrev pub state_on : {M : Type 0} → (M → MediumView) → (ready sound : Bool) → RingView M → HostState
+state_on view ready sound r = record {
   tape = (view r.drive.medium).tape;
   records = (view r.drive.medium).record_count;
   faults = (view r.drive.medium).faults;
   crossings = r.books.crossings;
   ready = ready;
+  sound = sound;
   loop = loop_on r;
 }

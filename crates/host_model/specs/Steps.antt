@@ -1,5 +1,5 @@
 -- One step of a run: an item, what was replied, the log, and what stands before and behind.
-use Rattle.std.specs.Prelude.{◌≡◌, ◌≢◌, ◌⊎◌, ◌≤◌, ◌++◌, ℕ, Bool, true, false, not, List, [], length, Option, Some, None, is_some}
+use Rattle.std.specs.Prelude.{◌≡◌, ◌≢◌, ◌⊎◌, ◌≤◌, ◌++◌, ◌&&◌, ℕ, Bool, true, false, not, List, [], length, Option, Some, None, is_some}
 use Rattle.std.specs.FinMap.{get}
 use Rattle.lif_model.specs.Causes.{Rose}
 use Rattle.lif_model.specs.Tape.{Tape}
@@ -27,7 +27,7 @@ use Rattle.host_model.specs.Requests.{OfVolume, Item, Asks, is_of_volume, uses_f
 use Rattle.host_model.specs.LoopStates.{all_roles, device_count, ring_of}
 use Rattle.host_model.specs.HostStates.{HostState, volume_at, HasOwnGate, log_room}
 use Rattle.host_model.specs.Replies.{reply_of, volume_behind}
-use Rattle.host_model.specs.Courses.{course_of, keeps_course}
+use Rattle.host_model.specs.Courses.{begins_with, cleared_first, course_of, keeps_course}
 use Rattle.host_model.specs.Hearing.{HearsAll}
 use Rattle.host_model.specs.Next.{Next, BoxedBecome}
 
@@ -99,6 +99,12 @@ abbrev pub is_frame_fault : Reply → Bool
 is_frame_fault reply.FaultFrame = true
 is_frame_fault _ = false
 
+-- of the loop or of the medium
+abbrev pub is_fault : Reply → Bool
+is_fault reply.FaultFrame = true
+is_fault reply.FaultMedium = true
+is_fault _ = false
+
 -- `fault frame` comes where a planned hop was met, and nowhere else. Without one, `fault medium` comes where the medium failed
 -- and the drive's status told it, and nowhere else: each status byte behind a transfer of records is 0, or one is not.
 abbrev pub HasReplyCause : Reply → List ℕ → ℕ → ℕ → List RecordUnit → Type 0
@@ -131,12 +137,13 @@ IsCarried (Asks (OfVolume (Fetch name))) reply.Ok n (Some v) units =
 IsCarried _ _ n volume units = Unit {0}
 
 -- By one reading the log is a list of exchanges, all whole, or the last one broken off exactly where the reply is `fault
--- frame`: those that the command is to make, in their order. Its transfers of records, none left open, made the tape before
--- into the one behind.
+-- frame`: those that the command is to make, in their order. A command of the volume first clears the drive, where the store is
+-- not sound. The transfers of records, none left open, made the tape before into the one behind.
 pub record Exchanged (hops : List ℕ) (e : Event) : Type 0 where
   pub reading : Reading (ring_of e.before.loop) e.log
   pub ends : ends_as (not (is_frame_fault e.reply)) reading.pieces ≡ true
   pub course : keeps_course e.before.loop e.before.ready (course_of e.item e.before.loop) reading.pieces ≡ true
+  pub begins : is_of_volume e.item ≡ true → begins_with (cleared_first e.before.loop e.before.ready e.before.sound) reading.pieces ≡ true
   pub outside : ends_within (ring_of e.before.loop) reading.pieces ≡ false
   pub cause : HasReplyCause e.reply (met hops e.before.crossings e.after.crossings) e.before.faults e.after.faults
       (units_of (ring_of e.before.loop) reading.pieces)
@@ -154,5 +161,9 @@ pub record IsStep (hops : List ℕ) (e : Event) : Type 0 where
   pub exchanged : Exchanged hops e
   -- behind a command that sends frames the loop is ready, unless an exchange broke off
   pub ready : uses_frames e.item ≡ true → e.after.ready ≡ not (is_frame_fault e.reply)
+  -- Behind a command of the volume the store is sound, unless it replied a fault. Another command that sends frames leaves it as it
+  -- was, unless an exchange broke off.
+  pub sound : is_of_volume e.item ≡ true → e.after.sound ≡ not (is_fault e.reply)
+  pub unsound : is_of_volume e.item ≡ false → uses_frames e.item ≡ true → e.after.sound ≡ (e.before.sound && not (is_frame_fault e.reply))
   -- an item that sends no frame has no log and leaves everything
   pub still : uses_frames e.item ≡ false → (e.log ≡ []) × (e.after ≡ e.before)

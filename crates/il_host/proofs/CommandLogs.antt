@@ -14,14 +14,14 @@ use Rattle.il_ring.specs.Rings.{RingView}
 use Rattle.il_control.specs.Calls.{loop_of}
 use Rattle.il_record.specs.Came.{CameBy}
 use Rattle.il_script.specs.declared.reply.Reply.{Reply}
-use Rattle.host_model.specs.Requests.{Item}
+use Rattle.host_model.specs.Requests.{Item, is_of_volume}
 use Rattle.host_model.specs.LoopStates.{ring_of}
 use Rattle.host_model.specs.HostStates.{volume_at}
 use Rattle.host_model.specs.RingStates.{loop_on, state_on}
-use Rattle.host_model.specs.Courses.{course_of, keeps_course}
+use Rattle.host_model.specs.Courses.{begins_with, cleared_first, course_of, keeps_course}
 use Rattle.host_model.specs.Steps.{Exchanged, HasReplyCause, IsCarried, OnTapes, is_frame_fault}
 use Rattle.host_model.proofs.RingStates.{ring_on}
-use Rattle.il_host.proofs.CommandTravels.{event_on, log_came}
+use Rattle.il_host.proofs.CommandTravels.{event_by, log_came}
 
 -- no hop lies behind a count and not behind it
 pub met_none : (hops : List ℕ) (count : ℕ) → met hops count count ≡ []
@@ -37,16 +37,17 @@ on_tapes None now P told = tt
 on_tapes (Some t) now P told = let u = told t refl in subst (λ now. OnTapes (Some t) now P) (sym u.1) u.2
 
 -- the units of the exchanges, and what a command of this reply is to say of them
-pub record SaysOf {M : Type 0} (view : M → MediumView) (item : Item) (reply : Reply) (was : Bool) (r s : RingView M) (pieces : List Piece) : Type 0 where
+pub record SaysOf {M : Type 0} (view : M → MediumView) (item : Item) (reply : Reply) (was sound : Bool) (r s : RingView M) (pieces : List Piece) : Type 0 where
   pub course : keeps_course (loop_on r) was (course_of item (loop_on r)) pieces ≡ true
+  pub begins : is_of_volume item ≡ true → begins_with (cleared_first (loop_on r) was sound) pieces ≡ true
   pub cause : HasReplyCause reply (met_between r s) (view r.drive.medium).faults (view s.drive.medium).faults (units_of (loop_of r) pieces)
-  pub carried : IsCarried item reply (view r.drive.medium).record_count (volume_at (state_on view was r)) (units_of (loop_of r) pieces)
+  pub carried : IsCarried item reply (view r.drive.medium).record_count (volume_at (state_on view was sound r)) (units_of (loop_of r) pieces)
 
 -- a command by exchanges, whole or broken off
-pub exchanged_came : {M : Type 0} (view : M → MediumView) (item : Item) (reply : Reply) (was is whole : Bool) (r s : RingView M) → r.books.log ≡ []
-    → (came : CameBy view whole r s) → not (is_frame_fault reply) ≡ whole → SaysOf view item reply was r s came.pieces
-    → Exchanged (hops_of r.books.plan) (event_on view item reply was is r s)
-exchanged_came {M} view item reply was is whole r s empty came ends says =
+pub exchanged_came : {M : Type 0} (view : M → MediumView) (item : Item) (reply : Reply) (was is sound sound_now whole : Bool) (r s : RingView M) → r.books.log ≡ []
+    → (came : CameBy view whole r s) → not (is_frame_fault reply) ≡ whole → SaysOf view item reply was sound r s came.pieces
+    → Exchanged (hops_of r.books.plan) (event_by view item reply was is sound sound_now r s)
+exchanged_came {M} view item reply was is sound sound_now whole r s empty came ends says =
     let pieces = came.pieces in
     let units : units_of (ring_of (loop_on r)) pieces ≡ units_of (loop_of r) pieces = ap (λ l. units_of l pieces) (ring_on r) in
     let faults : M → ℕ = λ m. (view m).faults in
@@ -54,20 +55,22 @@ exchanged_came {M} view item reply was is whole r s empty came ends says =
       reading = record { pieces = pieces; legal = ap (λ l. list_all (is_piece l) pieces) (ring_on r) ∙ came.talked.legal; entries = log_came view whole r s empty came };
       ends = ap (λ b. ends_as b pieces) ends ∙ came.talked.ends;
       course = says.course;
+      begins = says.begins;
       outside = ap (λ l. ends_within l pieces) (ring_on r) ∙ came.outside;
       cause = subst (λ us. HasReplyCause reply (met_between r s) (faults r.drive.medium) (faults s.drive.medium) us) (sym units) says.cause;
       effect = subst (λ us. OnTapes (view r.drive.medium).tape (view s.drive.medium).tape (UnitsEffect us)) (sym units)
           (on_tapes (view r.drive.medium).tape (view s.drive.medium).tape (UnitsEffect (units_of (loop_of r) pieces)) came.effect);
-      carried = subst (λ us. IsCarried item reply (view r.drive.medium).record_count (volume_at (state_on view was r)) us) (sym units) says.carried;
+      carried = subst (λ us. IsCarried item reply (view r.drive.medium).record_count (volume_at (state_on view was sound r)) us) (sym units) says.carried;
     }
 
 -- a command that sent no frame
-pub exchanged_none : {M : Type 0} (view : M → MediumView) (item : Item) (reply : Reply) (was is : Bool) (r s : RingView M) → r.books.log ≡ []
-    → s ≡ r → is_frame_fault reply ≡ false → SaysOf view item reply was r s [] → Exchanged (hops_of r.books.plan) (event_on view item reply was is r s)
-exchanged_none {M} view item reply was is r s empty same ends says = record {
+pub exchanged_none : {M : Type 0} (view : M → MediumView) (item : Item) (reply : Reply) (was is sound sound_now : Bool) (r s : RingView M) → r.books.log ≡ []
+    → s ≡ r → is_frame_fault reply ≡ false → SaysOf view item reply was sound r s [] → Exchanged (hops_of r.books.plan) (event_by view item reply was is sound sound_now r s)
+exchanged_none {M} view item reply was is sound sound_now r s empty same ends says = record {
   reading = record { pieces = []; legal = refl; entries = ap (λ (s : RingView M). s.books.log) same ∙ empty };
   ends = ap (λ b. ends_as (not b) []) ends;
   course = says.course;
+  begins = says.begins;
   outside = refl;
   cause = says.cause;
   effect = on_tapes (view r.drive.medium).tape (view s.drive.medium).tape (UnitsEffect []) (λ t told. (t, ap (λ (s : RingView M). (view s.drive.medium).tape) same ∙ told, refl));

@@ -1,5 +1,5 @@
 -- What the frames of a command over the loop did on the ring.
-use Rattle.std.proofs.Common.{◌≡◌, ◌≤◌, ◌++◌, ◌∙◌, Bool, true, List, [], length, refl, sym, ap, subst, arith}
+use Rattle.std.proofs.Common.{◌≡◌, ◌≤◌, ◌++◌, ◌∙◌, Bool, true, false, List, [], length, refl, sym, ap, subst, arith}
 use Rattle.il_frames.specs.declared.entry.Entry.{Entry}
 use Rattle.il_ports.specs.Media.{MediumView}
 use Rattle.loop_model.specs.Roles.{talkers, is_at_most_one, OneTalker}
@@ -16,15 +16,19 @@ use Rattle.host_model.proofs.RingStates.{travels_on, roles_on}
 use Rattle.host_model.proofs.Steps.{boxed_same}
 
 -- a command over the loop: the ring r as it began, with an empty log, became s; the loop was ready before it, or not, and is
--- behind it
+-- behind it; and so the store was sound
+abbrev pub event_by : {M : Type 0} → (M → MediumView) → Item → Reply → (was is sound sound_now : Bool) → (r s : RingView M) → Event
+event_by view item reply was is sound sound_now r s =
+    record { item = item; reply = reply; log = s.books.log; before = state_on view was sound r; after = state_on view is sound_now s }
+
+-- of a store that was not sound and is not
 abbrev pub event_on : {M : Type 0} → (M → MediumView) → Item → Reply → (was is : Bool) → (r s : RingView M) → Event
-event_on view item reply was is r s =
-    record { item = item; reply = reply; log = s.books.log; before = state_on view was r; after = state_on view is s }
+event_on view item reply was is r s = event_by view item reply was is false false r s
 
 -- the same with a log that is told otherwise
 abbrev event_with : {M : Type 0} → (M → MediumView) → Item → Reply → (was is : Bool) → List Entry → (r s : RingView M) → Event
 event_with view item reply was is log r s =
-    record { item = item; reply = reply; log = log; before = state_on view was r; after = state_on view is s }
+    record { item = item; reply = reply; log = log; before = state_on view was false r; after = state_on view is false s }
 
 -- behind an empty log the log is that of the exchanges
 pub log_came : {M : Type 0} (view : M → MediumView) (whole : Bool) (r s : RingView M) → r.books.log ≡ [] → (came : CameBy view whole r s)
@@ -38,7 +42,7 @@ travels_came view item reply was is whole r s empty came short =
     let log = log_came view whole r s empty came in
     let room = subst (λ log. length log ≤ log_room (view r.drive.medium).record_count) log short in
     subst (λ log. Travels (event_with view item reply was is log r s)) (sym log)
-    (travels_on view item reply was is (all_entries came.pieces) r s came.talked.adds came.talked.one room)
+    (travels_on view item reply was is false false (all_entries came.pieces) r s came.talked.adds came.talked.one room)
 
 -- a command that sent no frame
 pub travels_none : {M : Type 0} (view : M → MediumView) (item : Item) (reply : Reply) (was is : Bool) (r s : RingView M) → r.books.log ≡ []

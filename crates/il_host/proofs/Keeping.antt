@@ -16,7 +16,7 @@ use Rattle.il_control.specs.Calls.{IsFree, loop_of}
 use Rattle.il_record.specs.Asks.{Ask, AskCommand, AskAddresses, Asked, CameAsked, IsFirstOf, ask_of}
 use Rattle.il_record.specs.Came.{CameUnits}
 use Rattle.il_record.proofs.Talks.{talked_then, same_loop}
-use Rattle.host_model.specs.Courses.{Due, keeps_to, is_commanding, is_numbering}
+use Rattle.host_model.specs.Courses.{Due, begins_with, keeps_to, is_commanding, is_numbering}
 
 -- ---- one part behind the other
 
@@ -135,7 +135,7 @@ module _ {M : Type 0} (view : M → MediumView) where
   }
 
   -- one call behind the other, from a ring on which no frame is held
-  abbrev came_behind : (whole : Bool) (us ws : List RecordUnit) (r m s : RingView M) → IsFree r → CameUnits view true us r m → CameUnits view whole ws m s → CameUnits view whole (us ++ ws) r s
+  abbrev pub came_behind : (whole : Bool) (us ws : List RecordUnit) (r m s : RingView M) → IsFree r → CameUnits view true us r m → CameUnits view whole ws m s → CameUnits view whole (us ++ ws) r s
   came_behind whole us ws r m s free first more =
       let ps = first.came.pieces in
       let qs = more.came.pieces in
@@ -166,3 +166,24 @@ module _ {M : Type 0} (view : M → MediumView) where
   -- a stage that was broken off ends the course
   pub keeps_broken : (front course : List Due) (r s : RingView M) → Keeps view false front r s → Keeps view false (front ++ course) r s
   keeps_broken front course r s first = record { came = first.came; keeps = keeps_cut front course first.came.came.pieces first.keeps first.came.came.talked.ends }
+
+-- ---- exchanges that begin with what is due
+
+-- those that are due are a beginning
+pub keeps_begins : (dues : List Due) (ps : List Piece) → keeps_to dues ps ≡ true → begins_with dues ps ≡ true
+keeps_begins [] ps keeps = refl
+keeps_begins (test ∷ dues) [] keeps = cc
+keeps_begins (test ∷ dues) (Whole x ∷ ps) keeps =
+    let parts = and_parts (test true x) (keeps_to dues ps) keeps in
+    and_from (test true x) (begins_with dues ps) parts.0 (keeps_begins dues ps parts.1)
+keeps_begins (test ∷ dues) (Cut x n b ∷ []) keeps = keeps
+keeps_begins (test ∷ dues) (Cut x n b ∷ p ∷ ps) keeps = cc
+
+-- and so they are with others behind them, where they are whole
+pub begins_front : (dues : List Due) (ps qs : List Piece) → keeps_to dues ps ≡ true → are_whole ps ≡ true → begins_with dues (ps ++ qs) ≡ true
+begins_front [] ps qs keeps whole = refl
+begins_front (test ∷ dues) [] qs keeps whole = cc
+begins_front (test ∷ dues) (Whole x ∷ ps) qs keeps whole =
+    let parts = and_parts (test true x) (keeps_to dues ps) keeps in
+    and_from (test true x) (begins_with dues (ps ++ qs)) parts.0 (begins_front dues ps qs parts.1 whole)
+begins_front (test ∷ dues) (Cut x n b ∷ ps) qs keeps whole = cc

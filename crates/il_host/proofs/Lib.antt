@@ -23,3 +23,16 @@ pub mod LoopReady
 pub mod VolumeTravels
 pub mod LoopReplied
 pub mod LoopTravels
+pub mod Sounding
+pub mod VolumeStarts
+pub mod VolumeSteps
+pub mod VolumeCommands
+pub mod VolumeReplied
+pub mod VolumePerforms
+pub mod FileCarries
+pub mod VolumeAsked
+pub mod LoopRuns
+pub mod SayHeard
+pub mod SayRuns
+pub mod LoopPerforms
+pub mod PaperPerforms

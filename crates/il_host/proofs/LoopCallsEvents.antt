@@ -46,15 +46,15 @@ ready_count : {M : Type 0} (view : M → MediumView) (was : Bool) (r m : RingVie
 ready_count {M} view true r m ready = ap (λ (m : RingView M). length (devices_of m)) ready.0
 ready_count view false r m ready = ready.1.came.units.came.talked.adds.size
 
-ready_free : {M : Type 0} (view : M → MediumView) (was : Bool) (r m : RingView M) → Readies view was r m → IsFree m
+pub ready_free : {M : Type 0} (view : M → MediumView) (was : Bool) (r m : RingView M) → Readies view was r m → IsFree m
 ready_free {M} view true r m ready = subst (λ (m : RingView M). IsFree m) (sym ready.0) ready.1.free
 ready_free view false r m ready = ready.1.idle.free
 
 module _ {M : Type 0} (view : M → MediumView) (was : Bool) (r m : RingView M) (ready : Readies view was r m) where
-  ready_ids : r.drive.state.interface.accessory ≡ Some drive_id → ids_of (devices_of m) ≡ all_ids (loop_on r)
+  pub ready_ids : r.drive.state.interface.accessory ≡ Some drive_id → ids_of (devices_of m) ≡ all_ids (loop_on r)
   ready_ids drive = ready_told view (λ d. d.accessory) (λ d e stays. stays.nothing.accessory) was r m ready ∙ sym (ids_on r drive)
 
-  ready_frame : polled_along 1 (devices_of m) idy ≡ poll_frame (loop_on r)
+  pub ready_frame : polled_along 1 (devices_of m) idy ≡ poll_frame (loop_on r)
   ready_frame = polled_wants 1 (devices_of m) idy ∙ ap (λ wants. polled_from 1 wants idy) (ready_told view (λ d. d.wants) (λ d e stays. stays.wants refl) was r m ready ∙ sym (wants_on r))
 
 -- ---- any command of the loop

@@ -14,7 +14,7 @@ use Rattle.il_record.specs.Runs.{Readied, Interrupted, address_asks}
 use Rattle.il_script.specs.declared.reply.Reply.{Reply}
 use Rattle.il_script.specs.declared.reply.Reply.TheVariants as reply
 use Rattle.il_script.specs.declared.reply.Code.{Code}
-use Rattle.host_model.specs.Requests.{Item, Asks, NoCommand, OfVolume, Devices, Status, Poll, Say, Paper}
+use Rattle.host_model.specs.Requests.{Item, Asks, NoCommand, OfVolume, Devices, Status, Poll, Say, Paper, is_of_volume}
 use Rattle.host_model.specs.RingStates.{loop_on}
 use Rattle.host_model.specs.Courses.{Due, addressed_first, addresses_due, course_of, keeps_course, is_numbering}
 use Rattle.host_model.specs.Steps.{Exchanged, IsCarried}
@@ -66,6 +66,16 @@ carries_none (Asks (Say bytes)) answer n v units of_loop = tt
 carries_none (Asks Paper) answer n v units of_loop = absurd of_loop
 carries_none (NoCommand code) answer n v units of_loop = absurd of_loop
 
+-- it is none of the volume
+pub not_of_volume : (item : Item) → IsOfLoop item → is_of_volume item ≡ true → ⊥
+not_of_volume (Asks (OfVolume command)) of_loop is = absurd of_loop
+not_of_volume (Asks Devices) of_loop is = cc
+not_of_volume (Asks Status) of_loop is = cc
+not_of_volume (Asks Poll) of_loop is = cc
+not_of_volume (Asks (Say bytes)) of_loop is = cc
+not_of_volume (Asks Paper) of_loop is = absurd of_loop
+not_of_volume (NoCommand code) of_loop is = absurd of_loop
+
 course_kept : {M : Type 0} (r : RingView M) (was : Bool) (due : Option (List Due)) (course : List Due) (pieces : List Piece) → due ≡ Some course
     → keeps_course (loop_on r) was (Some course) pieces ≡ true → keeps_course (loop_on r) was due pieces ≡ true
 course_kept r was due course pieces is keeps = subst (λ due. keeps_course (loop_on r) was due pieces ≡ true) (sym is) keeps
@@ -76,20 +86,20 @@ module _ {M : Type 0} (view : M → MediumView) (item : Item) (of_loop : IsOfLoo
       → Exchanged (hops_of r.books.plan) (event_on view item reply.Ok was is r s)
   loop_done kept count =
       let good : all_good (units_of (loop_of r) kept.came.came.pieces) ≡ true = ap all_good kept.came.are in
-      exchanged_came view item reply.Ok was is true r s empty kept.came.came refl
-      (record { course = course_kept r was (course_of item (loop_on r)) course kept.came.came.pieces due kept.keeps; cause = (kept.came.came.talked.met, count, good); carried = carries_none item reply.Ok _ _ _ of_loop })
+      exchanged_came view item reply.Ok was is false false true r s empty kept.came.came refl
+      (record { course = course_kept r was (course_of item (loop_on r)) course kept.came.came.pieces due kept.keeps; begins = λ of. absurd (not_of_volume item of_loop of); cause = (kept.came.came.talked.met, count, good); carried = carries_none item reply.Ok _ _ _ of_loop })
 
   -- it was refused behind whole exchanges
   pub loop_refused : (code : Code) → Keeps view true (addressed_first (loop_on r) was course) r s → (view s.drive.medium).faults ≡ (view r.drive.medium).faults
       → Exchanged (hops_of r.books.plan) (event_on view item (reply.No code) was is r s)
   loop_refused code kept count =
       let good : all_good (units_of (loop_of r) kept.came.came.pieces) ≡ true = ap all_good kept.came.are in
-      exchanged_came view item (reply.No code) was is true r s empty kept.came.came refl
-      (record { course = course_kept r was (course_of item (loop_on r)) course kept.came.came.pieces due kept.keeps; cause = (kept.came.came.talked.met, count, good); carried = carries_none item (reply.No code) _ _ _ of_loop })
+      exchanged_came view item (reply.No code) was is false false true r s empty kept.came.came refl
+      (record { course = course_kept r was (course_of item (loop_on r)) course kept.came.came.pieces due kept.keeps; begins = λ of. absurd (not_of_volume item of_loop of); cause = (kept.came.came.talked.met, count, good); carried = carries_none item (reply.No code) _ _ _ of_loop })
 
   -- an exchange of it was broken off
   pub loop_broken : Keeps view false (addressed_first (loop_on r) was course) r s → (view r.drive.medium).faults ≤ (view s.drive.medium).faults
       → Exchanged (hops_of r.books.plan) (event_on view item reply.FaultFrame was is r s)
   loop_broken kept count =
-      exchanged_came view item reply.FaultFrame was is false r s empty kept.came.came refl
-      (record { course = course_kept r was (course_of item (loop_on r)) course kept.came.came.pieces due kept.keeps; cause = (kept.came.came.talked.met, count); carried = carries_none item reply.FaultFrame _ _ _ of_loop })
+      exchanged_came view item reply.FaultFrame was is false false false r s empty kept.came.came refl
+      (record { course = course_kept r was (course_of item (loop_on r)) course kept.came.came.pieces due kept.keeps; begins = λ of. absurd (not_of_volume item of_loop of); cause = (kept.came.came.talked.met, count); carried = carries_none item reply.FaultFrame _ _ _ of_loop })

@@ -19,7 +19,7 @@ pub record LeavesTape {M : Type 0} (view : M → MediumView) (r s : RingView M) 
   pub tape : (view s.drive.medium).tape ≡ (view r.drive.medium).tape
   pub size : (view s.drive.medium).record_count ≡ (view r.drive.medium).record_count
 
-sends_frames : (item : Item) → IsOfLoop item → uses_frames item ≡ true
+pub sends_frames : (item : Item) → IsOfLoop item → uses_frames item ≡ true
 sends_frames (Asks (OfVolume command)) of_loop = absurd of_loop
 sends_frames (Asks Devices) of_loop = refl
 sends_frames (Asks Status) of_loop = refl
@@ -38,17 +38,17 @@ same_volume (Asks Paper) s of_loop = absurd of_loop
 same_volume (NoCommand code) s of_loop = absurd of_loop
 
 module _ {M : Type 0} (view : M → MediumView) (item : Item) (of_loop : IsOfLoop item) (was is : Bool) (r s : RingView M) (leaves : LeavesTape view r s) where
-  volume_stays : volume_at (state_on view is s) ≡ volume_at (state_on view was r)
+  volume_stays : volume_at (state_on view is false s) ≡ volume_at (state_on view was false r)
   volume_stays = ap (λ tape. option_and_then volume_of tape) leaves.tape
 
-  gate_stays : HasOwnGate (state_on view was r) → HasOwnGate (state_on view is s)
+  gate_stays : HasOwnGate (state_on view was false r) → HasOwnGate (state_on view is false s)
   gate_stays own = subst (λ tape. IfSome tape (λ t. is_foreign_gated t ≡ false)) (sym leaves.tape) own
 
   -- it was done
-  pub loop_replied : reply.Ok ≡ reply_of item (state_on view was r) → Replied (event_on view item reply.Ok was is r s)
+  pub loop_replied : reply.Ok ≡ reply_of item (state_on view was false r) → Replied (event_on view item reply.Ok was is r s)
   loop_replied right = record {
     may = tt;
-    whole = λ tells. (right, volume_stays ∙ same_volume item (state_on view was r) of_loop);
+    whole = λ tells. (right, volume_stays ∙ same_volume item (state_on view was false r) of_loop);
     stays = λ other. leaves.tape;
     told = ap (λ tape. is_some tape) leaves.tape;
     size = leaves.size;
@@ -56,10 +56,10 @@ module _ {M : Type 0} (view : M → MediumView) (item : Item) (of_loop : IsOfLoo
   }
 
   -- it was refused
-  pub loop_refusal_replied : (code : Code) → reply.No code ≡ reply_of item (state_on view was r) → Replied (event_on view item (reply.No code) was is r s)
+  pub loop_refusal_replied : (code : Code) → reply.No code ≡ reply_of item (state_on view was false r) → Replied (event_on view item (reply.No code) was is r s)
   loop_refusal_replied code right = record {
     may = tt;
-    whole = λ tells. (right, volume_stays ∙ same_volume item (state_on view was r) of_loop);
+    whole = λ tells. (right, volume_stays ∙ same_volume item (state_on view was false r) of_loop);
     stays = λ other. leaves.tape;
     told = ap (λ tape. is_some tape) leaves.tape;
     size = leaves.size;

@@ -1,8 +1,10 @@
 -- The bytes that a store or a fetch carries, by the list of transfers that the volume tells.
-use Rattle.std.proofs.Common.{◌≡◌, ⊎_elim, ℕ, Bool, true, List, length, Option, Some, None, refl, sym, ap, subst}
+use Rattle.std.proofs.Common.{◌≡◌, ◌∙◌, ℕ, Bool, true, false, List, length, Option, Some, None, refl, sym, subst}
 use Rattle.std.specs.FinMap.{get}
 use Rattle.il_ports.specs.Media.{MediumView}
-use Rattle.lif_model.specs.Apply.{Fetch, Store}
+use Rattle.il_ports.specs.declared.records.Trouble.{Trouble}
+use Rattle.il_ports.specs.declared.records.Trouble.TheVariants as trouble
+use Rattle.lif_model.specs.Apply.{VolumeCommand, Adopt, Dir, Fetch, Format, Label, Purge, Rename, Store, Upgrade}
 use Rattle.lif_model.specs.Directory.{start_of}
 use Rattle.lif_model.specs.Fit.{Place, At, fit_in}
 use Rattle.lif_model.specs.Legal.{slot_named}
@@ -12,26 +14,16 @@ use Rattle.lif_model.specs.Volume.{Volume}
 use Rattle.loop_model.specs.Units.{units_of}
 use Rattle.il_ring.specs.Rings.{RingView, devices_of, drive_party}
 use Rattle.il_control.specs.Calls.{loop_of}
-use Rattle.il_record.specs.declared.records.Since.{Since}
-use Rattle.il_record.specs.declared.records.Since.TheVariants as since
-use Rattle.il_record.specs.LoopStores.{Stood, Transferred}
-use Rattle.il_record.proofs.Talks.{same_loop}
+use Rattle.il_record.specs.LoopStores.{Transferred}
+use Rattle.il_script.specs.declared.reply.Reply.{Reply}
 use Rattle.il_script.specs.declared.reply.Reply.TheVariants as reply
 use Rattle.host_model.specs.Requests.{Asks, OfVolume}
 use Rattle.host_model.specs.HostStates.{volume_at}
 use Rattle.host_model.specs.RingStates.{state_on}
 use Rattle.host_model.specs.Steps.{IsCarried, IsFetchedFrom, IsStoredAt}
+use Rattle.il_host.specs.Standings.{fault_of}
 use Rattle.il_host.proofs.VolumeExchanges.{CarriesBy}
 use Rattle.il_host.proofs.WholeReadings.{carries_in_whole, carries_out_whole}
-
--- the loop stays as it is
-pub same_ring : {M : Type 0} (view : M → MediumView) (log : Since) (r s : RingView M) → Stood view log r s → loop_of s ≡ loop_of r
-same_ring {M} view since.Unbroken r s stood = ⊎_elim (λ same. ap (λ (s : RingView M). loop_of s) same) (λ so. same_loop view r s _ _ _ so.came.talked.adds) stood.by
-same_ring view since.Failed r s stood = same_loop view r s _ _ _ stood.by.came.talked.adds
-same_ring view since.Broken r s stood = same_loop view r s _ _ _ stood.by.talked.adds
-same_ring view since.Mended r s stood = absurd stood.by
-same_ring view since.Said r s stood = same_loop view r s _ _ _ stood.by.talked.adds
-same_ring view since.SaidBroken r s stood = same_loop view r s _ _ _ stood.by.talked.adds
 
 -- these transfers put the bytes of a file, filled up to whole records, to its place
 pub record StoresTo (place : Place) (bytes : List ℕ) (list : List Transfer) : Type 0 where
@@ -54,11 +46,11 @@ module _ {M : Type 0} (view : M → MediumView) (was : Bool) (r s : RingView M) 
 
   -- a store
   pub store_carries : (name : List ℕ) (kind : ℕ) (implementation bytes : List ℕ)
-      → ((v : Volume) → volume_at (state_on view was r) ≡ Some v → StoresTo (fit_in (view r.drive.medium).record_count v (file_length bytes)) bytes list)
+      → ((v : Volume) → volume_at (state_on view was false r) ≡ Some v → StoresTo (fit_in (view r.drive.medium).record_count v (file_length bytes)) bytes list)
       → CarriesBy view (Store name kind implementation bytes) reply.Ok was r s
-  store_carries name kind implementation bytes stores ok a good = by (volume_at (state_on view was r)) refl
+  store_carries name kind implementation bytes stores ok a good = by (volume_at (state_on view was false r)) refl
     where
-      by : (found : Option Volume) → volume_at (state_on view was r) ≡ found → IsCarried (Asks (OfVolume (Store name kind implementation bytes))) reply.Ok (view r.drive.medium).record_count found (units_of (loop_of r) a.reading.pieces)
+      by : (found : Option Volume) → volume_at (state_on view was false r) ≡ found → IsCarried (Asks (OfVolume (Store name kind implementation bytes))) reply.Ok (view r.drive.medium).record_count found (units_of (loop_of r) a.reading.pieces)
       by None is = tt
       by (Some v) is =
           let so = stores v is in
@@ -66,14 +58,98 @@ module _ {M : Type 0} (view : M → MediumView) (was : Bool) (r s : RingView M) 
           (carries_out_whole (length (devices_of r)) (drive_party r) s.books.log list so.start (filled bytes) a good told_before so.carried)
 
   -- a fetch
-  pub fetch_carries : (name : List ℕ) → ((v : Volume) → volume_at (state_on view was r) ≡ Some v → FetchesFrom (slot_named v.slots name) (get v.files name) list)
+  pub fetch_carries : (name : List ℕ) → ((v : Volume) → volume_at (state_on view was false r) ≡ Some v → FetchesFrom (slot_named v.slots name) (get v.files name) list)
       → CarriesBy view (Fetch name) reply.Ok was r s
-  fetch_carries name fetches ok a good = by (volume_at (state_on view was r)) refl
+  fetch_carries name fetches ok a good = by (volume_at (state_on view was false r)) refl
     where
-      by : (found : Option Volume) → volume_at (state_on view was r) ≡ found → IsCarried (Asks (OfVolume (Fetch name))) reply.Ok (view r.drive.medium).record_count found (units_of (loop_of r) a.reading.pieces)
+      by : (found : Option Volume) → volume_at (state_on view was false r) ≡ found → IsCarried (Asks (OfVolume (Fetch name))) reply.Ok (view r.drive.medium).record_count found (units_of (loop_of r) a.reading.pieces)
       by None is = tt
       by (Some v) is =
           let so = fetches v is in
           subst (λ slot. IsFetchedFrom slot (get v.files name) (units_of (loop_of r) a.reading.pieces)) (sym so.slot_is)
           (subst (λ bytes. IsFetchedFrom (Some so.found) bytes (units_of (loop_of r) a.reading.pieces)) (sym so.bytes_are)
           (carries_in_whole (length (devices_of r)) (drive_party r) s.books.log list (start_of so.found) so.told a good told_before so.carried))
+
+-- ---- by every command
+
+-- With ok, some list of transfers since the log was emptied carries the bytes of a store or fetch. Of the others nothing is said.
+abbrev pub CarriesAs : VolumeCommand → Reply → ℕ → Option Volume → (List Transfer → Type 0) → Type 0
+CarriesAs (Store name kind implementation bytes) reply.Ok n (Some v) transferred = (list : List Transfer) × transferred list × StoresTo (fit_in n v (file_length bytes)) bytes list
+CarriesAs (Fetch name) reply.Ok n (Some v) transferred = (list : List Transfer) × transferred list × FetchesFrom (slot_named v.slots name) (get v.files name) list
+CarriesAs command answer n volume transferred = Unit {0}
+
+-- nothing is said of these
+abbrev pub CarriesNone : VolumeCommand → Type 0
+CarriesNone (Store name kind implementation bytes) = ⊥
+CarriesNone (Fetch name) = ⊥
+CarriesNone command = Unit {0}
+
+pub carries_nothing : (command : VolumeCommand) (answer : Reply) (n : ℕ) (volume : Option Volume) (transferred : List Transfer → Type 0) → CarriesNone command → CarriesAs command answer n volume transferred
+carries_nothing (Store name kind implementation bytes) answer n volume transferred none = absurd none
+carries_nothing (Fetch name) answer n volume transferred none = absurd none
+carries_nothing Dir answer n volume transferred none = tt
+carries_nothing Label answer n volume transferred none = tt
+carries_nothing (Rename old new) answer n volume transferred none = tt
+carries_nothing (Purge name) answer n volume transferred none = tt
+carries_nothing Adopt answer n volume transferred none = tt
+carries_nothing Upgrade answer n volume transferred none = tt
+carries_nothing (Format label slots) answer n volume transferred none = tt
+
+-- nor of a store or fetch with another reply than ok
+abbrev pub NotDone : Reply → Type 0
+NotDone reply.Ok = ⊥
+NotDone other = Unit {0}
+
+pub not_carried : (command : VolumeCommand) (answer : Reply) (n : ℕ) (volume : Option Volume) (transferred : List Transfer → Type 0) → NotDone answer → CarriesAs command answer n volume transferred
+not_carried command reply.Ok n volume transferred not = absurd not
+not_carried (Store name kind implementation bytes) (reply.No code) n volume transferred not = tt
+not_carried (Store name kind implementation bytes) reply.FaultFrame n volume transferred not = tt
+not_carried (Store name kind implementation bytes) reply.FaultMedium n volume transferred not = tt
+not_carried (Fetch name) (reply.No code) n volume transferred not = tt
+not_carried (Fetch name) reply.FaultFrame n volume transferred not = tt
+not_carried (Fetch name) reply.FaultMedium n volume transferred not = tt
+not_carried command (reply.No code) n volume transferred not = tt
+not_carried command reply.FaultFrame n volume transferred not = tt
+not_carried command reply.FaultMedium n volume transferred not = tt
+
+-- as behind a fault
+pub none_carried : (command : VolumeCommand) (e : Trouble) (n : ℕ) (volume : Option Volume) (transferred : List Transfer → Type 0) → CarriesAs command (fault_of e) n volume transferred
+none_carried command trouble.Frame n volume transferred = not_carried command reply.FaultFrame n volume transferred tt
+none_carried command trouble.Medium n volume transferred = not_carried command reply.FaultMedium n volume transferred tt
+
+module _ {M : Type 0} (view : M → MediumView) (was : Bool) (r s : RingView M) (same : loop_of s ≡ loop_of r) where
+  abbrev volume_here : Option Volume
+  volume_here = volume_at (state_on view was false r)
+
+  abbrev records_here : ℕ
+  records_here = (view r.drive.medium).record_count
+
+  -- one volume is another
+  same_volume : (v w : Volume) → volume_here ≡ Some v → volume_here ≡ Some w → v ≡ w
+  same_volume v w one two = let both : Some v ≡ Some w = sym one ∙ two in cc
+
+  ok_store : (name : List ℕ) (kind : ℕ) (implementation bytes : List ℕ) (found : Option Volume) → volume_here ≡ found → CarriesAs (Store name kind implementation bytes) reply.Ok records_here found (λ list. Transferred (loop_of s) s.books.log list)
+      → CarriesBy view (Store name kind implementation bytes) reply.Ok was r s
+  ok_store name kind implementation bytes None is so = λ ok a good. subst (λ found. IsCarried (Asks (OfVolume (Store name kind implementation bytes))) reply.Ok records_here found (units_of (loop_of r) a.reading.pieces)) (sym is) tt
+  ok_store name kind implementation bytes (Some v) is so =
+      store_carries view was r s same so.0 so.1 name kind implementation bytes (λ w is_w. subst (λ v. StoresTo (fit_in records_here v (file_length bytes)) bytes so.0) (same_volume v w is is_w) so.2)
+
+  ok_fetch : (name : List ℕ) (found : Option Volume) → volume_here ≡ found → CarriesAs (Fetch name) reply.Ok records_here found (λ list. Transferred (loop_of s) s.books.log list) → CarriesBy view (Fetch name) reply.Ok was r s
+  ok_fetch name None is so = λ ok a good. subst (λ found. IsCarried (Asks (OfVolume (Fetch name))) reply.Ok records_here found (units_of (loop_of r) a.reading.pieces)) (sym is) tt
+  ok_fetch name (Some v) is so =
+      fetch_carries view was r s same so.0 so.1 name (λ w is_w. subst (λ (v : Volume). FetchesFrom (slot_named v.slots name) (get v.files name) so.0) (same_volume v w is is_w) so.2)
+
+  -- as the command of a host carries them
+  pub carries_by : (command : VolumeCommand) (answer : Reply) → CarriesAs command answer records_here volume_here (λ list. Transferred (loop_of s) s.books.log list) → CarriesBy view command answer was r s
+  carries_by command (reply.No code) so = λ ok. cc
+  carries_by command reply.FaultFrame so = λ ok. cc
+  carries_by command reply.FaultMedium so = λ ok. cc
+  carries_by (Store name kind implementation bytes) reply.Ok so = ok_store name kind implementation bytes volume_here refl so
+  carries_by (Fetch name) reply.Ok so = ok_fetch name volume_here refl so
+  carries_by Dir reply.Ok so = λ ok a good. tt
+  carries_by Label reply.Ok so = λ ok a good. tt
+  carries_by (Rename old new) reply.Ok so = λ ok a good. tt
+  carries_by (Purge name) reply.Ok so = λ ok a good. tt
+  carries_by Adopt reply.Ok so = λ ok a good. tt
+  carries_by Upgrade reply.Ok so = λ ok a good. tt
+  carries_by (Format label slots) reply.Ok so = λ ok a good. tt

@@ -1,59 +1,75 @@
--- What a command of the volume leaves of the loop.
-use Rattle.std.proofs.Common.{◌≡◌, ⊎_elim, ◌≤◌, ◌<◌, ℕ, false, length, ap}
+-- What a command of the volume leaves of the loop, and what the devices heard of its log.
+use Rattle.std.proofs.Common.{◌≡◌, ◌≢◌, ◌≤◌, ◌<◌, ◌+◌, ◌++◌, ◌∙◌, ℕ, Bool, List, [], ◌∷◌, length, refl, sym, ap, subst, arith}
 use Rattle.lif_model.specs.Apply.{VolumeCommand}
+use Rattle.il_frames.specs.declared.entry.Entry.{Entry}
 use Rattle.il_device.specs.State.{DeviceState}
-use Rattle.il_ports.specs.Media.{MediumView}
+use Rattle.il_device.specs.declared.roles.Roles.{Roles}
 use Rattle.il_drive.specs.State.{status_of}
-use Rattle.il_drive.proofs.Exchanges.{IsFree}
 use Rattle.il_ring.specs.Outcomes.{HearsNothing}
-use Rattle.il_ring.specs.Plans.{last_crossing}
-use Rattle.il_ring.specs.Rings.{RingView, drive_party}
-use Rattle.il_record.specs.declared.records.Since.{Since}
-use Rattle.il_record.specs.declared.records.Since.TheVariants as since
-use Rattle.il_record.specs.LoopStores.{Stood, crossed_hops, has_said}
+use Rattle.il_ring.specs.Rings.{RingView, devices_of, drive_party, roles_of}
+use Rattle.il_record.specs.Came.{OnlyHeard, OthersUnheard, heard_on}
 use Rattle.il_script.specs.declared.reply.Reply.{Reply}
-use Rattle.il_script.specs.declared.reply.Reply.TheVariants as reply
 use Rattle.host_model.specs.Requests.{Asks, OfVolume}
-use Rattle.host_model.specs.LoopStates.{LoopState}
+use Rattle.host_model.specs.LoopStates.{LoopState, all_roles, device_count}
 use Rattle.host_model.specs.RingStates.{loop_on}
-use Rattle.host_model.specs.Next.{DeviceBehind, Next, StatusBehind}
-use Rattle.il_host.proofs.Devices.{boxed_unheard}
-use Rattle.il_host.proofs.VolumeExchanges.{CountsBy, UnbrokenBy, bad_behind}
-
--- What the caller knows of the drive: it rests where the store is sound, and behind a fault of the frames its status is one of a drive's.
--- Behind a fault of the medium the exchanges tell it.
-abbrev pub RestsBy : {M : Type 0} → Reply → RingView M → Type 0
-RestsBy reply.FaultFrame s = status_of s.drive.state ≤ 3
-RestsBy reply.FaultMedium s = Unit {0}
-RestsBy r s = IsFree (drive_party s) s.drive.state
-
--- the drive stays in its place
-pub same_place : {M : Type 0} (view : M → MediumView) (log : Since) (r s : RingView M) → Stood view log r s → length s.before ≡ length r.before
-same_place {M} view since.Unbroken r s stood = ⊎_elim (λ same. ap (λ (s : RingView M). length s.before) same) (λ so. so.came.talked.adds.before) stood.by
-same_place view since.Failed r s stood = stood.by.came.talked.adds.before
-same_place view since.Broken r s stood = stood.by.talked.adds.before
-same_place view since.Mended r s stood = absurd stood.by
-same_place view since.Said r s stood = stood.by.talked.adds.before
-same_place view since.SaidBroken r s stood = stood.by.talked.adds.before
+use Rattle.host_model.specs.Hearing.{HearsAll}
+use Rattle.host_model.specs.Next.{BoxedBecome, DeviceBehind, EachBecomes, Next, StatusBehindVolume}
+use Rattle.host_model.specs.Steps.{HearsLog}
+use Rattle.host_model.proofs.RingStates.{count_on, roles_on}
+use Rattle.il_host.proofs.Devices.{boxed_by, boxed_unheard}
 
 -- a device that heard nothing is as it is to be behind a command of the volume
 heard_nothing : (command : VolumeCommand) (answer : Reply) (z : LoopState) (party : ℕ) (d e : DeviceState) → HearsNothing d e → DeviceBehind (Asks (OfVolume command)) answer z party d e
 heard_nothing command answer z party d e nothing = record { accessory = nothing.accessory; hears = nothing; service = λ is. cc }
 
-module _ {M : Type 0} (view : M → MediumView) (command : VolumeCommand) (r s : RingView M) (few : length r.books.plan < last_crossing) where
-  status_behind : (answer : Reply) (log : Since) → Stood view log r s → has_said log ≡ false → UnbrokenBy answer log
-      → CountsBy answer (crossed_hops r) (crossed_hops s) (view r.drive.medium).faults (view s.drive.medium).faults → RestsBy answer s
-      → StatusBehind (Asks (OfVolume command)) answer (status_of r.drive.state) (status_of s.drive.state)
-  status_behind reply.Ok log stood unsaid unbroken counts rests = rests.status
-  status_behind (reply.No code) log stood unsaid unbroken counts rests = rests.status
-  status_behind reply.FaultFrame log stood unsaid unbroken counts rests = rests
-  status_behind reply.FaultMedium log stood unsaid unbroken counts rests = (bad_behind view r s few log stood unsaid unbroken counts.0).told
-
-  -- What a command of the volume leaves of the loop, by its reply.
-  pub volume_next : (answer : Reply) (log : Since) → Stood view log r s → has_said log ≡ false → UnbrokenBy answer log
-      → CountsBy answer (crossed_hops r) (crossed_hops s) (view r.drive.medium).faults (view s.drive.medium).faults → RestsBy answer s
-      → Next (Asks (OfVolume command)) answer (loop_on r) (loop_on s)
-  volume_next answer log stood unsaid unbroken counts rests = record {
-    devices = boxed_unheard (DeviceBehind (Asks (OfVolume command)) answer (loop_on r)) r s (same_place view log r s stood) (stood.unheard unsaid) (heard_nothing command answer (loop_on r));
-    status = status_behind answer log stood unsaid unbroken counts rests;
+module _ {M : Type 0} (r s : RingView M) (place : length s.before ≡ length r.before) (unheard : OnlyHeard (drive_party r) r s) where
+  -- no device but the drive heard anything, and the drive's status is that behind the reply
+  pub volume_next : (command : VolumeCommand) (answer : Reply) → StatusBehindVolume answer (status_of s.drive.state) → Next (Asks (OfVolume command)) answer (loop_on r) (loop_on s)
+  volume_next command answer status = record {
+    devices = boxed_unheard (DeviceBehind (Asks (OfVolume command)) answer (loop_on r)) r s place unheard (heard_nothing command answer (loop_on r));
+    status = status;
   }
+
+-- ---- what the log brought the devices
+
+-- the same with the parties that these devices are
+pub each_within : (a k : ℕ) (ds es : List DeviceState) → OthersUnheard a k ds es → EachBecomes (λ party d e. (k ≤ party) × (party < k + length ds) × (party ≢ a → HearsNothing d e)) k ds es
+each_within a k [] [] h = tt
+each_within a k (d ∷ ds) (e ∷ es) h = ((omega arith, omega arith, h.0), each_further (each_within a (k + 1) ds es h.1))
+  where
+    shifted : (j : ℕ) (xs ys : List DeviceState) → EachBecomes (λ party d e. (k + 1 ≤ party) × (party < k + 1 + length ds) × (party ≢ a → HearsNothing d e)) j xs ys
+        → EachBecomes (λ party d e. (k ≤ party) × (party < k + length (d ∷ ds)) × (party ≢ a → HearsNothing d e)) j xs ys
+    shifted j [] [] h = tt
+    shifted j (x ∷ xs) (y ∷ ys) h = let low = h.0.0 in let high = h.0.1 in ((omega (arith, low), omega (arith, high), h.0.2), shifted (j + 1) xs ys h.1)
+    shifted j [] (y ∷ ys) h = absurd h
+    shifted j (x ∷ xs) [] h = absurd h
+
+    each_further : EachBecomes (λ party d e. (k + 1 ≤ party) × (party < k + 1 + length ds) × (party ≢ a → HearsNothing d e)) (k + 1) ds es
+        → EachBecomes (λ party d e. (k ≤ party) × (party < k + length (d ∷ ds)) × (party ≢ a → HearsNothing d e)) (k + 1) ds es
+    each_further h = shifted (k + 1) ds es h
+each_within a k [] (e ∷ es) h = absurd h
+each_within a k (d ∷ ds) [] h = absurd h
+
+module _ {M : Type 0} (r s : RingView M) (place : length s.before ≡ length r.before) (empty : r.books.log ≡ []) (unheard : OnlyHeard (drive_party r) r s) (whole : Bool) where
+  -- a device beside the drive: the log brought it no byte, and it heard none
+  hears_log : (party : ℕ) (d e : DeviceState) → 1 ≤ party → party ≤ length (devices_of r) → party ≢ drive_party r → HearsNothing d e → HearsLog (length (devices_of r)) (roles_of (devices_of r)) unheard.entries whole party d e
+  hears_log party d e some here other nothing =
+      let none : heard_on r party unheard.entries ++ [] ≡ [] = ap (λ bytes. bytes ++ []) (unheard.by_log party some here other) in
+      record {
+        more = [];
+        few = omega arith;
+        none = λ is. refl;
+        heard = subst (λ bytes. HearsAll bytes d e) (sym none) (record { heard = nothing.heard; heard_count = nothing.heard_count; room = nothing.room; accessory = nothing.accessory });
+      }
+
+  -- what the devices heard, by the log
+  pub volume_heard : BoxedBecome (HearsLog (device_count (loop_on r)) (all_roles (loop_on r)) s.books.log whole) (loop_on r) (loop_on s)
+  volume_heard =
+      let log : s.books.log ≡ unheard.entries = unheard.log ∙ ap (λ log. log ++ unheard.entries) empty in
+      let heard = boxed_by (λ party d e. (1 ≤ party) × (party < 1 + length (devices_of r)) × (party ≢ drive_party r → HearsNothing d e))
+      (HearsLog (length (devices_of r)) (roles_of (devices_of r)) unheard.entries whole) r s place
+      (λ party d e other h. let high = h.1 in hears_log party d e h.0 (omega (arith, high)) other (h.2 other))
+      (each_within (drive_party r) 1 (devices_of r) (devices_of s) unheard.unheard) in
+      subst (λ (es : List Entry). BoxedBecome (HearsLog (device_count (loop_on r)) (all_roles (loop_on r)) es whole) (loop_on r) (loop_on s)) (sym log)
+      (subst (λ (rs : List Roles). BoxedBecome (HearsLog (device_count (loop_on r)) rs unheard.entries whole) (loop_on r) (loop_on s)) (sym (roles_on r))
+      (subst (λ k. BoxedBecome (HearsLog k (roles_of (devices_of r)) unheard.entries whole) (loop_on r) (loop_on s)) (sym (count_on r)) heard))

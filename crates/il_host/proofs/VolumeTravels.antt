@@ -1,17 +1,24 @@
--- What the frames of a command of the volume did on the ring, by how the log stands behind it.
-use Rattle.std.proofs.Common.{◌≡◌, ◌≤◌, ⊎_elim, Bool, true, false, [], length, ap, subst}
+-- What the frames of a command of the volume did on the ring.
+use Rattle.std.proofs.Common.{◌≡◌, ◌⊎◌, ◌≤◌, ◌∙◌, ⊎_elim, inl, inr, Bool, true, false, [], length, sym, ap, subst}
+use Rattle.std.specs.Prelude.{Result, Ok, Err}
 use Rattle.il_ports.specs.Media.{MediumView}
+use Rattle.il_ports.specs.declared.records.Trouble.{Trouble}
+use Rattle.il_ports.specs.declared.records.Trouble.TheVariants as trouble
 use Rattle.loop_model.specs.Roles.{is_at_most_one, talkers}
 use Rattle.il_ring.specs.Rings.{RingView, devices_of, roles_of}
+use Rattle.il_control.specs.Calls.{loop_of}
 use Rattle.il_record.specs.declared.records.Since.{Since}
-use Rattle.il_record.specs.declared.records.Since.TheVariants as since
-use Rattle.il_record.specs.LoopStores.{AtIdle, AtLost, Nowhere, Standing, StandsSo, Stood}
+use Rattle.il_record.specs.Came.{CameBy}
+use Rattle.il_record.specs.LoopStores.{AtIdle, AtLost, Nowhere, Standing, StandsSo}
+use Rattle.il_record.proofs.Talks.{same_loop}
 use Rattle.il_script.specs.declared.reply.Reply.{Reply}
 use Rattle.host_model.specs.Requests.{Item}
 use Rattle.host_model.specs.HostStates.{log_room}
 use Rattle.host_model.specs.Steps.{Travels}
-use Rattle.il_host.proofs.CommandTravels.{event_on, travels_came, travels_none}
+use Rattle.il_host.proofs.CommandTravels.{event_by, event_on, travels_came, travels_none}
 use Rattle.il_host.proofs.LoopReady.{StandsAt}
+use Rattle.il_host.proofs.Sounding.{travels_sounding}
+use Rattle.il_host.proofs.VolumeExchanges.{EndsBy, Started, joined}
 
 -- where the controller stands, idle or lost, at most one device talks
 pub one_talks : {M : Type 0} (c : Standing M) (sound : Bool) (log : Since) (r : RingView M) → StandsSo c sound log → StandsAt c r → is_at_most_one (talkers (roles_of (devices_of r))) ≡ true
@@ -19,15 +26,45 @@ one_talks {M} (AtIdle q) sound log r so here = subst (λ (q : RingView M). is_at
 one_talks {M} (AtLost q) sound log r so here = subst (λ (q : RingView M). is_at_most_one (talkers (roles_of (devices_of q))) ≡ true) here so.0.one
 one_talks Nowhere sound log r so here = absurd here
 
--- What the frames of any command did whose log stands so.
-pub stood_travels : {M : Type 0} (view : M → MediumView) (item : Item) (answer : Reply) (was is : Bool) (log : Since) (r s : RingView M) → r.books.log ≡ [] → is_at_most_one (talkers (roles_of (devices_of r))) ≡ true
-    → Stood view log r s → length s.books.log ≤ log_room (view r.drive.medium).record_count → Travels (event_on view item answer was is r s)
-stood_travels view item answer was is since.Unbroken r s empty one stood short = ⊎_elim
-    (λ same. travels_none view item answer was is r s empty one same)
-    (λ so. travels_came view item answer was is true r s empty so.came short)
-    stood.by
-stood_travels view item answer was is since.Failed r s empty one stood short = travels_came view item answer was is true r s empty stood.by.came short
-stood_travels view item answer was is since.Broken r s empty one stood short = travels_came view item answer was is false r s empty stood.by short
-stood_travels view item answer was is since.Mended r s empty one stood short = absurd stood.by
-stood_travels view item answer was is since.Said r s empty one stood short = travels_came view item answer was is true r s empty stood.by short
-stood_travels view item answer was is since.SaidBroken r s empty one stood short = travels_came view item answer was is false r s empty stood.by short
+-- ---- exchanges, or none
+
+-- the ring stayed as it was, or exchanges came
+abbrev pub WentBy : {M : Type 0} → (M → MediumView) → RingView M → RingView M → Type 0
+WentBy view r s = (s ≡ r) ⊎ ((whole : Bool) × CameBy view whole r s)
+
+module _ {M : Type 0} (view : M → MediumView) (r s : RingView M) (went : WentBy view r s) where
+  -- the drive stays in its place
+  pub went_place : length s.before ≡ length r.before
+  went_place = ⊎_elim (λ same. ap (λ (s : RingView M). length s.before) same) (λ so. so.1.talked.adds.before) went
+
+  -- the loop stays as it is
+  pub went_loop : loop_of s ≡ loop_of r
+  went_loop = ⊎_elim (λ same. ap (λ (s : RingView M). loop_of s) same) (λ so. same_loop view r s _ _ _ so.1.talked.adds) went
+
+  -- and so do the plan of faults and the room of the log
+  pub went_plan : s.books.plan ≡ r.books.plan
+  went_plan = ⊎_elim (λ same. ap (λ (s : RingView M). s.books.plan) same) (λ so. so.1.talked.adds.plan) went
+
+  pub went_room : s.books.room ≡ r.books.room
+  went_room = ⊎_elim (λ same. ap (λ (s : RingView M). s.books.room) same) (λ so. so.1.talked.adds.room) went
+
+  -- what the frames did
+  pub went_travels : (item : Item) (answer : Reply) (was is sound sound_now : Bool) → r.books.log ≡ [] → is_at_most_one (talkers (roles_of (devices_of r))) ≡ true
+      → length s.books.log ≤ log_room (view r.drive.medium).record_count → Travels (event_by view item answer was is sound sound_now r s)
+  went_travels item answer was is sound sound_now empty one short = travels_sounding (event_on view item answer was is r s) sound sound_now (⊎_elim
+      (λ same. travels_none view item answer was is r s empty one same)
+      (λ so. travels_came view item answer was is so.0 r s empty so.1 short)
+      went)
+
+-- those that make the store sound, and then those by the answer of the store
+pub volume_went : {M T : Type 0} (view : M → MediumView) (was sound : Bool) (r m s : RingView M) (answer : Result T Trouble) → Started view was sound r m → EndsBy view answer m s → WentBy view r s
+volume_went {M} {T} view was sound r m s answer start ends = by answer ends
+  where
+    alone : (sound : Bool) → Started view was sound r m → s ≡ m → WentBy view r s
+    alone true start same = inl (same ∙ start.by)
+    alone false start same = inr (true, subst (λ (s : RingView M). CameBy view true r s) (sym same) start.by.came.came)
+
+    by : (answer : Result T Trouble) → EndsBy view answer m s → WentBy view r s
+    by (Ok x) so = ⊎_elim (λ same. alone sound start same) (λ good. inr (true, (joined view was r true sound m s start good.came).came.came)) so
+    by (Err trouble.Frame) so = inr (false, (joined view was r false sound m s start so.0).came.came)
+    by (Err trouble.Medium) so = inr (true, (joined view was r true sound m s start so.0.came).came.came)

@@ -9,3 +9,4 @@ pub mod Entries
 pub mod Reading
 pub mod HostView
 pub mod Whole
+pub mod Standings

@@ -89,6 +89,7 @@ impl<M: Medium> Records for Store<M> {
       valid = Unit {0};
       tape = (M.view s.medium).tape;
       record_count = (M.view s.medium).record_count;
+      ready = true;
       sound = s.is_sound;
       calls_left = s.left;
       room = 0;
@@ -100,7 +101,7 @@ impl<M: Medium> Records for Store<M> {
       present = tt;
       emptied = λ old new. Unit {0};
       stood = λ start. Unit {0};
-      unbroken = true;
+      failed = λ failure. Unit {0};
       resumed = λ k. Unit {0};
     } };
 

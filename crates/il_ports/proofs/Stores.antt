@@ -10,7 +10,7 @@ use Rattle.il_ports.specs.declared.records.Trouble.{Trouble}
 -- before the first call
 pub goes_nowhere : {S : Type 0} (calls : ℕ) (v : RecordsView S) → IsReady calls v → GoesOn {T = Unit {0}} 0 v v (Ok tt)
 goes_nowhere calls v ready = record {
-  continues = record { valid = ready.valid; told = refl; size = refl; sound = ready.sound; left = omega arith; room = refl; unbroken = λ was _. was; cause = (refl, refl) };
+  continues = record { valid = ready.valid; told = refl; size = refl; sound = ready.sound; left = omega arith; room = refl; failed = λ was. was; cause = (refl, refl) };
   stood = λ s was. was;
   resumed = λ k was. was;
 }
@@ -26,7 +26,7 @@ continues_further j k v w u x r first next = record {
   sound = next.sound;
   left = omega (arith, first.left, next.left);
   room = next.room ∙ first.room;
-  unbroken = λ was ok. next.unbroken (first.unbroken was refl) ok;
+  failed = λ was. next.failed (first.failed was);
   cause = later_cause _ _ _ _ _ _ r first.cause.0 first.cause.1 next.cause;
 }
 
@@ -57,7 +57,7 @@ pub goes_within : {S T : Type 0} (j k : ℕ) (v w : RecordsView S) (r : Result T
 goes_within j k v w r few goes =
     let c = goes.continues in
     record {
-      continues = record { valid = c.valid; told = c.told; size = c.size; sound = c.sound; left = omega (arith, few, c.left); room = c.room; unbroken = c.unbroken; cause = c.cause };
+      continues = record { valid = c.valid; told = c.told; size = c.size; sound = c.sound; left = omega (arith, few, c.left); room = c.room; failed = c.failed; cause = c.cause };
       stood = goes.stood;
       resumed = goes.resumed;
     }

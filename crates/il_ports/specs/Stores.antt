@@ -1,10 +1,10 @@
 -- What contracts see of a store of records, and what its calls do.
-use Rattle.std.specs.Prelude.{◌≡◌, ◌<◌, ◌≤◌, ◌+◌, ◌%◌, ℕ, List, [], Bool, true, false, length, Option, Some, Result, is_some}
+use Rattle.std.specs.Prelude.{◌≡◌, ◌<◌, ◌≤◌, ◌+◌, ◌%◌, ℕ, List, [], Bool, true, false, length, Option, Some, None, Result, is_some}
 use Rattle.lif_model.specs.Tape.{Tape, IsTape, DidRead, DidReadRun}
 use Rattle.lif_model.specs.Shelf.{bytes_of}
 use Rattle.lif_model.specs.Stops.{Torn, Wrote, Elapses, StandsStill, LeavesOnly}
 use Rattle.lif_model.specs.Transfers.{Transfer, PartlyReplaced, WroteRun}
-use Rattle.il_ports.specs.Trouble.{HasTroubleCause, answers_ok}
+use Rattle.il_ports.specs.Trouble.{HasTroubleCause, answers_ok, failure_of}
 use Rattle.il_ports.specs.Transfers.{Adds}
 use Rattle.il_ports.specs.declared.records.Trouble.{Trouble}
 
@@ -16,6 +16,8 @@ pub record RecordsView (S : Type 0) : Type 1 where
   pub tape : Option Tape
   -- the number of its records
   pub record_count : ℕ
+  -- the way to the records need not be set up anew before the next call
+  pub ready : Bool
   -- records can be read and written
   pub sound : Bool
   -- how many records may still be read and written; a resume counts as one
@@ -37,8 +39,8 @@ pub record RecordsView (S : Type 0) : Type 1 where
   pub emptied : S → S → Type 0
   -- the store came from this by its log, since that was last emptied
   pub stood : S → Type 0
-  -- no call failed since the log was last emptied
-  pub unbroken : Bool
+  -- of the calls since the log was last emptied none may have failed, or the last one alone, by this trouble
+  pub failed : Option Trouble → Type 0
   -- so many calls of `resume` may have come since the log was last emptied
   pub resumed : ℕ → Type 0
 
@@ -72,7 +74,7 @@ pub record Continues {S T : Type 0} (calls : ℕ) (v w : RecordsView S) (answer 
   pub sound : w.sound ≡ answers_ok answer
   pub left : v.calls_left ≤ w.calls_left + calls
   pub room : w.room ≡ v.room
-  pub unbroken : v.unbroken ≡ true → answers_ok answer ≡ true → w.unbroken ≡ true
+  pub failed : v.failed None → w.failed (failure_of answer)
   pub cause : HasTroubleCause v.frame_faults w.frame_faults v.medium_faults w.medium_faults answer
 
 -- no record changes, and no time goes by
@@ -86,6 +88,7 @@ pub record Begun {S : Type 0} (v w : RecordsView S) : Type 0 where
   pub valid : w.valid
   pub quiet : IsQuiet v w
   pub size : w.record_count ≡ v.record_count
+  pub ready : w.ready ≡ v.ready
   pub sound : w.sound ≡ v.sound
   pub frame_faults : w.frame_faults ≡ v.frame_faults
   pub medium_faults : w.medium_faults ≡ v.medium_faults
@@ -95,7 +98,7 @@ pub record Begun {S : Type 0} (v w : RecordsView S) : Type 0 where
   pub emptied : v.emptied v.present w.present
   pub stood : w.stood w.present
   pub transferred : w.transferred []
-  pub unbroken : w.unbroken ≡ true
+  pub failed : w.failed None
   pub resumed : w.resumed 0
 
 -- With Ok the store is sound again. What it came from is forgotten where a call had failed.
@@ -103,7 +106,7 @@ pub record Resumed {S T : Type 0} (v w : RecordsView S) (answer : Result T Troub
   pub goes_on : Continues 1 v w answer
   pub quiet : IsQuiet v w
   pub transferred : (list : List Transfer) → v.transferred list → w.transferred list
-  pub stood : v.unbroken ≡ true → (s : S) → v.stood s → w.stood s
+  pub stood : v.failed None → (s : S) → v.stood s → w.stood s
   pub resumed : (k : ℕ) → v.resumed k → w.resumed (k + 1)
 
 -- So many records were read and written, and only the last call may have failed.

@@ -1,5 +1,5 @@
 -- The two faults of a store of records, and their counts.
-use Rattle.std.specs.Prelude.{◌≡◌, ◌≤◌, ℕ, Bool, true, false, Result, Ok, Err}
+use Rattle.std.specs.Prelude.{◌≡◌, ◌≤◌, ℕ, Bool, true, false, Option, Some, None, Result, Ok, Err}
 use Rattle.lif_model.specs.Causes.{Rose}
 use Rattle.il_ports.specs.declared.records.Trouble.{Trouble}
 use Rattle.il_ports.specs.declared.records.Trouble.TheVariants.{Frame, Medium}
@@ -18,3 +18,8 @@ HasTroubleCause frames_before frames_now medium_before medium_now (Err trouble) 
 abbrev pub answers_ok : {T E : Type 0} → Result T E → Bool
 answers_ok (Ok _) = true
 answers_ok (Err _) = false
+
+-- how it failed, if it did
+abbrev pub failure_of : {T E : Type 0} → Result T E → Option E
+failure_of (Ok _) = None
+failure_of (Err e) = Some e

@@ -160,6 +160,7 @@ impl Records for MemoryRecords {
       valid = Unit {0};
       tape = Some (state_of r).records;
       record_count = length (state_of r).records;
+      ready = true;
       sound = (state_of r).sound;
       calls_left = (state_of r).left;
       room = 0;
@@ -171,7 +172,7 @@ impl Records for MemoryRecords {
       present = tt;
       emptied = λ old new. Unit {0};
       stood = λ start. Unit {0};
-      unbroken = true;
+      failed = λ failure. Unit {0};
       resumed = λ k. Unit {0};
     } };
 

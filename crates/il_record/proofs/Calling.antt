@@ -1,5 +1,5 @@
 -- Calls of a store over the loop that move no record, of which the controller was taken out and put back.
-use Rattle.std.proofs.Common.{◌≡◌, ◌∙◌, ◌≤◌, ◌+◌, ◌*◌, ◌/◌, ◌&&◌, ℕ, Bool, true, false, List, [], Option, length, refl, sym, ap, subst, arith, append-nil}
+use Rattle.std.proofs.Common.{◌≡◌, ◌∙◌, ◌≤◌, ◌+◌, ◌*◌, ◌/◌, ◌&&◌, ℕ, Bool, true, false, List, [], Option, None, length, refl, sym, ap, subst, arith, append-nil}
 use Rattle.std.specs.Prelude.{Result, Ok, Err}
 use Rattle.il_ports.specs.declared.records.Trouble.{Trouble}
 use Rattle.il_ports.specs.declared.records.Trouble.TheVariants as trouble
@@ -16,7 +16,7 @@ use Rattle.il_record.specs.Asks.{Ask, up_to}
 use Rattle.il_record.specs.Called.{Called, CallBroke, LeavesStore}
 use Rattle.il_record.specs.Came.{CameUnits}
 use Rattle.il_record.specs.LoopCalls.{AllNamed, LeftAlone, NotSaid, Said, id_asks}
-use Rattle.il_record.specs.LoopStores.{LoopView, Standing, Addresses, AtIdle, AtLost, HasRing, Nowhere, StandsSo, Stood, Transferred, calls_in, is_broken, is_unbroken, since_frame, since_more, since_said, view_at, view_of}
+use Rattle.il_record.specs.LoopStores.{LoopView, Standing, Addresses, AtIdle, AtLost, HasRing, Nowhere, StandsSo, Stood, Transferred, FailedAtLost, calls_in, is_broken, since_frame, since_more, since_said, view_at, view_of}
 use Rattle.il_record.specs.Polls.{HasPolled, MayPoll, PlacesKept, PollBroke, poll_asks, polled_along}
 use Rattle.il_record.specs.Runs.{NotPolled, Polled}
 use Rattle.il_record.proofs.HeardLogs.{heard_none}
@@ -24,7 +24,7 @@ use Rattle.il_record.proofs.Places.{free_on, kept_left, kept_not_said, kept_said
 use Rattle.il_record.proofs.StoreCalls.{calls_less, frames_rose, frames_same, stood_frame, stood_not_said, stood_said, stood_whole, transferred_then}
 use Rattle.il_record.proofs.StoreResumes.{alive_more, count_of, more_same, party_same, still_of}
 use Rattle.il_record.proofs.StoreRuns.{from_start}
-use Rattle.il_record.proofs.StoreStarts.{unbroken_is}
+use Rattle.il_record.proofs.StoreStarts.{unfailed_lost}
 
 -- ---- how the controller was put back
 
@@ -63,7 +63,7 @@ sound_none true = refl
 sound_none false = refl
 
 module _ {M S : Type 0} (view : M → MediumView) (seen : S → RingView M) (p q : Option S) (old new : LoopView M) (log : Since) (k n : ℕ) (r s : RingView M) (at : old.control ≡ AtIdle r) (before : Stands old r) (still : IsStill (view r.drive.medium) (view s.drive.medium)) (may : Each MayPoll 1 (devices_of s))
-    (used : spare_of r ≤ spare_of s + n) (few : n ≤ 300 * k) (told : Bool) where
+    (used : spare_of r ≤ spare_of s + n) (few : n ≤ 300 * k) (told : Type 0) where
   -- all came
   pub leaves_ok : {T : Type 0} (x : T) → new ≡ record old { control = AtIdle s; since = log } → CameUnits view true [] r s → (old.sound ≡ true → IsFree (drive_party s) s.drive.state) → (view s.drive.medium).faults ≡ (view r.drive.medium).faults → is_broken log ≡ false
       → ((start : RingView M) → Stood view old.since start r → Stood view log start s) → LeavesStore k told (view_of view seen p old) (view_of view seen q new) (Ok x)
@@ -157,7 +157,7 @@ module _ {M : Type 0} (view : M → MediumView) (old mid new : LoopView M) (r s 
 
 -- ---- what they leave
 
-module _ {M S : Type 0} (view : M → MediumView) (seen : S → RingView M) (p q : Option S) (told : Bool) (old mid new : LoopView M) (r s : RingView M) (at : old.control ≡ AtIdle r) (valid : StandsSo old.control old.sound old.since) where
+module _ {M S : Type 0} (view : M → MediumView) (seen : S → RingView M) (p q : Option S) (told : Type 0) (old mid new : LoopView M) (r s : RingView M) (at : old.control ≡ AtIdle r) (valid : StandsSo old.control old.sound old.since) where
   begun : Stands old r
   begun = stands old r at valid
 
@@ -237,12 +237,12 @@ not_sound false is clash = cc
 
 module _ {M S : Type 0} (view : M → MediumView) (seen : S → RingView M) (p q : Option S) where
   pub ready_lost : {T : Type 0} (old new : LoopView M) (r : RingView M) (answer : Result T Trouble) → old.control ≡ AtLost r → IsLost r × (old.sound ≡ false) × Each MayPoll 1 (devices_of r) → Addresses view (AtLost r) old new answer
-      → LeavesStore 1 (view_of view seen p old).unbroken (view_of view seen p old) (view_of view seen q new) answer
+      → LeavesStore 1 ((view_of view seen p old).failed None) (view_of view seen p old) (view_of view seen q new) answer
   ready_lost {T} old new r (Ok x) at valid so =
       let units = so.readied.came.units in
       let s = so.ring in
       let still = still_of view r s so.readied.medium in
-      let now : LeavesStore {T = T} 1 (is_unbroken old.since) (view_at view seen p old.sound old.since old.resumes (AtLost r)) (view_at view seen q old.sound (since_more old.since) old.resumes (AtIdle s)) (Ok x) = record {
+      let now : LeavesStore {T = T} 1 (FailedAtLost old.since None) (view_at view seen p old.sound old.since old.resumes (AtLost r)) (view_at view seen q old.sound (since_more old.since) old.resumes (AtIdle s)) (Ok x) = record {
         valid = (so.readied.idle, not_sound old.sound valid.1, alive_more old.since, may_poll_kept r s (kept_stays r s true so.readied.leaves.stays) valid.2);
         quiet = record { tape = still.tape; moment = still.moment; since = still.since };
         size = still.stays_in.size;
@@ -251,18 +251,18 @@ module _ {M S : Type 0} (view : M → MediumView) (seen : S → RingView M) (p q
         room = ap calls_in units.came.talked.adds.room;
         cause = (frames_same view units.came.pieces r s valid.0.free.ring units.came.talked, count_of view r s so.readied.medium);
         transferred = λ list so. subst (λ list. Transferred (loop_of s) s.books.log list) (append-nil list) (transferred_then view true [] r s list units refl so);
-        stood = λ whole start told. from_start seen start _ _
-            (λ at stood. subst (λ log. Stood view log at s) (sym (more_same old.since whole)) (stood_whole view old.since [] at r s stood (ap is_broken (unbroken_is old.since whole)) units refl so.readied.unheard (count_of view r s so.readied.medium) (λ before. so.readied.leaves.status ∙ before))) told;
+        stood = λ none start told. from_start seen start _ _
+            (λ at stood. let whole = unfailed_lost old.since none in subst (λ log. Stood view log at s) (sym (more_same old.since whole)) (stood_whole view since.Unbroken [] at r s (subst (λ log. Stood view log at r) whole stood) refl units refl so.readied.unheard (count_of view r s so.readied.medium) (λ before. so.readied.leaves.status ∙ before))) told;
         resumed = λ k so. so;
       } in
-      subst (λ (l : LoopView M). LeavesStore {T = T} 1 (view_of view seen p old).unbroken (view_of view seen p old) (view_of view seen q l) (Ok x)) (sym so.left)
-      (subst (λ (c : Standing M). LeavesStore {T = T} 1 (view_at view seen p old.sound old.since old.resumes c).unbroken (view_at view seen p old.sound old.since old.resumes c) (view_at view seen q old.sound (since_more old.since) old.resumes (AtIdle s)) (Ok x)) (sym at) now)
+      subst (λ (l : LoopView M). LeavesStore {T = T} 1 ((view_of view seen p old).failed None) (view_of view seen p old) (view_of view seen q l) (Ok x)) (sym so.left)
+      (subst (λ (c : Standing M). LeavesStore {T = T} 1 ((view_at view seen p old.sound old.since old.resumes c).failed None) (view_at view seen p old.sound old.since old.resumes c) (view_at view seen q old.sound (since_more old.since) old.resumes (AtIdle s)) (Ok x)) (sym at) now)
   ready_lost {T} old new r (Err e) at valid so =
       let not = so.1 in
       let units = not.interrupted.came.units in
       let s = not.ring in
       let still = not.interrupted.drive.still in
-      let now : LeavesStore {T = T} 1 (is_unbroken old.since) (view_at view seen p old.sound old.since old.resumes (AtLost r)) (view_at view seen q false (since_frame old.since) old.resumes (AtLost s)) (Err trouble.Frame) = record {
+      let now : LeavesStore {T = T} 1 (FailedAtLost old.since None) (view_at view seen p old.sound old.since old.resumes (AtLost r)) (view_at view seen q false (since_frame old.since) old.resumes (AtLost s)) (Err trouble.Frame) = record {
         valid = (units.came.talked.state, refl, may_poll_kept r s not.interrupted.places valid.2);
         quiet = record { tape = still.tape; moment = still.moment; since = still.since };
         size = still.stays_in.size;
@@ -271,14 +271,14 @@ module _ {M S : Type 0} (view : M → MediumView) (seen : S → RingView M) (p q
         room = ap calls_in units.came.talked.adds.room;
         cause = (frames_rose view units.came.pieces r s valid.0.free.ring units.came.talked, not.interrupted.drive.count);
         transferred = λ list so. subst (λ list. Transferred (loop_of s) s.books.log list) (append-nil list) (transferred_then view false [] r s list units refl so);
-        stood = λ whole start told. from_start seen start _ _
-            (λ at stood. stood_frame view old.since at r s stood (ap is_broken (unbroken_is old.since whole)) units.came not.interrupted.unheard) told;
+        stood = λ none start told. from_start seen start _ _
+            (λ at stood. stood_frame view old.since at r s stood (ap is_broken (unfailed_lost old.since none)) units.came not.interrupted.unheard) told;
         resumed = λ k so. so;
       } in
-      subst (λ (e : Trouble). LeavesStore {T = T} 1 (view_of view seen p old).unbroken (view_of view seen p old) (view_of view seen q new) (Err e)) (sym so.0)
-      (subst (λ (l : LoopView M). LeavesStore {T = T} 1 (view_of view seen p old).unbroken (view_of view seen p old) (view_of view seen q l) (Err trouble.Frame)) (sym not.left)
-      (subst (λ (c : Standing M). LeavesStore {T = T} 1 (view_at view seen p old.sound old.since old.resumes c).unbroken (view_at view seen p old.sound old.since old.resumes c) (view_at view seen q false (since_frame old.since) old.resumes (AtLost s)) (Err trouble.Frame)) (sym at) now))
+      subst (λ (e : Trouble). LeavesStore {T = T} 1 ((view_of view seen p old).failed None) (view_of view seen p old) (view_of view seen q new) (Err e)) (sym so.0)
+      (subst (λ (l : LoopView M). LeavesStore {T = T} 1 ((view_of view seen p old).failed None) (view_of view seen p old) (view_of view seen q l) (Err trouble.Frame)) (sym not.left)
+      (subst (λ (c : Standing M). LeavesStore {T = T} 1 ((view_at view seen p old.sound old.since old.resumes c).failed None) (view_at view seen p old.sound old.since old.resumes c) (view_at view seen q false (since_frame old.since) old.resumes (AtLost s)) (Err trouble.Frame)) (sym at) now))
 
   -- as the controller was taken out for it
-  pub ready_by : {T : Type 0} (old new : LoopView M) (r : RingView M) (answer : Result T Trouble) → old.control ≡ AtLost r → StandsSo old.control old.sound old.since → Addresses view old.control old new answer → LeavesStore 1 (view_of view seen p old).unbroken (view_of view seen p old) (view_of view seen q new) answer
+  pub ready_by : {T : Type 0} (old new : LoopView M) (r : RingView M) (answer : Result T Trouble) → old.control ≡ AtLost r → StandsSo old.control old.sound old.since → Addresses view old.control old new answer → LeavesStore 1 ((view_of view seen p old).failed None) (view_of view seen p old) (view_of view seen q new) answer
   ready_by {T} old new r answer at valid so = ready_lost old new r answer at (subst (λ (c : Standing M). StandsSo c old.sound old.since) at valid) (subst (λ (c : Standing M). Addresses view c old new answer) at so)

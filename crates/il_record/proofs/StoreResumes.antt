@@ -19,7 +19,7 @@ use Rattle.il_record.specs.declared.records.Control.{Control}
 use Rattle.il_record.specs.declared.records.Control.TheVariants as control_is
 use Rattle.il_record.specs.Controls.{ring_in, standing_of}
 use Rattle.il_record.specs.Came.{OnlyHeard, CameUnits}
-use Rattle.il_record.specs.LoopStores.{LoopView, Standing, AtIdle, AtLost, Nowhere, Addresses, IsFresh, StandsSo, is_broken, is_unbroken, log_emptied, most_resumes, since_frame, since_more, view_at, view_of, with_empty_log}
+use Rattle.il_record.specs.LoopStores.{LoopView, Standing, AtIdle, AtLost, Nowhere, Addresses, FailedAtIdle, FailedAtLost, IsFresh, StandsSo, is_broken, log_emptied, most_resumes, since_frame, since_more, view_at, view_of, with_empty_log}
 use Rattle.il_ring.specs.Lists.{Each}
 use Rattle.il_record.specs.Asks.{Ask}
 use Rattle.il_record.specs.Polls.{MayPoll}
@@ -28,7 +28,7 @@ use Rattle.il_record.proofs.Places.{kept_stays, may_poll_kept}
 use Rattle.il_record.proofs.ReadRuns.{leaves_then, leaves_same}
 use Rattle.il_record.proofs.HeardLogs.{heard_then}
 use Rattle.il_record.proofs.StoreCalls.{came_then, came_then_units}
-use Rattle.il_record.proofs.StoreStarts.{IsStart, begun, fresh, resumed_ok, resumed_not, resumed_sound}
+use Rattle.il_record.proofs.StoreStarts.{IsStart, begun, fresh, unfailed_idle, unfailed_lost, resumed_ok, resumed_not, resumed_sound}
 
 -- an answer that is handed on
 pub on_error : {T E : Type 0} (result : Result T E) (x : E) (P : Result T E → Type 0) → IsErr result × IsErrAnd result (λ e. e ≡ x) → P (Err x) → P result
@@ -45,8 +45,8 @@ Agrees seen p Nowhere = Unit {0}
 
 begun_by : {M S : Type 0} (view : M → MediumView) (seen : S → RingView M) (p q : Option S) (sound : Bool) (log : Since) (resumes : ℕ) (c : Standing M) → (view_at view seen p sound log resumes c).valid → Agrees seen p c → Agrees seen q (with_empty_log c)
     → Begun (view_at view seen p sound log resumes c) (view_at view seen q sound since.Unbroken 0 (with_empty_log c))
-begun_by view seen p q sound log resumes (AtIdle r) valid here there = begun view seen p q sound log resumes _ _ r valid.0.free here there (idle_cleared r valid.0, valid.1, refl, valid.3)
-begun_by view seen p q sound log resumes (AtLost r) valid here there = begun view seen p q sound log resumes _ _ r valid.0.free here there (lost_cleared r valid.0, valid.1, valid.2)
+begun_by view seen p q sound log resumes (AtIdle r) valid here there = begun view seen p q sound log resumes _ _ _ (FailedAtIdle since.Unbroken) true refl r valid.0.free here there (idle_cleared r valid.0, valid.1, refl, valid.3)
+begun_by view seen p q sound log resumes (AtLost r) valid here there = begun view seen p q sound log resumes _ _ _ (FailedAtLost since.Unbroken) false refl r valid.0.free here there (lost_cleared r valid.0, valid.1, valid.2)
 begun_by view seen p q sound log resumes Nowhere valid here there = absurd valid
 
 pub begun_at : {M S : Type 0} (view : M → MediumView) (seen : S → RingView M) (p q : Option S) (old new : LoopView M) → new ≡ log_emptied old → (view_of view seen p old).valid → Agrees seen p old.control → Agrees seen q new.control
@@ -87,29 +87,14 @@ alive_more since.Mended = refl
 alive_more since.Said = refl
 alive_more since.SaidBroken = refl
 
-pub more_same : (log : Since) → is_unbroken log ≡ true → since_more log ≡ log
-more_same since.Unbroken is = refl
-more_same since.Failed is = cc
-more_same since.Broken is = cc
-more_same since.Mended is = cc
-more_same since.Said is = cc
-more_same since.SaidBroken is = cc
+pub more_same : (log : Since) → log ≡ since.Unbroken → since_more log ≡ since.Unbroken
+more_same log is = ap since_more is
 
-frame_broken : (log : Since) → is_unbroken log ≡ true → since_frame log ≡ since.Broken
-frame_broken since.Unbroken is = refl
-frame_broken since.Failed is = cc
-frame_broken since.Broken is = cc
-frame_broken since.Mended is = cc
-frame_broken since.Said is = cc
-frame_broken since.SaidBroken is = cc
+frame_broken : (log : Since) → log ≡ since.Unbroken → since_frame log ≡ since.Broken
+frame_broken log is = ap since_frame is
 
-frame_more : (log : Since) → is_unbroken log ≡ true → since_frame (since_more log) ≡ since.Broken
-frame_more since.Unbroken is = refl
-frame_more since.Failed is = cc
-frame_more since.Broken is = cc
-frame_more since.Mended is = cc
-frame_more since.Said is = cc
-frame_more since.SaidBroken is = cc
+frame_more : (log : Since) → log ≡ since.Unbroken → since_frame (since_more log) ≡ since.Broken
+frame_more log is = ap (λ log. since_frame (since_more log)) is
 
 -- two steps that move no record are one
 units_then : {M : Type 0} (view : M → MediumView) (whole : Bool) (r m s : RingView M) → IsFreeRing r → CameUnits view true [] r m → CameUnits view whole [] m s → CameUnits view whole [] r s
@@ -132,11 +117,11 @@ module _ {M S : Type 0} (view : M → MediumView) (seen : S → RingView M) (p q
   cleared_idle : {T : Type 0} (x : T) (r s : RingView M) → IsIdle r → is_broken log ≡ false → Each MayPoll 1 (devices_of r) → Cleared view (drive_party r) r s → spare_of r ≤ spare_of s + 6
       → Resumed (view_at view seen p false log resumes (AtIdle r)) (view_at view seen q true log more (AtIdle s)) (Ok x)
   cleared_idle x r s idle alive may done used =
-      resumed_ok view seen p q _ log resumes more 6 r s idle.free done.unheard used (omega arith) (still_of view r s done.medium) counted (may_poll_kept r s done.places may) x log done.came.units (subst (λ d. IsFree d s.drive.state) (sym (party_same view r s done.came.units)) done.rests.free) (count_of view r s done.medium) alive (λ unbroken. refl)
+      resumed_ok view seen p q _ _ _ log (unfailed_idle log) resumes more 6 r s idle.free done.unheard used (omega arith) (still_of view r s done.medium) counted (may_poll_kept r s done.places may) x log done.came.units (subst (λ d. IsFree d s.drive.state) (sym (party_same view r s done.came.units)) done.rests.free) (count_of view r s done.medium) alive (λ unbroken. unbroken)
 
   broke_idle : {T : Type 0} (asks : List Ask) (r s : RingView M) → IsIdle r → Each MayPoll 1 (devices_of r) → Interrupted view asks (drive_party r) r s → spare_of r ≤ spare_of s + 7
       → Resumed {T = T} (view_at view seen p false log resumes (AtIdle r)) (view_at view seen q false (since_frame log) more (AtLost s)) (Err trouble.Frame)
-  broke_idle asks r s idle may not used = resumed_not view seen p q _ log resumes more 7 r s idle.free not.unheard used (omega arith) not.drive.still counted (may_poll_kept r s not.places may) (since_frame log) not.came.units not.drive.count (frame_broken log)
+  broke_idle asks r s idle may not used = resumed_not view seen p q _ _ _ log (unfailed_idle log) resumes more 7 r s idle.free not.unheard used (omega arith) not.drive.still counted (may_poll_kept r s not.places may) (since_frame log) not.came.units not.drive.count (frame_broken log)
 
   -- from a lost one: the loop was addressed first
   cleared_lost : {T : Type 0} (x : T) (r m s : RingView M) → IsLost r → Each MayPoll 1 (devices_of r) → Readied view r m → spare_of r ≤ spare_of m + 5 → Cleared view (drive_party m) m s → spare_of m ≤ spare_of s + 6
@@ -145,7 +130,7 @@ module _ {M S : Type 0} (view : M → MediumView) (seen : S → RingView M) (p q
       let party = party_same view r m ready.came.units in
       let medium = done.medium ∙ ready.medium in
       let units = units_then view true r m s lost.free ready.came.units done.came.units in
-      resumed_ok view seen p q _ log resumes more 11 r s lost.free (heard_then (drive_party r) r m s ready.unheard (subst (λ d. OnlyHeard d m s) party done.unheard)) (omega (arith, first, used)) (omega arith) (still_of view r s medium) counted (may_poll_kept m s done.places (may_poll_kept r m (kept_stays r m true ready.leaves.stays) may)) x (since_more log) units
+      resumed_ok view seen p q _ _ _ log (unfailed_lost log) resumes more 11 r s lost.free (heard_then (drive_party r) r m s ready.unheard (subst (λ d. OnlyHeard d m s) party done.unheard)) (omega (arith, first, used)) (omega arith) (still_of view r s medium) counted (may_poll_kept m s done.places (may_poll_kept r m (kept_stays r m true ready.leaves.stays) may)) x (since_more log) units
       (subst (λ d. IsFree d s.drive.state) (sym (party_same view m s done.came.units)) done.rests.free) (count_of view r s medium) (alive_more log) (more_same log)
 
   broke_lost : {T : Type 0} (asks : List Ask) (r m s : RingView M) → IsLost r → Each MayPoll 1 (devices_of r) → Readied view r m → spare_of r ≤ spare_of m + 5 → Interrupted view asks (drive_party m) m s → spare_of m ≤ spare_of s + 7
@@ -153,12 +138,12 @@ module _ {M S : Type 0} (view : M → MediumView) (seen : S → RingView M) (p q
   broke_lost asks r m s lost may ready first not used =
       let party = party_same view r m ready.came.units in
       let left = leaves_then view r.drive m.drive s.drive (leaves_same view r.drive m.drive ready.medium) not.drive in
-      resumed_not view seen p q _ log resumes more 12 r s lost.free (heard_then (drive_party r) r m s ready.unheard (subst (λ d. OnlyHeard d m s) party not.unheard)) (omega (arith, first, used)) (omega arith) left.still counted (may_poll_kept m s not.places (may_poll_kept r m (kept_stays r m true ready.leaves.stays) may)) (since_frame (since_more log))
+      resumed_not view seen p q _ _ _ log (unfailed_lost log) resumes more 12 r s lost.free (heard_then (drive_party r) r m s ready.unheard (subst (λ d. OnlyHeard d m s) party not.unheard)) (omega (arith, first, used)) (omega arith) left.still counted (may_poll_kept m s not.places (may_poll_kept r m (kept_stays r m true ready.leaves.stays) may)) (since_frame (since_more log))
       (units_then view false r m s lost.free ready.came.units not.came.units) left.count (frame_more log)
 
   broke_ready : {T : Type 0} (asks : List Ask) (r s : RingView M) → IsLost r → Each MayPoll 1 (devices_of r) → Interrupted view asks (drive_party r) r s → spare_of r ≤ spare_of s + 6
       → Resumed {T = T} (view_at view seen p false log resumes (AtLost r)) (view_at view seen q false (since_frame log) more (AtLost s)) (Err trouble.Frame)
-  broke_ready asks r s lost may not used = resumed_not view seen p q _ log resumes more 6 r s lost.free not.unheard used (omega arith) not.drive.still counted (may_poll_kept r s not.places may) (since_frame log) not.came.units not.drive.count (frame_broken log)
+  broke_ready asks r s lost may not used = resumed_not view seen p q _ _ _ log (unfailed_lost log) resumes more 6 r s lost.free not.unheard used (omega arith) not.drive.still counted (may_poll_kept r s not.places may) (since_frame log) not.came.units not.drive.count (frame_broken log)
 
 -- ---- by what `ready` did
 

@@ -19,7 +19,7 @@ use Rattle.il_control.specs.Calls.{IsIdle, loop_of}
 use Rattle.il_record.specs.declared.records.Since.{Since}
 use Rattle.il_record.specs.declared.records.Since.TheVariants as since
 use Rattle.il_record.specs.Came.{OnlyHeard, CameBy, CameUnits}
-use Rattle.il_record.specs.LoopStores.{AtIdle, AtLost, FromStart, Transferred, all_good, calls_in, is_broken, since_frame, since_medium, view_at}
+use Rattle.il_record.specs.LoopStores.{AtIdle, AtLost, FailedAtIdle, FailedAtLost, FromStart, Transferred, all_good, calls_in, is_broken, since_frame, since_medium, view_at}
 use Rattle.il_record.specs.Runs.{unit, ReadAs, ReadBroke, WroteAs, WriteBroke}
 use Rattle.il_record.proofs.StoreCalls.{stood_whole, stood_medium, stood_frame, transferred_then, frames_same, frames_rose, calls_less}
 
@@ -35,6 +35,23 @@ alive_medium since.Broken alive = alive
 alive_medium since.Mended alive = refl
 alive_medium since.Said alive = refl
 alive_medium since.SaidBroken alive = alive
+
+-- how a call failed that was the first one
+failed_medium : (log : Since) → FailedAtIdle log None → FailedAtIdle (since_medium log) (Some trouble.Medium)
+failed_medium since.Unbroken none = refl
+failed_medium since.Failed none = cc
+failed_medium since.Broken none = absurd none
+failed_medium since.Mended none = absurd none
+failed_medium since.Said none = absurd none
+failed_medium since.SaidBroken none = absurd none
+
+failed_frame : (log : Since) → FailedAtIdle log None → FailedAtLost (since_frame log) (Some trouble.Frame)
+failed_frame since.Unbroken none = refl
+failed_frame since.Failed none = cc
+failed_frame since.Broken none = absurd none
+failed_frame since.Mended none = absurd none
+failed_frame since.Said none = absurd none
+failed_frame since.SaidBroken none = absurd none
 
 bad_unit : (writes : Bool) (first : ℕ) (bytes : List ℕ) (status : ℕ) → status ≢ 0 → all_good (unit writes first bytes status ∷ []) ≡ false
 bad_unit writes first bytes status bad = ap (λ b. b && true) (ne_eqb status 0 bad)
@@ -56,7 +73,7 @@ module _ {M S : Type 0} (view : M → MediumView) (seen : S → RingView M) (p q
       sound = refl;
       left = calls_less k n r s used few;
       room = ap calls_in units.came.talked.adds.room;
-      unbroken = λ unbroken ok. unbroken;
+      failed = λ none. none;
       cause = (frames_same view units.came.pieces r s idle.free.ring units.came.talked, count);
     };
     stood = λ start so. from_start seen start _ _ (λ at stood. stood_whole view log us at r s stood alive units good unheard count (λ before. free.status)) so;
@@ -73,7 +90,7 @@ module _ {M S : Type 0} (view : M → MediumView) (seen : S → RingView M) (p q
       sound = refl;
       left = calls_less k n r s used few;
       room = ap calls_in units.came.talked.adds.room;
-      unbroken = λ unbroken ok. cc;
+      failed = failed_medium log;
       cause = (frames_same view units.came.pieces r s idle.free.ring units.came.talked, rose);
     };
     stood = λ start so. from_start seen start _ _ (λ at stood. stood_medium view log us at r s stood alive units bad unheard status) so;
@@ -89,7 +106,7 @@ module _ {M S : Type 0} (view : M → MediumView) (seen : S → RingView M) (p q
       sound = refl;
       left = calls_less k n r s used few;
       room = ap calls_in came.talked.adds.room;
-      unbroken = λ unbroken ok. cc;
+      failed = failed_frame log;
       cause = (frames_rose view came.pieces r s idle.free.ring came.talked, count);
     };
     stood = λ start so. from_start seen start _ _ (λ at stood. stood_frame view log at r s stood alive came unheard) so;

@@ -1,5 +1,5 @@
 -- What emptying the log, addressing the loop and clearing the drive mean to a store over the loop.
-use Rattle.std.proofs.Common.{◌≡◌, ◌∙◌, ◌≤◌, ◌+◌, ℕ, Bool, true, false, inl, [], Option, Some, None, refl, sym, ap, subst, arith, append-nil}
+use Rattle.std.proofs.Common.{◌≡◌, ◌≤◌, ◌+◌, ℕ, Bool, true, false, inl, [], Option, Some, None, refl, sym, ap, subst, arith, append-nil}
 use Rattle.std.specs.Prelude.{Result, Ok, Err, min}
 use Rattle.il_ports.specs.declared.records.Trouble.{Trouble}
 use Rattle.il_ports.specs.declared.records.Trouble.TheVariants as trouble
@@ -17,30 +17,38 @@ use Rattle.il_record.proofs.Used.{resumed_used, not_resumed_used}
 use Rattle.il_record.specs.declared.records.Since.{Since}
 use Rattle.il_record.specs.declared.records.Since.TheVariants as since
 use Rattle.il_record.specs.Came.{OnlyHeard, CameUnits}
-use Rattle.il_record.specs.LoopStores.{LoopView, Standing, Nowhere, Addresses, AtIdle, AtLost, Addressed, NotAddressed, since_more, since_frame, FromStart, IsEmptied, IsFresh, Stood, Transferred, calls_in, is_broken, is_unbroken, most_resumes, over_ring, view_at}
+use Rattle.il_record.specs.LoopStores.{LoopView, Standing, Nowhere, Addresses, AtIdle, AtLost, Addressed, NotAddressed, since_more, since_frame, FromStart, IsEmptied, IsFresh, Stood, Transferred, FailedAtIdle, FailedAtLost, calls_in, is_broken, most_resumes, over_ring, view_at}
 use Rattle.il_record.proofs.HeardLogs.{heard_same}
 use Rattle.il_record.proofs.StoreCalls.{stood_whole, stood_frame, transferred_then, frames_same, frames_rose, calls_less}
 use Rattle.il_record.proofs.StoreRuns.{from_start}
 
--- a log that is unbroken
-pub unbroken_is : (log : Since) → is_unbroken log ≡ true → log ≡ since.Unbroken
-unbroken_is since.Unbroken is = refl
-unbroken_is since.Failed is = cc
-unbroken_is since.Broken is = cc
-unbroken_is since.Mended is = cc
-unbroken_is since.Said is = cc
-unbroken_is since.SaidBroken is = cc
+-- how the log stands where no call failed
+pub unfailed_idle : (log : Since) → FailedAtIdle log None → log ≡ since.Unbroken
+unfailed_idle since.Unbroken is = refl
+unfailed_idle since.Failed is = cc
+unfailed_idle since.Broken is = absurd is
+unfailed_idle since.Mended is = absurd is
+unfailed_idle since.Said is = absurd is
+unfailed_idle since.SaidBroken is = absurd is
 
-module _ {M S : Type 0} (view : M → MediumView) (seen : S → RingView M) (p q : Option S) (valid : Type 0) (log : Since) (resumes more n : ℕ) (r s : RingView M) (free : IsFreeRing r) (unheard : OnlyHeard (drive_party r) r s)
+pub unfailed_lost : (log : Since) → FailedAtLost log None → log ≡ since.Unbroken
+unfailed_lost since.Unbroken is = refl
+unfailed_lost since.Failed is = absurd is
+unfailed_lost since.Broken is = cc
+unfailed_lost since.Mended is = absurd is
+unfailed_lost since.Said is = absurd is
+unfailed_lost since.SaidBroken is = absurd is
+
+module _ {M S : Type 0} (view : M → MediumView) (seen : S → RingView M) (p q : Option S) (valid : Type 0) (failed : Option Trouble → Type 0) (ready : Bool) (log : Since) (unfailed : failed None → log ≡ since.Unbroken) (resumes more n : ℕ) (r s : RingView M) (free : IsFreeRing r) (unheard : OnlyHeard (drive_party r) r s)
     (used : spare_of r ≤ spare_of s + n) (few : n ≤ 300) (still : IsStill (view r.drive.medium) (view s.drive.medium)) (counted : more ≡ min (resumes + 1) most_resumes) (may : Each MayPoll 1 (devices_of s)) where
   abbrev earlier : RecordsView (Option S)
-  earlier = over_ring view seen p valid false log resumes r
+  earlier = over_ring view seen p valid failed ready false log resumes r
 
   resumed_more : (k : ℕ) → min k most_resumes ≡ resumes → min (k + 1) most_resumes ≡ more
   resumed_more k is = omega (arith, is, counted)
 
   -- the store is sound again
-  pub resumed_ok : {T : Type 0} (x : T) (new : Since) → CameUnits view true [] r s → IsFree (drive_party s) s.drive.state → (view s.drive.medium).faults ≡ (view r.drive.medium).faults → is_broken new ≡ false → (is_unbroken log ≡ true → new ≡ log)
+  pub resumed_ok : {T : Type 0} (x : T) (new : Since) → CameUnits view true [] r s → IsFree (drive_party s) s.drive.state → (view s.drive.medium).faults ≡ (view r.drive.medium).faults → is_broken new ≡ false → (log ≡ since.Unbroken → new ≡ since.Unbroken)
       → Resumed earlier (view_at view seen q true new more (AtIdle s)) (Ok x)
   resumed_ok x new units rest count alive same = record {
     goes_on = record {
@@ -50,18 +58,18 @@ module _ {M S : Type 0} (view : M → MediumView) (seen : S → RingView M) (p q
       sound = refl;
       left = calls_less 1 n r s used (omega (arith, few));
       room = ap calls_in units.came.talked.adds.room;
-      unbroken = λ unbroken ok. ap is_unbroken (same unbroken) ∙ unbroken;
+      failed = λ none. subst (λ log. FailedAtIdle log None) (sym (same (unfailed none))) refl;
       cause = (frames_same view units.came.pieces r s free.ring units.came.talked, count);
     };
     quiet = record { tape = still.tape; moment = still.moment; since = still.since };
     transferred = λ list so. subst (λ list. Transferred (loop_of s) s.books.log list) (append-nil list) (transferred_then view true [] r s list units refl so);
-    stood = λ unbroken start so. from_start seen start _ _
-        (λ at stood. subst (λ log. Stood view log at s) (sym (same unbroken)) (stood_whole view log [] at r s stood (ap is_broken (unbroken_is log unbroken)) units refl unheard count (λ before. rest.status))) so;
+    stood = λ none start so. from_start seen start _ _
+        (λ at stood. subst (λ log. Stood view log at s) (sym (same (unfailed none))) (stood_whole view since.Unbroken [] at r s (subst (λ log. Stood view log at r) (unfailed none) stood) refl units refl unheard count (λ before. rest.status))) so;
     resumed = λ k so. resumed_more k so;
   }
 
   -- an exchange was broken off
-  pub resumed_not : {T : Type 0} → (new : Since) → CameUnits view false [] r s → (view r.drive.medium).faults ≤ (view s.drive.medium).faults → (is_unbroken log ≡ true → new ≡ since.Broken)
+  pub resumed_not : {T : Type 0} → (new : Since) → CameUnits view false [] r s → (view r.drive.medium).faults ≤ (view s.drive.medium).faults → (log ≡ since.Unbroken → new ≡ since.Broken)
       → Resumed {T = T} earlier (view_at view seen q false new more (AtLost s)) (Err trouble.Frame)
   resumed_not new units count broke = record {
     goes_on = record {
@@ -71,13 +79,13 @@ module _ {M S : Type 0} (view : M → MediumView) (seen : S → RingView M) (p q
       sound = refl;
       left = calls_less 1 n r s used (omega (arith, few));
       room = ap calls_in units.came.talked.adds.room;
-      unbroken = λ unbroken ok. cc;
+      failed = λ none. subst (λ log. FailedAtLost log (Some trouble.Frame)) (sym (broke (unfailed none))) refl;
       cause = (frames_rose view units.came.pieces r s free.ring units.came.talked, count);
     };
     quiet = record { tape = still.tape; moment = still.moment; since = still.since };
     transferred = λ list so. subst (λ list. Transferred (loop_of s) s.books.log list) (append-nil list) (transferred_then view false [] r s list units refl so);
-    stood = λ unbroken start so. from_start seen start _ _
-        (λ at stood. subst (λ log. Stood view log at s) (sym (broke unbroken)) (stood_frame view since.Unbroken at r s (subst (λ log. Stood view log at r) (unbroken_is log unbroken) stood) refl units.came unheard)) so;
+    stood = λ none start so. from_start seen start _ _
+        (λ at stood. subst (λ log. Stood view log at s) (sym (broke (unfailed none))) (stood_frame view since.Unbroken at r s (subst (λ log. Stood view log at r) (unfailed none) stood) refl units.came unheard)) so;
     resumed = λ k so. resumed_more k so;
   }
 
@@ -92,12 +100,12 @@ resumed_sound view seen p q log resumes more r x idle free alive may counted = r
     sound = refl;
     left = omega arith;
     room = refl;
-    unbroken = λ unbroken ok. unbroken;
+    failed = λ none. none;
     cause = (refl, refl);
   };
   quiet = record { tape = refl; moment = refl; since = record { nothing_else = λ m t left. left; keeps = λ m t left. left } };
   transferred = λ list so. so;
-  stood = λ unbroken start so. so;
+  stood = λ none start so. so;
   resumed = λ k is. omega (arith, is, counted);
 }
 
@@ -120,12 +128,13 @@ nothing_since view seen None s free is = absurd is
 nothing_since {M} view seen (Some b) s free is =
     subst (λ (start : RingView M). Stood view since.Unbroken start s) (sym is) (record { free = free; unheard = λ none. heard_same (drive_party s) s; by = inl refl })
 
-module _ {M S : Type 0} (view : M → MediumView) (seen : S → RingView M) (p q : Option S) (sound : Bool) (log : Since) (resumes : ℕ) (valid_old valid_new : Type 0) (r : RingView M) (free : IsFreeRing r) (here : IsStart seen p r) (there : IsStart seen q (cleared r)) where
-  pub begun : valid_new → Begun (over_ring view seen p valid_old sound log resumes r) (over_ring view seen q valid_new sound since.Unbroken 0 (cleared r))
+module _ {M S : Type 0} (view : M → MediumView) (seen : S → RingView M) (p q : Option S) (sound : Bool) (log : Since) (resumes : ℕ) (valid_old valid_new : Type 0) (failed_old failed_new : Option Trouble → Type 0) (ready : Bool) (none : failed_new None) (r : RingView M) (free : IsFreeRing r) (here : IsStart seen p r) (there : IsStart seen q (cleared r)) where
+  pub begun : valid_new → Begun (over_ring view seen p valid_old failed_old ready sound log resumes r) (over_ring view seen q valid_new failed_new ready sound since.Unbroken 0 (cleared r))
   begun valid = record {
     valid = valid;
     quiet = record { tape = refl; moment = refl; since = record { nothing_else = λ m t left. left; keeps = λ m t left. left } };
     size = refl;
+    ready = refl;
     sound = refl;
     frame_faults = refl;
     medium_faults = refl;
@@ -135,7 +144,7 @@ module _ {M S : Type 0} (view : M → MediumView) (seen : S → RingView M) (p q
     emptied = emptied_is seen p q r here there;
     stood = nothing_since view seen q (cleared r) free_cleared there;
     transferred = record { reading = record { pieces = []; legal = refl; entries = refl }; outside = refl; good = refl; are = refl };
-    unbroken = refl;
+    failed = none;
     resumed = refl;
   }
     where
@@ -148,7 +157,7 @@ fresh view seen q r lost may empty here = record {
   valid = (lost, refl, may);
   stood = nothing_since view seen q r lost.free here;
   transferred = subst (λ log. Transferred (loop_of r) log []) (sym empty) (record { reading = record { pieces = []; legal = refl; entries = refl }; outside = refl; good = refl; are = refl });
-  unbroken = refl;
+  failed = refl;
   resumed = refl;
 }
 

@@ -1,5 +1,5 @@
 -- What the calls of a store over the loop do that move no record: the drive's status, accessory IDs, the parallel poll, printing.
-use Rattle.std.specs.Prelude.{◌≡◌, ◌≤◌, ◌+◌, ◌&&◌, ℕ, Bool, true, false, List, Result, Ok, Err}
+use Rattle.std.specs.Prelude.{◌≡◌, ◌≤◌, ◌+◌, ◌&&◌, ℕ, false, List, Result, Ok, Err}
 use Rattle.lif_model.specs.Transfers.{Transfer}
 use Rattle.il_ports.specs.Stores.{RecordsView, IsQuiet}
 use Rattle.il_ports.specs.Trouble.{HasTroubleCause, answers_ok}
@@ -34,7 +34,7 @@ Calls P Q on off old new (Err e) = (e ≡ trouble.Frame) × CallBroke Q off old 
 -- What it leaves of the store, as every store is seen: no record changes and no time goes by, the reads and writes stand as before,
 -- and the store stays sound if it answers Ok. It takes the room of at most so many records. Where `told`, it still came from what it
 -- came from.
-pub record LeavesStore {S T : Type 0} (calls : ℕ) (told : Bool) (v w : RecordsView S) (answer : Result T Trouble) : Type 0 where
+pub record LeavesStore {S T : Type 0} (calls : ℕ) (told : Type 0) (v w : RecordsView S) (answer : Result T Trouble) : Type 0 where
   pub valid : w.valid
   pub quiet : IsQuiet v w
   pub size : w.record_count ≡ v.record_count
@@ -43,5 +43,5 @@ pub record LeavesStore {S T : Type 0} (calls : ℕ) (told : Bool) (v w : Records
   pub room : w.room ≡ v.room
   pub cause : HasTroubleCause v.frame_faults w.frame_faults v.medium_faults w.medium_faults answer
   pub transferred : (list : List Transfer) → v.transferred list → w.transferred list
-  pub stood : told ≡ true → (s : S) → v.stood s → w.stood s
+  pub stood : told → (s : S) → v.stood s → w.stood s
   pub resumed : (k : ℕ) → v.resumed k → w.resumed k

@@ -117,10 +117,17 @@ most_resumes = 4294967295
 
 -- ---- the view
 
--- no call failed since the log was last emptied, and no bytes were sent to another device than the drive
-abbrev pub is_unbroken : Since → Bool
-is_unbroken since.Unbroken = true
-is_unbroken _ = false
+-- How the calls since the log was last emptied ended, where no bytes were sent to another device than the drive: none failed, or the
+-- last one alone. An idle controller's was failed by the medium, and a lost one's by a frame.
+abbrev pub FailedAtIdle : Since → Option Trouble → Type 0
+FailedAtIdle since.Unbroken failure = failure ≡ None
+FailedAtIdle since.Failed failure = failure ≡ Some trouble.Medium
+FailedAtIdle _ failure = ⊥
+
+abbrev pub FailedAtLost : Since → Option Trouble → Type 0
+FailedAtLost since.Unbroken failure = failure ≡ None
+FailedAtLost since.Broken failure = failure ≡ Some trouble.Frame
+FailedAtLost _ failure = ⊥
 
 -- a start, as a ring
 abbrev pub FromStart : {M S : Type 0} → (S → RingView M) → Option S → (RingView M → Type 0) → Type 0
@@ -132,11 +139,12 @@ abbrev pub IsEmptied : {M S : Type 0} → (S → RingView M) → Option S → Op
 IsEmptied seen a b = FromStart seen a (λ r. FromStart seen b (λ s. s ≡ record r { books = record r.books { log = [] } }))
 
 -- of a store whose ring is r
-abbrev pub over_ring : {M S : Type 0} → (M → MediumView) → (S → RingView M) → Option S → Type 0 → Bool → Since → ℕ → RingView M → RecordsView (Option S)
-over_ring view seen present valid sound log resumes r = record {
+abbrev pub over_ring : {M S : Type 0} → (M → MediumView) → (S → RingView M) → Option S → Type 0 → (Option Trouble → Type 0) → Bool → Bool → Since → ℕ → RingView M → RecordsView (Option S)
+over_ring view seen present valid failed ready sound log resumes r = record {
   valid = valid;
   tape = (view r.drive.medium).tape;
   record_count = (view r.drive.medium).record_count;
+  ready = ready;
   sound = sound;
   calls_left = calls_in (spare_of r);
   room = calls_in r.books.room;
@@ -148,7 +156,7 @@ over_ring view seen present valid sound log resumes r = record {
   present = present;
   emptied = IsEmptied seen;
   stood = λ start. FromStart seen start (λ s. Stood view log s r);
-  unbroken = is_unbroken log;
+  failed = failed;
   resumed = λ k. min k most_resumes ≡ resumes;
 }
 
@@ -158,6 +166,7 @@ at_work seen present = record {
   valid = ⊥;
   tape = None;
   record_count = 0;
+  ready = false;
   sound = false;
   calls_left = 0;
   room = 0;
@@ -169,14 +178,14 @@ at_work seen present = record {
   present = present;
   emptied = IsEmptied seen;
   stood = λ start. ⊥;
-  unbroken = false;
+  failed = λ failure. ⊥;
   resumed = λ k. ⊥;
 }
 
 -- by the controller
 abbrev pub view_at : {M S : Type 0} → (M → MediumView) → (S → RingView M) → Option S → Bool → Since → ℕ → Standing M → RecordsView (Option S)
-view_at view seen present sound log resumes (AtIdle r) = over_ring view seen present (StandsSo (AtIdle r) sound log) sound log resumes r
-view_at view seen present sound log resumes (AtLost r) = over_ring view seen present (StandsSo (AtLost r) sound log) sound log resumes r
+view_at view seen present sound log resumes (AtIdle r) = over_ring view seen present (StandsSo (AtIdle r) sound log) (FailedAtIdle log) true sound log resumes r
+view_at view seen present sound log resumes (AtLost r) = over_ring view seen present (StandsSo (AtLost r) sound log) (FailedAtLost log) false sound log resumes r
 view_at view seen present sound log resumes Nowhere = at_work seen present
 
 abbrev pub view_of : {M S : Type 0} → (M → MediumView) → (S → RingView M) → Option S → LoopView M → RecordsView (Option S)
@@ -187,7 +196,7 @@ pub record IsFresh {S : Type 0} (v : RecordsView S) : Type 0 where
   pub valid : v.valid
   pub stood : v.stood v.present
   pub transferred : v.transferred []
-  pub unbroken : v.unbroken ≡ true
+  pub failed : v.failed None
   pub resumed : v.resumed 0
 
 -- ---- for the calls

@@ -27,7 +27,7 @@ impl<M: Medium + Drop> LoopRecords<M> {
         ensures told { Calls (λ byte r s. Polled M.view (drive_party r) byte r s) (λ r s. NotPolled M.view (drive_party r) r s)
             (⟦<LoopRecords<M> as Looped<M>>⟧.looped self.old).since (since_frame (⟦<LoopRecords<M> as Looped<M>>⟧.looped self.old).since)
             (⟦<LoopRecords<M> as Looped<M>>⟧.looped self.old) (⟦<LoopRecords<M> as Looped<M>>⟧.looped self.new) result }
-        ensures leaves { LeavesStore 1 true (⟦<LoopRecords<M> as Records>⟧.view self.old) (⟦<LoopRecords<M> as Records>⟧.view self.new) result }
+        ensures leaves { LeavesStore 1 (Unit {0}) (⟦<LoopRecords<M> as Records>⟧.view self.old) (⟦<LoopRecords<M> as Records>⟧.view self.new) result }
     {
         let idle = self.take_idle();
         let drive = drive_of(&idle);
@@ -51,7 +51,7 @@ impl<M: Medium + Drop> LoopRecords<M> {
         ensures named { Calls (λ x r s. AllNamed M.view into.new.items r s) (λ r s. LeftAlone M.view false (up_to (id_asks (devices_of r)) (length (devices_of r))) r s)
             (⟦<LoopRecords<M> as Looped<M>>⟧.looped self.old).since (since_frame (⟦<LoopRecords<M> as Looped<M>>⟧.looped self.old).since)
             (⟦<LoopRecords<M> as Looped<M>>⟧.looped self.old) (⟦<LoopRecords<M> as Looped<M>>⟧.looped self.new) result }
-        ensures leaves { LeavesStore 2 true (⟦<LoopRecords<M> as Records>⟧.view self.old) (⟦<LoopRecords<M> as Records>⟧.view self.new) result }
+        ensures leaves { LeavesStore 2 (Unit {0}) (⟦<LoopRecords<M> as Records>⟧.view self.old) (⟦<LoopRecords<M> as Records>⟧.view self.new) result }
     {
         let idle = self.take_idle();
         let count = idle.ring().devices();
@@ -75,7 +75,7 @@ impl<M: Medium + Drop> LoopRecords<M> {
         ensures polled { Calls (HasPolled M.view) (λ r s. PollBroke M.view 54 (poll_asks (length (devices_of r)) (polled_along 1 (devices_of r) idy)) r s)
             (⟦<LoopRecords<M> as Looped<M>>⟧.looped self.old).since (since_frame (⟦<LoopRecords<M> as Looped<M>>⟧.looped self.old).since)
             (⟦<LoopRecords<M> as Looped<M>>⟧.looped self.old) (⟦<LoopRecords<M> as Looped<M>>⟧.looped self.new) result }
-        ensures leaves { LeavesStore 1 true (⟦<LoopRecords<M> as Records>⟧.view self.old) (⟦<LoopRecords<M> as Records>⟧.view self.new) result }
+        ensures leaves { LeavesStore 1 (Unit {0}) (⟦<LoopRecords<M> as Records>⟧.view self.old) (⟦<LoopRecords<M> as Records>⟧.view self.new) result }
     {
         let idle = self.take_idle();
         let count = idle.ring().devices();
@@ -100,7 +100,7 @@ impl<M: Medium + Drop> LoopRecords<M> {
         ensures said { Calls (λ x r s. Said M.view printer bytes.now r s) (λ r s. NotSaid M.view printer bytes.now r s)
             (since_said (⟦<LoopRecords<M> as Looped<M>>⟧.looped self.old).since) (since_frame (since_said (⟦<LoopRecords<M> as Looped<M>>⟧.looped self.old).since))
             (⟦<LoopRecords<M> as Looped<M>>⟧.looped self.old) (⟦<LoopRecords<M> as Looped<M>>⟧.looped self.new) result }
-        ensures leaves { LeavesStore ((length bytes.now + 306) / 300) true (⟦<LoopRecords<M> as Records>⟧.view self.old) (⟦<LoopRecords<M> as Records>⟧.view self.new) result }
+        ensures leaves { LeavesStore ((length bytes.now + 306) / 300) (Unit {0}) (⟦<LoopRecords<M> as Records>⟧.view self.old) (⟦<LoopRecords<M> as Records>⟧.view self.new) result }
     {
         let idle = self.take_idle();
         self.speak();

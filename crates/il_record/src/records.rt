@@ -1,4 +1,4 @@
-ghost use Rattle.std.specs.Prelude.{◌≡◌, ◌≤◌, ◌<◌, ◌+◌, ◌/◌, ℕ, true, false, Some, None, [], length, Err, IfOk, IfErr, MatchBool};
+ghost use Rattle.std.specs.Prelude.{◌≡◌, ◌≤◌, ◌<◌, ◌+◌, ◌/◌, ◌*◌, ℕ, true, false, Some, None, [], length, Err, IfOk, IfErr, MatchBool};
 ghost use Rattle.lif_model.specs.Shelf.{cut};
 ghost use Rattle.il_drive.proofs.Exchanges.{IsFree};
 ghost use Rattle.il_ring.specs.Lists.{Each};
@@ -235,7 +235,7 @@ impl<M: Medium + Drop> LoopRecords<M> {
         requires valid { StandsSo (⟦<LoopRecords<M> as Looped<M>>⟧.looped self.old).control (⟦<LoopRecords<M> as Looped<M>>⟧.looped self.old).sound (⟦<LoopRecords<M> as Looped<M>>⟧.looped self.old).since }
         requires room { HasRing (⟦<LoopRecords<M> as Looped<M>>⟧.looped self.old).control (λ r. 64 ≤ spare_of r) }
         ensures addresses { Addresses M.view (⟦<LoopRecords<M> as Looped<M>>⟧.looped self.old).control (⟦<LoopRecords<M> as Looped<M>>⟧.looped self.old) (⟦<LoopRecords<M> as Looped<M>>⟧.looped self.new) result }
-        ensures leaves { LeavesStore 1 (⟦<LoopRecords<M> as Records>⟧.view self.old).unbroken (⟦<LoopRecords<M> as Records>⟧.view self.old) (⟦<LoopRecords<M> as Records>⟧.view self.new) result }
+        ensures leaves { LeavesStore 1 ((⟦<LoopRecords<M> as Records>⟧.view self.old).failed None) (⟦<LoopRecords<M> as Records>⟧.view self.old) (⟦<LoopRecords<M> as Records>⟧.view self.new) result }
     {
         if self.is_ready() {
             return Ok(());
@@ -327,7 +327,7 @@ impl<M: Medium + Drop> LoopRecords<M> {
 impl<M: Medium + Drop> Records for LoopRecords<M> {
     ghost use Rattle.std.specs.Prelude.{map, Some, None};
     ghost use Rattle.il_ring.specs.Rings.{RingView};
-    ghost use Rattle.il_ports.specs.Stores.{Resumed};
+    ghost use Rattle.il_ports.specs.Stores.{Resumed, IsReady, AreRecords, Fetched, Stored, FetchedRun, StoredRun};
     ghost use Rattle.il_record.specs.LoopStores.{view_at};
     ghost use Rattle.il_record.specs.Controls.{ring_in, standing_of};
     ghost use Rattle.il_record.specs.IsStore.{is_store_at};
@@ -370,7 +370,7 @@ impl<M: Medium + Drop> Records for LoopRecords<M> {
         ensures begun { Begun (⟦<LoopRecords<M> as Records>⟧.view self.old) (⟦<LoopRecords<M> as Records>⟧.view self.new) }
         ensures emptied { ⟦<LoopRecords<M> as Looped<M>>⟧.looped self.new ≡ log_emptied (⟦<LoopRecords<M> as Looped<M>>⟧.looped self.old) }
     {
-        self.empty_log();
+        self.clear_log();
     }
 
     /// Makes the store sound where it is not: addresses the loop where it is not ready, and clears the drive. Where it is sound,
@@ -398,15 +398,28 @@ impl<M: Medium + Drop> Records for LoopRecords<M> {
         }
     }
 
-    fn read(&mut self, n: u16, into: &mut [u8; 256]) -> Result<(), Trouble> {
+    fn read(&mut self, n: u16, into: &mut [u8; 256]) -> Result<(), Trouble>
+        requires ready { IsReady 1 (⟦<LoopRecords<M> as Records>⟧.view self.old) }
+        requires within { n < (⟦<LoopRecords<M> as Records>⟧.view self.old).record_count }
+        ensures { Fetched n into.new (⟦<LoopRecords<M> as Records>⟧.view self.old) (⟦<LoopRecords<M> as Records>⟧.view self.new) result }
+    {
         self.read_run(n, into)
     }
 
-    fn write(&mut self, n: u16, from: &[u8; 256]) -> Result<(), Trouble> {
+    fn write(&mut self, n: u16, from: &[u8; 256]) -> Result<(), Trouble>
+        requires ready { IsReady 1 (⟦<LoopRecords<M> as Records>⟧.view self.old) }
+        requires within { n < (⟦<LoopRecords<M> as Records>⟧.view self.old).record_count }
+        ensures { Stored n from.now (⟦<LoopRecords<M> as Records>⟧.view self.old) (⟦<LoopRecords<M> as Records>⟧.view self.new) result }
+    {
         self.write_run(n, 1, from)
     }
 
-    fn read_run(&mut self, first: u16, into: &mut [u8]) -> Result<(), Trouble> {
+    fn read_run(&mut self, first: u16, into: &mut [u8]) -> Result<(), Trouble>
+        requires records { AreRecords (length into.old) }
+        requires ready { IsReady (length into.old / 256) (⟦<LoopRecords<M> as Records>⟧.view self.old) }
+        requires within { first + length into.old / 256 ≤ (⟦<LoopRecords<M> as Records>⟧.view self.old).record_count }
+        ensures { FetchedRun first (length into.old / 256) into.new (⟦<LoopRecords<M> as Records>⟧.view self.old) (⟦<LoopRecords<M> as Records>⟧.view self.new) result }
+    {
         let idle = self.take_idle();
         let drive = drive_of(&idle);
         match read_run(idle, drive, first, into) {
@@ -419,7 +432,13 @@ impl<M: Medium + Drop> Records for LoopRecords<M> {
         }
     }
 
-    fn write_run(&mut self, first: u16, count: u16, from: &[u8]) -> Result<(), Trouble> {
+    fn write_run(&mut self, first: u16, count: u16, from: &[u8]) -> Result<(), Trouble>
+        requires some { 1 ≤ count }
+        requires fits { length from.now ≤ 256 * count }
+        requires ready { IsReady count (⟦<LoopRecords<M> as Records>⟧.view self.old) }
+        requires within { first + count ≤ (⟦<LoopRecords<M> as Records>⟧.view self.old).record_count }
+        ensures { StoredRun first (cut count from.now) (⟦<LoopRecords<M> as Records>⟧.view self.old) (⟦<LoopRecords<M> as Records>⟧.view self.new) result }
+    {
         let idle = self.take_idle();
         let drive = drive_of(&idle);
         match write_run(idle, drive, first, count, from) {

@@ -34,7 +34,7 @@ returns-in_err-put g c =
           sound = c.in_err-put.ensures.sound ∙ ap (λ b. b && false) v.sound ∙ sym (ap answers_ok err);
           left = omega (arith, c.in_err-put.ensures.left, v.left, more);
           room = refl;
-          unbroken = λ was ok. refl;
+          failed = λ was. tt;
           cause = medium_cause _ _ _ c.in_err-put.field-0.0 _ err c.in_err-put.ensures.trouble v.faults r.goes_on.cause;
         };
         stood = λ s was. tt;

@@ -1,0 +1,336 @@
+-- The commands that ask the devices of the loop, from the moment at which their log is emptied to their reply, are steps of a run.
+use Rattle.std.proofs.Common.{◌≡◌, ◌∙◌, ◌≤◌, ◌&&◌, inr, ℕ, Bool, true, false, suc, List, length, Option, Some, None, option_map, refl, sym, ap, subst, arith}
+use Rattle.std.specs.Prelude.{Ok, Err}
+use Rattle.std.specs.List.{position}
+use Rattle.std.proofs.lemmas.List.Quantifiers.{position-Some}
+use Rattle.il_frames.specs.declared.entry.Entry.{Entry}
+use Rattle.il_frames.specs.declared.frame.Frame.{Frame}
+use Rattle.il_poll.specs.Service.{status_byte_of}
+use Rattle.lif_model.proofs.Moments.{started, still}
+use Rattle.il_ports.specs.Media.{MediumView}
+use Rattle.il_ports.specs.Stores.{Begun, IsQuiet, IsStore, RecordsView}
+use Rattle.il_ports.specs.declared.records.Trouble.{Trouble}
+use Rattle.il_ports.specs.declared.records.Trouble.TheVariants as trouble
+use Rattle.il_drive.specs.State.{drive_id}
+use Rattle.il_ring.specs.Plans.{hops_of}
+use Rattle.il_ring.specs.Rings.{RingView, devices_of, drive_party, has_id, printer_id}
+use Rattle.il_control.specs.Calls.{idy}
+use Rattle.il_record.specs.declared.records.Since.{Since}
+use Rattle.il_record.specs.declared.records.Since.TheVariants as since
+use Rattle.il_record.specs.Asks.{up_to}
+use Rattle.il_record.specs.Called.{CallBroke, Called}
+use Rattle.il_record.specs.LoopCalls.{AllNamed, LeftAlone, NotSaid, Said, id_asks}
+use Rattle.il_record.specs.LoopStores.{Addresses, AtIdle, AtLost, HasRing, LoopView, Nowhere, Standing, is_idle, view_at, view_of}
+use Rattle.il_record.specs.Polls.{HasPolled, PollBroke, poll_asks, polled_along}
+use Rattle.il_record.specs.Runs.{NotPolled, Polled}
+use Rattle.il_record.proofs.StoreResumes.{Agrees}
+use Rattle.il_script.specs.declared.reply.Reply.{Reply}
+use Rattle.il_script.specs.declared.reply.Reply.TheVariants as reply
+use Rattle.il_script.specs.declared.reply.Code.TheVariants as code
+use Rattle.host_model.specs.Requests.{Asks, Devices, Item, NoCommand, OfVolume, Paper, Poll, Say, Status, is_of_volume}
+use Rattle.host_model.specs.LoopStates.{LoopState, all_ids, poll_frame, printer_at, status_byte}
+use Rattle.host_model.specs.HostStates.{HostState, log_room}
+use Rattle.host_model.specs.RingStates.{loop_on, state_on}
+use Rattle.host_model.specs.Steps.{Event, IsStep}
+use Rattle.host_model.specs.Stops.{MayBeLeft, StopsLeave}
+use Rattle.host_model.proofs.Growing.{left_at_first}
+use Rattle.il_host.specs.Standings.{HasLogRoom, event_at, hops_at, log_at, state_at}
+use Rattle.il_host.proofs.CommandTravels.{event_by, event_on, travels_came}
+use Rattle.il_host.proofs.LoopCallsEvents.{ready_frame, ready_ids}
+use Rattle.il_host.proofs.LoopEvents.{IsOfLoop, Readies, not_of_volume}
+use Rattle.il_host.proofs.LoopReady.{broke_on, called_on, ready_err, ready_ok}
+use Rattle.il_host.proofs.LoopReplied.{sends_frames}
+use Rattle.il_host.proofs.LoopRuns.{Ran, ran_devices, ran_devices_broken, ran_no_printer, ran_poll, ran_poll_broken, ran_status, ran_status_broken, ran_unnamed, ran_unready}
+use Rattle.il_host.proofs.SayRuns.{ran_not_said, ran_said}
+use Rattle.il_host.proofs.Sounding.{exchanged_sounding, replied_sounding, travels_sounding}
+use Rattle.il_host.proofs.StatusEvents.{ready_leaves}
+use Rattle.il_host.proofs.VolumeCommands.{KeepsRing, keeps_rings, room_at, short_at}
+use Rattle.il_host.proofs.VolumePerforms.{Performs}
+use Rattle.il_host.proofs.VolumeReplied.{IsSeenAs, StaysQuiet, quiet_rings, quiet_then, seen_as, told_tape}
+use Rattle.il_host.proofs.VolumeStarts.{Emptied, emptied_ring, volume_begun}
+use Rattle.il_host.proofs.VolumeSteps.{Here, at_ring, event_rings, here_at, hops_rings, state_rings}
+
+-- ---- the drive's accessory ID
+
+-- the drive of this controller has the accessory ID of a drive
+abbrev pub HasDriveId : {M : Type 0} → Standing M → Type 0
+HasDriveId c = HasRing c (λ r. r.drive.state.interface.accessory ≡ Some drive_id)
+
+-- it keeps that as the log is emptied
+pub id_begun : {M S : Type 0} (view : M → MediumView) (seen : S → RingView M) (p q : Option S) (old begun : LoopView M) → Agrees seen p old.control → Agrees seen q begun.control → Begun (view_of view seen p old) (view_of view seen q begun)
+    → HasDriveId old.control → HasDriveId begun.control
+id_begun {M} {S} view seen p q old begun here there so has = by old.control begun.control here there so has
+  where
+    by : (c d : Standing M) → Agrees seen p c → Agrees seen q d → Begun (view_at view seen p old.sound old.since old.resumes c) (view_at view seen q begun.sound begun.since begun.resumes d) → HasDriveId c → HasDriveId d
+    by (AtIdle r) (AtIdle s) here there so has = subst (λ (s : RingView M). HasDriveId (AtIdle s)) (sym (emptied_ring seen p q r s so.emptied here there)) has
+    by (AtIdle r) (AtLost s) here there so has = subst (λ (s : RingView M). HasDriveId (AtLost s)) (sym (emptied_ring seen p q r s so.emptied here there)) has
+    by (AtLost r) (AtIdle s) here there so has = subst (λ (s : RingView M). HasDriveId (AtIdle s)) (sym (emptied_ring seen p q r s so.emptied here there)) has
+    by (AtLost r) (AtLost s) here there so has = subst (λ (s : RingView M). HasDriveId (AtLost s)) (sym (emptied_ring seen p q r s so.emptied here there)) has
+    by (AtIdle r) Nowhere here there so has = absurd so.valid
+    by (AtLost r) Nowhere here there so has = absurd so.valid
+    by Nowhere d here there so has = absurd has
+
+-- that of the ring
+id_at : {M : Type 0} (is : Bool) (c : Standing M) (r : RingView M) → c ≡ at_ring is r → HasDriveId c → r.drive.state.interface.accessory ≡ Some drive_id
+id_at {M} is c r at has = by is (subst (λ (c : Standing M). HasDriveId c) at has)
+  where
+    by : (is : Bool) → HasDriveId (at_ring is r) → r.drive.state.interface.accessory ≡ Some drive_id
+    by true has = has
+    by false has = has
+
+-- ---- the printer's address
+
+-- It is 1 at least, and at most the number of devices that were asked.
+pub printer_within : (ids : List (Option ℕ)) (address : ℕ) → Some address ≡ option_map suc (position (has_id printer_id) ids) → (1 ≤ address) × (address ≤ length ids)
+printer_within ids address is = by (position (has_id printer_id) ids) refl is
+  where
+    by : (found : Option ℕ) → position (has_id printer_id) ids ≡ found → Some address ≡ option_map suc found → (1 ≤ address) × (address ≤ length ids)
+    by None at is = cc
+    by (Some k) at is = let low = (position-Some (has_id printer_id) ids k None at).0 in let next : address ≡ suc k = cc in (omega (arith, next), omega (arith, low, next))
+
+-- ---- parts of a step
+
+and_true : (b : Bool) → b ≡ (b && true)
+and_true true = refl
+and_true false = refl
+
+and_false : (b : Bool) → false ≡ (b && false)
+and_false true = refl
+and_false false = refl
+
+not_volume : (item : Item) → IsOfLoop item → is_of_volume item ≡ false
+not_volume (Asks (OfVolume command)) of_loop = absurd of_loop
+not_volume (Asks Devices) of_loop = refl
+not_volume (Asks Status) of_loop = refl
+not_volume (Asks Poll) of_loop = refl
+not_volume (Asks (Say bytes)) of_loop = refl
+not_volume (Asks Paper) of_loop = absurd of_loop
+not_volume (NoCommand code) of_loop = absurd of_loop
+
+-- Where no record changes and no time goes by, a stop leaves the tape as it was.
+pub quiet_stops : {S : Type 0} (item : Item) (answered : Reply) (log : List Entry) (s t : HostState) (v w : RecordsView S) → IsSeenAs s v → IsStore v → IsQuiet v w
+    → StopsLeave (record { item = item; reply = answered; log = log; before = s; after = t }) v.moment w.moment v.left_since w.left_since
+quiet_stops item answered log s t v w before store quiet told own =
+    let tape = told_tape s.tape told in
+    still v.moment v.moment w.moment v.left_since v.left_since w.left_since (MayBeLeft item s) quiet.moment quiet.since
+    (started v.moment v.left_since (MayBeLeft item s) tape.0 (λ c left. store.leaves_only tape.0 c (sym before.tape ∙ tape.1) left) (left_at_first item s tape.0 own tape.1))
+
+-- ---- the laws
+
+-- The store was o, and was emptied as a.
+module _ {M S : Type 0} (view : M → MediumView) (seen : S → RingView M) (o a : Option S) (old begun : LoopView M)
+    (valid : (view_of view seen o old).valid) (here : Agrees seen o old.control) (there : Agrees seen a begun.control) (empties : Begun (view_of view seen o old) (view_of view seen a begun)) where
+  emptied : Emptied view old begun
+  emptied = volume_begun view seen o a old begun valid here there empties
+
+  stood : Here begun.control
+  stood = here_at begun.control begun.sound since.Unbroken emptied.stands
+
+  -- the state before
+  state_is : state_on view (is_idle begun.control) begun.sound stood.ring ≡ state_at view old.sound old.control
+  state_is = sym (ap (λ (c : Standing M). state_at view begun.sound c) stood.at ∙ state_rings view begun.sound (is_idle begun.control) stood.ring) ∙ emptied.state
+
+  loop_is : loop_on stood.ring ≡ (state_at view old.sound old.control).loop
+  loop_is = ap (λ (s : HostState). s.loop) state_is
+
+  -- the drive's accessory ID
+  id_is : HasDriveId old.control → stood.ring.drive.state.interface.accessory ≡ Some drive_id
+  id_is has = id_at (is_idle begun.control) begun.control stood.ring stood.at (id_begun view seen o a old begun here there empties has)
+
+  -- It is q in the end.
+  module _ (q : Option S) (new : LoopView M) (store : IsStore (view_of view seen o old)) (room : HasLogRoom view old.control) (left : 1 ≤ (view_of view seen q new).calls_left) where
+    -- from what it did with the ring
+    ran_performs : (item : Item) (answered : Reply) (is : Bool) (s : RingView M) → IsOfLoop item → new.control ≡ at_ring is s → new.sound ≡ (begun.sound && is) → Ran view item answered (is_idle begun.control) is stood.ring s
+        → Performs view seen o q item answered old new
+    ran_performs item answered is s of_loop at sound ran = record {
+      step = subst (λ hops. IsStep hops (event_at view item answered old new)) emptied.hops
+          (subst (λ (s : HostState). IsStep (hops_at begun.control) (event_from s)) emptied.state begun_step);
+      stops = quiet_stops item answered (log_at new.control) (state_at view old.sound old.control) (state_at view new.sound new.control) (view_of view seen o old) (view_of view seen q new) (seen_as view seen o old) store
+          (quiet_then (view_of view seen o old) (view_of view seen a begun) (view_of view seen q new) empties.quiet stays.quiet);
+      keeps = record { hops = keeps.hops ∙ emptied.hops; room = keeps.room };
+    }
+      where
+        was : Bool
+        was = is_idle begun.control
+
+        r : RingView M
+        r = stood.ring
+
+        stays : StaysQuiet (view_of view seen a begun) (view_of view seen q new)
+        stays = quiet_rings view seen a q begun new was is r s stood.at at ran.still
+
+        keeps : KeepsRing view begun new
+        keeps = keeps_rings view begun new was is r s stood.at at (inr (is, ran.came)) ran.still.stays_in.size (emptied.room room)
+
+        short : length s.books.log ≤ log_room (view r.drive.medium).record_count
+        short = subst (λ n. length s.books.log ≤ n) (ran.came.talked.adds.room ∙ room_at view was begun.control r stood.at (emptied.room room)) (short_at view seen q new is s at left)
+
+        step : IsStep (hops_of r.books.plan) (event_by view item answered was is begun.sound new.sound r s)
+        step = record {
+          replied = replied_sounding (event_on view item answered was is r s) begun.sound new.sound ran.replied;
+          next = ran.next;
+          travels = travels_sounding (event_on view item answered was is r s) begun.sound new.sound (travels_came view item answered was is is r s ran.empty ran.came short);
+          heard = ran.heard;
+          exchanged = exchanged_sounding (event_on view item answered was is r s) begun.sound new.sound (hops_of r.books.plan) (not_volume item of_loop) ran.exchanged;
+          ready = λ frames. ran.ends;
+          sound = λ of. absurd (not_of_volume item of_loop of);
+          unsound = λ other frames. sound ∙ ap (λ b. begun.sound && b) ran.ends;
+          still = λ none. let clash : true ≡ false = sym (sends_frames item of_loop) ∙ none in cc;
+        }
+
+        begun_step : IsStep (hops_at begun.control) (event_at view item answered begun new)
+        begun_step = subst (λ hops. IsStep hops (event_at view item answered begun new)) (sym (ap (λ (c : Standing M). hops_at c) stood.at ∙ hops_rings view was r))
+            (subst (λ (e : Event). IsStep (hops_of r.books.plan) e) (sym (event_rings view item answered begun new was is r s stood.at at)) step)
+
+        event_from : HostState → Event
+        event_from s = record { item = item; reply = answered; log = log_at new.control; before = s; after = state_at view new.sound new.control }
+
+    -- by a controller that is lost
+    lost : (T : Type 0) (e : Trouble) (c : Standing M) → Addresses {T = T} view c begun new (Err e) → (e ≡ trouble.Frame) × (s : RingView M) × (new.control ≡ AtLost s) × (new.sound ≡ false)
+    lost T e (AtIdle r) so = absurd so
+    lost T e (AtLost r) so = (so.0, so.1.ring, ap (λ (l : LoopView M). l.control) so.1.left, ap (λ (l : LoopView M). l.sound) so.1.left)
+    lost T e Nowhere so = absurd so
+
+    -- The loop was not ready, and its addressing was broken off: this is the reply to every command that asks the devices.
+    pub loop_unready : (T : Type 0) (item : Item) (e : Trouble) → IsOfLoop item → Addresses {T = T} view begun.control begun new (Err e) → (e ≡ trouble.Frame) × Performs view seen o q item reply.FaultFrame old new
+    loop_unready T item e of_loop addresses =
+        let at = lost T e begun.control addresses in
+        let s = at.1 in
+        let broke = ready_err T view e begun.control begun new stood.ring s stood.stands at.2 addresses in
+        let empty = stood.empty emptied.log in (
+          at.0,
+          ran_performs item reply.FaultFrame false s of_loop at.2 (at.3 ∙ and_false begun.sound)
+              (subst (λ was. Ran view item reply.FaultFrame was false stood.ring s) (sym broke.0) (ran_unready view item stood.ring s of_loop empty broke.1)),
+        )
+
+  -- The loop is ready, and the store is mid.
+  module _ {T : Type 0} (x : T) (mid : LoopView M) (addresses : Addresses view begun.control begun mid (Ok x)) where
+    readies : (m : RingView M) → mid.control ≡ AtIdle m → Readies view (is_idle begun.control) stood.ring m
+    readies m at = ready_ok view x begun.control begun.sound since.Unbroken begun mid stood.ring m refl emptied.stands stood.stands at addresses
+
+    sound_ready : mid.sound ≡ begun.sound
+    sound_ready = by begun.control addresses
+      where
+        by : (c : Standing M) → Addresses view c begun mid (Ok x) → mid.sound ≡ begun.sound
+        by (AtIdle r) so = ap (λ (l : LoopView M). l.sound) so
+        by (AtLost r) so = ap (λ (l : LoopView M). l.sound) so.left
+        by Nowhere so = absurd so
+
+    -- The devices told these accessory IDs.
+    pub ids_told : (on : Since) (ids : List (Option ℕ)) (named : LoopView M) → HasDriveId old.control → Called (λ r s. AllNamed view ids r s) on mid named → ids ≡ all_ids (state_at view old.sound old.control).loop
+    ids_told on ids named has did =
+        did.did.ids_are ∙ ready_ids view (is_idle begun.control) stood.ring did.ring (readies did.ring did.at) (id_is has) ∙ ap (λ (z : LoopState). all_ids z) loop_is
+
+    -- The printer is the first of them that is one.
+    pub printer_told : (on : Since) (ids : List (Option ℕ)) (named : LoopView M) → HasDriveId old.control → Called (λ r s. AllNamed view ids r s) on mid named
+        → option_map suc (position (has_id printer_id) ids) ≡ printer_at (state_at view old.sound old.control).loop
+    printer_told on ids named has did = ap (λ (ids : List (Option ℕ)). option_map suc (position (has_id printer_id) ids)) (ids_told on ids named has did)
+
+    -- It is q in the end.
+    module _ (q : Option S) (new : LoopView M) (store : IsStore (view_of view seen o old)) (room : HasLogRoom view old.control) (left : 1 ≤ (view_of view seen q new).calls_left) where
+      -- one call with ok
+      called : (item : Item) (answered : Reply) (P : RingView M → RingView M → Type 0) (on : Since) → IsOfLoop item → (did : Called P on mid new) → Ran view item answered (is_idle begun.control) true stood.ring did.behind
+          → Performs view seen o q item answered old new
+      called item answered P on of_loop did ran =
+          ran_performs q new store room left item answered true did.behind of_loop (ap (λ (l : LoopView M). l.control) did.left) (ap (λ (l : LoopView M). l.sound) did.left ∙ sound_ready ∙ and_true begun.sound) ran
+
+      -- one that was broken off
+      call_broke : (item : Item) (P : RingView M → RingView M → Type 0) (off : Since) → IsOfLoop item → (did : CallBroke P off mid new) → Ran view item reply.FaultFrame (is_idle begun.control) false stood.ring did.behind
+          → Performs view seen o q item reply.FaultFrame old new
+      call_broke item P off of_loop did ran =
+          ran_performs q new store room left item reply.FaultFrame false did.behind of_loop (ap (λ (l : LoopView M). l.control) did.left) (ap (λ (l : LoopView M). l.sound) did.left ∙ and_false begun.sound) ran
+
+      -- ---- the status
+
+      -- The drive told its status.
+      pub status_performs : (on : Since) (byte : ℕ) → Called (λ r s. Polled view (drive_party r) byte r s) on mid new
+          → (byte ≡ status_byte (state_at view old.sound old.control).loop) × Performs view seen o q (Asks Status) reply.Ok old new
+      status_performs on byte did =
+          let ready = readies did.ring did.at in
+          let leaves = ready_leaves view (is_idle begun.control) stood.ring did.ring ready in (
+            did.did.drive.byte_is ∙ ap status_byte_of leaves.status ∙ ap (λ (z : LoopState). status_byte z) loop_is,
+            called (Asks Status) reply.Ok _ on tt did (ran_status view (is_idle begun.control) stood.ring did.ring did.behind (stood.empty emptied.log) ready byte did.did),
+          )
+
+      -- That was broken off.
+      pub status_broke : (off : Since) (e : Trouble) → (e ≡ trouble.Frame) × CallBroke (λ r s. NotPolled view (drive_party r) r s) off mid new
+          → (e ≡ trouble.Frame) × Performs view seen o q (Asks Status) reply.FaultFrame old new
+      status_broke off e did =
+          (did.0, call_broke (Asks Status) _ off tt did.1 (ran_status_broken view (is_idle begun.control) stood.ring did.1.ring did.1.behind (stood.empty emptied.log) (readies did.1.ring did.1.at) did.1.did))
+
+      -- ---- accessory IDs
+
+      -- Each device told its accessory ID, if it has one.
+      pub devices_performs : (on : Since) (ids : List (Option ℕ)) → HasDriveId old.control → Called (λ r s. AllNamed view ids r s) on mid new
+          → (ids ≡ all_ids (state_at view old.sound old.control).loop) × Performs view seen o q (Asks Devices) reply.Ok old new
+      devices_performs on ids has did =
+          let ready = readies did.ring did.at in (
+            ids_told on ids new has did,
+            called (Asks Devices) reply.Ok _ on tt did (ran_devices view (is_idle begun.control) stood.ring did.ring did.behind (stood.empty emptied.log) ready ids (id_is has) did.did),
+          )
+
+      -- That was broken off.
+      pub devices_broke : (off : Since) (e : Trouble) → HasDriveId old.control → (e ≡ trouble.Frame) × CallBroke (λ r s. LeftAlone view false (up_to (id_asks (devices_of r)) (length (devices_of r))) r s) off mid new
+          → (e ≡ trouble.Frame) × Performs view seen o q (Asks Devices) reply.FaultFrame old new
+      devices_broke off e has did =
+          (did.0, call_broke (Asks Devices) _ off tt did.1 (ran_devices_broken view (is_idle begun.control) stood.ring did.1.ring did.1.behind (stood.empty emptied.log) (readies did.1.ring did.1.at) (id_is has) did.1.did))
+
+      -- ---- the parallel poll
+
+      -- The devices answered.
+      pub poll_performs : (on : Since) (f : Frame) → Called (HasPolled view f) on mid new
+          → (f ≡ poll_frame (state_at view old.sound old.control).loop) × Performs view seen o q (Asks Poll) reply.Ok old new
+      poll_performs on f did =
+          let ready = readies did.ring did.at in (
+            did.did.frame ∙ ready_frame view (is_idle begun.control) stood.ring did.ring ready ∙ ap (λ (z : LoopState). poll_frame z) loop_is,
+            called (Asks Poll) reply.Ok _ on tt did (ran_poll view (is_idle begun.control) stood.ring did.ring did.behind (stood.empty emptied.log) ready f did.did),
+          )
+
+      -- That was broken off.
+      pub poll_broke : (off : Since) (n : ℕ) (e : Trouble) → (e ≡ trouble.Frame) × CallBroke (λ r s. PollBroke view n (poll_asks (length (devices_of r)) (polled_along 1 (devices_of r) idy)) r s) off mid new
+          → (e ≡ trouble.Frame) × Performs view seen o q (Asks Poll) reply.FaultFrame old new
+      poll_broke off n e did =
+          (did.0, call_broke (Asks Poll) _ off tt did.1 (ran_poll_broken view (is_idle begun.control) stood.ring did.1.ring did.1.behind (stood.empty emptied.log) (readies did.1.ring did.1.at) n did.1.did))
+
+      -- ---- bytes for the printer
+
+      -- A device was asked for its accessory ID, and that was broken off.
+      pub say_unnamed : (off : Since) (bytes : List ℕ) (e : Trouble) → HasDriveId old.control → (e ≡ trouble.Frame) × CallBroke (λ r s. LeftAlone view false (up_to (id_asks (devices_of r)) (length (devices_of r))) r s) off mid new
+          → (e ≡ trouble.Frame) × Performs view seen o q (Asks (Say bytes)) reply.FaultFrame old new
+      say_unnamed off bytes e has did =
+          (did.0, call_broke (Asks (Say bytes)) _ off tt did.1 (ran_unnamed view (is_idle begun.control) stood.ring did.1.ring did.1.behind (stood.empty emptied.log) (readies did.1.ring did.1.at) bytes (id_is has) did.1.did))
+
+      -- No device is a printer.
+      pub say_no_printer : (on : Since) (ids : List (Option ℕ)) (bytes : List ℕ) → HasDriveId old.control → None ≡ printer_at (state_at view old.sound old.control).loop → Called (λ r s. AllNamed view ids r s) on mid new
+          → Performs view seen o q (Asks (Say bytes)) (reply.No code.NoPrinter) old new
+      say_no_printer on ids bytes has none did =
+          called (Asks (Say bytes)) (reply.No code.NoPrinter) _ on tt did
+          (ran_no_printer view (is_idle begun.control) stood.ring did.ring did.behind (stood.empty emptied.log) (readies did.ring did.at) bytes ids (id_is has) (ap (λ (z : LoopState). printer_at z) loop_is ∙ sym none) did.did)
+
+      -- The devices told their accessory IDs, and the first printer has this address.
+      module _ (on : Since) (ids : List (Option ℕ)) (named : LoopView M) (first : Called (λ r s. AllNamed view ids r s) on mid named) (has : HasDriveId old.control) (address : ℕ) (printer : Some address ≡ printer_at (state_at view old.sound old.control).loop)
+          (bytes : List ℕ) where
+        named_at : named.control ≡ AtIdle first.behind
+        named_at = ap (λ (l : LoopView M). l.control) first.left
+
+        printer_here : printer_at (loop_on stood.ring) ≡ Some address
+        printer_here = ap (λ (z : LoopState). printer_at z) loop_is ∙ sym printer
+
+        -- The printer heard all bytes.
+        pub say_performs : (more : Since) → Called (λ r s. Said view address bytes r s) more named new → Performs view seen o q (Asks (Say bytes)) reply.Ok old new
+        say_performs more did =
+            let last : new.control ≡ AtIdle did.behind = ap (λ (l : LoopView M). l.control) did.left in
+            let said = called_on (λ r s. Said view address bytes r s) more named new first.behind did.behind named_at last did in
+            ran_performs q new store room left (Asks (Say bytes)) reply.Ok true did.behind tt last (ap (λ (l : LoopView M). l.sound) did.left ∙ ap (λ (l : LoopView M). l.sound) first.left ∙ sound_ready ∙ and_true begun.sound)
+            (ran_said view (is_idle begun.control) stood.ring first.ring first.behind did.behind (stood.empty emptied.log) (readies first.ring first.at) address bytes printer_here (id_is has) ids first.did said)
+
+        -- That was broken off.
+        pub say_broke : (off : Since) (e : Trouble) → (e ≡ trouble.Frame) × CallBroke (λ r s. NotSaid view address bytes r s) off named new
+            → (e ≡ trouble.Frame) × Performs view seen o q (Asks (Say bytes)) reply.FaultFrame old new
+        say_broke off e did =
+            let last : new.control ≡ AtLost did.1.behind = ap (λ (l : LoopView M). l.control) did.1.left in
+            let said = broke_on (λ r s. NotSaid view address bytes r s) off named new first.behind did.1.behind named_at last did.1 in (
+              did.0,
+              ran_performs q new store room left (Asks (Say bytes)) reply.FaultFrame false did.1.behind tt last (ap (λ (l : LoopView M). l.sound) did.1.left ∙ and_false begun.sound)
+                  (ran_not_said view (is_idle begun.control) stood.ring first.ring first.behind did.1.behind (stood.empty emptied.log) (readies first.ring first.at) address bytes printer_here (id_is has) ids first.did said),
+            )

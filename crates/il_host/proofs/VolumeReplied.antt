@@ -1,0 +1,245 @@
+-- What a command of the volume replies, and what a power stop leaves within it, by what the volume says of its store.
+use Rattle.std.proofs.Common.{◌≡◌, ◌∙◌, ⊎_elim, inl, inr, ℕ, Bool, true, false, List, Option, Some, None, is_some, refl, sym, ap, ap₂, subst}
+use Rattle.std.specs.Prelude.{Ok, Err, option_and_then, IfSome}
+use Rattle.lif_model.specs.Tape.{Tape}
+use Rattle.lif_model.specs.Volume.{is_foreign_gated, volume_of}
+use Rattle.lif_model.specs.Apply.{Refusal, VolumeCommand, apply}
+use Rattle.lif_model.proofs.Moments.{after_still, started, still, weaker}
+use Rattle.il_frames.specs.declared.entry.Entry.{Entry}
+use Rattle.il_ports.specs.Media.{MediumView}
+use Rattle.il_ports.specs.Stores.{IsQuiet, IsStore, RecordsView}
+use Rattle.il_ports.specs.declared.records.Trouble.{Trouble}
+use Rattle.il_ports.specs.declared.records.Trouble.TheVariants as trouble
+use Rattle.il_drive.specs.Steps.{IsStill}
+use Rattle.il_ring.specs.Rings.{RingView}
+use Rattle.il_record.specs.declared.records.Since.TheVariants as since
+use Rattle.il_record.specs.LoopStores.{AtIdle, AtLost, LoopView, Nowhere, Standing, StandsSo, is_idle, view_at, view_of}
+use Rattle.il_record.proofs.StoreResumes.{still_of}
+use Rattle.il_script.specs.declared.reply.Reply.{Reply}
+use Rattle.il_script.specs.declared.reply.Reply.TheVariants as reply
+use Rattle.lif_volume.specs.Answers.{HasVolumeOf}
+use Rattle.lif_volume.specs.Changing.{HasEitherVolume, VolumeTurns}
+use Rattle.lif_volume.specs.Commands.{VolumeStays}
+use Rattle.host_model.specs.Requests.{Asks, OfVolume}
+use Rattle.host_model.specs.HostStates.{HasOwnGate, HostState, volume_at}
+use Rattle.host_model.specs.Replies.{refused_as, reply_of, volume_behind}
+use Rattle.host_model.specs.Steps.{EitherVolume, Event, Replied}
+use Rattle.host_model.specs.Stops.{MayBeLeft, StopsLeave}
+use Rattle.host_model.proofs.Growing.{left_at_first}
+use Rattle.il_host.specs.Standings.{FitsAnswer, MakesSound, fault_of, state_at}
+use Rattle.il_host.proofs.VolumeSteps.{at_ring, here_at}
+use Rattle.il_host.proofs.VolumeStarts.{made_sound, start_broke}
+
+-- ---- a state and a store
+
+-- the state has the tape of the store
+pub record IsSeenAs {S : Type 0} (s : HostState) (v : RecordsView S) : Type 0 where
+  pub tape : s.tape ≡ v.tape
+  pub records : s.records ≡ v.record_count
+
+-- that of a store over the loop
+pub seen_as : {M S : Type 0} (view : M → MediumView) (seen : S → RingView M) (p : Option S) (l : LoopView M) → IsSeenAs (state_at view l.sound l.control) (view_of view seen p l)
+seen_as {M} view seen p l = by l.control
+  where
+    by : (c : Standing M) → IsSeenAs (state_at view l.sound c) (view_at view seen p l.sound l.since l.resumes c)
+    by (AtIdle r) = record { tape = refl; records = refl }
+    by (AtLost r) = record { tape = refl; records = refl }
+    by Nowhere = record { tape = refl; records = refl }
+
+-- and still, where no record changed
+pub seen_still : {S : Type 0} (s : HostState) (v w : RecordsView S) → IsSeenAs s v → IsQuiet v w → w.record_count ≡ v.record_count → IsSeenAs s w
+seen_still s v w so quiet size = record { tape = so.tape ∙ sym quiet.tape; records = so.records ∙ sym size }
+
+-- one quiet step behind the other
+pub quiet_then : {S : Type 0} (u v w : RecordsView S) → IsQuiet u v → IsQuiet v w → IsQuiet u w
+quiet_then u v w first next = record {
+  tape = next.tape ∙ first.tape;
+  moment = next.moment ∙ first.moment;
+  since = record { nothing_else = λ m c left. first.since.nothing_else m c (next.since.nothing_else m c left); keeps = λ m c left. next.since.keeps m c (first.since.keeps m c left) };
+}
+
+-- ---- the store is made sound
+
+-- no record changes, and no time goes by
+pub record StaysQuiet {S : Type 0} (v w : RecordsView S) : Type 0 where
+  pub quiet : IsQuiet v w
+  pub size : w.record_count ≡ v.record_count
+
+module _ {M S : Type 0} (view : M → MediumView) (seen : S → RingView M) (p q : Option S) (old new : LoopView M) where
+  -- by the rings
+  pub quiet_rings : (was is : Bool) (r s : RingView M) → old.control ≡ at_ring was r → new.control ≡ at_ring is s → IsStill (view r.drive.medium) (view s.drive.medium) → StaysQuiet (view_of view seen p old) (view_of view seen q new)
+  quiet_rings was is r s one two so =
+      subst (λ (c : Standing M). StaysQuiet (view_at view seen p old.sound old.since old.resumes c) (view_of view seen q new)) (sym one)
+      (subst (λ (d : Standing M). StaysQuiet (view_at view seen p old.sound old.since old.resumes (at_ring was r)) (view_at view seen q new.sound new.since new.resumes d)) (sym two) (by was is))
+    where
+      by : (was is : Bool) → StaysQuiet (view_at view seen p old.sound old.since old.resumes (at_ring was r)) (view_at view seen q new.sound new.since new.resumes (at_ring is s))
+      by true true = record { quiet = record { tape = so.tape; moment = so.moment; since = so.since }; size = so.stays_in.size }
+      by true false = record { quiet = record { tape = so.tape; moment = so.moment; since = so.since }; size = so.stays_in.size }
+      by false true = record { quiet = record { tape = so.tape; moment = so.moment; since = so.since }; size = so.stays_in.size }
+      by false false = record { quiet = record { tape = so.tape; moment = so.moment; since = so.since }; size = so.stays_in.size }
+
+  module _ (unbroken : old.since ≡ since.Unbroken) (stands : StandsSo old.control old.sound since.Unbroken) where
+    -- with ok
+    pub made_quiet : {T : Type 0} (x : T) → MakesSound view old new (Ok x) → StaysQuiet (view_of view seen p old) (view_of view seen q new)
+    made_quiet x makes =
+        let here = here_at old.control old.sound since.Unbroken stands in
+        let made = made_sound view old new here.ring unbroken x old.control old.sound refl refl stands here.stands makes in
+        quiet_rings (is_idle old.control) true here.ring made.ring here.at made.at (still_of view here.ring made.ring made.started.medium)
+
+    -- with an error
+    pub broke_quiet : (T : Type 0) (e : Trouble) → MakesSound {T = T} view old new (Err e) → StaysQuiet (view_of view seen p old) (view_of view seen q new)
+    broke_quiet T e makes =
+        let here = here_at old.control old.sound since.Unbroken stands in
+        let broke = (start_broke T view old new here.ring e old.control old.sound refl stands here.stands makes).2 in
+        quiet_rings (is_idle old.control) false here.ring broke.ring here.at broke.at broke.drive.still
+
+-- ---- the store could not be made sound
+
+-- an item with its reply
+abbrev event : VolumeCommand → Reply → List Entry → HostState → HostState → Event
+event command answered log s t = record { item = Asks (OfVolume command); reply = answered; log = log; before = s; after = t }
+
+module _ {S : Type 0} (command : VolumeCommand) (v w : RecordsView S) (s t : HostState) (log : List Entry) (before : IsSeenAs s v) (after : IsSeenAs t w) (still_so : StaysQuiet v w) where
+  tape_still : t.tape ≡ s.tape
+  tape_still = after.tape ∙ still_so.quiet.tape ∙ sym before.tape
+
+  -- the tape is as it was
+  pub broke_replied : Replied (event command reply.FaultFrame log s t)
+  broke_replied = record {
+    may = refl;
+    whole = λ tells own. inl (ap (λ tape. option_and_then volume_of tape) tape_still);
+    stays = λ other. cc;
+    told = ap (λ tape. is_some tape) tape_still;
+    size = after.records ∙ still_so.size ∙ sym before.records;
+    gate = λ own. subst (λ tape. IfSome tape (λ x. is_foreign_gated x ≡ false)) (sym tape_still) own;
+  }
+
+-- ---- stops
+
+-- what is told of a tape
+pub told_tape : (tape : Option Tape) → is_some tape ≡ true → (x : Tape) × (tape ≡ Some x)
+told_tape None told = cc
+told_tape (Some x) told = (x, refl)
+
+-- a stop leaves the tape as it was
+pub broke_stops : {S : Type 0} (command : VolumeCommand) (answered : Reply) (v w : RecordsView S) (s t : HostState) (log : List Entry) → IsSeenAs s v → IsStore v → IsQuiet v w
+    → StopsLeave (event command answered log s t) v.moment w.moment v.left_since w.left_since
+broke_stops command answered v w s t log before store quiet told own =
+    let tape = told_tape s.tape told in
+    still v.moment v.moment w.moment v.left_since v.left_since w.left_since (MayBeLeft (Asks (OfVolume command)) s) quiet.moment quiet.since
+    (started v.moment v.left_since (MayBeLeft (Asks (OfVolume command)) s) tape.0 (λ c left. store.leaves_only tape.0 c (sym before.tape ∙ tape.1) left) (left_at_first (Asks (OfVolume command)) s tape.0 own tape.1))
+
+-- ---- the volume was asked
+
+-- a command that changes no volume turns it into none but itself
+pub stays_turns : {S : Type 0} (n : ℕ) (command : VolumeCommand) (v w : RecordsView S) (x : Tape) → VolumeStays v w x → VolumeTurns n command v w x
+stays_turns n command v w x so = record {
+  stops = weaker v.moment w.moment v.left_since w.left_since (HasEitherVolume n command x) (HasVolumeOf x) so.stops (λ c has. record { volume = inl has.volume; own_gate = has.own_gate });
+  after = (so.after.0, so.after.1, record { volume = inl so.after.2.volume; own_gate = so.after.2.own_gate });
+}
+
+-- ok or a refusal fits a store that did not fail, and a fault the trouble that the store had
+pub fits_refused : {T : Type 0} (x : T) (refusal : Option Refusal) → FitsAnswer (Ok x) (refused_as refusal)
+fits_refused x None = refl
+fits_refused x (Some why) = refl
+
+pub fits_fault : (T : Type 0) (e : Trouble) → FitsAnswer {T = T} (Err e) (fault_of e)
+fits_fault T trouble.Frame = refl
+fits_fault T trouble.Medium = refl
+
+module _ {S : Type 0} (command : VolumeCommand) (v w : RecordsView S) (s t : HostState) (log : List Entry) (before : IsSeenAs s v) (after : IsSeenAs t w)
+    (turns : (x : Tape) → v.tape ≡ Some x → is_foreign_gated x ≡ false → VolumeTurns v.record_count command v w x) where
+  own_gate : (x : Tape) → s.tape ≡ Some x → HasOwnGate s → is_foreign_gated x ≡ false
+  own_gate x is own = subst (λ tape. IfSome tape (λ x. is_foreign_gated x ≡ false)) is own
+
+  turned : (x : Tape) → s.tape ≡ Some x → HasOwnGate s → VolumeTurns v.record_count command v w x
+  turned x is own = turns x (sym before.tape ∙ is) (own_gate x is own)
+
+  -- in the words of the state
+  behind_is : (x : Tape) → s.tape ≡ Some x → (apply v.record_count command (volume_of x)).1 ≡ volume_behind (Asks (OfVolume command)) s
+  behind_is x is = ap₂ (λ n tape. (apply n command (option_and_then volume_of tape)).1) (sym before.records) (sym is)
+
+  volume_is : (x : Tape) → s.tape ≡ Some x → volume_of x ≡ volume_at s
+  volume_is x is = ap (λ tape. option_and_then volume_of tape) (sym is)
+
+  -- A stop leaves the volume before the command or the one behind it. No time went by from the moment at which the store stood as u.
+  pub volume_stops : (answered : Reply) (u : RecordsView S) → IsQuiet u v → StopsLeave (event command answered log s t) u.moment w.moment u.left_since w.left_since
+  volume_stops answered u quiet told own =
+      let tape = told_tape s.tape told in
+      after_still u.moment v.moment w.moment u.left_since v.left_since w.left_since (MayBeLeft (Asks (OfVolume command)) s) quiet.moment quiet.since
+      (weaker v.moment w.moment v.left_since w.left_since (MayBeLeft (Asks (OfVolume command)) s) (HasEitherVolume v.record_count command tape.0) (turned tape.0 tape.1 own).stops
+      (λ c has. (⊎_elim (λ same. inl (same ∙ volume_is tape.0 tape.1)) (λ other. inr (other ∙ behind_is tape.0 tape.1)) has.volume, has.own_gate)))
+
+  -- the volume is the one before or the one behind
+  either : HasOwnGate s → is_some s.tape ≡ true → EitherVolume (Asks (OfVolume command)) s t
+  either own told =
+      let tape = told_tape s.tape told in
+      let so = (turned tape.0 tape.1 own).after in
+      let now : volume_at t ≡ volume_of so.0 = ap (λ tape. option_and_then volume_of tape) (after.tape ∙ so.1) in
+      ⊎_elim (λ same. inl (now ∙ same ∙ volume_is tape.0 tape.1)) (λ other. inr (now ∙ other ∙ behind_is tape.0 tape.1)) so.2.volume
+
+  module _ (told_so : is_some w.tape ≡ is_some v.tape) (size : w.record_count ≡ v.record_count) where
+    told_now : is_some t.tape ≡ is_some s.tape
+    told_now = ap (λ tape. is_some tape) after.tape ∙ told_so ∙ ap (λ tape. is_some tape) (sym before.tape)
+
+    gate_now : HasOwnGate s → HasOwnGate t
+    gate_now own = by s.tape refl
+      where
+        none_now : (tape : Option Tape) → is_some tape ≡ false → IfSome tape (λ x. is_foreign_gated x ≡ false)
+        none_now None none = tt
+        none_now (Some x) none = cc
+
+        by : (tape : Option Tape) → s.tape ≡ tape → HasOwnGate t
+        by None is = none_now t.tape (told_now ∙ ap (λ tape. is_some tape) is)
+        by (Some x) is =
+            let so = (turned x is own).after in
+            subst (λ tape. IfSome tape (λ x. is_foreign_gated x ≡ false)) (sym (after.tape ∙ so.1)) so.2.own_gate
+
+    -- what the volume answered, where it did not fail
+    counted : (refusal : Option Refusal) → ((x y : Tape) → v.tape ≡ Some x → w.tape ≡ Some y → apply v.record_count command (volume_of x) ≡ (refusal, volume_of y)) → is_some s.tape ≡ true
+        → (refused_as refusal ≡ reply_of (Asks (OfVolume command)) s) × (volume_at t ≡ volume_behind (Asks (OfVolume command)) s)
+    counted refusal answers told =
+        let x = told_tape s.tape told in
+        let y = told_tape t.tape (told_now ∙ told) in
+        let applied : apply s.records command (volume_at s) ≡ (refusal, volume_at t) =
+        ap₂ (λ n tape. apply n command (option_and_then volume_of tape)) before.records x.1
+        ∙ answers x.0 y.0 (sym before.tape ∙ x.1) (sym after.tape ∙ y.1) ∙ ap (λ tape. (refusal, option_and_then volume_of tape)) (sym y.1) in
+        (sym (ap (λ p. refused_as p.0) applied), sym (ap (λ p. p.1) applied))
+
+    -- The store did not fail: it is ok, or a refusal of the command, as the definitions have it.
+    pub volume_answered : (refusal : Option Refusal) → ((x y : Tape) → v.tape ≡ Some x → w.tape ≡ Some y → apply v.record_count command (volume_of x) ≡ (refusal, volume_of y)) → Replied (event command (refused_as refusal) log s t)
+    volume_answered None answers = record {
+      may = tt;
+      whole = λ tells. counted None answers (tells refl);
+      stays = λ other. cc;
+      told = told_now;
+      size = after.records ∙ size ∙ sym before.records;
+      gate = gate_now;
+    }
+    volume_answered (Some why) answers = record {
+      may = tt;
+      whole = λ tells. counted (Some why) answers (tells refl);
+      stays = λ other. cc;
+      told = told_now;
+      size = after.records ∙ size ∙ sym before.records;
+      gate = gate_now;
+    }
+
+    -- It failed.
+    pub volume_troubled : (e : Trouble) → Replied (event command (fault_of e) log s t)
+    volume_troubled trouble.Frame = record {
+      may = refl;
+      whole = λ tells own. either own (tells refl);
+      stays = λ other. cc;
+      told = told_now;
+      size = after.records ∙ size ∙ sym before.records;
+      gate = gate_now;
+    }
+    volume_troubled trouble.Medium = record {
+      may = refl;
+      whole = λ tells own. either own (tells refl);
+      stays = λ other. cc;
+      told = told_now;
+      size = after.records ∙ size ∙ sym before.records;
+      gate = gate_now;
+    }

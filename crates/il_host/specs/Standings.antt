@@ -1,0 +1,87 @@
+-- What stands between two commands, by the controller of the loop, and what a command does before it asks the volume.
+use Rattle.std.specs.Prelude.{◌≡◌, ◌≤◌, ℕ, Bool, true, false, List, [], None, Result, Ok, Err}
+use Rattle.il_frames.specs.declared.entry.Entry.{Entry}
+use Rattle.il_ports.specs.Media.{MediumView}
+use Rattle.il_ports.specs.declared.records.Trouble.{Trouble}
+use Rattle.il_ports.specs.declared.records.Trouble.TheVariants as trouble
+use Rattle.il_drive.specs.State.{status_of}
+use Rattle.il_ring.specs.Plans.{hops_of}
+use Rattle.il_record.specs.LoopStores.{AtIdle, AtLost, HasRing, LoopView, Nowhere, Resumes, Standing, counted_resume}
+use Rattle.lif_plan.specs.Refusals.{reason}
+use Rattle.lif_volume.specs.declared.fault.VolumeFault.{VolumeFault}
+use Rattle.lif_volume.specs.declared.fault.VolumeFault.TheVariants.{Refused, Trouble as Troubled}
+use Rattle.il_script.specs.declared.reply.Reply.{Reply}
+use Rattle.il_script.specs.declared.reply.Reply.TheVariants as reply
+use Rattle.host_model.specs.Requests.{Item}
+use Rattle.host_model.specs.HostStates.{HostState, fresh_host, log_room}
+use Rattle.host_model.specs.Replies.{code_of}
+use Rattle.host_model.specs.RingStates.{state_on}
+use Rattle.host_model.specs.Steps.{Event, is_fault}
+
+-- ---- by the controller
+
+-- the state, of a store that is sound or not
+abbrev pub state_at : {M : Type 0} → (M → MediumView) → Bool → Standing M → HostState
+state_at view sound (AtIdle r) = state_on view true sound r
+state_at view sound (AtLost r) = state_on view false sound r
+state_at view sound Nowhere = fresh_host None 0 0 [] []
+
+-- the log of the ring
+abbrev pub log_at : {M : Type 0} → Standing M → List Entry
+log_at (AtIdle r) = r.books.log
+log_at (AtLost r) = r.books.log
+log_at Nowhere = []
+
+-- the crossings at which faults are planned
+abbrev pub hops_at : {M : Type 0} → Standing M → List ℕ
+hops_at (AtIdle r) = hops_of r.books.plan
+hops_at (AtLost r) = hops_of r.books.plan
+hops_at Nowhere = []
+
+-- the log has the room that a medium of so many records is to have
+abbrev pub HasLogRoom : {M : Type 0} → (M → MediumView) → Standing M → Type 0
+HasLogRoom view c = HasRing c (λ r. r.books.room ≡ log_room (view r.drive.medium).record_count)
+
+-- the drive of this controller has a status of a drive
+abbrev pub HasDriveStatus : {M : Type 0} → Standing M → Type 0
+HasDriveStatus c = HasRing c (λ r. status_of r.drive.state ≤ 3)
+
+-- an item with its reply, from the moment at which the log was emptied
+abbrev pub event_at : {M : Type 0} → (M → MediumView) → Item → Reply → (old new : LoopView M) → Event
+event_at view item reply old new = record {
+  item = item;
+  reply = reply;
+  log = log_at new.control;
+  before = state_at view old.sound old.control;
+  after = state_at view new.sound new.control;
+}
+
+-- ---- before the volume is asked
+
+-- The store is made sound: a store that is sound stays as it is, and another is resumed.
+abbrev pub MakesSoundBy : {M T : Type 0} → (M → MediumView) → Bool → LoopView M → LoopView M → Result T Trouble → Type 0
+MakesSoundBy view true old new (Ok x) = new ≡ old
+MakesSoundBy view true old new (Err e) = ⊥
+MakesSoundBy view false old new answer = Resumes view false (counted_resume old) new answer
+
+abbrev pub MakesSound : {M T : Type 0} → (M → MediumView) → LoopView M → LoopView M → Result T Trouble → Type 0
+MakesSound view old new answer = MakesSoundBy view old.sound old new answer
+
+-- ---- behind it
+
+-- the reply to a command of the volume is a fault exactly where the store failed, and the same one
+abbrev pub FitsAnswer : {T : Type 0} → Result T Trouble → Reply → Type 0
+FitsAnswer (Ok x) r = is_fault r ≡ false
+FitsAnswer (Err trouble.Frame) r = r ≡ reply.FaultFrame
+FitsAnswer (Err trouble.Medium) r = r ≡ reply.FaultMedium
+
+-- the reply to a fault of the store
+abbrev pub fault_of : Trouble → Reply
+fault_of trouble.Frame = reply.FaultFrame
+fault_of trouble.Medium = reply.FaultMedium
+
+-- the reply to a command of the volume, by the volume's answer
+abbrev pub volume_reply : {T : Type 0} → Result T VolumeFault → Reply
+volume_reply (Ok x) = reply.Ok
+volume_reply (Err (Refused why)) = reply.No (code_of (reason why))
+volume_reply (Err (Troubled e)) = fault_of e
