@@ -48,6 +48,12 @@ gate_stays hops start [] finish chain gate = subst HasOwnGate (sym chain) gate
 gate_stays hops start (e ∷ events) finish chain gate =
     gate_stays hops e.after events finish chain.2 (chain.1.replied.gate (subst HasOwnGate (sym chain.0) gate))
 
+-- the medium keeps its size
+pub size_stays : (hops : List ℕ) (start : HostState) (events : List Event) (finish : HostState) → Chained hops start events finish → finish.records ≡ start.records
+size_stays hops start [] finish chain = ap (λ (s : HostState). s.records) chain
+size_stays hops start (e ∷ events) finish chain =
+    size_stays hops e.after events finish chain.2 ∙ chain.1.replied.size ∙ ap (λ (s : HostState). s.records) chain.0
+
 -- one reply more at the end counts as one at the beginning
 turned : (r q : Reply) (t : Tally) → with_reply r (with_reply q t) ≡ with_reply q (with_reply r t)
 turned reply.Ok reply.Ok t = refl
@@ -102,6 +108,13 @@ leaves_more events e m₀ m₁ m₂ s₀ s₁ s₂ gate so_far here =
     follows m₀ m₁ m₂ s₀ s₁ s₂ all (MayBeLeft e.item e.before)
     (weaker m₀ m₁ s₀ s₁ all (LeftWithin events e.before) so_far (λ x left. left_more events e x gate left))
     here (λ x left. left_last events e x left)
+
+-- a stop before the first item leaves what one within the run may leave
+pub left_before : (hops : List ℕ) (start : HostState) (events : List Event) (finish : HostState) (x : Tape) → Chained hops start events finish → HasOwnGate start → start.tape ≡ Some x
+    → LeftWithin events finish x
+left_before hops start [] finish x chain gate is = ap (λ (s : HostState). s.tape) chain ∙ is
+left_before hops start (e ∷ events) finish x chain gate is =
+    inl (left_at_first e.item e.before x (subst HasOwnGate (sym chain.0) gate) (ap (λ (s : HostState). s.tape) chain.0 ∙ is))
 
 -- before the first item a stop leaves the tape as it is
 pub leaves_first : (s : HostState) (now : ℕ) (since : ℕ → Tape → Type 0) → ((t c : Tape) → s.tape ≡ Some t → since now c → c ≡ t)

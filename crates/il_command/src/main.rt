@@ -1,4 +1,4 @@
-//! `il IMAGE`: answers the script on standard input over the image of a tape.
+//! `il [--quiet] IMAGE`: answers the script on standard input over the image of a tape, by frames on a simulated loop.
 #![tactic(auto)]
 
 mod messages;
@@ -7,7 +7,8 @@ ghost use Rattle.std.specs.Prelude.{◌≡◌, ◌≢◌};
 ghost use Rattle.std.specs.IoError.{error_kind};
 ghost use Rattle.std.specs.declared.io.ErrorKind.TheVariants.{OutOfMemory};
 
-use il_host::{Rig, run_il};
+use il_device::{Device, Printer};
+use il_host::{Ended, Rig, run_il};
 use il_ports::{FileMedium, StdSink, StdSource};
 use messages::message;
 use std::env;
@@ -43,10 +44,25 @@ fn run(rt: &HostRuntime) -> u8 {
     };
     let mut script = StdSource::new(reader);
     let mut out = StdSink::new(io::writer(rt));
+    let Ok(printer) = Printer::new(rt.alloc()) else {
+        return OUT_OF_MEMORY;
+    };
+    let Ok(printer) = Box::new(rt.alloc(), printer) else {
+        return OUT_OF_MEMORY;
+    };
+    let printer: Box<dyn Device> = printer;
+    let mut after = Vec::new(rt.alloc());
+    if after.push(printer).is_err() {
+        return OUT_OF_MEMORY;
+    }
     let rig = Rig {
         medium: FileMedium::new(rt),
+        before: Vec::new(rt.alloc()),
+        after,
     };
-    run_il(rt.alloc(), words.as_slice(), &mut script, &mut out, rig).status
+    let Ended { status, rig } = run_il(rt.alloc(), words.as_slice(), &mut script, &mut out, rig);
+    drop(rig);
+    status
 }
 
 fn main(rt: HostRuntime) -> ExitCode {

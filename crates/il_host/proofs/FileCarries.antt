@@ -1,6 +1,6 @@
 -- The reads and writes that the clauses of a volume tell of a store and of a fetch carry the bytes of the file.
 use Rattle.std.proofs.Common.{◌≡◌, ◌⊎◌, ◌∙◌, ◌<◌, ◌≤◌, ◌+◌, ◌++◌, ◌*◌, ◌&&◌, ◌||◌, ◌==◌, ℕ, zero, suc, Bool, true, false, not, if◌then◌else◌, nat_eq, nat_lt, List, [], ◌∷◌, length, get_or, take, Option, Some, None, option_and_then, inl, inr, refl, sym, ap, subst, arith}
-use Rattle.std.specs.Prelude.{IfSome, Ok, is_some}
+use Rattle.std.specs.Prelude.{IfSome, Result, Ok, Err, is_some}
 use Rattle.std.specs.FinMap.{get}
 use Rattle.std.specs.List.{list_any}
 use Rattle.std.proofs.lemmas.Bool.{and_parts, and_right, eqb-true, ltb-true, le-ltb}
@@ -34,9 +34,12 @@ use Rattle.lif_volume.specs.declared.volume.Fetched.{Fetched}
 use Rattle.lif_volume.specs.Commands.{AnswersTo, EndsWithRead, FetchedFile, FetchesByRun, FetchesFile, IsTold, WritesBySettling}
 use Rattle.lif_volume.specs.Storing.{AddsFile, MountsAndStores, WritesByRun, file_commit, file_when, place_when}
 use Rattle.lif_volume.specs.Views.{VolumeView}
+use Rattle.lif_volume.specs.declared.fault.VolumeFault.{VolumeFault}
+use Rattle.lif_volume.specs.declared.fault.VolumeFault.TheVariants.{Refused, Trouble as Troubled}
+use Rattle.il_host.specs.Standings.{volume_reply}
 use Rattle.il_script.specs.declared.reply.Reply.TheVariants as reply
 use Rattle.host_model.specs.HostStates.{HostState, volume_at}
-use Rattle.il_host.proofs.VolumeCarries.{CarriesAs, FetchesFrom, StoresTo}
+use Rattle.il_host.proofs.VolumeCarries.{CarriesAs, FetchesFrom, StoresTo, none_carried}
 use Rattle.il_host.proofs.VolumeReplied.{IsSeenAs}
 
 -- ---- one transfer
@@ -295,3 +298,12 @@ module _ {R S : Type 0} (view : R → RecordsView S) (old new : VolumeView R) (s
       by : (tape : Option Tape) → (view old.records).tape ≡ tape → CarriesAs (Store name kind implementation bytes) reply.Ok s.records (volume_at s) (view new.records).transferred
       by None none = subst (λ (v : Option Volume). CarriesAs (Store name kind implementation bytes) reply.Ok s.records v (view new.records).transferred) (sym (volume_seen view old new s seen begun None none)) tt
       by (Some t) told = subst (λ (v : Option Volume). CarriesAs (Store name kind implementation bytes) reply.Ok s.records v (view new.records).transferred) (sym (volume_seen view old new s seen begun (Some t) told)) (on t told (volume_of t) refl)
+
+-- With any other answer nothing is asked.
+pub store_answered : {R S : Type 0} (view : R → RecordsView S) (old new : VolumeView R) (s : HostState) → IsSeenAs s (view old.records) → (view old.records).transferred [] → IsStore (view old.records)
+    → (name : List ℕ) (kind : ℕ) (implementation bytes : List ℕ) {T : Type 0} (answer : Result T VolumeFault)
+    → MountsAndStores bytes view old new answer → AnswersTo (Store name kind implementation bytes) view old new answer → WritesByRun (Store name kind implementation bytes) bytes view old new answer
+    → CarriesAs (Store name kind implementation bytes) (volume_reply answer) s.records (volume_at s) (view new.records).transferred
+store_answered view old new s seen begun store name kind implementation bytes (Ok x) commits answers runs = store_carried view old new s seen begun store name kind implementation bytes x commits answers runs
+store_answered view old new s seen begun store name kind implementation bytes (Err (Refused why)) commits answers runs = tt
+store_answered view old new s seen begun store name kind implementation bytes (Err (Troubled e)) commits answers runs = none_carried (Store name kind implementation bytes) e s.records (volume_at s) (view new.records).transferred

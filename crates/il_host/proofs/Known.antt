@@ -1,7 +1,15 @@
--- Known bytes that grow.
-use Rattle.std.proofs.Common.{◌≡◌, ℕ, ◌+◌, ◌-◌, List, [], ◌++◌, Option, Some, None, length, take, drop, sym, ap, ◌∙◌, append_assoc, append-nil, length-drop}
-use Rattle.std.proofs.Math.Seq.{take-add, take-length}
+-- Known bytes that grow, and writes that may have stopped in between.
+use Rattle.std.proofs.Common.{◌≡◌, ◌≤◌, ◌<◌, ℕ, ◌+◌, ◌-◌, List, [], ◌++◌, Option, Some, None, length, take, drop, get_or, sym, ap, subst, ◌∙◌, arith, append_assoc, append-nil, length-append, length-drop}
+use Rattle.std.proofs.Math.Seq.{take-add, take-length, take-append-add}
+use Rattle.std.proofs.lemmas.List.{take-append-le, take-append-drop, drop_more}
+use Rattle.std.proofs.lemmas.Grind.{flat_map-append}
+use Rattle.std.specs.Prelude.{Result, Ok, Err}
 use Rattle.std.specs.Io.KnownBytes.{Appends}
+use Rattle.il_frames.specs.declared.entry.Entry.{Entry}
+use Rattle.il_frames.specs.Entries.{entry_text}
+use Rattle.il_script.specs.Replies.{text_line}
+use Rattle.host_model.specs.Replies.{trace_text}
+use Rattle.il_host.specs.Writing.{WritesAll}
 
 pub appends-trans : (a b c : Option (List ℕ)) (xs ys : List ℕ) → Appends a b xs → Appends b c ys → Appends a c (xs ++ ys)
 appends-trans None b c xs ys h k = tt
@@ -16,3 +24,35 @@ appends-none (Some a) = sym (append-nil a)
 pub take-piece : (bytes : List ℕ) (from n : ℕ) → take (from + n) bytes ≡ take from bytes ++ take n (take (length bytes - from) (drop from bytes))
 take-piece bytes from n =
     take-add from n bytes ∙ ap (λ l. take from bytes ++ take n l) (sym (ap (λ k. take k (drop from bytes)) (sym (length-drop from bytes)) ∙ take-length (drop from bytes)))
+
+-- a write that stopped somewhere in a text
+abbrev pub Stopped : Option (List ℕ) → Option (List ℕ) → List ℕ → Type 0
+Stopped a b text = (n : ℕ) × (n ≤ length text) × Appends a b (take n text)
+
+-- it stopped within the first part of a text
+pub stopped_within : (a b : Option (List ℕ)) (text xs ys : List ℕ) → text ≡ xs ++ ys → Stopped a b xs → Stopped a b text
+stopped_within a b text xs ys is h = (
+  h.0,
+  omega (arith, h.1, ap length is, length-append xs ys),
+  subst (λ l. Appends a b l) (sym (ap (take h.0) is ∙ take-append-le h.0 xs ys h.1)) h.2,
+)
+
+-- it stopped behind the first part
+pub stopped_behind : (a b c : Option (List ℕ)) (text xs ys : List ℕ) → text ≡ xs ++ ys → Appends a b xs → Stopped b c ys → Stopped a c text
+stopped_behind a b c text xs ys is h k = (
+  length xs + k.0,
+  omega (arith, k.1, ap length is, length-append xs ys),
+  subst (λ l. Appends a c l) (sym (ap (take (length xs + k.0)) is ∙ take-append-add xs ys k.0)) (appends-trans a b c xs (take k.0 ys) h k.2),
+)
+
+-- a write behind the first part of a text
+pub written_on : {E : Type 0} (a b c : Option (List ℕ)) (text xs ys : List ℕ) (r : Result (Unit {0}) E) → text ≡ xs ++ ys → Appends a b xs → WritesAll b c ys r → WritesAll a c text r
+written_on a b c text xs ys (Ok u) is h k = subst (λ l. Appends a c l) (sym is) (appends-trans a b c xs ys h k)
+written_on a b c text xs ys (Err e) is h k = stopped_behind a b c text xs ys is h k
+
+-- the text of a log around one of its entries
+pub trace-around : (log : List Entry) (i : ℕ) (d : Entry) → i < length log
+    → trace_text log ≡ trace_text (take i log) ++ (text_line (entry_text (get_or log i d)) ++ trace_text (drop (i + 1) log))
+trace-around log i d within =
+    ap trace_text (sym (take-append-drop i log)) ∙ flat_map-append (λ (e : Entry). text_line (entry_text e)) (take i log) (drop i log)
+    ∙ ap (λ l. trace_text (take i log) ++ trace_text l) (drop_more log i d within)

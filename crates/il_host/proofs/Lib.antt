@@ -1,16 +1,7 @@
-pub mod Known
-pub mod Runs
-pub mod Dir
-pub mod Wholes
-pub mod Listings
-pub mod Answered
-pub mod Examples
 pub mod CommandTravels
 pub mod CommandLogs
-pub mod VolumeExchanges
 pub mod WholeReadings
 pub mod Devices
-pub mod VolumeNext
 pub mod Keeping
 pub mod LoopEvents
 pub mod StatusEvents
@@ -18,17 +9,27 @@ pub mod LoopNext
 pub mod LoopCallsNext
 pub mod Courses
 pub mod LoopCallsEvents
-pub mod VolumeCarries
 pub mod LoopReady
-pub mod VolumeTravels
 pub mod LoopReplied
 pub mod LoopTravels
 pub mod Sounding
+pub mod VolumeExchanges
+pub mod VolumeTravels
+pub mod VolumeNext
+pub mod VolumeCarries
 pub mod VolumeStarts
 pub mod VolumeSteps
 pub mod VolumeCommands
 pub mod VolumeReplied
 pub mod VolumePerforms
+mod Rows
+pub mod Texts
+mod Examples
+pub mod Known
+pub mod Shorts
+pub mod Asking
+pub mod Runs
+pub mod HostVolumes
 pub mod FileCarries
 pub mod VolumeAsked
 pub mod LoopRuns
@@ -36,3 +37,10 @@ pub mod SayHeard
 pub mod SayRuns
 pub mod LoopPerforms
 pub mod PaperPerforms
+pub mod PlainCommands
+pub mod NewRings
+pub mod Wholes
+pub mod StoredFronts
+pub mod HostStores
+pub mod HostReads
+pub mod HostLoops

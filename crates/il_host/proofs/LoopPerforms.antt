@@ -20,7 +20,7 @@ use Rattle.il_record.specs.declared.records.Since.TheVariants as since
 use Rattle.il_record.specs.Asks.{up_to}
 use Rattle.il_record.specs.Called.{CallBroke, Called}
 use Rattle.il_record.specs.LoopCalls.{AllNamed, LeftAlone, NotSaid, Said, id_asks}
-use Rattle.il_record.specs.LoopStores.{Addresses, AtIdle, AtLost, HasRing, LoopView, Nowhere, Standing, is_idle, view_at, view_of}
+use Rattle.il_record.specs.LoopStores.{Addresses, AtIdle, AtLost, LoopView, Nowhere, Standing, is_idle, view_at, view_of}
 use Rattle.il_record.specs.Polls.{HasPolled, PollBroke, poll_asks, polled_along}
 use Rattle.il_record.specs.Runs.{NotPolled, Polled}
 use Rattle.il_record.proofs.StoreResumes.{Agrees}
@@ -34,7 +34,7 @@ use Rattle.host_model.specs.RingStates.{loop_on, state_on}
 use Rattle.host_model.specs.Steps.{Event, IsStep}
 use Rattle.host_model.specs.Stops.{MayBeLeft, StopsLeave}
 use Rattle.host_model.proofs.Growing.{left_at_first}
-use Rattle.il_host.specs.Standings.{HasLogRoom, event_at, hops_at, log_at, state_at}
+use Rattle.il_host.specs.Standings.{HasDriveId, HasLogRoom, event_at, hops_at, log_at, state_at}
 use Rattle.il_host.proofs.CommandTravels.{event_by, event_on, travels_came}
 use Rattle.il_host.proofs.LoopCallsEvents.{ready_frame, ready_ids}
 use Rattle.il_host.proofs.LoopEvents.{IsOfLoop, Readies, not_of_volume}
@@ -52,11 +52,7 @@ use Rattle.il_host.proofs.VolumeSteps.{Here, at_ring, event_rings, here_at, hops
 
 -- ---- the drive's accessory ID
 
--- the drive of this controller has the accessory ID of a drive
-abbrev pub HasDriveId : {M : Type 0} → Standing M → Type 0
-HasDriveId c = HasRing c (λ r. r.drive.state.interface.accessory ≡ Some drive_id)
-
--- it keeps that as the log is emptied
+-- the drive keeps it as the log is emptied
 pub id_begun : {M S : Type 0} (view : M → MediumView) (seen : S → RingView M) (p q : Option S) (old begun : LoopView M) → Agrees seen p old.control → Agrees seen q begun.control → Begun (view_of view seen p old) (view_of view seen q begun)
     → HasDriveId old.control → HasDriveId begun.control
 id_begun {M} {S} view seen p q old begun here there so has = by old.control begun.control here there so has

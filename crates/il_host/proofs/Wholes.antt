@@ -1,147 +1,154 @@
 -- How the parts of a run make the whole.
-use Rattle.std.proofs.Common.{◌≡◌, ◌==◌, ℕ, ◌≤◌, Bool, true, false, List, [], ◌∷◌, ◌++◌, Option, Some, None, if◌then◌else◌, length, refl, sym, ap, subst, ◌∙◌}
+use Rattle.std.proofs.Common.{◌≡◌, ◌≢◌, ◌==◌, ◌∙◌, ⊎_elim, inl, inr, ℕ, Bool, true, false, List, [], Option, Some, None, if◌then◌else◌, is_some, refl, sym, ap, subst, arith}
+use Rattle.std.specs.Prelude.{Ok}
+use Rattle.lif_model.specs.Shelf.{Shelf, IsSize}
 use Rattle.lif_model.specs.Tape.{Tape}
-use Rattle.std.specs.Prelude.{nat_le, Ok}
-use Rattle.std.proofs.lemmas.Bool.{leb-true}
-use Rattle.lif_model.specs.Shelf.{Shelf, image_of, tape_of, inserted, largest_image}
-use Rattle.il_ports.specs.Inserting.{TakesImage, InsertAnswers}
-use Rattle.il_ports.specs.Media.{MediumView, DidInsert}
-use Rattle.il_ports.specs.declared.medium.Inserted.{Inserted}
+use Rattle.lif_model.proofs.Moments.{after_still, still}
+use Rattle.lif_model.proofs.Sizes.{sizes_are}
+use Rattle.il_device.specs.State.{DeviceState}
+use Rattle.il_ports.specs.Media.{MediumView, IsMedium, DidInsert}
 use Rattle.il_ports.specs.declared.medium.Inserted.TheVariants as answers
 use Rattle.il_ports.specs.declared.medium.New.TheVariants.{No}
-use Rattle.il_host.specs.Words.{image_in}
-use Rattle.il_host.specs.Events.{State, Event, Step, Chained}
-use Rattle.il_host.specs.Run.{AnswersScript, exit_status}
-use Rattle.il_host.specs.Whole.{RunsOver, Leaves, Inserts}
-use Rattle.il_script.specs.declared.reply.Reply.{Reply}
-use Rattle.il_script.specs.declared.reply.Reply.TheVariants as reply
-use Rattle.il_host.specs.declared.item.Item.{Item}
-use Rattle.il_host.specs.declared.item.Item.TheVariants as item
+use Rattle.host_model.specs.HostStates.{HostState, fresh_host}
+use Rattle.host_model.specs.Stops.{LeftWithin}
+use Rattle.host_model.specs.Runs.{Chained}
+use Rattle.host_model.specs.Endings.{RunEnd, HasNoTape}
+use Rattle.host_model.specs.Orders.{Inserts, Order, Outside, quiet_mode}
+use Rattle.host_model.specs.Leaves.{LeavesBy, LeavesImage, RunsOver, TellsTexts}
+use Rattle.host_model.proofs.Growing.{left_before, size_stays}
+use Rattle.host_model.proofs.Runs.{run_tells}
+use Rattle.il_host.specs.HostView.{HostView, IsHost}
+use Rattle.il_host.specs.Hosts.{IsOpened, IsClosed}
+use Rattle.il_host.specs.Run.{AnswersScript, end_of}
+use Rattle.il_host.specs.Whole.{AnswersOver, MayHaveLeft, outside, tape_in}
+use Rattle.il_host.specs.Words.{order_of}
 use Rattle.il_host.specs.declared.ending.Ending.{Ending}
 use Rattle.il_host.specs.declared.ending.Ending.TheVariants as ending
 
--- ---- the tape stays
+-- ---- the tape in the drive
 
-step-tape : (before after : State) (i : Item) (r : Reply) → Step before i r after → after.tape ≡ before.tape
-step-tape before after (item.Command command) reply.FaultMedium h = h.0
-step-tape before after (item.Command command) reply.FaultFrame h = absurd h
-step-tape before after (item.Command command) reply.Ok h = ap (λ (s : State). s.tape) h.0
-step-tape before after (item.Command command) (reply.No code) h = ap (λ (s : State). s.tape) h.0
-step-tape before after (item.Fault code) r h = ap (λ (s : State). s.tape) h.0
+tape_by : (n : ℕ) (tape : Option Tape) → IsSize n → (if n == 0 then None else tape) ≡ tape
+tape_by n tape size = elim (sizes_are n size) [
+  | inl e ↦ ap (λ n. if n == 0 then None else tape) e
+  | inr e ↦ ap (λ n. if n == 0 then None else tape) e
+]
 
-chain-tape : (start : State) (events : List Event) (finish : State) → Chained start events finish → finish.tape ≡ start.tape
-chain-tape start [] finish h = ap (λ (s : State). s.tape) h
-chain-tape start (e ∷ events) finish h =
-    chain-tape e.after events finish h.2 ∙ step-tape e.before e.after e.item e.reply h.1 ∙ ap (λ (s : State). s.tape) h.0
+-- a tape is in where the drive has the records of one
+pub tape_is_in : (m : MediumView) → IsSize m.record_count → tape_in m ≡ m.tape
+tape_is_in m size = tape_by m.record_count m.tape size
 
-answers-tape : (e : Ending) (script : List ℕ) (start finish : State) (left before now : Option (List ℕ)) → AnswersScript e script start finish left before now → finish.tape ≡ start.tape
-answers-tape ending.AllOk script start finish left before now h = chain-tape start h.events finish h.answered.chain
-answers-tape ending.SomeNotOk script start finish left before now h = chain-tape start h.events finish h.answered.chain
-answers-tape ending.SourceFailed script start finish left before now h = chain-tape start h.events finish h.answered.chain
-answers-tape ending.SinkFailed script start finish left before now h = chain-tape start (h.done ++ h.last ∷ []) finish h.answered.chain
-answers-tape ending.ScriptTooLong script start finish left before now h = chain-tape start h.events finish h.answered.chain
-answers-tape ending.BadWords script start finish left before now h = absurd h
-answers-tape ending.NoImage script start finish left before now h = absurd h
-answers-tape ending.ImageTooLarge script start finish left before now h = absurd h
-answers-tape ending.OutOfMemory script start finish left before now h = absurd h
-answers-tape ending.InsertFailed script start finish left before now h = absurd h
+-- ---- the script
 
-abbrev pub state : Tape → ℕ → State
-state tape faults = record { tape = tape; faults = faults }
-
-pub runs-over : (e : Ending) (script : List ℕ) (t u : Tape) (f f' : ℕ) (tape_now : Option Tape) (left before now : Option (List ℕ))
-    → tape_now ≡ Some u → AnswersScript e script (state t f) (state u f') left before now → RunsOver e script t f tape_now f' left before now
-runs-over e script t u f f' tape_now left before now told a =
-    let same : u ≡ t = answers-tape e script (state t f) (state u f') left before now a in
-    over e (told ∙ ap Some same) (subst (λ (v : Tape). AnswersScript e script (state t f) (state v f') left before now) same a)
-  where
-    over : (e : Ending) → tape_now ≡ Some t → AnswersScript e script (state t f) (state t f') left before now → RunsOver e script t f tape_now f' left before now
-    over ending.OutOfMemory told a = absurd a
-    over ending.AllOk told a = (told, a)
-    over ending.SomeNotOk told a = (told, a)
-    over ending.SourceFailed told a = (told, a)
-    over ending.SinkFailed told a = (told, a)
-    over ending.ScriptTooLong told a = (told, a)
-    over ending.BadWords told a = absurd a
-    over ending.NoImage told a = absurd a
-    over ending.ImageTooLarge told a = absurd a
-    over ending.InsertFailed told a = absurd a
+-- a host was opened, answered the script and was closed
+pub answers_over : {M : Type 0} (view : M → MediumView) (medium closed : M) (before after before_now after_now : List DeviceState) (v w : HostView) (e : Ending) (quiet : Bool) (left left_now written written_now : Option (List ℕ))
+    → IsOpened view medium before after [] v → IsHost v → IsSize (view medium).record_count → AnswersScript e quiet v w left left_now written written_now
+    → IsClosed view w closed before_now after_now → (view closed).record_count ≡ w.state.records
+    → AnswersOver (end_of e) quiet (view medium) (view closed) (outside (view medium) left written before after) (outside (view closed) left_now written_now before_now after_now)
+answers_over view medium closed before after before_now after_now v w e quiet left left_now written written_now opens host size a closes count =
+    let chain : Chained [] v.state a.events w.state = subst (λ hops. Chained hops v.state a.events w.state) opens.hops_are a.chain in
+    let same : (view closed).record_count ≡ (view medium).record_count = count ∙ size_stays [] v.state a.events w.state chain ∙ ap (λ (s : HostState). s.records) opens.state in
+    let none : v.state.crossings ≡ 0 = ap (λ (s : HostState). s.crossings) opens.state in
+    record {
+      events = a.events;
+      start = v.state;
+      finish = w.state;
+      fresh = opens.state;
+      chain = chain;
+      tells = run_tells [] v.state a.events w.state chain host.one (omega (arith, none));
+      asks = a.asks;
+      ok = a.ok;
+      writes = a.writes;
+      back = record {
+        tape = tape_is_in (view closed) (subst IsSize (sym same) size) ∙ closes.tape;
+        faults = closes.faults;
+        before = closes.devices_before;
+        after = closes.devices_after;
+      };
+      stops = λ told gate.
+          still (view medium).moment w.moment (view closed).moment (view medium).left_since w.left_since (view closed).left_since (LeftWithin a.events w.state) closes.moment closes.since
+          (after_still (view medium).moment v.moment w.moment (view medium).left_since v.left_since w.left_since (LeftWithin a.events w.state) opens.moment opens.since (a.stops told gate));
+    }
 
 -- ---- the image that was inserted
 
-abbrev Found : Option (List ℕ) → Tape → Type 0
-Found o tape = (image : List ℕ) × (o ≡ Some image) × (length image ≤ largest_image) × (tape ≡ tape_of image)
+-- by the medium v before the insert, in which no tape is, and m behind it
+module _ (name : List ℕ) (quiet : Bool) (v m : MediumView) (empty : v.record_count ≡ 0) (law : IsMedium v) (law_now : IsMedium m) (did : DidInsert name No v m (Ok answers.Tape)) where
+  abbrev order : Order
+  order = order_of quiet name
 
-found-image : (o : Option (List ℕ)) (tape : Tape) → inserted o None ≡ Some tape → Found o tape
-found-image None tape is = cc
-found-image (Some image) tape is = go (nat_le (length image) largest_image) refl is
-  where
-    go : (b : Bool) → nat_le (length image) largest_image ≡ b → (if b then Some (tape_of image) else None) ≡ Some tape → Found (Some image) tape
-    go true fits is = (image, refl, leb-true (length image) largest_image fits, cc)
-    go false fits is = cc
+  inserted : (tape : Option Tape) → tape ≡ m.tape → (old : Outside) → old.shelf ≡ v.shelf → Inserts order old tape
+  inserted tape is old same = record {
+    reads_as = λ shelf told. let took = did.answer_is.1 shelf (sym same ∙ told) in (took.content, is ∙ took.tape_is, took.inserted_is);
+  }
 
--- the tape that an insert put into the drive
-pub taken : (name : List ℕ) (v w : MediumView) (answer : Inserted) (s : Shelf) → answer ≡ answers.Tape → DidInsert name No v w (Ok answer) → v.shelf ≡ Some s → TakesImage name No s w.shelf w.inside w.tape
-taken name v w answer s is did told = (subst (λ (a : Inserted). InsertAnswers name No v.shelf w.shelf w.inside w.tape w.record_count a) is did.answer_is).1 s told
+  -- a stop before the insert leaves no tape
+  left_in : (x : Tape) → is_some v.shelf ≡ true → m.left_since v.moment x → m.tape ≡ Some x
+  left_in x told left = ⊎_elim (λ was. absurd (nowhere v.shelf refl told was)) (λ is. is) (did.since v.moment x left)
+    where
+      nowhere : (o : Option Shelf) → v.shelf ≡ o → is_some o ≡ true → v.left_since v.moment x → ⊥
+      nowhere (Some s) is told was = law.leaves_none s x is empty was
+      nowhere None is told was = cc
 
--- the words name an image, which reads as the tape in the drive
-pub inserts : (words : List (List ℕ)) (name : List ℕ) (s : Shelf) (new : Option Shelf) (inside : Option (List ℕ)) (tape : Option Tape) → image_in words ≡ Some name
-    → TakesImage name No s new inside tape → (image : List ℕ) × Inserts words s image × (tape ≡ Some (tape_of image))
-inserts words name s new inside tape named h =
-    let f = found-image (image_of name s) h.content h.inserted_is in
-    (f.0, record { name = name; named = named; found = f.1; fits = f.2 }, h.tape_is ∙ ap Some f.3)
+  tells_texts : (quiet : Bool) (start : HostState) → TellsTexts (quiet_mode quiet) start → is_some start.tape ≡ true
+  tells_texts true start told = told
+  tells_texts false start told = told
 
-pub leaves-run : (e : Ending) (words : List (List ℕ)) (shelf : Shelf) (image script : List ℕ) (f f' : ℕ) (tape_now : Option Tape) (left before now : Option (List ℕ))
-    → Inserts words shelf image → RunsOver e script (tape_of image) f tape_now f' left before now → Leaves e words shelf script f tape_now f' left before now
-leaves-run ending.AllOk words shelf image script f f' tape_now left before now i r = (image, i, r)
-leaves-run ending.SomeNotOk words shelf image script f f' tape_now left before now i r = (image, i, r)
-leaves-run ending.SourceFailed words shelf image script f f' tape_now left before now i r = (image, i, r)
-leaves-run ending.SinkFailed words shelf image script f f' tape_now left before now i r = (image, i, r)
-leaves-run ending.ScriptTooLong words shelf image script f f' tape_now left before now i r = (image, i, r)
-leaves-run ending.OutOfMemory words shelf image script f f' tape_now left before now i r = (image, i, r)
-leaves-run ending.BadWords words shelf image script f f' tape_now left before now i r = absurd r.1
-leaves-run ending.NoImage words shelf image script f f' tape_now left before now i r = absurd r.1
-leaves-run ending.ImageTooLarge words shelf image script f f' tape_now left before now i r = absurd r.1
-leaves-run ending.InsertFailed words shelf image script f f' tape_now left before now i r = absurd r.1
+  -- and then the script was answered
+  pub runs_over : (e : RunEnd) (w : MediumView) (left left_now written written_now : Option (List ℕ)) (before after before_now after_now : List DeviceState)
+      → AnswersOver e quiet m w (outside m left written before after) (outside w left_now written_now before_now after_now)
+      → RunsOver e order (outside v left written before after) (outside w left_now written_now before_now after_now) (MayHaveLeft v w)
+  runs_over e w left left_now written written_now before after before_now after_now a = record {
+    events = a.events;
+    start = a.start;
+    finish = a.finish;
+    opens = record {
+      tape = m.tape;
+      inserts = inserted m.tape refl (outside v left written before after) refl;
+      records = m.record_count;
+      size = did.answer_is.0;
+      is_tape = law_now.is_tape;
+      fresh = a.fresh ∙ ap (λ n. fresh_host m.tape m.record_count n before after) did.goes_on.cause;
+    };
+    chain = a.chain;
+    tells = a.tells;
+    asks = a.asks;
+    ok = a.ok;
+    writes = λ tells. a.writes (tells_texts quiet a.start tells);
+    back = a.back;
+    stops = λ told gate x left.
+        let ran = a.stops told gate in
+        ⊎_elim
+        (λ was. left_before [] a.start a.events a.finish x a.chain gate (ap (λ (s : HostState). s.tape) a.fresh ∙ left_in x left.0 was))
+        (λ now. now)
+        (ran.earlier v.moment x did.goes_on.later left.1);
+  }
 
--- ---- numbers of endings
+  -- or there was no memory for it, and the medium is as it was
+  pub leaves_image : (w : MediumView) → w ≡ m → (left left_now written written_now : Option (List ℕ)) (before after before_now after_now : List DeviceState)
+      → left_now ≡ left → written_now ≡ written → before_now ≡ before → after_now ≡ after
+      → LeavesImage order (outside v left written before after) (outside w left_now written_now before_now after_now) (MayHaveLeft v w)
+  leaves_image w same left left_now written written_now before after before_now after_now unread unwritten first last =
+      let tape : tape_in w ≡ m.tape = ap tape_in same ∙ tape_is_in m did.answer_is.0 in
+      record {
+        untouched = record { left = unread; written = unwritten; before = first; after = last };
+        inserts = inserted (tape_in w) tape (outside v left written before after) refl;
+        stops = λ told x left. tape ∙ left_in x left.0 (subst (λ (w : MediumView). w.left_since v.moment x) same left.1);
+      }
 
-ending_of : ℕ → Option Ending
-ending_of n = if n == 0 then Some ending.AllOk else (if n == 1 then Some ending.SomeNotOk else (if n == 2 then Some ending.BadWords
-    else (if n == 3 then Some ending.NoImage else (if n == 4 then Some ending.ImageTooLarge else (if n == 5 then Some ending.SourceFailed
-    else (if n == 6 then Some ending.SinkFailed else (if n == 7 then Some ending.OutOfMemory else (if n == 8 then Some ending.ScriptTooLong
-    else (if n == 9 then Some ending.InsertFailed else None)))))))))
+  -- by the ending of what came behind the insert
+  by_ending : (e : Ending) (old now : Outside) (stopped : Tape → Type 0) → (HasNoTape (end_of e) → ⊥) → (e ≡ ending.OutOfMemory → LeavesImage order old now stopped)
+      → (e ≢ ending.OutOfMemory → RunsOver (end_of e) order old now stopped) → LeavesBy (end_of e) (Some order) old now stopped
+  by_ending ending.AllOk old now stopped inside kept ran = ran (λ h. cc)
+  by_ending ending.SomeNotOk old now stopped inside kept ran = ran (λ h. cc)
+  by_ending ending.SourceFailed old now stopped inside kept ran = ran (λ h. cc)
+  by_ending ending.SinkFailed old now stopped inside kept ran = ran (λ h. cc)
+  by_ending ending.ScriptTooLong old now stopped inside kept ran = ran (λ h. cc)
+  by_ending ending.OutOfMemory old now stopped inside kept ran = kept refl
+  by_ending ending.BadWords old now stopped inside kept ran = absurd (inside tt)
+  by_ending ending.NoImage old now stopped inside kept ran = absurd (inside tt)
+  by_ending ending.ImageTooLarge old now stopped inside kept ran = absurd (inside tt)
+  by_ending ending.InsertFailed old now stopped inside kept ran = absurd (inside tt)
 
-ending_of-exit_status : (e : Ending) → ending_of (exit_status e) ≡ Some e
-unfolding ending_of
-ending_of-exit_status ending.AllOk = refl
-ending_of-exit_status ending.SomeNotOk = refl
-ending_of-exit_status ending.BadWords = refl
-ending_of-exit_status ending.NoImage = refl
-ending_of-exit_status ending.ImageTooLarge = refl
-ending_of-exit_status ending.SourceFailed = refl
-ending_of-exit_status ending.SinkFailed = refl
-ending_of-exit_status ending.OutOfMemory = refl
-ending_of-exit_status ending.ScriptTooLong = refl
-ending_of-exit_status ending.InsertFailed = refl
-
--- no two endings have one number
-pub same-ending : (a b : Ending) (n : ℕ) → n ≡ exit_status a → n ≡ exit_status b → a ≡ b
-same-ending a b n x y =
-    let e : Some a ≡ Some b = sym (ending_of-exit_status a) ∙ ap ending_of (sym x ∙ y) ∙ ending_of-exit_status b in
-    cc
-
-pub runs-over-from : (e : Ending) (script : List ℕ) (t u : Tape) (f g f' g' : ℕ) (tape_now : Option Tape) (left before now : Option (List ℕ))
-    → tape_now ≡ Some u → f ≡ g → g' ≡ f' → AnswersScript e script (state t f) (state u f') left before now → RunsOver e script t g tape_now g' left before now
-runs-over-from e script t u f g f' g' tape_now left before now told first last a =
-    subst (λ (n : ℕ). RunsOver e script t n tape_now g' left before now) first
-    (runs-over e script t u f g' tape_now left before now told (subst (λ (n : ℕ). AnswersScript e script (state t f) (state u n) left before now) (sym last) a))
-
-pub over-from : (e : Ending) (script : List ℕ) (t : Tape) (f g f' : ℕ) (tape_now : Option Tape) (left before now : Option (List ℕ))
-    → f ≡ g → RunsOver e script t f tape_now f' left before now → RunsOver e script t g tape_now f' left before now
-over-from e script t f g f' tape_now left before now same r = subst (λ (n : ℕ). RunsOver e script t n tape_now f' left before now) same r
-
-pub leaves-as : (a b : Ending) (n : ℕ) (words : List (List ℕ)) (shelf : Shelf) (script : List ℕ) (f : ℕ) (tape_now : Option Tape) (f' : ℕ) (left before now : Option (List ℕ))
-    → n ≡ exit_status a → n ≡ exit_status b → Leaves a words shelf script f tape_now f' left before now → Leaves b words shelf script f tape_now f' left before now
-leaves-as a b n words shelf script f tape_now f' left before now x y h =
-    subst (λ (e : Ending). Leaves e words shelf script f tape_now f' left before now) (same-ending a b n x y) h
+  pub leaves_inserted : (asked : Option Order) → Some order ≡ asked → (e : Ending) (old now : Outside) (stopped : Tape → Type 0) → (HasNoTape (end_of e) → ⊥)
+      → (e ≡ ending.OutOfMemory → LeavesImage order old now stopped) → (e ≢ ending.OutOfMemory → RunsOver (end_of e) order old now stopped) → LeavesBy (end_of e) asked old now stopped
+  leaves_inserted asked is e old now stopped inside kept ran = subst (λ (o : Option Order). LeavesBy (end_of e) o old now stopped) is (by_ending e old now stopped inside kept ran)

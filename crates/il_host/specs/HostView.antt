@@ -1,18 +1,50 @@
--- What contracts see of a host.
-use Rattle.std.specs.Prelude.{ℕ, ◌≡◌, ◌+◌, ◌*◌, List}
-use Rattle.lif_model.specs.Shelf.{IsSize}
-use Rattle.il_ports.specs.Media.{MediumView}
+-- What contracts see of a host, and what a command does to it.
+use Rattle.std.specs.Prelude.{◌≡◌, ◌≤◌, ℕ, true, List, Option, Some, is_some}
+use Rattle.lif_model.specs.Tape.{Tape, IsTape}
+use Rattle.il_frames.specs.declared.entry.Entry.{Entry}
+use Rattle.loop_model.specs.Roles.{is_at_most_one, talkers}
+use Rattle.il_script.specs.declared.reply.Reply.{Reply}
+use Rattle.host_model.specs.Requests.{Item}
+use Rattle.host_model.specs.LoopStates.{all_roles}
+use Rattle.host_model.specs.HostStates.{HostState}
+use Rattle.host_model.specs.Replies.{reply_text}
+use Rattle.host_model.specs.Steps.{Event, IsStep, TellsReply}
+use Rattle.host_model.specs.Stops.{StopsLeave}
 
-pub record HostView (M : Type 0) : Type 0 where
-  pub medium : M
-  -- the text of the last reply
+pub record HostView : Type 1 where
+  -- what holds of the host between its commands
+  pub valid : Type 0
+  -- what stands between them
+  pub state : HostState
+  -- the crossings at which faults are planned
+  pub hops : List ℕ
+  -- the log of the last command, and the text of its reply
+  pub log : List Entry
   pub text : List ℕ
-  -- how many slots and how many bytes of text there is room for
-  pub table_room : ℕ
-  pub text_room : ℕ
+  -- the medium's time, which never falls
+  pub moment : ℕ
+  -- a power stop at some moment since that one may have left this tape
+  pub left_since : ℕ → Tape → Type 0
 
--- A tape is in the drive, and the host has room for its directory and for every reply.
-pub record IsReady {M : Type 0} (view : M → MediumView) (host : HostView M) : Type 0 where
-  pub size : IsSize (view host.medium).record_count
-  pub slots : host.table_room ≡ 8 * (view host.medium).record_count
-  pub text : host.text_room ≡ 600 * (view host.medium).record_count + 20000
+-- what holds of every host between its commands
+pub record IsHost (v : HostView) : Type 0 where
+  -- at most one device talks
+  pub one : is_at_most_one (talkers (all_roles v.state.loop)) ≡ true
+  -- a tape that is told has its number of records
+  pub is_tape : (t : Tape) → v.state.tape ≡ Some t → IsTape v.state.records t
+  -- a stop now leaves the tape as it reads, and since now there is no other
+  pub leaves_now : (m : ℕ) (t : Tape) → m ≤ v.moment → v.state.tape ≡ Some t → v.left_since m t
+  pub leaves_only : (t c : Tape) → v.state.tape ≡ Some t → v.left_since v.moment c → c ≡ t
+
+-- a command, as an event of a run
+abbrev pub event_between : Item → Reply → HostView → HostView → Event
+event_between item reply v w = record { item = item; reply = reply; log = w.log; before = v.state; after = w.state }
+
+-- The host performed a command and replied so: that is a step of a run. The text is that of the reply, where what it depends on is
+-- told. A power stop during the command leaves what it may leave.
+pub record Performed (item : Item) (reply : Reply) (v w : HostView) : Type 0 where
+  pub valid : w.valid
+  pub hops : w.hops ≡ v.hops
+  pub step : IsStep v.hops (event_between item reply v w)
+  pub text : TellsReply item v.state → w.text ≡ reply_text item v.state reply
+  pub stops : StopsLeave (event_between item reply v w) v.moment w.moment v.left_since w.left_since

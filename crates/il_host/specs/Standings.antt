@@ -1,10 +1,10 @@
 -- What stands between two commands, by the controller of the loop, and what a command does before it asks the volume.
-use Rattle.std.specs.Prelude.{◌≡◌, ◌≤◌, ℕ, Bool, true, false, List, [], None, Result, Ok, Err}
+use Rattle.std.specs.Prelude.{◌≡◌, ◌≤◌, ℕ, Bool, true, false, List, [], None, Some, Result, Ok, Err}
 use Rattle.il_frames.specs.declared.entry.Entry.{Entry}
 use Rattle.il_ports.specs.Media.{MediumView}
 use Rattle.il_ports.specs.declared.records.Trouble.{Trouble}
 use Rattle.il_ports.specs.declared.records.Trouble.TheVariants as trouble
-use Rattle.il_drive.specs.State.{status_of}
+use Rattle.il_drive.specs.State.{drive_id, status_of}
 use Rattle.il_ring.specs.Plans.{hops_of}
 use Rattle.il_record.specs.LoopStores.{AtIdle, AtLost, HasRing, LoopView, Nowhere, Resumes, Standing, counted_resume}
 use Rattle.lif_plan.specs.Refusals.{reason}
@@ -45,6 +45,10 @@ HasLogRoom view c = HasRing c (λ r. r.books.room ≡ log_room (view r.drive.med
 -- the drive of this controller has a status of a drive
 abbrev pub HasDriveStatus : {M : Type 0} → Standing M → Type 0
 HasDriveStatus c = HasRing c (λ r. status_of r.drive.state ≤ 3)
+
+-- and the accessory ID of a drive
+abbrev pub HasDriveId : {M : Type 0} → Standing M → Type 0
+HasDriveId c = HasRing c (λ r. r.drive.state.interface.accessory ≡ Some drive_id)
 
 -- an item with its reply, from the moment at which the log was emptied
 abbrev pub event_at : {M : Type 0} → (M → MediumView) → Item → Reply → (old new : LoopView M) → Event

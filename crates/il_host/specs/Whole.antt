@@ -1,52 +1,65 @@
 -- What a whole run leaves, by how it ends.
-use Rattle.std.specs.Prelude.{◌≡◌, ℕ, ◌≤◌, ◌<◌, List, length, Option, Some, None}
+use Rattle.std.specs.Prelude.{◌≡◌, ◌==◌, ℕ, Bool, true, List, [], Option, None, if◌then◌else◌, is_some}
+use Rattle.lif_model.specs.Stops.{LeavesOnly}
 use Rattle.lif_model.specs.Tape.{Tape}
-use Rattle.lif_model.specs.Shelf.{Shelf, image_of, tape_of, largest_image}
-use Rattle.il_host.specs.Words.{image_in}
-use Rattle.il_host.specs.Run.{AnswersScript}
-use Rattle.il_host.specs.declared.ending.Ending.{Ending}
-use Rattle.il_host.specs.declared.ending.Ending.TheVariants as ending
+use Rattle.il_device.specs.State.{DeviceState}
+use Rattle.il_ports.specs.Media.{MediumView}
+use Rattle.host_model.specs.HostStates.{HostState, HasOwnGate, fresh_host}
+use Rattle.host_model.specs.Steps.{Event}
+use Rattle.host_model.specs.Stops.{LeftWithin}
+use Rattle.host_model.specs.Runs.{Chained, items_asked}
+use Rattle.host_model.specs.Histories.{RunTells}
+use Rattle.host_model.specs.Endings.{RunEnd, HasNoTape, HasEndingCause, IsEarly, exit_status}
+use Rattle.host_model.specs.Orders.{Outside, HandsBack, quiet_mode}
+use Rattle.host_model.specs.Leaves.{AsksAs, IsOkAs, WritesAs, LeavesBy}
+use Rattle.il_host.specs.Words.{order_in}
 
--- the endings that come before the first command
-abbrev pub IsEarly : Ending → Type 0
-IsEarly ending.BadWords = Unit {0}
-IsEarly ending.NoImage = Unit {0}
-IsEarly ending.ImageTooLarge = Unit {0}
-IsEarly ending.OutOfMemory = Unit {0}
-IsEarly ending.InsertFailed = Unit {0}
-IsEarly other = ⊥
+-- ---- what a run finds outside, and hands back
 
--- the endings at which no tape is in the drive
-abbrev pub HasNoTape : Ending → Type 0
-HasNoTape ending.BadWords = Unit {0}
-HasNoTape ending.NoImage = Unit {0}
-HasNoTape ending.ImageTooLarge = Unit {0}
-HasNoTape ending.InsertFailed = Unit {0}
-HasNoTape other = ⊥
+-- the tape in the drive, where one is in and it is told
+abbrev pub tape_in : MediumView → Option Tape
+tape_in m = if m.record_count == 0 then None else m.tape
 
--- The script was answered over this tape, which is still as it was; or there was no memory for it.
-abbrev pub RunsOver : Ending → List ℕ → Tape → ℕ → Option Tape → ℕ → Option (List ℕ) → Option (List ℕ) → Option (List ℕ) → Type 0
-RunsOver ending.OutOfMemory script tape faults tape_now faults_now left before now = tape_now ≡ Some tape
-RunsOver other script tape faults tape_now faults_now left before now =
-    (tape_now ≡ Some tape) × AnswersScript other script (record { tape = tape; faults = faults }) (record { tape = tape; faults = faults_now }) left before now
+-- the medium, what is left of the script and what was written, and the devices before and behind the drive
+abbrev pub outside : MediumView → (left written : Option (List ℕ)) → (before after : List DeviceState) → Outside
+outside m left written before after = record {
+  shelf = m.shelf;
+  tape = tape_in m;
+  left = left;
+  written = written;
+  faults = m.faults;
+  before = before;
+  after = after;
+}
 
--- the words name an image
-abbrev pub Names : List (List ℕ) → List ℕ → Type 0
-Names words name = image_in words ≡ Some name
+-- A stop since the run began may have left this tape. Of a medium that does not tell its shelf nothing is said.
+abbrev pub MayHaveLeft : MediumView → MediumView → Tape → Type 0
+MayHaveLeft v w x = (is_some v.shelf ≡ true) × w.left_since v.moment x
 
--- the image that the words name goes into the drive
-pub record Inserts (words : List (List ℕ)) (shelf : Shelf) (image : List ℕ) : Type 0 where
-  pub name : List ℕ
-  pub named : Names words name
-  pub found : image_of name shelf ≡ Some image
-  pub fits : length image ≤ largest_image
+-- ---- the script
 
-abbrev pub Leaves : Ending → List (List ℕ) → Shelf → List ℕ → ℕ → Option Tape → ℕ → Option (List ℕ) → Option (List ℕ) → Option (List ℕ) → Type 0
-Leaves ending.BadWords words shelf script faults tape_now faults_now left before now = image_in words ≡ None
-Leaves ending.NoImage words shelf script faults tape_now faults_now left before now =
-    (name : List ℕ) × Names words name × (image_of name shelf ≡ None)
-Leaves ending.ImageTooLarge words shelf script faults tape_now faults_now left before now =
-    (name image : List ℕ) × Names words name × (image_of name shelf ≡ Some image) × (largest_image < length image)
-Leaves ending.InsertFailed words shelf script faults tape_now faults_now left before now = (name : List ℕ) × Names words name
-Leaves other words shelf script faults tape_now faults_now left before now =
-    (image : List ℕ) × Inserts words shelf image × RunsOver other script (tape_of image) faults tape_now faults_now left before now
+-- A host was opened on the medium v and the devices of `old`, answered the script, and handed back w and those of `now`.
+pub record AnswersOver (end : RunEnd) (quiet : Bool) (v w : MediumView) (old now : Outside) : Type 0 where
+  pub events : List Event
+  pub start : HostState
+  pub finish : HostState
+  pub fresh : start ≡ fresh_host v.tape v.record_count v.faults old.before old.after
+  pub chain : Chained [] start events finish
+  pub tells : RunTells [] start events finish
+  pub asks : AsksAs None end old.left now.left (items_asked events)
+  pub ok : IsOkAs end events
+  pub writes : is_some start.tape ≡ true → WritesAs end (quiet_mode quiet) events old.written now.written
+  pub back : HandsBack finish now
+  pub stops : is_some start.tape ≡ true → HasOwnGate start → LeavesOnly v.moment w.moment v.left_since w.left_since (LeftWithin events finish)
+
+-- ---- the whole run
+
+-- A run by these words, over the medium v and what is outside, has this status: by one ending, of which all else is told. Where no
+-- item was answered, source and sink are `untouched`.
+pub record RunLeaves (status : ℕ) (words : List (List ℕ)) (v w : MediumView) (old now : Outside) (source_before source_now sink_before sink_now : ℕ) (untouched : Type 0) : Type 0 where
+  pub end : RunEnd
+  pub status_is : status ≡ exit_status end
+  pub cause : HasEndingCause end source_before source_now sink_before sink_now v.faults w.faults
+  pub leaves : LeavesBy end (order_in words) old now (MayHaveLeft v w)
+  pub empty : HasNoTape end → w.record_count ≡ 0
+  pub early : IsEarly end → untouched

@@ -26,11 +26,12 @@ pub enum Ending {
 }
 
 impl Ending {
-    ghost use Rattle.il_host.specs.Run.{exit_status};
+    ghost use Rattle.host_model.specs.Endings.{exit_status};
+    ghost use Rattle.il_host.specs.Run.{end_of};
 
     /// The exit status of the program, 0 to 9 in the order above.
     pub fn status(self) -> u8
-        ensures { result ≡ exit_status self }
+        ensures { result ≡ exit_status (end_of self) }
     {
         match self {
             Ending::AllOk => 0,

@@ -1,191 +1,129 @@
-ghost use Rattle.std.specs.Prelude.{◌≡◌, ◌≤◌, ◌+◌, ◌*◌, ◌++◌, [], length, IfOk};
+ghost use Rattle.std.specs.Prelude.{◌≡◌, ◌<◌, ◌≤◌, ◌+◌, ◌*◌, ◌++◌, [], map, length, IfOk, IfErr, Err, true};
+ghost use Rattle.lif_model.specs.Shelf.{IsSize};
+ghost use Rattle.il_ring.specs.Plans.{IsPlan, hops_of};
+ghost use Rattle.il_ring.specs.Rings.{MayStand};
+ghost use Rattle.std.specs.List.{All};
+ghost use Rattle.host_model.specs.Requests.{Asks, OfVolume};
+ghost use Rattle.lif_model.specs.Apply as command;
+ghost use Rattle.il_host.specs.HostView.{Performed};
+ghost use Rattle.il_ports.specs.Stores.{Continues};
+ghost use Rattle.lif_plan.specs.Refusals.{reason};
+ghost use Rattle.lif_volume.specs.Views.{IsOpen};
+ghost use Rattle.host_model.specs.Replies.{code_of};
 ghost use Rattle.il_script.specs.Replies.{reply_line};
+ghost use Rattle.il_host.specs.Hosts.{IsOpened, IsClosed, volume_in};
+ghost use Rattle.il_host.specs.Standings.{HasDriveStatus, MakesSound, fault_of, volume_reply};
 
-use crate::directory::{Unread, read_directory};
-use crate::item::Command;
-use crate::listing::put_listing;
 use crate::performer::Performer;
-use crate::store::Store;
+use il_control::Lost;
+use il_device::Device;
+use il_frames::Entry;
 use il_ports::{Medium, Records, Trouble};
-use il_script::{Page, Reply};
-use lif_dir::SlotTable;
+use il_record::{LoopRecords, Looped};
+use il_ring::{Planned, Refused, Rig, Ring};
+use il_script::{Code, Command, Page, Reply};
+use lif_volume::{Refusal, Volume, VolumeFault};
 use std::alloc::{AllocError, Global};
+use std::marker::PhantomData;
 
-/// What a host works with.
+/// Performs commands on the tape that is in the drive, by frames on a loop.
 #[derive(Drop)]
-pub struct Rig<M> {
-    /// The shelf of images, and the drive.
-    pub medium: M,
+pub struct Host<M: Medium> {
+    pub(crate) volume: Volume<LoopRecords<M>>,
+    pub(crate) page: Page,
+    pub(crate) file: Vec<u8>,
+    pub(crate) devices: PhantomData<Box<dyn Device>>,
 }
 
-/// There was no memory for the host. The rig is as it was.
-#[derive(Drop)]
-pub struct Refused<M> {
-    pub rig: Rig<M>,
-}
-
-/// What contracts see of a host: the medium, the text of the last reply, and the room that was reserved.
-pub trait Seen<M> {
+impl<M: Medium + Drop> Performer for Host<M> {
+    ghost use Rattle.std.specs.Prelude.{map};
     ghost use Rattle.il_host.specs.HostView.{HostView};
+    ghost use Rattle.il_host.specs.Hosts.{host_in};
+    ghost use Rattle.il_host.specs.IsHosts.{is_host_at};
 
-    ghost seen: { Self → HostView M };
-}
+    ghost view = { λ h. host_in M.view
+        (λ r. record {
+          before = map (λ b. (Device-box b).state b.value) r.boxes.before.items;
+          drive = r.drive;
+          after = map (λ b. (Device-box b).state b.value) r.boxes.after.items;
+          books = r.books;
+        })
+        h.volume h.page.text h.page.room (length h.file.items) };
 
-/// Performs commands on the tape that is in the drive.
-#[derive(Drop)]
-pub struct Host<M> {
-    store: Store<M>,
-    table: SlotTable,
-    page: Page,
-}
+    ghost is_host = { λ h valid. is_host_at M.view _ h.volume h.page.text h.page.room (length h.file.items) M.is_medium valid };
 
-impl<M: Medium> Seen<M> for Host<M> {
-    ghost use Rattle.il_host.specs.HostView.{HostView};
-
-    ghost seen = { λ h. record {
-      medium = h.store.medium;
-      text = h.page.text;
-      table_room = h.table.room;
-      text_room = h.page.room;
-    } };
-}
-
-// How many bytes the text of a reply may have on a medium of so many records.
-fn text_room(records: u16) -> usize
-    ensures { result ≡ 600 * records + 20000 }
-{
-    600 * usize::from(records) + 20_000
-}
-
-impl<M: Medium> Host<M> {
-    ghost use Rattle.std.specs.Prelude.{◌≡◌, ◌≤◌, [], ℕ, Some, IfOk, IfErr};
-    ghost use Rattle.lif_model.specs.Tape.{Tape};
-    ghost use Rattle.il_host.specs.Replies.{reply_text};
-    ghost use Rattle.il_host.specs.Events.{Performs, HasReplyCause};
-    ghost use Rattle.il_host.specs.HostView.{HostView, IsReady};
-
-    /// A host for the tape that is in the drive. All memory of the host is taken here; where there is none the rig
-    /// is handed back.
-    pub fn open(alloc: Global, rig: Rig<M>) -> Result<Host<M>, Refused<M>>
-        requires { 1 ≤ (M.view rig.medium).record_count }
-        ensures medium { IfOk result (λ host. (⟦<Host<M> as Seen<M>>⟧.seen host).medium ≡ rig.medium) }
-        ensures text { IfOk result (λ host. (⟦<Host<M> as Seen<M>>⟧.seen host).text ≡ []) }
-        ensures ready { IfOk result (λ host. IsReady M.view (⟦<Host<M> as Seen<M>>⟧.seen host)) }
-        ensures refused { IfErr result (λ refused. refused.rig ≡ rig) }
-    {
-        let size = rig.medium.size();
-        match reserve(alloc, size) {
-            Ok((table, page)) => Ok(Host {
-                store: Store::new(rig.medium),
-                table,
-                page,
-            }),
-            Err(_) => Err(Refused { rig }),
-        }
-    }
-
-    /// Performs a command, and makes the text of its reply.
-    pub fn perform(&mut self, command: &Command) -> Reply
-        requires { IsReady M.view (⟦<Host<M> as Seen<M>>⟧.seen self.old) }
-        ensures ready { IsReady M.view (⟦<Host<M> as Seen<M>>⟧.seen self.new) }
-        ensures performs { (t : Tape) → (M.view (⟦<Host<M> as Seen<M>>⟧.seen self.old).medium).tape ≡ Some t
-            → (u : Tape) × ((M.view (⟦<Host<M> as Seen<M>>⟧.seen self.new).medium).tape ≡ Some u)
-            × Performs (record { tape = t; faults = (M.view (⟦<Host<M> as Seen<M>>⟧.seen self.old).medium).faults }) command.now result
-            (record { tape = u; faults = (M.view (⟦<Host<M> as Seen<M>>⟧.seen self.new).medium).faults }) }
-        ensures cause { HasReplyCause (M.view (⟦<Host<M> as Seen<M>>⟧.seen self.old).medium).faults
-            (M.view (⟦<Host<M> as Seen<M>>⟧.seen self.new).medium).faults result }
-        ensures text { (t : Tape) → (M.view (⟦<Host<M> as Seen<M>>⟧.seen self.old).medium).tape ≡ Some t
-            → (⟦<Host<M> as Seen<M>>⟧.seen self.new).text ≡ reply_text command.now t result }
-    {
+    fn perform_next(&mut self, command: &Command, bytes: &[u8]) -> Reply {
         self.page.clear();
         match command {
             Command::Dir => self.dir(),
+            Command::Label => self.label(),
+            Command::Fetch(name) => self.fetch(name),
+            Command::Store {
+                name,
+                kind,
+                implementation,
+            } => self.store(name, *kind, *implementation, bytes),
+            Command::Rename { old, new } => self.rename(old, new),
+            Command::Purge(name) => self.purge(name),
+            Command::Format { label, slots } => self.format(label, *slots),
+            Command::Adopt => self.adopt(),
+            Command::Devices => self.devices(),
+            Command::Status => self.status(),
+            Command::Poll => self.poll(),
+            Command::Say => self.say(bytes),
+            Command::Paper => self.paper(),
         }
-    }
-
-    // Lists the volume and its files.
-    fn dir(&mut self) -> Reply
-        requires ready { IsReady M.view (⟦<Host<M> as Seen<M>>⟧.seen self.old) }
-        requires blank { (⟦<Host<M> as Seen<M>>⟧.seen self.old).text ≡ [] }
-        ensures ready { IsReady M.view (⟦<Host<M> as Seen<M>>⟧.seen self.new) }
-        ensures performs { (t : Tape) → (M.view (⟦<Host<M> as Seen<M>>⟧.seen self.old).medium).tape ≡ Some t
-            → (u : Tape) × ((M.view (⟦<Host<M> as Seen<M>>⟧.seen self.new).medium).tape ≡ Some u)
-            × Performs (record { tape = t; faults = (M.view (⟦<Host<M> as Seen<M>>⟧.seen self.old).medium).faults }) Command.Dir result
-            (record { tape = u; faults = (M.view (⟦<Host<M> as Seen<M>>⟧.seen self.new).medium).faults }) }
-        ensures cause { HasReplyCause (M.view (⟦<Host<M> as Seen<M>>⟧.seen self.old).medium).faults
-            (M.view (⟦<Host<M> as Seen<M>>⟧.seen self.new).medium).faults result }
-        ensures text { (t : Tape) → (M.view (⟦<Host<M> as Seen<M>>⟧.seen self.old).medium).tape ≡ Some t
-            → (⟦<Host<M> as Seen<M>>⟧.seen self.new).text ≡ reply_text Command.Dir t result }
-    {
-        self.store.grant(2 * u32::from(self.store.size()) + 40);
-        match read_directory(&mut self.store, &mut self.table) {
-            Ok(header) => {
-                put_listing(&mut self.page, &header, &self.table);
-                answered(&mut self.page, Reply::Ok)
-            }
-            Err(Unread::Refused(code)) => answered(&mut self.page, Reply::No(code)),
-            Err(Unread::Trouble(Trouble::Frame)) => answered(&mut self.page, Reply::FaultFrame),
-            Err(Unread::Trouble(Trouble::Medium)) => answered(&mut self.page, Reply::FaultMedium),
-        }
-    }
-
-    /// The text of the reply to the last command, empty before the first.
-    pub fn text(&self) -> &[u8]
-        ensures { result.now ≡ (⟦<Host<M> as Seen<M>>⟧.seen self.now).text }
-    {
-        self.page.text()
-    }
-
-    /// Hands the rig back.
-    pub fn close(self) -> Rig<M>
-        ensures { result.medium ≡ (⟦<Host<M> as Seen<M>>⟧.seen self).medium }
-    {
-        Rig {
-            medium: self.store.into_medium(),
-        }
-    }
-}
-
-// Ends the text of a reply.
-fn answered(page: &mut Page, reply: Reply) -> Reply
-    requires { length page.old.text + 20 ≤ page.old.room }
-    ensures reply { result ≡ reply }
-    ensures text { page.new ≡ record page.old { text = page.old.text ++ reply_line reply } }
-{
-    page.put(reply.last_line());
-    reply
-}
-
-// The memory of a host for a medium of so many records: the slots of its directory, and the text of a reply.
-fn reserve(alloc: Global, records: u16) -> Result<(SlotTable, Page), AllocError>
-    ensures { IfOk result (λ r. (r.0.room ≡ 8 * records) × (r.1 ≡ record { text = []; room = 600 * records + 20000 })) }
-{
-    let table = SlotTable::new(alloc, 8 * usize::from(records))?;
-    let page = Page::new(alloc, text_room(records))?;
-    Ok((table, page))
-}
-
-impl<M: Medium> Performer for Host<M> {
-    ghost use Rattle.il_host.specs.HostView.{HostView, IsReady};
-
-    ghost valid = { λ h. IsReady M.view (record {
-      medium = h.store.medium;
-      text = h.page.text;
-      table_room = h.table.room;
-      text_room = h.page.room;
-    }) };
-
-    ghost tape = { λ h. (M.view h.store.medium).tape };
-
-    ghost faults = { λ h. (M.view h.store.medium).faults };
-
-    ghost shown = { λ h. h.page.text };
-
-    fn perform_next(&mut self, command: Command) -> Reply {
-        self.perform(&command)
     }
 
     fn last_text(&self) -> &[u8] {
-        self.text()
+        self.page.text()
+    }
+
+    fn last_log(&self) -> &[Entry] {
+        self.volume.records().ring().log()
+    }
+}
+
+impl<M: Medium + Drop> Host<M> {
+    // Makes the store sound, where a fault came before: addresses the loop, where it is not ready, and clears the drive.
+    pub(crate) fn make_sound(&mut self) -> Result<(), Trouble>
+        requires volume_open { IsOpen ⟦<LoopRecords<M> as Records>⟧.view (volume_in self.old.volume) }
+        requires left { 1 ≤ (⟦<LoopRecords<M> as Records>⟧.view self.old.volume.records).calls_left }
+        ensures makes { MakesSound M.view (⟦<LoopRecords<M> as Looped<M>>⟧.looped self.old.volume.records) (⟦<LoopRecords<M> as Looped<M>>⟧.looped self.new.volume.records) result }
+        ensures sounds { Continues 1 (⟦<LoopRecords<M> as Records>⟧.view self.old.volume.records) (⟦<LoopRecords<M> as Records>⟧.view self.new.volume.records) result }
+        ensures opens { IsOpen ⟦<LoopRecords<M> as Records>⟧.view (volume_in self.new.volume) }
+        ensures page { self.new.page ≡ self.old.page }
+        ensures file { self.new.file ≡ self.old.file }
+    {
+        if self.volume.records().is_sound() {
+            return Ok(());
+        }
+        self.volume.records_mut().resume()
+    }
+
+    // Ends the text of a reply.
+    pub(crate) fn answered(&mut self, reply: Reply) -> Reply
+        requires volume_open { IsOpen ⟦<LoopRecords<M> as Records>⟧.view (volume_in self.old.volume) }
+        requires room { length self.old.page.text + 20 ≤ self.old.page.room }
+        ensures reply { result ≡ reply }
+        ensures page { self.new.page ≡ record self.old.page { text = self.old.page.text ++ reply_line reply } }
+        ensures volume { self.new.volume ≡ self.old.volume }
+        ensures file { self.new.file ≡ self.old.file }
+        ensures drive { HasDriveStatus (⟦<LoopRecords<M> as Looped<M>>⟧.looped self.old.volume.records).control }
+    {
+        // Behind it the proof sees what holds of the drive.
+        let _ = self.volume.records().ring().medium();
+        self.page.put(reply.last_line());
+        reply
+    }
+}
+
+// The reply to a trouble of the store.
+pub(crate) fn fault_reply(trouble: Trouble) -> Reply
+    ensures { result ≡ fault_of trouble }
+{
+    match trouble {
+        Trouble::Frame => Reply::FaultFrame,
+        Trouble::Medium => Reply::FaultMedium,
     }
 }

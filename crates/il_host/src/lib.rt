@@ -1,21 +1,25 @@
-//! The host: reads the words and the script, performs commands on the tape that is in the drive, and answers them.
+//! The host: reads the words and the script, performs commands on the tape that is in the drive, by frames on a loop, and
+//! answers them.
 //!
 //! [`run_il`] is a whole run; [`Host`] performs single commands.
 #![tactic(auto)]
 
-mod directory;
 mod ending;
 mod host;
-mod item;
 mod listing;
+mod loop_commands;
+mod loop_texts;
+mod opening;
+mod parts;
 mod performer;
 mod run;
 mod running;
-mod store;
+mod volume_commands;
 mod words;
 mod write;
 
 pub use ending::Ending;
-pub use host::{Host, Refused, Rig, Seen};
-pub use item::{Command, Item};
+pub use host::Host;
+pub use il_ring::{Planned, Refused, Rig};
+pub use performer::Performer;
 pub use run::{Ended, run_il};

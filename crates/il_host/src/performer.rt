@@ -1,33 +1,32 @@
-use crate::item::Command;
-use il_script::Reply;
+use il_frames::Entry;
+use il_script::{Command, Reply};
 
-// What performs commands, one after the other. The loop over a script is proved for every performer, and the host is one.
+/// What performs commands, one after the other. The loop over a script is proved for every performer, and the host is one.
 pub trait Performer {
-    ghost use Rattle.std.specs.Prelude.{◌≡◌, ℕ, List, Option, Some};
-    ghost use Rattle.lif_model.specs.Tape.{Tape};
-    ghost use Rattle.il_host.specs.Replies.{reply_text};
-    ghost use Rattle.il_host.specs.Events.{State, Performs, HasReplyCause};
+    ghost use Rattle.std.specs.Prelude.{◌≡◌, ◌≤◌, length};
+    ghost use Rattle.il_script.specs.declared.limits.TheConstants.{LONGEST_PAYLOAD};
+    ghost use Rattle.host_model.specs.Requests.{Asks, request_of};
+    ghost use Rattle.il_host.specs.HostView.{HostView, IsHost, Performed};
+    ghost use Rattle.il_host.specs.PlainCommands.{IsPlain};
 
-    // What holds between commands.
-    ghost valid: { Self → Type 0 };
-    // The tape in the drive, where it is told.
-    ghost tape: { Self → Option Tape };
-    // How often the medium has failed.
-    ghost faults: { Self → ℕ };
-    // The text of the last reply.
-    ghost shown: { Self → List ℕ };
+    ghost view: { Self → HostView };
 
-    // Performs a command.
-    fn perform_next(&mut self, command: Command) -> Reply
-        requires { valid self.old }
-        ensures valid { valid self.new }
-        ensures performs { (t : Tape) → tape self.old ≡ Some t → (u : Tape) × (tape self.new ≡ Some u)
-            × Performs (record { tape = t; faults = faults self.old }) command result (record { tape = u; faults = faults self.new }) }
-        ensures cause { HasReplyCause (faults self.old) (faults self.new) result }
-        ensures text { (t : Tape) → tape self.old ≡ Some t → shown self.new ≡ reply_text command t result };
+    /// Performs a command that a script can ask for, with the bytes that its line carries.
+    fn perform_next(&mut self, command: &Command, bytes: &[u8]) -> Reply
+        requires valid { (view self.old).valid }
+        requires plain { IsPlain command.now }
+        requires few { length bytes.now ≤ LONGEST_PAYLOAD }
+        ensures { Performed (Asks (request_of command.now bytes.now)) result (view self.old) (view self.new) };
 
-    // The text of the last reply.
+    /// The text of the reply to the last command.
     fn last_text(&self) -> &[u8]
-        requires { valid self.now }
-        ensures { result.now ≡ shown self.now };
+        requires { (view self.now).valid }
+        ensures { result.now ≡ (view self.now).text };
+
+    /// The log of the last command, oldest entry first.
+    fn last_log(&self) -> &[Entry]
+        requires { (view self.now).valid }
+        ensures { result.now ≡ (view self.now).log };
+
+    ghost is_host: { (p : Self) → (view p).valid → IsHost (view p) };
 }

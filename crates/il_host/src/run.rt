@@ -1,51 +1,65 @@
-ghost use Rattle.std.specs.Prelude.{◌≡◌, ◌≢◌, ◌≤◌, ◌↔◌, ℕ, List, Some, None, map, string_bytes};
-ghost use Rattle.lif_model.specs.Tape.{Tape};
-ghost use Rattle.lif_model.specs.Shelf.{Shelf};
-ghost use Rattle.il_host.specs.Run.{HasEndingCause, exit_status};
-ghost use Rattle.il_host.specs.Whole.{Leaves, RunsOver, IsEarly, HasNoTape};
-ghost use Rattle.il_host.specs.Words.{image_in};
+ghost use Rattle.std.specs.Prelude.{◌≡◌, ◌≢◌, ◌+◌, ◌≤◌, map, length, string_bytes};
+ghost use Rattle.std.specs.List.{All};
+ghost use Rattle.lif_model.specs.Shelf.{IsSize};
+ghost use Rattle.il_ring.specs.Rings.{MayStand};
+ghost use Rattle.host_model.specs.Endings.{HasEndingCause, HasNoTape, IsEarly};
+ghost use Rattle.host_model.specs.Leaves.{LeavesBy};
+ghost use Rattle.il_host.specs.Shorts.{IsShort};
+ghost use Rattle.il_host.specs.Run.{end_of};
+ghost use Rattle.il_host.specs.Whole.{AnswersOver, MayHaveLeft, RunLeaves, outside};
+ghost use Rattle.il_host.specs.Words.{order_in};
 ghost use Rattle.il_host.specs.declared.ending.Ending.{Ending};
 
 use crate::ending::Ending;
-use crate::host::{Host, Rig};
+use crate::host::Host;
 use crate::running::answer_all;
 use crate::words::read_words;
+use il_device::Device;
 use il_ports::{Inserted, Medium, New, Sink, Source};
-use il_script::Lines;
+use il_ring::Rig;
+use il_script::{Lines, Payload};
 use std::alloc::Global;
 
 /// How a run ended, and what it hands back.
 #[derive(Drop)]
-pub struct Ended<M> {
+pub struct Ended<M: Medium> {
     /// The exit status, 0 to 9: the number of an [`Ending`].
     pub status: u8,
-    /// The rig, with the tape as it reads.
+    /// The rig, with the tape and the devices as they are.
     pub rig: Rig<M>,
 }
 
 // Opens the host on the tape that is in the drive, and answers the script.
-fn run_script<S: Source, K: Sink, M: Medium>(
+fn run_script<S: Source, K: Sink, M: Medium + Drop>(
     alloc: Global,
+    quiet: bool,
     script: &mut S,
     out: &mut K,
     rig: Rig<M>,
 ) -> (Ending, Rig<M>)
-    requires { 1 ≤ (M.view rig.medium).record_count }
-    ensures runs { (bytes : List ℕ) (t : Tape) → S.left script.old ≡ Some bytes → (M.view rig.medium).tape ≡ Some t
-        → RunsOver result.0 bytes t (M.view rig.medium).faults (M.view result.1.medium).tape (M.view result.1.medium).faults
-        (S.left script.new) (K.written out.old) (K.written out.new) }
-    ensures cause { HasEndingCause result.0 (S.faults script.old) (S.faults script.new)
+    requires few { length rig.before.items + length rig.after.items ≤ 29 }
+    requires before { All (λ b. MayStand (⟦<Box<dyn Device> as Device>⟧.state b)) rig.before.items }
+    requires after { All (λ b. MayStand (⟦<Box<dyn Device> as Device>⟧.state b)) rig.after.items }
+    requires short_before { All (λ b. IsShort (⟦<Box<dyn Device> as Device>⟧.state b)) rig.before.items }
+    requires short_after { All (λ b. IsShort (⟦<Box<dyn Device> as Device>⟧.state b)) rig.after.items }
+    requires size { IsSize (M.view rig.medium).record_count }
+    ensures over { result.0 ≢ Ending.OutOfMemory → AnswersOver (end_of result.0) quiet (M.view rig.medium) (M.view result.1.medium)
+        (outside (M.view rig.medium) (S.left script.old) (K.written out.old) (map ⟦<Box<dyn Device> as Device>⟧.state rig.before.items) (map ⟦<Box<dyn Device> as Device>⟧.state rig.after.items))
+        (outside (M.view result.1.medium) (S.left script.new) (K.written out.new) (map ⟦<Box<dyn Device> as Device>⟧.state result.1.before.items) (map ⟦<Box<dyn Device> as Device>⟧.state result.1.after.items)) }
+    ensures kept { result.0 ≡ Ending.OutOfMemory → (result.1.medium ≡ rig.medium)
+        × (map ⟦<Box<dyn Device> as Device>⟧.state result.1.before.items ≡ map ⟦<Box<dyn Device> as Device>⟧.state rig.before.items)
+        × (map ⟦<Box<dyn Device> as Device>⟧.state result.1.after.items ≡ map ⟦<Box<dyn Device> as Device>⟧.state rig.after.items) }
+    ensures untouched { IsEarly (end_of result.0) → (script.new ≡ script.old) × (out.new ≡ out.old) }
+    ensures cause { HasEndingCause (end_of result.0) (S.faults script.old) (S.faults script.new)
         (K.faults out.old) (K.faults out.new) (M.view rig.medium).faults (M.view result.1.medium).faults }
-    ensures untouched { IsEarly result.0 → (script.new ≡ script.old) × (out.new ≡ out.old) }
-    ensures inserted { HasNoTape result.0 → ⊥ }
-    ensures named { result.0 ≢ Ending.BadWords }
+    ensures inside { HasNoTape (end_of result.0) → ⊥ }
 {
-    let Ok(lines) = Lines::new(alloc) else {
+    let (Ok(lines), Ok(payload)) = (Lines::new(alloc), Payload::new(alloc)) else {
         return (Ending::OutOfMemory, rig);
     };
-    match Host::open(alloc, rig) {
+    match Host::open(alloc, rig, &[]) {
         Ok(mut host) => {
-            let ending = answer_all(lines, script, &mut host, out);
+            let ending = answer_all(lines, payload, script, &mut host, out, quiet);
             (ending, host.close())
         }
         Err(refused) => (Ending::OutOfMemory, refused.rig),
@@ -53,57 +67,59 @@ fn run_script<S: Source, K: Sink, M: Medium>(
 }
 
 // Reads the words, inserts the image and answers the script.
-fn run<S: Source, K: Sink, M: Medium>(
+fn run<S: Source, K: Sink, M: Medium + Drop>(
     alloc: Global,
     words: &[String],
     script: &mut S,
     out: &mut K,
     mut rig: Rig<M>,
 ) -> (Ending, Rig<M>)
-    requires { (M.view rig.medium).record_count ≡ 0 }
-    ensures leaves { (bytes : List ℕ) (shelf : Shelf) → S.left script.old ≡ Some bytes → (M.view rig.medium).shelf ≡ Some shelf
-        → Leaves result.0 (map string_bytes words.now) shelf bytes (M.view rig.medium).faults
-        (M.view result.1.medium).tape (M.view result.1.medium).faults (S.left script.new) (K.written out.old) (K.written out.new) }
-    ensures words { (result.0 ≡ Ending.BadWords) ↔ (image_in (map string_bytes words.now) ≡ None) }
-    ensures cause { HasEndingCause result.0 (S.faults script.old) (S.faults script.new)
+    requires empty { (M.view rig.medium).record_count ≡ 0 }
+    requires few { length rig.before.items + length rig.after.items ≤ 29 }
+    requires before { All (λ b. MayStand (⟦<Box<dyn Device> as Device>⟧.state b)) rig.before.items }
+    requires after { All (λ b. MayStand (⟦<Box<dyn Device> as Device>⟧.state b)) rig.after.items }
+    requires short_before { All (λ b. IsShort (⟦<Box<dyn Device> as Device>⟧.state b)) rig.before.items }
+    requires short_after { All (λ b. IsShort (⟦<Box<dyn Device> as Device>⟧.state b)) rig.after.items }
+    ensures leaves { LeavesBy (end_of result.0) (order_in (map string_bytes words.now))
+        (outside (M.view rig.medium) (S.left script.old) (K.written out.old) (map ⟦<Box<dyn Device> as Device>⟧.state rig.before.items) (map ⟦<Box<dyn Device> as Device>⟧.state rig.after.items))
+        (outside (M.view result.1.medium) (S.left script.new) (K.written out.new) (map ⟦<Box<dyn Device> as Device>⟧.state result.1.before.items) (map ⟦<Box<dyn Device> as Device>⟧.state result.1.after.items))
+        (MayHaveLeft (M.view rig.medium) (M.view result.1.medium)) }
+    ensures cause { HasEndingCause (end_of result.0) (S.faults script.old) (S.faults script.new)
         (K.faults out.old) (K.faults out.new) (M.view rig.medium).faults (M.view result.1.medium).faults }
-    ensures untouched { IsEarly result.0 → (script.new ≡ script.old) × (out.new ≡ out.old) }
-    ensures empty { HasNoTape result.0 → ((M.view result.1.medium).record_count ≡ 0) × ((M.view result.1.medium).shelf ≡ (M.view rig.medium).shelf) }
+    ensures empty { HasNoTape (end_of result.0) → (M.view result.1.medium).record_count ≡ 0 }
+    ensures untouched { IsEarly (end_of result.0) → (script.new ≡ script.old) × (out.new ≡ out.old) }
 {
-    let Some(name) = read_words(words) else {
+    let Some((name, quiet)) = read_words(words) else {
         return (Ending::BadWords, rig);
     };
     match rig.medium.insert(name, New::No) {
-        Ok(Inserted::Tape) => run_script(alloc, script, out, rig),
+        Ok(Inserted::Tape) => run_script(alloc, quiet, script, out, rig),
         Ok(Inserted::NoSuch) => (Ending::NoImage, rig),
         Ok(Inserted::BadSize(_)) => (Ending::ImageTooLarge, rig),
         Err(_) => (Ending::InsertFailed, rig),
     }
 }
 
-/// AnswersScript the script of a run: reads the words, inserts the image that they name, opens a host on it, and answers
-/// line after line.
-pub fn run_il<S: Source, K: Sink, M: Medium>(
+/// A run: reads the words, inserts the image that they name, opens a host on it, and answers the script line after line. No tape
+/// is in the drive yet, and the devices make a new ring, as `Rig::fits` says.
+pub fn run_il<S: Source, K: Sink, M: Medium + Drop>(
     alloc: Global,
     words: &[String],
     script: &mut S,
     out: &mut K,
     rig: Rig<M>,
 ) -> Ended<M>
-    requires { (M.view rig.medium).record_count ≡ 0 }
-    ensures leaves { (bytes : List ℕ) (shelf : Shelf) (ending : Ending) → S.left script.old ≡ Some bytes → (M.view rig.medium).shelf ≡ Some shelf
-        → result.status ≡ exit_status ending
-        → Leaves ending (map string_bytes words.now) shelf bytes (M.view rig.medium).faults
-        (M.view result.rig.medium).tape (M.view result.rig.medium).faults (S.left script.new) (K.written out.old) (K.written out.new) }
-    ensures words { (result.status ≡ 2) ↔ (image_in (map string_bytes words.now) ≡ None) }
-    ensures cause { (ending : Ending) → result.status ≡ exit_status ending
-        → HasEndingCause ending (S.faults script.old) (S.faults script.new)
-        (K.faults out.old) (K.faults out.new) (M.view rig.medium).faults (M.view result.rig.medium).faults }
-    ensures untouched { (ending : Ending) → result.status ≡ exit_status ending → IsEarly ending
-        → (script.new ≡ script.old) × (out.new ≡ out.old) }
-    ensures empty { (ending : Ending) → result.status ≡ exit_status ending → HasNoTape ending
-        → ((M.view result.rig.medium).record_count ≡ 0) × ((M.view result.rig.medium).shelf ≡ (M.view rig.medium).shelf) }
-    ensures status { result.status ≤ 9 }
+    requires empty { (M.view rig.medium).record_count ≡ 0 }
+    requires few { length rig.before.items + length rig.after.items ≤ 29 }
+    requires before { All (λ b. MayStand (⟦<Box<dyn Device> as Device>⟧.state b)) rig.before.items }
+    requires after { All (λ b. MayStand (⟦<Box<dyn Device> as Device>⟧.state b)) rig.after.items }
+    requires short_before { All (λ b. IsShort (⟦<Box<dyn Device> as Device>⟧.state b)) rig.before.items }
+    requires short_after { All (λ b. IsShort (⟦<Box<dyn Device> as Device>⟧.state b)) rig.after.items }
+    ensures { RunLeaves result.status (map string_bytes words.now) (M.view rig.medium) (M.view result.rig.medium)
+        (outside (M.view rig.medium) (S.left script.old) (K.written out.old) (map ⟦<Box<dyn Device> as Device>⟧.state rig.before.items) (map ⟦<Box<dyn Device> as Device>⟧.state rig.after.items))
+        (outside (M.view result.rig.medium) (S.left script.new) (K.written out.new) (map ⟦<Box<dyn Device> as Device>⟧.state result.rig.before.items) (map ⟦<Box<dyn Device> as Device>⟧.state result.rig.after.items))
+        (S.faults script.old) (S.faults script.new) (K.faults out.old) (K.faults out.new)
+        ((script.new ≡ script.old) × (out.new ≡ out.old)) }
 {
     let (ending, rig) = run(alloc, words, script, out, rig);
     Ended {

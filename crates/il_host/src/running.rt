@@ -1,74 +1,91 @@
-ghost use Rattle.std.specs.Prelude.{◌≡◌, ◌≤◌, [], ℕ, List, Some, false};
-ghost use Rattle.lif_model.specs.Tape.{Tape};
+ghost use Rattle.std.specs.Prelude.{◌≡◌, ◌≤◌, [], false, length, option_map, IfSome};
 ghost use Rattle.lif_model.specs.Causes.{HasCause};
-ghost use Rattle.il_host.specs.Events.{State, Step, HasReplyCause, item_text};
-ghost use Rattle.il_host.specs.Items.{item_of};
-ghost use Rattle.il_script.specs.Progress.{line_given};
-ghost use Rattle.il_host.specs.Run.{AnswersScript, HasEndingCause};
-ghost use Rattle.il_host.specs.Whole.{IsEarly};
-ghost use Rattle.il_host.specs.Writing.{WritesAll};
+ghost use Rattle.il_script.specs.declared.limits.TheConstants.{LONGEST_PAYLOAD};
+ghost use Rattle.il_script.specs.Progress.{Stands, line_given};
+ghost use Rattle.host_model.specs.Endings.{IsEarly, HasEndingCause};
+ghost use Rattle.host_model.specs.Requests.{item_of};
+ghost use Rattle.il_host.specs.PlainCommands.{IsPlainAsked};
+ghost use Rattle.il_host.specs.Run.{Answers, AnswersScript, end_of, item_asked};
 
 use crate::ending::Ending;
-use crate::item::{Item, read_line};
 use crate::performer::Performer;
-use crate::write::write_all;
+use crate::write::{write_all, write_told};
 use il_ports::{Failed, Sink, Source};
-use il_script::{Code, Line, Lines, Reply};
+use il_script::{Code, Command, Line, Lines, Payload, Reply, read_line};
 
-// What the line that was given last asks for. A line that is too long is no command.
-fn item(lines: &Lines, line: Line) -> Option<Item>
-    ensures { result ≡ item_of (line_given lines.now line) }
+// What a line asks for, where it is not skipped.
+#[derive(Clone, Copy, Debug, PartialEq, Eq)]
+enum Asked {
+    // A command, with the bytes of the payload.
+    Command(Command),
+    // Nothing that is understood. The line is answered by this code.
+    NoCommand(Code),
+}
+
+// What the line that was given last asks for.
+fn read_asked(lines: &Lines, line: Line, payload: &mut Payload) -> Option<Asked>
+    requires { Stands lines.now line }
+    ensures item { option_map (λ asked. item_asked asked payload.new) result ≡ item_of (line_given lines.now line) }
+    ensures plain { IfSome result IsPlainAsked }
 {
     match line {
-        Line::Text => read_line(lines.text()),
-        _ => Some(Item::Fault(Code::BadLine)),
+        Line::Text => match read_line(lines.text(), payload) {
+            Ok(None) => None,
+            Ok(Some(command)) => Some(Asked::Command(command)),
+            Err(fault) => Some(Asked::NoCommand(Code::from(fault))),
+        },
+        _ => Some(Asked::NoCommand(Code::LineTooLong)),
     }
 }
 
-// AnswersScript an item, and writes the text of the reply.
+// Answers what a line asks for, and writes what is told of it.
 fn answer<P: Performer, K: Sink>(
     host: &mut P,
-    item: Item,
+    asked: Asked,
+    bytes: &[u8],
     out: &mut K,
+    quiet: bool,
 ) -> (Reply, Result<(), Failed>)
-    requires { P.valid host.old }
-    ensures valid { P.valid host.new }
-    ensures step { (t : Tape) → P.tape host.old ≡ Some t → (u : Tape) × (P.tape host.new ≡ Some u)
-        × Step (record { tape = t; faults = P.faults host.old }) item result.0 (record { tape = u; faults = P.faults host.new }) }
-    ensures bytes { (t : Tape) → P.tape host.old ≡ Some t
-        → WritesAll (K.written out.old) (K.written out.new) (item_text t item result.0) result.1 }
-    ensures medium { HasReplyCause (P.faults host.old) (P.faults host.new) result.0 }
+    requires valid { (P.view host.old).valid }
+    requires plain { IsPlainAsked asked }
+    requires few { length bytes.now ≤ LONGEST_PAYLOAD }
+    ensures answers { Answers (item_asked asked bytes.now) result.0 quiet (P.view host.old) (P.view host.new)
+        (K.written out.old) (K.written out.new) result.1 }
     ensures sink { HasCause (K.faults out.old) (K.faults out.new) result.1 }
 {
-    match item {
-        Item::Command(command) => {
-            let reply = host.perform_next(command);
-            (reply, write_all(out, host.last_text()))
+    match asked {
+        Asked::Command(command) => {
+            let reply = host.perform_next(&command, bytes);
+            (
+                reply,
+                write_told(out, host.last_log(), host.last_text(), quiet),
+            )
         }
-        Item::Fault(code) => {
+        Asked::NoCommand(code) => {
             let reply = Reply::No(code);
             (reply, write_all(out, reply.last_line()))
         }
     }
 }
 
-// AnswersScript the lines of a script, one by one.
+// Answers the lines of a script, one by one, up to its end or to the first fault of the source or the sink.
 pub fn answer_all<S: Source, P: Performer, K: Sink>(
     mut lines: Lines,
+    mut payload: Payload,
     script: &mut S,
     host: &mut P,
     out: &mut K,
+    quiet: bool,
 ) -> Ending
     requires fresh { lines ≡ record { text = []; begun = []; held = []; taken = 0; ended = false } }
-    requires valid { P.valid host.old }
-    ensures valid { P.valid host.new }
-    ensures answers { (bytes : List ℕ) (t : Tape) → S.left script.old ≡ Some bytes → P.tape host.old ≡ Some t
-        → (u : Tape) × (P.tape host.new ≡ Some u)
-        × AnswersScript result bytes (record { tape = t; faults = P.faults host.old }) (record { tape = u; faults = P.faults host.new })
-        (S.left script.new) (K.written out.old) (K.written out.new) }
-    ensures cause { HasEndingCause result (S.faults script.old) (S.faults script.new)
-        (K.faults out.old) (K.faults out.new) (P.faults host.old) (P.faults host.new) }
-    ensures late { IsEarly result → ⊥ }
+    requires valid { (P.view host.old).valid }
+    ensures valid { (P.view host.new).valid }
+    ensures hops { (P.view host.new).hops ≡ (P.view host.old).hops }
+    ensures answers { AnswersScript result quiet (P.view host.old) (P.view host.new)
+        (S.left script.old) (S.left script.new) (K.written out.old) (K.written out.new) }
+    ensures cause { HasEndingCause (end_of result) (S.faults script.old) (S.faults script.new)
+        (K.faults out.old) (K.faults out.new) (P.view host.old).state.faults (P.view host.new).state.faults }
+    ensures late { IsEarly (end_of result) → ⊥ }
 {
     let mut all_ok = true;
     'turns: loop {
@@ -82,10 +99,10 @@ pub fn answer_all<S: Source, P: Performer, K: Sink>(
             Line::Fault => return Ending::SourceFailed,
             Line::Over => return Ending::ScriptTooLong,
             line => {
-                let Some(item) = item(&lines, line) else {
+                let Some(asked) = read_asked(&lines, line, &mut payload) else {
                     continue;
                 };
-                let (reply, written) = answer(host, item, out);
+                let (reply, written) = answer(host, asked, payload.bytes(), out, quiet);
                 match written {
                     Ok(()) => {}
                     Err(_) => return Ending::SinkFailed,

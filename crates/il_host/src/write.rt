@@ -1,6 +1,11 @@
 ghost use Rattle.lif_model.specs.Causes.{HasCause};
-ghost use Rattle.il_host.specs.Writing.{WritesAll};
+ghost use Rattle.host_model.specs.Replies.{trace_text};
+ghost use Rattle.il_host.specs.Writing.{WritesAll, told_text};
+ghost use Rattle.il_script.specs.Replies.{text_line};
+ghost use Rattle.il_frames.specs.Entries.{entry_text};
 
+use arrayvec::ArrayVec;
+use il_frames::Entry;
 use il_ports::{Failed, Sink};
 
 // Writes all of the bytes, in as many pieces as the sink takes. After a fault a front of them was written.
@@ -14,4 +19,56 @@ pub fn write_all<K: Sink>(out: &mut K, bytes: &[u8]) -> Result<(), Failed>
         from += count;
     }
     Ok(())
+}
+
+// Writes a line.
+fn write_line<K: Sink>(out: &mut K, text: &[u8]) -> Result<(), Failed>
+    ensures bytes { WritesAll (K.written out.old) (K.written out.new) (text_line text.now) result }
+    ensures cause { HasCause (K.faults out.old) (K.faults out.new) result }
+{
+    write_all(out, text)?;
+    write_all(out, b"\n")
+}
+
+// Writes the line of an entry.
+fn write_entry<K: Sink>(out: &mut K, entry: &Entry) -> Result<(), Failed>
+    ensures bytes { WritesAll (K.written out.old) (K.written out.new) (text_line (entry_text entry.now)) result }
+    ensures cause { HasCause (K.faults out.old) (K.faults out.new) result }
+{
+    let mut line = ArrayVec::new();
+    entry.text(&mut line);
+    write_line(out, line.as_slice())
+}
+
+// Writes a log, a line for each entry.
+fn write_trace<K: Sink>(out: &mut K, log: &[Entry]) -> Result<(), Failed>
+    ensures bytes { WritesAll (K.written out.old) (K.written out.new) (trace_text log.now) result }
+    ensures cause { HasCause (K.faults out.old) (K.faults out.new) result }
+{
+    'entries: for entry in log {
+        match write_entry(out, entry) {
+            Ok(()) => {}
+            Err(failed) => return Err(failed),
+        }
+    }
+    Ok(())
+}
+
+// Writes what is told of a command: its log, unless the run is quiet, and the text of its reply.
+pub fn write_told<K: Sink>(
+    out: &mut K,
+    log: &[Entry],
+    text: &[u8],
+    quiet: bool,
+) -> Result<(), Failed>
+    ensures bytes { WritesAll (K.written out.old) (K.written out.new) (told_text quiet log.now text.now) result }
+    ensures cause { HasCause (K.faults out.old) (K.faults out.new) result }
+{
+    if quiet {
+        return write_all(out, text);
+    }
+    match write_trace(out, log) {
+        Ok(()) => write_all(out, text),
+        Err(failed) => Err(failed),
+    }
 }

@@ -26,7 +26,7 @@ fn dir_lists_the_volume(rt: HostRuntime) -> Result<(), Fail> {
             &tape,
             b"list\n dir\n",
             1,
-            b"error 1 BadLine\nerror 1 BadLine\n",
+            b"error 1 BadLine\nvolume HPTAPE 2 2 1 16\nfile REDOFILE E0D0 508 4 00000000\nok\n",
         ),
         (
             &foreign,
@@ -35,7 +35,7 @@ fn dir_lists_the_volume(rt: HostRuntime) -> Result<(), Fail> {
             b"volume %20 2 2 1 16\nfile PROG1 E080 4 2 00000180\nok\n",
         ),
         (&zeros, b"dir\n", 1, b"error 3 NotLif\n"),
-        (&open, b"dir\n", 1, b"error 8 NoRedo\n"),
+        (&open, b"dir\n", 0, FORMATTED),
         (&ended, b"dir\n", 0, none),
         (&[], b"dir\n", 1, b"error 3 NotLif\n"),
     ];
@@ -82,15 +82,14 @@ fn names_are_spelt_out_and_purged_slots_count(rt: HostRuntime) -> Result<(), Fai
     let alloc = rt.alloc();
     let purged =
         b"GONE      \0\0\xFF\xFF\xFF\xFF\xFF\xFF\xFF\xFF\0\0\0\0\0\0\x80\x01\xFF\xFF\xFF\xFF";
-    let odd =
-        b" A%\x01\xFF~z   \xAB\xCD\xFF\xFF\xFF\xFF\0\0\0\x09\0\0\0\0\0\0\x80\x01\xDE\xAD\xBE\xEF";
+    let odd = b" A%\x01\xFF~z   \xAB\xCD\0\0\0\x0A\0\0\0\x01\0\0\0\0\0\0\x80\x01\xDE\xAD\xBE\xEF";
     let spaces = b"          \0\x01\0\0\0\x04\0\0\0\0\0\0\0\0\0\0\x80\x01\0\0\0\0";
     let image = with_entries(alloc, &[purged, odd, spaces, END_ENTRY])?;
     let left = run(alloc, &Given::script(&image, b"dir\n"))?;
     assert_eq!(rt; left.status, 0);
     assert_eq!(rt;
         left.output.as_slice(),
-        b"volume HPTAPE 2 2 3 16\nfile %20A%25%01%FF~z ABCD 4294967295 9 DEADBEEF\nfile %20 0001 4 0 00000000\nok\n".as_slice()
+        b"volume HPTAPE 2 2 3 16\nfile %20A%25%01%FF~z ABCD 10 1 DEADBEEF\nfile %20 0001 4 0 00000000\nok\n".as_slice()
     );
     Ok(())
 }

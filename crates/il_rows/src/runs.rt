@@ -30,10 +30,10 @@ pub struct Left {
 }
 
 impl<'a> Given<'a> {
-    /// A script over an image, without a fault.
+    /// A quiet run of a script over an image, without a fault.
     pub(crate) fn script(image: &'a [u8], script: &'a [u8]) -> Given<'a> {
         Given {
-            words: &["TAPE"],
+            words: &["--quiet", "TAPE"],
             image: Some(image),
             script,
             failing_inserts: &[],
@@ -90,7 +90,11 @@ pub(crate) fn run(alloc: Global, given: &Given) -> Result<Left, AllocError> {
         words.as_slice(),
         &mut script,
         &mut out,
-        Rig { medium },
+        Rig {
+            medium,
+            before: Vec::new(alloc),
+            after: Vec::new(alloc),
+        },
     );
     let image = match ended.rig.medium.image("TAPE") {
         Some(bytes) => Some(Vec::from_slice(alloc, bytes)?),

@@ -1,12 +1,25 @@
-use Rattle.std.proofs.Common.{sym}
-use Rattle.lif_model.specs.Shelf.{tape_of}
-use Rattle.il_host.proofs.Wholes.{taken, inserts, leaves-run, over-from}
+use Rattle.std.proofs.Common.{ap, subst, sym}
+use Rattle.std.specs.Prelude.{Ok}
+use Rattle.il_ports.specs.Media.{DidInsert}
+use Rattle.il_ports.specs.declared.medium.New.TheVariants.{No}
+use Rattle.host_model.specs.Endings.{IsEarly}
+use Rattle.il_host.specs.Run.{end_of}
+use Rattle.il_host.proofs.Wholes.{leaves_image, leaves_inserted, runs_over}
 use Rattle.il_host.proofs.run.run.Goals as goal
 
 pub returns-in-Ok-Tape-clause-leaves : goal.returns-in-Ok-Tape-clause-leaves
-returns-in-Ok-Tape-clause-leaves g c = λ bytes shelf k told.
-    let h = taken c.in-Some.name.now _ _ c.in-Ok-Tape.field-0 shelf c.in-Ok-Tape.field-0-is c.in-Ok-Tape.ensures told in
-    let i = inserts _ c.in-Some.name.now shelf _ _ _ (sym c.in-Some.ensures) h in
-    let r = c.run_script.ensures.runs bytes (tape_of i.0) k i.2 in
-    leaves-run c.run_script.result.0 _ shelf i.0 bytes _ _ _ _ _ _ i.1
-    (over-from c.run_script.result.0 bytes (tape_of i.0) _ _ _ _ _ _ _ c.in-Ok-Tape.ensures.goes_on.cause r)
+returns-in-Ok-Tape-clause-leaves g c =
+    let name = c.in-Some.name.now in
+    let quiet = c.in-Some.quiet in
+    let v = g.M.Medium.view c.args.rig.medium in
+    let m = g.M.Medium.view c.insert.new.self in
+    let law = g.met.M.Medium.is_medium c.args.rig.medium in
+    let law_now = g.met.M.Medium.is_medium c.insert.new.self in
+    let did = subst (λ a. DidInsert name No v m (Ok a)) c.in-Ok-Tape.field-0-is c.in-Ok-Tape.ensures in
+    let ran = c.run_script.ensures in
+    leaves_inserted name quiet v m c.requires.empty law law_now did _ c.in-Some.ensures c.run_script.result.0 _ _ _ ran.inside
+    (λ is.
+    let same = ran.kept is in
+    let still = ran.untouched (subst (λ e. IsEarly (end_of e)) (sym is) tt) in
+    leaves_image name quiet v m c.requires.empty law law_now did _ (ap g.M.Medium.view same.0) _ _ _ _ _ _ _ _ (ap g.S.Source.left still.0) (ap g.K.Sink.written still.1) same.1 same.2)
+    (λ late. runs_over name quiet v m c.requires.empty law law_now did _ _ _ _ _ _ _ _ _ _ (ran.over late))

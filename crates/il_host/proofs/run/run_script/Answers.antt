@@ -1,10 +1,8 @@
-use Rattle.std.proofs.Common.{◌∙◌, ap}
-use Rattle.il_host.proofs.Wholes.{runs-over-from}
+use Rattle.il_host.specs.IsHosts.{is_host_at}
+use Rattle.il_host.proofs.Wholes.{answers_over}
 use Rattle.il_host.proofs.run.run_script.Goals as goal
 
-pub returns-in-Ok-open-clause-runs : goal.returns-in-Ok-open-clause-runs
-returns-in-Ok-open-clause-runs g c = λ bytes t k told.
-    let medium = c.in-Ok-open.ensures.medium in
-    let a = c.answer_all-ending.ensures.answers bytes t k (ap (λ m. (g.M.Medium.view m).tape) medium ∙ told) in
-    runs-over-from c.answer_all-ending.result bytes t a.0 _ _ _ _ _ _ _ _
-    (ap (λ m. (g.M.Medium.view m).tape) c.close.ensures ∙ a.1) (ap (λ m. (g.M.Medium.view m).faults) medium) (ap (λ m. (g.M.Medium.view m).faults) c.close.ensures) a.2
+pub returns-in-Ok-clause-over : goal.returns-in-Ok-clause-over
+returns-in-Ok-clause-over g c = λ late.
+    answers_over g.M.Medium.view _ _ _ _ _ _ _ _ _ _ _ _ _ _ c.in-Ok.ensures.opened (is_host_at g.M.Medium.view _ c.in-Ok.host.volume _ _ _ g.met.M.Medium.is_medium c.in-Ok.ensures.opened.valid)
+    c.requires.size c.answer_all-ending.ensures.answers c.close.ensures.closed c.close.ensures.size

@@ -1,0 +1,88 @@
+-- What a line asks for, and how that is answered.
+use Rattle.std.proofs.Common.{◌≡◌, ◌∙◌, ◌++◌, ℕ, Bool, true, false, List, [], Option, Some, None, refl, sym, ap, subst}
+use Rattle.std.specs.Prelude.{Result, Ok, Err, option_map}
+use Rattle.il_script.specs.Commands.{Asked, command_read, bytes_read}
+use Rattle.il_script.specs.Replies.{fault_code, reply_line}
+use Rattle.il_script.specs.declared.command.Command.{Command}
+use Rattle.il_script.specs.declared.command.LineFault.{LineFault}
+use Rattle.il_script.specs.declared.reply.Code.{Code}
+use Rattle.il_script.specs.declared.reply.Reply.{Reply}
+use Rattle.il_script.specs.declared.reply.Reply.TheVariants as reply
+use Rattle.host_model.specs.Requests.{Item, Asks, NoCommand, request_of, item_of_reading}
+use Rattle.host_model.specs.HostStates.{HostState}
+use Rattle.host_model.specs.Replies.{trace_text}
+use Rattle.host_model.specs.Steps.{Event}
+use Rattle.host_model.specs.Runs.{event_text, reply_text_of}
+use Rattle.host_model.specs.Orders.{quiet_mode}
+use Rattle.host_model.proofs.NoCommands.{refusal, no_command, no_command_stops}
+use Rattle.il_host.specs.HostView.{HostView, IsHost, Performed}
+use Rattle.il_host.specs.Run.{Answers, event_of, item_asked}
+use Rattle.il_host.specs.declared.running.Asked.{Asked as Wanted}
+use Rattle.il_host.specs.Writing.{WritesAll, told_text}
+
+-- ---- readings
+
+pub skipped : (r : Result (Option Asked) LineFault) → command_read r ≡ Ok None → item_of_reading r ≡ None
+skipped (Ok None) h = refl
+skipped (Ok (Some asked)) h = cc
+skipped (Err fault) h = cc
+
+pub understood : (r : Result (Option Asked) LineFault) (command : Command) (bytes : List ℕ) → command_read r ≡ Ok (Some command) → bytes ≡ bytes_read r
+    → item_of_reading r ≡ Some (Asks (request_of command bytes))
+understood (Ok None) command bytes h b = cc
+understood (Ok (Some asked)) command bytes h b =
+    let same : asked.command ≡ command = cc in
+    ap (λ (c : Command). Some (Asks (request_of c asked.bytes))) same ∙ ap (λ l. Some (Asks (request_of command l))) (sym b)
+understood (Err fault) command bytes h b = cc
+
+pub refused : (r : Result (Option Asked) LineFault) (fault : LineFault) → command_read r ≡ Err fault → item_of_reading r ≡ Some (NoCommand (fault_code fault))
+refused (Ok None) fault h = cc
+refused (Ok (Some asked)) fault h = cc
+refused (Err fault') fault h =
+    let same : fault' ≡ fault = cc in
+    ap (λ (f : LineFault). Some (NoCommand (fault_code f))) same
+
+-- what was read asks for no item, or for this one
+pub asks_nothing : (read : Option Wanted) (payload : List ℕ) (o : Option Item) → option_map (λ (w : Wanted). item_asked w payload) read ≡ o → read ≡ None → o ≡ None
+asks_nothing read payload o h is = sym h ∙ ap (option_map (λ (w : Wanted). item_asked w payload)) is
+
+pub asks_this : (read : Option Wanted) (wanted : Wanted) (payload bytes : List ℕ) (o : Option Item) → option_map (λ (w : Wanted). item_asked w payload) read ≡ o
+    → read ≡ Some wanted → bytes ≡ payload → o ≡ Some (item_asked wanted bytes)
+asks_this read wanted payload bytes o h is same =
+    sym h ∙ ap (option_map (λ (w : Wanted). item_asked w payload)) is ∙ ap (λ l. Some (item_asked wanted l)) (sym same)
+
+-- ---- texts
+
+told_event : (quiet : Bool) (e : Event) (text : List ℕ) → text ≡ reply_text_of e → told_text quiet e.log text ≡ event_text (quiet_mode quiet) e
+told_event true e text h = h
+told_event false e text h = ap (λ l. trace_text e.log ++ l) h
+
+told_refusal : (quiet : Bool) (code : Code) (s : HostState) → reply_line (reply.No code) ≡ event_text (quiet_mode quiet) (refusal code s)
+told_refusal true code s = refl
+told_refusal false code s = refl
+
+-- ---- answers
+
+-- to a command that was performed
+pub answers_command : {E : Type 0} (item : Item) (r : Reply) (quiet : Bool) (v w : HostView) (before now : Option (List ℕ)) (written : Result (Unit {0}) E)
+    → Performed item r v w → WritesAll before now (told_text quiet w.log w.text) written → Answers item r quiet v w before now written
+answers_command item r quiet v w before now written p h = record {
+  log = w.log;
+  valid = p.valid;
+  hops = p.hops;
+  step = p.step;
+  stops = p.stops;
+  bytes = λ tells. subst (λ text. WritesAll before now text written) (told_event quiet (event_of item r w.log v w) w.text (p.text tells)) h;
+}
+
+-- to a line that is no command
+pub answers_no_command : {E : Type 0} (code : Code) (quiet : Bool) (v : HostView) (before now : Option (List ℕ)) (written : Result (Unit {0}) E)
+    → v.valid → IsHost v → WritesAll before now (reply_line (reply.No code)) written → Answers (NoCommand code) (reply.No code) quiet v v before now written
+answers_no_command code quiet v before now written valid host h = record {
+  log = [];
+  valid = valid;
+  hops = refl;
+  step = no_command v.hops code v.state host.one;
+  stops = no_command_stops code v.state v.moment v.left_since host.leaves_only;
+  bytes = λ tells. subst (λ text. WritesAll before now text written) (told_refusal quiet code v.state) h;
+}

@@ -1,0 +1,308 @@
+-- A command of the volume, as a host performs it.
+use Rattle.std.proofs.Common.{◌≡◌, ◌∙◌, ◌≤◌, ◌+◌, ◌*◌, ◌++◌, ℕ, true, List, [], Option, None, Some, refl, sym, ap, subst, arith}
+use Rattle.std.specs.Prelude.{Result, Ok, Err, IfSome, is_some, map}
+use Rattle.lif_dir.specs.Entries.{slot_bytes}
+use Rattle.lif_model.proofs.Legal.{legal_tells}
+use Rattle.lif_model.proofs.Slots.{readable_tells}
+use Rattle.lif_model.specs.Header.{HeaderParts}
+use Rattle.lif_model.specs.Tape.{Tape}
+use Rattle.lif_model.specs.Volume.{volume_of, Volume as LifVolume}
+use Rattle.lif_plan.specs.Directories.{IsLegalDirectory}
+use Rattle.lif_model.specs.Apply.{VolumeCommand, Dir, Label, Fetch, Store, Rename, Purge, Adopt, Upgrade, Format}
+use Rattle.lif_model.specs.Shelf.{IsSize}
+use Rattle.lif_model.proofs.Sizes.{size_bounds}
+use Rattle.il_ports.specs.Media.{MediumView, IsMedium}
+use Rattle.il_ports.specs.Stores.{RecordsView, Begun, Continues, GoesOn, IsReady, IsStore}
+use Rattle.il_ports.specs.declared.records.Trouble.{Trouble}
+use Rattle.il_ports.specs.declared.records.Trouble.TheVariants as trouble
+use Rattle.lif_plan.specs.Refusals.{reason}
+use Rattle.lif_volume.specs.Views.{IsOpen, VolumeView}
+use Rattle.lif_volume.specs.Answers.{store_answer}
+use Rattle.lif_volume.specs.Commands.{AnswersTo, calls_needed, mounting}
+use Rattle.lif_volume.specs.Changing.{Alters, TurnsVolume, committing}
+use Rattle.lif_volume.specs.declared.fault.VolumeFault.{VolumeFault}
+use Rattle.lif_volume.specs.declared.fault.VolumeFault.TheVariants.{Refused, Trouble as Troubled}
+use Rattle.lif_volume.specs.declared.volume.Volume.{Volume}
+use Rattle.il_ring.specs.declared.ring.Ring.{Ring}
+use Rattle.il_ring.specs.Rings.{RingView}
+use Rattle.il_record.specs.declared.records.LoopRecords.{LoopRecords}
+use Rattle.il_record.specs.LoopStores.{AtIdle, AtLost, LoopView, Nowhere, Standing, StandsSo, calls_in, view_of, view_at}
+use Rattle.il_record.specs.declared.records.Since.{Since}
+use Rattle.il_record.specs.Controls.{ring_in}
+use Rattle.il_record.specs.IsStore.{is_store_at}
+use Rattle.il_record.proofs.StoreResumes.{agrees}
+use Rattle.il_script.specs.declared.reply.Reply.{Reply}
+use Rattle.il_script.specs.declared.reply.Reply.TheVariants as reply
+use Rattle.il_script.specs.Sheet.{Sheet}
+use Rattle.il_script.specs.Replies.{reply_line}
+use Rattle.host_model.specs.Requests.{Asks, Item, OfVolume}
+use Rattle.host_model.specs.HostStates.{HostState, log_room, text_room, volume_at}
+use Rattle.host_model.specs.Replies.{code_of, reply_text, told_of}
+use Rattle.host_model.specs.Steps.{TellsReply}
+use Rattle.il_host.specs.HostView.{HostView, Performed}
+use Rattle.il_host.specs.Hosts.{IsUsable, host_in, loop_in, store_in, volume_in}
+use Rattle.il_host.specs.Shorts.{AllShort}
+use Rattle.il_host.proofs.Shorts.{all_short}
+use Rattle.il_host.specs.Standings.{HasDriveStatus, HasLogRoom, MakesSound, fault_of, state_at, volume_reply}
+use Rattle.il_host.proofs.Texts.{ok_text}
+use Rattle.il_host.proofs.VolumeCarries.{CarriesAs, CarriesNone, carries_nothing, none_carried, not_carried}
+use Rattle.il_host.proofs.VolumeCommands.{KeepsRing}
+use Rattle.il_host.proofs.VolumePerforms.{Performs, volume_asked, volume_failed, volume_not_asked}
+use Rattle.il_host.proofs.VolumeStarts.{stands_at}
+use Rattle.il_host.proofs.VolumeAsked.{asked_seen, asked_transferred}
+use Rattle.il_host.proofs.VolumeReplied.{IsSeenAs, told_tape}
+
+-- ---- room
+
+-- how many calls the log of a host is enough for
+room_of : {M S : Type 0} (view : M → MediumView) (seen : S → RingView M) (p : Option S) (l : LoopView M) → StandsSo l.control l.sound l.since → HasLogRoom view l.control
+    → (view_of view seen p l).room ≡ calls_in (log_room (view_of view seen p l).record_count)
+room_of {M} view seen p l stands room = by l.control stands room
+  where
+    by : (c : Standing M) → StandsSo c l.sound l.since → HasLogRoom view c → (view_at view seen p l.sound l.since l.resumes c).room ≡ calls_in (log_room (view_at view seen p l.sound l.since l.resumes c).record_count)
+    by (AtIdle r) so room = ap calls_in room
+    by (AtLost r) so room = ap calls_in room
+    by Nowhere so room = absurd so
+
+pub enough_calls : (n : ℕ) → IsSize n → 3 * n + 42 ≤ calls_in (log_room n)
+enough_calls n size = let bounds = size_bounds n size in omega (arith, bounds.0, bounds.1)
+
+-- no command of a volume takes more on a tape of n records: to mount, to write a file that is no longer than the tape, and to commit
+abbrev pub most_calls : ℕ → ℕ
+most_calls n = 3 * n + 40
+
+-- to make a directory kept takes fewer
+pub mounts_few : {R S : Type 0} (view : R → RecordsView S) (old new : VolumeView R) → IsOpen view new → (view new.records).record_count ≡ (view old.records).record_count
+    → mounting (view old.records).record_count old.kept new.kept ≤ (view old.records).record_count + 66
+mounts_few view old new is same = subst (λ n. mounting n old.kept new.kept ≤ n + 66) same (by old.kept new.kept is.legal)
+  where
+    by : (was kept : Option HeaderParts) → IfSome kept (λ header. IsLegalDirectory (view new.records).record_count header (map slot_bytes new.slots)) → mounting (view new.records).record_count was kept ≤ (view new.records).record_count + 66
+    by (Some header) kept legal = omega arith
+    by None None legal = omega (arith, is.size)
+    by None (Some header) legal =
+        let n = (view new.records).record_count in
+        let readable = readable_tells n legal.bytes (legal_tells n legal.bytes (map slot_bytes new.slots) legal.legal).readable in
+        let long = ap (λ (h : HeaderParts). h.length) legal.told in
+        omega (arith, is.size, readable.0, readable.2, long)
+
+pub mounting_few : {R S : Type 0} (view : R → RecordsView S) (old new : VolumeView R) → IsOpen view new → (view new.records).record_count ≡ (view old.records).record_count
+    → mounting (view old.records).record_count old.kept new.kept ≤ most_calls (view old.records).record_count
+mounting_few view old new is same = omega (arith, mounts_few view old new is same, is.size, same)
+
+-- of a directory that need not be kept
+pub mounts_any : (n : ℕ) (was : Option HeaderParts) → mounting n was None ≤ n + 66
+mounts_any n None = omega arith
+mounts_any n (Some header) = omega arith
+
+-- so does a commit
+pub commits_few : {T : Type 0} (answer : Result T VolumeFault) → committing answer ≤ 12
+commits_few (Ok x) = omega arith
+commits_few (Err (Refused why)) = omega arith
+commits_few (Err (Troubled e)) = omega arith
+
+-- ---- the text of a reply other than ok
+
+pub fault_text : (item : Item) (s : HostState) (e : Trouble) → reply_text item s (fault_of e) ≡ reply_line (fault_of e)
+fault_text item s trouble.Frame = refl
+fault_text item s trouble.Medium = refl
+
+-- these commands tell nothing
+abbrev pub TellsNothing : VolumeCommand → Type 0
+TellsNothing Dir = ⊥
+TellsNothing Label = ⊥
+TellsNothing (Fetch name) = ⊥
+TellsNothing command = Unit {0}
+
+no_lines : (command : VolumeCommand) (volume : Option LifVolume) → TellsNothing command → told_of command volume ≡ []
+no_lines command None nothing = refl
+no_lines Dir (Some v) nothing = absurd nothing
+no_lines Label (Some v) nothing = absurd nothing
+no_lines (Fetch name) (Some v) nothing = absurd nothing
+no_lines (Store name kind implementation bytes) (Some v) nothing = refl
+no_lines (Rename old new) (Some v) nothing = refl
+no_lines (Purge name) (Some v) nothing = refl
+no_lines Adopt (Some v) nothing = refl
+no_lines Upgrade (Some v) nothing = refl
+no_lines (Format label slots) (Some v) nothing = refl
+
+nothing_told : (command : VolumeCommand) (volume : Option LifVolume) (s : HostState) (r : Reply) → volume_at s ≡ volume → TellsNothing command → reply_text (Asks (OfVolume command)) s r ≡ reply_line r
+nothing_told command volume s reply.Ok is nothing = ap (λ lines. lines ++ reply_line reply.Ok) (no_lines command (volume_at s) nothing)
+nothing_told command volume s (reply.No code) is nothing = refl
+nothing_told command volume s reply.FaultFrame is nothing = refl
+nothing_told command volume s reply.FaultMedium is nothing = refl
+
+-- ---- the page and the volume behind the last line
+
+pub blank_page : (p : Sheet) → p.text ≡ [] → p ≡ record p { text = [] }
+blank_page p is = ap (λ text. record p { text = text }) is
+
+-- lines were written on a blank page
+pub written_page : (p q r : Sheet) (lines : List ℕ) → p ≡ q → q.text ≡ [] → r ≡ record p { text = p.text ++ lines } → r ≡ record q { text = lines }
+written_page p q r lines same blank written = written ∙ ap (λ (p : Sheet). record p { text = p.text ++ lines }) same ∙ ap (λ text. record q { text = text ++ lines }) blank
+
+-- the last line ended the text
+pub finished : {M I : Type 0} {D : I → Type 0} (view : M → MediumView) (seen : Ring M I D → RingView M) (item : Item) (answered told : Reply) (v : HostView) (n m : Volume (LoopRecords M I D)) (first page last : Sheet) (lines : List ℕ) (file_space space : ℕ)
+    → told ≡ answered → m ≡ n → page ≡ record first { text = lines } → last ≡ record page { text = page.text ++ reply_line answered } → space ≡ file_space
+    → Performed item answered v (host_in view seen n (lines ++ reply_line answered) first.room file_space) → Performed item told v (host_in view seen m last.text last.room space)
+finished {M} {I} {D} view seen item answered told v n m first page last lines file_space space replied same begun ended kept did =
+    let end : last ≡ record first { text = lines ++ reply_line answered } = ended ∙ ap (λ (p : Sheet). record p { text = p.text ++ reply_line answered }) begun in
+    subst (λ told. Performed item told v (host_in view seen m last.text last.room space)) (sym replied)
+    (subst (λ (m : Volume (LoopRecords M I D)). Performed item answered v (host_in view seen m last.text last.room space)) (sym same)
+    (subst (λ (p : Sheet). Performed item answered v (host_in view seen n p.text p.room space)) (sym end)
+    (subst (λ (space : ℕ). Performed item answered v (host_in view seen n (lines ++ reply_line answered) first.room space)) (sym kept) did)))
+
+-- ---- a host over a volume that was o before, b behind the emptying of its log and n in the end
+
+module _ {M I : Type 0} {D : I → Type 0} (view : M → MediumView) (seen : Ring M I D → RingView M) (o b n : Volume (LoopRecords M I D)) (text_space file_space : ℕ)
+    (usable : IsUsable view (store_in view seen) (volume_in o) (loop_in seen o.records) text_space file_space) (began : Begun (store_in view seen o.records) (store_in view seen b.records)) where
+  abbrev count : ℕ
+  count = (store_in view seen o.records).record_count
+
+  -- the log has room for so many calls
+  pub begun_calls : calls_in (log_room count) ≤ (store_in view seen b.records).calls_left
+  begun_calls = let room = room_of view seen (ring_in o.records.control) (loop_in seen o.records) usable.stands usable.log in omega (arith, began.enough, room)
+
+  -- so for every command of the volume, and for one call more
+  pub begun_left : 3 * count + 42 ≤ (store_in view seen b.records).calls_left
+  begun_left =
+      let calls = begun_calls in
+      let enough = enough_calls count usable.size in
+      omega (arith, calls, enough)
+
+  -- it is ready for every command behind that call
+  pub ready_behind : {T : Type 0} (x : T) (m : Volume (LoopRecords M I D)) → Continues 1 (store_in view seen b.records) (store_in view seen m.records) (Ok x) → IsReady (calls_needed (store_in view seen m.records).record_count) (store_in view seen m.records)
+  ready_behind x m sounds =
+      let enough = begun_left in
+      let used = sounds.left in
+      let size = sounds.size ∙ began.size in
+      record { valid = sounds.valid; sound = sounds.sound; left = omega (arith, enough, used, size) }
+
+  pub begun_size : (store_in view seen b.records).record_count ≡ count
+  begun_size = began.size
+
+  module _ (opens : IsOpen (store_in view seen) (volume_in n)) where
+    -- it can be used again
+    usable_behind : (store_in view seen n.records).record_count ≡ count → KeepsRing view (loop_in seen o.records) (loop_in seen n.records) → AllShort (state_at view n.records.sound (loop_in seen n.records).control).loop → IsUsable view (store_in view seen) (volume_in n) (loop_in seen n.records) text_space file_space
+    usable_behind size keeps short = record {
+      volume_open = opens;
+      size = subst IsSize (sym size) usable.size;
+      stands = stands_at view seen (ring_in n.records.control) (loop_in seen n.records) opens.valid;
+      log = keeps.room;
+      short = short;
+      text = usable.text ∙ ap text_room (sym size);
+      file = usable.file ∙ ap (λ n. 256 * n) (sym size);
+    }
+
+    pub performed : (item : Item) (answered : Reply) (before after : List ℕ) → (store_in view seen n.records).record_count ≡ count
+        → Performs view seen (ring_in o.records.control) (ring_in n.records.control) item answered (loop_in seen o.records) (loop_in seen n.records)
+        → (TellsReply item (host_in view seen o before text_space file_space).state → after ≡ reply_text item (host_in view seen o before text_space file_space).state answered)
+        → Performed item answered (host_in view seen o before text_space file_space) (host_in view seen n after text_space file_space)
+    performed item answered before after size did text = record {
+      valid = usable_behind size did.keeps (all_short _ _ _ _ _ _ did.step.heard usable.short);
+      hops = did.keeps.hops;
+      step = did.step;
+      text = text;
+      stops = did.stops;
+    }
+
+  module _ (command : VolumeCommand) (opens : IsOpen (store_in view seen) (volume_in n)) (low : HasDriveStatus (loop_in seen n.records).control) where
+    -- the store could not be made sound
+    pub not_asked : (e : Trouble) (before : List ℕ) → ((m : M) → IsMedium (view m)) → MakesSound {T = Unit {0}} view (loop_in seen b.records) (loop_in seen n.records) (Err e) → Continues {T = Unit {0}} 1 (store_in view seen b.records) (store_in view seen n.records) (Err e)
+        → Performed (Asks (OfVolume command)) (fault_of e) (host_in view seen o before text_space file_space) (host_in view seen n (reply_line (fault_of e)) text_space file_space)
+    not_asked e before law makes goes =
+        let store = is_store_at view seen (ring_in o.records.control) o.records.sound o.records.since o.records.resumes (loop_in seen o.records).control law in
+        let left : 1 ≤ (store_in view seen n.records).calls_left = let enough = begun_left in let used = goes.left in omega (arith, enough, used) in
+        let did = volume_not_asked view seen (ring_in o.records.control) (ring_in b.records.control) (ring_in n.records.control) command (loop_in seen o.records) (loop_in seen b.records) (loop_in seen n.records)
+        usable.volume_open.valid (agrees seen o.records.control) (agrees seen b.records.control) began usable.log low left (Unit {0}) e store makes in
+        performed opens (Asks (OfVolume command)) (fault_of e) before (reply_line (fault_of e)) (goes.size ∙ began.size)
+        (subst (λ e. Performs view seen (ring_in o.records.control) (ring_in n.records.control) (Asks (OfVolume command)) (fault_of e) (loop_in seen o.records) (loop_in seen n.records)) (sym did.0) did.1)
+        (λ told. sym (fault_text (Asks (OfVolume command)) (host_in view seen o before text_space file_space).state e))
+
+    -- the store was made sound as m, and the volume was asked
+    module _ (m : Volume (LoopRecords M I D)) (u : Unit {0}) (makes : MakesSound view (loop_in seen b.records) (loop_in seen m.records) (Ok u)) (sounds : Continues {T = Unit {0}} 1 (store_in view seen b.records) (store_in view seen m.records) (Ok u)) where
+      -- where the volume is asked, its store has the tape of the host, and nothing was read or written yet
+      pub seen_asked : (before : List ℕ) → IsSeenAs (host_in view seen o before text_space file_space).state (store_in view seen m.records)
+      seen_asked before =
+          asked_seen view seen (ring_in o.records.control) (ring_in b.records.control) (ring_in m.records.control) (loop_in seen o.records) (loop_in seen b.records) (loop_in seen m.records)
+          usable.volume_open.valid (agrees seen o.records.control) (agrees seen b.records.control) began u makes
+
+      pub none_asked : (store_in view seen m.records).transferred []
+      none_asked =
+          asked_transferred view seen (ring_in o.records.control) (ring_in b.records.control) (ring_in m.records.control) (loop_in seen o.records) (loop_in seen b.records) (loop_in seen m.records)
+          usable.volume_open.valid (agrees seen o.records.control) (agrees seen b.records.control) began u makes
+
+      -- the tape that is told
+      pub told_asked : (before : List ℕ) → TellsReply (Asks (OfVolume command)) (host_in view seen o before text_space file_space).state
+          → (t : Tape) × ((host_in view seen o before text_space file_space).state.tape ≡ Some t) × ((store_in view seen m.records).tape ≡ Some t)
+      told_asked before told =
+          let t = told_tape (host_in view seen o before text_space file_space).state.tape (told refl) in
+          (t.0, t.1, sym (seen_asked before).tape ∙ t.1)
+
+      pub asked : {T : Type 0} (answer : Result T VolumeFault) (calls : ℕ) (before after : List ℕ) → calls ≤ most_calls (store_in view seen m.records).record_count
+          → GoesOn calls (store_in view seen m.records) (store_in view seen n.records) (store_answer answer)
+          → TurnsVolume command (store_in view seen) (volume_in m) (volume_in n) → AnswersTo command (store_in view seen) (volume_in m) (volume_in n) answer
+          → CarriesAs command (volume_reply answer) (host_in view seen o before text_space file_space).state.records (volume_at (host_in view seen o before text_space file_space).state) (store_in view seen n.records).transferred
+          → (TellsReply (Asks (OfVolume command)) (host_in view seen o before text_space file_space).state → after ≡ reply_text (Asks (OfVolume command)) (host_in view seen o before text_space file_space).state (volume_reply answer))
+          → Performed (Asks (OfVolume command)) (volume_reply answer) (host_in view seen o before text_space file_space) (host_in view seen n after text_space file_space)
+      asked {T} answer calls before after few goes turns answers carries text =
+          performed opens (Asks (OfVolume command)) (volume_reply answer) before after (goes.continues.size ∙ sounds.size ∙ began.size) (did answer goes answers carries) text
+        where
+          left : 1 ≤ (store_in view seen n.records).calls_left
+          left = let enough = begun_left in let used = sounds.left in let more = goes.continues.left in let size = sounds.size ∙ began.size in omega (arith, enough, used, more, few, size)
+
+          did : (answer : Result T VolumeFault) → GoesOn calls (store_in view seen m.records) (store_in view seen n.records) (store_answer answer) → AnswersTo command (store_in view seen) (volume_in m) (volume_in n) answer
+              → CarriesAs command (volume_reply answer) (host_in view seen o before text_space file_space).state.records (volume_at (host_in view seen o before text_space file_space).state) (store_in view seen n.records).transferred
+              → Performs view seen (ring_in o.records.control) (ring_in n.records.control) (Asks (OfVolume command)) (volume_reply answer) (loop_in seen o.records) (loop_in seen n.records)
+          did (Ok x) goes answers carries =
+              volume_asked view seen (ring_in o.records.control) (ring_in b.records.control) (ring_in n.records.control) command (loop_in seen o.records) (loop_in seen b.records) (loop_in seen n.records)
+              usable.volume_open.valid (agrees seen o.records.control) (agrees seen b.records.control) began usable.log low left u (ring_in m.records.control) calls (loop_in seen m.records) makes (agrees seen m.records.control) turns None goes answers carries
+          did (Err (Refused why)) goes answers carries =
+              volume_asked view seen (ring_in o.records.control) (ring_in b.records.control) (ring_in n.records.control) command (loop_in seen o.records) (loop_in seen b.records) (loop_in seen n.records)
+              usable.volume_open.valid (agrees seen o.records.control) (agrees seen b.records.control) began usable.log low left u (ring_in m.records.control) calls (loop_in seen m.records) makes (agrees seen m.records.control) turns (Some (reason why)) goes answers carries
+          did (Err (Troubled e)) goes answers carries =
+              volume_failed view seen (ring_in o.records.control) (ring_in b.records.control) (ring_in n.records.control) command (loop_in seen o.records) (loop_in seen b.records) (loop_in seen n.records)
+              usable.volume_open.valid (agrees seen o.records.control) (agrees seen b.records.control) began usable.log low left u (ring_in m.records.control) calls (loop_in seen m.records) makes (agrees seen m.records.control) turns e goes
+
+      -- it replied ok: what it tells of a told tape was written
+      pub done : {T : Type 0} (x : T) (calls : ℕ) (before lines : List ℕ) → calls ≤ most_calls (store_in view seen m.records).record_count
+          → GoesOn {T = Unit {0}} calls (store_in view seen m.records) (store_in view seen n.records) (Ok tt)
+          → TurnsVolume command (store_in view seen) (volume_in m) (volume_in n) → AnswersTo command (store_in view seen) (volume_in m) (volume_in n) (Ok x)
+          → CarriesAs command reply.Ok (host_in view seen o before text_space file_space).state.records (volume_at (host_in view seen o before text_space file_space).state) (store_in view seen n.records).transferred
+          → ((t : Tape) → (store_in view seen m.records).tape ≡ Some t → told_of command (volume_of t) ≡ lines)
+          → Performed (Asks (OfVolume command)) reply.Ok (host_in view seen o before text_space file_space) (host_in view seen n (lines ++ reply_line reply.Ok) text_space file_space)
+      done x calls before lines few goes turns answers carries text =
+          asked (Ok x) calls before (lines ++ reply_line reply.Ok) few goes turns answers carries
+          (λ told. let t = told_asked before told in sym (ok_text command (host_in view seen o before text_space file_space).state t.0 lines t.1 (text t.0 t.2)))
+
+      -- it was refused, or the store failed
+      pub refused : (T : Type 0) (fault : VolumeFault) (calls : ℕ) (before : List ℕ) → calls ≤ most_calls (store_in view seen m.records).record_count
+          → GoesOn calls (store_in view seen m.records) (store_in view seen n.records) (store_answer {T = T} (Err fault))
+          → TurnsVolume command (store_in view seen) (volume_in m) (volume_in n) → AnswersTo {T = T} command (store_in view seen) (volume_in m) (volume_in n) (Err fault)
+          → Performed (Asks (OfVolume command)) (volume_reply {T = Unit {0}} (Err fault)) (host_in view seen o before text_space file_space) (host_in view seen n (reply_line (volume_reply {T = Unit {0}} (Err fault))) text_space file_space)
+      refused T fault calls before few goes turns answers = by fault goes answers
+        where
+          by : (fault : VolumeFault) → GoesOn calls (store_in view seen m.records) (store_in view seen n.records) (store_answer {T = T} (Err fault)) → AnswersTo {T = T} command (store_in view seen) (volume_in m) (volume_in n) (Err fault)
+              → Performed (Asks (OfVolume command)) (volume_reply {T = Unit {0}} (Err fault)) (host_in view seen o before text_space file_space) (host_in view seen n (reply_line (volume_reply {T = Unit {0}} (Err fault))) text_space file_space)
+          by (Refused why) goes answers =
+              asked {T = T} (Err (Refused why)) calls before (reply_line (reply.No (code_of (reason why)))) few goes turns answers (not_carried command (reply.No (code_of (reason why))) _ _ _ tt) (λ told. refl)
+          by (Troubled e) goes answers =
+              asked {T = T} (Err (Troubled e)) calls before (reply_line (fault_of e)) few goes turns answers (none_carried command e _ _ _) (λ told. sym (fault_text (Asks (OfVolume command)) (host_in view seen o before text_space file_space).state e))
+
+      -- a command that tells nothing answered
+      pub changed : {T : Type 0} (answer : Result T VolumeFault) (calls : ℕ) (before : List ℕ) → TellsNothing command → calls ≤ most_calls (store_in view seen m.records).record_count
+          → GoesOn calls (store_in view seen m.records) (store_in view seen n.records) (store_answer answer)
+          → TurnsVolume command (store_in view seen) (volume_in m) (volume_in n) → AnswersTo command (store_in view seen) (volume_in m) (volume_in n) answer
+          → CarriesAs command (volume_reply answer) (host_in view seen o before text_space file_space).state.records (volume_at (host_in view seen o before text_space file_space).state) (store_in view seen n.records).transferred
+          → Performed (Asks (OfVolume command)) (volume_reply answer) (host_in view seen o before text_space file_space) (host_in view seen n (reply_line (volume_reply answer)) text_space file_space)
+      changed answer calls before nothing few goes turns answers carries =
+          asked answer calls before (reply_line (volume_reply answer)) few goes turns answers carries
+          (λ told. sym (nothing_told command (volume_at (host_in view seen o before text_space file_space).state) (host_in view seen o before text_space file_space).state (volume_reply answer) refl nothing))
+
+      -- and so did one that makes a commit at most, and carries no bytes of a file
+      pub altered : {T : Type 0} (answer : Result T VolumeFault) (calls : ℕ) (before : List ℕ) → TellsNothing command → CarriesNone command → calls ≤ (store_in view seen m.records).record_count + 66
+          → Alters calls command (store_in view seen) (volume_in m) (volume_in n) answer
+          → TurnsVolume command (store_in view seen) (volume_in m) (volume_in n) → AnswersTo command (store_in view seen) (volume_in m) (volume_in n) answer
+          → Performed (Asks (OfVolume command)) (volume_reply answer) (host_in view seen o before text_space file_space) (host_in view seen n (reply_line (volume_reply answer)) text_space file_space)
+      altered answer calls before nothing none few alters turns answers =
+          changed answer (calls + committing answer) before nothing (omega (arith, few, commits_few answer, opens.size, alters.goes_on.continues.size)) alters.goes_on turns answers
+          (carries_nothing command (volume_reply answer) _ _ _ none)

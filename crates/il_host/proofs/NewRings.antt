@@ -1,0 +1,41 @@
+-- A ring that was just made, as a controller and a store take it.
+use Rattle.std.proofs.lemmas.List.Elements.{All-map as every_map, All-same as every_same}
+use Rattle.il_ports.specs.Media.{MediumView as Seen_medium}
+use Rattle.il_record.specs.declared.records.Since.TheVariants as since_is
+use Rattle.il_record.specs.LoopStores.{LoopView as SeenLoop, AtLost as LostAt}
+use Rattle.host_model.specs.RingStates.{state_on as on_ring}
+use Rattle.il_host.specs.Standings.{state_at as standing_state}
+use Rattle.il_host.specs.Shorts.{AllShort, IsShort}
+use Rattle.std.proofs.Common.{◌≡◌, ℕ, false, List, map, ap, subst, sym}
+use Rattle.std.specs.List.{All}
+use Rattle.std.proofs.lemmas.List.Elements.{All-map}
+use Rattle.il_device.specs.State.{DeviceState}
+use Rattle.il_drive.specs.State.{DriveView, fresh_drive}
+use Rattle.il_ring.specs.declared.plan.Planned.{Planned}
+use Rattle.il_ring.specs.Lists.{Each}
+use Rattle.il_ring.specs.Rings.{IsRing, MayStand, RingView, devices_of, fresh_books}
+use Rattle.il_control.specs.Calls.{IsLost}
+use Rattle.il_control.proofs.Fresh.{new_lost}
+use Rattle.il_record.specs.Polls.{MayPoll}
+use Rattle.il_record.proofs.Places.{new_may_poll}
+
+-- over devices that may stand on a new ring
+module _ {M X : Type 0} (state : X → DeviceState) (xs ys : List X) (medium : M) (plan : List Planned) (room : ℕ) (r s : RingView M) (same : s ≡ r) (ring : IsRing r) (books : r.books ≡ fresh_books plan room)
+    (drive : r.drive ≡ record { state = fresh_drive; medium = medium }) (before : r.before ≡ map state xs) (after : r.after ≡ map state ys) (first : All (λ x. MayStand (state x)) xs) (last : All (λ x. MayStand (state x)) ys) where
+  pub new_ring_lost : IsLost s
+  new_ring_lost =
+      subst IsLost (sym same)
+      (new_lost r plan room ring books (ap (λ (d : DriveView M). d.state) drive) (subst (All MayStand) (sym before) (All-map MayStand state xs first)) (subst (All MayStand) (sym after) (All-map MayStand state ys last)))
+
+  pub new_ring_may_poll : Each MayPoll 1 (devices_of s)
+  new_ring_may_poll =
+      subst (λ (r : RingView M). Each MayPoll 1 (devices_of r)) (sym same)
+      (new_may_poll r ring (ap (λ (d : DriveView M). d.state) drive) (subst (All MayStand) (sym before) (All-map MayStand state xs first)) (subst (All MayStand) (sym after) (All-map MayStand state ys last)))
+
+-- the paper of each device of a new ring is short, where that of each box is
+pub new_ring_short : {M X : Type 0} (view : M → Seen_medium) (state : X → DeviceState) (l : SeenLoop M) (r s : RingView M) (xs ys : List X) → l ≡ record { control = LostAt s; sound = false; since = since_is.Unbroken; resumes = 0 } → s ≡ r
+    → r.before ≡ map state xs → r.after ≡ map state ys → All (λ x. IsShort (state x)) xs → All (λ x. IsShort (state x)) ys → AllShort (standing_state view l.sound l.control).loop
+new_ring_short {M} view state l r s xs ys fresh same before after first last =
+    subst (λ (l : SeenLoop M). AllShort (standing_state view l.sound l.control).loop) (sym fresh)
+    (subst (λ (s : RingView M). AllShort (on_ring view false false s).loop) (sym same)
+    (record { before = every_same IsShort r.before (map state xs) before (every_map IsShort state xs first); after = every_same IsShort r.after (map state ys) after (every_map IsShort state ys last) }))

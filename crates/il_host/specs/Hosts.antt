@@ -1,0 +1,79 @@
+-- What holds of a host between its commands, and how contracts see it.
+use Rattle.std.specs.Prelude.{◌≡◌, ◌*◌, ℕ, List, Option}
+use Rattle.lif_model.specs.Shelf.{IsSize}
+use Rattle.lif_model.specs.Stops.{StandsStill}
+use Rattle.il_device.specs.State.{DeviceState}
+use Rattle.il_ports.specs.Media.{MediumView}
+use Rattle.il_ports.specs.Stores.{RecordsView}
+use Rattle.lif_volume.specs.Views.{VolumeView, IsOpen}
+use Rattle.lif_volume.specs.declared.volume.Volume.{Volume}
+use Rattle.il_ring.specs.declared.ring.Ring.{Ring}
+use Rattle.il_ring.specs.Rings.{RingView}
+use Rattle.il_record.specs.declared.records.LoopRecords.{LoopRecords}
+use Rattle.il_record.specs.Controls.{ring_in, standing_of}
+use Rattle.il_record.specs.LoopStores.{Standing, AtIdle, AtLost, Nowhere, LoopView, StandsSo, view_of}
+use Rattle.lif_model.specs.Tape.{Tape}
+use Rattle.host_model.specs.HostStates.{HostState, fresh_host, text_room}
+use Rattle.il_host.specs.HostView.{HostView}
+use Rattle.il_host.specs.Shorts.{AllShort}
+use Rattle.il_host.specs.Standings.{HasLogRoom, state_at, log_at, hops_at}
+
+-- The volume can be used, and the loop stands. There is room for every log, for the text of every reply, and for the records of every
+-- file; and no device keeps more than there is room for.
+pub record IsUsable {M R S : Type 0} (view : M → MediumView) (records : R → RecordsView S) (volume : VolumeView R) (loop : LoopView M) (text_space file_space : ℕ) : Type 0 where
+  pub volume_open : IsOpen records volume
+  pub size : IsSize (records volume.records).record_count
+  pub stands : StandsSo loop.control loop.sound loop.since
+  pub log : HasLogRoom view loop.control
+  pub short : AllShort (state_at view loop.sound loop.control).loop
+  pub text : text_space ≡ text_room (records volume.records).record_count
+  pub file : file_space ≡ 256 * (records volume.records).record_count
+
+-- by its store
+abbrev pub host_view : {M S : Type 0} → (M → MediumView) → Type 0 → RecordsView S → LoopView M → List ℕ → HostView
+host_view view valid store loop text = record {
+  valid = valid;
+  state = state_at view loop.sound loop.control;
+  hops = hops_at loop.control;
+  log = log_at loop.control;
+  text = text;
+  moment = store.moment;
+  left_since = store.left_since;
+}
+
+-- ---- for the parts of a host
+
+-- a store over the loop, by what contracts see of a ring
+abbrev pub loop_in : {M I : Type 0} {D : I → Type 0} → (Ring M I D → RingView M) → LoopRecords M I D → LoopView M
+loop_in seen l = record { control = standing_of seen l.control; sound = l.sound; since = l.since; resumes = l.resumes }
+
+abbrev pub store_in : {M I : Type 0} {D : I → Type 0} → (M → MediumView) → (Ring M I D → RingView M) → LoopRecords M I D → RecordsView (Option (Ring M I D))
+store_in view seen l = view_of view seen (ring_in l.control) (loop_in seen l)
+
+-- a volume over it
+abbrev pub volume_in : {R : Type 0} → Volume R → VolumeView R
+volume_in v = record { records = v.records; kept = v.kept; slots = v.directory.table.slots; room = v.directory.table.room }
+
+-- all of it
+abbrev pub host_in : {M I : Type 0} {D : I → Type 0} → (M → MediumView) → (Ring M I D → RingView M) → Volume (LoopRecords M I D) → List ℕ → (text_space file_space : ℕ) → HostView
+host_in view seen v text text_space file_space =
+    host_view view (IsUsable view (store_in view seen) (volume_in v) (loop_in seen v.records) text_space file_space) (store_in view seen v.records) (loop_in seen v.records) text
+
+-- ---- opening and closing
+
+-- The host was opened on this medium, over devices before and behind the drive.
+pub record IsOpened {M : Type 0} (view : M → MediumView) (medium : M) (before after : List DeviceState) (hops : List ℕ) (v : HostView) : Type 0 where
+  pub valid : v.valid
+  pub state : v.state ≡ fresh_host (view medium).tape (view medium).record_count (view medium).faults before after
+  pub hops_are : v.hops ≡ hops
+  pub moment : v.moment ≡ (view medium).moment
+  pub since : StandsStill (view medium).left_since v.left_since
+
+-- The medium and the devices that are handed back are as the host left them.
+pub record IsClosed {M : Type 0} (view : M → MediumView) (v : HostView) (medium : M) (before after : List DeviceState) : Type 0 where
+  pub tape : (view medium).tape ≡ v.state.tape
+  pub faults : (view medium).faults ≡ v.state.faults
+  pub devices_before : before ≡ v.state.loop.before
+  pub devices_after : after ≡ v.state.loop.after
+  pub moment : (view medium).moment ≡ v.moment
+  pub since : StandsStill v.left_since (view medium).left_since

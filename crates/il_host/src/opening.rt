@@ -1,0 +1,93 @@
+ghost use Rattle.std.specs.Prelude.{◌≡◌, ◌≤◌, ◌+◌, ◌*◌, [], map, length, IfOk, IfErr};
+ghost use Rattle.std.specs.List.{All};
+ghost use Rattle.lif_model.specs.Shelf.{IsSize};
+ghost use Rattle.il_ring.specs.Plans.{IsPlan, hops_of};
+ghost use Rattle.il_ring.specs.Rings.{MayStand};
+ghost use Rattle.host_model.specs.HostStates.{log_room, text_room};
+ghost use Rattle.il_host.specs.Hosts.{IsOpened, IsClosed};
+ghost use Rattle.il_host.specs.Shorts.{IsShort};
+
+use crate::host::Host;
+use crate::performer::Performer;
+use il_control::Lost;
+use il_ports::Medium;
+use il_record::LoopRecords;
+use il_ring::{Planned, Refused, Rig, Ring};
+use il_script::Page;
+use lif_volume::Volume;
+use std::alloc::{AllocError, Global};
+use std::marker::PhantomData;
+
+// How many entries the log of a command may have on a medium of so many records.
+fn log_room(records: u16) -> usize
+    ensures { result ≡ log_room records }
+{
+    1600 * usize::from(records) + 10_000
+}
+
+// Memory for the text of every reply, and for the bytes of every file, on a medium of so many records.
+fn reserve(alloc: Global, records: u16) -> Result<(Page, Vec<u8>), AllocError>
+    ensures page { IfOk result (λ r. r.0 ≡ record { text = []; room = text_room records }) }
+    ensures file { IfOk result (λ r. length r.1.items ≡ 256 * records) }
+{
+    let page = Page::new(alloc, 600 * usize::from(records) + 20_000)?;
+    let file = vec![in alloc; 0; 256 * usize::from(records)]?;
+    Ok((page, file))
+}
+
+impl<M: Medium + Drop> Host<M> {
+    /// A host for the tape that is in the drive, over the devices of the rig, with faults planned at these crossings of the
+    /// loop. The log of a command has room for 1,600 entries for each record of the medium and 10,000 more. All memory of the
+    /// host is taken here; where there is none the rig is handed back, and no frame was sent.
+    pub fn open(alloc: Global, rig: Rig<M>, plan: &[Planned]) -> Result<Host<M>, Refused<M>>
+        requires few { length rig.before.items + length rig.after.items ≤ 29 }
+        requires before { All (λ b. MayStand (state b)) rig.before.items }
+        requires after { All (λ b. MayStand (state b)) rig.after.items }
+        requires short_before { All (λ b. IsShort (state b)) rig.before.items }
+        requires short_after { All (λ b. IsShort (state b)) rig.after.items }
+        requires size { IsSize (M.view rig.medium).record_count }
+        requires plan { IsPlan plan.now }
+        ensures opened { IfOk result (λ host. IsOpened M.view rig.medium (map (λ b. state b) rig.before.items) (map (λ b. state b) rig.after.items) (hops_of plan.now) (⟦<Host<M> as Performer>⟧.view host)) }
+        ensures refused { IfErr result (λ refused. refused.rig.medium ≡ rig.medium) }
+        // The devices that are handed back are as they were.
+        ensures before { IfErr result (λ refused. map (λ b. state b) refused.rig.before.items ≡ map (λ b. state b) rig.before.items) }
+        ensures after { IfErr result (λ refused. map (λ b. state b) refused.rig.after.items ≡ map (λ b. state b) rig.after.items) }
+    {
+        let records = rig.medium.size();
+        let Ok((page, file)) = reserve(alloc, records) else {
+            return Err(Refused { rig });
+        };
+        let ring = match Ring::new(alloc, rig, plan, log_room(records)) {
+            Ok(ring) => ring,
+            Err(refused) => return Err(refused),
+        };
+        match Volume::open(alloc, LoopRecords::new(Lost::new(ring))) {
+            Ok(volume) => Ok(Host {
+                volume,
+                page,
+                file,
+                devices: PhantomData,
+            }),
+            Err(kept) => Err(Refused {
+                rig: kept.records.into_ring().into_rig(),
+            }),
+        }
+    }
+
+    /// Hands the rig back: the medium with the tape as it is, and the devices.
+    pub fn close(self) -> Rig<M>
+        requires valid { (⟦<Host<M> as Performer>⟧.view self).valid }
+        ensures closed { IsClosed M.view (⟦<Host<M> as Performer>⟧.view self) result.medium (map (λ b. state b) result.before.items) (map (λ b. state b) result.after.items) }
+        ensures size { (M.view result.medium).record_count ≡ (⟦<Host<M> as Performer>⟧.view self).state.records }
+    {
+        self.volume.into_records().into_ring().into_rig()
+    }
+
+    /// How many crossings of links there were since the host was opened.
+    pub fn crossings(&self) -> u64
+        requires valid { (⟦<Host<M> as Performer>⟧.view self.now).valid }
+        ensures { result ≡ (⟦<Host<M> as Performer>⟧.view self.now).state.crossings }
+    {
+        self.volume.records().ring().crossings()
+    }
+}

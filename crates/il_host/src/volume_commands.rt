@@ -1,0 +1,204 @@
+ghost use Rattle.std.specs.Prelude.{◌≡◌, ◌≢◌, ◌≤◌, ◌<◌, ◌+◌, ◌++◌, [], length, Err, Ok};
+ghost use Rattle.lif_plan.specs.Refusals.{reason};
+ghost use Rattle.lif_volume.specs.Views.{IsOpen};
+ghost use Rattle.lif_model.specs.Apply as command;
+ghost use Rattle.lif_dir.specs.Entries.{name_bytes};
+ghost use Rattle.lif_dir.specs.Names.{made_name, label_bytes};
+ghost use Rattle.il_script.specs.Replies.{reply_line};
+ghost use Rattle.host_model.specs.Requests.{Asks, OfVolume};
+ghost use Rattle.host_model.specs.Replies.{code_of};
+ghost use Rattle.il_host.specs.HostView.{Performed};
+ghost use Rattle.il_host.specs.Hosts.{volume_in};
+ghost use Rattle.il_host.specs.Standings.{HasDriveStatus, volume_reply};
+
+use crate::host::{Host, fault_reply};
+use crate::listing::{put_data, put_label, put_listing};
+use crate::performer::Performer;
+use il_ports::{Medium, Records};
+use il_record::{LoopRecords, Looped};
+use il_script::{Code, Reply};
+use lif_dir::{Name, NewLabel, NewName};
+use lif_volume::{Refusal, VolumeFault};
+
+impl<M: Medium + Drop> Host<M> {
+    // Lists the volume and its files.
+    pub(crate) fn dir(&mut self) -> Reply
+        requires valid { (⟦<Host<M> as Performer>⟧.view self.old).valid }
+        requires blank { (⟦<Host<M> as Performer>⟧.view self.old).text ≡ [] }
+        ensures { Performed (Asks (OfVolume command.Dir)) result (⟦<Host<M> as Performer>⟧.view self.old) (⟦<Host<M> as Performer>⟧.view self.new) }
+    {
+        self.volume.begin();
+        if let Err(trouble) = self.make_sound() {
+            return self.answered(fault_reply(trouble));
+        }
+        match self.volume.dir() {
+            Ok(listing) => {
+                put_listing(&mut self.page, &listing, self.volume.slots());
+                self.answered(Reply::Ok)
+            }
+            Err(fault) => self.answered(reply_to(fault)),
+        }
+    }
+
+    // Tells the label of the volume.
+    pub(crate) fn label(&mut self) -> Reply
+        requires valid { (⟦<Host<M> as Performer>⟧.view self.old).valid }
+        requires blank { (⟦<Host<M> as Performer>⟧.view self.old).text ≡ [] }
+        ensures { Performed (Asks (OfVolume command.Label)) result (⟦<Host<M> as Performer>⟧.view self.old) (⟦<Host<M> as Performer>⟧.view self.new) }
+    {
+        self.volume.begin();
+        if let Err(trouble) = self.make_sound() {
+            return self.answered(fault_reply(trouble));
+        }
+        match self.volume.label() {
+            Ok(label) => {
+                put_label(&mut self.page, &label);
+                self.answered(Reply::Ok)
+            }
+            Err(fault) => self.answered(reply_to(fault)),
+        }
+    }
+
+    // Tells the bytes of a file.
+    pub(crate) fn fetch(&mut self, name: &Name) -> Reply
+        requires valid { (⟦<Host<M> as Performer>⟧.view self.old).valid }
+        requires blank { (⟦<Host<M> as Performer>⟧.view self.old).text ≡ [] }
+        ensures { Performed (Asks (OfVolume (command.Fetch (name_bytes name.now)))) result (⟦<Host<M> as Performer>⟧.view self.old) (⟦<Host<M> as Performer>⟧.view self.new) }
+    {
+        self.volume.begin();
+        if let Err(trouble) = self.make_sound() {
+            return self.answered(fault_reply(trouble));
+        }
+        match self.volume.fetch(name, &mut self.file) {
+            Ok(fetched) => {
+                let count = fetched.length.min(self.file.len());
+                put_data(&mut self.page, &fetched, &self.file[..count]);
+                self.answered(Reply::Ok)
+            }
+            Err(fault) => self.answered(reply_to(fault)),
+        }
+    }
+
+    // Makes a file of these bytes.
+    pub(crate) fn store(
+        &mut self,
+        name: &NewName,
+        kind: u16,
+        implementation: [u8; 4],
+        bytes: &[u8],
+    ) -> Reply
+        requires valid { (⟦<Host<M> as Performer>⟧.view self.old).valid }
+        requires blank { (⟦<Host<M> as Performer>⟧.view self.old).text ≡ [] }
+        requires live { kind ≢ 0 }
+        requires no_end { kind ≢ 0xFFFF }
+        ensures { Performed (Asks (OfVolume (command.Store (name_bytes (made_name name.now)) kind implementation bytes.now))) result (⟦<Host<M> as Performer>⟧.view self.old) (⟦<Host<M> as Performer>⟧.view self.new) }
+    {
+        self.volume.begin();
+        if let Err(trouble) = self.make_sound() {
+            return self.answered(fault_reply(trouble));
+        }
+        // A file that is no shorter than the tape is refused, whatever it holds.
+        let front = &bytes[..bytes.len().min(self.file.len())];
+        let answer = self.volume.store(name, kind, implementation, front);
+        self.ended(answer)
+    }
+
+    // Gives a file another name.
+    pub(crate) fn rename(&mut self, old: &Name, new: &NewName) -> Reply
+        requires valid { (⟦<Host<M> as Performer>⟧.view self.old).valid }
+        requires blank { (⟦<Host<M> as Performer>⟧.view self.old).text ≡ [] }
+        ensures { Performed (Asks (OfVolume (command.Rename (name_bytes old.now) (name_bytes (made_name new.now))))) result (⟦<Host<M> as Performer>⟧.view self.old) (⟦<Host<M> as Performer>⟧.view self.new) }
+    {
+        self.volume.begin();
+        if let Err(trouble) = self.make_sound() {
+            return self.answered(fault_reply(trouble));
+        }
+        let answer = self.volume.rename(old, new);
+        self.ended(answer)
+    }
+
+    // Purges a file.
+    pub(crate) fn purge(&mut self, name: &Name) -> Reply
+        requires valid { (⟦<Host<M> as Performer>⟧.view self.old).valid }
+        requires blank { (⟦<Host<M> as Performer>⟧.view self.old).text ≡ [] }
+        ensures { Performed (Asks (OfVolume (command.Purge (name_bytes name.now)))) result (⟦<Host<M> as Performer>⟧.view self.old) (⟦<Host<M> as Performer>⟧.view self.new) }
+    {
+        self.volume.begin();
+        if let Err(trouble) = self.make_sound() {
+            return self.answered(fault_reply(trouble));
+        }
+        let answer = self.volume.purge(name);
+        self.ended(answer)
+    }
+
+    // Makes a new volume.
+    pub(crate) fn format(&mut self, label: &NewLabel, slots: u16) -> Reply
+        requires valid { (⟦<Host<M> as Performer>⟧.view self.old).valid }
+        requires blank { (⟦<Host<M> as Performer>⟧.view self.old).text ≡ [] }
+        requires slots { 0 < slots }
+        ensures { Performed (Asks (OfVolume (command.Format (label_bytes label.now) slots))) result (⟦<Host<M> as Performer>⟧.view self.old) (⟦<Host<M> as Performer>⟧.view self.new) }
+    {
+        self.volume.begin();
+        if let Err(trouble) = self.make_sound() {
+            return self.answered(fault_reply(trouble));
+        }
+        let answer = self.volume.format(label, slots);
+        self.ended(answer)
+    }
+
+    // Gives a volume of another program its redo file.
+    pub(crate) fn adopt(&mut self) -> Reply
+        requires valid { (⟦<Host<M> as Performer>⟧.view self.old).valid }
+        requires blank { (⟦<Host<M> as Performer>⟧.view self.old).text ≡ [] }
+        ensures { Performed (Asks (OfVolume command.Adopt)) result (⟦<Host<M> as Performer>⟧.view self.old) (⟦<Host<M> as Performer>⟧.view self.new) }
+    {
+        self.volume.begin();
+        if let Err(trouble) = self.make_sound() {
+            return self.answered(fault_reply(trouble));
+        }
+        let answer = self.volume.adopt();
+        self.ended(answer)
+    }
+
+    // The reply to a command that tells nothing, by the volume's answer.
+    fn ended(&mut self, answer: Result<(), VolumeFault>) -> Reply
+        requires volume_open { IsOpen ⟦<LoopRecords<M> as Records>⟧.view (volume_in self.old.volume) }
+        requires room { length self.old.page.text + 20 ≤ self.old.page.room }
+        ensures reply { result ≡ volume_reply answer }
+        ensures page { self.new.page ≡ record self.old.page { text = self.old.page.text ++ reply_line (volume_reply answer) } }
+        ensures volume { self.new.volume ≡ self.old.volume }
+        ensures file { self.new.file ≡ self.old.file }
+        ensures drive { HasDriveStatus (⟦<LoopRecords<M> as Looped<M>>⟧.looped self.old.volume.records).control }
+    {
+        match answer {
+            Ok(()) => self.answered(Reply::Ok),
+            Err(fault) => self.answered(reply_to(fault)),
+        }
+    }
+}
+
+// The code of a refusal.
+fn code(refusal: Refusal) -> Code
+    ensures { result ≡ code_of (reason refusal) }
+{
+    match refusal {
+        Refusal::NotLif => Code::NotLif,
+        Refusal::NoFile => Code::NoFile,
+        Refusal::Exists => Code::Exists,
+        Refusal::NoSlot => Code::NoSlot,
+        Refusal::NoRoom => Code::NoRoom,
+        Refusal::NoRedo => Code::NoRedo,
+        Refusal::InUse => Code::InUse,
+        Refusal::Protected => Code::Protected,
+    }
+}
+
+// The reply to a command that the volume did not perform.
+fn reply_to(fault: VolumeFault) -> Reply
+    ensures { result ≡ volume_reply {T = Unit {0}} (Err fault) }
+{
+    match fault {
+        VolumeFault::Refused(refusal) => Reply::No(code(refusal)),
+        VolumeFault::Trouble(trouble) => fault_reply(trouble),
+    }
+}
