@@ -1,10 +1,12 @@
 -- Worked examples of how runs end, computed by the checker.
-use Rattle.std.proofs.Common.{◌≡◌, ◌++◌, ◌∙◌, ℕ, List, [], ◌∷◌, Some, None, true, false, refl, sym, ap, subst, arith, length, replicate, codes}
+use Rattle.std.proofs.Common.{◌≡◌, ◌≢◌, ◌++◌, ◌∙◌, ℕ, Bool, if◌then◌else◌, List, [], ◌∷◌, Some, None, true, false, refl, sym, ap, subst, arith, length, replicate, codes}
 use Rattle.std.specs.Prelude.{get_or, map, unwrap_or, is_some}
+use Rattle.std.specs.Str.{bytes_eq}
+use Rattle.std.proofs.lemmas.Slice.Eq.{bytes_eq-Decides}
 use Rattle.std.proofs.lemmas.List.{length-replicate, get_or-replicate}
 use Rattle.lif_model.specs.Tape.{Tape, IsTape}
 use Rattle.il_device.specs.State.{DeviceState}
-use Rattle.lif_model.specs.Shelf.{blank, image_of, inserted}
+use Rattle.lif_model.specs.Shelf.{blank, bytes_of, image_of, inserted}
 use Rattle.il_script.specs.declared.reply.Code.TheVariants as code
 use Rattle.host_model.specs.Requests.{Status, Asks, NoCommand}
 use Rattle.host_model.specs.HostStates.{HostState, fresh_host}
@@ -68,7 +70,7 @@ abbrev pub old : Outside
 old = record { shelf = Some []; tape = None; left = Some []; written = Some []; faults = 0; before = []; after = printer ∷ [] }
 
 abbrev pub now : Outside
-now = record old { shelf = None; tape = Some (blank 512) }
+now = record old { shelf = Some ((codes "T", bytes_of (blank 512)) ∷ []); tape = Some (blank 512) }
 
 abbrev pub start : HostState
 start = fresh_host (Some (blank 512)) 512 0 [] (printer ∷ [])
@@ -76,6 +78,14 @@ start = fresh_host (Some (blank 512)) 512 0 [] (printer ∷ [])
 -- a stop leaves the blank tape
 abbrev pub Stopped : Tape → Type 0
 Stopped x = Some (blank 512) ≡ Some x
+
+-- a shelf of one image has no other
+alone : (name other bytes : List ℕ) → other ≢ name → image_of other ((name, bytes) ∷ []) ≡ None
+alone name other bytes differs = by (bytes_eq name other) refl
+  where
+    by : (b : Bool) → bytes_eq name other ≡ b → (if b then Some bytes else None) ≡ None
+    by true e = absurd (differs (sym ((bytes_eq-Decides name other).0 e)))
+    by false e = refl
 
 empty_script : RunsOver AllOk order old now Stopped
 empty_script = record {
@@ -97,6 +107,12 @@ empty_script = record {
   writes = λ told. refl;
   back = record { tape = refl; faults = refl; before = refl; after = refl };
   stops = λ told gate x h. h;
+  shelf = λ shelf told. record {
+    shelf = (codes "T", bytes_of (blank 512)) ∷ [];
+    shelf_is = refl;
+    image = λ t same. ap (λ o. Some (bytes_of (unwrap_or o []))) same;
+    others = λ name other. alone (codes "T") name (bytes_of (blank 512)) other ∙ ap (λ o. image_of name (unwrap_or o [])) told;
+  };
 }
 
 run_ends : LeavesBy AllOk (Some order) old now Stopped

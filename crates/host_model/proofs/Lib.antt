@@ -2,6 +2,8 @@ pub mod Steps
 pub mod RingStates
 pub mod Runs
 pub mod Growing
+pub mod Complete
+pub mod Generated
 mod Small
 mod Texts
 mod StepExamples

@@ -1,7 +1,7 @@
 -- What a run leaves, by how it ends.
-use Rattle.std.specs.Prelude.{◌≡◌, ◌≤◌, ◌<◌, ℕ, true, false, List, [], ◌∷◌, ◌++◌, length, take, map, Option, Some, None, is_some}
+use Rattle.std.specs.Prelude.{◌≡◌, ◌⊎◌, ◌≤◌, ◌<◌, ℕ, true, false, List, [], ◌∷◌, ◌++◌, length, take, map, Option, Some, None, is_some}
 use Rattle.std.specs.Io.KnownBytes.{Appends, IsAtEnd}
-use Rattle.lif_model.specs.Shelf.{Shelf, image_of, largest_image}
+use Rattle.lif_model.specs.Shelf.{Shelf, OthersStay, bytes_of, image_of, largest_image}
 use Rattle.lif_model.specs.Tape.{Tape}
 use Rattle.il_script.specs.declared.limits.TheConstants.{LONGEST_SCRIPT}
 use Rattle.il_script.specs.LineCut.{line_cut, line_told}
@@ -76,6 +76,19 @@ abbrev pub WritesAs : RunEnd → OutputMode → List Event → Option (List ℕ)
 WritesAs SinkFailed mode events before now = WritesPart mode events before now
 WritesAs _ mode events before now = Appends before now (output mode events)
 
+-- ---- the shelf
+
+-- On the shelf the image has the tape's bytes, and every other one is as before.
+pub record HasImage (name : List ℕ) (tape : Option Tape) (before : Shelf) (now : Option Shelf) : Type 0 where
+  pub shelf : Shelf
+  pub shelf_is : now ≡ Some shelf
+  pub image : (t : Tape) → tape ≡ Some t → image_of name shelf ≡ Some (bytes_of t)
+  pub others : OthersStay name before shelf
+
+-- where the shelf is told
+abbrev pub KeepsShelf : Order → Outside → Outside → Type 0
+KeepsShelf order old now = (shelf : Shelf) → old.shelf ≡ Some shelf → HasImage order.image now.tape shelf now.shelf
+
 -- ---- a run over a script
 
 -- the texts of replies are told by the tape; the summary needs none
@@ -91,8 +104,8 @@ IsOkAs _ events = Unit {0}
 
 -- One list of events from the opened host on meets all that is said: each is a step, and begins where the one before it ends;
 -- together they tell what a run tells; the items are those of the script; their texts were written; the tape and the devices
--- handed back are those behind the last one; and each tape that a stop since the run began may have left, `stopped`, is one of
--- theirs.
+-- handed back are those behind the last one; each tape that a stop since the run began may have left, `stopped`, is one of theirs;
+-- and of the shelf no other image changed.
 pub record RunsOver (end : RunEnd) (order : Order) (old now : Outside) (stopped : Tape → Type 0) : Type 0 where
   pub events : List Event
   pub start : HostState
@@ -105,6 +118,7 @@ pub record RunsOver (end : RunEnd) (order : Order) (old now : Outside) (stopped 
   pub writes : TellsTexts (mode_of order) start → WritesAs end (mode_of order) events old.written now.written
   pub back : HandsBack finish now
   pub stops : LeavesWithin start events finish stopped
+  pub shelf : KeepsShelf order old now
 
 -- ---- endings before the first item
 
@@ -134,17 +148,27 @@ pub record IsEmpty (old now : Outside) : Type 0 where
 pub record LeavesImage (order : Order) (old now : Outside) (stopped : Tape → Type 0) : Type 0 where
   pub untouched : IsUntouched old now
   pub inserts : Inserts order old now.tape
+  pub shelf : KeepsShelf order old now
   pub stops : is_some now.tape ≡ true → (x : Tape) → stopped x → now.tape ≡ Some x
+
+-- the words ask for something, and that is so
+abbrev pub IsOrder : Option Order → (Order → Type 0) → Type 0
+IsOrder None P = ⊥
+IsOrder (Some order) P = P order
+
+-- There was no memory: for the words, and then no tape is in; or for the host, behind the insert.
+abbrev pub LeavesUnopened : Option Order → Outside → Outside → (Tape → Type 0) → Type 0
+LeavesUnopened asked old now stopped = (IsEmpty old now × (now.faults ≡ old.faults)) ⊎ IsOrder asked (λ order. LeavesImage order old now stopped)
 
 -- ---- every ending
 
 -- by what the words ask for
 abbrev pub LeavesBy : RunEnd → Option Order → Outside → Outside → (Tape → Type 0) → Type 0
 LeavesBy BadWords None old now stopped = IsEmpty old now × (now.faults ≡ old.faults)
+LeavesBy OutOfMemory asked old now stopped = LeavesUnopened asked old now stopped
 LeavesBy _ None old now stopped = ⊥
 LeavesBy BadWords (Some order) old now stopped = ⊥
 LeavesBy NoImage (Some order) old now stopped = IsEmpty old now × HasNoImage order old
 LeavesBy ImageTooLarge (Some order) old now stopped = IsEmpty old now × HasLargeImage order old
 LeavesBy InsertFailed (Some order) old now stopped = IsEmpty old now
-LeavesBy OutOfMemory (Some order) old now stopped = LeavesImage order old now stopped
 LeavesBy end (Some order) old now stopped = RunsOver end order old now stopped

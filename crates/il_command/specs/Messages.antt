@@ -4,7 +4,7 @@ use Rattle.std.specs.Prelude.{ℕ, ◌==◌, List, Option, Some, None, if◌then
 -- the text for an exit status; a run that reads its script to the end tells nothing
 abbrev pub message_of : ℕ → Option (List ℕ)
 message_of status =
-    if status == 2 then Some (codes "il: usage: il [--new] [--quiet] [--lose LIST] [--alter LIST] [--generate SEED:COUNT] IMAGE") else
+    if status == 2 then Some (codes "il: usage: il [--new] [--new-disc] [--quiet] [--lose LIST] [--alter LIST] [--generate SEED:COUNT] IMAGE") else
     if status == 3 then Some (codes "il: no such image") else
     if status == 4 then Some (codes "il: image too large") else
     if status == 5 then Some (codes "il: script could not be read") else

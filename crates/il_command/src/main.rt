@@ -1,4 +1,4 @@
-//! `il [--quiet] IMAGE`: answers the script on standard input over the image of a tape, by frames on a simulated loop.
+//! The program `il`: answers the script on standard input over the image of a tape, by frames on a simulated loop.
 #![tactic(auto)]
 
 mod messages;

@@ -7,7 +7,7 @@ pub fn message(status: u8) -> Option<&'static str>
 {
     match status {
         2 => Some(
-            "il: usage: il [--new] [--quiet] [--lose LIST] [--alter LIST] [--generate SEED:COUNT] IMAGE",
+            "il: usage: il [--new] [--new-disc] [--quiet] [--lose LIST] [--alter LIST] [--generate SEED:COUNT] IMAGE",
         ),
         3 => Some("il: no such image"),
         4 => Some("il: image too large"),
@@ -30,7 +30,7 @@ mod tests {
             None,
             None,
             Some(
-                "il: usage: il [--new] [--quiet] [--lose LIST] [--alter LIST] [--generate SEED:COUNT] IMAGE",
+                "il: usage: il [--new] [--new-disc] [--quiet] [--lose LIST] [--alter LIST] [--generate SEED:COUNT] IMAGE",
             ),
             Some("il: no such image"),
             Some("il: image too large"),

@@ -12,13 +12,14 @@ use Rattle.host_model.specs.Requests.{Item, Asks, NoCommand, request_of, item_of
 use Rattle.host_model.specs.HostStates.{HostState}
 use Rattle.host_model.specs.Replies.{trace_text}
 use Rattle.host_model.specs.Steps.{Event}
-use Rattle.host_model.specs.Runs.{event_text, reply_text_of}
+use Rattle.host_model.specs.Runs.{OutputMode, event_text, reply_text_of}
 use Rattle.host_model.specs.Orders.{quiet_mode}
 use Rattle.host_model.proofs.NoCommands.{refusal, no_command, no_command_stops}
 use Rattle.il_host.specs.HostView.{HostView, IsHost, Performed}
 use Rattle.il_host.specs.Run.{Answers, event_of, item_asked}
 use Rattle.il_host.specs.declared.running.Asked.{Asked as Wanted}
 use Rattle.il_host.specs.Writing.{WritesAll, told_text}
+use Rattle.il_host.proofs.Images.{images_kept}
 
 -- ---- readings
 
@@ -65,7 +66,7 @@ told_refusal false code s = refl
 
 -- to a command that was performed
 pub answers_command : {E : Type 0} (item : Item) (r : Reply) (quiet : Bool) (v w : HostView) (before now : Option (List ℕ)) (written : Result (Unit {0}) E)
-    → Performed item r v w → WritesAll before now (told_text quiet w.log w.text) written → Answers item r quiet v w before now written
+    → Performed item r v w → WritesAll before now (told_text quiet w.log w.text) written → Answers item r (quiet_mode quiet) v w before now written
 answers_command item r quiet v w before now written p h = record {
   log = w.log;
   valid = p.valid;
@@ -73,16 +74,24 @@ answers_command item r quiet v w before now written p h = record {
   step = p.step;
   stops = p.stops;
   bytes = λ tells. subst (λ text. WritesAll before now text written) (told_event quiet (event_of item r w.log v w) w.text (p.text tells)) h;
+  images = p.images;
 }
 
--- to a line that is no command
-pub answers_no_command : {E : Type 0} (code : Code) (quiet : Bool) (v : HostView) (before now : Option (List ℕ)) (written : Result (Unit {0}) E)
-    → v.valid → IsHost v → WritesAll before now (reply_line (reply.No code)) written → Answers (NoCommand code) (reply.No code) quiet v v before now written
-answers_no_command code quiet v before now written valid host h = record {
+-- to a line that is no command, whatever is told of it
+pub answers_refusal : {E : Type 0} (code : Code) (mode : OutputMode) (v : HostView) (before now : Option (List ℕ)) (written : Result (Unit {0}) E)
+    → v.valid → IsHost v → WritesAll before now (event_text mode (refusal code v.state)) written → Answers (NoCommand code) (reply.No code) mode v v before now written
+answers_refusal code mode v before now written valid host h = record {
   log = [];
   valid = valid;
   hops = refl;
   step = no_command v.hops code v.state host.one;
   stops = no_command_stops code v.state v.moment v.left_since host.leaves_only;
-  bytes = λ tells. subst (λ text. WritesAll before now text written) (told_refusal quiet code v.state) h;
+  bytes = λ tells. h;
+  images = images_kept v.inside v.images;
 }
+
+-- and where that is the line of its code
+pub answers_no_command : {E : Type 0} (code : Code) (quiet : Bool) (v : HostView) (before now : Option (List ℕ)) (written : Result (Unit {0}) E)
+    → v.valid → IsHost v → WritesAll before now (reply_line (reply.No code)) written → Answers (NoCommand code) (reply.No code) (quiet_mode quiet) v v before now written
+answers_no_command code quiet v before now written valid host h =
+    answers_refusal code (quiet_mode quiet) v before now written valid host (subst (λ text. WritesAll before now text written) (told_refusal quiet code v.state) h)

@@ -203,6 +203,7 @@ module _ {M I : Type 0} {D : I → Type 0} (view : M → MediumView) (seen : Rin
       step = did.step;
       text = text;
       stops = did.stops;
+      images = did.keeps.images;
     }
 
   module _ (command : VolumeCommand) (opens : IsOpen (store_in view seen) (volume_in n)) (low : HasDriveStatus (loop_in seen n.records).control) where

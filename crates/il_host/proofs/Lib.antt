@@ -28,7 +28,10 @@ mod Examples
 pub mod Known
 pub mod Shorts
 pub mod Asking
+pub mod Images
+pub mod Answered
 pub mod Runs
+pub mod GeneratedRuns
 pub mod HostVolumes
 pub mod FileCarries
 pub mod VolumeAsked
@@ -40,7 +43,6 @@ pub mod PaperPerforms
 pub mod PlainCommands
 pub mod NewRings
 pub mod Wholes
-pub mod StoredFronts
 pub mod HostStores
 pub mod HostReads
 pub mod HostLoops

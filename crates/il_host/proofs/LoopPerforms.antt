@@ -44,7 +44,7 @@ use Rattle.il_host.proofs.LoopRuns.{Ran, ran_devices, ran_devices_broken, ran_no
 use Rattle.il_host.proofs.SayRuns.{ran_not_said, ran_said}
 use Rattle.il_host.proofs.Sounding.{exchanged_sounding, replied_sounding, travels_sounding}
 use Rattle.il_host.proofs.StatusEvents.{ready_leaves}
-use Rattle.il_host.proofs.VolumeCommands.{KeepsRing, keeps_rings, room_at, short_at}
+use Rattle.il_host.proofs.VolumeCommands.{KeepsRing, keeps_emptied, keeps_rings, room_at, short_at}
 use Rattle.il_host.proofs.VolumePerforms.{Performs}
 use Rattle.il_host.proofs.VolumeReplied.{IsSeenAs, StaysQuiet, quiet_rings, quiet_then, seen_as, told_tape}
 use Rattle.il_host.proofs.VolumeStarts.{Emptied, emptied_ring, volume_begun}
@@ -143,7 +143,7 @@ module _ {M S : Type 0} (view : M → MediumView) (seen : S → RingView M) (o a
           (subst (λ (s : HostState). IsStep (hops_at begun.control) (event_from s)) emptied.state begun_step);
       stops = quiet_stops item answered (log_at new.control) (state_at view old.sound old.control) (state_at view new.sound new.control) (view_of view seen o old) (view_of view seen q new) (seen_as view seen o old) store
           (quiet_then (view_of view seen o old) (view_of view seen a begun) (view_of view seen q new) empties.quiet stays.quiet);
-      keeps = record { hops = keeps.hops ∙ emptied.hops; room = keeps.room };
+      keeps = keeps_emptied view old begun new emptied keeps;
     }
       where
         was : Bool

@@ -87,7 +87,7 @@ paper_performs {M} {S} view seen o a old begun valid here there empties store ro
     step = subst (λ hops. IsStep hops (event_at view (Asks Paper) (if_printer found) old begun)) emptied.hops
         (subst (λ (s : HostState). IsStep (hops_at begun.control) (event_from s)) emptied.state begun_step);
     stops = quiet_stops (Asks Paper) (if_printer found) (log_at begun.control) (state_at view old.sound old.control) (state_at view begun.sound begun.control) (view_of view seen o old) (view_of view seen a begun) (seen_as view seen o old) store empties.quiet;
-    keeps = record { hops = emptied.hops; room = emptied.room room };
+    keeps = record { hops = emptied.hops; room = emptied.room room; images = emptied.images };
   },
 )
   where

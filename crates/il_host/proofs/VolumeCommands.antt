@@ -26,19 +26,21 @@ use Rattle.host_model.specs.Next.{StatusBehindVolume}
 use Rattle.host_model.specs.Steps.{Exchanged, is_fault, is_frame_fault}
 use Rattle.il_host.specs.Standings.{HasDriveStatus, FitsAnswer, HasLogRoom, MakesSound, event_at, hops_at, log_at, state_at}
 use Rattle.il_host.proofs.CommandTravels.{event_by}
+use Rattle.il_host.proofs.Images.{KeepsAt, KeepsMedium, images_then}
 use Rattle.il_host.proofs.VolumeCarries.{CarriesAs, carries_by}
 use Rattle.il_host.proofs.VolumeExchanges.{CarriesBy, Started, frame_joined, joined_broken, volume_exchanged}
 use Rattle.il_host.proofs.VolumeNext.{volume_heard, volume_next}
-use Rattle.il_host.proofs.VolumeStarts.{MadeSound, StartBroke, made_sound, start_broke}
+use Rattle.il_host.proofs.VolumeStarts.{Emptied, MadeSound, StartBroke, made_sound, start_broke}
 use Rattle.il_host.proofs.VolumeSteps.{Behind, Here, StatusAs, TellsLoop, at_ring, behind, here_at, hops_rings, ready_behind, state_rings, tells_rings, within_room}
-use Rattle.il_host.proofs.VolumeTravels.{WentBy, one_talks, volume_went, went_loop, went_place, went_plan, went_room, went_travels}
+use Rattle.il_host.proofs.VolumeTravels.{WentBy, one_talks, volume_went, went_images, went_loop, went_place, went_plan, went_room, went_travels}
 
 -- ---- what a command keeps
 
--- The plan of faults stays, and so does the room of the log.
+-- The plan of faults stays, and so does the room of the log. No image changes but the one in the drive.
 pub record KeepsRing {M : Type 0} (view : M → MediumView) (old new : LoopView M) : Type 0 where
   pub hops : hops_at new.control ≡ hops_at old.control
   pub room : HasLogRoom view new.control
+  pub images : KeepsAt view old.control new.control
 
 module _ {M : Type 0} (view : M → MediumView) where
   pub room_at : (is : Bool) (c : Standing M) (r : RingView M) → c ≡ at_ring is r → HasLogRoom view c → r.books.room ≡ log_room (view r.drive.medium).record_count
@@ -78,12 +80,26 @@ module _ {M : Type 0} (view : M → MediumView) where
       by true = refl
       by false = refl
 
+  images_on : (was is : Bool) (c d : Standing M) (r s : RingView M) → c ≡ at_ring was r → d ≡ at_ring is s → KeepsMedium (view r.drive.medium) (view s.drive.medium) → KeepsAt view c d
+  images_on was is c d r s one two kept = subst (λ (d : Standing M). KeepsAt view c d) (sym two) (subst (λ (c : Standing M). KeepsAt view c (at_ring is s)) (sym one) (by was is))
+    where
+      by : (was is : Bool) → KeepsAt view (at_ring was r) (at_ring is s)
+      by true true = kept
+      by true false = kept
+      by false true = kept
+      by false false = kept
+
   pub keeps_rings : (old new : LoopView M) (was is : Bool) (r s : RingView M) → old.control ≡ at_ring was r → new.control ≡ at_ring is s → WentBy view r s → (view s.drive.medium).record_count ≡ (view r.drive.medium).record_count → HasLogRoom view old.control
       → KeepsRing view old new
   keeps_rings old new was is r s one two went size room = record {
     hops = ap (λ (c : Standing M). hops_at c) two ∙ hops_rings view is s ∙ ap hops_of (went_plan view r s went) ∙ sym (hops_rings view was r) ∙ ap (λ (c : Standing M). hops_at c) (sym one);
     room = room_on is new.control s two (went_room view r s went ∙ room_at was old.control r one room ∙ ap log_room (sym size));
+    images = images_on was is old.control new.control r s one two (went_images view r s went);
   }
+
+  -- What is kept from the emptying of the log on, is kept from before it.
+  pub keeps_emptied : (old begun new : LoopView M) → Emptied view old begun → KeepsRing view begun new → KeepsRing view old new
+  keeps_emptied old begun new emptied keeps = record { hops = keeps.hops ∙ emptied.hops; room = keeps.room; images = images_then _ _ _ _ _ _ emptied.images keeps.images }
 
 -- ---- the reply
 

@@ -1,5 +1,5 @@
 -- A command of the volume, from the moment at which its log is emptied to its reply, is a step of a run.
-use Rattle.std.proofs.Common.{◌≡◌, ◌∙◌, ◌≤◌, ℕ, false, Option, Some, refl, sym, subst}
+use Rattle.std.proofs.Common.{◌≡◌, ◌≤◌, ℕ, false, Option, Some, refl, sym, subst}
 use Rattle.std.specs.Prelude.{Ok, Err}
 use Rattle.lif_model.specs.Apply.{Refusal, VolumeCommand, apply}
 use Rattle.lif_model.specs.Tape.{Tape}
@@ -21,12 +21,12 @@ use Rattle.host_model.specs.Steps.{Event, IsStep}
 use Rattle.host_model.specs.Stops.{StopsLeave}
 use Rattle.il_host.specs.Standings.{HasDriveStatus, HasLogRoom, MakesSound, event_at, fault_of, hops_at, log_at, state_at}
 use Rattle.il_host.proofs.VolumeCarries.{CarriesAs, none_carried}
-use Rattle.il_host.proofs.VolumeCommands.{KeepsRing, volume_broke, volume_done}
+use Rattle.il_host.proofs.VolumeCommands.{KeepsRing, keeps_emptied, volume_broke, volume_done}
 use Rattle.il_host.proofs.VolumeReplied.{IsSeenAs, StaysQuiet, broke_quiet, broke_replied, broke_stops, fits_fault, fits_refused, made_quiet, quiet_then, seen_as, seen_still, volume_answered, volume_stops, volume_troubled}
 use Rattle.il_host.proofs.VolumeStarts.{Emptied, volume_begun}
 use Rattle.il_host.proofs.VolumeSteps.{volume_step}
 
--- The command is a step, a power stop during it leaves what it may leave, and plan and room stay.
+-- The command is a step, a power stop during it leaves what it may leave, and plan, room and images stay.
 pub record Performs {M S : Type 0} (view : M → MediumView) (seen : S → RingView M) (o q : Option S) (item : Item) (answered : Reply) (old new : LoopView M) : Type 0 where
   pub step : IsStep (hops_at old.control) (event_at view item answered old new)
   pub stops : StopsLeave (event_at view item answered old new) (view_of view seen o old).moment (view_of view seen q new).moment (view_of view seen o old).left_since (view_of view seen q new).left_since
@@ -47,7 +47,7 @@ module _ {M S : Type 0} (view : M → MediumView) (seen : S → RingView M) (o a
     step = subst (λ hops. IsStep hops (event_at view (Asks (OfVolume command)) answered old new)) emptied.hops
         (subst (λ (s : HostState). IsStep (hops_at begun.control) (event_from s)) emptied.state step);
     stops = subst (λ (s : HostState). StopsLeave (event_from s) (view_of view seen o old).moment (view_of view seen q new).moment (view_of view seen o old).left_since (view_of view seen q new).left_since) emptied.state stops;
-    keeps = record { hops = keeps.hops ∙ emptied.hops; room = keeps.room };
+    keeps = keeps_emptied view old begun new emptied keeps;
   }
     where
       event_from : HostState → Event

@@ -16,6 +16,7 @@ use Rattle.host_model.specs.Requests.{Item}
 use Rattle.host_model.specs.HostStates.{log_room}
 use Rattle.host_model.specs.Steps.{Travels}
 use Rattle.il_host.proofs.CommandTravels.{event_by, event_on, travels_came, travels_none}
+use Rattle.il_host.proofs.Images.{KeepsMedium, came_images, same_images}
 use Rattle.il_host.proofs.LoopReady.{StandsAt}
 use Rattle.il_host.proofs.Sounding.{travels_sounding}
 use Rattle.il_host.proofs.VolumeExchanges.{EndsBy, Started, joined}
@@ -47,6 +48,10 @@ module _ {M : Type 0} (view : M → MediumView) (r s : RingView M) (went : WentB
 
   pub went_room : s.books.room ≡ r.books.room
   went_room = ⊎_elim (λ same. ap (λ (s : RingView M). s.books.room) same) (λ so. so.1.talked.adds.room) went
+
+  -- and no image changes but the one in the drive
+  pub went_images : KeepsMedium (view r.drive.medium) (view s.drive.medium)
+  went_images = ⊎_elim (λ same. same_images view r.drive.medium s.drive.medium (ap (λ (s : RingView M). s.drive.medium) same)) (λ so. came_images view so.0 r s so.1) went
 
   -- what the frames did
   pub went_travels : (item : Item) (answer : Reply) (was is sound sound_now : Bool) → r.books.log ≡ [] → is_at_most_one (talkers (roles_of (devices_of r))) ≡ true

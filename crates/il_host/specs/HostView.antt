@@ -1,6 +1,8 @@
 -- What contracts see of a host, and what a command does to it.
 use Rattle.std.specs.Prelude.{◌≡◌, ◌≤◌, ℕ, true, List, Option, Some, is_some}
+use Rattle.lif_model.specs.Shelf.{Shelf}
 use Rattle.lif_model.specs.Tape.{Tape, IsTape}
+use Rattle.il_ports.specs.Inserting.{OthersAreKept}
 use Rattle.il_frames.specs.declared.entry.Entry.{Entry}
 use Rattle.loop_model.specs.Roles.{is_at_most_one, talkers}
 use Rattle.il_script.specs.declared.reply.Reply.{Reply}
@@ -21,10 +23,18 @@ pub record HostView : Type 1 where
   -- the log of the last command, and the text of its reply
   pub log : List Entry
   pub text : List ℕ
+  -- the images of the medium, where they are told, and the name of the one in the drive
+  pub images : Option Shelf
+  pub inside : Option (List ℕ)
   -- the medium's time, which never falls
   pub moment : ℕ
   -- a power stop at some moment since that one may have left this tape
   pub left_since : ℕ → Tape → Type 0
+
+-- the same image is in the drive, and every other one is as before
+pub record KeepsImages (inside inside_now : Option (List ℕ)) (old now : Option Shelf) : Type 0 where
+  pub same : inside_now ≡ inside
+  pub others : OthersAreKept inside old now
 
 -- what holds of every host between its commands
 pub record IsHost (v : HostView) : Type 0 where
@@ -41,10 +51,11 @@ abbrev pub event_between : Item → Reply → HostView → HostView → Event
 event_between item reply v w = record { item = item; reply = reply; log = w.log; before = v.state; after = w.state }
 
 -- The host performed a command and replied so: that is a step of a run. The text is that of the reply, where what it depends on is
--- told. A power stop during the command leaves what it may leave.
+-- told. A power stop during the command leaves what it may leave, and no other image changes.
 pub record Performed (item : Item) (reply : Reply) (v w : HostView) : Type 0 where
   pub valid : w.valid
   pub hops : w.hops ≡ v.hops
   pub step : IsStep v.hops (event_between item reply v w)
   pub text : TellsReply item v.state → w.text ≡ reply_text item v.state reply
   pub stops : StopsLeave (event_between item reply v w) v.moment w.moment v.left_since w.left_since
+  pub images : KeepsImages v.inside w.inside v.images w.images

@@ -16,7 +16,7 @@ use Rattle.lif_model.specs.Tape.{Tape}
 use Rattle.host_model.specs.HostStates.{HostState, fresh_host, text_room}
 use Rattle.il_host.specs.HostView.{HostView}
 use Rattle.il_host.specs.Shorts.{AllShort}
-use Rattle.il_host.specs.Standings.{HasLogRoom, state_at, log_at, hops_at}
+use Rattle.il_host.specs.Standings.{HasLogRoom, state_at, log_at, hops_at, images_at, inside_at}
 
 -- The volume can be used, and the loop stands. There is room for every log, for the text of every reply, and for the records of every
 -- file; and no device keeps more than there is room for.
@@ -37,6 +37,8 @@ host_view view valid store loop text = record {
   hops = hops_at loop.control;
   log = log_at loop.control;
   text = text;
+  images = images_at view loop.control;
+  inside = inside_at view loop.control;
   moment = store.moment;
   left_since = store.left_since;
 }
@@ -66,6 +68,8 @@ pub record IsOpened {M : Type 0} (view : M → MediumView) (medium : M) (before 
   pub valid : v.valid
   pub state : v.state ≡ fresh_host (view medium).tape (view medium).record_count (view medium).faults before after
   pub hops_are : v.hops ≡ hops
+  pub images : v.images ≡ (view medium).shelf
+  pub inside : v.inside ≡ (view medium).inside
   pub moment : v.moment ≡ (view medium).moment
   pub since : StandsStill (view medium).left_since v.left_since
 
@@ -73,6 +77,8 @@ pub record IsOpened {M : Type 0} (view : M → MediumView) (medium : M) (before 
 pub record IsClosed {M : Type 0} (view : M → MediumView) (v : HostView) (medium : M) (before after : List DeviceState) : Type 0 where
   pub tape : (view medium).tape ≡ v.state.tape
   pub faults : (view medium).faults ≡ v.state.faults
+  pub shelf : (view medium).shelf ≡ v.images
+  pub inside : (view medium).inside ≡ v.inside
   pub devices_before : before ≡ v.state.loop.before
   pub devices_after : after ≡ v.state.loop.after
   pub moment : (view medium).moment ≡ v.moment

@@ -9,3 +9,5 @@ pub mod IsHosts
 pub mod PlainCommands
 pub mod Words
 pub mod Whole
+pub mod Generating
+pub mod Buffers

@@ -1,5 +1,5 @@
 -- What the loop over a script leaves, by how it ends.
-use Rattle.std.specs.Prelude.{◌≡◌, ℕ, Bool, true, List, Option, None, Result, is_some}
+use Rattle.std.specs.Prelude.{◌≡◌, ℕ, true, List, Option, Result, is_some}
 use Rattle.lif_model.specs.Stops.{LeavesOnly}
 use Rattle.il_frames.specs.declared.entry.Entry.{Entry}
 use Rattle.il_script.specs.declared.reply.Reply.{Reply}
@@ -7,12 +7,11 @@ use Rattle.host_model.specs.Requests.{Item, Asks, NoCommand, request_of}
 use Rattle.host_model.specs.HostStates.{HasOwnGate}
 use Rattle.host_model.specs.Steps.{Event, IsStep, TellsReply}
 use Rattle.host_model.specs.Stops.{StopsLeave, LeftWithin}
-use Rattle.host_model.specs.Runs.{Chained, items_asked, event_text}
+use Rattle.host_model.specs.Runs.{Chained, OutputMode, items_asked, event_text}
 use Rattle.host_model.specs.Endings.{RunEnd}
 use Rattle.host_model.specs.Endings as end
-use Rattle.host_model.specs.Orders.{quiet_mode}
-use Rattle.host_model.specs.Leaves.{AsksAs, IsOkAs, WritesAs}
-use Rattle.il_host.specs.HostView.{HostView}
+use Rattle.host_model.specs.Leaves.{AsksAs, IsOkAs, TellsTexts, WritesAs}
+use Rattle.il_host.specs.HostView.{HostView, KeepsImages}
 use Rattle.il_host.specs.Writing.{WritesAll}
 use Rattle.il_host.specs.declared.ending.Ending.{Ending}
 use Rattle.il_host.specs.declared.ending.Ending.TheVariants as ending
@@ -44,25 +43,27 @@ item_asked (asked.NoCommand code) bytes = NoCommand code
 abbrev pub event_of : Item → Reply → List Entry → HostView → HostView → Event
 event_of item reply log v w = record { item = item; reply = reply; log = log; before = v.state; after = w.state }
 
--- The item was answered so, and what is told of it was written as far as the result says: that is a step of a run, and a power stop
--- during it leaves what it may leave.
-pub record Answers {E : Type 0} (item : Item) (reply : Reply) (quiet : Bool) (v w : HostView) (before now : Option (List ℕ)) (written : Result (Unit {0}) E) : Type 0 where
+-- The item was answered so, and what is told of it was written as far as the result says: that is a step of a run, a power stop
+-- during it leaves what it may leave, and no other image changes.
+pub record Answers {E : Type 0} (item : Item) (reply : Reply) (mode : OutputMode) (v w : HostView) (before now : Option (List ℕ)) (written : Result (Unit {0}) E) : Type 0 where
   pub log : List Entry
   pub valid : w.valid
   pub hops : w.hops ≡ v.hops
   pub step : IsStep v.hops (event_of item reply log v w)
   pub stops : StopsLeave (event_of item reply log v w) v.moment w.moment v.left_since w.left_since
-  pub bytes : TellsReply item v.state → WritesAll before now (event_text (quiet_mode quiet) (event_of item reply log v w)) written
+  pub bytes : TellsReply item v.state → WritesAll before now (event_text mode (event_of item reply log v w)) written
+  pub images : KeepsImages v.inside w.inside v.images w.images
 
 -- ---- the script
 
 -- One list of events from the host's state before on meets all that is said of the loop: each is a step, and begins where the one
--- before it ends; the items are those of the script; their texts were written; and each tape that a stop since the loop began may
--- have left is one of theirs.
-pub record AnswersScript (ending : Ending) (quiet : Bool) (v w : HostView) (left_before left_now written_before written_now : Option (List ℕ)) : Type 0 where
+-- before it ends; the items are those of the script, or of the one that is generated; their texts were written; each tape that a stop
+-- since the loop began may have left is one of theirs; and no other image changed.
+pub record AnswersScript (generated : Option (ℕ × ℕ)) (ending : Ending) (mode : OutputMode) (v w : HostView) (left_before left_now written_before written_now : Option (List ℕ)) : Type 0 where
   pub events : List Event
   pub chain : Chained v.hops v.state events w.state
-  pub asks : AsksAs None (end_of ending) left_before left_now (items_asked events)
+  pub asks : AsksAs generated (end_of ending) left_before left_now (items_asked events)
   pub ok : IsOkAs (end_of ending) events
-  pub writes : is_some v.state.tape ≡ true → WritesAs (end_of ending) (quiet_mode quiet) events written_before written_now
+  pub writes : TellsTexts mode v.state → WritesAs (end_of ending) mode events written_before written_now
   pub stops : is_some v.state.tape ≡ true → HasOwnGate v.state → LeavesOnly v.moment w.moment v.left_since w.left_since (LeftWithin events w.state)
+  pub images : KeepsImages v.inside w.inside v.images w.images

@@ -1,5 +1,6 @@
 -- What stands between two commands, by the controller of the loop, and what a command does before it asks the volume.
-use Rattle.std.specs.Prelude.{◌≡◌, ◌≤◌, ℕ, Bool, true, false, List, [], None, Some, Result, Ok, Err}
+use Rattle.std.specs.Prelude.{◌≡◌, ◌≤◌, ℕ, Bool, true, false, List, [], Option, None, Some, Result, Ok, Err}
+use Rattle.lif_model.specs.Shelf.{Shelf}
 use Rattle.il_frames.specs.declared.entry.Entry.{Entry}
 use Rattle.il_ports.specs.Media.{MediumView}
 use Rattle.il_ports.specs.declared.records.Trouble.{Trouble}
@@ -31,6 +32,17 @@ abbrev pub log_at : {M : Type 0} → Standing M → List Entry
 log_at (AtIdle r) = r.books.log
 log_at (AtLost r) = r.books.log
 log_at Nowhere = []
+
+-- the images of the medium, and the name of the one in the drive
+abbrev pub images_at : {M : Type 0} → (M → MediumView) → Standing M → Option Shelf
+images_at view (AtIdle r) = (view r.drive.medium).shelf
+images_at view (AtLost r) = (view r.drive.medium).shelf
+images_at view Nowhere = None
+
+abbrev pub inside_at : {M : Type 0} → (M → MediumView) → Standing M → Option (List ℕ)
+inside_at view (AtIdle r) = (view r.drive.medium).inside
+inside_at view (AtLost r) = (view r.drive.medium).inside
+inside_at view Nowhere = None
 
 -- the crossings at which faults are planned
 abbrev pub hops_at : {M : Type 0} → Standing M → List ℕ

@@ -1,5 +1,6 @@
 -- What a whole run leaves, by how it ends.
-use Rattle.std.specs.Prelude.{◌≡◌, ◌==◌, ℕ, Bool, true, List, [], Option, None, if◌then◌else◌, is_some}
+use Rattle.std.specs.Prelude.{◌≡◌, ◌==◌, ℕ, true, List, [], Option, None, if◌then◌else◌, is_some}
+use Rattle.lif_model.specs.Shelf.{IsSize}
 use Rattle.lif_model.specs.Stops.{LeavesOnly}
 use Rattle.lif_model.specs.Tape.{Tape}
 use Rattle.il_device.specs.State.{DeviceState}
@@ -10,8 +11,9 @@ use Rattle.host_model.specs.Stops.{LeftWithin}
 use Rattle.host_model.specs.Runs.{Chained, items_asked}
 use Rattle.host_model.specs.Histories.{RunTells}
 use Rattle.host_model.specs.Endings.{RunEnd, HasNoTape, HasEndingCause, IsEarly, exit_status}
-use Rattle.host_model.specs.Orders.{Outside, HandsBack, quiet_mode}
-use Rattle.host_model.specs.Leaves.{AsksAs, IsOkAs, WritesAs, LeavesBy}
+use Rattle.host_model.specs.Orders.{Order, Outside, HandsBack, mode_of}
+use Rattle.host_model.specs.Leaves.{AsksAs, IsOkAs, TellsTexts, WritesAs, LeavesBy}
+use Rattle.il_host.specs.HostView.{KeepsImages}
 use Rattle.il_host.specs.Words.{order_in}
 
 -- ---- what a run finds outside, and hands back
@@ -38,19 +40,22 @@ MayHaveLeft v w x = (is_some v.shelf ≡ true) × w.left_since v.moment x
 
 -- ---- the script
 
--- A host was opened on the medium v and the devices of `old`, answered the script, and handed back w and those of `now`.
-pub record AnswersOver (end : RunEnd) (quiet : Bool) (v w : MediumView) (old now : Outside) : Type 0 where
+-- A host with the faults planned that the words ask for was opened on the medium v and the devices of `old`, answered the script that
+-- they ask for, and handed back w and the devices of `now`.
+pub record AnswersOver (order : Order) (end : RunEnd) (v w : MediumView) (old now : Outside) : Type 0 where
   pub events : List Event
   pub start : HostState
   pub finish : HostState
   pub fresh : start ≡ fresh_host v.tape v.record_count v.faults old.before old.after
-  pub chain : Chained [] start events finish
-  pub tells : RunTells [] start events finish
-  pub asks : AsksAs None end old.left now.left (items_asked events)
+  pub chain : Chained order.hops start events finish
+  pub tells : RunTells order.hops start events finish
+  pub asks : AsksAs order.generated end old.left now.left (items_asked events)
   pub ok : IsOkAs end events
-  pub writes : is_some start.tape ≡ true → WritesAs end (quiet_mode quiet) events old.written now.written
+  pub writes : TellsTexts (mode_of order) start → WritesAs end (mode_of order) events old.written now.written
   pub back : HandsBack finish now
   pub stops : is_some start.tape ≡ true → HasOwnGate start → LeavesOnly v.moment w.moment v.left_since w.left_since (LeftWithin events finish)
+  pub size : IsSize w.record_count
+  pub images : KeepsImages v.inside w.inside v.shelf w.shelf
 
 -- ---- the whole run
 

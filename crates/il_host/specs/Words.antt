@@ -1,23 +1,17 @@
--- What the words of the program ask for.
-use Rattle.std.specs.Prelude.{ℕ, Bool, true, false, List, [], ◌∷◌, Option, Some, None, if◌then◌else◌, codes, nat_eq, option_map}
-use Rattle.std.specs.List.{starts_with}
-use Rattle.std.specs.Str.{bytes_eq}
+-- What a run makes of the words of the program.
+use Rattle.std.specs.Prelude.{ℕ, List, Option, option_map}
+use Rattle.il_words.specs.declared.generate.Generated.{Generated}
+use Rattle.il_ring.specs.Plans.{hops_of}
+use Rattle.il_words.specs.Asked.{Asked, words_in}
 use Rattle.host_model.specs.Orders.{Order}
 
--- an image that is there, and the script that is read
-abbrev pub order_of : Bool → List ℕ → Order
-order_of quiet image = record { image = image; made = None; hops = []; quiet = quiet; generated = None }
+-- a script that is generated, by its seed and its number of lines
+abbrev pub script_of : Generated → ℕ × ℕ
+script_of generated = (generated.seed, generated.count)
 
--- a word that begins with a dash names no image
-abbrev pub image_word : List ℕ → Option (List ℕ)
-image_word word = if starts_with nat_eq word (codes "-") then None else Some word
+abbrev pub order_of : Asked → Order
+order_of asked = record { image = asked.image; made = asked.made; hops = hops_of asked.plan; quiet = asked.quiet; generated = asked.generated }
 
-abbrev pub order_by : Bool → List ℕ → Option Order
-order_by quiet word = option_map (order_of quiet) (image_word word)
-
--- `IMAGE`, or `--quiet IMAGE`
+-- None where the words are not those of the program
 abbrev pub order_in : List (List ℕ) → Option Order
-order_in [] = None
-order_in (word ∷ []) = order_by false word
-order_in (flag ∷ word ∷ []) = if bytes_eq flag (codes "--quiet") then order_by true word else None
-order_in (flag ∷ word ∷ next ∷ words) = None
+order_in words = option_map order_of (words_in words)

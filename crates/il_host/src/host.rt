@@ -52,7 +52,7 @@ impl<M: Medium + Drop> Performer for Host<M> {
 
     ghost is_host = { λ h valid. is_host_at M.view _ h.volume h.page.text h.page.room (length h.file.items) M.is_medium valid };
 
-    fn perform_next(&mut self, command: &Command, bytes: &[u8]) -> Reply {
+    fn perform(&mut self, command: &Command, bytes: &[u8]) -> Reply {
         self.page.clear();
         match command {
             Command::Dir => self.dir(),
@@ -75,11 +75,11 @@ impl<M: Medium + Drop> Performer for Host<M> {
         }
     }
 
-    fn last_text(&self) -> &[u8] {
+    fn text(&self) -> &[u8] {
         self.page.text()
     }
 
-    fn last_log(&self) -> &[Entry] {
+    fn log(&self) -> &[Entry] {
         self.volume.records().ring().log()
     }
 }

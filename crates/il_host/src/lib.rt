@@ -5,6 +5,7 @@
 #![tactic(auto)]
 
 mod ending;
+mod generating;
 mod host;
 mod listing;
 mod loop_commands;
@@ -14,8 +15,8 @@ mod parts;
 mod performer;
 mod run;
 mod running;
+mod scripts;
 mod volume_commands;
-mod words;
 mod write;
 
 pub use ending::Ending;

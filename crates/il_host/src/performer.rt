@@ -12,19 +12,19 @@ pub trait Performer {
     ghost view: { Self → HostView };
 
     /// Performs a command that a script can ask for, with the bytes that its line carries.
-    fn perform_next(&mut self, command: &Command, bytes: &[u8]) -> Reply
+    fn perform(&mut self, command: &Command, bytes: &[u8]) -> Reply
         requires valid { (view self.old).valid }
         requires plain { IsPlain command.now }
         requires few { length bytes.now ≤ LONGEST_PAYLOAD }
         ensures { Performed (Asks (request_of command.now bytes.now)) result (view self.old) (view self.new) };
 
     /// The text of the reply to the last command.
-    fn last_text(&self) -> &[u8]
+    fn text(&self) -> &[u8]
         requires { (view self.now).valid }
         ensures { result.now ≡ (view self.now).text };
 
     /// The log of the last command, oldest entry first.
-    fn last_log(&self) -> &[Entry]
+    fn log(&self) -> &[Entry]
         requires { (view self.now).valid }
         ensures { result.now ≡ (view self.now).log };
 

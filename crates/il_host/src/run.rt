@@ -1,4 +1,4 @@
-ghost use Rattle.std.specs.Prelude.{◌≡◌, ◌≢◌, ◌+◌, ◌≤◌, map, length, string_bytes};
+ghost use Rattle.std.specs.Prelude.{◌≡◌, ◌≢◌, ◌+◌, ◌<◌, ◌≤◌, map, length, string_bytes, IfSome};
 ghost use Rattle.std.specs.List.{All};
 ghost use Rattle.lif_model.specs.Shelf.{IsSize};
 ghost use Rattle.il_ring.specs.Rings.{MayStand};
@@ -7,17 +7,18 @@ ghost use Rattle.host_model.specs.Leaves.{LeavesBy};
 ghost use Rattle.il_host.specs.Shorts.{IsShort};
 ghost use Rattle.il_host.specs.Run.{end_of};
 ghost use Rattle.il_host.specs.Whole.{AnswersOver, MayHaveLeft, RunLeaves, outside};
-ghost use Rattle.il_host.specs.Words.{order_in};
+ghost use Rattle.il_host.specs.Words.{order_in, order_of};
+ghost use Rattle.il_words.specs.Asked.{asked_by};
+ghost use Rattle.il_ring.specs.Plans.{IsPlan};
 ghost use Rattle.il_host.specs.declared.ending.Ending.{Ending};
 
 use crate::ending::Ending;
 use crate::host::Host;
-use crate::running::answer_all;
-use crate::words::read_words;
+use crate::scripts::{Buffers, answer_script};
 use il_device::Device;
-use il_ports::{Inserted, Medium, New, Sink, Source};
+use il_ports::{Inserted, Medium, Sink, Source};
 use il_ring::Rig;
-use il_script::{Lines, Payload};
+use il_words::{Words, WordsFault, read_words};
 use std::alloc::Global;
 
 /// How a run ended, and what it hands back.
@@ -29,10 +30,10 @@ pub struct Ended<M: Medium> {
     pub rig: Rig<M>,
 }
 
-// Opens the host on the tape that is in the drive, and answers the script.
+// Opens the host on the tape that is in the drive, with the faults that are planned, and answers the script.
 fn run_script<S: Source, K: Sink, M: Medium + Drop>(
     alloc: Global,
-    quiet: bool,
+    words: &Words<'_>,
     script: &mut S,
     out: &mut K,
     rig: Rig<M>,
@@ -43,7 +44,9 @@ fn run_script<S: Source, K: Sink, M: Medium + Drop>(
     requires short_before { All (λ b. IsShort (⟦<Box<dyn Device> as Device>⟧.state b)) rig.before.items }
     requires short_after { All (λ b. IsShort (⟦<Box<dyn Device> as Device>⟧.state b)) rig.after.items }
     requires size { IsSize (M.view rig.medium).record_count }
-    ensures over { result.0 ≢ Ending.OutOfMemory → AnswersOver (end_of result.0) quiet (M.view rig.medium) (M.view result.1.medium)
+    requires plan { IsPlan words.now.plan.items }
+    requires seed { IfSome words.now.generated (λ g. g.seed < 2147483648) }
+    ensures over { result.0 ≢ Ending.OutOfMemory → AnswersOver (order_of (asked_by words.now)) (end_of result.0) (M.view rig.medium) (M.view result.1.medium)
         (outside (M.view rig.medium) (S.left script.old) (K.written out.old) (map ⟦<Box<dyn Device> as Device>⟧.state rig.before.items) (map ⟦<Box<dyn Device> as Device>⟧.state rig.after.items))
         (outside (M.view result.1.medium) (S.left script.new) (K.written out.new) (map ⟦<Box<dyn Device> as Device>⟧.state result.1.before.items) (map ⟦<Box<dyn Device> as Device>⟧.state result.1.after.items)) }
     ensures kept { result.0 ≡ Ending.OutOfMemory → (result.1.medium ≡ rig.medium)
@@ -54,12 +57,19 @@ fn run_script<S: Source, K: Sink, M: Medium + Drop>(
         (K.faults out.old) (K.faults out.new) (M.view rig.medium).faults (M.view result.1.medium).faults }
     ensures inside { HasNoTape (end_of result.0) → ⊥ }
 {
-    let (Ok(lines), Ok(payload)) = (Lines::new(alloc), Payload::new(alloc)) else {
+    let Ok(buffers) = Buffers::new(alloc) else {
         return (Ending::OutOfMemory, rig);
     };
-    match Host::open(alloc, rig, &[]) {
+    match Host::open(alloc, rig, words.plan.as_slice()) {
         Ok(mut host) => {
-            let ending = answer_all(lines, payload, script, &mut host, out, quiet);
+            let ending = answer_script(
+                buffers,
+                words.generated,
+                words.quiet,
+                script,
+                &mut host,
+                out,
+            );
             (ending, host.close())
         }
         Err(refused) => (Ending::OutOfMemory, refused.rig),
@@ -89,11 +99,13 @@ fn run<S: Source, K: Sink, M: Medium + Drop>(
     ensures empty { HasNoTape (end_of result.0) → (M.view result.1.medium).record_count ≡ 0 }
     ensures untouched { IsEarly (end_of result.0) → (script.new ≡ script.old) × (out.new ≡ out.old) }
 {
-    let Some((name, quiet)) = read_words(words) else {
-        return (Ending::BadWords, rig);
+    let words = match read_words(alloc, words) {
+        Ok(words) => words,
+        Err(WordsFault::Refused) => return (Ending::BadWords, rig),
+        Err(WordsFault::OutOfMemory) => return (Ending::OutOfMemory, rig),
     };
-    match rig.medium.insert(name, New::No) {
-        Ok(Inserted::Tape) => run_script(alloc, quiet, script, out, rig),
+    match rig.medium.insert(words.image, words.made) {
+        Ok(Inserted::Tape) => run_script(alloc, &words, script, out, rig),
         Ok(Inserted::NoSuch) => (Ending::NoImage, rig),
         Ok(Inserted::BadSize(_)) => (Ending::ImageTooLarge, rig),
         Err(_) => (Ending::InsertFailed, rig),

@@ -1,8 +1,9 @@
-ghost use Rattle.std.specs.Prelude.{◌≡◌, ◌≤◌, [], false, length, option_map, IfSome};
+ghost use Rattle.std.specs.Prelude.{◌≡◌, ◌≤◌, [], Some, None, false, length, option_map, IfSome};
 ghost use Rattle.lif_model.specs.Causes.{HasCause};
-ghost use Rattle.il_script.specs.declared.limits.TheConstants.{LONGEST_PAYLOAD};
+ghost use Rattle.il_script.specs.declared.limits.TheConstants.{LONGEST_LINE, LONGEST_PAYLOAD};
 ghost use Rattle.il_script.specs.Progress.{Stands, line_given};
 ghost use Rattle.host_model.specs.Endings.{IsEarly, HasEndingCause};
+ghost use Rattle.host_model.specs.Orders.{quiet_mode};
 ghost use Rattle.host_model.specs.Requests.{item_of};
 ghost use Rattle.il_host.specs.PlainCommands.{IsPlainAsked};
 ghost use Rattle.il_host.specs.Run.{Answers, AnswersScript, end_of, item_asked};
@@ -15,11 +16,24 @@ use il_script::{Code, Command, Line, Lines, Payload, Reply, read_line};
 
 // What a line asks for, where it is not skipped.
 #[derive(Clone, Copy, Debug, PartialEq, Eq)]
-enum Asked {
+pub(crate) enum Asked {
     // A command, with the bytes of the payload.
     Command(Command),
     // Nothing that is understood. The line is answered by this code.
     NoCommand(Code),
+}
+
+// What the text of a line asks for, where it is not skipped.
+pub(crate) fn read_text(text: &[u8], payload: &mut Payload) -> Option<Asked>
+    requires { length text.now ≤ LONGEST_LINE }
+    ensures item { option_map (λ asked. item_asked asked payload.new) result ≡ item_of (Some text.now) }
+    ensures plain { IfSome result IsPlainAsked }
+{
+    match read_line(text, payload) {
+        Ok(None) => None,
+        Ok(Some(command)) => Some(Asked::Command(command)),
+        Err(fault) => Some(Asked::NoCommand(Code::from(fault))),
+    }
 }
 
 // What the line that was given last asks for.
@@ -29,11 +43,7 @@ fn read_asked(lines: &Lines, line: Line, payload: &mut Payload) -> Option<Asked>
     ensures plain { IfSome result IsPlainAsked }
 {
     match line {
-        Line::Text => match read_line(lines.text(), payload) {
-            Ok(None) => None,
-            Ok(Some(command)) => Some(Asked::Command(command)),
-            Err(fault) => Some(Asked::NoCommand(Code::from(fault))),
-        },
+        Line::Text => read_text(lines.text(), payload),
         _ => Some(Asked::NoCommand(Code::LineTooLong)),
     }
 }
@@ -49,17 +59,14 @@ fn answer<P: Performer, K: Sink>(
     requires valid { (P.view host.old).valid }
     requires plain { IsPlainAsked asked }
     requires few { length bytes.now ≤ LONGEST_PAYLOAD }
-    ensures answers { Answers (item_asked asked bytes.now) result.0 quiet (P.view host.old) (P.view host.new)
+    ensures answers { Answers (item_asked asked bytes.now) result.0 (quiet_mode quiet) (P.view host.old) (P.view host.new)
         (K.written out.old) (K.written out.new) result.1 }
     ensures sink { HasCause (K.faults out.old) (K.faults out.new) result.1 }
 {
     match asked {
         Asked::Command(command) => {
-            let reply = host.perform_next(&command, bytes);
-            (
-                reply,
-                write_told(out, host.last_log(), host.last_text(), quiet),
-            )
+            let reply = host.perform(&command, bytes);
+            (reply, write_told(out, host.log(), host.text(), quiet))
         }
         Asked::NoCommand(code) => {
             let reply = Reply::No(code);
@@ -81,7 +88,7 @@ pub fn answer_all<S: Source, P: Performer, K: Sink>(
     requires valid { (P.view host.old).valid }
     ensures valid { (P.view host.new).valid }
     ensures hops { (P.view host.new).hops ≡ (P.view host.old).hops }
-    ensures answers { AnswersScript result quiet (P.view host.old) (P.view host.new)
+    ensures answers { AnswersScript None result (quiet_mode quiet) (P.view host.old) (P.view host.new)
         (S.left script.old) (S.left script.new) (K.written out.old) (K.written out.new) }
     ensures cause { HasEndingCause (end_of result) (S.faults script.old) (S.faults script.new)
         (K.faults out.old) (K.faults out.new) (P.view host.old).state.faults (P.view host.new).state.faults }

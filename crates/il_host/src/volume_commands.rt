@@ -97,9 +97,7 @@ impl<M: Medium + Drop> Host<M> {
         if let Err(trouble) = self.make_sound() {
             return self.answered(fault_reply(trouble));
         }
-        // A file that is no shorter than the tape is refused, whatever it holds.
-        let front = &bytes[..bytes.len().min(self.file.len())];
-        let answer = self.volume.store(name, kind, implementation, front);
+        let answer = self.volume.store(name, kind, implementation, bytes);
         self.ended(answer)
     }
 

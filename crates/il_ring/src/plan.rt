@@ -4,8 +4,8 @@ ghost use Rattle.il_ring.specs.Plans.{fault_at, is_fault, rises_from, IsPlan};
 use il_frames::Frame;
 
 /// A fault that is planned at one crossing of a link. Crossings are counted from 1 over the life of
-/// a ring.
-#[derive(Clone, Copy, PartialEq, Eq, Debug)]
+/// a ring. The default is no planned fault, since there is no crossing 0: it fills the unused places of a list.
+#[derive(Clone, Copy, Default, PartialEq, Eq, Debug)]
 pub struct Planned {
     /// The number of the crossing, at least 1.
     pub hop: u64,
@@ -14,9 +14,10 @@ pub struct Planned {
 }
 
 /// What happens to a frame at a crossing.
-#[derive(Clone, Copy, PartialEq, Eq, Debug)]
+#[derive(Clone, Copy, Default, PartialEq, Eq, Debug)]
 pub enum PlanFault {
     /// It is lost.
+    #[default]
     Lose,
     /// The byte of a data or end frame becomes another, by exclusive or with this one, which is not
     /// 0. A frame that was altered before on its trip from its source back to its source is lost,

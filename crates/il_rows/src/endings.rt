@@ -14,75 +14,87 @@ fn ending_of(alloc: Global, given: &Given) -> Result<(u8, usize), AllocError> {
 }
 
 #[test]
+fn words_that_are_refused(rt: HostRuntime) -> Result<(), Fail> {
+    let alloc = rt.alloc();
+    let image = formatted(alloc)?;
+    let refused = [
+        "",
+        "-TAPE",
+        "TAPE TAPE",
+        "--help",
+        "--lose 0 TAPE",
+        "--lose 5 --alter 5:01 TAPE",
+        "--new --new-disc TAPE",
+    ];
+    for words in refused {
+        let given = Given::script(&image, b"dir\n").with_words(words);
+        assert_eq!(rt; ending_of(alloc, &given)?, (2, 0));
+    }
+    Ok(())
+}
+
+#[test]
 fn each_early_ending_has_its_status_and_writes_nothing(rt: HostRuntime) -> Result<(), Fail> {
     let alloc = rt.alloc();
     let image = formatted(alloc)?;
     let long = vec![in alloc; 0; 630_785]?;
     let dir = Given::script(&image, b"dir\n");
-    assert_eq!(rt; ending_of(alloc, &Given { words: &[], ..dir })?, (2, 0));
-    assert_eq!(rt;
-        ending_of(
-            alloc,
-            &Given {
-                words: &["-TAPE"],
-                ..dir
-            }
-        )?,
-        (2, 0)
-    );
-    assert_eq!(rt;
-        ending_of(
-            alloc,
-            &Given {
-                words: &["TAPE", "TAPE"],
-                ..dir
-            }
-        )?,
-        (2, 0)
-    );
-    assert_eq!(rt; ending_of(alloc, &Given { image: None, ..dir })?, (3, 0));
-    assert_eq!(rt;
-        ending_of(
-            alloc,
-            &Given {
-                words: &["tape"],
-                ..dir
-            }
-        )?,
-        (3, 0)
-    );
-    assert_eq!(rt; ending_of(alloc, &Given::script(&long, b"dir\n"))?, (4, 0));
-    assert_eq!(rt;
-        ending_of(
-            alloc,
-            &Given {
+    let other = dir.with_words("tape");
+    let cases = [
+        (Given { image: None, ..dir }, 3),
+        (other, 3),
+        (Given::script(&long, b"dir\n"), 4),
+        (
+            Given {
                 failing_takes: &[1],
                 ..dir
-            }
-        )?,
-        (5, 0)
-    );
-    assert_eq!(rt;
-        ending_of(
-            alloc,
-            &Given {
-                failing_writes: &[1],
+            },
+            5,
+        ),
+        (
+            Given {
+                failing_puts: &[1],
                 ..dir
-            }
-        )?,
-        (6, 0)
-    );
-    assert_eq!(rt; ending_of(alloc, &Given { room: 0, ..dir })?, (6, 0));
-    assert_eq!(rt;
-        ending_of(
-            alloc,
-            &Given {
+            },
+            6,
+        ),
+        (Given { room: 0, ..dir }, 6),
+        (
+            Given {
                 failing_inserts: &[1],
                 ..dir
-            }
-        )?,
-        (9, 0)
-    );
+            },
+            9,
+        ),
+    ];
+    for (given, status) in cases {
+        assert_eq!(rt; ending_of(alloc, &given)?, (status, 0));
+    }
+    Ok(())
+}
+
+#[test]
+fn a_sink_takes_what_it_has_room_for(rt: HostRuntime) -> Result<(), Fail> {
+    let alloc = rt.alloc();
+    let image = formatted(alloc)?;
+    let left = run(
+        alloc,
+        &Given {
+            room: 10,
+            ..Given::script(&image, b"label")
+        },
+    )?;
+    assert_eq!(rt; left.status, 6);
+    assert_eq!(rt; b"label HPTAPE\nok\n".starts_with(&left.output), true);
+    Ok(())
+}
+
+#[test]
+fn a_long_comment_is_skipped(rt: HostRuntime) -> Result<(), Fail> {
+    let alloc = rt.alloc();
+    let image = formatted(alloc)?;
+    let comment = vec![in alloc; b'#'; 262_144]?;
+    assert_eq!(rt; ending_of(alloc, &Given::script(&image, &comment))?, (0, 0));
     Ok(())
 }
 
@@ -125,11 +137,29 @@ fn a_fault_cuts_off_the_line_that_it_meets(rt: HostRuntime) -> Result<(), Fail> 
         alloc,
         &Given {
             failing_takes: &[2],
+            piece: 7,
             ..Given::script(&image, b"dir\ndir")
         },
     )?;
     assert_eq!(rt; left.status, 5);
     assert_eq!(rt; left.output.as_slice(), LISTED);
+    Ok(())
+}
+
+#[test]
+fn complete_lines_before_a_fault_are_answered(rt: HostRuntime) -> Result<(), Fail> {
+    let alloc = rt.alloc();
+    let image = formatted(alloc)?;
+    let left = run(
+        alloc,
+        &Given {
+            failing_takes: &[2],
+            piece: 6,
+            ..Given::script(&image, b"label\nlabel\n")
+        },
+    )?;
+    assert_eq!(rt; left.status, 5);
+    assert_eq!(rt; left.output.as_slice(), b"label HPTAPE\nok\n".as_slice());
     Ok(())
 }
 

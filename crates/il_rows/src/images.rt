@@ -10,6 +10,9 @@ pub const REDO_ENTRY: &[u8] =
 pub const END_ENTRY: &[u8] =
     b"\0\0\0\0\0\0\0\0\0\0\xFF\xFF\0\0\0\0\0\0\0\0\0\0\0\0\0\0\0\0\0\0\0\0";
 
+/// The entry of a file A of one record, the first behind the directory.
+const FILE_ENTRY: &[u8] = b"A         \0\x01\0\0\0\x04\0\0\0\x01\0\0\0\0\0\0\x80\x01\0\0\0\0";
+
 /// The header of a volume HPTAPE with room for sixteen entries in records 2 and 3.
 const HEADER: &[u8] =
     b"\x80\0HPTAPE\0\0\0\x02\x10\0\0\0\0\0\0\x02\0\x01\0\0\0\0\0\x02\0\0\0\x01\0\0\x01\0\0\0\0\0\0\0";
@@ -36,14 +39,39 @@ pub(crate) fn formatted(alloc: Global) -> Result<Vec<u8>, AllocError> {
     with_entries(alloc, &[REDO_ENTRY, END_ENTRY])
 }
 
-/// A volume of another make: one program, and no redo file.
-pub(crate) fn foreign(alloc: Global) -> Result<Vec<u8>, AllocError> {
+/// A volume of another make, with one program and these entries behind it, and no redo file.
+pub(crate) fn foreign_with(alloc: Global, entries: &[&[u8]]) -> Result<Vec<u8>, AllocError> {
     let mut image = Vec::from_slice(alloc, FOREIGN_HEADER)?;
     image.resize(512, 0)?;
     image.extend_from_slice(FOREIGN_ENTRY)?;
-    image.extend_from_slice(END_ENTRY)?;
+    for entry in entries {
+        image.extend_from_slice(entry)?;
+    }
     image.resize(1024, 0)?;
     image.resize(256 * 6, 0x11)?;
+    Ok(image)
+}
+
+/// The same with that program alone.
+pub(crate) fn foreign(alloc: Global) -> Result<Vec<u8>, AllocError> {
+    foreign_with(alloc, &[END_ENTRY])
+}
+
+/// A formatted volume with a redo file that puts the file A into the directory: behind a gate that begins so, with so many
+/// targets.
+pub(crate) fn with_redo(alloc: Global, gate: &[u8], targets: u8) -> Result<Vec<u8>, AllocError> {
+    let mut image = formatted(alloc)?;
+    image.resize(256 * 508, 0)?;
+    image.extend_from_slice(gate)?;
+    image.resize(256 * 509, 0)?;
+    image.extend_from_slice(b"LIFREDO1\0")?;
+    image.push(targets)?;
+    image.extend_from_slice(b"\0\x02")?;
+    image.resize(256 * 510, 0)?;
+    image.extend_from_slice(FILE_ENTRY)?;
+    image.extend_from_slice(REDO_ENTRY)?;
+    image.extend_from_slice(END_ENTRY)?;
+    image.resize(256 * 511, 0)?;
     Ok(image)
 }
 

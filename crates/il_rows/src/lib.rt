@@ -6,6 +6,16 @@ mod directories;
 #[cfg(test)]
 mod endings;
 #[cfg(test)]
+mod faults;
+#[cfg(test)]
+mod generated;
+#[cfg(test)]
 mod images;
 #[cfg(test)]
+mod loops;
+#[cfg(test)]
+mod printing;
+#[cfg(test)]
 mod runs;
+#[cfg(test)]
+mod volumes;

@@ -1,21 +1,44 @@
 //! One run, and what it leaves.
-ghost use Rattle.std.specs.Prelude.{◌<◌};
 
-use il_host::{Rig, run_il};
+ghost use Rattle.std.specs.Prelude.{◌≤◌, length, IfOk};
+ghost use Rattle.std.specs.List.{All};
+ghost use Rattle.il_ring.specs.Rings.{MayStand};
+ghost use Rattle.il_host.specs.Shorts.{IsShort};
+
+use il_device::{Device, Printer, Quiet};
+use il_host::{Ended, Rig, run_il};
 use il_ports::{MemoryMedium, MemorySink, MemorySource};
+use itoa::Buffer;
 use std::alloc::{AllocError, Global};
+use std::process::Abort;
+use std::test::Fail;
+
+/// What is on the loop behind the drive.
+#[derive(Clone, Copy, PartialEq, Eq, Debug)]
+pub enum Behind {
+    Nothing,
+    Printer,
+    /// A device that sends nothing.
+    Quiet,
+}
 
 /// What a run is given. The lists name the calls that fail, counted from 1.
 #[derive(Clone, Copy)]
 pub struct Given<'a> {
-    pub words: &'a [&'a str],
+    /// With a space between two of them.
+    pub words: &'a str,
     /// The bytes of the image TAPE, where there is one.
     pub image: Option<&'a [u8]>,
     pub script: &'a [u8],
+    /// How many bytes of the script come at once.
+    pub piece: usize,
+    pub behind: Behind,
     pub failing_inserts: &'a [u64],
     pub failing_reads: &'a [u64],
+    /// With the bytes that each leaves in its record.
+    pub failing_writes: &'a [(u64, [u8; 256])],
     pub failing_takes: &'a [u64],
-    pub failing_writes: &'a [u64],
+    pub failing_puts: &'a [u64],
     /// How many bytes the output has room for.
     pub room: usize,
 }
@@ -27,28 +50,42 @@ pub struct Left {
     pub output: Vec<u8>,
     /// The image TAPE as it then is.
     pub image: Option<Vec<u8>>,
+    /// The writes, each a record and its bytes.
+    pub writes: Vec<(u16, [u8; 256])>,
+    /// How many frames the device behind the drive took.
+    pub frames: Option<u64>,
 }
 
 impl<'a> Given<'a> {
-    /// A quiet run of a script over an image, without a fault.
+    /// A quiet run of a script over an image, without a fault, with a printer behind the drive.
     pub(crate) fn script(image: &'a [u8], script: &'a [u8]) -> Given<'a> {
         Given {
-            words: &["--quiet", "TAPE"],
+            words: "--quiet TAPE",
             image: Some(image),
             script,
+            piece: 4096,
+            behind: Behind::Printer,
             failing_inserts: &[],
             failing_reads: &[],
-            failing_takes: &[],
             failing_writes: &[],
-            room: 2000,
+            failing_takes: &[],
+            failing_puts: &[],
+            room: 2_000_000,
         }
+    }
+
+    /// The same with these words.
+    pub(crate) fn with_words(self, words: &'a str) -> Given<'a> {
+        Given { words, ..self }
     }
 }
 
-fn words_of(alloc: Global, words: &[&str]) -> Result<Vec<String>, AllocError> {
+fn words_of(alloc: Global, words: &str) -> Result<Vec<String>, AllocError> {
     let mut all = Vec::new(alloc);
-    for word in words {
-        all.push(String::from_str(alloc, word)?)?;
+    for word in words.split(' ') {
+        if !word.is_empty() {
+            all.push(String::from_str(alloc, word)?)?;
+        }
     }
     Ok(all)
 }
@@ -64,45 +101,105 @@ fn shelf_of(alloc: Global, image: Option<&[u8]>) -> Result<Vec<(String, Vec<u8>)
     Ok(shelf)
 }
 
-/// Runs `il` over the ports in memory. The script comes in pieces of seven bytes.
+fn printer(alloc: Global) -> Result<Box<dyn Device>, AllocError>
+    ensures stand { IfOk result (λ b. MayStand (⟦<Box<dyn Device> as Device>⟧.state b)) }
+    ensures short { IfOk result (λ b. IsShort (⟦<Box<dyn Device> as Device>⟧.state b)) }
+{
+    let printer: Box<dyn Device> = Box::new(alloc, Printer::new(alloc)?)?;
+    Ok(printer)
+}
+
+fn quiet(alloc: Global) -> Result<Box<dyn Device>, AllocError>
+    ensures stand { IfOk result (λ b. MayStand (⟦<Box<dyn Device> as Device>⟧.state b)) }
+    ensures short { IfOk result (λ b. IsShort (⟦<Box<dyn Device> as Device>⟧.state b)) }
+{
+    let quiet: Box<dyn Device> = Box::new(alloc, Quiet::new())?;
+    Ok(quiet)
+}
+
+fn devices_of(alloc: Global, behind: Behind) -> Result<Vec<Box<dyn Device>>, AllocError>
+    ensures few { IfOk result (λ devices. length devices.items ≤ 1) }
+    ensures stand { IfOk result (λ devices. All (λ b. MayStand (⟦<Box<dyn Device> as Device>⟧.state b)) devices.items) }
+    ensures short { IfOk result (λ devices. All (λ b. IsShort (⟦<Box<dyn Device> as Device>⟧.state b)) devices.items) }
+{
+    let mut devices = Vec::new(alloc);
+    match behind {
+        Behind::Nothing => {}
+        Behind::Printer => devices.push(printer(alloc)?)?,
+        Behind::Quiet => devices.push(quiet(alloc)?)?,
+    }
+    Ok(devices)
+}
+
+/// The words that plan one fault, at this crossing.
+pub(crate) fn words_with(
+    alloc: Global,
+    option: &str,
+    crossing: u64,
+    change: &str,
+) -> Result<String, AllocError> {
+    let mut digits = Buffer::new();
+    let mut words = String::from_str(alloc, "--quiet ")?;
+    words.push_str(option)?;
+    words.push_str(digits.format(crossing))?;
+    words.push_str(change)?;
+    words.push_str(" TAPE")?;
+    Ok(words)
+}
+
+/// Runs `il` over the ports in memory.
 pub(crate) fn run(alloc: Global, given: &Given) -> Result<Left, AllocError> {
     let words = words_of(alloc, given.words)?;
     let mut script = MemorySource::new(
         Vec::from_slice(alloc, given.script)?,
-        7,
+        given.piece.max(1),
         Vec::from_slice(alloc, given.failing_takes)?,
     );
     let mut out = MemorySink::new(
         alloc,
         given.room,
-        Vec::from_slice(alloc, given.failing_writes)?,
+        Vec::from_slice(alloc, given.failing_puts)?,
     )?;
     let medium = MemoryMedium::new(
         alloc,
         shelf_of(alloc, given.image)?,
         Vec::from_slice(alloc, given.failing_reads)?,
-        Vec::new(alloc),
+        Vec::from_slice(alloc, given.failing_writes)?,
         Vec::from_slice(alloc, given.failing_inserts)?,
-        0,
+        6_000,
     )?;
-    let ended = run_il(
-        alloc,
-        words.as_slice(),
-        &mut script,
-        &mut out,
-        Rig {
-            medium,
-            before: Vec::new(alloc),
-            after: Vec::new(alloc),
-        },
-    );
-    let image = match ended.rig.medium.image("TAPE") {
+    let rig = Rig {
+        medium,
+        before: Vec::new(alloc),
+        after: devices_of(alloc, given.behind)?,
+    };
+    let Ended { status, rig } = run_il(alloc, words.as_slice(), &mut script, &mut out, rig);
+    let image = match rig.medium.image("TAPE") {
         Some(bytes) => Some(Vec::from_slice(alloc, bytes)?),
         None => None,
     };
+    let writes = Vec::from_slice(alloc, rig.medium.writes())?;
+    let frames = rig.after.first().map(|device| device.frames());
+    drop(rig);
     Ok(Left {
-        status: ended.status,
+        status,
         output: Vec::from_slice(alloc, out.written())?,
         image,
+        writes,
+        frames,
     })
+}
+
+/// A run ends with this status and this output.
+pub(crate) fn answers(
+    rt: &impl Abort,
+    alloc: Global,
+    given: &Given,
+    status: u8,
+    output: &[u8],
+) -> Result<(), Fail> {
+    let left = run(alloc, given)?;
+    assert_eq!(rt; left.output.as_slice(), output);
+    assert_eq!(rt; left.status, status);
+    Ok(())
 }

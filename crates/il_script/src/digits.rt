@@ -1,24 +1,29 @@
-ghost use Rattle.std.specs.Prelude.{◌≡◌, ◌∷◌, [], option_map};
+ghost use Rattle.std.specs.Prelude.{◌≡◌, ◌<◌, ◌≤◌, ◌∷◌, [], option_map};
+ghost use Rattle.std.specs.Option.{IfSome};
 ghost use Rattle.il_script.specs.Digits.{number_up_to, hex_bytes, type_in};
 
-// A number in decimal without a leading zero, of at most `most`.
-pub fn read_number(text: &[u8], most: u16) -> Option<u16>
-    ensures { result ≡ number_up_to most text.now }
+/// The number that a text spells in decimal: one or more digits, the first of them not 0, so it is at least 1.
+/// `None` comes exactly where the text is no such number, and where the number is larger than `most`.
+pub fn read_number(text: &[u8], most: u64) -> Option<u64>
+    ensures number { result ≡ number_up_to most text.now }
+    ensures range { IfSome result (λ number. (0 < number) × (number ≤ most)) }
 {
     if text.is_empty() || text[0] == b'0' {
         return None;
     }
-    let mut value = 0u32;
+    let mut value = 0u64;
     for digit in text {
         if !digit.is_ascii_digit() {
             return None;
         }
-        value = 10 * value + u32::from(*digit - b'0');
-        if value > u32::from(most) {
+        value = value
+            .checked_mul(10)?
+            .checked_add(u64::from(*digit - b'0'))?;
+        if value > most {
             return None;
         }
     }
-    Some(value as u16)
+    Some(value)
 }
 
 // So many bytes in hex digits.
@@ -32,7 +37,8 @@ pub fn read_hex<const N: usize>(text: &[u8]) -> Option<[u8; N]>
     }
 }
 
-// One byte in hex digits.
+/// The byte that a text spells in hex: exactly two digits, of either case. `None` comes exactly where the text is
+/// anything else.
 pub fn read_byte(text: &[u8]) -> Option<u8>
     ensures { option_map (λ byte. byte ∷ []) result ≡ hex_bytes 1 text.now }
 {

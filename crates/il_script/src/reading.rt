@@ -1,4 +1,5 @@
 ghost use Rattle.std.specs.Prelude.{◌≡◌, ◌≤◌, [], length};
+ghost use Rattle.il_script.specs.Digits.{number_up_to};
 ghost use Rattle.il_script.specs.Words.{words_of};
 ghost use Rattle.il_script.specs.Commands.{is_comment, fetch_of, purge_of, rename_of, format_of, store_of, say_of, word_command, lone_of, command_of, asked_of, reading_of, command_in, bytes_in, command_read, bytes_read, name_of_part};
 
@@ -143,9 +144,17 @@ fn read_format(rest: &[u8]) -> Result<Command, LineFault>
 {
     let (label, slots) = two_parts(rest).ok_or(LineFault::BadLine)?;
     let label = spelt_new_label(label).ok_or(LineFault::BadLine)?;
-    let slots = read_number(slots, MOST_SLOTS).ok_or(LineFault::BadLine)?;
+    let slots = read_slots(slots).ok_or(LineFault::BadLine)?;
     let label = label.ok_or(LineFault::BadName)?;
     Ok(Command::Format { label, slots })
+}
+
+// The number of slots of a directory that is made.
+fn read_slots(text: &[u8]) -> Option<u16>
+    ensures { result ≡ number_up_to MOST_SLOTS text.now }
+{
+    let slots = read_number(text, u64::from(MOST_SLOTS))?;
+    Some(slots as u16)
 }
 
 // `store NAME TYPE IMPL HEX`

@@ -1,6 +1,6 @@
 -- What `store` makes of a volume whose directory is kept: first the file, and then its entry.
 use Rattle.std.proofs.Common.{◌≡◌, ◌<◌, ◌≤◌, ◌+◌, ◌-◌, ◌*◌, ◌++◌, ℕ, suc, List, [], ◌∷◌, Bool, true, if◌then◌else◌, length, map, set, inl, inr, refl, sym, ap, subst, ◌∙◌, arith, append_assoc}
-use Rattle.std.specs.Prelude.{Option, Some, None, Result, Ok, Err, IfSome, insert}
+use Rattle.std.specs.Prelude.{Option, Some, None, Result, Ok, Err, IfSome, insert, min}
 use Rattle.std.proofs.lemmas.List.{length-map, map-set, append-nil}
 use Rattle.lif_model.specs.Tape.{Tape, IsTape, record_at}
 use Rattle.lif_model.specs.Gate.{has_open_gate}
@@ -211,14 +211,17 @@ module _ {R S : Type 0} (view : R → RecordsView S) (x : VolumeView R) (header 
       runs w r run = goes_on _ _ _ _ _ _ (HasEitherVolume n command t) _ (PartlyReplaced first (file_records bytes)) t told
           (started _ _ (HasEitherVolume n command t) t (λ c left. store.leaves_only t c told left) (here view x header opened kept store command t told)) run.time (λ c left. partly c left)
 
-    few : length (file_records bytes) ≤ file_length bytes + 12
-    few = omega (arith, records_count bytes)
+    within_medium : length (file_records bytes) ≤ min n (file_length bytes)
+    within_medium = omega (arith, records_count bytes, plan.count, plan.high)
+
+    few : length (file_records bytes) ≤ min n (file_length bytes) + 12
+    few = omega (arith, within_medium)
 
     -- the store failed while the file was written
     pub run_fails : (y : VolumeView R) (trouble : Trouble) → StoredRun {T = Unit {0}} first (file_records bytes) (view x.records) (view y.records) (Err trouble) → y.kept ≡ None
         → CarriesIn {T = Unit {0}} (Store name kind implementation bytes) bytes view x y (Err (Troubled trouble))
     run_fails y trouble run none = record {
-      goes_on = goes_within (length (file_records bytes)) (file_length bytes + 12) _ _ _ few run.goes_on;
+      goes_on = goes_within (length (file_records bytes)) (min n (file_length bytes) + 12) _ _ _ few run.goes_on;
       kept = none;
       on_tape = λ t told.
           let left = run.content t told in
@@ -252,8 +255,8 @@ module _ {R S : Type 0} (view : R → RecordsView S) (x : VolumeView R) (header 
               after = (left.0, left.1, either t told left.0 left.2);
             }
 
-        goes_both : {r : Result (Unit {0}) Trouble} → GoesOn 12 (view w) (view y.records) r → GoesOn (file_length bytes + 12) (view x.records) (view y.records) r
-        goes_both {r} goes = goes_within (length (file_records bytes) + 12) (file_length bytes + 12) _ _ r (omega (arith, records_count bytes))
+        goes_both : {r : Result (Unit {0}) Trouble} → GoesOn 12 (view w) (view y.records) r → GoesOn (min n (file_length bytes) + 12) (view x.records) (view y.records) r
+        goes_both {r} goes = goes_within (length (file_records bytes) + 12) (min n (file_length bytes) + 12) _ _ r (omega (arith, within_medium))
             (goes_further (length (file_records bytes)) 12 (view x.records) (view w) (view y.records) tt r run.goes_on goes)
 
         -- the store failed in the commit

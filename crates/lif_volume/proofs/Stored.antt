@@ -74,15 +74,18 @@ module _ {R S : Type 0} (view : R → RecordsView S) (x y z : VolumeView R) (hea
     stores : StoresOn (view x.records).record_count command bytes (view y.records) (view z.records) (settled t) a
     stores = subst (λ (n : ℕ). StoresOn n command bytes (view y.records) (view z.records) (settled t) a) size (carried.on_tape (settled t) (mounted.settles t told))
 
+  carries_on : GoesOn (storing (view x.records).record_count bytes a) (view y.records) (view z.records) (store_answer a)
+  carries_on = subst (λ (n : ℕ). GoesOn (storing n bytes a) (view y.records) (view z.records) (store_answer a)) size carried.goes_on
+
   pub stored_commits : MountsAndStores bytes view x z a
   stored_commits =
       let n = (view x.records).record_count in
       record {
-        goes_on = goes_within (mounting n x.kept (Some header) + storing bytes a) (mounting n x.kept z.kept + storing bytes a) (view x.records) (view z.records) (store_answer a)
-            (storing_bound n x.kept header z.kept (keeps a) (storing bytes a) long (carried.kept ∙ ap (λ (o : Option HeaderParts). if keeps a then o else None) kept))
-            (goes_further (mounting n x.kept (Some header)) (storing bytes a) (view x.records) (view y.records) (view z.records) tt (store_answer a)
-            (subst (λ (o : Option HeaderParts). GoesOn {T = Unit {0}} (mounting n x.kept o) (view x.records) (view y.records) (Ok tt)) kept mounted.goes_on) carried.goes_on);
-        few = λ t told. omega (arith, mounted.few t told, carried.goes_on.continues.left);
+        goes_on = goes_within (mounting n x.kept (Some header) + storing n bytes a) (mounting n x.kept z.kept + storing n bytes a) (view x.records) (view z.records) (store_answer a)
+            (storing_bound n x.kept header z.kept (keeps a) (storing n bytes a) long (carried.kept ∙ ap (λ (o : Option HeaderParts). if keeps a then o else None) kept))
+            (goes_further (mounting n x.kept (Some header)) (storing n bytes a) (view x.records) (view y.records) (view z.records) tt (store_answer a)
+            (subst (λ (o : Option HeaderParts). GoesOn {T = Unit {0}} (mounting n x.kept o) (view x.records) (view y.records) (Ok tt)) kept mounted.goes_on) carries_on);
+        few = λ t told. omega (arith, mounted.few t told, carries_on.continues.left);
         kept = go (keeps a) refl;
       }
     where

@@ -1,5 +1,5 @@
 -- What `store` does, beside what every command that changes a volume does.
-use Rattle.std.specs.Prelude.{◌≡◌, ◌≢◌, ◌≤◌, ◌+◌, ◌*◌, ◌++◌, if◌then◌else◌, ℕ, List, ◌∷◌, true, length, Option, Some, None, Result, Ok, Err, is_some}
+use Rattle.std.specs.Prelude.{◌≡◌, ◌≢◌, ◌≤◌, ◌+◌, ◌*◌, ◌++◌, if◌then◌else◌, ℕ, List, ◌∷◌, true, length, min, Option, Some, None, Result, Ok, Err, is_some}
 use Rattle.lif_model.specs.Tape.{Tape, IsTape}
 use Rattle.lif_model.specs.Gate.{gate_of, has_open_gate}
 use Rattle.lif_model.specs.Header.{HeaderParts}
@@ -39,12 +39,12 @@ file_when n command volume tape = with_file command (place_when n command volume
 
 -- ---- how many records are read and written
 
--- the file's, and 12 at most of a commit and of what is read for it; none where the command is
--- refused
-abbrev pub storing : {T : Type 0} → List ℕ → Result T VolumeFault → ℕ
-storing bytes (Ok _) = file_length bytes + 12
-storing bytes (Err (Refused why)) = 0
-storing bytes (Err (Troubled trouble)) = file_length bytes + 12
+-- on a medium of n records: the file's, and 12 at most of a commit and of what is read for it; none
+-- where the command is refused
+abbrev pub storing : {T : Type 0} → ℕ → List ℕ → Result T VolumeFault → ℕ
+storing n bytes (Ok _) = min n (file_length bytes) + 12
+storing n bytes (Err (Refused why)) = 0
+storing n bytes (Err (Troubled trouble)) = min n (file_length bytes) + 12
 
 -- ---- from a settled tape
 
@@ -90,10 +90,10 @@ AddsStore P n command bytes volume t old new (Err (Troubled _)) = Unit {0}
 -- it mounts, writes the file by one run, and makes one commit
 pub record MountsAndStores {R S T : Type 0} (bytes : List ℕ) (view : R → RecordsView S) (old new : VolumeView R)
     (answer : Result T VolumeFault) : Type 0 where
-  pub goes_on : GoesOn (mounting (view old.records).record_count old.kept new.kept + storing bytes answer)
+  pub goes_on : GoesOn (mounting (view old.records).record_count old.kept new.kept + storing (view old.records).record_count bytes answer)
       (view old.records) (view new.records) (store_answer answer)
   pub few : (t : Tape) → (view old.records).tape ≡ Some t
-      → (view old.records).calls_left ≤ (view new.records).calls_left + (mounting_on t old.kept + storing bytes answer)
+      → (view old.records).calls_left ≤ (view new.records).calls_left + (mounting_on t old.kept + storing (view old.records).record_count bytes answer)
   pub kept : is_some new.kept ≡ keeps answer
 
 -- the tape behind the command
@@ -140,7 +140,7 @@ pub record StoresOn {S T : Type 0} (n : ℕ) (command : VolumeCommand) (bytes : 
 
 -- from a volume whose directory is kept
 pub record CarriesIn {R S T : Type 0} (command : VolumeCommand) (bytes : List ℕ) (view : R → RecordsView S) (old new : VolumeView R) (answer : Result T VolumeFault) : Type 0 where
-  pub goes_on : GoesOn (storing bytes answer) (view old.records) (view new.records) (store_answer answer)
+  pub goes_on : GoesOn (storing (view old.records).record_count bytes answer) (view old.records) (view new.records) (store_answer answer)
   pub kept : new.kept ≡ (if keeps answer then old.kept else None)
   pub on_tape : (t : Tape) → (view old.records).tape ≡ Some t
       → StoresOn (view old.records).record_count command bytes (view old.records) (view new.records) t answer

@@ -1,9 +1,11 @@
 use Rattle.std.proofs.Common.{rules, arith, ◌&&◌, Bool, ap, refl}
 use Rattle.il_script.specs.Progress.{line_given}
+use Rattle.host_model.specs.Orders.{quiet_mode}
 use Rattle.host_model.specs.Requests.{item_of}
 use Rattle.il_host.specs.Run.{item_asked}
 use Rattle.il_host.proofs.Asking.{asks_nothing, asks_this}
-use Rattle.il_host.proofs.Runs.{sofar-start, sofar-gives, sofar-skips, sofar-more, answers-grow, ends-ok, ends-not-ok, ends-taken, ends-longest, ends-front}
+use Rattle.il_host.proofs.Answered.{answers-grow}
+use Rattle.il_host.proofs.Runs.{sofar-start, sofar-gives, sofar-skips, sofar-more, ends-ok, ends-not-ok, ends-taken, ends-longest, ends-front}
 use Rattle.il_host.proofs.running.answer_all.Goals as goal
 
 pub turns-init : goal.turns-init
@@ -60,11 +62,11 @@ returns-in-Err-clause-answers g c =
     let item = item_asked c.in-Some.asked c.bytes.result.now in
     let some = asks_this c.read_asked.result c.in-Some.asked c.read_asked.new.payload c.bytes.result.now (item_of (line_given c.next.new.self c.next.result)) c.read_asked.ensures.item c.in-Some.is c.bytes.ensures.bytes in
     ends-front c.args.quiet c.turns.lines c.next.new.self v w x _ _ _ _ _ _ c.turns.all_ok (line_given c.next.new.self c.next.result) item c.answer-reply.result.0
-    c.answer-reply.result.1 c.in-Err.field-0 s more some c.answer-reply.ensures.answers c.in-Err.is
+    c.answer-reply.result.1 s more some c.answer-reply.ensures.answers c.in-Err.field-0 c.in-Err.is
 
 pub returns-in-Err-clause-cause : goal.returns-in-Err-clause-cause
 returns-in-Err-clause-cause g c =
-    let grown = answers-grow _ c.answer-reply.result.0 c.args.quiet (g.P.Performer.view c.turns.host) (g.P.Performer.view c.answer-reply.new.host) _ _ c.answer-reply.result.1 c.answer-reply.ensures.answers in
+    let grown = answers-grow _ c.answer-reply.result.0 (quiet_mode c.args.quiet) (g.P.Performer.view c.turns.host) (g.P.Performer.view c.answer-reply.new.host) _ _ c.answer-reply.result.1 c.answer-reply.ensures.answers in
     let before = c.turns.invariant.medium in
     record { source = search rules; sink = search rules; medium = omega (arith, grown, before) }
 
@@ -77,12 +79,12 @@ turns-preserved g c =
     let more = sofar-gives c.args.quiet c.turns.lines c.next.new.self v w _ _ _ _ _ c.turns.all_ok c.next.result s c.next.ensures.gives c.in_default.not-End c.in_default.not-Fault c.in_default.not-Over in
     let item = item_asked c.in-Some.asked c.bytes.result.now in
     let some = asks_this c.read_asked.result c.in-Some.asked c.read_asked.new.payload c.bytes.result.now (item_of (line_given c.next.new.self c.next.result)) c.read_asked.ensures.item c.in-Some.is c.bytes.ensures.bytes in
-    let grown = answers-grow item c.answer-reply.result.0 c.args.quiet w x _ _ c.answer-reply.result.1 c.answer-reply.ensures.answers in
+    let grown = answers-grow item c.answer-reply.result.0 (quiet_mode c.args.quiet) w x _ _ c.answer-reply.result.1 c.answer-reply.ensures.answers in
     let before = c.turns.invariant.medium in
     record {
       valid = c.answer-reply.ensures.answers.valid;
-      sofar = sofar-more c.args.quiet c.turns.lines c.next.new.self v w x _ _ _ _ _ _ c.turns.all_ok _ (line_given c.next.new.self c.next.result) item c.answer-reply.result.0
-          c.answer-reply.result.1 c.in-Ok.field-0 s more some c.answer-reply.ensures.answers c.in-Ok.is (ap (λ (b : Bool). c.turns.all_ok && b) c.is_ok-all_ok.ensures);
+      sofar = sofar-more c.args.quiet c.turns.lines c.next.new.self v w x _ _ _ _ _ _ c.turns.all_ok (line_given c.next.new.self c.next.result) item c.answer-reply.result.0
+          c.answer-reply.result.1 s more some c.answer-reply.ensures.answers _ c.in-Ok.field-0 c.in-Ok.is (ap (λ (b : Bool). c.turns.all_ok && b) c.is_ok-all_ok.ensures);
       source = search rules;
       sink = search rules;
       medium = omega (arith, grown, before);

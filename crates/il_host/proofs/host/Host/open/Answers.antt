@@ -27,6 +27,8 @@ returns-in-Ok-open-clause-opened g c =
       };
       state = search rules;
       hops_are = search rules;
+      images = search rules;
+      inside = search rules;
       moment = search rules;
       since = search rules;
     }

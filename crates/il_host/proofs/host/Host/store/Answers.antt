@@ -1,5 +1,5 @@
 use Rattle.std.proofs.Common.{◌∙◌, ◌++◌, ap}
-use Rattle.std.specs.Prelude.{length, min}
+use Rattle.std.specs.Prelude.{length}
 use Rattle.il_script.specs.Replies.{reply_line}
 use Rattle.lif_dir.specs.Entries.{name_bytes}
 use Rattle.lif_dir.specs.Names.{made_name}
@@ -25,6 +25,5 @@ returns g c =
     (ap (λ f. length f.items) (c.ended.ensures.file ∙ c.make_sound.ensures.file))
     (stored _ _ c.args.self.now.volume c.begin.new.self c.store-answer.new.self _ _ c.requires.valid c.begin.ensures.begun (name_bytes (made_name c.args.name.now)) c.args.kind c.args.implementation c.args.bytes.now
     c.store-answer.ensures.open c.ended.ensures.drive c.make_sound.new.self.volume c.in_default.field-0 c.in_default.ensures.makes c.in_default.ensures.sounds
-    _ c.min.result _ g.met.M.Medium.is_medium c.in_default.ensures.opens
-    (c.min.ensures ∙ ap (λ k. min (length c.args.bytes.now) k) (c.len.ensures ∙ c.make_sound.new.self.file.ok.0 ∙ ap (λ f. length f.items) c.make_sound.ensures.file))
+    _ _ g.met.M.Medium.is_medium
     c.store-answer.ensures.commits c.store-answer.ensures.answers c.store-answer.ensures.stops c.store-answer.ensures.transfers)

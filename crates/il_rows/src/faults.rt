@@ -1,0 +1,194 @@
+//! Faults of the loop and of the medium: a command counts whole or not at all.
+
+use crate::images::formatted;
+use crate::runs::{Given, run, words_with};
+use std::alloc::{AllocError, Global};
+use std::process::Abort;
+use std::test::Fail;
+
+const SCRIPT: &[u8] = b"store A 0001 00000000 41\ndir\n";
+
+const WITHOUT: &[u8] = b"volume HPTAPE 2 2 1 16\nfile REDOFILE E0D0 508 4 00000000\nok\n";
+
+const WITH: &[u8] =
+    b"volume HPTAPE 2 2 2 16\nfile A 0001 4 1 00000000\nfile REDOFILE E0D0 508 4 00000000\nok\n";
+
+// This line, and then one of the two listings: whether the file is there.
+fn listed_behind(alloc: Global, line: &[u8], output: &[u8]) -> Result<Option<bool>, AllocError> {
+    for (listing, is_there) in [(WITHOUT, false), (WITH, true)] {
+        let mut wanted = Vec::from_slice(alloc, line)?;
+        wanted.extend_from_slice(listing)?;
+        if output == wanted.as_slice() {
+            return Ok(Some(is_there));
+        }
+    }
+    Ok(None)
+}
+
+// How many of the crossings 1, 98, 195 and so on the store has. A fault at each of them leaves the file or not.
+fn crossings_tried(
+    rt: &impl Abort,
+    alloc: Global,
+    option: &str,
+    change: &str,
+) -> Result<u64, Fail> {
+    let tape = formatted(alloc)?;
+    for tried in 0..1000 {
+        let words = words_with(alloc, option, 97 * tried + 1, change)?;
+        let left = run(alloc, &Given::script(&tape, SCRIPT).with_words(&words))?;
+        if left.output.starts_with(b"ok\n") {
+            return Ok(tried);
+        }
+        assert_eq!(rt;
+            listed_behind(alloc, b"fault frame\n", &left.output)?.is_some(),
+            true,
+            "crossing {tried}"
+        );
+        assert_eq!(rt; left.status, 1);
+    }
+    Ok(1000)
+}
+
+#[test]
+fn a_store_counts_whole_or_not_at_all(rt: HostRuntime) -> Result<(), Fail> {
+    let alloc = rt.alloc();
+    let lost = crossings_tried(&rt, alloc, "--lose ", "")?;
+    let altered = crossings_tried(&rt, alloc, "--alter ", ":01")?;
+    // The store has more than five thousand crossings.
+    assert!(rt; 52 < lost && lost < 1000);
+    assert_eq!(rt; altered, lost);
+    Ok(())
+}
+
+#[test]
+fn a_write_that_fails(rt: HostRuntime) -> Result<(), Fail> {
+    let alloc = rt.alloc();
+    let tape = formatted(alloc)?;
+    let left = run(
+        alloc,
+        &Given {
+            failing_writes: &[(3, [0; 256])],
+            ..Given::script(
+                &tape,
+                b"store A 0001 00000000 41\nstore A 0001 00000000 41\n",
+            )
+        },
+    )?;
+    assert_eq!(rt; left.output.as_slice(), b"fault medium\nok\n".as_slice());
+    assert_eq!(rt; left.status, 1);
+    Ok(())
+}
+
+// An open gate.
+fn open_gate() -> [u8; 256] {
+    let mut bytes = [0; 256];
+    for (byte, letter) in bytes.iter_mut().zip(b"LIFREDO1 OPEN   ") {
+        *byte = *letter;
+    }
+    bytes
+}
+
+// Whether the file is there behind a fault or a stop within that write, which leaves these bytes in its record.
+fn is_there(write: usize, torn: &[u8; 256]) -> bool {
+    4 < write || (write == 4 && *torn == open_gate())
+}
+
+#[test]
+fn each_write_of_a_store_fails(rt: HostRuntime) -> Result<(), Fail> {
+    let alloc = rt.alloc();
+    let tape = formatted(alloc)?;
+    for write in 1..=6u64 {
+        for torn in [[0; 256], [0xFF; 256], open_gate()] {
+            let left = run(
+                alloc,
+                &Given {
+                    failing_writes: &[(write, torn)],
+                    ..Given::script(&tape, SCRIPT)
+                },
+            )?;
+            assert_eq!(rt;
+                listed_behind(alloc, b"fault medium\n", &left.output)?,
+                Some(is_there(write as usize, &torn)),
+                "write {write}"
+            );
+        }
+    }
+    Ok(())
+}
+
+// How many reads the store makes. A fault of each of them leaves the file or not.
+fn reads_tried(rt: &impl Abort, alloc: Global) -> Result<u64, Fail> {
+    let tape = formatted(alloc)?;
+    for read in 1..20 {
+        let left = run(
+            alloc,
+            &Given {
+                failing_reads: &[read],
+                ..Given::script(&tape, SCRIPT)
+            },
+        )?;
+        if left.output.starts_with(b"ok\n") {
+            return Ok(read - 1);
+        }
+        assert_eq!(rt;
+            listed_behind(alloc, b"fault medium\n", &left.output)?.is_some(),
+            true,
+            "read {read}"
+        );
+    }
+    Ok(20)
+}
+
+#[test]
+fn each_read_of_a_store_fails(rt: HostRuntime) -> Result<(), Fail> {
+    let reads = reads_tried(&rt, rt.alloc())?;
+    assert!(rt; 2 < reads && reads < 12);
+    Ok(())
+}
+
+// The image as it was behind the first writes, with these bytes in the record of the next.
+fn stopped_at(
+    alloc: Global,
+    tape: &[u8],
+    writes: &[(u16, [u8; 256])],
+    torn: &[u8; 256],
+) -> Result<Vec<u8>, AllocError> {
+    let mut image = Vec::from_slice(alloc, tape)?;
+    image.resize(131_072, 0)?;
+    let last = writes.len();
+    for (count, (record, bytes)) in writes.iter().enumerate() {
+        let place = 256 * usize::from(*record);
+        let left = if count + 1 == last { torn } else { bytes };
+        for (byte, new) in image.iter_mut().skip(place).zip(left) {
+            *byte = *new;
+        }
+    }
+    Ok(image)
+}
+
+#[test]
+fn a_stop_within_each_write_of_a_store(rt: HostRuntime) -> Result<(), Fail> {
+    let alloc = rt.alloc();
+    let tape = formatted(alloc)?;
+    let stored = run(alloc, &Given::script(&tape, b"store A 0001 00000000 41\n"))?;
+    for (write, record) in [4, 510, 509, 508, 2, 508].iter().enumerate() {
+        assert_eq!(rt; stored.writes.get(write).map(|made| made.0), Some(*record));
+    }
+    assert_eq!(rt; stored.writes.len(), 6);
+    for write in 1..=6 {
+        for torn in [[0; 256], [0xFF; 256], open_gate()] {
+            let Some(made) = stored.writes.get(..write) else {
+                continue;
+            };
+            let image = stopped_at(alloc, &tape, made, &torn)?;
+            let left = run(alloc, &Given::script(&image, b"dir\n"))?;
+            assert_eq!(rt;
+                listed_behind(alloc, b"", &left.output)?,
+                Some(is_there(write, &torn)),
+                "write {write}"
+            );
+            assert_eq!(rt; left.status, 0);
+        }
+    }
+    Ok(())
+}

@@ -1,0 +1,186 @@
+//! What the commands of the loop answer, and the frames of a run.
+
+use crate::images::formatted;
+use crate::runs::{Behind, Given, answers, run};
+use std::alloc::Global;
+use std::process::Abort;
+use std::test::Fail;
+
+/// The frames of the first `status` of a run, over a drive and a printer.
+const STATUS_TRACE: &[u8] =
+    b"~ 0 IFC = IFC\n~ 0 RFC = RFC\n~ 0 AAU = AAU\n~ 0 RFC = RFC\n~ 0 AAD 01 = AAD 03\n~ 0 UNL = UNL\n~ 0 RFC = RFC\n~ 0 TAD 01 = TAD 01\n~ 0 RFC = RFC\n~ 0 SST > 1\n~ 0 NRD = NRD\n~ 1 DAB 00 = DAB 00\n~ 1 ETO > 0\n~ 0 UNT = UNT\n~ 0 RFC = RFC\nstatus 00\nok\n";
+
+const ALTERED_TRACE: &[u8] =
+    b"~ 0 IFC = IFC\n~ 0 RFC = RFC\n~ 0 AAU = AAU\n~ 0 RFC = RFC\n~ 0 AAD 01 = AAD 03\n~ 0 UNL = UNL\n~ 0 RFC = RFC\n~ 0 TAD 01 = TAD 01\n~ 0 RFC = RFC\n~ 0 SST > 1\n~ 0 NRD = NRD\n";
+
+#[test]
+fn the_status_and_its_frames(rt: HostRuntime) -> Result<(), Fail> {
+    let alloc = rt.alloc();
+    let tape = formatted(alloc)?;
+    let left = run(alloc, &Given::script(&tape, b"status\n").with_words("TAPE"))?;
+    assert_eq!(rt; left.output.as_slice(), STATUS_TRACE);
+    assert_eq!(rt; left.status, 0);
+    // Every frame but SST, which the drive took.
+    assert_eq!(rt; left.frames, Some(14));
+    Ok(())
+}
+
+#[test]
+fn a_frame_that_is_lost(rt: HostRuntime) -> Result<(), Fail> {
+    let alloc = rt.alloc();
+    let tape = formatted(alloc)?;
+    let left = run(
+        alloc,
+        &Given::script(&tape, b"status\nstatus\n").with_words("--lose 6 TAPE"),
+    )?;
+    let mut wanted = Vec::from_slice(alloc, b"~ 0 IFC = IFC\n~ 0 RFC ! 0\nfault frame\n")?;
+    wanted.extend_from_slice(STATUS_TRACE)?;
+    assert_eq!(rt; left.output.as_slice(), wanted.as_slice());
+    assert_eq!(rt; left.status, 1);
+    Ok(())
+}
+
+// The same up to the byte of the drive's status, which is altered so: how it ends then.
+fn altered(rt: &impl Abort, alloc: Global, words: &str, last: &[u8]) -> Result<(), Fail> {
+    let tape = formatted(alloc)?;
+    let mut wanted = Vec::from_slice(alloc, ALTERED_TRACE)?;
+    wanted.extend_from_slice(last)?;
+    answers(
+        rt,
+        alloc,
+        &Given::script(&tape, b"status\n").with_words(words),
+        1,
+        &wanted,
+    )
+}
+
+#[test]
+fn a_byte_that_is_altered(rt: HostRuntime) -> Result<(), Fail> {
+    let alloc = rt.alloc();
+    altered(
+        &rt,
+        alloc,
+        "--alter 30:01 TAPE",
+        b"~ 1 DAB 00 = DAB 01\n~ 1 ETE > 0\nfault frame\n",
+    )?;
+    altered(
+        &rt,
+        alloc,
+        "--alter 30:01,34:01 TAPE",
+        b"~ 1 DAB 00 ! 1\nfault frame\n",
+    )
+}
+
+// A quiet run over a loop of the drive and this device.
+fn answers_with(
+    rt: &impl Abort,
+    alloc: Global,
+    behind: Behind,
+    script: &[u8],
+    status: u8,
+    output: &[u8],
+) -> Result<(), Fail> {
+    let tape = formatted(alloc)?;
+    answers(
+        rt,
+        alloc,
+        &Given {
+            behind,
+            ..Given::script(&tape, script)
+        },
+        status,
+        output,
+    )
+}
+
+#[test]
+fn devices_polls_and_the_printer(rt: HostRuntime) -> Result<(), Fail> {
+    let alloc = rt.alloc();
+    answers_with(
+        &rt,
+        alloc,
+        Behind::Printer,
+        b"devices\npoll\nsay 4849\npaper\n",
+        0,
+        b"device 1 10\ndevice 2 20\nok\npoll 00 quiet\nok\nok\npaper 4849 2\nok\n",
+    )?;
+    answers_with(
+        &rt,
+        alloc,
+        Behind::Nothing,
+        b"devices\nsay 41\npaper\n",
+        1,
+        b"device 1 10\nok\nerror 12 NoPrinter\nerror 12 NoPrinter\n",
+    )?;
+    answers_with(
+        &rt,
+        alloc,
+        Behind::Quiet,
+        b"devices\n",
+        0,
+        b"device 1 10\ndevice 2 --\nok\n",
+    )
+}
+
+#[test]
+fn a_long_text_for_the_printer(rt: HostRuntime) -> Result<(), Fail> {
+    let alloc = rt.alloc();
+    let tape = formatted(alloc)?;
+    let mut script = Vec::from_slice(alloc, b"say ")?;
+    let mut wanted = Vec::from_slice(alloc, b"ok\npaper ")?;
+    script.resize(script.len() + 20_000, b'4')?;
+    // The paper keeps 8,192 bytes.
+    wanted.resize(wanted.len() + 16_384, b'4')?;
+    script.extend_from_slice(b"\npaper\n")?;
+    wanted.extend_from_slice(b" 10000\nok\n")?;
+    let left = run(alloc, &Given::script(&tape, &script))?;
+    assert_eq!(rt; left.output.as_slice(), wanted.as_slice());
+    assert_eq!(rt; left.status, 0);
+    Ok(())
+}
+
+#[test]
+fn a_kept_directory_needs_no_frame(rt: HostRuntime) -> Result<(), Fail> {
+    let alloc = rt.alloc();
+    let tape = formatted(alloc)?;
+    let listed = b"volume HPTAPE 2 2 1 16\nfile REDOFILE E0D0 508 4 00000000\nok\n";
+    let left = run(
+        alloc,
+        &Given::script(&tape, b"dir\ndir\n").with_words("TAPE"),
+    )?;
+    let mut twice = Vec::from_slice(alloc, listed)?;
+    twice.extend_from_slice(listed)?;
+    assert_eq!(rt; left.output.ends_with(&twice), true);
+    let lost = run(
+        alloc,
+        &Given::script(&tape, b"dir\ndir\n").with_words("--lose 1 TAPE"),
+    )?;
+    let mut wanted = Vec::from_slice(alloc, b"~ 0 IFC ! 1\nfault frame\n")?;
+    // Then the same frames as without a fault, and the drive is cleared first.
+    assert_eq!(rt; lost.output.starts_with(&wanted), true);
+    wanted.extend_from_slice(b"~ 0 IFC = IFC\n~ 0 RFC = RFC\n~ 0 AAU = AAU\n")?;
+    assert_eq!(rt; lost.output.starts_with(&wanted), true);
+    assert_eq!(rt; lost.output.ends_with(listed), true);
+    assert_eq!(rt; lost.status, 1);
+    Ok(())
+}
+
+// How often a line stands in a text.
+fn count_of(text: &[u8], line: &[u8]) -> usize {
+    text.split(|byte| *byte == b'\n')
+        .filter(|part| *part == line)
+        .count()
+}
+
+#[test]
+fn the_records_of_a_file_go_in_one_run(rt: HostRuntime) -> Result<(), Fail> {
+    let alloc = rt.alloc();
+    let tape = formatted(alloc)?;
+    let mut script = Vec::from_slice(alloc, b"store A 0001 00000000 ")?;
+    script.resize(script.len() + 1200, b'4')?;
+    let left = run(alloc, &Given::script(&tape, &script).with_words("TAPE"))?;
+    // One run for the file's three records, and five writes of the commit.
+    assert_eq!(rt; count_of(&left.output, b"~ 0 DDL 02 = DDL 02"), 6);
+    assert_eq!(rt; left.status, 0);
+    Ok(())
+}

@@ -1,0 +1,51 @@
+//! Bytes for the printer under faults.
+
+use crate::images::formatted;
+use crate::runs::{Given, run, words_with};
+use std::alloc::Global;
+use std::process::Abort;
+use std::test::Fail;
+
+// Whether a reply of `paper` shows the first bytes of `H` and `I` and at most one byte more, of any value.
+fn shows_a_front(reply: &[u8]) -> bool {
+    let Some(shown) = reply.strip_prefix(b"fault frame\npaper ") else {
+        return false;
+    };
+    shown.starts_with(b"- 0\n")
+        || (shown.get(2..) == Some(b" 1\nok\n".as_slice()))
+        || (shown.starts_with(b"48") && shown.get(4..) == Some(b" 2\nok\n".as_slice()))
+        || (shown.starts_with(b"4849") && shown.get(6..) == Some(b" 3\nok\n".as_slice()))
+}
+
+// How many crossings `say 4849` has. A fault at each of them leaves a front of the bytes on the paper.
+fn crossings_of_say(
+    rt: &impl Abort,
+    alloc: Global,
+    option: &str,
+    change: &str,
+) -> Result<u64, Fail> {
+    let tape = formatted(alloc)?;
+    for crossing in 1..1000 {
+        let words = words_with(alloc, option, crossing, change)?;
+        let left = run(
+            alloc,
+            &Given::script(&tape, b"say 4849\npaper\n").with_words(&words),
+        )?;
+        if left.output.starts_with(b"ok\n") {
+            return Ok(crossing - 1);
+        }
+        assert!(rt; shows_a_front(&left.output), "crossing {crossing}");
+        assert_eq!(rt; left.status, 1);
+    }
+    Ok(1000)
+}
+
+#[test]
+fn a_fault_at_each_crossing_of_say(rt: HostRuntime) -> Result<(), Fail> {
+    let alloc = rt.alloc();
+    let lost = crossings_of_say(&rt, alloc, "--lose ", "")?;
+    let altered = crossings_of_say(&rt, alloc, "--alter ", ":81")?;
+    assert!(rt; 50 < lost && lost < 200);
+    assert_eq!(rt; altered, lost);
+    Ok(())
+}
