@@ -10,6 +10,8 @@ use Rattle.il_ports.specs.Media.{MediumView, IsMedium, DidInsert}
 use Rattle.il_ports.specs.declared.medium.Inserted.TheVariants as answers
 use Rattle.il_ports.specs.Inserting.{records_made}
 use Rattle.il_ports.specs.declared.medium.New.{New}
+use Rattle.il_ring.specs.declared.plan.Planned.{Planned}
+use Rattle.il_ring.specs.Plans.{hops_of}
 use Rattle.host_model.specs.HostStates.{HostState, fresh_host}
 use Rattle.host_model.specs.Stops.{LeftWithin}
 use Rattle.host_model.specs.Runs.{Chained}
@@ -41,11 +43,11 @@ tape_is_in m size = tape_by m.record_count m.tape size
 -- ---- the script
 
 -- a host was opened, answered the script and was closed
-pub answers_over : {M : Type 0} (view : M → MediumView) (order : Order) (medium closed : M) (before after before_now after_now : List DeviceState) (v w : HostView) (e : Ending) (left left_now written written_now : Option (List ℕ)) (hops : List ℕ)
-    → hops ≡ order.hops → IsOpened view medium before after hops v → IsHost v → IsSize (view medium).record_count → AnswersScript order.generated e (mode_of order) v w left left_now written written_now
+pub answers_over : {M : Type 0} (view : M → MediumView) (order : Order) (medium closed : M) (before after before_now after_now : List DeviceState) (v w : HostView) (e : Ending) (left left_now written written_now : Option (List ℕ)) (plan : List Planned)
+    → hops_of plan ≡ order.hops → IsOpened view medium before after plan v → IsHost v → IsSize (view medium).record_count → AnswersScript order.generated e (mode_of order) v w left left_now written written_now
     → IsClosed view w closed before_now after_now → (view closed).record_count ≡ w.state.records
     → AnswersOver order (end_of e) (view medium) (view closed) (outside (view medium) left written before after) (outside (view closed) left_now written_now before_now after_now)
-answers_over view order medium closed before after before_now after_now v w e left left_now written written_now hops planned opens host size a closes count =
+answers_over view order medium closed before after before_now after_now v w e left left_now written written_now plan planned opens host size a closes count =
     let chain : Chained order.hops v.state a.events w.state = subst (λ hops. Chained hops v.state a.events w.state) (opens.hops_are ∙ planned) a.chain in
     let same : (view closed).record_count ≡ (view medium).record_count = count ∙ size_stays order.hops v.state a.events w.state chain ∙ ap (λ (s : HostState). s.records) opens.state in
     let none : v.state.crossings ≡ 0 = ap (λ (s : HostState). s.crossings) opens.state in

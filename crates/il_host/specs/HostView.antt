@@ -5,6 +5,7 @@ use Rattle.lif_model.specs.Tape.{Tape, IsTape}
 use Rattle.il_ports.specs.Inserting.{OthersAreKept}
 use Rattle.il_frames.specs.declared.entry.Entry.{Entry}
 use Rattle.loop_model.specs.Roles.{is_at_most_one, talkers}
+use Rattle.il_ring.specs.declared.plan.Planned.{Planned}
 use Rattle.il_script.specs.declared.reply.Reply.{Reply}
 use Rattle.host_model.specs.Requests.{Item}
 use Rattle.host_model.specs.LoopStates.{all_roles}
@@ -18,7 +19,8 @@ pub record HostView : Type 1 where
   pub valid : Type 0
   -- what stands between them
   pub state : HostState
-  -- the crossings at which faults are planned
+  -- the faults that are planned, and their crossings
+  pub plan : List Planned
   pub hops : List ℕ
   -- the log of the last command, and the text of its reply
   pub log : List Entry

@@ -1,5 +1,5 @@
 -- What holds of a host between its commands, and how contracts see it.
-use Rattle.std.specs.Prelude.{◌≡◌, ◌*◌, ℕ, List, Option}
+use Rattle.std.specs.Prelude.{◌≡◌, ◌*◌, ℕ, List, [], Option}
 use Rattle.lif_model.specs.Shelf.{IsSize}
 use Rattle.lif_model.specs.Stops.{StandsStill}
 use Rattle.il_device.specs.State.{DeviceState}
@@ -7,6 +7,8 @@ use Rattle.il_ports.specs.Media.{MediumView}
 use Rattle.il_ports.specs.Stores.{RecordsView}
 use Rattle.lif_volume.specs.Views.{VolumeView, IsOpen}
 use Rattle.lif_volume.specs.declared.volume.Volume.{Volume}
+use Rattle.il_ring.specs.declared.plan.Planned.{Planned}
+use Rattle.il_ring.specs.Plans.{hops_of}
 use Rattle.il_ring.specs.declared.ring.Ring.{Ring}
 use Rattle.il_ring.specs.Rings.{RingView}
 use Rattle.il_record.specs.declared.records.LoopRecords.{LoopRecords}
@@ -16,7 +18,7 @@ use Rattle.lif_model.specs.Tape.{Tape}
 use Rattle.host_model.specs.HostStates.{HostState, fresh_host, text_room}
 use Rattle.il_host.specs.HostView.{HostView}
 use Rattle.il_host.specs.Shorts.{AllShort}
-use Rattle.il_host.specs.Standings.{HasLogRoom, state_at, log_at, hops_at, images_at, inside_at}
+use Rattle.il_host.specs.Standings.{HasLogRoom, state_at, log_at, hops_at, plan_at, images_at, inside_at}
 
 -- The volume can be used, and the loop stands. There is room for every log, for the text of every reply, and for the records of every
 -- file; and no device keeps more than there is room for.
@@ -34,6 +36,7 @@ abbrev pub host_view : {M S : Type 0} → (M → MediumView) → Type 0 → Reco
 host_view view valid store loop text = record {
   valid = valid;
   state = state_at view loop.sound loop.control;
+  plan = plan_at loop.control;
   hops = hops_at loop.control;
   log = log_at loop.control;
   text = text;
@@ -64,10 +67,14 @@ host_in view seen v text text_space file_space =
 -- ---- opening and closing
 
 -- The host was opened on this medium, over devices before and behind the drive.
-pub record IsOpened {M : Type 0} (view : M → MediumView) (medium : M) (before after : List DeviceState) (hops : List ℕ) (v : HostView) : Type 0 where
+pub record IsOpened {M : Type 0} (view : M → MediumView) (medium : M) (before after : List DeviceState) (plan : List Planned) (v : HostView) : Type 0 where
   pub valid : v.valid
   pub state : v.state ≡ fresh_host (view medium).tape (view medium).record_count (view medium).faults before after
-  pub hops_are : v.hops ≡ hops
+  pub plan_is : v.plan ≡ plan
+  pub hops_are : v.hops ≡ hops_of plan
+  -- no command was performed yet
+  pub log : v.log ≡ []
+  pub text : v.text ≡ []
   pub images : v.images ≡ (view medium).shelf
   pub inside : v.inside ≡ (view medium).inside
   pub moment : v.moment ≡ (view medium).moment

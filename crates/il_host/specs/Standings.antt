@@ -6,6 +6,7 @@ use Rattle.il_ports.specs.Media.{MediumView}
 use Rattle.il_ports.specs.declared.records.Trouble.{Trouble}
 use Rattle.il_ports.specs.declared.records.Trouble.TheVariants as trouble
 use Rattle.il_drive.specs.State.{drive_id, status_of}
+use Rattle.il_ring.specs.declared.plan.Planned.{Planned}
 use Rattle.il_ring.specs.Plans.{hops_of}
 use Rattle.il_record.specs.LoopStores.{AtIdle, AtLost, HasRing, LoopView, Nowhere, Resumes, Standing, counted_resume}
 use Rattle.lif_plan.specs.Refusals.{reason}
@@ -44,7 +45,13 @@ inside_at view (AtIdle r) = (view r.drive.medium).inside
 inside_at view (AtLost r) = (view r.drive.medium).inside
 inside_at view Nowhere = None
 
--- the crossings at which faults are planned
+-- the faults that are planned
+abbrev pub plan_at : {M : Type 0} → Standing M → List Planned
+plan_at (AtIdle r) = r.books.plan
+plan_at (AtLost r) = r.books.plan
+plan_at Nowhere = []
+
+-- and their crossings
 abbrev pub hops_at : {M : Type 0} → Standing M → List ℕ
 hops_at (AtIdle r) = hops_of r.books.plan
 hops_at (AtLost r) = hops_of r.books.plan

@@ -1,7 +1,7 @@
 ghost use Rattle.std.specs.Prelude.{◌≡◌, ◌≤◌, ◌+◌, ◌*◌, [], map, length, IfOk, IfErr};
 ghost use Rattle.std.specs.List.{All};
 ghost use Rattle.lif_model.specs.Shelf.{IsSize};
-ghost use Rattle.il_ring.specs.Plans.{IsPlan, hops_of};
+ghost use Rattle.il_ring.specs.Plans.{IsPlan};
 ghost use Rattle.il_ring.specs.Rings.{MayStand};
 ghost use Rattle.host_model.specs.HostStates.{log_room, text_room};
 ghost use Rattle.il_host.specs.Hosts.{IsOpened, IsClosed};
@@ -47,7 +47,7 @@ impl<M: Medium + Drop> Host<M> {
         requires short_after { All (λ b. IsShort (state b)) rig.after.items }
         requires size { IsSize (M.view rig.medium).record_count }
         requires plan { IsPlan plan.now }
-        ensures opened { IfOk result (λ host. IsOpened M.view rig.medium (map (λ b. state b) rig.before.items) (map (λ b. state b) rig.after.items) (hops_of plan.now) (⟦<Host<M> as Performer>⟧.view host)) }
+        ensures opened { IfOk result (λ host. IsOpened M.view rig.medium (map (λ b. state b) rig.before.items) (map (λ b. state b) rig.after.items) plan.now (⟦<Host<M> as Performer>⟧.view host)) }
         ensures refused { IfErr result (λ refused. refused.rig.medium ≡ rig.medium) }
         // The devices that are handed back are as they were.
         ensures before { IfErr result (λ refused. map (λ b. state b) refused.rig.before.items ≡ map (λ b. state b) rig.before.items) }

@@ -1,7 +1,7 @@
-//! Bytes for the printer under faults.
+//! Bytes for the printer under faults, and a loop of thirty devices.
 
 use crate::images::formatted;
-use crate::runs::{Given, run, words_with};
+use crate::runs::{Behind, Given, answers, run, words_with};
 use std::alloc::Global;
 use std::process::Abort;
 use std::test::Fail;
@@ -48,4 +48,30 @@ fn a_fault_at_each_crossing_of_say(rt: HostRuntime) -> Result<(), Fail> {
     assert!(rt; 50 < lost && lost < 200);
     assert_eq!(rt; altered, lost);
     Ok(())
+}
+
+#[test]
+fn thirty_devices(rt: HostRuntime) -> Result<(), Fail> {
+    let alloc = rt.alloc();
+    let tape = formatted(alloc)?;
+    let mut wanted = Vec::from_slice(alloc, b"device 1 10\n")?;
+    for address in 2..30u8 {
+        wanted.extend_from_slice(b"device ")?;
+        if 9 < address {
+            wanted.push(b'0' + address / 10)?;
+        }
+        wanted.push(b'0' + address % 10)?;
+        wanted.extend_from_slice(b" --\n")?;
+    }
+    wanted.extend_from_slice(b"device 30 20\nok\npoll 00 quiet\nok\nok\npaper 41 1\nok\n")?;
+    answers(
+        &rt,
+        alloc,
+        &Given {
+            behind: Behind::Full,
+            ..Given::script(&tape, b"devices\npoll\nsay 41\npaper\n")
+        },
+        0,
+        &wanted,
+    )
 }

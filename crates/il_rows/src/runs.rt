@@ -20,6 +20,8 @@ pub enum Behind {
     Printer,
     /// A device that sends nothing.
     Quiet,
+    /// As many devices as there is room for: 28 that send nothing, and a printer.
+    Full,
 }
 
 /// What a run is given. The lists name the calls that fail, counted from 1.
@@ -118,7 +120,7 @@ fn quiet(alloc: Global) -> Result<Box<dyn Device>, AllocError>
 }
 
 fn devices_of(alloc: Global, behind: Behind) -> Result<Vec<Box<dyn Device>>, AllocError>
-    ensures few { IfOk result (λ devices. length devices.items ≤ 1) }
+    ensures few { IfOk result (λ devices. length devices.items ≤ 29) }
     ensures stand { IfOk result (λ devices. All (λ b. MayStand (⟦<Box<dyn Device> as Device>⟧.state b)) devices.items) }
     ensures short { IfOk result (λ devices. All (λ b. IsShort (⟦<Box<dyn Device> as Device>⟧.state b)) devices.items) }
 {
@@ -127,6 +129,12 @@ fn devices_of(alloc: Global, behind: Behind) -> Result<Vec<Box<dyn Device>>, All
         Behind::Nothing => {}
         Behind::Printer => devices.push(printer(alloc)?)?,
         Behind::Quiet => devices.push(quiet(alloc)?)?,
+        Behind::Full => {
+            'quiets: for _ in 0..28usize {
+                devices.push(quiet(alloc)?)?;
+            }
+            devices.push(printer(alloc)?)?;
+        }
     }
     Ok(devices)
 }

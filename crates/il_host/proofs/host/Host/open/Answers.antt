@@ -26,7 +26,10 @@ returns-in-Ok-open-clause-opened g c =
         file = search rules;
       };
       state = search rules;
+      plan_is = search rules;
       hops_are = search rules;
+      log = search rules;
+      text = search rules;
       images = search rules;
       inside = search rules;
       moment = search rules;
