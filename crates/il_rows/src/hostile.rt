@@ -1,0 +1,96 @@
+//! Images that hold no volume, each with one change in one that does.
+
+use crate::images::{END_ENTRY, REDO_ENTRY, formatted, with_entries};
+use crate::runs::{Given, answers};
+use std::alloc::{AllocError, Global};
+use std::process::Abort;
+use std::test::Fail;
+
+// Nothing is found on the image.
+fn is_no_volume(rt: &impl Abort, alloc: Global, image: &[u8]) -> Result<(), Fail> {
+    answers(
+        rt,
+        alloc,
+        &Given::script(image, b"dir\n"),
+        1,
+        b"error 3 NotLif\n",
+    )
+}
+
+// A formatted volume with these bytes at a place of record 0.
+fn with_header(alloc: Global, place: usize, bytes: &[u8]) -> Result<Vec<u8>, AllocError> {
+    let mut image = formatted(alloc)?;
+    for (byte, new) in image.iter_mut().skip(place).zip(bytes) {
+        *byte = *new;
+    }
+    Ok(image)
+}
+
+#[test]
+fn headers_that_cannot_be_read(rt: HostRuntime) -> Result<(), Fail> {
+    let alloc = rt.alloc();
+    // The mark, the directory's start, its length, and its end behind the gate.
+    is_no_volume(&rt, alloc, &with_header(alloc, 0, b"\x80\x01")?)?;
+    is_no_volume(&rt, alloc, &with_header(alloc, 8, b"\0\0\0\0")?)?;
+    is_no_volume(&rt, alloc, &with_header(alloc, 16, b"\0\0\0\0")?)?;
+    is_no_volume(&rt, alloc, &with_header(alloc, 16, b"\0\0\x01\xFB")?)
+}
+
+// A volume whose first file, of that type, has these bytes for its start and length.
+fn with_extent(alloc: Global, kind: u8, extent: &[u8; 8]) -> Result<Vec<u8>, AllocError> {
+    let mut entry = *b"X         \0?\0\0\0\0\0\0\0\0\0\0\0\0\0\0\x80\x01\0\0\0\0";
+    entry[11] = kind;
+    for (byte, new) in entry.iter_mut().skip(12).zip(extent) {
+        *byte = *new;
+    }
+    with_entries(alloc, &[&entry, REDO_ENTRY, END_ENTRY])
+}
+
+#[test]
+fn files_that_lie_nowhere(rt: HostRuntime) -> Result<(), Fail> {
+    let alloc = rt.alloc();
+    // In the directory, over the redo file, and past the end of the tape.
+    is_no_volume(&rt, alloc, &with_extent(alloc, 1, b"\0\0\0\x03\0\0\0\x01")?)?;
+    is_no_volume(
+        &rt,
+        alloc,
+        &with_extent(alloc, 1, b"\0\0\x01\xFB\0\0\0\x02")?,
+    )?;
+    is_no_volume(
+        &rt,
+        alloc,
+        &with_extent(alloc, 1, b"\0\0\x01\xFF\0\0\0\x02")?,
+    )?;
+    is_no_volume(
+        &rt,
+        alloc,
+        &with_extent(alloc, 1, b"\xFF\xFF\xFF\xFF\xFF\xFF\xFF\xFF")?,
+    )
+}
+
+#[test]
+fn two_files_of_one_name(rt: HostRuntime) -> Result<(), Fail> {
+    let alloc = rt.alloc();
+    let second = b"REDOFILE  \0\x01\0\0\0\x04\0\0\0\x01\0\0\0\0\0\0\x80\x01\0\0\0\0";
+    is_no_volume(
+        &rt,
+        alloc,
+        &with_entries(alloc, &[second, REDO_ENTRY, END_ENTRY])?,
+    )
+}
+
+#[test]
+fn a_purged_entry_may_hold_any_numbers(rt: HostRuntime) -> Result<(), Fail> {
+    let alloc = rt.alloc();
+    let image = with_extent(alloc, 0, b"\xFF\xFF\xFF\xFF\xFF\xFF\xFF\xFF")?;
+    answers(
+        &rt,
+        alloc,
+        &Given::script(
+            &image,
+            b"dir\nstore A 0001 00000000 41\nstore B 0001 00000000 42\ndir\n",
+        ),
+        0,
+        b"volume HPTAPE 2 2 2 16\nfile REDOFILE E0D0 508 4 00000000\nok\nok\nok\nvolume HPTAPE 2 2 3 16\nfile A 0001 4 1 00000000\nfile B 0001 5 1 00000000\nfile REDOFILE E0D0 508 4 00000000\nok\n",
+    )
+}
