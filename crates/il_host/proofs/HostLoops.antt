@@ -40,7 +40,7 @@ use Rattle.il_host.specs.HostView.{Performed}
 use Rattle.il_host.specs.Hosts.{IsUsable, host_in, loop_in, store_in, volume_in}
 use Rattle.il_host.specs.Standings.{HasDriveId, fault_of}
 use Rattle.il_host.proofs.HostVolumes.{begun_calls, fault_text, performed}
-use Rattle.il_host.proofs.LoopEvents.{IsOfLoop}
+use Rattle.il_host.proofs.LoopEvents.{IsOfLoop, not_of_volume}
 use Rattle.il_host.proofs.LoopPerforms.{devices_broke, devices_performs, loop_unready, poll_broke, poll_performs, printer_told, printer_within, say_broke, say_no_printer, say_performs, say_unnamed, status_broke, status_performs}
 use Rattle.il_host.proofs.PaperPerforms.{paper_performs}
 use Rattle.il_host.proofs.VolumePerforms.{Performs}
@@ -125,12 +125,12 @@ module _ {M I : Type 0} {D : I → Type 0} (view : M → MediumView) (seen : Rin
   left_begun = let left = begun_calls view seen o b o text_space file_space usable began in let size = size_bounds (store_in view seen o.records).record_count usable.size in omega (arith, left, size.0, size.1)
 
   -- it replied a fault
-  faulted : (n : Volume (LoopRecords M I D)) (item : Item) (e : Trouble) → IsOpen (store_in view seen) (volume_in n) → (store_in view seen n.records).record_count ≡ (store_in view seen o.records).record_count
+  faulted : (n : Volume (LoopRecords M I D)) (item : Item) (e : Trouble) → IsOfLoop item → IsOpen (store_in view seen) (volume_in n) → (store_in view seen n.records).record_count ≡ (store_in view seen o.records).record_count
       → (e ≡ trouble.Frame) × Ran n.records item reply.FaultFrame → Behind n item (fault_of e) (reply_line (fault_of e))
-  faulted n item e opens size did =
+  faulted n item e of_loop opens size did =
       performed view seen o b n text_space file_space usable began opens item (fault_of e) before (reply_line (fault_of e)) size
       (subst (λ e. Ran n.records item (fault_of e)) (sym did.0) did.1)
-      (λ told. sym (fault_text item (host_in view seen o before text_space file_space).state e))
+      (λ told. sym (fault_text item (host_in view seen o before text_space file_space).state e)) (λ is. absurd (not_of_volume item of_loop is))
 
   -- the loop was not ready, and could not be addressed
   pub not_ready : (n : Volume (LoopRecords M I D)) (item : Item) (P : Type 0) (e : Trouble) → IsOpen (store_in view seen) (volume_in n) → IsOfLoop item
@@ -138,7 +138,7 @@ module _ {M I : Type 0} {D : I → Type 0} (view : M → MediumView) (seen : Rin
       → LeavesStore {T = Unit {0}} 1 P (store_in view seen b.records) (store_in view seen n.records) (Err e) → Behind n item (fault_of e) (reply_line (fault_of e))
   not_ready n item P e opens of_loop addresses leaves =
       let left : 1 ≤ (store_in view seen n.records).calls_left = let enough = left_begun in let used = leaves.left in omega (arith, enough, used) in
-      faulted n item e opens (leaves.size ∙ began.size)
+      faulted n item e of_loop opens (leaves.size ∙ began.size)
       (loop_unready view seen (ring_in o.records.control) (ring_in b.records.control) (loop_in seen o.records) (loop_in seen b.records)
       usable.volume_open.valid (agrees seen o.records.control) (agrees seen b.records.control) began (ring_in n.records.control) (loop_in seen n.records) store usable.log left
       (Unit {0}) item e of_loop addresses)
@@ -160,7 +160,7 @@ module _ {M I : Type 0} {D : I → Type 0} (view : M → MediumView) (seen : Rin
     pub paper_told : IsOpen (store_in view seen) (volume_in b) → Behind b (Asks Paper) (if_printer found) (paper_line found ++ reply_line (if_printer found))
     paper_told opens =
         performed view seen o b b text_space file_space usable began opens (Asks Paper) (if_printer found) before (paper_line found ++ reply_line (if_printer found)) began.size paper_ran.1
-        (λ told. paper_text found (host_in view seen o before text_space file_space).state paper_ran.0)
+        (λ told. paper_text found (host_in view seen o before text_space file_space).state paper_ran.0) (λ is. cc)
 
   -- the loop is ready, the volume is m, and its records are lent
   module _ (m : Volume (LoopRecords M I D)) (x : Unit {0}) (P : Type 0) (addresses : Addresses {T = Unit {0}} view (loop_in seen b.records).control (loop_in seen b.records) (loop_in seen m.records) (Ok x))
@@ -180,14 +180,14 @@ module _ {M I : Type 0} {D : I → Type 0} (view : M → MediumView) (seen : Rin
 
     -- one call: the records are l then
     module _ (l : LoopRecords M I D) where
-      replied : {T : Type 0} (item : Item) (k : ℕ) (Q : Type 0) (answer : Result T Trouble) (lines : List ℕ) → LeavesStore k Q (store_in view seen lends) (store_in view seen l) answer → Ran l item reply.Ok
+      replied : {T : Type 0} (item : Item) (k : ℕ) (Q : Type 0) (answer : Result T Trouble) (lines : List ℕ) → LeavesStore k Q (store_in view seen lends) (store_in view seen l) answer → Ran l item reply.Ok → IsOfLoop item
           → reply_text item (host_in view seen o before text_space file_space).state reply.Ok ≡ lines ++ reply_line reply.Ok → Behind (lent m l) item reply.Ok (lines ++ reply_line reply.Ok)
-      replied item k Q answer lines leaves ran text =
-          performed view seen o b (lent m l) text_space file_space usable began (lent_open view seen m lends l k Q answer opens same leaves) item reply.Ok before (lines ++ reply_line reply.Ok) (leaves.size ∙ ready.size ∙ began.size) ran (λ told. sym text)
+      replied item k Q answer lines leaves ran of_loop text =
+          performed view seen o b (lent m l) text_space file_space usable began (lent_open view seen m lends l k Q answer opens same leaves) item reply.Ok before (lines ++ reply_line reply.Ok) (leaves.size ∙ ready.size ∙ began.size) ran (λ told. sym text) (λ is. absurd (not_of_volume item of_loop is))
 
-      call_faulted : {T : Type 0} (item : Item) (k : ℕ) (Q : Type 0) (answer : Result T Trouble) (e : Trouble) → LeavesStore k Q (store_in view seen lends) (store_in view seen l) answer → (e ≡ trouble.Frame) × Ran l item reply.FaultFrame
+      call_faulted : {T : Type 0} (item : Item) (k : ℕ) (Q : Type 0) (answer : Result T Trouble) (e : Trouble) → IsOfLoop item → LeavesStore k Q (store_in view seen lends) (store_in view seen l) answer → (e ≡ trouble.Frame) × Ran l item reply.FaultFrame
           → Behind (lent m l) item (fault_of e) (reply_line (fault_of e))
-      call_faulted item k Q answer e leaves did = faulted (lent m l) item e (lent_open view seen m lends l k Q answer opens same leaves) (leaves.size ∙ ready.size ∙ began.size) did
+      call_faulted item k Q answer e of_loop leaves did = faulted (lent m l) item e of_loop (lent_open view seen m lends l k Q answer opens same leaves) (leaves.size ∙ ready.size ∙ began.size) did
 
       left_called : {T : Type 0} (k : ℕ) (Q : Type 0) (answer : Result T Trouble) → k ≤ 2 → LeavesStore k Q (store_in view seen lends) (store_in view seen l) answer → 1 ≤ (store_in view seen l).calls_left
       left_called k Q answer few leaves = let enough = left_ready in let used = leaves.left in omega (arith, enough, used, few)
@@ -200,12 +200,12 @@ module _ {M I : Type 0} {D : I → Type 0} (view : M → MediumView) (seen : Rin
           let ran = status_performs view seen (ring_in o.records.control) (ring_in b.records.control) (loop_in seen o.records) (loop_in seen b.records)
           usable.volume_open.valid (agrees seen o.records.control) (agrees seen b.records.control) began x (loop_in seen lends) addressed (ring_in l.control) (loop_in seen l) store usable.log (left_called 1 (Unit {0}) (Ok byte) (omega arith) leaves)
           on byte did in
-          replied (Asks Status) 1 (Unit {0}) (Ok byte) (status_line byte) leaves ran.1 (ap (λ byte. status_line byte ++ reply_line reply.Ok) (sym ran.0))
+          replied (Asks Status) 1 (Unit {0}) (Ok byte) (status_line byte) leaves ran.1 tt (ap (λ byte. status_line byte ++ reply_line reply.Ok) (sym ran.0))
 
       pub status_failed : (e : Trouble) (off : Since) → (e ≡ trouble.Frame) × CallBroke (λ r s. NotPolled view (drive_party r) r s) off (loop_in seen lends) (loop_in seen l)
           → LeavesStore {T = ℕ} 1 (Unit {0}) (store_in view seen lends) (store_in view seen l) (Err e) → Behind (lent m l) (Asks Status) (fault_of e) (reply_line (fault_of e))
       status_failed e off did leaves =
-          call_faulted {T = ℕ} (Asks Status) 1 (Unit {0}) (Err e) e leaves
+          call_faulted {T = ℕ} (Asks Status) 1 (Unit {0}) (Err e) e tt leaves
           (status_broke view seen (ring_in o.records.control) (ring_in b.records.control) (loop_in seen o.records) (loop_in seen b.records)
           usable.volume_open.valid (agrees seen o.records.control) (agrees seen b.records.control) began x (loop_in seen lends) addressed (ring_in l.control) (loop_in seen l) store usable.log (left_called {T = ℕ} 1 (Unit {0}) (Err e) (omega arith) leaves)
           off e did)
@@ -218,12 +218,12 @@ module _ {M I : Type 0} {D : I → Type 0} (view : M → MediumView) (seen : Rin
           let ran = poll_performs view seen (ring_in o.records.control) (ring_in b.records.control) (loop_in seen o.records) (loop_in seen b.records)
           usable.volume_open.valid (agrees seen o.records.control) (agrees seen b.records.control) began x (loop_in seen lends) addressed (ring_in l.control) (loop_in seen l) store usable.log (left_called 1 (Unit {0}) (Ok f) (omega arith) leaves)
           on f did in
-          replied (Asks Poll) 1 (Unit {0}) (Ok f) (poll_line f) leaves ran.1 (ap (λ f. poll_line f ++ reply_line reply.Ok) (sym ran.0))
+          replied (Asks Poll) 1 (Unit {0}) (Ok f) (poll_line f) leaves ran.1 tt (ap (λ f. poll_line f ++ reply_line reply.Ok) (sym ran.0))
 
       pub poll_failed : (e : Trouble) (off : Since) → (e ≡ trouble.Frame) × CallBroke (λ r s. PollBroke view 54 (poll_asks (length (devices_of r)) (polled_along 1 (devices_of r) idy)) r s) off (loop_in seen lends) (loop_in seen l)
           → LeavesStore {T = Frame} 1 (Unit {0}) (store_in view seen lends) (store_in view seen l) (Err e) → Behind (lent m l) (Asks Poll) (fault_of e) (reply_line (fault_of e))
       poll_failed e off did leaves =
-          call_faulted {T = Frame} (Asks Poll) 1 (Unit {0}) (Err e) e leaves
+          call_faulted {T = Frame} (Asks Poll) 1 (Unit {0}) (Err e) e tt leaves
           (poll_broke view seen (ring_in o.records.control) (ring_in b.records.control) (loop_in seen o.records) (loop_in seen b.records)
           usable.volume_open.valid (agrees seen o.records.control) (agrees seen b.records.control) began x (loop_in seen lends) addressed (ring_in l.control) (loop_in seen l) store usable.log (left_called {T = Frame} 1 (Unit {0}) (Err e) (omega arith) leaves)
           off 54 e did)
@@ -236,12 +236,12 @@ module _ {M I : Type 0} {D : I → Type 0} (view : M → MediumView) (seen : Rin
           let ran = devices_performs view seen (ring_in o.records.control) (ring_in b.records.control) (loop_in seen o.records) (loop_in seen b.records)
           usable.volume_open.valid (agrees seen o.records.control) (agrees seen b.records.control) began x (loop_in seen lends) addressed (ring_in l.control) (loop_in seen l) store usable.log (left_called 2 (Unit {0}) (Ok u) (omega arith) leaves)
           on ids has did in
-          replied (Asks Devices) 2 (Unit {0}) (Ok u) (device_lines 1 ids) leaves ran.1 (ap (λ ids. device_lines 1 ids ++ reply_line reply.Ok) (sym ran.0))
+          replied (Asks Devices) 2 (Unit {0}) (Ok u) (device_lines 1 ids) leaves ran.1 tt (ap (λ ids. device_lines 1 ids ++ reply_line reply.Ok) (sym ran.0))
 
       pub devices_failed : (e : Trouble) (off : Since) → HasDriveId (loop_in seen o.records).control → (e ≡ trouble.Frame) × CallBroke (λ r s. LeftAlone view false (up_to (id_asks (devices_of r)) (length (devices_of r))) r s) off (loop_in seen lends) (loop_in seen l)
           → LeavesStore {T = Unit {0}} 2 (Unit {0}) (store_in view seen lends) (store_in view seen l) (Err e) → Behind (lent m l) (Asks Devices) (fault_of e) (reply_line (fault_of e))
       devices_failed e off has did leaves =
-          call_faulted {T = Unit {0}} (Asks Devices) 2 (Unit {0}) (Err e) e leaves
+          call_faulted {T = Unit {0}} (Asks Devices) 2 (Unit {0}) (Err e) e tt leaves
           (devices_broke view seen (ring_in o.records.control) (ring_in b.records.control) (loop_in seen o.records) (loop_in seen b.records)
           usable.volume_open.valid (agrees seen o.records.control) (agrees seen b.records.control) began x (loop_in seen lends) addressed (ring_in l.control) (loop_in seen l) store usable.log (left_called {T = Unit {0}} 2 (Unit {0}) (Err e) (omega arith) leaves)
           off e has did)
@@ -249,7 +249,7 @@ module _ {M I : Type 0} {D : I → Type 0} (view : M → MediumView) (seen : Rin
       pub unnamed_failed : (e : Trouble) (off : Since) (bytes : List ℕ) → HasDriveId (loop_in seen o.records).control → (e ≡ trouble.Frame) × CallBroke (λ r s. LeftAlone view false (up_to (id_asks (devices_of r)) (length (devices_of r))) r s) off (loop_in seen lends) (loop_in seen l)
           → LeavesStore {T = Unit {0}} 2 (Unit {0}) (store_in view seen lends) (store_in view seen l) (Err e) → Behind (lent m l) (Asks (Say bytes)) (fault_of e) (reply_line (fault_of e))
       unnamed_failed e off bytes has did leaves =
-          call_faulted {T = Unit {0}} (Asks (Say bytes)) 2 (Unit {0}) (Err e) e leaves
+          call_faulted {T = Unit {0}} (Asks (Say bytes)) 2 (Unit {0}) (Err e) e tt leaves
           (say_unnamed view seen (ring_in o.records.control) (ring_in b.records.control) (loop_in seen o.records) (loop_in seen b.records)
           usable.volume_open.valid (agrees seen o.records.control) (agrees seen b.records.control) began x (loop_in seen lends) addressed (ring_in l.control) (loop_in seen l) store usable.log (left_called {T = Unit {0}} 2 (Unit {0}) (Err e) (omega arith) leaves)
           off bytes e has did)
@@ -269,7 +269,7 @@ module _ {M I : Type 0} {D : I → Type 0} (view : M → MediumView) (seen : Rin
             let ran = say_no_printer view seen (ring_in o.records.control) (ring_in b.records.control) (loop_in seen o.records) (loop_in seen b.records)
             usable.volume_open.valid (agrees seen o.records.control) (agrees seen b.records.control) began x (loop_in seen lends) addressed (ring_in l.control) (loop_in seen l) store usable.log (left_called 2 (Unit {0}) (Ok u) (omega arith) named)
             on ids bytes has (sym none ∙ printer) did in
-            performed view seen o b (lent m l) text_space file_space usable began open_named (Asks (Say bytes)) (reply.No code.NoPrinter) before (reply_line (reply.No code.NoPrinter)) (named.size ∙ ready.size ∙ began.size) ran (λ told. refl)
+            performed view seen o b (lent m l) text_space file_space usable began open_named (Asks (Say bytes)) (reply.No code.NoPrinter) before (reply_line (reply.No code.NoPrinter)) (named.size ∙ ready.size ∙ began.size) ran (λ told. refl) (λ is. cc)
 
         -- the records are lent again, and become q
         module _ (few : length bytes ≤ LONGEST_PAYLOAD) (address : ℕ) (at : found ≡ Some address) (again : LoopRecords M I D) (same_again : again ≡ l) where
@@ -304,12 +304,12 @@ module _ {M I : Type 0} {D : I → Type 0} (view : M → MediumView) (seen : Rin
                 let ran = say_performs view seen (ring_in o.records.control) (ring_in b.records.control) (loop_in seen o.records) (loop_in seen b.records)
                 usable.volume_open.valid (agrees seen o.records.control) (agrees seen b.records.control) began x (loop_in seen lends) addressed (ring_in q.control) (loop_in seen q) store usable.log (left_said (Ok w) leaves)
                 on ids (loop_in seen again) did_again has address (sym at ∙ printer) bytes more said in
-                performed view seen o b (lent m q) text_space file_space usable began (open_said (Ok w) leaves) (Asks (Say bytes)) reply.Ok before (reply_line reply.Ok) (size_said (Ok w) leaves) ran (λ told. refl)
+                performed view seen o b (lent m q) text_space file_space usable began (open_said (Ok w) leaves) (Asks (Say bytes)) reply.Ok before (reply_line reply.Ok) (size_said (Ok w) leaves) ran (λ told. refl) (λ is. cc)
 
             pub say_failed : (e : Trouble) (off : Since) → (e ≡ trouble.Frame) × CallBroke (λ r s. NotSaid view address bytes r s) off (loop_in seen again) (loop_in seen q)
                 → LeavesStore {T = Unit {0}} ((length bytes + 306) / 300) (Unit {0}) (store_in view seen again) (store_in view seen q) (Err e) → Behind (lent m q) (Asks (Say bytes)) (fault_of e) (reply_line (fault_of e))
             say_failed e off broke leaves =
-                faulted (lent m q) (Asks (Say bytes)) e (open_said {T = Unit {0}} (Err e) leaves) (size_said {T = Unit {0}} (Err e) leaves)
+                faulted (lent m q) (Asks (Say bytes)) e tt (open_said {T = Unit {0}} (Err e) leaves) (size_said {T = Unit {0}} (Err e) leaves)
                 (say_broke view seen (ring_in o.records.control) (ring_in b.records.control) (loop_in seen o.records) (loop_in seen b.records)
                 usable.volume_open.valid (agrees seen o.records.control) (agrees seen b.records.control) began x (loop_in seen lends) addressed (ring_in q.control) (loop_in seen q) store usable.log (left_said {T = Unit {0}} (Err e) leaves)
                 on ids (loop_in seen again) did_again has address (sym at ∙ printer) bytes off e broke)

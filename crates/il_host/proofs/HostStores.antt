@@ -1,7 +1,8 @@
 -- A store, as a host performs it.
-use Rattle.std.proofs.Common.{◌≡◌, ◌≤◌, ◌+◌, ◌*◌, ℕ, List, Option, arith}
+use Rattle.std.proofs.Common.{◌≡◌, ◌≤◌, ◌+◌, ◌*◌, ℕ, List, Option, None, Some, refl, subst, arith}
 use Rattle.std.specs.Prelude.{Result, Ok, Err}
 use Rattle.lif_model.specs.Apply.{Store, VolumeCommand}
+use Rattle.lif_model.specs.Header.{HeaderParts}
 use Rattle.il_ports.specs.Media.{MediumView, IsMedium}
 use Rattle.il_ports.specs.Stores.{Begun, Continues, RecordsView}
 use Rattle.lif_volume.specs.Changing.{TurnsVolume}
@@ -24,15 +25,30 @@ use Rattle.il_host.specs.Standings.{HasDriveStatus, MakesSound, volume_reply}
 use Rattle.il_host.proofs.FileCarries.{store_answered}
 use Rattle.il_host.proofs.HostVolumes.{changed, most_calls, mounts_few, none_asked, seen_asked}
 
--- it takes no more calls than a host has
+-- it takes no more calls than any command does
 stores_few : {R S T : Type 0} (view : R → RecordsView S) (old new : VolumeView R) (bytes : List ℕ) (answer : Result T VolumeFault) → IsOpen view new → (view new.records).record_count ≡ (view old.records).record_count
-    → mounting (view old.records).record_count old.kept new.kept + storing (view old.records).record_count bytes answer ≤ most_calls (view old.records).record_count
-stores_few {T = T} view old new bytes answer is size = omega (arith, mounts_few view old new is size, is.size, size, counted answer)
+    → storing (view old.records).record_count old.kept new.kept bytes answer ≤ most_calls (view old.records).record_count
+stores_few {T = T} view old new bytes answer is size = by old.kept new.kept (λ header kept. mounted header kept) answer
   where
-    counted : (answer : Result T VolumeFault) → storing (view old.records).record_count bytes answer ≤ (view old.records).record_count + 12
-    counted (Ok x) = omega arith
-    counted (Err (Refused why)) = omega arith
-    counted (Err (Troubled e)) = omega arith
+    count : ℕ
+    count = (view old.records).record_count
+
+    -- a directory leaves room for the redo file
+    mounted : (header : HeaderParts) → new.kept ≡ Some header → header.length + 5 ≤ count
+    mounted header kept =
+        let few = subst (λ (kept : Option HeaderParts). mounting count None kept ≤ count + 66) kept (mounts_few view (record old { kept = None }) new is size) in
+        omega (arith, few)
+
+    by : (was kept : Option HeaderParts) → ((header : HeaderParts) → kept ≡ Some header → header.length + 5 ≤ count) → (answer : Result T VolumeFault) → storing count was kept bytes answer ≤ most_calls count
+    by (Some old) kept long (Ok x) = omega arith
+    by (Some old) kept long (Err (Refused why)) = omega arith
+    by (Some old) kept long (Err (Troubled e)) = omega arith
+    by None (Some header) long (Ok x) = omega (arith, long header refl)
+    by None (Some header) long (Err (Refused why)) = omega (arith, long header refl)
+    by None (Some header) long (Err (Troubled e)) = omega (arith, long header refl)
+    by None None long (Ok x) = omega arith
+    by None None long (Err (Refused why)) = omega arith
+    by None None long (Err (Troubled e)) = omega arith
 
 module _ {M I : Type 0} {D : I → Type 0} (view : M → MediumView) (seen : Ring M I D → RingView M) (o b n : Volume (LoopRecords M I D)) (text_space file_space : ℕ)
     (usable : IsUsable view (store_in view seen) (volume_in o) (loop_in seen o.records) text_space file_space) (began : Begun (store_in view seen o.records) (store_in view seen b.records))
@@ -46,7 +62,7 @@ module _ {M I : Type 0} {D : I → Type 0} (view : M → MediumView) (seen : Rin
       → Performed (Asks (OfVolume (Store name kind implementation bytes))) (volume_reply answer) (host_in view seen o before text_space file_space) (host_in view seen n (reply_line (volume_reply answer)) text_space file_space)
   stored answer before law commits answers turns runs =
       changed view seen o b n text_space file_space usable began command opens low m u makes sounds answer
-      (mounting (store_in view seen m.records).record_count (volume_in m).kept (volume_in n).kept + storing (store_in view seen m.records).record_count bytes answer) before tt
+      (storing (store_in view seen m.records).record_count (volume_in m).kept (volume_in n).kept bytes answer) before tt
       (stores_few (store_in view seen) (volume_in m) (volume_in n) bytes answer opens commits.goes_on.continues.size)
       commits.goes_on turns answers
       (store_answered (store_in view seen) (volume_in m) (volume_in n) (host_in view seen o before text_space file_space).state

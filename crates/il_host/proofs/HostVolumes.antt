@@ -1,5 +1,5 @@
 -- A command of the volume, as a host performs it.
-use Rattle.std.proofs.Common.{◌≡◌, ◌∙◌, ◌≤◌, ◌+◌, ◌*◌, ◌++◌, ℕ, true, List, [], Option, None, Some, refl, sym, ap, subst, arith}
+use Rattle.std.proofs.Common.{◌≡◌, ◌∙◌, ◌≤◌, ◌+◌, ◌-◌, ◌*◌, ◌++◌, ℕ, true, List, length, [], Option, None, Some, refl, sym, ap, subst, arith}
 use Rattle.std.specs.Prelude.{Result, Ok, Err, IfSome, is_some, map}
 use Rattle.lif_dir.specs.Entries.{slot_bytes}
 use Rattle.lif_model.proofs.Legal.{legal_tells}
@@ -35,15 +35,15 @@ use Rattle.il_script.specs.declared.reply.Reply.{Reply}
 use Rattle.il_script.specs.declared.reply.Reply.TheVariants as reply
 use Rattle.il_script.specs.Sheet.{Sheet}
 use Rattle.il_script.specs.Replies.{reply_line}
-use Rattle.host_model.specs.Requests.{Asks, Item, OfVolume}
+use Rattle.host_model.specs.Requests.{Asks, Item, OfVolume, is_of_volume}
 use Rattle.host_model.specs.HostStates.{HostState, log_room, text_room, volume_at}
 use Rattle.host_model.specs.Replies.{code_of, reply_text, told_of}
 use Rattle.host_model.specs.Steps.{TellsReply}
-use Rattle.il_host.specs.HostView.{HostView, Performed}
+use Rattle.il_host.specs.HostView.{HostView, MakesFewCalls, Performed, calls_behind}
 use Rattle.il_host.specs.Hosts.{IsUsable, host_in, loop_in, store_in, volume_in}
 use Rattle.il_host.specs.Shorts.{AllShort}
 use Rattle.il_host.proofs.Shorts.{all_short}
-use Rattle.il_host.specs.Standings.{HasDriveStatus, HasLogRoom, MakesSound, fault_of, state_at, volume_reply}
+use Rattle.il_host.specs.Standings.{HasDriveStatus, HasLogRoom, MakesSound, fault_of, log_at, state_at, volume_reply}
 use Rattle.il_host.proofs.Texts.{ok_text}
 use Rattle.il_host.proofs.VolumeCarries.{CarriesAs, CarriesNone, carries_nothing, none_carried, not_carried}
 use Rattle.il_host.proofs.VolumeCommands.{KeepsRing}
@@ -64,12 +64,31 @@ room_of {M} view seen p l stands room = by l.control stands room
     by (AtLost r) so room = ap calls_in room
     by Nowhere so room = absurd so
 
+-- how many calls are left behind a log
+left_of : {M S : Type 0} (view : M → MediumView) (seen : S → RingView M) (p : Option S) (l : LoopView M) → StandsSo l.control l.sound l.since → HasLogRoom view l.control
+    → (view_of view seen p l).calls_left ≡ calls_behind (view_of view seen p l).record_count (log_at l.control)
+left_of {M} view seen p l stands room = by l.control stands room
+  where
+    by : (c : Standing M) → StandsSo c l.sound l.since → HasLogRoom view c → (view_at view seen p l.sound l.since l.resumes c).calls_left ≡ calls_behind (view_at view seen p l.sound l.since l.resumes c).record_count (log_at c)
+    by (AtIdle r) so room = ap (λ room. calls_in (room - length r.books.log)) room
+    by (AtLost r) so room = ap (λ room. calls_in (room - length r.books.log)) room
+    by Nowhere so room = absurd so
+
+-- the records of the medium are those of the host
+records_of : {M S : Type 0} (view : M → MediumView) (seen : S → RingView M) (p : Option S) (l : LoopView M) → (state_at view l.sound l.control).records ≡ (view_of view seen p l).record_count
+records_of {M} view seen p l = by l.control
+  where
+    by : (c : Standing M) → (state_at view l.sound c).records ≡ (view_at view seen p l.sound l.since l.resumes c).record_count
+    by (AtIdle r) = refl
+    by (AtLost r) = refl
+    by Nowhere = refl
+
 pub enough_calls : (n : ℕ) → IsSize n → 3 * n + 42 ≤ calls_in (log_room n)
 enough_calls n size = let bounds = size_bounds n size in omega (arith, bounds.0, bounds.1)
 
--- no command of a volume takes more on a tape of n records: to mount, to write a file that is no longer than the tape, and to commit
+-- no command of a volume takes more on a tape of n records: to mount, to write a file, and to commit
 abbrev pub most_calls : ℕ → ℕ
-most_calls n = 3 * n + 40
+most_calls n = n + 78
 
 -- to make a directory kept takes fewer
 pub mounts_few : {R S : Type 0} (view : R → RecordsView S) (old new : VolumeView R) → IsOpen view new → (view new.records).record_count ≡ (view old.records).record_count
@@ -196,14 +215,21 @@ module _ {M I : Type 0} {D : I → Type 0} (view : M → MediumView) (seen : Rin
     pub performed : (item : Item) (answered : Reply) (before after : List ℕ) → (store_in view seen n.records).record_count ≡ count
         → Performs view seen (ring_in o.records.control) (ring_in n.records.control) item answered (loop_in seen o.records) (loop_in seen n.records)
         → (TellsReply item (host_in view seen o before text_space file_space).state → after ≡ reply_text item (host_in view seen o before text_space file_space).state answered)
+        → (is_of_volume item ≡ true → (store_in view seen b.records).calls_left ≤ (store_in view seen n.records).calls_left + (2 * count + 40))
         → Performed item answered (host_in view seen o before text_space file_space) (host_in view seen n after text_space file_space)
-    performed item answered before after size did text = record {
+    performed item answered before after size did text few = record {
       valid = usable_behind size did.keeps (all_short _ _ _ _ _ _ did.step.heard usable.short);
       hops = did.keeps.hops;
       step = did.step;
       text = text;
       stops = did.stops;
       images = did.keeps.images;
+      calls = subst (λ count. MakesFewCalls item count (log_at (loop_in seen n.records).control)) (sym (records_of view seen (ring_in o.records.control) (loop_in seen o.records)))
+          (λ is.
+          let left : (store_in view seen n.records).calls_left ≡ calls_behind count (log_at (loop_in seen n.records).control) =
+          left_of view seen (ring_in n.records.control) (loop_in seen n.records) (stands_at view seen (ring_in n.records.control) (loop_in seen n.records) opens.valid) did.keeps.room
+          ∙ ap (λ count. calls_behind count (log_at (loop_in seen n.records).control)) size in
+          omega (arith, begun_calls, few is, left));
     }
 
   module _ (command : VolumeCommand) (opens : IsOpen (store_in view seen) (volume_in n)) (low : HasDriveStatus (loop_in seen n.records).control) where
@@ -217,7 +243,7 @@ module _ {M I : Type 0} {D : I → Type 0} (view : M → MediumView) (seen : Rin
         usable.volume_open.valid (agrees seen o.records.control) (agrees seen b.records.control) began usable.log low left (Unit {0}) e store makes in
         performed opens (Asks (OfVolume command)) (fault_of e) before (reply_line (fault_of e)) (goes.size ∙ began.size)
         (subst (λ e. Performs view seen (ring_in o.records.control) (ring_in n.records.control) (Asks (OfVolume command)) (fault_of e) (loop_in seen o.records) (loop_in seen n.records)) (sym did.0) did.1)
-        (λ told. sym (fault_text (Asks (OfVolume command)) (host_in view seen o before text_space file_space).state e))
+        (λ told. sym (fault_text (Asks (OfVolume command)) (host_in view seen o before text_space file_space).state e)) (λ is. let used = goes.left in omega (arith, used))
 
     -- the store was made sound as m, and the volume was asked
     module _ (m : Volume (LoopRecords M I D)) (u : Unit {0}) (makes : MakesSound view (loop_in seen b.records) (loop_in seen m.records) (Ok u)) (sounds : Continues {T = Unit {0}} 1 (store_in view seen b.records) (store_in view seen m.records) (Ok u)) where
@@ -246,8 +272,16 @@ module _ {M I : Type 0} {D : I → Type 0} (view : M → MediumView) (seen : Rin
           → (TellsReply (Asks (OfVolume command)) (host_in view seen o before text_space file_space).state → after ≡ reply_text (Asks (OfVolume command)) (host_in view seen o before text_space file_space).state (volume_reply answer))
           → Performed (Asks (OfVolume command)) (volume_reply answer) (host_in view seen o before text_space file_space) (host_in view seen n after text_space file_space)
       asked {T} answer calls before after few goes turns answers carries text =
-          performed opens (Asks (OfVolume command)) (volume_reply answer) before after (goes.continues.size ∙ sounds.size ∙ began.size) (did answer goes answers carries) text
+          performed opens (Asks (OfVolume command)) (volume_reply answer) before after (goes.continues.size ∙ sounds.size ∙ began.size) (did answer goes answers carries) text (λ is. most)
         where
+          most : (store_in view seen b.records).calls_left ≤ (store_in view seen n.records).calls_left + (2 * count + 40)
+          most =
+              let used = sounds.left in
+              let more = goes.continues.left in
+              let size = sounds.size ∙ began.size in
+              let bounds = size_bounds count usable.size in
+              omega (arith, used, more, few, size, bounds.0)
+
           left : 1 ≤ (store_in view seen n.records).calls_left
           left = let enough = begun_left in let used = sounds.left in let more = goes.continues.left in let size = sounds.size ∙ began.size in omega (arith, enough, used, more, few, size)
 

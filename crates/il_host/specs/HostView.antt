@@ -1,15 +1,16 @@
 -- What contracts see of a host, and what a command does to it.
-use Rattle.std.specs.Prelude.{◌≡◌, ◌≤◌, ℕ, true, List, Option, Some, is_some}
+use Rattle.std.specs.Prelude.{◌≡◌, ◌≤◌, ◌+◌, ◌-◌, ◌*◌, ℕ, true, List, [], length, Option, Some, is_some}
 use Rattle.lif_model.specs.Shelf.{Shelf}
 use Rattle.lif_model.specs.Tape.{Tape, IsTape}
 use Rattle.il_ports.specs.Inserting.{OthersAreKept}
 use Rattle.il_frames.specs.declared.entry.Entry.{Entry}
 use Rattle.loop_model.specs.Roles.{is_at_most_one, talkers}
 use Rattle.il_ring.specs.declared.plan.Planned.{Planned}
+use Rattle.il_record.specs.LoopStores.{calls_in}
 use Rattle.il_script.specs.declared.reply.Reply.{Reply}
-use Rattle.host_model.specs.Requests.{Item}
+use Rattle.host_model.specs.Requests.{Item, is_of_volume}
 use Rattle.host_model.specs.LoopStates.{all_roles}
-use Rattle.host_model.specs.HostStates.{HostState}
+use Rattle.host_model.specs.HostStates.{HostState, log_room}
 use Rattle.host_model.specs.Replies.{reply_text}
 use Rattle.host_model.specs.Steps.{Event, IsStep, TellsReply}
 use Rattle.host_model.specs.Stops.{StopsLeave}
@@ -52,6 +53,14 @@ pub record IsHost (v : HostView) : Type 0 where
 abbrev pub event_between : Item → Reply → HostView → HostView → Event
 event_between item reply v w = record { item = item; reply = reply; log = w.log; before = v.state; after = w.state }
 
+-- how many records can be read and written before a log of this length, on a loop with a medium of n records, has no more room
+abbrev pub calls_behind : ℕ → List Entry → ℕ
+calls_behind n log = calls_in (log_room n - length log)
+
+-- A command of a volume on a medium of n records reads and writes at most 2 n + 40, to make the store sound counted as one.
+abbrev pub MakesFewCalls : Item → ℕ → List Entry → Type 0
+MakesFewCalls item n log = is_of_volume item ≡ true → calls_behind n [] ≤ calls_behind n log + (2 * n + 40)
+
 -- The host performed a command and replied so: that is a step of a run. The text is that of the reply, where what it depends on is
 -- told. A power stop during the command leaves what it may leave, and no other image changes.
 pub record Performed (item : Item) (reply : Reply) (v w : HostView) : Type 0 where
@@ -61,3 +70,4 @@ pub record Performed (item : Item) (reply : Reply) (v w : HostView) : Type 0 whe
   pub text : TellsReply item v.state → w.text ≡ reply_text item v.state reply
   pub stops : StopsLeave (event_between item reply v w) v.moment w.moment v.left_since w.left_since
   pub images : KeepsImages v.inside w.inside v.images w.images
+  pub calls : MakesFewCalls item v.state.records w.log

@@ -17,10 +17,9 @@ fn dir_lists_the_volume(rt: HostRuntime) -> Result<(), Fail> {
     let zeros = vec![in alloc; 0; 768]?;
     let none = b"volume HPTAPE 2 2 0 16\nok\n".as_slice();
     let ended = with_entries(alloc, &[END_ENTRY, REDO_ENTRY])?;
-    let cases: [(&[u8], &[u8], u8, &[u8]); 10] = [
+    let cases: [(&[u8], &[u8], u8, &[u8]); 9] = [
         (&tape, b"dir\n", 0, FORMATTED),
         (&disc, b"dir\n", 0, FORMATTED),
-        (&tape, b"", 0, b""),
         (&tape, b"\n\ndir", 0, FORMATTED),
         (
             &tape,
@@ -44,6 +43,17 @@ fn dir_lists_the_volume(rt: HostRuntime) -> Result<(), Fail> {
         assert_eq!(rt; left.status, status);
         assert_eq!(rt; left.output.as_slice(), output);
     }
+    Ok(())
+}
+
+#[test]
+fn an_empty_script_sends_no_frame(rt: HostRuntime) -> Result<(), Fail> {
+    let alloc = rt.alloc();
+    let tape = formatted(alloc)?;
+    let left = run(alloc, &Given::script(&tape, b""))?;
+    assert_eq!(rt; left.output.as_slice(), b"".as_slice());
+    assert_eq!(rt; left.frames, Some(0));
+    assert_eq!(rt; left.status, 0);
     Ok(())
 }
 

@@ -1,7 +1,7 @@
 //! How runs end, and what they leave.
 
 use crate::images::formatted;
-use crate::runs::{Given, run};
+use crate::runs::{Given, answers, run};
 use std::alloc::{AllocError, Global};
 use std::test::Fail;
 
@@ -77,15 +77,15 @@ fn each_early_ending_has_its_status_and_writes_nothing(rt: HostRuntime) -> Resul
 fn a_sink_takes_what_it_has_room_for(rt: HostRuntime) -> Result<(), Fail> {
     let alloc = rt.alloc();
     let image = formatted(alloc)?;
-    let left = run(
-        alloc,
-        &Given {
-            room: 10,
-            ..Given::script(&image, b"label")
-        },
-    )?;
-    assert_eq!(rt; left.status, 6);
-    assert_eq!(rt; b"label HPTAPE\nok\n".starts_with(&left.output), true);
+    // The text of a reply is one piece, and so is each line of a trace.
+    for (words, room, status, output) in [
+        ("--quiet TAPE", 10, 6, b"".as_slice()),
+        ("--quiet TAPE", 16, 0, b"label HPTAPE\nok\n".as_slice()),
+        ("TAPE", 40, 6, b"~ 0 IFC = IFC\n~ 0 RFC = RFC\n".as_slice()),
+    ] {
+        let given = Given::script(&image, b"label").with_words(words);
+        answers(&rt, alloc, &Given { room, ..given }, status, output)?;
+    }
     Ok(())
 }
 

@@ -6,6 +6,8 @@ use std::alloc::{AllocError, Global};
 use std::process::Abort;
 use std::test::Fail;
 
+const STORE: &[u8] = b"store A 0001 00000000 41\n";
+
 const SCRIPT: &[u8] = b"store A 0001 00000000 41\ndir\n";
 
 const WITHOUT: &[u8] = b"volume HPTAPE 2 2 1 16\nfile REDOFILE E0D0 508 4 00000000\nok\n";
@@ -54,9 +56,17 @@ fn a_store_counts_whole_or_not_at_all(rt: HostRuntime) -> Result<(), Fail> {
     let alloc = rt.alloc();
     let lost = crossings_tried(&rt, alloc, "--lose ", "")?;
     let altered = crossings_tried(&rt, alloc, "--alter ", ":01")?;
-    // The store has more than five thousand crossings.
-    assert!(rt; 52 < lost && lost < 1000);
+    // The store has 9,300 crossings: 33 to address the loop, 849 for each of five reads and 837 for each of six writes.
+    assert_eq!(rt; lost, 96);
     assert_eq!(rt; altered, lost);
+    let tape = formatted(alloc)?;
+    for (words, output) in [
+        ("--quiet --lose 9300 TAPE", b"fault frame\n".as_slice()),
+        ("--quiet --lose 9301 TAPE", b"ok\n".as_slice()),
+    ] {
+        let left = run(alloc, &Given::script(&tape, STORE).with_words(words))?;
+        assert_eq!(rt; left.output.as_slice(), output);
+    }
     Ok(())
 }
 
@@ -111,6 +121,7 @@ fn each_write_of_a_store_fails(rt: HostRuntime) -> Result<(), Fail> {
                 Some(is_there(write as usize, &torn)),
                 "write {write}"
             );
+            assert_eq!(rt; left.status, 1);
         }
     }
     Ok(())
@@ -135,14 +146,15 @@ fn reads_tried(rt: &impl Abort, alloc: Global) -> Result<u64, Fail> {
             true,
             "read {read}"
         );
+        assert_eq!(rt; left.status, 1);
     }
     Ok(20)
 }
 
 #[test]
 fn each_read_of_a_store_fails(rt: HostRuntime) -> Result<(), Fail> {
-    let reads = reads_tried(&rt, rt.alloc())?;
-    assert!(rt; 2 < reads && reads < 12);
+    // The gate, record 0 and the directory's record; that record again for the commit, and the gate.
+    assert_eq!(rt; reads_tried(&rt, rt.alloc())?, 5);
     Ok(())
 }
 
@@ -170,7 +182,7 @@ fn stopped_at(
 fn a_stop_within_each_write_of_a_store(rt: HostRuntime) -> Result<(), Fail> {
     let alloc = rt.alloc();
     let tape = formatted(alloc)?;
-    let stored = run(alloc, &Given::script(&tape, b"store A 0001 00000000 41\n"))?;
+    let stored = run(alloc, &Given::script(&tape, STORE))?;
     for (write, record) in [4, 510, 509, 508, 2, 508].iter().enumerate() {
         assert_eq!(rt; stored.writes.get(write).map(|made| made.0), Some(*record));
     }

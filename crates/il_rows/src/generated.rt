@@ -32,8 +32,10 @@ fn the_same_seed_gives_the_same_script(rt: HostRuntime) -> Result<(), Fail> {
     let first = run(alloc, &given)?;
     let second = run(alloc, &given)?;
     assert_eq!(rt; first.output.as_slice(), second.output.as_slice());
-    assert_eq!(rt; first.output.starts_with(b"generated 400\nok "), true);
-    assert_eq!(rt; first.output.ends_with(b"\nfault 0\n"), true);
+    assert_eq!(rt;
+        first.output.as_slice(),
+        b"generated 400\nok 212\nerror 188\nfault 0\n".as_slice()
+    );
     assert_eq!(rt; first.status, 1);
     assert_eq!(rt; first.image.is_some() && first.image == second.image, true);
     Ok(())

@@ -156,7 +156,7 @@ fn a_kept_directory_needs_no_frame(rt: HostRuntime) -> Result<(), Fail> {
         &Given::script(&tape, b"dir\ndir\n").with_words("--lose 1 TAPE"),
     )?;
     let mut wanted = Vec::from_slice(alloc, b"~ 0 IFC ! 1\nfault frame\n")?;
-    // Then the same frames as without a fault, and the drive is cleared first.
+    // Then the loop is addressed anew.
     assert_eq!(rt; lost.output.starts_with(&wanted), true);
     wanted.extend_from_slice(b"~ 0 IFC = IFC\n~ 0 RFC = RFC\n~ 0 AAU = AAU\n")?;
     assert_eq!(rt; lost.output.starts_with(&wanted), true);

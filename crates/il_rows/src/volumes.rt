@@ -1,6 +1,6 @@
 //! What the commands of a volume answer, one behind the other.
 
-use crate::images::{END_ENTRY, foreign, foreign_with, formatted, with_redo};
+use crate::images::{END_ENTRY, REDO_ENTRY, foreign, foreign_with, formatted, with_redo};
 use crate::runs::{Given, answers, run};
 use std::alloc::{AllocError, Global};
 use std::process::Abort;
@@ -87,12 +87,25 @@ fn files_lie_one_behind_the_other(rt: HostRuntime) -> Result<(), Fail> {
 fn one_file_may_fill_the_tape(rt: HostRuntime) -> Result<(), Fail> {
     let alloc = rt.alloc();
     for (count, status, output) in [
-        (129_280, 0, b"ok\nok\n".as_slice()),
-        (129_281, 1, b"ok\nerror 7 NoRoom\n".as_slice()),
+        (
+            129_280,
+            0,
+            b"ok\nok\nvolume HPTAPE 2 1 2 8\nfile A 0001 3 505 00000000\nfile REDOFILE E0D0 508 4 00000000\nok\n".as_slice(),
+        ),
+        (
+            129_281,
+            1,
+            b"ok\nerror 7 NoRoom\nvolume HPTAPE 2 1 1 8\nfile REDOFILE E0D0 508 4 00000000\nok\n".as_slice(),
+        ),
     ] {
         let mut script = Vec::from_slice(alloc, b"format HPTAPE 8\n")?;
         script.extend_from_slice(&store_line(alloc, b"A", count)?)?;
-        answers(&rt, alloc, &Given::script(&[], &script), status, output)?;
+        script.extend_from_slice(b"dir\n")?;
+        let given = Given {
+            image: None,
+            ..Given::script(&[], &script).with_words("--new --quiet TAPE")
+        };
+        answers(&rt, alloc, &given, status, output)?;
     }
     Ok(())
 }
@@ -135,48 +148,44 @@ fn a_file_in_the_way_is_in_use(rt: HostRuntime) -> Result<(), Fail> {
     )
 }
 
+// Files F1, F2 and so on of one byte are stored in turn, and the directory is listed.
+fn numbered_files(alloc: Global, last: u8) -> Result<Vec<u8>, AllocError> {
+    let mut script = Vec::new(alloc);
+    for number in b'1'..=last {
+        script.extend_from_slice(&store_line(alloc, &[b'F', number], 1)?)?;
+    }
+    script.extend_from_slice(b"dir\n")?;
+    Ok(script)
+}
+
+// The bytes of a slot of the directory that begins in record 2.
+fn slot_of(image: &Option<Vec<u8>>, k: usize) -> Option<&[u8]> {
+    image.as_deref()?.get(512..)?.chunks(32).nth(k)
+}
+
 #[test]
 fn the_redo_entry_moves_behind_new_files(rt: HostRuntime) -> Result<(), Fail> {
     let alloc = rt.alloc();
-    let mut tape = formatted(alloc)?;
-    // Old bytes in the slots of record 3.
-    tape.truncate(768);
-    tape.resize(1024, 0x33)?;
-    let mut script = Vec::new(alloc);
-    let mut wanted = Vec::new(alloc);
-    for number in b'1'..=b'7' {
-        script.extend_from_slice(&store_line(alloc, &[b'F', number], 1)?)?;
-        wanted.extend_from_slice(b"ok\n")?;
+    let wanted =
+        b"ok\nok\nok\nok\nok\nok\nok\nvolume HPTAPE 2 2 8 16\nfile F1 0001 4 1 00000000\nfile F2 0001 5 1 00000000\nfile F3 0001 6 1 00000000\nfile F4 0001 7 1 00000000\nfile F5 0001 8 1 00000000\nfile F6 0001 9 1 00000000\nfile F7 0001 10 1 00000000\nfile REDOFILE E0D0 508 4 00000000\nok\n";
+    // Zeros in the slots of record 3, and then old bytes.
+    for old in [0, 0x33] {
+        let mut tape = formatted(alloc)?;
+        tape.truncate(768);
+        tape.resize(1024, old)?;
+        let six = run(alloc, &Given::script(&tape, &numbered_files(alloc, b'6')?))?;
+        assert_eq!(rt; slot_of(&six.image, 6), Some(REDO_ENTRY));
+        assert_eq!(rt; slot_of(&six.image, 7), Some(END_ENTRY));
+        let seven = run(alloc, &Given::script(&tape, &numbered_files(alloc, b'7')?))?;
+        assert_eq!(rt; seven.output.as_slice(), wanted.as_slice());
+        assert_eq!(rt; seven.status, 0);
+        assert_eq!(rt; slot_of(&seven.image, 7), Some(REDO_ENTRY));
+        // The slot behind the redo entry ends the directory, and its other bytes stay.
+        let mut first = [old; 32];
+        first[10] = 0xFF;
+        first[11] = 0xFF;
+        assert_eq!(rt; slot_of(&seven.image, 8), Some(first.as_slice()));
     }
-    script.extend_from_slice(b"dir\n")?;
-    wanted.extend_from_slice(b"volume HPTAPE 2 2 8 16\n")?;
-    for (number, place) in [
-        (b'1', b"4".as_slice()),
-        (b'2', b"5"),
-        (b'3', b"6"),
-        (b'4', b"7"),
-        (b'5', b"8"),
-        (b'6', b"9"),
-        (b'7', b"10"),
-    ] {
-        wanted.extend_from_slice(b"file F")?;
-        wanted.push(number)?;
-        wanted.extend_from_slice(b" 0001 ")?;
-        wanted.extend_from_slice(place)?;
-        wanted.extend_from_slice(b" 1 00000000\n")?;
-    }
-    wanted.extend_from_slice(b"file REDOFILE E0D0 508 4 00000000\nok\n")?;
-    let left = run(alloc, &Given::script(&tape, &script))?;
-    assert_eq!(rt; left.output.as_slice(), wanted.as_slice());
-    assert_eq!(rt; left.status, 0);
-    // The slot behind the redo entry ends the directory, and its other bytes stay.
-    let mut first = [0x33; 32];
-    first[10] = 0xFF;
-    first[11] = 0xFF;
-    assert_eq!(rt;
-        left.image.as_deref().and_then(|bytes| bytes.get(768..800)),
-        Some(first.as_slice())
-    );
     Ok(())
 }
 

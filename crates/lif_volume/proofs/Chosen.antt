@@ -48,6 +48,12 @@ fit_same n low capacity slots count small = go (candidates capacity slots)
     go [] = refl
     go (k ∷ cs) = first_same n low slots count (k ∷ cs) small
 
+-- by the numbers that are told of the directory and of the file
+pub chosen_at : (n : ℕ) (header : HeaderParts) (slots : List (List ℕ)) (bytes : List ℕ) (past records count : ℕ) (place : Place)
+    → header.start + header.length ≡ past → header.length ≡ records → count ≡ min (file_length bytes) 65536 → place ≡ fit n past (8 * records) slots count
+    → fit n (header.start + header.length) (8 * header.length) slots (min (file_length bytes) 65536) ≡ place
+chosen_at n header slots bytes past records count place ends length counts is = (λ i. fit n (ends i) (8 * length i) slots (sym counts i)) ∙ sym is
+
 -- ---- what is planned
 
 module _ (n : ℕ) (small : n < 2 ^ 16) (name : List ℕ) (kind : ℕ) (implementation bytes : List ℕ) (header : HeaderParts) (slots : List (List ℕ)) (version : redo.Version)

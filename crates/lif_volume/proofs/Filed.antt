@@ -18,7 +18,8 @@ use Rattle.lif_model.specs.Writing.{slot_record, changes_by, changes_of, chosen_
 use Rattle.lif_model.proofs.Moments.{started, goes_on, follows}
 use Rattle.lif_model.proofs.Made.{file_bytes}
 use Rattle.lif_model.proofs.Recorded.{records_replaced, replaced_is, records_count}
-use Rattle.lif_model.proofs.Legal.{legal_from}
+use Rattle.lif_model.proofs.Legal.{legal_from, legal_tells}
+use Rattle.lif_model.proofs.Slots.{readable_tells}
 use Rattle.lif_model.proofs.Adopted.{adopted_some, ends_before_redo}
 use Rattle.lif_model.proofs.Apply.{refused_stays, next_is_adopted}
 use Rattle.lif_model.proofs.Directory.{volume_tells}
@@ -45,7 +46,7 @@ use Rattle.lif_volume.specs.declared.fault.VolumeFault.TheVariants.{Refused, Tro
 use Rattle.lif_volume.specs.Views.{VolumeView, IsOpen, IsDirectoryOf}
 use Rattle.lif_volume.specs.Changing.{changes_when, HasEitherVolume, VolumeTurns}
 use Rattle.lif_volume.specs.Plans.{LiesBelow}
-use Rattle.lif_volume.specs.Storing.{place_when, file_when, run_of, file_commit, PlacesFile, CarriesIn}
+use Rattle.lif_volume.specs.Storing.{place_when, file_when, run_of, file_commit, beside, PlacesFile, CarriesIn}
 use Rattle.lif_volume.proofs.Mounting.{volume_on}
 use Rattle.lif_volume.proofs.Carrying.{legal, some, some_is, on, tape, within, volume_is, with_is, here, rests, applied, same_tape}
 
@@ -211,17 +212,22 @@ module _ {R S : Type 0} (view : R → RecordsView S) (x : VolumeView R) (header 
       runs w r run = goes_on _ _ _ _ _ _ (HasEitherVolume n command t) _ (PartlyReplaced first (file_records bytes)) t told
           (started _ _ (HasEitherVolume n command t) t (λ c left. store.leaves_only t c told left) (here view x header opened kept store command t told)) run.time (λ c left. partly c left)
 
-    within_medium : length (file_records bytes) ≤ min n (file_length bytes)
-    within_medium = omega (arith, records_count bytes, plan.count, plan.high)
+    starts : 0 < header.start
+    starts =
+        let was = legal view x header opened kept store in
+        omega (arith, (readable_tells n was.bytes (legal_tells n was.bytes (map slot_bytes x.slots) was.legal).readable).0, ap (λ (h : HeaderParts). h.start) was.told)
 
-    few : length (file_records bytes) ≤ min n (file_length bytes) + 12
-    few = omega (arith, within_medium)
+    beside_directory : length (file_records bytes) ≤ min (beside n x.kept) (file_length bytes)
+    beside_directory = subst (λ (k : Option HeaderParts). length (file_records bytes) ≤ min (beside n k) (file_length bytes)) (sym kept) (omega (arith, records_count bytes, plan.count, plan.low, plan.high, starts))
+
+    few : length (file_records bytes) ≤ min (beside n x.kept) (file_length bytes) + 12
+    few = omega (arith, beside_directory)
 
     -- the store failed while the file was written
     pub run_fails : (y : VolumeView R) (trouble : Trouble) → StoredRun {T = Unit {0}} first (file_records bytes) (view x.records) (view y.records) (Err trouble) → y.kept ≡ None
         → CarriesIn {T = Unit {0}} (Store name kind implementation bytes) bytes view x y (Err (Troubled trouble))
     run_fails y trouble run none = record {
-      goes_on = goes_within (length (file_records bytes)) (min n (file_length bytes) + 12) _ _ _ few run.goes_on;
+      goes_on = goes_within (length (file_records bytes)) (min (beside n x.kept) (file_length bytes) + 12) _ _ _ few run.goes_on;
       kept = none;
       on_tape = λ t told.
           let left = run.content t told in
@@ -255,8 +261,8 @@ module _ {R S : Type 0} (view : R → RecordsView S) (x : VolumeView R) (header 
               after = (left.0, left.1, either t told left.0 left.2);
             }
 
-        goes_both : {r : Result (Unit {0}) Trouble} → GoesOn 12 (view w) (view y.records) r → GoesOn (min n (file_length bytes) + 12) (view x.records) (view y.records) r
-        goes_both {r} goes = goes_within (length (file_records bytes) + 12) (min n (file_length bytes) + 12) _ _ r (omega (arith, within_medium))
+        goes_both : {r : Result (Unit {0}) Trouble} → GoesOn 12 (view w) (view y.records) r → GoesOn (min (beside n x.kept) (file_length bytes) + 12) (view x.records) (view y.records) r
+        goes_both {r} goes = goes_within (length (file_records bytes) + 12) (min (beside n x.kept) (file_length bytes) + 12) _ _ r (omega (arith, beside_directory))
             (goes_further (length (file_records bytes)) 12 (view x.records) (view w) (view y.records) tt r run.goes_on goes)
 
         -- the store failed in the commit

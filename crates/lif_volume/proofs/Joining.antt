@@ -96,6 +96,14 @@ added_from n command t old mid new (Err (Troubled trouble)) same first is = tt
 
 -- ---- joined
 
+-- all that is said of a command that changes the directory
+pub record Altered {R S T : Type 0} (command : VolumeCommand) (view : R → RecordsView S) (old new : VolumeView R) (answer : Result T VolumeFault) : Type 0 where
+  pub commits : MountsAndCommits command view old new answer
+  pub answers : AnswersTo command view old new answer
+  pub written : Writes command view old new answer
+  pub stops : TurnsVolume command view old new
+  pub transfers : WritesByCommit command view old new answer
+
 few_bound : {T : Type 0} (n : ℕ) (old : Option HeaderParts) (header : HeaderParts) (after : Option HeaderParts) (a : Result T VolumeFault) → header.length + 5 ≤ n
     → after ≡ (if keeps a then Some header else None) → mounting n old (Some header) + committing a ≤ mounting n old after + committing a
 few_bound n old header after a long is = go (keeps a) refl old
@@ -162,7 +170,7 @@ module _ {R S : Type 0} (view : R → RecordsView S) (x y z : VolumeView R) (hea
     on : CarriesOutOn (view x.records).record_count command (view y.records) (view z.records) (settled t) a
     on = carried_on view x y z command a size mounted.settles carried.on_tape t told
 
-  pub joined_commits : MountsAndCommits command view x z a
+  joined_commits : MountsAndCommits command view x z a
   joined_commits =
       let n = (view x.records).record_count in
       record {
@@ -180,25 +188,22 @@ module _ {R S : Type 0} (view : R → RecordsView S) (x y z : VolumeView R) (hea
       go true e = ap is_some (carried.kept ∙ ap (λ (b : Bool). if b then y.kept else None) e ∙ kept) ∙ sym e
       go false e = ap is_some (carried.kept ∙ ap (λ (b : Bool). if b then y.kept else None) e) ∙ sym e
 
-  pub joined_answers : AnswersTo command view x z a
-  joined_answers = parts_answers view x y z command a size mounted.settles carried.on_tape
-
-  pub joined_written : Writes command view x z a
-  joined_written t u told now = written_from (view x.records).record_count command t u a of (same t told) ((on t told).written u now)
-
-  pub joined_stops : KeepsVolume view x y → TurnsVolume command view x z
-  joined_stops = parts_stops view x y z command a size mounted.settles carried.on_tape
-
-  pub joined_transfers : ((t : Tape) → (view x.records).tape ≡ Some t → GoesOnBy (IsSettleWrite (view x.records).record_count (redo_of t)) (view x.records).transferred (view y.records).transferred)
-      → WritesByCommit command view x z a
-  joined_transfers = parts_transfers view x y z command a size mounted.settles carried.on_tape
+  pub altered : KeepsVolume view x y → ((t : Tape) → (view x.records).tape ≡ Some t → GoesOnBy (IsSettleWrite (view x.records).record_count (redo_of t)) (view x.records).transferred (view y.records).transferred)
+      → Altered command view x z a
+  altered stays first = record {
+    commits = joined_commits;
+    answers = parts_answers view x y z command a size mounted.settles carried.on_tape;
+    written = λ t u told now. written_from (view x.records).record_count command t u a of (same t told) ((on t told).written u now);
+    stops = parts_stops view x y z command a size mounted.settles carried.on_tape stays;
+    transfers = parts_transfers view x y z command a size mounted.settles carried.on_tape first;
+  }
 
 -- ---- where mounting is refused, or the store fails in it
 
 module _ {R S : Type 0} (view : R → RecordsView S) (x y : VolumeView R) (command : VolumeCommand) (of : IsOfDirectory command) (fault : VolumeFault)
     (mounted : Consults {T = HeaderParts} (mounting (view x.records).record_count x.kept y.kept) (λ t. mounting_on t x.kept) view x y (Err fault))
     (only : IsNotLif fault) (exactly : (t : Tape) → (view x.records).tape ≡ Some t → IsLegalAs {T = HeaderParts} (settled t) (Err fault)) where
-  pub fault_commits : MountsAndCommits {T = Unit {0}} command view x y (Err fault)
+  fault_commits : MountsAndCommits {T = Unit {0}} command view x y (Err fault)
   fault_commits = record {
     goes_on = goes fault mounted.goes_on;
     few = λ t told. omega (arith, mounted.few t told);
@@ -214,21 +219,21 @@ module _ {R S : Type 0} (view : R → RecordsView S) (x y : VolumeView R) (comma
       kept (Refused why) is = is
       kept (Troubled trouble) is = is
 
-  pub fault_answers : AnswersTo {T = Unit {0}} command view x y (Err fault)
+  fault_answers : AnswersTo {T = Unit {0}} command view x y (Err fault)
   fault_answers t u told now = by fault only (exactly t told) (mounted.settles t told)
     where
       by : (f : VolumeFault) → IsNotLif f → IsLegalAs {T = HeaderParts} (settled t) (Err f) → IsSettledAs t (view y.records).tape (store_answer {T = HeaderParts} (Err f)) → Answers {T = Unit {0}} (view x.records).record_count command t u (Err f)
       by (Refused why) names off settles = answers_fault (view x.records).record_count t u _ command (Refused why) (not_lif (view x.records).record_count command of) now names off settles
       by (Troubled trouble) names off settles = tt
 
-  pub fault_written : Writes {T = Unit {0}} command view x y (Err fault)
+  fault_written : Writes {T = Unit {0}} command view x y (Err fault)
   fault_written t u told now = by fault (mounted.settles t told)
     where
       by : (f : VolumeFault) → IsSettledAs t (view y.records).tape (store_answer {T = HeaderParts} (Err f)) → IsWrittenAs {T = Unit {0}} (view x.records).record_count command t u (Err f)
       by (Refused why) settles = behind t u _ now settles ∙ sym (refused_is command why t of)
       by (Troubled trouble) settles = tt
 
-  pub fault_stops : KeepsVolume view x y → TurnsVolume command view x y
+  fault_stops : KeepsVolume view x y → TurnsVolume command view x y
   fault_stops stays t told own =
       let first = stays t told own in
       record {
@@ -236,7 +241,7 @@ module _ {R S : Type 0} (view : R → RecordsView S) (x y : VolumeView R) (comma
         after = (first.after.0, first.after.1, record { volume = inl first.after.2.volume; own_gate = first.after.2.own_gate });
       }
 
-  pub fault_transfers : ((t : Tape) → (view x.records).tape ≡ Some t → AddsOnly (IsSettleWrite (view x.records).record_count (redo_of t)) (view x.records).transferred (view y.records).transferred (store_answer {T = HeaderParts} (Err fault)))
+  fault_transfers : ((t : Tape) → (view x.records).tape ≡ Some t → AddsOnly (IsSettleWrite (view x.records).record_count (redo_of t)) (view x.records).transferred (view y.records).transferred (store_answer {T = HeaderParts} (Err fault)))
       → WritesByCommit {T = Unit {0}} command view x y (Err fault)
   fault_transfers first t told = by fault (first t told)
     where
@@ -244,6 +249,10 @@ module _ {R S : Type 0} (view : R → RecordsView S) (x y : VolumeView R) (comma
           → AddsCommit {T = Unit {0}} (view x.records).record_count command t (view x.records).transferred (view y.records).transferred (Err f)
       by (Refused why) adds = adds
       by (Troubled trouble) adds = tt
+
+  pub not_altered : KeepsVolume view x y → ((t : Tape) → (view x.records).tape ≡ Some t → AddsOnly (IsSettleWrite (view x.records).record_count (redo_of t)) (view x.records).transferred (view y.records).transferred (store_answer {T = HeaderParts} (Err fault)))
+      → Altered {T = Unit {0}} command view x y (Err fault)
+  not_altered stays first = record { commits = fault_commits; answers = fault_answers; written = fault_written; stops = fault_stops stays; transfers = fault_transfers first }
 
 -- ---- refusals
 

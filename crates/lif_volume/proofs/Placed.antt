@@ -1,18 +1,14 @@
 -- The records that a new file's entry changes, as they are set aside for one commit.
-use Rattle.std.proofs.Common.{◌≡◌, ◌<◌, ◌≤◌, ◌+◌, ◌-◌, ◌*◌, ◌++◌, ℕ, suc, List, [], ◌∷◌, Bool, true, false, if◌then◌else◌, length, refl, sym, ap, subst, ◌∙◌, arith}
-use Rattle.std.specs.Prelude.{Option, Some, None, Result, Ok, Err, OnOk, IfSome}
+use Rattle.std.proofs.Common.{◌≡◌, ◌<◌, ◌≤◌, ◌+◌, ◌-◌, ◌*◌, ℕ, suc, List, [], ◌∷◌, Bool, true, false, if◌then◌else◌, length, refl, sym, ap, subst, ◌∙◌, arith}
+use Rattle.std.specs.Prelude.{Option, Some, None, Result, IfSome}
 use Rattle.lif_model.specs.Tape.{Tape}
-use Rattle.lif_model.specs.Gate.{has_open_gate}
 use Rattle.lif_model.specs.Made.{with_type}
 use Rattle.lif_model.specs.Redo.{Version, redo_start, are_targets, Changes}
-use Rattle.lif_model.specs.Commit.{AreChanges, commit_writes}
-use Rattle.lif_model.specs.Transfers.{Transfer}
+use Rattle.lif_model.specs.Commit.{AreChanges}
 use Rattle.lif_model.specs.Writing.{slot_record, entry_from, SlotWrites, with_slots, touched, changes_by}
 use Rattle.lif_model.proofs.Writing.{AreEntries, touches_two, changes_are, targets_are}
 use Rattle.il_ports.specs.declared.records.Trouble.{Trouble}
 use Rattle.il_ports.specs.Stores.{RecordsView, GoesOn}
-use Rattle.lif_redo.specs.Writing.{AddsWrites}
-use Rattle.lif_redo.proofs.Writes.{then_writes, same_writes}
 use Rattle.lif_dir.specs.Entries.{entry_bytes}
 use Rattle.lif_plan.specs.declared.placing.Moved.{Moved}
 use Rattle.lif_plan.specs.declared.placing.Placement.{Placement}
@@ -107,14 +103,3 @@ goes_fewer j k v w r left goes =
       stood = goes.stood;
       resumed = goes.resumed;
     }
-
--- ---- what is written
-
-pub placed_adds : (version : Version) (n m start : ℕ) (tape mid : Option Tape) (placed : Placement) (cs now : Changes) (old first new : List Transfer → Type 0) (r : Result (Unit {0}) Trouble)
-    → now ≡ cs → m ≡ n → mid ≡ tape → IsStagedAs start tape (placed_writes start placed) cs → AddsWrites [] old first
-    → OnOk r ((was_open : Bool) × ((t : Tape) → mid ≡ Some t → was_open ≡ has_open_gate t) × AddsWrites (commit_writes version m was_open now) first new)
-    → OnOk r ((t : Tape) → tape ≡ Some t → AddsWrites (commit_writes version n (has_open_gate t) (changes_by start (placed_writes start placed t) t)) old new)
-placed_adds version n m start tape mid placed cs now old first new (Ok v) is size same staged reads given = λ t told.
-    same_writes ([] ++ commit_writes version m given.0 now) (commit_writes version n (has_open_gate t) (changes_by start (placed_writes start placed t) t)) old new
-    (λ i. commit_writes version (size i) (given.1 t (same ∙ told) i) ((is ∙ staged.contents t told) i)) (then_writes [] (commit_writes version m given.0 now) old first new reads given.2)
-placed_adds version n m start tape mid placed cs now old first new (Err e) is size same staged reads given = tt

@@ -1,5 +1,5 @@
 -- The records that are set aside for a commit, as slots are put into them.
-use Rattle.std.proofs.Common.{◌≡◌, ◌≢◌, ◌<◌, ◌≤◌, ◌+◌, ◌-◌, ◌*◌, ◌%◌, ◌++◌, ◌==◌, ℕ, zero, suc, List, [], ◌∷◌, Bool, true, false, if◌then◌else◌, Option, Some, length, get_or, set, map, replicate, refl, sym, ap, subst, ◌∙◌, arith}
+use Rattle.std.proofs.Common.{◌≡◌, ◌≢◌, ◌<◌, ◌≤◌, ◌+◌, ◌-◌, ◌*◌, ◌%◌, ◌++◌, ◌==◌, ℕ, zero, suc, List, [], ◌∷◌, Bool, true, false, if◌then◌else◌, Option, Some, inl, length, get_or, set, map, replicate, refl, sym, ap, subst, ◌∙◌, arith}
 use Rattle.std.proofs.lemmas.Bool.{ne_eqb}
 use Rattle.std.specs.Prelude.{Result, Ok, Err, OnOk}
 use Rattle.std.proofs.lemmas.List.{length-map, length-replicate, get_or_push}
@@ -14,14 +14,16 @@ use Rattle.lif_model.specs.Writing.{with_entry, slot_record, entry_from, SlotWri
 use Rattle.lif_model.proofs.Writing.{AreEntries, AreOther, last_written, touches_two, changes_are, targets_are, slot_written, slots_elsewhere, others_untouched}
 use Rattle.lif_model.proofs.Growing.{changes_again, changes_new}
 use Rattle.lif_model.specs.Gate.{has_open_gate}
-use Rattle.lif_model.specs.Commit.{commit_writes}
-use Rattle.lif_model.specs.Transfers.{Transfer}
+use Rattle.lif_model.specs.Commit.{IsCommitted, IsOldOrNew, commit_writes}
+use Rattle.lif_model.proofs.Moments.{after_still}
 use Rattle.il_ports.specs.declared.records.Trouble.{Trouble}
+use Rattle.il_ports.specs.Stores.{RecordsView, GoesOn, IsQuiet, IsStore, RunLeaves}
+use Rattle.il_ports.proofs.Stores.{goes_within, quiet_run}
 use Rattle.lif_redo.specs.Writing.{AddsWrites}
 use Rattle.lif_redo.proofs.Writes.{then_writes, same_writes}
 use Rattle.lif_dir.specs.Entries.{entry_bytes}
 use Rattle.lif_plan.specs.declared.plans.SlotChange.{SlotChange}
-use Rattle.lif_volume.specs.Plans.{BroughtIn, there, read, IsStagedAs, AreOthers}
+use Rattle.lif_volume.specs.Plans.{BroughtIn, there, read, IsStagedAs, AreOthers, CommitsSlots}
 use Rattle.lif_plan.specs.Plans.{change_writes}
 
 pub targets_count : (cs : Changes) → length (targets_in cs) ≡ length cs
@@ -248,13 +250,48 @@ change_takes version n start tape change cs within end_within staged =
 pub settles_here : (version : Version) (t : Tape) → IsSettled t → SettlesBelow version t t
 settles_here version t settled = record { records = refl; same = λ k lt. ap (λ (s : Tape). record_at s k) settled }
 
--- ---- what is written
+-- ---- one commit of slots
 
-pub commit_adds : (version : Version) (n m start : ℕ) (tape mid : Option Tape) (change : SlotChange) (cs now : Changes) (old first new : List Transfer → Type 0) (r : Result (Unit {0}) Trouble)
-    → now ≡ cs → m ≡ n → mid ≡ tape → IsStagedAs start tape (change_writes start change) cs → AddsWrites [] old first
-    → OnOk r ((was_open : Bool) × ((t : Tape) → mid ≡ Some t → was_open ≡ has_open_gate t) × AddsWrites (commit_writes version m was_open now) first new)
-    → OnOk r ((t : Tape) → tape ≡ Some t → AddsWrites (commit_writes version n (has_open_gate t) (changes_by start (change_writes start change t) t)) old new)
-commit_adds version n m start tape mid change cs now old first new (Ok v) is size same staged reads given = λ t told.
-    same_writes ([] ++ commit_writes version m given.0 now) (commit_writes version n (has_open_gate t) (changes_by start (change_writes start change t) t)) old new
-    (λ i. commit_writes version (size i) (given.1 t (same ∙ told) i) ((is ∙ staged.contents t told) i)) (then_writes [] (commit_writes version m given.0 now) old first new reads given.2)
-commit_adds version n m start tape mid change cs now old first new (Err e) is size same staged reads given = tt
+-- they were set aside, and then committed
+module _ {S : Type 0} (version : Version) (start : ℕ) (slots : Tape → SlotWrites) (v m w : RecordsView S) (items now : Changes) (is : now ≡ items)
+    (size : m.record_count ≡ v.record_count) (quiet : IsQuiet v m) (staged : IsStagedAs start v.tape slots items) (reads : AddsWrites [] v.transferred m.transferred) where
+  are : (t : Tape) → v.tape ≡ Some t → now ≡ changes_by start (slots t) t
+  are t told = is ∙ staged.contents t told
+
+  pub slots_commit : (r : Result (Unit {0}) Trouble) → GoesOn 12 v w r
+      → OnOk r ((t : Tape) → m.tape ≡ Some t → (u : Tape) × (w.tape ≡ Some u) × IsCommitted version now t u)
+      → ((t : Tape) → m.tape ≡ Some t → RunLeaves m w (IsOldOrNew version now t))
+      → ((t : Tape) → m.tape ≡ Some t → (u : Tape) × (w.tape ≡ Some u) × IsOldOrNew version now t u)
+      → OnOk r ((was_open : Bool) × ((t : Tape) → m.tape ≡ Some t → was_open ≡ has_open_gate t) × AddsWrites (commit_writes version m.record_count was_open now) m.transferred w.transferred)
+      → CommitsSlots version start slots v w r
+  slots_commit r goes done moments after writes = record {
+    goes_on = goes;
+    done = stand r done;
+    any_moment = λ t told. after_still _ _ _ _ _ _ (IsOldOrNew version (changes_by start (slots t) t) t) quiet.moment quiet.since
+        (subst (λ (cs : Changes). RunLeaves m w (IsOldOrNew version cs t)) (are t told) (moments t (quiet.tape ∙ told)));
+    after = λ t told. let left = after t (quiet.tape ∙ told) in (left.0, left.1, subst (λ (cs : Changes). IsOldOrNew version cs t left.0) (are t told) left.2);
+    writes = adds r writes;
+  }
+    where
+      stand : (r : Result (Unit {0}) Trouble) → OnOk r ((t : Tape) → m.tape ≡ Some t → (u : Tape) × (w.tape ≡ Some u) × IsCommitted version now t u)
+          → OnOk r ((t : Tape) → v.tape ≡ Some t → (u : Tape) × (w.tape ≡ Some u) × IsCommitted version (changes_by start (slots t) t) t u)
+      stand (Ok x) done = λ t told. let left = done t (quiet.tape ∙ told) in (left.0, left.1, subst (λ (cs : Changes). IsCommitted version cs t left.0) (are t told) left.2)
+      stand (Err e) done = tt
+
+      adds : (r : Result (Unit {0}) Trouble) → OnOk r ((was_open : Bool) × ((t : Tape) → m.tape ≡ Some t → was_open ≡ has_open_gate t) × AddsWrites (commit_writes version m.record_count was_open now) m.transferred w.transferred)
+          → OnOk r ((t : Tape) → v.tape ≡ Some t → AddsWrites (commit_writes version v.record_count (has_open_gate t) (changes_by start (slots t) t)) v.transferred w.transferred)
+      adds (Ok x) given = λ t told.
+          same_writes ([] ++ commit_writes version m.record_count given.0 now) (commit_writes version v.record_count (has_open_gate t) (changes_by start (slots t) t)) v.transferred w.transferred
+          (λ i. commit_writes version (size i) (given.1 t (quiet.tape ∙ told) i) (are t told i)) (then_writes [] (commit_writes version m.record_count given.0 now) v.transferred m.transferred w.transferred reads given.2)
+      adds (Err e) given = tt
+
+-- the store failed while they were set aside
+pub slots_fail : {S : Type 0} (version : Version) (start : ℕ) (slots : Tape → SlotWrites) (v w : RecordsView S) (calls : ℕ) (e : Trouble) → calls ≤ 12 → IsStore v → ((t : Tape) → v.tape ≡ Some t → IsSettled t)
+    → IsQuiet v w → GoesOn {T = Unit {0}} calls v w (Err e) → CommitsSlots {T = Unit {0}} version start slots v w (Err e)
+slots_fail version start slots v w calls e few store settled quiet goes = record {
+  goes_on = goes_within calls 12 v w (Err e) few goes;
+  done = tt;
+  any_moment = λ t told. quiet_run v w (IsOldOrNew version (changes_by start (slots t) t) t) t store quiet told (inl (settles_here version t (settled t told)));
+  after = λ t told. (t, quiet.tape ∙ told, inl (settles_here version t (settled t told)));
+  writes = tt;
+}

@@ -25,7 +25,7 @@ use Rattle.lif_volume.specs.Views.{VolumeView, IsOpen}
 use Rattle.lif_volume.specs.Answers.{store_answer, keeps, Answers, IsNotLif, IsLegalAs, IsSettledAs, HasVolumeOf}
 use Rattle.lif_volume.specs.Commands.{Consults, mounting, mounting_on, AnswersTo, KeepsVolume}
 use Rattle.lif_volume.specs.Changing.{HasEitherVolume, TurnsVolume}
-use Rattle.lif_volume.specs.Storing.{storing, IsStoredOn, AddsStore, MountsAndStores, WritesFile, WritesByRun, StoresOn, CarriesIn, IsStorePlan}
+use Rattle.lif_volume.specs.Storing.{filing, storing, IsStoredOn, AddsStore, MountsAndStores, WritesFile, WritesByRun, StoresOn, CarriesIn, IsStorePlan}
 use Rattle.lif_volume.proofs.Mounting.{answers_fault}
 use Rattle.lif_volume.proofs.Joining.{answers_from, joined_turns, few_mounted, legal_there}
 
@@ -55,11 +55,36 @@ stored_adds P n command bytes volume t old mid new (Err (Troubled trouble)) firs
 
 -- ---- joined
 
-storing_bound : (n : ℕ) (old : Option HeaderParts) (header : HeaderParts) (after : Option HeaderParts) (keep : Bool) (k : ℕ) → header.length + 5 ≤ n
-    → after ≡ (if keep then Some header else None) → mounting n old (Some header) + k ≤ mounting n old after + k
-storing_bound n old header after true k long is = subst (λ (w : Option HeaderParts). mounting n old (Some header) + k ≤ mounting n old w + k) (sym is) (omega arith)
-storing_bound n None header after false k long is = subst (λ (w : Option HeaderParts). 71 + header.length + k ≤ mounting n None w + k) (sym is) (omega (arith, long))
-storing_bound n (Some h) header after false k long is = omega arith
+-- all that is said of a store
+pub record DidStore {R S T : Type 0} (command : VolumeCommand) (bytes : List ℕ) (view : R → RecordsView S) (old new : VolumeView R) (answer : Result T VolumeFault) : Type 0 where
+  pub commits : MountsAndStores bytes view old new answer
+  pub answers : AnswersTo command view old new answer
+  pub written : WritesFile command view old new answer
+  pub stops : TurnsVolume command view old new
+  pub transfers : WritesByRun command bytes view old new answer
+
+filing_any : {T : Type 0} (n : ℕ) (header : HeaderParts) (bytes : List ℕ) (a : Result T VolumeFault) → filing n (Some header) bytes a ≤ filing n None bytes a
+filing_any n header bytes (Ok x) = omega arith
+filing_any n header bytes (Err (Refused why)) = omega arith
+filing_any n header bytes (Err (Troubled trouble)) = omega arith
+
+-- what is kept behind the answer
+abbrev KeptBehind : {T : Type 0} → HeaderParts → Option HeaderParts → Result T VolumeFault → Type 0
+KeptBehind header after a = after ≡ (if keeps a then Some header else None)
+
+storing_bound : {T : Type 0} (n : ℕ) (old : Option HeaderParts) (header : HeaderParts) (after : Option HeaderParts) (bytes : List ℕ) (a : Result T VolumeFault) → header.length + 5 ≤ n
+    → KeptBehind header after a → mounting n old (Some header) + filing n (Some header) bytes a ≤ storing n old after bytes a
+storing_bound n (Some h) header after bytes a long is = omega (arith, filing_any n header bytes a)
+storing_bound {T} n None header after bytes a long is = subst (λ (w : Option HeaderParts). mounting n None (Some header) + filing n (Some header) bytes a ≤ storing n None w bytes a) (sym is) (by a)
+  where
+    refused : (why : Refusal) (b : Bool) → mounting n None (Some header) + filing {T = T} n (Some header) bytes (Err (Refused why)) ≤ storing {T = T} n None (if b then Some header else None) bytes (Err (Refused why))
+    refused why true = omega arith
+    refused why false = omega (arith, long)
+
+    by : (a : Result T VolumeFault) → mounting n None (Some header) + filing n (Some header) bytes a ≤ storing n None (if keeps a then Some header else None) bytes a
+    by (Ok x) = omega arith
+    by (Err (Refused why)) = refused why (keeps {T = T} (Err (Refused why)))
+    by (Err (Troubled trouble)) = omega (arith, long)
 
 module _ {R S : Type 0} (view : R → RecordsView S) (x y z : VolumeView R) (header : HeaderParts) (command : VolumeCommand) (bytes : List ℕ) (a : Result (Unit {0}) VolumeFault)
     (mounted : Consults {T = HeaderParts} (mounting (view x.records).record_count x.kept y.kept) (λ t. mounting_on t x.kept) view x y (Ok header)) (kept : y.kept ≡ Some header)
@@ -74,18 +99,19 @@ module _ {R S : Type 0} (view : R → RecordsView S) (x y z : VolumeView R) (hea
     stores : StoresOn (view x.records).record_count command bytes (view y.records) (view z.records) (settled t) a
     stores = subst (λ (n : ℕ). StoresOn n command bytes (view y.records) (view z.records) (settled t) a) size (carried.on_tape (settled t) (mounted.settles t told))
 
-  carries_on : GoesOn (storing (view x.records).record_count bytes a) (view y.records) (view z.records) (store_answer a)
-  carries_on = subst (λ (n : ℕ). GoesOn (storing n bytes a) (view y.records) (view z.records) (store_answer a)) size carried.goes_on
+  carries_on : GoesOn (filing (view x.records).record_count (Some header) bytes a) (view y.records) (view z.records) (store_answer a)
+  carries_on = subst (λ (n : ℕ). GoesOn (filing n (Some header) bytes a) (view y.records) (view z.records) (store_answer a)) size
+      (subst (λ (k : Option HeaderParts). GoesOn (filing (view y.records).record_count k bytes a) (view y.records) (view z.records) (store_answer a)) kept carried.goes_on)
 
-  pub stored_commits : MountsAndStores bytes view x z a
+  stored_commits : MountsAndStores bytes view x z a
   stored_commits =
       let n = (view x.records).record_count in
       record {
-        goes_on = goes_within (mounting n x.kept (Some header) + storing n bytes a) (mounting n x.kept z.kept + storing n bytes a) (view x.records) (view z.records) (store_answer a)
-            (storing_bound n x.kept header z.kept (keeps a) (storing n bytes a) long (carried.kept ∙ ap (λ (o : Option HeaderParts). if keeps a then o else None) kept))
-            (goes_further (mounting n x.kept (Some header)) (storing n bytes a) (view x.records) (view y.records) (view z.records) tt (store_answer a)
+        goes_on = goes_within (mounting n x.kept (Some header) + filing n (Some header) bytes a) (storing n x.kept z.kept bytes a) (view x.records) (view z.records) (store_answer a)
+            (storing_bound n x.kept header z.kept bytes a long (carried.kept ∙ ap (λ (o : Option HeaderParts). if keeps a then o else None) kept))
+            (goes_further (mounting n x.kept (Some header)) (filing n (Some header) bytes a) (view x.records) (view y.records) (view z.records) tt (store_answer a)
             (subst (λ (o : Option HeaderParts). GoesOn {T = Unit {0}} (mounting n x.kept o) (view x.records) (view y.records) (Ok tt)) kept mounted.goes_on) carries_on);
-        few = λ t told. omega (arith, mounted.few t told, carries_on.continues.left);
+        few = λ t told. omega (arith, mounted.few t told, carries_on.continues.left, filing_any n header bytes a);
         kept = go (keeps a) refl;
       }
     where
@@ -93,20 +119,17 @@ module _ {R S : Type 0} (view : R → RecordsView S) (x y z : VolumeView R) (hea
       go true e = ap is_some (carried.kept ∙ ap (λ (b : Bool). if b then y.kept else None) e ∙ kept) ∙ sym e
       go false e = ap is_some (carried.kept ∙ ap (λ (b : Bool). if b then y.kept else None) e) ∙ sym e
 
-  pub stored_answers : AnswersTo command view x z a
-  stored_answers t u told now = answers_from (view x.records).record_count command (settled t) t u a (same t told) ((stores t told).answers u now)
-
-  pub stored_written : WritesFile command view x z a
-  stored_written t u told now = subst (λ (v : Option Volume). IsStoredOn (view x.records).record_count command v (settled t) u a) (same t told) ((stores t told).written u now)
-
-  pub stored_stops : KeepsVolume view x y → TurnsVolume command view x z
-  stored_stops = joined_turns view x y z command size mounted.settles (λ t told. (carried.on_tape t told).stops)
-
-  pub stored_transfers : ((t : Tape) → (view x.records).tape ≡ Some t → GoesOnBy (IsSettleWrite (view x.records).record_count (redo_of t)) (view x.records).transferred (view y.records).transferred)
-      → WritesByRun command bytes view x z a
-  stored_transfers first t told =
-      stored_adds (IsSettleWrite (view x.records).record_count (redo_of t)) (view x.records).record_count command bytes (volume_of t) (settled t) _ _ _ a (first t told)
-      (subst (λ (v : Option Volume). AddsStore (λ k. ⊥) (view x.records).record_count command bytes v (settled t) (view y.records).transferred (view z.records).transferred a) (same t told) (stores t told).added)
+  pub stored : KeepsVolume view x y → ((t : Tape) → (view x.records).tape ≡ Some t → GoesOnBy (IsSettleWrite (view x.records).record_count (redo_of t)) (view x.records).transferred (view y.records).transferred)
+      → DidStore command bytes view x z a
+  stored stays first = record {
+    commits = stored_commits;
+    answers = λ t u told now. answers_from (view x.records).record_count command (settled t) t u a (same t told) ((stores t told).answers u now);
+    written = λ t u told now. subst (λ (v : Option Volume). IsStoredOn (view x.records).record_count command v (settled t) u a) (same t told) ((stores t told).written u now);
+    stops = joined_turns view x y z command size mounted.settles (λ t told. (carried.on_tape t told).stops) stays;
+    transfers = λ t told.
+        stored_adds (IsSettleWrite (view x.records).record_count (redo_of t)) (view x.records).record_count command bytes (volume_of t) (settled t) _ _ _ a (first t told)
+        (subst (λ (v : Option Volume). AddsStore (λ k. ⊥) (view x.records).record_count command bytes v (settled t) (view y.records).transferred (view z.records).transferred a) (same t told) (stores t told).added);
+  }
 
 -- ---- where mounting is refused, or the store fails in it
 

@@ -1,13 +1,15 @@
 -- What a command is to write of the directory, before it is written.
-use Rattle.std.specs.Prelude.{◌≡◌, ◌≢◌, ◌<◌, ◌≤◌, ◌+◌, ◌++◌, if◌then◌else◌, ℕ, suc, List, [], ◌∷◌, true, length, get_or, Option, Some, None, IfSome, Result, Ok, Err}
+use Rattle.std.specs.Prelude.{◌≡◌, ◌≢◌, ◌<◌, ◌≤◌, ◌+◌, ◌++◌, if◌then◌else◌, ℕ, suc, List, [], ◌∷◌, true, length, get_or, Option, Some, None, IfSome, OnOk, Result, Ok, Err}
 use Rattle.lif_model.specs.Tape.{Tape, record_at}
-use Rattle.lif_model.specs.Redo.{Changes, targets_in}
+use Rattle.lif_model.specs.Redo.{Version, Changes, targets_in}
+use Rattle.lif_model.specs.Commit.{IsCommitted, IsOldOrNew, commit_writes}
 use Rattle.lif_model.specs.Apply.{VolumeCommand, Rename, Purge, Adopt, Upgrade}
 use Rattle.lif_model.specs.Writing.{SlotWrites, slot_record, touched, changes_by}
 use Rattle.lif_model.specs.Gate.{has_open_gate}
 use Rattle.lif_model.specs.Volume.{volume_of}
 use Rattle.lif_model.specs.Transfers.{Transfer}
-use Rattle.il_ports.specs.Stores.{RecordsView, GoesOn}
+use Rattle.il_ports.specs.declared.records.Trouble.{Trouble}
+use Rattle.il_ports.specs.Stores.{RecordsView, GoesOn, RunLeaves}
 use Rattle.lif_redo.specs.Writing.{AddsWrites}
 use Rattle.lif_volume.specs.declared.fault.VolumeFault.{VolumeFault}
 use Rattle.lif_volume.specs.declared.fault.VolumeFault.TheVariants.{Refused, Trouble as Troubled}
@@ -43,6 +45,21 @@ pub record LiesBelow (start limit : ℕ) (placed : Placement) : Type 0 where
   pub slot : slot_record start placed.slot < limit
   pub moved : IfSome placed.moved (λ moved. (slot_record start (suc placed.slot) < limit)
       × (moved.ended ≡ true → slot_record start (suc (suc placed.slot)) < limit))
+
+-- Slots of a settled directory, which begins at record `start`, change by one commit of that version.
+-- At most 12 records are read and written.
+pub record CommitsSlots {S T : Type 0} (version : Version) (start : ℕ) (slots : Tape → SlotWrites) (v w : RecordsView S) (answer : Result T Trouble) : Type 0 where
+  pub goes_on : GoesOn 12 v w answer
+  -- behind an Ok they stand
+  pub done : OnOk answer ((t : Tape) → v.tape ≡ Some t
+      → (u : Tape) × (w.tape ≡ Some u) × IsCommitted version (changes_by start (slots t) t) t u)
+  -- a stop at any moment leaves the old directory or the new one, and so does a trouble
+  pub any_moment : (t : Tape) → v.tape ≡ Some t → RunLeaves v w (IsOldOrNew version (changes_by start (slots t) t) t)
+  pub after : (t : Tape) → v.tape ≡ Some t
+      → (u : Tape) × (w.tape ≡ Some u) × IsOldOrNew version (changes_by start (slots t) t) t u
+  -- behind an Ok these are the writes, in order
+  pub writes : OnOk answer ((t : Tape) → v.tape ≡ Some t
+      → AddsWrites (commit_writes version v.record_count (has_open_gate t) (changes_by start (slots t) t)) v.transferred w.transferred)
 
 -- ---- what carrying out a plan does
 

@@ -1,5 +1,5 @@
 -- What `store` does, beside what every command that changes a volume does.
-use Rattle.std.specs.Prelude.{◌≡◌, ◌≢◌, ◌≤◌, ◌+◌, ◌*◌, ◌++◌, if◌then◌else◌, ℕ, List, ◌∷◌, true, length, min, Option, Some, None, Result, Ok, Err, is_some}
+use Rattle.std.specs.Prelude.{◌≡◌, ◌≢◌, ◌≤◌, ◌+◌, ◌-◌, ◌*◌, ◌++◌, if◌then◌else◌, ℕ, List, ◌∷◌, true, length, min, Option, Some, None, Result, Ok, Err, is_some}
 use Rattle.lif_model.specs.Tape.{Tape, IsTape}
 use Rattle.lif_model.specs.Gate.{gate_of, has_open_gate}
 use Rattle.lif_model.specs.Header.{HeaderParts}
@@ -39,12 +39,26 @@ file_when n command volume tape = with_file command (place_when n command volume
 
 -- ---- how many records are read and written
 
--- on a medium of n records: the file's, and 12 at most of a commit and of what is read for it; none
--- where the command is refused
-abbrev pub storing : {T : Type 0} → ℕ → List ℕ → Result T VolumeFault → ℕ
-storing n bytes (Ok _) = min n (file_length bytes) + 12
-storing n bytes (Err (Refused why)) = 0
-storing n bytes (Err (Troubled trouble)) = min n (file_length bytes) + 12
+-- A file lies behind the directory and below the redo file: beside a directory with this header,
+-- or any, it has at most so many records.
+abbrev pub beside : ℕ → Option HeaderParts → ℕ
+beside n (Some header) = n - (header.length + 5)
+beside n None = n - 5
+
+-- On a medium of n records: the file's, and 12 at most of a commit and of what is read for it; none
+-- where the command is refused.
+abbrev pub filing : {T : Type 0} → ℕ → Option HeaderParts → List ℕ → Result T VolumeFault → ℕ
+filing n kept bytes (Ok _) = min (beside n kept) (file_length bytes) + 12
+filing n kept bytes (Err (Refused why)) = 0
+filing n kept bytes (Err (Troubled trouble)) = min (beside n kept) (file_length bytes) + 12
+
+-- So many with those of mounting; with the directory and the file, which lie apart, never more than
+-- n + 78.
+abbrev pub storing : {T : Type 0} → ℕ → (old new : Option HeaderParts) → List ℕ → Result T VolumeFault → ℕ
+storing n (Some old) new bytes answer = filing n None bytes answer
+storing n None (Some new) bytes answer = mounting n None (Some new) + filing n (Some new) bytes answer
+storing n None None bytes (Err (Refused why)) = mounting n None None
+storing n None None bytes answer = n + 78
 
 -- ---- from a settled tape
 
@@ -90,10 +104,10 @@ AddsStore P n command bytes volume t old new (Err (Troubled _)) = Unit {0}
 -- it mounts, writes the file by one run, and makes one commit
 pub record MountsAndStores {R S T : Type 0} (bytes : List ℕ) (view : R → RecordsView S) (old new : VolumeView R)
     (answer : Result T VolumeFault) : Type 0 where
-  pub goes_on : GoesOn (mounting (view old.records).record_count old.kept new.kept + storing (view old.records).record_count bytes answer)
+  pub goes_on : GoesOn (storing (view old.records).record_count old.kept new.kept bytes answer)
       (view old.records) (view new.records) (store_answer answer)
   pub few : (t : Tape) → (view old.records).tape ≡ Some t
-      → (view old.records).calls_left ≤ (view new.records).calls_left + (mounting_on t old.kept + storing (view old.records).record_count bytes answer)
+      → (view old.records).calls_left ≤ (view new.records).calls_left + (mounting_on t old.kept + filing (view old.records).record_count None bytes answer)
   pub kept : is_some new.kept ≡ keeps answer
 
 -- the tape behind the command
@@ -140,7 +154,7 @@ pub record StoresOn {S T : Type 0} (n : ℕ) (command : VolumeCommand) (bytes : 
 
 -- from a volume whose directory is kept
 pub record CarriesIn {R S T : Type 0} (command : VolumeCommand) (bytes : List ℕ) (view : R → RecordsView S) (old new : VolumeView R) (answer : Result T VolumeFault) : Type 0 where
-  pub goes_on : GoesOn (storing (view old.records).record_count bytes answer) (view old.records) (view new.records) (store_answer answer)
+  pub goes_on : GoesOn (filing (view old.records).record_count old.kept bytes answer) (view old.records) (view new.records) (store_answer answer)
   pub kept : new.kept ≡ (if keeps answer then old.kept else None)
   pub on_tape : (t : Tape) → (view old.records).tape ≡ Some t
       → StoresOn (view old.records).record_count command bytes (view old.records) (view new.records) t answer

@@ -2,17 +2,14 @@
 ghost use Rattle.std.specs.Prelude.{◌≡◌, ◌<◌, ◌≤◌, ◌+◌, ◌-◌, ◌/◌, ◌*◌, ◌^◌, ◌++◌, ℕ, [], ◌∷◌, true, length, vec_capacity};
 ghost use Rattle.std.specs.Prelude.{Bool, Some, IfOk, OnOk};
 ghost use Rattle.lif_model.specs.Tape.{Tape};
-ghost use Rattle.lif_model.specs.Gate.{has_open_gate};
 ghost use Rattle.lif_model.specs.Directory.{entry_at};
 ghost use Rattle.lif_model.specs.Made.{with_type};
 ghost use Rattle.lif_model.specs.Redo.{redo_start, IsSettled};
-ghost use Rattle.lif_model.specs.Commit.{IsCommitted, IsOldOrNew, commit_writes};
 ghost use Rattle.lif_model.specs.Writing.{SlotWrites, with_entry, slot_record, entry_from};
-ghost use Rattle.lif_model.specs.Writing.{changes_by};
-ghost use Rattle.il_ports.specs.Stores.{IsReady, GoesOn, IsQuiet, RunLeaves};
+ghost use Rattle.il_ports.specs.Stores.{IsReady, GoesOn, IsQuiet};
 ghost use Rattle.lif_redo.specs.Reading.{version_of};
 ghost use Rattle.lif_redo.specs.Writing.{AddsWrites};
-ghost use Rattle.lif_volume.specs.Plans.{BroughtIn, AreOthers, IsStagedAs, LiesBelow};
+ghost use Rattle.lif_volume.specs.Plans.{BroughtIn, AreOthers, CommitsSlots, IsStagedAs, LiesBelow};
 ghost use Rattle.lif_plan.specs.Plans.{change_writes};
 ghost use Rattle.lif_plan.specs.Placements.{placed_writes};
 
@@ -60,24 +57,8 @@ impl Staged {
             < redo_start (version_of change.now.version) (R.view records.old).record_count }
         requires end_within { change.now.ended ≡ true → slot_record start (change.now.slot + 1)
             < redo_start (version_of change.now.version) (R.view records.old).record_count }
-        ensures goes_on { GoesOn 12 (R.view records.old) (R.view records.new) result }
-        ensures done { OnOk result ((t : Tape) → (R.view records.old).tape ≡ Some t
-            → (u : Tape) × ((R.view records.new).tape ≡ Some u)
-            × IsCommitted (version_of change.now.version)
-            (changes_by start (change_writes start change.now t) t) t u) }
-        ensures any_moment { (t : Tape) → (R.view records.old).tape ≡ Some t
-            → RunLeaves (R.view records.old) (R.view records.new)
-            (IsOldOrNew (version_of change.now.version)
-            (changes_by start (change_writes start change.now t) t) t) }
-        ensures after { (t : Tape) → (R.view records.old).tape ≡ Some t
-            → (u : Tape) × ((R.view records.new).tape ≡ Some u)
-            × IsOldOrNew (version_of change.now.version)
-            (changes_by start (change_writes start change.now t) t) t u }
-        ensures writes { OnOk result ((t : Tape) → (R.view records.old).tape ≡ Some t
-            → AddsWrites (commit_writes (version_of change.now.version)
-            (R.view records.old).record_count (has_open_gate t)
-            (changes_by start (change_writes start change.now t) t))
-            (R.view records.old).transferred (R.view records.new).transferred) }
+        ensures { CommitsSlots (version_of change.now.version) start (change_writes start change.now)
+            (R.view records.old) (R.view records.new) result }
     {
         self.stage(records, start, change)?;
         commit(records, change.version, &self.changes)
@@ -125,24 +106,8 @@ impl Staged {
         requires below { LiesBelow start
             (redo_start (version_of placed.now.version) (R.view records.old).record_count)
             placed.now }
-        ensures goes_on { GoesOn 12 (R.view records.old) (R.view records.new) result }
-        ensures done { OnOk result ((t : Tape) → (R.view records.old).tape ≡ Some t
-            → (u : Tape) × ((R.view records.new).tape ≡ Some u)
-            × IsCommitted (version_of placed.now.version)
-            (changes_by start (placed_writes start placed.now t) t) t u) }
-        ensures any_moment { (t : Tape) → (R.view records.old).tape ≡ Some t
-            → RunLeaves (R.view records.old) (R.view records.new)
-            (IsOldOrNew (version_of placed.now.version)
-            (changes_by start (placed_writes start placed.now t) t) t) }
-        ensures after { (t : Tape) → (R.view records.old).tape ≡ Some t
-            → (u : Tape) × ((R.view records.new).tape ≡ Some u)
-            × IsOldOrNew (version_of placed.now.version)
-            (changes_by start (placed_writes start placed.now t) t) t u }
-        ensures writes { OnOk result ((t : Tape) → (R.view records.old).tape ≡ Some t
-            → AddsWrites (commit_writes (version_of placed.now.version)
-            (R.view records.old).record_count (has_open_gate t)
-            (changes_by start (placed_writes start placed.now t) t))
-            (R.view records.old).transferred (R.view records.new).transferred) }
+        ensures { CommitsSlots (version_of placed.now.version) start (placed_writes start placed.now)
+            (R.view records.old) (R.view records.new) result }
     {
         self.stage_placed(records, start, placed)?;
         commit(records, placed.version, &self.changes)

@@ -1,14 +1,14 @@
-use Rattle.std.proofs.Common.{◌≡◌, ◌*◌, ◌+◌, min, ℕ, List, map, refl, sym, subst, ◌∙◌, arith, rules}
+use Rattle.std.proofs.Common.{◌≡◌, ℕ, List, map, refl, subst, ◌∙◌, arith, rules}
 use Rattle.std.specs.Prelude.{Err}
-use Rattle.lif_model.specs.Made.{new_entry, file_length}
-use Rattle.lif_model.specs.Fit.{At, NoSlot, NoRoom, fit}
+use Rattle.lif_model.specs.Made.{new_entry}
+use Rattle.lif_model.specs.Fit.{At, NoSlot, NoRoom}
 use Rattle.lif_redo.specs.Reading.{version_of}
 use Rattle.lif_dir.specs.declared.entries.Name.{Name}
 use Rattle.lif_dir.specs.Entries.{name_bytes, slot_bytes}
 use Rattle.lif_dir.specs.Names.{made_name}
 use Rattle.lif_plan.specs.Placements.{IsNameRefused, IsNameFree}
 use Rattle.lif_plan.proofs.Planning.{redo_is_there}
-use Rattle.lif_volume.proofs.Chosen.{store_refusal, tells, places}
+use Rattle.lif_volume.proofs.Chosen.{chosen_at, store_refusal, tells, places}
 use Rattle.lif_volume.proofs.storing.plan_store.Goals as goal
 
 pub returns-in_err-version-clause-plan : goal.returns-in_err-version-clause-plan
@@ -30,10 +30,7 @@ place-requires-clause-slot c =
     let slots : List (List ℕ) = map slot_bytes c.args.directory.now.table.slots in
     let bytes : List ℕ = c.args.bytes.now in
     let named : IsNameFree n name slots c.in_ok-version.version = subst (λ (m : Name). IsNameFree n (name_bytes m) slots c.in_ok-version.version) c.name.ensures c.in_ok-version.ensures.named in
-    let ends : header.start + header.length ≡ c.from-end.result = omega (arith, c.from-end.ensures, c.end.ensures) in
-    let room : 8 * header.length ≡ 8 * c.from.result = omega (arith, c.from.ensures, c.length.ensures) in
-    let chosen : fit n (header.start + header.length) (8 * header.length) slots (min (file_length bytes) 65536) ≡ At c.in-At.slot c.in-At.start =
-    (λ i. fit n (ends i) (room i) slots (sym c.records_for-count.ensures i)) ∙ sym c.in-At.ensures in
+    let chosen = chosen_at n header slots bytes c.from-end.result c.from.result c.records_for-count.result (At c.in-At.slot c.in-At.start) (omega (arith, c.from-end.ensures, c.end.ensures)) (omega (arith, c.from.ensures, c.length.ensures)) c.records_for-count.ensures c.in-At.ensures in
     (tells n (omega arith) name c.args.kind c.args.implementation bytes header slots c.in_ok-version.version named (At c.in-At.slot c.in-At.start) chosen c.in-At.slot c.in-At.start refl).candidate
 
 pub returns-in-At-clause-plan : goal.returns-in-At-clause-plan
@@ -44,10 +41,7 @@ returns-in-At-clause-plan c =
     let slots : List (List ℕ) = map slot_bytes c.args.directory.now.table.slots in
     let bytes : List ℕ = c.args.bytes.now in
     let named : IsNameFree n name slots c.in_ok-version.version = subst (λ (m : Name). IsNameFree n (name_bytes m) slots c.in_ok-version.version) c.name.ensures c.in_ok-version.ensures.named in
-    let ends : header.start + header.length ≡ c.from-end.result = omega (arith, c.from-end.ensures, c.end.ensures) in
-    let room : 8 * header.length ≡ 8 * c.from.result = omega (arith, c.from.ensures, c.length.ensures) in
-    let chosen : fit n (header.start + header.length) (8 * header.length) slots (min (file_length bytes) 65536) ≡ At c.in-At.slot c.in-At.start =
-    (λ i. fit n (ends i) (room i) slots (sym c.records_for-count.ensures i)) ∙ sym c.in-At.ensures in
+    let chosen = chosen_at n header slots bytes c.from-end.result c.from.result c.records_for-count.result (At c.in-At.slot c.in-At.start) (omega (arith, c.from-end.ensures, c.end.ensures)) (omega (arith, c.from.ensures, c.length.ensures)) c.records_for-count.ensures c.in-At.ensures in
     places n (omega arith) name c.args.kind c.args.implementation bytes header slots c.in_ok-version.version named (At c.in-At.slot c.in-At.start) chosen c.in-At.slot c.in-At.start refl
     c.new-entry.result (search rules)
     (c.new-entry.ensures ∙ (λ i. new_entry (name_bytes (c.name-in-At.ensures i)) c.args.kind c.in-At.start (c.records_for-count.ensures i) c.args.implementation))
@@ -61,10 +55,7 @@ returns-in-NoSlot-clause-plan c =
     let slots : List (List ℕ) = map slot_bytes c.args.directory.now.table.slots in
     let bytes : List ℕ = c.args.bytes.now in
     let named : IsNameFree n name slots c.in_ok-version.version = subst (λ (m : Name). IsNameFree n (name_bytes m) slots c.in_ok-version.version) c.name.ensures c.in_ok-version.ensures.named in
-    let ends : header.start + header.length ≡ c.from-end.result = omega (arith, c.from-end.ensures, c.end.ensures) in
-    let room : 8 * header.length ≡ 8 * c.from.result = omega (arith, c.from.ensures, c.length.ensures) in
-    let chosen : fit n (header.start + header.length) (8 * header.length) slots (min (file_length bytes) 65536) ≡ NoSlot =
-    (λ i. fit n (ends i) (room i) slots (sym c.records_for-count.ensures i)) ∙ sym c.in-NoSlot.ensures in
+    let chosen = chosen_at n header slots bytes c.from-end.result c.from.result c.records_for-count.result NoSlot (omega (arith, c.from-end.ensures, c.end.ensures)) (omega (arith, c.from.ensures, c.length.ensures)) c.records_for-count.ensures c.in-NoSlot.ensures in
     record { refused = λ v is. store_refusal n (omega arith) name c.args.kind c.args.implementation bytes header slots c.in_ok-version.version named NoSlot chosen v is; known = refl }
 
 pub returns-in-NoRoom-clause-plan : goal.returns-in-NoRoom-clause-plan
@@ -75,8 +66,5 @@ returns-in-NoRoom-clause-plan c =
     let slots : List (List ℕ) = map slot_bytes c.args.directory.now.table.slots in
     let bytes : List ℕ = c.args.bytes.now in
     let named : IsNameFree n name slots c.in_ok-version.version = subst (λ (m : Name). IsNameFree n (name_bytes m) slots c.in_ok-version.version) c.name.ensures c.in_ok-version.ensures.named in
-    let ends : header.start + header.length ≡ c.from-end.result = omega (arith, c.from-end.ensures, c.end.ensures) in
-    let room : 8 * header.length ≡ 8 * c.from.result = omega (arith, c.from.ensures, c.length.ensures) in
-    let chosen : fit n (header.start + header.length) (8 * header.length) slots (min (file_length bytes) 65536) ≡ NoRoom =
-    (λ i. fit n (ends i) (room i) slots (sym c.records_for-count.ensures i)) ∙ sym c.in-NoRoom.ensures in
+    let chosen = chosen_at n header slots bytes c.from-end.result c.from.result c.records_for-count.result NoRoom (omega (arith, c.from-end.ensures, c.end.ensures)) (omega (arith, c.from.ensures, c.length.ensures)) c.records_for-count.ensures c.in-NoRoom.ensures in
     record { refused = λ v is. store_refusal n (omega arith) name c.args.kind c.args.implementation bytes header slots c.in_ok-version.version named NoRoom chosen v is; known = refl }

@@ -1,13 +1,8 @@
 use Rattle.std.proofs.Common.{◌≡◌, ℕ, map, refl, ap, ◌∙◌, subst, arith, rules}
-use Rattle.std.specs.Prelude.{Some, None, Ok, Err}
-use Rattle.lif_model.specs.Tape.{Tape}
-use Rattle.lif_model.specs.Gate.{has_open_gate}
-use Rattle.lif_model.specs.Commit.{IsOldOrNew, IsCommitted, commit_writes}
-use Rattle.lif_model.specs.Writing.{changes_by}
-use Rattle.il_ports.specs.Stores.{RunLeaves}
+use Rattle.std.specs.Prelude.{None, Ok, Err}
 use Rattle.lif_redo.specs.Reading.{version_of}
-use Rattle.lif_redo.specs.Writing.{AddsWrites}
 use Rattle.lif_dir.specs.Entries.{slot_bytes}
+use Rattle.lif_volume.specs.Plans.{CommitsSlots}
 use Rattle.lif_volume.specs.Views.{VolumeView}
 use Rattle.lif_volume.specs.Answers.{refused}
 use Rattle.lif_plan.specs.Plans.{IsPlan, ChangesSlot, change_writes}
@@ -61,11 +56,13 @@ returns-in-Ok-clause-open g c =
     let plan : ChangesSlot (view x.records).record_count c.requires.plan.0 c.args.header.now (map slot_bytes x.slots) change =
     subst (IsPlan (view x.records).record_count c.requires.plan.0 c.args.header.now (map slot_bytes x.slots)) (c.in_ok-change.was ∙ ap Ok c.in-Some.is) c.requires.plan.2 in
     let y : VolumeView g.row.R.Denot = record { records = c.commit.new.records; kept = c.args.self.now.kept; slots = c.change.new.self.table.slots; room = c.change.new.self.table.room } in
+    let did : CommitsSlots {T = Unit {0}} version c.args.header.now.start (change_writes c.args.header.now.start change) (view x.records) (view c.commit.new.records) (Ok tt) =
+    subst (λ (s : ℕ). CommitsSlots {T = Unit {0}} version s (change_writes s change) (view x.records) (view c.commit.new.records) (Ok tt)) c.start.ensures c.in-Ok.ensures in
     commits_open view x c.args.header.now c.requires.open c.requires.kept (g.met.R.Records.is_store c.args.self.now.records) c.requires.plan.0 c.requires.plan.1 change plan plan.formed y
-    (subst (λ (s : ℕ). (t : Tape) → (view x.records).tape ≡ Some t → RunLeaves (view x.records) (view c.commit.new.records) (IsOldOrNew version (changes_by s (change_writes s change t) t) t)) c.start.ensures c.commit.ensures.any_moment)
-    (subst (λ (s : ℕ). (t : Tape) → (view x.records).tape ≡ Some t → (u : Tape) × ((view c.commit.new.records).tape ≡ Some u) × IsOldOrNew version (changes_by s (change_writes s change t) t) t u) c.start.ensures c.commit.ensures.after)
-    c.in-Ok.ensures.goes_on
-    (subst (λ (s : ℕ). (t : Tape) → (view x.records).tape ≡ Some t → (u : Tape) × ((view c.commit.new.records).tape ≡ Some u) × IsCommitted version (changes_by s (change_writes s change t) t) t u) c.start.ensures c.in-Ok.ensures.done)
+    did.any_moment
+    did.after
+    did.goes_on
+    did.done
     refl c.change.ensures.slots c.change.ensures.bytes c.change.ensures.told c.change.ensures.room
 
 pub returns-in-Ok-clause-carried : goal.returns-in-Ok-clause-carried
@@ -77,13 +74,15 @@ returns-in-Ok-clause-carried g c = λ command of planned.
     let plan : ChangesSlot (view x.records).record_count command c.args.header.now (map slot_bytes x.slots) change =
     subst (IsPlan (view x.records).record_count command c.args.header.now (map slot_bytes x.slots)) (c.in_ok-change.was ∙ ap Ok c.in-Some.is) planned in
     let y : VolumeView g.row.R.Denot = record { records = c.commit.new.records; kept = c.args.self.now.kept; slots = c.change.new.self.table.slots; room = c.change.new.self.table.room } in
+    let did : CommitsSlots {T = Unit {0}} version c.args.header.now.start (change_writes c.args.header.now.start change) (view x.records) (view c.commit.new.records) (Ok tt) =
+    subst (λ (s : ℕ). CommitsSlots {T = Unit {0}} version s (change_writes s change) (view x.records) (view c.commit.new.records) (Ok tt)) c.start.ensures c.in-Ok.ensures in
     commits view x c.args.header.now c.requires.open c.requires.kept (g.met.R.Records.is_store c.args.self.now.records) command of change plan plan.formed y
-    (subst (λ (s : ℕ). (t : Tape) → (view x.records).tape ≡ Some t → RunLeaves (view x.records) (view c.commit.new.records) (IsOldOrNew version (changes_by s (change_writes s change t) t) t)) c.start.ensures c.commit.ensures.any_moment)
-    (subst (λ (s : ℕ). (t : Tape) → (view x.records).tape ≡ Some t → (u : Tape) × ((view c.commit.new.records).tape ≡ Some u) × IsOldOrNew version (changes_by s (change_writes s change t) t) t u) c.start.ensures c.commit.ensures.after)
-    c.in-Ok.ensures.goes_on
-    (subst (λ (s : ℕ). (t : Tape) → (view x.records).tape ≡ Some t → (u : Tape) × ((view c.commit.new.records).tape ≡ Some u) × IsCommitted version (changes_by s (change_writes s change t) t) t u) c.start.ensures c.in-Ok.ensures.done)
+    did.any_moment
+    did.after
+    did.goes_on
+    did.done
     refl
-    (subst (λ (s : ℕ). (t : Tape) → (view x.records).tape ≡ Some t → AddsWrites (commit_writes version (view x.records).record_count (has_open_gate t) (changes_by s (change_writes s change t) t)) (view x.records).transferred (view c.commit.new.records).transferred) c.start.ensures c.in-Ok.ensures.writes)
+    did.writes
 
 pub returns-in-Err-clause-carried : goal.returns-in-Err-clause-carried
 returns-in-Err-clause-carried g c = λ command of planned.
@@ -94,7 +93,9 @@ returns-in-Err-clause-carried g c = λ command of planned.
     let plan : ChangesSlot (view x.records).record_count command c.args.header.now (map slot_bytes x.slots) change =
     subst (IsPlan (view x.records).record_count command c.args.header.now (map slot_bytes x.slots)) (c.in_ok-change.was ∙ ap Ok c.in-Some.is) planned in
     let y : VolumeView g.row.R.Denot = record { records = c.commit.new.records; kept = None; slots = c.args.self.now.directory.table.slots; room = c.args.self.now.directory.table.room } in
+    let did : CommitsSlots {T = Unit {0}} version c.args.header.now.start (change_writes c.args.header.now.start change) (view x.records) (view c.commit.new.records) (Err c.in-Err.trouble) =
+    subst (λ (s : ℕ). CommitsSlots {T = Unit {0}} version s (change_writes s change) (view x.records) (view c.commit.new.records) (Err c.in-Err.trouble)) c.start.ensures c.in-Err.ensures in
     fails view x c.args.header.now c.requires.open c.requires.kept (g.met.R.Records.is_store c.args.self.now.records) command of change plan plan.formed y
-    (subst (λ (s : ℕ). (t : Tape) → (view x.records).tape ≡ Some t → RunLeaves (view x.records) (view c.commit.new.records) (IsOldOrNew version (changes_by s (change_writes s change t) t) t)) c.start.ensures c.commit.ensures.any_moment)
-    (subst (λ (s : ℕ). (t : Tape) → (view x.records).tape ≡ Some t → (u : Tape) × ((view c.commit.new.records).tape ≡ Some u) × IsOldOrNew version (changes_by s (change_writes s change t) t) t u) c.start.ensures c.commit.ensures.after)
-    c.in-Err.trouble c.in-Err.ensures.goes_on refl
+    did.any_moment
+    did.after
+    c.in-Err.trouble did.goes_on refl

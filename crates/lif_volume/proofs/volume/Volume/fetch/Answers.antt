@@ -1,4 +1,4 @@
-use Rattle.std.proofs.Common.{◌≡◌, ◌*◌, inr, ℕ, List, [], ◌∷◌, length, map, refl, sym, ap, subst, ◌∙◌, arith, rules}
+use Rattle.std.proofs.Common.{◌≡◌, ◌<◌, ◌*◌, ◌^◌, inr, ℕ, List, [], ◌∷◌, length, map, refl, sym, ap, subst, ◌∙◌, arith, rules}
 use Rattle.std.specs.Prelude.{Option, Some, Result, Ok, Err, IfSome, take}
 use Rattle.lif_model.specs.Tape.{Tape}
 use Rattle.lif_model.specs.Header.{HeaderParts}
@@ -46,8 +46,8 @@ returns-in_err-file-clause-consults g c =
       kept = e.consults.kept ∙ sym c.in_err-file.ensures.known;
     })
 
-pub read_front-requires-clause-ready : goal.read_front-requires-clause-ready
-read_front-requires-clause-ready g c =
+pub read_front-requires : goal.read_front-requires
+read_front-requires g c =
     let x = seen c.args.self.now in
     let y = seen c.mount.new.self in
     let view = g.R.Records.view in
@@ -56,31 +56,12 @@ read_front-requires-clause-ready g c =
     let header : HeaderParts = c.in_ok-mount.field-0 in
     let file = c.in_ok-file.ensures.slot in
     let legal : IsLegalDirectory n header (map slot_bytes y.slots) = legal_of view y header n e.open e.kept e.consults.goes_on.continues.size in
-    file_ready view x y header (name_bytes c.args.name.now) file.0 c.in_ok-file.file.count c.requires.open.size e.kept e.consults legal file.1 file.2.count c.requires.ready.left
-
-pub read_front-requires-clause-within : goal.read_front-requires-clause-within
-read_front-requires-clause-within g c =
-    let x = seen c.args.self.now in
-    let y = seen c.mount.new.self in
-    let view = g.R.Records.view in
-    let n = (view c.args.self.now.records).record_count in
-    let e = c.in_ok-mount.ensures in
-    let header : HeaderParts = c.in_ok-mount.field-0 in
-    let file = c.in_ok-file.ensures.slot in
-    let legal : IsLegalDirectory n header (map slot_bytes y.slots) = legal_of view y header n e.open e.kept e.consults.goes_on.continues.size in
-    file_within view x y header (name_bytes c.args.name.now) file.0 c.in_ok-file.file.count c.requires.open.size e.kept e.consults legal file.1 file.2.count c.in_ok-file.file.first file.2.first
-
-pub read_front-requires-clause-room : goal.read_front-requires-clause-room
-read_front-requires-clause-room g c =
-    let x = seen c.args.self.now in
-    let y = seen c.mount.new.self in
-    let view = g.R.Records.view in
-    let n = (view c.args.self.now.records).record_count in
-    let e = c.in_ok-mount.ensures in
-    let header : HeaderParts = c.in_ok-mount.field-0 in
-    let file = c.in_ok-file.ensures.slot in
-    let legal : IsLegalDirectory n header (map slot_bytes y.slots) = legal_of view y header n e.open e.kept e.consults.goes_on.continues.size in
-    file_room view x y header (name_bytes c.args.name.now) file.0 c.in_ok-file.file.count c.requires.open.size e.kept e.consults legal file.1 file.2.count (length c.args.into.now) c.requires.room
+    record {
+      ready = file_ready view x y header (name_bytes c.args.name.now) file.0 c.in_ok-file.file.count c.requires.open.size e.kept e.consults legal file.1 file.2.count c.requires.ready.left;
+      small = subst (λ (n : ℕ). n < 2 ^ 16) (sym e.consults.goes_on.continues.size) c.requires.open.small;
+      within = file_within view x y header (name_bytes c.args.name.now) file.0 c.in_ok-file.file.count c.requires.open.size e.kept e.consults legal file.1 file.2.count c.in_ok-file.file.first file.2.first;
+      room = file_room view x y header (name_bytes c.args.name.now) file.0 c.in_ok-file.file.count c.requires.open.size e.kept e.consults legal file.1 file.2.count (length c.args.into.now) c.requires.room;
+    }
 
 pub returns-in_err-file-clause-answers : goal.returns-in_err-file-clause-answers
 returns-in_err-file-clause-answers g c =
@@ -125,116 +106,6 @@ returns-in-Err-clause-stays g c =
     let e = c.in_ok-mount.ensures in
     λ t told off. stays_reading _ t off _ _ (e.stays t told off) c.read_front.ensures.quiet
 
-pub returns-clause-open : goal.returns-clause-open
-returns-clause-open g c =
-    let x = seen c.args.self.now in
-    let y = seen c.mount.new.self in
-    let view = g.R.Records.view in
-    let n = (view c.args.self.now.records).record_count in
-    let e = c.in_ok-mount.ensures in
-    let header : HeaderParts = c.in_ok-mount.field-0 in
-    let file = c.in_ok-file.ensures.slot in
-    let legal : IsLegalDirectory n header (map slot_bytes y.slots) = legal_of view y header n e.open e.kept e.consults.goes_on.continues.size in
-    open_reading view y c.read_front.new.records e.open c.in_default.ensures.goes_on.continues.valid c.in_default.ensures.goes_on.continues.size c.read_front.ensures.quiet.tape
-
-pub returns-clause-consults : goal.returns-clause-consults
-returns-clause-consults g c =
-    let x = seen c.args.self.now in
-    let y = seen c.mount.new.self in
-    let view = g.R.Records.view in
-    let n = (view c.args.self.now.records).record_count in
-    let e = c.in_ok-mount.ensures in
-    let header : HeaderParts = c.in_ok-mount.field-0 in
-    let file = c.in_ok-file.ensures.slot in
-    let legal : IsLegalDirectory n header (map slot_bytes y.slots) = legal_of view y header n e.open e.kept e.consults.goes_on.continues.size in
-    let on : (t : Tape) → (view c.args.self.now.records).tape ≡ Some t → IsDirectoryOf (settled t) header c.mount.new.self.directory.table.slots = λ t told.
-    kept_is_of y header (settled t) e.kept (e.open.known (settled t) (e.consults.settles t told)) in
-    let done : Result (Unit {0}) Trouble = Ok tt in
-    let answer : Result Fetched VolumeFault = Ok (record { kind = c.in_ok-file.file.kind; implementation = c.in_ok-file.file.implementation; length = 256 * c.in_ok-file.file.count }) in
-    record {
-      goes_on = file_goes_on view x y header (name_bytes c.args.name.now) file.0 c.in_ok-file.file.count c.requires.open.size e.kept e.consults legal file.1 file.2.count c.read_front.new.records done answer (λ s. refl) (λ h k. let both = subst (λ (o : Option HeaderParts). IfSome o (λ p. (◌≡◌ {A = Result HeaderParts VolumeFault} (Ok header) (Ok p)) × (c.mount.new.self ≡ c.args.self.now))) k e.still in
-          ap (λ (v : Volume g.row.R.Denot). map slot_bytes v.directory.table.slots) both.1) c.in_default.ensures.goes_on;
-      few = λ t told. file_few view x y header (name_bytes c.args.name.now) file.0 c.in_ok-file.file.count c.requires.open.size e.kept e.consults legal file.1 file.2.count c.read_front.new.records done answer (λ s. refl) t told (on t told).directory.bytes c.in_default.ensures.goes_on;
-      settles = λ t told. c.read_front.ensures.quiet.tape ∙ e.consults.settles t told;
-      kept = e.consults.kept;
-    }
-
-pub returns-clause-answers : goal.returns-clause-answers
-returns-clause-answers g c =
-    let x = seen c.args.self.now in
-    let y = seen c.mount.new.self in
-    let view = g.R.Records.view in
-    let n = (view c.args.self.now.records).record_count in
-    let e = c.in_ok-mount.ensures in
-    let header : HeaderParts = c.in_ok-mount.field-0 in
-    let file = c.in_ok-file.ensures.slot in
-    let legal : IsLegalDirectory n header (map slot_bytes y.slots) = legal_of view y header n e.open e.kept e.consults.goes_on.continues.size in
-    let on : (t : Tape) → (view c.args.self.now.records).tape ≡ Some t → IsDirectoryOf (settled t) header c.mount.new.self.directory.table.slots = λ t told.
-    kept_is_of y header (settled t) e.kept (e.open.known (settled t) (e.consults.settles t told)) in
-    let size : c.size.result ≡ n = c.size.ensures ∙ e.consults.goes_on.continues.size in
-    λ t u told now.
-    answers_fetch n t u (behind t u _ now (c.read_front.ensures.quiet.tape ∙ e.consults.settles t told)) (name_bytes c.args.name.now) (e.exactly t told)
-    (λ v same. ap (λ (m : ℕ). refusal_of m (Fetch (name_bytes c.args.name.now)) (Some v)) (sym size) ∙ c.in_ok-file.ensures.refusal v (same ∙ sym (on t told).directory.bytes))
-
-pub returns-clause-fetched : goal.returns-clause-fetched
-returns-clause-fetched g c =
-    let x = seen c.args.self.now in
-    let y = seen c.mount.new.self in
-    let view = g.R.Records.view in
-    let n = (view c.args.self.now.records).record_count in
-    let e = c.in_ok-mount.ensures in
-    let header : HeaderParts = c.in_ok-mount.field-0 in
-    let file = c.in_ok-file.ensures.slot in
-    let legal : IsLegalDirectory n header (map slot_bytes y.slots) = legal_of view y header n e.open e.kept e.consults.goes_on.continues.size in
-    let on : (t : Tape) → (view c.args.self.now.records).tape ≡ Some t → IsDirectoryOf (settled t) header c.mount.new.self.directory.table.slots = λ t told.
-    kept_is_of y header (settled t) e.kept (e.open.known (settled t) (e.consults.settles t told)) in
-    let size : c.size.result ≡ n = c.size.ensures ∙ e.consults.goes_on.continues.size in
-    λ t told.
-    let long : length (settled t) ≡ n = length_settled t ∙ ((g.met.R.Records.is_store c.args.self.now.records).is_tape t told).records in
-    file_is_fetched n t (map slot_bytes y.slots) (name_bytes c.args.name.now) file.0 c.in_ok-file.file c.read_front.new.into long (e.exactly t told) (on t told).directory.bytes file.1 file.2
-    (λ v same. ap (λ (m : ℕ). refusal_of m (Fetch (name_bytes c.args.name.now)) (Some v)) (sym size) ∙ c.in_ok-file.ensures.refusal v same)
-    (c.in_default.ensures.content (settled t) (e.consults.settles t told))
-
-pub returns-clause-run : goal.returns-clause-run
-returns-clause-run g c =
-    let x = seen c.args.self.now in
-    let y = seen c.mount.new.self in
-    let view = g.R.Records.view in
-    let n = (view c.args.self.now.records).record_count in
-    let e = c.in_ok-mount.ensures in
-    let header : HeaderParts = c.in_ok-mount.field-0 in
-    let file = c.in_ok-file.ensures.slot in
-    let legal : IsLegalDirectory n header (map slot_bytes y.slots) = legal_of view y header n e.open e.kept e.consults.goes_on.continues.size in
-    let on : (t : Tape) → (view c.args.self.now.records).tape ≡ Some t → IsDirectoryOf (settled t) header c.mount.new.self.directory.table.slots = λ t told.
-    kept_is_of y header (settled t) e.kept (e.open.known (settled t) (e.consults.settles t told)) in
-    λ t told some.
-    let here : slot_named (slots_of (settled t)) (name_bytes c.args.name.now) ≡ Some file.0 = ap (λ (s : List (List ℕ)). slot_named s (name_bytes c.args.name.now)) (sym (on t told).directory.bytes) ∙ file.1 in
-    let bytes : List ℕ = take (256 * c.in_ok-file.file.count) c.read_front.new.into in
-    let old = (view c.args.self.now.records).transferred in
-    let new = (view c.read_front.new.records).transferred in
-    let P = IsSettleWrite n (redo_of t) in
-    let read : EndsWithRead P (start_of file.0) bytes old new = subst (λ (k : ℕ). EndsWithRead P k bytes old new) file.2.first
-    (ends_with_read P c.in_ok-file.file.first bytes old _ new (e.transfers t told) (c.in_default.ensures.run (omega (arith, some)))) in
-    subst (λ (o : Option (List ℕ)). IfSome o (λ slot. EndsWithRead P (start_of slot) bytes old new)) (sym here) read
-
-pub returns-clause-stays : goal.returns-clause-stays
-returns-clause-stays g c =
-    let e = c.in_ok-mount.ensures in
-    λ t told off. stays_reading _ t off _ _ (e.stays t told off) c.read_front.ensures.quiet
-
-pub returns-clause-transfers : goal.returns-clause-transfers
-returns-clause-transfers g c =
-    let x = seen c.args.self.now in
-    let y = seen c.mount.new.self in
-    let view = g.R.Records.view in
-    let n = (view c.args.self.now.records).record_count in
-    let e = c.in_ok-mount.ensures in
-    λ t told.
-    let P = IsSettleWrite n (redo_of t) in
-    let old = (view c.args.self.now.records).transferred in
-    run_behind P c.in_ok-file.file.first c.in_ok-file.file.count _ old _ (view c.read_front.new.records).transferred (e.transfers t told) c.in_default.ensures.run
-    (λ none. subst (λ (r : g.row.R.Denot). GoesOnBy P old (view r).transferred) (sym (c.in_default.ensures.none none).1) (e.transfers t told))
-
 pub returns-in_err-mount-clause-only : goal.returns-in_err-mount-clause-only
 returns-in_err-mount-clause-only g c =
     let is : c.from_residual.result ≡ Err c.in_err-mount.field-0.0 = search rules in
@@ -244,3 +115,51 @@ pub returns-in_err-file-clause-only : goal.returns-in_err-file-clause-only
 returns-in_err-file-clause-only g c =
     let is : c.from_residual-in_err-file.result ≡ Err (refused c.in_err-file.field-0.0) = search rules in
     rw is (inr c.in_err-file.ensures.only)
+
+pub returns : goal.returns
+returns g c =
+    let x = seen c.args.self.now in
+    let y = seen c.mount.new.self in
+    let view = g.R.Records.view in
+    let n = (view c.args.self.now.records).record_count in
+    let e = c.in_ok-mount.ensures in
+    let header : HeaderParts = c.in_ok-mount.field-0 in
+    let file = c.in_ok-file.ensures.slot in
+    let legal : IsLegalDirectory n header (map slot_bytes y.slots) = legal_of view y header n e.open e.kept e.consults.goes_on.continues.size in
+    let on : (t : Tape) → (view c.args.self.now.records).tape ≡ Some t → IsDirectoryOf (settled t) header c.mount.new.self.directory.table.slots = λ t told.
+    kept_is_of y header (settled t) e.kept (e.open.known (settled t) (e.consults.settles t told)) in
+    let size : c.size.result ≡ n = c.size.ensures ∙ e.consults.goes_on.continues.size in
+    let P : Tape → ℕ → Type 0 = λ t. IsSettleWrite n (redo_of t) in
+    let old = (view c.args.self.now.records).transferred in
+    let new = (view c.read_front.new.records).transferred in
+    let done : Result (Unit {0}) Trouble = Ok tt in
+    let answer : Result Fetched VolumeFault = Ok (record { kind = c.in_ok-file.file.kind; implementation = c.in_ok-file.file.implementation; length = 256 * c.in_ok-file.file.count }) in
+    record {
+      «open» = open_reading view y c.read_front.new.records e.open c.in_default.ensures.goes_on.continues.valid c.in_default.ensures.goes_on.continues.size c.read_front.ensures.quiet.tape;
+      consults = record {
+        goes_on = file_goes_on view x y header (name_bytes c.args.name.now) file.0 c.in_ok-file.file.count c.requires.open.size e.kept e.consults legal file.1 file.2.count c.read_front.new.records done answer (λ s. refl) (λ h k. let both = subst (λ (o : Option HeaderParts). IfSome o (λ p. (◌≡◌ {A = Result HeaderParts VolumeFault} (Ok header) (Ok p)) × (c.mount.new.self ≡ c.args.self.now))) k e.still in
+            ap (λ (v : Volume g.row.R.Denot). map slot_bytes v.directory.table.slots) both.1) c.in_default.ensures.goes_on;
+        few = λ t told. file_few view x y header (name_bytes c.args.name.now) file.0 c.in_ok-file.file.count c.requires.open.size e.kept e.consults legal file.1 file.2.count c.read_front.new.records done answer (λ s. refl) t told (on t told).directory.bytes c.in_default.ensures.goes_on;
+        settles = λ t told. c.read_front.ensures.quiet.tape ∙ e.consults.settles t told;
+        kept = e.consults.kept;
+      };
+      only = tt;
+      answers = λ t u told now.
+          answers_fetch n t u (behind t u _ now (c.read_front.ensures.quiet.tape ∙ e.consults.settles t told)) (name_bytes c.args.name.now) (e.exactly t told)
+          (λ v same. ap (λ (m : ℕ). refusal_of m (Fetch (name_bytes c.args.name.now)) (Some v)) (sym size) ∙ c.in_ok-file.ensures.refusal v (same ∙ sym (on t told).directory.bytes));
+      fetched = λ t told.
+          let long : length (settled t) ≡ n = length_settled t ∙ ((g.met.R.Records.is_store c.args.self.now.records).is_tape t told).records in
+          file_is_fetched n t (map slot_bytes y.slots) (name_bytes c.args.name.now) file.0 c.in_ok-file.file c.read_front.new.into long (e.exactly t told) (on t told).directory.bytes file.1 file.2
+          (λ v same. ap (λ (m : ℕ). refusal_of m (Fetch (name_bytes c.args.name.now)) (Some v)) (sym size) ∙ c.in_ok-file.ensures.refusal v same)
+          (c.in_default.ensures.content (settled t) (e.consults.settles t told));
+      run = λ t told some.
+          let here : slot_named (slots_of (settled t)) (name_bytes c.args.name.now) ≡ Some file.0 = ap (λ (s : List (List ℕ)). slot_named s (name_bytes c.args.name.now)) (sym (on t told).directory.bytes) ∙ file.1 in
+          let bytes : List ℕ = take (256 * c.in_ok-file.file.count) c.read_front.new.into in
+          let read : EndsWithRead (P t) (start_of file.0) bytes old new = subst (λ (k : ℕ). EndsWithRead (P t) k bytes old new) file.2.first
+          (ends_with_read (P t) c.in_ok-file.file.first bytes old _ new (e.transfers t told) (c.in_default.ensures.run (omega (arith, some)))) in
+          subst (λ (o : Option (List ℕ)). IfSome o (λ slot. EndsWithRead (P t) (start_of slot) bytes old new)) (sym here) read;
+      stays = λ t told off. stays_reading _ t off _ _ (e.stays t told off) c.read_front.ensures.quiet;
+      transfers = λ t told.
+          run_behind (P t) c.in_ok-file.file.first c.in_ok-file.file.count _ old _ (view c.read_front.new.records).transferred (e.transfers t told) c.in_default.ensures.run
+          (λ none. subst (λ (r : g.row.R.Denot). GoesOnBy (P t) old (view r).transferred) (sym (c.in_default.ensures.none none).1) (e.transfers t told));
+    }
