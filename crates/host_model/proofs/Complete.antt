@@ -1,6 +1,6 @@
 -- Where nothing is planned and no port fails, a run on an image that is there answers the whole script, and each reply is that of its
 -- command; or there was no memory for it.
-use Rattle.std.proofs.Common.{◌≡◌, ◌⊎◌, ◌≤◌, ◌<◌, ◌∙◌, inl, inr, ℕ, true, List, [], Option, Some, None, is_some, length, refl, sym, ap, subst, arith}
+use Rattle.std.proofs.Common.{◌≡◌, ◌⊎◌, ◌≤◌, ◌<◌, inl, inr, ℕ, List, [], Option, Some, None, length, refl, ap, arith}
 use Rattle.lif_model.specs.Causes.{Rose}
 use Rattle.lif_model.specs.Shelf.{Shelf, image_of, inserted, largest_image}
 use Rattle.lif_model.specs.Tape.{Tape}

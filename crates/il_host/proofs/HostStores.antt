@@ -1,5 +1,5 @@
 -- A store, as a host performs it.
-use Rattle.std.proofs.Common.{◌≡◌, ◌≤◌, ◌+◌, ◌*◌, ℕ, List, Option, None, Some, refl, subst, arith}
+use Rattle.std.proofs.Common.{◌≡◌, ◌≤◌, ◌+◌, ℕ, List, Option, None, Some, refl, subst, arith}
 use Rattle.std.specs.Prelude.{Result, Ok, Err}
 use Rattle.lif_model.specs.Apply.{Store, VolumeCommand}
 use Rattle.lif_model.specs.Header.{HeaderParts}

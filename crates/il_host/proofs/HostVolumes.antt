@@ -1,6 +1,6 @@
 -- A command of the volume, as a host performs it.
 use Rattle.std.proofs.Common.{◌≡◌, ◌∙◌, ◌≤◌, ◌+◌, ◌-◌, ◌*◌, ◌++◌, ℕ, true, List, length, [], Option, None, Some, refl, sym, ap, subst, arith}
-use Rattle.std.specs.Prelude.{Result, Ok, Err, IfSome, is_some, map}
+use Rattle.std.specs.Prelude.{Result, Ok, Err, IfSome, map}
 use Rattle.lif_dir.specs.Entries.{slot_bytes}
 use Rattle.lif_model.proofs.Legal.{legal_tells}
 use Rattle.lif_model.proofs.Slots.{readable_tells}
@@ -12,7 +12,7 @@ use Rattle.lif_model.specs.Apply.{VolumeCommand, Dir, Label, Fetch, Store, Renam
 use Rattle.lif_model.specs.Shelf.{IsSize}
 use Rattle.lif_model.proofs.Sizes.{size_bounds}
 use Rattle.il_ports.specs.Media.{MediumView, IsMedium}
-use Rattle.il_ports.specs.Stores.{RecordsView, Begun, Continues, GoesOn, IsReady, IsStore}
+use Rattle.il_ports.specs.Stores.{RecordsView, Begun, Continues, GoesOn, IsReady}
 use Rattle.il_ports.specs.declared.records.Trouble.{Trouble}
 use Rattle.il_ports.specs.declared.records.Trouble.TheVariants as trouble
 use Rattle.lif_plan.specs.Refusals.{reason}
@@ -27,7 +27,6 @@ use Rattle.il_ring.specs.declared.ring.Ring.{Ring}
 use Rattle.il_ring.specs.Rings.{RingView}
 use Rattle.il_record.specs.declared.records.LoopRecords.{LoopRecords}
 use Rattle.il_record.specs.LoopStores.{AtIdle, AtLost, LoopView, Nowhere, Standing, StandsSo, calls_in, view_of, view_at}
-use Rattle.il_record.specs.declared.records.Since.{Since}
 use Rattle.il_record.specs.Controls.{ring_in}
 use Rattle.il_record.specs.IsStore.{is_store_at}
 use Rattle.il_record.proofs.StoreResumes.{agrees}
@@ -43,7 +42,7 @@ use Rattle.il_host.specs.HostView.{HostView, MakesFewCalls, Performed, calls_beh
 use Rattle.il_host.specs.Hosts.{IsUsable, host_in, loop_in, store_in, volume_in}
 use Rattle.il_host.specs.Shorts.{AllShort}
 use Rattle.il_host.proofs.Shorts.{all_short}
-use Rattle.il_host.specs.Standings.{HasDriveStatus, HasLogRoom, MakesSound, fault_of, log_at, state_at, volume_reply}
+use Rattle.il_host.specs.Standings.{Ends, HasDriveStatus, HasLogRoom, KeepsPage, MakesSound, fault_of, log_at, state_at, volume_reply}
 use Rattle.il_host.proofs.Texts.{ok_text}
 use Rattle.il_host.proofs.VolumeCarries.{CarriesAs, CarriesNone, carries_nothing, none_carried, not_carried}
 use Rattle.il_host.proofs.VolumeCommands.{KeepsRing}
@@ -152,23 +151,33 @@ nothing_told command volume s reply.FaultMedium is nothing = refl
 
 -- ---- the page and the volume behind the last line
 
-pub blank_page : (p : Sheet) → p.text ≡ [] → p ≡ record p { text = [] }
-blank_page p is = ap (λ text. record p { text = text }) is
+pub page_kept : (page : Sheet) (room : ℕ) → KeepsPage page room page room
+page_kept page room = record { page = refl; room = refl }
 
--- lines were written on a blank page
-pub written_page : (p q r : Sheet) (lines : List ℕ) → p ≡ q → q.text ≡ [] → r ≡ record p { text = p.text ++ lines } → r ≡ record q { text = lines }
-written_page p q r lines same blank written = written ∙ ap (λ (p : Sheet). record p { text = p.text ++ lines }) same ∙ ap (λ text. record q { text = text ++ lines }) blank
+-- the last line ended the text, behind these lines on a page that was blank
+ends_at : {M I : Type 0} {D : I → Type 0} (view : M → MediumView) (seen : Ring M I D → RingView M) (item : Item) (answered told : Reply) (v : HostView) (n m : Volume (LoopRecords M I D)) (first page last : Sheet) (f g h : ℕ) (lines : List ℕ)
+    → page ≡ record first { text = lines } → g ≡ f → Ends answered n page g told m last h
+    → Performed item answered v (host_in view seen n (lines ++ reply_line answered) first.room f) → Performed item told v (host_in view seen m last.text last.room h)
+ends_at {M} {I} {D} view seen item answered told v n m first page last f g h lines begun same ends did =
+    let end : last ≡ record first { text = lines ++ reply_line answered } = ends.page ∙ ap (λ (p : Sheet). record p { text = p.text ++ reply_line answered }) begun in
+    subst (λ told. Performed item told v (host_in view seen m last.text last.room h)) (sym ends.reply)
+    (subst (λ (m : Volume (LoopRecords M I D)). Performed item answered v (host_in view seen m last.text last.room h)) (sym ends.volume)
+    (subst (λ (p : Sheet). Performed item answered v (host_in view seen n p.text p.room h)) (sym end)
+    (subst (λ (room : ℕ). Performed item answered v (host_in view seen n (lines ++ reply_line answered) first.room room)) (sym (ends.room ∙ same)) did)))
 
--- the last line ended the text
-pub finished : {M I : Type 0} {D : I → Type 0} (view : M → MediumView) (seen : Ring M I D → RingView M) (item : Item) (answered told : Reply) (v : HostView) (n m : Volume (LoopRecords M I D)) (first page last : Sheet) (lines : List ℕ) (file_space space : ℕ)
-    → told ≡ answered → m ≡ n → page ≡ record first { text = lines } → last ≡ record page { text = page.text ++ reply_line answered } → space ≡ file_space
-    → Performed item answered v (host_in view seen n (lines ++ reply_line answered) first.room file_space) → Performed item told v (host_in view seen m last.text last.room space)
-finished {M} {I} {D} view seen item answered told v n m first page last lines file_space space replied same begun ended kept did =
-    let end : last ≡ record first { text = lines ++ reply_line answered } = ended ∙ ap (λ (p : Sheet). record p { text = p.text ++ reply_line answered }) begun in
-    subst (λ told. Performed item told v (host_in view seen m last.text last.room space)) (sym replied)
-    (subst (λ (m : Volume (LoopRecords M I D)). Performed item answered v (host_in view seen m last.text last.room space)) (sym same)
-    (subst (λ (p : Sheet). Performed item answered v (host_in view seen n p.text p.room space)) (sym end)
-    (subst (λ (space : ℕ). Performed item answered v (host_in view seen n (lines ++ reply_line answered) first.room space)) (sym kept) did)))
+module _ {M I : Type 0} {D : I → Type 0} {view : M → MediumView} {seen : Ring M I D → RingView M} {item : Item} {answered told : Reply} {v : HostView} {n m : Volume (LoopRecords M I D)} {first mid last : Sheet} {f g h : ℕ} where
+  -- nothing else was written
+  pub ends_blank : KeepsPage first f mid g → first.text ≡ [] → Ends answered n mid g told m last h
+      → Performed item answered v (host_in view seen n (reply_line answered) first.room f) → Performed item told v (host_in view seen m last.text last.room h)
+  ends_blank keeps blank ends did =
+      ends_at view seen item answered told v n m first mid last f g h [] (keeps.page ∙ ap (λ text. record first { text = text }) blank) keeps.room ends did
+
+  -- these lines were written
+  pub ends_told : {page : Sheet} (lines : List ℕ) → KeepsPage first f mid g → first.text ≡ [] → page ≡ record mid { text = mid.text ++ lines } → Ends answered n page g told m last h
+      → Performed item answered v (host_in view seen n (lines ++ reply_line answered) first.room f) → Performed item told v (host_in view seen m last.text last.room h)
+  ends_told {page} lines keeps blank put ends did =
+      ends_at view seen item answered told v n m first page last f g h lines
+      (put ∙ ap (λ (p : Sheet). record p { text = p.text ++ lines }) keeps.page ∙ ap (λ text. record first { text = text ++ lines }) blank) keeps.room ends did
 
 -- ---- a host over a volume that was o before, b behind the emptying of its log and n in the end
 

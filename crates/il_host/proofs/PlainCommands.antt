@@ -1,6 +1,6 @@
 -- Every command of a script is plain.
-use Rattle.std.proofs.Common.{◌≡◌, ◌∙◌, ◌≢◌, ◌<◌, ◌≤◌, ◌+◌, ◌*◌, ◌-◌, ◌&&◌, ◌||◌, ◌==◌, ℕ, Bool, true, false, cond, List, [], ◌∷◌, Option, Some, None, refl, sym, ap, subst, arith, length}
-use Rattle.std.specs.Prelude.{Result, Ok, Err, if◌then◌else◌, option_and_then, codes, slice_index, nat_lt, nat_le, not, fold}
+use Rattle.std.proofs.Common.{◌≡◌, ◌∙◌, ◌≢◌, ◌<◌, ◌≤◌, ◌+◌, ◌*◌, ◌-◌, ◌&&◌, ◌||◌, ◌==◌, ℕ, Bool, true, false, List, [], ◌∷◌, Option, Some, None, refl, ap, subst, arith, length}
+use Rattle.std.specs.Prelude.{Result, Ok, Err, if◌then◌else◌, option_and_then, codes, nat_lt, nat_le, not, fold}
 use Rattle.std.proofs.lemmas.Bool.Decides.{nat_tests}
 use Rattle.std.specs.Int.{from_be_bytes, w16}
 use Rattle.std.specs.Str.{bytes_eq}
@@ -10,10 +10,10 @@ use Rattle.lif_dir.specs.Names.{is_digit, name_of_bytes, new_label}
 use Rattle.lif_dir.specs.declared.entries.Name.{Name}
 use Rattle.il_script.specs.Words.{words_of, without_return, is_none, only_one, only_two, only_four}
 use Rattle.il_script.specs.Digits.{file_type, hex_bytes, is_number, number_up_to, payload_of, type_in, value_of}
-use Rattle.il_script.specs.Commands.{Asked, asked_of, command_of, command_read, fetch_of, format_of, in_form, is_comment, lone_of, name_of_part, naming, new_name_of_bytes, not_skipped, purge_of, reading_of, reading_of_words, rename_of, say_of, spelt_as, store_of, with_name, without_bytes, word_command}
+use Rattle.il_script.specs.Commands.{Asked, asked_of, command_of, command_read, format_of, in_form, is_comment, lone_of, name_of_part, naming, new_name_of_bytes, not_skipped, reading_of, reading_of_words, rename_of, say_of, spelt_as, store_of, with_name, without_bytes, word_command}
 use Rattle.il_script.specs.declared.limits.TheConstants.{MOST_SLOTS}
 use Rattle.il_script.specs.declared.command.Command.{Command}
-use Rattle.il_script.specs.declared.command.Command.TheVariants.{Dir, Label, Fetch, Store, Rename, Purge, Format, Adopt, Devices, Status, Poll, Say, Paper}
+use Rattle.il_script.specs.declared.command.Command.TheVariants.{Dir, Label, Fetch, Store, Rename, Purge, Format, Adopt, Devices, Status, Poll, Paper}
 use Rattle.il_script.specs.declared.command.LineFault.{LineFault}
 use Rattle.il_host.specs.PlainCommands.{IsPlain}
 

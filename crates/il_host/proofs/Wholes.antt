@@ -1,5 +1,5 @@
 -- How the parts of a run make the whole.
-use Rattle.std.proofs.Common.{◌≡◌, ◌≢◌, ◌==◌, ◌∙◌, ⊎_elim, inl, inr, ℕ, Bool, true, false, List, [], Option, Some, None, if◌then◌else◌, is_some, refl, sym, ap, subst, arith}
+use Rattle.std.proofs.Common.{◌≡◌, ◌≢◌, ◌==◌, ◌∙◌, ⊎_elim, inl, inr, ℕ, true, List, Option, Some, None, if◌then◌else◌, is_some, refl, sym, ap, subst, arith}
 use Rattle.std.specs.Prelude.{Ok}
 use Rattle.lif_model.specs.Shelf.{Shelf, IsSize, image_of, inserted as insert_of}
 use Rattle.lif_model.specs.Tape.{Tape}

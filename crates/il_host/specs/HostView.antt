@@ -1,5 +1,5 @@
 -- What contracts see of a host, and what a command does to it.
-use Rattle.std.specs.Prelude.{◌≡◌, ◌≤◌, ◌+◌, ◌-◌, ◌*◌, ℕ, true, List, [], length, Option, Some, is_some}
+use Rattle.std.specs.Prelude.{◌≡◌, ◌≤◌, ◌+◌, ◌-◌, ◌*◌, ℕ, true, List, [], length, Option, Some}
 use Rattle.lif_model.specs.Shelf.{Shelf}
 use Rattle.lif_model.specs.Tape.{Tape, IsTape}
 use Rattle.il_ports.specs.Inserting.{OthersAreKept}

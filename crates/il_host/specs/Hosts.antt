@@ -13,9 +13,8 @@ use Rattle.il_ring.specs.declared.ring.Ring.{Ring}
 use Rattle.il_ring.specs.Rings.{RingView}
 use Rattle.il_record.specs.declared.records.LoopRecords.{LoopRecords}
 use Rattle.il_record.specs.Controls.{ring_in, standing_of}
-use Rattle.il_record.specs.LoopStores.{Standing, AtIdle, AtLost, Nowhere, LoopView, StandsSo, view_of}
-use Rattle.lif_model.specs.Tape.{Tape}
-use Rattle.host_model.specs.HostStates.{HostState, fresh_host, text_room}
+use Rattle.il_record.specs.LoopStores.{LoopView, StandsSo, view_of}
+use Rattle.host_model.specs.HostStates.{fresh_host, text_room}
 use Rattle.il_host.specs.HostView.{HostView}
 use Rattle.il_host.specs.Shorts.{AllShort}
 use Rattle.il_host.specs.Standings.{HasLogRoom, state_at, log_at, hops_at, plan_at, images_at, inside_at}

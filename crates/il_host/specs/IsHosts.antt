@@ -1,7 +1,6 @@
 -- What holds of every host between its commands.
-use Rattle.std.proofs.Common.{◌≡◌, ℕ, Bool, true, List, Option, Some, None, refl, ap}
-use Rattle.lif_model.specs.Tape.{Tape}
-use Rattle.loop_model.specs.Roles.{is_at_most_one, talkers}
+use Rattle.std.proofs.Common.{ℕ, Bool, List, Option, ap}
+use Rattle.loop_model.specs.Roles.{is_at_most_one}
 use Rattle.il_ports.specs.Media.{MediumView, IsMedium}
 use Rattle.il_ring.specs.declared.ring.Ring.{Ring}
 use Rattle.il_ring.specs.Rings.{RingView}
@@ -9,11 +8,9 @@ use Rattle.il_record.specs.declared.records.Since.{Since}
 use Rattle.il_record.specs.declared.records.LoopRecords.{LoopRecords}
 use Rattle.il_record.specs.LoopStores.{Standing, AtIdle, AtLost, Nowhere, StandsSo, view_at}
 use Rattle.lif_volume.specs.declared.volume.Volume.{Volume}
-use Rattle.host_model.specs.LoopStates.{all_roles}
 use Rattle.host_model.proofs.RingStates.{roles_on}
-use Rattle.il_host.specs.HostView.{HostView, IsHost}
+use Rattle.il_host.specs.HostView.{IsHost}
 use Rattle.il_host.specs.Hosts.{host_view, host_in}
-use Rattle.il_host.specs.Standings.{state_at}
 
 is_host_by : {M S : Type 0} (view : M → MediumView) (valid : Type 0) (seen : S → RingView M) (p : Option S) (sound : Bool) (log : Since) (resumes : ℕ) (c : Standing M) (text : List ℕ) → ((m : M) → IsMedium (view m)) → StandsSo c sound log
     → IsHost (host_view view valid (view_at view seen p sound log resumes c) (record { control = c; sound = sound; since = log; resumes = resumes }) text)

@@ -1,5 +1,5 @@
 -- Commands that a script can ask for.
-use Rattle.std.specs.Prelude.{◌≡◌, ◌≢◌, ◌<◌, ℕ}
+use Rattle.std.specs.Prelude.{◌≢◌, ◌<◌}
 use Rattle.il_script.specs.declared.command.Command.{Command}
 use Rattle.il_script.specs.declared.command.Command.TheVariants.{Store, Format}
 use Rattle.il_host.specs.declared.running.Asked.{Asked}

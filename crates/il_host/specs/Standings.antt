@@ -1,5 +1,5 @@
 -- What stands between two commands, by the controller of the loop, and what a command does before it asks the volume.
-use Rattle.std.specs.Prelude.{◌≡◌, ◌≤◌, ℕ, Bool, true, false, List, [], Option, None, Some, Result, Ok, Err}
+use Rattle.std.specs.Prelude.{◌≡◌, ◌≤◌, ◌++◌, ℕ, Bool, true, false, List, [], Option, None, Some, Result, Ok, Err}
 use Rattle.lif_model.specs.Shelf.{Shelf}
 use Rattle.il_frames.specs.declared.entry.Entry.{Entry}
 use Rattle.il_ports.specs.Media.{MediumView}
@@ -14,6 +14,8 @@ use Rattle.lif_volume.specs.declared.fault.VolumeFault.{VolumeFault}
 use Rattle.lif_volume.specs.declared.fault.VolumeFault.TheVariants.{Refused, Trouble as Troubled}
 use Rattle.il_script.specs.declared.reply.Reply.{Reply}
 use Rattle.il_script.specs.declared.reply.Reply.TheVariants as reply
+use Rattle.il_script.specs.Replies.{reply_line}
+use Rattle.il_script.specs.Sheet.{Sheet}
 use Rattle.host_model.specs.Requests.{Item}
 use Rattle.host_model.specs.HostStates.{HostState, fresh_host, log_room}
 use Rattle.host_model.specs.Replies.{code_of}
@@ -78,6 +80,20 @@ event_at view item reply old new = record {
   before = state_at view old.sound old.control;
   after = state_at view new.sound new.control;
 }
+
+-- ---- within a command
+
+-- the page, and the room of the buffer for files, are as before
+pub record KeepsPage (old : Sheet) (old_room : ℕ) (new : Sheet) (new_room : ℕ) : Type 0 where
+  pub page : new ≡ old
+  pub room : new_room ≡ old_room
+
+-- This is replied: the last line of the reply was written, and nothing else changed.
+pub record Ends {V : Type 0} (answer : Reply) (old_volume : V) (old : Sheet) (old_room : ℕ) (given : Reply) (new_volume : V) (new : Sheet) (new_room : ℕ) : Type 0 where
+  pub reply : given ≡ answer
+  pub volume : new_volume ≡ old_volume
+  pub page : new ≡ record old { text = old.text ++ reply_line answer }
+  pub room : new_room ≡ old_room
 
 -- ---- before the volume is asked
 

@@ -12,7 +12,7 @@ ghost use Rattle.lif_volume.specs.Views.{IsOpen};
 ghost use Rattle.host_model.specs.Replies.{code_of};
 ghost use Rattle.il_script.specs.Replies.{reply_line};
 ghost use Rattle.il_host.specs.Hosts.{IsOpened, IsClosed, volume_in};
-ghost use Rattle.il_host.specs.Standings.{HasDriveStatus, MakesSound, fault_of, volume_reply};
+ghost use Rattle.il_host.specs.Standings.{Ends, HasDriveStatus, KeepsPage, MakesSound, fault_of, volume_reply};
 
 use crate::performer::Performer;
 use il_control::Lost;
@@ -92,8 +92,7 @@ impl<M: Medium + Drop> Host<M> {
         ensures makes { MakesSound M.view (⟦<LoopRecords<M> as Looped<M>>⟧.looped self.old.volume.records) (⟦<LoopRecords<M> as Looped<M>>⟧.looped self.new.volume.records) result }
         ensures sounds { Continues 1 (⟦<LoopRecords<M> as Records>⟧.view self.old.volume.records) (⟦<LoopRecords<M> as Records>⟧.view self.new.volume.records) result }
         ensures opens { IsOpen ⟦<LoopRecords<M> as Records>⟧.view (volume_in self.new.volume) }
-        ensures page { self.new.page ≡ self.old.page }
-        ensures file { self.new.file ≡ self.old.file }
+        ensures rests { KeepsPage self.old.page (length self.old.file.items) self.new.page (length self.new.file.items) }
     {
         if self.volume.records().is_sound() {
             return Ok(());
@@ -105,10 +104,7 @@ impl<M: Medium + Drop> Host<M> {
     pub(crate) fn answered(&mut self, reply: Reply) -> Reply
         requires volume_open { IsOpen ⟦<LoopRecords<M> as Records>⟧.view (volume_in self.old.volume) }
         requires room { length self.old.page.text + 20 ≤ self.old.page.room }
-        ensures reply { result ≡ reply }
-        ensures page { self.new.page ≡ record self.old.page { text = self.old.page.text ++ reply_line reply } }
-        ensures volume { self.new.volume ≡ self.old.volume }
-        ensures file { self.new.file ≡ self.old.file }
+        ensures ended { Ends reply self.old.volume self.old.page (length self.old.file.items) result self.new.volume self.new.page (length self.new.file.items) }
         ensures drive { HasDriveStatus (⟦<LoopRecords<M> as Looped<M>>⟧.looped self.old.volume.records).control }
     {
         // Behind it the proof sees what holds of the drive.
@@ -116,14 +112,17 @@ impl<M: Medium + Drop> Host<M> {
         self.page.put(reply.last_line());
         reply
     }
-}
 
-// The reply to a trouble of the store.
-pub(crate) fn fault_reply(trouble: Trouble) -> Reply
-    ensures { result ≡ fault_of trouble }
-{
-    match trouble {
-        Trouble::Frame => Reply::FaultFrame,
-        Trouble::Medium => Reply::FaultMedium,
+    // The reply to a trouble of the store, with its line.
+    pub(crate) fn faulted(&mut self, trouble: Trouble) -> Reply
+        requires volume_open { IsOpen ⟦<LoopRecords<M> as Records>⟧.view (volume_in self.old.volume) }
+        requires room { length self.old.page.text + 20 ≤ self.old.page.room }
+        ensures ended { Ends (fault_of trouble) self.old.volume self.old.page (length self.old.file.items) result self.new.volume self.new.page (length self.new.file.items) }
+        ensures drive { HasDriveStatus (⟦<LoopRecords<M> as Looped<M>>⟧.looped self.old.volume.records).control }
+    {
+        match trouble {
+            Trouble::Frame => self.answered(Reply::FaultFrame),
+            Trouble::Medium => self.answered(Reply::FaultMedium),
+        }
     }
 }

@@ -8,9 +8,9 @@ ghost use Rattle.lif_volume.specs.Views.{IsOpen};
 ghost use Rattle.host_model.specs.Requests.{Asks, Devices, Paper, Poll, Say, Status};
 ghost use Rattle.il_host.specs.HostView.{Performed};
 ghost use Rattle.il_host.specs.Hosts.{volume_in};
-ghost use Rattle.il_host.specs.Standings.{HasDriveId};
+ghost use Rattle.il_host.specs.Standings.{HasDriveId, KeepsPage};
 
-use crate::host::{Host, fault_reply};
+use crate::host::Host;
 use crate::loop_texts::{put_devices, put_paper, put_poll, put_status};
 use crate::performer::Performer;
 use arrayvec::ArrayVec;
@@ -27,14 +27,14 @@ impl<M: Medium + Drop> Host<M> {
     {
         self.volume.begin();
         if let Err(trouble) = self.make_ready() {
-            return self.answered(fault_reply(trouble));
+            return self.faulted(trouble);
         }
         match self.volume.records_mut().drive_status() {
             Ok(byte) => {
                 put_status(&mut self.page, byte);
                 self.answered(Reply::Ok)
             }
-            Err(trouble) => self.answered(fault_reply(trouble)),
+            Err(trouble) => self.faulted(trouble),
         }
     }
 
@@ -46,14 +46,14 @@ impl<M: Medium + Drop> Host<M> {
     {
         self.volume.begin();
         if let Err(trouble) = self.make_ready() {
-            return self.answered(fault_reply(trouble));
+            return self.faulted(trouble);
         }
         match self.volume.records_mut().parallel_poll() {
             Ok(frame) => {
                 put_poll(&mut self.page, &frame);
                 self.answered(Reply::Ok)
             }
-            Err(trouble) => self.answered(fault_reply(trouble)),
+            Err(trouble) => self.faulted(trouble),
         }
     }
 
@@ -66,7 +66,7 @@ impl<M: Medium + Drop> Host<M> {
         self.see_drive();
         self.volume.begin();
         if let Err(trouble) = self.make_ready() {
-            return self.answered(fault_reply(trouble));
+            return self.faulted(trouble);
         }
         let mut ids = ArrayVec::new();
         match self.volume.records_mut().accessories(&mut ids) {
@@ -74,7 +74,7 @@ impl<M: Medium + Drop> Host<M> {
                 put_devices(&mut self.page, &ids);
                 self.answered(Reply::Ok)
             }
-            Err(trouble) => self.answered(fault_reply(trouble)),
+            Err(trouble) => self.faulted(trouble),
         }
     }
 
@@ -88,18 +88,18 @@ impl<M: Medium + Drop> Host<M> {
         self.see_drive();
         self.volume.begin();
         if let Err(trouble) = self.make_ready() {
-            return self.answered(fault_reply(trouble));
+            return self.faulted(trouble);
         }
         let mut ids = ArrayVec::new();
         if let Err(trouble) = self.volume.records_mut().accessories(&mut ids) {
-            return self.answered(fault_reply(trouble));
+            return self.faulted(trouble);
         }
         let Some(address) = printer_among(&ids) else {
             return self.answered(Reply::No(Code::NoPrinter));
         };
         match self.volume.records_mut().say(address, bytes) {
             Ok(()) => self.answered(Reply::Ok),
-            Err(trouble) => self.answered(fault_reply(trouble)),
+            Err(trouble) => self.faulted(trouble),
         }
     }
 
@@ -134,8 +134,7 @@ impl<M: Medium + Drop> Host<M> {
         ensures addresses { Addresses M.view (⟦<LoopRecords<M> as Looped<M>>⟧.looped self.old.volume.records).control (⟦<LoopRecords<M> as Looped<M>>⟧.looped self.old.volume.records) (⟦<LoopRecords<M> as Looped<M>>⟧.looped self.new.volume.records) result }
         ensures leaves { LeavesStore 1 ((⟦<LoopRecords<M> as Records>⟧.view self.old.volume.records).failed None) (⟦<LoopRecords<M> as Records>⟧.view self.old.volume.records) (⟦<LoopRecords<M> as Records>⟧.view self.new.volume.records) result }
         ensures opens { IsOpen ⟦<LoopRecords<M> as Records>⟧.view (volume_in self.new.volume) }
-        ensures page { self.new.page ≡ self.old.page }
-        ensures file { self.new.file ≡ self.old.file }
+        ensures rests { KeepsPage self.old.page (length self.old.file.items) self.new.page (length self.new.file.items) }
     {
         if self.volume.records().is_ready() {
             return Ok(());

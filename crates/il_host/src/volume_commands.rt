@@ -9,9 +9,9 @@ ghost use Rattle.host_model.specs.Requests.{Asks, OfVolume};
 ghost use Rattle.host_model.specs.Replies.{code_of};
 ghost use Rattle.il_host.specs.HostView.{Performed};
 ghost use Rattle.il_host.specs.Hosts.{volume_in};
-ghost use Rattle.il_host.specs.Standings.{HasDriveStatus, volume_reply};
+ghost use Rattle.il_host.specs.Standings.{Ends, HasDriveStatus, volume_reply};
 
-use crate::host::{Host, fault_reply};
+use crate::host::Host;
 use crate::listing::{put_data, put_label, put_listing};
 use crate::performer::Performer;
 use il_ports::{Medium, Records};
@@ -29,14 +29,14 @@ impl<M: Medium + Drop> Host<M> {
     {
         self.volume.begin();
         if let Err(trouble) = self.make_sound() {
-            return self.answered(fault_reply(trouble));
+            return self.faulted(trouble);
         }
         match self.volume.dir() {
             Ok(listing) => {
                 put_listing(&mut self.page, &listing, self.volume.slots());
                 self.answered(Reply::Ok)
             }
-            Err(fault) => self.answered(reply_to(fault)),
+            Err(fault) => self.refused(fault),
         }
     }
 
@@ -48,14 +48,14 @@ impl<M: Medium + Drop> Host<M> {
     {
         self.volume.begin();
         if let Err(trouble) = self.make_sound() {
-            return self.answered(fault_reply(trouble));
+            return self.faulted(trouble);
         }
         match self.volume.label() {
             Ok(label) => {
                 put_label(&mut self.page, &label);
                 self.answered(Reply::Ok)
             }
-            Err(fault) => self.answered(reply_to(fault)),
+            Err(fault) => self.refused(fault),
         }
     }
 
@@ -67,7 +67,7 @@ impl<M: Medium + Drop> Host<M> {
     {
         self.volume.begin();
         if let Err(trouble) = self.make_sound() {
-            return self.answered(fault_reply(trouble));
+            return self.faulted(trouble);
         }
         match self.volume.fetch(name, &mut self.file) {
             Ok(fetched) => {
@@ -75,7 +75,7 @@ impl<M: Medium + Drop> Host<M> {
                 put_data(&mut self.page, &fetched, &self.file[..count]);
                 self.answered(Reply::Ok)
             }
-            Err(fault) => self.answered(reply_to(fault)),
+            Err(fault) => self.refused(fault),
         }
     }
 
@@ -95,7 +95,7 @@ impl<M: Medium + Drop> Host<M> {
     {
         self.volume.begin();
         if let Err(trouble) = self.make_sound() {
-            return self.answered(fault_reply(trouble));
+            return self.faulted(trouble);
         }
         let answer = self.volume.store(name, kind, implementation, bytes);
         self.ended(answer)
@@ -109,7 +109,7 @@ impl<M: Medium + Drop> Host<M> {
     {
         self.volume.begin();
         if let Err(trouble) = self.make_sound() {
-            return self.answered(fault_reply(trouble));
+            return self.faulted(trouble);
         }
         let answer = self.volume.rename(old, new);
         self.ended(answer)
@@ -123,7 +123,7 @@ impl<M: Medium + Drop> Host<M> {
     {
         self.volume.begin();
         if let Err(trouble) = self.make_sound() {
-            return self.answered(fault_reply(trouble));
+            return self.faulted(trouble);
         }
         let answer = self.volume.purge(name);
         self.ended(answer)
@@ -138,7 +138,7 @@ impl<M: Medium + Drop> Host<M> {
     {
         self.volume.begin();
         if let Err(trouble) = self.make_sound() {
-            return self.answered(fault_reply(trouble));
+            return self.faulted(trouble);
         }
         let answer = self.volume.format(label, slots);
         self.ended(answer)
@@ -152,7 +152,7 @@ impl<M: Medium + Drop> Host<M> {
     {
         self.volume.begin();
         if let Err(trouble) = self.make_sound() {
-            return self.answered(fault_reply(trouble));
+            return self.faulted(trouble);
         }
         let answer = self.volume.adopt();
         self.ended(answer)
@@ -162,15 +162,25 @@ impl<M: Medium + Drop> Host<M> {
     fn ended(&mut self, answer: Result<(), VolumeFault>) -> Reply
         requires volume_open { IsOpen ⟦<LoopRecords<M> as Records>⟧.view (volume_in self.old.volume) }
         requires room { length self.old.page.text + 20 ≤ self.old.page.room }
-        ensures reply { result ≡ volume_reply answer }
-        ensures page { self.new.page ≡ record self.old.page { text = self.old.page.text ++ reply_line (volume_reply answer) } }
-        ensures volume { self.new.volume ≡ self.old.volume }
-        ensures file { self.new.file ≡ self.old.file }
+        ensures ended { Ends (volume_reply answer) self.old.volume self.old.page (length self.old.file.items) result self.new.volume self.new.page (length self.new.file.items) }
         ensures drive { HasDriveStatus (⟦<LoopRecords<M> as Looped<M>>⟧.looped self.old.volume.records).control }
     {
         match answer {
             Ok(()) => self.answered(Reply::Ok),
-            Err(fault) => self.answered(reply_to(fault)),
+            Err(fault) => self.refused(fault),
+        }
+    }
+
+    // The reply to a command that the volume did not perform.
+    fn refused(&mut self, fault: VolumeFault) -> Reply
+        requires volume_open { IsOpen ⟦<LoopRecords<M> as Records>⟧.view (volume_in self.old.volume) }
+        requires room { length self.old.page.text + 20 ≤ self.old.page.room }
+        ensures ended { Ends (volume_reply {T = Unit {0}} (Err fault)) self.old.volume self.old.page (length self.old.file.items) result self.new.volume self.new.page (length self.new.file.items) }
+        ensures drive { HasDriveStatus (⟦<LoopRecords<M> as Looped<M>>⟧.looped self.old.volume.records).control }
+    {
+        match fault {
+            VolumeFault::Refused(refusal) => self.answered(Reply::No(code(refusal))),
+            VolumeFault::Trouble(trouble) => self.faulted(trouble),
         }
     }
 }
@@ -188,15 +198,5 @@ fn code(refusal: Refusal) -> Code
         Refusal::NoRedo => Code::NoRedo,
         Refusal::InUse => Code::InUse,
         Refusal::Protected => Code::Protected,
-    }
-}
-
-// The reply to a command that the volume did not perform.
-fn reply_to(fault: VolumeFault) -> Reply
-    ensures { result ≡ volume_reply {T = Unit {0}} (Err fault) }
-{
-    match fault {
-        VolumeFault::Refused(refusal) => Reply::No(code(refusal)),
-        VolumeFault::Trouble(trouble) => fault_reply(trouble),
     }
 }

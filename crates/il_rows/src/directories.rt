@@ -1,6 +1,6 @@
 //! What `dir` answers, by the bytes of the tape.
 
-use crate::images::{END_ENTRY, REDO_ENTRY, foreign, formatted, with_entries, with_open_gate};
+use crate::images::{END_ENTRY, REDO_ENTRY, formatted, with_entries, with_open_gate};
 use crate::runs::{Given, run};
 use std::test::Fail;
 
@@ -10,28 +10,18 @@ const FORMATTED: &[u8] = b"volume HPTAPE 2 2 1 16\nfile REDOFILE E0D0 508 4 0000
 fn dir_lists_the_volume(rt: HostRuntime) -> Result<(), Fail> {
     let alloc = rt.alloc();
     let tape = formatted(alloc)?;
-    let foreign = foreign(alloc)?;
     let open = with_open_gate(alloc)?;
-    let mut disc = formatted(alloc)?;
-    disc.resize(131_073, 0)?;
     let zeros = vec![in alloc; 0; 768]?;
     let none = b"volume HPTAPE 2 2 0 16\nok\n".as_slice();
     let ended = with_entries(alloc, &[END_ENTRY, REDO_ENTRY])?;
-    let cases: [(&[u8], &[u8], u8, &[u8]); 9] = [
+    let cases: [(&[u8], &[u8], u8, &[u8]); 7] = [
         (&tape, b"dir\n", 0, FORMATTED),
-        (&disc, b"dir\n", 0, FORMATTED),
         (&tape, b"\n\ndir", 0, FORMATTED),
         (
             &tape,
             b"list\n dir\n",
             1,
             b"error 1 BadLine\nvolume HPTAPE 2 2 1 16\nfile REDOFILE E0D0 508 4 00000000\nok\n",
-        ),
-        (
-            &foreign,
-            b"dir\n",
-            0,
-            b"volume %20 2 2 1 16\nfile PROG1 E080 4 2 00000180\nok\n",
         ),
         (&zeros, b"dir\n", 1, b"error 3 NotLif\n"),
         (&open, b"dir\n", 0, FORMATTED),

@@ -49,12 +49,32 @@ const ALTERED_AT_34: Planned = Planned {
     fault: PlanFault::Alter(0xFF),
 };
 
-const EIGHT_LINES: Generated = Generated { seed: 1, count: 8 };
-
-const MOST_LINES: Generated = Generated {
-    seed: 2_147_483_647,
-    count: 10_000,
+const ALTERED_AT_5: Planned = Planned {
+    hop: 5,
+    fault: PlanFault::Alter(0x10),
 };
+
+impl Asked {
+    fn quiet(self) -> Asked {
+        Asked {
+            quiet: true,
+            ..self
+        }
+    }
+
+    fn making(self, made: New) -> Asked {
+        Asked { made, ..self }
+    }
+
+    fn meeting(self, plan: &'static [Planned]) -> Asked {
+        Asked { plan, ..self }
+    }
+
+    fn generating(self, seed: u32, count: u16) -> Asked {
+        let generated = Some(Generated { seed, count });
+        Asked { generated, ..self }
+    }
+}
 
 /// The words of a text, with a space between each two.
 fn words_of(alloc: Global, text: &str) -> Result<Vec<String>, AllocError> {
@@ -81,105 +101,35 @@ fn words_ask_for_a_run(rt: HostRuntime) -> Result<(), Fail> {
     let rows = [
         ("TAPE", TAPE),
         (
-            "--quiet TAPE",
-            Asked {
-                quiet: true,
-                ..TAPE
-            },
-        ),
-        (
-            "--new --quiet TAPE",
-            Asked {
-                made: New::Tape,
-                quiet: true,
-                ..TAPE
-            },
-        ),
-        (
-            "TAPE --new-disc",
-            Asked {
-                made: New::Disc,
-                ..TAPE
-            },
-        ),
-        (
-            "--lose 6 TAPE",
-            Asked {
-                plan: &[LOST_AT_6],
-                ..TAPE
-            },
-        ),
-        (
-            "--lose=5 TAPE",
-            Asked {
-                plan: &[LOST_AT_5],
-                ..TAPE
-            },
-        ),
-        (
-            "--lose 6,5 TAPE",
-            Asked {
-                plan: &[LOST_AT_5, LOST_AT_6],
-                ..TAPE
-            },
-        ),
-        (
-            "--lose 999999999999999999 TAPE",
-            Asked {
-                plan: &[LOST_LAST],
-                ..TAPE
-            },
-        ),
-        (
-            "--alter 30:01,34:fF TAPE",
-            Asked {
-                plan: &[ALTERED_AT_30, ALTERED_AT_34],
-                ..TAPE
-            },
-        ),
-        (
-            "--alter 34:Ff,5:10,30:01 --lose 6 TAPE",
-            Asked {
-                plan: &[
-                    Planned {
-                        hop: 5,
-                        fault: PlanFault::Alter(0x10),
-                    },
-                    LOST_AT_6,
-                    ALTERED_AT_30,
-                    ALTERED_AT_34,
-                ],
-                ..TAPE
-            },
-        ),
-        (
-            "--generate 1:8 --new TAPE",
-            Asked {
-                made: New::Tape,
-                generated: Some(EIGHT_LINES),
-                ..TAPE
-            },
-        ),
-        (
-            "--generate 2147483647:10000 TAPE",
-            Asked {
-                generated: Some(MOST_LINES),
-                ..TAPE
-            },
-        ),
-        (
-            "--generate 0:1 TAPE",
-            Asked {
-                generated: Some(Generated { seed: 0, count: 1 }),
-                ..TAPE
-            },
-        ),
-        (
             "-- --x",
             Asked {
                 image: "--x",
                 ..TAPE
             },
+        ),
+        ("--quiet TAPE", TAPE.quiet()),
+        ("--new --quiet TAPE", TAPE.making(New::Tape).quiet()),
+        ("TAPE --new-disc", TAPE.making(New::Disc)),
+        ("--lose 6 TAPE", TAPE.meeting(&[LOST_AT_6])),
+        ("--lose=5 TAPE", TAPE.meeting(&[LOST_AT_5])),
+        ("--lose 6,5 TAPE", TAPE.meeting(&[LOST_AT_5, LOST_AT_6])),
+        ("--lose 999999999999999999 TAPE", TAPE.meeting(&[LOST_LAST])),
+        (
+            "--alter 30:01,34:fF TAPE",
+            TAPE.meeting(&[ALTERED_AT_30, ALTERED_AT_34]),
+        ),
+        (
+            "--alter 34:Ff,5:10,30:01 --lose 6 TAPE",
+            TAPE.meeting(&[ALTERED_AT_5, LOST_AT_6, ALTERED_AT_30, ALTERED_AT_34]),
+        ),
+        ("--generate 0:1 TAPE", TAPE.generating(0, 1)),
+        (
+            "--generate 1:8 --new TAPE",
+            TAPE.making(New::Tape).generating(1, 8),
+        ),
+        (
+            "--generate 2147483647:10000 TAPE",
+            TAPE.generating(2_147_483_647, 10_000),
         ),
     ];
     for (text, asked) in rows {

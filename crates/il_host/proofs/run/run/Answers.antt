@@ -1,4 +1,4 @@
-use Rattle.std.proofs.Common.{ap, inl, refl, subst, sym}
+use Rattle.std.proofs.Common.{ap, refl, subst, sym}
 use Rattle.std.specs.Prelude.{Ok, option_map}
 use Rattle.il_ports.specs.Media.{DidInsert}
 use Rattle.host_model.specs.Endings.{IsEarly}

@@ -1,17 +1,12 @@
-use Rattle.std.proofs.Common.{◌∙◌, ◌++◌, ap}
-use Rattle.std.specs.Prelude.{length}
-use Rattle.il_script.specs.Replies.{reply_line}
 use Rattle.host_model.specs.Requests.{Asks, Devices}
 use Rattle.host_model.specs.Replies.{device_lines}
 use Rattle.il_host.proofs.host.Host.devices.Goals as goal
-use Rattle.il_host.proofs.HostVolumes.{blank_page, finished, written_page}
+use Rattle.il_host.proofs.HostVolumes.{ends_blank, ends_told}
 use Rattle.il_host.proofs.HostLoops.{devices_failed, devices_told, lent, not_ready, room_ready}
 
 pub returns-in-Err : goal.returns-in-Err
 returns-in-Err g c =
-    finished _ _ _ _ _ _ _ _ c.args.self.now.page _ _ _ _ _ (c.answered.ensures.reply ∙ c.fault_reply.ensures) c.answered.ensures.volume
-    (c.make_ready.ensures.page ∙ blank_page _ c.requires.blank) (c.answered.ensures.page ∙ ap (λ r. record c.make_ready.new.self.page { text = c.make_ready.new.self.page.text ++ reply_line r }) c.fault_reply.ensures)
-    (ap (λ f. length f.items) (c.answered.ensures.file ∙ c.make_ready.ensures.file))
+    ends_blank c.make_ready.ensures.rests c.requires.blank c.faulted.ensures.ended
     (not_ready _ _ c.args.self.now.volume c.begin.new.self _ _ c.requires.valid c.begin.ensures.begun g.met.M.Medium.is_medium _ c.make_ready.new.self.volume (Asks Devices) _ c.in-Err.trouble c.in-Err.ensures.opens tt c.in-Err.ensures.addresses c.in-Err.ensures.leaves)
 
 pub accessories-requires-clause-room : goal.accessories-requires-clause-room
@@ -20,16 +15,12 @@ accessories-requires-clause-room g c =
 
 pub returns-in-Ok : goal.returns-in-Ok
 returns-in-Ok g c =
-    finished _ _ _ _ _ _ (lent c.make_ready.new.self.volume c.accessories.new.self) _ c.args.self.now.page _ _ (device_lines 1 c.accessories.new.into.items) _ _ c.answered-in-Ok.ensures.reply c.answered-in-Ok.ensures.volume
-    (written_page _ _ _ _ c.make_ready.ensures.page c.requires.blank c.put_devices.ensures.text) c.answered-in-Ok.ensures.page
-    (ap (λ f. length f.items) (c.answered-in-Ok.ensures.file ∙ c.make_ready.ensures.file))
+    ends_told {n = lent c.make_ready.new.self.volume c.accessories.new.self} (device_lines 1 c.accessories.new.into.items) c.make_ready.ensures.rests c.requires.blank c.put_devices.ensures.text c.answered.ensures.ended
     (devices_told _ _ c.args.self.now.volume c.begin.new.self _ _ c.requires.valid c.begin.ensures.begun g.met.M.Medium.is_medium _ c.make_ready.new.self.volume c.in_default.field-0 _ c.in_default.ensures.addresses c.in_default.ensures.leaves c.in_default.ensures.opens _ c.records_mut.ensures.value
     c.accessories.new.self c.accessories.new.into.items _ c.in-Ok.field-0 c.see_drive.ensures c.in-Ok.ensures.named c.in-Ok.ensures.leaves)
 
 pub returns-in-Err-accessories : goal.returns-in-Err-accessories
 returns-in-Err-accessories g c =
-    finished _ _ _ _ _ _ (lent c.make_ready.new.self.volume c.accessories.new.self) _ c.args.self.now.page _ _ _ _ _ (c.answered-in-Err-accessories.ensures.reply ∙ c.fault_reply-in-Err-accessories.ensures) c.answered-in-Err-accessories.ensures.volume
-    (c.make_ready.ensures.page ∙ blank_page _ c.requires.blank) (c.answered-in-Err-accessories.ensures.page ∙ ap (λ r. record c.make_ready.new.self.page { text = c.make_ready.new.self.page.text ++ reply_line r }) c.fault_reply-in-Err-accessories.ensures)
-    (ap (λ f. length f.items) (c.answered-in-Err-accessories.ensures.file ∙ c.make_ready.ensures.file))
+    ends_blank {n = lent c.make_ready.new.self.volume c.accessories.new.self} c.make_ready.ensures.rests c.requires.blank c.faulted-in-Err-accessories.ensures.ended
     (devices_failed _ _ c.args.self.now.volume c.begin.new.self _ _ c.requires.valid c.begin.ensures.begun g.met.M.Medium.is_medium _ c.make_ready.new.self.volume c.in_default.field-0 _ c.in_default.ensures.addresses c.in_default.ensures.leaves c.in_default.ensures.opens _ c.records_mut.ensures.value
     c.accessories.new.self c.in-Err-accessories.trouble _ c.see_drive.ensures c.in-Err-accessories.ensures.named c.in-Err-accessories.ensures.leaves)

@@ -1,16 +1,15 @@
-use Rattle.std.proofs.Common.{◌≡◌, ◌∙◌, ◌++◌, ℕ, List, take, sym, ap}
+use Rattle.std.proofs.Common.{◌≡◌, ◌∙◌, ℕ, List, take, sym, ap}
 use Rattle.std.specs.Prelude.{length, min}
 use Rattle.std.specs.List.{length_refill}
 use Rattle.std.specs.Global.{Vec}
 use Rattle.std.specs.Vec.{with_items}
 use Rattle.std.proofs.lemmas.List.{take_min, with_items_is}
-use Rattle.il_script.specs.Replies.{reply_line}
 use Rattle.lif_dir.specs.Entries.{name_bytes}
 use Rattle.lif_model.specs.Apply.{Fetch}
 use Rattle.il_host.specs.Texts.{data_text}
 use Rattle.il_host.proofs.host.Host.fetch.Goals as goal
 use Rattle.il_host.proofs.HostReads.{fetched, not_fetched}
-use Rattle.il_host.proofs.HostVolumes.{blank_page, finished, not_asked, ready_behind, written_page}
+use Rattle.il_host.proofs.HostVolumes.{ends_blank, ends_told, not_asked, ready_behind}
 
 -- bytes that are written over a vector's leave its length
 same_length : (v : Vec ℕ) (xs : List ℕ) → length (with_items v xs).items ≡ length v.items
@@ -18,10 +17,8 @@ same_length v xs = sym (length_refill v.len v.items xs v.ok.0) ∙ v.ok.0
 
 pub returns-in-Err : goal.returns-in-Err
 returns-in-Err g c =
-    finished _ _ _ _ _ _ _ _ c.args.self.now.page _ _ _ _ _ (c.answered.ensures.reply ∙ c.fault_reply.ensures) c.answered.ensures.volume
-    (c.make_sound.ensures.page ∙ blank_page _ c.requires.blank) (c.answered.ensures.page ∙ ap (λ r. record c.make_sound.new.self.page { text = c.make_sound.new.self.page.text ++ reply_line r }) c.fault_reply.ensures)
-    (ap (λ f. length f.items) (c.answered.ensures.file ∙ c.make_sound.ensures.file))
-    (not_asked _ _ c.args.self.now.volume c.begin.new.self c.make_sound.new.self.volume _ _ c.requires.valid c.begin.ensures.begun (Fetch (name_bytes c.args.name.now)) c.in-Err.ensures.opens c.answered.ensures.drive c.in-Err.trouble _ g.met.M.Medium.is_medium c.in-Err.ensures.makes c.in-Err.ensures.sounds)
+    ends_blank c.make_sound.ensures.rests c.requires.blank c.faulted.ensures.ended
+    (not_asked _ _ c.args.self.now.volume c.begin.new.self c.make_sound.new.self.volume _ _ c.requires.valid c.begin.ensures.begun (Fetch (name_bytes c.args.name.now)) c.in-Err.ensures.opens c.faulted.ensures.drive c.in-Err.trouble _ g.met.M.Medium.is_medium c.in-Err.ensures.makes c.in-Err.ensures.sounds)
 
 pub fetch-requires-clause-ready : goal.fetch-requires-clause-ready
 fetch-requires-clause-ready g c = ready_behind _ _ c.args.self.now.volume c.begin.new.self c.make_sound.new.self.volume _ _ c.requires.valid c.begin.ensures.begun _ c.make_sound.new.self.volume c.in_default.ensures.sounds
@@ -32,18 +29,13 @@ returns-in-Ok g c =
     let long = c.fetch.auto.into ∙ c.deref_mut.ensures.len in
     let count = c.min-count.ensures ∙ ap (λ k. min c.in-Ok.fetched.length k) (c.len.ensures ∙ sym long) in
     let shown = ap (take c.min-count.result) (c.deref.ensures.value ∙ with_items_is c.make_sound.new.self.file into long) ∙ ap (λ k. take k into) count ∙ take_min c.in-Ok.fetched.length into in
-    finished _ _ _ _ _ _ _ _ c.args.self.now.page _ _ (data_text c.in-Ok.fetched.kind c.in-Ok.fetched.implementation (take c.min-count.result c.deref.result.now)) _ _
-    c.answered-in-Ok.ensures.reply c.answered-in-Ok.ensures.volume
-    (written_page _ _ _ _ c.make_sound.ensures.page c.requires.blank c.put_data.ensures.text) c.answered-in-Ok.ensures.page
-    (ap (λ f. length f.items) c.answered-in-Ok.ensures.file ∙ same_length c.make_sound.new.self.file into ∙ ap (λ f. length f.items) c.make_sound.ensures.file)
-    (fetched _ _ c.args.self.now.volume c.begin.new.self c.fetch.new.self _ _ c.requires.valid c.begin.ensures.begun c.fetch.ensures.open c.answered-in-Ok.ensures.drive c.make_sound.new.self.volume c.in_default.field-0 c.in_default.ensures.makes c.in_default.ensures.sounds
+    ends_told (data_text c.in-Ok.fetched.kind c.in-Ok.fetched.implementation (take c.min-count.result c.deref.result.now)) (record { page = c.make_sound.ensures.rests.page; room = same_length c.make_sound.new.self.file into ∙ c.make_sound.ensures.rests.room }) c.requires.blank c.put_data.ensures.text c.answered.ensures.ended
+    (fetched _ _ c.args.self.now.volume c.begin.new.self c.fetch.new.self _ _ c.requires.valid c.begin.ensures.begun c.fetch.ensures.open c.answered.ensures.drive c.make_sound.new.self.volume c.in_default.field-0 c.in_default.ensures.makes c.in_default.ensures.sounds
     (name_bytes c.args.name.now) c.in-Ok.fetched into _ _ g.met.M.Medium.is_medium c.in_default.ensures.opens shown
     c.in-Ok.ensures.consults c.in-Ok.ensures.answers c.in-Ok.ensures.fetched c.in-Ok.ensures.run c.in-Ok.ensures.stays c.in-Ok.ensures.transfers)
 
 pub returns-in-Err-fetch : goal.returns-in-Err-fetch
 returns-in-Err-fetch g c =
-    finished _ _ _ _ _ _ _ _ c.args.self.now.page _ _ _ _ _ (c.answered-in-Err-fetch.ensures.reply ∙ c.reply_to.ensures) c.answered-in-Err-fetch.ensures.volume
-    (c.make_sound.ensures.page ∙ blank_page _ c.requires.blank) (c.answered-in-Err-fetch.ensures.page ∙ ap (λ r. record c.make_sound.new.self.page { text = c.make_sound.new.self.page.text ++ reply_line r }) c.reply_to.ensures)
-    (ap (λ f. length f.items) c.answered-in-Err-fetch.ensures.file ∙ same_length c.make_sound.new.self.file c.fetch.new.into ∙ ap (λ f. length f.items) c.make_sound.ensures.file)
-    (not_fetched _ _ c.args.self.now.volume c.begin.new.self c.fetch.new.self _ _ c.requires.valid c.begin.ensures.begun c.fetch.ensures.open c.answered-in-Err-fetch.ensures.drive c.make_sound.new.self.volume c.in_default.field-0 c.in_default.ensures.makes c.in_default.ensures.sounds
+    ends_blank (record { page = c.make_sound.ensures.rests.page; room = same_length c.make_sound.new.self.file c.fetch.new.into ∙ c.make_sound.ensures.rests.room }) c.requires.blank c.refused.ensures.ended
+    (not_fetched _ _ c.args.self.now.volume c.begin.new.self c.fetch.new.self _ _ c.requires.valid c.begin.ensures.begun c.fetch.ensures.open c.refused.ensures.drive c.make_sound.new.self.volume c.in_default.field-0 c.in_default.ensures.makes c.in_default.ensures.sounds
     (name_bytes c.args.name.now) c.in-Err-fetch.fault _ c.in_default.ensures.opens c.in-Err-fetch.ensures.consults c.in-Err-fetch.ensures.answers c.in-Err-fetch.ensures.stays)

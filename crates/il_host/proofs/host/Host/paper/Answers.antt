@@ -1,10 +1,9 @@
-use Rattle.std.proofs.Common.{◌∙◌, ◌+◌, ◌≤◌, ◌*◌, ◌++◌, None, Some, ap, arith}
+use Rattle.std.proofs.Common.{None, Some, ap, arith}
 use Rattle.std.specs.Prelude.{length}
 use Rattle.il_script.specs.Sheet.{Sheet}
-use Rattle.host_model.specs.Requests.{Asks, Paper}
 use Rattle.host_model.specs.Replies.{paper_line}
 use Rattle.il_host.proofs.host.Host.paper.Goals as goal
-use Rattle.il_host.proofs.HostVolumes.{blank_page, finished, written_page}
+use Rattle.il_host.proofs.HostVolumes.{ends_blank, ends_told, page_kept}
 use Rattle.il_host.proofs.HostLoops.{paper_before, paper_short, paper_told}
 use Rattle.il_host.proofs.Shorts.{boxed_short}
 
@@ -22,14 +21,10 @@ answered-requires-clause-room g c =
 
 pub returns-in-Some : goal.returns-in-Some
 returns-in-Some g c =
-    finished _ _ _ _ _ _ _ _ c.args.self.now.page _ _ (paper_line (Some (c.in-Some.kept.now, c.in-Some.count))) _ _ c.answered.ensures.reply c.answered.ensures.volume
-    (c.put_paper.ensures.text ∙ ap (λ text. record c.args.self.now.page { text = text ++ paper_line (Some (c.in-Some.kept.now, c.in-Some.count)) }) c.requires.blank) c.answered.ensures.page
-    (ap (λ f. length f.items) c.answered.ensures.file)
+    ends_told (paper_line (Some (c.in-Some.kept.now, c.in-Some.count))) (page_kept c.args.self.now.page _) c.requires.blank c.put_paper.ensures.text c.answered.ensures.ended
     (paper_told _ _ c.args.self.now.volume c.begin.new.self _ _ c.requires.valid c.begin.ensures.begun g.met.M.Medium.is_medium _ (Some (c.in-Some.kept.now, c.in-Some.count)) _ _ c.records.ensures c.ring.ensures c.in-Some.ensures c.begin.ensures.open)
 
 pub returns-in-None : goal.returns-in-None
 returns-in-None g c =
-    finished _ _ _ _ _ _ _ _ c.args.self.now.page _ _ _ _ _ c.answered-in-None.ensures.reply c.answered-in-None.ensures.volume
-    (blank_page _ c.requires.blank) c.answered-in-None.ensures.page
-    (ap (λ f. length f.items) c.answered-in-None.ensures.file)
+    ends_blank (page_kept c.args.self.now.page _) c.requires.blank c.answered-in-None.ensures.ended
     (paper_told _ _ c.args.self.now.volume c.begin.new.self _ _ c.requires.valid c.begin.ensures.begun g.met.M.Medium.is_medium _ None _ _ c.records.ensures c.ring.ensures c.in-None.ensures c.begin.ensures.open)

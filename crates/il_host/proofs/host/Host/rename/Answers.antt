@@ -1,28 +1,21 @@
-use Rattle.std.proofs.Common.{◌∙◌, ◌++◌, ap}
-use Rattle.std.specs.Prelude.{length}
-use Rattle.il_script.specs.Replies.{reply_line}
 use Rattle.lif_dir.specs.Entries.{name_bytes}
 use Rattle.lif_dir.specs.Names.{made_name}
 use Rattle.lif_model.specs.Apply.{Rename}
 use Rattle.il_host.specs.Hosts.{volume_in}
 use Rattle.il_host.proofs.host.Host.rename.Goals as goal
-use Rattle.il_host.proofs.HostVolumes.{altered, blank_page, finished, mounts_few, not_asked, ready_behind}
+use Rattle.il_host.proofs.HostVolumes.{altered, ends_blank, mounts_few, not_asked, ready_behind}
 
 pub returns-in-Err : goal.returns-in-Err
 returns-in-Err g c =
-    finished _ _ _ _ _ _ _ _ c.args.self.now.page _ _ _ _ _ (c.answered.ensures.reply ∙ c.fault_reply.ensures) c.answered.ensures.volume
-    (c.make_sound.ensures.page ∙ blank_page _ c.requires.blank) (c.answered.ensures.page ∙ ap (λ r. record c.make_sound.new.self.page { text = c.make_sound.new.self.page.text ++ reply_line r }) c.fault_reply.ensures)
-    (ap (λ f. length f.items) (c.answered.ensures.file ∙ c.make_sound.ensures.file))
-    (not_asked _ _ c.args.self.now.volume c.begin.new.self c.make_sound.new.self.volume _ _ c.requires.valid c.begin.ensures.begun (Rename (name_bytes c.args.old.now) (name_bytes (made_name c.args.new.now))) c.in-Err.ensures.opens c.answered.ensures.drive c.in-Err.trouble _ g.met.M.Medium.is_medium c.in-Err.ensures.makes c.in-Err.ensures.sounds)
+    ends_blank c.make_sound.ensures.rests c.requires.blank c.faulted.ensures.ended
+    (not_asked _ _ c.args.self.now.volume c.begin.new.self c.make_sound.new.self.volume _ _ c.requires.valid c.begin.ensures.begun (Rename (name_bytes c.args.old.now) (name_bytes (made_name c.args.new.now))) c.in-Err.ensures.opens c.faulted.ensures.drive c.in-Err.trouble _ g.met.M.Medium.is_medium c.in-Err.ensures.makes c.in-Err.ensures.sounds)
 
 pub rename-answer-requires-clause-ready : goal.rename-answer-requires-clause-ready
 rename-answer-requires-clause-ready g c = ready_behind _ _ c.args.self.now.volume c.begin.new.self c.make_sound.new.self.volume _ _ c.requires.valid c.begin.ensures.begun _ c.make_sound.new.self.volume c.in_default.ensures.sounds
 
 pub returns : goal.returns
 returns g c =
-    finished _ _ _ _ _ _ _ _ c.args.self.now.page _ _ _ _ _ c.ended.ensures.reply c.ended.ensures.volume
-    (c.make_sound.ensures.page ∙ blank_page _ c.requires.blank) c.ended.ensures.page
-    (ap (λ f. length f.items) (c.ended.ensures.file ∙ c.make_sound.ensures.file))
+    ends_blank c.make_sound.ensures.rests c.requires.blank c.ended.ensures.ended
     (altered _ _ c.args.self.now.volume c.begin.new.self c.rename-answer.new.self _ _ c.requires.valid c.begin.ensures.begun (Rename (name_bytes c.args.old.now) (name_bytes (made_name c.args.new.now))) c.rename-answer.ensures.open c.ended.ensures.drive c.make_sound.new.self.volume c.in_default.field-0 c.in_default.ensures.makes c.in_default.ensures.sounds
     _ _ _ tt tt (mounts_few _ (volume_in c.make_sound.new.self.volume) (volume_in c.rename-answer.new.self) c.rename-answer.ensures.open c.rename-answer.ensures.commits.goes_on.continues.size) c.rename-answer.ensures.commits
     c.rename-answer.ensures.stops c.rename-answer.ensures.answers)
