@@ -21,23 +21,17 @@ pub fn write_all<K: Sink>(out: &mut K, bytes: &[u8]) -> Result<(), Failed>
     Ok(())
 }
 
-// Writes a line.
-fn write_line<K: Sink>(out: &mut K, text: &[u8]) -> Result<(), Failed>
-    ensures bytes { WritesAll (K.written out.old) (K.written out.new) (text_line text.now) result }
-    ensures cause { HasCause (K.faults out.old) (K.faults out.new) result }
-{
-    write_all(out, text)?;
-    write_all(out, b"\n")
-}
-
-// Writes the line of an entry.
+// Writes the line of an entry, of at most 41 bytes, as one piece.
 fn write_entry<K: Sink>(out: &mut K, entry: &Entry) -> Result<(), Failed>
     ensures bytes { WritesAll (K.written out.old) (K.written out.new) (text_line (entry_text entry.now)) result }
     ensures cause { HasCause (K.faults out.old) (K.faults out.new) result }
 {
-    let mut line = ArrayVec::new();
-    entry.text(&mut line);
-    write_line(out, line.as_slice())
+    let mut text = ArrayVec::new();
+    entry.text(&mut text);
+    let mut line: ArrayVec<u8, 41> = ArrayVec::new();
+    line.try_extend_from_slice(&text).unwrap();
+    line.push(b'\n');
+    write_all(out, &line)
 }
 
 // Writes a log, a line for each entry.
