@@ -3,7 +3,7 @@ ghost use Rattle.std.specs.Prelude.{◌≡◌, ℕ, ◌+◌, ◌*◌, ◌<◌, �
 ghost use Rattle.il_script.specs.declared.limits.TheConstants.{LONGEST_LINE, LONGEST_PAYLOAD};
 ghost use Rattle.il_script.specs.Replies.{next};
 ghost use Rattle.host_model.specs.Endings.{IsEarly, HasEndingCause};
-ghost use Rattle.host_model.specs.Generated.{generated_name, rising, store_line, purge_line, fetch_line};
+ghost use Rattle.host_model.specs.Generated.{generated_name, rising, store_line};
 ghost use Rattle.host_model.specs.Replies.{bytes_text};
 ghost use Rattle.host_model.specs.Requests.{item_of};
 ghost use Rattle.host_model.specs.Runs.{Summary, count_line};

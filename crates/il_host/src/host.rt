@@ -1,18 +1,8 @@
-ghost use Rattle.std.specs.Prelude.{◌≡◌, ◌<◌, ◌≤◌, ◌+◌, ◌*◌, ◌++◌, [], map, length, IfOk, IfErr, Err, true};
-ghost use Rattle.lif_model.specs.Shelf.{IsSize};
-ghost use Rattle.il_ring.specs.Plans.{IsPlan, hops_of};
-ghost use Rattle.il_ring.specs.Rings.{MayStand};
-ghost use Rattle.std.specs.List.{All};
-ghost use Rattle.host_model.specs.Requests.{Asks, OfVolume};
-ghost use Rattle.lif_model.specs.Apply as command;
-ghost use Rattle.il_host.specs.HostView.{Performed};
+ghost use Rattle.std.specs.Prelude.{◌≡◌, ◌<◌, ◌≤◌, ◌+◌, ◌*◌, ◌++◌, [], map, length};
 ghost use Rattle.il_ports.specs.Stores.{Continues};
-ghost use Rattle.lif_plan.specs.Refusals.{reason};
 ghost use Rattle.lif_volume.specs.Views.{IsOpen};
-ghost use Rattle.host_model.specs.Replies.{code_of};
-ghost use Rattle.il_script.specs.Replies.{reply_line};
-ghost use Rattle.il_host.specs.Hosts.{IsOpened, IsClosed, volume_in};
-ghost use Rattle.il_host.specs.Standings.{Ends, HasDriveStatus, KeepsPage, MakesSound, fault_of, volume_reply};
+ghost use Rattle.il_host.specs.Hosts.{volume_in};
+ghost use Rattle.il_host.specs.Standings.{Ends, HasDriveStatus, KeepsPage, MakesSound, fault_of};
 
 use crate::performer::Performer;
 use il_control::Lost;

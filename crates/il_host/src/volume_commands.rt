@@ -4,7 +4,6 @@ ghost use Rattle.lif_volume.specs.Views.{IsOpen};
 ghost use Rattle.lif_model.specs.Apply as command;
 ghost use Rattle.lif_dir.specs.Entries.{name_bytes};
 ghost use Rattle.lif_dir.specs.Names.{made_name, label_bytes};
-ghost use Rattle.il_script.specs.Replies.{reply_line};
 ghost use Rattle.host_model.specs.Requests.{Asks, OfVolume};
 ghost use Rattle.host_model.specs.Replies.{code_of};
 ghost use Rattle.il_host.specs.HostView.{Performed};
