@@ -41,7 +41,7 @@ use Rattle.il_host.specs.Hosts.{IsUsable, host_in, loop_in, store_in, volume_in}
 use Rattle.il_host.specs.Standings.{HasDriveId, fault_of}
 use Rattle.il_host.proofs.HostVolumes.{begun_calls, fault_text, performed}
 use Rattle.il_host.proofs.LoopEvents.{IsOfLoop, not_of_volume}
-use Rattle.il_host.proofs.LoopPerforms.{devices_broke, devices_performs, loop_unready, poll_broke, poll_performs, printer_told, printer_within, say_broke, say_no_printer, say_performs, say_unnamed, status_broke, status_performs}
+use Rattle.il_host.proofs.LoopPerforms.{devices_broke, devices_performs, loop_unready, poll_broke, poll_performs, printer_told, say_broke, say_no_printer, say_performs, say_unnamed, status_broke, status_performs}
 use Rattle.il_host.proofs.PaperPerforms.{paper_performs}
 use Rattle.il_host.proofs.VolumePerforms.{Performs}
 
@@ -273,9 +273,6 @@ module _ {M I : Type 0} {D : I → Type 0} (view : M → MediumView) (seen : Rin
 
         -- the records are lent again, and become q
         module _ (few : length bytes ≤ LONGEST_PAYLOAD) (address : ℕ) (at : found ≡ Some address) (again : LoopRecords M I D) (same_again : again ≡ l) where
-          pub within_ring : (1 ≤ address) × (address ≤ length ids)
-          within_ring = printer_within ids address (sym at ∙ first)
-
           left_again : 2760 ≤ (store_in view seen again).calls_left
           left_again = let left = left_ready in let used = named.left in subst (λ (l : LoopRecords M I D). 2760 ≤ (store_in view seen l).calls_left) (sym same_again) (omega (arith, left, used))
 

@@ -25,7 +25,7 @@ use Rattle.il_host.specs.Standings.{HasDriveStatus, MakesSound, volume_reply}
 use Rattle.il_host.proofs.FileCarries.{store_answered}
 use Rattle.il_host.proofs.HostVolumes.{changed, most_calls, mounts_few, none_asked, seen_asked}
 
--- it takes no more calls than any command does
+-- it takes no more calls than a command of a volume may
 stores_few : {R S T : Type 0} (view : R → RecordsView S) (old new : VolumeView R) (bytes : List ℕ) (answer : Result T VolumeFault) → IsOpen view new → (view new.records).record_count ≡ (view old.records).record_count
     → storing (view old.records).record_count old.kept new.kept bytes answer ≤ most_calls (view old.records).record_count
 stores_few {T = T} view old new bytes answer is size = by old.kept new.kept (λ header kept. mounted header kept) answer

@@ -205,9 +205,6 @@ module _ {M I : Type 0} {D : I → Type 0} (view : M → MediumView) (seen : Rin
       let size = sounds.size ∙ began.size in
       record { valid = sounds.valid; sound = sounds.sound; left = omega (arith, enough, used, size) }
 
-  pub begun_size : (store_in view seen b.records).record_count ≡ count
-  begun_size = began.size
-
   module _ (opens : IsOpen (store_in view seen) (volume_in n)) where
     -- it can be used again
     usable_behind : (store_in view seen n.records).record_count ≡ count → KeepsRing view (loop_in seen o.records) (loop_in seen n.records) → AllShort (state_at view n.records.sound (loop_in seen n.records).control).loop → IsUsable view (store_in view seen) (volume_in n) (loop_in seen n.records) text_space file_space

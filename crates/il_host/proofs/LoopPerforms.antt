@@ -1,8 +1,7 @@
 -- The commands that ask the devices of the loop, from the moment at which their log is emptied to their reply, are steps of a run.
-use Rattle.std.proofs.Common.{◌≡◌, ◌∙◌, ◌≤◌, ◌&&◌, inr, ℕ, Bool, true, false, suc, List, length, Option, Some, None, option_map, refl, sym, ap, subst, arith}
+use Rattle.std.proofs.Common.{◌≡◌, ◌∙◌, ◌≤◌, ◌&&◌, inr, ℕ, Bool, true, false, suc, List, length, Option, Some, None, option_map, refl, sym, ap, subst}
 use Rattle.std.specs.Prelude.{Ok, Err}
 use Rattle.std.specs.List.{position}
-use Rattle.std.proofs.lemmas.List.Quantifiers.{position-Some}
 use Rattle.il_frames.specs.declared.entry.Entry.{Entry}
 use Rattle.il_frames.specs.declared.frame.Frame.{Frame}
 use Rattle.il_poll.specs.Service.{status_byte_of}
@@ -75,14 +74,6 @@ id_at {M} is c r at has = by is (subst (λ (c : Standing M). HasDriveId c) at ha
     by false has = has
 
 -- ---- the printer's address
-
--- It is 1 at least, and at most the number of devices that were asked.
-pub printer_within : (ids : List (Option ℕ)) (address : ℕ) → Some address ≡ option_map suc (position (has_id printer_id) ids) → (1 ≤ address) × (address ≤ length ids)
-printer_within ids address is = by (position (has_id printer_id) ids) refl is
-  where
-    by : (found : Option ℕ) → position (has_id printer_id) ids ≡ found → Some address ≡ option_map suc found → (1 ≤ address) × (address ≤ length ids)
-    by None at is = cc
-    by (Some k) at is = let low = (position-Some (has_id printer_id) ids k None at).0 in let next : address ≡ suc k = cc in (omega (arith, next), omega (arith, low, next))
 
 -- ---- parts of a step
 

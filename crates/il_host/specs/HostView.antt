@@ -53,11 +53,12 @@ pub record IsHost (v : HostView) : Type 0 where
 abbrev pub event_between : Item → Reply → HostView → HostView → Event
 event_between item reply v w = record { item = item; reply = reply; log = w.log; before = v.state; after = w.state }
 
--- how many records can be read and written before a log of this length, on a loop with a medium of n records, has no more room
+-- how many records the room behind this log is enough for, at 300 entries each, on a loop with a medium of n records
 abbrev pub calls_behind : ℕ → List Entry → ℕ
 calls_behind n log = calls_in (log_room n - length log)
 
--- A command of a volume on a medium of n records reads and writes at most 2 n + 40, to make the store sound counted as one.
+-- The log of a command of a volume on a medium of n records takes at most the room of 2 n + 40 records, at 300 entries each: so many
+-- calls of the store, as it counts them by its log. To make it sound counts as one.
 abbrev pub MakesFewCalls : Item → ℕ → List Entry → Type 0
 MakesFewCalls item n log = is_of_volume item ≡ true → calls_behind n [] ≤ calls_behind n log + (2 * n + 40)
 

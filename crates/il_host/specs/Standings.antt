@@ -88,7 +88,7 @@ pub record KeepsPage (old : Sheet) (old_room : ℕ) (new : Sheet) (new_room : �
   pub page : new ≡ old
   pub room : new_room ≡ old_room
 
--- This is replied: the last line of the reply was written, and nothing else changed.
+-- This is replied: the last line of the reply was written, and the volume and the room of the buffer for files are as before.
 pub record Ends {V : Type 0} (answer : Reply) (old_volume : V) (old : Sheet) (old_room : ℕ) (given : Reply) (new_volume : V) (new : Sheet) (new_room : ℕ) : Type 0 where
   pub reply : given ≡ answer
   pub volume : new_volume ≡ old_volume

@@ -1,19 +1,16 @@
-ghost use Rattle.std.specs.Prelude.{◌≡◌, ◌<◌, ◌≤◌, ◌+◌, ◌*◌, ◌++◌, [], map, length};
+ghost use Rattle.std.specs.Prelude.{◌≤◌, ◌+◌, length};
 ghost use Rattle.il_ports.specs.Stores.{Continues};
 ghost use Rattle.lif_volume.specs.Views.{IsOpen};
 ghost use Rattle.il_host.specs.Hosts.{volume_in};
 ghost use Rattle.il_host.specs.Standings.{Ends, HasDriveStatus, KeepsPage, MakesSound, fault_of};
 
 use crate::performer::Performer;
-use il_control::Lost;
 use il_device::Device;
 use il_frames::Entry;
 use il_ports::{Medium, Records, Trouble};
 use il_record::{LoopRecords, Looped};
-use il_ring::{Planned, Refused, Rig, Ring};
-use il_script::{Code, Command, Page, Reply};
-use lif_volume::{Refusal, Volume, VolumeFault};
-use std::alloc::{AllocError, Global};
+use il_script::{Command, Page, Reply};
+use lif_volume::Volume;
 use std::marker::PhantomData;
 
 /// Performs commands on the tape that is in the drive, by frames on a loop.

@@ -1,4 +1,4 @@
-ghost use Rattle.std.specs.Prelude.{◌≡◌, ◌≢◌, ◌≤◌, ◌<◌, ◌+◌, ◌++◌, [], length, Err, Ok};
+ghost use Rattle.std.specs.Prelude.{◌≡◌, ◌≢◌, ◌≤◌, ◌<◌, ◌+◌, [], length, Err};
 ghost use Rattle.lif_plan.specs.Refusals.{reason};
 ghost use Rattle.lif_volume.specs.Views.{IsOpen};
 ghost use Rattle.lif_model.specs.Apply as command;

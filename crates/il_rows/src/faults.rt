@@ -56,7 +56,8 @@ fn a_store_counts_whole_or_not_at_all(rt: HostRuntime) -> Result<(), Fail> {
     let alloc = rt.alloc();
     let lost = crossings_tried(&rt, alloc, "--lose ", "")?;
     let altered = crossings_tried(&rt, alloc, "--alter ", ":01")?;
-    // The store has 9,300 crossings: 33 to address the loop, 849 for each of five reads and 837 for each of six writes.
+    // The store has 9,300 crossings: 33 to address the loop and clear the drive, 849 for each of five reads and 837 for each of six
+    // writes.
     assert_eq!(rt; lost, 96);
     assert_eq!(rt; altered, lost);
     let tape = formatted(alloc)?;

@@ -148,7 +148,7 @@ fn a_file_in_the_way_is_in_use(rt: HostRuntime) -> Result<(), Fail> {
     )
 }
 
-// Files F1, F2 and so on of one byte are stored in turn, and the directory is listed.
+// The script that stores files F1, F2 and so on up to this digit, of one byte each, and lists the directory.
 fn numbered_files(alloc: Global, last: u8) -> Result<Vec<u8>, AllocError> {
     let mut script = Vec::new(alloc);
     for number in b'1'..=last {

@@ -55,6 +55,10 @@ const ALTERED_AT_5: Planned = Planned {
 };
 
 impl Asked {
+    fn of(self, image: &'static str) -> Asked {
+        Asked { image, ..self }
+    }
+
     fn quiet(self) -> Asked {
         Asked {
             quiet: true,
@@ -100,13 +104,7 @@ fn asks(words: &Words<'_>, asked: &Asked) -> bool {
 fn words_ask_for_a_run(rt: HostRuntime) -> Result<(), Fail> {
     let rows = [
         ("TAPE", TAPE),
-        (
-            "-- --x",
-            Asked {
-                image: "--x",
-                ..TAPE
-            },
-        ),
+        ("-- --x", TAPE.of("--x")),
         ("--quiet TAPE", TAPE.quiet()),
         ("--new --quiet TAPE", TAPE.making(New::Tape).quiet()),
         ("TAPE --new-disc", TAPE.making(New::Disc)),
@@ -142,49 +140,51 @@ fn words_ask_for_a_run(rt: HostRuntime) -> Result<(), Fail> {
     Ok(())
 }
 
+/// Words that are none of a run.
+const REFUSED: [&str; 38] = [
+    "",
+    "TAPE TAPE",
+    "--new --new-disc TAPE",
+    "--quiet --quiet TAPE",
+    "--lose 5 --lose 6 TAPE",
+    "--quiet= TAPE",
+    "--help",
+    "-h",
+    "--version",
+    "-V",
+    "--quie TAPE",
+    "--lose TAPE",
+    "--lose= TAPE",
+    "--lose 0 TAPE",
+    "--lose 05 TAPE",
+    "--lose 5, TAPE",
+    "--lose ,5 TAPE",
+    "--lose 5x TAPE",
+    "--lose -5 TAPE",
+    "--lose 1000000000000000000 TAPE",
+    "--lose 5,6,5 TAPE",
+    "--lose 5 --alter 5:01 TAPE",
+    "--alter 30:00 TAPE",
+    "--alter 30:1 TAPE",
+    "--alter 30:001 TAPE",
+    "--alter 30:0g TAPE",
+    "--alter 30:01:01 TAPE",
+    "--alter 30 TAPE",
+    "--alter :01 TAPE",
+    "--alter 030:01 TAPE",
+    "--generate 01:8 TAPE",
+    "--generate 00:8 TAPE",
+    "--generate 1:0 TAPE",
+    "--generate 1:08 TAPE",
+    "--generate 1:10001 TAPE",
+    "--generate 2147483648:1 TAPE",
+    "--generate 1 TAPE",
+    "--generate 1:8:8 TAPE",
+];
+
 #[test]
 fn other_words_are_refused(rt: HostRuntime) -> Result<(), Fail> {
-    let rows = [
-        "",
-        "TAPE TAPE",
-        "--new --new-disc TAPE",
-        "--quiet --quiet TAPE",
-        "--lose 5 --lose 6 TAPE",
-        "--quiet= TAPE",
-        "--help",
-        "-h",
-        "--version",
-        "-V",
-        "--quie TAPE",
-        "--lose TAPE",
-        "--lose= TAPE",
-        "--lose 0 TAPE",
-        "--lose 05 TAPE",
-        "--lose 5, TAPE",
-        "--lose ,5 TAPE",
-        "--lose 5x TAPE",
-        "--lose -5 TAPE",
-        "--lose 1000000000000000000 TAPE",
-        "--lose 5,6,5 TAPE",
-        "--lose 5 --alter 5:01 TAPE",
-        "--alter 30:00 TAPE",
-        "--alter 30:1 TAPE",
-        "--alter 30:001 TAPE",
-        "--alter 30:0g TAPE",
-        "--alter 30:01:01 TAPE",
-        "--alter 30 TAPE",
-        "--alter :01 TAPE",
-        "--alter 030:01 TAPE",
-        "--generate 01:8 TAPE",
-        "--generate 00:8 TAPE",
-        "--generate 1:0 TAPE",
-        "--generate 1:08 TAPE",
-        "--generate 1:10001 TAPE",
-        "--generate 2147483648:1 TAPE",
-        "--generate 1 TAPE",
-        "--generate 1:8:8 TAPE",
-    ];
-    for text in rows {
+    for text in REFUSED {
         let words = words_of(rt.alloc(), text)?;
         match read_words(rt.alloc(), words.as_slice()) {
             Ok(_) => assert!(rt; false, "{text}"),

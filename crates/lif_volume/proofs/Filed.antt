@@ -12,7 +12,7 @@ use Rattle.lif_model.specs.Commit.{IsOldOrNew, IsCommitted, commit_writes}
 use Rattle.lif_model.specs.Transfers.{Replaced, PartlyReplaced}
 use Rattle.lif_model.specs.Volume.{Volume, IsVolume, IsAdopted, volume_in, volume_of, is_adopted_with}
 use Rattle.lif_model.specs.Fit.{Place, At}
-use Rattle.lif_model.specs.Apply.{VolumeCommand, Store, stored, refusal_of, apply, volume_after}
+use Rattle.lif_model.specs.Apply.{VolumeCommand, Store, stored, refusal_of, volume_after}
 use Rattle.lif_model.specs.Apply as model
 use Rattle.lif_model.specs.Writing.{slot_record, changes_by, changes_of, chosen_place, with_file, with_records}
 use Rattle.lif_model.proofs.Moments.{started, goes_on, follows}

@@ -52,8 +52,8 @@ filing n kept bytes (Ok _) = min (beside n kept) (file_length bytes) + 12
 filing n kept bytes (Err (Refused why)) = 0
 filing n kept bytes (Err (Troubled trouble)) = min (beside n kept) (file_length bytes) + 12
 
--- So many with those of mounting; with the directory and the file, which lie apart, never more than
--- n + 78.
+-- So many with those of mounting; where the directory was kept, those of a file beside any. Where a
+-- directory that is read lies below the redo file, they are never more than n + 78.
 abbrev pub storing : {T : Type 0} → ℕ → (old new : Option HeaderParts) → List ℕ → Result T VolumeFault → ℕ
 storing n (Some old) new bytes answer = filing n None bytes answer
 storing n None (Some new) bytes answer = mounting n None (Some new) + filing n (Some new) bytes answer

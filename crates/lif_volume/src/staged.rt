@@ -1,6 +1,6 @@
 //! The records that one commit is to change.
 ghost use Rattle.std.specs.Prelude.{◌≡◌, ◌<◌, ◌≤◌, ◌+◌, ◌-◌, ◌/◌, ◌*◌, ◌^◌, ◌++◌, ℕ, [], ◌∷◌, true, length, vec_capacity};
-ghost use Rattle.std.specs.Prelude.{Bool, Some, IfOk, OnOk};
+ghost use Rattle.std.specs.Prelude.{Some, IfOk, OnOk};
 ghost use Rattle.lif_model.specs.Tape.{Tape};
 ghost use Rattle.lif_model.specs.Directory.{entry_at};
 ghost use Rattle.lif_model.specs.Made.{with_type};
