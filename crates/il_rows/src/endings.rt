@@ -77,14 +77,22 @@ fn each_early_ending_has_its_status_and_writes_nothing(rt: HostRuntime) -> Resul
 fn a_sink_takes_what_it_has_room_for(rt: HostRuntime) -> Result<(), Fail> {
     let alloc = rt.alloc();
     let image = formatted(alloc)?;
+    let quiet = Given::script(&image, b"label");
     // The text of a reply is one piece, and so is each line of a trace.
-    for (words, room, status, output) in [
-        ("--quiet TAPE", 10, 6, b"".as_slice()),
-        ("--quiet TAPE", 16, 0, b"label HPTAPE\nok\n".as_slice()),
-        ("TAPE", 40, 6, b"~ 0 IFC = IFC\n~ 0 RFC = RFC\n".as_slice()),
-    ] {
-        let given = Given::script(&image, b"label").with_words(words);
-        answers(&rt, alloc, &Given { room, ..given }, status, output)?;
+    let cases: [(Given, u8, &[u8]); 3] = [
+        (Given { room: 10, ..quiet }, 6, b""),
+        (Given { room: 16, ..quiet }, 0, b"label HPTAPE\nok\n"),
+        (
+            Given {
+                room: 40,
+                ..quiet.with_words("TAPE")
+            },
+            6,
+            b"~ 0 IFC = IFC\n~ 0 RFC = RFC\n",
+        ),
+    ];
+    for (given, status, output) in cases {
+        answers(&rt, alloc, &given, status, output)?;
     }
     Ok(())
 }
