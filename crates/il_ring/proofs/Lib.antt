@@ -11,6 +11,7 @@ pub mod HostRoles
 pub mod RolesHome
 pub mod RoundPlaces
 pub mod Faults
+pub mod Passed
 pub mod Passes
 pub mod PassRounds
 pub mod DriveRounds

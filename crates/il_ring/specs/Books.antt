@@ -1,10 +1,10 @@
 -- What a ring keeps beside its devices.
-use Rattle.std.specs.Prelude.{◌≡◌, ◌≢◌, ◌≤◌, ◌+◌, ℕ, true, List, length, Option, Some, None}
+use Rattle.std.specs.Prelude.{◌≡◌, ◌≢◌, ◌<◌, ◌≤◌, ◌+◌, ℕ, true, List, length, drop, Option, Some, None}
 use Rattle.il_frames.specs.declared.entry.Entry.{Entry}
 use Rattle.il_frames.specs.Frames.{is_data}
 use Rattle.il_ring.specs.declared.plan.Planned.{Planned}
 use Rattle.il_ring.specs.declared.flight.Flight.{Flight}
-use Rattle.il_ring.specs.Plans.{last_crossing}
+use Rattle.il_ring.specs.Plans.{last_crossing, fault_at, rises_from}
 
 -- the planned faults; how many crossings of links there were; the log, oldest entry first; how many entries it has room
 -- for; and a data or end frame of a device that stands at the host
@@ -26,6 +26,12 @@ pub record IsBooks (count capacity : ℕ) (b : BooksView) : Type 0 where
   pub reserved : b.room ≤ capacity
   pub crossings : b.crossings ≤ last_crossing
   pub held : IsHeld b.held
+
+-- The first faults of a plan, so many of them, lie at crossings that were counted: nothing of them is planned at a later one.
+-- The others lie at later ones, and rise.
+pub record IsPassed (plan : List Planned) (crossings passed : ℕ) : Type 0 where
+  pub later : (n : ℕ) → crossings < n → fault_at plan n ≡ fault_at (drop passed plan) n
+  pub coming : rises_from crossings (drop passed plan) ≡ true
 
 -- a frame went past so many parties: plan, room and held frame are as before, and the log grew by so many entries at most
 pub record KeepsBooks (parties : ℕ) (old new : BooksView) : Type 0 where

@@ -1,13 +1,13 @@
 ghost use Rattle.std.specs.Prelude.{◌≡◌, ◌+◌, ◌-◌, ◌<◌, ◌≤◌, [], ◌∷◌, ◌++◌, ◌==◌, IfOk, OnSome, IfNone, IfSome, Some, None, length, vec_len, vec_capacity};
 ghost use Rattle.il_device.specs.State.{risen};
-ghost use Rattle.il_ring.specs.Plans.{next_fault};
+ghost use Rattle.il_ring.specs.Plans.{next_fault, IsPlan};
 ghost use Rattle.il_ring.specs.Flights.{hit, lost_at, ended_at};
 ghost use Rattle.il_ring.specs.Books.{IsHeld};
 ghost use Rattle.il_frames.specs.Frames.{is_data};
 ghost use Rattle.il_ring.specs.Rings.{fresh_books, home, comes, arrived, arriving};
 
 use crate::flight::Flight;
-use crate::plan::{Arrival, PlanFault, Planned, fault_at};
+use crate::plan::{Arrival, PlanFault, Planned};
 use il_frames::Entry;
 use std::alloc::{AllocError, Global};
 use std::marker::Model;
@@ -18,6 +18,8 @@ use std::marker::Model;
 pub(crate) struct Books {
     plan: Vec<Planned>,
     crossings: u64,
+    /// How many of the planned faults lie at the crossings that were counted.
+    passed: usize,
     log: Vec<Entry>,
     room: usize,
     held: Option<Flight>,
@@ -25,24 +27,27 @@ pub(crate) struct Books {
 
 impl Model for Books {
     ghost use Rattle.std.specs.Vec.{vec_len, vec_capacity};
-    ghost use Rattle.il_ring.specs.Books.{BooksView, IsBooks};
+    ghost use Rattle.il_ring.specs.Books.{BooksView, IsBooks, IsPassed};
 
     ghost Value = { BooksView };
 
     ghost view = { λ b. record { plan = b.plan.items; crossings = b.crossings; log = b.log.items; room = b.room; held = b.held } };
 
-    ghost invariant = { λ b. IsBooks (vec_len b.log) (vec_capacity b.log) (record { plan = b.plan.items; crossings = b.crossings; log = b.log.items; room = b.room; held = b.held }) };
+    ghost invariant = { λ b. IsBooks (vec_len b.log) (vec_capacity b.log) (record { plan = b.plan.items; crossings = b.crossings; log = b.log.items; room = b.room; held = b.held })
+        × IsPassed b.plan.items b.crossings b.passed };
 }
 
 impl Books {
     /// Books in which nothing has happened yet, with room for `room` entries. All memory is taken
     /// here: a copy of the plan, and the log's.
     pub fn new(alloc: Global, plan: &[Planned], room: usize) -> Result<Books, AllocError>
+        requires { IsPlan plan.now }
         ensures { IfOk result (λ books. books ≡ fresh_books plan.now room) }
     {
         Ok(Books {
             plan: plan.to_vec(alloc)?,
             crossings: 0,
+            passed: 0,
             log: Vec::with_capacity(alloc, room)?,
             room,
             held: None,
@@ -108,20 +113,26 @@ impl Books {
         ensures passed { OnSome result (self.new ≡ record self.old { crossings = risen self.old.crossings }) }
         ensures lost { IfNone result (self.new ≡ record self.old { crossings = risen self.old.crossings; log = self.old.log ++ lost_at flight party ∷ [] }) }
     {
-        let behind = flight.struck(self.next_fault());
-        self.crossings = self.crossings.saturating_add(1);
+        let behind = flight.struck(self.count_crossing());
         if behind.is_none() {
             self.note(flight.lost_at(party));
         }
         behind
     }
 
-    /// What is planned at the next crossing.
-    fn next_fault(&self) -> Option<PlanFault>
-        ensures { result ≡ next_fault self.now.plan self.now.crossings }
+    /// Counts the next crossing, and tells what is planned there. The plan rises, so one planned
+    /// fault alone is looked at. Behind the greatest count nothing is counted or planned.
+    fn count_crossing(&mut self) -> Option<PlanFault>
+        ensures planned { result ≡ next_fault self.old.plan self.old.crossings }
+        ensures counted { self.new ≡ record self.old { crossings = risen self.old.crossings } }
     {
-        let crossing = self.crossings.checked_add(1)?;
-        fault_at(&self.plan, crossing)
+        self.crossings = self.crossings.checked_add(1)?;
+        let planned = self.plan.get(self.passed)?;
+        if planned.hop != self.crossings {
+            return None;
+        }
+        self.passed += 1;
+        Some(planned.fault)
     }
 
     /// Appends an entry, which takes no memory.

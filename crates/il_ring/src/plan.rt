@@ -1,5 +1,5 @@
 ghost use Rattle.std.specs.Prelude.{◌≡◌, ◌↔◌, IsTrue};
-ghost use Rattle.il_ring.specs.Plans.{fault_at, is_fault, rises_from, IsPlan};
+ghost use Rattle.il_ring.specs.Plans.{is_fault, IsPlan};
 
 use il_frames::Frame;
 
@@ -59,16 +59,4 @@ pub fn is_plan(plan: &[Planned]) -> bool
         crossing = planned.hop;
     }
     true
-}
-
-/// What is planned at the crossing of that number.
-pub(crate) fn fault_at(plan: &[Planned], crossing: u64) -> Option<PlanFault>
-    ensures { result ≡ fault_at plan.now crossing }
-{
-    for planned in plan {
-        if planned.hop == crossing {
-            return Some(planned.fault);
-        }
-    }
-    None
 }

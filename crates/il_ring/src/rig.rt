@@ -1,4 +1,4 @@
-ghost use Rattle.std.specs.Prelude.{◌≡◌, ◌↔◌, ◌+◌, ◌≤◌, IsTrue, length};
+ghost use Rattle.std.specs.Prelude.{◌↔◌, ◌+◌, ◌≤◌, IsTrue, length};
 ghost use Rattle.std.specs.List.{All};
 ghost use Rattle.il_ring.specs.Rings.{MayStand};
 

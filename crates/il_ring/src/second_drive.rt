@@ -1,6 +1,4 @@
 //! A device for tests.
-ghost use Rattle.std.specs.Prelude.{◌≡◌};
-ghost use Rattle.il_device.specs.Takes.{Takes};
 
 use il_device::{Device, Interface, Out, Turn};
 use il_frames::{Class, Frame};
