@@ -2,3 +2,4 @@ pub mod Entries
 pub mod Names
 pub mod Indexes
 pub mod Tables
+pub mod Batches

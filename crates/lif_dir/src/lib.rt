@@ -1,6 +1,7 @@
 //! The directory of a LIF volume: names, entries, the table of its slots, and how it is read.
 #![tactic(auto)]
 
+mod batch;
 mod entries;
 mod index;
 mod names;
@@ -8,12 +9,15 @@ mod reading;
 mod steps;
 mod table;
 
+pub use batch::{Batch, Part};
 pub use entries::{FileEntry, Name, Slot};
 pub use names::{NewLabel, NewName, without_end_spaces};
 pub use reading::slots_of;
 pub use steps::Steps;
 pub use table::SlotTable;
 
+#[cfg(test)]
+mod batch_tests;
 #[cfg(test)]
 mod index_tests;
 #[cfg(test)]

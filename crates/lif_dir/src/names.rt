@@ -1,8 +1,7 @@
 ghost use Rattle.std.specs.Prelude.{◌≡◌, ◌≤◌, length};
 ghost use Rattle.std.specs.List.{list_all};
 ghost use Rattle.lif_model.specs.Printed.{trimmed};
-ghost use Rattle.lif_dir.specs.Entries.{name_bytes};
-ghost use Rattle.lif_dir.specs.Names.{is_letter, is_name_byte, is_made, new_name, made_name, new_label, label_bytes};
+ghost use Rattle.lif_dir.specs.Names.{is_name_byte, is_made, new_name, made_name, new_label, label_bytes};
 
 use crate::entries::Name;
 
