@@ -1,7 +1,7 @@
 ghost use Rattle.std.specs.Prelude.{◌≡◌, ◌⊎◌, ◌↔◌, ◌<◌, ◌≤◌, ◌^◌, if◌then◌else◌, true, Some};
 ghost use Rattle.il_frames.specs.Frames as frames;
 ghost use Rattle.il_frames.specs.Messages.{message_of};
-ghost use Rattle.il_device.specs.Interfaces.{IsInterface, passed_on};
+ghost use Rattle.il_device.specs.Interfaces.{passed_on};
 ghost use Rattle.il_device.specs.Takes.{Takes, eto, ete};
 ghost use Rattle.lif_model.specs.Tape.{Tape};
 ghost use Rattle.lif_model.specs.Stops.{LeavesOnly};

@@ -13,7 +13,7 @@ pub enum Trouble {
 /// After a trouble the store is not sound: no record can be read or written until `resume` answers Ok. The number of
 /// records never changes.
 pub trait Records {
-    ghost use Rattle.std.specs.Prelude.{◌≡◌, ◌<◌, ◌≤◌, ◌+◌, ◌*◌, ◌/◌, ◌^◌, length};
+    ghost use Rattle.std.specs.Prelude.{◌≡◌, ◌<◌, ◌≤◌, ◌+◌, ◌*◌, ◌/◌, length};
     ghost use Rattle.lif_model.specs.Shelf.{cut};
     ghost use Rattle.il_ports.specs.Stores.{RecordsView, IsStore, IsReady, AreRecords, Begun, Resumed, Fetched, Stored, FetchedRun, StoredRun};
 

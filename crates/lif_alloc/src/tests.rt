@@ -1,4 +1,4 @@
-ghost use Rattle.std.specs.Prelude.{◌<◌, ◌^◌, length};
+ghost use Rattle.std.specs.Prelude.{◌<◌, length};
 
 use crate::{Choice, choose};
 use lif_dir::{FileEntry, Name, Slot, SlotTable};

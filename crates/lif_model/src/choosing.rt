@@ -2,7 +2,7 @@
 ghost use Rattle.std.specs.Prelude.{◌≡◌, ◌+◌, ◌<◌, ◌≤◌, ◌^◌, nat_le, true, false, length, MatchOption};
 ghost use Rattle.lif_model.specs.Legal.{is_live_named};
 ghost use Rattle.lif_model.specs.Volume.{redo_name};
-ghost use Rattle.lif_model.specs.Fit.{redo_place, can_append, greatest_end, least_start, low_of, high_of, fit};
+ghost use Rattle.lif_model.specs.Fit.{redo_place, greatest_end, least_start, low_of, high_of, fit};
 ghost use Rattle.lif_model.specs.Plain.{place_of};
 
 use crate::fields::{end_of, has_records, is_purged, name_of, start_of};

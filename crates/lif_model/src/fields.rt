@@ -1,8 +1,8 @@
 // The fields of entries and headers, high byte first.
-ghost use Rattle.std.specs.Prelude.{◌≡◌, ◌+◌, ◌≤◌, ◌<◌, ◌^◌, length, take, drop};
+ghost use Rattle.std.specs.Prelude.{◌≡◌, ◌+◌, ◌≤◌, ◌<◌, ◌^◌, length};
 ghost use Rattle.lif_model.specs.Numbers.{two_at, four_at};
-ghost use Rattle.lif_model.specs.Directory.{name_of, type_of, start_of, length_of, is_end, is_purged};
-ghost use Rattle.lif_model.specs.Legal.{is_live, has_records, occupies, end_of};
+ghost use Rattle.lif_model.specs.Directory.{name_of, start_of, is_end, is_purged};
+ghost use Rattle.lif_model.specs.Legal.{has_records, occupies, end_of};
 
 /// The number in the two bytes from place `at`.
 #[tactic(auto, unfolding(crate::specs::Numbers::two_at))]

@@ -1,5 +1,5 @@
 // The slots of a tape, one entry after the other.
-ghost use Rattle.std.specs.Prelude.{◌≡◌, ◌+◌, ◌*◌, ◌/◌, ◌%◌, ◌<◌, ◌≤◌, length, IfOk, take, drop};
+ghost use Rattle.std.specs.Prelude.{◌≡◌, ◌+◌, ◌*◌, ◌/◌, ◌%◌, ◌<◌, ◌≤◌, length, IfOk};
 ghost use Rattle.lif_model.specs.Tape.{record_at};
 ghost use Rattle.lif_model.specs.Header.{directory_end};
 ghost use Rattle.lif_model.specs.Directory.{entry_at, slots_of};

@@ -1,5 +1,5 @@
-ghost use Rattle.std.specs.Prelude.{◌≡◌, ◌≢◌, ◌<◌, ◌≤◌, ◌+◌, ◌^◌, ℕ, List, true, [], length, map};
-ghost use Rattle.std.specs.Prelude.{filter, slice_index_or, vec_capacity, option_map, Some, IfOk};
+ghost use Rattle.std.specs.Prelude.{◌≡◌, ◌<◌, ◌≤◌, ◌^◌, ℕ, List, true, [], length, map};
+ghost use Rattle.std.specs.Prelude.{filter, vec_capacity, option_map, Some, IfOk};
 ghost use Rattle.std.specs.Prelude.{IfErr, IfSome};
 ghost use Rattle.std.specs.Result.{result_err};
 ghost use Rattle.std.specs.List.{position};
@@ -34,7 +34,7 @@ pub struct Directory {
 }
 
 impl Directory {
-    ghost use Rattle.std.specs.Prelude.{◌*◌, ◌+◌, ◌<◌, ◌^◌};
+    ghost use Rattle.std.specs.Prelude.{◌*◌, ◌<◌, ◌^◌};
 
     /// No slots yet, with memory for this many.
     pub fn new(alloc: Global, room: usize) -> Result<Directory, AllocError>

@@ -1,5 +1,5 @@
 //! What `store` is to write of the directory, before it writes it.
-ghost use Rattle.std.specs.Prelude.{◌≡◌, ◌≢◌, ◌<◌, ◌≤◌, ◌+◌, ◌*◌, ◌-◌, true, false, [], ◌∷◌, length, map, filter, is_some, IfErr};
+ghost use Rattle.std.specs.Prelude.{◌≡◌, ◌≢◌, ◌<◌, ◌+◌, ◌*◌, ◌-◌, true, false, [], ◌∷◌, length, map, filter, is_some, IfErr};
 ghost use Rattle.lif_model.specs.Tape.{Tape, record_at};
 ghost use Rattle.lif_model.specs.Header.{directory_start, capacity_of};
 ghost use Rattle.lif_model.specs.Directory.{is_end};

@@ -1,4 +1,4 @@
-ghost use Rattle.std.specs.Prelude.{◌≤◌, ◌<◌, ◌≡◌, length};
+ghost use Rattle.std.specs.Prelude.{◌<◌};
 
 use crate::{Version, are_changes, commit, settle};
 use il_ports::{MemoryRecords, Records, Trouble};
