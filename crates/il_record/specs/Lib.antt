@@ -2,7 +2,6 @@ pub mod Asks
 pub mod Called
 pub mod Came
 pub mod Controls
-pub mod Copying
 pub mod IsStore
 pub mod Listening
 pub mod LoopCalls

@@ -5,9 +5,7 @@ use crate::test_tools::{store, tape};
 use arrayvec::ArrayVec;
 use il_device::{Device, Interface, Out, Printer, Quiet, Turn};
 use il_frames::{Class, Frame};
-use il_ports::{MemoryMedium, Records, Trouble};
-use il_ring::PlanFault::Lose;
-use il_ring::Planned;
+use il_ports::{MemoryMedium, Records};
 use std::marker::Model;
 use std::process::Abort;
 use std::test::Fail;
@@ -188,82 +186,6 @@ fn names_and_polls(rt: HostRuntime) -> Result<(), Fail> {
         address(&rt, &mut records)?;
         compare_names(&rt, devices, &mut records)?;
         compare_poll(&rt, devices, &mut records)?;
-    }
-    Ok(())
-}
-
-/// More than a printer keeps.
-static LONG: [u8; 8200] = [0x48; 8200];
-
-/// A loop of the drive and a printer behind it, addressed.
-fn with_printer(
-    rt: &(impl Abort + AllocGlobal),
-    plan: &[Planned],
-) -> Result<LoopRecords<MemoryMedium>, Fail>
-    ensures { IfOk result (λ records. (⟦<LoopRecords<MemoryMedium> as Records>⟧.view records).valid) }
-{
-    let alloc = rt.alloc();
-    let printer: Box<dyn Device> = Box::new(alloc, Printer::new(alloc)?)?;
-    let mut after = Vec::new(alloc);
-    after.push(printer)?;
-    let mut records = store(rt, tape(rt, 0, 0)?, Vec::new(alloc), after, plan)?;
-    address(rt, &mut records)?;
-    Ok(records)
-}
-
-/// Sends bytes to the printer.
-fn say(
-    rt: &impl Abort,
-    records: &mut LoopRecords<MemoryMedium>,
-    bytes: &[u8],
-) -> Result<(), Trouble>
-    requires { (⟦<LoopRecords<MemoryMedium> as Records>⟧.view records.old).valid }
-    ensures { (⟦<LoopRecords<MemoryMedium> as Records>⟧.view records.new).valid }
-{
-    assert!(rt; bytes.len() <= 8200);
-    assert!(rt; records.is_ready() && records.ring().spare() >= bytes.len() + 1000);
-    records.say(2, bytes)
-}
-
-#[test]
-fn prints_past_the_paper(rt: HostRuntime) -> Result<(), Fail> {
-    let mut records = with_printer(&rt, &[])?;
-    assert_eq!(rt; say(&rt, &mut records, &LONG), Ok(()));
-    let (paper, count) = records.ring().paper().expect(&rt, "a printer");
-    assert_eq!(rt; (paper.len(), count), (8192, 8200));
-    Ok(())
-}
-
-/// Two bytes for the printer, which a frame that is lost at this crossing breaks off: how much of them it heard.
-fn printed_with(
-    rt: &(impl Abort + AllocGlobal),
-    planned: Planned,
-    heard: &[u8],
-    entries: u8,
-) -> Result<(), Fail> {
-    let mut records = with_printer(rt, &[planned])?;
-    assert_eq!(rt; say(rt, &mut records, b"HP"), Err(Trouble::Frame));
-    assert!(rt; !records.is_ready());
-    let (paper, _) = records.ring().paper().expect(rt, "a printer");
-    assert_eq!(rt; paper, heard);
-    assert_eq!(rt; records.ring().log().len(), 5 + usize::from(entries));
-    Ok(())
-}
-
-#[test]
-fn printing_lost_at_each_crossing(rt: HostRuntime) -> Result<(), Fail> {
-    // The addressing has 5 frames, the commands in front 4, and there are 2 bytes, each over three links.
-    for link in 1..=18_u8 {
-        let planned = Planned {
-            hop: 15 + u64::from(link),
-            fault: Lose,
-        };
-        let heard: &[u8] = match link {
-            0..=14 => b"",
-            15..=17 => b"H",
-            _ => b"HP",
-        };
-        printed_with(&rt, planned, heard, (link + 2) / 3)?;
     }
     Ok(())
 }

@@ -15,7 +15,5 @@ mod runs;
 mod store_tests;
 #[cfg(test)]
 mod test_tools;
-#[cfg(test)]
-mod tests;
 
 pub use records::{LoopRecords, Looped};

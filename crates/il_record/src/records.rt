@@ -1,8 +1,7 @@
-ghost use Rattle.std.specs.Prelude.{◌≡◌, ◌≤◌, ◌<◌, ◌+◌, ◌/◌, ◌*◌, ℕ, true, false, Some, None, [], length, Err, IfOk, IfErr, MatchBool};
+ghost use Rattle.std.specs.Prelude.{◌≡◌, ◌≤◌, ◌<◌, ◌+◌, ◌/◌, ◌*◌, true, false, None, [], length, Err};
 ghost use Rattle.lif_model.specs.Shelf.{cut};
-ghost use Rattle.il_drive.proofs.Exchanges.{IsFree};
 ghost use Rattle.il_ring.specs.Lists.{Each};
-ghost use Rattle.il_ring.specs.Rings.{spare_of, devices_of, drive_party};
+ghost use Rattle.il_ring.specs.Rings.{spare_of, devices_of};
 ghost use Rattle.il_record.specs.Polls.{MayPoll};
 ghost use Rattle.il_control.specs.Calls.{IsIdle, IsLost};
 ghost use Rattle.il_record.specs.Called.{LeavesStore};
@@ -325,7 +324,7 @@ impl<M: Medium + Drop> LoopRecords<M> {
 }
 
 impl<M: Medium + Drop> Records for LoopRecords<M> {
-    ghost use Rattle.std.specs.Prelude.{map, Some, None};
+    ghost use Rattle.std.specs.Prelude.{map, None};
     ghost use Rattle.il_ring.specs.Rings.{RingView};
     ghost use Rattle.il_ports.specs.Stores.{Resumed, IsReady, AreRecords, Fetched, Stored, FetchedRun, StoredRun};
     ghost use Rattle.il_record.specs.LoopStores.{view_at};

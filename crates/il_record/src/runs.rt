@@ -1,5 +1,5 @@
 // Runs of records over the loop: a seek, a transfer and a status poll, directly after each other.
-ghost use Rattle.std.specs.Prelude.{◌≡◌, ◌≤◌, ◌<◌, ◌+◌, ◌*◌, ◌/◌, true, false, [], length, get_or, IfOk, IfErr};
+ghost use Rattle.std.specs.Prelude.{◌≡◌, ◌≤◌, ◌<◌, ◌+◌, ◌*◌, ◌/◌, true, false, [], length, IfOk, IfErr};
 ghost use Rattle.il_drive.proofs.Exchanges.{IsFree};
 ghost use Rattle.lif_model.specs.Shelf.{cut};
 ghost use Rattle.il_ports.specs.Stores.{AreRecords};

@@ -1,6 +1,4 @@
-ghost use Rattle.std.specs.Prelude.{◌≡◌, ◌<◌, true, IfOk};
-ghost use Rattle.il_ports.specs.Stores.{IsReady};
-ghost use Rattle.il_record.specs.Copying.{Copied};
+ghost use Rattle.std.specs.Prelude.{IfOk};
 
 use crate::LoopRecords;
 use crate::test_tools::{self, tape};
@@ -80,21 +78,6 @@ fn read<R: Records>(rt: &impl Abort, records: &mut R, first: u16, into: &mut [u8
     answer(records.read_run(first, into))
 }
 
-/// Copies a record, as a caller of any store: behind three calls one clause tells it what became of the store since its log
-/// was emptied.
-fn copy<R: Records>(records: &mut R, from: u16, to: u16) -> Result<(), Trouble>
-    requires ready { IsReady 2 (R.view records.old) }
-    requires from { from < (R.view records.old).record_count }
-    requires to { to < (R.view records.old).record_count }
-    ensures valid { (R.view records.new).valid }
-    ensures copied { Copied from to (R.view records.old) (R.view records.new) result }
-{
-    records.begin();
-    let mut bytes = [0; 256];
-    records.read(from, &mut bytes)?;
-    records.write(to, &bytes)
-}
-
 /// The log since it was last emptied.
 fn log(records: &LoopRecords<MemoryMedium>) -> &[Entry]
     requires { (⟦<LoopRecords<MemoryMedium> as Records>⟧.view records.now).valid }
@@ -145,20 +128,6 @@ fn round_trip(rt: &(impl Abort + AllocGlobal), count: u16) -> Result<(), Fail> {
 fn writes_and_reads_back(rt: HostRuntime) -> Result<(), Fail> {
     round_trip(&rt, 1)?;
     round_trip(&rt, 3)
-}
-
-#[test]
-fn copies(rt: HostRuntime) -> Result<(), Fail> {
-    let mut records = store(&rt, tape(&rt, 0, 0)?, false, &[])?;
-    assert_eq!(rt; resume(&rt, &mut records), "ok");
-    assert_eq!(rt; write(&rt, &mut records, 7, 1, &[5; 256]), "ok");
-    assert!(rt; records.is_sound() && records.left() >= 2 && records.size() > 9);
-    assert_eq!(rt; answer(copy(&mut records, 7, 9)), "ok");
-    assert_eq!(rt; log(&records).len(), 285 + 280);
-    let mut into = [0; 256];
-    assert_eq!(rt; read(&rt, &mut records, 9, &mut into), "ok");
-    assert!(rt; are_all(&into, 5));
-    Ok(())
 }
 
 /// What stands of two records, of 1s and of 2s, that were written with a fault planned at that crossing, and the answer.
