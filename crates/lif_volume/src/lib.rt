@@ -17,6 +17,4 @@ pub use lif_plan::Refusal;
 pub use volume::{Fetched, Kept, Listing, Seen, Volume};
 
 #[cfg(test)]
-mod store_tests;
-#[cfg(test)]
 mod tests;

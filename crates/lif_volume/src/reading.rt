@@ -1,4 +1,4 @@
-ghost use Rattle.std.specs.Prelude.{◌≡◌, ◌<◌, ◌≤◌, ◌+◌, ◌*◌, ◌-◌, ◌^◌, ℕ, Some, Ok, false, map};
+ghost use Rattle.std.specs.Prelude.{◌≡◌, ◌<◌, ◌≤◌, ◌+◌, ◌*◌, ◌-◌, ◌^◌, Some, Ok, false, map};
 ghost use Rattle.std.specs.Prelude.{length, take, IfOk, IfErr};
 ghost use Rattle.lif_model.specs.Tape.{Tape, DidReadRun};
 ghost use Rattle.il_ports.specs.Stores.{IsReady, GoesOn, IsQuiet};

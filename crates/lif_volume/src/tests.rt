@@ -1,4 +1,4 @@
-ghost use Rattle.std.specs.Prelude.{◌≡◌, ◌<◌, ◌≤◌, ◌+◌, ◌*◌, length, IfOk};
+ghost use Rattle.std.specs.Prelude.{◌<◌, ◌+◌, ◌*◌, length, IfOk};
 ghost use Rattle.lif_volume.specs.Views.{IsOpen};
 
 use crate::{Fetched, Listing, Refusal, Seen, Volume, VolumeFault};
@@ -38,6 +38,12 @@ const RENAMED: &[u8] = b"B         \0\x01\0\0\0\x04\0\0\0\x01\0\0\0\0\0\0\x80\x0
 const REDO: &[u8] = b"REDOFILE  \xE0\xD0\0\0\x01\xFC\0\0\0\x04\0\0\0\0\0\0\x80\x01\0\0\0\0";
 
 const REDO_TWO: &[u8] = b"REDOFILE  \xE0\xD0\0\0\x01\xDE\0\0\0\x22\0\0\0\0\0\0\x80\x01\0\0\0\0";
+
+/// A purged slot whose numbers are none of any medium, and a second file, in records 5 and 6.
+const JUNK: &[u8] =
+    b"OLD       \0\0\xFF\xFF\xFF\xFF\xFF\xFF\xFF\xFF\x26\x11\x27\x12\0\0\0\0\x55\x55\x55\x55";
+
+const SECOND_FILE: &[u8] = b"B         \0\x01\0\0\0\x05\0\0\0\x02\0\0\0\0\0\0\x80\x01\0\0\0\0";
 
 /// What opens a gate, and targets records that name record 2, of either version, and three records.
 const GATE: &[u8] = b"LIFREDO1 OPEN   ";
@@ -315,6 +321,7 @@ enum Step<'a> {
     Format(&'a [u8], u16),
     Purge(&'a [u8]),
     Rename(&'a [u8], &'a [u8]),
+    Store(&'a [u8], &'a [u8]),
     Adopt,
     Upgrade,
 }
@@ -346,6 +353,10 @@ fn change_now<R: Records>(
         Step::Rename(old, new) => match (Name::of(old), new_name(new)) {
             (Some(old), Some(new)) => volume.rename(&old, &new),
             _ => Ok(()),
+        },
+        Step::Store(name, bytes) => match new_name(name) {
+            Some(name) => volume.store(&name, 1, [0; 4], bytes),
+            None => Ok(()),
         },
         Step::Adopt => volume.adopt(),
         Step::Upgrade => volume.upgrade(),
@@ -385,7 +396,7 @@ type Row = (
 );
 
 /// What commands answer, and what they make of a directory.
-const ROWS: [Row; 17] = [
+const ROWS: [Row; 19] = [
     (&[FILE], Step::Purge(b"A"), NO_REDO, &[FILE]),
     (&[FILE], Step::Upgrade, NO_REDO, &[FILE]),
     (
@@ -404,12 +415,6 @@ const ROWS: [Row; 17] = [
     ),
     (
         &[FILE, REDO],
-        Step::Rename(b"A", b"REDOFILE"),
-        PROTECTED,
-        &[FILE, REDO],
-    ),
-    (
-        &[FILE, REDO],
         Step::Rename(b"B", b"REDOFILE"),
         PROTECTED,
         &[FILE, REDO],
@@ -418,12 +423,6 @@ const ROWS: [Row; 17] = [
         &[FILE, REDO],
         Step::Rename(b"REDOFILE", b"C"),
         PROTECTED,
-        &[FILE, REDO],
-    ),
-    (
-        &[FILE, REDO],
-        Step::Rename(b"B", b"C"),
-        NO_FILE,
         &[FILE, REDO],
     ),
     (
@@ -438,16 +437,25 @@ const ROWS: [Row; 17] = [
         EXISTS,
         &[FILE, HIGH, REDO],
     ),
-    (
-        &[FILE, REDO],
-        Step::Purge(b"REDOFILE"),
-        PROTECTED,
-        &[FILE, REDO],
-    ),
     (&[FILE, REDO], Step::Purge(b"A"), Ok(()), &[PURGED, REDO]),
     (&[PURGED, REDO], Step::Purge(b"A"), NO_FILE, &[PURGED, REDO]),
     (&[HIGH, REDO], Step::Upgrade, IN_USE, &[HIGH, REDO]),
     (&[FILE, REDO_TWO], Step::Upgrade, Ok(()), &[FILE, REDO_TWO]),
+    (&[FILE], Step::Store(b"B", b"1"), NO_REDO, &[FILE]),
+    (&[REDO], Step::Store(b"A", b"1"), Ok(()), &[FILE, REDO]),
+    (&[JUNK, REDO], Step::Store(b"A", b""), Ok(()), &[FILE, REDO]),
+    (
+        &[FILE, REDO],
+        Step::Store(b"A", b"1"),
+        EXISTS,
+        &[FILE, REDO],
+    ),
+    (
+        &[FILE, REDO],
+        Step::Store(b"REDOFILE", b"1"),
+        PROTECTED,
+        &[FILE, REDO],
+    ),
 ];
 
 /// A tape with this header and this directory, and an end behind it.
@@ -510,6 +518,33 @@ fn changes_the_directory(rt: HostRuntime) -> Result<(), Fail> {
         Err(not_lif)
     );
     assert!(rt; !volume.is_kept());
+    Ok(())
+}
+
+/// What is stored comes back in whole records, filled up with zeros.
+#[test]
+fn fetches_what_it_stored(rt: HostRuntime) -> Result<(), Fail> {
+    let alloc = rt.alloc();
+    for (length, records) in [(0, 1), (256, 1), (257, 2)] {
+        let tape = tape_with(&rt, alloc, HEADER, &[FILE, REDO_TWO])?;
+        let mut volume = open_now(&rt, alloc, tape, Vec::new(alloc))?;
+        let bytes = &TWO_RECORDS[..length];
+        assert_eq!(rt;
+            change_now(&rt, &mut volume, Step::Store(b"B", bytes)),
+            Ok(())
+        );
+        let mut into = Vec::with_capacity(alloc, 512 * RECORD)?;
+        into.resize(512 * RECORD, 0x55)?;
+        let fetched = fetch_now(&rt, &mut volume, b"B", &mut into)?;
+        assert_eq!(rt; fetched.length, 256 * records);
+        assert!(rt; into.iter().take(length).all(|byte| *byte == 7));
+        let zeros = into
+            .iter()
+            .skip(length)
+            .take_while(|byte| **byte == 0)
+            .count();
+        assert_eq!(rt; length + zeros, 256 * records);
+    }
     Ok(())
 }
 
@@ -627,10 +662,26 @@ const SECOND: Shown = (SECOND_HEADER, &[REDO]);
 
 const SECOND_STEP: Step<'static> = Step::Format(b"SECOND", 8);
 
-/// A commit writes the contents, the targets, the gate, the records in place, and the gate again.
+/// Almost two records of sevens, and a store of them.
+const TWO_RECORDS: &[u8] = &[7; 500];
+
+const STORE: Step<'static> = Step::Store(b"B", TWO_RECORDS);
+
+/// Files without records. With them the first record of a directory has one slot left.
+const C: &[u8] = b"C         \0\x01\0\0\0\x04\0\0\0\0\0\0\0\0\0\0\x80\x01\0\0\0\0";
+
+const D: &[u8] = b"D         \0\x01\0\0\0\x04\0\0\0\0\0\0\0\0\0\0\x80\x01\0\0\0\0";
+
+const E: &[u8] = b"E         \0\x01\0\0\0\x04\0\0\0\0\0\0\0\0\0\0\x80\x01\0\0\0\0";
+
+const F: &[u8] = b"F         \0\x01\0\0\0\x04\0\0\0\0\0\0\0\0\0\0\x80\x01\0\0\0\0";
+
+const G: &[u8] = b"G         \0\x01\0\0\0\x04\0\0\0\0\0\0\0\0\0\0\x80\x01\0\0\0\0";
+
+/// A store writes its file first. A commit writes the contents, the targets, the gate, the records in place, and the gate again.
 /// What is read is the gate, record 0 and the directory; and for the commit the record of a slot,
 /// and the gate. A tape without a header has no directory to be read.
-const TURNS: [Turn; 8] = [
+const TURNS: [Turn; 10] = [
     (ONE, Step::Purge(b"A"), (HEADER, &[PURGED, REDO]), 2, 5, 10),
     (
         ONE,
@@ -653,6 +704,15 @@ const TURNS: [Turn; 8] = [
     (TWO, SECOND_STEP, SECOND, 3, 7, 11),
     ((FOREIGN_HEADER, &[PROGRAM]), SECOND_STEP, SECOND, 3, 7, 11),
     ((b"", &[FILE]), SECOND_STEP, SECOND, 3, 7, 10),
+    (ONE, STORE, (HEADER, &[FILE, SECOND_FILE, REDO]), 4, 7, 12),
+    (
+        (HEADER, &[FILE, C, D, E, F, G, REDO_TWO]),
+        STORE,
+        (HEADER, &[FILE, C, D, E, F, G, SECOND_FILE, REDO_TWO]),
+        5,
+        9,
+        15,
+    ),
 ];
 
 /// The tape behind the first `k` writes, torn within the next.
@@ -672,35 +732,46 @@ fn stopped(
     tape
 }
 
+/// A stop within any of these writes leaves what was shown before, and from the write that opens the
+/// gate on what is shown behind them.
+fn stops(
+    rt: &impl Abort,
+    alloc: Global,
+    (header, slots): Shown,
+    (front, listed): Shown,
+    opening: usize,
+    writes: &[(u16, [u8; 256])],
+) -> Result<(), Fail> {
+    let mut gate = [0; RECORD];
+    gate[..GATE.len()].copy_from_slice(GATE);
+    for k in 0..=writes.len() {
+        for (torn, opens) in [([0; RECORD], false), ([0xFF; RECORD], false), (gate, true)] {
+            let tape = tape_with(rt, alloc, header, slots)?;
+            let tape = stopped(rt, tape, writes, k, &torn);
+            let mut volume = open_now(rt, alloc, tape, Vec::new(alloc))?;
+            if k > opening || k == opening && opens {
+                assert!(rt; shows(rt, &mut volume, front, listed));
+            } else {
+                assert!(rt; shows(rt, &mut volume, header, slots));
+            }
+        }
+    }
+    Ok(())
+}
+
 #[test]
 fn a_stop_leaves_the_old_or_the_new_volume(rt: HostRuntime) -> Result<(), Fail> {
     let alloc = rt.alloc();
-    let mut gate = [0; RECORD];
-    gate[..GATE.len()].copy_from_slice(GATE);
-    for ((header, slots), step, (front, listed), opening, writes, calls) in TURNS {
-        let tape = tape_with(&rt, alloc, header, slots)?;
+    for (before, step, behind, opening, writes, calls) in TURNS {
+        let tape = tape_with(&rt, alloc, before.0, before.1)?;
         let mut volume = open_now(&rt, alloc, tape, Vec::new(alloc))?;
         assert_eq!(rt; change_now(&rt, &mut volume, step), Ok(()));
-        assert!(rt; shows(&rt, &mut volume, front, listed));
+        assert!(rt; shows(&rt, &mut volume, behind.0, behind.1));
         let records = volume.into_records();
         assert_eq!(rt; records.writes().len(), writes);
         assert!(rt; calls < 20);
         assert_eq!(rt; u64::from(records.left()) + calls, 10000);
-        for k in 0..=writes {
-            for (torn, opens) in [([0; RECORD], false), ([0xFF; RECORD], false), (gate, true)] {
-                let tape = tape_with(&rt, alloc, header, slots)?;
-                let tape = stopped(&rt, tape, records.writes(), k, &torn);
-                let mut volume = open_now(&rt, alloc, tape, Vec::new(alloc))?;
-                let is_new = k > opening || k == opening && opens;
-                assert!(rt;
-                    if is_new {
-                        shows(&rt, &mut volume, front, listed)
-                    } else {
-                        shows(&rt, &mut volume, header, slots)
-                    }
-                );
-            }
-        }
+        stops(&rt, alloc, before, behind, opening, records.writes())?;
     }
     Ok(())
 }
