@@ -1,7 +1,6 @@
 // What the controller does to receive from a talker, one round behind the other.
-ghost use Rattle.std.specs.Prelude.{◌≡◌, ◌≤◌, ◌<◌, ◌+◌, ◌++◌, [], ◌∷◌, true, length, IfSome, IsSome, MatchBool, MatchOption};
+ghost use Rattle.std.specs.Prelude.{◌≡◌, ◌≤◌, ◌<◌, ◌+◌, ◌++◌, true, length, IfSome, IsSome, MatchBool, MatchOption};
 ghost use Rattle.il_frames.specs.Frames.{byte_of};
-ghost use Rattle.il_frames.specs.Messages.{message_of};
 ghost use Rattle.loop_model.specs.Entries.{tad, ddt, unt};
 ghost use Rattle.loop_model.specs.Roles.{talkers, is_at_most_one};
 ghost use Rattle.loop_model.specs.Exchanges.{start_frame, commanded, numbered};
@@ -9,7 +8,7 @@ ghost use Rattle.loop_model.proofs.UnitLaws.{receive_front};
 ghost use Rattle.il_ring.specs.Rings.{spare_of, roles_of, devices_of};
 ghost use Rattle.il_ring.specs.Lists.{Each};
 ghost use Rattle.il_control.specs.Calls.{Whole, Broke, IsFree, IsIdle};
-ghost use Rattle.il_control.specs.Receives.{Asked, IsCalm, IsDeaf, IsHolding, IsOnward, WentAs, Begins, Fronts, Stops, TakesBytes, NotTook, Answered, NotAnswered, start_of, Received, NotReceived};
+ghost use Rattle.il_control.specs.Receives.{Asked, IsCalm, IsDeaf, IsHolding, IsOnward, WentAs, Begins, Fronts, Stops, TakesBytes, Answered, NotAnswered, start_of, Received, NotReceived};
 
 use crate::frames::{Sot, ddt, eto, nrd, tad, unl, unt};
 use crate::rounds::command;

@@ -1,6 +1,6 @@
-ghost use Rattle.std.specs.Prelude.{◌≡◌, IfOk, map, codes, false, Some, None, Err, option_map};
+ghost use Rattle.std.specs.Prelude.{◌≡◌, IfOk, map, false, Some, None, Err, option_map};
 ghost use Rattle.std.specs.String.{string_bytes};
-ghost use Rattle.clap.specs.Words.{app_of, rule_of, found_of, rows_of, first_of, first_value};
+ghost use Rattle.clap.specs.Words.{app_of, rule_of, found_of, rows_of, first_of};
 ghost use Rattle.il_words.specs.Simple.{flag_rule, valued_rule, image_rule, bare_app, il_app, rows_in, is_set};
 ghost use Rattle.il_words.specs.declared.words.WordsFault.TheVariants.{Refused};
 

@@ -3,7 +3,7 @@ ghost use Rattle.std.specs.Option.{IfSome};
 ghost use Rattle.std.specs.String.{string_bytes};
 ghost use Rattle.clap.specs.Words.{found_of, rows_of};
 ghost use Rattle.il_ring.specs.Plans.{IsPlan};
-ghost use Rattle.il_words.specs.Asked.{made_by, script_if, asked_by, asked_in, words_in};
+ghost use Rattle.il_words.specs.Asked.{made_by, asked_by, asked_in, words_in};
 ghost use Rattle.il_words.specs.declared.words.WordsFault.TheVariants.{Refused};
 
 use crate::command::{is_set, parse, value};
