@@ -3,7 +3,7 @@ use Rattle.std.proofs.Common.{◌≡◌, ◌≤◌, ◌<◌, ℕ, ◌+◌, ◌-�
 use Rattle.std.proofs.Math.Seq.{take-add, take-length, take-append-add}
 use Rattle.std.proofs.lemmas.List.{take-append-le, take-append-drop, drop_more}
 use Rattle.std.proofs.lemmas.Grind.{flat_map-append}
-use Rattle.std.specs.Prelude.{Result, Ok, Err}
+use Rattle.std.specs.Prelude.{Result, Ok, Err, IsErr}
 use Rattle.std.specs.Io.KnownBytes.{Appends}
 use Rattle.il_frames.specs.declared.entry.Entry.{Entry}
 use Rattle.il_frames.specs.Entries.{entry_text}
@@ -28,6 +28,11 @@ take-piece bytes from n =
 -- a write that stopped somewhere in a text
 abbrev pub Stopped : Option (List ℕ) → Option (List ℕ) → List ℕ → Type 0
 Stopped a b text = (n : ℕ) × (n ≤ length text) × Appends a b (take n text)
+
+-- an error is answered
+pub stopped_as : {E : Type 0} (a b : Option (List ℕ)) (text : List ℕ) (answer : Result (Unit {0}) E) → IsErr answer → Stopped a b text → WritesAll a b text answer
+stopped_as a b text (Ok u) err h = cc
+stopped_as a b text (Err e) err h = h
 
 -- it stopped within the first part of a text
 pub stopped_within : (a b : Option (List ℕ)) (text xs ys : List ℕ) → text ≡ xs ++ ys → Stopped a b xs → Stopped a b text

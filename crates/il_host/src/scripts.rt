@@ -1,4 +1,4 @@
-ghost use Rattle.std.specs.Prelude.{◌≡◌, ◌<◌, [], IfOk, IfSome, option_map};
+ghost use Rattle.std.specs.Prelude.{◌≡◌, ◌<◌, IfOk, IfSome, option_map};
 ghost use Rattle.host_model.specs.Endings.{IsEarly, HasEndingCause};
 ghost use Rattle.host_model.specs.Orders.{mode_by};
 ghost use Rattle.il_host.specs.Buffers.{IsBlank};

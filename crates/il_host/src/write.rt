@@ -40,10 +40,7 @@ fn write_trace<K: Sink>(out: &mut K, log: &[Entry]) -> Result<(), Failed>
     ensures cause { HasCause (K.faults out.old) (K.faults out.new) result }
 {
     'entries: for entry in log {
-        match write_entry(out, entry) {
-            Ok(()) => {}
-            Err(failed) => return Err(failed),
-        }
+        write_entry(out, entry)?;
     }
     Ok(())
 }
@@ -61,8 +58,6 @@ pub fn write_told<K: Sink>(
     if quiet {
         return write_all(out, text);
     }
-    match write_trace(out, log) {
-        Ok(()) => write_all(out, text),
-        Err(failed) => Err(failed),
-    }
+    write_trace(out, log)?;
+    write_all(out, text)
 }

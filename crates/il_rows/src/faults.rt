@@ -179,6 +179,17 @@ fn stopped_at(
     Ok(image)
 }
 
+// The reply to a fetch of the file, whose one byte comes back in a whole record.
+fn fetched(alloc: Global, is_there: bool) -> Result<Vec<u8>, AllocError> {
+    if !is_there {
+        return Vec::from_slice(alloc, b"error 4 NoFile\n");
+    }
+    let mut reply = Vec::from_slice(alloc, b"data 0001 00000000 41")?;
+    reply.resize(reply.len() + 510, b'0')?;
+    reply.extend_from_slice(b"\nok\n")?;
+    Ok(reply)
+}
+
 #[test]
 fn a_stop_within_each_write_of_a_store(rt: HostRuntime) -> Result<(), Fail> {
     let alloc = rt.alloc();
@@ -201,6 +212,9 @@ fn a_stop_within_each_write_of_a_store(rt: HostRuntime) -> Result<(), Fail> {
                 "write {write}"
             );
             assert_eq!(rt; left.status, 0);
+            let left = run(alloc, &Given::script(&image, b"fetch A\n"))?;
+            let wanted = fetched(alloc, is_there(write, &torn))?;
+            assert_eq!(rt; left.output.as_slice(), wanted.as_slice(), "write {write}");
         }
     }
     Ok(())

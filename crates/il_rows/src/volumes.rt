@@ -65,6 +65,36 @@ fn a_file_comes_back_in_whole_records(rt: HostRuntime) -> Result<(), Fail> {
     )
 }
 
+// So many bytes, 0 to 250 over and over, as hex digits.
+fn rising_hex(alloc: Global, count: usize) -> Result<Vec<u8>, AllocError> {
+    let digits = b"0123456789ABCDEF";
+    let mut text = Vec::new(alloc);
+    for k in 0..count {
+        let byte = k % 251;
+        text.push(digits[byte / 16])?;
+        text.push(digits[byte % 16])?;
+    }
+    Ok(text)
+}
+
+#[test]
+fn a_file_is_on_the_tape_as_it_was_stored(rt: HostRuntime) -> Result<(), Fail> {
+    let alloc = rt.alloc();
+    let tape = formatted(alloc)?;
+    let bytes = rising_hex(alloc, 700)?;
+    let mut script = Vec::from_slice(alloc, b"store A E080 01020304 ")?;
+    script.extend_from_slice(&bytes)?;
+    let stored = run(alloc, &Given::script(&tape, &script))?;
+    assert_eq!(rt; stored.output.as_slice(), b"ok\n".as_slice());
+    // Three records, of which the last one ends in 68 zeros.
+    let mut wanted = Vec::from_slice(alloc, b"data E080 01020304 ")?;
+    wanted.extend_from_slice(&bytes)?;
+    wanted.resize(wanted.len() + 136, b'0')?;
+    wanted.extend_from_slice(b"\nok\n")?;
+    let image = stored.image.ok_or("an image")?;
+    answers(&rt, alloc, &Given::script(&image, b"fetch A\n"), 0, &wanted)
+}
+
 #[test]
 fn files_lie_one_behind_the_other(rt: HostRuntime) -> Result<(), Fail> {
     let alloc = rt.alloc();
