@@ -17,4 +17,6 @@ pub use lif_plan::Refusal;
 pub use volume::{Fetched, Kept, Listing, Seen, Volume};
 
 #[cfg(test)]
+mod stop_tests;
+#[cfg(test)]
 mod tests;

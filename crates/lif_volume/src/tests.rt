@@ -11,10 +11,10 @@ use std::test::Fail;
 
 /// The headers of a volume HPTAPE, as it is formatted, and of one without a label. The directories
 /// are records 2 and 3.
-const HEADER: &[u8] =
+pub(crate) const HEADER: &[u8] =
     b"\x80\0HPTAPE\0\0\0\x02\x10\0\0\0\0\0\0\x02\0\x01\0\0\0\0\0\x02\0\0\0\x01\0\0\x01\0";
 
-const FOREIGN_HEADER: &[u8] = b"\x80\0      \0\0\0\x02\x10\0\0\0\0\0\0\x02";
+pub(crate) const FOREIGN_HEADER: &[u8] = b"\x80\0      \0\0\0\x02\x10\0\0\0\0\0\0\x02";
 
 /// The end of a directory, and a slot of zeros, which is purged.
 const END: &[u8] = b"\0\0\0\0\0\0\0\0\0\0\xFF\xFF";
@@ -22,31 +22,36 @@ const END: &[u8] = b"\0\0\0\0\0\0\0\0\0\0\xFF\xFF";
 const ZEROS: &[u8] = &[0; 32];
 
 /// A program of an HP-41, in records 4 and 5.
-const PROGRAM: &[u8] = b"PROG1     \xE0\x80\0\0\0\x04\0\0\0\x02\0\0\0\0\0\0\x80\x01\0\0\x01\x80";
+pub(crate) const PROGRAM: &[u8] =
+    b"PROG1     \xE0\x80\0\0\0\x04\0\0\0\x02\0\0\0\0\0\0\x80\x01\0\0\x01\x80";
 
 /// A file in the last record of a cassette.
 const LAST: &[u8] = b"LAST      \0\x01\0\0\x01\xFF\0\0\0\x01\0\0\0\0\0\0\x80\x01\0\0\0\0";
 
 /// A file in record 4; the same purged, and under another name.
-const FILE: &[u8] = b"A         \0\x01\0\0\0\x04\0\0\0\x01\0\0\0\0\0\0\x80\x01\0\0\0\0";
+pub(crate) const FILE: &[u8] = b"A         \0\x01\0\0\0\x04\0\0\0\x01\0\0\0\0\0\0\x80\x01\0\0\0\0";
 
-const PURGED: &[u8] = b"A         \0\0\0\0\0\x04\0\0\0\x01\0\0\0\0\0\0\x80\x01\0\0\0\0";
+pub(crate) const PURGED: &[u8] = b"A         \0\0\0\0\0\x04\0\0\0\x01\0\0\0\0\0\0\x80\x01\0\0\0\0";
 
-const RENAMED: &[u8] = b"B         \0\x01\0\0\0\x04\0\0\0\x01\0\0\0\0\0\0\x80\x01\0\0\0\0";
+pub(crate) const RENAMED: &[u8] =
+    b"B         \0\x01\0\0\0\x04\0\0\0\x01\0\0\0\0\0\0\x80\x01\0\0\0\0";
 
 /// The redo file of a cassette, of version 1 and of version 2.
-const REDO: &[u8] = b"REDOFILE  \xE0\xD0\0\0\x01\xFC\0\0\0\x04\0\0\0\0\0\0\x80\x01\0\0\0\0";
+pub(crate) const REDO: &[u8] =
+    b"REDOFILE  \xE0\xD0\0\0\x01\xFC\0\0\0\x04\0\0\0\0\0\0\x80\x01\0\0\0\0";
 
-const REDO_TWO: &[u8] = b"REDOFILE  \xE0\xD0\0\0\x01\xDE\0\0\0\x22\0\0\0\0\0\0\x80\x01\0\0\0\0";
+pub(crate) const REDO_TWO: &[u8] =
+    b"REDOFILE  \xE0\xD0\0\0\x01\xDE\0\0\0\x22\0\0\0\0\0\0\x80\x01\0\0\0\0";
 
 /// A purged slot whose numbers are none of any medium, and a second file, in records 5 and 6.
-const JUNK: &[u8] =
+pub(crate) const JUNK: &[u8] =
     b"OLD       \0\0\xFF\xFF\xFF\xFF\xFF\xFF\xFF\xFF\x26\x11\x27\x12\0\0\0\0\x55\x55\x55\x55";
 
-const SECOND_FILE: &[u8] = b"B         \0\x01\0\0\0\x05\0\0\0\x02\0\0\0\0\0\0\x80\x01\0\0\0\0";
+pub(crate) const SECOND_FILE: &[u8] =
+    b"B         \0\x01\0\0\0\x05\0\0\0\x02\0\0\0\0\0\0\x80\x01\0\0\0\0";
 
 /// What opens a gate, and targets records that name record 2, of either version, and three records.
-const GATE: &[u8] = b"LIFREDO1 OPEN   ";
+pub(crate) const GATE: &[u8] = b"LIFREDO1 OPEN   ";
 
 const TARGETS: &[u8] = b"LIFREDO1\0\x01\0\x02";
 
@@ -55,7 +60,7 @@ const TARGETS_TWO: &[u8] = b"LIFREDO2\0\x01\0\x02";
 const TARGETS_THREE: &[u8] = b"LIFREDO1\0\x03\0\x02";
 
 /// Writes bytes from byte `at` of record `n` on.
-fn put(rt: &impl Abort, tape: &mut Vec<[u8; 256]>, n: usize, at: usize, bytes: &[u8]) {
+pub(crate) fn put(rt: &impl Abort, tape: &mut Vec<[u8; 256]>, n: usize, at: usize, bytes: &[u8]) {
     assert!(rt; n < tape.len() && at <= RECORD && bytes.len() <= RECORD - at);
     tape[n][at..at + bytes.len()].copy_from_slice(bytes);
 }
@@ -83,7 +88,7 @@ fn tape_of(
 }
 
 /// A volume on a tape, whose store is sound. The listed calls of the store fail.
-fn open_now(
+pub(crate) fn open_now(
     rt: &impl Abort,
     alloc: Global,
     tape: Vec<[u8; 256]>,
@@ -132,7 +137,7 @@ fn fetch_now<R: Records>(
 }
 
 /// Makes the store of a volume sound again.
-fn resume_now<R: Records>(rt: &impl Abort, volume: &mut Volume<R>) -> Result<(), Trouble>
+pub(crate) fn resume_now<R: Records>(rt: &impl Abort, volume: &mut Volume<R>) -> Result<(), Trouble>
     requires { IsOpen R.view (⟦<Volume<R> as Seen<R>>⟧.seen volume.old) }
     ensures { IsOpen R.view (⟦<Volume<R> as Seen<R>>⟧.seen volume.new) }
 {
@@ -317,7 +322,7 @@ fn protects_the_redo_file_and_forgets_after_a_trouble(rt: HostRuntime) -> Result
 
 /// A command that changes a volume.
 #[derive(Clone, Copy, Debug)]
-enum Step<'a> {
+pub(crate) enum Step<'a> {
     Format(&'a [u8], u16),
     Purge(&'a [u8]),
     Rename(&'a [u8], &'a [u8]),
@@ -327,7 +332,7 @@ enum Step<'a> {
 }
 
 /// Changes a volume whose store is ready for it. Names that cannot be given are not tried.
-fn change_now<R: Records>(
+pub(crate) fn change_now<R: Records>(
     rt: &impl Abort,
     volume: &mut Volume<R>,
     step: Step,
@@ -459,7 +464,7 @@ const ROWS: [Row; 19] = [
 ];
 
 /// A tape with this header and this directory, and an end behind it.
-fn tape_with(
+pub(crate) fn tape_with(
     rt: &impl Abort,
     alloc: Global,
     header: &[u8],
@@ -473,7 +478,7 @@ fn tape_with(
 
 /// Whether `dir` lists these slots, of a volume with this record 0; or no volume, where that is
 /// empty.
-fn shows(
+pub(crate) fn shows(
     rt: &impl Abort,
     volume: &mut Volume<MemoryRecords>,
     header: &[u8],
@@ -521,36 +526,50 @@ fn changes_the_directory(rt: HostRuntime) -> Result<(), Fail> {
     Ok(())
 }
 
-/// What is stored comes back in whole records, filled up with zeros.
-#[test]
-fn fetches_what_it_stored(rt: HostRuntime) -> Result<(), Fail> {
-    let alloc = rt.alloc();
-    for (length, records) in [(0, 1), (256, 1), (257, 2)] {
-        let tape = tape_with(&rt, alloc, HEADER, &[FILE, REDO_TWO])?;
-        let mut volume = open_now(&rt, alloc, tape, Vec::new(alloc))?;
-        let bytes = &TWO_RECORDS[..length];
-        assert_eq!(rt;
-            change_now(&rt, &mut volume, Step::Store(b"B", bytes)),
-            Ok(())
-        );
-        let mut into = Vec::with_capacity(alloc, 512 * RECORD)?;
-        into.resize(512 * RECORD, 0x55)?;
-        let fetched = fetch_now(&rt, &mut volume, b"B", &mut into)?;
-        assert_eq!(rt; fetched.length, 256 * records);
-        assert!(rt; into.iter().take(length).all(|byte| *byte == 7));
-        let zeros = into
-            .iter()
-            .skip(length)
-            .take_while(|byte| **byte == 0)
-            .count();
-        assert_eq!(rt; length + zeros, 256 * records);
-    }
+/// Stores a file and reads the tape anew: the file that is fetched has so many bytes, those that were
+/// stored and then zeros.
+fn comes_back(
+    rt: &impl Abort,
+    volume: &mut Volume<MemoryRecords>,
+    name: &[u8],
+    bytes: &[u8],
+    length: usize,
+    into: &mut [u8],
+) -> Result<(), Fail>
+    requires { IsOpen ⟦<MemoryRecords as Records>⟧.view
+        (⟦<Volume<MemoryRecords> as Seen<MemoryRecords>>⟧.seen volume.old) }
+    ensures { IfOk result (λ x. IsOpen ⟦<MemoryRecords as Records>⟧.view
+        (⟦<Volume<MemoryRecords> as Seen<MemoryRecords>>⟧.seen volume.new)) }
+{
+    assert_eq!(rt; change_now(rt, volume, Step::Store(name, bytes)), Ok(()));
+    assert_eq!(rt; resume_now(rt, volume), Ok(()));
+    assert_eq!(rt; fetch_now(rt, volume, name, into)?.length, length);
+    assert!(rt; bytes.len() <= length && length <= into.len());
+    assert_eq!(rt; &into[..bytes.len()], bytes);
+    assert!(rt; into[bytes.len()..length].iter().all(|byte| *byte == 0));
     Ok(())
+}
+
+#[test]
+fn files_come_back_in_whole_records(rt: HostRuntime) -> Result<(), Fail> {
+    let alloc = rt.alloc();
+    let mut bytes = [0; 300];
+    for (k, byte) in bytes.iter_mut().enumerate() {
+        *byte = (k % 251 + 1) as u8;
+    }
+    let record = bytes.get(..RECORD).ok_or("a record")?;
+    let mut into = Vec::with_capacity(alloc, 512 * RECORD)?;
+    into.resize(512 * RECORD, 0x55)?;
+    let tape = tape_with(&rt, alloc, HEADER, &[FILE, REDO_TWO])?;
+    let mut volume = open_now(&rt, alloc, tape, Vec::new(alloc))?;
+    comes_back(&rt, &mut volume, b"B", &[], 256, &mut into)?;
+    comes_back(&rt, &mut volume, b"C", record, 256, &mut into)?;
+    comes_back(&rt, &mut volume, b"D", &bytes, 512, &mut into)
 }
 
 /// The header that is formatted with another label, of a longer directory, and of a disc; and the
 /// redo file of a disc.
-const SECOND_HEADER: &[u8] =
+pub(crate) const SECOND_HEADER: &[u8] =
     b"\x80\0SECOND\0\0\0\x02\x10\0\0\0\0\0\0\x01\0\x01\0\0\0\0\0\x02\0\0\0\x01\0\0\x01\0";
 
 const LONG_HEADER: &[u8] =
@@ -565,13 +584,13 @@ const LONG_DISC_HEADER: &[u8] =
 const DISC_REDO: &[u8] = b"REDOFILE  \xE0\xD0\0\0\x09\x9C\0\0\0\x04\0\0\0\0\0\0\x80\x01\0\0\0\0";
 
 /// The header of a medium and the slots of its directory.
-type Shown = (&'static [u8], &'static [&'static [u8]]);
+pub(crate) type Shown = (&'static [u8], &'static [&'static [u8]]);
 
 const NONE: Shown = (b"", &[]);
 
 const BASE: Shown = (HEADER, &[REDO]);
 
-const TWO: Shown = (HEADER, &[FILE, REDO_TWO]);
+pub(crate) const TWO: Shown = (HEADER, &[FILE, REDO_TWO]);
 
 const FULL: Shown = (FOREIGN_HEADER, &[PROGRAM, LAST]);
 
@@ -647,152 +666,6 @@ fn formats_any_tape(rt: HostRuntime) -> Result<(), Fail> {
         }
         assert_eq!(rt; resume_now(&rt, &mut volume), Ok(()));
         assert!(rt; shows(&rt, &mut volume, front, listed));
-    }
-    Ok(())
-}
-
-/// What a tape shows before a command, the command, and what it shows behind it, which another
-/// commit makes; which write opens the gate, how many writes there are, and how many calls of the
-/// store.
-type Turn = (Shown, Step<'static>, Shown, usize, usize, u64);
-
-const ONE: Shown = (HEADER, &[FILE, REDO]);
-
-const SECOND: Shown = (SECOND_HEADER, &[REDO]);
-
-const SECOND_STEP: Step<'static> = Step::Format(b"SECOND", 8);
-
-/// Almost two records of sevens, and a store of them.
-const TWO_RECORDS: &[u8] = &[7; 500];
-
-const STORE: Step<'static> = Step::Store(b"B", TWO_RECORDS);
-
-/// Files without records. With them the first record of a directory has one slot left.
-const C: &[u8] = b"C         \0\x01\0\0\0\x04\0\0\0\0\0\0\0\0\0\0\x80\x01\0\0\0\0";
-
-const D: &[u8] = b"D         \0\x01\0\0\0\x04\0\0\0\0\0\0\0\0\0\0\x80\x01\0\0\0\0";
-
-const E: &[u8] = b"E         \0\x01\0\0\0\x04\0\0\0\0\0\0\0\0\0\0\x80\x01\0\0\0\0";
-
-const F: &[u8] = b"F         \0\x01\0\0\0\x04\0\0\0\0\0\0\0\0\0\0\x80\x01\0\0\0\0";
-
-const G: &[u8] = b"G         \0\x01\0\0\0\x04\0\0\0\0\0\0\0\0\0\0\x80\x01\0\0\0\0";
-
-/// A store writes its file first. A commit writes the contents, the targets, the gate, the records in place, and the gate again.
-/// What is read is the gate, record 0 and the directory; and for the commit the record of a slot,
-/// and the gate. A tape without a header has no directory to be read.
-const TURNS: [Turn; 10] = [
-    (ONE, Step::Purge(b"A"), (HEADER, &[PURGED, REDO]), 2, 5, 10),
-    (
-        ONE,
-        Step::Rename(b"A", b"B"),
-        (HEADER, &[RENAMED, REDO]),
-        2,
-        5,
-        10,
-    ),
-    (
-        TWO,
-        Step::Rename(b"A", b"B"),
-        (HEADER, &[RENAMED, REDO_TWO]),
-        2,
-        5,
-        10,
-    ),
-    ((HEADER, &[FILE]), Step::Adopt, ONE, 2, 5, 10),
-    (ONE, Step::Upgrade, TWO, 2, 5, 10),
-    (TWO, SECOND_STEP, SECOND, 3, 7, 11),
-    ((FOREIGN_HEADER, &[PROGRAM]), SECOND_STEP, SECOND, 3, 7, 11),
-    ((b"", &[FILE]), SECOND_STEP, SECOND, 3, 7, 10),
-    (ONE, STORE, (HEADER, &[FILE, SECOND_FILE, REDO]), 4, 7, 12),
-    (
-        (HEADER, &[FILE, C, D, E, F, G, REDO_TWO]),
-        STORE,
-        (HEADER, &[FILE, C, D, E, F, G, SECOND_FILE, REDO_TWO]),
-        5,
-        9,
-        15,
-    ),
-];
-
-/// The tape behind the first `k` writes, torn within the next.
-fn stopped(
-    rt: &impl Abort,
-    mut tape: Vec<[u8; 256]>,
-    writes: &[(u16, [u8; 256])],
-    k: usize,
-    torn: &[u8; 256],
-) -> Vec<[u8; 256]> {
-    for (n, bytes) in writes.iter().take(k) {
-        put(rt, &mut tape, usize::from(*n), 0, bytes);
-    }
-    if let Some((n, _)) = writes.get(k) {
-        put(rt, &mut tape, usize::from(*n), 0, torn);
-    }
-    tape
-}
-
-/// A stop within any of these writes leaves what was shown before, and from the write that opens the
-/// gate on what is shown behind them.
-fn stops(
-    rt: &impl Abort,
-    alloc: Global,
-    (header, slots): Shown,
-    (front, listed): Shown,
-    opening: usize,
-    writes: &[(u16, [u8; 256])],
-) -> Result<(), Fail> {
-    let mut gate = [0; RECORD];
-    gate[..GATE.len()].copy_from_slice(GATE);
-    for k in 0..=writes.len() {
-        for (torn, opens) in [([0; RECORD], false), ([0xFF; RECORD], false), (gate, true)] {
-            let tape = tape_with(rt, alloc, header, slots)?;
-            let tape = stopped(rt, tape, writes, k, &torn);
-            let mut volume = open_now(rt, alloc, tape, Vec::new(alloc))?;
-            if k > opening || k == opening && opens {
-                assert!(rt; shows(rt, &mut volume, front, listed));
-            } else {
-                assert!(rt; shows(rt, &mut volume, header, slots));
-            }
-        }
-    }
-    Ok(())
-}
-
-#[test]
-fn a_stop_leaves_the_old_or_the_new_volume(rt: HostRuntime) -> Result<(), Fail> {
-    let alloc = rt.alloc();
-    for (before, step, behind, opening, writes, calls) in TURNS {
-        let tape = tape_with(&rt, alloc, before.0, before.1)?;
-        let mut volume = open_now(&rt, alloc, tape, Vec::new(alloc))?;
-        assert_eq!(rt; change_now(&rt, &mut volume, step), Ok(()));
-        assert!(rt; shows(&rt, &mut volume, behind.0, behind.1));
-        let records = volume.into_records();
-        assert_eq!(rt; records.writes().len(), writes);
-        assert!(rt; calls < 20);
-        assert_eq!(rt; u64::from(records.left()) + calls, 10000);
-        stops(&rt, alloc, before, behind, opening, records.writes())?;
-    }
-    Ok(())
-}
-
-#[test]
-fn a_trouble_leaves_the_old_or_the_new_volume(rt: HostRuntime) -> Result<(), Fail> {
-    let alloc = rt.alloc();
-    let trouble = Err(VolumeFault::Trouble(Trouble::Medium));
-    for ((header, slots), step, (front, listed), _, _, calls) in TURNS {
-        for call in 1..=calls {
-            let mut fails = Vec::new(alloc);
-            fails.push((call, Trouble::Medium))?;
-            let tape = tape_with(&rt, alloc, header, slots)?;
-            let mut volume = open_now(&rt, alloc, tape, fails)?;
-            assert_eq!(rt; change_now(&rt, &mut volume, step), trouble);
-            assert!(rt; !volume.is_kept());
-            assert_eq!(rt; resume_now(&rt, &mut volume), Ok(()));
-            assert!(rt;
-                shows(&rt, &mut volume, header, slots) || shows(&rt, &mut volume, front, listed)
-            );
-        }
     }
     Ok(())
 }
