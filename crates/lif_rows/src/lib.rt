@@ -1,0 +1,2 @@
+//! Tests of the volume's crates over records in memory.
+#![tactic(auto)]

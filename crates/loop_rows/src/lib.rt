@@ -1,0 +1,2 @@
+//! Tests of the loop's crates.
+#![tactic(auto)]

@@ -1,0 +1,2 @@
+//! Tests of the script and of the words.
+#![tactic(auto)]
