@@ -33,10 +33,10 @@ pub enum Choice {
 ///
 /// The slots that it may take are those of purged files before the redo entry, in their order, and
 /// then the redo entry's own, where this is the last slot and the directory has room for one more.
-/// In such a slot it begins behind the directory and behind the records of every slot before it,
-/// and has to end before those of every slot behind it and before the gate of the redo file; the
+/// In such a slot it begins after the directory and after the records of every slot before it,
+/// and has to end before those of every slot after it and before the gate of the redo file; the
 /// records of a purged file count too. The first slot with room is taken. The redo entry is the
-/// first live slot named `REDOFILE`; it counts as behind its own slot.
+/// first live slot named `REDOFILE`; it counts as one after its own slot.
 pub fn choose(slots: &SlotTable, directory_end: u32, capacity: u32, count: u32, size: u16) -> Choice
     ensures { place_of result
         ≡ fit size directory_end capacity (map slot_bytes slots.now.slots) count }
@@ -72,7 +72,7 @@ pub fn choose(slots: &SlotTable, directory_end: u32, capacity: u32, count: u32, 
     }
 }
 
-// The place of the redo entry, or the number of slots where there is none.
+/// The place of the redo entry, or the number of slots where there is none.
 fn redo_place(slots: &SlotTable) -> usize
     ensures value { result ≡ redo_place (map slot_bytes slots.now.slots) }
     ensures within { result ≤ length slots.now.slots }
@@ -86,7 +86,7 @@ fn redo_place(slots: &SlotTable) -> usize
     slots.len()
 }
 
-// Whether the redo entry, in slot `redo`, is the last slot and the directory has room for one more.
+/// Whether the redo entry, in slot `redo`, is the last slot and the directory has room for one more.
 fn can_append(slots: &SlotTable, redo: usize, capacity: u32) -> bool
     requires redo { redo ≡ redo_place (map slot_bytes slots.now.slots) }
     requires bound { redo < 2 ^ 32 }
@@ -96,15 +96,15 @@ fn can_append(slots: &SlotTable, redo: usize, capacity: u32) -> bool
     redo + 1 == count && count < capacity as usize
 }
 
-// Why no slot is taken, where those that may be taken were seen to have no room.
+/// Why no slot is taken, where those that may be taken were seen to have no room.
 fn refusal(seen: bool) -> Choice
     ensures { place_of result ≡ (if seen then NoRoom else NoSlot) }
 {
     if seen { Choice::NoRoom } else { Choice::NoSlot }
 }
 
-// Whether a file that ends before record `end` ends before the gate, and before each file that has
-// records from slot `from` on.
+/// Whether a file that ends before record `end` ends before the gate, and before each file that has
+/// records from slot `from` on.
 fn is_free(slots: &SlotTable, from: usize, end: u64, gate: u64) -> bool
     requires { from ≤ length slots.now.slots }
     ensures { result ≡ nat_le end (least_start gate (drop from (map slot_bytes slots.now.slots))) }
@@ -120,7 +120,7 @@ fn is_free(slots: &SlotTable, from: usize, end: u64, gate: u64) -> bool
     true
 }
 
-// The greater of `low` and the end of the file, if it has records.
+/// The greater of `low` and the end of the file, if it has records.
 fn raised(low: u64, entry: FileEntry) -> u64
     ensures value { result ≡ (if has_records (entry_bytes entry)
         then max low (end_of (entry_bytes entry)) else low) }

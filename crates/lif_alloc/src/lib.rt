@@ -4,6 +4,3 @@
 mod choosing;
 
 pub use choosing::{Choice, choose};
-
-#[cfg(test)]
-mod tests;

@@ -1,13 +1,12 @@
 -- An entry and its 32 bytes tell of each other.
 use Rattle.std.proofs.Common.{◌≡◌, ◌≢◌, ◌==◌, ◌&&◌, ℕ, zero, suc, not, nat_lt, ◌+◌, ◌<◌, ◌≤◌, ◌^◌, false, if◌then◌else◌, List, [], ◌∷◌, ◌++◌, length, get_or, take, drop, refl, ap, sym, ◌∙◌, append_assoc, append-nil, length-append, arith, w16, w32, lit<}
 use Rattle.std.specs.Int.{to_be_bytes, byte_at}
-use Rattle.std.specs.Str.{bytes_eq}
 use Rattle.std.proofs.lemmas.List.{get_or-append-add, drop_more, take_all}
 use Rattle.std.proofs.lemmas.Nat.{be_bytes_2, be_bytes_4}
 use Rattle.std.proofs.Math.Seq.{take-add, drop-append_seam, take-append_seam}
 use Rattle.lif_model.specs.Numbers.{two_at, four_at}
 use Rattle.lif_model.specs.Directory.{name_of, type_of, start_of, length_of, date_of, implementation_of}
-use Rattle.lif_model.specs.Legal.{is_live, is_live_named, has_records}
+use Rattle.lif_model.specs.Legal.{is_live, has_records}
 use Rattle.lif_dir.specs.declared.entries.FileEntry.{FileEntry}
 use Rattle.lif_dir.specs.declared.entries.Slot.{Slot}
 use Rattle.lif_dir.specs.declared.entries.Slot.TheVariants.{End}
@@ -120,9 +119,6 @@ name_back e w = ap (λ (x : FileEntry). x.name.bytes) (entry_back e w)
 module _ (e : FileEntry) (w : HasWidths e) where
   pub live_back : is_live (entry_bytes e) ≡ not (e.kind == 0)
   live_back = ap (λ (k : ℕ). not (k == 0)) (kind_back e w)
-
-  pub named_back : (name : List ℕ) → is_live_named name (entry_bytes e) ≡ (not (e.kind == 0) && bytes_eq e.name.bytes name)
-  named_back name = λ i. live_back i && bytes_eq (name_back e w i) name
 
   pub records_back : has_records (entry_bytes e) ≡ nat_lt 0 e.length
   records_back = ap (λ (n : ℕ). nat_lt 0 n) (length_back e w)

@@ -90,7 +90,7 @@ impl Batch {
         &self.parts
     }
 
-    /// The bytes of the files that are stored, one file behind the other.
+    /// The bytes of the files that are stored, one file after the other.
     pub fn bytes(&self) -> &[u8]
         ensures bytes { result.now ≡ self.now.bytes }
         ensures few { length result.now ≤ MOST_BYTES }
@@ -137,7 +137,8 @@ impl Batch {
     /// where there was none nothing is added.
     pub fn add_rename(&mut self, old: Name, new: NewName) -> bool
         ensures room { result ≡ has_room self.old 0 }
-        ensures added { self.new ≡ (if result then record self.old { parts = self.old.parts ++ Rename old new ∷ [] } else self.old) }
+        ensures added { self.new ≡ (if result then record self.old { parts = self.old.parts ++ Rename old new ∷ [] }
+            else self.old) }
     {
         self.add(Part::Rename { old, new })
     }
@@ -146,7 +147,8 @@ impl Batch {
     /// none nothing is added.
     pub fn add_purge(&mut self, name: Name) -> bool
         ensures room { result ≡ has_room self.old 0 }
-        ensures added { self.new ≡ (if result then record self.old { parts = self.old.parts ++ Purge name ∷ [] } else self.old) }
+        ensures added { self.new ≡ (if result then record self.old { parts = self.old.parts ++ Purge name ∷ [] }
+            else self.old) }
     {
         self.add(Part::Purge(name))
     }
@@ -162,7 +164,8 @@ impl Batch {
     fn add(&mut self, part: Part) -> bool
         requires { IsPartOf 0 part }
         ensures room { result ≡ has_room self.old 0 }
-        ensures added { self.new ≡ (if result then record self.old { parts = self.old.parts ++ part ∷ [] } else self.old) }
+        ensures added { self.new ≡ (if result then record self.old { parts = self.old.parts ++ part ∷ [] }
+            else self.old) }
     {
         if !self.has_room(0) {
             return false;

@@ -1,10 +1,12 @@
-ghost use Rattle.std.specs.Prelude.{◌≡◌, ◌≢◌, ◌<◌, ◌≤◌, ◌+◌, ◌^◌, ◌++◌, ◌&&◌, ◌↔◌, nat_lt, true, false, length, take, IsSome, IfSome};
+ghost use Rattle.std.specs.Prelude.{◌≡◌, ◌≢◌, ◌<◌, ◌≤◌, ◌+◌, ◌^◌, ◌++◌, ◌&&◌, ◌↔◌, nat_lt, true, false, length};
+ghost use Rattle.std.specs.Prelude.{take, IsSome, IfSome};
 ghost use Rattle.std.specs.Ordering.{nat_cmp};
 ghost use Rattle.std.specs.Cmp.Lexicographic.{slice_cmp};
 ghost use Rattle.lif_model.specs.Directory.{is_end, name_of, start_of};
 ghost use Rattle.lif_model.specs.Made.{new_entry, with_name, with_type, with_extent};
 ghost use Rattle.lif_model.specs.Legal.{is_live, is_live_named, has_records, end_of};
-ghost use Rattle.lif_dir.specs.Entries.{spaced, name_bytes, entry_bytes, entry_from, slot_of, slot_from, slot_bytes, is_entry};
+ghost use Rattle.lif_dir.specs.Entries.{spaced, name_bytes, entry_bytes, entry_from, slot_of, slot_from};
+ghost use Rattle.lif_dir.specs.Entries.{slot_bytes, is_entry};
 
 use lif_header::{bytes_at, four_at, two_at};
 use std::cmp::Ordering;
@@ -18,7 +20,7 @@ const PURGED: u16 = 0;
 /// The volume word of a file on one volume.
 const ONE_VOLUME: u16 = 0x8001;
 
-/// The name of a file: ten bytes, those behind the name being spaces.
+/// The name of a file: ten bytes, those after the name being spaces.
 #[derive(Clone, Copy, Debug, PartialEq, Eq)]
 pub struct Name {
     bytes: [u8; 10],
@@ -205,7 +207,7 @@ impl FileEntry {
         self.length > 0
     }
 
-    /// The first record behind the file. A purged file may tell of more records than any medium
+    /// The first record after the file. A purged file may tell of more records than any medium
     /// has: nothing is lost of the sum.
     pub fn end(self) -> u64
         ensures end { result ≡ end_of (entry_bytes self) }

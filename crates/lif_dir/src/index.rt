@@ -1,4 +1,6 @@
-ghost use Rattle.std.specs.Prelude.{◌≡◌, ◌≢◌, ◌<◌, ◌≤◌, ◌+◌, ◌-◌, ◌*◌, ◌^◌, ℕ, true, false, [], All, length, map, filter, slice_index, slice_set, vec_len, vec_capacity, IfOk, MatchOption};
+ghost use Rattle.std.specs.Prelude.{◌≡◌, ◌≢◌, ◌<◌, ◌≤◌, ◌+◌, ◌-◌, ◌*◌, ◌^◌, ℕ, true, false, [], All, length};
+ghost use Rattle.std.specs.Prelude.{map, filter, slice_index, slice_set, vec_len, vec_capacity, IfOk};
+ghost use Rattle.std.specs.Prelude.{MatchOption};
 ghost use Rattle.std.specs.Ordering.{nat_cmp};
 ghost use Rattle.std.specs.Cmp.Lexicographic.{slice_cmp};
 ghost use Rattle.lif_model.specs.Legal.{is_live};
@@ -52,18 +54,13 @@ impl NameIndex {
         }
     }
 
-    // Where the index has the place `k`.
+    /// Where the index has the place `k`.
     fn position(&self, k: usize) -> Option<usize>
         ensures { MatchOption result
             ((j : ℕ) → j < vec_len self.now.places → slice_index self.now.places.items j ≢ k)
             (λ at. (at < vec_len self.now.places) × (slice_index self.now.places.items at ≡ k)) }
     {
-        for at in 0..self.places.len() {
-            if self.places[at] as usize == k {
-                return Some(at);
-            }
-        }
-        None
+        self.places.iter().position(|place| *place as usize == k)
     }
 
     /// Puts slot `k` into the index, if it is live.
@@ -86,8 +83,8 @@ impl NameIndex {
         }
     }
 
-    // Where a place of this name goes: no name before stands behind it, and it stands behind no
-    // other.
+    /// Where a place of this name goes: no name before stands after it, and it stands after no
+    /// other.
     fn rank(&self, slots: &[Slot], name: &Name) -> usize
         requires entries { All (λ slot. is_entry slot ≡ true) slots.now }
         requires sorted { AreSorted (map slot_bytes slots.now) self.now.places.items }
@@ -162,7 +159,7 @@ impl NameIndex {
     }
 }
 
-// The name of the slot at a place.
+/// The name of the slot at a place.
 fn name_of(slots: &[Slot], place: usize) -> Name
     requires within { place < length slots.now }
     requires entries { All (λ slot. is_entry slot ≡ true) slots.now }
@@ -174,7 +171,7 @@ fn name_of(slots: &[Slot], place: usize) -> Name
     }
 }
 
-// Compares two names, which is one step.
+/// Compares two names, which is one step.
 fn compare<L: Ledger>(a: &Name, b: &Name, steps: &mut Steps<L>) -> Ordering
     ensures order { result ≡ slice_cmp nat_cmp (name_bytes a.now) (name_bytes b.now) }
     ensures step { steps.new ≡ steps.old + 1 }

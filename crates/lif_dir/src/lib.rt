@@ -15,10 +15,3 @@ pub use names::{NewLabel, NewName, without_end_spaces};
 pub use reading::slots_of;
 pub use steps::Steps;
 pub use table::SlotTable;
-
-#[cfg(test)]
-mod batch_tests;
-#[cfg(test)]
-mod index_tests;
-#[cfg(test)]
-mod tests;

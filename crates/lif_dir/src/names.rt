@@ -58,21 +58,21 @@ impl NewLabel {
     }
 }
 
-// Whether a byte may stand in a name that is made.
+/// Whether a byte may stand in a name that is made.
 fn is_inner(byte: u8) -> bool
     ensures { result ≡ is_name_byte byte }
 {
     byte.is_ascii_uppercase() || byte.is_ascii_digit() || byte == b'_'
 }
 
-// Whether each of the bytes may stand in a name that is made.
+/// Whether each of the bytes may stand in a name that is made.
 fn are_inner(bytes: &[u8]) -> bool
     ensures { result ≡ list_all is_name_byte bytes.now }
 {
     bytes.iter().all(|byte| is_inner(*byte))
 }
 
-// Whether the bytes are one letter, and then letters, digits and `_`.
+/// Whether the bytes are one letter, and then letters, digits and `_`.
 fn is_made_so(bytes: &[u8]) -> bool
     ensures { result ≡ is_made bytes.now }
 {

@@ -10,6 +10,7 @@ use crate::entries::Slot;
 use crate::table::SlotTable;
 use il_ports::{Records, Trouble};
 use lif_header::{Header, bytes_at};
+use lif_model::{RECORD, Record};
 
 /// How many bytes an entry has.
 const ENTRY: usize = 32;
@@ -19,10 +20,11 @@ const ENTRIES: usize = 8;
 
 /// Appends the slots of one record of the directory, as far as its end, and says whether the end is
 /// in it.
-fn append_slots(bytes: &[u8; 256], table: &mut SlotTable) -> bool
+fn append_slots(bytes: &Record, table: &mut SlotTable) -> bool
     requires { length table.old.slots + 8 ≤ table.old.room }
     ensures slots { table.new.slots ≡ table.old.slots ++ map slot_from (before_end (entries_of bytes.now)) }
-    ensures bytes { map slot_bytes table.new.slots ≡ map slot_bytes table.old.slots ++ before_end (entries_of bytes.now) }
+    ensures bytes { map slot_bytes table.new.slots ≡ map slot_bytes table.old.slots
+        ++ before_end (entries_of bytes.now) }
     ensures ended { result ≡ list_any is_end (entries_of bytes.now) }
     ensures room { table.new.room ≡ table.old.room }
     ensures count { length table.new.slots ≤ length table.old.slots + 8 }
@@ -67,7 +69,7 @@ pub fn slots_of<R: Records>(
     ensures room { table.new.room ≡ table.old.room }
 {
     table.clear();
-    let mut bytes = [0; 256];
+    let mut bytes = [0; RECORD];
     for n in header.start()..header.end() {
         records.read(n, &mut bytes)?;
         if append_slots(&bytes, table) {

@@ -1,4 +1,5 @@
-ghost use Rattle.std.specs.Prelude.{◌≡◌, ◌==◌, ◌<◌, ◌≤◌, ◌+◌, ◌-◌, ◌*◌, ◌^◌, Some, true, [], ◌∷◌, ◌++◌, length, map, filter, slice_get, slice_index_or, slice_set, is_some, IfOk};
+ghost use Rattle.std.specs.Prelude.{◌≡◌, ◌==◌, ◌<◌, ◌≤◌, ◌+◌, ◌-◌, ◌*◌, ◌^◌, Some, true, [], ◌∷◌, ◌++◌, length};
+ghost use Rattle.std.specs.Prelude.{map, filter, slice_get, slice_index_or, slice_set, is_some, IfOk};
 ghost use Rattle.std.specs.List.{insert, position};
 ghost use Rattle.lif_model.specs.Pairs.{all_pairs};
 ghost use Rattle.lif_model.specs.Legal.{is_live, is_live_named, has_file, have_other_names};

@@ -5,7 +5,7 @@ ghost use Rattle.lif_model.specs.Made.{in_four, geometry};
 const DISC_RECORDS: u16 = 2464;
 
 /// The form of a medium, as bytes 24 to 35 of a LIF volume header tell it.
-#[derive(Clone, Copy, Debug, Drop)]
+#[derive(Drop)]
 pub struct Geometry {
     /// Tracks per surface.
     pub tracks: u32,

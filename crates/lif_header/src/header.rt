@@ -5,6 +5,7 @@ ghost use Rattle.lif_model.specs.Shelf.{piece};
 
 use crate::fields::{bytes_at, four_at, two_at};
 use crate::geometry::Geometry;
+use lif_model::{RECORD, Record};
 use std::marker::Model;
 use thiserror::Error;
 
@@ -59,7 +60,7 @@ pub enum HeaderFault {
     /// The directory has this many records, none.
     #[error("Length")]
     Length(u32),
-    /// The directory ends at this record, which lies behind the first of the last four.
+    /// The directory ends at this record, which lies after the first of the last four.
     #[error("Past")]
     Past(u64),
 }
@@ -72,7 +73,7 @@ impl Header {
     /// and 1, the label in bytes 2 to 7, the directory's first record in bytes 8 to 11 and its
     /// number of records in bytes 16 to 19.
     #[tactic(auto, unfolding(lif_model::specs::Header::label_of))]
-    pub fn read(bytes: &[u8; 256], size: u16) -> Result<Header, HeaderFault>
+    pub fn read(bytes: &Record, size: u16) -> Result<Header, HeaderFault>
         requires { 4 ≤ size }
         ensures readable { is_ok result ≡ is_readable size bytes.now }
         ensures header { IfOk result (λ header. header ≡ header_of bytes.now) }
@@ -107,7 +108,7 @@ impl Header {
     /// label, a directory of `length` records from record 2 on, LIF version 1, no date, and the
     /// geometry of an HP 9114 disc where the medium has its 2,464 records, else that of an
     /// HP 82161A cassette. Zeros follow.
-    pub fn fresh(label: &[u8; 6], length: u16, size: u16) -> [u8; 256]
+    pub fn fresh(label: &[u8; 6], length: u16, size: u16) -> Record
         ensures { result ≡ fresh_header size label.now length }
     {
         let medium = Geometry::of(size);
@@ -145,7 +146,7 @@ impl Header {
         self.length
     }
 
-    /// The first record behind the directory.
+    /// The first record after the directory.
     pub fn end(&self) -> u16
         ensures { result ≡ self.now.start + self.now.length }
     {
@@ -153,11 +154,11 @@ impl Header {
     }
 }
 
-/// The record that begins with this text, and has zeros behind it.
-fn record_of(text: &[u8; TEXT]) -> [u8; 256]
+/// The record that begins with this text, and has zeros after it.
+fn record_of(text: &[u8; TEXT]) -> Record
     ensures { result ≡ piece text.now }
 {
-    let mut bytes = [0; 256];
+    let mut bytes = [0; RECORD];
     put(&mut bytes, 0, text);
     bytes
 }
@@ -168,90 +169,4 @@ fn put(bytes: &mut [u8], at: usize, part: &[u8])
     ensures { bytes.new ≡ take at bytes.old ++ part.now ++ drop (at + length part.now) bytes.old }
 {
     bytes[at..at + part.len()].copy_from_slice(part);
-}
-
-#[cfg(test)]
-mod tests {
-    use super::*;
-    use std::test::Fail;
-
-    /// The header of a volume HPTAPE whose directory has records 2 and 3, as the LIF format has it.
-    const FORMATTED: &[u8; 42] =
-        b"\x80\x00HPTAPE\x00\x00\x00\x02\x10\x00\x00\x00\x00\x00\x00\x02\x00\x01\x00\x00\x00\x00\x00\x02\x00\x00\x00\x01\x00\x00\x01\x00\x00\x00\x00\x00\x00\x00";
-
-    /// Record 0 with that header, but for these bytes from place `at` on.
-    fn record_with(at: usize, bytes: &[u8]) -> [u8; 256]
-        requires { at + length bytes.now ≤ 256 }
-    {
-        let mut record = [0; 256];
-        record[..42].copy_from_slice(FORMATTED);
-        record[at..at + bytes.len()].copy_from_slice(bytes);
-        record
-    }
-
-    #[test]
-    fn reads_a_header(rt: HostRuntime) -> Result<(), Fail> {
-        // The directory ends at record 4, so a medium of 8 records is the smallest that has room.
-        for size in [8, 512, u16::MAX] {
-            let header = Header::read(&record_with(0, b""), size)?;
-            assert_eq!(rt; header.label().as_slice(), b"HPTAPE".as_slice());
-            assert_eq!(rt; header.start(), 2);
-            assert_eq!(rt; header.length(), 2);
-            assert_eq!(rt; header.end(), 4);
-        }
-        let odd = Header::read(&record_with(2, b"\x00\xFF A%b"), 512)?;
-        assert_eq!(rt; odd.label().as_slice(), b"\x00\xFF A%b".as_slice());
-        let far = Header::read(&record_with(8, b"\x00\x00\x01\x02"), 512)?;
-        assert_eq!(rt; far.start(), 258);
-        Ok(())
-    }
-
-    #[test]
-    fn fresh_headers(rt: HostRuntime) -> Result<(), Fail> {
-        // The LIF format's header of a cassette, and a disc's: 77 tracks, 2 surfaces, 16 records.
-        assert_eq!(rt; Header::fresh(b"HPTAPE", 2, 512), record_with(0, b""));
-        let disc = record_with(24, b"\x00\x00\x00\x4D\x00\x00\x00\x02\x00\x00\x00\x10");
-        assert_eq!(rt; Header::fresh(b"HPTAPE", 2, 2464), disc);
-        let full = Header::read(&Header::fresh(b"A     ", 2458, 2464), 2464)?;
-        assert_eq!(rt; full.label().as_slice(), b"A     ".as_slice());
-        assert_eq!(rt; full.length(), 2458);
-        Ok(())
-    }
-
-    #[test]
-    fn tells_the_first_fault(rt: HostRuntime) -> Result<(), Fail> {
-        let faults = [
-            (
-                record_with(0, b"\x00\x80"),
-                512,
-                HeaderFault::Id(0x0080),
-                "Id",
-            ),
-            (record_with(0, &[0; 20]), 512, HeaderFault::Id(0), "Id"),
-            (
-                record_with(8, &[0; 12]),
-                512,
-                HeaderFault::Start(0),
-                "Start",
-            ),
-            (
-                record_with(16, &[0; 4]),
-                512,
-                HeaderFault::Length(0),
-                "Length",
-            ),
-            (record_with(0, b""), 7, HeaderFault::Past(4), "Past"),
-            (
-                record_with(8, &[0xFF; 4]),
-                512,
-                HeaderFault::Past(0x1_0000_0001),
-                "Past",
-            ),
-        ];
-        for (record, size, fault, name) in faults {
-            assert_eq!(rt; Header::read(&record, size), Err(fault), "{name}");
-            assert_eq!(rt; fault.to_string(rt.alloc())?.as_str(), name);
-        }
-        Ok(())
-    }
 }

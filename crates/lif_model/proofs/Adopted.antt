@@ -331,15 +331,6 @@ settles_as_same t x c cs is off settles =
     (λ legal k used. settles.same k (λ at. let no : true ≡ false = sym used ∙ ap (is_used (settled t)) at ∙ gate_unused (settled t) legal off_gate in cc)) in
     (both.0, and_false (not (is_none (redo_of x))) (is_gate_held (settled x)) (both.1 ∙ off_gate))
 
--- A tape that is not foreign-gated, whether a redo is open on it or not: what settles as it does,
--- and is that very tape where no redo is open, has its volume, and is not foreign-gated.
-pub settling_same : (t x : Tape) → is_foreign_gated t ≡ false → SettlesAs (settled t) x → (redo_of t ≡ [] → x ≡ t) → (volume_of x ≡ volume_of t) × (is_foreign_gated x ≡ false)
-settling_same t x off settles idle = go (redo_of t) refl
-  where
-    go : (cs : Changes) → redo_of t ≡ cs → (volume_of x ≡ volume_of t) × (is_foreign_gated x ≡ false)
-    go [] none = (ap volume_of (idle none), ap is_foreign_gated (idle none) ∙ off)
-    go (c ∷ cs) is = settles_as_same t x c cs is off settles
-
 -- A tape that settles to u below the redo file has the volume of u and is not foreign-gated, where
 -- u is legal and adopted with that version ..
 pub settles_below_adopted : (version : Version) (u x : Tape) → is_legal u ≡ true → is_adopted_with (length u) version (slots_of u) ≡ true → SettlesBelow version u x → (volume_of x ≡ volume_in u) × (is_foreign_gated x ≡ false)

@@ -2,7 +2,7 @@
 -- legal one, with its redo file.
 use Rattle.std.proofs.Common.{◌≡◌, ◌≢◌, ◌⊎◌, ◌<◌, ◌≤◌, ◌+◌, ◌-◌, ◌*◌, ◌++◌, ◌&&◌, ◌==◌, ℕ, zero, suc, List, [], ◌∷◌, Bool, true, false, not, if◌then◌else◌, Option, Some, None, length, map, get_or, set, insert, replicate, inl, inr, refl, sym, ◌∙◌, ap, subst, arith, nat_lt, length-set, get_or-set_other}
 use Rattle.std.specs.Str.{bytes_eq}
-use Rattle.std.proofs.lemmas.Bool.{cases_lt, and_parts, and_from, and_cases, or_left, or_parts, ltb-true, ltb-false, leb-false, eqb-true, eq-eqb, ne_eqb, not_from_true, not_from_false, false_from_ne_true, or_from, le-ltb, cases_Bool}
+use Rattle.std.proofs.lemmas.Bool.{cases_lt, and_parts, and_from, and_cases, or_left, or_parts, ltb-true, ltb-false, leb-false, eqb-true, eq-eqb, ne_eqb, not_from_true, not_from_false, false_from_ne_true}
 use Rattle.std.proofs.lemmas.List.{length_push, length-map, get_or-map}
 use Rattle.std.proofs.lemmas.List.Edits.{length-insert, get_or-insert_below, get_or-insert_above}
 use Rattle.std.proofs.lemmas.Slice.Eq.{bytes_eq-Decides}
@@ -14,11 +14,11 @@ use Rattle.lif_model.specs.Redo.{One, Two, redo_start}
 use Rattle.lif_model.specs.Legal.{is_live, has_records, occupies, end_of, is_live_named, has_file}
 use Rattle.lif_model.specs.Volume.{redo_name, redo_type, redo_entry, upgraded_entry, is_redo_entry, is_redo_file, is_adopted_with, is_adopted, Volume, IsVolume, IsAdopted}
 use Rattle.lif_model.specs.Fit.{Place, At, redo_place, can_append, fit_in}
-use Rattle.lif_model.specs.Apply.{VolumeCommand, Dir, Label, Fetch, Store, Rename, Purge, Adopt, Upgrade, Format, IsWellFormed, Refusal, lacks_redo, is_protected, is_full, runs_past_gate, is_upgraded, runs_past_redo, is_too_long, first_met, store_checks, checks_of, refusal_of, stored, with_slot, renamed, upgraded, fresh_volume, volume_after, volume_made, next_unless, apply, InUse, NoRedo}
-use Rattle.lif_model.proofs.Lists.{any_at, any_from, none_at, none_of_filter, none_in_filter}
+use Rattle.lif_model.specs.Apply.{VolumeCommand, Dir, Label, Fetch, Store, Rename, Purge, Adopt, Upgrade, Format, IsWellFormed, Refusal, lacks_redo, is_protected, is_full, runs_past_gate, is_upgraded, runs_past_redo, is_too_long, first_met, store_checks, checks_of, refusal_of, stored, with_slot, renamed, upgraded, fresh_volume, volume_after, volume_made, next_unless, apply}
+use Rattle.lif_model.proofs.Lists.{any_at, any_from, none_at, none_of_filter}
 use Rattle.lif_model.proofs.Made.{new_name, new_type, new_start, new_length, new_size, named_name, named_type, named_start, named_length, named_size, typed_type, typed_start, typed_length, typed_size, extent_name, extent_type, extent_start, extent_length, extent_size, fresh_size, fresh_start, fresh_length, fresh_readable}
 use Rattle.lif_model.proofs.Fit.{IsPlaceIn, fit_tells, place_is_free}
-use Rattle.lif_model.proofs.Adopted.{redo_file_tells, redo_file_is_live, redo_file_is_named, redo_entry_tells, redo_place_is, redo_is_alone, with_slot_at, ends_before_redo}
+use Rattle.lif_model.proofs.Adopted.{redo_file_tells, redo_file_is_live, redo_file_is_named, redo_entry_tells, redo_place_is, redo_is_alone, with_slot_at}
 use Rattle.lif_model.proofs.Slots.{readable_tells, occupies_tells, live_named_tells, other_name, HasNew, set_new, before_insert, insert_new, push_new, each_with_new, legal_with_new, StaysPut, legal_map, each_map, slot_cases}
 
 -- ---- replies
@@ -466,24 +466,6 @@ upgrade_is_two n v is none = go (is_upgraded n v) refl
         subst (λ (b : Bool). IsAdopted n (if b then v else upgraded n v) × (is_adopted_with n Two (if b then v else upgraded n v).slots ≡ true)) (sym e)
         (subst (λ (later : List (List ℕ)). IsAdopted n (record v { slots = later }) × (is_adopted_with n Two later ≡ true)) (sym at) (set_is_two n v is clear v))
 
--- `upgrade` of an adopted volume is refused exactly where the directory or a file reaches into the records that version 2
--- is to have; on a volume of version 2 none does (for the cause of InUse in `upgrade`).
-pub upgrade_refused : (n : ℕ) (v : Volume) → IsAdopted n v → refusal_of n Upgrade (Some v) ≡ (if runs_past_redo n v then Some InUse else None)
-upgrade_refused n v is = ap (λ (b : Bool). if not b then Some NoRedo else (if not (is_upgraded n v) && runs_past_redo n v then Some InUse else None)) is.adopted ∙ go (is_upgraded n v) refl
-  where
-    go : (b : Bool) → is_upgraded n v ≡ b → (if not (is_upgraded n v) && runs_past_redo n v then Some InUse else None) ≡ (if runs_past_redo n v then Some InUse else None)
-    go false e = ap (λ (b : Bool). if not b && runs_past_redo n v then Some InUse else None) e
-    go true e =
-        let ends = ends_before_redo Two n v is.volume e in
-        let clear : runs_past_redo n v ≡ false = or_from (nat_lt (redo_start Two n) (directory_end v.header)) _ (le-ltb (redo_start Two n) (directory_end v.header) ends.0)
-        (none_in_filter [] occupies (λ slot. not (is_redo_file n slot) && nat_lt (redo_start Two n) (end_of slot)) v.slots (λ k lt on. one k (cases_Bool (is_redo_file n (get_or v.slots k []))) (ends.1 k lt on))) in
-        ap (λ (b : Bool). if not b && runs_past_redo n v then Some InUse else None) e ∙ sym (ap (λ (b : Bool). if b then Some InUse else None) clear)
-      where
-        one : (k : ℕ) → (is_redo_file n (get_or v.slots k []) ≡ true) ⊎ (is_redo_file n (get_or v.slots k []) ≡ false) → (is_redo_file n (get_or v.slots k []) ≡ false → end_of (get_or v.slots k []) ≤ redo_start Two n)
-            → (not (is_redo_file n (get_or v.slots k [])) && nat_lt (redo_start Two n) (end_of (get_or v.slots k []))) ≡ false
-        one k (inl redo_too) before = ap (λ (b : Bool). not b && nat_lt (redo_start Two n) (end_of (get_or v.slots k []))) redo_too
-        one k (inr other) before = ap (λ (b : Bool). not b && nat_lt (redo_start Two n) (end_of (get_or v.slots k []))) other ∙ le-ltb (redo_start Two n) (end_of (get_or v.slots k [])) (before other)
-
 -- ---- format
 
 -- what `format` makes of any tape
@@ -533,11 +515,3 @@ next_is_adopted n (Purge name) v is formed none = purge_is_adopted n v name is n
 next_is_adopted n Adopt v is formed none = adopt_is_adopted n v is.volume none
 next_is_adopted n Upgrade v is formed none = (upgrade_is_two n v is none).0
 next_is_adopted n (Format label slots) v is formed none = format_is_adopted n label slots formed (none_met n (Format label slots) v none).0
-
--- as a pair of reply and volume
-pub apply_is_adopted : (n : ℕ) (command : VolumeCommand) (v : Volume) → IsAdopted n v → IsWellFormed command → (w : Volume) × ((apply n command (Some v)).1 ≡ Some w) × IsAdopted n w
-apply_is_adopted n command v is formed = go (refusal_of n command (Some v)) refl
-  where
-    go : (r : Option Refusal) → refusal_of n command (Some v) ≡ r → (w : Volume) × ((apply n command (Some v)).1 ≡ Some w) × IsAdopted n w
-    go None e = (volume_after n command v, ap (λ (p : Option Refusal × Option Volume). p.1) (accepted n command v e), next_is_adopted n command v is formed e)
-    go (Some refusal) e = (v, ap (λ (p : Option Refusal × Option Volume). p.1) (refused_stays n command (Some v) refusal e), is)

@@ -7,15 +7,12 @@ use Rattle.lif_model.specs.Gate.{gate_of, is_open, has_open_gate}
 use Rattle.lif_model.specs.Stops.{Torn, Elapses, LeavesOnly}
 use Rattle.std.specs.Prelude.{Option, Some}
 use Rattle.lif_model.specs.Redo.{Version, redo_start, zeros, open_gate, Changes, redo_of, changed, settled}
-use Rattle.lif_model.specs.Commit.{AreChanges, SettlesAs, SettlesBelow, IsOldOrNew, Quiet, IsShut, IsLoaded, IsStaged, IsArmed, IsCommitted, IsTarget}
+use Rattle.lif_model.specs.Commit.{AreChanges, SettlesAs, SettlesBelow, IsOldOrNew, Quiet, IsShut, IsLoaded, IsStaged, IsArmed, IsCommitted}
 use Rattle.lif_model.proofs.Moments.{started, goes_on}
 use Rattle.lif_model.proofs.Texts.{open_is_open}
 use Rattle.lif_model.proofs.Redo.{redo_closed, redo_open, gate_at, same_gate, Elsewhere, AllBelow, elsewhere, length_changed, changed_elsewhere, changed_agree, changes_below, changes_long, redo_places, behind_same, armed_here, loaded_are, settled_none, settled_some, length_settled}
 
 -- ---- the settled tape
-
-pub armed_redo : (version : Version) (cs : Changes) (t : Tape) → IsArmed version cs t → redo_of t ≡ cs
-armed_redo version cs t armed = redo_open t armed.gate ∙ armed.loaded.holds
 
 pub armed_are : (version : Version) (cs : Changes) (t : Tape) → IsArmed version cs t → AreChanges version (length t) cs
 armed_are version cs t armed = loaded_are version cs t armed.loaded
@@ -182,11 +179,6 @@ in_place version cs t c i armed lt torn =
     let same : (k : ℕ) → Elsewhere cs k → record_at c k ≡ record_at t k = λ k out. torn.elsewhere k (elsewhere_at cs k i out lt) ∙ changed_elsewhere (take i cs) t k (elsewhere_take cs k i out) in
     settles_new version cs t c armed size (λ k ne out. same k out) (same_gate c t size (same (gate_of n) outside) ∙ armed.gate)
 
-pub target_at : (cs : Changes) (i : ℕ) → i < length cs → IsTarget cs (get_or cs i (0, [])).0
-target_at [] i lt = absurd (omega arith)
-target_at (c ∷ cs) zero lt = inl refl
-target_at (c ∷ cs) (suc i) lt = inr (target_at cs i (omega arith))
-
 -- ---- the gate opens
 
 -- a stop while the gate is being opened
@@ -269,9 +261,6 @@ settles_too t x c cs is new = record {
   same = λ k ne. new.same k (λ e. ne (e ∙ ap gate_of (length_changed (c ∷ cs) t ∙ sym (length_settled t))))
       ∙ sym (settled_some t c cs is k (λ e. ne (e ∙ ap gate_of (sym (length_settled t)))));
 }
-
-pub settles_here : (t : Tape) → redo_of t ≡ [] → SettlesAs (settled t) t
-settles_here t none = record { records = sym (length_settled t); same = λ k ne. refl }
 
 pub settles_self : (t : Tape) → SettlesAs (settled t) t
 settles_self t = record { records = sym (length_settled t); same = λ k ne. refl }

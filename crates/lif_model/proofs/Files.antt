@@ -11,7 +11,7 @@ use Rattle.lif_model.specs.Tape.{Tape, record_at, bytes_from}
 use Rattle.lif_model.specs.Shelf.{bytes_of}
 use Rattle.lif_model.specs.Made.{file_length, filled, file_records}
 use Rattle.lif_model.specs.Directory.{name_of, start_of, length_of}
-use Rattle.lif_model.specs.Volume.{Files, is_file, file_named, content_of, files_of, Volume}
+use Rattle.lif_model.specs.Volume.{Files, is_file, file_named, content_of, files_of}
 use Rattle.lif_model.specs.Apply.{moved_key}
 use Rattle.lif_model.proofs.Made.{length_cut, file_bytes}
 
@@ -55,10 +55,6 @@ found n tape (slot ∷ slots) name = go (is_file n slot) (bytes_eq name (name_of
 pub get_file : (tape : Tape) (slots : List (List ℕ)) (n : ℕ) (name : List ℕ) → n ≡ length tape → get (files_of tape slots) name ≡ option_map (content_of tape) (file_named n slots name)
 get_file tape slots n name e =
     get-from_entries nat_list_cmp_total _ name ∙ found (length tape) tape slots name ∙ ap (λ (m : ℕ). option_map (content_of tape) (file_named m slots name)) (sym e)
-
--- two volumes are equal where their headers, their slots and their look-ups are
-pub same_volume : (v w : Volume) → v.header ≡ w.header → v.slots ≡ w.slots → ((name : List ℕ) → get v.files name ≡ get w.files name) → v ≡ w
-same_volume v w header slots files = let map : v.files ≡ w.files = same_files v.files w.files files in λ i. record { header = header i; slots = slots i; files = map i }
 
 -- ---- a file as it is written
 

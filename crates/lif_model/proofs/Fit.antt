@@ -1,7 +1,6 @@
 -- What is known of a place that was chosen.
 use Rattle.std.proofs.Common.{◌≡◌, ◌⊎◌, ◌<◌, ◌≤◌, ◌+◌, ◌-◌, ◌++◌, ◌==◌, ℕ, zero, suc, max, min, List, [], ◌∷◌, Bool, true, false, if◌then◌else◌, length, get_or, take, drop, inl, inr, refl, sym, ◌∙◌, ap, subst, arith, nat_le, length-take, length-drop, get_or-take, get_or-drop}
 use Rattle.std.proofs.lemmas.Bool.{cases_eq, cases_lt, cases_Bool, leb-true, eq-eqb}
-use Rattle.std.proofs.lemmas.List.{take_more}
 use Rattle.lif_model.specs.Gate.{gate_of}
 use Rattle.lif_model.specs.Header.{directory_end, capacity_of}
 use Rattle.lif_model.specs.Directory.{start_of, is_purged}
@@ -50,31 +49,6 @@ each_start high (slot ∷ slots) i lt on = go (has_records slot) refl i lt on (e
     go true e (suc i) lt on rest = omega (arith, rest i (omega arith) on)
     go false e zero lt on rest = let both : true ≡ false = sym on ∙ e in cc
     go false e (suc i) lt on rest = rest i (omega arith) on
-
--- The bounds from slot to slot, as the choice of a place walks over the directory: what lies before
--- slot i + 1 from what lies before slot i, and what lies from slot i on from what lies behind it.
-greatest_push : (low : ℕ) (slots : List (List ℕ)) (slot : List ℕ) → greatest_end low (slots ++ slot ∷ []) ≡ (if has_records slot then max (end_of slot) (greatest_end low slots) else greatest_end low slots)
-greatest_push low [] slot = refl
-greatest_push low (first ∷ slots) slot = go (has_records first) (has_records slot) (greatest_push low slots slot)
-  where
-    go : (b c : Bool) → greatest_end low (slots ++ slot ∷ []) ≡ (if c then max (end_of slot) (greatest_end low slots) else greatest_end low slots)
-        → (if b then max (end_of first) (greatest_end low (slots ++ slot ∷ [])) else greatest_end low (slots ++ slot ∷ []))
-        ≡ (if c then max (end_of slot) (if b then max (end_of first) (greatest_end low slots) else greatest_end low slots) else (if b then max (end_of first) (greatest_end low slots) else greatest_end low slots))
-    go true true rest = omega (arith, rest)
-    go true false rest = omega (arith, rest)
-    go false c rest = rest
-
-pub greatest_end_next : (low : ℕ) (slots : List (List ℕ)) (i : ℕ) → i < length slots
-    → greatest_end low (take (suc i) slots) ≡ (if has_records (get_or slots i []) then max (end_of (get_or slots i [])) (greatest_end low (take i slots)) else greatest_end low (take i slots))
-greatest_end_next low slots i lt =
-    let one_more : suc i ≡ i + 1 = omega arith in
-    ap (λ (k : ℕ). greatest_end low (take k slots)) one_more ∙ ap (greatest_end low) (take_more slots i [] lt) ∙ greatest_push low (take i slots) (get_or slots i [])
-
-pub least_start_next : (high : ℕ) (slots : List (List ℕ)) (i : ℕ) → i < length slots
-    → least_start high (drop i slots) ≡ (if has_records (get_or slots i []) then min (start_of (get_or slots i [])) (least_start high (drop (suc i) slots)) else least_start high (drop (suc i) slots))
-least_start_next high [] i lt = absurd (omega arith)
-least_start_next high (slot ∷ slots) zero lt = refl
-least_start_next high (slot ∷ slots) (suc i) lt = least_start_next high slots i (omega arith)
 
 -- ---- candidates
 

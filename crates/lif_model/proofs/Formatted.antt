@@ -3,7 +3,7 @@ use Rattle.std.proofs.Common.{◌≡◌, ◌<◌, ◌≤◌, ◌+◌, ◌-◌, �
 use Rattle.std.specs.Prelude.{option_map}
 use Rattle.std.specs.Str.{bytes_eq}
 use Rattle.std.specs.FinMap.{empty}
-use Rattle.std.proofs.lemmas.Bool.{and_from, and_right, eq-eqb, lt-ltb, not_from_true, ltb-false}
+use Rattle.std.proofs.lemmas.Bool.{and_right, eq-eqb, not_from_true, ltb-false}
 use Rattle.std.proofs.lemmas.List.{take_at, drop_at, ext_get_or, length-take-le, get_or-take}
 use Rattle.lif_model.specs.Tape.{Tape, IsTape, record_at}
 use Rattle.lif_model.specs.Shelf.{piece}
@@ -11,7 +11,6 @@ use Rattle.lif_model.specs.Header.{directory_start, directory_length}
 use Rattle.lif_model.specs.Directory.{name_of, is_end, entry_at, entries_from, before_end, slots_of}
 use Rattle.lif_model.specs.Made.{end_entry, first_directory_record, fresh_header, records_for_slots}
 use Rattle.lif_model.specs.Redo.{One, redo_start, changed}
-use Rattle.lif_model.specs.Commit.{AreChanges}
 use Rattle.lif_model.specs.Volume.{redo_name, redo_type, redo_entry, is_redo_entry, is_adopted_with, is_file, content_of, files_of, volume_in}
 use Rattle.lif_model.specs.Apply.{Format, IsWellFormed, is_too_long, fresh_volume}
 use Rattle.lif_model.specs.Writing.{format_changes}
@@ -19,7 +18,7 @@ use Rattle.lif_model.proofs.Lists.{any_from}
 use Rattle.lif_model.proofs.Made.{new_type, new_size, typed_type, typed_size, fresh_start, fresh_length, fresh_size, piece_short, piece_size}
 use Rattle.lif_model.proofs.Files.{same_files, get_file, get_none}
 use Rattle.lif_model.proofs.Apply.{format_is_adopted, made_redo_file}
-use Rattle.lif_model.proofs.Directory.{entries_count, entry_of_all, before_end_at, set_shape, AreWhole}
+use Rattle.lif_model.proofs.Directory.{entries_count, entry_of_all, before_end_at, set_shape}
 use Rattle.lif_model.proofs.Written.{volume_by_parts, made_redo_entry}
 
 -- ---- the directory's first record
@@ -66,13 +65,6 @@ module _ (n : ℕ) (label : List ℕ) (slots : ℕ) (formed : IsWellFormed (Form
 
   bounds : (0 < count) × (2 + count ≤ n - 4)
   bounds = let short : slots ≤ 8 * (n - 6) = ltb-false (8 * (n - 6)) slots fits in (omega (arith, formed.1), omega (arith, formed.1, short))
-
-  -- what is written
-  pub format_changes_are : AreChanges One n (format_changes n label slots)
-  format_changes_are = and_from _ _ (and_from _ _ (lt-ltb 0 (n - 4) (omega (arith, bounds.0, bounds.1))) (and_from _ _ (lt-ltb 2 (n - 4) (omega (arith, bounds.0, bounds.1))) refl)) refl
-
-  pub format_changes_whole : AreWhole (format_changes n label slots)
-  format_changes_whole = (fresh_size n label count, (first_size redo, tt))
 
   pub format_makes : (u : Tape) → IsTape n u → IsFormatted n label slots (changed (format_changes n label slots) u)
   format_makes u is =

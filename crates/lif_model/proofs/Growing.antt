@@ -1,15 +1,14 @@
 -- Slot writes, one after the other: how the changes grow with each, and that the records of files may be written before.
-use Rattle.std.proofs.Common.{◌≡◌, ◌≢◌, ◌<◌, ◌≤◌, ◌+◌, ◌*◌, ◌%◌, ◌++◌, ◌||◌, ◌⊎◌, ℕ, zero, suc, nat_eq, List, [], ◌∷◌, Bool, true, false, not, if◌then◌else◌, length, get_or, set, filter, inl, inr, refl, sym, ◌∙◌, ap, arith, append-nil, get_or-set_same, get_or-set_other}
+use Rattle.std.proofs.Common.{◌≡◌, ◌≢◌, ◌<◌, ◌%◌, ◌++◌, ◌||◌, ◌⊎◌, ℕ, zero, suc, nat_eq, List, [], ◌∷◌, Bool, true, false, not, if◌then◌else◌, length, get_or, set, filter, inl, inr, refl, sym, ◌∙◌, ap, arith, append-nil, get_or-set_same, get_or-set_other}
 use Rattle.std.specs.List.{list_all, list_any}
 use Rattle.std.proofs.lemmas.Bool.{cases_eq, and_parts, eqb-true, eq-eqb, ne_eqb, or_parts}
-use Rattle.std.proofs.lemmas.List.{length-map, set_comm}
+use Rattle.std.proofs.lemmas.List.{length-map}
 use Rattle.lif_model.specs.Tape.{Tape, record_at}
 use Rattle.lif_model.specs.Pairs.{all_pairs}
-use Rattle.lif_model.specs.Redo.{Changes, changed}
-use Rattle.lif_model.specs.Writing.{with_entry, slot_record, SlotWrites, with_slots, touched, records_on, changes_by, with_records}
+use Rattle.lif_model.specs.Redo.{Changes}
+use Rattle.lif_model.specs.Writing.{with_entry, slot_record, SlotWrites, with_slots, touched, records_on, changes_by}
 use Rattle.lif_model.proofs.Lists.{any_from, none_from}
-use Rattle.lif_model.proofs.Recorded.{length_records, records_before}
-use Rattle.lif_model.proofs.Writing.{AreEntries, AreOther, are_two, apart_tell, once, others_untouched, slots_elsewhere, length_slots, changes_write}
+use Rattle.lif_model.proofs.Writing.{AreOther, are_two, apart_tell, once, others_untouched, slots_elsewhere, length_slots}
 
 -- more writes are written on the tape with the first ones
 pub with_more : (start : ℕ) (ws more : SlotWrites) (t : Tape) → with_slots start (ws ++ more) t ≡ with_slots start more (with_slots start ws t)
@@ -183,34 +182,3 @@ module _ (start : ℕ) (ws : SlotWrites) (w : ℕ × List ℕ) (u : Tape) (withi
       let same : touched start (ws ++ w ∷ []) ≡ numbers ++ r ∷ [] = touched_more start ws w ∙ ap (λ (b : Bool). numbers ++ (if b then [] else r ∷ [])) none in
       let last : record_at after r ≡ with_entry (record_at u r) (w.0 % 8) w.1 = there ∙ ap (λ (bs : List ℕ). with_entry bs (w.0 % 8) w.1) (slots_elsewhere start ws u r (others_untouched start ws r others)) in
       ap (records_on after) same ∙ records_push numbers r after ∙ (λ i. records_same r numbers before after others elsewhere i ++ (r, last i) ∷ [])
-
--- ---- files first
-
-records_set_below : (first : ℕ) (rs : List (List ℕ)) (t : Tape) (k : ℕ) (bytes : List ℕ) → k < first
-    → with_records first rs (set t k bytes) ≡ set (with_records first rs t) k bytes
-records_set_below first [] t k bytes lt = refl
-records_set_below first (r ∷ rs) t k bytes lt =
-    ap (with_records (suc first) rs) (set_comm t k first bytes r (λ e. absurd (omega (arith, e, lt)))) ∙ records_set_below (suc first) rs (set t first r) k bytes (omega (arith, lt))
-
--- The records of a file behind the directory may be written before slots are: so the files of several stores come first,
--- and one commit changes all their slots.
-pub files_come_first : (start room first : ℕ) (ws : SlotWrites) (rs : List (List ℕ)) (t : Tape) → AreEntries (8 * room) ws → start + room ≤ first
-    → with_records first rs (with_slots start ws t) ≡ with_slots start ws (with_records first rs t)
-files_come_first start room first [] rs t are le = refl
-files_come_first start room first (w ∷ ws) rs t are le =
-    let r : ℕ = slot_record start w.0 in
-    let lt : r < first = omega (arith, are.0, le) in
-    files_come_first start room first ws rs (set t r (with_entry (record_at t r) (w.0 % 8) w.1)) are.2 le
-    ∙ ap (with_slots start ws) (records_set_below first rs t r (with_entry (record_at t r) (w.0 % 8) w.1) lt
-    ∙ ap (λ (bytes : List ℕ). set (with_records first rs t) r (with_entry bytes (w.0 % 8) w.1)) (sym (records_before first rs t r lt)))
-
--- What a further part makes of the tape that the parts before it made is the tape with all their files and all their slots;
--- so one commit of all these slots, behind all the files, makes the same.
-pub parts_join : (start room n first : ℕ) (ws more : SlotWrites) (rs : List (List ℕ)) (t : Tape) → AreEntries (8 * room) ws
-    → AreEntries (8 * room) more → start + room ≤ n → start + room ≤ first → length t ≡ n
-    → changed (changes_by start more (with_slots start ws t)) (with_records first rs (with_slots start ws t)) ≡ with_slots start (ws ++ more) (with_records first rs t)
-parts_join start room n first ws more rs t are are_more le behind size =
-    let x : Tape = with_slots start ws t in
-    let size_x : length x ≡ n = length_slots start ws t ∙ size in
-    changes_write start room more are_more n x (with_records first rs x) le size_x (length_records first rs x ∙ size_x) (λ k low high. records_before first rs x k (omega (arith, high, behind)))
-    ∙ ap (with_slots start more) (files_come_first start room first ws rs t are behind) ∙ sym (with_more start ws more (with_records first rs t))

@@ -1,5 +1,5 @@
 -- The test for a legal directory, slot by slot.
-use Rattle.std.proofs.Common.{◌≡◌, ◌≢◌, ◌⊎◌, ◌≤◌, ◌↔◌, ℕ, List, [], true, false, get_or, inl, inr, sym, ◌∙◌, filter}
+use Rattle.std.proofs.Common.{◌≡◌, ◌≢◌, ◌⊎◌, ◌≤◌, ℕ, List, [], true, false, get_or, inl, inr, sym, ◌∙◌, filter}
 use Rattle.std.specs.List.{list_all}
 use Rattle.std.proofs.lemmas.Bool.{and_parts, and_from, or_left, or_right, or_cases, leb-true, le-leb, not-true, not_from_false, false_from_ne_true}
 use Rattle.std.proofs.lemmas.Slice.Eq.{bytes_eq-Decides}
@@ -52,7 +52,3 @@ module _ (n : ℕ) (header : List ℕ) (slots : List (List ℕ)) where
       (and_from (all_pairs are_apart (filter occupies slots)) _
       ((filter_pairs_tell [] occupies are_apart slots).1 (λ i j lt long a b. apart_from _ _ (is.apart i j lt long a b)))
       ((filter_pairs_tell [] is_live have_other_names slots).1 (λ i j lt long a b. names_from _ _ (is.distinct i j lt long a b)))))
-
-  -- a directory is legal exactly where its slots are so one by one and two by two
-  pub legal_is : (is_legal_with n header slots ≡ true) ↔ IsLegal n header slots
-  legal_is = (legal_tells, legal_from)

@@ -135,12 +135,3 @@ module _ {X : Type 0} (d : X) where
       go true e none (suc i) lt on rest = rest (or_parts (test x) _ none).1 i (omega arith) on
       go false e none zero lt on rest = let both : true ≡ false = sym on ∙ e in cc
       go false e none (suc i) lt on rest = rest none i (omega arith) on
-
-  -- and none of those picked passes, where no element that is picked does
-  pub none_in_filter : (pick test : X → Bool) (xs : List X) → ((i : ℕ) → i < length xs → pick (get_or xs i d) ≡ true → test (get_or xs i d) ≡ false) → list_any test (filter pick xs) ≡ false
-  none_in_filter pick test [] each = refl
-  none_in_filter pick test (x ∷ xs) each = go (pick x) refl (none_in_filter pick test xs (λ i lt on. each (suc i) (omega arith) on))
-    where
-      go : (b : Bool) → pick x ≡ b → list_any test (filter pick xs) ≡ false → list_any test (if b then x ∷ filter pick xs else filter pick xs) ≡ false
-      go true e rest = or_from (test x) _ (each 0 (omega arith) e) rest
-      go false e rest = rest

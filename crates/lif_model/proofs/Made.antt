@@ -1,12 +1,12 @@
 -- The bytes that are written, read back.
 use Rattle.std.proofs.Common.{◌≡◌, ◌<◌, ◌≤◌, ◌+◌, ◌-◌, ◌*◌, ◌/◌, ◌%◌, ◌++◌, ◌==◌, if◌then◌else◌, ℕ, zero, suc, List, [], ◌∷◌, Bool, true, false, length, get_or, set, take, drop, replicate, inl, inr, refl, sym, ◌∙◌, ap, arith, slice_index, length-append, length-set, length-drop, length-take, get_or-drop, get_or-take, get_or-set_other, get_or-set_same, append_assoc}
 use Rattle.std.proofs.lemmas.Bool.{and_from, le-leb, lt-ltb, cases_lt}
-use Rattle.std.proofs.lemmas.List.{get_or-append_right, get_or_append_left, take_at, take-set-le, take_all, drop_all, replicate-append-replicate, length-replicate, take-append-drop, take-append-le, take-take, append-nil}
+use Rattle.std.proofs.lemmas.List.{get_or-append_right, get_or_append_left, take_at, take_all, drop_all, replicate-append-replicate, length-replicate, take-append-drop, take-append-le, take-take, append-nil}
 use Rattle.lif_model.specs.Numbers.{two_at, four_at}
 use Rattle.lif_model.specs.Shelf.{piece, cut, bytes_of}
 use Rattle.lif_model.specs.Gate.{gate_of}
-use Rattle.lif_model.specs.Header.{label_of, directory_start, directory_length, is_readable}
-use Rattle.lif_model.specs.Directory.{name_of, type_of, start_of, length_of, volume_word_of}
+use Rattle.lif_model.specs.Header.{directory_start, directory_length, is_readable}
+use Rattle.lif_model.specs.Directory.{name_of, type_of, start_of, length_of}
 use Rattle.lif_model.specs.Made.{in_two, in_four, new_entry, with_name, with_type, with_extent, geometry, fresh_header, file_length, filled, file_records}
 
 -- ---- numbers
@@ -66,10 +66,6 @@ module _ (name : List ℕ) (kind start count : ℕ) (implementation : List ℕ) 
   unfolding new_entry
   new_length = four_behind name _ 10 6 ten ∙ four_behind (in_two kind) _ 2 4 refl ∙ four_behind (in_four start) _ 4 0 refl ∙ four_first count _
 
-  pub new_volume_word : volume_word_of (new_entry name kind start count implementation) ≡ 0x8001
-  unfolding new_entry
-  new_volume_word = two_behind name _ 10 16 ten ∙ two_behind (in_two kind) _ 2 14 refl ∙ two_behind (in_four start) _ 4 10 refl ∙ two_behind (in_four count) _ 4 6 refl ∙ two_behind (replicate 6 0) _ 6 0 refl ∙ two_first 0x8001 _
-
   pub new_size : length implementation ≡ 4 → length (new_entry name kind start count implementation) ≡ 32
   unfolding new_entry
   new_size four = length-append name _ ∙ omega (arith, ten, four)
@@ -102,10 +98,6 @@ module _ (kind : ℕ) (entry : List ℕ) where
   typed_rest : (j : ℕ) → 12 ≤ j → get_or (with_type kind entry) j 0 ≡ get_or entry j 0
   unfolding with_type
   typed_rest j le = get_or-set_other (set entry 10 (kind / 256)) 11 j (kind % 256) 0 (λ e. absurd (omega (arith, e, le))) ∙ get_or-set_other entry 10 j (kind / 256) 0 (λ e. absurd (omega (arith, e, le)))
-
-  pub typed_name : name_of (with_type kind entry) ≡ name_of entry
-  unfolding with_type name_of
-  typed_name = take-set-le 10 (set entry 10 (kind / 256)) 11 (kind % 256) (omega arith) ∙ take-set-le 10 entry 10 (kind / 256) (omega arith)
 
   pub typed_type : 12 ≤ length entry → type_of (with_type kind entry) ≡ kind
   unfolding with_type two_at
@@ -210,10 +202,6 @@ module _ (n : ℕ) (label : List ℕ) (count : ℕ) (six : length label ≡ 6) w
 
   pub fresh_mark : two_at (fresh_header n label count) 0 ≡ 0x8000
   fresh_mark = ap (λ (bs : List ℕ). two_at bs 0) fresh_is ∙ two_front made _ 0 (omega (arith, made_size)) ∙ two_first 0x8000 (label ++ behind_label)
-
-  pub fresh_label : label_of (fresh_header n label count) ≡ label
-  unfolding label_of
-  fresh_label = ap (λ (bs : List ℕ). take 6 (drop 2 bs)) fresh_is ∙ ap (take 6) (append_assoc label behind_label (replicate 220 0)) ∙ take_at label (behind_label ++ replicate 220 0) 6 six
 
   pub fresh_start : directory_start (fresh_header n label count) ≡ 2
   fresh_start = ap (λ (bs : List ℕ). four_at bs 8) fresh_is ∙ four_front made _ 8 (omega (arith, made_size)) ∙ four_behind (in_two 0x8000) (label ++ behind_label) 2 6 refl ∙ four_behind label behind_label 6 0 six ∙ four_first 2 _

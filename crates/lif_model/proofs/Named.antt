@@ -1,29 +1,23 @@
 -- The files of the next volume: each command leaves the map and the slots in step.
-use Rattle.std.proofs.Common.{◌≡◌, ◌≢◌, ◌<◌, ◌≤◌, ◌+◌, ◌*◌, ◌++◌, ◌&&◌, ℕ, zero, suc, nat_eq, List, [], ◌∷◌, Bool, true, false, not, if◌then◌else◌, Option, Some, None, length, get_or, set, insert, find, inl, inr, refl, sym, ◌∙◌, ap, subst, arith, length-append, length-set, get_or-set_same, get_or-set_other}
+use Rattle.std.proofs.Common.{◌≡◌, ◌≢◌, ◌<◌, ◌≤◌, ◌+◌, ◌++◌, ◌&&◌, ℕ, zero, suc, nat_eq, List, [], ◌∷◌, Bool, true, false, not, if◌then◌else◌, Some, None, length, get_or, set, insert, find, inl, inr, refl, sym, ◌∙◌, ap, subst, arith, length-set, get_or-set_same, get_or-set_other}
 use Rattle.std.specs.Str.{bytes_eq}
-use Rattle.std.specs.Prelude.{option_map}
-use Rattle.std.specs.FinMap.{get}
-use Rattle.std.proofs.lemmas.Bool.{cases_eq, cases_lt, cases_Bool, and_parts, and_from, or_parts, and_left, and_right, not-false, not_from_true, not_from_false, false_from_ne_true, ne_eqb, eq-eqb, eqb-true, ltb-false}
+use Rattle.std.proofs.lemmas.Bool.{cases_eq, cases_lt, cases_Bool, and_parts, and_from, or_parts, and_right, not-false, not_from_true, not_from_false, false_from_ne_true, ne_eqb, eq-eqb, eqb-true}
 use Rattle.std.proofs.lemmas.List.{length_push, get_or_append_left, length-map, get_or-map}
 use Rattle.std.proofs.lemmas.List.Edits.{length-insert, get_or-insert_below, get_or-insert_above}
 use Rattle.std.proofs.lemmas.Slice.Eq.{bytes_eq-Decides}
-use Rattle.lif_model.specs.Tape.{Tape, IsTape, record_at, bytes_from}
-use Rattle.lif_model.specs.Directory.{name_of, type_of, start_of, length_of, is_purged, slots_of}
-use Rattle.lif_model.specs.Made.{new_entry, with_name, with_type, file_length, filled}
-use Rattle.lif_model.specs.Redo.{One, Two, settled}
-use Rattle.lif_model.specs.Legal.{is_live, has_records, is_live_named, has_file, is_legal, IsLegal}
-use Rattle.lif_model.specs.Volume.{redo_name, redo_entry, upgraded_entry, is_redo_file, is_adopted, is_file, file_named, content_of, files_of, Volume, volume_if, volume_in, volume_of, IsVolume, IsAdopted, HasBytes, HasFiles}
-use Rattle.lif_model.specs.Fit.{Place, At, redo_place, fit_in}
-use Rattle.lif_model.specs.Apply.{VolumeCommand, Dir, Label, Fetch, Store, Rename, Purge, Adopt, Upgrade, Format, IsWellFormed, is_protected, is_upgraded, runs_past_redo, checks_of, refusal_of, placed, stored, with_slot, moved_key, renamed, upgraded, fresh_volume, volume_after}
-use Rattle.lif_model.proofs.Made.{new_name, new_type, new_length, named_name, named_type, named_length, length_filled}
-use Rattle.lif_model.proofs.Fit.{IsPlaceIn, fit_tells}
+use Rattle.lif_model.specs.Directory.{name_of, type_of, is_purged}
+use Rattle.lif_model.specs.Made.{new_entry, with_name, with_type, file_length}
+use Rattle.lif_model.specs.Redo.{One, Two}
+use Rattle.lif_model.specs.Legal.{is_live, is_live_named, has_file, IsLegal}
+use Rattle.lif_model.specs.Volume.{redo_name, redo_entry, upgraded_entry, is_redo_file, is_adopted, is_file, file_named, Volume, IsVolume, IsAdopted}
+use Rattle.lif_model.specs.Fit.{redo_place}
+use Rattle.lif_model.specs.Apply.{Store, Rename, Purge, Adopt, Upgrade, IsWellFormed, is_protected, is_upgraded, runs_past_redo, checks_of, refusal_of, placed, with_slot, renamed, upgraded}
+use Rattle.lif_model.proofs.Made.{new_name, new_type, named_name, named_type}
+use Rattle.lif_model.proofs.Fit.{IsPlaceIn}
 use Rattle.lif_model.proofs.Lists.{any_at}
 use Rattle.lif_model.proofs.Slots.{live_named_tells, other_name, HasNew, set_new, before_insert, insert_new, push_new, slot_cases}
-use Rattle.lif_model.proofs.Legal.{legal_tells}
-use Rattle.lif_model.proofs.Directory.{settled_shape}
-use Rattle.lif_model.proofs.Files.{get_file, get_none, get_stored, get_removed, get_moved}
 use Rattle.lif_model.proofs.Adopted.{redo_file_tells, redo_entry_tells, redo_place_is, one_of_name, is_file_tells}
-use Rattle.lif_model.proofs.Apply.{NoneMet, none_met, made_redo_file, not_redo_name, store_has_place, stored_is_adopted, moved_is_two, upgraded_at, purged_is_dead, purge_is_adopted, rename_is_adopted, next_is_adopted, adopt_is_adopted}
+use Rattle.lif_model.proofs.Apply.{NoneMet, none_met, made_redo_file, not_redo_name, stored_is_adopted, moved_is_two, upgraded_at, purged_is_dead, purge_is_adopted, rename_is_adopted, next_is_adopted, adopt_is_adopted}
 
 -- ---- the slot of a name
 
@@ -97,16 +91,6 @@ same_named n header slots later name legal legal_later forth back = go (search_o
         let found = back j lt on in
         let both : true ≡ false = sym on ∙ ap (is_named n name) found.2 ∙ none found.0 found.1 in cc))
         ∙ sym (not_found (is_named n name) slots none)
-
--- the same file under the same name
-carried : (n : ℕ) (v w : Volume) (name : List ℕ) → HasFiles n v → file_named n w.slots name ≡ file_named n v.slots name → get w.files name ≡ get v.files name → HasBytes (file_named n w.slots name) (get w.files name)
-carried n v w name has slots files = subst (λ (o : Option (List ℕ)). HasBytes (file_named n w.slots name) o) (sym files) (subst (λ (o : Option (List ℕ)). HasBytes o (get v.files name)) (sym slots) (has name))
-
-has_none : (n : ℕ) (w : Volume) (name : List ℕ) → file_named n w.slots name ≡ None → get w.files name ≡ None → HasBytes (file_named n w.slots name) (get w.files name)
-has_none n w name slots files = subst (λ (o : Option (List ℕ)). HasBytes (file_named n w.slots name) o) (sym files) (subst (λ (o : Option (List ℕ)). HasBytes o None) (sym slots) tt)
-
-has_some : (n : ℕ) (w : Volume) (name slot bytes : List ℕ) → file_named n w.slots name ≡ Some slot → get w.files name ≡ Some bytes → length bytes ≡ 256 * length_of slot → HasBytes (file_named n w.slots name) (get w.files name)
-has_some n w name slot bytes slots files size = subst (λ (o : Option (List ℕ)). HasBytes (file_named n w.slots name) o) (sym files) (subst (λ (o : Option (List ℕ)). HasBytes o (Some bytes)) (sym slots) size)
 
 -- equal names or not
 pub data Names (a b : List ℕ) : Type 0 where
@@ -185,32 +169,6 @@ module _ (n : ℕ) (v : Volume) (name : List ℕ) (kind : ℕ) (implementation b
   pub placed_others : (q : List ℕ) → q ≢ name → file_named n later q ≡ file_named n v.slots q
   placed_others = both_named.1
 
-  -- a file stored at a place leaves files and slots in step (for `store`, and for the parts of a
-  -- batch)
-  pub stored_has_files : HasFiles n v → HasFiles n (stored v name kind implementation bytes (At i start))
-  stored_has_files has q = go (names_of q name)
-    where
-      gets : get (stored v name kind implementation bytes (At i start)).files q ≡ (if bytes_eq q name then Some (filled bytes) else get v.files q)
-      gets = get_stored v.files name (filled bytes) q
-
-      size : length (filled bytes) ≡ 256 * length_of entry
-      size = length_filled bytes ∙ sym (ap (λ (m : ℕ). 256 * m) (new_length name kind start (file_length bytes) implementation formed.0))
-
-      go : Names q name → HasBytes (file_named n later q) (get (stored v name kind implementation bytes (At i start)).files q)
-      go (equal same e) = has_some n (stored v name kind implementation bytes (At i start)) q entry (filled bytes) (ap (file_named n later) same ∙ placed_here)
-          (gets ∙ ap (λ (b : Bool). if b then Some (filled bytes) else get v.files q) e) size
-      go (other apart e) = carried n v (stored v name kind implementation bytes (At i start)) q has (placed_others q apart)
-          (gets ∙ ap (λ (b : Bool). if b then Some (filled bytes) else get v.files q) e)
-
-pub store_has_files : (n : ℕ) (v : Volume) (name : List ℕ) (kind : ℕ) (implementation bytes : List ℕ) → IsAdopted n v → HasFiles n v → IsWellFormed (Store name kind implementation bytes)
-    → refusal_of n (Store name kind implementation bytes) (Some v) ≡ None → HasFiles n (volume_after n (Store name kind implementation bytes) v)
-store_has_files n v name kind implementation bytes is has formed none =
-    let unmet : NoneMet (checks_of n (Store name kind implementation bytes) v) = none_met n (Store name kind implementation bytes) v none in
-    let found = store_has_place n v name (fit_in n v (file_length bytes)) unmet in
-    subst (λ (p : Place). HasFiles n (stored v name kind implementation bytes p)) (sym found.2)
-    (stored_has_files n v name kind implementation bytes found.0 found.1 is formed (not_redo_name n v name is.adopted unmet.1.0) unmet.1.1.0
-    (fit_tells n _ _ v.slots (file_length bytes) found.0 found.1 found.2) has)
-
 -- ---- purge
 
 -- slot k is not of that name, and a change of the slot of that name leaves it
@@ -256,15 +214,6 @@ module _ (n : ℕ) (v : Volume) (name : List ℕ) (is : IsAdopted n v) (none : r
       (k, long, (at_purged k long).1 ∙ left_alone name (with_type 0) (get_or v.slots k []) q (named_tells n q (get_or v.slots k []) on).1 apart))
       (λ j lt on. let stays = stayed q j lt on in (j, stays.0, stays.1))
 
-pub purge_has_files : (n : ℕ) (v : Volume) (name : List ℕ) → IsAdopted n v → HasFiles n v → refusal_of n (Purge name) (Some v) ≡ None → HasFiles n (volume_after n (Purge name) v)
-purge_has_files n v name is has none q = go (names_of q name)
-  where
-    go : Names q name → HasBytes (file_named n (volume_after n (Purge name) v).slots q) (get (volume_after n (Purge name) v).files q)
-    go (equal same e) = has_none n (volume_after n (Purge name) v) q (ap (file_named n (with_slot name (with_type 0) v.slots)) same ∙ purged_here n v name is none)
-        (get_removed v.files name q ∙ ap (λ (b : Bool). if b then None else get v.files q) e)
-    go (other apart e) = carried n v (volume_after n (Purge name) v) q has (purged_others n v name is none q apart)
-        (get_removed v.files name q ∙ ap (λ (b : Bool). if b then None else get v.files q) e)
-
 -- ---- rename
 
 module _ (n : ℕ) (v : Volume) (old later : List ℕ) (ten : length later ≡ 10) (apart : old ≢ later) where
@@ -276,10 +225,6 @@ module _ (n : ℕ) (v : Volume) (old later : List ℕ) (ten : length later ≡ 1
 
   at_then : (k : ℕ) → k < length slots_then → (k < length v.slots) × (get_or slots_then k [] ≡ change (get_or v.slots k []))
   at_then k lt = let under : k < length v.slots = omega (arith, length-map v.slots change) in (under, get_or-map change v.slots k [] [] under)
-
-  -- a renamed slot that is live was live
-  was_live : (slot : List ℕ) → is_live (with_name later slot) ≡ true → is_live slot ≡ true
-  was_live slot alive = sym (ap (λ (t : ℕ). not (nat_eq t 0)) (named_type later slot ten)) ∙ alive
 
   -- a file of another name than the new one was not renamed
   not_renamed : (k : ℕ) (q : List ℕ) → name_of (change (get_or v.slots k [])) ≡ q → q ≢ later → (change (get_or v.slots k []) ≡ get_or v.slots k []) × (is_live_named old (get_or v.slots k []) ≡ false)
@@ -362,32 +307,6 @@ renamed_named n v old later is formed none apart =
     legal_then : IsLegal n v.header (with_slot old (with_name later) v.slots)
     legal_then = subst (λ (b : Bool). IsLegal n (if b then v else renamed v old later).header (if b then v else renamed v old later).slots) differ (rename_is_adopted n v old later is formed none).volume.legal
 
-pub rename_has_files : (n : ℕ) (v : Volume) (old later : List ℕ) → IsAdopted n v → HasFiles n v → IsWellFormed (Rename old later) → refusal_of n (Rename old later) (Some v) ≡ None → HasFiles n (volume_after n (Rename old later) v)
-rename_has_files n v old later is has formed none = go (names_of old later)
-  where
-    go : Names old later → HasFiles n (volume_after n (Rename old later) v)
-    go (equal same e) = subst (λ (b : Bool). HasFiles n (if b then v else renamed v old later)) (sym e) has
-    go (other apart e) =
-        let found = renamed_named n v old later is formed none apart in
-        subst (λ (b : Bool). HasFiles n (if b then v else renamed v old later)) (sym e)
-        (with_bytes found.0 found.1 (get v.files old) refl (subst (λ (o : Option (List ℕ)). HasBytes o (get v.files old)) found.1.was (has old)))
-      where
-        with_bytes : (slot : List ℕ) → IsRenamed n v old later slot → (o : Option (List ℕ)) → get v.files old ≡ o → HasBytes (Some slot) o → HasFiles n (renamed v old later)
-        with_bytes slot names None is bytes q = absurd bytes
-        with_bytes slot names (Some content) is size q = by_name (names_of q later) (names_of q old)
-          where
-            gets : get (moved_key v.files old later (get v.files old)) q ≡ (if bytes_eq q later then Some content else (if bytes_eq q old then None else get v.files q))
-            gets = ap (λ (o : Option (List ℕ)). get (moved_key v.files old later o) q) is ∙ get_moved v.files old later content q
-
-            by_name : Names q later → Names q old → HasBytes (file_named n (with_slot old (with_name later) v.slots) q) (get (moved_key v.files old later (get v.files old)) q)
-            by_name (equal same e) is_old = has_some n (renamed v old later) q (with_name later slot) content (ap (file_named n (with_slot old (with_name later) v.slots)) same ∙ names.here)
-                (gets ∙ ap (λ (b : Bool). if b then Some content else (if bytes_eq q old then None else get v.files q)) e)
-                (size ∙ sym (ap (λ (m : ℕ). 256 * m) (named_length later slot formed.1)))
-            by_name (other off e) (equal same f) = has_none n (renamed v old later) q (ap (file_named n (with_slot old (with_name later) v.slots)) same ∙ names.gone)
-                (gets ∙ (λ i. if e i then Some content else (if f i then None else get v.files q)))
-            by_name (other off e) (other apart_old f) = carried n v (renamed v old later) q has (names.others q off apart_old)
-                (gets ∙ (λ i. if e i then Some content else (if f i then None else get v.files q)))
-
 -- ---- adopt and format
 
 redo_is_no_file : (n : ℕ) → is_file n (redo_entry One n) ≡ false
@@ -410,22 +329,6 @@ adopted_named n v is foreign none q = same_named n v.header v.slots (v.slots ++ 
     legal_then : IsLegal n v.header (v.slots ++ redo_entry One n ∷ [])
     legal_then = subst (λ (b : Bool). IsLegal n (if b then v else record v { slots = v.slots ++ redo_entry One n ∷ [] }).header (if b then v else record v { slots = v.slots ++ redo_entry One n ∷ [] }).slots)
         foreign (adopt_is_adopted n v is none).volume.legal
-
-pub adopt_has_files : (n : ℕ) (v : Volume) → IsVolume n v → HasFiles n v → refusal_of n Adopt (Some v) ≡ None → HasFiles n (volume_after n Adopt v)
-adopt_has_files n v is has none = go (is_adopted n v.slots) refl
-  where
-    go : (b : Bool) → is_adopted n v.slots ≡ b → HasFiles n (volume_after n Adopt v)
-    go true e = subst (λ (b : Bool). HasFiles n (if b then v else record v { slots = v.slots ++ redo_entry One n ∷ [] })) (sym e) has
-    go false e = subst (λ (b : Bool). HasFiles n (if b then v else record v { slots = v.slots ++ redo_entry One n ∷ [] })) (sym e)
-        (λ q. carried n v (record v { slots = v.slots ++ redo_entry One n ∷ [] }) q has (adopted_named n v is e none q) refl)
-
-pub format_has_files : (n : ℕ) (label : List ℕ) (slots : ℕ) → HasFiles n (fresh_volume n label slots)
-format_has_files n label slots q = has_none n (fresh_volume n label slots) q
-    (not_found (is_named n q) (redo_entry One n ∷ []) one) (get_none q)
-  where
-    one : (j : ℕ) → j < 1 → is_named n q (get_or (redo_entry One n ∷ []) j []) ≡ false
-    one zero lt = and_left _ _ (redo_is_no_file n)
-    one (suc j) lt = absurd (omega arith)
 
 -- ---- upgrade
 
@@ -469,69 +372,3 @@ upgraded_named n v is old none q = same_named n v.header v.slots (upgraded n v).
 
     stays : (k : ℕ) → k ≢ r → get_or (upgraded n v).slots k [] ≡ get_or v.slots k []
     stays k ne = ap (λ (xs : List (List ℕ)). get_or xs k []) at ∙ get_or-set_other v.slots r k new [] ne
-
-pub upgrade_has_files : (n : ℕ) (v : Volume) → IsAdopted n v → HasFiles n v → refusal_of n Upgrade (Some v) ≡ None → HasFiles n (volume_after n Upgrade v)
-upgrade_has_files n v is has none = go (is_upgraded n v) refl
-  where
-    go : (b : Bool) → is_upgraded n v ≡ b → HasFiles n (volume_after n Upgrade v)
-    go true e = subst (λ (b : Bool). HasFiles n (if b then v else upgraded n v)) (sym e) has
-    go false e = subst (λ (b : Bool). HasFiles n (if b then v else upgraded n v)) (sym e) (λ q. carried n v (upgraded n v) q has (upgraded_named n v is e none q) refl)
-
--- ---- every command
-
--- the files of the next volume are those of its slots
-pub next_has_files : (n : ℕ) (command : VolumeCommand) (v : Volume) → IsAdopted n v → HasFiles n v → IsWellFormed command → refusal_of n command (Some v) ≡ None → HasFiles n (volume_after n command v)
-next_has_files n Dir v is has formed none = has
-next_has_files n Label v is has formed none = has
-next_has_files n (Fetch name) v is has formed none = has
-next_has_files n (Store name kind implementation bytes) v is has formed none = store_has_files n v name kind implementation bytes is has formed none
-next_has_files n (Rename old later) v is has formed none = rename_has_files n v old later is has formed none
-next_has_files n (Purge name) v is has formed none = purge_has_files n v name is has none
-next_has_files n Adopt v is has formed none = adopt_has_files n v is.volume has none
-next_has_files n Upgrade v is has formed none = upgrade_has_files n v is has none
-next_has_files n (Format label slots) v is has formed none = format_has_files n label slots
-
--- ---- the files of a tape
-
-content_size : (n : ℕ) (u : Tape) (k count : ℕ) → IsTape n u → k + count ≤ n → length (bytes_from u k count) ≡ 256 * count
-content_size n u k zero is le = refl
-content_size n u k (suc count) is le =
-    length-append (record_at u k) (bytes_from u (suc k) count) ∙ omega (arith, is.bytes k (omega arith), content_size n u (suc k) count is (omega arith))
-
--- the files of the volume of a settled tape are those of its slots
-pub volume_in_files : (n : ℕ) (u : Tape) (v : Volume) → IsTape n u → volume_in u ≡ Some v → HasFiles n v
-volume_in_files n u v is e q = go (is_legal u) refl e
-  where
-    go : (b : Bool) → is_legal u ≡ b → volume_if b u ≡ Some v → HasBytes (file_named n v.slots q) (get v.files q)
-    go false legal none = cc
-    go true legal some =
-        let reads : IsLegal (length u) (record_at u 0) (slots_of u) = legal_tells (length u) (record_at u 0) (slots_of u) legal in
-        let same : record { header = record_at u 0; slots = slots_of u; files = files_of u (slots_of u) } ≡ v = cc in
-        subst (λ (w : Volume). HasBytes (file_named n w.slots q) (get w.files q)) same (of_tape (subst (λ (m : ℕ). IsLegal m (record_at u 0) (slots_of u)) is.records reads))
-      where
-        whole : (slot : List ℕ) → IsLegal n (record_at u 0) (slots_of u) → (k : ℕ) → k < length (slots_of u) → is_file n (get_or (slots_of u) k []) ≡ true → (b : Bool) → has_records (get_or (slots_of u) k []) ≡ b
-            → length (content_of u (get_or (slots_of u) k [])) ≡ 256 * length_of (get_or (slots_of u) k [])
-        whole slot reads k lt file true on =
-            let within = reads.within k lt (and_from _ _ (is_file_tells n (get_or (slots_of u) k []) file).0 on) in
-            content_size n u (start_of (get_or (slots_of u) k [])) (length_of (get_or (slots_of u) k [])) is within.1
-        whole slot reads k lt file false off =
-            let none : length_of (get_or (slots_of u) k []) ≡ 0 = omega (arith, ltb-false 0 (length_of (get_or (slots_of u) k [])) off) in
-            ap (λ (m : ℕ). length (bytes_from u (start_of (get_or (slots_of u) k [])) m)) none ∙ sym (ap (λ (m : ℕ). 256 * m) none)
-
-        of_tape : IsLegal n (record_at u 0) (slots_of u) → HasBytes (file_named n (slots_of u) q) (get (files_of u (slots_of u)) q)
-        of_tape reads = found (search_of (is_named n q) (slots_of u))
-          where
-            gets : get (files_of u (slots_of u)) q ≡ option_map (content_of u) (file_named n (slots_of u) q)
-            gets = get_file u (slots_of u) n q (sym is.records)
-
-            found : Found (is_named n q) (slots_of u) → HasBytes (file_named n (slots_of u) q) (get (files_of u (slots_of u)) q)
-            found (at_place k lt on) =
-                let slot : file_named n (slots_of u) q ≡ Some (get_or (slots_of u) k []) = named_at_place n (record_at u 0) (slots_of u) reads q k lt on in
-                let size = whole (get_or (slots_of u) k []) reads k lt (named_tells n q (get_or (slots_of u) k []) on).0 (has_records (get_or (slots_of u) k [])) refl in
-                subst (λ (o : Option (List ℕ)). HasBytes (file_named n (slots_of u) q) o) (sym gets) (subst (λ (o : Option (List ℕ)). HasBytes o (option_map (content_of u) o)) (sym slot) size)
-            found (nowhere none) =
-                let slot : file_named n (slots_of u) q ≡ None = not_found (is_named n q) (slots_of u) none in
-                subst (λ (o : Option (List ℕ)). HasBytes (file_named n (slots_of u) q) o) (sym gets) (subst (λ (o : Option (List ℕ)). HasBytes o (option_map (content_of u) o)) (sym slot) tt)
-
-pub volume_has_files : (n : ℕ) (t : Tape) (v : Volume) → IsTape n t → volume_of t ≡ Some v → HasFiles n v
-volume_has_files n t v is e = volume_in_files n (settled t) v (settled_shape n t is) e

@@ -1,26 +1,24 @@
 -- What a command leaves of a tape: what a stop in its commit may leave, and what stands after an
 -- Ok.
-use Rattle.std.proofs.Common.{◌≡◌, ◌⊎◌, ◌<◌, ◌≤◌, ◌+◌, ◌%◌, ◌==◌, ℕ, nat_lt, List, [], ◌∷◌, Bool, true, false, if◌then◌else◌, Some, length, get_or, filter, inl, inr, refl, sym, ◌∙◌, ap, subst, arith}
+use Rattle.std.proofs.Common.{◌≡◌, ◌⊎◌, ◌<◌, ℕ, nat_lt, List, [], ◌∷◌, Bool, true, false, if◌then◌else◌, Some, length, get_or, filter, inl, inr, refl, sym, ◌∙◌, ap, subst, arith}
 use Rattle.std.specs.List.{list_any}
-use Rattle.std.proofs.lemmas.Bool.{and_left, and_right, ne_eqb, not_from_true}
+use Rattle.std.proofs.lemmas.Bool.{and_left, and_right, not_from_true}
 use Rattle.lif_model.specs.Tape.{Tape, IsTape, record_at}
 use Rattle.lif_model.specs.Gate.{gate_of, is_open}
-use Rattle.lif_model.specs.Header.{directory_start, directory_length, directory_end, capacity_of}
-use Rattle.lif_model.specs.Directory.{entry_at, slots_of}
+use Rattle.lif_model.specs.Directory.{slots_of}
 use Rattle.lif_model.specs.Made.{file_length, file_records}
 use Rattle.lif_model.specs.Redo.{Version, One, versions, redo_start, Changes, changed, IsSettled}
 use Rattle.lif_model.specs.Commit.{SettlesBelow, IsOldOrNew, IsCommitted, IsTarget}
 use Rattle.lif_model.specs.Transfers.{Replaced}
 use Rattle.lif_model.specs.Legal.{occupies, end_of, is_legal}
 use Rattle.lif_model.specs.Volume.{is_redo_entry, is_adopted_with, is_redo_file, is_adopted, Volume, volume_in, volume_of, is_used, is_gate_held, is_foreign_gated}
-use Rattle.lif_model.specs.Writing.{slot_record, entry_from, SlotWrites, with_slots, IsSlotWritten, touched, records_on, changes_by, with_records}
+use Rattle.lif_model.specs.Writing.{slot_record, SlotWrites, IsSlotWritten, touched, records_on, with_records}
 use Rattle.lif_model.proofs.Lists.{any_at, any_from}
 use Rattle.lif_model.proofs.Fit.{IsPlaceIn}
-use Rattle.lif_model.proofs.Redo.{Elsewhere, length_changed, changed_elsewhere, gate_at, zeros_are_shut, redo_closed, redo_places, settled_none}
+use Rattle.lif_model.proofs.Redo.{length_changed, gate_at, zeros_are_shut, redo_closed, redo_places, settled_none}
 use Rattle.lif_model.proofs.Volume.{volume_agrees}
 use Rattle.lif_model.proofs.Adopted.{adopted_uses_below, clear_uses_below, clear_gate, settles_below_adopted, settles_below_clear}
 use Rattle.lif_model.proofs.Directory.{volume_tells}
-use Rattle.lif_model.proofs.Writing.{AreEntries, last_written, slot_written, changes_write}
 use Rattle.lif_model.proofs.Slotted.{IsOn, is_on}
 use Rattle.lif_model.proofs.Places.{place_apart}
 use Rattle.lif_model.proofs.Written.{Makes}
@@ -99,21 +97,6 @@ commit_leaves version n changes t x v w adopted makes done = settles_adopted ver
 
 -- ---- what stays
 
-not_target : (changes : Changes) (k : ℕ) → (IsTarget changes k → ⊥) → Elsewhere changes k
-not_target [] k off = tt
-not_target (c ∷ cs) k off = ((λ e. off (inl e)), not_target cs k (λ rest. off (inr rest)))
-
--- a record below the redo file that the commit does not change
-pub committed_elsewhere : (version : Version) (changes : Changes) (t x : Tape) (k : ℕ) → IsCommitted version changes t x
-    → k < redo_start version (length t) → (IsTarget changes k → ⊥) → record_at x k ≡ record_at t k
-committed_elsewhere version changes t x k done lt off = done.below k lt ∙ changed_elsewhere changes t k (not_target changes k off)
-
--- slots that are not written
-pub not_written : (ws : SlotWrites) (k : ℕ) (old : List ℕ) → (IsSlotWritten ws k → ⊥) → last_written ws k old ≡ old
-not_written [] k old off = refl
-not_written (w ∷ ws) k old off =
-    not_written ws k (if w.0 == k then w.1 else old) (λ rest. off (inr rest)) ∙ ap (λ (b : Bool). if b then w.1 else old) (ne_eqb w.0 k (λ e. off (inl (sym e))))
-
 target_filter : (y : Tape) (test : ℕ → Bool) (ks : List ℕ) (k : ℕ) → IsTarget (records_on y (filter test ks)) k → IsTarget (records_on y ks) k
 target_filter y test [] k target = target
 target_filter y test (j ∷ ks) k target = go (test j) target (λ rest. target_filter y test ks k rest)
@@ -130,24 +113,6 @@ pub target_slot : (start : ℕ) (ws : SlotWrites) (y : Tape) (k : ℕ) → IsTar
 target_slot start [] y k target = absurd target
 target_slot start (w ∷ ws) y k (inl e) = (w.0, inl refl, e)
 target_slot start (w ∷ ws) y k (inr more) = let found = target_slot start ws y k (target_filter y _ (touched start ws) k more) in (found.0, inr found.1, found.2)
-
--- Behind an Ok each slot is what was written of it, or else as before, on a tape that agreed with
--- the earlier one in the directory.
-pub committed_slot : (version : Version) (n : ℕ) (u t x : Tape) (v : Volume) (ws : SlotWrites) (k : ℕ) → IsOn n u v
-    → AreEntries (capacity_of v.header) ws → IsTape n t
-    → ((j : ℕ) → j < directory_end v.header → record_at t j ≡ record_at u j) → directory_end v.header ≤ redo_start version n
-    → IsCommitted version (changes_by (directory_start v.header) ws u) t x → k < capacity_of v.header
-    → entry_from x (directory_start v.header) k ≡ last_written ws k (entry_from u (directory_start v.header) k)
-committed_slot version n u t x v ws k on are tape same below done lt =
-    let start : ℕ = directory_start v.header in
-    let room : ℕ = directory_length v.header in
-    let fits : start + room ≤ n = omega (arith, on.ends) in
-    let within : slot_record start k < directory_end v.header = omega (arith, lt) in
-    let here : record_at x (slot_record start k) ≡ record_at (with_slots start ws t) (slot_record start k) =
-    done.below (slot_record start k) (omega (arith, within, below, ap (redo_start version) tape.records))
-    ∙ ap (λ (y : Tape). record_at y (slot_record start k)) (changes_write start room ws are n u t fits on.tape.records tape.records (λ j low high. same j high)) in
-    ap (λ (bytes : List ℕ). entry_at bytes (k % 8)) here ∙ slot_written start n room ws t k tape fits are lt
-    ∙ ap (λ (bytes : List ℕ). last_written ws k (entry_at bytes (k % 8))) (same (slot_record start k) within)
 
 -- ---- the file of a store
 

@@ -3,7 +3,7 @@ use Rattle.std.proofs.Common.{◌≡◌, ◌<◌, ◌≤◌, ◌+◌, ◌++◌, 
 use Rattle.std.specs.List.{list_all, prefix_len}
 use Rattle.std.proofs.lemmas.List.{at_drop_more, at_drop_all, append-nil}
 use Rattle.lif_model.specs.Directory.{is_end, is_purged, before_end}
-use Rattle.lif_model.specs.Fit.{Place, At, NoSlot, NoRoom, purged_from, low_of, high_of, first_fit, fit_among}
+use Rattle.lif_model.specs.Fit.{Place, At, purged_from, low_of, high_of, first_fit, fit_among}
 use Rattle.lif_model.specs.Header.{directory_end, is_readable}
 use Rattle.lif_model.specs.Pairs.{all_pairs}
 use Rattle.lif_model.specs.Legal.{is_live, occupies, lies_between, are_apart, have_other_names, is_legal_with}
@@ -128,24 +128,3 @@ module _ (n low : ℕ) (slots : List (List ℕ)) (count r i : ℕ) (tail : List 
   fit_found on is so_far =
       sym (ap (λ (b : Bool). if b then At i (low_of low slots i) else first_fit n low slots count (purged_from (suc i) (drop (i + 1) (take r slots)) ++ tail)) is)
       ∙ sym (from_first seen (purged_from (suc i) (drop (i + 1) (take r slots)) ++ tail)) ∙ sym (ap (fit_after seen n low slots count) (step true on)) ∙ so_far
-
-module _ (n low : ℕ) (slots : List (List ℕ)) (count r i : ℕ) (seen : Bool) (whole : Place) (le : r ≤ i) where
-  none_left : purged_from i (drop i (take r slots)) ≡ []
-  none_left = at_drop_all (purged_from i) (take r slots) i (omega (arith, length-take r slots))
-
-  -- the purged slots are through, and the redo entry's own is no candidate
-  pub fit_ends : fit_after seen n low slots count (purged_from i (drop i (take r slots)) ++ []) ≡ whole → (if seen then NoRoom else NoSlot) ≡ whole
-  fit_ends so_far = go seen ∙ sym (ap (λ (cs : List ℕ). fit_after seen n low slots count (cs ++ [])) none_left) ∙ so_far
-    where
-      go : (b : Bool) → (if b then NoRoom else NoSlot) ≡ fit_after b n low slots count []
-      go true = refl
-      go false = refl
-
-  -- and it is one
-  pub fit_last : fit_after seen n low slots count (purged_from i (drop i (take r slots)) ++ r ∷ []) ≡ whole
-      → (if nat_le (low_of low slots r + count) (high_of n slots r) then At r (low_of low slots r) else NoRoom) ≡ whole
-  fit_last so_far = go seen ∙ sym (ap (λ (cs : List ℕ). fit_after seen n low slots count (cs ++ r ∷ [])) none_left) ∙ so_far
-    where
-      go : (b : Bool) → (if nat_le (low_of low slots r + count) (high_of n slots r) then At r (low_of low slots r) else NoRoom) ≡ fit_after b n low slots count (r ∷ [])
-      go true = refl
-      go false = refl

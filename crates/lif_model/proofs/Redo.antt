@@ -1,10 +1,10 @@
 -- Laws of the redo file: what settling does, and what it depends on.
-use Rattle.std.proofs.Common.{◌≡◌, ◌≢◌, ◌<◌, ◌≤◌, ◌⊎◌, ◌↔◌, ℕ, suc, List, [], ◌∷◌, Bool, true, false, if◌then◌else◌, length, set, inl, inr, refl, sym, ◌∙◌, ap, subst, arith, length-set, get_or-set_other, get_or-set_same, nat_lt}
+use Rattle.std.proofs.Common.{◌≡◌, ◌≢◌, ◌<◌, ◌≤◌, ◌⊎◌, ℕ, suc, List, [], ◌∷◌, Bool, true, false, if◌then◌else◌, length, set, inl, inr, refl, sym, ◌∙◌, ap, subst, arith, length-set, get_or-set_other, get_or-set_same, nat_lt}
 use Rattle.std.proofs.lemmas.Bool.{cases_eq, cases_lt, cases_Bool, and_parts, ltb-true, leb-true, lt-ltb, le-ltb}
 use Rattle.std.specs.List.{list_all}
 use Rattle.lif_model.specs.Tape.{Tape, record_at}
 use Rattle.lif_model.specs.Gate.{gate_of, is_open, has_open_gate}
-use Rattle.lif_model.specs.Redo.{Version, One, Two, versions, redo_length, redo_start, most_targets, data_record, zeros, targets_place, are_targets, named_by, is_valid, Targets, Invalid, Valid, targets_among, targets_of, Changes, targets_in, held_from, held_by, behind, redo_of, changed, settled_by, settled, IsSettled, is_none, is_settled}
+use Rattle.lif_model.specs.Redo.{Version, One, Two, versions, redo_length, redo_start, most_targets, data_record, zeros, targets_place, are_targets, named_by, is_valid, Targets, Invalid, Valid, targets_among, targets_of, Changes, targets_in, held_from, held_by, behind, redo_of, changed, settled_by, settled, IsSettled}
 use Rattle.lif_model.specs.Commit.{AreChanges, IsLoaded, IsArmed}
 
 -- ---- the gate
@@ -40,10 +40,6 @@ AllBelow q (c ∷ cs) = (c.0 < q) × AllBelow q cs
 pub elsewhere : (q : ℕ) (cs : Changes) (k : ℕ) → AllBelow q cs → q ≤ k → Elsewhere cs k
 elsewhere q [] k below le = tt
 elsewhere q (c ∷ cs) k below le = (λ e. absurd (omega (arith, below.0, le, e)), elsewhere q cs k below.1 le)
-
-pub lower : (q p : ℕ) (cs : Changes) → q ≤ p → AllBelow q cs → AllBelow p cs
-lower q p [] le below = tt
-lower q p (c ∷ cs) le below = (omega (arith, below.0), lower q p cs le below.1)
 
 pub length_changed : (cs : Changes) (t : Tape) → length (changed cs t) ≡ length t
 length_changed [] t = refl
@@ -211,13 +207,6 @@ settled_twice t = settled_none (settled t) (settled_is_quiet t)
 -- a tape is settled exactly where nothing is left to settle
 pub settled_has_none : (t : Tape) → IsSettled t → redo_of t ≡ []
 settled_has_none t is = sym (ap redo_of is) ∙ settled_is_quiet t
-
-none_is : (cs : Changes) → is_none cs ≡ true → cs ≡ []
-none_is [] e = refl
-none_is (c ∷ cs) e = cc
-
-pub is_settled_tells : (t : Tape) → (is_settled t ≡ true) ↔ IsSettled t
-is_settled_tells t = (λ e. settled_none t (none_is (redo_of t) e), λ is. ap is_none (settled_has_none t is))
 
 -- a settled tape has a closed gate or invalid targets
 pub settled_gate_or_targets : (t : Tape) → IsSettled t → (has_open_gate t ≡ false) ⊎ (targets_of (length t) (record_at t (targets_place (length t))) ≡ Invalid)

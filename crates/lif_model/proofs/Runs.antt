@@ -164,9 +164,6 @@ torn_one n bytes t c size within partly = go partly.count partly.in_range partly
 abbrev Since : Type 1
 Since = ℕ → Tape → Type 0
 
-pub no_time : (now : ℕ) (since : Since) (t : Tape) (leaves : Tape → Tape → Type 0) → Elapses now now since since (Some t) leaves
-no_time now since t leaves = record { later = omega arith; nothing_else = λ u told m c le left. inl left; keeps = λ m c le left. left }
-
 pub same_tape : (t u : Tape) → Some t ≡ Some u → t ≡ u
 same_tape t u is = cc
 

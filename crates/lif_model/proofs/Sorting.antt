@@ -1,27 +1,19 @@
 -- The test for a legal directory by sorting: where live slots are listed by their starts, and by
 -- their names, it is enough to test neighbours. A disc's directory may have many thousand slots.
-use Rattle.std.proofs.Common.{◌≡◌, ◌≢◌, ◌<◌, ◌≤◌, ◌&&◌, ◌||◌, ℕ, suc, List, [], Bool, true, false, not, length, filter, get_or, set, inl, inr, refl, sym, ◌∙◌, ap, subst, arith, nat_le, length-set, get_or-set_same, get_or-set_other, Ordering, Less, Equal, Greater, map, ◌∷◌}
+use Rattle.std.proofs.Common.{◌≡◌, ◌≢◌, ◌<◌, ◌≤◌, ◌&&◌, ◌||◌, ℕ, suc, List, [], Bool, true, false, length, filter, get_or, set, inl, inr, refl, sym, ◌∙◌, ap, subst, arith, nat_le, length-set, get_or-set_same, get_or-set_other, map, ◌∷◌}
 use Rattle.std.specs.Prelude.{All}
 use Rattle.std.specs.List.{list_all}
-use Rattle.std.specs.List.Sorted.{IsPermutation, IsNonDecreasingBy, IsSortedByKey}
-use Rattle.std.specs.Ordering.{nat_cmp, is_lt, is_eq, ordering_reverse}
+use Rattle.std.specs.List.Sorted.{IsPermutation, IsNonDecreasingBy}
 use Rattle.std.specs.Cmp.{both_ways}
-use Rattle.std.specs.Cmp.Lexicographic.{slice_cmp, nat_list_cmp_total}
-use Rattle.std.specs.Str.{bytes_eq}
-use Rattle.std.proofs.lemmas.Bool.{cases_eq, le-leb, ltb-true, leb-true, or_left, or_cases, cases_order, not_from_false, false_from_ne_true, not-true}
+use Rattle.std.proofs.lemmas.Bool.{cases_eq, le-leb, ltb-true, leb-true, or_left, or_cases, cases_order}
 use Rattle.std.proofs.lemmas.List.Edits.{swap_is}
-use Rattle.std.proofs.lemmas.List.Elements.{All-get_or, All-from_get_or}
-use Rattle.std.proofs.lemmas.List.Sorted.{IsPermutation-keeps, IsPermutation-sym, All-permutation, sorted_far}
-use Rattle.std.proofs.lemmas.List.MinMax.{ranks_by}
-use Rattle.std.proofs.lemmas.Slice.Eq.{bytes_eq-Decides}
-use Rattle.lif_model.specs.Header.{directory_end, is_readable}
-use Rattle.lif_model.specs.Directory.{name_of, start_of, length_of}
+use Rattle.std.proofs.lemmas.List.Elements.{All-get_or}
+use Rattle.std.proofs.lemmas.List.Sorted.{IsPermutation-keeps, IsPermutation-sym, All-permutation}
+use Rattle.lif_model.specs.Directory.{start_of, length_of}
 use Rattle.lif_model.specs.Pairs.{all_pairs, all_neighbours}
-use Rattle.lif_model.specs.Legal.{is_live, occupies, end_of, lies_between, are_apart, ends_before, have_other_names, is_legal_with}
+use Rattle.lif_model.specs.Legal.{occupies, end_of}
 use Rattle.lif_model.proofs.Lists.{all_at, pairs_tell, neighbours_tell, filter_all_tells}
-use Rattle.lif_model.proofs.Files.{same_name}
 use Rattle.lif_model.proofs.Slots.{occupies_tells}
-use Rattle.std.proofs.lemmas.List.{length-map, get_or-map}
 
 -- ---- lists in another order
 
@@ -159,36 +151,6 @@ module _ {X : Type 0} (d : X) where
             | inr e ↦ absurd (omega (arith, leb-true (end (get_or ys j d)) (start (get_or ys i d)) e, some, rising i j d le lt))
           ]
 
-  -- values with names, in any order and by their names: no two have one name exactly where no
-  -- neighbours do
-  pub distinct_by_names : (name : X → List ℕ) (xs by_name : List X) → IsPermutation xs by_name → IsSortedByKey name (slice_cmp nat_cmp) by_name
-      → all_pairs (λ a b. not (bytes_eq (name a) (name b))) xs ≡ all_neighbours (λ a b. not (bytes_eq (name a) (name b))) by_name
-  distinct_by_names name xs ys same rising =
-      pairs_permuted d (λ a b. not (bytes_eq (name a) (name b))) (λ a b. ap not (names_comm (name a) (name b))) xs ys same
-      ∙ by_neighbours (λ a b. not (bytes_eq (name a) (name b))) ys (λ i k lt long next. not_from_false _ (false_from_ne_true _ (λ e.
-      let one : name (get_or ys i d) ≡ name (get_or ys k d) = (bytes_eq-Decides (name (get_or ys i d)) (name (get_or ys k d))).0 e in
-      let down : is_lt (slice_cmp nat_cmp (name (get_or ys (suc i) d)) (name (get_or ys i d))) ≡ false = far i (suc i) (omega arith) (omega (arith, lt, long)) in
-      let up : is_lt (slice_cmp nat_cmp (name (get_or ys i d)) (name (get_or ys (suc i) d))) ≡ false = ap (λ (n : List ℕ). is_lt (slice_cmp nat_cmp n (name (get_or ys (suc i) d)))) one ∙ far (suc i) k (omega (arith, lt)) long in
-      let tied : bytes_eq (name (get_or ys i d)) (name (get_or ys (suc i) d)) ≡ true = sym (same_name (name (get_or ys i d)) (name (get_or ys (suc i) d))) ∙ ties (name (get_or ys i d)) (name (get_or ys (suc i) d)) up down in
-      let no : true ≡ false = sym tied ∙ not-true _ next in cc)))
-    where
-      names_comm : (a b : List ℕ) → bytes_eq a b ≡ bytes_eq b a
-      names_comm a b = both_ways (bytes_eq a b) (bytes_eq b a) (λ e. (bytes_eq-Decides b a).1 (sym ((bytes_eq-Decides a b).0 e))) (λ e. (bytes_eq-Decides a b).1 (sym ((bytes_eq-Decides b a).0 e)))
-
-      far : (i j : ℕ) → i ≤ j → j < length ys → is_lt (slice_cmp nat_cmp (name (get_or ys j d)) (name (get_or ys i d))) ≡ false
-      far i j le lt = sorted_far (λ x y. is_lt (slice_cmp nat_cmp (name x) (name y))) (ranks_by nat_list_cmp_total name) ys rising i j d le lt
-
-      -- names of which neither is less are equal
-      ties : (a b : List ℕ) → is_lt (slice_cmp nat_cmp a b) ≡ false → is_lt (slice_cmp nat_cmp b a) ≡ false → is_eq (slice_cmp nat_cmp a b) ≡ true
-      ties a b up down = go (slice_cmp nat_cmp a b) (slice_cmp nat_cmp b a) (nat_list_cmp_total.antisymm a b) up down
-        where
-          go : (r q : Ordering) → r ≡ ordering_reverse q → is_lt r ≡ false → is_lt q ≡ false → is_eq r ≡ true
-          go Less q e up down = cc
-          go Equal q e up down = refl
-          go Greater Less e up down = cc
-          go Greater Equal e up down = cc
-          go Greater Greater e up down = cc
-
 -- ---- legal directories
 
 -- a live slot that has records ends behind its start
@@ -197,45 +159,3 @@ pub picked_filled : (slots : List (List ℕ)) (i : ℕ) → i < length (filter o
 picked_filled slots i lt =
     let on : occupies (get_or (filter occupies slots) i []) ≡ true = all_at [] occupies (filter occupies slots) i ((filter_all_tells [] occupies occupies slots).1 (λ j less here. here)) lt in
     omega (arith, ltb-true 0 (length_of (get_or (filter occupies slots) i [])) (occupies_tells (get_or (filter occupies slots) i []) on).1)
-
--- The live slots that have records, listed by their starts (for the test for NotLif).
-pub apart_by_sorting : (slots by_start : List (List ℕ)) → IsPermutation (filter occupies slots) by_start → IsNonDecreasingBy start_of by_start
-    → all_pairs are_apart (filter occupies slots) ≡ all_neighbours ends_before by_start
-apart_by_sorting slots by_start same rising =
-    apart_by_starts [] start_of end_of (filter occupies slots) by_start same rising (All-from_get_or (λ slot. start_of slot < end_of slot) (filter occupies slots) [] (picked_filled slots))
-
--- The live slots, listed by their names (for the test for NotLif).
-pub names_by_sorting : (slots by_name : List (List ℕ)) → IsPermutation (filter is_live slots) by_name → IsSortedByKey name_of (slice_cmp nat_cmp) by_name
-    → all_pairs have_other_names (filter is_live slots) ≡ all_neighbours have_other_names by_name
-names_by_sorting slots by_name same rising = distinct_by_names [] name_of (filter is_live slots) by_name same rising
-
--- the test for a legal directory with both lists (for the test for NotLif)
-pub legal_by_sorting : (n : ℕ) (header : List ℕ) (slots by_start by_name : List (List ℕ)) → IsPermutation (filter occupies slots) by_start → IsNonDecreasingBy start_of by_start
-    → IsPermutation (filter is_live slots) by_name → IsSortedByKey name_of (slice_cmp nat_cmp) by_name
-    → is_legal_with n header slots ≡ (is_readable n header && (list_all (lies_between (directory_end header) n) (filter occupies slots)
-    && (all_neighbours ends_before by_start && all_neighbours have_other_names by_name)))
-legal_by_sorting n header slots by_start by_name starts rising names ordered =
-    let apart = apart_by_sorting slots by_start starts rising in
-    let distinct = names_by_sorting slots by_name names ordered in
-    λ i. is_readable n header && (list_all (lies_between (directory_end header) n) (filter occupies slots) && (apart i && distinct i))
-
--- The same where values stand for the slots, as their places do: the code sorts these, and the
--- slots stay (for the test for NotLif).
-pub legal_by_keys : {X : Type 0} (d : X) (slot : X → List ℕ) (n : ℕ) (header : List ℕ) (slots : List (List ℕ)) (occupied by_start live by_name : List X)
-    → map slot occupied ≡ filter occupies slots → IsPermutation occupied by_start → IsNonDecreasingBy (λ x. start_of (slot x)) by_start
-    → map slot live ≡ filter is_live slots → IsPermutation live by_name → IsSortedByKey (λ x. name_of (slot x)) (slice_cmp nat_cmp) by_name
-    → is_legal_with n header slots ≡ (is_readable n header && (list_all (lies_between (directory_end header) n) (filter occupies slots)
-    && (all_neighbours (λ a b. ends_before (slot a) (slot b)) by_start && all_neighbours (λ a b. have_other_names (slot a) (slot b)) by_name)))
-legal_by_keys d slot n header slots occupied by_start live by_name all_occupied starts rising all_live names ordered =
-    let apart : all_pairs are_apart (filter occupies slots) ≡ all_neighbours (λ a b. ends_before (slot a) (slot b)) by_start =
-    sym (ap (all_pairs are_apart) all_occupied) ∙ pairs_mapped slot are_apart occupied
-    ∙ apart_by_starts d (λ x. start_of (slot x)) (λ x. end_of (slot x)) occupied by_start starts rising (All-from_get_or (λ x. start_of (slot x) < end_of (slot x)) occupied d filled) in
-    let distinct : all_pairs have_other_names (filter is_live slots) ≡ all_neighbours (λ a b. have_other_names (slot a) (slot b)) by_name =
-    sym (ap (all_pairs have_other_names) all_live) ∙ pairs_mapped slot have_other_names live ∙ distinct_by_names d (λ x. name_of (slot x)) live by_name names ordered in
-    λ i. is_readable n header && (list_all (lies_between (directory_end header) n) (filter occupies slots) && (apart i && distinct i))
-  where
-    filled : (i : ℕ) → i < length occupied → start_of (slot (get_or occupied i d)) < end_of (slot (get_or occupied i d))
-    filled i lt =
-        let long : length (filter occupies slots) ≡ length occupied = sym (ap (λ (xs : List (List ℕ)). length xs) all_occupied) ∙ length-map occupied slot in
-        let here : get_or (filter occupies slots) i [] ≡ slot (get_or occupied i d) = sym (ap (λ (xs : List (List ℕ)). get_or xs i []) all_occupied) ∙ get_or-map slot occupied i d [] lt in
-        subst (λ (s : List ℕ). start_of s < end_of s) here (picked_filled slots i (omega (arith, lt, long)))

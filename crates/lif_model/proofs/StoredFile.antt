@@ -5,7 +5,7 @@ use Rattle.std.proofs.lemmas.Bool.{cases_lt, and_parts, not-false, not_from_true
 use Rattle.std.proofs.lemmas.List.Edits.{length-insert, get_or-insert_below, get_or-insert_above}
 use Rattle.lif_model.specs.Tape.{Tape, IsTape, record_at}
 use Rattle.lif_model.specs.Header.{directory_start, directory_length, directory_end, capacity_of}
-use Rattle.lif_model.specs.Directory.{name_of, type_of, is_end, is_purged, slots_of}
+use Rattle.lif_model.specs.Directory.{type_of, is_end, is_purged, slots_of}
 use Rattle.lif_model.specs.Made.{new_entry, file_length, filled, file_records}
 use Rattle.lif_model.specs.Redo.{Version}
 use Rattle.lif_model.specs.Legal.{has_file, IsLegal}
@@ -15,7 +15,7 @@ use Rattle.lif_model.specs.Fit.{Place, At, redo_place, can_append, fit_in}
 use Rattle.lif_model.specs.Apply.{Store, IsWellFormed, checks_of, refusal_of, placed, stored, volume_after}
 use Rattle.lif_model.specs.Writing.{SlotWrites, with_slots, last_slot, stored_writes, with_records, written_at, written_by}
 use Rattle.lif_model.proofs.Lists.{any_at, any_from}
-use Rattle.lif_model.proofs.Made.{new_name, new_type, new_size}
+use Rattle.lif_model.proofs.Made.{new_type, new_size}
 use Rattle.lif_model.proofs.Fit.{IsPlaceIn, fit_tells}
 use Rattle.lif_model.proofs.Volume.{slots_agree}
 use Rattle.lif_model.proofs.Content.{files_stored}
@@ -54,9 +54,6 @@ module _ (n : ℕ) (u : Tape) (v : Volume) (tape : IsTape n u) (is : volume_in u
         starts = on.starts;
         ends = on.ends;
       }
-
-  entry_named : name_of entry ≡ name
-  entry_named = new_name name kind start (file_length bytes) implementation formed.0
 
   entry_size : length entry ≡ 32
   entry_size = new_size name kind start (file_length bytes) implementation formed.0 formed.3

@@ -1,48 +1,18 @@
 -- Laws of what transfers leave of a tape and of what they carry.
-use Rattle.std.proofs.Common.{inl, inr, ◌≡◌, ◌<◌, ◌≤◌, ◌∙◌, ◌+◌, ◌++◌, ◌==◌, ℕ, zero, suc, List, [], ◌∷◌, Bool, true, false, not, nat_eq, nat_lt, refl, ap, subst, length, set, take, drop, arith, eq-eqb, length-set, get_or}
-use Rattle.std.specs.Prelude.{MatchBool}
+use Rattle.std.proofs.Common.{◌≡◌, ◌∙◌, ◌+◌, ◌++◌, ◌==◌, ℕ, List, [], ◌∷◌, Bool, true, false, not, nat_eq, refl, ap, length, drop, eq-eqb}
 use Rattle.std.specs.Cmp.Lexicographic.{pointwise}
 use Rattle.std.specs.List.{list_any, starts_with}
 use Rattle.std.proofs.Math.Seq.{drop-append_seam, take-append_seam}
-use Rattle.std.proofs.lemmas.Bool.{and_from, or_left, or_right, cases_lt}
-use Rattle.std.proofs.lemmas.List.{get_or-set_same, get_or-set_other}
-use Rattle.lif_model.specs.Tape.{Tape, record_at}
-use Rattle.lif_model.specs.Stops.{Torn}
-use Rattle.lif_model.specs.Transfers.{Transfer, records_of, Replaced, PartlyReplaced, is_overwritten_by, carries}
-use Rattle.lif_model.proofs.Runs.{replaced_none, torn_next, partly_replaced}
+use Rattle.std.proofs.lemmas.Bool.{and_from, or_left, or_right}
+use Rattle.lif_model.specs.Tape.{Tape}
+use Rattle.lif_model.specs.Transfers.{Transfer, records_of, PartlyReplaced, is_overwritten_by, carries}
+use Rattle.lif_model.proofs.Runs.{replaced_none, partly_replaced}
 
 -- ---- what a run leaves
-
--- setting a record replaces it
-pub Replaced-set : (n : ℕ) (bytes : List ℕ) (t : Tape) → n < length t → Replaced n (bytes ∷ []) t (set t n bytes)
-Replaced-set n bytes t here = record {
-  records = length-set t n bytes;
-  within = first_alone;
-  before = λ k below. get_or-set_other t n k bytes [] (λ e. absurd (omega (arith, e, below)));
-  behind = λ k above. get_or-set_other t n k bytes [] (λ e. absurd (omega (arith, e, above)));
-}
-  where
-    first_alone : (i : ℕ) → i < 1 → record_at (set t n bytes) (n + i) ≡ get_or (bytes ∷ []) i []
-    first_alone zero below = ap (record_at (set t n bytes)) (omega arith) ∙ get_or-set_same t n bytes [] here
-    first_alone (suc i) below = absurd (omega (arith, below))
 
 -- a tape that is as it was
 pub PartlyReplaced-nothing : (n : ℕ) (pieces : List (List ℕ)) (t : Tape) → PartlyReplaced n pieces t t
 PartlyReplaced-nothing n pieces t = partly_replaced n 0 pieces t t (replaced_none n t)
-
--- a tape whose first record of the run may hold any bytes
-pub PartlyReplaced-torn : (n : ℕ) (pieces : List (List ℕ)) (t c : Tape) → 0 < length pieces → Torn n t c → PartlyReplaced n pieces t c
-PartlyReplaced-torn n pieces t c some torn =
-    torn_next n 0 pieces t t some (replaced_none n t) c (subst (λ (k : ℕ). Torn k t c) (omega arith) torn)
-
--- a run of no piece leaves the tape
-pub PartlyReplaced-no_piece : (n : ℕ) (t c : Tape) → PartlyReplaced n [] t c → (k : ℕ) → record_at c k ≡ record_at t k
-PartlyReplaced-no_piece n t c p k = by_count p.count p.in_range p.replaced p.torn
-  where
-    by_count : (j : ℕ) → j ≤ 0 → Replaced n (take j []) t p.written → MatchBool (nat_lt j 0) (Torn (n + j) p.written c) (c ≡ p.written) → record_at c k ≡ record_at t k
-    by_count zero few r same =
-        ap (λ (x : Tape). record_at x k) same ∙ elim (cases_lt k n) [ inl below ↦ r.before k below | inr above ↦ r.behind k (omega (arith, above)) ]
-    by_count (suc j) few r same = absurd (omega (arith, few))
 
 -- ---- what transfers carry
 

@@ -1,5 +1,5 @@
 -- What the volume of a tape depends on.
-use Rattle.std.proofs.Common.{◌≡◌, ◌≢◌, ◌<◌, ◌≤◌, ◌+◌, ◌++◌, ◌&&◌, ◌==◌, ℕ, zero, suc, List, [], ◌∷◌, Bool, true, false, if◌then◌else◌, Some, length, map, set, filter, inl, inr, refl, sym, ◌∙◌, ap, arith, length-set, get_or-set_other}
+use Rattle.std.proofs.Common.{◌≡◌, ◌<◌, ◌≤◌, ◌+◌, ◌++◌, ◌&&◌, ◌==◌, ℕ, zero, suc, List, [], ◌∷◌, Bool, true, false, if◌then◌else◌, Some, length, map, filter, inl, inr, refl, sym, ◌∙◌, ap, arith}
 use Rattle.std.specs.FinMap.{from_entries}
 use Rattle.std.specs.List.{list_any}
 use Rattle.std.proofs.lemmas.Bool.{and_from, or_left, or_right, le-leb, lt-ltb, cases_Bool}
@@ -10,7 +10,7 @@ use Rattle.lif_model.specs.Directory.{name_of, start_of, length_of, entries_of, 
 use Rattle.lif_model.specs.Redo.{targets_place, Invalid, targets_of, held_by, redo_of, IsSettled}
 use Rattle.lif_model.specs.Legal.{end_of, holds, is_legal_with, is_legal}
 use Rattle.lif_model.specs.Volume.{is_file, content_of, files_of, volume_if, volume_in, volume_of, is_used}
-use Rattle.lif_model.proofs.Redo.{named_at, redo_closed, redo_open, settled_none, settled_has_none, settled_gate_or_targets, same_gate}
+use Rattle.lif_model.proofs.Redo.{named_at, redo_closed, redo_open, settled_none, settled_gate_or_targets, same_gate}
 
 -- ---- slots
 
@@ -96,19 +96,3 @@ quiet_agree t u is size gate names = elim (settled_gate_or_targets t is) [
   | inl shut ↦ redo_closed u (same_gate u t size gate ∙ shut)
   | inr invalid ↦ redo_invalid u (named_at (length t) u size ∙ ap (targets_of (length t)) names ∙ invalid)
 ]
-
-quiet_set : (t : Tape) (k : ℕ) (bytes : List ℕ) → IsSettled t → k ≢ gate_of (length t) → k ≢ targets_place (length t) → redo_of (set t k bytes) ≡ []
-quiet_set t k bytes is off_gate off_targets = quiet_agree t (set t k bytes) is (length-set t k bytes)
-    (get_or-set_other t k (gate_of (length t)) bytes [] (λ e. off_gate (sym e))) (get_or-set_other t k (targets_place (length t)) bytes [] (λ e. off_targets (sym e)))
-
--- To change a record that is not used, other than the gate and the targets record, leaves the volume of a settled tape.
-pub volume_stays : (t : Tape) (k : ℕ) (bytes : List ℕ) → IsSettled t → is_used t k ≡ false → k ≢ gate_of (length t) → k ≢ targets_place (length t) → volume_of (set t k bytes) ≡ volume_of t
-volume_stays t k bytes is unused off_gate off_targets =
-    volume_kept (set t k bytes) t (quiet_set t k bytes is off_gate off_targets) (settled_has_none t is) (length-set t k bytes)
-    (λ j on. get_or-set_other t k j bytes [] (λ e. let both : true ≡ false = sym on ∙ ap (is_used t) e ∙ unused in cc))
-
--- a closed gate, or an open one whose targets are invalid, may be cleared: the volume of a settled tape stays
-pub gate_stays : (t : Tape) (bytes : List ℕ) → IsSettled t → is_used t (gate_of (length t)) ≡ false → redo_of (set t (gate_of (length t)) bytes) ≡ [] → volume_of (set t (gate_of (length t)) bytes) ≡ volume_of t
-gate_stays t bytes is unused none =
-    volume_kept (set t (gate_of (length t)) bytes) t none (settled_has_none t is) (length-set t (gate_of (length t)) bytes)
-    (λ j on. get_or-set_other t (gate_of (length t)) j bytes [] (λ e. let both : true ≡ false = sym on ∙ ap (is_used t) e ∙ unused in cc))

@@ -11,7 +11,7 @@ use Rattle.lif_model.specs.Pairs.{all_pairs}
 use Rattle.lif_model.specs.Redo.{Version, redo_start, most_targets, are_targets, Changes, targets_in, changed}
 use Rattle.lif_model.specs.Commit.{AreChanges}
 use Rattle.lif_model.specs.Writing.{with_entry, slot_record, entry_from, SlotWrites, with_slots, touched, records_on, changes_by}
-use Rattle.lif_model.proofs.Directory.{entry_size, set_shape, AreWhole}
+use Rattle.lif_model.proofs.Directory.{entry_size, set_shape}
 use Rattle.lif_model.proofs.History.{record_behind}
 
 -- ---- one entry of one record
@@ -312,10 +312,6 @@ pub targets_are : (ks : List ℕ) (t : Tape) → targets_in (records_on t ks) �
 targets_are [] t = refl
 targets_are (k ∷ ks) t = ap (λ (js : List ℕ). k ∷ js) (targets_are ks t)
 
-whole_within : (n low high : ℕ) (ks : List ℕ) (t : Tape) → IsTape n t → high ≤ n → AreWithin low high ks → AreWhole (records_on t ks)
-whole_within n low high [] t is le within = tt
-whole_within n low high (k ∷ ks) t is le within = (is.bytes k (omega (arith, within.1, le)), whole_within n low high ks t is le within.2)
-
 module _ (start room : ℕ) (ws : SlotWrites) (are : AreEntries (8 * room) ws) where
   -- The changes that writes of slots make, also of a tape that differs outside the directory from
   -- the one that they are told of.
@@ -341,8 +337,3 @@ module _ (start room : ℕ) (ws : SlotWrites) (are : AreEntries (8 * room) ws) w
       at_least_one : (ws : SlotWrites) → 0 < length ws → nat_lt 0 (length (touched start ws)) ≡ true
       at_least_one [] some = absurd (omega (arith, some))
       at_least_one (w ∷ ws) some = lt-ltb 0 (length (touched start (w ∷ ws))) (omega arith)
-
-  -- each is a record
-  pub changes_whole : (n : ℕ) (t : Tape) → IsTape n t → start + room ≤ n → AreWhole (changes_by start ws t)
-  changes_whole n t is le =
-      whole_within n start (start + room) (touched start ws) (with_slots start ws t) (slots_shape start n room ws t is le are) le (touched_within start start (start + room) ws (writes_within start room ws are))

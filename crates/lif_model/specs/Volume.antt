@@ -1,9 +1,9 @@
 -- Volumes: what a tape stands for.
-use Rattle.std.specs.Prelude.{◌≡◌, ◌<◌, ◌≤◌, ◌*◌, ◌&&◌, ◌||◌, ◌==◌, nat_lt, nat_le, not, ℕ, Bool, true, false, List, [], length, get_or, map, filter, find, codes, replicate, Option, Some, None}
+use Rattle.std.specs.Prelude.{◌≡◌, ◌<◌, ◌≤◌, ◌&&◌, ◌||◌, ◌==◌, nat_lt, nat_le, not, ℕ, Bool, true, false, List, [], length, get_or, map, filter, find, codes, replicate, Option, Some, None}
 use Rattle.std.specs.List.{list_any}
 use Rattle.std.specs.Ordering.{nat_cmp}
 use Rattle.std.specs.Cmp.Lexicographic.{slice_cmp}
-use Rattle.std.specs.FinMap.{FinMap, get, from_entries}
+use Rattle.std.specs.FinMap.{FinMap, from_entries}
 use Rattle.std.specs.Str.{bytes_eq}
 use Rattle.lif_model.specs.Tape.{Tape, record_at, bytes_from}
 use Rattle.lif_model.specs.Gate.{gate_of}
@@ -85,17 +85,6 @@ pub record IsVolume (n : ℕ) (v : Volume) : Type 0 where
 pub record IsAdopted (n : ℕ) (v : Volume) : Type 0 where
   pub volume : IsVolume n v
   pub adopted : is_adopted n v.slots ≡ true
-
--- a slot and a file have one name, and the file has all bytes of the slot's records; or neither is there
-abbrev pub HasBytes : Option (List ℕ) → Option (List ℕ) → Type 0
-HasBytes None None = Unit {0}
-HasBytes (Some slot) (Some bytes) = length bytes ≡ 256 * length_of slot
-HasBytes None (Some bytes) = ⊥
-HasBytes (Some slot) None = ⊥
-
--- the files are those of the slots
-abbrev pub HasFiles : ℕ → Volume → Type 0
-HasFiles n v = (name : List ℕ) → HasBytes (file_named n v.slots name) (get v.files name)
 
 abbrev pub volume_if : Bool → Tape → Option Volume
 volume_if false tape = None

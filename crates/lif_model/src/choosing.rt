@@ -1,4 +1,4 @@
-// The choice of place.
+//! The choice of place.
 ghost use Rattle.std.specs.Prelude.{◌≡◌, ◌+◌, ◌<◌, ◌≤◌, ◌^◌, nat_le, true, false, length, MatchOption};
 ghost use Rattle.lif_model.specs.Legal.{is_live_named};
 ghost use Rattle.lif_model.specs.Volume.{redo_name};
@@ -18,14 +18,14 @@ pub enum Spot {
     NoRoom,
 }
 
-// Whether the slot is that of a live file named REDOFILE.
+/// Whether the slot is that of a live file named REDOFILE.
 fn is_redo_slot(slot: &[u8; 32]) -> bool
     ensures { result ≡ is_live_named redo_name slot.now }
 {
     !is_purged(slot) && name_of(slot) == b"REDOFILE  ".as_slice()
 }
 
-// The place of the first such slot, or the number of slots.
+/// The place of the first such slot, or the number of slots.
 fn redo_place(slots: &[[u8; 32]]) -> usize
     ensures value { result ≡ redo_place slots.now }
     ensures bound { result ≤ length slots.now }
@@ -38,7 +38,7 @@ fn redo_place(slots: &[[u8; 32]]) -> usize
     slots.len()
 }
 
-// The greatest of a number and the ends of the slots that have records.
+/// The greatest of a number and the ends of the slots that have records.
 fn greatest_end(low: u64, slots: &[[u8; 32]]) -> u64
     ensures value { result ≡ greatest_end low slots.now }
     ensures bound { low < 2 ^ 33 → result < 2 ^ 33 }
@@ -52,7 +52,7 @@ fn greatest_end(low: u64, slots: &[[u8; 32]]) -> u64
     greatest
 }
 
-// The least of a number and the starts of the slots that have records.
+/// The least of a number and the starts of the slots that have records.
 fn least_start(high: u64, slots: &[[u8; 32]]) -> u64
     ensures { result ≡ least_start high slots.now }
 {
@@ -65,7 +65,7 @@ fn least_start(high: u64, slots: &[[u8; 32]]) -> u64
     least
 }
 
-// The first record for a file in the slot, where it has room.
+/// The first record for a file in the slot, where it has room.
 fn start_in(
     n: u64,
     directory_end: u64,
@@ -79,7 +79,8 @@ fn start_in(
     requires low { directory_end < 2 ^ 33 }
     requires count { count < 2 ^ 33 }
     ensures { MatchOption result (nat_le (low_of directory_end slots.now i + count) (high_of n slots.now i) ≡ false)
-        (λ start. (start ≡ low_of directory_end slots.now i) × (nat_le (low_of directory_end slots.now i + count) (high_of n slots.now i) ≡ true)) }
+        (λ start. (start ≡ low_of directory_end slots.now i)
+        × (nat_le (low_of directory_end slots.now i + count) (high_of n slots.now i) ≡ true)) }
 {
     let low = greatest_end(directory_end, &slots[..i]);
     let high = if i == redo {

@@ -1,4 +1,4 @@
-// The fields of entries and headers, high byte first.
+//! The fields of entries and headers, high byte first.
 ghost use Rattle.std.specs.Prelude.{◌≡◌, ◌+◌, ◌≤◌, ◌<◌, ◌^◌, length};
 ghost use Rattle.lif_model.specs.Numbers.{two_at, four_at};
 ghost use Rattle.lif_model.specs.Directory.{name_of, start_of, is_end, is_purged};
@@ -45,7 +45,7 @@ pub fn start_of(slot: &[u8; 32]) -> u64
     four_at(slot, 12)
 }
 
-/// The first record behind the slot's extent.
+/// The first record after the slot's extent.
 pub fn end_of(slot: &[u8; 32]) -> u64
     ensures value { result ≡ end_of slot.now }
     ensures bound { result < 2 ^ 33 }

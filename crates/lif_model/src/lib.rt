@@ -18,5 +18,5 @@ pub use reading::plain_slots;
 /// The number of bytes in a record of a tape.
 pub const RECORD: usize = 256;
 
-#[cfg(test)]
-mod tests;
+/// A record of a tape.
+pub type Record = [u8; RECORD];

@@ -1,15 +1,16 @@
-// The slots of a tape, one entry after the other.
+//! The slots of a tape, one entry after the other.
 ghost use Rattle.std.specs.Prelude.{◌≡◌, ◌+◌, ◌*◌, ◌/◌, ◌%◌, ◌<◌, ◌≤◌, length, IfOk};
 ghost use Rattle.lif_model.specs.Tape.{record_at};
 ghost use Rattle.lif_model.specs.Header.{directory_end};
 ghost use Rattle.lif_model.specs.Directory.{entry_at, slots_of};
 
+use crate::Record;
 use crate::fields::{four_at, is_end};
 use std::alloc::{AllocError, Global};
 
-// Entry k of a record.
+/// Entry k of a record.
 #[tactic(auto, unfolding(crate::specs::Directory::entry_at))]
-fn entry_of(bytes: &[u8; 256], k: usize) -> [u8; 32]
+fn entry_of(bytes: &Record, k: usize) -> [u8; 32]
     requires { k < 8 }
     ensures { result ≡ entry_at bytes.now k }
 {
@@ -19,7 +20,7 @@ fn entry_of(bytes: &[u8; 256], k: usize) -> [u8; 32]
 }
 
 /// The slots of the directory that record 0 of the tape tells of, live and purged ones, each as its 32 bytes.
-pub fn plain_slots(alloc: Global, tape: &[[u8; 256]]) -> Result<Vec<[u8; 32]>, AllocError>
+pub fn plain_slots(alloc: Global, tape: &[Record]) -> Result<Vec<[u8; 32]>, AllocError>
     requires some { 0 < length tape.now }
     requires within { directory_end (record_at tape.now 0) ≤ length tape.now }
     ensures { IfOk result (λ slots. slots.items ≡ slots_of tape.now) }

@@ -8,8 +8,8 @@ ghost use Rattle.lif_plan.specs.Entries.{extent_of, lies_within, ends_first};
 
 use lif_dir::{FileEntry, SlotTable};
 
-/// The records of a file: the first of them, and the first behind them.
-#[derive(Clone, Copy, Debug, Drop)]
+/// The records of a file: the first of them, and the first after them.
+#[derive(Clone, Copy, Drop)]
 pub struct Extent {
     pub start: u32,
     pub end: u64,

@@ -11,7 +11,7 @@ ghost use Rattle.lif_dir.specs.Names.{label_bytes};
 use crate::plans::{ENTRIES, redo_entry};
 use lif_dir::NewLabel;
 use lif_header::Header;
-use lif_model::RECORD;
+use lif_model::{RECORD, Record};
 use lif_redo::Version;
 
 /// The first record of the directory of a new volume.
@@ -32,7 +32,7 @@ pub struct FreshVolume {
     /// What record 0 is to say.
     pub header: Header,
     /// Record 0, and the first record of the directory.
-    pub changes: [(u16, [u8; 256]); 2],
+    pub changes: [(u16, Record); 2],
 }
 
 impl FreshVolume {
@@ -72,9 +72,9 @@ fn records_for_slots(slots: u16) -> u16
     slots.div_ceil(ENTRIES as u16)
 }
 
-/// The first record of a directory whose only slot is that of the redo file: an end stands behind
+/// The first record of a directory whose only slot is that of the redo file: an end stands after
 /// it, and then zeros.
-fn first_record(size: u16) -> [u8; 256]
+fn first_record(size: u16) -> Record
     ensures { result ≡ first_directory_record (redo_entry One size) }
 {
     let mut bytes = [0; RECORD];
@@ -85,7 +85,7 @@ fn first_record(size: u16) -> [u8; 256]
 }
 
 /// Puts an entry into the first place of a record of a directory.
-fn put_first(bytes: &mut [u8; 256], entry: &[u8; 32])
+fn put_first(bytes: &mut Record, entry: &[u8; 32])
     ensures { bytes.new ≡ entry.now ++ drop 32 bytes.old }
 {
     bytes[..ENTRY].copy_from_slice(entry);

@@ -1,5 +1,6 @@
 //! What `store` is to write of the directory, before it writes it.
-ghost use Rattle.std.specs.Prelude.{◌≡◌, ◌≢◌, ◌<◌, ◌+◌, ◌*◌, ◌-◌, true, false, [], ◌∷◌, length, map, filter, is_some, IfErr};
+ghost use Rattle.std.specs.Prelude.{◌≡◌, ◌≢◌, ◌<◌, ◌+◌, ◌*◌, ◌-◌, true, false, [], ◌∷◌, length, map, filter};
+ghost use Rattle.std.specs.Prelude.{is_some, IfErr};
 ghost use Rattle.lif_model.specs.Tape.{Tape, record_at};
 ghost use Rattle.lif_model.specs.Header.{directory_start, capacity_of};
 ghost use Rattle.lif_model.specs.Directory.{is_end};
@@ -20,12 +21,12 @@ use lif_dir::{FileEntry, Name, Slot};
 use lif_header::Header;
 use lif_redo::Version;
 
-/// The redo entry, which moves on by one slot and stands behind the new file's.
+/// The redo entry, which moves on by one slot and stands after the new file's.
 #[derive(Clone, Copy, Debug, Drop)]
 pub struct Moved {
     /// The entry.
     pub entry: FileEntry,
-    /// Whether an end is put behind it.
+    /// Whether an end is put after it.
     pub ended: bool,
 }
 
@@ -43,7 +44,7 @@ pub struct Placement {
 }
 
 impl Moved {
-    // This entry, which does not end a directory.
+    /// This entry, which does not end a directory.
     fn of(entry: FileEntry, ended: bool) -> Moved
         requires { is_end (entry_bytes entry) ≡ false }
         ensures moved { result ≡ record { entry = entry; ended = ended } }

@@ -29,11 +29,11 @@ use std::sync::ledger::Blank;
 pub struct SlotChange {
     /// The version of the redo file by which it commits.
     pub version: Version,
-    /// The place of the slot: one of the slots, or the place behind the last.
+    /// The place of the slot: one of the slots, or the place after the last.
     pub slot: usize,
     /// What it is to hold.
     pub entry: FileEntry,
-    /// Whether an end is put behind it.
+    /// Whether an end is put after it.
     pub ended: bool,
 }
 

@@ -1,7 +1,7 @@
 -- The redo file as its contents and its targets are written.
 use Rattle.std.proofs.Common.{◌≡◌, ◌≢◌, ◌<◌, ◌≤◌, ◌+◌, ◌++◌, ◌∙◌, ℕ, suc, List, [], ◌∷◌, false, length, get_or, set, take, inl, inr, sym, ap, subst, arith, length-set, length-take, get_or-set_other, get_or-set_same}
 use Rattle.std.proofs.lemmas.Bool.{cases_eq, cases_lt, lt-ltb, le-ltb}
-use Rattle.std.proofs.lemmas.List.{take_more, take_all, length-map}
+use Rattle.std.proofs.lemmas.List.{take_more, length-map}
 use Rattle.lif_model.specs.Tape.{Tape, record_at}
 use Rattle.std.specs.Prelude.{Option, Some}
 use Rattle.lif_model.specs.Gate.{gate_of, has_open_gate}
@@ -50,9 +50,6 @@ contents_next version n i cs lt =
     let place : 0 + length (take i cs) ≡ i = omega (arith, length-take i cs, lt) in
     sym (ap (content_writes version n 0) (take_more cs i (0, []) lt) ∙ contents_more version n 0 (take i cs) (get_or cs i (0, []))
     ∙ ap (λ (j : ℕ). content_writes version n 0 (take i cs) ++ (data_record version n j, (get_or cs i (0, [])).1) ∷ []) place)
-
-pub contents_all : (version : Version) (n i : ℕ) (cs : Changes) → length cs ≤ i → content_writes version n 0 (take i cs) ≡ content_writes version n 0 cs
-contents_all version n i cs all = ap (content_writes version n 0) (take_all i cs all)
 
 module _ (version : Version) (n : ℕ) (cs : Changes) (t : Tape) (size : length t ≡ n) (are : AreChanges version n cs) where
   here : AreChanges version (length t) cs

@@ -1,10 +1,9 @@
 -- How writes are added to the list of a store.
 use Rattle.std.proofs.Common.{◌≡◌, ◌<◌, ◌+◌, ◌++◌, ◌∙◌, ℕ, List, [], ◌∷◌, Bool, true, false, if◌then◌else◌, length, get_or, take, refl, sym, ap, subst, append_assoc}
 use Rattle.std.proofs.lemmas.List.{append-nil, take_more}
-use Rattle.std.specs.Prelude.{Result, Ok, Err, OnOk}
 use Rattle.lif_model.specs.Transfers.{Transfer}
 use Rattle.lif_model.specs.Redo.{Changes}
-use Rattle.il_ports.specs.Transfers.{Adds, WritesOnly, GoesOnBy}
+use Rattle.il_ports.specs.Transfers.{WritesOnly, GoesOnBy}
 use Rattle.il_ports.proofs.Transfers.{covers_one}
 use Rattle.lif_redo.specs.Writing.{writes_among, AreSingle, AddsWrites}
 
@@ -14,17 +13,6 @@ Lists = List Transfer → Type 0
 
 pub no_write : (old : Lists) → AddsWrites [] old old
 no_write old = record { goes_on = λ list was. ([], subst old (sym (append-nil list)) was, refl, tt) }
-
--- a read with Ok, and a write with Ok
-pub read_adds : {T E : Type 0} (first : ℕ) (bytes : List ℕ) (old new : Lists) (r : Result T E) → length bytes ≡ 256
-    → Adds (record { writes = false; first = first; bytes = bytes }) old new r → OnOk r (AddsWrites [] old new)
-read_adds first bytes old new (Ok v) whole adds = record { goes_on = λ list was. (record { writes = false; first = first; bytes = bytes } ∷ [], adds.at_end list was, refl, (whole, tt)) }
-read_adds first bytes old new (Err e) whole adds = tt
-
-pub write_adds : {T E : Type 0} (first : ℕ) (bytes : List ℕ) (old new : Lists) (r : Result T E) → length bytes ≡ 256
-    → Adds (record { writes = true; first = first; bytes = bytes }) old new r → OnOk r (AddsWrites ((first, bytes) ∷ []) old new)
-write_adds first bytes old new (Ok v) whole adds = record { goes_on = λ list was. (record { writes = true; first = first; bytes = bytes } ∷ [], adds.at_end list was, refl, (whole, tt)) }
-write_adds first bytes old new (Err e) whole adds = tt
 
 -- ---- one after the other
 

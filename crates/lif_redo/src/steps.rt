@@ -1,11 +1,14 @@
-// The steps of settling and of a commit, in the order in which they are made.
-ghost use Rattle.std.specs.Prelude.{◌≡◌, ◌<◌, ◌≤◌, ◌+◌, ◌*◌, ◌++◌, ℕ, List, Bool, [], ◌∷◌, true, false, Some, length, set, OnOk, IfOk};
+//! The steps of settling and of a commit, in the order in which they are made.
+ghost use Rattle.std.specs.Prelude.{◌≡◌, ◌<◌, ◌≤◌, ◌+◌, ◌*◌, ◌++◌, ℕ, List, Bool, [], ◌∷◌, true, false, Some};
+ghost use Rattle.std.specs.Prelude.{length, set, OnOk, IfOk};
 ghost use Rattle.lif_model.specs.Tape.{Tape, record_at};
 ghost use Rattle.lif_model.specs.Gate.{gate_of, has_open_gate};
 ghost use Rattle.lif_model.specs.Stops.{Torn, Elapses};
 ghost use Rattle.lif_model.specs.Redo as redo;
-ghost use Rattle.lif_model.specs.Redo.{are_targets, zeros, Changes, redo_of, changed, settled, targets_place, targets_record, targets_in};
-ghost use Rattle.lif_model.specs.Commit.{AreChanges, SettlesAs, Quiet, IsShut, IsStaged, IsArmed, settle_writes, close_writes, content_writes};
+ghost use Rattle.lif_model.specs.Redo.{are_targets, zeros, Changes, redo_of, changed, settled, targets_place};
+ghost use Rattle.lif_model.specs.Redo.{targets_record, targets_in};
+ghost use Rattle.lif_model.specs.Commit.{AreChanges, SettlesAs, Quiet, IsShut, IsStaged, IsArmed};
+ghost use Rattle.lif_model.specs.Commit.{settle_writes, close_writes, content_writes};
 ghost use Rattle.il_ports.specs.Stores.{IsReady, GoesOn, IsQuiet, RunLeaves, Fetched, Stored};
 ghost use Rattle.lif_redo.specs.Reading.{version_of, MayBeNamed, IsOpenWith, IsFound};
 ghost use Rattle.lif_redo.specs.Writing.{AddsWrites};
@@ -18,12 +21,12 @@ use crate::texts::{
 use crate::versions::Version;
 use arrayvec::ArrayVec;
 use il_ports::{Records, Trouble};
-use lif_model::RECORD;
+use lif_model::{RECORD, Record};
 
 // ---- one record
 
-// Reads a record.
-fn get<R: Records>(records: &mut R, n: u16, into: &mut [u8; 256]) -> Result<(), Trouble>
+/// Reads a record.
+fn get<R: Records>(records: &mut R, n: u16, into: &mut Record) -> Result<(), Trouble>
     requires ready { IsReady 1 (R.view records.old) }
     requires within { n < (R.view records.old).record_count }
     ensures fetched { Fetched n into.new (R.view records.old) (R.view records.new) result }
@@ -32,25 +35,29 @@ fn get<R: Records>(records: &mut R, n: u16, into: &mut [u8; 256]) -> Result<(), 
     records.read(n, into)
 }
 
-// Writes a record.
-pub fn put<R: Records>(records: &mut R, n: u16, bytes: &[u8; 256]) -> Result<(), Trouble>
+/// Writes a record.
+pub fn put<R: Records>(records: &mut R, n: u16, bytes: &Record) -> Result<(), Trouble>
     requires ready { IsReady 1 (R.view records.old) }
     requires within { n < (R.view records.old).record_count }
     ensures stored { Stored n bytes.now (R.view records.old) (R.view records.new) result }
-    ensures writes { OnOk result (AddsWrites ((n, bytes.now) ∷ []) (R.view records.old).transferred (R.view records.new).transferred) }
+    ensures writes { OnOk result (AddsWrites ((n, bytes.now) ∷ []) (R.view records.old).transferred
+        (R.view records.new).transferred) }
 {
     records.write(n, bytes)
 }
 
-// Writes to record `to` what record `from` holds.
+/// Writes to record `to` what record `from` holds.
 fn copy<R: Records>(records: &mut R, from: u16, to: u16) -> Result<(), Trouble>
     requires ready { IsReady 2 (R.view records.old) }
     requires from { from < (R.view records.old).record_count }
     requires to { to < (R.view records.old).record_count }
     ensures goes_on { GoesOn 2 (R.view records.old) (R.view records.new) result }
-    ensures content { OnOk result ((t : Tape) → (R.view records.old).tape ≡ Some t → (R.view records.new).tape ≡ Some (set t to (record_at t from))) }
-    ensures time { Elapses (R.view records.old).moment (R.view records.new).moment (R.view records.old).left_since (R.view records.new).left_since (R.view records.old).tape (Torn to) }
-    ensures writes { OnOk result ((bytes : List ℕ) × ((t : Tape) → (R.view records.old).tape ≡ Some t → bytes ≡ record_at t from)
+    ensures content { OnOk result ((t : Tape) → (R.view records.old).tape ≡ Some t
+        → (R.view records.new).tape ≡ Some (set t to (record_at t from))) }
+    ensures time { Elapses (R.view records.old).moment (R.view records.new).moment (R.view records.old).left_since
+        (R.view records.new).left_since (R.view records.old).tape (Torn to) }
+    ensures writes { OnOk result ((bytes : List ℕ) × ((t : Tape) → (R.view records.old).tape ≡ Some t
+        → bytes ≡ record_at t from)
         × AddsWrites ((to, bytes) ∷ []) (R.view records.old).transferred (R.view records.new).transferred) }
 {
     let mut bytes = [0; RECORD];
@@ -86,11 +93,15 @@ pub fn replay<R: Records>(records: &mut R, version: Version, targets: &[u16]) ->
     requires ready { IsReady (2 * length targets.now + 1) (R.view records.old) }
     requires may_be { are_targets (version_of version) (R.view records.old).record_count targets.now ≡ true }
     requires found { (t : Tape) → (R.view records.old).tape ≡ Some t → IsOpenWith (version_of version) targets.now t }
-    ensures done { OnOk result ((t : Tape) → (R.view records.old).tape ≡ Some t → (R.view records.new).tape ≡ Some (settled t)) }
-    ensures any_moment { (t : Tape) → (R.view records.old).tape ≡ Some t → RunLeaves (R.view records.old) (R.view records.new) (SettlesAs (settled t)) }
+    ensures done { OnOk result ((t : Tape) → (R.view records.old).tape ≡ Some t
+        → (R.view records.new).tape ≡ Some (settled t)) }
+    ensures any_moment { (t : Tape) → (R.view records.old).tape ≡ Some t
+        → RunLeaves (R.view records.old) (R.view records.new) (SettlesAs (settled t)) }
     ensures goes_on { GoesOn (2 * length targets.now + 1) (R.view records.old) (R.view records.new) result }
-    ensures writes { OnOk result ((changes : Changes) × ((t : Tape) → (R.view records.old).tape ≡ Some t → changes ≡ redo_of t)
-        × AddsWrites (settle_writes (R.view records.old).record_count changes) (R.view records.old).transferred (R.view records.new).transferred) }
+    ensures writes { OnOk result ((changes : Changes) × ((t : Tape) → (R.view records.old).tape ≡ Some t
+        → changes ≡ redo_of t)
+        × AddsWrites (settle_writes (R.view records.old).record_count changes) (R.view records.old).transferred
+        (R.view records.new).transferred) }
 {
     let size = records.size();
     for i in 0..targets.len() {
@@ -107,11 +118,15 @@ pub fn close<R: Records>(records: &mut R) -> Result<(), Trouble>
     requires size { 4 < (R.view records.old).record_count }
     requires ready { IsReady 2 (R.view records.old) }
     requires none { (t : Tape) → (R.view records.old).tape ≡ Some t → redo_of t ≡ [] }
-    ensures closed { OnOk result ((t : Tape) → (R.view records.old).tape ≡ Some t → (u : Tape) × ((R.view records.new).tape ≡ Some u) × ((version : redo.Version) → IsShut version t u)) }
-    ensures any_moment { (version : redo.Version) (t : Tape) → (R.view records.old).tape ≡ Some t → RunLeaves (R.view records.old) (R.view records.new) (Quiet version t) }
+    ensures closed { OnOk result ((t : Tape) → (R.view records.old).tape ≡ Some t → (u : Tape)
+        × ((R.view records.new).tape ≡ Some u) × ((version : redo.Version) → IsShut version t u)) }
+    ensures any_moment { (version : redo.Version) (t : Tape) → (R.view records.old).tape ≡ Some t
+        → RunLeaves (R.view records.old) (R.view records.new) (Quiet version t) }
     ensures goes_on { GoesOn 2 (R.view records.old) (R.view records.new) result }
-    ensures writes { OnOk result ((was_open : Bool) × ((t : Tape) → (R.view records.old).tape ≡ Some t → was_open ≡ has_open_gate t)
-        × AddsWrites (close_writes (R.view records.old).record_count was_open) (R.view records.old).transferred (R.view records.new).transferred) }
+    ensures writes { OnOk result ((was_open : Bool) × ((t : Tape) → (R.view records.old).tape ≡ Some t
+        → was_open ≡ has_open_gate t)
+        × AddsWrites (close_writes (R.view records.old).record_count was_open) (R.view records.old).transferred
+        (R.view records.new).transferred) }
 {
     let gate = records.size() - GATE;
     let mut bytes = [0; RECORD];
@@ -122,19 +137,23 @@ pub fn close<R: Records>(records: &mut R) -> Result<(), Trouble>
     Ok(())
 }
 
-/// Writes the new contents, each at its data record, behind the closed gate.
+/// Writes the new contents, each at its data record, while the gate is closed.
 pub fn fill<R: Records>(
     records: &mut R,
     version: Version,
-    changes: &[(u16, [u8; 256])],
+    changes: &[(u16, Record)],
 ) -> Result<(), Trouble>
     requires ready { IsReady (length changes.now) (R.view records.old) }
     requires changes { AreChanges (version_of version) (R.view records.old).record_count changes.now }
     requires shut { (t : Tape) → (R.view records.old).tape ≡ Some t → has_open_gate t ≡ false }
-    ensures filled { OnOk result ((t : Tape) → (R.view records.old).tape ≡ Some t → (u : Tape) × ((R.view records.new).tape ≡ Some u) × IsFilled (version_of version) (length changes.now) changes.now t u) }
-    ensures any_moment { (t : Tape) → (R.view records.old).tape ≡ Some t → RunLeaves (R.view records.old) (R.view records.new) (IsShut (version_of version) t) }
+    ensures filled { OnOk result ((t : Tape) → (R.view records.old).tape ≡ Some t → (u : Tape)
+        × ((R.view records.new).tape ≡ Some u) × IsFilled (version_of version) (length changes.now) changes.now t u) }
+    ensures any_moment { (t : Tape) → (R.view records.old).tape ≡ Some t
+        → RunLeaves (R.view records.old) (R.view records.new) (IsShut (version_of version) t) }
     ensures goes_on { GoesOn (length changes.now) (R.view records.old) (R.view records.new) result }
-    ensures writes { OnOk result (AddsWrites (content_writes (version_of version) (R.view records.old).record_count 0 changes.now) (R.view records.old).transferred (R.view records.new).transferred) }
+    ensures writes { OnOk result (AddsWrites (content_writes (version_of version)
+        (R.view records.old).record_count 0 changes.now) (R.view records.old).transferred
+        (R.view records.new).transferred) }
 {
     let size = records.size();
     for i in 0..changes.len() {
@@ -144,7 +163,7 @@ pub fn fill<R: Records>(
 }
 
 /// The numbers of the records that change.
-pub fn numbers(changes: &[(u16, [u8; 256])]) -> ArrayVec<u16, MOST>
+pub fn numbers(changes: &[(u16, Record)]) -> ArrayVec<u16, MOST>
     requires { length changes.now ≤ 32 }
     ensures { result.items ≡ targets_in changes.now }
 {
@@ -155,20 +174,27 @@ pub fn numbers(changes: &[(u16, [u8; 256])]) -> ArrayVec<u16, MOST>
     numbers
 }
 
-/// Writes the new contents, and then the targets, behind the closed gate.
+/// Writes the new contents, and then the targets, while the gate is closed.
 pub fn stage<R: Records>(
     records: &mut R,
     version: Version,
-    changes: &[(u16, [u8; 256])],
+    changes: &[(u16, Record)],
 ) -> Result<(), Trouble>
     requires ready { IsReady (length changes.now + 1) (R.view records.old) }
     requires changes { AreChanges (version_of version) (R.view records.old).record_count changes.now }
     requires shut { (t : Tape) → (R.view records.old).tape ≡ Some t → has_open_gate t ≡ false }
-    ensures staged { OnOk result ((t : Tape) → (R.view records.old).tape ≡ Some t → (u : Tape) × ((R.view records.new).tape ≡ Some u) × IsStaged (version_of version) changes.now t u) }
-    ensures any_moment { (t : Tape) → (R.view records.old).tape ≡ Some t → RunLeaves (R.view records.old) (R.view records.new) (IsShut (version_of version) t) }
+    ensures staged { OnOk result ((t : Tape) → (R.view records.old).tape ≡ Some t → (u : Tape)
+        × ((R.view records.new).tape ≡ Some u) × IsStaged (version_of version) changes.now t u) }
+    ensures any_moment { (t : Tape) → (R.view records.old).tape ≡ Some t
+        → RunLeaves (R.view records.old) (R.view records.new) (IsShut (version_of version) t) }
     ensures goes_on { GoesOn (length changes.now + 1) (R.view records.old) (R.view records.new) result }
-    ensures writes { OnOk result (AddsWrites (content_writes (version_of version) (R.view records.old).record_count 0 changes.now
-        ++ (targets_place (R.view records.old).record_count, targets_record (version_of version) (targets_in changes.now)) ∷ []) (R.view records.old).transferred (R.view records.new).transferred) }
+    ensures writes { OnOk result (AddsWrites (content_writes (version_of version)
+        (R.view records.old).record_count 0 changes.now
+        ++ (
+          targets_place (R.view records.old).record_count,
+          targets_record (version_of version)
+              (targets_in changes.now),
+        ) ∷ []) (R.view records.old).transferred (R.view records.new).transferred) }
 {
     fill(records, version, changes)?;
     let targets = records.size() - TARGETS;
@@ -182,14 +208,18 @@ pub fn stage<R: Records>(
 }
 
 /// Writes the targets in place, in their order, and then closes the gate.
-pub fn finish<R: Records>(records: &mut R, changes: &[(u16, [u8; 256])]) -> Result<(), Trouble>
+pub fn finish<R: Records>(records: &mut R, changes: &[(u16, Record)]) -> Result<(), Trouble>
     requires ready { IsReady (length changes.now + 1) (R.view records.old) }
     requires changes { (version : redo.Version) × AreChanges version (R.view records.old).record_count changes.now }
-    requires armed { (t : Tape) → (R.view records.old).tape ≡ Some t → (version : redo.Version) × IsArmed version changes.now t }
-    ensures done { OnOk result ((t : Tape) → (R.view records.old).tape ≡ Some t → (R.view records.new).tape ≡ Some (set (changed changes.now t) (gate_of (length t)) zeros)) }
-    ensures any_moment { (t : Tape) → (R.view records.old).tape ≡ Some t → RunLeaves (R.view records.old) (R.view records.new) (SettlesAs (changed changes.now t)) }
+    requires armed { (t : Tape) → (R.view records.old).tape ≡ Some t → (version : redo.Version)
+        × IsArmed version changes.now t }
+    ensures done { OnOk result ((t : Tape) → (R.view records.old).tape ≡ Some t
+        → (R.view records.new).tape ≡ Some (set (changed changes.now t) (gate_of (length t)) zeros)) }
+    ensures any_moment { (t : Tape) → (R.view records.old).tape ≡ Some t
+        → RunLeaves (R.view records.old) (R.view records.new) (SettlesAs (changed changes.now t)) }
     ensures goes_on { GoesOn (length changes.now + 1) (R.view records.old) (R.view records.new) result }
-    ensures writes { OnOk result (AddsWrites (changes.now ++ (gate_of (R.view records.old).record_count, zeros) ∷ []) (R.view records.old).transferred (R.view records.new).transferred) }
+    ensures writes { OnOk result (AddsWrites (changes.now ++ (gate_of (R.view records.old).record_count, zeros)
+        ∷ []) (R.view records.old).transferred (R.view records.new).transferred) }
 {
     for change in changes {
         put(records, change.0, &change.1)?;

@@ -1,4 +1,4 @@
-// The versions of redo files.
+//! The versions of redo files.
 ghost use Rattle.std.specs.Prelude.{◌≡◌, ◌<◌};
 ghost use Rattle.lif_model.specs.Redo.{redo_length, most_targets, redo_text, redo_start, data_record};
 ghost use Rattle.lif_redo.specs.Reading.{version_of};

@@ -44,9 +44,6 @@ use Rattle.lif_volume.proofs.Joining.{long_there, legal_there, carried_on, settl
 
 -- ---- what is tested
 
-pub free_without : (n : ℕ) (label : List ℕ) (slots : ℕ) → is_too_long n slots ≡ false → refusal_of n (Format label slots) None ≡ None
-free_without n label slots fits = λ i. if fits i then Some model.NoRoom else None
-
 in_use_is : (n : ℕ) (v : Volume) (label : List ℕ) (slots : ℕ) (b : Bool) → is_too_long n slots ≡ false → (lacks_redo n v && runs_past_gate n v) ≡ b
     → refusal_of n (Format label slots) (Some v) ≡ (if b then Some model.InUse else None)
 in_use_is n v label slots b fits is = λ i. if fits i then Some model.NoRoom else if is i then Some model.InUse else None

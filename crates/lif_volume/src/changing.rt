@@ -39,7 +39,7 @@ impl<R: Records> Volume<R> {
         ensures written { Writes (Purge (name_bytes name.now)) R.view
             (⟦<Volume<R> as Seen<R>>⟧.seen self.old)
             (⟦<Volume<R> as Seen<R>>⟧.seen self.new) result }
-        // A stop at any moment leaves the volume before or the one behind, and so does a trouble.
+        // A stop at any moment leaves the volume before or the one after, and so does a trouble.
         ensures stops { TurnsVolume (Purge (name_bytes name.now)) R.view
             (⟦<Volume<R> as Seen<R>>⟧.seen self.old)
             (⟦<Volume<R> as Seen<R>>⟧.seen self.new) }
@@ -71,7 +71,7 @@ impl<R: Records> Volume<R> {
         ensures written { Writes (Rename (name_bytes old.now) (name_bytes (made_name new.now))) R.view
             (⟦<Volume<R> as Seen<R>>⟧.seen self.old)
             (⟦<Volume<R> as Seen<R>>⟧.seen self.new) result }
-        // A stop at any moment leaves the volume before or the one behind, and so does a trouble.
+        // A stop at any moment leaves the volume before or the one after, and so does a trouble.
         ensures stops { TurnsVolume (Rename (name_bytes old.now) (name_bytes (made_name new.now))) R.view
             (⟦<Volume<R> as Seen<R>>⟧.seen self.old)
             (⟦<Volume<R> as Seen<R>>⟧.seen self.new) }
@@ -86,8 +86,8 @@ impl<R: Records> Volume<R> {
         self.alter(&header, plan)
     }
 
-    /// Gives the volume a redo file of version 1: its entry comes behind the last slot, and an end
-    /// behind it where the directory has a slot more. An adopted volume stays as it is.
+    /// Gives the volume a redo file of version 1: its entry comes after the last slot, and an end
+    /// after it where the directory has a slot more. An adopted volume stays as it is.
     pub fn adopt(&mut self) -> Result<(), VolumeFault>
         requires open { IsOpen R.view (⟦<Volume<R> as Seen<R>>⟧.seen self.old) }
         requires ready { IsReadyFor R.view (⟦<Volume<R> as Seen<R>>⟧.seen self.old) }
@@ -103,7 +103,7 @@ impl<R: Records> Volume<R> {
         ensures written { Writes Adopt R.view
             (⟦<Volume<R> as Seen<R>>⟧.seen self.old)
             (⟦<Volume<R> as Seen<R>>⟧.seen self.new) result }
-        // A stop at any moment leaves the volume before or the one behind, and so does a trouble.
+        // A stop at any moment leaves the volume before or the one after, and so does a trouble.
         ensures stops { TurnsVolume Adopt R.view
             (⟦<Volume<R> as Seen<R>>⟧.seen self.old)
             (⟦<Volume<R> as Seen<R>>⟧.seen self.new) }
@@ -133,7 +133,7 @@ impl<R: Records> Volume<R> {
         ensures written { Writes Upgrade R.view
             (⟦<Volume<R> as Seen<R>>⟧.seen self.old)
             (⟦<Volume<R> as Seen<R>>⟧.seen self.new) result }
-        // A stop at any moment leaves the volume before or the one behind, and so does a trouble.
+        // A stop at any moment leaves the volume before or the one after, and so does a trouble.
         ensures stops { TurnsVolume Upgrade R.view
             (⟦<Volume<R> as Seen<R>>⟧.seen self.old)
             (⟦<Volume<R> as Seen<R>>⟧.seen self.new) }
@@ -146,8 +146,8 @@ impl<R: Records> Volume<R> {
         self.alter(&header, plan)
     }
 
-    // Carries out what is planned of the directory, which is kept: by one commit, after which the
-    // slots in memory are those of the tape again, or not at all.
+    /// Carries out what is planned of the directory, which is kept: by one commit, after which the
+    /// slots in memory are those of the tape again, or not at all.
     fn alter(
         &mut self,
         header: &Header,

@@ -51,7 +51,7 @@ impl<R: Records> Volume<R> {
         ensures written { Writes (Format (label_bytes label.now) slots) R.view
             (⟦<Volume<R> as Seen<R>>⟧.seen self.old)
             (⟦<Volume<R> as Seen<R>>⟧.seen self.new) result }
-        // A stop at any moment leaves the volume before or the one behind, and so does a trouble.
+        // A stop at any moment leaves the volume before or the one after, and so does a trouble.
         ensures stops { TurnsVolume (Format (label_bytes label.now) slots) R.view
             (⟦<Volume<R> as Seen<R>>⟧.seen self.old)
             (⟦<Volume<R> as Seen<R>>⟧.seen self.new) }
@@ -66,8 +66,8 @@ impl<R: Records> Volume<R> {
         self.renew(label, slots)
     }
 
-    // Settles the tape, and tells whether it may be formatted: where it holds no legal volume, and
-    // where no file stands where the redo file is to be.
+    /// Settles the tape, and tells whether it may be formatted: where it holds no legal volume, and
+    /// where no file stands where the redo file is to be.
     fn clear_for_format(&mut self) -> Result<(), VolumeFault>
         requires open { IsOpen R.view (⟦<Volume<R> as Seen<R>>⟧.seen self.old) }
         requires ready { IsReadyFor R.view (⟦<Volume<R> as Seen<R>>⟧.seen self.old) }
@@ -92,7 +92,7 @@ impl<R: Records> Volume<R> {
         }
     }
 
-    // Makes a settled tape that may be formatted an empty volume, and keeps its directory.
+    /// Makes a settled tape that may be formatted an empty volume, and keeps its directory.
     fn renew(&mut self, label: &NewLabel, slots: u16) -> Result<(), VolumeFault>
         requires open { IsOpen R.view (⟦<Volume<R> as Seen<R>>⟧.seen self.old) }
         requires ready { IsReady 12 (R.view (⟦<Volume<R> as Seen<R>>⟧.seen self.old).records) }

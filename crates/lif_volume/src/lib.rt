@@ -15,8 +15,3 @@ mod volume;
 pub use fault::VolumeFault;
 pub use lif_plan::Refusal;
 pub use volume::{Fetched, Kept, Listing, Seen, Volume};
-
-#[cfg(test)]
-mod stop_tests;
-#[cfg(test)]
-mod tests;

@@ -1,5 +1,6 @@
 //! The records that one commit is to change.
-ghost use Rattle.std.specs.Prelude.{◌≡◌, ◌<◌, ◌≤◌, ◌+◌, ◌-◌, ◌/◌, ◌*◌, ◌^◌, ◌++◌, ℕ, [], ◌∷◌, true, length, vec_capacity};
+ghost use Rattle.std.specs.Prelude.{◌≡◌, ◌<◌, ◌≤◌, ◌+◌, ◌-◌, ◌/◌, ◌*◌, ◌^◌, ◌++◌, ℕ, [], ◌∷◌, true, length};
+ghost use Rattle.std.specs.Prelude.{vec_capacity};
 ghost use Rattle.std.specs.Prelude.{Some, IfOk, OnOk};
 ghost use Rattle.lif_model.specs.Tape.{Tape};
 ghost use Rattle.lif_model.specs.Directory.{entry_at};
@@ -15,7 +16,7 @@ ghost use Rattle.lif_plan.specs.Placements.{placed_writes};
 
 use il_ports::{Records, Trouble};
 use lif_header::bytes_at;
-use lif_model::RECORD;
+use lif_model::{RECORD, Record};
 use lif_plan::{ENTRIES, Placement, SlotChange};
 use lif_redo::commit;
 use std::alloc::{AllocError, Global};
@@ -30,7 +31,7 @@ const ENTRY: usize = 32;
 /// `new`.
 #[derive(Drop)]
 pub struct Staged {
-    changes: Vec<(u16, [u8; 256])>,
+    changes: Vec<(u16, Record)>,
     ghost memory: { 32 ≤ vec_capacity changes },
 }
 
@@ -43,7 +44,7 @@ impl Staged {
     }
 
     /// Changes one slot of a settled directory, which begins at record `start`, and puts an end
-    /// behind it where there is to be one, by one commit. At most 12 records are read and written.
+    /// after it where there is to be one, by one commit. At most 12 records are read and written.
     pub fn commit<R: Records>(
         &mut self,
         records: &mut R,
@@ -64,7 +65,7 @@ impl Staged {
         commit(records, change.version, &self.changes)
     }
 
-    // Reads the records of the slot and of the end behind it, and changes them in memory.
+    /// Reads the records of the slot and of the end after it, and changes them in memory.
     fn stage<R: Records>(
         &mut self,
         records: &mut R,
@@ -93,7 +94,7 @@ impl Staged {
 
     /// Puts the entry of a new file into a settled directory, which begins at record `start`, by one
     /// commit: where it takes the redo entry's slot, that entry moves on by one, and an end is put
-    /// behind it where there is to be one. At most 12 records are read and written.
+    /// after it where there is to be one. At most 12 records are read and written.
     pub fn commit_placed<R: Records>(
         &mut self,
         records: &mut R,
@@ -113,7 +114,7 @@ impl Staged {
         commit(records, placed.version, &self.changes)
     }
 
-    // Reads the records of the slots that a new entry changes, and changes them in memory.
+    /// Reads the records of the slots that a new entry changes, and changes them in memory.
     fn stage_placed<R: Records>(
         &mut self,
         records: &mut R,
@@ -144,7 +145,7 @@ impl Staged {
         Ok(())
     }
 
-    // Puts an entry into a slot of a directory that begins at record `start`.
+    /// Puts an entry into a slot of a directory that begins at record `start`.
     fn put<R: Records>(
         &mut self,
         records: &mut R,
@@ -174,7 +175,7 @@ impl Staged {
         Ok(())
     }
 
-    // Makes a slot of this directory an end, which keeps its other bytes.
+    /// Makes a slot of this directory an end, which keeps its other bytes.
     fn end<R: Records>(&mut self, records: &mut R, start: u16, slot: usize) -> Result<(), Trouble>
         requires ready { IsReady 1 (R.view records.old) }
         requires small { (R.view records.old).record_count < 2 ^ 16 }
@@ -200,8 +201,8 @@ impl Staged {
         Ok(())
     }
 
-    // The place of record `n` among the changes. Where it is not among them, it is read, and comes
-    // last.
+    /// The place of record `n` among the changes. Where it is not among them, it is read, and comes
+    /// last.
     fn bring_in<R: Records>(&mut self, records: &mut R, n: u16) -> Result<usize, Trouble>
         requires ready { IsReady 1 (R.view records.old) }
         requires within { n < (R.view records.old).record_count }
@@ -231,25 +232,20 @@ impl Staged {
 impl Staged {
     ghost use Rattle.std.specs.Prelude.{◌≢◌, get_or, None, IfSome};
 
-    // Where record `n` stands among the changes.
+    /// Where record `n` stands among the changes.
     fn place_of(&self, n: u16) -> Option<usize>
         ensures there { IfSome result (λ place. (place < length self.now.changes.items)
             × ((get_or self.now.changes.items place (0, [])).0 ≡ n)) }
         ensures nowhere { result ≡ None → (p : ℕ) → p < length self.now.changes.items
             → (get_or self.now.changes.items p (0, [])).0 ≢ n }
     {
-        for place in 0..self.changes.len() {
-            if self.changes[place].0 == n {
-                return Some(place);
-            }
-        }
-        None
+        self.changes.iter().position(|change| change.0 == n)
     }
 }
 
 /// Puts an entry into place `k` of a record of the directory.
 #[tactic(auto, unfolding(lif_model::specs::Writing::with_entry))]
-fn put_entry(bytes: &mut [u8; 256], k: usize, entry: &[u8; 32])
+fn put_entry(bytes: &mut Record, k: usize, entry: &[u8; 32])
     requires { k < 8 }
     ensures { bytes.new ≡ with_entry bytes.old k entry.now }
 {
@@ -258,7 +254,7 @@ fn put_entry(bytes: &mut [u8; 256], k: usize, entry: &[u8; 32])
 
 /// Makes the entry in place `k` of a record of the directory an end, which keeps its other bytes.
 #[tactic(auto, unfolding(lif_model::specs::Made::with_type, lif_model::specs::Directory::entry_at))]
-fn end_entry(bytes: &mut [u8; 256], k: usize)
+fn end_entry(bytes: &mut Record, k: usize)
     requires { k < 8 }
     ensures { bytes.new
         ≡ with_entry bytes.old k (with_type 0xFFFF (entry_at bytes.old k)) }

@@ -62,7 +62,7 @@ impl<R: Records> Volume<R> {
             (Store (name_bytes (made_name name.now)) kind implementation bytes.now) R.view
             (⟦<Volume<R> as Seen<R>>⟧.seen self.old)
             (⟦<Volume<R> as Seen<R>>⟧.seen self.new) result }
-        // A stop at any moment leaves the volume before or the one behind, and so does a trouble.
+        // A stop at any moment leaves the volume before or the one after, and so does a trouble.
         ensures stops { TurnsVolume
             (Store (name_bytes (made_name name.now)) kind implementation bytes.now) R.view
             (⟦<Volume<R> as Seen<R>>⟧.seen self.old)
@@ -86,8 +86,8 @@ impl<R: Records> Volume<R> {
         self.carry_in(&header, plan, bytes)
     }
 
-    // Carries out what is planned of a directory that is kept: the file by one run, and its entry by
-    // one commit, after which the slots in memory are those of the tape again, or not at all.
+    /// Carries out what is planned of a directory that is kept: the file by one run, and its entry by
+    /// one commit, after which the slots in memory are those of the tape again, or not at all.
     fn carry_in(
         &mut self,
         header: &Header,
@@ -137,7 +137,7 @@ impl<R: Records> Volume<R> {
     }
 }
 
-// What `store` is to write on a medium of `size` records, or why it is refused.
+/// What `store` is to write on a medium of `size` records, or why it is refused.
 fn plan_store(
     directory: &Directory,
     header: &Header,
@@ -170,7 +170,7 @@ fn plan_store(
     }
 }
 
-// How many records a file takes; where they are more than any medium has, one more than that.
+/// How many records a file takes; where they are more than any medium has, one more than that.
 fn records_for(bytes: &[u8]) -> u32
     ensures { result ≡ min (file_length bytes.now) 65536 }
 {

@@ -150,15 +150,15 @@ impl<R: Records> Volume<R> {
         self.records
     }
 
-    /// The slots that the last reading of the directory found: all of them behind an Ok of `dir`.
+    /// The slots that the last reading of the directory found: all of them after an Ok of `dir`.
     pub fn slots(&self) -> &SlotTable
         ensures { result.now.slots ≡ (⟦<Volume<R> as Seen<R>>⟧.seen self.now).slots }
     {
         &self.directory.table
     }
 
-    // Settles the tape, reads record 0 and the directory, tests that they are legal, and keeps
-    // them. Where they are kept it does nothing.
+    /// Settles the tape, reads record 0 and the directory, tests that they are legal, and keeps
+    /// them. Where they are kept it does nothing.
     pub(crate) fn mount(&mut self) -> Result<Header, VolumeFault>
         requires open { IsOpen R.view (⟦<Volume<R> as Seen<R>>⟧.seen self.old) }
         requires ready { IsReadyFor R.view (⟦<Volume<R> as Seen<R>>⟧.seen self.old) }

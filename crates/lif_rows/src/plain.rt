@@ -1,0 +1,103 @@
+//! The plain functions of the model: slots, and legal directories.
+ghost use Rattle.std.specs.Prelude.{◌≡◌};
+ghost use Rattle.lif_model.specs.Header.{directory_end};
+
+use crate::labels::named;
+use lif_model::{RECORD, Record, plain_is_legal, plain_slots};
+use std::test::Fail;
+
+/// An entry of that type and name, with its first record and its number of records.
+fn entry(name: u8, kind: u8, start: u8, count: u8) -> [u8; 32] {
+    let mut bytes = [0; 32];
+    bytes[..10].copy_from_slice(b"          ");
+    bytes[0] = name;
+    bytes[11] = kind;
+    bytes[15] = start;
+    bytes[19] = count;
+    bytes
+}
+
+/// The header of a volume whose directory is records 2 and 3.
+#[tactic(auto, unfolding(lif_model::specs::Numbers::four_at, lif_model::specs::Numbers::two_at))]
+fn header() -> Record
+    ensures { directory_end result ≡ 4 }
+{
+    let mut bytes = [0; RECORD];
+    bytes[0] = 0x80;
+    bytes[11] = 2;
+    bytes[19] = 2;
+    bytes
+}
+
+/// Three slots, and the type of the fourth, high byte first: FFFF hex alone ends a directory.
+#[test]
+fn slots_stop_at_the_end(rt: HostRuntime) -> Result<(), Fail> {
+    let mut directory = [0; RECORD];
+    directory[..32].copy_from_slice(&entry(b'A', 1, 4, 1));
+    directory[32..64].copy_from_slice(&entry(b'B', 0, 5, 1));
+    directory[64..76].copy_from_slice(b"REDOFILE  \xE0\xD0");
+    for (high, low, count) in [(0, 0, 16), (0, 0xFF, 16), (0xFF, 0xFF, 3)] {
+        directory[106] = high;
+        directory[107] = low;
+        let tape = [header(), [0; RECORD], directory, [0; RECORD]];
+        assert!(rt;
+            plain_slots(rt.alloc(), &tape)?.len() == count,
+            "slots before the end"
+        );
+    }
+    Ok(())
+}
+
+#[test]
+fn legal_directories(rt: HostRuntime) {
+    let rows = [
+        (
+            "neighbours",
+            [entry(b'A', 1, 4, 2), entry(b'B', 1, 6, 6)],
+            true,
+        ),
+        (
+            "overlap",
+            [entry(b'A', 1, 4, 2), entry(b'B', 1, 5, 1)],
+            false,
+        ),
+        (
+            "overlap a purged one",
+            [entry(b'A', 0, 4, 2), entry(b'B', 1, 5, 1)],
+            true,
+        ),
+        ("twins", [entry(b'A', 1, 4, 1), entry(b'A', 1, 5, 1)], false),
+        (
+            "twin of a purged one",
+            [entry(b'A', 0, 4, 1), entry(b'A', 1, 5, 1)],
+            true,
+        ),
+        (
+            "in the directory",
+            [entry(b'A', 1, 3, 1), entry(b'B', 1, 5, 1)],
+            false,
+        ),
+        (
+            "far without records",
+            [entry(b'A', 1, 11, 1), entry(b'B', 1, 200, 0)],
+            true,
+        ),
+        (
+            "past the end",
+            [entry(b'A', 1, 11, 2), entry(b'B', 1, 5, 1)],
+            false,
+        ),
+    ];
+    for (name, slots, legal) in rows {
+        named(
+            &rt,
+            plain_is_legal(12, &header(), &slots) == legal,
+            "the answer",
+            name,
+        );
+    }
+    assert!(rt;
+        !plain_is_legal(7, &header(), &[]),
+        "no room for the redo file"
+    );
+}
