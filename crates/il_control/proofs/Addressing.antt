@@ -10,10 +10,10 @@ use Rattle.il_device.specs.State.{DeviceState}
 use Rattle.il_drive.specs.State.{device_of}
 use Rattle.il_ports.specs.Media.{MediumView}
 use Rattle.loop_model.specs.Entries.{entry, ifc, aau, aad}
-use Rattle.loop_model.specs.Roles.{talkers, talkers_from, is_at_most_one, roles_after}
+use Rattle.loop_model.specs.Roles.{talkers, talkers_from, is_at_most_one, roles_after, are_numbered}
 use Rattle.loop_model.specs.Exchanges.{Address, commanded, entries_of}
 use Rattle.loop_model.proofs.RoleLaws.{roles_after-append}
-use Rattle.loop_model.proofs.RoleSteps.{are_numbered, cleared, addressed_from, are_numbered-addressed, roles_after-aau, roles_after-addressing}
+use Rattle.loop_model.proofs.RoleSteps.{cleared, addressed_from, are_numbered-addressed, roles_after-aau, roles_after-addressing}
 use Rattle.loop_model.proofs.RoundLaws.{IsSafe, safe_mute, OneTalker-safe, OneTalker-cut}
 use Rattle.loop_model.proofs.TalkLaws.{length-roles_after}
 use Rattle.il_ring.specs.declared.plan.Arrival.{Arrival}

@@ -11,12 +11,11 @@ use Rattle.il_device.specs.declared.roles.Roles.{Roles}
 use Rattle.il_device.specs.declared.interface.OwnFrame.{OwnFrame}
 use Rattle.il_device.specs.Roles.{roles_after, own_after, is_own}
 use Rattle.il_device.specs.State.{DeviceState}
-use Rattle.il_device.proofs.Laws.{is_plain}
+use Rattle.il_device.specs.Passing.{is_plain}
 use Rattle.il_ports.specs.Media.{MediumView}
 use Rattle.loop_model.specs.Entries.{unl, tad, ddt, rfc}
-use Rattle.loop_model.specs.Exchanges.{returned, commanded, numbered}
+use Rattle.loop_model.specs.Exchanges.{returned, commanded, numbered, receive_front}
 use Rattle.loop_model.proofs.RoundLaws.{message_of-tad}
-use Rattle.loop_model.proofs.UnitLaws.{receive_front}
 use Rattle.il_ring.specs.declared.plan.Arrival.{Arrival}
 use Rattle.il_ring.specs.declared.flight.Flight.{Flight}
 use Rattle.il_ring.specs.Flights.{sourced}

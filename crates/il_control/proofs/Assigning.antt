@@ -3,28 +3,23 @@
 use Rattle.std.proofs.Common.{◌≡◌, ◌∙◌, ◌≤◌, ◌<◌, ◌+◌, ◌==◌, ◌⊎◌, inl, inr, ℕ, zero, suc, Bool, true, false, List, [], ◌∷◌, Option, Some, None, length, refl, sym, ap, subst, arith}
 use Rattle.std.specs.Prelude.{if◌then◌else◌}
 use Rattle.std.proofs.lemmas.Bool.{agree_below_at, and_parts, eqb-true, le-leb}
-use Rattle.il_frames.specs.declared.frame.Class.TheVariants as class
 use Rattle.il_frames.specs.declared.frame.Frame.{Frame}
 use Rattle.il_frames.specs.declared.message.Message.{Message}
 use Rattle.il_frames.specs.declared.message.Message.TheVariants as msg
-use Rattle.il_frames.specs.Frames.{framed}
 use Rattle.il_frames.specs.Messages.{message_of}
 use Rattle.il_poll.specs.Service.{assigned}
 use Rattle.il_device.specs.declared.roles.Roles.{Roles}
 use Rattle.il_device.specs.Roles.{is_own}
 use Rattle.il_device.specs.State.{DeviceState}
 use Rattle.loop_model.specs.Entries.{lad, unl}
-use Rattle.loop_model.proofs.RoleSteps.{are_numbered}
+use Rattle.loop_model.specs.Roles.{are_numbered}
 use Rattle.loop_model.proofs.SendLaws.{message_of-lad}
 use Rattle.il_ring.specs.Lists.{First}
 use Rattle.il_ring.specs.Outcomes.{HearsNothing, Obeys}
 use Rattle.il_ring.specs.Rings.{RingView, devices_of, roles_of}
 use Rattle.il_control.specs.Calls.{IsIdle, Obeyed, ObeyedInPart}
 use Rattle.il_control.proofs.Calls.{hears_then}
-
--- the frame of PPE n
-abbrev pub ppe : ℕ → Frame
-ppe n = framed class.Cmd (0x80 + n)
+use Rattle.il_control.specs.Places.{ppe, EachTo, GivenPlace}
 
 abbrev is_ppe : ℕ → Message → Bool
 is_ppe n (msg.Ppe m) = m == n
@@ -36,19 +31,6 @@ is_ppe-true n m e = cc
 
 pub message_of-ppe : (n : ℕ) → n < 16 → message_of (ppe n) ≡ msg.Ppe n
 message_of-ppe n small = is_ppe-true n (message_of (ppe n)) (agree_below_at (λ n. is_ppe n (message_of (ppe n))) (λ n. true) 16 n refl small)
-
--- a fact of each device before and then, the first of which is party k
-abbrev pub EachTo : (ℕ → DeviceState → DeviceState → Type 0) → ℕ → List DeviceState → List DeviceState → Type 0
-EachTo R k [] [] = Unit {0}
-EachTo R k (d ∷ ds) (e ∷ es) = R k d e × EachTo R (k + 1) ds es
-EachTo R k [] (e ∷ es) = ⊥
-EachTo R k (d ∷ ds) [] = ⊥
-
--- party a has this place, and every other device the one that it had
-pub record GivenPlace (a n k : ℕ) (d e : DeviceState) : Type 0 where
-  pub place : e.assignment ≡ (if k == a then Some (assigned n) else d.assignment)
-  pub nothing : HearsNothing d e
-  pub wants : e.wants ≡ d.wants
 
 -- each device has the place that it had, or is party a and has this one
 pub record MayHavePlace (a n k : ℕ) (d e : DeviceState) : Type 0 where

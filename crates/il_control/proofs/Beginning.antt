@@ -13,7 +13,8 @@ use Rattle.il_frames.specs.Messages.{message_of}
 use Rattle.il_frames.specs.declared.message.Message.TheVariants as msg
 use Rattle.il_device.specs.State.{DeviceState}
 use Rattle.il_device.specs.declared.roles.Roles.{Roles}
-use Rattle.il_device.proofs.Laws.{is_start, changes_roles}
+use Rattle.il_device.specs.Roles.{is_start}
+use Rattle.il_device.proofs.Laws.{changes_roles}
 use Rattle.il_ports.specs.Media.{MediumView}
 use Rattle.loop_model.specs.Entries.{entry}
 use Rattle.loop_model.specs.Exchanges.{Start, Sda, Sst, Sdi, Sai, start_frame, Echo, FrameLost, returned, echoed}
@@ -29,7 +30,8 @@ use Rattle.il_ring.specs.Lists.{Each, First, NoneSends}
 use Rattle.il_ring.specs.Rings.{RingView, IsRing, Round, devices_of, roles_of, drive_party}
 use Rattle.il_ring.specs.Rounded.{Rounded, holding}
 use Rattle.il_ring.specs.Outcomes.{met_between, DriveTook, IsBrought, IsHeldNow, IsLostNow, LetsPass, StartReturned, StartGone, StartTaken, DriveSawStart, DriveDid}
-use Rattle.il_ring.proofs.Passing.{Carries, Exactly, is_exact}
+use Rattle.il_ring.specs.Journeys.{is_exact}
+use Rattle.il_ring.proofs.Passing.{Carries, Exactly}
 use Rattle.il_ring.proofs.Rings.{IsRing-round}
 use Rattle.il_ring.proofs.RoundAdds.{answered_some, did_had, host_did, host_adds, host_came, none_new, held_new}
 use Rattle.il_ring.proofs.RoundCounts.{round_counts}

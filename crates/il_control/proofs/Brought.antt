@@ -11,14 +11,14 @@ use Rattle.il_frames.specs.declared.entry.Outcome.{Outcome}
 use Rattle.il_frames.specs.declared.entry.Outcome.TheVariants as outcome
 use Rattle.il_frames.specs.Frames.{byte_of, class_of, framed, is_data, with_service}
 use Rattle.il_frames.specs.Messages.{message_of, message_at}
-use Rattle.il_device.proofs.Laws.{is_plain}
+use Rattle.il_device.specs.Passing.{is_plain}
 use Rattle.loop_model.specs.Entries.{entry, aad}
 use Rattle.loop_model.specs.Exchanges.{Break, can_cut}
 use Rattle.loop_model.specs.Reach.{brings_to}
 use Rattle.il_ring.specs.Outcomes.{met_between}
 use Rattle.il_ring.specs.Rings.{RingView, devices_of, drive_party}
 use Rattle.il_ring.proofs.PassKinds.{plain_no_data}
-use Rattle.il_ring.proofs.Passing.{is_identify, is_identify_class}
+use Rattle.il_ring.specs.Journeys.{is_identify, is_identify_class}
 use Rattle.il_ring.proofs.RoundAdds.{DriveCame}
 use Rattle.il_control.specs.Calls.{idy}
 use Rattle.il_control.specs.Brought.{ComesAs, MayComeAs, BroughtIf, Brought, CutBrought, is_from_here}

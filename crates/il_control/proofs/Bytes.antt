@@ -9,9 +9,9 @@ use Rattle.il_frames.specs.Frames.{framed, same_but_service}
 use Rattle.il_drive.specs.State.{device_of}
 use Rattle.il_ports.specs.Media.{MediumView}
 use Rattle.loop_model.specs.Entries.{entry}
-use Rattle.loop_model.specs.Roles.{talkers, is_at_most_one}
+use Rattle.loop_model.specs.Roles.{talkers, is_at_most_one, are_numbered}
 use Rattle.loop_model.specs.Exchanges.{FrameLost, HostAltered, echoed}
-use Rattle.loop_model.proofs.RoleSteps.{are_numbered, kept_entry, OneTalker-silent}
+use Rattle.loop_model.proofs.RoleSteps.{kept_entry, OneTalker-silent}
 use Rattle.il_ring.specs.declared.plan.Arrival.{Arrival}
 use Rattle.il_ring.specs.declared.plan.Arrival.TheVariants as arrival
 use Rattle.il_ring.specs.declared.flight.Flight.{Flight}

@@ -4,14 +4,14 @@ use Rattle.std.specs.Prelude.{MatchBool}
 use Rattle.std.specs.List.{list_all}
 use Rattle.std.proofs.lemmas.Bool.{and_parts}
 use Rattle.std.proofs.lemmas.List.Folds.{list_all-append}
-use Rattle.loop_model.proofs.HearLaws.{has_no_data}
+use Rattle.loop_model.specs.Hearing.{has_no_data}
 use Rattle.il_frames.specs.declared.frame.Frame.{Frame}
 use Rattle.il_frames.specs.declared.entry.Entry.{Entry}
 use Rattle.il_frames.specs.declared.entry.Outcome.TheVariants as outcome
 use Rattle.il_frames.specs.declared.message.Message.{Message}
 use Rattle.il_frames.specs.declared.message.Message.TheVariants as msg
 use Rattle.il_frames.specs.Messages.{message_of}
-use Rattle.il_device.proofs.Laws.{is_plain}
+use Rattle.il_device.specs.Passing.{is_plain}
 use Rattle.il_ports.specs.Media.{MediumView}
 use Rattle.loop_model.specs.Reach.{met}
 use Rattle.loop_model.specs.Entries.{entry, rfc}
@@ -30,7 +30,8 @@ use Rattle.il_ring.proofs.Faults.{met_nowhere, risen_by_later}
 use Rattle.il_ring.proofs.Adding.{adds_nothing, adds_nothing-came, adds_more, adds_more-came, adds_more-answers}
 use Rattle.il_ring.proofs.RoundAdds.{DriveCame, host_adds, host_came, none_new}
 use Rattle.il_ring.proofs.RoundCounts.{round_counts}
-use Rattle.il_ring.proofs.Passing.{Carries, Exactly, is_exact}
+use Rattle.il_ring.specs.Journeys.{is_exact}
+use Rattle.il_ring.proofs.Passing.{Carries, Exactly}
 use Rattle.il_ring.proofs.PassKinds.{Is, Any, plain_passes}
 use Rattle.il_ring.proofs.EndsHome.{any_each}
 use Rattle.il_ring.proofs.DriveRounds.{passed_drive}

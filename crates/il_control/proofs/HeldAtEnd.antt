@@ -10,14 +10,13 @@ use Rattle.il_frames.specs.declared.entry.Entry.{Entry}
 use Rattle.il_frames.specs.declared.entry.Outcome.{Outcome}
 use Rattle.il_frames.specs.declared.entry.Outcome.TheVariants as outcome
 use Rattle.il_frames.specs.Frames.{class_of, framed, is_data, same_class}
-use Rattle.loop_model.specs.Entries.{entry, nrd, is_frame, is_lost, is_lost_nrd}
-use Rattle.loop_model.specs.Exchanges.{Echo, Start, Sda, Sst, Sdi, Sai, start_frame, Break, FrameLost, HostAltered, TalkerAltered, echoed, returned, commanded, entries_of, Send, break_entries, cut_at, can_cut, is_echo, is_host_echo}
+use Rattle.loop_model.specs.Entries.{entry, nrd, is_frame, is_lost, is_lost_nrd, is_no_nrd}
+use Rattle.loop_model.specs.Exchanges.{Echo, Start, Sda, Sst, Sdi, Sai, start_frame, Break, FrameLost, HostAltered, TalkerAltered, echoed, returned, commanded, entries_of, Send, break_entries, cut_at, can_cut, is_echo, is_host_echo, receive_front}
 use Rattle.il_ports.specs.Media.{MediumView}
 use Rattle.il_ring.specs.Rings.{RingView}
 use Rattle.il_control.specs.Calls.{Broke}
 use Rattle.loop_model.specs.Reach.{held_at_end, sourcing_after}
-use Rattle.loop_model.proofs.UnitLaws.{receive_front}
-use Rattle.loop_model.proofs.ReachLaws.{is_no_nrd, sourcing, held_at_end-append}
+use Rattle.loop_model.proofs.ReachLaws.{sourcing, held_at_end-append}
 
 not_zero : (b : Bool) → not b ≡ true → b ≡ false
 not_zero true is = cc

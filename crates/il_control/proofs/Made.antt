@@ -9,17 +9,15 @@ use Rattle.il_frames.specs.declared.entry.Entry.{Entry}
 use Rattle.il_frames.specs.Frames.{byte_of, class_of, same_class}
 use Rattle.il_frames.specs.Messages.{message_of, message_at}
 use Rattle.il_device.specs.declared.roles.Roles.{Roles}
-use Rattle.il_device.proofs.Laws.{is_plain}
+use Rattle.il_device.specs.Passing.{is_plain}
 use Rattle.il_ports.specs.Media.{MediumView}
-use Rattle.loop_model.specs.Roles.{talkers, is_at_most_one, is_in_turn, has_one_talker, roles_after, roles_after_entry, OneTalker}
-use Rattle.loop_model.specs.Exchanges.{Exchange, Command, commanded, entries_of, cut_at, is_exchange, is_talk_address, IsWhole}
+use Rattle.loop_model.specs.Roles.{talkers, is_at_most_one, is_in_turn, has_one_talker, roles_after, roles_after_entry, OneTalker, are_numbered, is_aau}
+use Rattle.loop_model.specs.Exchanges.{Exchange, Command, commanded, entries_of, cut_at, is_exchange, is_talk_address, IsWhole, answers_as_asked}
 use Rattle.loop_model.specs.Reach.{held_at_end as held_after}
-use Rattle.loop_model.proofs.ReachLaws.{is_no_nrd}
+use Rattle.loop_model.specs.Entries.{is_no_nrd}
 use Rattle.loop_model.specs.Exchanges.Piece.{Whole as WholeOne}
 use Rattle.loop_model.proofs.RoleLaws.{talkers-whole}
-use Rattle.loop_model.proofs.RoleSteps.{are_numbered}
-use Rattle.loop_model.proofs.RoundLaws.{OneTalker-safe, OneTalker-cut, safe_exchange, answers_as_asked, keeps_addresses, are_numbered-piece}
-use Rattle.loop_model.proofs.TalkLaws.{is_aau}
+use Rattle.loop_model.proofs.RoundLaws.{OneTalker-safe, OneTalker-cut, safe_exchange, keeps_addresses, are_numbered-piece}
 use Rattle.il_ring.specs.Rings.{RingView, devices_of, roles_of, drive_party}
 use Rattle.il_ring.proofs.Rings.{IsRing-clear}
 use Rattle.il_control.specs.Calls.{Whole, Broke, IsIdle, IsLost, loop_of, is_command, Made, BrokenOff}
@@ -115,7 +113,3 @@ idle_cleared r idle = record { free = record { ring = IsRing-clear r idle.free.r
 
 pub lost_cleared : {M : Type 0} (r : RingView M) → IsLost r → IsLost (record r { books = record r.books { log = [] } })
 lost_cleared r lost = record { free = record { ring = IsRing-clear r lost.free.ring; held = lost.free.held }; one = lost.one }
-
--- an idle controller that gives up
-pub idle_lost : {M : Type 0} (r : RingView M) → IsIdle r → IsLost r
-idle_lost r idle = record { free = idle.free; one = ap is_at_most_one idle.silent }

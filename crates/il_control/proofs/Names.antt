@@ -7,9 +7,8 @@ use Rattle.std.proofs.lemmas.List.{length-map}
 use Rattle.il_device.specs.declared.roles.Roles.{Roles}
 use Rattle.il_device.specs.State.{DeviceState}
 use Rattle.il_ports.specs.Media.{MediumView}
-use Rattle.loop_model.specs.Exchanges.{Answer, NotTaken, Receive, Start, Stopped, ToItsEnd, is_number}
+use Rattle.loop_model.specs.Exchanges.{Answer, NotTaken, Receive, Start, Stopped, ToItsEnd, is_number, answers_as_asked}
 use Rattle.loop_model.specs.Roles.{talkers, talkers_from}
-use Rattle.loop_model.proofs.RoundLaws.{answers_as_asked}
 use Rattle.il_device.specs.declared.interface.OwnFrame.{OwnFrame}
 use Rattle.il_ring.specs.Lists.{Each, First}
 use Rattle.il_ring.specs.Outcomes.{HearsNothing, IsTalking}

@@ -16,7 +16,8 @@ use Rattle.il_ring.specs.Polls.{identified_along}
 use Rattle.il_ring.specs.Rings.{RingView, Round, devices_of, drive_party}
 use Rattle.il_ring.proofs.Identify.{LeadsTo, IsParty, identify_passes, parties}
 use Rattle.il_ring.proofs.PassKinds.{OnlyPassed}
-use Rattle.il_ring.proofs.Passing.{AsIdentify, is_identify_class}
+use Rattle.il_ring.specs.Journeys.{is_identify_class}
+use Rattle.il_ring.proofs.Passing.{AsIdentify}
 use Rattle.il_control.specs.Calls.{idy, IsIdle, Made, BrokenOff}
 use Rattle.il_control.proofs.Brought.{poll_comes}
 use Rattle.il_control.proofs.Calls.{pass_call}

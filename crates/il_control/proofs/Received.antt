@@ -20,11 +20,10 @@ use Rattle.il_device.specs.declared.interface.OwnFrame.{OwnFrame}
 use Rattle.il_ring.specs.Lists.{Each}
 use Rattle.il_device.specs.Takes.{eto}
 use Rattle.il_ports.specs.Media.{MediumView}
-use Rattle.loop_model.specs.Entries.{entry, nrd, unt}
-use Rattle.loop_model.specs.Exchanges.{Start, Sai, Answer, NotTaken, ToItsEnd, Stopped, Receive, Echo, start_frame, echoed, returned, commanded, answer_entries, cut_at, can_cut, is_address, is_answer, is_echo, is_exchange, is_number, Break, entries_of}
-use Rattle.loop_model.proofs.HearLaws.{has_no_data}
-use Rattle.loop_model.proofs.RoundLaws.{answers_as_asked}
-use Rattle.loop_model.proofs.UnitLaws.{bytes_of, receive_front, entries_of-receive}
+use Rattle.loop_model.specs.Entries.{entry, nrd, unt, is_no_nrd}
+use Rattle.loop_model.specs.Exchanges.{Start, Sai, Answer, NotTaken, ToItsEnd, Stopped, Receive, Echo, start_frame, echoed, returned, commanded, answer_entries, cut_at, can_cut, is_address, is_answer, is_echo, is_exchange, is_number, Break, entries_of, answers_as_asked, bytes_of, receive_front}
+use Rattle.loop_model.specs.Hearing.{has_no_data}
+use Rattle.loop_model.proofs.UnitLaws.{entries_of-receive}
 use Rattle.il_ring.specs.Rings.{RingView, IsRing, devices_of, roles_of, spare_of, drive_party}
 use Rattle.il_ring.specs.Outcomes.{met_between, IsTalking}
 use Rattle.std.proofs.lemmas.List.{length-map}
@@ -32,7 +31,7 @@ use Rattle.il_device.specs.State.{DeviceState}
 use Rattle.il_control.specs.Calls.{Unheard, Whole, Broke, IsIdle, loop_of}
 use Rattle.il_control.specs.Receives.{Began, NotBegun, StartLost, FirstLost, TakesBytes, TookInto, NotTook, WasTalking, Answered, NotAnswered, Asked, Received, NotReceived, behind_start, talker_of, is_stopped, received, fits, AllSpoken, Brings, CutBrings, PassedBy, PassedInPart, up_to_end, StandsBehind, SaysOf, SpokenBy, IsNameless, accessory_at, id_bytes, own_frames, said_of, sent_frames}
 use Rattle.loop_model.specs.Reach.{held_at_end as held_after}
-use Rattle.loop_model.proofs.ReachLaws.{is_no_nrd, sourcing}
+use Rattle.loop_model.proofs.ReachLaws.{sourcing}
 use Rattle.il_control.proofs.HeldAtEnd.{cut_held, cut_holds_none, echo_quiet, front_quiet, front_source, quiet_ended, start_quiet}
 use Rattle.il_control.proofs.Calls.{broke_before_ended, broke_behind_ended, met_parts, room_behind, unheard_then, whole_then, broke_behind, broke_before, broke_behind_standing, broke_before_standing, cut_within, whole_then_came, broke_before_came, broke_behind_came, whole_then_answers}
 use Rattle.il_control.proofs.Made.{made, broken_off, made_whole, broken_off_broke}

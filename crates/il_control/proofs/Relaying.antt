@@ -130,10 +130,6 @@ module _ {M : Type 0} (view : M → MediumView) (m s : RingView M) (h : IsHoldin
   place : (drive_party m ≤ p) ⊎ (p < drive_party m)
   place = ⊎_elim (λ (none : drive_party m - p ≡ 0). inl (omega (arith, none))) (λ far. inr (omega (arith, far))) (eq-zero-or-pos (drive_party m - p))
 
-  -- what is added, where this came to the drive
-  adds_of : (P : Frame → Type 0) (entries : List Entry) (to : Option ℕ) → DriveTook view P m s → s.books.log ≡ m.books.log ++ entries → holding counts.new ≡ to → Adds view m (device_sending h.flight) entries to s
-  adds_of P entries to took log new = device_adds view P m s None h.flight answer entries to quiet ready round log new took
-
   from_source : (entries : List Entry) (to : Option ℕ) (B : ℕ → ℕ → List Frame → List Out → Type 0) → AddsBy view m p (device_sending h.flight) entries to B s → AddsBy view m p (Some p) entries to B s
   from_source entries to B added = subst (λ from. AddsBy view m p from entries to B s) sending added
 

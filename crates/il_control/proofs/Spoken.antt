@@ -19,7 +19,7 @@ use Rattle.loop_model.specs.Exchanges.{Start, Sda, Sst, Sdi, Sai, start_frame, B
 use Rattle.loop_model.specs.Reach.{distance, brings_to}
 use Rattle.il_ring.specs.Rings.{RingView, devices_of, drive_party}
 use Rattle.il_ring.proofs.Adding.{adds_nothing, adds_nothing-came, adds_nothing-answers, adds_more, adds_more-came, adds_more-answers}
-use Rattle.il_ring.proofs.Passing.{is_exact, is_identify_class}
+use Rattle.il_ring.specs.Journeys.{is_exact, is_identify_class}
 use Rattle.il_control.specs.Brought.{ComesAs, MayComeAs, Brought, BroughtIf, CutBrought, is_from_here}
 use Rattle.il_control.specs.Receives.{AllSpoken, AddsBy, Brings, CutBrings, own_frames}
 use Rattle.il_control.proofs.Brought.{brought_then, cut_brought_front, from_here_parts, same_place}
@@ -44,16 +44,6 @@ cut_behind_brought k q n (x ∷ xs) ys gs hs first more = by (brings_to k q x) g
     by false gs rest first = rest gs first
     by true [] rest first = absurd first
     by true (g ∷ gs) rest first = (first.0, rest gs first.1)
-
--- entries that stand whole are a cut behind all of them
-pub whole_cut : (k q n : ℕ) (xs : List Entry) (gs : List Frame) → Brought k q xs gs → CutBrought k q xs (behind_all xs n) gs
-whole_cut k q n [] gs brought = brought
-whole_cut k q n (x ∷ xs) gs brought = by (brings_to k q x) gs (λ gs brought. whole_cut k q n xs gs brought) brought
-  where
-    by : (b : Bool) (gs : List Frame) → ((gs : List Frame) → Brought k q xs gs → CutBrought k q xs (behind_all xs n) gs) → BroughtIf b (ComesAs q x.frame) (Brought k q xs) gs → BroughtIf b (ComesAs q x.frame) (CutBrought k q xs (behind_all xs n)) gs
-    by false gs rest brought = rest gs brought
-    by true [] rest brought = absurd brought
-    by true (g ∷ gs) rest brought = (brought.0, rest gs brought.1)
 
 -- the entries of such a cut
 pub cut_entries : (xs ys : List Entry) (n : ℕ) (b : Break) → cut_at (xs ++ ys) (behind_all xs n) b ≡ xs ++ cut_at ys n b

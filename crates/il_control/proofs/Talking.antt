@@ -13,13 +13,12 @@ use Rattle.il_device.specs.declared.roles.Roles.{Roles}
 use Rattle.il_device.specs.Roles.{is_own}
 use Rattle.il_device.specs.State.{DeviceState}
 use Rattle.loop_model.specs.Entries.{unl, tad, ddt, rfc}
-use Rattle.loop_model.specs.Exchanges.{Start, Answer, NotTaken, ToItsEnd, Stopped, Receive, returned, commanded, numbered, is_address, is_number}
-use Rattle.loop_model.specs.Roles.{talkers, talkers_from, roles_after, roles_after_entry, roles_along, is_at_most_one}
+use Rattle.loop_model.specs.Exchanges.{Start, Answer, NotTaken, ToItsEnd, Stopped, Receive, returned, commanded, numbered, is_address, is_number, answers_as_asked, is_asked_for, receive_front}
+use Rattle.loop_model.specs.Roles.{talkers, talkers_from, roles_after, roles_after_entry, roles_along, is_at_most_one, are_numbered}
 use Rattle.loop_model.proofs.RoleLaws.{roles_after-append, is_quiet, no_talkers, all_quiet, quiet_log}
-use Rattle.loop_model.proofs.RoleSteps.{are_numbered, keeps_roles, roles_after-kept, no_head, quiet_other, tad_passes, one_talker-addressed}
-use Rattle.loop_model.proofs.RoundLaws.{answers_as_asked, is_asked_for, message_of-tad}
+use Rattle.loop_model.proofs.RoleSteps.{keeps_roles, roles_after-kept, no_head, quiet_other, tad_passes, one_talker-addressed}
+use Rattle.loop_model.proofs.RoundLaws.{message_of-tad}
 use Rattle.loop_model.proofs.TalkLaws.{are_numbered-log, length-roles_after, talkers-tad}
-use Rattle.loop_model.proofs.UnitLaws.{receive_front}
 use Rattle.il_ring.specs.Lists.{AllSilent}
 use Rattle.il_ring.specs.Outcomes.{IsTalking}
 use Rattle.il_ring.specs.Rings.{RingView, devices_of, roles_of}

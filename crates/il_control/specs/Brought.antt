@@ -9,7 +9,7 @@ use Rattle.il_frames.specs.Messages.{message_of}
 use Rattle.loop_model.specs.Entries.{aad, ddl, rfc}
 use Rattle.loop_model.specs.Exchanges.{Echo}
 use Rattle.loop_model.specs.Reach.{brings_to}
-use Rattle.il_ring.proofs.Passing.{is_exact, is_identify}
+use Rattle.il_ring.specs.Journeys.{is_exact, is_identify}
 
 -- the message is an auto address
 abbrev pub is_auto_address : Message → Bool

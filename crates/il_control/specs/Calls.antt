@@ -9,15 +9,12 @@ use Rattle.il_frames.specs.declared.message.Message.{Message}
 use Rattle.il_frames.specs.Messages.{message_of}
 use Rattle.il_device.specs.State.{DeviceState}
 use Rattle.il_ports.specs.Media.{MediumView}
-use Rattle.loop_model.specs.Entries.{ifc, aau}
+use Rattle.loop_model.specs.Entries.{ifc, aau, is_no_nrd}
 use Rattle.loop_model.specs.Loops.{Loop, host_loop}
-use Rattle.loop_model.specs.Roles.{talkers, is_at_most_one, OneTalker}
+use Rattle.loop_model.specs.Roles.{talkers, is_at_most_one, OneTalker, are_numbered, is_aau}
 use Rattle.loop_model.specs.Exchanges.{Break, Echo, Exchange, Command, Address, echoed, entries_of, is_exchange, is_host_echo, is_talk_address, cut_at, can_cut}
 use Rattle.loop_model.specs.Reach.{held_at_end as held_after}
-use Rattle.loop_model.proofs.HearLaws.{has_no_data}
-use Rattle.loop_model.proofs.ReachLaws.{is_no_nrd}
-use Rattle.loop_model.proofs.RoleSteps.{are_numbered}
-use Rattle.loop_model.proofs.TalkLaws.{is_aau}
+use Rattle.loop_model.specs.Hearing.{has_no_data}
 use Rattle.il_ring.specs.Rings.{RingView, IsRing, devices_of, roles_of, drive_party}
 use Rattle.il_ring.specs.Lists.{Each, First}
 use Rattle.il_ring.specs.Outcomes.{met_between, Obeys, HearsNothing, HearsByte, HearsAny}

@@ -14,10 +14,8 @@ use Rattle.il_device.specs.State.{DeviceState}
 use Rattle.il_device.specs.Takes.{eto, ete, identity}
 use Rattle.il_ports.specs.Media.{MediumView}
 use Rattle.loop_model.specs.Entries.{entry, nrd, unt}
-use Rattle.loop_model.specs.Exchanges.{Start, Sda, Sst, Sdi, Sai, Answer, NotTaken, ToItsEnd, Stopped, Receive, Echo, Break, echoed, returned, commanded, answer_entries, start_frame, break_entries, cut_at, can_cut, is_answer, is_break, is_echo}
+use Rattle.loop_model.specs.Exchanges.{Start, Sda, Sst, Sdi, Sai, Answer, NotTaken, ToItsEnd, Stopped, Receive, Echo, Break, echoed, returned, commanded, answer_entries, start_frame, break_entries, cut_at, can_cut, is_answer, is_break, is_echo, answers_as_asked, bytes_of, receive_front}
 use Rattle.loop_model.specs.Reach.{held_at_end as held_after}
-use Rattle.loop_model.proofs.RoundLaws.{answers_as_asked}
-use Rattle.loop_model.proofs.UnitLaws.{bytes_of, receive_front}
 use Rattle.il_ring.specs.declared.flight.Flight.{Flight}
 use Rattle.il_ring.specs.declared.plan.Arrival.{Arrival}
 use Rattle.il_ring.specs.declared.plan.Arrival.TheVariants as arrival

@@ -9,6 +9,3 @@ mod states;
 
 pub use frames::Sot;
 pub use states::{Idle, Lost, Sending};
-
-#[cfg(test)]
-mod tests;

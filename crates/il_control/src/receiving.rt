@@ -3,8 +3,7 @@ ghost use Rattle.std.specs.Prelude.{◌≡◌, ◌≤◌, ◌<◌, ◌+◌, ◌+
 ghost use Rattle.il_frames.specs.Frames.{byte_of};
 ghost use Rattle.loop_model.specs.Entries.{tad, ddt, unt};
 ghost use Rattle.loop_model.specs.Roles.{talkers, is_at_most_one};
-ghost use Rattle.loop_model.specs.Exchanges.{start_frame, commanded, numbered};
-ghost use Rattle.loop_model.proofs.UnitLaws.{receive_front};
+ghost use Rattle.loop_model.specs.Exchanges.{start_frame, commanded, numbered, receive_front};
 ghost use Rattle.il_ring.specs.Rings.{spare_of, roles_of, devices_of};
 ghost use Rattle.il_ring.specs.Lists.{Each};
 ghost use Rattle.il_control.specs.Calls.{Whole, Broke, IsFree, IsIdle};

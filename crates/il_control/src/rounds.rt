@@ -1,7 +1,7 @@
 // What the controller does on the ring, one round behind the other. Each answers whether it was done whole.
 ghost use Rattle.std.specs.Prelude.{◌≡◌, ◌≤◌, ◌<◌, [], ◌∷◌, ◌++◌, true, MatchBool, MatchOption, IfSome, not, is_some};
 ghost use Rattle.il_frames.specs.Messages.{message_of};
-ghost use Rattle.il_device.proofs.Laws.{is_plain};
+ghost use Rattle.il_device.specs.Passing.{is_plain};
 ghost use Rattle.loop_model.specs.Exchanges.{Send, entries_of, numbered, returned, commanded};
 ghost use Rattle.loop_model.specs.Entries.{ifc, aau, lad, ddl};
 ghost use Rattle.il_ring.specs.Rings.{spare_of};

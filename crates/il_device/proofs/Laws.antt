@@ -18,10 +18,10 @@ use Rattle.il_device.specs.declared.interface.OwnFrame.{OwnFrame}
 use Rattle.il_device.specs.declared.interface.Turn.{Turn}
 use Rattle.il_device.specs.declared.interface.Turn.TheVariants as turn
 use Rattle.il_device.specs.declared.roles.Roles.{Roles}
-use Rattle.il_device.specs.Roles.{roles_after, own_after, assignment_after}
-use Rattle.il_device.specs.State.{DeviceState, IsDevice, IsSent, risen}
-use Rattle.il_device.specs.Passing.{served, counted_on, passed_as, passed}
-use Rattle.il_device.specs.Takes.{Takes, Answers, Passes, turn_at, turn_at_data, turn_of, kept, heard_after, count_after}
+use Rattle.il_device.specs.Roles.{roles_after, own_after, assignment_after, is_start}
+use Rattle.il_device.specs.State.{DeviceState, IsDevice, IsSent, risen, risen_by}
+use Rattle.il_device.specs.Passing.{served, counted_on, passed_as, passed, is_plain}
+use Rattle.il_device.specs.Takes.{Takes, Answers, Passes, turn_at, turn_at_data, turn_of, kept, heard_after, count_after, kept_all}
 
 -- Data and end frames, and start messages, leave the roles, the own frame and the place in a poll.
 
@@ -59,10 +59,6 @@ data_place r place _ b h = cc
 pub assignment_after-data : (r : Roles) (place : Option Assignment) (f : Frame) →
     is_data f ≡ true → assignment_after r place (message_of f) ≡ place
 assignment_after-data r place f h = data_place r place (class_of f) (byte_of f) h
-
--- the start messages
-abbrev pub is_start : Message → Bool
-is_start m = elim m [ msg.Sda ↦ true | msg.Sst ↦ true | msg.Sdi ↦ true | msg.Sai ↦ true | _ ↦ false ]
 
 pub roles_after-start : (r : Roles) (m : Message) → is_start m ≡ true → roles_after r m ≡ r
 roles_after-start r msg.Sda h = refl
@@ -116,28 +112,6 @@ message_of-aad n h =
 pub message_of-counted_on : (a : ℕ) (f : Frame) → a < 30 →
     message_of (counted_on true a f) ≡ msg.Aad (a + 1)
 message_of-counted_on a f h = message_of-aad (a + 1) (omega arith)
-
--- and behind one that takes 30 goes IAA
-pub message_of-counted_on-last : (f : Frame) → message_of (counted_on true 30 f) ≡ msg.Iaa
-message_of-counted_on-last f = refl
-
--- Frames that ask nothing of any device, and that every device passes as they are.
-
-abbrev pub is_plain : Message → Bool
-is_plain m = elim m [
-  | msg.Dab b ↦ false
-  | msg.Dsr b ↦ false
-  | msg.End b ↦ false
-  | msg.Esr b ↦ false
-  | msg.Idy b ↦ false
-  | msg.Isr b ↦ false
-  | msg.Sda ↦ false
-  | msg.Sst ↦ false
-  | msg.Sdi ↦ false
-  | msg.Sai ↦ false
-  | msg.Aad a ↦ false
-  | _ ↦ true
-]
 
 pub turn_at-plain : (r : Roles) (own : Option OwnFrame) (accessory : Option ℕ) (m : Message) →
     is_plain m ≡ true → turn_at r own accessory m ≡ turn.Pass
@@ -271,11 +245,6 @@ Takes-data s f out t d silent h =
 
 -- Many bytes and many frames.
 
--- the bytes that are kept behind a list of bytes heard
-abbrev pub kept_all : ℕ → List ℕ → List ℕ → List ℕ
-kept_all room heard [] = heard
-kept_all room heard (b ∷ bs) = kept_all room (kept room heard b) bs
-
 kept_step : (more : Bool) (room : ℕ) (heard : List ℕ) (b : ℕ) (bs : List ℕ) →
     more ≡ nat_lt (length heard) room → length heard ≤ room →
     (length (if more then heard ++ b ∷ [] else heard) ≤ room) × (take room ((if more then heard ++ b ∷ [] else heard) ++ bs) ≡ take room (heard ++ b ∷ bs))
@@ -291,11 +260,6 @@ kept_all-take room heard [] le = sym (take_all room (heard ++ []) (omega (arith,
 kept_all-take room heard (b ∷ bs) le =
     let step = kept_step (nat_lt (length heard) room) room heard b bs refl le in
     kept_all-take room (kept room heard b) bs step.0 ∙ step.1
-
--- a count that rose k times
-abbrev pub risen_by : ℕ → ℕ → ℕ
-risen_by zero n = n
-risen_by (suc k) n = risen_by k (risen n)
 
 pub risen_by-min : (k n : ℕ) → n ≤ 18446744073709551615 →
     risen_by k n ≡ min (n + k) 18446744073709551615

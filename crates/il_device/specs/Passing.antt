@@ -40,3 +40,20 @@ passed_as r place wants f _ = f
 -- poll and wants service or not as it goes on
 abbrev pub passed : Roles → Option Assignment → Bool → Frame → Frame
 passed r place wants f = passed_as r place wants f (message_of f)
+
+-- a message that asks nothing of any device, and that every device passes as it is
+abbrev pub is_plain : Message → Bool
+is_plain m = elim m [
+  | msg.Dab b ↦ false
+  | msg.Dsr b ↦ false
+  | msg.End b ↦ false
+  | msg.Esr b ↦ false
+  | msg.Idy b ↦ false
+  | msg.Isr b ↦ false
+  | msg.Sda ↦ false
+  | msg.Sst ↦ false
+  | msg.Sdi ↦ false
+  | msg.Sai ↦ false
+  | msg.Aad a ↦ false
+  | _ ↦ true
+]

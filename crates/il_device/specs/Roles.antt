@@ -58,3 +58,7 @@ assignment_after r place (msg.Ppe n) = if r.listens then Some (assigned n) else 
 assignment_after r place msg.Ppd = if r.listens then None else place
 assignment_after r place msg.Ppu = None
 assignment_after r place _ = place
+
+-- the start messages
+abbrev pub is_start : Message → Bool
+is_start m = elim m [ msg.Sda ↦ true | msg.Sst ↦ true | msg.Sdi ↦ true | msg.Sai ↦ true | _ ↦ false ]

@@ -1,5 +1,5 @@
 -- What contracts see of a device.
-use Rattle.std.specs.Prelude.{ℕ, ◌≡◌, ◌+◌, ◌≤◌, min, Bool, true, false, ◌&&◌, Option, Some, None, List, [], length}
+use Rattle.std.specs.Prelude.{ℕ, zero, suc, ◌≡◌, ◌+◌, ◌≤◌, min, Bool, true, false, ◌&&◌, Option, Some, None, List, [], length}
 use Rattle.il_frames.specs.Frames.{is_data}
 use Rattle.il_poll.specs.declared.service.Assignment.{Assignment}
 use Rattle.il_poll.specs.Service.{IsPlace}
@@ -74,3 +74,8 @@ pub record IsDevice (s : DeviceState) : Type 0 where
 -- one more, in a count that stays at the greatest 64-bit number
 abbrev pub risen : ℕ → ℕ
 risen n = min (n + 1) 18446744073709551615
+
+-- a count that rose k times
+abbrev pub risen_by : ℕ → ℕ → ℕ
+risen_by zero n = n
+risen_by (suc k) n = risen_by k (risen n)

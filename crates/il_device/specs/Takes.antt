@@ -61,6 +61,11 @@ turn_of s f = turn_at s.roles s.own s.accessory (message_of f)
 abbrev pub kept : ℕ → List ℕ → ℕ → List ℕ
 kept room heard byte = if nat_lt (length heard) room then heard ++ byte ∷ [] else heard
 
+-- the bytes that are kept after a list of bytes heard
+abbrev pub kept_all : ℕ → List ℕ → List ℕ → List ℕ
+kept_all room heard [] = heard
+kept_all room heard (b ∷ bs) = kept_all room (kept room heard b) bs
+
 -- the bytes that are kept, and how many were heard
 abbrev pub heard_after : Turn → ℕ → List ℕ → ℕ → List ℕ
 heard_after turn.Hear room heard byte = kept room heard byte

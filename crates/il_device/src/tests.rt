@@ -1,6 +1,7 @@
 use super::*;
 use crate::walk::pass_along;
 use il_frames::Frame;
+use il_same::{same, same_bytes};
 use std::test::Fail;
 
 /// What a printer does with a frame, by the texts of frames.
@@ -119,21 +120,28 @@ fn a_day(rt: HostRuntime) -> Result<(), Fail> {
             Passes(text) => Out::Pass(frame_of(text)?),
             Sends(text) => Out::Source(frame_of(text)?),
         };
-        assert_eq!(rt; printer.take(frame), expected, "printer at {text}");
-        assert_eq!(rt;
-            quiet.take(frame),
-            Out::Pass(frame_of(passed)?),
-            "quiet at {text}"
-        );
+        assert!(rt; same(printer.take(frame), expected), "printer at {text}");
+        let on = Out::Pass(frame_of(passed)?);
+        assert!(rt; same(quiet.take(frame), on), "quiet at {text}");
     }
-    assert_eq!(rt;
-        printer.heard(),
-        [0x43, 0x0A, 0x44, 0x45, 0x49, 0x4B].as_slice()
+    let heard = [0x43, 0x0A, 0x44, 0x45, 0x49, 0x4B];
+    assert!(rt;
+        same_bytes(printer.heard(), &heard) && quiet.heard().is_empty(),
+        "heard"
     );
-    assert_eq!(rt; quiet.heard(), [].as_slice());
-    assert_eq!(rt; (printer.heard_count(), quiet.heard_count()), (6, 6));
-    assert_eq!(rt; (printer.frames(), quiet.frames()), (76, 76));
-    assert_eq!(rt; (printer.accessory(), quiet.accessory()), (Some(32), None));
+    assert!(rt;
+        same(printer.heard_count(), 6) && same(quiet.heard_count(), 6),
+        "counts"
+    );
+    assert!(rt;
+        same(printer.frames(), 76) && same(quiet.frames(), 76),
+        "frames"
+    );
+    assert!(rt;
+        same(printer.accessory(), Some(32)),
+        "the ID of the printer"
+    );
+    assert!(rt; same(quiet.accessory(), None), "the ID of the quiet device");
     assert!(rt; !printer.is_idle() && !quiet.is_idle());
     Ok(())
 }
@@ -178,11 +186,14 @@ fn past_boxes(rt: HostRuntime) -> Result<(), Fail> {
     devices.push(quiet)?;
     for (text, behind) in ROUNDS {
         let passed = pass_along(&mut devices, frame_of(text)?);
-        assert_eq!(rt; passed, frame_of(behind)?, "{text}");
+        assert!(rt; same(passed, frame_of(behind)?), "{text}");
     }
     for (device, heard_count) in devices.iter().zip([0, 1]) {
-        assert_eq!(rt; device.heard_count(), heard_count);
-        assert_eq!(rt; device.frames(), 14);
+        assert!(rt;
+            same(device.heard_count(), heard_count),
+            "{heard_count} heard"
+        );
+        assert!(rt; same(device.frames(), 14), "frames");
     }
     Ok(())
 }
@@ -208,15 +219,12 @@ fn service_is_asked_for(rt: HostRuntime) -> Result<(), Fail> {
         let before = interface.roles();
         let frame = frame_of(text)?;
         interface.effect(frame);
-        assert_eq!(rt;
-            interface.passed(before, frame),
-            frame_of(behind)?,
-            "{text}"
-        );
+        let passed = interface.passed(before, frame);
+        assert!(rt; same(passed, frame_of(behind)?), "{text}");
     }
     assert!(rt; interface.wants());
-    assert_eq!(rt; interface.status_byte(), 0x43);
-    assert_eq!(rt; interface.heard_count(), 3);
-    assert_eq!(rt; interface.accessory(), Some(16));
+    assert!(rt; same(interface.status_byte(), 0x43), "status");
+    assert!(rt; same(interface.heard_count(), 3), "heard");
+    assert!(rt; same(interface.accessory(), Some(16)), "the ID");
     Ok(())
 }

@@ -1,7 +1,6 @@
 -- What begins a transfer: the seek, DDL 2 and DDT 2 with status 0. And runs, one behind the other.
 use Rattle.std.proofs.Common.{◌≡◌, ◌+◌, ◌*◌, ◌++◌, ℕ, List, [], ◌∷◌, true, refl, ap, subst, ◌∙◌}
-use Rattle.std.specs.Prelude.{Some, None, if◌then◌else◌}
-use Rattle.std.proofs.lemmas.Bool.{eq-eqb}
+use Rattle.std.specs.Prelude.{None}
 use Rattle.il_ports.specs.Media.{MediumView}
 use Rattle.il_frames.specs.declared.frame.Class.TheVariants as class
 use Rattle.il_frames.specs.declared.frame.Frame.{Frame}
@@ -12,11 +11,9 @@ use Rattle.il_device.specs.declared.roles.Roles.{Roles}
 use Rattle.il_device.specs.Takes.{turn_at_data}
 use Rattle.il_device.specs.Interfaces.{turn_on}
 use Rattle.il_device.proofs.Laws.{turn_of-data, roles_after-data, own_after-data}
-use Rattle.il_drive.specs.declared.commands.ListenerCommand.TheVariants as ddl
-use Rattle.il_drive.specs.declared.commands.TalkerCommand.TheVariants as ddt
 use Rattle.il_drive.specs.declared.mode.Mode.{Mode}
 use Rattle.il_drive.specs.declared.mode.Mode.TheVariants as mode
-use Rattle.il_drive.specs.State.{DriveState, DriveView, status_of, device_of}
+use Rattle.il_drive.specs.State.{DriveState, DriveView, device_of}
 use Rattle.il_drive.specs.Steps.{Step, Now, then_by, Did}
 use Rattle.il_drive.specs.Table as table
 use Rattle.il_drive.specs.Runs.{Ran}
@@ -32,29 +29,6 @@ seek_message = framed class.Cmd 0xA4
 
 abbrev pub read_message : Frame
 read_message = framed class.Cmd 0xC2
-
--- with status 0 the buffer is emptied, and the bytes that follow are written
-pub step_begins_writing : (n : ℕ) (s : DriveState) → s.interface.roles.listens ≡ true → status_of s ≡ 0
-    → table.drive_step n s write_message ≡ Now (table.passes s.interface.roles write_message (table.in_mode mode.Write (table.emptied (table.behind_effect write_message s))))
-step_begins_writing n s listens good =
-    let u = table.behind_effect write_message s in
-    ap (λ listens. then_by (table.passes s.interface.roles write_message) (if listens then table.listened_to (Some ddl.Write) n u else Now u)) listens
-    ∙ ap (λ b. Now (table.passes s.interface.roles write_message (if b then table.in_mode mode.Write (table.emptied u) else table.at_rest u))) (eq-eqb (status_of s) 0 good)
-
--- with status 0 the records from the position on are due
-pub step_begins_reading : (n : ℕ) (s : DriveState) → s.interface.roles.talks ≡ true → status_of s ≡ 0
-    → table.drive_step n s read_message ≡ Now (table.passes s.interface.roles read_message (table.in_mode mode.Read (record (table.behind_effect read_message s) { pointer = 0 })))
-step_begins_reading n s talks good =
-    let u = table.behind_effect read_message s in
-    ap (λ talks. Now (table.passes s.interface.roles read_message (if talks then table.talked_by (Some ddt.Read) u else u))) talks
-    ∙ ap (λ b. Now (table.passes s.interface.roles read_message (if b then table.in_mode mode.Read (record u { pointer = 0 }) else table.at_rest u))) (eq-eqb (status_of s) 0 good)
-
--- the next two bytes are the record to seek
-pub step_begins_seek : (n : ℕ) (s : DriveState) → s.interface.roles.listens ≡ true
-    → table.drive_step n s seek_message ≡ Now (table.passes s.interface.roles seek_message (table.in_mode mode.SeekHigh (table.behind_effect seek_message s)))
-step_begins_seek n s listens =
-    let u = table.behind_effect seek_message s in
-    ap (λ listens. then_by (table.passes s.interface.roles seek_message) (if listens then table.listened_to (Some ddl.Seek) n u else Now u)) listens
 
 -- ---- bytes that are heard
 

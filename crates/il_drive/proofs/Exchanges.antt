@@ -16,9 +16,9 @@ use Rattle.il_device.specs.declared.interface.Turn.{Turn}
 use Rattle.il_device.specs.declared.interface.Turn.TheVariants as turn
 use Rattle.il_device.specs.declared.roles.Roles.{Roles}
 use Rattle.il_device.specs.Roles.{roles_after, own_after}
-use Rattle.il_device.specs.Passing.{passed_as}
+use Rattle.il_device.specs.Passing.{passed_as, is_plain}
 use Rattle.il_device.specs.Takes.{turn_at, turn_at_data, turn_at_start, asked_for_id}
-use Rattle.il_device.proofs.Laws.{is_plain, passed_as-plain}
+use Rattle.il_device.proofs.Laws.{passed_as-plain}
 use Rattle.il_drive.specs.declared.commands.ListenerCommand.{ListenerCommand}
 use Rattle.il_drive.specs.declared.commands.ListenerCommand.TheVariants as ddl
 use Rattle.il_drive.specs.declared.commands.TalkerCommand.{TalkerCommand}
@@ -31,21 +31,6 @@ use Rattle.il_drive.specs.State.{DriveState, DriveView, status_of}
 use Rattle.il_drive.specs.Steps.{Step, Now, then_by, Did}
 use Rattle.il_drive.specs.Table as table
 use Rattle.il_drive.specs.Runs.{Ran}
-
--- ---- at rest
-
--- The drive between two exchanges: it has this address, does not talk, sends nothing, and its status is 0. It may listen.
--- Mode, buffers, pointer, position and mark are any.
-pub record IsFree (p : ℕ) (s : DriveState) : Type 0 where
-  pub address : s.interface.roles.address ≡ Some p
-  pub mute : s.interface.roles.talks ≡ false
-  pub silent : s.interface.own ≡ None
-  pub status : status_of s ≡ 0
-
--- and it awaits nothing
-pub record IsAtRest (p : ℕ) (s : DriveState) : Type 0 where
-  pub free : IsFree p s
-  pub mode : s.mode ≡ mode.Rest
 
 -- ---- what a drive stands at
 

@@ -21,7 +21,8 @@ use Rattle.il_drive.specs.State.{DriveState, DriveView}
 use Rattle.il_drive.specs.Table as table
 use Rattle.il_drive.specs.Runs.{Ran}
 use Rattle.il_drive.proofs.Beginning.{seek_message, seeks}
-use Rattle.il_drive.proofs.Exchanges.{all_pass, are_plain, IsFree, IsAtRest, Stance, stance_of, stance_all, are_quiet, Say, goes_by, parts}
+use Rattle.il_drive.specs.Resting.{IsFree, IsAtRest, sdc, HasSought}
+use Rattle.il_drive.proofs.Exchanges.{all_pass, are_plain, Stance, stance_of, stance_all, are_quiet, Say, goes_by, parts}
 
 -- ---- frames
 
@@ -33,9 +34,6 @@ unt = framed class.Cmd 0x5F
 
 abbrev pub rfc : Frame
 rfc = framed class.Rdy 0x00
-
-abbrev pub sdc : Frame
-sdc = framed class.Cmd 0x04
 
 abbrev pub ifc : Frame
 ifc = framed class.Cmd 0x90
@@ -184,15 +182,9 @@ module _ {M : Type 0} (view : M → MediumView) where
 
   -- ---- the seek
 
-  pub record HasSought (p k : ℕ) (v w : DriveView M) : Type 0 where
-    pub rests : IsAtRest p w.state
-    pub position : w.state.position ≡ k
-    pub buffer_0 : w.state.buffer_0 ≡ v.state.buffer_0
-    pub medium : w.medium ≡ v.medium
-
   pub seeks_record : (p k : ℕ) (high low : Frame) (outs : List Out) (v w : DriveView M) → p ≤ 30 → IsFree p v.state → is_data high ≡ true → is_data low ≡ true
       → 256 * byte_of high + byte_of low ≡ k → k < (view v.medium).record_count
-      → Ran view v (unl ∷ rfc ∷ lad p ∷ rfc ∷ seek_message ∷ rfc ∷ high ∷ low ∷ []) outs w → HasSought p k v w
+      → Ran view v (unl ∷ rfc ∷ lad p ∷ rfc ∷ seek_message ∷ rfc ∷ high ∷ low ∷ []) outs w → HasSought view p k v w
   seeks_record p k high low outs v w le free dh dl is lt ran =
       let part = parts view (unl ∷ rfc ∷ lad p ∷ rfc ∷ seek_message ∷ rfc ∷ []) (high ∷ low ∷ []) outs v w ran in
       let u = part.middle in

@@ -16,9 +16,9 @@ use Rattle.il_device.specs.declared.device.Out.{Out}
 use Rattle.il_drive.specs.State.{DriveView}
 use Rattle.il_drive.specs.Runs.{Ran, AllData, bytes_of}
 use Rattle.il_drive.proofs.Beginning.{write_message}
-use Rattle.il_drive.proofs.Exchanges.{IsFree}
+use Rattle.il_drive.specs.Resting.{IsFree, HasKept}
 use Rattle.il_drive.proofs.ExchangesAddressed.{unl, rfc, lad}
-use Rattle.il_drive.proofs.ExchangesWriting.{HasKept, HasSentOut, left_partly, writes_run}
+use Rattle.il_drive.proofs.ExchangesWriting.{HasSentOut, left_partly, writes_run}
 
 -- ---- one piece that is another
 

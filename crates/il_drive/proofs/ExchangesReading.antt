@@ -21,8 +21,9 @@ use Rattle.il_drive.specs.Steps.{IsStill}
 use Rattle.il_drive.specs.Runs.{Ran, AllData}
 use Rattle.il_drive.proofs.Beginning.{read_message}
 use Rattle.il_drive.proofs.Sending.{sda}
-use Rattle.il_drive.proofs.Reading.{nrd, sent, sent_bytes, IsRead, HasSent, HasEnded, Opened, WentOut, IsEcho, ComeBack, opens, sends_records, stops, no_echo}
-use Rattle.il_drive.proofs.Exchanges.{IsFree, IsAtRest, Stance, stance_of, parts}
+use Rattle.il_drive.specs.Resting.{IsRead, IsFree, IsAtRest}
+use Rattle.il_drive.proofs.Reading.{nrd, sent, sent_bytes, HasSent, HasEnded, Opened, WentOut, IsEcho, ComeBack, opens, sends_records, stops, no_echo}
+use Rattle.il_drive.proofs.Exchanges.{Stance, stance_of, parts}
 use Rattle.il_drive.proofs.ExchangesAddressed.{unl, unt, rfc, tad, talker, turned, goes_talking, rests_at}
 use Rattle.il_drive.proofs.ExchangesStatus.{untalks}
 use Rattle.il_drive.proofs.ExchangesStill.{roles_behind-data, roles-ran}

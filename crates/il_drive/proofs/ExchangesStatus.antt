@@ -1,7 +1,6 @@
 -- The status poll as one exchange, and what ends a talker.
-use Rattle.std.proofs.Common.{◌≡◌, ◌≤◌, ◌++◌, ℕ, true, false, List, [], ◌∷◌, get_or, refl, sym, arith, ⊎_elim, ◌+◌, ap, subst, ◌∙◌}
-use Rattle.std.specs.Prelude.{Some, None, not, if◌then◌else◌}
-use Rattle.std.proofs.lemmas.Bool.{cases_eq, ne_eqb}
+use Rattle.std.proofs.Common.{◌≡◌, ◌≤◌, ◌++◌, ℕ, true, false, List, [], ◌∷◌, refl, ◌+◌, ap, subst, ◌∙◌}
+use Rattle.std.specs.Prelude.{Some, None}
 use Rattle.il_ports.specs.Media.{MediumView}
 use Rattle.il_frames.specs.declared.frame.Class.TheVariants as class
 use Rattle.il_frames.specs.declared.frame.Frame.{Frame}
@@ -21,13 +20,10 @@ use Rattle.il_drive.specs.Steps.{Now, Did}
 use Rattle.il_drive.specs.Table as table
 use Rattle.il_drive.specs.Runs.{Ran}
 use Rattle.il_drive.proofs.Sending.{sst, step_status, step_ends}
-use Rattle.il_drive.proofs.Reading.{nrd, IsEcho}
-use Rattle.il_drive.proofs.Exchanges.{IsAtRest, all_pass, Stance, stance_of, stance_all, goes_by, parts}
+use Rattle.il_drive.proofs.Reading.{nrd}
+use Rattle.il_drive.specs.Resting.{IsAtRest}
+use Rattle.il_drive.proofs.Exchanges.{all_pass, Stance, stance_of, stance_all, goes_by, parts}
 use Rattle.il_drive.proofs.ExchangesAddressed.{unl, unt, rfc, tad, talker, bystander, turned, goes_talking, rests_at, stance_of-data}
-
--- the status byte is 0 only where the status is
-pub status_byte-zero : (status : ℕ) → status_byte_of status ≡ 0 → status ≡ 0
-status_byte-zero status is = ⊎_elim (λ zero. zero) (λ some. absurd (omega (arith, sym (ap (λ b. if not b then status + 64 else status) (ne_eqb status 0 some)) ∙ is))) (cases_eq status 0)
 
 module _ {M : Type 0} (view : M → MediumView) where
   -- ---- one frame by an equation of its step
@@ -149,13 +145,3 @@ module _ {M : Type 0} (view : M → MediumView) where
         rests = told.rests;
         medium = told.medium ∙ sends.medium;
       }
-
-  -- the same where the frame is the echo of what the drive answered to SST
-  pub polls_by_echo : (p : ℕ) (f : Frame) (outs : List Out) (v w : DriveView M) → p ≤ 30 → v.state.interface.roles.address ≡ Some p → v.state.interface.roles.talks ≡ false
-      → is_data f ≡ true → IsEcho (get_or outs 4 (Pass sst)) f
-      → Ran view v (unl ∷ rfc ∷ tad p ∷ rfc ∷ sst ∷ nrd ∷ f ∷ unt ∷ rfc ∷ []) outs w → HasPolled p outs v w
-  polls_by_echo p f outs v w le at mute h right ran =
-      let part = parts view (unl ∷ rfc ∷ tad p ∷ rfc ∷ sst ∷ []) (nrd ∷ f ∷ unt ∷ rfc ∷ []) outs v w ran in
-      let sends = tells p part.first v part.middle le at mute part.before in
-      let own : get_or outs 4 (Pass sst) ≡ Source (status_frame v.state) = ap (λ outs. get_or outs 4 (Pass sst)) (part.answers ∙ ap (λ first. first ++ part.more) sends.answers) in
-      polls p f outs v w le at mute h (subst (λ out. IsEcho out f) own right) ran

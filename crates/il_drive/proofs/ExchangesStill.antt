@@ -1,5 +1,5 @@
 -- Laws of any drive, whatever it stands at: what frames do to its roles, and which frames write no record.
-use Rattle.std.proofs.Common.{◌≡◌, ◌≤◌, ◌+◌, ◌*◌, ◌⊎◌, ℕ, Bool, true, false, List, [], ◌∷◌, ◌++◌, zero, suc, take, refl, sym, ap, subst, ◌∙◌, ⊎_elim}
+use Rattle.std.proofs.Common.{◌≡◌, ◌≤◌, ◌+◌, ◌*◌, ◌⊎◌, ℕ, Bool, true, false, List, [], ◌∷◌, zero, suc, take, refl, sym, ap, subst, ◌∙◌, ⊎_elim}
 use Rattle.std.specs.Prelude.{Option, Some, None, ◌&&◌, ◌==◌, nat_lt, if◌then◌else◌}
 use Rattle.il_ports.specs.Media.{MediumView}
 use Rattle.lif_model.specs.Causes.{Rose}
@@ -32,11 +32,10 @@ use Rattle.il_drive.specs.Facts.{put_at, put_at_message, closed_by, placed_on, r
 use Rattle.il_drive.specs.Runs.{Ran, AllData}
 use Rattle.il_drive.proofs.Outcomes.{written, every_did}
 use Rattle.il_drive.proofs.Answering.{Fact, facts, record_written}
-use Rattle.il_drive.proofs.Reading.{nrd, nothing_read, still_longer}
-use Rattle.il_drive.proofs.Sending.{sda, sst}
-use Rattle.il_drive.proofs.Beginning.{IsListening, step_hears, seek_message, write_message, read_message}
+use Rattle.il_drive.proofs.Reading.{nothing_read, still_longer}
+use Rattle.il_drive.proofs.Beginning.{IsListening, step_hears, seek_message, write_message}
 use Rattle.il_drive.proofs.Exchanges.{Stance, parts}
-use Rattle.il_drive.proofs.ExchangesAddressed.{unl, rfc, lad, tad, message_of-lad, message_of-tad, goes_listening}
+use Rattle.il_drive.proofs.ExchangesAddressed.{unl, rfc, lad, message_of-lad, goes_listening}
 
 -- ---- roles
 
@@ -57,24 +56,6 @@ changes_roles-data f h = data_changes (class_of f) (byte_of f) h
 pub roles_behind-data : (fs : List Frame) (r : Roles) → AllData fs → roles_behind fs r ≡ r
 roles_behind-data [] r all = refl
 roles_behind-data (f ∷ fs) r all = roles_behind-data fs (roles_after r (message_of f)) all.1 ∙ roles_after-other r (message_of f) (changes_roles-data f all.0)
-
--- all messages but IFC, AAU and AAD leave the address
-abbrev pub changes_address : Message → Bool
-changes_address m = elim m [ msg.Aau ↦ true | msg.Aad a ↦ true | _ ↦ false ]
-
-own_address : (b : Bool) (r one other : Roles) → one.address ≡ r.address → other.address ≡ r.address → (if b then one else other).address ≡ r.address
-own_address true r one other is_one is_other = is_one
-own_address false r one other is_one is_other = is_other
-
-pub address_stays : (r : Roles) (m : Message) → changes_address m ≡ false → (roles_after r m).address ≡ r.address
-address_stays r msg.Ifc h = refl
-address_stays r msg.Aau h = cc
-address_stays r (msg.Aad a) h = cc
-address_stays r (msg.Tad a) h = own_address (is_own r.address a) r _ _ refl refl
-address_stays r msg.Unt h = refl
-address_stays r (msg.Lad a) h = own_address (is_own r.address a) r _ _ refl refl
-address_stays r msg.Unl h = refl
-address_stays r _ h = refl
 
 -- ---- no record is written
 
@@ -181,21 +162,10 @@ heard_now (mode.SeekLow high) byte n u is h = sought_now (nat_lt (256 * high + b
 heard_now mode.Write byte n u is h = cc
 heard_now _ byte n u is h = (u, refl, refl, refl, ap table.is_write is ∙ h)
 
--- a beginning of such frames
-pub listens-taken : (j : ℕ) (fs : List Frame) → NoneListens fs → NoneListens (take j fs)
-listens-taken zero fs none = tt
-listens-taken (suc j) [] none = tt
-listens-taken (suc j) (f ∷ fs) none = (none.0, listens-taken j fs none.1)
-
 pub puts-taken : (j : ℕ) (fs : List Frame) → NonePuts fs → NonePuts (take j fs)
 puts-taken zero fs none = tt
 puts-taken (suc j) [] none = tt
 puts-taken (suc j) (f ∷ fs) none = (none.0, puts-taken j fs none.1)
-
--- frames behind such frames
-pub listens-joined : (fs gs : List Frame) → NoneListens fs → NoneListens gs → NoneListens (fs ++ gs)
-listens-joined [] gs first more = more
-listens-joined (f ∷ fs) gs first more = (first.0, listens-joined fs gs first.1 more)
 
 data_listens : (k : Class) (b : ℕ) → is_data_class k ≡ true → makes_listener (message_at k b) ≡ false
 data_listens class.Dab b h = refl
@@ -214,12 +184,6 @@ puts-seek p le = (refl, (refl, (ap may_put (message_of-lad p le), (refl, (refl, 
 
 pub puts-write : (p : ℕ) → p ≤ 30 → NonePuts (unl ∷ rfc ∷ lad p ∷ rfc ∷ write_message ∷ rfc ∷ [])
 puts-write p le = (refl, (refl, (ap may_put (message_of-lad p le), (refl, (refl, (refl, tt))))))
-
-pub listens-read : (p : ℕ) → p ≤ 30 → NoneListens (rfc ∷ tad p ∷ rfc ∷ read_message ∷ rfc ∷ sda ∷ [])
-listens-read p le = (refl, (ap makes_listener (message_of-tad p le), (refl, (refl, (refl, (refl, tt))))))
-
-pub listens-poll : (p : ℕ) → p ≤ 30 → NoneListens (rfc ∷ tad p ∷ rfc ∷ sst ∷ nrd ∷ [])
-listens-poll p le = (refl, (ap makes_listener (message_of-tad p le), (refl, (refl, (refl, tt)))))
 
 module _ {M : Type 0} (view : M → MediumView) where
   -- the roles behind a frame are those of every device

@@ -1,13 +1,12 @@
 -- The send that writes records, as one exchange: each 256 bytes are put by one write of the medium at the position. Where
 -- one fails, no more is written.
 use Rattle.std.proofs.Common.{◌≡◌, ◌<◌, ◌≤◌, ◌+◌, ◌*◌, ◌++◌, ◌⊎◌, inl, inr, ℕ, zero, suc, List, [], ◌∷◌, length, get_or, set, take, drop, map, false, refl, sym, ap, subst, ◌∙◌, arith, ⊎_elim, append_assoc}
-use Rattle.std.specs.Prelude.{Some, None, is_some, if◌then◌else◌}
+use Rattle.std.specs.Prelude.{Some, None, if◌then◌else◌}
 use Rattle.std.proofs.lemmas.Bool.{eq-eqb}
 use Rattle.std.proofs.lemmas.List.{get_or-map, take-map, drop-map, take-append-drop, length-take-le, length-drop, length-map, take_all}
-use Rattle.il_ports.specs.Media.{MediumView, IsMedium, KeepsIn}
-use Rattle.il_ports.specs.Inserting.{OthersAreKept}
+use Rattle.il_ports.specs.Media.{MediumView, IsMedium}
 use Rattle.lif_model.specs.Tape.{Tape}
-use Rattle.lif_model.specs.Stops.{Torn, Elapses}
+use Rattle.lif_model.specs.Stops.{Torn}
 use Rattle.lif_model.specs.Causes.{Rose}
 use Rattle.lif_model.specs.Transfers.{Replaced, PartlyReplaced, cut_up}
 use Rattle.lif_model.proofs.Runs.{replaced_none, replaced_more, torn_next, partly_replaced, replaced_all, elapses_then}
@@ -24,7 +23,8 @@ use Rattle.il_drive.specs.Runs.{Ran, AllData, through, bytes_of, buffered}
 use Rattle.il_drive.proofs.Beginning.{write_message}
 use Rattle.il_drive.proofs.Runs.{buffers}
 use Rattle.il_drive.proofs.Records.{AreRecords, frames_of, well, badly, Wrote, all_frames, writes_records, unheeded}
-use Rattle.il_drive.proofs.Exchanges.{IsFree, Stance, stance_of, parts}
+use Rattle.il_drive.specs.Resting.{IsFree, HasKept}
+use Rattle.il_drive.proofs.Exchanges.{Stance, stance_of, parts}
 use Rattle.il_drive.proofs.ExchangesAddressed.{unl, rfc, lad, listener, turned, goes_listening, stance_of-data}
 
 -- ---- frames cut into records
@@ -91,14 +91,6 @@ stance-badly : (fs : List Frame) (s : DriveState) → AllData fs → stance_of (
 stance-badly fs s all = ap (after_fault (bytes_of fs)) (stance-through fs s all)
 
 -- ---- the medium
-
--- What writes of these pieces, or of some of them, leave of the medium but for the tape. A power stop meanwhile leaves the
--- first ones, any bytes in the record of the next, and all others as before.
-pub record HasKept (first : ℕ) (pieces : List (List ℕ)) (v w : MediumView) : Type 0 where
-  pub stays_in : KeepsIn v w
-  pub shelf_told : is_some w.shelf ≡ is_some v.shelf
-  pub others : OthersAreKept v.inside v.shelf w.shelf
-  pub time : Elapses v.moment w.moment v.left_since w.left_since v.tape (PartlyReplaced first pieces)
 
 kept_nothing : (first : ℕ) (pieces : List (List ℕ)) (v : MediumView) → HasKept first pieces v v
 kept_nothing first pieces v = record {

@@ -28,13 +28,9 @@ use Rattle.il_drive.specs.Steps.{Now, Reads, IsStill, Did}
 use Rattle.il_drive.specs.Table as table
 use Rattle.il_drive.specs.Runs.{Ran, AllData}
 use Rattle.il_drive.proofs.Sending.{sda, later, one_sent, step_reads, step_reads_on, step_reads_past, step_ends}
+use Rattle.il_drive.specs.Resting.{IsRead}
 
 -- ---- what a reading leaves of the medium
-
--- all stays, and no call failed
-pub record IsRead (v w : MediumView) : Type 0 where
-  pub still : IsStill v w
-  pub count : w.faults ≡ v.faults
 
 pub nothing_read : (v : MediumView) → IsRead v v
 nothing_read v = record {

@@ -1,7 +1,6 @@
 -- Transmissions: the bytes of a record in their order, and the status, which its right echo clears.
-use Rattle.std.proofs.Common.{◌≡◌, ◌≢◌, ◌<◌, ◌≤◌, ◌+◌, ◌%◌, ℕ, List, [], ◌∷◌, length, get_or, true, false, refl, sym, ap, subst, ◌∙◌, arith}
+use Rattle.std.proofs.Common.{◌≡◌, ◌≢◌, ◌+◌, ℕ, get_or, true, false, ap, subst, ◌∙◌, arith}
 use Rattle.std.specs.Prelude.{Some, None, if◌then◌else◌, ◌||◌}
-use Rattle.std.proofs.Math.Nat.{mod-eq_of_lt}
 use Rattle.std.proofs.lemmas.Bool.{ne_eqb, eq-eqb}
 use Rattle.il_ports.specs.Media.{MediumView}
 use Rattle.il_frames.specs.declared.frame.Class.TheVariants as class
@@ -12,17 +11,16 @@ use Rattle.il_device.specs.declared.device.Out.{Out}
 use Rattle.il_device.specs.declared.device.Out.TheVariants.{Source}
 use Rattle.il_device.specs.declared.interface.OwnFrame.{OwnFrame}
 use Rattle.il_device.specs.declared.interface.Turn.TheVariants as turn
-use Rattle.il_device.specs.declared.roles.Roles.{Roles}
 use Rattle.il_device.specs.Takes.{turn_at_data, turn_at_start, just_sent, eto}
 use Rattle.il_device.specs.Interfaces.{turn_on}
-use Rattle.il_device.proofs.Laws.{turn_of-data, roles_after-data}
+use Rattle.il_device.proofs.Laws.{turn_of-data}
 use Rattle.il_drive.specs.declared.mode.Fault.TheVariants as fault
 use Rattle.il_drive.specs.declared.mode.Mode.TheVariants as mode
 use Rattle.il_drive.specs.declared.mode.Start.TheVariants as start
 use Rattle.il_drive.specs.State.{DriveState, DriveView, status_of, device_of}
 use Rattle.il_drive.specs.Steps.{Step, Now, Reads, then_by, Did}
 use Rattle.il_drive.specs.Table as table
-use Rattle.il_drive.specs.Runs.{Ran, AllData, IsReading, AreEchoes, sent_from, sent_all}
+use Rattle.il_drive.specs.Runs.{IsReading}
 
 -- the start messages SDA and SST
 abbrev pub sda : Frame
@@ -109,36 +107,15 @@ step_status n s talks silent =
     ap (λ asked. table.answered asked n s.interface.roles sst (table.behind_effect sst s))
     (ap (λ own. turn_at_start own s.interface.roles.talks turn.Begin) silent ∙ ap (λ talks. turn_at_start None talks turn.Begin) talks)
 
--- and its right echo clears it
-pub step_clears : (n : ℕ) (s : DriveState) (f : Frame) (byte : ℕ) → s.interface.own ≡ Some (just_sent (framed class.Dab byte) true) → s.begun ≡ start.Status → is_data f ≡ true
-    → same_but_service (framed class.Dab byte) f ≡ true → table.drive_step n s f ≡ Now (table.ends eto (table.in_status 0 (table.behind_effect f s)))
-step_clears n s f byte is by h right =
-    step_ends n s f (just_sent (framed class.Dab byte) true) is h right refl ∙ ap (λ start. Now (table.ends eto (table.acknowledged start (table.behind_effect f s)))) by
-
 -- ---- all bytes of a record
 
 -- the drive that has sent one more
 abbrev pub later : DriveState → Frame → DriveState
 later s f = (table.sends start.Data false (get_or s.buffer_0 s.pointer 0) (table.advanced (table.behind_effect f s))).0
 
-later_reading : (last : ℕ) (s : DriveState) (f : Frame) → IsReading last s → is_data f ≡ true → s.pointer < 255 → IsReading s.pointer (later s f)
-later_reading last s f reading h lt = record {
-  talks = ap (λ (r : Roles). r.talks) (roles_after-data s.interface.roles f h) ∙ reading.talks;
-  mode = reading.mode;
-  pointer = mod-eq_of_lt (omega (arith, lt));
-  sent = refl;
-}
-
 module _ {M : Type 0} (view : M → MediumView) where
-  abbrev Runs : DriveView M → List Frame → List Out → DriveView M → Type 0
-  Runs v fs outs w = Ran view v fs outs w
-
   abbrev Does : {X : Type 0} → Step X → X → M → M → Type 0
   Does step x m n = Did view step x m n
-
-  -- what came of frames from that state on
-  abbrev Sent : List Frame → List Out → DriveState → M → DriveView M → Type 0
-  Sent fs outs s m w = (outs ≡ sent_from s.buffer_0 s.pointer fs) × (w.state ≡ sent_all fs s) × (w.medium ≡ m)
 
   -- one byte more
   pub one_sent : (last : ℕ) (f : Frame) (out : Out) (v u : DriveView M) → IsReading last v.state → is_data f ≡ true → same_but_service (framed class.Dab (get_or v.state.buffer_0 last 0)) f ≡ true
@@ -147,22 +124,3 @@ module _ {M : Type 0} (view : M → MediumView) where
       let sent : Does (Now (table.sends start.Data false (get_or v.state.buffer_0 v.state.pointer 0) (table.advanced (table.behind_effect f v.state)))) (u.state, out) v.medium u.medium =
       subst (λ step. Does step (u.state, out) v.medium u.medium) (step_sends (view v.medium).record_count last v.state f reading h right) did in
       (ap (λ x. x.1) sent.0, λ i. record { state = (sent.0 i).0; medium = sent.1 i })
-
-  -- while the echoes are right the bytes of the record follow each other, and the medium stays
-  pub sends_record : (fs : List Frame) (outs : List Out) (last : ℕ) (v w : DriveView M) → IsReading last v.state → AllData fs → v.state.pointer + length fs ≤ 256
-      → AreEchoes v.state.buffer_0 last fs → Runs v fs outs w → Sent fs outs v.state v.medium w
-  sends_record [] [] last v w reading all fits echoes ran = (refl, ap (λ v. v.state) ran, ap (λ v. v.medium) ran)
-  sends_record [] (out ∷ outs) last v w reading all fits echoes ran = absurd ran
-  sends_record (f ∷ fs) [] last v w reading all fits echoes ran = absurd ran
-  sends_record (f ∷ []) (out ∷ other ∷ outs) last v w reading all fits echoes ran = absurd ran.2
-  sends_record (f ∷ []) (out ∷ []) last v w reading all fits echoes ran =
-      let one = one_sent last f out v ran.0 reading all.0 echoes.0 ran.1 in
-      (ap (λ out. out ∷ []) one.0, ap (λ v. v.state) (ran.2 ∙ one.1), ap (λ v. v.medium) (ran.2 ∙ one.1))
-  sends_record (f ∷ g ∷ fs) (out ∷ outs) last v w reading all fits echoes ran =
-      let s = v.state in
-      let one = one_sent last f out v ran.0 reading all.0 echoes.0 ran.1 in
-      let up : (s.pointer + 1) % 256 ≡ s.pointer + 1 = mod-eq_of_lt (omega (arith, fits)) in
-      let more =
-      sends_record (g ∷ fs) outs s.pointer (record { state = later s f; medium = v.medium }) w (later_reading last s f reading all.0 (omega (arith, fits))) all.1 (omega (arith, fits, up))
-      (subst (λ k. AreEchoes s.buffer_0 k (g ∷ fs)) (sym reading.pointer) echoes.1) (subst (λ u. Runs u (g ∷ fs) outs w) one.1 ran.2) in
-      (λ i. one.0 i ∷ (more.0 ∙ ap (λ p. sent_from s.buffer_0 p (g ∷ fs)) up) i, more.1, more.2)

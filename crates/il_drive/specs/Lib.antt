@@ -5,3 +5,4 @@ pub mod Steps
 pub mod Table
 pub mod Facts
 pub mod Runs
+pub mod Resting

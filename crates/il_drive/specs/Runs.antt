@@ -2,18 +2,16 @@
 use Rattle.std.specs.Prelude.{◌≡◌, ◌+◌, ℕ, true, false, List, [], ◌∷◌, get_or, set, map, Some, None}
 use Rattle.il_frames.specs.declared.frame.Class.TheVariants as class
 use Rattle.il_frames.specs.declared.frame.Frame.{Frame}
-use Rattle.il_frames.specs.Frames.{byte_of, framed, is_data, same_but_service}
+use Rattle.il_frames.specs.Frames.{byte_of, framed, is_data}
 use Rattle.il_device.specs.declared.device.Out.{Out}
-use Rattle.il_device.specs.declared.device.Out.TheVariants.{Source}
 use Rattle.il_device.specs.Interfaces.{InterfaceState, interface_after}
 use Rattle.il_device.specs.Takes.{just_sent}
 use Rattle.il_ports.specs.Media.{MediumView}
 use Rattle.il_drive.specs.declared.mode.Fault.TheVariants as fault
 use Rattle.il_drive.specs.declared.mode.Mode.TheVariants as mode
-use Rattle.il_drive.specs.declared.mode.Start.TheVariants as start
 use Rattle.il_drive.specs.State.{DriveState, DriveView}
 use Rattle.il_drive.specs.Steps.{Did}
-use Rattle.il_drive.specs.Table.{drive_step, behind_effect, faulty, emptied, advanced, sends}
+use Rattle.il_drive.specs.Table.{drive_step, faulty, emptied}
 
 -- These frames came, oldest first, and the drive gave these answers.
 abbrev pub Ran : {M : Type 0} → (M → MediumView) → DriveView M → List Frame → List Out → DriveView M → Type 0
@@ -63,18 +61,3 @@ pub record IsReading (last : ℕ) (s : DriveState) : Type 0 where
   pub mode : s.mode ≡ mode.Read
   pub pointer : s.pointer ≡ last + 1
   pub sent : s.interface.own ≡ Some (just_sent (framed class.Dab (get_or s.buffer_0 last 0)) false)
-
--- the frames that came back are the bytes of the buffer from that place on
-abbrev pub AreEchoes : List ℕ → ℕ → List Frame → Type 0
-AreEchoes buffer place [] = Unit {0}
-AreEchoes buffer place (f ∷ fs) = (same_but_service (framed class.Dab (get_or buffer place 0)) f ≡ true) × AreEchoes buffer (place + 1) fs
-
--- for each frame one data frame, of the bytes of the buffer from that place on
-abbrev pub sent_from : List ℕ → ℕ → List Frame → List Out
-sent_from buffer place [] = []
-sent_from buffer place (f ∷ fs) = Source (framed class.Dab (get_or buffer place 0)) ∷ sent_from buffer (place + 1) fs
-
--- the drive that has sent them
-abbrev pub sent_all : List Frame → DriveState → DriveState
-sent_all [] s = s
-sent_all (f ∷ fs) s = sent_all fs (sends start.Data false (get_or s.buffer_0 s.pointer 0) (advanced (behind_effect f s))).0

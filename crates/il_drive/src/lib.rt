@@ -7,6 +7,3 @@ mod mode;
 
 pub use drive::Drive;
 pub use mode::{Mode, Start};
-
-#[cfg(test)]
-mod tests;

@@ -1,5 +1,6 @@
 use super::*;
 use arrayvec::ArrayVec;
+use il_same::{same, same_bytes};
 use std::test::Fail;
 
 // Frames by number, text and message, from the tables of the HP-IL Interface Specification: each
@@ -84,22 +85,29 @@ fn numbers_texts_and_messages(rt: HostRuntime) -> Result<(), Fail> {
     let mut out = ArrayVec::new();
     for (bits, text, message) in FRAMES {
         let frame = Frame::of_bits(bits).ok_or(text)?;
-        assert_eq!(rt; frame.bits(), bits, "{text}");
-        assert_eq!(rt; frame.message(), message, "{text}");
-        assert_eq!(rt; Frame::new(frame.class(), frame.byte()), frame, "{text}");
-        assert_eq!(rt; Frame::read_text(text.as_bytes()), Some(frame), "{text}");
+        assert!(rt; same(frame.bits(), bits), "{text}");
+        assert!(rt; same(frame.message(), message), "{text}");
+        assert!(rt;
+            same(Frame::new(frame.class(), frame.byte()), frame),
+            "{text}"
+        );
+        assert!(rt;
+            same(Frame::read_text(text.as_bytes()), Some(frame)),
+            "{text}"
+        );
         frame.text(&mut out);
-        assert_eq!(rt; out.as_slice(), text.as_bytes(), "{text}");
+        assert!(rt; same_bytes(out.as_slice(), text.as_bytes()), "{text}");
     }
     Ok(())
 }
 
 #[test]
 fn no_frame(rt: HostRuntime) {
-    assert_eq!(rt; Frame::of_bits(2048), None);
-    assert_eq!(rt; Frame::of_bits(65535), None);
+    for bits in [2048, 65535] {
+        assert!(rt; same(Frame::of_bits(bits), None), "{bits}");
+    }
     for text in NO_TEXTS {
-        assert_eq!(rt; Frame::read_text(text.as_bytes()), None, "{text}");
+        assert!(rt; same(Frame::read_text(text.as_bytes()), None), "{text}");
     }
 }
 
@@ -138,6 +146,6 @@ fn lines_of_entries(rt: HostRuntime) {
             outcome,
         };
         entry.text(&mut out);
-        assert_eq!(rt; out.as_slice(), line.as_bytes());
+        assert!(rt; same_bytes(out.as_slice(), line.as_bytes()), "{line}");
     }
 }

@@ -1,4 +1,5 @@
 use super::*;
+use il_same::same;
 
 // A row: what PPE set, the status, an identify byte and what it is behind the device.
 static POLLS: [(Option<u8>, u8, u8, u8); 8] = [
@@ -22,14 +23,16 @@ fn polls(rt: HostRuntime) {
         }
         assert!(rt; status < 64);
         service.set(status);
-        assert_eq!(rt;
-            service.on_idy(byte),
-            behind,
-            "PPE {ppe:?}, status {status}"
+        assert!(rt;
+            same(service.on_idy(byte), behind),
+            "polled, status {status}"
         );
         service.on_ppd();
-        assert_eq!(rt; service.assignment(), None);
-        assert_eq!(rt; service.on_idy(byte), byte);
+        assert!(rt; same(service.assignment(), None), "no place");
+        assert!(rt;
+            same(service.on_idy(byte), byte),
+            "not polled, status {status}"
+        );
     }
 }
 
@@ -39,7 +42,10 @@ fn status_bytes(rt: HostRuntime) {
     for (status, wants, answer) in [(0, false, 0x00), (3, true, 0x43), (63, true, 0x7F)] {
         assert!(rt; status < 64);
         service.set(status);
-        assert_eq!(rt; service.wants(), wants);
-        assert_eq!(rt; service.status_byte(), answer);
+        assert!(rt; same(service.wants(), wants), "wants, status {status}");
+        assert!(rt;
+            same(service.status_byte(), answer),
+            "byte, status {status}"
+        );
     }
 }

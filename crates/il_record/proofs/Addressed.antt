@@ -20,7 +20,7 @@ use Rattle.loop_model.specs.Units.{units_of}
 use Rattle.loop_model.proofs.EffectLaws.{ends_within-broken}
 use Rattle.il_ring.specs.Adds.{Adds}
 use Rattle.il_ring.specs.Rings.{RingView, devices_of, roles_of, drive_party}
-use Rattle.il_ring.proofs.Passing.{is_exact}
+use Rattle.il_ring.specs.Journeys.{is_exact}
 use Rattle.loop_model.specs.Reach.{brings_to}
 use Rattle.il_control.specs.Brought.{BroughtIf, CutBrought, ComesAs, MayComeAs, is_auto_address}
 use Rattle.il_control.specs.Calls.{AllStay, Resumed, NotResumed, addressing, loop_of}

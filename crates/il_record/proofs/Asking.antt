@@ -28,13 +28,6 @@ asked_less (a ∷ asks) more (WholeOne x ∷ ps) first = (first.0, asked_less as
 asked_less (a ∷ asks) more (Cut x n b ∷ []) first = first
 asked_less (a ∷ asks) more (Cut x n b ∷ p ∷ ps) first = absurd first
 
-pub first_of_same : (a : Ask) → IsFirstOf a a
-first_of_same (Ask.AskCommand f) = refl
-first_of_same Ask.AskAddresses = refl
-first_of_same (Ask.AskHear a number bytes) = ([], ap (λ bytes. Ask.AskHear a number bytes) (sym (append-nil bytes)))
-first_of_same (Ask.AskTell a number start told) = (told, refl)
-first_of_same (Ask.AskIdentify f) = (f, refl)
-
 -- ---- address by address
 
 pub up_to_next : (asks : ℕ → List Ask) (i : ℕ) → up_to asks i ++ asks (i + 1) ≡ up_to asks (i + 1)

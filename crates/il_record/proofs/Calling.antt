@@ -5,7 +5,7 @@ use Rattle.il_ports.specs.declared.records.Trouble.{Trouble}
 use Rattle.il_ports.specs.declared.records.Trouble.TheVariants as trouble
 use Rattle.il_ports.specs.Media.{MediumView}
 use Rattle.il_drive.specs.Steps.{IsStill}
-use Rattle.il_drive.proofs.Exchanges.{IsFree}
+use Rattle.il_drive.specs.Resting.{IsFree}
 use Rattle.il_ring.specs.Lists.{Each}
 use Rattle.il_ring.specs.Rings.{RingView, devices_of, drive_party, spare_of}
 use Rattle.il_control.specs.Calls.{IsIdle, IsLost, idy, loop_of}

@@ -10,13 +10,14 @@ use Rattle.il_frames.specs.Messages.{message_of}
 use Rattle.il_ports.specs.Media.{MediumView}
 use Rattle.il_drive.specs.Runs.{Ran}
 use Rattle.il_drive.proofs.Beginning.{joins}
-use Rattle.il_drive.proofs.ExchangesAddressed.{sdc, clears, message_of-lad}
+use Rattle.il_drive.specs.Resting.{sdc}
+use Rattle.il_drive.proofs.ExchangesAddressed.{clears, message_of-lad}
 use Rattle.il_drive.proofs.ExchangesStill.{NonePuts, may_put, leaves_records}
 use Rattle.loop_model.specs.Entries.{unl, rfc, lad}
 use Rattle.loop_model.specs.Exchanges.{Command, Piece, Whole as WholeOne, commanded}
-use Rattle.loop_model.proofs.HearLaws.{has_no_data}
+use Rattle.loop_model.specs.Hearing.{has_no_data}
 use Rattle.il_ring.specs.Rings.{RingView, devices_of, drive_party}
-use Rattle.il_ring.proofs.Passing.{is_exact}
+use Rattle.il_ring.specs.Journeys.{is_exact}
 use Rattle.il_control.specs.Brought.{CutBrought, is_auto_address}
 use Rattle.il_control.specs.Calls.{IsIdle, Made, BrokenOff, Obeyed, ObeyedInPart}
 use Rattle.il_control.proofs.Brings.{command_brings}

@@ -14,14 +14,15 @@ use Rattle.il_device.specs.Takes.{may_change_service}
 use Rattle.il_ports.specs.Media.{MediumView}
 use Rattle.loop_model.specs.Entries.{lad, unl}
 use Rattle.loop_model.specs.Exchanges.{Command, Identify, commanded, entries_of}
-use Rattle.loop_model.proofs.HearLaws.{has_no_data}
+use Rattle.loop_model.specs.Hearing.{has_no_data}
 use Rattle.il_ring.proofs.RoundPlaces.{place_kept}
 use Rattle.il_ring.specs.Lists.{Each, First}
 use Rattle.il_ring.specs.Outcomes.{Obeys}
 use Rattle.il_ring.specs.Polls.{identified_along, is_poll}
 use Rattle.il_ring.specs.Rings.{RingView, devices_of, spare_of}
 use Rattle.il_control.specs.Calls.{AllStay, BrokenOff, IsIdle, Made, Obeyed, ObeyedInPart, idy}
-use Rattle.il_control.proofs.Assigning.{EachTo, GivenPlace, place_given, place_in_part, ppe}
+use Rattle.il_control.specs.Places.{EachTo, GivenPlace, ppe}
+use Rattle.il_control.proofs.Assigning.{place_given, place_in_part}
 use Rattle.il_control.proofs.Calls.{hears_then}
 use Rattle.loop_model.proofs.SendLaws.{message_of-lad}
 use Rattle.il_record.specs.Asks.{Ask, AskCommand, AskIdentify, CameAsked, up_to}

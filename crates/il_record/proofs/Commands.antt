@@ -12,19 +12,19 @@ use Rattle.il_device.specs.Takes.{may_change_service}
 use Rattle.il_ports.specs.Media.{MediumView}
 use Rattle.il_drive.specs.declared.mode.Start.TheVariants as start
 use Rattle.il_drive.specs.Runs.{Ran}
-use Rattle.loop_model.specs.Entries.{lad, rfc, unl}
+use Rattle.loop_model.specs.Entries.{rfc, unl}
 use Rattle.loop_model.specs.Exchanges.{Command, Identify, commanded, entries_of, returned, is_talk_address}
-use Rattle.loop_model.proofs.SendLaws.{message_of-lad}
-use Rattle.loop_model.proofs.TalkLaws.{is_aau}
+use Rattle.loop_model.specs.Roles.{is_aau}
 use Rattle.il_ring.proofs.RoundPlaces.{place_kept}
-use Rattle.il_ring.proofs.Passing.{is_exact}
+use Rattle.il_ring.specs.Journeys.{is_exact}
 use Rattle.il_ring.specs.Lists.{First}
 use Rattle.il_ring.specs.Outcomes.{HearsNothing, Obeys}
 use Rattle.il_ring.specs.Polls.{is_poll}
 use Rattle.il_ring.specs.Rings.{RingView, devices_of, drive_party, spare_of}
 use Rattle.il_control.specs.Brought.{is_auto_address}
 use Rattle.il_control.specs.Calls.{AllStay, BrokenOff, Made, Obeyed, ObeyedInPart, Stays, is_command}
-use Rattle.il_control.proofs.Assigning.{EachTo, MayHavePlace, message_of-ppe, ppe}
+use Rattle.il_control.specs.Places.{EachTo, ppe}
+use Rattle.il_control.proofs.Assigning.{MayHavePlace, message_of-ppe}
 use Rattle.il_control.proofs.Calls.{hears_then, room_behind}
 use Rattle.il_record.specs.Polls.{PollsOn, Released, poll_place}
 use Rattle.il_record.proofs.Mild.{IsMild, StaysMild, is_mild, mild_ran, unl_ran}
@@ -32,9 +32,6 @@ use Rattle.il_record.proofs.MildCame.{UnlFirst, brought_mild, cut_mild, mild_ent
 use Rattle.il_control.proofs.Brings.{command_brings}
 
 -- ---- which commands they are
-
-pub lad_command : (a : ℕ) → a ≤ 30 → is_command (lad a) ≡ true
-lad_command a low = ap (λ m. not (is_talk_address m) && not (is_aau m)) (message_of-lad a (le-leb a 30 low))
 
 pub ppe_command : (n : ℕ) → n < 16 → is_command (ppe n) ≡ true
 ppe_command n small = ap (λ m. not (is_talk_address m) && not (is_aau m)) (message_of-ppe n small)

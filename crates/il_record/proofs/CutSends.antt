@@ -18,10 +18,10 @@ use Rattle.il_drive.proofs.ExchangesBroken.{AsSent}
 use Rattle.il_drive.proofs.ExchangesStill.{leaves_records, puts-seek, puts-taken, seek_leaves}
 use Rattle.il_drive.proofs.Reading.{nothing_read}
 use Rattle.loop_model.specs.Entries.{unl, rfc, lad, ddl}
-use Rattle.loop_model.specs.Exchanges.{Echo, Break, FrameLost, HostAltered, TalkerAltered, Send, echoed, returned, entries_of, break_entries, cut_at, can_cut, is_echo}
+use Rattle.loop_model.specs.Exchanges.{Echo, Break, FrameLost, HostAltered, TalkerAltered, Send, echoed, returned, entries_of, break_entries, cut_at, can_cut, is_echo, bytes_of}
 use Rattle.loop_model.specs.Units.{sent_bytes}
-use Rattle.loop_model.proofs.UnitLaws.{bytes_of, one_byte}
-use Rattle.il_ring.proofs.Passing.{is_exact}
+use Rattle.loop_model.proofs.UnitLaws.{one_byte}
+use Rattle.il_ring.specs.Journeys.{is_exact}
 use Rattle.il_control.specs.Brought.{MayComeAs, CutBrought, is_auto_address}
 use Rattle.il_record.specs.Runs.{LeavesRecords}
 use Rattle.il_record.proofs.Cuts.{counts_up, comes_may}

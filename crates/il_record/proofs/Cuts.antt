@@ -22,7 +22,7 @@ use Rattle.loop_model.specs.Entries.{entry, unl, unt, rfc, nrd, tad, ddt}
 use Rattle.loop_model.specs.Exchanges.{Echo, Answer, NotTaken, ToItsEnd, Stopped, Start, Sda, Sst, Sdi, Sai, Receive, start_frame, echoed, returned, commanded, numbered, answer_entries, entries_of, is_answer, is_echo, is_some_data}
 use Rattle.loop_model.specs.Reach.{brings_to}
 use Rattle.loop_model.proofs.UnitLaws.{entries_of-receive}
-use Rattle.il_ring.proofs.Passing.{is_exact}
+use Rattle.il_ring.specs.Journeys.{is_exact}
 use Rattle.il_control.specs.Brought.{ComesAs, MayComeAs, BroughtIf, CutBrought, is_auto_address, is_from_here}
 use Rattle.il_control.specs.Receives.{talker_of}
 use Rattle.il_record.specs.Runs.{LeavesRecords}

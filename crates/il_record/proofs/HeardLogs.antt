@@ -9,13 +9,12 @@ use Rattle.il_frames.specs.Frames.{class_of, framed, same_class}
 use Rattle.il_device.specs.State.{DeviceState}
 use Rattle.il_device.specs.declared.roles.Roles.{Roles}
 use Rattle.il_ports.specs.Media.{MediumView}
-use Rattle.loop_model.specs.Exchanges.{Answer, Echo, Start, Send, Receive, cut_at, echoed, entries_of, is_address, is_answer, is_echo, is_exchange, is_host_echo, is_number}
-use Rattle.loop_model.specs.Hearing.{heard_by}
+use Rattle.loop_model.specs.Exchanges.{Answer, Echo, Start, Send, Receive, cut_at, echoed, entries_of, is_address, is_answer, is_echo, is_exchange, is_host_echo, is_number, bytes_of}
+use Rattle.loop_model.specs.Hearing.{heard_by, has_no_data}
 use Rattle.loop_model.specs.Roles.{roles_after}
-use Rattle.loop_model.proofs.HearLaws.{has_no_data, heard_by-append, heard_by-no_data}
+use Rattle.loop_model.proofs.HearLaws.{heard_by-append, heard_by-no_data}
 use Rattle.loop_model.proofs.RoleLaws.{roles_after-append}
 use Rattle.loop_model.proofs.SendLaws.{heard_by-others, heard_by-send}
-use Rattle.loop_model.proofs.UnitLaws.{bytes_of}
 use Rattle.il_ring.specs.Adds.{Adds}
 use Rattle.il_ring.specs.Rings.{RingView, devices_of, roles_of}
 use Rattle.il_control.specs.Calls.{BrokenOff, Broke, IsIdle, Made, NotSent, Unheard, Whole, loop_of, sent_as}

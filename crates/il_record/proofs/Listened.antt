@@ -6,7 +6,7 @@ use Rattle.il_device.specs.Takes.{kept}
 use Rattle.il_ring.specs.Lists.{Each, First}
 use Rattle.il_ring.specs.Outcomes.{HearsNothing, HearsByte, HearsAny}
 use Rattle.il_control.specs.Calls.{IsTold, Stays}
-use Rattle.il_control.proofs.Assigning.{EachTo}
+use Rattle.il_control.specs.Places.{EachTo}
 use Rattle.il_control.proofs.Calls.{hears_then}
 use Rattle.il_record.specs.Listening.{Hears, HearsBytes, HearsInPart, HearsPart, counted_all, heard_all}
 use Rattle.il_record.proofs.Heard.{deaf}

@@ -20,10 +20,10 @@ use Rattle.il_drive.specs.State.{DriveView, status_of}
 use Rattle.il_drive.specs.Runs.{Ran}
 use Rattle.il_drive.proofs.ExchangesAddressed.{message_of-tad}
 use Rattle.loop_model.specs.Entries.{entry, unl, unt, rfc, nrd, tad}
-use Rattle.loop_model.specs.Exchanges.{Echo, Answer, NotTaken, ToItsEnd, Stopped, Start as StartMessage, Sai, Receive, start_frame, echoed, returned, commanded, answer_entries, entries_of, is_answer, is_echo}
+use Rattle.loop_model.specs.Exchanges.{Echo, Answer, NotTaken, ToItsEnd, Stopped, Start as StartMessage, Sai, Receive, start_frame, echoed, returned, commanded, answer_entries, entries_of, is_answer, is_echo, receive_front}
 use Rattle.loop_model.specs.Reach.{brings_to}
-use Rattle.loop_model.proofs.UnitLaws.{entries_of-receive, receive_front}
-use Rattle.il_ring.proofs.Passing.{is_exact, is_identify, is_identify_class}
+use Rattle.loop_model.proofs.UnitLaws.{entries_of-receive}
+use Rattle.il_ring.specs.Journeys.{is_exact, is_identify, is_identify_class}
 use Rattle.il_ring.specs.Rings.{RingView, devices_of, drive_party}
 use Rattle.il_control.specs.Brought.{ComesAs, MayComeAs, Brought, BroughtIf, CutBrought, is_auto_address}
 use Rattle.il_control.specs.Receives.{Received, NotReceived, IsSpoken, AllSpoken, StandsBehind, talker_of}

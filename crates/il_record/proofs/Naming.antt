@@ -1,18 +1,17 @@
 -- Accessory IDs, device by device.
-use Rattle.std.proofs.Common.{◌≡◌, ◌∙◌, ◌≤◌, ◌<◌, ◌+◌, ◌*◌, ◌-◌, ◌++◌, ◌==◌, ◌&&◌, nat_le, not, ℕ, zero, suc, Bool, true, false, List, [], ◌∷◌, Option, Some, None, take, drop, length, get_or, refl, sym, ap, subst, arith, append-nil, length-append}
+use Rattle.std.proofs.Common.{◌≡◌, ◌∙◌, ◌≤◌, ◌<◌, ◌+◌, ◌*◌, ◌-◌, ◌++◌, ◌==◌, ℕ, zero, suc, Bool, true, false, List, [], ◌∷◌, Option, Some, None, take, drop, length, get_or, refl, sym, ap, subst, arith, append-nil, length-append, ◌&&◌, nat_le, not}
 use Rattle.std.specs.Prelude.{if◌then◌else◌}
 use Rattle.std.proofs.lemmas.Bool.{and_parts, eq-eqb, eqb-true}
 use Rattle.il_device.specs.State.{DeviceState}
 use Rattle.il_ports.specs.Media.{MediumView}
-use Rattle.loop_model.specs.Exchanges.{Answer, NotTaken, ToItsEnd, Stopped, Receive, Sai, is_address, is_answer}
-use Rattle.loop_model.proofs.RoundLaws.{answers_as_asked}
+use Rattle.loop_model.specs.Exchanges.{Answer, NotTaken, ToItsEnd, Stopped, Receive, Sai, is_address, is_answer, answers_as_asked}
 use Rattle.il_ring.specs.Lists.{First}
 use Rattle.il_ring.specs.Rings.{RingView, devices_of, spare_of}
 use Rattle.il_control.specs.Calls.{IsIdle, Stays}
-use Rattle.il_control.specs.Receives.{Received, NotReceived, accessory_at, id_bytes, is_stopped, received}
+use Rattle.il_control.specs.Receives.{Received, NotReceived, accessory_at, id_bytes, received, is_stopped}
 use Rattle.il_control.proofs.Calls.{hears_then}
 use Rattle.il_record.specs.Asks.{Ask, AskTell, CameAsked, told_of, up_to}
-use Rattle.il_record.specs.LoopCalls.{AllNamed, LeftAlone, Named, id_asks, id_told, ids_of}
+use Rattle.il_record.specs.LoopCalls.{LeftAlone, Named, id_asks, id_told, ids_of}
 use Rattle.il_record.proofs.Asking.{asked_broken, asked_made, asked_nothing, asked_on, asked_up_to, up_to_next}
 use Rattle.il_record.proofs.CameLaws.{tape_same}
 use Rattle.il_record.proofs.HeardLogs.{heard_same, heard_then, none_not_received, none_received}
@@ -134,10 +133,6 @@ take_ids i [] within = absurd (omega (arith, within))
 take_ids zero (d ∷ ds) within = refl
 take_ids (suc i) (d ∷ ds) within = ap (λ ids. d.accessory ∷ ids) (take_ids i ds (omega (arith, within)))
 
-take_all_ids : (ds : List DeviceState) → take (length ds) (ids_of ds) ≡ ids_of ds
-take_all_ids [] = refl
-take_all_ids (d ∷ ds) = ap (λ ids. d.accessory ∷ ids) (take_all_ids ds)
-
 -- the first i devices were asked
 pub record NamedSo {M : Type 0} (view : M → MediumView) (i : ℕ) (ids : List (Option ℕ)) (r s : RingView M) : Type 0 where
   pub ids_are : ids ≡ take i (ids_of (devices_of r))
@@ -174,9 +169,6 @@ module _ {M : Type 0} (view : M → MediumView) (r : RingView M) (idle : IsIdle 
         silent = named.left.drive.silent (idle_mute s now);
         room = omega (arith, room, spent);
       }
-
-  pub named_all : (i : ℕ) (ids : List (Option ℕ)) (s : RingView M) → i ≡ length (devices_of r) → NamedSo view i ids r s → AllNamed view ids r s
-  named_all i ids s all so = record { ids_are = so.ids_are ∙ ap (λ n. take n (ids_of (devices_of r))) all ∙ take_all_ids (devices_of r); left = subst (λ n. LeftAlone view true (up_to (id_asks (devices_of r)) n) r s) all so.left }
 
   pub named_part : (i n : ℕ) (ids : List (Option ℕ)) (m s : RingView M) → i + 1 ≤ n → NamedSo view i ids r m → LeftAlone view false (id_asks (devices_of m) (i + 1)) m s → LeftAlone view false (up_to (id_asks (devices_of r)) n) r s
   named_part i n ids m s within so broken =

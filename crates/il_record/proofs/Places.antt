@@ -5,7 +5,7 @@ use Rattle.il_device.specs.State.{DeviceState}
 use Rattle.il_ports.specs.Media.{MediumView}
 use Rattle.std.specs.List.{All}
 use Rattle.il_drive.specs.State.{device_of, fresh_drive}
-use Rattle.il_drive.proofs.Exchanges.{IsFree}
+use Rattle.il_drive.specs.Resting.{IsFree}
 use Rattle.loop_model.specs.Exchanges.{Start}
 use Rattle.loop_model.specs.Units.{RecordUnit}
 use Rattle.il_ring.specs.Lists.{Each, First}
@@ -15,7 +15,7 @@ use Rattle.il_ring.specs.Polls.{KeepsPlace, is_poll}
 use Rattle.il_ring.specs.Rings.{IsRing, MayStand, RingView, devices_of, drive_party}
 use Rattle.il_control.specs.Calls.{AllStay, IsIdle, Obeyed, ObeyedInPart, Stays}
 use Rattle.il_control.specs.Receives.{NotReceived, Received}
-use Rattle.il_control.proofs.Assigning.{EachTo}
+use Rattle.il_control.specs.Places.{EachTo}
 use Rattle.il_record.specs.Asks.{Ask}
 use Rattle.il_record.specs.Came.{CameUnits}
 use Rattle.il_record.specs.Listening.{Hears, HearsPart}

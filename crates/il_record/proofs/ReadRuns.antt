@@ -13,16 +13,15 @@ use Rattle.lif_model.specs.Tape.{Tape, bytes_from}
 use Rattle.lif_model.specs.Causes.{Rose}
 use Rattle.il_drive.specs.State.{DriveView}
 use Rattle.il_drive.specs.Steps.{IsStill}
-use Rattle.il_drive.proofs.Exchanges.{IsFree}
-use Rattle.il_drive.proofs.ExchangesAddressed.{HasSought}
+use Rattle.il_drive.specs.Resting.{IsFree, HasSought}
 use Rattle.il_drive.proofs.Reading.{nothing_read, still_longer}
 use Rattle.loop_model.specs.Loops.{Loop}
 use Rattle.loop_model.specs.Effect.{UnitsEffect}
-use Rattle.loop_model.specs.Exchanges.{Echo, Exchange, Send, Receive, Start, Sda, Sst, Answer, NotTaken, ToItsEnd, Stopped, Piece, Whole as WholeOne, Cut, entries_of, is_echo, is_answer}
+use Rattle.loop_model.specs.Exchanges.{Echo, Exchange, Send, Receive, Start, Sda, Sst, Answer, NotTaken, ToItsEnd, Stopped, Piece, Whole as WholeOne, Cut, entries_of, is_echo, is_answer, bytes_of}
 use Rattle.loop_model.specs.Units.{RecordUnit, units_of, ends_within, sent_bytes, sought as named_by}
 use Rattle.loop_model.proofs.EffectLaws.{ends_within-broken}
 use Rattle.loop_model.proofs.RecordLaws.{one_unit, units_of-read, units_of-read_cut, units_of-read_untold}
-use Rattle.loop_model.proofs.UnitLaws.{bytes_of, sent_bytes-not_taken, sent_bytes-to_its_end, sent_bytes-stopped}
+use Rattle.loop_model.proofs.UnitLaws.{sent_bytes-not_taken, sent_bytes-to_its_end, sent_bytes-stopped}
 use Rattle.il_ring.specs.Rings.{RingView, devices_of, drive_party}
 use Rattle.il_control.specs.Calls.{IsIdle, Made, loop_of}
 use Rattle.il_control.specs.Receives.{Received, NotReceived, SpokenBy, received, is_stopped, talker_of}
@@ -349,14 +348,6 @@ module _ {M : Type 0} (view : M → MediumView) (d first k : ℕ) (r : RingView 
       let here : Received view (drive_party r) (Some 2) Sda n a old new b = subst (λ d. Received view d (Some 2) Sda n a old new b) at got in
       subst (λ d. ReadAs view d first new good r s) (sym at)
       (read_whole view k first n byte old new r a b s idle long seek here (read_at n old new a b long seek here) (subst (λ d. Polled view d byte b s) at told) good is)
-
--- ---- parties on the way
-
-pub party_on : {M : Type 0} (view : M → MediumView) (d : ℕ) (number : Option ℕ) (bytes : List ℕ) (r s : RingView M) → d ≡ drive_party r → SentAll view d number bytes r s → d ≡ drive_party s
-party_on view d n bytes r s at so = at ∙ sym (same_party view _ r s so.made)
-
-pub party_behind : {M : Type 0} (view : M → MediumView) (d n : ℕ) (number : Option ℕ) (start : Start) (r : RingView M) (old new : List ℕ) (s : RingView M) → d ≡ drive_party r → Received view d number start n r old new s → d ≡ drive_party s
-party_behind view d n number start r old new s at got = at ∙ sym (same_party view _ r s got.made)
 
 -- ---- whether all came
 

@@ -19,15 +19,14 @@ use Rattle.lif_model.specs.Tape.{bytes_from}
 use Rattle.il_drive.specs.State.{DriveView, IsDrive, device_of}
 use Rattle.il_drive.specs.Runs.{Ran, AllData}
 use Rattle.il_drive.proofs.Beginning.{joins}
-use Rattle.il_drive.proofs.Exchanges.{IsFree, parts}
+use Rattle.il_drive.specs.Resting.{IsFree}
+use Rattle.il_drive.proofs.Exchanges.{parts}
 use Rattle.il_drive.proofs.ExchangesReading.{EchoesOf, IsReadOut, IsCutShort, reads_on, reads_run, ends_short, is_unread, to_read, passed}
 use Rattle.il_drive.proofs.ExchangesStatus.{polls, status_frame, tells}
 use Rattle.il_drive.proofs.Reading.{IsEcho, sent}
 use Rattle.loop_model.specs.Entries.{unl, unt, rfc, nrd, tad}
-use Rattle.loop_model.specs.Exchanges.{Echo, Start, Sda, Sst, Answer, NotTaken, ToItsEnd, Stopped, Receive, start_frame, is_echo, is_answer, is_exchange, is_address, is_number, is_some_data}
-use Rattle.loop_model.proofs.RoleSteps.{are_numbered}
-use Rattle.loop_model.proofs.RoundLaws.{answers_as_asked}
-use Rattle.loop_model.proofs.UnitLaws.{bytes_of}
+use Rattle.loop_model.specs.Exchanges.{Echo, Start, Sda, Sst, Answer, NotTaken, ToItsEnd, Stopped, Receive, start_frame, is_echo, is_answer, is_exchange, is_address, is_number, is_some_data, answers_as_asked, bytes_of}
+use Rattle.loop_model.specs.Roles.{are_numbered}
 use Rattle.il_ring.specs.Rings.{RingView, devices_of, roles_of, drive_party}
 use Rattle.il_ring.specs.Lists.{AllSilent}
 use Rattle.il_ring.proofs.Talkers.{none_talk}
@@ -115,10 +114,6 @@ own_sent (byte ∷ bytes) = ap (λ gs. framed class.Dab byte ∷ gs) (own_sent b
 their_bytes : (bytes : List ℕ) → map byte_of (byte_frames bytes) ≡ bytes
 their_bytes [] = refl
 their_bytes (byte ∷ bytes) = ap (λ bytes. byte ∷ bytes) (their_bytes bytes)
-
-byte_frames-length : (bytes : List ℕ) → length (byte_frames bytes) ≡ length bytes
-byte_frames-length [] = refl
-byte_frames-length (byte ∷ bytes) = ap suc (byte_frames-length bytes)
 
 -- ETO is no byte
 no_end : (gs : List Frame) (bytes : List ℕ) → gs ++ eto ∷ [] ≡ byte_frames bytes → ⊥

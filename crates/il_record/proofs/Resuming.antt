@@ -20,10 +20,6 @@ module _ {M : Type 0} (T : Type 0) (view : M → MediumView) (more : ℕ) (befor
   store_is : record before { resumes = more } ≡ counted_resume before
   store_is = ap (λ (k : ℕ). record before { resumes = k }) counted
 
-  -- a sound store
-  pub tells_sound : (x : T) → before.sound ≡ true → Resumes view before.sound (counted_resume before) (record before { resumes = more }) (Ok x)
-  tells_sound x sound = subst (λ (b : Bool). Resumes view b (counted_resume before) (record before { resumes = more }) (Ok x)) (sym sound) store_is
-
   module _ (unsound : before.sound ≡ false) where
     as_unsound : (new : LoopView M) (answer : Result T Trouble) → Resumes view false (counted_resume before) new answer → Resumes view before.sound (counted_resume before) new answer
     as_unsound new answer so = subst (λ (b : Bool). Resumes view b (counted_resume before) new answer) (sym unsound) so

@@ -5,17 +5,16 @@ use Rattle.std.proofs.lemmas.Bool.{and_parts, and_from}
 use Rattle.std.specs.Prelude.{drop}
 use Rattle.std.proofs.Math.Seq.{take-length}
 use Rattle.std.proofs.lemmas.List.{take-append-drop}
-use Rattle.loop_model.proofs.UnitLaws.{bytes_of}
 use Rattle.il_frames.specs.declared.entry.Entry.{Entry}
 use Rattle.il_ports.specs.Media.{MediumView}
 use Rattle.il_drive.specs.declared.mode.Start.TheVariants as start
 use Rattle.il_drive.proofs.ExchangesAddressed.{message_of-lad}
 use Rattle.loop_model.specs.Entries.{rfc, lad}
-use Rattle.loop_model.specs.Exchanges.{Echo, Send, echoed, returned, commanded, is_echo}
-use Rattle.il_ring.proofs.Passing.{is_exact}
+use Rattle.loop_model.specs.Exchanges.{Echo, Send, echoed, returned, commanded, is_echo, bytes_of}
+use Rattle.il_ring.specs.Journeys.{is_exact}
 use Rattle.il_ring.specs.Rings.{RingView, devices_of, drive_party}
 use Rattle.il_control.specs.Brought.{is_auto_address}
-use Rattle.il_control.proofs.Assigning.{EachTo}
+use Rattle.il_control.specs.Places.{EachTo}
 use Rattle.il_control.proofs.Brings.{send_from_here}
 use Rattle.il_record.specs.Listening.{Hears, HearsPart}
 use Rattle.il_record.specs.Asks.{AskHear, CameAsked}

@@ -8,8 +8,8 @@ use Rattle.std.proofs.lemmas.List.{map-append, length-take-le, get_or-take, leng
 use Rattle.il_frames.specs.declared.frame.Class.TheVariants as class
 use Rattle.il_frames.specs.Frames.{byte_of, framed, is_data}
 use Rattle.il_ports.specs.Media.{MediumView}
-use Rattle.loop_model.specs.Exchanges.{Echo, Send, entries_of}
-use Rattle.loop_model.proofs.UnitLaws.{bytes_of, length-send}
+use Rattle.loop_model.specs.Exchanges.{Echo, Send, entries_of, bytes_of}
+use Rattle.loop_model.proofs.UnitLaws.{length-send}
 use Rattle.il_ring.specs.Rings.{RingView, devices_of, spare_of}
 use Rattle.il_ring.specs.Lists.{Each}
 use Rattle.il_control.specs.Calls.{AllStay, IsIdle, IsTold, Made, BrokenOff, Sent, NotSent, sent_as}
@@ -24,7 +24,7 @@ use Rattle.il_drive.proofs.ExchangesAddressed.{seeks_record}
 use Rattle.loop_model.specs.Entries.{unl, rfc, lad, ddl}
 use Rattle.il_record.proofs.Heard.{others_then, others_deaf, others_deaf_to_any, told_on}
 use Rattle.il_record.proofs.HeardLogs.{heard_in_part, heard_sent, no_data_sent, none_broke, none_by, none_whole}
-use Rattle.il_control.proofs.Assigning.{EachTo}
+use Rattle.il_control.specs.Places.{EachTo}
 use Rattle.il_record.specs.Listening.{Hears}
 use Rattle.il_record.proofs.Listened.{hears_more, hears_no_part, hears_none, hears_part}
 use Rattle.il_record.specs.Sends.{filled, SentSo, SentAll, SendBroke, Sought}

@@ -9,7 +9,7 @@ use Rattle.il_ports.proofs.OneRecord.{run_fetched, run_stored}
 use Rattle.lif_model.specs.Shelf.{cut}
 use Rattle.lif_model.proofs.Made.{piece_long}
 use Rattle.std.proofs.lemmas.List.{take_all}
-use Rattle.il_drive.proofs.Exchanges.{IsFree}
+use Rattle.il_drive.specs.Resting.{IsFree}
 use Rattle.il_ring.specs.Lists.{Each}
 use Rattle.il_ring.specs.Rings.{RingView, devices_of, drive_party, spare_of}
 use Rattle.il_record.specs.Polls.{MayPoll, PlacesKept}

@@ -6,7 +6,7 @@ use Rattle.il_ports.specs.declared.records.Trouble.{Trouble}
 use Rattle.il_ports.specs.declared.records.Trouble.TheVariants as trouble
 use Rattle.il_ports.specs.Media.{MediumView}
 use Rattle.il_ports.specs.Stores.{RecordsView, Begun, Resumed}
-use Rattle.il_drive.proofs.Exchanges.{IsFree}
+use Rattle.il_drive.specs.Resting.{IsFree}
 use Rattle.il_drive.proofs.Reading.{nothing_read}
 use Rattle.il_drive.specs.Steps.{IsStill}
 use Rattle.il_ring.specs.Rings.{RingView, devices_of, drive_party, spare_of}
@@ -28,7 +28,7 @@ use Rattle.il_record.proofs.Places.{kept_stays, may_poll_kept}
 use Rattle.il_record.proofs.ReadRuns.{leaves_then, leaves_same}
 use Rattle.il_record.proofs.HeardLogs.{heard_then}
 use Rattle.il_record.proofs.StoreCalls.{came_then, came_then_units}
-use Rattle.il_record.proofs.StoreStarts.{IsStart, begun, fresh, unfailed_idle, unfailed_lost, resumed_ok, resumed_not, resumed_sound}
+use Rattle.il_record.proofs.StoreStarts.{IsStart, begun, fresh, unfailed_idle, unfailed_lost, resumed_ok, resumed_not}
 
 -- an answer that is handed on
 pub on_error : {T E : Type 0} (result : Result T E) (x : E) (P : Result T E → Type 0) → IsErr result × IsErrAnd result (λ e. e ≡ x) → P (Err x) → P result
@@ -207,19 +207,7 @@ module _ {M S : Type 0} (view : M → MediumView) (seen : S → RingView M) (p q
 
 -- ---- for a store by its parts
 
-sound_by : {M S T : Type 0} (view : M → MediumView) (seen : S → RingView M) (p q : Option S) (log : Since) (resumes more : ℕ) (c : Standing M) (x : T) → more ≡ min (resumes + 1) most_resumes → (view_at view seen p true log resumes c).valid
-    → Resumed (view_at view seen p true log resumes c) (view_at view seen q true log more c) (Ok x)
-sound_by view seen p q log resumes more (AtIdle r) x counted valid = resumed_sound view seen p q log resumes more r x valid.0 (valid.1 refl) valid.2 valid.3 counted
-sound_by view seen p q log resumes more (AtLost r) x counted valid = let clash = valid.1 in cc
-sound_by view seen p q log resumes more Nowhere x counted valid = absurd valid
-
 module _ {M S : Type 0} (T : Type 0) (view : M → MediumView) (seen : S → RingView M) (p q : Option S) (more : ℕ) (before : LoopView M) (counted : more ≡ min (before.resumes + 1) most_resumes) (valid : (view_of view seen p before).valid) where
-  -- a sound store
-  pub resumes_sound : (x : T) → before.sound ≡ true → Resumed (view_of view seen p before) (view_at view seen q before.sound before.since more before.control) (Ok x)
-  resumes_sound x sound =
-      subst (λ (b : Bool). (view_at view seen p b before.since before.resumes before.control).valid → Resumed (view_at view seen p b before.since before.resumes before.control) (view_at view seen q b before.since more before.control) (Ok x)) (sym sound)
-      (sound_by view seen p q before.since before.resumes more before.control x counted) valid
-
   unsound : before.sound ≡ false → (view_at view seen p false before.since before.resumes before.control).valid
   unsound is = subst (λ (b : Bool). (view_at view seen p b before.since before.resumes before.control).valid) is valid
 

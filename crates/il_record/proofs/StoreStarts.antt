@@ -6,10 +6,10 @@ use Rattle.il_ports.specs.declared.records.Trouble.TheVariants as trouble
 use Rattle.il_ports.specs.Media.{MediumView}
 use Rattle.il_ports.specs.Stores.{RecordsView, Begun, Resumed}
 use Rattle.il_drive.specs.Steps.{IsStill}
-use Rattle.il_drive.proofs.Exchanges.{IsFree}
+use Rattle.il_drive.specs.Resting.{IsFree}
 use Rattle.il_ring.specs.Rings.{RingView, devices_of, drive_party, spare_of}
 use Rattle.il_ring.specs.Lists.{Each}
-use Rattle.il_control.specs.Calls.{AllStay, IsFree as IsFreeRing, IsIdle, IsLost, loop_of}
+use Rattle.il_control.specs.Calls.{AllStay, IsFree as IsFreeRing, IsLost, loop_of}
 use Rattle.il_record.specs.Polls.{MayPoll}
 use Rattle.il_control.specs.Calls as calls
 use Rattle.il_record.proofs.Addressed.{readied, not_readied}
@@ -88,26 +88,6 @@ module _ {M S : Type 0} (view : M → MediumView) (seen : S → RingView M) (p q
         (λ at stood. subst (λ log. Stood view log at s) (sym (broke (unfailed none))) (stood_frame view since.Unbroken at r s (subst (λ log. Stood view log at r) (unfailed none) stood) refl units.came unheard)) so;
     resumed = λ k so. resumed_more k so;
   }
-
--- a sound store does nothing
-pub resumed_sound : {M S T : Type 0} (view : M → MediumView) (seen : S → RingView M) (p q : Option S) (log : Since) (resumes more : ℕ) (r : RingView M) (x : T) → IsIdle r → IsFree (drive_party r) r.drive.state → is_broken log ≡ false → Each MayPoll 1 (devices_of r) → more ≡ min (resumes + 1) most_resumes
-    → Resumed (view_at view seen p true log resumes (AtIdle r)) (view_at view seen q true log more (AtIdle r)) (Ok x)
-resumed_sound view seen p q log resumes more r x idle free alive may counted = record {
-  goes_on = record {
-    valid = (idle, (λ sound. free), alive, may);
-    told = refl;
-    size = refl;
-    sound = refl;
-    left = omega arith;
-    room = refl;
-    failed = λ none. none;
-    cause = (refl, refl);
-  };
-  quiet = record { tape = refl; moment = refl; since = record { nothing_else = λ m t left. left; keeps = λ m t left. left } };
-  transferred = λ list so. so;
-  stood = λ none start so. so;
-  resumed = λ k is. omega (arith, is, counted);
-}
 
 -- ---- the log is emptied
 

@@ -9,8 +9,8 @@ use Rattle.il_frames.specs.declared.entry.Outcome.TheVariants as outcome
 use Rattle.il_device.specs.Takes.{eto}
 use Rattle.il_ports.specs.Media.{MediumView}
 use Rattle.loop_model.specs.Entries.{entry, unt, nrd}
-use Rattle.loop_model.specs.Exchanges.{Answer, NotTaken, ToItsEnd, Stopped, Echo, Exchange, Command, Send, Receive, Start, answer_entries, commanded, cut_at, echoed, entries_of, returned, start_frame}
-use Rattle.loop_model.proofs.UnitLaws.{bytes_of, entries_of-receive, length-send, length-cut, receive_front}
+use Rattle.loop_model.specs.Exchanges.{Answer, NotTaken, ToItsEnd, Stopped, Echo, Exchange, Command, Send, Receive, Start, answer_entries, commanded, cut_at, echoed, entries_of, returned, start_frame, bytes_of, receive_front}
+use Rattle.loop_model.proofs.UnitLaws.{entries_of-receive, length-send, length-cut}
 use Rattle.il_ring.specs.Adds.{Adds}
 use Rattle.il_ring.specs.Rings.{RingView, devices_of, spare_of}
 use Rattle.il_control.specs.Calls.{Made, BrokenOff, Resumed, NotResumed, addressing}

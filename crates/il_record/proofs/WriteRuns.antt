@@ -19,16 +19,15 @@ use Rattle.lif_model.proofs.Transfers.{PartlyReplaced-nothing}
 use Rattle.il_drive.specs.State.{DriveView}
 use Rattle.il_drive.specs.Steps.{IsStill}
 use Rattle.il_drive.specs.Runs as runs
-use Rattle.il_drive.proofs.Exchanges.{IsFree}
+use Rattle.il_drive.specs.Resting.{IsFree, HasKept}
 use Rattle.il_drive.proofs.ExchangesBroken.{AsSent, breaks_off}
 use Rattle.il_drive.proofs.ExchangesStill.{leaves_records, puts-taken, puts-write}
-use Rattle.il_drive.proofs.ExchangesWriting.{HasKept, HasSentOut, WroteAll, WrotePart, left_partly, writes_run}
+use Rattle.il_drive.proofs.ExchangesWriting.{HasSentOut, WroteAll, WrotePart, left_partly, writes_run}
 use Rattle.loop_model.specs.Effect.{UnitsEffect, is_good}
-use Rattle.loop_model.specs.Exchanges.{Echo, Exchange, Send, Receive, Sst, Stopped, Piece, Whole as WholeOne, Cut, Break, entries_of, cut_at, is_echo}
+use Rattle.loop_model.specs.Exchanges.{Echo, Exchange, Send, Receive, Sst, Stopped, Piece, Whole as WholeOne, Cut, Break, entries_of, cut_at, is_echo, bytes_of}
 use Rattle.loop_model.specs.Units.{RecordUnit, units_of, ends_within, sent_bytes}
 use Rattle.loop_model.proofs.EffectLaws.{ends_within-broken}
 use Rattle.loop_model.proofs.RecordLaws.{one_unit, units_of-write, units_of-write_untold, units_of-write_cut, units_of-write_unbegun, sought-write}
-use Rattle.loop_model.proofs.UnitLaws.{bytes_of}
 use Rattle.il_ring.specs.Rings.{RingView, devices_of, drive_party}
 use Rattle.il_control.specs.Brought.{AllCome}
 use Rattle.il_control.specs.Calls.{IsIdle, loop_of}

@@ -3,8 +3,7 @@ use Rattle.std.specs.Prelude.{◌≡◌, ℕ, zero, suc, Bool, true, false, List
 use Rattle.il_frames.specs.Frames.{byte_of}
 use Rattle.il_frames.specs.declared.frame.Frame.{Frame}
 use Rattle.il_ports.specs.Media.{MediumView}
-use Rattle.loop_model.specs.Exchanges.{Answer, NotTaken, ToItsEnd, Stopped, Exchange, Command, Address, Send, Receive, Identify, Start, Piece, Whole, Cut}
-use Rattle.loop_model.proofs.UnitLaws.{bytes_of}
+use Rattle.loop_model.specs.Exchanges.{Answer, NotTaken, ToItsEnd, Stopped, Exchange, Command, Address, Send, Receive, Identify, Start, Piece, Whole, Cut, bytes_of}
 use Rattle.il_ring.specs.Rings.{RingView}
 use Rattle.il_record.specs.Came.{CameUnits}
 

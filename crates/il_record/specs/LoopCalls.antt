@@ -7,7 +7,7 @@ use Rattle.loop_model.specs.Exchanges.{Sai}
 use Rattle.il_ring.specs.Rings.{RingView, devices_of, spare_of}
 use Rattle.il_control.specs.Calls.{AllStay}
 use Rattle.il_control.specs.Receives.{accessory_at}
-use Rattle.il_control.proofs.Assigning.{EachTo}
+use Rattle.il_control.specs.Places.{EachTo}
 use Rattle.il_record.specs.Asks.{Ask, AskTell, AskHear, CameAsked, Told, up_to}
 use Rattle.il_record.specs.Came.{NoneHeard, OnlyHeard, heard_on}
 use Rattle.il_record.specs.Listening.{Hears, HearsPart}

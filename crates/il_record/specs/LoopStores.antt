@@ -1,17 +1,16 @@
 -- What contracts see of a store of records over the loop.
 use Rattle.std.specs.Prelude.{◌≡◌, ◌⊎◌, ◌≤◌, ◌+◌, ◌-◌, ◌/◌, ℕ, Bool, true, false, min, List, [], length, map, Option, Some, None, Result, Ok, Err}
-use Rattle.std.specs.List.{list_all}
 use Rattle.lif_model.specs.Transfers.{Transfer}
 use Rattle.il_frames.specs.declared.entry.Entry.{Entry}
 use Rattle.il_ports.specs.Media.{MediumView}
 use Rattle.il_ports.specs.Stores.{RecordsView}
 use Rattle.il_drive.specs.State.{status_of}
-use Rattle.il_drive.proofs.Exchanges.{IsFree}
-use Rattle.loop_model.specs.Effect.{is_good, transfer_of}
+use Rattle.il_drive.specs.Resting.{IsFree}
+use Rattle.loop_model.specs.Effect.{transfer_of, all_good}
 use Rattle.loop_model.specs.Exchanges.{Reading}
 use Rattle.loop_model.specs.Loops.{Loop}
 use Rattle.loop_model.specs.Reach.{met}
-use Rattle.loop_model.specs.Units.{RecordUnit, units_of, ends_within}
+use Rattle.loop_model.specs.Units.{units_of, ends_within}
 use Rattle.il_ring.specs.Plans.{hops_of}
 use Rattle.il_ring.specs.Lists.{Each}
 use Rattle.il_ring.specs.Rings.{RingView, devices_of, drive_party, spare_of}
@@ -60,10 +59,6 @@ StandsSo (AtLost r) sound log = IsLost r × (sound ≡ false) × Each MayPoll 1 
 StandsSo Nowhere sound log = ⊥
 
 -- ---- what became of the ring
-
--- the status of each unit is 0
-abbrev pub all_good : List RecordUnit → Bool
-all_good us = list_all (λ u. is_good u.status) us
 
 -- whole exchanges, of which each unit has status 0, and the medium did not fail
 pub record CameGood {M : Type 0} (view : M → MediumView) (r s : RingView M) : Type 0 where

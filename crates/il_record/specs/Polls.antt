@@ -13,7 +13,7 @@ use Rattle.il_ring.specs.Lists.{First}
 use Rattle.il_ring.specs.Polls.{identified_along, KeepsPlace}
 use Rattle.il_ring.specs.Rings.{RingView, devices_of, spare_of}
 use Rattle.il_control.specs.Calls.{idy}
-use Rattle.il_control.proofs.Assigning.{EachTo, GivenPlace, ppe}
+use Rattle.il_control.specs.Places.{EachTo, GivenPlace, ppe}
 use Rattle.il_record.specs.Asks.{Ask, AskCommand, AskIdentify, CameAsked, up_to}
 use Rattle.il_record.specs.Came.{NoneHeard}
 use Rattle.il_record.specs.LoopCalls.{LeavesDrive}

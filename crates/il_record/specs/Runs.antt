@@ -9,10 +9,7 @@ use Rattle.il_poll.specs.Service.{status_byte_of}
 use Rattle.il_ports.specs.Media.{MediumView}
 use Rattle.il_drive.specs.State.{DriveView, status_of}
 use Rattle.il_drive.specs.Steps.{IsStill}
-use Rattle.il_drive.proofs.Exchanges.{IsAtRest}
-use Rattle.il_drive.proofs.ExchangesAddressed.{sdc}
-use Rattle.il_drive.proofs.ExchangesWriting.{HasKept}
-use Rattle.il_drive.proofs.Reading.{IsRead}
+use Rattle.il_drive.specs.Resting.{IsAtRest, sdc, HasKept, IsRead}
 use Rattle.loop_model.specs.Entries.{aau, ifc, lad, unl}
 use Rattle.loop_model.specs.Exchanges.{Answer, Echo, Stopped, Receive, Sst}
 use Rattle.loop_model.specs.Units.{RecordUnit}

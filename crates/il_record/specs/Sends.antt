@@ -1,14 +1,12 @@
 -- Sends of many bytes.
 use Rattle.std.specs.Prelude.{◌≡◌, ◌≤◌, ◌<◌, ℕ, List, ◌++◌, length, take, replicate, Option}
 use Rattle.il_ports.specs.Media.{MediumView}
-use Rattle.loop_model.specs.Exchanges.{Echo, Send}
-use Rattle.loop_model.proofs.UnitLaws.{bytes_of}
-use Rattle.il_drive.proofs.Exchanges.{IsFree}
-use Rattle.il_drive.proofs.ExchangesAddressed.{HasSought}
+use Rattle.loop_model.specs.Exchanges.{Echo, Send, bytes_of}
+use Rattle.il_drive.specs.Resting.{IsFree, HasSought}
 use Rattle.il_ring.specs.Rings.{RingView, devices_of, drive_party}
 use Rattle.il_ring.specs.Lists.{Each}
 use Rattle.il_control.specs.Calls.{Made, BrokenOff, IsTold}
-use Rattle.il_control.proofs.Assigning.{EachTo}
+use Rattle.il_control.specs.Places.{EachTo}
 use Rattle.il_record.specs.Came.{OnlyHeard, heard_on}
 use Rattle.il_record.specs.Listening.{Hears, HearsPart}
 

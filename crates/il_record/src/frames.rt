@@ -1,6 +1,6 @@
 // The command frames of a parallel poll (HP-IL Interface Specification, HP 82166-90017, the table of command messages).
 ghost use Rattle.std.specs.Prelude.{◌≡◌, ◌<◌, true};
-ghost use Rattle.il_control.proofs.Assigning as assigning;
+ghost use Rattle.il_control.specs.Places.{ppe};
 ghost use Rattle.il_control.specs.Calls.{is_command};
 ghost use Rattle.il_record.specs.Polls as polls;
 
@@ -9,7 +9,7 @@ use il_frames::{Class, Frame};
 /// Parallel poll enable `number`, 0 to 15.
 pub(crate) fn poll_enable(number: u8) -> Frame
     requires { number < 16 }
-    ensures frame { result ≡ assigning.ppe number }
+    ensures frame { result ≡ ppe number }
     ensures command { is_command result ≡ true }
 {
     Frame::new(Class::Cmd, 0x80 + number)

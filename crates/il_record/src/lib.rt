@@ -2,8 +2,6 @@
 //! seek, one transmission and a poll of the drive's status.
 #![tactic(auto)]
 
-#[cfg(test)]
-mod call_tests;
 mod calls;
 mod exchanges;
 mod frames;
@@ -11,9 +9,5 @@ mod loop_calls;
 mod poll;
 mod records;
 mod runs;
-#[cfg(test)]
-mod store_tests;
-#[cfg(test)]
-mod test_tools;
 
 pub use records::{LoopRecords, Looped};

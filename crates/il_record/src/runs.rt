@@ -1,13 +1,12 @@
 // Runs of records over the loop: a seek, a transfer and a status poll, directly after each other.
 ghost use Rattle.std.specs.Prelude.{◌≡◌, ◌≤◌, ◌<◌, ◌+◌, ◌*◌, ◌/◌, true, false, [], length, IfOk, IfErr};
-ghost use Rattle.il_drive.proofs.Exchanges.{IsFree};
+ghost use Rattle.il_drive.specs.Resting.{IsFree, sdc};
 ghost use Rattle.lif_model.specs.Shelf.{cut};
 ghost use Rattle.il_ports.specs.Stores.{AreRecords};
 ghost use Rattle.il_ring.specs.Rings.{spare_of, drive_party};
 ghost use Rattle.il_control.specs.Calls.{IsIdle, is_command};
 ghost use Rattle.loop_model.specs.Entries.{unl, lad};
 ghost use Rattle.il_drive.specs.State.{IsDrive};
-ghost use Rattle.il_drive.proofs.ExchangesAddressed.{sdc};
 ghost use Rattle.il_record.specs.Came.{CameUnits};
 ghost use Rattle.il_record.specs.Polls.{PlacesKept};
 ghost use Rattle.il_record.specs.Runs.{Cleared, Interrupted, clear_asks, Polled, NotPolled, ReadAs, ReadBroke, WroteAs, WriteBroke};

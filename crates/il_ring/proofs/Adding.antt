@@ -1,8 +1,7 @@
 -- Rounds one behind the other.
 use Rattle.std.proofs.Common.{◌≡◌, ◌+◌, ◌++◌, ℕ, List, [], ◌∷◌, Option, None, length, refl, sym, ap, subst, ◌∙◌, arith, append_assoc, append-nil}
 use Rattle.il_frames.specs.declared.entry.Entry.{Entry}
-use Rattle.il_device.specs.State.{DeviceState}
-use Rattle.il_device.proofs.Laws.{risen_by}
+use Rattle.il_device.specs.State.{DeviceState, risen_by}
 use Rattle.il_ports.specs.Media.{MediumView}
 use Rattle.il_drive.proofs.Beginning.{joins}
 use Rattle.loop_model.specs.Reach.{held_links, links_so_far}

@@ -2,8 +2,7 @@
 use Rattle.std.proofs.Common.{◌≡◌, ◌≢◌, ◌≤◌, ◌+◌, ◌⊎◌, inl, inr, ⊎_elim, ℕ, suc, true, List, [], Option, Some, None, length, sym, ap, subst, ◌∙◌, arith}
 use Rattle.il_frames.specs.declared.entry.Entry.{Entry}
 use Rattle.il_frames.specs.Frames.{is_data, with_service}
-use Rattle.il_device.specs.State.{DeviceState}
-use Rattle.il_device.proofs.Laws.{risen_by}
+use Rattle.il_device.specs.State.{DeviceState, risen_by}
 use Rattle.il_ports.specs.Media.{MediumView}
 use Rattle.il_ring.specs.declared.plan.Arrival.{Arrival}
 use Rattle.il_ring.specs.declared.flight.Flight.{Flight}

@@ -1,27 +1,26 @@
 -- A data or end frame that goes past silent devices comes home to the host.
-use Rattle.std.proofs.Common.{◌≡◌, ◌≢◌, ◌≤◌, ◌<◌, ◌+◌, ◌++◌, ◌⊎◌, ◌&&◌, ◌==◌, inl, inr, ℕ, suc, Bool, true, false, not, List, [], ◌∷◌, Option, Some, None, length, refl, sym, ap, ap₂, subst, ◌∙◌, arith}
-use Rattle.std.specs.Prelude.{if◌then◌else◌}
-use Rattle.std.proofs.lemmas.Bool.{and_parts, not-true}
+use Rattle.std.proofs.Common.{◌≡◌, ◌≢◌, ◌≤◌, ◌<◌, ◌+◌, ◌++◌, ◌⊎◌, ◌==◌, inl, inr, ℕ, suc, true, false, List, [], ◌∷◌, Option, Some, None, length, refl, ap, ◌∙◌, arith, ◌&&◌, Bool, not, sym, ap₂, subst}
 use Rattle.il_frames.specs.declared.frame.Frame.{Frame}
-use Rattle.il_frames.specs.declared.entry.Outcome.TheVariants as outcome
 use Rattle.il_frames.specs.Frames.{byte_of, is_data, with_service}
-use Rattle.il_device.specs.State.{DeviceState, risen}
-use Rattle.il_device.proofs.Laws.{risen_by}
+use Rattle.il_device.specs.State.{DeviceState, risen, risen_by}
 use Rattle.il_ring.specs.declared.plan.Arrival.{Arrival}
 use Rattle.il_ring.specs.declared.plan.Arrival.TheVariants as arrival
-use Rattle.il_ring.specs.declared.plan.PlanFault.{PlanFault}
-use Rattle.il_ring.specs.declared.plan.PlanFault.TheVariants.{Lose, Alter}
 use Rattle.il_ring.specs.declared.flight.Flight.{Flight}
 use Rattle.il_ring.specs.Plans.{IsPlan, next_fault}
-use Rattle.il_ring.specs.Flights.{altered_by, hit, lost_at}
+use Rattle.il_ring.specs.Flights.{hit, lost_at, altered_by}
 use Rattle.il_ring.specs.Books.{BooksView}
 use Rattle.il_ring.specs.Journeys.{Trip, trip}
 use Rattle.il_ring.specs.Rings.{home, comes, over_last_link, books_at, arrived, arriving}
 use Rattle.il_ring.specs.Outcomes.{HearsByte}
 use Rattle.il_ring.proofs.Faults.{IsClear, clear_last, risen_by_last}
 use Rattle.il_ring.specs.Lists.{First}
-use Rattle.il_ring.proofs.DataPasses.{CameAltered, DataGoes, first_any, xor_other, next_alters}
+use Rattle.il_ring.proofs.DataPasses.{DataGoes, CameAltered, first_any, xor_other, next_alters}
 use Rattle.il_ring.specs.Outcomes.{HearsAny}
+use Rattle.std.specs.Prelude.{if◌then◌else◌}
+use Rattle.std.proofs.lemmas.Bool.{and_parts, not-true}
+use Rattle.il_frames.specs.declared.entry.Outcome.TheVariants as outcome
+use Rattle.il_ring.specs.declared.plan.PlanFault.{PlanFault}
+use Rattle.il_ring.specs.declared.plan.PlanFault.TheVariants.{Lose, Alter}
 
 -- how a trip ends at the host: the books, and what arrives
 abbrev pub EndsAt : BooksView → Trip → BooksView → Arrival → Type 0

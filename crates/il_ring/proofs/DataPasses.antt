@@ -13,9 +13,9 @@ use Rattle.il_frames.specs.Frames.{byte_of, class_of, framed, is_data, same_clas
 use Rattle.il_device.specs.declared.device.Out.{Out}
 use Rattle.il_device.specs.declared.device.Out.TheVariants.{Pass}
 use Rattle.il_device.specs.Passing.{served}
-use Rattle.il_device.specs.State.{DeviceState, risen}
+use Rattle.il_device.specs.State.{DeviceState, risen, risen_by}
 use Rattle.il_device.specs.Takes.{Takes}
-use Rattle.il_device.proofs.Laws.{risen_by, Takes-data, assignment_after-data}
+use Rattle.il_device.proofs.Laws.{Takes-data, assignment_after-data}
 use Rattle.il_ring.specs.declared.plan.Planned.{Planned}
 use Rattle.il_ring.specs.declared.plan.PlanFault.{PlanFault}
 use Rattle.il_ring.specs.declared.plan.PlanFault.TheVariants.{Lose, Alter}

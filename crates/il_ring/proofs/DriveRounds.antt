@@ -4,8 +4,7 @@ use Rattle.il_frames.specs.declared.frame.Frame.{Frame}
 use Rattle.il_frames.specs.declared.entry.Entry.{Entry}
 use Rattle.il_frames.specs.declared.entry.Outcome.TheVariants as outcome
 use Rattle.il_frames.specs.Frames.{is_data}
-use Rattle.il_device.specs.State.{DeviceState}
-use Rattle.il_device.proofs.Laws.{risen_by}
+use Rattle.il_device.specs.State.{DeviceState, risen_by}
 use Rattle.il_ports.specs.Media.{MediumView}
 use Rattle.loop_model.specs.Entries.{entry}
 use Rattle.loop_model.specs.Reach.{met}

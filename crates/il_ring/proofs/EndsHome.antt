@@ -6,8 +6,8 @@ use Rattle.il_frames.specs.declared.frame.Frame.{Frame}
 use Rattle.il_frames.specs.declared.entry.Outcome.TheVariants as outcome
 use Rattle.il_frames.specs.Frames.{is_data}
 use Rattle.il_frames.specs.Messages.{message_of}
-use Rattle.il_device.specs.State.{DeviceState, risen}
-use Rattle.il_device.proofs.Laws.{risen_by, is_plain}
+use Rattle.il_device.specs.State.{DeviceState, risen, risen_by}
+use Rattle.il_device.specs.Passing.{is_plain}
 use Rattle.il_ring.specs.declared.plan.Arrival.{Arrival}
 use Rattle.il_ring.specs.declared.plan.Arrival.TheVariants as arrival
 use Rattle.il_ring.specs.declared.plan.PlanFault.{PlanFault}

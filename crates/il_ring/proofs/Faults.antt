@@ -4,8 +4,7 @@ use Rattle.std.specs.Prelude.{if◌then◌else◌}
 use Rattle.std.proofs.lemmas.Bool.{lt-ltb}
 use Rattle.std.proofs.lemmas.Bool.Decides.{nat_tests}
 use Rattle.std.proofs.Math.Nat.{eq-or-lt_of_le}
-use Rattle.il_device.specs.State.{risen}
-use Rattle.il_device.proofs.Laws.{risen_by}
+use Rattle.il_device.specs.State.{risen, risen_by}
 use Rattle.loop_model.specs.Reach.{met}
 use Rattle.loop_model.proofs.ReachLaws.{met-split}
 use Rattle.il_ring.specs.declared.plan.Planned.{Planned}

@@ -15,7 +15,8 @@ use Rattle.il_device.specs.Roles.{own_after, assignment_after}
 use Rattle.il_device.specs.State.{DeviceState}
 use Rattle.il_device.specs.Takes.{turn_of, may_change_service}
 use Rattle.il_ring.specs.Polls.{identified_along}
-use Rattle.il_ring.proofs.Passing.{is_identify, is_identify_class, identify_class}
+use Rattle.il_ring.specs.Journeys.{is_identify, is_identify_class}
+use Rattle.il_ring.proofs.Passing.{identify_class}
 use Rattle.il_ring.proofs.Passes.{PassesOn}
 use Rattle.il_ring.specs.Lists.{Each}
 use Rattle.il_ring.proofs.PassKinds.{OnlyPassed, obeys, goes_as}

@@ -6,9 +6,8 @@ use Rattle.il_frames.specs.declared.entry.Entry.{Entry}
 use Rattle.il_frames.specs.Frames.{is_data}
 use Rattle.il_device.specs.declared.device.Out.{Out}
 use Rattle.il_device.specs.declared.device.Out.TheVariants.{Pass, Source}
-use Rattle.il_device.specs.State.{DeviceState, risen}
+use Rattle.il_device.specs.State.{DeviceState, risen, risen_by}
 use Rattle.il_device.specs.Takes.{Takes}
-use Rattle.il_device.proofs.Laws.{risen_by}
 use Rattle.il_ports.specs.Media.{MediumView}
 use Rattle.loop_model.specs.Reach.{met}
 use Rattle.il_ring.specs.declared.plan.Planned.{Planned}
@@ -75,11 +74,6 @@ pub end_later : {M : Type 0} (view : M → MediumView) (r s : RingView M) (held 
 end_later view r s held f answer round =
     let last = home_later (books_at (record r.books { held = held }) round.behind) round.behind.flight in
     (last.0, ap (λ (b : BooksView). b.crossings) round.books ∙ last.1)
-
--- from the trip before the drive, and from the one behind it
-pub drive_later : {M : Type 0} (view : M → MediumView) (r s : RingView M) (held : Option Flight) (f : Flight) (answer : Arrival) (round : Round view r held f answer s) → Later round.past_drive.crossings s.books.crossings
-drive_later view r s held f answer round =
-    later_then round.past_drive.crossings round.behind.crossings s.books.crossings (journey_later r.books.plan _ round.past_drive round.behind r.after s.after round.from_drive) (end_later view r s held f answer round)
 
 -- a planned hop that is met on the way to a count is met behind it too
 pub met_later : {M : Type 0} (r s : RingView M) (n hop m : ℕ) → r.books.crossings ≤ last_crossing → n ≡ risen_by m r.books.crossings → hop + 1 ≤ m → next_fault r.books.plan (risen_by hop r.books.crossings) ≢ None

@@ -11,11 +11,11 @@ use Rattle.il_frames.specs.Messages.{message_of, message_at}
 use Rattle.il_device.specs.declared.device.Out.{Out}
 use Rattle.il_device.specs.declared.device.Out.TheVariants.{Pass}
 use Rattle.il_device.specs.declared.interface.Turn.TheVariants as turn
-use Rattle.il_device.specs.Passing.{passed, passed_as, counted_on}
-use Rattle.il_device.specs.Roles.{own_after, assignment_after, takes_address}
+use Rattle.il_device.specs.Passing.{passed, passed_as, counted_on, is_plain}
+use Rattle.il_device.specs.Roles.{own_after, assignment_after, takes_address, is_start}
 use Rattle.il_device.specs.State.{DeviceState}
 use Rattle.il_device.specs.Takes.{Takes, Answers, turn_of, turn_at, turn_at_start, asked_for_id, may_change_service, heard_after, count_after}
-use Rattle.il_device.proofs.Laws.{is_plain, is_start, Takes-plain, own-silent, turn_at-plain, message_of-aad}
+use Rattle.il_device.proofs.Laws.{Takes-plain, own-silent, turn_at-plain, message_of-aad}
 use Rattle.loop_model.specs.Entries.{aad}
 use Rattle.il_ring.specs.Outcomes.{HearsNothing, Obeys}
 use Rattle.il_ring.proofs.Passes.{PassesOn}

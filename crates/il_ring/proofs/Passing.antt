@@ -24,6 +24,7 @@ use Rattle.il_device.proofs.Laws.{roles_after-data, message_of-counted_on}
 use Rattle.loop_model.specs.Roles.{roles_by, passed_on, next_address}
 use Rattle.loop_model.proofs.RoleSteps.{changes_roles}
 use Rattle.il_ring.proofs.Takings.{passed_frame, stays_data, echo_sends}
+use Rattle.il_ring.specs.Journeys.{is_exact, is_identify_class, is_identify}
 
 -- ---- a frame that a device passes on
 
@@ -39,24 +40,6 @@ pub passes_on : (d e : DeviceState) (f h : Frame) → Takes d f (Pass h) e → h
 passes_on d e f h takes = passes_as (turn_of d f) d e f h (Pass h) takes.answer refl
 
 -- ---- messages
-
--- a message whose frame goes on as it is, or as the next AAD
-abbrev pub is_exact : Message → Bool
-is_exact (msg.Dab b) = false
-is_exact (msg.Dsr b) = false
-is_exact (msg.End b) = false
-is_exact (msg.Esr b) = false
-is_exact (msg.Idy b) = false
-is_exact (msg.Isr b) = false
-is_exact m = true
-
-abbrev pub is_identify_class : Class → Bool
-is_identify_class class.Idy = true
-is_identify_class class.Isr = true
-is_identify_class _ = false
-
-abbrev pub is_identify : Frame → Bool
-is_identify f = is_identify_class (class_of f)
 
 -- The frame does what the message does to roles: it is that message, or neither changes any.
 pub data Carries (m : Message) (f : Frame) : Type 0 where

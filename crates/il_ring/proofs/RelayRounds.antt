@@ -13,9 +13,10 @@ use Rattle.il_device.specs.declared.interface.OwnFrame.{OwnFrame}
 use Rattle.il_device.specs.declared.interface.Turn.TheVariants as turn
 use Rattle.il_device.specs.declared.roles.Roles.{Roles}
 use Rattle.il_device.specs.Roles.{roles_after}
-use Rattle.il_device.specs.State.{DeviceState}
+use Rattle.il_device.specs.State.{DeviceState, risen_by}
 use Rattle.il_device.specs.Takes.{Takes, Answers, AnswersEcho, GoesOn, Ends, eto, ete, turn_of, turn_at_data}
-use Rattle.il_device.proofs.Laws.{risen_by, is_plain, roles_after-data, turn_of-data}
+use Rattle.il_device.specs.Passing.{is_plain}
+use Rattle.il_device.proofs.Laws.{roles_after-data, turn_of-data}
 use Rattle.il_ports.specs.Media.{MediumView}
 use Rattle.loop_model.specs.Entries.{entry}
 use Rattle.loop_model.specs.Reach.{met}

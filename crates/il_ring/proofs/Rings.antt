@@ -108,27 +108,6 @@ home-place b (Some f) =
     let over = over-place (record b { crossings = risen b.crossings }) f (hit (next_fault b.plan b.crossings) f) in
     record { plan = over.plan; room = over.room; grows = over.grows }
 
-answered-grows : (n k : ℕ) (f : Flight) (t u : Trip) (out : Out) → u ≡ answered n t.log k f out → length u.log ≤ length t.log + 1
-answered-grows n k f t u (Pass g) is = let log = ap (λ (t : Trip). length t.log) is in omega (arith, log)
-answered-grows n k f t u (Source g) is = let log = ap (λ (t : Trip). length t.log) is in let one = one_entry t.log (ended_at f k) in omega (arith, log, one)
-
-Meets-grows : (k : ℕ) (t u : Trip) (f : Flight) (o : Option Flight) (d e : DeviceState) → Meets Takes k t f o d u e → length u.log ≤ length t.log + 1
-Meets-grows k t u f None d e meets = let log = ap (λ (t : Trip). length t.log) meets.0 in let one = one_entry t.log (lost_at f k) in omega (arith, log, one)
-Meets-grows k t u f (Some g) d e meets = answered-grows (risen t.crossings) k g t u meets.0 meets.2
-
-Reaches-grows : (plan : List Planned) (k : ℕ) (t u : Trip) (o : Option Flight) (d e : DeviceState) → Reaches Takes plan k t o d u e → length u.log ≤ length t.log + 1
-Reaches-grows plan k t u None d e reaches = let log = ap (λ (t : Trip). length t.log) reaches.0 in omega (arith, log)
-Reaches-grows plan k t u (Some f) d e reaches = Meets-grows k t u f (hit (next_fault plan t.crossings) f) d e reaches
-
-pub Journey-grows : (plan : List Planned) (k : ℕ) (t u : Trip) (ds es : List DeviceState) → Journey plan k t ds u es → length u.log ≤ length t.log + length ds
-Journey-grows plan k t u [] [] journey = let log = ap (λ (t : Trip). length t.log) journey in omega (arith, log)
-Journey-grows plan k t u (d ∷ ds) (e ∷ es) journey =
-    let one = Reaches-grows plan k t journey.0 t.flight d e journey.1 in
-    let more = Journey-grows plan (k + 1) journey.0 u ds es journey.2 in
-    omega (arith, one, more)
-Journey-grows plan k t u [] (e ∷ es) journey = absurd journey
-Journey-grows plan k t u (d ∷ ds) [] journey = absurd journey
-
 module _ {M : Type 0} (view : M → MediumView) (r s : RingView M) (held : Option Flight) (f : Flight) (answer : Arrival) (round : Round view r held f answer s) where
   at_home : KeepsPlace (books_at (record r.books { held = held }) round.behind) s.books
   at_home = subst (KeepsPlace (books_at (record r.books { held = held }) round.behind)) (sym round.books) (home-place (books_at (record r.books { held = held }) round.behind) round.behind.flight)
@@ -138,11 +117,6 @@ module _ {M : Type 0} (view : M → MediumView) (r s : RingView M) (held : Optio
 
   pub round-room : s.books.room ≡ r.books.room
   round-room = at_home.room
-
-  pub round-grows : length s.books.log ≤ length r.books.log + length (devices_of r) + 1
-  round-grows =
-      let way = Journey-grows r.books.plan 1 (trip_of r.books (Some f)) round.behind (devices_of r) (devices_of s) (round_journey view r s held f answer round) in
-      omega (arith, way, at_home.grows)
 
 -- ---- what keeps it
 

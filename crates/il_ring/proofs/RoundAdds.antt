@@ -104,17 +104,6 @@ unfolding device_adds round_adds drive_ran
 device_came view P r s held f answer entries to quiet ready round log new (inl stays) = inl (refl, stays.1)
 device_came view P r s held f answer entries to quiet ready round log new (inr took) = inr (took.0, took.1, refl)
 
--- one that certainly came
-pub device_had : {M : Type 0} (view : M → MediumView) (P : Frame → Type 0) (r s : RingView M) (held : Option Flight) (f : Flight) (answer : Arrival) (entries : List Entry) (to : Option ℕ) (quiet : IsQuiet f) (ready : IsReady f (devices_of r)) (round : Round view r held f answer s)
-    (log : s.books.log ≡ r.books.log ++ entries) (new : holding (round_counts view r s held f answer ready round).new ≡ to) (had : DriveHad view P r s) → (g : Frame) × P g × ((device_adds view P r s held f answer entries to quiet ready round log new (inr had)).came ≡ g ∷ [])
-unfolding device_adds round_adds drive_ran
-device_had view P r s held f answer entries to quiet ready round log new had = (had.0, had.1, refl)
-
-pub host_had : {M : Type 0} (view : M → MediumView) (P : Frame → Type 0) (r s : RingView M) (held : Option Flight) (f : Frame) (answer : Arrival) (entries : List Entry) (to : Option ℕ) (carries : Carries (message_of f) f) (round : Round view r held (sourced 0 f) answer s)
-    (log : s.books.log ≡ r.books.log ++ entries) (new : holding (round_counts view r s held (sourced 0 f) answer (inl refl) round).new ≡ to) (had : DriveHad view P r s) → (g : Frame) × P g × ((host_adds view P r s held f answer entries to carries round log new (inr had)).came ≡ g ∷ [])
-unfolding host_adds round_adds drive_ran
-host_had view P r s held f answer entries to carries round log new had = (had.0, had.1, refl)
-
 -- one that it certainly answered
 abbrev pub answered_some : (Frame → Out → Type 0) → Frame → Type 0
 answered_some P g = (out : Out) × P g out

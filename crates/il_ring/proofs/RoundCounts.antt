@@ -7,9 +7,8 @@ use Rattle.std.proofs.lemmas.List.Sums.{sum_by-append}
 use Rattle.il_frames.specs.declared.entry.Entry.{Entry}
 use Rattle.il_frames.specs.declared.entry.Outcome.TheVariants as outcome
 use Rattle.il_frames.specs.Frames.{is_data}
-use Rattle.il_device.specs.State.{DeviceState, risen}
+use Rattle.il_device.specs.State.{DeviceState, risen, risen_by}
 use Rattle.il_device.specs.Takes.{Takes}
-use Rattle.il_device.proofs.Laws.{risen_by}
 use Rattle.il_ports.specs.Media.{MediumView}
 use Rattle.il_drive.specs.State.{DriveView, device_of}
 use Rattle.loop_model.specs.Reach.{distance, came_to, links_of, brings_to, held_links, held_passes, passes_so_far}

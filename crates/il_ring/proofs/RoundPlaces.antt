@@ -27,11 +27,11 @@ use Rattle.il_ring.specs.declared.plan.PlanFault.{PlanFault}
 use Rattle.il_ring.specs.declared.flight.Flight.{Flight}
 use Rattle.il_ring.specs.Plans.{next_fault}
 use Rattle.il_ring.specs.Flights.{sourced, hit}
-use Rattle.il_ring.specs.Journeys.{Trip, trip_of, answered, Meets, Reaches, Journey}
+use Rattle.il_ring.specs.Journeys.{Trip, trip_of, answered, Meets, Reaches, Journey, is_identify_class}
 use Rattle.il_ring.specs.Lists.{First}
 use Rattle.il_ring.specs.Polls.{is_poll, is_no_poll, KeepsPlace}
 use Rattle.il_ring.specs.Rings.{RingView, Round, devices_of}
-use Rattle.il_ring.proofs.Passing.{Carries, Exactly, AsData, AsIdentify, is_identify_class, carries_on}
+use Rattle.il_ring.proofs.Passing.{Carries, Exactly, AsData, AsIdentify, carries_on}
 use Rattle.il_ring.proofs.RoundCounts.{round_journey}
 use Rattle.il_ring.proofs.RoundRoles.{IsQuiet, hit_carries, sent_quiet}
 

@@ -28,12 +28,12 @@ use Rattle.il_ring.specs.declared.plan.PlanFault.TheVariants.{Lose, Alter}
 use Rattle.il_ring.specs.declared.flight.Flight.{Flight}
 use Rattle.il_ring.specs.Plans.{next_fault}
 use Rattle.il_ring.specs.Flights.{sourced, altered_by, hit, lost_at, ended_at}
-use Rattle.il_ring.specs.Journeys.{Trip, answered, Meets, Reaches, Journey}
+use Rattle.il_ring.specs.Journeys.{Trip, answered, Meets, Reaches, Journey, is_exact, is_identify_class}
 use Rattle.il_ring.specs.Rings.{roles_of}
 use Rattle.il_ring.specs.Polls.{is_poll}
 use Rattle.il_ring.specs.Outcomes.{is_other}
 use Rattle.il_ring.proofs.CountSteps.{hit_same}
-use Rattle.il_ring.proofs.Passing.{Carries, Exactly, AsData, AsIdentify, is_exact, is_identify_class, keeps_on, kept_by, carries_on, carried_roles}
+use Rattle.il_ring.proofs.Passing.{Carries, Exactly, AsData, AsIdentify, keeps_on, kept_by, carries_on, carried_roles}
 
 -- ---- what a link leaves of what a frame says
 

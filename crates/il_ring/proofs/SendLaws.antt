@@ -5,7 +5,8 @@ use Rattle.il_frames.specs.declared.frame.Frame.{Frame}
 use Rattle.il_frames.specs.Frames.{is_data}
 use Rattle.il_frames.specs.Messages.{message_of}
 use Rattle.il_device.specs.declared.interface.OwnFrame.{OwnFrame}
-use Rattle.il_device.proofs.Laws.{is_plain, is_start}
+use Rattle.il_device.specs.Roles.{is_start}
+use Rattle.il_device.specs.Passing.{is_plain}
 use Rattle.il_ports.specs.Media.{MediumView}
 use Rattle.loop_model.specs.Roles.{talkers, is_at_most_one}
 use Rattle.il_ring.specs.declared.plan.Arrival.{Arrival}

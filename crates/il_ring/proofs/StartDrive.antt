@@ -10,10 +10,9 @@ use Rattle.il_frames.specs.Messages.{message_of}
 use Rattle.il_device.specs.declared.device.Out.TheVariants.{Pass, Source}
 use Rattle.il_device.specs.declared.interface.OwnFrame.{OwnFrame}
 use Rattle.il_device.specs.declared.roles.Roles.{Roles}
-use Rattle.il_device.specs.Roles.{own_after}
-use Rattle.il_device.specs.State.{DeviceState}
+use Rattle.il_device.specs.Roles.{own_after, is_start}
+use Rattle.il_device.specs.State.{DeviceState, risen_by}
 use Rattle.il_device.specs.Takes.{Takes}
-use Rattle.il_device.proofs.Laws.{risen_by, is_start}
 use Rattle.il_drive.specs.State.{device_of}
 use Rattle.il_ports.specs.Media.{MediumView}
 use Rattle.loop_model.specs.Entries.{entry}

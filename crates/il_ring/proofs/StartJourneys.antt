@@ -5,9 +5,9 @@ use Rattle.il_frames.specs.declared.entry.Entry.{Entry}
 use Rattle.il_frames.specs.Messages.{message_of}
 use Rattle.il_device.specs.declared.device.Out.{Out}
 use Rattle.il_device.specs.declared.device.Out.TheVariants.{Source}
-use Rattle.il_device.specs.State.{DeviceState, risen}
+use Rattle.il_device.specs.State.{DeviceState, risen, risen_by}
 use Rattle.il_device.specs.Takes.{Takes}
-use Rattle.il_device.proofs.Laws.{risen_by, is_start}
+use Rattle.il_device.specs.Roles.{is_start}
 use Rattle.il_ring.specs.declared.plan.Planned.{Planned}
 use Rattle.il_ring.specs.declared.plan.PlanFault.{PlanFault}
 use Rattle.il_ring.specs.declared.flight.Flight.{Flight}

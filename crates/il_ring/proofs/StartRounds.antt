@@ -7,8 +7,8 @@ use Rattle.il_frames.specs.declared.entry.Entry.{Entry}
 use Rattle.il_frames.specs.declared.entry.Outcome.TheVariants as outcome
 use Rattle.il_frames.specs.Frames.{byte_of}
 use Rattle.il_frames.specs.Messages.{message_of}
-use Rattle.il_device.specs.State.{DeviceState}
-use Rattle.il_device.proofs.Laws.{risen_by, is_start}
+use Rattle.il_device.specs.State.{DeviceState, risen_by}
+use Rattle.il_device.specs.Roles.{is_start}
 use Rattle.il_ports.specs.Media.{MediumView}
 use Rattle.loop_model.specs.Entries.{entry}
 use Rattle.loop_model.specs.Reach.{met}

@@ -13,7 +13,8 @@ use Rattle.il_device.specs.declared.interface.Turn.{Turn}
 use Rattle.il_device.specs.declared.interface.Turn.TheVariants as turn
 use Rattle.il_device.specs.State.{DeviceState}
 use Rattle.il_device.specs.Takes.{Takes, Answers, Sends, turn_of, turn_at, turn_at_start, asked_for_id, identity}
-use Rattle.il_device.proofs.Laws.{is_start, roles_after-start}
+use Rattle.il_device.specs.Roles.{is_start}
+use Rattle.il_device.proofs.Laws.{roles_after-start}
 use Rattle.il_ring.specs.Outcomes.{LetsPass}
 use Rattle.il_ring.proofs.PassKinds.{obeys, begun_obeys, goes_as, start_as}
 

@@ -5,10 +5,6 @@ use Rattle.std.proofs.lemmas.Bool.Decides.{nat_tests}
 use Rattle.loop_model.specs.Reach.{distance, held_links, held_passes}
 use Rattle.il_ring.specs.Ways.{way, come_to}
 
--- the source lies behind the party that comes next, or is a device further on
-abbrev pub GoesTo : ℕ → ℕ → ℕ → Type 0
-GoesTo source j k = (source ≤ j) ⊎ ((j + 1 < source) × (source ≤ k))
-
 -- over a link to a party that is not the source
 pub way-next : (k source j : ℕ) → (source ≤ j) ⊎ ((j + 1 < source) × (source ≤ k)) → way k source (j + 1) ≡ way k source j + 1
 way-next k source j at = grind (arith, nat_tests)

@@ -4,7 +4,7 @@ use Rattle.std.specs.List.{list_all}
 use Rattle.il_frames.specs.declared.frame.Frame.{Frame}
 use Rattle.il_frames.specs.declared.entry.Entry.{Entry}
 use Rattle.il_device.specs.declared.device.Out.{Out}
-use Rattle.il_device.proofs.Laws.{risen_by}
+use Rattle.il_device.specs.State.{risen_by}
 use Rattle.il_ports.specs.Media.{MediumView}
 use Rattle.il_drive.specs.Runs.{Ran}
 use Rattle.loop_model.specs.Reach.{held_links, links_so_far}

@@ -1,6 +1,11 @@
 -- How a frame goes from party to party.
-use Rattle.std.specs.Prelude.{◌≡◌, ◌+◌, ℕ, Option, Some, None, List, [], ◌∷◌, ◌++◌}
+use Rattle.std.specs.Prelude.{◌≡◌, ◌+◌, ℕ, Bool, true, false, Option, Some, None, List, [], ◌∷◌, ◌++◌}
 use Rattle.il_frames.specs.declared.frame.Frame.{Frame}
+use Rattle.il_frames.specs.declared.frame.Class.{Class}
+use Rattle.il_frames.specs.declared.frame.Class.TheVariants as class
+use Rattle.il_frames.specs.declared.message.Message.{Message}
+use Rattle.il_frames.specs.declared.message.Message.TheVariants as msg
+use Rattle.il_frames.specs.Frames.{class_of}
 use Rattle.il_frames.specs.declared.entry.Entry.{Entry}
 use Rattle.il_device.specs.declared.device.Out.{Out}
 use Rattle.il_device.specs.declared.device.Out.TheVariants.{Pass, Source}
@@ -62,3 +67,21 @@ Journey plan k t (d ∷ ds) u [] = ⊥
 pub record DriveTakes {M : Type 0} (view : M → MediumView) (d : DriveView M) (f : Frame) (out : Out) (e : DriveView M) : Type 0 where
   pub takes : Takes (device_of d.state) f out (device_of e.state)
   pub did : Did view (drive_step (view d.medium).record_count d.state f) (e.state, out) d.medium e.medium
+
+-- a message whose frame goes on as it is, or as the next AAD
+abbrev pub is_exact : Message → Bool
+is_exact (msg.Dab b) = false
+is_exact (msg.Dsr b) = false
+is_exact (msg.End b) = false
+is_exact (msg.Esr b) = false
+is_exact (msg.Idy b) = false
+is_exact (msg.Isr b) = false
+is_exact m = true
+
+abbrev pub is_identify_class : Class → Bool
+is_identify_class class.Idy = true
+is_identify_class class.Isr = true
+is_identify_class _ = false
+
+abbrev pub is_identify : Frame → Bool
+is_identify f = is_identify_class (class_of f)

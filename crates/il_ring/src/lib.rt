@@ -21,8 +21,3 @@ pub use flight::Flight;
 pub use plan::{Arrival, PlanFault, Planned, is_plan};
 pub use rig::{Refused, Rig};
 pub use ring::{Ring, Seen};
-
-#[cfg(test)]
-mod second_drive;
-#[cfg(test)]
-mod tests;

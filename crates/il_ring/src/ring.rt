@@ -2,7 +2,8 @@ ghost use Rattle.std.specs.Prelude.{◌≡◌, ◌⊎◌, ◌+◌, ◌<◌, ◌�
 ghost use Rattle.il_frames.specs.Frames.{is_data};
 ghost use Rattle.il_frames.specs.Messages.{message_of};
 ghost use Rattle.il_device.specs.declared.interface.OwnFrame.{OwnFrame};
-ghost use Rattle.il_device.proofs.Laws.{is_plain, is_start};
+ghost use Rattle.il_device.specs.Roles.{is_start};
+ghost use Rattle.il_device.specs.Passing.{is_plain};
 ghost use Rattle.loop_model.specs.Entries.{nrd};
 ghost use Rattle.loop_model.specs.Roles.{talkers, is_at_most_one};
 ghost use Rattle.il_drive.specs.State.{fresh_drive, IsDrive};

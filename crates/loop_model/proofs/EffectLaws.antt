@@ -1,14 +1,13 @@
 -- Laws of what logs do to a tape and of what they carry.
-use Rattle.std.proofs.Common.{map, ◌≡◌, ◌↔◌, ℕ, ◌++◌, ◌+◌, ◌&&◌, ◌||◌, ◌==◌, ◌∙◌, Bool, true, false, not, nat_eq, List, [], ◌∷◌, length, drop, Option, Some, None, option_and_then, option_to_list, is_some, refl, sym, ap, subst, append_assoc}
-use Rattle.std.specs.List.{list_all, list_any, starts_with}
-use Rattle.std.proofs.lemmas.Bool.{and_parts, not-true, or_parts}
-use Rattle.std.proofs.lemmas.Bool.Decides.{when_false}
+use Rattle.std.proofs.Common.{map, ◌≡◌, ◌↔◌, ℕ, ◌++◌, ◌+◌, ◌&&◌, ◌||◌, ◌==◌, Bool, true, false, not, nat_eq, List, [], ◌∷◌, length, drop, Option, Some, None, option_and_then, option_to_list, is_some, refl, sym, ap, subst, append_assoc}
+use Rattle.std.specs.List.{list_any, starts_with}
+use Rattle.std.proofs.lemmas.Bool.{and_parts, or_parts}
 use Rattle.il_frames.specs.declared.entry.Entry.{Entry}
 use Rattle.lif_model.specs.Tape.{Tape}
 use Rattle.loop_model.specs.Loops.{Loop}
-use Rattle.loop_model.specs.Exchanges.{Exchange, entries_of, Piece, Whole, Cut, are_whole, breaks_off, IsWhole, IsBroken}
+use Rattle.loop_model.specs.Exchanges.{Exchange, entries_of, Piece, Whole, Cut, breaks_off}
 use Rattle.loop_model.specs.Units.{RecordUnit, sent_bytes, is_transfer, told_status, unit_of, unit_after_seek, unit_at, units_of, sought, is_open, ends_within}
-use Rattle.loop_model.specs.Effect.{UnitsEffect, Effect, is_good, is_out, is_in, transfer_of, ends_as, IsLogOf}
+use Rattle.loop_model.specs.Effect.{UnitsEffect, Effect, is_good, is_out, is_in, transfer_of, all_good}
 use Rattle.lif_model.specs.Transfers.{Transfer, records_of, is_overwritten_by, carries, are_carried_out, are_carried_in}
 use Rattle.loop_model.proofs.ExchangeLaws.{Reading-append}
 
@@ -74,16 +73,6 @@ Effect-append {l} {old} {between} {new} a outside b = record {
       ((UnitsEffect-append (units_of l a.reading.pieces) (units_of l b.reading.pieces) old new).1 (between, a.effect, b.effect));
 }
 
-no_writes : (ws : List RecordUnit) (old new : Tape) → list_all (λ w. not w.writes) ws ≡ true → UnitsEffect ws old new → new ≡ old
-no_writes [] old new reads e = e
-no_writes (w ∷ ws) old new reads e =
-    let parts = and_parts (not w.writes) (list_all (λ w. not w.writes) ws) reads in
-    no_writes ws e.0 new parts.1 e.2 ∙ when_false _ _ (not-true w.writes parts.0) e.1
-
--- a log without write units leaves the tape
-pub Effect-no_writes : {l : Loop} {old new : Tape} {log : List Entry} → (e : Effect l old log new) → list_all (λ w. not w.writes) (units_of l e.reading.pieces) ≡ true → new ≡ old
-Effect-no_writes {l} {old} {new} e reads = no_writes (units_of l e.reading.pieces) old new reads e.effect
-
 -- ---- the log of a command
 
 shut_behind : (l : Loop) (ps qs : List Piece) → is_open l ps ≡ false → is_open l (ps ++ qs) ≡ false
@@ -109,43 +98,7 @@ ends_within-append l (p ∷ ps) qs a b =
     both_false (is_some (sought l p) && is_open l (ps ++ qs)) (ends_within l (ps ++ qs))
     (sought_shut (is_some (sought l p)) l ps qs parts.0) (ends_within-append l ps qs parts.1 b)
 
-ends_as-append : (whole : Bool) (ps qs : List Piece) → are_whole ps ≡ true → ends_as whole qs ≡ true → ends_as whole (ps ++ qs) ≡ true
-ends_as-append whole [] qs a b = b
-ends_as-append true (Whole x ∷ ps) qs a b = ends_as-append true ps qs a b
-ends_as-append false (Whole x ∷ ps) qs a b = ends_as-append false ps qs a b
-ends_as-append whole (Cut x n c ∷ ps) qs a b = cc
-
--- no entries are a log that leaves the tape
-pub IsLogOf-nothing : (l : Loop) (t : Tape) → IsLogOf l true t [] t
-IsLogOf-nothing l t = record { reading = record { pieces = []; legal = refl; entries = refl }; ends = refl; outside = refl; effect = refl }
-
--- a whole log and one that follows it, whole or broken
-pub IsLogOf-append : {l : Loop} {whole : Bool} {old between new : Tape} {first second : List Entry} →
-    IsLogOf l true old first between → IsLogOf l whole between second new → IsLogOf l whole old (first ++ second) new
-IsLogOf-append {l} {whole} {old} {between} {new} a b = record {
-  reading = Reading-append l a.reading b.reading;
-  ends = ends_as-append whole a.reading.pieces b.reading.pieces a.ends b.ends;
-  outside = ends_within-append l a.reading.pieces b.reading.pieces a.outside b.outside;
-  effect =
-      subst (λ (ws : List RecordUnit). UnitsEffect ws old new) (sym (units_of-append l a.reading.pieces b.reading.pieces a.outside))
-      ((UnitsEffect-append (units_of l a.reading.pieces) (units_of l b.reading.pieces) old new).1 (between, a.effect, b.effect));
-}
-
--- what it says
-pub IsLogOf-whole : {l : Loop} {old new : Tape} {log : List Entry} → IsLogOf l true old log new → IsWhole l log
-IsLogOf-whole a = record { reading = a.reading; whole = a.ends }
-
-pub IsLogOf-broken : {l : Loop} {old new : Tape} {log : List Entry} → IsLogOf l false old log new → IsBroken l log
-IsLogOf-broken a = record { reading = a.reading; broken = a.ends }
-
-pub IsLogOf-effect : {l : Loop} {whole : Bool} {old new : Tape} {log : List Entry} → IsLogOf l whole old log new → Effect l old log new
-IsLogOf-effect a = record { reading = a.reading; effect = a.effect }
-
 -- ---- transfers
-
--- the status of each unit is 0
-abbrev pub all_good : List RecordUnit → Bool
-all_good ws = list_all (λ w. is_good w.status) ws
 
 any_mapped : (test : Transfer → Bool) (ws : List RecordUnit) → list_any (λ w. test (transfer_of w)) ws ≡ list_any test (map transfer_of ws)
 any_mapped test [] = refl

@@ -1,8 +1,7 @@
 -- Laws of whole and broken logs.
-use Rattle.std.proofs.Common.{◌≡◌, ℕ, zero, suc, ◌++◌, ◌&&◌, ◌==◌, ◌∙◌, Bool, true, false, not, List, [], ◌∷◌, map, flat_map, Option, Some, None, refl, sym, ap, ◌+◌, length, zero-add, suc-add, append_assoc, append-nil}
+use Rattle.std.proofs.Common.{◌≡◌, ℕ, zero, suc, ◌++◌, ◌&&◌, ◌==◌, ◌∙◌, Bool, true, false, not, List, [], ◌∷◌, map, flat_map, Option, Some, None, refl, sym, ap, ◌+◌}
 use Rattle.std.specs.List.{list_all}
 use Rattle.std.proofs.lemmas.Bool.{and_parts, and_from, and_left, and_right, both_ways}
-use Rattle.std.proofs.lemmas.List.{map-append}
 use Rattle.std.proofs.lemmas.List.Folds.{list_all-append}
 use Rattle.std.proofs.lemmas.Grind.{flat_map-append}
 use Rattle.il_frames.specs.declared.frame.Class.{Class}
@@ -13,7 +12,7 @@ use Rattle.il_frames.specs.declared.entry.Outcome.{Outcome}
 use Rattle.il_frames.specs.declared.entry.Outcome.TheVariants as outcome
 use Rattle.il_frames.specs.Frames.{framed, class_of, same_class, is_data, same_but_service}
 use Rattle.loop_model.specs.Loops.{Loop}
-use Rattle.loop_model.specs.Entries.{unl, unt, lad, ddl, ddt}
+use Rattle.loop_model.specs.Entries.{unt, ddl, ddt}
 use Rattle.loop_model.specs.Exchanges.{Echo, Start, Sda, Sst, Sdi, Sai, Answer, NotTaken, ToItsEnd, Stopped, Exchange, Command, Address, Send, Receive, Identify, start_frame, returned, commanded, echoed, numbered, answer_entries, entries_of, is_echo, is_host_echo, is_some_data, is_number, is_answer, is_address, is_exchange, Break, FrameLost, HostAltered, TalkerAltered, break_entries, is_altered, is_end, is_break, cut_at, can_cut, Piece, Whole, Cut, piece_entries, is_piece, are_whole, breaks_off, Reading, IsWhole, IsBroken}
 
 -- ---- no log is both
@@ -135,78 +134,3 @@ module _ (l : Loop) where
     legal = list_all-append (is_piece l) a.pieces b.pieces ∙ and_from _ _ a.legal b.legal;
     entries = rw (a.entries, b.entries) (sym (flat_map-append (piece_entries l.controller) a.pieces b.pieces));
   }
-
-  are_whole-append : (ps qs : List Piece) → are_whole ps ≡ true → are_whole qs ≡ true → are_whole (ps ++ qs) ≡ true
-  are_whole-append [] qs a b = b
-  are_whole-append (Whole x ∷ ps) qs a b = are_whole-append ps qs a b
-  are_whole-append (Cut x n c ∷ ps) qs a b = cc
-
-  breaks_off-append : (ps qs : List Piece) → are_whole ps ≡ true → breaks_off qs ≡ true → breaks_off (ps ++ qs) ≡ true
-  breaks_off-append [] qs a b = b
-  breaks_off-append (Whole x ∷ ps) qs a b = breaks_off-append ps qs a b
-  breaks_off-append (Cut x n c ∷ ps) qs a b = cc
-
-  -- a whole log followed by a whole log is whole
-  pub IsWhole-append : {first second : List Entry} → IsWhole l first → IsWhole l second → IsWhole l (first ++ second)
-  IsWhole-append a b = record {
-    reading = Reading-append a.reading b.reading;
-    whole = are_whole-append a.reading.pieces b.reading.pieces a.whole b.whole;
-  }
-
-  -- a whole log followed by a broken one is broken
-  pub IsBroken-append : {first second : List Entry} → IsWhole l first → IsBroken l second → IsBroken l (first ++ second)
-  IsBroken-append a b = record {
-    reading = Reading-append a.reading b.reading;
-    broken = breaks_off-append a.reading.pieces b.reading.pieces a.whole b.broken;
-  }
-
-  -- ---- single exchanges
-
-  -- no entries are a whole log
-  pub IsWhole-nothing : IsWhole l []
-  IsWhole-nothing = record { reading = record { pieces = []; legal = refl; entries = refl }; whole = refl }
-
-  -- the entries of an exchange are a whole log
-  pub IsWhole-exchange : (x : Exchange) → is_exchange l x ≡ true → IsWhole l (entries_of l.controller x)
-  IsWhole-exchange x legal = record {
-    reading = record { pieces = Whole x ∷ []; legal = and_from (is_exchange l x) true legal refl; entries = sym (append-nil (entries_of l.controller x)) };
-    whole = refl;
-  }
-
-  -- those of a broken exchange are a broken log
-  pub IsBroken-cut : (x : Exchange) (n : ℕ) (b : Break) → is_piece l (Cut x n b) ≡ true → IsBroken l (cut_at (entries_of l.controller x) n b)
-  IsBroken-cut x n b legal = record {
-    reading = record { pieces = Cut x n b ∷ []; legal = and_from (is_piece l (Cut x n b)) true legal refl; entries = sym (append-nil (cut_at (entries_of l.controller x) n b)) };
-    broken = refl;
-  }
-
-  -- a cut behind some entries leaves these and the break of the next
-  pub cut_at-here : (front : List Entry) (due : Entry) (rest : List Entry) (b : Break) → cut_at (front ++ due ∷ rest) (length front) b ≡ front ++ break_entries due b
-  cut_at-here [] due rest b = refl
-  cut_at-here (e ∷ front) due rest b = ap (λ (es : List Entry). e ∷ es) (cut_at-here front due rest b)
-
-  -- and is one where the break can stand in the place of the next
-  pub can_cut-here : (front : List Entry) (due : Entry) (rest : List Entry) (b : Break) → can_cut l.controller (front ++ due ∷ rest) (length front) b ≡ is_break l.controller due b
-  can_cut-here [] due rest b = refl
-  can_cut-here (e ∷ front) due rest b = can_cut-here front due rest b
-
-  cut_inside : (es rest : List Entry) (n : ℕ) (b : Break) → can_cut l.controller es n b ≡ true → (cut_at (es ++ rest) n b ≡ cut_at es n b) × (can_cut l.controller (es ++ rest) n b ≡ true)
-  cut_inside [] rest n b can = cc
-  cut_inside (e ∷ es) rest zero b can = (refl, can)
-  cut_inside (e ∷ es) rest (suc n) b can = let more = cut_inside es rest n b can in (ap (λ (fs : List Entry). e ∷ fs) more.0, more.1)
-
-  -- a cut among some entries is a cut of the longer list in which these stand behind others
-  pub cut_at-within : (front es rest : List Entry) (n : ℕ) (b : Break) → can_cut l.controller es n b ≡ true → cut_at (front ++ es ++ rest) (length front + n) b ≡ front ++ cut_at es n b
-  cut_at-within [] es rest n b can = rw (zero-add n) ((cut_inside es rest n b can).0)
-  cut_at-within (e ∷ front) es rest n b can = rw (suc-add (length front) n) (ap (λ (fs : List Entry). e ∷ fs) (cut_at-within front es rest n b can))
-
-  -- and can be made there too
-  pub can_cut-within : (front es rest : List Entry) (n : ℕ) (b : Break) → can_cut l.controller es n b ≡ true → can_cut l.controller (front ++ es ++ rest) (length front + n) b ≡ true
-  can_cut-within [] es rest n b can = rw (zero-add n) ((cut_inside es rest n b can).1)
-  can_cut-within (e ∷ front) es rest n b can = rw (suc-add (length front) n) (can_cut-within front es rest n b can)
-
-  -- a send with one more byte has one more entry
-  pub entries_of-send_more : (a : ℕ) (number : Option ℕ) (ds : List Echo) (d : Echo) → entries_of l.controller (Send a number (ds ++ d ∷ [])) ≡ entries_of l.controller (Send a number ds) ++ echoed l.controller d ∷ []
-  entries_of-send_more a number ds d =
-      let head = commanded l.controller unl ++ commanded l.controller (lad a) ++ numbered l.controller ddl number in
-      ap (λ (es : List Entry). head ++ es) (map-append (echoed l.controller) ds (d ∷ [])) ∙ sym (append_assoc head (map (echoed l.controller) ds) (echoed l.controller d ∷ []))

@@ -6,7 +6,7 @@ use Rattle.std.proofs.lemmas.Bool.{and_parts, not-true}
 use Rattle.il_frames.specs.declared.entry.Entry.{Entry}
 use Rattle.il_frames.specs.Frames.{is_data}
 use Rattle.il_device.specs.declared.roles.Roles.{Roles}
-use Rattle.loop_model.specs.Hearing.{heard_of, heard_by}
+use Rattle.loop_model.specs.Hearing.{heard_of, heard_by, has_no_data}
 use Rattle.loop_model.specs.Roles.{roles_after_entry, roles_after}
 
 -- what is heard of an appended log is what is heard of its first part, and then of the second by the
@@ -17,10 +17,6 @@ heard_by-append k party rs [] second = refl
 heard_by-append k party rs (e ∷ first) second =
     ap (λ (bytes : List ℕ). heard_of k party rs e ++ bytes) (heard_by-append k party (roles_after_entry rs e) first second)
     ∙ sym (append_assoc (heard_of k party rs e) (heard_by k party (roles_after_entry rs e) first) _)
-
--- the entry has no data byte
-abbrev pub has_no_data : Entry → Bool
-has_no_data e = not (is_data e.frame)
 
 unheard : (listens data_frame rest : Bool) (bytes : List ℕ) → data_frame ≡ false →
     (if listens && (data_frame && rest) then bytes else []) ≡ []

@@ -13,8 +13,8 @@ use Rattle.il_frames.specs.declared.entry.Outcome.TheVariants as outcome
 use Rattle.il_frames.specs.Frames.{framed, class_of, same_class}
 use Rattle.il_device.specs.Takes.{ete}
 use Rattle.loop_model.specs.Loops.{host_loop}
-use Rattle.loop_model.specs.Entries.{entry, unl, unt, lad, tad, ddl, ddt, nrd, is_frame, is_lost, is_lost_nrd}
-use Rattle.loop_model.specs.Reach.{links_of, brings_to, met, taken_by, sourcing_after, held_at_end, links_so_far, passes_so_far, links, passes, TellsHeld}
+use Rattle.loop_model.specs.Entries.{entry, unl, unt, lad, tad, ddl, ddt, nrd, is_frame, is_lost, is_lost_nrd, is_no_nrd}
+use Rattle.loop_model.specs.Reach.{links_of, brings_to, met, taken_by, sourcing_after, held_at_end, links_so_far, passes_so_far, TellsHeld}
 use Rattle.loop_model.specs.Exchanges.{Echo, Exchange, Command, Address, Send, Receive, Identify, Start, Sda, Sst, Sdi, Sai, Answer, NotTaken, ToItsEnd, Stopped, start_frame, answer_entries, commanded, echoed, numbered, entries_of, is_host_echo, is_echo, is_number, is_address, is_exchange, Break, FrameLost, HostAltered, TalkerAltered, break_entries, cut_at, Piece, Whole, Cut, piece_entries, is_piece, Reading, IsWhole}
 use Rattle.loop_model.proofs.ExchangeLaws.{stands, stands_as, exchange_stands, whole_stands}
 
@@ -113,10 +113,6 @@ cut_tells (e ∷ es) (suc n) b starts =
 
 -- ---- exchanges start before an NRD
 
--- the entry's frame is no NRD
-abbrev pub is_no_nrd : Entry → Bool
-is_no_nrd e = not (is_frame e.frame nrd)
-
 starts-append : (front rest : List Entry) → list_all is_no_nrd front ≡ true → starts_before_nrd rest ≡ true → starts_before_nrd (front ++ rest) ≡ true
 starts-append [] rest others starts = starts
 starts-append (e ∷ front) rest others starts =
@@ -189,26 +185,6 @@ pieces_tell size drive (p ∷ ps) legal =
 pub reading_tells : (size drive : ℕ) (log : List Entry) → Reading (host_loop size drive) log → TellsHeld log
 reading_tells size drive log r = subst TellsHeld (sym r.entries) (pieces_tell size drive r.pieces r.legal)
 
--- ---- appended logs
-
-held-append : (first second : List Entry) → held_at_end None first ≡ None → TellsHeld second → held_at_end None (first ++ second) ≡ held_at_end None second
-held-append first [] none tells = ap (held_at_end None) (append-nil first) ∙ none
-held-append first (e ∷ rest) none tells = held_at_end-append None first e rest ∙ tells (sourcing None first)
-
--- the crossings of an appended log add up, where the first part leaves no frame held
-pub links-append : (k : ℕ) (first second : List Entry) → held_at_end None first ≡ None → TellsHeld second → links k (first ++ second) ≡ links k first + links k second
-links-append k first second none tells =
-    let held = held-append first second none tells in
-    let sums = sum_by-append (links_of k) first second in
-    rw (held, none, sums) (omega arith)
-
--- and so do the frames that it brings to a party
-pub passes-append : (k party : ℕ) (first second : List Entry) → held_at_end None first ≡ None → TellsHeld second → passes k party (first ++ second) ≡ passes k party first + passes k party second
-passes-append k party first second none tells =
-    let held = held-append first second none tells in
-    let sums = sum_by-append (λ e. cond (brings_to k party e) 1 0) first second in
-    rw (held, none, sums) (omega arith)
-
 -- ---- planned hops
 
 nothing_kept : (test : ℕ → Bool) (hop : ℕ) (hops : List ℕ) → filter test (hop ∷ hops) ≡ [] → (test hop ≡ false) × (filter test hops ≡ [])
@@ -251,10 +227,6 @@ met-split (hop ∷ hops) a b c ab bc =
 
 -- ---- the counts of a ring
 
--- an entry that is no lost NRD of the host tells that no frame was held
-pub entry_tells : (e : Entry) → is_lost_nrd e ≡ false → TellsHeld (e ∷ [])
-entry_tells e other before = last_tells e before None other
-
 -- more entries add their crossings, whatever frame is held behind them
 pub links_so_far-append : (k : ℕ) (first second : List Entry) (held : Option ℕ) → links_so_far k (first ++ second) held ≡ sum_by (links_of k) first + links_so_far k second held
 links_so_far-append k first second held = let sums = sum_by-append (links_of k) first second in rw sums (omega arith)
@@ -287,29 +259,3 @@ length-met (hop ∷ hops) a b c ab bc =
     let second = length_met (is_met b c hop) hop (met hops b c) in
     let split = ap (λ (t : Bool). cond t 1 0) here ∙ split_met (is_met a b hop) (is_met b c hop) (met_once a b c hop) in
     outer ∙ omega (arith, rest, first, second, split)
-
--- ---- a lost NRD
-
-held_where : (b : Bool) (before : Option ℕ) → b ≡ true → (if b then before else None) ≡ before
-held_where true before e = refl
-held_where false before e = cc
-
--- behind a lost NRD the frame counts that was held, of the device that sourced data before it
-pub links-lost_nrd : (k : ℕ) (first : List Entry) (e : Entry) → is_lost_nrd e ≡ true → links k (first ++ e ∷ []) ≡ links_so_far k (first ++ e ∷ []) (sourcing None first)
-links-lost_nrd k first e lost =
-    ap (links_so_far k (first ++ e ∷ [])) (held_at_end-append None first e [] ∙ held_where (is_lost_nrd e) (sourcing None first) lost)
-
-pub passes-lost_nrd : (k party : ℕ) (first : List Entry) (e : Entry) → is_lost_nrd e ≡ true →
-    passes k party (first ++ e ∷ []) ≡ passes_so_far k party (first ++ e ∷ []) (sourcing None first)
-passes-lost_nrd k party first e lost =
-    ap (passes_so_far k party (first ++ e ∷ [])) (held_at_end-append None first e [] ∙ held_where (is_lost_nrd e) (sourcing None first) lost)
-
--- behind any other entry none was held
-pub links-no_lost_nrd : (k : ℕ) (first : List Entry) (e : Entry) → is_lost_nrd e ≡ false → links k (first ++ e ∷ []) ≡ links_so_far k (first ++ e ∷ []) None
-links-no_lost_nrd k first e kept =
-    ap (links_so_far k (first ++ e ∷ [])) (held_at_end-append None first e [] ∙ held_if (is_lost_nrd e) (sourcing None first) kept)
-
-pub passes-no_lost_nrd : (k party : ℕ) (first : List Entry) (e : Entry) → is_lost_nrd e ≡ false →
-    passes k party (first ++ e ∷ []) ≡ passes_so_far k party (first ++ e ∷ []) None
-passes-no_lost_nrd k party first e kept =
-    ap (passes_so_far k party (first ++ e ∷ [])) (held_at_end-append None first e [] ∙ held_if (is_lost_nrd e) (sourcing None first) kept)

@@ -1,17 +1,12 @@
 -- The units of a seek, a transfer and a poll of the status, whole and cut.
-use Rattle.std.proofs.Common.{◌≡◌, ◌<◌, ◌∙◌, ◌+◌, ◌*◌, ◌++◌, ◌==◌, ℕ, Bool, true, false, List, [], ◌∷◌, Option, Some, None, length, map, option_map, option_and_then, option_to_list, refl, sym, ap, eq-eqb, append_assoc}
+use Rattle.std.proofs.Common.{◌≡◌, ◌<◌, ◌∙◌, ◌+◌, ◌*◌, ◌++◌, ◌==◌, ℕ, Bool, true, false, List, [], ◌∷◌, Option, Some, None, length, option_map, option_and_then, option_to_list, refl, ap, eq-eqb}
 use Rattle.std.specs.List.{list_all}
 use Rattle.std.proofs.lemmas.Bool.{and_from, lt-ltb}
-use Rattle.std.proofs.lemmas.List.{map-append}
-use Rattle.il_frames.specs.declared.frame.Frame.{Frame}
-use Rattle.il_frames.specs.declared.entry.Entry.{Entry}
-use Rattle.il_frames.specs.Frames.{byte_of, is_data}
+use Rattle.il_frames.specs.Frames.{byte_of}
 use Rattle.loop_model.specs.Loops.{Loop}
-use Rattle.loop_model.specs.Entries.{unl, lad, ddl}
-use Rattle.loop_model.specs.Exchanges.{Echo, Exchange, Send, Receive, Sda, Sst, Answer, Break, FrameLost, HostAltered, Piece, Whole, Cut, commanded, numbered, echoed, entries_of, break_entries, cut_at, is_echo}
+use Rattle.loop_model.specs.Exchanges.{Echo, Exchange, Send, Receive, Sda, Sst, Answer, Break, Piece, Whole, Cut, entries_of, cut_at, is_echo, bytes_of}
 use Rattle.loop_model.specs.Units.{RecordUnit, sent_bytes, number_of, only_byte, sought, told_status, unit_of, unit_after_seek, units_of}
-use Rattle.loop_model.proofs.ExchangeLaws.{cut_at-here}
-use Rattle.loop_model.proofs.UnitLaws.{bytes_of, sent_bytes-send, sent_bytes-append, one_byte}
+use Rattle.loop_model.proofs.UnitLaws.{sent_bytes-send}
 
 module _ (l : Loop) where
   -- the exchanges of a unit: seek a record by two bytes, write, read, ask for the status
@@ -156,37 +151,3 @@ module _ (l : Loop) where
       (ap (option_and_then (unit_after_seek l (Cut (read came) n b ∷ []))) (sought-seek high low h k)
       ∙ unit_of-read (named high low) came (sent_bytes (cut_at (entries_of l.controller (read came)) n b)) None)
       refl
-
-  -- a seek that broke off is no unit
-  pub units_of-seek_cut : (high low : Echo) (n : ℕ) (b : Break) → units_of l (Cut (seek high low) n b ∷ []) ≡ []
-  units_of-seek_cut high low n b = refl
-
-  -- ---- a write that broke off at a data byte
-
-  spread_write : (ds es : List Echo) (e : Echo) → entries_of l.controller (write (ds ++ e ∷ es)) ≡ entries_of l.controller (write ds) ++ echoed l.controller e ∷ map (echoed l.controller) es
-  spread_write ds es e =
-      let front = commanded l.controller unl ++ commanded l.controller (lad l.drive) ++ numbered l.controller ddl (Some 2) in
-      ap (λ (rest : List Entry). front ++ rest) (map-append (echoed l.controller) ds (e ∷ es)) ∙ sym (append_assoc front (map (echoed l.controller) ds) (echoed l.controller e ∷ map (echoed l.controller) es))
-
-  -- its entries
-  pub cut_at-write : (ds es : List Echo) (e : Echo) (b : Break) →
-      cut_at (entries_of l.controller (write (ds ++ e ∷ es))) (length (entries_of l.controller (write ds))) b ≡ entries_of l.controller (write ds) ++ break_entries (echoed l.controller e) b
-  cut_at-write ds es e b =
-      ap (λ (log : List Entry). cut_at log (length (entries_of l.controller (write ds))) b) (spread_write ds es e)
-      ∙ cut_at-here l (entries_of l.controller (write ds)) (echoed l.controller e) (map (echoed l.controller) es) b
-
-  -- the byte that was lost had been sent
-  pub sent_bytes-write_lost : (ds es : List Echo) (e : Echo) (q : ℕ) → list_all is_echo ds ≡ true → is_data e.sent ≡ true →
-      sent_bytes (cut_at (entries_of l.controller (write (ds ++ e ∷ es))) (length (entries_of l.controller (write ds))) (FrameLost q)) ≡ bytes_of ds ++ byte_of e.sent ∷ []
-  sent_bytes-write_lost ds es e q all sent =
-      ap sent_bytes (cut_at-write ds es e (FrameLost q)) ∙ sent_bytes-append (entries_of l.controller (write ds)) (break_entries (echoed l.controller e) (FrameLost q))
-      ∙ ap (λ (bytes : List ℕ). bytes ++ sent_bytes (break_entries (echoed l.controller e) (FrameLost q))) (sent_bytes-send l.controller l.drive (Some 2) ds all)
-      ∙ ap (λ (bytes : List ℕ). bytes_of ds ++ bytes) (one_byte (is_data e.sent) (byte_of e.sent) [] sent)
-
-  -- and so had one that came back as another
-  pub sent_bytes-write_altered : (ds es : List Echo) (e : Echo) (f : Frame) → list_all is_echo ds ≡ true → is_data e.sent ≡ true →
-      sent_bytes (cut_at (entries_of l.controller (write (ds ++ e ∷ es))) (length (entries_of l.controller (write ds))) (HostAltered f)) ≡ bytes_of ds ++ byte_of e.sent ∷ []
-  sent_bytes-write_altered ds es e f all sent =
-      ap sent_bytes (cut_at-write ds es e (HostAltered f)) ∙ sent_bytes-append (entries_of l.controller (write ds)) (break_entries (echoed l.controller e) (HostAltered f))
-      ∙ ap (λ (bytes : List ℕ). bytes ++ sent_bytes (break_entries (echoed l.controller e) (HostAltered f))) (sent_bytes-send l.controller l.drive (Some 2) ds all)
-      ∙ ap (λ (bytes : List ℕ). bytes_of ds ++ bytes) (one_byte (is_data e.sent) (byte_of e.sent) [] sent)

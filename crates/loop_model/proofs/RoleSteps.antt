@@ -1,5 +1,5 @@
 -- Laws for following roles and talkers along a log, a few entries at a time.
-use Rattle.std.proofs.Common.{◌≡◌, ◌≤◌, ◌<◌, ◌⊎◌, inl, inr, lit<, ℕ, suc, ◌+◌, ◌++◌, ◌&&◌, ◌==◌, ◌∙◌, Bool, true, false, not, if◌then◌else◌, List, [], ◌∷◌, map, length, Option, Some, None, refl, sym, ap, ap₂, arith, le_trans}
+use Rattle.std.proofs.Common.{◌≡◌, ◌≤◌, ◌<◌, ◌⊎◌, inl, inr, lit<, ℕ, suc, ◌+◌, ◌++◌, ◌==◌, ◌∙◌, Bool, true, false, not, if◌then◌else◌, List, [], ◌∷◌, map, length, Option, Some, None, refl, sym, ap, ap₂, arith, le_trans}
 use Rattle.std.specs.List.{list_all}
 use Rattle.std.proofs.lemmas.Bool.{and_parts, and_from, not-true, lt-ltb, le-leb, ne_eqb, eq-eqb, eqb-true, cases_eq}
 use Rattle.il_frames.specs.declared.message.Message.{Message}
@@ -13,7 +13,7 @@ use Rattle.loop_model.specs.Entries.{aau, rfc, aad}
 use Rattle.loop_model.specs.Reach.{is_reached}
 use Rattle.il_device.specs.declared.roles.Roles.{Roles}
 use Rattle.il_device.specs.Roles.{no_roles, is_own}
-use Rattle.loop_model.specs.Roles.{roles_by, passed_on, roles_along, roles_after_entry, roles_after, talkers_from, talkers, is_at_most_one, is_in_turn, has_one_talker, OneTalker}
+use Rattle.loop_model.specs.Roles.{roles_by, passed_on, roles_along, roles_after_entry, roles_after, talkers_from, talkers, is_at_most_one, is_in_turn, OneTalker, are_numbered}
 use Rattle.loop_model.specs.Exchanges.{is_talk_address, Command, Address, entries_of}
 use Rattle.loop_model.proofs.RoleLaws.{gives_no_talk, is_quiet, quiet_if, quiet_by, no_talk_if, no_talk_on, quiet_log, no_talkers, all_quiet}
 
@@ -65,15 +65,6 @@ roles_after-kept rs [] keeps = refl
 roles_after-kept rs (e ∷ log) keeps =
     let parts = and_parts (keeps_roles e) (list_all keeps_roles log) keeps in
     ap (λ (ss : List Roles). roles_after ss log) (kept_entry rs e parts.0) ∙ roles_after-kept rs log parts.1
-
--- such a log has one talker where each entry is in turn
-pub OneTalker-kept : (rs : List Roles) (log : List Entry) → is_at_most_one (talkers rs) ≡ true → list_all keeps_roles log ≡ true → list_all (is_in_turn (talkers rs)) log ≡ true → OneTalker rs log
-OneTalker-kept rs [] one keeps turns = one
-OneTalker-kept rs (e ∷ log) one keeps turns =
-    let kept = and_parts (keeps_roles e) (list_all keeps_roles log) keeps in
-    let turn = and_parts (is_in_turn (talkers rs) e) (list_all (is_in_turn (talkers rs)) log) turns in
-    and_from (is_at_most_one (talkers rs)) _ one (and_from (is_in_turn (talkers rs) e) _ turn.0
-    (ap (λ (ss : List Roles). has_one_talker ss log) (kept_entry rs e kept.0) ∙ OneTalker-kept rs log one kept.1 turn.1))
 
 -- ---- where no device talks
 
@@ -161,11 +152,6 @@ one_talker-kept rs e one calm = by_source (e.source == 0)
     by_source : (b : Bool) → is_at_most_one (talkers (if b then roles_along 0 e.outcome 1 (message_of e.frame) rs else rs)) ≡ true
     by_source true = at_most_one _ (le_trans fewer (few_of (talkers rs) one))
     by_source false = one
-
--- the devices from this party on have their numbers as addresses
-abbrev pub are_numbered : ℕ → List Roles → Bool
-are_numbered party [] = true
-are_numbered party (r ∷ rs) = is_own r.address party && are_numbered (suc party) rs
 
 pub are_numbered-addressed : (a : ℕ) (rs : List Roles) → are_numbered a (addressed_from a rs) ≡ true
 are_numbered-addressed a [] = refl

@@ -19,13 +19,13 @@ use Rattle.il_device.specs.Takes.{eto, ete}
 use Rattle.il_device.specs.declared.roles.Roles.{Roles}
 use Rattle.loop_model.specs.Loops.{host_loop}
 use Rattle.loop_model.specs.Entries.{entry, unl, unt, lad, tad, ddl, ddt, rfc, nrd}
-use Rattle.loop_model.specs.Roles.{roles_along, roles_after_entry, roles_after, talkers, is_at_most_one, is_end_of_talk, is_spoken, may_speak, is_in_turn, has_one_talker, OneTalker}
-use Rattle.loop_model.specs.Exchanges.{Echo, Exchange, Command, Address, Send, Receive, Identify, Start, Sda, Sst, Sdi, Sai, Answer, NotTaken, ToItsEnd, Stopped, Break, FrameLost, HostAltered, TalkerAltered, Piece, Whole, Cut, start_frame, returned, commanded, echoed, numbered, answer_entries, entries_of, break_entries, cut_at, can_cut, is_break, is_altered, is_echo, is_host_echo, is_number, is_address, is_talk_address, is_answer, is_some_data, is_exchange, is_piece, piece_entries, is_end}
+use Rattle.loop_model.specs.Roles.{roles_along, roles_after_entry, roles_after, talkers, is_at_most_one, is_end_of_talk, is_spoken, may_speak, is_in_turn, has_one_talker, OneTalker, are_numbered, is_aau}
+use Rattle.loop_model.specs.Exchanges.{Echo, Exchange, Command, Address, Send, Receive, Identify, Start, Sda, Sst, Sdi, Sai, Answer, NotTaken, ToItsEnd, Stopped, Break, FrameLost, HostAltered, TalkerAltered, Piece, Whole, Cut, start_frame, returned, commanded, echoed, numbered, answer_entries, entries_of, break_entries, cut_at, can_cut, is_break, is_altered, is_echo, is_host_echo, is_number, is_address, is_talk_address, is_answer, is_some_data, is_exchange, is_piece, piece_entries, is_end, is_asked_for, answers_as_asked}
 use Rattle.loop_model.proofs.RoleLaws.{gives_no_talk, quiet_log, no_talkers, all_quiet, lad_no_talk, ddl_no_talk, echoes_no_talk}
-use Rattle.loop_model.proofs.RoleSteps.{changes_roles, keeps_roles, kept_entry, one_talker-kept, are_numbered, one_talker-addressed}
+use Rattle.loop_model.proofs.RoleSteps.{changes_roles, keeps_roles, kept_entry, one_talker-kept, one_talker-addressed}
 use Rattle.loop_model.proofs.ExchangeLaws.{host_echoes}
 use Rattle.loop_model.proofs.UnitLaws.{entries_of-receive}
-use Rattle.loop_model.proofs.TalkLaws.{is_aau, gives_no_aau, are_numbered-log, talkers-tad, length-roles_after}
+use Rattle.loop_model.proofs.TalkLaws.{gives_no_aau, are_numbered-log, talkers-tad, length-roles_after}
 
 -- ---- logs that may break off anywhere
 
@@ -413,15 +413,6 @@ safe_unanswered rs number s one low =
 
 -- ---- exchanges
 
--- the device that takes a start message is the one that was asked for, and is on the ring of k devices
-abbrev pub is_asked_for : ℕ → ℕ → ℕ → Bool
-is_asked_for k a p = (p == a) && (nat_le 1 a && nat_le a k)
-
-abbrev pub answers_as_asked : ℕ → Exchange → Bool
-answers_as_asked k (Receive a number s (ToItsEnd p ds)) = is_asked_for k a p
-answers_as_asked k (Receive a number s (Stopped p ds last)) = is_asked_for k a p
-answers_as_asked k x = true
-
 safe_taken : (rs : List Roles) (a p : ℕ) (number : Option ℕ) (s : Start) (answer : Answer) → are_numbered 1 rs ≡ true → talkers rs ≡ [] →
     is_address a ≡ true → is_number number ≡ true → is_answer 0 answer ≡ true → answering answer ≡ Some p → is_asked_for (length rs) a p ≡ true →
     IsSafe rs (entries_of 0 (Receive a number s answer))
@@ -472,15 +463,6 @@ safe_exchange size drive rs (Identify f) legal asked numbers silent = safe_silen
 abbrev pub exchange_in : Piece → Exchange
 exchange_in (Whole x) = x
 exchange_in (Cut x n b) = x
-
--- so a whole or broken exchange has one talker
-pub OneTalker-piece : (size drive : ℕ) (rs : List Roles) (p : Piece) → is_piece (host_loop size drive) p ≡ true → answers_as_asked (length rs) (exchange_in p) ≡ true →
-    are_numbered 1 rs ≡ true → talkers rs ≡ [] → OneTalker rs (piece_entries 0 p)
-OneTalker-piece size drive rs (Whole x) legal asked numbers silent =
-    OneTalker-safe rs (entries_of 0 x) (safe_exchange size drive rs x legal asked numbers silent)
-OneTalker-piece size drive rs (Cut x n b) legal asked numbers silent =
-    let parts = and_parts (is_exchange (host_loop size drive) x) (can_cut 0 (entries_of 0 x) n b) legal in
-    OneTalker-cut rs (entries_of 0 x) n b (safe_exchange size drive rs x parts.0 asked numbers silent) parts.1
 
 -- ---- addresses behind an exchange
 

@@ -12,15 +12,14 @@ use Rattle.il_frames.specs.Messages.{message_of}
 use Rattle.il_device.specs.declared.roles.Roles.{Roles}
 use Rattle.il_device.specs.Roles.{no_roles, is_own}
 use Rattle.loop_model.specs.Entries.{lad, unl, ddl, rfc}
-use Rattle.loop_model.specs.Roles.{roles_by, roles_along, roles_after_entry, roles_after}
-use Rattle.loop_model.specs.Hearing.{roles_at, brings_byte, heard_by}
-use Rattle.loop_model.specs.Exchanges.{Echo, Send, echoed, returned, commanded, numbered, entries_of, is_echo, is_address, is_number}
-use Rattle.loop_model.proofs.RoleSteps.{are_numbered, keeps_roles, kept_entry, roles_after-kept, not_own}
+use Rattle.loop_model.specs.Roles.{roles_by, roles_along, roles_after_entry, roles_after, are_numbered}
+use Rattle.loop_model.specs.Hearing.{roles_at, brings_byte, heard_by, has_no_data}
+use Rattle.loop_model.specs.Exchanges.{Echo, Send, echoed, returned, commanded, numbered, entries_of, is_echo, is_address, is_number, bytes_of}
+use Rattle.loop_model.proofs.RoleSteps.{keeps_roles, kept_entry, roles_after-kept, not_own}
 use Rattle.loop_model.proofs.RoleLaws.{roles_after-append}
 use Rattle.loop_model.proofs.TalkLaws.{are_numbered-log, length-roles_after}
-use Rattle.loop_model.proofs.HearLaws.{heard_by-append, heard_by-no_data, has_no_data}
+use Rattle.loop_model.proofs.HearLaws.{heard_by-append, heard_by-no_data}
 use Rattle.loop_model.proofs.RoundLaws.{data_keeps}
-use Rattle.loop_model.proofs.UnitLaws.{bytes_of}
 
 -- a data frame of the host that came back is heard by each listener
 heard_one : (listens data_frame other intact reached : Bool) (byte : ℕ) → listens ≡ true → data_frame ≡ true → other ≡ true → intact ≡ true → reached ≡ true →

@@ -12,9 +12,9 @@ use Rattle.il_frames.specs.Messages.{message_of}
 use Rattle.il_device.specs.declared.roles.Roles.{Roles}
 use Rattle.il_device.specs.Roles.{is_own, takes_address}
 use Rattle.loop_model.specs.Reach.{is_reached}
-use Rattle.loop_model.specs.Roles.{roles_by, passed_on, roles_along, roles_after_entry, roles_after, talkers_from, talkers}
+use Rattle.loop_model.specs.Roles.{roles_by, passed_on, roles_along, roles_after_entry, roles_after, talkers_from, talkers, are_numbered, is_aau}
 use Rattle.loop_model.proofs.RoleLaws.{is_quiet, all_quiet}
-use Rattle.loop_model.proofs.RoleSteps.{are_numbered, none_behind, no_head, quiet_other, tad_passes}
+use Rattle.loop_model.proofs.RoleSteps.{none_behind, no_head, quiet_other, tad_passes}
 
 -- ---- the number of devices
 
@@ -33,11 +33,6 @@ length-roles_after rs (e ∷ log) =
     length-roles_after (roles_after_entry rs e) log ∙ length_if (e.source == 0) _ rs (length-along e.outcome 1 (message_of e.frame) rs)
 
 -- ---- addresses stay
-
--- the message ends addresses
-abbrev pub is_aau : Message → Bool
-is_aau msg.Aau = true
-is_aau m = false
 
 -- the entry's frame does not
 abbrev pub gives_no_aau : Entry → Bool

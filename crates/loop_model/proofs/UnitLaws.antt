@@ -1,20 +1,19 @@
 -- Laws of the entries of sends and receives, of the bytes that they moved, and of the units that they are.
-use Rattle.std.proofs.Common.{◌≡◌, ◌≤◌, ◌<◌, ◌∙◌, ◌+◌, ◌++◌, ◌==◌, ℕ, zero, suc, Bool, true, false, not, List, [], ◌∷◌, Option, Some, None, map, length, refl, sym, ap, arith, append_assoc, append-nil, length-append}
+use Rattle.std.proofs.Common.{◌≡◌, ◌≤◌, ◌∙◌, ◌+◌, ◌++◌, ℕ, zero, suc, Bool, true, false, List, [], ◌∷◌, Option, Some, None, map, length, refl, sym, ap, arith, append_assoc, append-nil}
 use Rattle.std.specs.Prelude.{if◌then◌else◌}
 use Rattle.std.specs.List.{list_all}
-use Rattle.std.proofs.lemmas.Bool.{and_parts, not-true}
+use Rattle.std.proofs.lemmas.Bool.{and_parts}
 use Rattle.std.proofs.lemmas.Bool.Decides.{nat_tests}
-use Rattle.std.proofs.lemmas.List.{map-append, length-map}
+use Rattle.std.proofs.lemmas.List.{length-map}
 use Rattle.std.proofs.lemmas.Grind.{flat_map-append}
 use Rattle.il_frames.specs.declared.frame.Frame.{Frame}
 use Rattle.il_frames.specs.declared.entry.Entry.{Entry}
 use Rattle.il_frames.specs.declared.entry.Outcome.TheVariants as outcome
 use Rattle.il_frames.specs.Frames.{byte_of, is_data, same_but_service}
 use Rattle.il_device.specs.Takes.{eto}
-use Rattle.loop_model.specs.Entries.{entry, unl, unt, tad, ddt, nrd}
+use Rattle.loop_model.specs.Entries.{entry, unt, nrd}
 use Rattle.loop_model.specs.Reach.{distance}
-use Rattle.loop_model.specs.Exchanges.{Echo, Send, Receive, Start, Sda, Sst, Sdi, Sai, Answer, NotTaken, ToItsEnd, Stopped, Break, FrameLost, HostAltered, TalkerAltered, start_frame, returned, commanded, echoed, numbered, answer_entries, entries_of, cut_at, is_echo}
-use Rattle.loop_model.proofs.ReachLaws.{sourcing}
+use Rattle.loop_model.specs.Exchanges.{Echo, Send, Receive, Start, Sda, Sst, Sdi, Sai, Answer, NotTaken, ToItsEnd, Stopped, Break, FrameLost, HostAltered, TalkerAltered, start_frame, returned, commanded, echoed, answer_entries, entries_of, cut_at, is_echo, receive_front, bytes_of}
 use Rattle.loop_model.specs.Units.{sent_bytes}
 
 -- ---- distances
@@ -23,25 +22,7 @@ use Rattle.loop_model.specs.Units.{sent_bytes}
 pub distance-self : (k s : ℕ) → distance k s s ≡ suc k
 distance-self k s = grind (arith, nat_tests)
 
--- the next party is one link away, and each further one is one link more
-pub distance-first : (k s : ℕ) → distance k s (suc s) ≡ 1
-distance-first k s = grind (arith, nat_tests)
-
-pub distance-next : (k s p : ℕ) → s ≤ k → (p ≡ s → ⊥) → distance k s (suc p) ≡ suc (distance k s p)
-distance-next k s p on other = grind (arith, nat_tests)
-
--- behind the last device comes the host
-pub distance-home : (k s : ℕ) → s < k → distance k s 0 ≡ suc (distance k s k)
-distance-home k s on = grind (arith, nat_tests)
-
-pub distance-range : (k s p : ℕ) → s ≤ k → p ≤ k → (1 ≤ distance k s p) × (distance k s p ≤ suc k)
-distance-range k s p on there = (grind (arith, nat_tests), grind (arith, nat_tests))
-
 -- ---- the entries of a receive
-
--- up to its start message
-abbrev pub receive_front : ℕ → ℕ → Option ℕ → List Entry
-receive_front c a number = commanded c unl ++ commanded c (tad a) ++ numbered c ddt number
 
 -- up to the data frames so far
 abbrev pub receive_open : ℕ → ℕ → Option ℕ → Frame → ℕ → List Echo → List Entry
@@ -50,13 +31,6 @@ receive_open c a number start p ds = receive_front c a number ++ entry c start (
 pub entries_of-receive : (c a : ℕ) (number : Option ℕ) (s : Start) (answer : Answer) →
     entries_of c (Receive a number s answer) ≡ receive_front c a number ++ (answer_entries c (start_frame s) answer ++ commanded c unt)
 entries_of-receive c a number s answer = append_assoc (receive_front c a number) (answer_entries c (start_frame s) answer) (commanded c unt)
-
--- one more data frame
-pub receive_open-more : (c a : ℕ) (number : Option ℕ) (start : Frame) (p : ℕ) (ds : List Echo) (d : Echo) →
-    receive_open c a number start p (ds ++ d ∷ []) ≡ receive_open c a number start p ds ++ echoed p d ∷ []
-receive_open-more c a number start p ds d =
-    ap (λ (es : List Entry). receive_front c a number ++ entry c start (outcome.Taken p) ∷ es) (map-append (echoed p) ds (d ∷ []))
-    ∙ sym (append_assoc (receive_front c a number) (entry c start (outcome.Taken p) ∷ map (echoed p) ds) (echoed p d ∷ []))
 
 -- the end
 pub entries_of-to_its_end : (c a : ℕ) (number : Option ℕ) (s : Start) (p : ℕ) (ds : List Echo) →
@@ -77,29 +51,15 @@ entries_of-stopped c a number s p ds last =
 
 -- ---- lengths
 
-length-numbered : (c : ℕ) (frame : ℕ → Frame) (number : Option ℕ) → length (numbered c frame number) ≤ 2
-length-numbered c frame None = omega arith
-length-numbered c frame (Some n) = omega arith
-
 -- a send has an entry for each byte, and at most six before them
 pub length-send : (c a : ℕ) (number : Option ℕ) (ds : List Echo) → length (entries_of c (Send a number ds)) ≤ length ds + 6
 length-send c a None ds = let n = length-map ds (echoed c) in omega (arith, n)
 length-send c a (Some m) ds = let n = length-map ds (echoed c) in omega (arith, n)
 
-length-answer : (c : ℕ) (start : Frame) (p : ℕ) (ds : List Echo) (last : Echo) → length (answer_entries c start (Stopped p ds last)) ≡ length ds + 4
-length-answer c start p ds last =
-    let more = length-append (map (echoed p) ds) (returned c nrd ∷ echoed p last ∷ entry p eto (outcome.Taken c) ∷ []) in
-    let n = length-map ds (echoed p) in
-    omega (arith, more, n)
-
 -- ---- the bytes that were sent
 
 pub sent_bytes-append : (first second : List Entry) → sent_bytes (first ++ second) ≡ sent_bytes first ++ sent_bytes second
 sent_bytes-append first second = flat_map-append (λ e. if is_data e.frame then byte_of e.frame ∷ [] else []) first second
-
--- the bytes of data frames
-abbrev pub bytes_of : List Echo → List ℕ
-bytes_of ds = map (λ d. byte_of d.sent) ds
 
 pub one_byte : (b : Bool) (byte : ℕ) (bytes : List ℕ) → b ≡ true → (if b then byte ∷ [] else []) ++ bytes ≡ byte ∷ bytes
 one_byte true byte bytes e = refl
@@ -167,21 +127,6 @@ sent_bytes-not_taken c a number s =
 
 -- ---- more lengths
 
--- a receive has an entry for each data byte, and at most twelve more
-pub length-receive : (c a : ℕ) (number : Option ℕ) (s : Start) (p : ℕ) (ds : List Echo) (last : Echo) →
-    length (entries_of c (Receive a number s (Stopped p ds last))) ≤ length ds + 12
-length-receive c a number s p ds last =
-    let spread = ap (λ (es : List Entry). length es) (entries_of-receive c a number s (Stopped p ds last)) in
-    let front = length-append (receive_front c a number) (answer_entries c (start_frame s) (Stopped p ds last) ++ commanded c unt) in
-    let back = length-append (answer_entries c (start_frame s) (Stopped p ds last)) (commanded c unt) in
-    let answer = length-answer c (start_frame s) p ds last in
-    let head = length-front c a number in
-    omega (arith, spread, front, back, answer, head)
-  where
-    length-front : (c a : ℕ) (number : Option ℕ) → length (receive_front c a number) ≤ 6
-    length-front c a None = omega arith
-    length-front c a (Some n) = omega arith
-
 -- a broken exchange has at most one entry more than the whole one
 pub length-cut : (es : List Entry) (n : ℕ) (b : Break) → length (cut_at es n b) ≤ length es + 1
 length-cut [] n b = omega arith
@@ -189,19 +134,3 @@ length-cut (e ∷ es) zero (FrameLost q) = omega arith
 length-cut (e ∷ es) zero (HostAltered f) = omega arith
 length-cut (e ∷ es) zero (TalkerAltered f end) = omega arith
 length-cut (e ∷ es) (suc n) b = let rest = length-cut es n b in omega (arith, rest)
-
--- ---- who sources data
-
-taken_stays : (p : ℕ) (ds : List Echo) → not (p == 0) ≡ true → sourcing (Some p) (map (echoed p) ds) ≡ Some p
-taken_stays p [] other = refl
-taken_stays p (d ∷ ds) other = ap (λ (o : Option ℕ). sourcing o (map (echoed p) ds)) (kept_source (p == 0) (not-true (p == 0) other)) ∙ taken_stays p ds other
-  where
-    kept_source : (b : Bool) → b ≡ false → (if b then Some p else Some p) ≡ Some p
-    kept_source true e = refl
-    kept_source false e = refl
-
--- in a receive so far it is the device that took the start message
-pub sourcing-open : (before : Option ℕ) (a : ℕ) (number : Option ℕ) (start : Frame) (p : ℕ) (ds : List Echo) → not (p == 0) ≡ true →
-    sourcing before (receive_open 0 a number start p ds) ≡ Some p
-sourcing-open before a None start p ds other = taken_stays p ds other
-sourcing-open before a (Some n) start p ds other = taken_stays p ds other

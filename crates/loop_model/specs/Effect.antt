@@ -1,5 +1,6 @@
 -- What a log did to the tape in the drive, and which bytes it carried: this project's own.
 use Rattle.std.specs.Prelude.{◌≡◌, ℕ, ◌==◌, Bool, true, false, not, ◌&&◌, MatchBool, List, [], ◌∷◌, Option, Some, None}
+use Rattle.std.specs.List.{list_all}
 use Rattle.il_frames.specs.declared.entry.Entry.{Entry}
 use Rattle.lif_model.specs.Tape.{Tape}
 use Rattle.lif_model.specs.Transfers.{Transfer, all_pieces, full_pieces, Replaced, PartlyReplaced, carries}
@@ -13,6 +14,10 @@ use Rattle.loop_model.specs.Units.{RecordUnit, units_of, ends_within}
 abbrev pub is_good : Option ℕ → Bool
 is_good None = false
 is_good (Some status) = status == 0
+
+-- the status of each unit is 0
+abbrev pub all_good : List RecordUnit → Bool
+all_good ws = list_all (λ w. is_good w.status) ws
 
 -- a write with status 0 put all its pieces; one with another status, or an unfinished one, may have
 -- put some of those that were sent whole; a read left the tape

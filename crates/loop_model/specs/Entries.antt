@@ -1,6 +1,6 @@
 -- Entries of a log, and the frames of controllers and talkers by name. Source: HP-IL Interface
 -- Specification, HP 82166-90017, the tables of command and ready messages.
-use Rattle.std.specs.Prelude.{ℕ, ◌+◌, ◌==◌, ◌&&◌, Bool, true, false}
+use Rattle.std.specs.Prelude.{ℕ, ◌+◌, ◌==◌, ◌&&◌, Bool, true, false, not}
 use Rattle.il_frames.specs.declared.frame.Class.TheVariants as class
 use Rattle.il_frames.specs.declared.frame.Frame.{Frame}
 use Rattle.il_frames.specs.declared.entry.Entry.{Entry}
@@ -77,3 +77,7 @@ is_frame f g = same_class (class_of f) (class_of g) && (byte_of f == byte_of g)
 -- the entry is a lost NRD of the host
 abbrev pub is_lost_nrd : Entry → Bool
 is_lost_nrd e = (e.source == 0) && (is_frame e.frame nrd && is_lost e.outcome)
+
+-- the entry's frame is no NRD
+abbrev pub is_no_nrd : Entry → Bool
+is_no_nrd e = not (is_frame e.frame nrd)

@@ -10,7 +10,7 @@ use Rattle.il_frames.specs.declared.message.Message.TheVariants as msg
 use Rattle.il_frames.specs.declared.entry.Entry.{Entry}
 use Rattle.il_frames.specs.declared.entry.Outcome.{Outcome}
 use Rattle.il_frames.specs.declared.entry.Outcome.TheVariants as outcome
-use Rattle.il_frames.specs.Frames.{framed, class_of, same_class, is_data, same_but_service}
+use Rattle.il_frames.specs.Frames.{framed, class_of, byte_of, same_class, is_data, same_but_service}
 use Rattle.il_frames.specs.Messages.{message_of}
 use Rattle.il_device.specs.Takes.{eto, ete}
 use Rattle.loop_model.specs.Loops.{Loop}
@@ -47,6 +47,16 @@ pub data Exchange : Type 0 where
   Receive : ℕ → Option ℕ → Start → Answer → Exchange
   Identify : Frame → Exchange
 
+-- the device that takes a start message is the one that was asked for, and is on the ring of k devices
+abbrev pub is_asked_for : ℕ → ℕ → ℕ → Bool
+is_asked_for k a p = (p == a) && (nat_le 1 a && nat_le a k)
+
+-- where the exchange is a receive that a device answered, it was that one
+abbrev pub answers_as_asked : ℕ → Exchange → Bool
+answers_as_asked k (Receive a number s (ToItsEnd p data_frames)) = is_asked_for k a p
+answers_as_asked k (Receive a number s (Stopped p data_frames last)) = is_asked_for k a p
+answers_as_asked k x = true
+
 -- ---- entries
 
 -- the frame of a start message
@@ -68,10 +78,18 @@ commanded c f = returned c f ∷ returned c rfc ∷ []
 abbrev pub echoed : ℕ → Echo → Entry
 echoed party d = entry party d.sent (outcome.Back d.back)
 
+-- the bytes of data frames
+abbrev pub bytes_of : List Echo → List ℕ
+bytes_of data_frames = map (λ d. byte_of d.sent) data_frames
+
 -- the command of a number, if one is given
 abbrev pub numbered : ℕ → (ℕ → Frame) → Option ℕ → List Entry
 numbered c frame None = []
 numbered c frame (Some n) = commanded c (frame n)
+
+-- the entries of a receive up to its start message
+abbrev pub receive_front : ℕ → ℕ → Option ℕ → List Entry
+receive_front c a number = commanded c unl ++ commanded c (tad a) ++ numbered c ddt number
 
 -- the start message and what came of it
 abbrev pub answer_entries : ℕ → Frame → Answer → List Entry

@@ -22,6 +22,10 @@ is_intact f (outcome.Back g) = same_but_service f g
 is_intact f (outcome.Taken q) = true
 is_intact f (outcome.Lost q) = false
 
+-- the entry has no data byte
+abbrev pub has_no_data : Entry → Bool
+has_no_data e = not (is_data e.frame)
+
 -- the entry brought a data byte of another source to the party, as it was sent
 abbrev pub brings_byte : ℕ → ℕ → Entry → Bool
 brings_byte k party e =

@@ -45,6 +45,16 @@ abbrev pub roles_after : List Roles → List Entry → List Roles
 roles_after rs [] = rs
 roles_after rs (e ∷ log) = roles_after (roles_after_entry rs e) log
 
+-- the message ends addresses
+abbrev pub is_aau : Message → Bool
+is_aau msg.Aau = true
+is_aau m = false
+
+-- the devices from this party on have their numbers as addresses
+abbrev pub are_numbered : ℕ → List Roles → Bool
+are_numbered party [] = true
+are_numbered party (r ∷ rs) = device.is_own r.address party && are_numbered (suc party) rs
+
 -- the parties from this one on that talk
 abbrev pub talkers_from : ℕ → List Roles → List ℕ
 talkers_from party [] = []

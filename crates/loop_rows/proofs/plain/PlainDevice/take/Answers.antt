@@ -8,7 +8,7 @@ use Rattle.il_device.specs.declared.device.Out.TheVariants.{Pass, Source}
 use Rattle.il_device.specs.declared.interface.Turn.{Turn}
 use Rattle.il_device.specs.declared.interface.Turn.TheVariants as turn
 use Rattle.il_device.proofs.TurnLemmas.{Takes-on, Behind-effect, Behind-own, Answers-pass, Answers-ended, MayPass, heard_after-roomless}
-use Rattle.il_ring.proofs.second_drive.SecondDriveDevice.take.Goals as goal
+use Rattle.loop_rows.proofs.plain.PlainDevice.take.Goals as goal
 
 may_pass : (asked : Turn) → (asked ≡ turn.Pass) ⊎ ((asked ≡ turn.Hear) ⊎ (asked ≡ turn.Begin)) → MayPass asked
 may_pass turn.Pass is = tt

@@ -1,0 +1,130 @@
+// The accessory IDs of all devices of a loop, and what they answer to a parallel poll.
+ghost use Rattle.std.specs.Prelude.{IfOk};
+
+use crate::plain::Plain;
+use crate::tools::{frame_of, store, tape};
+use arrayvec::ArrayVec;
+use il_device::{Device, Printer, Quiet};
+use il_ports::{MemoryMedium, Records};
+use il_record::LoopRecords;
+use il_same::same;
+use std::process::Abort;
+use std::test::Fail;
+
+/// Addresses the loop.
+fn address(rt: &impl Abort, records: &mut LoopRecords<MemoryMedium>) -> Result<(), Fail>
+    requires { (⟦<LoopRecords<MemoryMedium> as Records>⟧.view records.old).valid }
+    ensures { IfOk result (λ x. (⟦<LoopRecords<MemoryMedium> as Records>⟧.view records.new).valid) }
+{
+    assert!(rt; records.ring().spare() >= 64);
+    match records.ready() {
+        Ok(()) => Ok(()),
+        Err(_) => Err(Fail::from("a fault in the addressing")),
+    }
+}
+
+/// The devices of a loop in order, the drive (D) among printers (P), callers (C) and quiet ones, and what a poll answers.
+struct Loop {
+    devices: &'static [u8],
+    poll: &'static str,
+}
+
+static LOOPS: [Loop; 5] = [
+    Loop {
+        devices: b"D",
+        poll: "IDY 00",
+    },
+    Loop {
+        devices: b"PDQCP",
+        poll: "ISR 08",
+    },
+    Loop {
+        devices: b"CDC",
+        poll: "ISR 05",
+    },
+    // Thirty devices: the eighth wants service, and so do the ninth and the last, which have no bit.
+    Loop {
+        devices: b"QQQQPQQCCQDQQQQQQQQQQPQQQQQQQC",
+        poll: "ISR 80",
+    },
+    // None of the first eight does.
+    Loop {
+        devices: b"QQQQPQQDCC",
+        poll: "ISR 00",
+    },
+];
+
+/// The accessory ID of a device of this kind.
+fn id_of(kind: u8) -> Option<u8> {
+    match kind {
+        b'D' => Some(16),
+        b'P' => Some(32),
+        b'C' => Some(5),
+        _ => None,
+    }
+}
+
+/// Compares the accessory IDs of all devices.
+fn compare_names(
+    rt: &impl Abort,
+    devices: &Loop,
+    records: &mut LoopRecords<MemoryMedium>,
+) -> Result<(), Fail>
+    requires { (⟦<LoopRecords<MemoryMedium> as Records>⟧.view records.old).valid }
+    ensures { IfOk result (λ x. (⟦<LoopRecords<MemoryMedium> as Records>⟧.view records.new).valid) }
+{
+    assert!(rt; records.is_ready() && records.ring().spare() >= 1000);
+    let mut ids = ArrayVec::new();
+    assert!(rt; records.accessories(&mut ids).is_ok(), "the IDs");
+    assert!(rt; same(ids.len(), devices.devices.len()), "as many IDs");
+    for (id, kind) in ids.iter().zip(devices.devices) {
+        assert!(rt; same(*id, id_of(*kind)), "an ID");
+    }
+    Ok(())
+}
+
+/// Compares the answer of a poll.
+fn compare_poll(
+    rt: &impl Abort,
+    devices: &Loop,
+    records: &mut LoopRecords<MemoryMedium>,
+) -> Result<(), Fail>
+    requires { (⟦<LoopRecords<MemoryMedium> as Records>⟧.view records.old).valid }
+{
+    assert!(rt; records.is_ready() && records.ring().spare() >= 1000);
+    let Ok(frame) = records.parallel_poll() else {
+        return Err(Fail::from("a fault"));
+    };
+    assert!(rt; same(frame, frame_of(rt, devices.poll)), "the poll");
+    Ok(())
+}
+
+#[test]
+fn names_and_polls(rt: HostRuntime) -> Result<(), Fail> {
+    let alloc = rt.alloc();
+    for devices in &LOOPS {
+        let (mut before, mut after) = (Vec::new(alloc), Vec::new(alloc));
+        let mut behind = false;
+        for kind in devices.devices {
+            let device: Box<dyn Device> = match kind {
+                b'D' => {
+                    behind = true;
+                    continue;
+                }
+                b'P' => Box::new(alloc, Printer::new(alloc)?)?,
+                b'C' => Box::new(alloc, Plain::caller())?,
+                _ => Box::new(alloc, Quiet::new())?,
+            };
+            if behind {
+                after.push(device)?;
+            } else {
+                before.push(device)?;
+            }
+        }
+        let mut records = store(&rt, tape(&rt, 0, 0)?, before, after, &[])?;
+        address(&rt, &mut records)?;
+        compare_names(&rt, devices, &mut records)?;
+        compare_poll(&rt, devices, &mut records)?;
+    }
+    Ok(())
+}

@@ -1,0 +1,513 @@
+// Rounds of the ring: what arrives, the log, the crossings, and what the printer heard.
+
+use crate::plain::Plain;
+use crate::tools::{compare_log, frame_of, has_paper, tape};
+use PlanFault::{Alter, Lose};
+use il_device::{Device, Printer, Quiet};
+use il_frames::{Class, Frame};
+use il_ports::{Medium, MemoryMedium};
+use il_ring::{Arrival, PlanFault, Planned, Rig, Ring, is_plan};
+use il_same::{same, same_bytes};
+use std::process::Abort;
+use std::test::Fail;
+
+/// A day of the drive and a printer behind it, three links a round.
+struct Day {
+    name: &'static str,
+    /// The crossings at which something is planned.
+    plan: &'static [(u64, PlanFault)],
+    /// The frame that the host sends, or `relay`, and the frame that arrives, or `lost`.
+    rounds: &'static [(&'static str, &'static str)],
+    log: &'static [&'static str],
+    crossings: u64,
+    held: Option<&'static str>,
+    /// What the printer heard.
+    paper: &'static [u8],
+}
+
+static DAYS: [Day; 18] = [
+    Day {
+        name: "a command is lost behind the drive, and no fault is left",
+        plan: &[(2, Lose)],
+        rounds: &[("IFC", "lost"), ("IFC", "IFC")],
+        log: &["~ 0 IFC ! 2", "~ 0 IFC = IFC"],
+        crossings: 5,
+        held: None,
+        paper: b"",
+    },
+    Day {
+        name: "an altered ready frame is lost",
+        plan: &[(1, Alter(1))],
+        rounds: &[("RFC", "lost")],
+        log: &["~ 0 RFC ! 1"],
+        crossings: 1,
+        held: None,
+        paper: b"",
+    },
+    Day {
+        name: "an altered identify frame is lost on the last link",
+        plan: &[(3, Alter(0x80))],
+        rounds: &[("IDY 00", "lost")],
+        log: &["~ 0 IDY 00 ! 0"],
+        crossings: 3,
+        held: None,
+        paper: b"",
+    },
+    Day {
+        name: "a byte altered before the printer",
+        plan: &[(8, Alter(3))],
+        rounds: &[
+            ("AAD 01", "AAD 03"),
+            ("LAD 02", "LAD 02"),
+            ("DAB 41", "DAB 42"),
+            ("DAB 41", "DAB 41"),
+        ],
+        log: &[
+            "~ 0 AAD 01 = AAD 03",
+            "~ 0 LAD 02 = LAD 02",
+            "~ 0 DAB 41 = DAB 42",
+            "~ 0 DAB 41 = DAB 41",
+        ],
+        crossings: 12,
+        held: None,
+        paper: b"BA",
+    },
+    Day {
+        name: "a byte altered behind the printer",
+        plan: &[(9, Alter(3))],
+        rounds: &[
+            ("AAD 01", "AAD 03"),
+            ("LAD 02", "LAD 02"),
+            ("END 41", "END 42"),
+        ],
+        log: &[
+            "~ 0 AAD 01 = AAD 03",
+            "~ 0 LAD 02 = LAD 02",
+            "~ 0 END 41 = END 42",
+        ],
+        crossings: 9,
+        held: None,
+        paper: b"A",
+    },
+    Day {
+        name: "a byte altered before and behind the printer is lost",
+        plan: &[(8, Alter(3)), (9, Alter(3))],
+        rounds: &[
+            ("AAD 01", "AAD 03"),
+            ("LAD 02", "LAD 02"),
+            ("DAB 41", "lost"),
+        ],
+        log: &[
+            "~ 0 AAD 01 = AAD 03",
+            "~ 0 LAD 02 = LAD 02",
+            "~ 0 DAB 41 ! 0",
+        ],
+        crossings: 9,
+        held: None,
+        paper: b"B",
+    },
+    Day {
+        name: "a byte altered before and behind the drive is lost",
+        plan: &[(7, Alter(1)), (8, Alter(2))],
+        rounds: &[
+            ("AAD 01", "AAD 03"),
+            ("LAD 02", "LAD 02"),
+            ("DAB 41", "lost"),
+        ],
+        log: &[
+            "~ 0 AAD 01 = AAD 03",
+            "~ 0 LAD 02 = LAD 02",
+            "~ 0 DAB 41 ! 2",
+        ],
+        crossings: 8,
+        held: None,
+        paper: b"",
+    },
+    Day {
+        name: "the drive asks for service, which is no alteration",
+        plan: &[(14, Alter(1))],
+        rounds: &[
+            ("AAD 01", "AAD 03"),
+            ("LAD 01", "LAD 01"),
+            ("DDL 04", "DDL 04"),
+            ("DAB 02", "DAB 02"),
+            ("DAB 00", "DSR 01"),
+            ("END 07", "ESR 07"),
+            ("IDY 00", "ISR 00"),
+        ],
+        log: &[
+            "~ 0 AAD 01 = AAD 03",
+            "~ 0 LAD 01 = LAD 01",
+            "~ 0 DDL 04 = DDL 04",
+            "~ 0 DAB 02 = DAB 02",
+            "~ 0 DAB 00 = DSR 01",
+            "~ 0 END 07 = ESR 07",
+            "~ 0 IDY 00 = ISR 00",
+        ],
+        crossings: 21,
+        held: None,
+        paper: b"",
+    },
+    Day {
+        name: "the drive's status, stopped",
+        plan: &[],
+        rounds: &[
+            ("AAD 01", "AAD 03"),
+            ("TAD 01", "TAD 01"),
+            ("SST", "DAB 00"),
+            ("NRD", "NRD"),
+            ("relay", "ETO"),
+            ("UNT", "UNT"),
+        ],
+        log: &[
+            "~ 0 AAD 01 = AAD 03",
+            "~ 0 TAD 01 = TAD 01",
+            "~ 0 SST > 1",
+            "~ 0 NRD = NRD",
+            "~ 1 DAB 00 = DAB 00",
+            "~ 1 ETO > 0",
+            "~ 0 UNT = UNT",
+        ],
+        crossings: 18,
+        held: None,
+        paper: b"",
+    },
+    Day {
+        name: "the drive's status is held",
+        plan: &[],
+        rounds: &[
+            ("AAD 01", "AAD 03"),
+            ("TAD 01", "TAD 01"),
+            ("SST", "DAB 00"),
+        ],
+        log: &["~ 0 AAD 01 = AAD 03", "~ 0 TAD 01 = TAD 01", "~ 0 SST > 1"],
+        crossings: 9,
+        held: Some("DAB 00"),
+        paper: b"",
+    },
+    Day {
+        name: "the printer's ID comes from party 2",
+        plan: &[],
+        rounds: &[
+            ("AAD 01", "AAD 03"),
+            ("TAD 02", "TAD 02"),
+            ("SAI", "DAB 20"),
+            ("relay", "ETO"),
+        ],
+        log: &[
+            "~ 0 AAD 01 = AAD 03",
+            "~ 0 TAD 02 = TAD 02",
+            "~ 0 SAI > 2",
+            "~ 2 DAB 20 = DAB 20",
+            "~ 2 ETO > 0",
+        ],
+        crossings: 12,
+        held: None,
+        paper: b"",
+    },
+    Day {
+        name: "what the drive sends in place of a start message is lost",
+        plan: &[(9, Lose)],
+        rounds: &[("AAD 01", "AAD 03"), ("TAD 01", "TAD 01"), ("SST", "lost")],
+        log: &[
+            "~ 0 AAD 01 = AAD 03",
+            "~ 0 TAD 01 = TAD 01",
+            "~ 0 SST > 1",
+            "~ 1 DAB 00 ! 0",
+        ],
+        crossings: 9,
+        held: None,
+        paper: b"",
+    },
+    Day {
+        name: "a lost NRD drops the held frame, of which nothing is noted",
+        plan: &[(11, Lose)],
+        rounds: &[
+            ("AAD 01", "AAD 03"),
+            ("TAD 01", "TAD 01"),
+            ("SST", "DAB 00"),
+            ("NRD", "lost"),
+        ],
+        log: &[
+            "~ 0 AAD 01 = AAD 03",
+            "~ 0 TAD 01 = TAD 01",
+            "~ 0 SST > 1",
+            "~ 0 NRD ! 2",
+        ],
+        crossings: 11,
+        held: None,
+        paper: b"",
+    },
+    Day {
+        name: "a held frame altered on its way back to the drive",
+        plan: &[(10, Alter(1))],
+        rounds: &[
+            ("AAD 01", "AAD 03"),
+            ("TAD 01", "TAD 01"),
+            ("SST", "DAB 00"),
+            ("relay", "ETE"),
+        ],
+        log: &[
+            "~ 0 AAD 01 = AAD 03",
+            "~ 0 TAD 01 = TAD 01",
+            "~ 0 SST > 1",
+            "~ 1 DAB 00 = DAB 01",
+            "~ 1 ETE > 0",
+        ],
+        crossings: 12,
+        held: None,
+        paper: b"",
+    },
+    Day {
+        name: "a held frame altered on its way to the host",
+        plan: &[(8, Alter(1))],
+        rounds: &[
+            ("AAD 01", "AAD 03"),
+            ("TAD 01", "TAD 01"),
+            ("SST", "DAB 01"),
+            ("relay", "ETE"),
+        ],
+        log: &[
+            "~ 0 AAD 01 = AAD 03",
+            "~ 0 TAD 01 = TAD 01",
+            "~ 0 SST > 1",
+            "~ 1 DAB 00 = DAB 01",
+            "~ 1 ETE > 0",
+        ],
+        crossings: 12,
+        held: None,
+        paper: b"",
+    },
+    Day {
+        name: "a held frame altered on both sides of the host is lost",
+        plan: &[(9, Alter(1)), (10, Alter(1))],
+        rounds: &[
+            ("AAD 01", "AAD 03"),
+            ("TAD 01", "TAD 01"),
+            ("SST", "DAB 01"),
+            ("relay", "lost"),
+        ],
+        log: &[
+            "~ 0 AAD 01 = AAD 03",
+            "~ 0 TAD 01 = TAD 01",
+            "~ 0 SST > 1",
+            "~ 1 DAB 00 ! 1",
+        ],
+        crossings: 10,
+        held: None,
+        paper: b"",
+    },
+    Day {
+        name: "the end of a transmission is lost",
+        plan: &[(11, Lose)],
+        rounds: &[
+            ("AAD 01", "AAD 03"),
+            ("TAD 01", "TAD 01"),
+            ("SST", "DAB 00"),
+            ("relay", "lost"),
+        ],
+        log: &[
+            "~ 0 AAD 01 = AAD 03",
+            "~ 0 TAD 01 = TAD 01",
+            "~ 0 SST > 1",
+            "~ 1 DAB 00 = DAB 00",
+            "~ 1 ETO ! 2",
+        ],
+        crossings: 11,
+        held: None,
+        paper: b"",
+    },
+    Day {
+        name: "no device talks",
+        plan: &[],
+        rounds: &[("SDA", "SDA"), ("DAB 41", "DAB 41"), ("NRD", "NRD")],
+        log: &["~ 0 SDA = SDA", "~ 0 DAB 41 = DAB 41", "~ 0 NRD = NRD"],
+        crossings: 9,
+        held: None,
+        paper: b"",
+    },
+];
+
+/// A ring of the rig, with room for 100 entries.
+fn ring_of(
+    rt: &(impl Abort + AllocGlobal),
+    rig: Rig<MemoryMedium>,
+    plan: &[Planned],
+) -> Ring<MemoryMedium> {
+    assert!(rt; rig.fits());
+    assert!(rt; is_plan(plan));
+    assert!(rt; rig.medium.size() > 0);
+    Ring::new(rt.alloc(), rig, plan, 100)
+        .ok()
+        .expect(rt, "memory for a ring")
+}
+
+/// One round: the frame that the host sends, or `relay`, and the frame that arrives, or `lost`.
+fn go_round(rt: &impl Abort, ring: &mut Ring<MemoryMedium>, frame: &str, arrives: &str) {
+    assert!(rt; ring.spare() >= 32);
+    let arrival = if frame == "relay" {
+        assert!(rt; ring.held().is_some());
+        ring.relay()
+    } else {
+        let frame = frame_of(rt, frame);
+        assert!(rt; ring.held().is_none() || frame == Frame::new(Class::Rdy, 0x42));
+        ring.send(frame)
+    };
+    let want = if arrives == "lost" {
+        Arrival::Lost
+    } else {
+        Arrival::Frame(frame_of(rt, arrives))
+    };
+    assert!(rt; same(arrival, want), "{frame}");
+}
+
+/// What the day left.
+fn compare_day(rt: &impl Abort, ring: &Ring<MemoryMedium>, day: &Day) {
+    let name = day.name;
+    compare_log(rt, ring.log(), day.log, name);
+    assert!(rt;
+        same(100_usize.checked_sub(ring.spare()), Some(day.log.len())),
+        "{name}"
+    );
+    assert!(rt; same(ring.crossings(), day.crossings), "{name}");
+    let held = day.held.map(|text| frame_of(rt, text));
+    assert!(rt; same(ring.held(), held), "{name}");
+    assert!(rt; has_paper(ring, day.paper), "{name}");
+}
+
+#[test]
+fn days(rt: HostRuntime) -> Result<(), Fail> {
+    let alloc = rt.alloc();
+    for day in &DAYS {
+        let printer: Box<dyn Device> = Box::new(alloc, Printer::new(alloc)?)?;
+        let mut after = Vec::new(alloc);
+        after.push(printer)?;
+        let rig = Rig {
+            medium: tape(&rt, 0, 0)?,
+            before: Vec::new(alloc),
+            after,
+        };
+        let mut plan = Vec::new(alloc);
+        for (hop, fault) in day.plan {
+            plan.push(Planned {
+                hop: *hop,
+                fault: *fault,
+            })?;
+        }
+        let mut ring = ring_of(&rt, rig, &plan);
+        for (frame, arrives) in day.rounds {
+            go_round(&rt, &mut ring, frame, arrives);
+        }
+        compare_day(&rt, &ring, day);
+    }
+    Ok(())
+}
+
+/// A loop as long as it may be: 29 devices beside the drive.
+#[test]
+fn thirty_devices(rt: HostRuntime) -> Result<(), Fail> {
+    let alloc = rt.alloc();
+    let (mut before, mut after) = (Vec::new(alloc), Vec::new(alloc));
+    for k in 0..30 {
+        let quiet: Box<dyn Device> = Box::new(alloc, Quiet::new())?;
+        if k < 10 {
+            before.push(quiet)?;
+        } else {
+            after.push(quiet)?;
+        }
+    }
+    let mut rig = Rig {
+        medium: tape(&rt, 0, 0)?,
+        before,
+        after,
+    };
+    assert!(rt; !rig.fits());
+    let _ = rig.after.pop();
+    let mut ring = ring_of(&rt, rig, &[]);
+    assert!(rt;
+        same(ring.party(), 11) && ring.paper().is_none(),
+        "no printer"
+    );
+    let rounds = [
+        ("AAD 01", "IAA"),
+        ("TAD 0B", "TAD 0B"),
+        ("SAI", "DAB 10"),
+        ("relay", "ETO"),
+        ("LAD 1E", "LAD 1E"),
+        ("DAB 41", "DAB 41"),
+    ];
+    for (frame, arrives) in rounds {
+        go_round(&rt, &mut ring, frame, arrives);
+    }
+    let log = [
+        "~ 0 AAD 01 = IAA",
+        "~ 0 TAD 0B = TAD 0B",
+        "~ 0 SAI > 11",
+        "~ 11 DAB 10 = DAB 10",
+        "~ 11 ETO > 0",
+        "~ 0 LAD 1E = LAD 1E",
+        "~ 0 DAB 41 = DAB 41",
+    ];
+    compare_log(&rt, ring.log(), &log, "thirty devices");
+    assert!(rt; same(ring.crossings(), 6 * 31), "crossings");
+    ring.clear_log();
+    assert!(rt;
+        same(ring.spare(), 100) && same(ring.crossings(), 6 * 31),
+        "no log"
+    );
+    let rig = ring.into_rig();
+    assert!(rt;
+        same(rig.before.len(), 10) && same(rig.after.len(), 19),
+        "the rig"
+    );
+    for device in rig.before.iter().chain(rig.after.iter()) {
+        assert!(rt; same(device.frames(), 6), "frames");
+    }
+    Ok(())
+}
+
+/// A printer stands before the drive, and another behind it. A second drive may not stand there.
+#[test]
+fn printer_first(rt: HostRuntime) -> Result<(), Fail> {
+    let alloc = rt.alloc();
+    let first: Box<dyn Device> = Box::new(alloc, Printer::new(alloc)?)?;
+    let second: Box<dyn Device> = Box::new(alloc, Printer::new(alloc)?)?;
+    let (mut before, mut after) = (Vec::new(alloc), Vec::new(alloc));
+    let drive: Box<dyn Device> = Box::new(alloc, Plain::second_drive())?;
+    before.push(first)?;
+    after.push(second)?;
+    after.push(drive)?;
+    let mut rig = Rig {
+        medium: tape(&rt, 0, 0)?,
+        before,
+        after,
+    };
+    assert!(rt; !rig.fits());
+    let _ = rig.after.pop();
+    let mut ring = ring_of(&rt, rig, &[]);
+    assert!(rt; same(ring.party(), 2) && has_paper(&ring, b""), "a printer");
+    let rounds = [
+        ("AAD 01", "AAD 04"),
+        ("LAD 01", "LAD 01"),
+        ("DAB 48", "DAB 48"),
+        ("END 50", "END 50"),
+        ("LAD 03", "LAD 03"),
+        ("DAB 21", "DAB 21"),
+        ("UNL", "UNL"),
+        ("DAB 3F", "DAB 3F"),
+    ];
+    for (frame, arrives) in rounds {
+        go_round(&rt, &mut ring, frame, arrives);
+    }
+    assert!(rt; has_paper(&ring, b"HP!"), "the paper of the first");
+    assert!(rt; same(ring.medium().size(), 512), "the tape on the ring");
+    let rig = ring.into_rig();
+    assert!(rt; same(rig.medium.size(), 512), "the tape in the rig");
+    let heard = rig.before.iter().chain(rig.after.iter());
+    for (device, want) in heard.zip([b"HP!".as_slice(), b"!".as_slice()]) {
+        assert!(rt; same_bytes(device.heard(), want), "heard");
+    }
+    // Devices that have an address already make no new ring.
+    assert!(rt; !rig.fits());
+    Ok(())
+}
