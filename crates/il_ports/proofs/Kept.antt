@@ -9,7 +9,6 @@ use Rattle.lif_model.specs.Shelf.{Shelf, image_of, bytes_of, OthersStay, disc_re
 use Rattle.lif_model.proofs.Sizes.{size_bounds}
 use Rattle.std.proofs.lemmas.Bool.{eqb-true}
 use Rattle.lif_model.specs.Redo.{Changes, changed}
-use Rattle.lif_model.specs.History.{LeftBy}
 use Rattle.lif_model.specs.Stops.{Torn, Elapses}
 use Rattle.std.specs.Prelude.{◌==◌, IsSome}
 use Rattle.std.proofs.lemmas.List.{length-take, get_or-take, get_or_default}
@@ -17,7 +16,7 @@ use Rattle.lif_model.specs.Tape.{record_at}
 use Rattle.lif_model.specs.History.{stopped_at}
 use Rattle.lif_model.proofs.Commit.{changed_take}
 use Rattle.lif_model.proofs.Redo.{length_changed}
-use Rattle.lif_model.proofs.History.{record_behind, tape_later, told_only, elapses_write}
+use Rattle.lif_model.proofs.History.{record_behind, tape_later, elapses_write}
 use Rattle.il_ports.specs.Drive.{place_of, with_bytes, shelf_with, name_in, IsFirst, is_empty, has_size, tape_in, records_in}
 use Rattle.il_ports.specs.InDrive.{behind, not_behind, step_back}
 use Rattle.il_ports.specs.Inserting.{OthersAreKept}
@@ -97,14 +96,6 @@ pub drive_empty : (drive : Drive) (tape : Tape) → has_size drive (length tape)
 drive_empty Empty tape size out = (refl, eqb-true (length tape) disc_records size)
 drive_empty (Shelved place) tape size out = absurd (omega (arith, (size_bounds (length tape) size).0, out))
 drive_empty Made tape size out = absurd (omega (arith, (size_bounds (length tape) size).0, out))
-
-pub replays_none : (history : Changes) (first tape : Tape) → history ≡ [] → first ≡ tape → tape ≡ changed history first
-replays_none history first tape none same = sym (ap (λ (ws : Changes). changed ws first) none ∙ same)
-
--- what a stop leaves of a tape that was just inserted
-pub left_first : (history : Changes) (first tape : Tape) → history ≡ [] → first ≡ tape → (m : ℕ) (c : Tape) → LeftBy first history m c → Some tape ≡ Some c
-left_first history first tape none same m c by =
-    sym (ap Some (told_only first tape history (replays_none history first tape none same) tape c refl (record { at = by.at; since = omega (arith, ap (λ (ws : Changes). length ws) none); made = by.made; left = by.left })))
 
 -- ---- power stops
 

@@ -1,10 +1,10 @@
 -- A read and a write of one record are runs of one record.
-use Rattle.std.proofs.Common.{◌≡◌, ◌<◌, ◌∙◌, ⊎_elim, inl, inr, ℕ, List, [], ◌∷◌, ◌++◌, length, set, sym, ap, subst, arith, append-nil}
+use Rattle.std.proofs.Common.{◌≡◌, ◌<◌, ◌∙◌, ⊎_elim, inl, inr, ℕ, List, [], ◌∷◌, ◌++◌, length, sym, ap, subst, arith, append-nil}
 use Rattle.std.specs.Prelude.{Option, Some, Result, Ok, Err, true}
 use Rattle.lif_model.specs.Tape.{Tape, IsTape, DidRead, DidReadRun, record_at}
 use Rattle.lif_model.specs.Stops.{Wrote, Elapses}
 use Rattle.lif_model.specs.Transfers.{Transfer, WroteRun}
-use Rattle.lif_model.proofs.Runs.{bytes_from_one, one_replaced, replaced_one, one_torn, torn_one}
+use Rattle.lif_model.proofs.Runs.{bytes_from_one, replaced_one, torn_one}
 use Rattle.il_ports.specs.Transfers.{Added, Adds}
 use Rattle.il_ports.specs.Stores.{RecordsView, IsStore, Fetched, Stored, FetchedRun, StoredRun}
 use Rattle.il_ports.specs.declared.records.Trouble.{Trouble}
@@ -18,9 +18,6 @@ read_run n bytes tape (Err x) did = tt
 run_read : {T : Type 0} (n : ℕ) (bytes : List ℕ) (tape : Option Tape) (r : Result T Trouble) → DidReadRun n 1 bytes tape r → DidRead n bytes tape r
 run_read n bytes tape (Ok x) did = λ t told. did t told ∙ bytes_from_one t n
 run_read n bytes tape (Err x) did = tt
-
-pub fetched_run : {S T : Type 0} (n : ℕ) (bytes : List ℕ) (v w : RecordsView S) (r : Result T Trouble) → Fetched n bytes v w r → FetchedRun n 1 bytes v w r
-fetched_run n bytes v w r did = record { goes_on = did.goes_on; quiet = did.quiet; content = read_run n bytes v.tape r did.content; transfers = did.transfers }
 
 pub run_fetched : {S T : Type 0} (n : ℕ) (bytes : List ℕ) (v w : RecordsView S) (r : Result T Trouble) → FetchedRun n 1 bytes v w r → Fetched n bytes v w r
 run_fetched n bytes v w r did = record { goes_on = did.goes_on; quiet = did.quiet; content = run_read n bytes v.tape r did.content; transfers = did.transfers }
@@ -49,21 +46,9 @@ module _ (n count : ℕ) (bytes : List ℕ) (tape : Option Tape) (is : (t : Tape
   same_size : (t : Tape) → tape ≡ Some t → length bytes ≡ length (record_at t n)
   same_size t told = whole ∙ sym ((is t told).bytes n within)
 
-  wrote_run : {T : Type 0} (new : Option Tape) (r : Result T Trouble) → Wrote n bytes tape new r → WroteRun n (bytes ∷ []) tape new r
-  wrote_run new (Ok x) did = λ t told. (set t n bytes, did t told, one_replaced n bytes t (inside t told))
-  wrote_run new (Err x) did = λ t told. let u = did t told in (u.0, u.1, one_torn n bytes t u.0 (inside t told) u.2)
-
   run_wrote : {T : Type 0} (new : Option Tape) (r : Result T Trouble) → WroteRun n (bytes ∷ []) tape new r → Wrote n bytes tape new r
   run_wrote new (Ok x) did = λ t told. let u = did t told in u.1 ∙ ap Some (replaced_one n bytes t u.0 (inside t told) u.2)
   run_wrote new (Err x) did = λ t told. let u = did t told in (u.0, u.1, torn_one n bytes t u.0 (same_size t told) (inside t told) u.2)
-
-pub stored_run : {S T : Type 0} (n : ℕ) (bytes : List ℕ) (v w : RecordsView S) (r : Result T Trouble) → IsStore v → n < v.record_count → length bytes ≡ 256 → Stored n bytes v w r → StoredRun n (bytes ∷ []) v w r
-stored_run n bytes v w r store within whole did = record {
-  goes_on = did.goes_on;
-  content = wrote_run n v.record_count bytes v.tape store.is_tape within whole w.tape r did.content;
-  time = elapses_as _ _ _ _ v.tape _ _ (λ t told c torn. one_torn n bytes t c (inside n v.record_count bytes v.tape store.is_tape within whole t told) torn) did.time;
-  transfers = adds_same n bytes (bytes ++ []) v.transferred w.transferred r (sym (append-nil bytes)) did.transfers;
-}
 
 pub run_stored : {S T : Type 0} (n : ℕ) (bytes : List ℕ) (v w : RecordsView S) (r : Result T Trouble) → IsStore v → n < v.record_count → length bytes ≡ 256 → StoredRun n (bytes ∷ []) v w r → Stored n bytes v w r
 run_stored n bytes v w r store within whole did = record {

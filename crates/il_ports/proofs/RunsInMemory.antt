@@ -1,5 +1,5 @@
 -- Runs of records in memory.
-use Rattle.std.proofs.Common.{◌≡◌, ◌<◌, ◌≤◌, ◌+◌, ◌-◌, ◌*◌, ◌++◌, ℕ, zero, suc, List, [], ◌∷◌, true, length, get_or, set, take, refl, sym, ◌∙◌, ap, subst, arith, below_more, append_assoc, append-nil}
+use Rattle.std.proofs.Common.{◌≡◌, ◌<◌, ◌≤◌, ◌+◌, ◌-◌, ◌*◌, ◌++◌, ℕ, zero, suc, List, [], ◌∷◌, true, length, get_or, set, take, refl, sym, ◌∙◌, ap, subst, arith, below_more, append_assoc}
 use Rattle.std.proofs.lemmas.List.{get_or_default}
 use Rattle.std.specs.Prelude.{Some, None, Result, Ok, Err}
 use Rattle.lif_model.specs.Tape.{Tape, record_at, bytes_from}
@@ -69,9 +69,6 @@ failed_run {T} count done state answer trouble is more so_far next = record {
 -- ---- a run of writes
 
 module _ (first i : ℕ) (pieces : List (List ℕ)) (old : RecordsState) where
-  pub written_none : written_run {T = Unit {0}} first pieces 0 old (Ok tt) ≡ record old { sound = true }
-  written_none = let left : old.left - 0 ≡ old.left = omega arith in let calls : old.calls + 0 ≡ old.calls = omega arith in λ j. record old { calls = calls j; left = left j; sound = true; writes = append-nil old.writes j }
-
   -- one piece more
   pub written_more : (loop counting now : RecordsState) (bytes : List ℕ) → i < length pieces → loop ≡ written_run {T = Unit {0}} first pieces i old (Ok tt) → counting ≡ counted {T = Unit {0}} loop (Ok tt) → bytes ≡ get_or pieces i []
       → now ≡ record counting { records = set counting.records (first + i) bytes; writes = counting.writes ++ (first + i, bytes) ∷ [] } → now ≡ written_run {T = Unit {0}} first pieces (i + 1) old (Ok tt)

@@ -58,12 +58,6 @@ name_at name (image ∷ images) (suc place) is = there (bytes_eq image.0 name) i
 
 -- ---- the shelf as it reads
 
-pub image_made : (drive : Drive) (made name : List ℕ) (tape : Tape) (shelf : Shelf) → is_made drive made name ≡ true
-    → image_of name (shelf_with drive made tape shelf) ≡ Some (bytes_of tape)
-image_made Made made name tape shelf is = ap (λ (b : Bool). if b then Some (bytes_of tape) else image_of name shelf) is
-image_made Empty made name tape shelf is = cc
-image_made (Shelved place) made name tape shelf is = cc
-
 pub image_inside : (drive : Drive) (made name : List ℕ) (tape : Tape) (shelf : Shelf) (place : ℕ) → is_inside drive place ≡ true → place_of name shelf ≡ Some place
     → image_of name (shelf_with drive made tape shelf) ≡ Some (bytes_of tape)
 image_inside (Shelved inside) made name tape shelf place is found =

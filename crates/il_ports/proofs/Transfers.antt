@@ -1,9 +1,8 @@
 -- How the list of reads and writes goes on.
 use Rattle.std.proofs.Common.{◌≡◌, ◌+◌, ◌++◌, ℕ, List, [], ◌∷◌, true, false, length, sym, subst, arith, append_assoc}
 use Rattle.std.proofs.lemmas.List.{append-nil}
-use Rattle.std.specs.Prelude.{Result, Ok, Err}
 use Rattle.lif_model.specs.Transfers.{Transfer}
-use Rattle.il_ports.specs.Transfers.{Added, Adds, CoversOnly, WritesOnly, GoesOnBy, AddsOnly}
+use Rattle.il_ports.specs.Transfers.{Added, CoversOnly, WritesOnly, GoesOnBy}
 
 -- the lists that a store may have had
 abbrev Lists : Type 1
@@ -30,12 +29,6 @@ then_more P old mid new first next = record {
       let b = next.goes_on (list ++ a.0) a.1 in
       (a.0 ++ b.0, subst new (append_assoc list a.0 b.0) b.1, both P a.0 b.0 a.2 b.2);
 }
-
--- a last call whose answer is handed on
-pub last_call : {T E : Type 0} (P : ℕ → Type 0) (transfer : Transfer) (old mid new : Lists) (r : Result T E)
-    → GoesOnBy P old mid → Adds transfer mid new r → (transfer.writes ≡ true → CoversOnly P transfer) → AddsOnly P old new r
-last_call P transfer old mid new (Ok v) first adds ok = then_more P old mid new first (one_more P transfer mid new adds ok)
-last_call P transfer old mid new (Err e) first adds ok = tt
 
 widen : (P Q : ℕ → Type 0) (list : List Transfer) → ((n : ℕ) → P n → Q n) → WritesOnly P list → WritesOnly Q list
 widen P Q [] wider only = tt

@@ -16,7 +16,7 @@ pub record FileState : Type 0 where
 
 -- what was found, by what is to be made
 abbrev pub IsFound : {F : Type 0} → New → Found F → Type 0
-IsFound made (found.Tape file size) = Unit {0}
+IsFound made (found.Tape file size access) = Unit {0}
 IsFound made found.NoSuch = made ≡ new.No
 IsFound made (found.BadSize size) = largest_image < size
 

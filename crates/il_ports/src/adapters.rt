@@ -1,6 +1,6 @@
 ghost use Rattle.std.specs.Prelude.{◌≡◌};
 
-use crate::stream::{Failed, Sink, Source};
+use crate::stream::{Failed, Sink, Source, faulted};
 use std::io::{Read, Write};
 
 /// A source over any reader of std, such as standard input or a file. It tells what the reader tells. Each error
@@ -29,10 +29,7 @@ impl<R: Read> Source for StdSource<R> {
     fn read(&mut self, into: &mut [u8]) -> Result<usize, Failed> {
         match self.reader.read(into) {
             Ok(count) => Ok(count),
-            Err(_) => {
-                self.faults = self.faults.saturating_add(1);
-                Err(Failed)
-            }
+            Err(_) => Err(faulted(&mut self.faults)),
         }
     }
 }
@@ -63,10 +60,7 @@ impl<W: Write> Sink for StdSink<W> {
     fn write(&mut self, piece: &[u8]) -> Result<usize, Failed> {
         match self.writer.write(piece) {
             Ok(count) if count > 0 => Ok(count),
-            _ => {
-                self.faults = self.faults.saturating_add(1);
-                Err(Failed)
-            }
+            _ => Err(faulted(&mut self.faults)),
         }
     }
 }

@@ -1,5 +1,6 @@
-use crate::file_medium::write_record_at;
-use crate::{Failed, FileMedium, Inserted, Medium, New};
+use crate::file_medium::{WriteFault, write_record_at};
+use crate::{Access, Failed, FileMedium, ImageFile, Inserted, Medium, New};
+use il_same::same;
 use std::alloc::Allocator;
 use std::cell::Cell;
 use std::fs::{File, Metadata, OpenFile, OpenOptions};
@@ -7,7 +8,7 @@ use std::io::{self, ErrorKind, Read, Seek, SeekFrom, Write};
 use std::rt::Files;
 use std::test::Fail;
 
-// What was asked of a file, oldest first.
+/// What was asked of a file, oldest first.
 #[derive(Clone, Copy, Debug, PartialEq, Eq)]
 enum Asked {
     Nothing,
@@ -16,29 +17,33 @@ enum Asked {
     Read,
     Write(usize),
     Sync,
+    SyncAll,
 }
 
-// A file that notes what is asked of it, up to four calls, and fails at the call of that number.
+/// A file that notes what is asked of it, up to eight calls, and fails at the call of that number. Another program
+/// may hold it.
 #[derive(Drop)]
 struct Noting {
-    asked: Cell<[Asked; 4]>,
+    asked: Cell<[Asked; 8]>,
     calls: Cell<usize>,
     fails: usize,
+    is_held: bool,
 }
 
 impl Noting {
-    fn new(fails: usize) -> Noting {
+    fn new(fails: usize, is_held: bool) -> Noting {
         Noting {
-            asked: Cell::new([Asked::Nothing; 4]),
+            asked: Cell::new([Asked::Nothing; 8]),
             calls: Cell::new(0),
             fails,
+            is_held,
         }
     }
 
     fn note(&self, what: Asked) -> io::Result<()> {
         let call = self.calls.get();
         let mut asked = self.asked.get();
-        if call < 4 {
+        if call < 8 {
             asked[call] = what;
             self.asked.set(asked);
             self.calls.set(call + 1);
@@ -90,7 +95,7 @@ impl OpenFile for Noting {
     }
 
     fn sync_all(&self) -> io::Result<()> {
-        Err(ErrorKind::Unsupported.into())
+        self.note(Asked::SyncAll)
     }
 
     fn sync_data(&self) -> io::Result<()> {
@@ -98,30 +103,53 @@ impl OpenFile for Noting {
     }
 }
 
-// A write is a seek, the bytes and a sync, and fails where one of them does.
+impl ImageFile for Noting {
+    fn claim(&self, _: Access) -> bool {
+        !self.is_held
+    }
+}
+
+/// A write is a seek, the bytes and a sync, which comes also where one of them failed.
 #[test]
 fn a_write_is_synced(rt: HostRuntime) -> Result<(), Fail> {
-    let all = [
-        Asked::Seek(768),
-        Asked::Write(256),
-        Asked::Sync,
-        Asked::Nothing,
+    let cases = [
+        (
+            0,
+            Err(WriteFault::Failed),
+            [Asked::Seek(768), Asked::Sync, Asked::Nothing],
+        ),
+        (
+            1,
+            Err(WriteFault::Failed),
+            [Asked::Seek(768), Asked::Write(256), Asked::Sync],
+        ),
+        (
+            2,
+            Err(WriteFault::Unsynced),
+            [Asked::Seek(768), Asked::Write(256), Asked::Sync],
+        ),
+        (
+            3,
+            Ok(()),
+            [Asked::Seek(768), Asked::Write(256), Asked::Sync],
+        ),
     ];
-    for fails in 0..4 {
-        let mut file = Noting::new(fails);
+    for (fails, want, asked) in cases {
+        let mut file = Noting::new(fails, false);
         let answer = write_record_at(&mut file, 3, &[7; 256]);
-        assert_eq!(rt; answer.is_ok(), fails == 3, "{fails}");
-        let calls = file.calls.get();
-        assert_eq!(rt; calls, 3.min(fails + 1), "{fails}");
-        assert!(rt; calls <= 4);
-        assert_eq!(rt; &file.asked.get()[..calls], &all[..calls]);
+        assert!(rt; same(answer, want), "answer {fails}");
+        assert!(rt;
+            same(&file.asked.get()[..3], asked.as_slice()),
+            "calls {fails}"
+        );
     }
     Ok(())
 }
 
-// Files that cannot be looked at, by an error of that kind. One that is made fails at that call.
+/// Files that cannot be looked at, by an error of that kind. One that is made fails at that call, or is held by
+/// another program.
 #[derive(Drop)]
-struct Hidden(ErrorKind, usize);
+struct Hidden(ErrorKind, usize, bool);
 
 impl Files for Hidden {
     type File = Noting;
@@ -129,7 +157,7 @@ impl Files for Hidden {
     type Dir = File;
 
     fn open_file(&self, _: &OpenOptions, _: &str) -> io::Result<Noting> {
-        Ok(Noting::new(self.1))
+        Ok(Noting::new(self.1, self.2))
     }
 
     fn open_dir(&self, _: &str) -> io::Result<File> {
@@ -169,7 +197,7 @@ impl Files for Hidden {
     }
 }
 
-// Only a file that is not there is no such image.
+/// Only a file that is not there is no such image.
 #[test]
 fn a_hidden_file_is_a_fault(rt: HostRuntime) -> Result<(), Fail> {
     for (kind, want) in [
@@ -177,24 +205,48 @@ fn a_hidden_file_is_a_fault(rt: HostRuntime) -> Result<(), Fail> {
         (ErrorKind::PermissionDenied, Err(Failed)),
         (ErrorKind::Other, Err(Failed)),
     ] {
-        let mut medium = FileMedium::new(Hidden(kind, 4));
-        assert_eq!(rt; medium.insert("TAPE", New::No), want);
-        assert_eq!(rt; medium.size(), 0);
+        let mut medium = FileMedium::new(Hidden(kind, 8, false));
+        assert!(rt; same(medium.insert("TAPE", New::No), want), "hidden");
+        assert!(rt; medium.size() == 0);
     }
+    let mut medium = FileMedium::new(Hidden(ErrorKind::NotFound, 8, true));
+    assert!(rt;
+        same(medium.insert("TAPE", New::Tape), Err(Failed)),
+        "held by another program"
+    );
+    assert!(rt; medium.size() == 0);
     Ok(())
 }
 
-// Each call of the file that fails is a fault: that which gives a new one its size, and of a read
-// the seek and what it gives.
+/// A row: the call that fails of a file that is made (its size, a sync), written (seek, bytes, sync) and read (seek,
+/// what it gives); and whether insert, write and read then are Ok. After the sync of a write that failed the read is
+/// a fault too, though the file would give the bytes.
+static FAILING_CALLS: [(usize, bool, bool, bool); 8] = [
+    (0, false, false, false),
+    (1, false, false, false),
+    (2, true, false, true),
+    (3, true, false, true),
+    (4, true, false, false),
+    (5, true, true, false),
+    (6, true, true, false),
+    (7, true, true, true),
+];
+
 #[test]
 fn a_failing_call_is_a_fault(rt: HostRuntime) -> Result<(), Fail> {
-    for fails in 0..4 {
-        let mut medium = FileMedium::new(Hidden(ErrorKind::NotFound, fails));
+    for (fails, inserts, writes, reads) in FAILING_CALLS {
+        let mut medium = FileMedium::new(Hidden(ErrorKind::NotFound, fails, false));
         let inserted = medium.insert("TAPE", New::Tape);
-        assert_eq!(rt; inserted.is_ok(), fails > 0, "{fails}");
+        assert!(rt; inserted.is_ok() == inserts, "insert {fails}");
         if medium.size() > 0 {
-            let answer = medium.read(0, &mut [7; 256]);
-            assert_eq!(rt; answer.is_ok(), fails == 3, "{fails}");
+            assert!(rt;
+                medium.write(0, &[7; 256]).is_ok() == writes,
+                "write {fails}"
+            );
+            assert!(rt;
+                medium.read(0, &mut [7; 256]).is_ok() == reads,
+                "read {fails}"
+            );
         }
     }
     Ok(())

@@ -1,4 +1,4 @@
-// Images of tapes: bytes that are read as records, as if followed by zeros.
+//! Images of tapes: bytes that are read as records, as if followed by zeros.
 ghost use Rattle.std.specs.Prelude.{◌≡◌, ◌<◌, ◌≤◌, ◌+◌, ◌*◌, ◌++◌, ℕ, [], length, get_or, take, drop, MatchOption};
 ghost use Rattle.lif_model.specs.Shelf.{piece, cut, image_bytes, largest_image, records_for};
 ghost use Rattle.il_ports.specs.Sizes.{records_of_size};
@@ -44,7 +44,7 @@ impl Size {
 }
 
 /// A copy of a record, which is known to have 256 bytes.
-pub fn copy_of(bytes: &[u8; 256]) -> [u8; 256]
+pub(crate) fn copy_of(bytes: &[u8; 256]) -> [u8; 256]
     ensures content { result ≡ bytes.now }
     ensures whole { length result ≡ 256 }
 {
@@ -53,7 +53,7 @@ pub fn copy_of(bytes: &[u8; 256]) -> [u8; 256]
 
 /// The next record of an image.
 #[tactic(auto, unfolding(lif_model::specs::Shelf::piece))]
-pub fn next_record(rest: &[u8]) -> [u8; 256]
+pub(crate) fn next_record(rest: &[u8]) -> [u8; 256]
     ensures content { result ≡ piece rest.now }
     ensures whole { length result ≡ 256 }
 {
@@ -67,14 +67,14 @@ pub fn next_record(rest: &[u8]) -> [u8; 256]
 }
 
 /// What follows the next record of an image.
-pub fn after_record(rest: &[u8]) -> &[u8]
+pub(crate) fn after_record(rest: &[u8]) -> &[u8]
     ensures { result.now ≡ drop 256 rest.now }
 {
     if rest.len() < 256 { &[] } else { &rest[256..] }
 }
 
 /// Makes of the tape what the image reads as, with as many records.
-pub fn lay_in(bytes: &[u8], tape: &mut [[u8; 256]])
+pub(crate) fn lay_in(bytes: &[u8], tape: &mut [[u8; 256]])
     ensures content { tape.new ≡ cut (length tape.old) bytes.now }
     ensures shaped { (k : ℕ) → k < length tape.old → length (get_or tape.new k []) ≡ 256 }
 {
@@ -86,7 +86,7 @@ pub fn lay_in(bytes: &[u8], tape: &mut [[u8; 256]])
 }
 
 /// Puts a record into its place among the bytes of records, and changes no other byte.
-pub fn lay_out(content: &[u8; 256], place: usize, bytes: &mut [u8])
+pub(crate) fn lay_out(content: &[u8; 256], place: usize, bytes: &mut [u8])
     requires { 256 * (place + 1) ≤ length bytes.old }
     ensures size { length bytes.new ≡ length bytes.old }
     ensures front { take (256 * (place + 1)) bytes.new ≡ take (256 * place) bytes.old ++ content.now }

@@ -7,6 +7,7 @@ mod file_medium;
 #[cfg(test)]
 mod file_tests;
 mod image;
+mod lock;
 mod medium;
 mod memory_medium;
 mod memory_records;
@@ -20,7 +21,7 @@ mod tests;
 
 pub use adapters::{StdSink, StdSource};
 pub use file_medium::FileMedium;
-pub use image::{after_record, lay_out, next_record};
+pub use lock::{Access, ImageFile};
 pub use medium::{Inserted, Medium, New};
 pub use memory_medium::MemoryMedium;
 pub use memory_records::MemoryRecords;

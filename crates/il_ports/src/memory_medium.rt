@@ -7,12 +7,12 @@ ghost use Rattle.il_ports.specs.Drive.{images_of, place_of, IsOffer, IsFirst, Is
 
 use crate::image::{Size, copy_of, lay_in, lay_out};
 use crate::medium::{Inserted, Medium, New};
-use crate::stream::Failed;
+use crate::stream::{Failed, faulted};
 use std::alloc::{AllocError, Global};
 
 const LONGEST_NAME: usize = 4096;
 
-// Which image is in the drive.
+/// Which image is in the drive.
 #[derive(Clone, Copy)]
 enum Drive {
     Empty,
@@ -22,7 +22,7 @@ enum Drive {
     Made,
 }
 
-// What an insert finds.
+/// What an insert finds.
 enum Offer<'a> {
     /// An image: its place on the shelf, its bytes, and how many records it reads as.
     Take(usize, &'a [u8], u16),
@@ -35,7 +35,7 @@ enum Offer<'a> {
     TooLong,
 }
 
-// The place and the bytes of the first image of that name.
+/// The place and the bytes of the first image of that name.
 fn find<'a>(images: &'a [(String, Vec<u8>)], name: &str) -> Option<(usize, &'a [u8])>
     ensures place { MatchOption result (place_of name.now (images_of images.now) ≡ None)
         (λ found. place_of name.now (images_of images.now) ≡ Some found.0) }
@@ -66,14 +66,14 @@ fn offered<'a>(images: &'a [(String, Vec<u8>)], name: &str, new: New) -> Offer<'
     }
 }
 
-// What record n holds behind a write at that place.
+/// What record n holds behind a write at that place.
 fn behind_write<'a>(n: usize, place: u16, new: &'a [u8; 256], old: &'a [u8; 256]) -> &'a [u8; 256]
     ensures { result.now ≡ (if place == n then new.now else old.now) }
 {
     if usize::from(place) == n { new } else { old }
 }
 
-// Makes two equal tapes, of so many records, of what the image reads as.
+/// Makes two equal tapes, of so many records, of what the image reads as.
 fn put_in(bytes: &[u8], records: u16, tape: &mut Vec<[u8; 256]>, first: &mut Vec<[u8; 256]>)
     requires tape { records ≤ length tape.old.items }
     requires first { length first.old.items ≡ length tape.old.items }
@@ -88,10 +88,10 @@ fn put_in(bytes: &[u8], records: u16, tape: &mut Vec<[u8; 256]>, first: &mut Vec
     first.copy_from_slice(tape);
 }
 
-/// A shelf in memory, with a drive that takes tapes and discs. Calls of each kind are counted from 1; those that the lists name fail. So does
-/// an insert that would make an image with a name of more than 4,096 bytes, and a write for which no room is left.
-/// A failing write that is listed leaves the bytes that the list gives; where no room is left, it leaves the tape
-/// as it was.
+/// A shelf in memory, with a drive that takes tapes and discs. Calls of each kind are counted from 1; those that the
+/// lists name fail. So does an insert that would make an image with a name of more than 4,096 bytes, and a write for
+/// which no room is left. A failing write that is listed leaves the bytes that the list gives; where no room is left,
+/// it leaves the tape as it was.
 ///
 /// Every write that reached the tape is kept, with the bytes that it left. A power stop leaves the tape as it is
 /// between two writes, or with any bytes in the record of the next.
@@ -99,9 +99,9 @@ fn put_in(bytes: &[u8], records: u16, tape: &mut Vec<[u8; 256]>, first: &mut Vec
 pub struct MemoryMedium {
     images: Vec<(String, Vec<u8>)>,
     drive: Drive,
-    // The name of the image that was made, in room that was reserved.
+    /// The name of the image that was made, in room that was reserved.
     made: String,
-    // What the tape holds while one is in the drive, and what it held when it was inserted.
+    /// What the tape holds while one is in the drive, and what it held when it was inserted.
     tape: Vec<[u8; 256]>,
     first: Vec<[u8; 256]>,
     reads: Vec<u64>,
@@ -111,7 +111,7 @@ pub struct MemoryMedium {
     writes_made: u64,
     inserts_made: u64,
     faults: u64,
-    // Every write that reached the tape, with the bytes that it left, in room that was reserved.
+    /// Every write that reached the tape, with the bytes that it left, in room that was reserved.
     history: Vec<(u16, [u8; 256])>,
     room: usize,
     ghost size: { has_size drive (length tape.items) ≡ true },
@@ -206,9 +206,9 @@ impl MemoryMedium {
         &self.history
     }
 
-    /// Fills `into` with the tape as it was behind the first `writes` writes since it was inserted. With `torn` the record
-    /// of the next write holds these bytes: so a power stop within that write may leave it. A tape is in the drive, so many
-    /// writes were made, with `torn` one more, and `into` has as many bytes as the tape.
+    /// Fills `into` with the tape as it was behind the first `writes` writes since it was inserted. With `torn` the
+    /// record of the next write holds these bytes: so a power stop within that write may leave it. A tape is in the
+    /// drive, so many writes were made, with `torn` one more, and `into` has as many bytes as the tape.
     pub fn image_at(&self, writes: u64, torn: Option<&[u8; 256]>, into: &mut [u8])
         requires inside { IsSome (state_of self.now).tape }
         requires size { length into.old ≡ 256 * records_in (state_of self.now).tape }
@@ -221,7 +221,7 @@ impl MemoryMedium {
         }
     }
 
-    // The record as it was behind these writes, or within the next one.
+    /// The record as it was behind these writes, or within the next one.
     fn record_at<'a>(
         &'a self,
         n: usize,
@@ -243,7 +243,7 @@ impl MemoryMedium {
         }
     }
 
-    // What the first entry of this write's number says that it leaves.
+    /// What the first entry of this write's number says that it leaves.
     fn listed(&self) -> Option<[u8; 256]>
         ensures content { result ≡ listed_bytes (state_of self.now).writes_made (state_of self.now).writes }
         ensures whole { IfSome result (λ bytes. length bytes ≡ 256) }
@@ -256,7 +256,7 @@ impl MemoryMedium {
         None
     }
 
-    // Writes a record of the tape in the drive, and keeps the write.
+    /// Writes a record of the tape in the drive, and keeps the write.
     fn keep(&mut self, n: u16, bytes: &[u8; 256])
         requires within { n < records_in (state_of self.old).tape }
         requires room { length (state_of self.old).history < (state_of self.old).room }
@@ -266,7 +266,7 @@ impl MemoryMedium {
         self.history.push((n, *bytes)).unwrap();
     }
 
-    // Whether an image of that name was made. It is in the drive.
+    /// Whether an image of that name was made. It is in the drive.
     fn has_made(&self, name: &str) -> bool
         ensures { result ≡ is_made self.now.drive (string_bytes self.now.made) name.now }
     {
@@ -276,7 +276,7 @@ impl MemoryMedium {
         }
     }
 
-    // Whether the image at that place of the shelf is in the drive.
+    /// Whether the image at that place of the shelf is in the drive.
     fn has_inside(&self, place: usize) -> bool
         ensures { result ≡ is_inside self.now.drive place }
     {
@@ -341,8 +341,7 @@ impl Medium for MemoryMedium {
     {
         self.inserts_made = self.inserts_made.saturating_add(1);
         if self.inserts.contains(&self.inserts_made) {
-            self.faults = self.faults.saturating_add(1);
-            return Err(Failed);
+            return Err(faulted(&mut self.faults));
         }
         match offered(&self.images, name, new) {
             Offer::Take(place, bytes, records) => {
@@ -359,10 +358,7 @@ impl Medium for MemoryMedium {
                 self.drive = Drive::Made;
                 Ok(Inserted::Tape)
             }
-            Offer::TooLong => {
-                self.faults = self.faults.saturating_add(1);
-                Err(Failed)
-            }
+            Offer::TooLong => Err(faulted(&mut self.faults)),
         }
     }
 
@@ -385,8 +381,7 @@ impl Medium for MemoryMedium {
     {
         self.reads_made = self.reads_made.saturating_add(1);
         if self.reads.contains(&self.reads_made) {
-            self.faults = self.faults.saturating_add(1);
-            return Err(Failed);
+            return Err(faulted(&mut self.faults));
         }
         *into = self.tape[n as usize];
         Ok(())
@@ -416,14 +411,12 @@ impl Medium for MemoryMedium {
     {
         self.writes_made = self.writes_made.saturating_add(1);
         if self.history.len() == self.room {
-            self.faults = self.faults.saturating_add(1);
-            return Err(Failed);
+            return Err(faulted(&mut self.faults));
         }
         match self.listed() {
             Some(bytes) => {
                 self.keep(n, &bytes);
-                self.faults = self.faults.saturating_add(1);
-                Err(Failed)
+                Err(faulted(&mut self.faults))
             }
             None => {
                 self.keep(n, from);

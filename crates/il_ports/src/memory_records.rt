@@ -10,7 +10,7 @@ use crate::records::{Records, Trouble};
 use lif_model::RECORD;
 use std::alloc::{AllocError, Global};
 
-// What the first entry of that call says.
+/// What the first entry of that call says.
 fn listed(fails: &[(u64, Trouble)], call: u64) -> Option<Trouble>
     ensures { result ≡ failing call fails.now }
 {
@@ -23,14 +23,14 @@ fn listed(fails: &[(u64, Trouble)], call: u64) -> Option<Trouble>
 }
 
 /// The records of one tape in memory. The records that are read and written are counted together from 1, those of a run
-/// one by one, and those that a list names fail with its trouble: a run ends at the first of them, and the failing one is
-/// not changed. Every write with Ok is kept.
+/// one by one, and those that a list names fail with its trouble: a run ends at the first of them, and the failing one
+/// is not changed. Every write with Ok is kept.
 #[derive(Drop)]
 pub struct MemoryRecords {
     records: Vec<[u8; 256]>,
-    // The tape as it was at first.
+    /// The tape as it was at first.
     first: Vec<[u8; 256]>,
-    // Every write, in room that was reserved.
+    /// Every write, in room that was reserved.
     writes: Vec<(u16, [u8; 256])>,
     fails: Vec<(u64, Trouble)>,
     calls: u64,
@@ -103,7 +103,7 @@ impl MemoryRecords {
         &self.writes
     }
 
-    // Counts a record that is read or written, which fails where the list says so.
+    /// Counts a record that is read or written, which fails where the list says so.
     fn count(&mut self) -> Result<(), Trouble>
         requires sound { (state_of self.old).sound ≡ true }
         requires left { 1 ≤ (state_of self.old).left }
@@ -126,7 +126,7 @@ impl MemoryRecords {
         Err(trouble)
     }
 
-    // Writes a record, and keeps the write. Its room is that of the call that was counted.
+    /// Writes a record, and keeps the write. Its room is that of the call that was counted.
     fn put(&mut self, n: u16, bytes: &[u8; 256])
         requires room { length self.old.writes.items + self.old.left < vec_capacity self.old.writes }
         requires within { n < length (state_of self.old).records }

@@ -5,7 +5,7 @@ ghost use Rattle.lif_model.specs.Causes.{HasCause, next_count};
 ghost use Rattle.il_ports.specs.Taking.{TakesSome};
 ghost use Rattle.il_ports.specs.Counted.{faults_after};
 
-use crate::stream::{Failed, Sink, Source};
+use crate::stream::{Failed, Sink, Source, faulted};
 use std::alloc::{AllocError, Global};
 use std::marker::Model;
 
@@ -88,8 +88,7 @@ impl Source for MemorySource {
     {
         self.calls = self.calls.saturating_add(1);
         if self.fails.contains(&self.calls) {
-            self.faults = self.faults.saturating_add(1);
-            return Err(Failed);
+            return Err(faulted(&mut self.faults));
         }
         let left = &self.bytes[self.taken..];
         let count = left.len().min(self.piece.min(into.len()));
@@ -177,8 +176,7 @@ impl Sink for MemorySink {
     {
         self.calls = self.calls.saturating_add(1);
         if self.fails.contains(&self.calls) || piece.len() > self.room - self.bytes.len() {
-            self.faults = self.faults.saturating_add(1);
-            return Err(Failed);
+            return Err(faulted(&mut self.faults));
         }
         self.bytes.extend_from_slice(piece).unwrap();
         Ok(piece.len())

@@ -17,7 +17,7 @@ pub trait Records {
     ghost use Rattle.lif_model.specs.Shelf.{cut};
     ghost use Rattle.il_ports.specs.Stores.{RecordsView, IsStore, IsReady, AreRecords, Begun, Resumed, Fetched, Stored, FetchedRun, StoredRun};
 
-    // A store as it stood when its log was last emptied. Only contracts speak of it.
+    /// A store as it stood when its log was last emptied. Only contracts speak of it.
     type Start;
 
     ghost view: { Self → RecordsView Self.Start };
@@ -38,8 +38,8 @@ pub trait Records {
         requires { (view self.now).valid }
         ensures { result ≡ (view self.now).calls_left };
 
-    /// Empties the log that the store keeps, if it keeps one, and with it the list of reads and writes. Then at least as
-    /// many records may be read and written as before, and as behind each earlier emptying.
+    /// Empties the log that the store keeps, if it keeps one, and with it the list of reads and writes. Then at least
+    /// as many records may be read and written as before, and as behind each earlier emptying.
     fn begin(&mut self)
         requires { (view self.old).valid }
         ensures { Begun (view self.old) (view self.new) };
@@ -71,9 +71,9 @@ pub trait Records {
         requires within { first + length into.old / 256 ≤ (view self.old).record_count }
         ensures { FetchedRun first (length into.old / 256) into.new (view self.old) (view self.new) result };
 
-    /// Writes `count` records of a sound store, from record `first` on: the bytes of `from`, filled up with zeros. After
-    /// a trouble some of them stand, the first ones, the record of the next holds any bytes, and all others are as
-    /// before. A power stop during the call leaves such a tape.
+    /// Writes `count` records of a sound store, from record `first` on: the bytes of `from`, filled up with zeros.
+    /// After a trouble some of them stand, the first ones, the record of the next holds any bytes, and all others are
+    /// as before. A power stop during the call leaves such a tape.
     fn write_run(&mut self, first: u16, count: u16, from: &[u8]) -> Result<(), Trouble>
         requires some { 1 ≤ count }
         requires fits { length from.now ≤ 256 * count }

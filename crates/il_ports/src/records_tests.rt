@@ -1,4 +1,5 @@
 use crate::{MemoryRecords, Records, Trouble};
+use il_same::{same, same_bytes};
 use std::alloc::{AllocError, Global};
 use std::process::Abort;
 use std::test::Fail;
@@ -28,14 +29,17 @@ fn read(rt: &impl Abort, store: &mut MemoryRecords, n: u16) -> Result<u8, Troubl
     assert!(rt; store.left() > 0);
     let mut into = [0; 256];
     store.read(n, &mut into)?;
-    assert_eq!(rt; into.as_slice(), [into[0]; 256].as_slice());
+    assert!(rt;
+        same_bytes(into.as_slice(), &[into[0]; 256]),
+        "one byte all over"
+    );
     Ok(into[0])
 }
 
 fn resume(rt: &impl Abort, store: &mut MemoryRecords) {
     assert!(rt; !store.is_sound());
     assert!(rt; store.left() > 0);
-    assert_eq!(rt; store.resume(), Ok(()));
+    assert!(rt; same(store.resume(), Ok(())), "a resume");
     assert!(rt; store.is_sound());
 }
 
@@ -43,14 +47,20 @@ fn resume(rt: &impl Abort, store: &mut MemoryRecords) {
 fn a_write_is_read_back(rt: HostRuntime) -> Result<(), Fail> {
     let alloc = rt.alloc();
     let mut store = three(alloc, Vec::new(alloc), 4)?;
-    assert_eq!(rt; store.size(), 3);
-    assert_eq!(rt; read(&rt, &mut store, 2), Ok(3));
-    assert_eq!(rt; write(&rt, &mut store, 2, 7), Ok(()));
-    assert_eq!(rt; read(&rt, &mut store, 2), Ok(7));
-    assert_eq!(rt; read(&rt, &mut store, 1), Ok(2));
-    assert_eq!(rt; store.left(), 0);
-    assert_eq!(rt; store.writes(), [(2, [7; 256])].as_slice());
-    assert_eq!(rt; store.records(), [[1; 256], [2; 256], [7; 256]].as_slice());
+    assert!(rt; same(store.size(), 3), "three records");
+    assert!(rt; same(read(&rt, &mut store, 2), Ok(3)), "2 at first");
+    assert!(rt; same(write(&rt, &mut store, 2, 7), Ok(())), "2 is written");
+    assert!(rt; same(read(&rt, &mut store, 2), Ok(7)), "2 as written");
+    assert!(rt; same(read(&rt, &mut store, 1), Ok(2)), "1 at first");
+    assert!(rt; same(store.left(), 0), "all calls are used");
+    assert!(rt;
+        same(store.writes(), [(2, [7; 256])].as_slice()),
+        "the writes"
+    );
+    assert!(rt;
+        same(store.records(), [[1; 256], [2; 256], [7; 256]].as_slice()),
+        "the records"
+    );
     Ok(())
 }
 
@@ -64,22 +74,34 @@ fn listed_reads_and_writes_fail(rt: HostRuntime) -> Result<(), Fail> {
         (0, Trouble::Frame),
     ];
     let mut store = three(alloc, Vec::from_array(alloc, fails)?, 8)?;
-    assert_eq!(rt; write(&rt, &mut store, 1, 7), Ok(()));
-    assert_eq!(rt; write(&rt, &mut store, 2, 8), Err(Trouble::Frame));
+    assert!(rt; same(write(&rt, &mut store, 1, 7), Ok(())), "1 is written");
+    assert!(rt;
+        same(write(&rt, &mut store, 2, 8), Err(Trouble::Frame)),
+        "a frame of 2"
+    );
     resume(&rt, &mut store);
-    assert_eq!(rt; read(&rt, &mut store, 2), Ok(3));
-    assert_eq!(rt; read(&rt, &mut store, 1), Ok(7));
-    assert_eq!(rt; read(&rt, &mut store, 0), Err(Trouble::Medium));
+    assert!(rt; same(read(&rt, &mut store, 2), Ok(3)), "2 as before");
+    assert!(rt; same(read(&rt, &mut store, 1), Ok(7)), "1 as written");
+    assert!(rt;
+        same(read(&rt, &mut store, 0), Err(Trouble::Medium)),
+        "the medium of 0"
+    );
     resume(&rt, &mut store);
-    assert_eq!(rt; write(&rt, &mut store, 0, 9), Ok(()));
-    assert_eq!(rt; store.left(), 0);
-    assert_eq!(rt; store.writes(), [(1, [7; 256]), (0, [9; 256])].as_slice());
-    assert_eq!(rt; store.records(), [[9; 256], [7; 256], [3; 256]].as_slice());
+    assert!(rt; same(write(&rt, &mut store, 0, 9), Ok(())), "0 is written");
+    assert!(rt; same(store.left(), 0), "all calls are used");
+    assert!(rt;
+        same(store.writes(), [(1, [7; 256]), (0, [9; 256])].as_slice()),
+        "the writes"
+    );
+    assert!(rt;
+        same(store.records(), [[9; 256], [7; 256], [3; 256]].as_slice()),
+        "the records"
+    );
     Ok(())
 }
 
-// Runs of one, two and three records, with a failing record at each place of the run, or at none. The pieces before it are
-// written, and the failing record and those behind it are as before.
+/// Runs of one, two and three records, with a failing record at each place of the run, or at none. The pieces before it
+/// are written, and the failing record and those after it are as before.
 #[test]
 fn runs_end_at_a_failing_record(rt: HostRuntime) -> Result<(), Fail> {
     let alloc = rt.alloc();
@@ -93,19 +115,27 @@ fn runs_end_at_a_failing_record(rt: HostRuntime) -> Result<(), Fail> {
             assert!(rt; u32::from(count) <= store.left());
             assert!(rt; store.is_sound());
             let answer = store.write_run(0, count, &bytes);
-            assert_eq!(rt; answer.is_ok(), fails > count);
+            assert!(rt;
+                same(answer.is_ok(), fails > count),
+                "run of {count}, fault {fails}"
+            );
             let done = fails - 1;
-            assert_eq!(rt; store.writes().len(), usize::from(done));
-            assert_eq!(rt; store.left(), 4 - u32::from(count.min(fails)));
+            assert!(rt;
+                same(store.writes().len(), usize::from(done)),
+                "writes of {count}, fault {fails}"
+            );
+            assert!(rt;
+                same(store.left(), 4 - u32::from(count.min(fails))),
+                "calls of {count}, fault {fails}"
+            );
             for n in 0..3 {
                 let mut want = [if n < done { 7 } else { n as u8 + 1 }; 256];
                 if n < done && n + 1 == count {
                     want[255] = 0;
                 }
                 assert!(rt; usize::from(n) < store.records().len());
-                assert_eq!(rt;
-                    store.records()[usize::from(n)].as_slice(),
-                    want.as_slice(),
+                assert!(rt;
+                    same_bytes(store.records()[usize::from(n)].as_slice(), want.as_slice()),
                     "{count} {fails} {n}"
                 );
             }
@@ -129,11 +159,20 @@ fn runs_are_read(rt: HostRuntime) -> Result<(), Fail> {
         assert!(rt; !into.is_empty() && into.len() % 256 == 0);
         assert!(rt; into.len() / 256 <= store.left() as usize);
         assert!(rt; usize::from(first) + into.len() / 256 <= usize::from(store.size()));
-        assert_eq!(rt; store.read_run(first, &mut into), want);
-        assert_eq!(rt; store.is_sound(), want.is_ok());
+        assert!(rt;
+            same(store.read_run(first, &mut into), want),
+            "run at {first}"
+        );
+        assert!(rt;
+            same(store.is_sound(), want.is_ok()),
+            "sound after the run at {first}"
+        );
         if want.is_ok() {
             for (n, byte) in into.iter().enumerate() {
-                assert_eq!(rt; usize::from(*byte), usize::from(first) + n / 256 + 1);
+                assert!(rt;
+                    same(usize::from(*byte), usize::from(first) + n / 256 + 1),
+                    "byte {n} of the run at {first}"
+                );
             }
         }
     }

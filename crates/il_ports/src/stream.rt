@@ -1,12 +1,21 @@
-ghost use Rattle.std.specs.Prelude.{ℕ, List, Option, ◌<◌, length};
+ghost use Rattle.std.specs.Prelude.{◌≡◌, ℕ, List, Option, ◌<◌, length};
 ghost use Rattle.std.specs.Io.{ReadsAtMost};
 ghost use Rattle.std.specs.Io.KnownBytes.{ReadConsumes, WriteAppends};
-ghost use Rattle.lif_model.specs.Causes.{HasCause};
+ghost use Rattle.lif_model.specs.Causes.{HasCause, Rose, next_count};
 ghost use Rattle.il_ports.specs.Taking.{TakesSome};
 
 /// The one fault of a port. The port has counted it.
 #[derive(Clone, Copy, Debug, PartialEq, Eq)]
 pub struct Failed;
+
+/// Counts a fault. A count stands still at its last value.
+pub(crate) fn faulted(faults: &mut u64) -> Failed
+    ensures counted { faults.new ≡ next_count faults.old }
+    ensures rose { Rose faults.old faults.new }
+{
+    *faults = faults.saturating_add(1);
+    Failed
+}
 
 /// Where bytes come from.
 pub trait Source {

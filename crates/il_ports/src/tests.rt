@@ -2,6 +2,7 @@ use crate::{
     Failed, FileMedium, Inserted, Medium, MemoryMedium, MemorySink, MemorySource, New, Sink,
     Source, StdSink, StdSource,
 };
+use il_same::{same, same_bytes};
 use std::alloc::{AllocError, Global};
 use std::process::Abort;
 use std::test::Fail;
@@ -11,7 +12,7 @@ const TAPE_BYTES: usize = 131_072;
 
 const DISC_BYTES: usize = 630_784;
 
-// How many bytes an image has, and what an insert of it answers, with how many records.
+/// How many bytes an image has, and what an insert of it answers, with how many records.
 const SIZES: [(usize, Inserted, u16); 5] = [
     (0, Inserted::Tape, 512),
     (131_072, Inserted::Tape, 512),
@@ -28,13 +29,16 @@ fn streams_in_memory(rt: HostRuntime) -> Result<(), Fail> {
     let mut buffer = [0; 16];
     for want in [Ok(3), Err(Failed), Ok(3), Ok(2), Ok(0)] {
         let answer = source.read(&mut buffer);
-        assert_eq!(rt; answer, want);
+        assert!(rt; same(answer, want), "a piece of the source");
         if let Ok(count) = answer {
             got.extend_from_slice(&buffer[..count])?;
         }
     }
-    assert_eq!(rt; got.as_slice(), b"HP82161A".as_slice());
-    assert_eq!(rt; source.left(), b"".as_slice());
+    assert!(rt;
+        same_bytes(got.as_slice(), b"HP82161A"),
+        "all bytes of the source"
+    );
+    assert!(rt; same_bytes(source.left(), b""), "nothing is left");
 
     let mut sink = MemorySink::new(alloc, 8, vec![in alloc; 2]?)?;
     for (piece, want) in [
@@ -45,13 +49,16 @@ fn streams_in_memory(rt: HostRuntime) -> Result<(), Fail> {
         (b"B".as_slice(), Err(Failed)),
     ] {
         assert!(rt; !piece.is_empty());
-        assert_eq!(rt; sink.write(piece), want);
+        assert!(rt; same(sink.write(piece), want), "a piece for the sink");
     }
-    assert_eq!(rt; sink.written(), b"HP82161A".as_slice());
+    assert!(rt;
+        same_bytes(sink.written(), b"HP82161A"),
+        "all bytes of the sink"
+    );
     Ok(())
 }
 
-// The image A has a record of ones, and one byte more.
+/// The image A has a record of ones, and one byte more.
 fn shelf(alloc: Global) -> Result<Vec<(String, Vec<u8>)>, AllocError> {
     let mut image = vec![in alloc; 1; 256]?;
     image.push(2)?;
@@ -77,8 +84,8 @@ fn a_shelf_in_memory(rt: HostRuntime) -> Result<(), Fail> {
         ("LONG", New::Tape, Ok(Inserted::BadSize(630_785))),
         ("A", New::Disc, Ok(Inserted::Tape)),
     ] {
-        assert_eq!(rt; medium.size(), 0);
-        assert_eq!(rt; medium.insert(name, new), want, "{name}");
+        assert!(rt; medium.size() == 0, "no tape before {name}");
+        assert!(rt; same(medium.insert(name, new), want), "{name}");
     }
     let mut last = [0; 256];
     last[0] = 2;
@@ -90,13 +97,16 @@ fn a_shelf_in_memory(rt: HostRuntime) -> Result<(), Fail> {
     ] {
         let mut into = [0; 256];
         assert!(rt; n < medium.size());
-        assert_eq!(rt; medium.read(n, &mut into), want);
-        assert_eq!(rt; into.as_slice(), record.as_slice(), "record {n}");
+        assert!(rt; same(medium.read(n, &mut into), want), "read {n}");
+        assert!(rt;
+            same_bytes(into.as_slice(), record.as_slice()),
+            "record {n}"
+        );
     }
     let size = |name| medium.image(name).map(|image| image.len());
-    assert_eq!(rt; size("A"), Some(TAPE_BYTES));
-    assert_eq!(rt; size("LONG"), Some(DISC_BYTES + 1));
-    assert_eq!(rt; size("B"), None);
+    assert!(rt; same(size("A"), Some(TAPE_BYTES)), "A is a tape");
+    assert!(rt; same(size("LONG"), Some(DISC_BYTES + 1)), "LONG stays");
+    assert!(rt; same(size("B"), None), "B is not made");
     Ok(())
 }
 
@@ -114,24 +124,36 @@ fn a_new_image_in_memory(rt: HostRuntime) -> Result<(), Fail> {
     )?;
     let longest = String::from_utf8(vec![in alloc; b'N'; 4096]?)?;
     let longer = String::from_utf8(vec![in alloc; b'N'; 4097]?)?;
-    assert_eq!(rt; medium.size(), 0);
-    assert_eq!(rt; medium.insert(longer.as_str(), New::Disc), Err(Failed));
-    assert_eq!(rt; medium.size(), 0);
-    assert_eq!(rt;
-        medium.insert(longest.as_str(), New::Disc),
-        Ok(Inserted::Tape)
+    assert!(rt; medium.size() == 0, "no tape at first");
+    assert!(rt;
+        same(medium.insert(longer.as_str(), New::Disc), Err(Failed)),
+        "a name too long"
     );
-    assert_eq!(rt; medium.size(), 2464);
+    assert!(rt; medium.size() == 0, "no tape after a fault");
+    assert!(rt;
+        same(
+            medium.insert(longest.as_str(), New::Disc),
+            Ok(Inserted::Tape)
+        ),
+        "a name of 4096 bytes"
+    );
+    assert!(rt; same(medium.size(), 2464), "a disc");
     let mut into = [1; 256];
-    assert_eq!(rt; medium.read(2463, &mut into), Ok(()));
-    assert_eq!(rt; into.as_slice(), [0; 256].as_slice());
+    assert!(rt;
+        same(medium.read(2463, &mut into), Ok(())),
+        "the last record is read"
+    );
+    assert!(rt; same_bytes(into.as_slice(), &[0; 256]), "and holds zeros");
     let size = |name| medium.image(name).map(|image| image.len());
-    assert_eq!(rt; size(longest.as_str()), Some(DISC_BYTES));
-    assert_eq!(rt; size("A"), Some(257));
+    assert!(rt;
+        same(size(longest.as_str()), Some(DISC_BYTES)),
+        "a new disc"
+    );
+    assert!(rt; same(size("A"), Some(257)), "A stays");
     Ok(())
 }
 
-// Writes of A: the second is listed twice, the first entry counting, and there is room for three.
+/// Writes of A: the second is listed twice, the first entry counting, and there is room for three.
 #[test]
 fn writes_in_memory(rt: HostRuntime) -> Result<(), Fail> {
     let alloc = rt.alloc();
@@ -146,8 +168,11 @@ fn writes_in_memory(rt: HostRuntime) -> Result<(), Fail> {
         Vec::new(alloc),
         3,
     )?;
-    assert_eq!(rt; medium.size(), 0);
-    assert_eq!(rt; medium.insert("A", New::No), Ok(Inserted::Tape));
+    assert!(rt; medium.size() == 0, "no tape at first");
+    assert!(rt;
+        same(medium.insert("A", New::No), Ok(Inserted::Tape)),
+        "A is inserted"
+    );
     for (n, byte, want, left) in [
         (1, 3, Ok(()), 3),
         (2, 4, Err(Failed), 9),
@@ -155,21 +180,27 @@ fn writes_in_memory(rt: HostRuntime) -> Result<(), Fail> {
         (0, 6, Err(Failed), 1),
     ] {
         assert!(rt; n < medium.size());
-        assert_eq!(rt; medium.write(n, &[byte; 256]), want, "{byte}");
+        assert!(rt; same(medium.write(n, &[byte; 256]), want), "{byte}");
         assert!(rt; n < medium.size());
         let mut into = [0; 256];
-        assert_eq!(rt; medium.read(n, &mut into), Ok(()));
-        assert_eq!(rt; into.as_slice(), [left; 256].as_slice(), "{byte}");
+        assert!(rt; same(medium.read(n, &mut into), Ok(())), "{byte} is read");
+        assert!(rt; same_bytes(into.as_slice(), &[left; 256]), "{byte}");
     }
     let image = medium.image("A").unwrap_or(&[]);
-    assert_eq!(rt; image.len(), TAPE_BYTES);
+    assert!(rt; same(image.len(), TAPE_BYTES), "the size of the tape");
     assert!(rt; image.len() > 768);
     for (n, byte) in [1, 5, 9].into_iter().enumerate() {
-        assert_eq!(rt; &image[256 * n..256 * n + 256], [byte; 256].as_slice());
+        assert!(rt;
+            same_bytes(&image[256 * n..256 * n + 256], &[byte; 256]),
+            "record {n}"
+        );
     }
     assert!(rt; image[768..].iter().all(|byte| *byte == 0));
     let long = medium.image("LONG").unwrap_or(&[1]);
-    assert_eq!(rt; long.len(), DISC_BYTES + 1);
+    assert!(rt;
+        same(long.len(), DISC_BYTES + 1),
+        "the size of the other image"
+    );
     assert!(rt; long.iter().all(|byte| *byte == 0));
     Ok(())
 }
@@ -185,14 +216,14 @@ fn sizes_in_memory(rt: HostRuntime) -> Result<(), Fail> {
         ))?;
         let [reads, inserts] = [Vec::new(alloc), Vec::new(alloc)];
         let mut medium = MemoryMedium::new(alloc, shelf, reads, Vec::new(alloc), inserts, 0)?;
-        assert_eq!(rt; medium.size(), 0);
-        assert_eq!(rt; medium.insert("IMAGE", New::No), Ok(want), "{length}");
-        assert_eq!(rt; medium.size(), records, "{length}");
+        assert!(rt; medium.size() == 0, "no tape at first");
+        assert!(rt; same(medium.insert("IMAGE", New::No), Ok(want)), "{length}");
+        assert!(rt; same(medium.size(), records), "{length}");
     }
     Ok(())
 }
 
-// The image has these two records, and zeros behind them.
+/// The image has these two records, and zeros after them.
 fn assert_begins_with(rt: &impl Abort, image: &[u8], first: &[u8; 256], second: &[u8; 256]) {
     for (place, byte) in image.iter().enumerate() {
         let want = match place / 256 {
@@ -200,11 +231,11 @@ fn assert_begins_with(rt: &impl Abort, image: &[u8], first: &[u8; 256], second: 
             1 => second[place % 256],
             _ => 0,
         };
-        assert_eq!(rt; *byte, want, "{place}");
+        assert!(rt; same(*byte, want), "{place}");
     }
 }
 
-// Fills the image with the tape at that moment.
+/// Fills the image with the tape at that moment.
 fn image_at(
     rt: &impl Abort,
     medium: &MemoryMedium,
@@ -213,25 +244,31 @@ fn image_at(
     image: &mut [u8],
 ) {
     assert!(rt; 0 < medium.size());
-    assert_eq!(rt; image.len(), 256 * usize::from(medium.size()));
+    assert!(rt;
+        image.len() == 256 * usize::from(medium.size()),
+        "a whole image"
+    );
     let made = medium.writes().len() as u64;
     assert!(rt; writes <= made);
     assert!(rt; torn.is_none() || writes < made);
     medium.image_at(writes, torn, image);
 }
 
-// Two writes, of records 1 and 0. Between them, and within each of them, the tape is as it was before, but for the
-// record that is written.
+/// Two writes, of records 1 and 0. Between them, and within each of them, the tape is as it was before, but for the
+/// record that is written.
 #[test]
 fn earlier_moments(rt: HostRuntime) -> Result<(), Fail> {
     let alloc = rt.alloc();
     let [reads, inserts] = [Vec::new(alloc), Vec::new(alloc)];
     let mut medium = MemoryMedium::new(alloc, shelf(alloc)?, reads, Vec::new(alloc), inserts, 2)?;
-    assert_eq!(rt; medium.size(), 0);
-    assert_eq!(rt; medium.insert("A", New::No), Ok(Inserted::Tape));
+    assert!(rt; medium.size() == 0, "no tape at first");
+    assert!(rt;
+        same(medium.insert("A", New::No), Ok(Inserted::Tape)),
+        "A is inserted"
+    );
     for n in [1, 0] {
         assert!(rt; n < medium.size());
-        assert_eq!(rt; medium.write(n, &[7; 256]), Ok(()));
+        assert!(rt; same(medium.write(n, &[7; 256]), Ok(())), "write of {n}");
     }
     let mut last = [0; 256];
     last[0] = 2;
@@ -271,16 +308,19 @@ fn images_in_files(rt: HostRuntime) -> Result<(), Fail> {
         ("tapes/NONE/NEW", New::Tape, Err(Failed)),
         ("tapes/SHORT", New::Disc, Ok(Inserted::Tape)),
     ] {
-        assert_eq!(rt; medium.size(), 0);
-        assert_eq!(rt; medium.insert(name, new), want, "{name}");
+        assert!(rt; medium.size() == 0, "no tape before {name}");
+        assert!(rt; same(medium.insert(name, new), want), "{name}");
     }
     let mut last = [0; 256];
     last[..2].copy_from_slice(&[6, 7]);
     for (n, record) in [(5, [5; 256]), (6, last), (511, [0; 256])] {
         let mut into = [1; 256];
         assert!(rt; n < medium.size());
-        assert_eq!(rt; medium.read(n, &mut into), Ok(()));
-        assert_eq!(rt; into.as_slice(), record.as_slice(), "record {n}");
+        assert!(rt; same(medium.read(n, &mut into), Ok(())), "read {n}");
+        assert!(rt;
+            same_bytes(into.as_slice(), record.as_slice()),
+            "record {n}"
+        );
     }
 
     fs::remove_dir_all(&rt, "tapes")?;
@@ -294,9 +334,12 @@ fn files_that_are_made(rt: HostRuntime) -> Result<(), Fail> {
         ("MADE_DISC", New::Disc, DISC_BYTES),
     ] {
         let mut medium = FileMedium::new(&rt);
-        assert_eq!(rt; medium.insert(name, new), Ok(Inserted::Tape));
+        assert!(rt;
+            same(medium.insert(name, new), Ok(Inserted::Tape)),
+            "{name}"
+        );
         let made = fs::read(&rt, name)?;
-        assert_eq!(rt; made.len(), length);
+        assert!(rt; same(made.len(), length), "the size of {name}");
         assert!(rt; made.iter().all(|byte| *byte == 0));
         fs::remove_file(&rt, name)?;
     }
@@ -310,21 +353,24 @@ fn sizes_in_files(rt: HostRuntime) -> Result<(), Fail> {
         let image = vec![in alloc; 3; length]?;
         fs::write(&rt, "IMAGE", image.as_slice())?;
         let mut medium = FileMedium::new(&rt);
-        assert_eq!(rt; medium.insert("IMAGE", New::No), Ok(want), "{length}");
-        assert_eq!(rt; medium.size(), records, "{length}");
+        assert!(rt; same(medium.insert("IMAGE", New::No), Ok(want)), "{length}");
+        assert!(rt; same(medium.size(), records), "{length}");
     }
     fs::remove_file(&rt, "IMAGE")?;
     Ok(())
 }
 
-// A file of six records and two bytes grows by each write behind its end, and by no other.
+/// A file of six records and two bytes grows by each write past its end, and by no other.
 #[test]
 fn writes_in_files(rt: HostRuntime) -> Result<(), Fail> {
     let alloc = rt.alloc();
     let mut want = vec![in alloc; 5; 1538]?;
     fs::write(&rt, "WRITES", want.as_slice())?;
     let mut medium = FileMedium::new(&rt);
-    assert_eq!(rt; medium.insert("WRITES", New::No), Ok(Inserted::Tape));
+    assert!(rt;
+        same(medium.insert("WRITES", New::No), Ok(Inserted::Tape)),
+        "a file is inserted"
+    );
     for (n, byte, length) in [
         (2, 7, 1538),
         (6, 8, 1792),
@@ -332,14 +378,13 @@ fn writes_in_files(rt: HostRuntime) -> Result<(), Fail> {
         (511, 6, TAPE_BYTES),
     ] {
         assert!(rt; n < medium.size());
-        assert_eq!(rt; medium.write(n, &[byte; 256]), Ok(()));
+        assert!(rt; same(medium.write(n, &[byte; 256]), Ok(())), "write of {n}");
         want.resize(length, 0)?;
         let start = 256 * usize::from(n);
         assert!(rt; start + 256 <= want.len());
         want[start..start + 256].fill(byte);
-        assert_eq!(rt;
-            fs::read(&rt, "WRITES")?.as_slice(),
-            want.as_slice(),
+        assert!(rt;
+            same_bytes(fs::read(&rt, "WRITES")?.as_slice(), want.as_slice()),
             "record {n}"
         );
     }
@@ -347,26 +392,35 @@ fn writes_in_files(rt: HostRuntime) -> Result<(), Fail> {
 
     // Nobody may write to this one.
     let mut medium = FileMedium::new(&rt);
-    assert_eq!(rt; medium.insert("/proc/version", New::No), Ok(Inserted::Tape));
+    assert!(rt;
+        same(medium.insert("/proc/version", New::No), Ok(Inserted::Tape)),
+        "a file that nobody may write"
+    );
     assert!(rt; 0 < medium.size());
-    assert_eq!(rt; medium.write(0, &[1; 256]), Err(Failed));
+    assert!(rt; same(medium.write(0, &[1; 256]), Err(Failed)), "its write");
     Ok(())
 }
 
 #[test]
 fn streams_over_files(rt: HostRuntime) -> Result<(), Fail> {
     let mut sink = StdSink::new(fs::create(&rt, "stream")?);
-    assert_eq!(rt; sink.write(b"HP82161A"), Ok(8));
+    assert!(rt; same(sink.write(b"HP82161A"), Ok(8)), "a sink over a file");
     let mut source = StdSource::new(fs::open(&rt, "stream")?);
     let mut into = [0; 6];
-    assert_eq!(rt; source.read(&mut into), Ok(6));
-    assert_eq!(rt; into.as_slice(), b"HP8216".as_slice());
-    assert_eq!(rt; source.read(&mut into), Ok(2));
-    assert_eq!(rt; source.read(&mut into), Ok(0));
+    assert!(rt; same(source.read(&mut into), Ok(6)), "a source over a file");
+    assert!(rt; same_bytes(into.as_slice(), b"HP8216"), "its bytes");
+    assert!(rt; same(source.read(&mut into), Ok(2)), "its rest");
+    assert!(rt; same(source.read(&mut into), Ok(0)), "its end");
     let mut sink = StdSink::new(fs::open(&rt, "stream")?);
-    assert_eq!(rt; sink.write(b"not for writing"), Err(Failed));
+    assert!(rt;
+        same(sink.write(b"not for writing"), Err(Failed)),
+        "a sink over a file for reading"
+    );
     let mut source = StdSource::new(fs::open(&rt, ".")?);
-    assert_eq!(rt; source.read(&mut into), Err(Failed));
+    assert!(rt;
+        same(source.read(&mut into), Err(Failed)),
+        "a source over a folder"
+    );
     fs::remove_file(&rt, "stream")?;
     Ok(())
 }
@@ -378,10 +432,10 @@ fn streams_over_a_pipe(rt: HostRuntime) -> Result<(), Fail> {
     let mut into = [0; 6];
     {
         let mut sink = StdSink::new(writer);
-        assert_eq!(rt; sink.write(b"dir"), Ok(3));
-        assert_eq!(rt; source.read(&mut into), Ok(3));
-        assert_eq!(rt; into.as_slice(), b"dir\0\0\0".as_slice());
+        assert!(rt; same(sink.write(b"dir"), Ok(3)), "a sink over a pipe");
+        assert!(rt; same(source.read(&mut into), Ok(3)), "a source over a pipe");
+        assert!(rt; same_bytes(into.as_slice(), b"dir\0\0\0"), "its bytes");
     }
-    assert_eq!(rt; source.read(&mut into), Ok(0));
+    assert!(rt; same(source.read(&mut into), Ok(0)), "the end of a pipe");
     Ok(())
 }
