@@ -7,7 +7,7 @@ use Rattle.lif_model.specs.Apply as volume
 use Rattle.lif_model.proofs.VolumeExamples.{file, a_name}
 use Rattle.loop_model.specs.Loops.{host_loop}
 use Rattle.loop_model.specs.Units.{units_of}
-use Rattle.il_drive.proofs.ExchangesAddressed.{sdc}
+use Rattle.il_drive.specs.Resting.{sdc}
 use Rattle.loop_model.specs.Entries.{ifc, aau, unl, lad}
 use Rattle.loop_model.specs.Exchanges.{Echo, Command, Address, Send, Receive, Sda, Sst, Stopped, Piece, Whole}
 use Rattle.il_script.specs.declared.reply.Reply.TheVariants as reply
@@ -15,7 +15,7 @@ use Rattle.host_model.specs.Requests.{OfVolume, Asks}
 use Rattle.host_model.specs.HostStates.{HostState}
 use Rattle.host_model.specs.Steps.{Event, IsStep, Travels, Exchanged, IsFetchedFrom}
 use Rattle.host_model.proofs.Small.{printer, a_host, a_tape, false_is_not_true}
-use Rattle.host_model.proofs.Texts.{a_bytes, a_found}
+use Rattle.host_model.proofs.TextExamples.{a_bytes, a_found}
 use Rattle.host_model.proofs.StepExamples.{log_of, addressed}
 use Rattle.host_model.proofs.LoopExamples.{byte}
 

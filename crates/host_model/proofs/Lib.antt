@@ -5,7 +5,7 @@ pub mod Growing
 pub mod Complete
 pub mod Generated
 mod Small
-mod Texts
+mod TextExamples
 mod StepExamples
 mod LoopExamples
 mod RunExamples

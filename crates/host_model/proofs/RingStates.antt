@@ -1,8 +1,7 @@
 -- What is said of the devices of a ring, in the words of what the ring stands for.
 use Rattle.std.proofs.Common.{◌≡◌, ◌≤◌, ◌+◌, ◌++◌, ◌∙◌, ℕ, suc, Bool, List, [], ◌∷◌, length, map, Option, Some, None, refl, sym, ap, subst, arith, length-append}
 use Rattle.il_frames.specs.declared.entry.Entry.{Entry}
-use Rattle.il_device.specs.State.{DeviceState}
-use Rattle.il_device.proofs.Laws.{risen_by}
+use Rattle.il_device.specs.State.{DeviceState, risen_by}
 use Rattle.il_ports.specs.Media.{MediumView}
 use Rattle.il_drive.specs.State.{drive_id, device_of}
 use Rattle.loop_model.specs.Loops.{host_loop}

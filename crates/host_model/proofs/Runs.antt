@@ -4,9 +4,9 @@ use Rattle.std.specs.Prelude.{min, sum_by}
 use Rattle.std.proofs.lemmas.List.Sums.{sum_by-append}
 use Rattle.lif_model.specs.Tape.{Tape}
 use Rattle.il_frames.specs.declared.entry.Entry.{Entry}
-use Rattle.il_device.specs.State.{risen}
+use Rattle.il_device.specs.State.{risen, risen_by}
 use Rattle.il_device.specs.declared.roles.Roles.{Roles}
-use Rattle.il_device.proofs.Laws.{risen_by, risen_by-min}
+use Rattle.il_device.proofs.Laws.{risen_by-min}
 use Rattle.loop_model.specs.Effect.{UnitsEffect, Effect}
 use Rattle.loop_model.specs.Exchanges.{Reading}
 use Rattle.loop_model.specs.Loops.{Loop}

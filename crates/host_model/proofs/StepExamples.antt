@@ -10,7 +10,7 @@ use Rattle.il_frames.specs.declared.entry.Outcome.TheVariants as outcome
 use Rattle.il_frames.specs.Frames.{framed}
 use Rattle.il_device.specs.declared.roles.Roles.{Roles}
 use Rattle.il_device.specs.Roles.{no_roles}
-use Rattle.il_device.proofs.Laws.{risen_by}
+use Rattle.il_device.specs.State.{risen_by}
 use Rattle.loop_model.specs.Entries.{entry, ifc, aau, aad}
 use Rattle.loop_model.specs.Exchanges.{Echo, Exchange, Command, Address, Receive, Sst, Stopped, Piece, Whole, Cut, FrameLost, piece_entries}
 use Rattle.loop_model.specs.Hearing.{roles_at}

@@ -1,13 +1,9 @@
 -- Laws of one step, for those who say a part of it by itself.
-use Rattle.std.proofs.Common.{◌≡◌, ◌≢◌, ◌≤◌, ◌+◌, ◌↔◌, ◌∙◌, ℕ, suc, true, false, not, cond, List, [], ◌∷◌, length, refl, sym, ap, subst, arith, Bool}
+use Rattle.std.proofs.Common.{◌≡◌, ◌≢◌, ◌≤◌, ◌+◌, ◌↔◌, ◌∙◌, ℕ, suc, cond, List, [], ◌∷◌, length, refl, ap, subst, arith}
 use Rattle.il_device.specs.State.{DeviceState}
-use Rattle.loop_model.specs.Effect.{ends_as}
-use Rattle.loop_model.proofs.EffectLaws.{all_good}
-use Rattle.loop_model.proofs.ExchangeLaws.{not_both}
-use Rattle.loop_model.specs.Exchanges.{Piece, Whole, Cut, are_whole, breaks_off, IsWhole, IsBroken}
 use Rattle.loop_model.specs.Loops.{host_loop}
 use Rattle.loop_model.specs.Reach.{met}
-use Rattle.loop_model.specs.Units.{RecordUnit, units_of}
+use Rattle.loop_model.specs.Units.{RecordUnit}
 use Rattle.il_script.specs.declared.reply.Reply.{Reply}
 use Rattle.il_script.specs.declared.reply.Reply.TheVariants as reply
 use Rattle.host_model.specs.LoopStates.{LoopState, device_count, drive_at, ring_of}
@@ -82,12 +78,6 @@ faults_grow reply.FaultMedium hops before now units cause = cause.1.later
 faults_grow reply.Ok hops before now units cause = omega (arith, cause.1)
 faults_grow (reply.No c) hops before now units cause = omega (arith, cause.1)
 
--- exchanges that are all whole, and of which the last broke off
-not_both_ways : (pieces : List Piece) → are_whole pieces ≡ true → breaks_off pieces ≡ true → ⊥
-not_both_ways [] whole broken = let clash : false ≡ true = broken in cc
-not_both_ways (Whole x ∷ pieces) whole broken = not_both_ways pieces whole broken
-not_both_ways (Cut x n b ∷ pieces) whole broken = let clash : false ≡ true = whole in cc
-
 -- ---- exactly
 
 -- the reply is `fault frame` exactly where a planned hop was met
@@ -99,37 +89,3 @@ lost_exactly hops e s = by_reply e.reply (met hops e.before.crossings e.after.cr
     by_reply reply.FaultMedium found before now units cause = (λ h. cc, λ h. absurd (h cause.0))
     by_reply reply.Ok found before now units cause = (λ h. cc, λ h. absurd (h cause.0))
     by_reply (reply.No c) found before now units cause = (λ h. cc, λ h. absurd (h cause.0))
-
--- and exactly where the log breaks off; every other log is whole
-pub broken_exactly : (hops : List ℕ) (e : Event) → IsStep hops e → (e.reply ≡ reply.FaultFrame) ↔ IsBroken (ring_of e.before.loop) e.log
-broken_exactly hops e s = (
-  λ h. record { reading = s.exchanged.reading; broken = subst (λ r. ends_as (not (is_frame_fault r)) s.exchanged.reading.pieces ≡ true) h s.exchanged.ends },
-  λ h. by_reply e.reply refl h,
-)
-  where
-    whole_log : (r : Reply) → is_frame_fault r ≡ false → e.reply ≡ r → IsWhole (ring_of e.before.loop) e.log
-    whole_log r other is = record {
-      reading = s.exchanged.reading;
-      whole = subst (λ b. ends_as (not b) s.exchanged.reading.pieces ≡ true) (ap is_frame_fault is ∙ other) s.exchanged.ends;
-    }
-
-    by_reply : (r : Reply) → e.reply ≡ r → IsBroken (ring_of e.before.loop) e.log → r ≡ reply.FaultFrame
-    by_reply reply.FaultFrame is broken = refl
-    by_reply reply.FaultMedium is broken = absurd (not_both _ e.log (whole_log reply.FaultMedium refl is) broken)
-    by_reply reply.Ok is broken = absurd (not_both _ e.log (whole_log reply.Ok refl is) broken)
-    by_reply (reply.No c) is broken = absurd (not_both _ e.log (whole_log (reply.No c) refl is) broken)
-
--- the reply is `fault medium` exactly where no exchange broke off and a transfer has another status than 0
-pub failed_exactly : (hops : List ℕ) (e : Event) → (s : IsStep hops e)
-    → (e.reply ≡ reply.FaultMedium) ↔ ((are_whole s.exchanged.reading.pieces ≡ true) × (all_good (units_of (ring_of e.before.loop) s.exchanged.reading.pieces) ≡ false))
-failed_exactly hops e s = by_reply e.reply s.exchanged.reading.pieces _ _ _ (units_of (ring_of e.before.loop) s.exchanged.reading.pieces) s.exchanged.cause s.exchanged.ends
-  where
-    not_good : (b : Bool) → b ≡ true → b ≡ false → ⊥
-    not_good b good bad = let clash : true ≡ false = sym good ∙ bad in cc
-
-    by_reply : (r : Reply) (pieces : List Piece) (found : List ℕ) (before now : ℕ) (units : List RecordUnit) → HasReplyCause r found before now units
-        → ends_as (not (is_frame_fault r)) pieces ≡ true → (r ≡ reply.FaultMedium) ↔ ((are_whole pieces ≡ true) × (all_good units ≡ false))
-    by_reply reply.FaultFrame pieces found before now units cause ends = (λ h. cc, λ h. absurd (not_both_ways pieces h.0 ends))
-    by_reply reply.FaultMedium pieces found before now units cause ends = (λ h. (ends, cause.2), λ h. refl)
-    by_reply reply.Ok pieces found before now units cause ends = (λ h. cc, λ h. absurd (not_good _ cause.2 h.1))
-    by_reply (reply.No c) pieces found before now units cause ends = (λ h. cc, λ h. absurd (not_good _ cause.2 h.1))

@@ -5,7 +5,7 @@ use Rattle.std.specs.List.{starts_with}
 use Rattle.std.specs.Str.{bytes_eq}
 use Rattle.il_frames.specs.declared.frame.Frame.{Frame}
 use Rattle.il_frames.specs.Frames.{byte_of}
-use Rattle.il_drive.proofs.ExchangesAddressed.{sdc}
+use Rattle.il_drive.specs.Resting.{sdc}
 use Rattle.loop_model.specs.Entries.{command, ifc, aau, unl, lad, is_frame}
 use Rattle.loop_model.specs.Exchanges.{Exchange, Command, Address, Send, Receive, Identify, Answer, NotTaken, Stopped, Sst, Sai, Piece, Whole, Cut}
 use Rattle.host_model.specs.Requests.{Devices, Status, Poll, Say, Item, Asks}

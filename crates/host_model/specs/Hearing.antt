@@ -1,7 +1,7 @@
 -- What a device hears of bytes that a command sends it.
 use Rattle.std.specs.Prelude.{◌≡◌, ◌≤◌, ◌++◌, ℕ, List, length, take}
-use Rattle.il_device.specs.State.{DeviceState}
-use Rattle.il_device.proofs.Laws.{kept_all, risen_by}
+use Rattle.il_device.specs.State.{DeviceState, risen_by}
+use Rattle.il_device.specs.Takes.{kept_all}
 
 -- the device heard exactly these bytes, and keeps the first ones of all, as far as it has room
 pub record HearsAll (bytes : List ℕ) (d e : DeviceState) : Type 0 where

@@ -1,7 +1,6 @@
 -- What a whole run tells: all its logs and replies together.
 use Rattle.std.specs.Prelude.{◌≡◌, ◌≢◌, ◌↔◌, ◌++◌, ◌≤◌, ◌<◌, ◌+◌, ◌-◌, ◌^◌, min, ℕ, Bool, true, false, List, [], ◌∷◌, length, sum_by, count_by}
-use Rattle.il_device.specs.State.{DeviceState}
-use Rattle.il_device.proofs.Laws.{risen_by}
+use Rattle.il_device.specs.State.{DeviceState, risen_by}
 use Rattle.loop_model.specs.Effect.{Effect}
 use Rattle.loop_model.specs.Reach.{links, passes, met}
 use Rattle.loop_model.specs.Roles.{OneTalker, roles_after}

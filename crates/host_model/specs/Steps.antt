@@ -11,10 +11,8 @@ use Rattle.lif_model.specs.Volume.{Volume}
 use Rattle.lif_model.specs.Apply.{Store, Fetch}
 use Rattle.lif_model.specs.Transfers.{carries}
 use Rattle.il_frames.specs.declared.entry.Entry.{Entry}
-use Rattle.il_device.specs.State.{DeviceState}
-use Rattle.il_device.proofs.Laws.{risen_by}
-use Rattle.loop_model.specs.Effect.{UnitsEffect, is_out, is_in, transfer_of, ends_as}
-use Rattle.loop_model.proofs.EffectLaws.{all_good}
+use Rattle.il_device.specs.State.{DeviceState, risen_by}
+use Rattle.loop_model.specs.Effect.{UnitsEffect, is_out, is_in, transfer_of, ends_as, all_good}
 use Rattle.loop_model.specs.Exchanges.{Reading}
 use Rattle.loop_model.specs.Reach.{links, passes, met}
 use Rattle.il_device.specs.declared.roles.Roles.{Roles}

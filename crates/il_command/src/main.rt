@@ -19,7 +19,7 @@ const BAD_WORDS: u8 = 2;
 
 const OUT_OF_MEMORY: u8 = 7;
 
-// The exit status where the words of the command line were not read. One that is not UTF-8 is no word of the program.
+/// The exit status where the words of the command line were not read. One that is not UTF-8 is no word of the program.
 fn unread_words(error: &io::Error) -> u8
     ensures memory { error_kind error.now ≡ OutOfMemory → result ≡ 7 }
     ensures words { error_kind error.now ≢ OutOfMemory → result ≡ 2 }
@@ -30,7 +30,7 @@ fn unread_words(error: &io::Error) -> u8
     }
 }
 
-// Runs the script, and gives the exit status.
+/// Runs the script, and gives the exit status.
 fn run(rt: &HostRuntime) -> u8 {
     let args = match env::args(rt) {
         Ok(args) => args,

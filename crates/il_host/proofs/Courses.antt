@@ -10,11 +10,10 @@ use Rattle.il_frames.specs.declared.frame.Frame.{Frame}
 use Rattle.il_frames.specs.Frames.{byte_of}
 use Rattle.il_device.specs.State.{DeviceState}
 use Rattle.loop_model.specs.Entries.{is_frame, lad, unl}
-use Rattle.loop_model.specs.Exchanges.{Answer, NotTaken, ToItsEnd, Stopped, Exchange, Command, Address, Send, Receive, Identify, Sai, Sst, Sda, Sdi, Start, Echo, is_exchange}
+use Rattle.loop_model.specs.Exchanges.{Answer, NotTaken, ToItsEnd, Stopped, Exchange, Command, Address, Send, Receive, Identify, Sai, Sst, Sda, Sdi, Start, Echo, is_exchange, bytes_of}
 use Rattle.loop_model.specs.Loops.{Loop}
-use Rattle.loop_model.proofs.UnitLaws.{bytes_of}
 use Rattle.il_control.specs.Receives.{accessory_at}
-use Rattle.il_control.proofs.Assigning.{ppe}
+use Rattle.il_control.specs.Places.{ppe}
 use Rattle.il_record.specs.Asks.{Ask, AskHear, AskIdentify, AskTell, IsFirstOf, Told, ask_of, told_of, up_to}
 use Rattle.il_record.specs.LoopCalls.{id_asks, id_told, ids_of, say_asks}
 use Rattle.il_record.specs.Polls.{collect_asks, place_asks, polled_along, ppu}

@@ -5,7 +5,7 @@ use Rattle.il_drive.specs.State.{device_of}
 use Rattle.il_ring.specs.Lists.{First}
 use Rattle.il_ring.specs.Outcomes.{HearsNothing}
 use Rattle.il_ring.specs.Rings.{RingView, devices_of, drive_party}
-use Rattle.il_control.proofs.Assigning.{EachTo}
+use Rattle.il_control.specs.Places.{EachTo}
 use Rattle.il_record.specs.Came.{OthersUnheard, OnlyHeard}
 use Rattle.host_model.specs.RingStates.{loop_on}
 use Rattle.host_model.specs.Next.{EachBecomes, BoxedBecome}

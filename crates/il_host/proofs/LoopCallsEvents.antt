@@ -12,18 +12,16 @@ use Rattle.il_record.specs.Asks.{CameAsked, up_to}
 use Rattle.il_record.specs.LoopCalls.{AllNamed, LeavesDrive, LeftAlone, NotSaid, Said, id_asks, ids_of, say_asks}
 use Rattle.il_record.specs.Polls.{HasPolled, PollBroke, poll_asks, polled_along}
 use Rattle.il_record.specs.Runs.{Interrupted, address_asks}
-use Rattle.il_script.specs.declared.reply.Reply.{Reply}
 use Rattle.il_script.specs.declared.reply.Reply.TheVariants as reply
 use Rattle.il_script.specs.declared.reply.Code.{Code}
 use Rattle.host_model.specs.Requests.{Item, Asks, Devices, Poll, Say}
 use Rattle.host_model.specs.LoopStates.{all_ids, device_count, poll_frame, polled_from, printer_at}
-use Rattle.host_model.specs.HostStates.{log_room}
 use Rattle.host_model.specs.RingStates.{loop_on}
 use Rattle.host_model.specs.Courses.{Due, addressed_first, bytes_due, course_of, ids_due, is_commanding, is_identified, places_due, poll_unconfigure}
-use Rattle.host_model.specs.Steps.{Exchanged, Travels}
+use Rattle.host_model.specs.Steps.{Exchanged}
 use Rattle.host_model.proofs.RingStates.{count_on, ids_on, wants_on}
 use Rattle.loop_model.specs.Entries.{unl}
-use Rattle.il_host.proofs.CommandTravels.{event_on, travels_came}
+use Rattle.il_host.proofs.CommandTravels.{event_on}
 use Rattle.il_host.proofs.Courses.{meets_ids, meets_poll, meets_say, polled_wants}
 use Rattle.il_host.proofs.Keeping.{Keeps, keeps_asked, keeps_broken, keeps_then}
 use Rattle.il_host.proofs.LoopEvents.{IsOfLoop, Readies, keeps_interrupted, keeps_ready, loop_broken, loop_done, loop_refused}
@@ -63,11 +61,6 @@ module _ {M : Type 0} (view : M → MediumView) (item : Item) (of_loop : IsOfLoo
   -- the addressing was broken off
   pub loop_interrupted : course_of item (loop_on r) ≡ Some course → Interrupted view address_asks (drive_party r) r s → Exchanged (hops_of r.books.plan) (event_on view item reply.FaultFrame false is r s)
   loop_interrupted due broke = loop_broken view item of_loop course false is r s empty due (keeps_interrupted view course r s broke) broke.drive.count
-
-  -- its frames
-  pub loop_travels : (answer : Reply) (was whole : Bool) → Keeps view whole (addressed_first (loop_on r) was course) r s → length s.books.log ≤ log_room (view r.drive.medium).record_count
-      → Travels (event_on view item answer was is r s)
-  loop_travels answer was whole kept short = travels_came view item answer was is whole r s empty kept.came.came short
 
 -- ---- accessory IDs
 

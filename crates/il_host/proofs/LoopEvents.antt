@@ -5,7 +5,7 @@ use Rattle.il_ports.specs.Media.{MediumView}
 use Rattle.loop_model.specs.Entries.{ifc, aau}
 use Rattle.loop_model.specs.Exchanges.{Piece}
 use Rattle.loop_model.specs.Units.{RecordUnit, units_of}
-use Rattle.loop_model.proofs.EffectLaws.{all_good}
+use Rattle.loop_model.specs.Effect.{all_good}
 use Rattle.il_ring.specs.Plans.{hops_of}
 use Rattle.il_ring.specs.Rings.{RingView, drive_party}
 use Rattle.il_control.specs.Calls.{IsFree, IsIdle, loop_of}

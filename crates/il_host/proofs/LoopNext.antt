@@ -1,9 +1,8 @@
 -- What the commands of the loop leave of it.
 use Rattle.std.proofs.Common.{◌≡◌, ⊎_elim, inl, inr, ◌++◌, ◌∙◌, ◌≤◌, ℕ, Bool, true, false, List, [], ◌∷◌, length, take, refl, sym, ap, ap₂, subst, arith}
 use Rattle.std.specs.Prelude.{MatchBool}
-use Rattle.il_device.specs.State.{DeviceState, risen}
-use Rattle.il_device.specs.Takes.{kept}
-use Rattle.il_device.proofs.Laws.{kept_all, risen_by}
+use Rattle.il_device.specs.State.{DeviceState, risen, risen_by}
+use Rattle.il_device.specs.Takes.{kept, kept_all}
 use Rattle.il_ports.specs.Media.{MediumView}
 use Rattle.il_drive.specs.State.{status_of}
 use Rattle.il_ring.specs.Outcomes.{HearsNothing}

@@ -5,8 +5,7 @@ use Rattle.std.specs.List.{All}
 use Rattle.std.proofs.lemmas.Bool.Decides.{nat_tests}
 use Rattle.std.proofs.lemmas.List.Elements.{All-append, All-cons, All-head, All-tail}
 use Rattle.il_device.specs.State.{DeviceState}
-use Rattle.il_device.specs.Takes.{kept}
-use Rattle.il_device.proofs.Laws.{kept_all}
+use Rattle.il_device.specs.Takes.{kept, kept_all}
 use Rattle.il_frames.specs.declared.entry.Entry.{Entry}
 use Rattle.il_device.specs.declared.roles.Roles.{Roles}
 use Rattle.loop_model.specs.Hearing.{heard_by}

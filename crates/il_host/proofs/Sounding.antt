@@ -6,7 +6,7 @@ use Rattle.host_model.specs.Requests.{Asks, Devices, Item, NoCommand, OfVolume, 
 use Rattle.host_model.specs.LoopStates.{all_roles, device_count}
 use Rattle.host_model.specs.HostStates.{HostState}
 use Rattle.host_model.specs.Replies.{reply_of, volume_behind}
-use Rattle.host_model.specs.Next.{Next, BoxedBecome}
+use Rattle.host_model.specs.Next.{BoxedBecome}
 use Rattle.host_model.specs.Steps.{CountsWhole, EitherVolume, Event, Exchanged, HearsLog, Replied, Travels, is_frame_fault}
 
 -- a state, of a store that is sound or not
@@ -65,14 +65,6 @@ module _ (e : Event) (was is : Bool) where
   -- what the frames did
   pub travels_sounding : Travels e → Travels (sounding e was is)
   travels_sounding so = record { one_talker = so.one_talker; roles = so.roles; crossings = so.crossings; frames = so.frames; short = so.short }
-
-  -- what is left of the loop
-  pub next_sounding : Next e.item e.reply e.before.loop e.after.loop → Next (sounding e was is).item (sounding e was is).reply (sounding e was is).before.loop (sounding e was is).after.loop
-  next_sounding so = so
-
-  -- what the devices heard
-  pub heard_sounding : HeardOf e → HeardOf (sounding e was is)
-  heard_sounding so = so
 
   -- the exchanges of an item that is not of the volume
   pub exchanged_sounding : (hops : List ℕ) → is_of_volume e.item ≡ false → Exchanged hops e → Exchanged hops (sounding e was is)

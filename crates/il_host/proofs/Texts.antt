@@ -4,7 +4,7 @@ use Rattle.std.specs.Prelude.{Option, Some, None, Ok, IfSome, is_some, option_an
 use Rattle.std.specs.List.{flat_map, position_or_len}
 use Rattle.std.proofs.lemmas.Bool.{cases_Bool, and_from, ltb-false}
 use Rattle.std.proofs.lemmas.List.{length-map}
-use Rattle.lif_model.specs.Tape.{Tape, IsTape, record_at}
+use Rattle.lif_model.specs.Tape.{Tape, record_at}
 use Rattle.lif_model.specs.Header.{HeaderParts, header_of}
 use Rattle.lif_model.specs.Directory.{slots_of, length_of}
 use Rattle.lif_model.specs.Redo.{settled}
@@ -14,7 +14,7 @@ use Rattle.lif_model.specs.Apply.{VolumeCommand, Dir, Label, Fetch}
 use Rattle.lif_model.proofs.Legal.{legal_tells}
 use Rattle.lif_model.proofs.Slots.{readable_tells, live_named_tells}
 use Rattle.lif_model.proofs.Lookups.{slot_is_at, no_slot_has}
-use Rattle.lif_model.proofs.Directory.{volume_from, volume_is}
+use Rattle.lif_model.proofs.Directory.{volume_from}
 use Rattle.il_ports.specs.Stores.{RecordsView}
 use Rattle.lif_dir.specs.Entries.{slot_bytes}
 use Rattle.lif_dir.specs.declared.entries.Slot.{Slot}
@@ -22,7 +22,6 @@ use Rattle.lif_volume.specs.declared.volume.Listing.{Listing}
 use Rattle.lif_volume.specs.declared.volume.Fetched.{Fetched}
 use Rattle.lif_volume.specs.Views.{VolumeView, IsOpen, IsDirectoryOf}
 use Rattle.lif_volume.specs.Commands.{IsTold, Listed, FetchedFile, Mounts, Lists, Labels, FetchesFile, IsRefusedExactly}
-use Rattle.il_device.specs.State.{DeviceState, IsDevice}
 use Rattle.il_script.specs.Replies.{reply_line}
 use Rattle.il_script.specs.declared.reply.Reply.TheVariants as reply
 use Rattle.host_model.specs.Requests.{OfVolume, Asks}
@@ -97,14 +96,6 @@ pub listing_fits : {R S : Type 0} (view : R → RecordsView S) (new : VolumeView
     → 72 * (length new.slots + 1) + 20 ≤ text_room (view new.records).record_count
 listing_fits view new is kept = omega (arith, few_slots view new is kept, is.size)
 
--- so do the bytes of a tape of n records
-pub data_fits : (n : ℕ) (bytes : List ℕ) → length bytes ≤ 256 * n → 2 * length bytes + 22 + 20 ≤ text_room n
-data_fits n bytes few = omega (arith, few)
-
--- and what a device keeps
-pub paper_fits : (n : ℕ) (d : DeviceState) → IsDevice d → 2 * length d.heard + 29 + 20 ≤ text_room n
-paper_fits n d is = omega (arith, is.heard, is.room)
-
 -- ---- a file is no longer than its tape
 
 pub short_slot : (n : ℕ) (v : Volume) (name slot : List ℕ) → IsLegal n v.header v.slots → slot_named v.slots name ≡ Some slot → length_of slot ≤ n
@@ -125,7 +116,3 @@ short_slot n v name slot legal named = elim (cases_Bool (has_file v.slots name))
   where
     same_some : {X : Type 0} (x y : X) → Some x ≡ Some y → x ≡ y
     same_some x y e = cc
-
-pub fetched_few : (n : ℕ) (t : Tape) (name : List ℕ) (fetched : Fetched) (into : List ℕ) → IsTape n t → FetchedFile t name fetched into → fetched.length ≤ 256 * n
-fetched_few n t name fetched into tape file =
-    omega (arith, file.length, short_slot n file.volume name file.slot ((volume_is n t file.volume tape file.of_tape).legal) file.named)

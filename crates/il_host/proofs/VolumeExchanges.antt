@@ -9,7 +9,7 @@ use Rattle.il_ports.specs.declared.records.Trouble.{Trouble}
 use Rattle.il_ports.specs.declared.records.Trouble.TheVariants as trouble
 use Rattle.loop_model.specs.Exchanges.{IsWhole}
 use Rattle.loop_model.specs.Units.{RecordUnit, units_of}
-use Rattle.loop_model.proofs.EffectLaws.{all_good}
+use Rattle.loop_model.specs.Effect.{all_good}
 use Rattle.il_ring.specs.Outcomes.{met_between}
 use Rattle.il_ring.specs.Plans.{hops_of}
 use Rattle.il_ring.specs.Rings.{RingView, drive_party}

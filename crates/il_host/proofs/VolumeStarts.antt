@@ -1,7 +1,7 @@
 -- A command of the volume begins: the log is emptied, and the store is made sound.
 use Rattle.std.proofs.Common.{◌≡◌, ◌∙◌, ◌+◌, ⊎_elim, Bool, true, false, [], Option, Some, None, refl, sym, ap, ap₂, subst, arith}
 use Rattle.std.specs.Prelude.{Ok, Err}
-use Rattle.il_drive.proofs.ExchangesAddressed.{sdc}
+use Rattle.il_drive.specs.Resting.{sdc}
 use Rattle.il_ports.specs.Media.{MediumView}
 use Rattle.il_ports.specs.Stores.{Begun}
 use Rattle.il_ports.specs.declared.records.Trouble.{Trouble}

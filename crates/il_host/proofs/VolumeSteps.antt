@@ -77,10 +77,6 @@ module _ {M : Type 0} (view : M → MediumView) where
   state_rings sound true r = refl
   state_rings sound false r = refl
 
-  pub log_rings : (is : Bool) (r : RingView M) → log_at (at_ring is r) ≡ r.books.log
-  log_rings true r = refl
-  log_rings false r = refl
-
   pub hops_rings : (is : Bool) (r : RingView M) → hops_at (at_ring is r) ≡ hops_of r.books.plan
   hops_rings true r = refl
   hops_rings false r = refl

@@ -1,4 +1,4 @@
-// A run over a script that it makes by itself. It tells how many replies there were of each kind.
+//! A run over a script that it makes by itself. It tells how many replies there were of each kind.
 ghost use Rattle.std.specs.Prelude.{◌≡◌, ℕ, ◌+◌, ◌*◌, ◌<◌, ◌≤◌, ◌++◌, List, [], Option, Some, true, length, is_some};
 ghost use Rattle.il_script.specs.declared.limits.TheConstants.{LONGEST_LINE, LONGEST_PAYLOAD};
 ghost use Rattle.il_script.specs.Replies.{next};
@@ -24,7 +24,7 @@ use std::marker::Model;
 /// summary.
 pub const GENERATED_ROOM: usize = 4_100;
 
-// Numbers that look drawn by lot, each made of the one before it, by the rule of the C standard's sample `rand`.
+/// Numbers that look drawn by lot, each made of the one before it, by the rule of the C standard's sample `rand`.
 #[derive(Drop)]
 struct Draws {
     state: u32,
@@ -35,7 +35,7 @@ impl Draws {
     ghost use Rattle.std.specs.Prelude.{◌≡◌, ◌<◌};
     ghost use Rattle.host_model.specs.Generated.{draw, drawn};
 
-    // The next number, below 32768.
+    /// The next number, below 32768.
     fn next(&mut self) -> u32
         ensures state { self.new.state ≡ draw self.old.state }
         ensures number { result ≡ drawn self.new.state }
@@ -46,7 +46,7 @@ impl Draws {
     }
 }
 
-// Which of sixteen names a number chooses.
+/// Which of sixteen names a number chooses.
 fn put_next_generated_name(page: &mut Page, number: u32)
     requires { length page.old.text + 4 ≤ page.old.room }
     ensures text { page.new ≡ record page.old { text = page.old.text ++ next (generated_name number) } }
@@ -56,7 +56,7 @@ fn put_next_generated_name(page: &mut Page, number: u32)
     page.put(&[b' ', b'F', b'0' + name / 10, b'0' + name % 10]);
 }
 
-// So many bytes as hex digits, each one more than the one before it, or a minus sign for none.
+/// So many bytes as hex digits, each one more than the one before it, or a minus sign for none.
 fn put_next_rising(page: &mut Page, first: u32, count: u32)
     requires few { first + count ≤ u32.MAX }
     requires room { length page.old.text + 2 * count + 2 ≤ page.old.room }
@@ -73,7 +73,7 @@ fn put_next_rising(page: &mut Page, first: u32, count: u32)
     }
 }
 
-// The line of a command that names a file.
+/// The line of a command that names a file.
 fn put_name_line(page: &mut Page, word: &[u8], name: u32)
     requires { length page.old.text + length word.now + 4 ≤ page.old.room }
     ensures text { page.new ≡ record page.old { text = page.old.text ++ (word.now ++ next (generated_name name)) } }
@@ -83,7 +83,7 @@ fn put_name_line(page: &mut Page, word: &[u8], name: u32)
     put_next_generated_name(page, name);
 }
 
-// The line that stores a file: two numbers choose its name and its size.
+/// The line that stores a file: two numbers choose its name and its size.
 fn put_store_line(page: &mut Page, name: u32, size: u32)
     requires { length page.old.text + 4023 ≤ page.old.room }
     ensures text { page.new ≡ record page.old { text = page.old.text ++ store_line name size } }
@@ -94,7 +94,7 @@ fn put_store_line(page: &mut Page, name: u32, size: u32)
     put_next_rising(page, name % 16, size % 2000);
 }
 
-// The line that the next draws choose, on an empty page.
+/// The line that the next draws choose, on an empty page.
 fn put_next_line(page: &mut Page, draws: &mut Draws)
     requires empty { page.old.text ≡ [] }
     requires room { GENERATED_ROOM ≤ page.old.room }
@@ -113,7 +113,7 @@ fn put_next_line(page: &mut Page, draws: &mut Draws)
     }
 }
 
-// The line at this place of the script, in place of the one before it.
+/// The line at this place of the script, in place of the one before it.
 fn put_line(page: &mut Page, draws: &mut Draws, place: u16)
     requires { GENERATED_ROOM ≤ page.old.room }
     ensures text { page.new ≡ record page.old { text = line_at place draws.old.state } }
@@ -128,7 +128,7 @@ fn put_line(page: &mut Page, draws: &mut Draws, place: u16)
     }
 }
 
-// Answers what a line asks for, and writes nothing.
+/// Answers what a line asks for, and writes nothing.
 fn reply_to<P: Performer>(host: &mut P, asked: Asked, bytes: &[u8]) -> Reply
     requires valid { (P.view host.old).valid }
     requires plain { IsPlainAsked asked }
@@ -141,7 +141,7 @@ fn reply_to<P: Performer>(host: &mut P, asked: Asked, bytes: &[u8]) -> Reply
     }
 }
 
-// Answers a line that is an item, and writes nothing.
+/// Answers a line that is an item, and writes nothing.
 fn answer_line<P: Performer>(line: &[u8], payload: &mut Payload, host: &mut P) -> Reply
     requires valid { (P.view host.old).valid }
     requires few { length line.now ≤ LONGEST_LINE }
@@ -154,7 +154,7 @@ fn answer_line<P: Performer>(line: &[u8], payload: &mut Payload, host: &mut P) -
     reply_to(host, asked, payload.bytes())
 }
 
-// The line of a count.
+/// The line of a count.
 fn put_count(page: &mut Page, name: &[u8], count: u16)
     requires { length page.old.text + length name.now + 12 ≤ page.old.room }
     ensures text { page.new ≡ record page.old { text = page.old.text ++ count_line name.now count } }
@@ -165,7 +165,7 @@ fn put_count(page: &mut Page, name: &[u8], count: u16)
     page.put(b"\n");
 }
 
-// How many replies are ok, errors and faults.
+/// How many replies are ok, errors and faults.
 #[derive(Drop)]
 struct Counts {
     ok: u16,
@@ -186,7 +186,7 @@ impl Counts {
     ghost use Rattle.host_model.specs.Runs.{with_reply, tally_of, tally_text};
     ghost use Rattle.il_host.specs.Generating.{total, is_all_ok};
 
-    // No replies.
+    /// No replies.
     fn new() -> Counts
         ensures { result ≡ tally_of [] }
     {
@@ -197,7 +197,7 @@ impl Counts {
         }
     }
 
-    // One reply more.
+    /// One reply more.
     fn count(&mut self, reply: Reply)
         requires { total self.old < u16.MAX }
         ensures counted { self.new ≡ with_reply reply self.old }
@@ -210,14 +210,14 @@ impl Counts {
         }
     }
 
-    // Whether each reply is ok.
+    /// Whether each reply is ok.
     fn is_all_ok(&self) -> bool
         ensures { result ≡ is_all_ok self.now }
     {
         self.errors == 0 && self.faults == 0
     }
 
-    // The summary of a script of so many lines.
+    /// The summary of a script of so many lines.
     fn put_summary(&self, page: &mut Page, count: u16)
         requires { length page.old.text + 69 ≤ page.old.room }
         ensures { page.new ≡ record page.old { text = page.old.text ++ tally_text count self.now } }
@@ -229,8 +229,8 @@ impl Counts {
     }
 }
 
-// Answers so many lines of the script that a seed makes, one by one, and writes their summary. The page has the room for
-// it.
+/// Answers so many lines of the script that a seed makes, one by one, and writes their summary. The page has the room
+/// for it.
 pub fn answer_generated<P: Performer, K: Sink>(
     mut page: Page,
     mut payload: Payload,

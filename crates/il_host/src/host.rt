@@ -72,7 +72,8 @@ impl<M: Medium + Drop> Performer for Host<M> {
 }
 
 impl<M: Medium + Drop> Host<M> {
-    // Makes the store sound, where a fault came before: addresses the loop, where it is not ready, and clears the drive.
+    /// Makes the store sound, where a fault came before: addresses the loop, where it is not ready, and clears the
+    /// drive.
     pub(crate) fn make_sound(&mut self) -> Result<(), Trouble>
         requires volume_open { IsOpen ⟦<LoopRecords<M> as Records>⟧.view (volume_in self.old.volume) }
         requires left { 1 ≤ (⟦<LoopRecords<M> as Records>⟧.view self.old.volume.records).calls_left }
@@ -87,7 +88,7 @@ impl<M: Medium + Drop> Host<M> {
         self.volume.records_mut().resume()
     }
 
-    // Ends the text of a reply.
+    /// Ends the text of a reply.
     pub(crate) fn answered(&mut self, reply: Reply) -> Reply
         requires volume_open { IsOpen ⟦<LoopRecords<M> as Records>⟧.view (volume_in self.old.volume) }
         requires room { length self.old.page.text + 20 ≤ self.old.page.room }
@@ -100,7 +101,7 @@ impl<M: Medium + Drop> Host<M> {
         reply
     }
 
-    // The reply to a trouble of the store, with its line.
+    /// The reply to a trouble of the store, with its line.
     pub(crate) fn faulted(&mut self, trouble: Trouble) -> Reply
         requires volume_open { IsOpen ⟦<LoopRecords<M> as Records>⟧.view (volume_in self.old.volume) }
         requires room { length self.old.page.text + 20 ≤ self.old.page.room }

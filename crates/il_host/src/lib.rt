@@ -1,5 +1,5 @@
-//! The host: reads the words and the script, performs commands on the tape that is in the drive, by frames on a loop, and
-//! answers them.
+//! The host: reads the words and the script, performs commands on the tape that is in the drive, by frames on a loop,
+//! and answers them.
 //!
 //! [`run_il`] is a whole run; [`Host`] performs single commands.
 #![tactic(auto)]

@@ -1,4 +1,4 @@
-// The texts that the commands of a volume tell.
+//! The texts that the commands of a volume tell.
 ghost use Rattle.std.specs.Prelude.{◌≡◌, ◌+◌, ◌*◌, ◌≤◌, ◌++◌, length};
 ghost use Rattle.lif_dir.specs.Entries.{entry_bytes};
 ghost use Rattle.host_model.specs.Listing.{volume_line, slot_lines};
@@ -9,7 +9,7 @@ use il_script::Page;
 use lif_dir::{FileEntry, SlotTable};
 use lif_volume::{Fetched, Listing};
 
-// The line of the volume, of which so many slots are used.
+/// The line of the volume, of which so many slots are used.
 #[tactic(auto, unfolding(host_model::specs::Listing::volume_line))]
 fn put_volume_line(page: &mut Page, listing: &Listing, used: u32)
     requires { length page.old.text + 70 ≤ page.old.room }
@@ -25,7 +25,7 @@ fn put_volume_line(page: &mut Page, listing: &Listing, used: u32)
     page.put(b"\n");
 }
 
-// The line of a file.
+/// The line of a file.
 #[tactic(auto, unfolding(crate::specs::Texts::entry_line))]
 fn put_file_line(page: &mut Page, entry: &FileEntry)
     requires { length page.old.text + 72 ≤ page.old.room }
@@ -41,7 +41,7 @@ fn put_file_line(page: &mut Page, entry: &FileEntry)
     page.put(b"\n");
 }
 
-// The line of a slot, which a purged one has not.
+/// The line of a slot, which a purged one has not.
 fn put_slot(page: &mut Page, entry: FileEntry)
     requires { length page.old.text + 72 ≤ page.old.room }
     ensures text { page.new ≡ record page.old { text = page.old.text ++ slot_lines (entry_bytes entry) } }
@@ -52,7 +52,7 @@ fn put_slot(page: &mut Page, entry: FileEntry)
     }
 }
 
-// The lines of a volume: its own, and one for each live slot.
+/// The lines of a volume: its own, and one for each live slot.
 pub(crate) fn put_listing(page: &mut Page, listing: &Listing, slots: &SlotTable)
     requires { length page.old.text + 72 * (length slots.now.slots + 1) ≤ page.old.room }
     ensures text { page.new ≡ record page.old { text = page.old.text ++ listing_text listing.now slots.now.slots } }
@@ -65,7 +65,7 @@ pub(crate) fn put_listing(page: &mut Page, listing: &Listing, slots: &SlotTable)
     }
 }
 
-// The line of a label.
+/// The line of a label.
 pub(crate) fn put_label(page: &mut Page, label: &[u8; 6])
     requires { length page.old.text + 25 ≤ page.old.room }
     ensures text { page.new ≡ record page.old { text = page.old.text ++ label_text label.now } }
@@ -76,7 +76,7 @@ pub(crate) fn put_label(page: &mut Page, label: &[u8; 6])
     page.put(b"\n");
 }
 
-// The line of a file that was fetched, with these bytes.
+/// The line of a file that was fetched, with these bytes.
 pub(crate) fn put_data(page: &mut Page, fetched: &Fetched, bytes: &[u8])
     requires { length page.old.text + 2 * length bytes.now + 22 ≤ page.old.room }
     ensures text { page.new ≡ record page.old { text = page.old.text ++ data_text fetched.now.kind fetched.now.implementation bytes.now } }

@@ -19,7 +19,7 @@ use il_record::{LoopRecords, Looped};
 use il_script::{Code, Reply};
 
 impl<M: Medium + Drop> Host<M> {
-    // Tells the status of the drive.
+    /// Tells the status of the drive.
     pub(crate) fn status(&mut self) -> Reply
         requires valid { (⟦<Host<M> as Performer>⟧.view self.old).valid }
         requires blank { (⟦<Host<M> as Performer>⟧.view self.old).text ≡ [] }
@@ -38,7 +38,7 @@ impl<M: Medium + Drop> Host<M> {
         }
     }
 
-    // Polls the devices in parallel.
+    /// Polls the devices in parallel.
     pub(crate) fn poll(&mut self) -> Reply
         requires valid { (⟦<Host<M> as Performer>⟧.view self.old).valid }
         requires blank { (⟦<Host<M> as Performer>⟧.view self.old).text ≡ [] }
@@ -57,7 +57,7 @@ impl<M: Medium + Drop> Host<M> {
         }
     }
 
-    // Tells the accessory IDs of the devices.
+    /// Tells the accessory IDs of the devices.
     pub(crate) fn devices(&mut self) -> Reply
         requires valid { (⟦<Host<M> as Performer>⟧.view self.old).valid }
         requires blank { (⟦<Host<M> as Performer>⟧.view self.old).text ≡ [] }
@@ -78,7 +78,7 @@ impl<M: Medium + Drop> Host<M> {
         }
     }
 
-    // Sends bytes to the first printer.
+    /// Sends bytes to the first printer.
     pub(crate) fn say(&mut self, bytes: &[u8]) -> Reply
         requires valid { (⟦<Host<M> as Performer>⟧.view self.old).valid }
         requires blank { (⟦<Host<M> as Performer>⟧.view self.old).text ≡ [] }
@@ -103,7 +103,7 @@ impl<M: Medium + Drop> Host<M> {
         }
     }
 
-    // Tells what the printer's paper has.
+    /// Tells what the printer's paper has.
     pub(crate) fn paper(&mut self) -> Reply
         requires valid { (⟦<Host<M> as Performer>⟧.view self.old).valid }
         requires blank { (⟦<Host<M> as Performer>⟧.view self.old).text ≡ [] }
@@ -119,7 +119,7 @@ impl<M: Medium + Drop> Host<M> {
         }
     }
 
-    // Behind it the proof sees the accessory ID of the drive.
+    /// Behind it the proof sees the accessory ID of the drive.
     fn see_drive(&self)
         requires { IsOpen ⟦<LoopRecords<M> as Records>⟧.view (volume_in self.now.volume) }
         ensures { HasDriveId (⟦<LoopRecords<M> as Looped<M>>⟧.looped self.now.volume.records).control }
@@ -127,7 +127,7 @@ impl<M: Medium + Drop> Host<M> {
         let _ = self.volume.records().ring().medium();
     }
 
-    // Addresses the loop, where it is not ready. Else what is kept of the directory stays.
+    /// Addresses the loop, where it is not ready. Else what is kept of the directory stays.
     fn make_ready(&mut self) -> Result<(), Trouble>
         requires volume_open { IsOpen ⟦<LoopRecords<M> as Records>⟧.view (volume_in self.old.volume) }
         requires left { 1 ≤ (⟦<LoopRecords<M> as Records>⟧.view self.old.volume.records).calls_left }
@@ -143,24 +143,24 @@ impl<M: Medium + Drop> Host<M> {
     }
 }
 
-// The accessory ID of a printer.
+/// The accessory ID of a printer.
 const PRINTER_ID: u8 = 32;
 
-// Whether it is that of a printer.
+/// Whether it is that of a printer.
 fn is_printer(id: &Option<u8>) -> bool
     ensures { result ≡ has_id printer_id id.now }
 {
     *id == Some(PRINTER_ID)
 }
 
-// The place of the first printer.
+/// The place of the first printer.
 fn printer_place(ids: &[Option<u8>]) -> Option<usize>
     ensures { result ≡ position (has_id printer_id) ids.now }
 {
     ids.iter().position(is_printer)
 }
 
-// The address of the first printer, by the accessory IDs of all devices. There are at most 30.
+/// The address of the first printer, by the accessory IDs of all devices. There are at most 30.
 fn printer_among(ids: &ArrayVec<Option<u8>, 30>) -> Option<u8>
     ensures { result ≡ option_map suc (position (has_id printer_id) ids.now.items) }
 {

@@ -1,4 +1,4 @@
-// The texts that the commands of the loop tell.
+//! The texts that the commands of the loop tell.
 ghost use Rattle.std.specs.Prelude.{◌≡◌, ◌+◌, ◌*◌, ◌≤◌, ◌++◌, length, Some};
 ghost use Rattle.il_script.specs.Replies.{next};
 ghost use Rattle.host_model.specs.Replies.{id_text, device_lines, status_line, poll_line, paper_line};
@@ -9,7 +9,7 @@ use arrayvec::ArrayVec;
 use il_frames::Frame;
 use il_script::Page;
 
-// An accessory ID, or two minus signs for a device that has none.
+/// An accessory ID, or two minus signs for a device that has none.
 fn put_next_id(page: &mut Page, id: Option<u8>)
     requires { length page.old.text + 3 ≤ page.old.room }
     ensures text { page.new ≡ record page.old { text = page.old.text ++ next (id_text id) } }
@@ -21,7 +21,7 @@ fn put_next_id(page: &mut Page, id: Option<u8>)
     }
 }
 
-// The line of a device.
+/// The line of a device.
 fn put_device(page: &mut Page, address: u32, id: Option<u8>)
     requires { length page.old.text + 21 ≤ page.old.room }
     ensures text { page.new ≡ record page.old { text = page.old.text ++ device_line address id } }
@@ -33,7 +33,7 @@ fn put_device(page: &mut Page, address: u32, id: Option<u8>)
     page.put(b"\n");
 }
 
-// The lines of the devices with these accessory IDs, of which the first has address 1. There are at most 30.
+/// The lines of the devices with these accessory IDs, of which the first has address 1. There are at most 30.
 pub(crate) fn put_devices(page: &mut Page, ids: &ArrayVec<Option<u8>, 30>)
     requires { length page.old.text + 630 ≤ page.old.room }
     ensures text { page.new ≡ record page.old { text = page.old.text ++ device_lines 1 ids.now.items } }
@@ -44,7 +44,7 @@ pub(crate) fn put_devices(page: &mut Page, ids: &ArrayVec<Option<u8>, 30>)
     }
 }
 
-// The line of the drive's status byte.
+/// The line of the drive's status byte.
 pub(crate) fn put_status(page: &mut Page, byte: u8)
     requires { length page.old.text + 10 ≤ page.old.room }
     ensures text { page.new ≡ record page.old { text = page.old.text ++ status_line byte } }
@@ -55,7 +55,7 @@ pub(crate) fn put_status(page: &mut Page, byte: u8)
     page.put(b"\n");
 }
 
-// The line of the identify frame that came back.
+/// The line of the identify frame that came back.
 pub(crate) fn put_poll(page: &mut Page, frame: &Frame)
     requires { length page.old.text + 16 ≤ page.old.room }
     ensures text { page.new ≡ record page.old { text = page.old.text ++ poll_line frame.now } }
@@ -70,7 +70,7 @@ pub(crate) fn put_poll(page: &mut Page, frame: &Frame)
     }
 }
 
-// The line of a printer that keeps these bytes and heard so many.
+/// The line of a printer that keeps these bytes and heard so many.
 pub(crate) fn put_paper(page: &mut Page, kept: &[u8], count: u64)
     requires { length page.old.text + 2 * length kept.now + 29 ≤ page.old.room }
     ensures text { page.new ≡ record page.old { text = page.old.text ++ paper_line (Some (kept.now, count)) } }

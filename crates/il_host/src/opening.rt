@@ -18,14 +18,14 @@ use lif_volume::Volume;
 use std::alloc::{AllocError, Global};
 use std::marker::PhantomData;
 
-// How many entries the log of a command may have on a medium of so many records.
+/// How many entries the log of a command may have on a medium of so many records.
 fn log_room(records: u16) -> usize
     ensures { result ≡ log_room records }
 {
     1600 * usize::from(records) + 10_000
 }
 
-// Memory for the text of every reply, and for the bytes of every file, on a medium of so many records.
+/// Memory for the text of every reply, and for the bytes of every file, on a medium of so many records.
 fn reserve(alloc: Global, records: u16) -> Result<(Page, Vec<u8>), AllocError>
     ensures page { IfOk result (λ r. r.0 ≡ record { text = []; room = text_room records }) }
     ensures file { IfOk result (λ r. length r.1.items ≡ 256 * records) }
@@ -36,9 +36,9 @@ fn reserve(alloc: Global, records: u16) -> Result<(Page, Vec<u8>), AllocError>
 }
 
 impl<M: Medium + Drop> Host<M> {
-    /// A host for the tape that is in the drive, over the devices of the rig, with faults planned at these crossings of the
-    /// loop. The log of a command has room for 1,600 entries for each record of the medium and 10,000 more. All memory of the
-    /// host is taken here; where there is none the rig is handed back, and no frame was sent.
+    /// A host for the tape that is in the drive, over the devices of the rig, with faults planned at these crossings of
+    /// the loop. The log of a command has room for 1,600 entries for each record of the medium and 10,000 more. All
+    /// memory of the host is taken here; where there is none the rig is handed back, and no frame was sent.
     pub fn open(alloc: Global, rig: Rig<M>, plan: &[Planned]) -> Result<Host<M>, Refused<M>>
         requires few { length rig.before.items + length rig.after.items ≤ 29 }
         requires before { All (λ b. MayStand (state b)) rig.before.items }

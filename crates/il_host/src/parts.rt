@@ -1,4 +1,4 @@
-// The parts of a line, each with the space before it.
+//! The parts of a line, each with the space before it.
 ghost use Rattle.std.specs.Prelude.{◌≡◌, ◌+◌, ◌*◌, ◌≤◌, ◌<◌, ◌++◌, length, decimal};
 ghost use Rattle.hex.specs.Hex.{encode_upper};
 ghost use Rattle.lif_model.specs.Printed.{printed};
@@ -8,7 +8,7 @@ ghost use Rattle.host_model.specs.Replies.{bytes_text, byte_text};
 use il_script::Page;
 use itoa::Buffer;
 
-// A name or a label.
+/// A name or a label.
 pub(crate) fn put_next_name(page: &mut Page, name: &[u8])
     requires some { 0 < length name.now }
     requires room { length page.old.text + 3 * length name.now + 1 ≤ page.old.room }
@@ -19,7 +19,7 @@ pub(crate) fn put_next_name(page: &mut Page, name: &[u8])
     page.put_name(name);
 }
 
-// A number in decimal.
+/// A number in decimal.
 pub(crate) fn put_next_number(page: &mut Page, number: u32)
     requires { length page.old.text + 11 ≤ page.old.room }
     ensures text { page.new ≡ record page.old { text = page.old.text ++ next (decimal number) } }
@@ -29,7 +29,7 @@ pub(crate) fn put_next_number(page: &mut Page, number: u32)
     page.put_number(number);
 }
 
-// A count in decimal, at most twenty digits.
+/// A count in decimal, at most twenty digits.
 pub(crate) fn put_next_count(page: &mut Page, count: u64)
     requires { length page.old.text + 21 ≤ page.old.room }
     ensures text { page.new ≡ record page.old { text = page.old.text ++ next (decimal count) } }
@@ -40,7 +40,7 @@ pub(crate) fn put_next_count(page: &mut Page, count: u64)
     page.put(buffer.format(count).as_bytes());
 }
 
-// Bytes as hex digits.
+/// Bytes as hex digits.
 pub(crate) fn put_next_hex(page: &mut Page, bytes: &[u8])
     requires { length page.old.text + 2 * length bytes.now + 1 ≤ page.old.room }
     ensures text { page.new ≡ record page.old { text = page.old.text ++ next (encode_upper bytes.now) } }
@@ -50,7 +50,7 @@ pub(crate) fn put_next_hex(page: &mut Page, bytes: &[u8])
     page.put_hex(bytes);
 }
 
-// A byte as two hex digits.
+/// A byte as two hex digits.
 pub(crate) fn put_next_byte(page: &mut Page, byte: u8)
     requires { length page.old.text + 3 ≤ page.old.room }
     ensures text { page.new ≡ record page.old { text = page.old.text ++ next (byte_text byte) } }
@@ -59,7 +59,7 @@ pub(crate) fn put_next_byte(page: &mut Page, byte: u8)
     put_next_hex(page, &[byte]);
 }
 
-// Bytes as hex digits, or a minus sign for none.
+/// Bytes as hex digits, or a minus sign for none.
 pub(crate) fn put_next_bytes(page: &mut Page, bytes: &[u8])
     requires { length page.old.text + 2 * length bytes.now + 2 ≤ page.old.room }
     ensures text { page.new ≡ record page.old { text = page.old.text ++ next (bytes_text bytes.now) } }

@@ -1,7 +1,8 @@
 use il_frames::Entry;
 use il_script::{Command, Reply};
 
-/// What performs commands, one after the other. The loop over a script is proved for every performer, and the host is one.
+/// What performs commands, one after the other. The loop over a script is proved for every performer, and the host is
+/// one.
 pub trait Performer {
     ghost use Rattle.std.specs.Prelude.{◌≡◌, ◌≤◌, length};
     ghost use Rattle.il_script.specs.declared.limits.TheConstants.{LONGEST_PAYLOAD};

@@ -30,7 +30,7 @@ pub struct Ended<M: Medium> {
     pub rig: Rig<M>,
 }
 
-// Opens the host on the tape that is in the drive, with the faults that are planned, and answers the script.
+/// Opens the host on the tape that is in the drive, with the faults that are planned, and answers the script.
 fn run_script<S: Source, K: Sink, M: Medium + Drop>(
     alloc: Global,
     words: &Words<'_>,
@@ -76,7 +76,7 @@ fn run_script<S: Source, K: Sink, M: Medium + Drop>(
     }
 }
 
-// Reads the words, inserts the image and answers the script.
+/// Reads the words, inserts the image and answers the script.
 fn run<S: Source, K: Sink, M: Medium + Drop>(
     alloc: Global,
     words: &[String],
@@ -112,8 +112,8 @@ fn run<S: Source, K: Sink, M: Medium + Drop>(
     }
 }
 
-/// A run: reads the words, inserts the image that they name, opens a host on it, and answers the script line after line. No tape
-/// is in the drive yet, and the devices make a new ring, as `Rig::fits` says.
+/// A run: reads the words, inserts the image that they name, opens a host on it, and answers the script line after
+/// line. No tape is in the drive yet, and the devices make a new ring, as `Rig::fits` says.
 pub fn run_il<S: Source, K: Sink, M: Medium + Drop>(
     alloc: Global,
     words: &[String],

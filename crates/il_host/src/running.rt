@@ -14,16 +14,16 @@ use crate::write::{write_all, write_told};
 use il_ports::{Failed, Sink, Source};
 use il_script::{Code, Command, Line, Lines, Payload, Reply, read_line};
 
-// What a line asks for, where it is not skipped.
-#[derive(Clone, Copy, Debug, PartialEq, Eq)]
+/// What a line asks for, where it is not skipped.
+#[derive(Clone, Copy)]
 pub(crate) enum Asked {
-    // A command, with the bytes of the payload.
+    /// A command, with the bytes of the payload.
     Command(Command),
-    // Nothing that is understood. The line is answered by this code.
+    /// Nothing that is understood. The line is answered by this code.
     NoCommand(Code),
 }
 
-// What the text of a line asks for, where it is not skipped.
+/// What the text of a line asks for, where it is not skipped.
 pub(crate) fn read_text(text: &[u8], payload: &mut Payload) -> Option<Asked>
     requires { length text.now ≤ LONGEST_LINE }
     ensures item { option_map (λ asked. item_asked asked payload.new) result ≡ item_of (Some text.now) }
@@ -36,7 +36,7 @@ pub(crate) fn read_text(text: &[u8], payload: &mut Payload) -> Option<Asked>
     }
 }
 
-// What the line that was given last asks for.
+/// What the line that was given last asks for.
 fn read_asked(lines: &Lines, line: Line, payload: &mut Payload) -> Option<Asked>
     requires { Stands lines.now line }
     ensures item { option_map (λ asked. item_asked asked payload.new) result ≡ item_of (line_given lines.now line) }
@@ -48,7 +48,7 @@ fn read_asked(lines: &Lines, line: Line, payload: &mut Payload) -> Option<Asked>
     }
 }
 
-// Answers what a line asks for, and writes what is told of it.
+/// Answers what a line asks for, and writes what is told of it.
 fn answer<P: Performer, K: Sink>(
     host: &mut P,
     asked: Asked,
@@ -75,7 +75,7 @@ fn answer<P: Performer, K: Sink>(
     }
 }
 
-// Answers the lines of a script, one by one, up to its end or to the first fault of the source or the sink.
+/// Answers the lines of a script, one by one, up to its end or to the first fault of the source or the sink.
 pub fn answer_all<S: Source, P: Performer, K: Sink>(
     mut lines: Lines,
     mut payload: Payload,

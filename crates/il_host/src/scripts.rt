@@ -14,17 +14,17 @@ use il_script::{Lines, Page, Payload};
 use il_words::Generated;
 use std::alloc::{AllocError, Global};
 
-// Memory for the lines of a script and what they carry.
+/// Memory for the lines of a script and what they carry.
 #[derive(Drop)]
 pub struct Buffers {
     pub lines: Lines,
     pub payload: Payload,
-    // a line that is generated
+    /// A line that is generated.
     pub page: Page,
 }
 
 impl Buffers {
-    // All that a script needs, of either kind.
+    /// All that a script needs, of either kind.
     pub fn new(alloc: Global) -> Result<Buffers, AllocError>
         ensures { IfOk result IsBlank }
     {
@@ -36,7 +36,7 @@ impl Buffers {
     }
 }
 
-// Answers the script: the one that is generated, or else the one that the source gives.
+/// Answers the script: the one that is generated, or else the one that the source gives.
 pub fn answer_script<S: Source, P: Performer, K: Sink>(
     buffers: Buffers,
     generated: Option<Generated>,

@@ -20,7 +20,7 @@ use lif_dir::{Name, NewLabel, NewName};
 use lif_volume::{Refusal, VolumeFault};
 
 impl<M: Medium + Drop> Host<M> {
-    // Lists the volume and its files.
+    /// Lists the volume and its files.
     pub(crate) fn dir(&mut self) -> Reply
         requires valid { (⟦<Host<M> as Performer>⟧.view self.old).valid }
         requires blank { (⟦<Host<M> as Performer>⟧.view self.old).text ≡ [] }
@@ -39,7 +39,7 @@ impl<M: Medium + Drop> Host<M> {
         }
     }
 
-    // Tells the label of the volume.
+    /// Tells the label of the volume.
     pub(crate) fn label(&mut self) -> Reply
         requires valid { (⟦<Host<M> as Performer>⟧.view self.old).valid }
         requires blank { (⟦<Host<M> as Performer>⟧.view self.old).text ≡ [] }
@@ -58,7 +58,7 @@ impl<M: Medium + Drop> Host<M> {
         }
     }
 
-    // Tells the bytes of a file.
+    /// Tells the bytes of a file.
     pub(crate) fn fetch(&mut self, name: &Name) -> Reply
         requires valid { (⟦<Host<M> as Performer>⟧.view self.old).valid }
         requires blank { (⟦<Host<M> as Performer>⟧.view self.old).text ≡ [] }
@@ -78,7 +78,7 @@ impl<M: Medium + Drop> Host<M> {
         }
     }
 
-    // Makes a file of these bytes.
+    /// Makes a file of these bytes.
     pub(crate) fn store(
         &mut self,
         name: &NewName,
@@ -100,7 +100,7 @@ impl<M: Medium + Drop> Host<M> {
         self.ended(answer)
     }
 
-    // Gives a file another name.
+    /// Gives a file another name.
     pub(crate) fn rename(&mut self, old: &Name, new: &NewName) -> Reply
         requires valid { (⟦<Host<M> as Performer>⟧.view self.old).valid }
         requires blank { (⟦<Host<M> as Performer>⟧.view self.old).text ≡ [] }
@@ -114,7 +114,7 @@ impl<M: Medium + Drop> Host<M> {
         self.ended(answer)
     }
 
-    // Purges a file.
+    /// Purges a file.
     pub(crate) fn purge(&mut self, name: &Name) -> Reply
         requires valid { (⟦<Host<M> as Performer>⟧.view self.old).valid }
         requires blank { (⟦<Host<M> as Performer>⟧.view self.old).text ≡ [] }
@@ -128,7 +128,7 @@ impl<M: Medium + Drop> Host<M> {
         self.ended(answer)
     }
 
-    // Makes a new volume.
+    /// Makes a new volume.
     pub(crate) fn format(&mut self, label: &NewLabel, slots: u16) -> Reply
         requires valid { (⟦<Host<M> as Performer>⟧.view self.old).valid }
         requires blank { (⟦<Host<M> as Performer>⟧.view self.old).text ≡ [] }
@@ -143,7 +143,7 @@ impl<M: Medium + Drop> Host<M> {
         self.ended(answer)
     }
 
-    // Gives a volume of another program its redo file.
+    /// Gives a volume of another program its redo file.
     pub(crate) fn adopt(&mut self) -> Reply
         requires valid { (⟦<Host<M> as Performer>⟧.view self.old).valid }
         requires blank { (⟦<Host<M> as Performer>⟧.view self.old).text ≡ [] }
@@ -157,7 +157,7 @@ impl<M: Medium + Drop> Host<M> {
         self.ended(answer)
     }
 
-    // The reply to a command that tells nothing, by the volume's answer.
+    /// The reply to a command that tells nothing, by the volume's answer.
     fn ended(&mut self, answer: Result<(), VolumeFault>) -> Reply
         requires volume_open { IsOpen ⟦<LoopRecords<M> as Records>⟧.view (volume_in self.old.volume) }
         requires room { length self.old.page.text + 20 ≤ self.old.page.room }
@@ -170,7 +170,7 @@ impl<M: Medium + Drop> Host<M> {
         }
     }
 
-    // The reply to a command that the volume did not perform.
+    /// The reply to a command that the volume did not perform.
     fn refused(&mut self, fault: VolumeFault) -> Reply
         requires volume_open { IsOpen ⟦<LoopRecords<M> as Records>⟧.view (volume_in self.old.volume) }
         requires room { length self.old.page.text + 20 ≤ self.old.page.room }
@@ -184,7 +184,7 @@ impl<M: Medium + Drop> Host<M> {
     }
 }
 
-// The code of a refusal.
+/// The code of a refusal.
 fn code(refusal: Refusal) -> Code
     ensures { result ≡ code_of (reason refusal) }
 {

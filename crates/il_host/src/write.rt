@@ -8,7 +8,7 @@ use arrayvec::ArrayVec;
 use il_frames::Entry;
 use il_ports::{Failed, Sink};
 
-// Writes all of the bytes, in as many pieces as the sink takes. After a fault a front of them was written.
+/// Writes all of the bytes, in as many pieces as the sink takes. After a fault a front of them was written.
 pub fn write_all<K: Sink>(out: &mut K, bytes: &[u8]) -> Result<(), Failed>
     ensures bytes { WritesAll (K.written out.old) (K.written out.new) bytes.now result }
     ensures cause { HasCause (K.faults out.old) (K.faults out.new) result }
@@ -21,7 +21,7 @@ pub fn write_all<K: Sink>(out: &mut K, bytes: &[u8]) -> Result<(), Failed>
     Ok(())
 }
 
-// Writes the line of an entry, of at most 41 bytes, as one piece.
+/// Writes the line of an entry, of at most 41 bytes, as one piece.
 fn write_entry<K: Sink>(out: &mut K, entry: &Entry) -> Result<(), Failed>
     ensures bytes { WritesAll (K.written out.old) (K.written out.new) (text_line (entry_text entry.now)) result }
     ensures cause { HasCause (K.faults out.old) (K.faults out.new) result }
@@ -34,7 +34,7 @@ fn write_entry<K: Sink>(out: &mut K, entry: &Entry) -> Result<(), Failed>
     write_all(out, &line)
 }
 
-// Writes a log, a line for each entry.
+/// Writes a log, a line for each entry.
 fn write_trace<K: Sink>(out: &mut K, log: &[Entry]) -> Result<(), Failed>
     ensures bytes { WritesAll (K.written out.old) (K.written out.new) (trace_text log.now) result }
     ensures cause { HasCause (K.faults out.old) (K.faults out.new) result }
@@ -45,7 +45,7 @@ fn write_trace<K: Sink>(out: &mut K, log: &[Entry]) -> Result<(), Failed>
     Ok(())
 }
 
-// Writes what is told of a command: its log, unless the run is quiet, and the text of its reply.
+/// Writes what is told of a command: its log, unless the run is quiet, and the text of its reply.
 pub fn write_told<K: Sink>(
     out: &mut K,
     log: &[Entry],

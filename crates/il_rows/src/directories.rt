@@ -1,7 +1,8 @@
 //! What `dir` answers, by the bytes of the tape.
 
 use crate::images::{END_ENTRY, REDO_ENTRY, formatted, with_entries, with_open_gate};
-use crate::runs::{Given, run};
+use crate::runs::{Given, answers, run};
+use il_same::{same, same_bytes};
 use std::test::Fail;
 
 const FORMATTED: &[u8] = b"volume HPTAPE 2 2 1 16\nfile REDOFILE E0D0 508 4 00000000\nok\n";
@@ -29,9 +30,7 @@ fn dir_lists_the_volume(rt: HostRuntime) -> Result<(), Fail> {
         (&[], b"dir\n", 1, b"error 3 NotLif\n"),
     ];
     for (image, script, status, output) in cases {
-        let left = run(alloc, &Given::script(image, script))?;
-        assert_eq!(rt; left.status, status);
-        assert_eq!(rt; left.output.as_slice(), output);
+        answers(&rt, alloc, &Given::script(image, script), status, output)?;
     }
     Ok(())
 }
@@ -41,13 +40,13 @@ fn an_empty_script_sends_no_frame(rt: HostRuntime) -> Result<(), Fail> {
     let alloc = rt.alloc();
     let tape = formatted(alloc)?;
     let left = run(alloc, &Given::script(&tape, b""))?;
-    assert_eq!(rt; left.output.as_slice(), b"".as_slice());
-    assert_eq!(rt; left.frames, Some(0));
-    assert_eq!(rt; left.status, 0);
+    assert!(rt; same_bytes(&left.output, b""), "no output");
+    assert!(rt; same(left.frames, Some(0)), "no frames");
+    assert!(rt; same(left.status, 0), "the status");
     Ok(())
 }
 
-// A live entry of one record, by its first name byte and its number.
+/// A live entry of one record, by its first name byte and its number.
 fn entry(letter: u8, number: u8) -> [u8; 32] {
     let mut bytes = *b"?         \0\x01\0\0\0?\0\0\0\x01\0\0\0\0\0\0\x80\x01\0\0\0\0";
     bytes[0] = letter;
@@ -71,10 +70,7 @@ fn a_full_directory_needs_no_end(rt: HostRuntime) -> Result<(), Fail> {
         wanted.extend_from_slice(b" 1 00000000\n")?;
     }
     wanted.extend_from_slice(b"ok\n")?;
-    let left = run(alloc, &Given::script(&image, b"dir\n"))?;
-    assert_eq!(rt; left.status, 0);
-    assert_eq!(rt; left.output.as_slice(), wanted.as_slice());
-    Ok(())
+    answers(&rt, alloc, &Given::script(&image, b"dir\n"), 0, &wanted)
 }
 
 #[test]
@@ -85,11 +81,11 @@ fn names_are_spelt_out_and_purged_slots_count(rt: HostRuntime) -> Result<(), Fai
     let odd = b" A%\x01\xFF~z   \xAB\xCD\0\0\0\x0A\0\0\0\x01\0\0\0\0\0\0\x80\x01\xDE\xAD\xBE\xEF";
     let spaces = b"          \0\x01\0\0\0\x04\0\0\0\0\0\0\0\0\0\0\x80\x01\0\0\0\0";
     let image = with_entries(alloc, &[purged, odd, spaces, END_ENTRY])?;
-    let left = run(alloc, &Given::script(&image, b"dir\n"))?;
-    assert_eq!(rt; left.status, 0);
-    assert_eq!(rt;
-        left.output.as_slice(),
-        b"volume HPTAPE 2 2 3 16\nfile %20A%25%01%FF~z ABCD 10 1 DEADBEEF\nfile %20 0001 4 0 00000000\nok\n".as_slice()
-    );
-    Ok(())
+    answers(
+        &rt,
+        alloc,
+        &Given::script(&image, b"dir\n"),
+        0,
+        b"volume HPTAPE 2 2 3 16\nfile %20A%25%01%FF~z ABCD 10 1 DEADBEEF\nfile %20 0001 4 0 00000000\nok\n",
+    )
 }

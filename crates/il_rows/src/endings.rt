@@ -2,12 +2,13 @@
 
 use crate::images::formatted;
 use crate::runs::{Given, answers, run};
+use il_same::same;
 use std::alloc::{AllocError, Global};
 use std::test::Fail;
 
 const LISTED: &[u8] = b"volume HPTAPE 2 2 1 16\nfile REDOFILE E0D0 508 4 00000000\nok\n";
 
-// The status of a run, and how many bytes it wrote.
+/// The status of a run, and how many bytes it wrote.
 fn ending_of(alloc: Global, given: &Given) -> Result<(u8, usize), AllocError> {
     let left = run(alloc, given)?;
     Ok((left.status, left.output.len()))
@@ -28,7 +29,7 @@ fn words_that_are_refused(rt: HostRuntime) -> Result<(), Fail> {
     ];
     for words in refused {
         let given = Given::script(&image, b"dir\n").with_words(words);
-        assert_eq!(rt; ending_of(alloc, &given)?, (2, 0));
+        assert!(rt; same(ending_of(alloc, &given)?, (2, 0)), "{words}");
     }
     Ok(())
 }
@@ -68,7 +69,10 @@ fn each_early_ending_has_its_status_and_writes_nothing(rt: HostRuntime) -> Resul
         ),
     ];
     for (given, status) in cases {
-        assert_eq!(rt; ending_of(alloc, &given)?, (status, 0));
+        assert!(rt;
+            same(ending_of(alloc, &given)?, (status, 0)),
+            "status {status}"
+        );
     }
     Ok(())
 }
@@ -102,7 +106,10 @@ fn a_long_comment_is_skipped(rt: HostRuntime) -> Result<(), Fail> {
     let alloc = rt.alloc();
     let image = formatted(alloc)?;
     let comment = vec![in alloc; b'#'; 262_144]?;
-    assert_eq!(rt; ending_of(alloc, &Given::script(&image, &comment))?, (0, 0));
+    assert!(rt;
+        same(ending_of(alloc, &Given::script(&image, &comment))?, (0, 0)),
+        "a comment"
+    );
     Ok(())
 }
 
@@ -112,17 +119,13 @@ fn a_fault_of_the_medium_ends_only_its_command(rt: HostRuntime) -> Result<(), Fa
     let image = formatted(alloc)?;
     // One `dir` reads the gate, record 0 and one record of the directory.
     for fault in 1..=3 {
-        let left = run(
-            alloc,
-            &Given {
-                failing_reads: &[fault],
-                ..Given::script(&image, b"dir\ndir\n")
-            },
-        )?;
         let mut wanted = Vec::from_slice(alloc, b"fault medium\n")?;
         wanted.extend_from_slice(LISTED)?;
-        assert_eq!(rt; left.status, 1);
-        assert_eq!(rt; left.output.as_slice(), wanted.as_slice());
+        let given = Given {
+            failing_reads: &[fault],
+            ..Given::script(&image, b"dir\ndir\n")
+        };
+        answers(&rt, alloc, &given, 1, &wanted)?;
     }
     Ok(())
 }
@@ -133,7 +136,10 @@ fn a_run_changes_nothing_on_the_tape(rt: HostRuntime) -> Result<(), Fail> {
     let mut image = formatted(alloc)?;
     let left = run(alloc, &Given::script(&image, b"dir\nlist\ndir"))?;
     image.resize(131_072, 0)?;
-    assert_eq!(rt; left.image.as_deref(), Some(image.as_slice()));
+    assert!(rt;
+        same(left.image.as_deref(), Some(image.as_slice())),
+        "the image"
+    );
     Ok(())
 }
 
@@ -141,34 +147,24 @@ fn a_run_changes_nothing_on_the_tape(rt: HostRuntime) -> Result<(), Fail> {
 fn a_fault_cuts_off_the_line_that_it_meets(rt: HostRuntime) -> Result<(), Fail> {
     let alloc = rt.alloc();
     let image = formatted(alloc)?;
-    let left = run(
-        alloc,
-        &Given {
-            failing_takes: &[2],
-            piece: 7,
-            ..Given::script(&image, b"dir\ndir")
-        },
-    )?;
-    assert_eq!(rt; left.status, 5);
-    assert_eq!(rt; left.output.as_slice(), LISTED);
-    Ok(())
+    let given = Given {
+        failing_takes: &[2],
+        piece: 7,
+        ..Given::script(&image, b"dir\ndir")
+    };
+    answers(&rt, alloc, &given, 5, LISTED)
 }
 
 #[test]
 fn complete_lines_before_a_fault_are_answered(rt: HostRuntime) -> Result<(), Fail> {
     let alloc = rt.alloc();
     let image = formatted(alloc)?;
-    let left = run(
-        alloc,
-        &Given {
-            failing_takes: &[2],
-            piece: 6,
-            ..Given::script(&image, b"label\nlabel\n")
-        },
-    )?;
-    assert_eq!(rt; left.status, 5);
-    assert_eq!(rt; left.output.as_slice(), b"label HPTAPE\nok\n".as_slice());
-    Ok(())
+    let given = Given {
+        failing_takes: &[2],
+        piece: 6,
+        ..Given::script(&image, b"label\nlabel\n")
+    };
+    answers(&rt, alloc, &given, 5, b"label HPTAPE\nok\n")
 }
 
 #[test]
@@ -176,12 +172,7 @@ fn a_script_has_a_greatest_length(rt: HostRuntime) -> Result<(), Fail> {
     let alloc = rt.alloc();
     let image = formatted(alloc)?;
     let mut feeds = vec![in alloc; b'\n'; 16_777_216]?;
-    let left = run(alloc, &Given::script(&image, &feeds))?;
-    assert_eq!(rt; left.status, 0);
-    assert_eq!(rt; left.output.len(), 0);
+    answers(&rt, alloc, &Given::script(&image, &feeds), 0, b"")?;
     feeds.push(b'\n')?;
-    let left = run(alloc, &Given::script(&image, &feeds))?;
-    assert_eq!(rt; left.status, 8);
-    assert_eq!(rt; left.output.len(), 0);
-    Ok(())
+    answers(&rt, alloc, &Given::script(&image, &feeds), 8, b"")
 }

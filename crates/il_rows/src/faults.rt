@@ -1,7 +1,8 @@
 //! Faults of the loop and of the medium: a command counts whole or not at all.
 
 use crate::images::formatted;
-use crate::runs::{Given, run, words_with};
+use crate::runs::{Given, answers, run, words_with};
+use il_same::{same, same_bytes};
 use std::alloc::{AllocError, Global};
 use std::process::Abort;
 use std::test::Fail;
@@ -15,7 +16,7 @@ const WITHOUT: &[u8] = b"volume HPTAPE 2 2 1 16\nfile REDOFILE E0D0 508 4 000000
 const WITH: &[u8] =
     b"volume HPTAPE 2 2 2 16\nfile A 0001 4 1 00000000\nfile REDOFILE E0D0 508 4 00000000\nok\n";
 
-// This line, and then one of the two listings: whether the file is there.
+/// This line, and then one of the two listings: whether the file is there.
 fn listed_behind(alloc: Global, line: &[u8], output: &[u8]) -> Result<Option<bool>, AllocError> {
     for (listing, is_there) in [(WITHOUT, false), (WITH, true)] {
         let mut wanted = Vec::from_slice(alloc, line)?;
@@ -27,7 +28,7 @@ fn listed_behind(alloc: Global, line: &[u8], output: &[u8]) -> Result<Option<boo
     Ok(None)
 }
 
-// How many of the crossings 1, 98, 195 and so on the store has. A fault at each of them leaves the file or not.
+/// How many of the crossings 1, 98, 195 and so on the store has. A fault at each of them leaves the file or not.
 fn crossings_tried(
     rt: &impl Abort,
     alloc: Global,
@@ -41,12 +42,11 @@ fn crossings_tried(
         if left.output.starts_with(b"ok\n") {
             return Ok(tried);
         }
-        assert_eq!(rt;
+        assert!(rt;
             listed_behind(alloc, b"fault frame\n", &left.output)?.is_some(),
-            true,
             "crossing {tried}"
         );
-        assert_eq!(rt; left.status, 1);
+        assert!(rt; same(left.status, 1), "the status of crossing {tried}");
     }
     Ok(1000)
 }
@@ -56,17 +56,17 @@ fn a_store_counts_whole_or_not_at_all(rt: HostRuntime) -> Result<(), Fail> {
     let alloc = rt.alloc();
     let lost = crossings_tried(&rt, alloc, "--lose ", "")?;
     let altered = crossings_tried(&rt, alloc, "--alter ", ":01")?;
-    // The store has 9,300 crossings: 33 to address the loop and clear the drive, 849 for each of five reads and 837 for each of six
-    // writes.
-    assert_eq!(rt; lost, 96);
-    assert_eq!(rt; altered, lost);
+    // The store has 9,300 crossings: 33 to address the loop and clear the drive, 849 for each of five reads and 837 for
+    // each of six writes.
+    assert!(rt; same(lost, 96), "the crossings that are lost");
+    assert!(rt; same(altered, lost), "the crossings that are altered");
     let tape = formatted(alloc)?;
     for (words, output) in [
         ("--quiet --lose 9300 TAPE", b"fault frame\n".as_slice()),
         ("--quiet --lose 9301 TAPE", b"ok\n".as_slice()),
     ] {
         let left = run(alloc, &Given::script(&tape, STORE).with_words(words))?;
-        assert_eq!(rt; left.output.as_slice(), output);
+        assert!(rt; same_bytes(&left.output, output), "{words}");
     }
     Ok(())
 }
@@ -75,22 +75,17 @@ fn a_store_counts_whole_or_not_at_all(rt: HostRuntime) -> Result<(), Fail> {
 fn a_write_that_fails(rt: HostRuntime) -> Result<(), Fail> {
     let alloc = rt.alloc();
     let tape = formatted(alloc)?;
-    let left = run(
-        alloc,
-        &Given {
-            failing_writes: &[(3, [0; 256])],
-            ..Given::script(
-                &tape,
-                b"store A 0001 00000000 41\nstore A 0001 00000000 41\n",
-            )
-        },
-    )?;
-    assert_eq!(rt; left.output.as_slice(), b"fault medium\nok\n".as_slice());
-    assert_eq!(rt; left.status, 1);
-    Ok(())
+    let given = Given {
+        failing_writes: &[(3, [0; 256])],
+        ..Given::script(
+            &tape,
+            b"store A 0001 00000000 41\nstore A 0001 00000000 41\n",
+        )
+    };
+    answers(&rt, alloc, &given, 1, b"fault medium\nok\n")
 }
 
-// An open gate.
+/// An open gate.
 fn open_gate() -> [u8; 256] {
     let mut bytes = [0; 256];
     for (byte, letter) in bytes.iter_mut().zip(b"LIFREDO1 OPEN   ") {
@@ -99,7 +94,7 @@ fn open_gate() -> [u8; 256] {
     bytes
 }
 
-// Whether the file is there behind a fault or a stop within that write, which leaves these bytes in its record.
+/// Whether the file is there behind a fault or a stop within that write, which leaves these bytes in its record.
 fn is_there(write: usize, torn: &[u8; 256]) -> bool {
     4 < write || (write == 4 && *torn == open_gate())
 }
@@ -117,18 +112,20 @@ fn each_write_of_a_store_fails(rt: HostRuntime) -> Result<(), Fail> {
                     ..Given::script(&tape, SCRIPT)
                 },
             )?;
-            assert_eq!(rt;
-                listed_behind(alloc, b"fault medium\n", &left.output)?,
-                Some(is_there(write as usize, &torn)),
+            assert!(rt;
+                same(
+                    listed_behind(alloc, b"fault medium\n", &left.output)?,
+                    Some(is_there(write as usize, &torn))
+                ),
                 "write {write}"
             );
-            assert_eq!(rt; left.status, 1);
+            assert!(rt; same(left.status, 1), "the status of write {write}");
         }
     }
     Ok(())
 }
 
-// How many reads the store makes. A fault of each of them leaves the file or not.
+/// How many reads the store makes. A fault of each of them leaves the file or not.
 fn reads_tried(rt: &impl Abort, alloc: Global) -> Result<u64, Fail> {
     let tape = formatted(alloc)?;
     for read in 1..20 {
@@ -142,12 +139,11 @@ fn reads_tried(rt: &impl Abort, alloc: Global) -> Result<u64, Fail> {
         if left.output.starts_with(b"ok\n") {
             return Ok(read - 1);
         }
-        assert_eq!(rt;
+        assert!(rt;
             listed_behind(alloc, b"fault medium\n", &left.output)?.is_some(),
-            true,
             "read {read}"
         );
-        assert_eq!(rt; left.status, 1);
+        assert!(rt; same(left.status, 1), "the status of read {read}");
     }
     Ok(20)
 }
@@ -155,11 +151,11 @@ fn reads_tried(rt: &impl Abort, alloc: Global) -> Result<u64, Fail> {
 #[test]
 fn each_read_of_a_store_fails(rt: HostRuntime) -> Result<(), Fail> {
     // The gate, record 0 and the directory's record; that record again for the commit, and the gate.
-    assert_eq!(rt; reads_tried(&rt, rt.alloc())?, 5);
+    assert!(rt; same(reads_tried(&rt, rt.alloc())?, 5), "the reads");
     Ok(())
 }
 
-// The image as it was behind the first writes, with these bytes in the record of the next.
+/// The image as it was behind the first writes, with these bytes in the record of the next.
 fn stopped_at(
     alloc: Global,
     tape: &[u8],
@@ -179,7 +175,7 @@ fn stopped_at(
     Ok(image)
 }
 
-// The reply to a fetch of the file, whose one byte comes back in a whole record.
+/// The reply to a fetch of the file, whose one byte comes back in a whole record.
 fn fetched(alloc: Global, is_there: bool) -> Result<Vec<u8>, AllocError> {
     if !is_there {
         return Vec::from_slice(alloc, b"error 4 NoFile\n");
@@ -196,9 +192,12 @@ fn a_stop_within_each_write_of_a_store(rt: HostRuntime) -> Result<(), Fail> {
     let tape = formatted(alloc)?;
     let stored = run(alloc, &Given::script(&tape, STORE))?;
     for (write, record) in [4, 510, 509, 508, 2, 508].iter().enumerate() {
-        assert_eq!(rt; stored.writes.get(write).map(|made| made.0), Some(*record));
+        assert!(rt;
+            same(stored.writes.get(write).map(|made| made.0), Some(*record)),
+            "the record of write {write}"
+        );
     }
-    assert_eq!(rt; stored.writes.len(), 6);
+    assert!(rt; same(stored.writes.len(), 6), "the writes");
     for write in 1..=6 {
         for torn in [[0; 256], [0xFF; 256], open_gate()] {
             let Some(made) = stored.writes.get(..write) else {
@@ -206,15 +205,20 @@ fn a_stop_within_each_write_of_a_store(rt: HostRuntime) -> Result<(), Fail> {
             };
             let image = stopped_at(alloc, &tape, made, &torn)?;
             let left = run(alloc, &Given::script(&image, b"dir\n"))?;
-            assert_eq!(rt;
-                listed_behind(alloc, b"", &left.output)?,
-                Some(is_there(write, &torn)),
-                "write {write}"
+            assert!(rt;
+                same(
+                    listed_behind(alloc, b"", &left.output)?,
+                    Some(is_there(write, &torn))
+                ),
+                "dir after write {write}"
             );
-            assert_eq!(rt; left.status, 0);
+            assert!(rt; same(left.status, 0), "the status after write {write}");
             let left = run(alloc, &Given::script(&image, b"fetch A\n"))?;
             let wanted = fetched(alloc, is_there(write, &torn))?;
-            assert_eq!(rt; left.output.as_slice(), wanted.as_slice(), "write {write}");
+            assert!(rt;
+                same_bytes(&left.output, &wanted),
+                "fetch after write {write}"
+            );
         }
     }
     Ok(())

@@ -6,7 +6,7 @@ use std::alloc::{AllocError, Global};
 use std::process::Abort;
 use std::test::Fail;
 
-// Nothing is found on the image.
+/// Nothing is found on the image.
 fn is_no_volume(rt: &impl Abort, alloc: Global, image: &[u8]) -> Result<(), Fail> {
     answers(
         rt,
@@ -17,7 +17,7 @@ fn is_no_volume(rt: &impl Abort, alloc: Global, image: &[u8]) -> Result<(), Fail
     )
 }
 
-// A formatted volume with these bytes at a place of record 0.
+/// A formatted volume with these bytes at a place of record 0.
 fn with_header(alloc: Global, place: usize, bytes: &[u8]) -> Result<Vec<u8>, AllocError> {
     let mut image = formatted(alloc)?;
     for (byte, new) in image.iter_mut().skip(place).zip(bytes) {
@@ -29,14 +29,20 @@ fn with_header(alloc: Global, place: usize, bytes: &[u8]) -> Result<Vec<u8>, All
 #[test]
 fn headers_that_cannot_be_read(rt: HostRuntime) -> Result<(), Fail> {
     let alloc = rt.alloc();
-    // The mark, the directory's start, its length, and its end behind the gate.
-    is_no_volume(&rt, alloc, &with_header(alloc, 0, b"\x80\x01")?)?;
-    is_no_volume(&rt, alloc, &with_header(alloc, 8, b"\0\0\0\0")?)?;
-    is_no_volume(&rt, alloc, &with_header(alloc, 16, b"\0\0\0\0")?)?;
-    is_no_volume(&rt, alloc, &with_header(alloc, 16, b"\0\0\x01\xFB")?)
+    // The mark, the directory's start, its length, and its end after the gate.
+    let headers: [(usize, &[u8]); 4] = [
+        (0, b"\x80\x01"),
+        (8, b"\0\0\0\0"),
+        (16, b"\0\0\0\0"),
+        (16, b"\0\0\x01\xFB"),
+    ];
+    for (place, bytes) in headers {
+        is_no_volume(&rt, alloc, &with_header(alloc, place, bytes)?)?;
+    }
+    Ok(())
 }
 
-// A volume whose first file, of that type, has these bytes for its start and length.
+/// A volume whose first file, of that type, has these bytes for its start and length.
 fn with_extent(alloc: Global, kind: u8, extent: &[u8; 8]) -> Result<Vec<u8>, AllocError> {
     let mut entry = *b"X         \0?\0\0\0\0\0\0\0\0\0\0\0\0\0\0\x80\x01\0\0\0\0";
     entry[11] = kind;
@@ -50,22 +56,15 @@ fn with_extent(alloc: Global, kind: u8, extent: &[u8; 8]) -> Result<Vec<u8>, All
 fn files_that_lie_nowhere(rt: HostRuntime) -> Result<(), Fail> {
     let alloc = rt.alloc();
     // In the directory, over the redo file, and past the end of the tape.
-    is_no_volume(&rt, alloc, &with_extent(alloc, 1, b"\0\0\0\x03\0\0\0\x01")?)?;
-    is_no_volume(
-        &rt,
-        alloc,
-        &with_extent(alloc, 1, b"\0\0\x01\xFB\0\0\0\x02")?,
-    )?;
-    is_no_volume(
-        &rt,
-        alloc,
-        &with_extent(alloc, 1, b"\0\0\x01\xFF\0\0\0\x02")?,
-    )?;
-    is_no_volume(
-        &rt,
-        alloc,
-        &with_extent(alloc, 1, b"\xFF\xFF\xFF\xFF\xFF\xFF\xFF\xFF")?,
-    )
+    for extent in [
+        b"\0\0\0\x03\0\0\0\x01",
+        b"\0\0\x01\xFB\0\0\0\x02",
+        b"\0\0\x01\xFF\0\0\0\x02",
+        b"\xFF\xFF\xFF\xFF\xFF\xFF\xFF\xFF",
+    ] {
+        is_no_volume(&rt, alloc, &with_extent(alloc, 1, extent)?)?;
+    }
+    Ok(())
 }
 
 #[test]

@@ -57,8 +57,8 @@ pub(crate) fn foreign(alloc: Global) -> Result<Vec<u8>, AllocError> {
     foreign_with(alloc, &[END_ENTRY])
 }
 
-/// A formatted volume with a redo file that puts the file A into the directory: behind a gate that begins so, with so many
-/// targets.
+/// A formatted volume with a redo file that puts the file A into the directory: behind a gate that begins so, with so
+/// many targets.
 pub(crate) fn with_redo(alloc: Global, gate: &[u8], targets: u8) -> Result<Vec<u8>, AllocError> {
     let mut image = formatted(alloc)?;
     image.resize(256 * 508, 0)?;

@@ -2,11 +2,12 @@
 
 use crate::images::formatted;
 use crate::runs::{Behind, Given, answers, run, words_with};
+use il_same::same;
 use std::alloc::Global;
 use std::process::Abort;
 use std::test::Fail;
 
-// Whether a reply of `paper` shows the first bytes of `H` and `I` and at most one byte more, of any value.
+/// Whether a reply of `paper` shows the first bytes of `H` and `I` and at most one byte more, of any value.
 fn shows_a_front(reply: &[u8]) -> bool {
     let Some(shown) = reply.strip_prefix(b"fault frame\npaper ") else {
         return false;
@@ -17,7 +18,7 @@ fn shows_a_front(reply: &[u8]) -> bool {
         || (shown.starts_with(b"4849") && shown.get(6..) == Some(b" 3\nok\n".as_slice()))
 }
 
-// How many crossings `say 4849` has. A fault at each of them leaves a front of the bytes on the paper.
+/// How many crossings `say 4849` has. A fault at each of them leaves a front of the bytes on the paper.
 fn crossings_of_say(
     rt: &impl Abort,
     alloc: Global,
@@ -35,7 +36,7 @@ fn crossings_of_say(
             return Ok(crossing - 1);
         }
         assert!(rt; shows_a_front(&left.output), "crossing {crossing}");
-        assert_eq!(rt; left.status, 1);
+        assert!(rt; same(left.status, 1), "the status of crossing {crossing}");
     }
     Ok(1000)
 }
@@ -46,7 +47,7 @@ fn a_fault_at_each_crossing_of_say(rt: HostRuntime) -> Result<(), Fail> {
     let lost = crossings_of_say(&rt, alloc, "--lose ", "")?;
     let altered = crossings_of_say(&rt, alloc, "--alter ", ":81")?;
     assert!(rt; 50 < lost && lost < 200);
-    assert_eq!(rt; altered, lost);
+    assert!(rt; same(altered, lost), "the crossings that are altered");
     Ok(())
 }
 

@@ -8,13 +8,14 @@ ghost use Rattle.il_host.specs.Shorts.{IsShort};
 use il_device::{Device, Printer, Quiet};
 use il_host::{Ended, Rig, run_il};
 use il_ports::{MemoryMedium, MemorySink, MemorySource};
+use il_same::{same, same_bytes};
 use itoa::Buffer;
 use std::alloc::{AllocError, Global};
 use std::process::Abort;
 use std::test::Fail;
 
 /// What is on the loop behind the drive.
-#[derive(Clone, Copy, PartialEq, Eq, Debug)]
+#[derive(Clone, Copy)]
 pub enum Behind {
     Nothing,
     Printer,
@@ -207,7 +208,7 @@ pub(crate) fn answers(
     output: &[u8],
 ) -> Result<(), Fail> {
     let left = run(alloc, given)?;
-    assert_eq!(rt; left.output.as_slice(), output);
-    assert_eq!(rt; left.status, status);
+    assert!(rt; same_bytes(&left.output, output), "the output");
+    assert!(rt; same(left.status, status), "the status");
     Ok(())
 }

@@ -2,13 +2,13 @@
 
 use crate::images::{END_ENTRY, REDO_ENTRY, foreign, foreign_with, formatted, with_redo};
 use crate::runs::{Given, answers, run};
+use il_same::{same, same_bytes};
 use std::alloc::{AllocError, Global};
-use std::process::Abort;
 use std::test::Fail;
 
 const FORMATTED: &[u8] = b"volume HPTAPE 2 2 1 16\nfile REDOFILE E0D0 508 4 00000000\nok\n";
 
-// The line that stores a file of so many bytes A.
+/// The line that stores a file of so many bytes A.
 fn store_line(alloc: Global, name: &[u8], count: usize) -> Result<Vec<u8>, AllocError> {
     let mut line = Vec::from_slice(alloc, b"store ")?;
     line.extend_from_slice(name)?;
@@ -30,19 +30,25 @@ fn a_new_tape_is_formatted(rt: HostRuntime) -> Result<(), Fail> {
             ..Given::script(&[], b"dir\nformat HPTAPE 16\ndir\n").with_words("--new --quiet TAPE")
         },
     )?;
-    assert_eq!(rt;
-        left.output.as_slice(),
-        b"error 3 NotLif\nok\nvolume HPTAPE 2 2 1 16\nfile REDOFILE E0D0 508 4 00000000\nok\n".as_slice()
+    assert!(rt;
+        same_bytes(
+            &left.output,
+            b"error 3 NotLif\nok\nvolume HPTAPE 2 2 1 16\nfile REDOFILE E0D0 508 4 00000000\nok\n"
+        ),
+        "the output"
     );
-    assert_eq!(rt; left.status, 1);
+    assert!(rt; same(left.status, 1), "the status");
     let mut wanted = formatted(alloc)?;
     // All but the redo file, which keeps what was written there.
     wanted.resize(508 * 256, 0)?;
-    assert_eq!(rt;
-        left.image
-            .as_deref()
-            .and_then(|bytes| bytes.get(..508 * 256)),
-        Some(wanted.as_slice())
+    assert!(rt;
+        same(
+            left.image
+                .as_deref()
+                .and_then(|bytes| bytes.get(..508 * 256)),
+            Some(wanted.as_slice())
+        ),
+        "the image"
     );
     Ok(())
 }
@@ -65,7 +71,7 @@ fn a_file_comes_back_in_whole_records(rt: HostRuntime) -> Result<(), Fail> {
     )
 }
 
-// So many bytes, 0 to 250 over and over, as hex digits.
+/// So many bytes, 0 to 250 over and over, as hex digits.
 fn rising_hex(alloc: Global, count: usize) -> Result<Vec<u8>, AllocError> {
     let digits = b"0123456789ABCDEF";
     let mut text = Vec::new(alloc);
@@ -85,7 +91,7 @@ fn a_file_is_on_the_tape_as_it_was_stored(rt: HostRuntime) -> Result<(), Fail> {
     let mut script = Vec::from_slice(alloc, b"store A E080 01020304 ")?;
     script.extend_from_slice(&bytes)?;
     let stored = run(alloc, &Given::script(&tape, &script))?;
-    assert_eq!(rt; stored.output.as_slice(), b"ok\n".as_slice());
+    assert!(rt; same_bytes(&stored.output, b"ok\n"), "the store");
     // Three records, of which the last one ends in 68 zeros.
     let mut wanted = Vec::from_slice(alloc, b"data E080 01020304 ")?;
     wanted.extend_from_slice(&bytes)?;
@@ -178,7 +184,7 @@ fn a_file_in_the_way_is_in_use(rt: HostRuntime) -> Result<(), Fail> {
     )
 }
 
-// The script that stores files F1, F2 and so on up to this digit, of one byte each, and lists the directory.
+/// The script that stores files F1, F2 and so on up to this digit, of one byte each, and lists the directory.
 fn numbered_files(alloc: Global, last: u8) -> Result<Vec<u8>, AllocError> {
     let mut script = Vec::new(alloc);
     for number in b'1'..=last {
@@ -188,7 +194,7 @@ fn numbered_files(alloc: Global, last: u8) -> Result<Vec<u8>, AllocError> {
     Ok(script)
 }
 
-// The bytes of a slot of the directory that begins in record 2.
+/// The bytes of a slot of the directory that begins in record 2.
 fn slot_of(image: &Option<Vec<u8>>, k: usize) -> Option<&[u8]> {
     image.as_deref()?.get(512..)?.chunks(32).nth(k)
 }
@@ -204,17 +210,29 @@ fn the_redo_entry_moves_behind_new_files(rt: HostRuntime) -> Result<(), Fail> {
         tape.truncate(768);
         tape.resize(1024, old)?;
         let six = run(alloc, &Given::script(&tape, &numbered_files(alloc, b'6')?))?;
-        assert_eq!(rt; slot_of(&six.image, 6), Some(REDO_ENTRY));
-        assert_eq!(rt; slot_of(&six.image, 7), Some(END_ENTRY));
+        assert!(rt;
+            same(slot_of(&six.image, 6), Some(REDO_ENTRY)),
+            "the seventh slot of six files"
+        );
+        assert!(rt;
+            same(slot_of(&six.image, 7), Some(END_ENTRY)),
+            "the eighth slot of six files"
+        );
         let seven = run(alloc, &Given::script(&tape, &numbered_files(alloc, b'7')?))?;
-        assert_eq!(rt; seven.output.as_slice(), wanted.as_slice());
-        assert_eq!(rt; seven.status, 0);
-        assert_eq!(rt; slot_of(&seven.image, 7), Some(REDO_ENTRY));
+        assert!(rt; same_bytes(&seven.output, wanted), "the output, over {old}");
+        assert!(rt; same(seven.status, 0), "the status, over {old}");
+        assert!(rt;
+            same(slot_of(&seven.image, 7), Some(REDO_ENTRY)),
+            "the redo entry, over {old}"
+        );
         // The slot behind the redo entry ends the directory, and its other bytes stay.
         let mut first = [old; 32];
         first[10] = 0xFF;
         first[11] = 0xFF;
-        assert_eq!(rt; slot_of(&seven.image, 8), Some(first.as_slice()));
+        assert!(rt;
+            same(slot_of(&seven.image, 8), Some(first.as_slice())),
+            "the end of the directory, over {old}"
+        );
     }
     Ok(())
 }
@@ -293,56 +311,50 @@ fn lines_that_are_no_commands(rt: HostRuntime) -> Result<(), Fail> {
     )
 }
 
-// A new disc, on which a file of so many bytes is stored: the status, and the replies to the store and to a `dir` behind it.
-fn stored_on_a_disc(
-    rt: &impl Abort,
-    alloc: Global,
-    count: usize,
-    status: u8,
-    replies: &[u8],
-) -> Result<(), Fail> {
-    let mut script = Vec::from_slice(alloc, b"format HPDISC 128\ndir\n")?;
-    script.extend_from_slice(&store_line(alloc, b"A", count)?)?;
-    script.extend_from_slice(b"dir\n")?;
-    let mut wanted = Vec::from_slice(
-        alloc,
-        b"ok\nvolume HPDISC 2 16 1 128\nfile REDOFILE E0D0 2460 4 00000000\nok\n",
-    )?;
-    wanted.extend_from_slice(replies)?;
-    let left = run(
-        alloc,
-        &Given {
-            image: None,
-            ..Given::script(&[], &script).with_words("--new-disc --quiet TAPE")
-        },
-    )?;
-    assert_eq!(rt; left.output.as_slice(), wanted.as_slice());
-    assert_eq!(rt; left.status, status);
-    let geometry = b"\0\0\0\x4D\0\0\0\x02\0\0\0\x10";
-    assert_eq!(rt;
-        left.image.as_deref().and_then(|bytes| bytes.get(24..36)),
-        Some(geometry.as_slice())
-    );
-    Ok(())
-}
+/// How many bytes are stored on a new disc, the status, and the replies to the store and to a `dir` after it.
+const ON_A_DISC: [(usize, u8, &[u8]); 2] = [
+    (
+        625_152,
+        0,
+        b"ok\nvolume HPDISC 2 16 2 128\nfile A 0001 18 2442 00000000\nfile REDOFILE E0D0 2460 4 00000000\nok\n",
+    ),
+    (
+        625_153,
+        1,
+        b"error 7 NoRoom\nvolume HPDISC 2 16 1 128\nfile REDOFILE E0D0 2460 4 00000000\nok\n",
+    ),
+];
 
 #[test]
 fn a_disc_has_more_room(rt: HostRuntime) -> Result<(), Fail> {
     let alloc = rt.alloc();
-    stored_on_a_disc(
-        &rt,
-        alloc,
-        625_152,
-        0,
-        b"ok\nvolume HPDISC 2 16 2 128\nfile A 0001 18 2442 00000000\nfile REDOFILE E0D0 2460 4 00000000\nok\n",
-    )?;
-    stored_on_a_disc(
-        &rt,
-        alloc,
-        625_153,
-        1,
-        b"error 7 NoRoom\nvolume HPDISC 2 16 1 128\nfile REDOFILE E0D0 2460 4 00000000\nok\n",
-    )
+    let geometry = b"\0\0\0\x4D\0\0\0\x02\0\0\0\x10".as_slice();
+    for (count, status, replies) in ON_A_DISC {
+        let mut script = Vec::from_slice(alloc, b"format HPDISC 128\ndir\n")?;
+        script.extend_from_slice(&store_line(alloc, b"A", count)?)?;
+        script.extend_from_slice(b"dir\n")?;
+        let mut wanted = Vec::from_slice(
+            alloc,
+            b"ok\nvolume HPDISC 2 16 1 128\nfile REDOFILE E0D0 2460 4 00000000\nok\n",
+        )?;
+        wanted.extend_from_slice(replies)?;
+        let given = Given {
+            image: None,
+            ..Given::script(&[], &script).with_words("--new-disc --quiet TAPE")
+        };
+        let left = run(alloc, &given)?;
+        assert!(rt;
+            same_bytes(&left.output, &wanted),
+            "the replies for {count} bytes"
+        );
+        assert!(rt; same(left.status, status), "the status for {count} bytes");
+        let header = left.image.as_deref().and_then(|bytes| bytes.get(24..36));
+        assert!(rt;
+            same(header, Some(geometry)),
+            "the geometry for {count} bytes"
+        );
+    }
+    Ok(())
 }
 
 #[test]
@@ -374,16 +386,22 @@ fn an_open_redo_is_settled_first(rt: HostRuntime) -> Result<(), Fail> {
     let alloc = rt.alloc();
     let open = with_redo(alloc, b"LIFREDO1 OPEN   ", 1)?;
     let left = run(alloc, &Given::script(&open, b"dir\n"))?;
-    assert_eq!(rt;
-        left.output.as_slice(),
-        b"volume HPTAPE 2 2 2 16\nfile A 0001 4 1 00000000\nfile REDOFILE E0D0 508 4 00000000\nok\n".as_slice()
+    assert!(rt;
+        same_bytes(
+            &left.output,
+            b"volume HPTAPE 2 2 2 16\nfile A 0001 4 1 00000000\nfile REDOFILE E0D0 508 4 00000000\nok\n"
+        ),
+        "the listing"
     );
     let zeros = [0; 256];
-    assert_eq!(rt;
-        left.image
-            .as_deref()
-            .and_then(|bytes| bytes.get(508 * 256..509 * 256)),
-        Some(zeros.as_slice())
+    assert!(rt;
+        same(
+            left.image
+                .as_deref()
+                .and_then(|bytes| bytes.get(508 * 256..509 * 256)),
+            Some(zeros.as_slice())
+        ),
+        "the gate"
     );
     // With another sixteenth byte the gate is closed.
     let closed = with_redo(alloc, b"LIFREDO1 OPEN  X", 1)?;

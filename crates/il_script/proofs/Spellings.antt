@@ -15,9 +15,6 @@ last-false false b c h = cc
 plain-is : (x : ℕ) → is_plain x ≡ true → plain x ≡ Some (x ∷ [])
 plain-is x h = ap (λ b. cond b (Some (x ∷ [])) None) h
 
-plain-is-not : (x : ℕ) → is_plain x ≡ false → plain x ≡ None
-plain-is-not x h = ap (λ b. cond b (Some (x ∷ [])) None) h
-
 -- a byte that stands for itself
 pub plain-first : (x : ℕ) (rest : List ℕ) → is_plain x ≡ true → spelt (x ∷ rest) ≡ option_map (λ more. x ∷ more) (spelt rest)
 plain-first x [] h = plain-is x h
@@ -25,20 +22,6 @@ plain-first x (y ∷ []) h = ap (λ p. bytes_before p (spelt (y ∷ []))) (plain
 plain-first x (y ∷ z ∷ rest) h =
     ap (λ b. cond b (bytes_before (hex_bytes 1 (y ∷ z ∷ [])) (spelt rest)) (bytes_before (plain x) (spelt (y ∷ z ∷ rest)))) (last-false _ _ (x == 37) h)
     ∙ ap (λ p. bytes_before p (spelt (y ∷ z ∷ rest))) (plain-is x h)
-
--- a byte that cannot stand there
-pub other-first : (x : ℕ) (rest : List ℕ) → is_plain x ≡ false → (x == 37) ≡ false → spelt (x ∷ rest) ≡ None
-other-first x [] h n = plain-is-not x h
-other-first x (y ∷ []) h n = ap (λ p. bytes_before p (spelt (y ∷ []))) (plain-is-not x h)
-other-first x (y ∷ z ∷ rest) h n =
-    ap (λ b. cond b (bytes_before (hex_bytes 1 (y ∷ z ∷ [])) (spelt rest)) (bytes_before (plain x) (spelt (y ∷ z ∷ rest)))) n
-    ∙ ap (λ p. bytes_before p (spelt (y ∷ z ∷ rest))) (plain-is-not x h)
-
--- a percent sign without two bytes behind it
-pub percent-short : (x : ℕ) (rest : List ℕ) → is_plain x ≡ false → length rest < 2 → spelt (x ∷ rest) ≡ None
-percent-short x [] h few = plain-is-not x h
-percent-short x (y ∷ []) h few = ap (λ p. bytes_before p (spelt (y ∷ []))) (plain-is-not x h)
-percent-short x (y ∷ z ∷ rest) h few = absurd (omega arith)
 
 -- a percent sign and two bytes
 percent-first : (x : ℕ) (rest : List ℕ) → (x == 37) ≡ true → 2 ≤ length rest → spelt (x ∷ rest) ≡ bytes_before (hex_bytes 1 (take 2 rest)) (spelt (drop 2 rest))
@@ -57,17 +40,6 @@ first-plain (y ∷ rest) x some e h =
 is-percent : (x : ℕ) → x ≡ 37 → (x == 37) ≡ true
 is-percent x h = grind (arith, nat_tests)
 
-is-not-percent : (x : ℕ) → (x ≡ 37 → ⊥) → (x == 37) ≡ false
-is-not-percent x h = grind (arith, nat_tests)
-
-pub first-other : (text : List ℕ) (x : ℕ) → 0 < length text → x ≡ get_or text 0 0 → is_plain x ≡ false → (x ≡ 37 → ⊥) → spelt text ≡ None
-first-other [] x some e h n = absurd (omega arith)
-first-other (y ∷ rest) x some e h n = let is : x ≡ y = e in ap (λ b. spelt (b ∷ rest)) (sym is) ∙ other-first x rest h (is-not-percent x n)
-
-pub first-short : (text : List ℕ) (x : ℕ) → 0 < length text → x ≡ get_or text 0 0 → is_plain x ≡ false → length text < 3 → spelt text ≡ None
-first-short [] x some e h few = absurd (omega arith)
-first-short (y ∷ rest) x some e h few = let is : x ≡ y = e in ap (λ b. spelt (b ∷ rest)) (sym is) ∙ percent-short x rest h (omega arith)
-
 percent-text : (text : List ℕ) (x : ℕ) → 0 < length text → x ≡ get_or text 0 0 → x ≡ 37 → 3 ≤ length text → spelt text ≡ bytes_before (hex_bytes 1 (take 2 (drop 1 text))) (spelt (drop 3 text))
 percent-text [] x some e h many = absurd (omega arith)
 percent-text (y ∷ rest) x some e h many = let is : x ≡ y = e in ap (λ b. spelt (b ∷ rest)) (sym is) ∙ percent-first x rest (is-percent x h) (omega arith)
@@ -75,6 +47,3 @@ percent-text (y ∷ rest) x some e h many = let is : x ≡ y = e in ap (λ b. sp
 pub first-hex : (text : List ℕ) (x byte : ℕ) → 0 < length text → x ≡ get_or text 0 0 → x ≡ 37 → 3 ≤ length text → hex_bytes 1 (take 2 (drop 1 text)) ≡ Some (byte ∷ []) → IsSpeltFirst text (Some (byte, 3))
 first-hex text x byte some e h many digits =
     (percent-text text x some e h many ∙ ap (λ b. bytes_before b (spelt (drop 3 text))) digits, omega arith, many)
-
-pub first-no-hex : (text : List ℕ) (x : ℕ) → 0 < length text → x ≡ get_or text 0 0 → x ≡ 37 → 3 ≤ length text → hex_bytes 1 (take 2 (drop 1 text)) ≡ None → spelt text ≡ None
-first-no-hex text x some e h many digits = percent-text text x some e h many ∙ ap (λ b. bytes_before b (spelt (drop 3 text))) digits

@@ -1,5 +1,5 @@
 -- Hex digits in upper case.
-use Rattle.std.proofs.Common.{◌≡◌, ℕ, zero, suc, ◌/◌, ◌%◌, List, [], ◌∷◌, ◌++◌, length, map, get_or, slice_index, refl, sym, ap, ap₂, ◌∙◌}
+use Rattle.std.proofs.Common.{◌≡◌, ℕ, zero, suc, ◌/◌, ◌%◌, List, [], ◌∷◌, ◌++◌, map, get_or, slice_index, refl, sym, ap, ap₂, ◌∙◌}
 use Rattle.std.specs.Char.{to_ascii_uppercase}
 use Rattle.hex.specs.Hex.{encode_with, encode_lower, encode_upper, lower_digits, upper_digits}
 
@@ -28,7 +28,3 @@ encode-append (x ∷ xs) ys = ap (λ l. slice_index upper_digits (x / 16) ∷ sl
 pub encode-none : encode_upper [] ≡ []
 unfolding encode_with
 encode-none = refl
-
-pub length-encode_one : (x : ℕ) → length (encode_upper (x ∷ [])) ≡ 2
-unfolding encode_with
-length-encode_one x = refl

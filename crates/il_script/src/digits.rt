@@ -26,7 +26,7 @@ pub fn read_number(text: &[u8], most: u64) -> Option<u64>
     Some(value)
 }
 
-// So many bytes in hex digits.
+/// So many bytes in hex digits.
 pub fn read_hex<const N: usize>(text: &[u8]) -> Option<[u8; N]>
     ensures { result ≡ hex_bytes N text.now }
 {
@@ -49,7 +49,7 @@ pub fn read_byte(text: &[u8]) -> Option<u8>
     }
 }
 
-// The type of a file that is there, in four hex digits.
+/// The type of a file that is there, in four hex digits.
 pub fn read_type(text: &[u8]) -> Option<u16>
     ensures { result ≡ type_in text.now }
 {

@@ -20,6 +20,3 @@ pub use page::Page;
 pub use payload::Payload;
 pub use reading::read_line;
 pub use reply::{Code, Reply};
-
-#[cfg(test)]
-mod tests;

@@ -29,11 +29,11 @@ pub enum Line {
 /// One line of a script at a time.
 #[derive(Drop)]
 pub struct Lines {
-    // the first bytes of the line
+    /// The first bytes of the line.
     line: Vec<u8>,
-    // the line was given
+    /// The line was given.
     is_given: bool,
-    // what was read ahead lies between the two places
+    /// What was read ahead lies between the two places.
     chunk: Vec<u8>,
     from: usize,
     to: usize,
@@ -122,7 +122,7 @@ fn move_line(line: &mut Vec<u8>, bytes: &[u8]) -> (usize, bool)
     }
 }
 
-// What is said of a line of so many bytes.
+/// What is said of a line of so many bytes.
 fn told_as(length: usize) -> Line
     ensures { result ≡ line_of_length length }
 {
@@ -160,7 +160,7 @@ impl Lines {
         self.line.as_slice()
     }
 
-    // Goes over what was read ahead, up to the end of a line or of what a script may hold.
+    /// Goes over what was read ahead, up to the end of a line or of what a script may hold.
     fn scan(&mut self) -> Option<Line>
         ensures scans { Scans self.old self.new result }
         ensures limit { self.new.taken ≤ LONGEST_SCRIPT }
@@ -183,7 +183,7 @@ impl Lines {
         None
     }
 
-    // Reads the next piece.
+    /// Reads the next piece.
     fn fill<S: Source>(&mut self, source: &mut S) -> Result<(), Failed>
         requires { self.old.ended ≡ false }
         ensures bytes { FillsFrom self.old self.new (S.left source.old) (S.left source.new) result }
@@ -199,7 +199,7 @@ impl Lines {
         Ok(())
     }
 
-    // The line that was begun is given at the end of the script.
+    /// The line that was begun is given at the end of the script.
     fn last(&mut self) -> Line
         ensures { Lasts self.old self.new result }
     {

@@ -111,8 +111,8 @@ impl Page {
         }
     }
 
-    /// Appends a name or a label as it is printed, at most three bytes for each of its bytes. What is printed of the name
-    /// of a file spells this name in a script.
+    /// Appends a name or a label as it is printed, at most three bytes for each of its bytes. What is printed of the
+    /// name of a file spells this name in a script.
     pub fn put_name(&mut self, name: &[u8])
         requires some { 0 < length name.now }
         requires room { length self.old.text + 3 * length name.now ≤ self.old.room }

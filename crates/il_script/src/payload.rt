@@ -8,7 +8,7 @@ use std::marker::Model;
 /// The bytes that a command carries. All memory is taken by `new`.
 #[derive(Drop)]
 pub struct Payload {
-    // as long as a payload may be; the bytes come first
+    /// As long as a payload may be; the bytes come first.
     room: Vec<u8>,
     count: usize,
 }
@@ -43,14 +43,14 @@ impl Payload {
         &self.room[..self.count]
     }
 
-    // Drops the bytes.
+    /// Drops the bytes.
     pub fn clear(&mut self)
         ensures { self.new ≡ [] }
     {
         self.count = 0;
     }
 
-    // Takes the bytes that a text spells, and says whether it spells any. Where it does not, there are no bytes.
+    /// Takes the bytes that a text spells, and says whether it spells any. Where it does not, there are no bytes.
     pub fn read(&mut self, text: &[u8]) -> bool
         requires { length text.now ≤ 2 * LONGEST_PAYLOAD }
         ensures read { payload_of text.now ≡ (if result then Some self.new else None) }
@@ -69,7 +69,7 @@ impl Payload {
     }
 }
 
-// Decodes the bytes that a text spells to the front of the room, and says how many.
+/// Decodes the bytes that a text spells to the front of the room, and says how many.
 fn read_payload(text: &[u8], room: &mut [u8]) -> Option<usize>
     requires { length text.now ≤ 2 * length room.old }
     ensures bytes { option_map (λ count. take count room.new) result ≡ payload_of text.now }

@@ -30,14 +30,14 @@ pub fn read_line(line: &[u8], payload: &mut Payload) -> Result<Option<Command>, 
     }
 }
 
-// Whether the first word begins a comment.
+/// Whether the first word begins a comment.
 fn is_note(word: &[u8]) -> bool
     ensures { result ≡ is_comment word.now }
 {
     word.starts_with(b"#")
 }
 
-// What the first word and the rest of a line ask for.
+/// What the first word and the rest of a line ask for.
 fn read_command(word: &[u8], rest: &[u8], payload: &mut Payload) -> Result<Command, LineFault>
     requires size { length rest.now ≤ LONGEST_LINE }
     requires empty { payload.old ≡ [] }
@@ -53,7 +53,7 @@ fn read_command(word: &[u8], rest: &[u8], payload: &mut Payload) -> Result<Comma
     read_bare(word, rest)
 }
 
-// A command that carries no bytes.
+/// A command that carries no bytes.
 fn read_bare(word: &[u8], rest: &[u8]) -> Result<Command, LineFault>
     ensures { result ≡ command_of word.now (words_of rest.now) }
 {
@@ -72,7 +72,7 @@ fn read_bare(word: &[u8], rest: &[u8]) -> Result<Command, LineFault>
     read_lone(word, rest)
 }
 
-// A command without parts.
+/// A command without parts.
 fn read_lone(word: &[u8], rest: &[u8]) -> Result<Command, LineFault>
     ensures { result ≡ lone_of word.now (words_of rest.now) }
 {
@@ -109,7 +109,7 @@ fn lone_command(word: &[u8]) -> Option<Command>
     None
 }
 
-// `fetch NAME`
+/// `fetch NAME`
 fn read_fetch(rest: &[u8]) -> Result<Command, LineFault>
     ensures { result ≡ fetch_of (words_of rest.now) }
 {
@@ -117,7 +117,7 @@ fn read_fetch(rest: &[u8]) -> Result<Command, LineFault>
     Ok(Command::Fetch(name))
 }
 
-// `purge NAME`
+/// `purge NAME`
 fn read_purge(rest: &[u8]) -> Result<Command, LineFault>
     ensures { result ≡ purge_of (words_of rest.now) }
 {
@@ -125,7 +125,7 @@ fn read_purge(rest: &[u8]) -> Result<Command, LineFault>
     Ok(Command::Purge(name))
 }
 
-// `rename OLD NEW`
+/// `rename OLD NEW`
 fn read_rename(rest: &[u8]) -> Result<Command, LineFault>
     ensures { result ≡ rename_of (words_of rest.now) }
 {
@@ -138,7 +138,7 @@ fn read_rename(rest: &[u8]) -> Result<Command, LineFault>
     })
 }
 
-// `format LABEL SLOTS`
+/// `format LABEL SLOTS`
 fn read_format(rest: &[u8]) -> Result<Command, LineFault>
     ensures { result ≡ format_of (words_of rest.now) }
 {
@@ -149,7 +149,7 @@ fn read_format(rest: &[u8]) -> Result<Command, LineFault>
     Ok(Command::Format { label, slots })
 }
 
-// The number of slots of a directory that is made.
+/// The number of slots of a directory that is made.
 fn read_slots(text: &[u8]) -> Option<u16>
     ensures { result ≡ number_up_to MOST_SLOTS text.now }
 {
@@ -157,7 +157,7 @@ fn read_slots(text: &[u8]) -> Option<u16>
     Some(slots as u16)
 }
 
-// `store NAME TYPE IMPL HEX`
+/// `store NAME TYPE IMPL HEX`
 fn read_store(rest: &[u8], payload: &mut Payload) -> Result<Command, LineFault>
     requires size { length rest.now ≤ LONGEST_LINE }
     requires empty { payload.old ≡ [] }
@@ -182,7 +182,7 @@ fn read_store(rest: &[u8], payload: &mut Payload) -> Result<Command, LineFault>
     })
 }
 
-// `say HEX`
+/// `say HEX`
 fn read_say(rest: &[u8], payload: &mut Payload) -> Result<Command, LineFault>
     requires size { length rest.now ≤ LONGEST_LINE }
     requires empty { payload.old ≡ [] }
@@ -196,7 +196,7 @@ fn read_say(rest: &[u8], payload: &mut Payload) -> Result<Command, LineFault>
     Ok(Command::Say)
 }
 
-// The name that is the only part.
+/// The name that is the only part.
 fn read_name(rest: &[u8]) -> Result<Name, LineFault>
     ensures { result ≡ name_of_part (words_of rest.now) }
 {

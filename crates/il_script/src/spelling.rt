@@ -8,14 +8,14 @@ use crate::digits::read_byte;
 use arrayvec::ArrayVec;
 use lif_dir::{Name, NewLabel, NewName};
 
-// Whether a byte of a name stands for itself.
+/// Whether a byte of a name stands for itself.
 pub fn is_plain(byte: u8) -> bool
     ensures { result ≡ is_plain_byte byte }
 {
     byte.is_ascii_graphic() && byte != b'%'
 }
 
-// The first byte of a spelling, and how many bytes spell it.
+/// The first byte of a spelling, and how many bytes spell it.
 fn first_spelt(text: &[u8]) -> Option<(u8, usize)>
     requires { 0 < length text.now }
     ensures { IsSpeltFirst text.now result }
@@ -31,7 +31,7 @@ fn first_spelt(text: &[u8]) -> Option<(u8, usize)>
     Some((byte, 3))
 }
 
-// Keeps a byte where there is room.
+/// Keeps a byte where there is room.
 fn keep_byte(bytes: &mut ArrayVec<u8, 11>, byte: u8)
     ensures { bytes.new.items ≡ take 11 (bytes.old.items ++ byte ∷ []) }
 {
@@ -41,7 +41,7 @@ fn keep_byte(bytes: &mut ArrayVec<u8, 11>, byte: u8)
     bytes.push(byte);
 }
 
-// The bytes that a spelling stands for, as many as there is room for.
+/// The bytes that a spelling stands for, as many as there is room for.
 fn read_spelling(text: &[u8]) -> Option<ArrayVec<u8, 11>>
     ensures { option_map (λ bytes. bytes.items) result ≡ option_map (λ bytes. take 11 bytes) (spelt text.now) }
 {
@@ -55,7 +55,7 @@ fn read_spelling(text: &[u8]) -> Option<ArrayVec<u8, 11>>
     Some(bytes)
 }
 
-// The name that a spelling stands for, where it has as many bytes as a name has.
+/// The name that a spelling stands for, where it has as many bytes as a name has.
 pub fn spelt_name(text: &[u8]) -> Option<Option<Name>>
     ensures { result ≡ spelt_as name_of_bytes text.now }
 {
@@ -63,7 +63,7 @@ pub fn spelt_name(text: &[u8]) -> Option<Option<Name>>
     Some(Name::of(&bytes))
 }
 
-// The name that a spelling stands for, where a file can be given it.
+/// The name that a spelling stands for, where a file can be given it.
 pub fn spelt_new_name(text: &[u8]) -> Option<Option<NewName>>
     ensures { result ≡ spelt_as new_name_of_bytes text.now }
 {
@@ -71,7 +71,7 @@ pub fn spelt_new_name(text: &[u8]) -> Option<Option<NewName>>
     Some(new_name(&bytes))
 }
 
-// The label that a spelling stands for, where a volume can be given it.
+/// The label that a spelling stands for, where a volume can be given it.
 pub fn spelt_new_label(text: &[u8]) -> Option<Option<NewLabel>>
     ensures { result ≡ spelt_as new_label text.now }
 {
@@ -79,7 +79,7 @@ pub fn spelt_new_label(text: &[u8]) -> Option<Option<NewLabel>>
     Some(NewLabel::of(&bytes))
 }
 
-// A name that a file can be given, from its bytes.
+/// A name that a file can be given, from its bytes.
 fn new_name(bytes: &[u8]) -> Option<NewName>
     ensures { result ≡ new_name_of_bytes bytes.now }
 {

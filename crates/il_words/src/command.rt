@@ -9,7 +9,7 @@ use clap::error::ErrorKind;
 use clap::{Arg, ArgAction, ArgMatches, Command};
 use std::alloc::{AllocError, Global};
 
-// An option without a value.
+/// An option without a value.
 fn flag<'a>(alloc: Global, id: &'a str) -> Arg<'a>
     ensures rule { rule_of result ≡ flag_rule id.entry.now }
     ensures local { result.global ≡ false }
@@ -17,7 +17,7 @@ fn flag<'a>(alloc: Global, id: &'a str) -> Arg<'a>
     Arg::new(alloc, id).long(id).action(ArgAction::SetTrue)
 }
 
-// An option with one value.
+/// An option with one value.
 fn valued<'a>(alloc: Global, id: &'a str) -> Arg<'a>
     ensures rule { rule_of result ≡ valued_rule id.entry.now }
     ensures local { result.global ≡ false }
@@ -25,7 +25,7 @@ fn valued<'a>(alloc: Global, id: &'a str) -> Arg<'a>
     Arg::new(alloc, id).long(id).action(ArgAction::Set)
 }
 
-// The name of the image, which must be there.
+/// The name of the image, which must be there.
 fn image<'a>(alloc: Global) -> Arg<'a>
     ensures rule { rule_of result ≡ image_rule }
     ensures local { result.global ≡ false }
@@ -35,7 +35,7 @@ fn image<'a>(alloc: Global) -> Arg<'a>
         .action(ArgAction::Set)
 }
 
-// A command that takes no words yet, and asks for no help or version.
+/// A command that takes no words yet, and asks for no help or version.
 fn bare<'a>(alloc: Global) -> Command<'a>
     ensures { app_of result ≡ bare_app }
 {

@@ -23,7 +23,7 @@ pub(crate) enum FaultList {
     Alterations,
 }
 
-// The number of a crossing.
+/// The number of a crossing.
 fn read_crossing(text: &str) -> Option<u64>
     ensures crossing { result ≡ crossing_in text.now }
     ensures least { IfSome result (λ hop. 0 < hop) }
@@ -31,7 +31,7 @@ fn read_crossing(text: &str) -> Option<u64>
     read_number(text.as_bytes(), GREATEST_CROSSING)
 }
 
-// The byte of an alteration, in two hex digits.
+/// The byte of an alteration, in two hex digits.
 fn read_change(text: &str) -> Option<PlanFault>
     ensures change { result ≡ change_in text.now }
     ensures another { IfSome result (λ fault. is_fault fault ≡ true) }
@@ -43,7 +43,7 @@ fn read_change(text: &str) -> Option<PlanFault>
 }
 
 impl FaultList {
-    // The fault that one item of the list plans.
+    /// The fault that one item of the list plans.
     fn read_item(self, item: &str) -> Option<Planned>
         ensures fault { result ≡ item_in self item.now }
         ensures planned { IfSome result (λ fault. IsPlan (fault ∷ [])) }
@@ -63,8 +63,8 @@ impl FaultList {
         }
     }
 
-    // The faults of a list, in its order. `None` comes exactly where an item is none of the option's, and where there
-    // are more than 64 items.
+    /// The faults of a list, in its order. `None` comes exactly where an item is none of the option's, and where there
+    /// are more than 64 items.
     fn read(self, list: &str) -> Option<ArrayVec<Planned, MOST_LISTED>>
         ensures faults { option_map (λ faults. faults.items) result ≡ list_in self list.now }
         ensures planned { IfSome result (λ faults. All (λ fault. IsPlan (fault ∷ [])) faults.items) }

@@ -20,7 +20,7 @@ const GREATEST_SEED: u32 = 2_147_483_647;
 /// The most lines of a script that is generated.
 const MOST_LINES: u16 = 10_000;
 
-// A seed: 0, or a number without a leading zero.
+/// A seed: 0, or a number without a leading zero.
 fn read_seed(text: &str) -> Option<u32>
     ensures seed { result ≡ seed_in text.now }
     ensures range { IfSome result (λ seed. seed < 2147483648) }
@@ -32,7 +32,7 @@ fn read_seed(text: &str) -> Option<u32>
     Some(seed as u32)
 }
 
-// A number of lines.
+/// A number of lines.
 fn read_count(text: &str) -> Option<u16>
     ensures { result ≡ count_in text.now }
 {

@@ -9,8 +9,6 @@ mod faults;
 mod generate;
 mod halves;
 mod plan;
-#[cfg(test)]
-mod tests;
 mod words;
 
 pub use generate::Generated;

@@ -12,21 +12,21 @@ use il_ring::Planned;
 /// The most faults that are planned: those of two lists.
 pub(crate) const MOST_PLANNED: usize = 128;
 
-// Whether a fault is planned at that crossing.
+/// Whether a fault is planned at that crossing.
 fn is_named(plan: &[Planned], hop: u64) -> bool
     ensures { result ≡ is_named hop plan.now }
 {
     plan.iter().any(|planned| planned.hop == hop)
 }
 
-// How many faults are planned at smaller crossings.
+/// How many faults are planned at smaller crossings.
 fn count_before(plan: &[Planned], hop: u64) -> usize
     ensures { result ≡ length (take_while (λ planned. nat_lt planned.hop hop) plan.now) }
 {
     plan.iter().take_while(|planned| planned.hop < hop).count()
 }
 
-// Puts a fault to its place by rising crossings. `None` comes exactly where its crossing has a fault already.
+/// Puts a fault to its place by rising crossings. `None` comes exactly where its crossing has a fault already.
 fn place(plan: &mut ArrayVec<Planned, MOST_PLANNED>, fault: Planned) -> Option<()>
     requires room { array_vec_len plan.old < MOST_PLANNED }
     requires rising { IsPlan plan.old.items }
@@ -42,7 +42,7 @@ fn place(plan: &mut ArrayVec<Planned, MOST_PLANNED>, fault: Planned) -> Option<(
     Some(())
 }
 
-// Puts faults to their places, one after the other. `None` comes exactly where a crossing has two.
+/// Puts faults to their places, one after the other. `None` comes exactly where a crossing has two.
 fn place_all(plan: &mut ArrayVec<Planned, MOST_PLANNED>, faults: &[Planned]) -> Option<()>
     requires room { array_vec_len plan.old + length faults.now ≤ MOST_PLANNED }
     requires rising { IsPlan plan.old.items }

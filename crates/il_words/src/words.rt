@@ -55,7 +55,7 @@ pub fn read_words<'a>(alloc: Global, words: &'a [String]) -> Result<Words<'a>, W
     }
 }
 
-// What the values of the options and of the argument ask for.
+/// What the values of the options and of the argument ask for.
 fn read_matches<'a>(matches: &ArgMatches<'a>) -> Option<Words<'a>>
     ensures asked { option_map asked_by result ≡ asked_in (rows_of (found_of matches.now)) }
     ensures plan { IfSome result (λ w. IsPlan w.plan.items) }
@@ -77,7 +77,7 @@ fn read_matches<'a>(matches: &ArgMatches<'a>) -> Option<Words<'a>>
     })
 }
 
-// What is made where there is no image. A tape and a disc together are refused.
+/// What is made where there is no image. A tape and a disc together are refused.
 fn made_by(new: bool, new_disc: bool) -> Option<New>
     ensures { result ≡ made_by new new_disc }
 {
