@@ -1,6 +1,5 @@
 use super::*;
 use arrayvec::ArrayVec;
-use il_same::{same, same_bytes};
 use std::test::Fail;
 
 // Frames by number, text and message, from the tables of the HP-IL Interface Specification: each
@@ -85,18 +84,12 @@ fn numbers_texts_and_messages(rt: HostRuntime) -> Result<(), Fail> {
     let mut out = ArrayVec::new();
     for (bits, text, message) in FRAMES {
         let frame = Frame::of_bits(bits).ok_or(text)?;
-        assert!(rt; same(frame.bits(), bits), "{text}");
-        assert!(rt; same(frame.message(), message), "{text}");
-        assert!(rt;
-            same(Frame::new(frame.class(), frame.byte()), frame),
-            "{text}"
-        );
-        assert!(rt;
-            same(Frame::read_text(text.as_bytes()), Some(frame)),
-            "{text}"
-        );
+        assert!(rt; frame.bits() == bits, "{text}");
+        assert!(rt; frame.message() == message, "{text}");
+        assert!(rt; Frame::new(frame.class(), frame.byte()) == frame, "{text}");
+        assert!(rt; Frame::read_text(text.as_bytes()) == Some(frame), "{text}");
         frame.text(&mut out);
-        assert!(rt; same_bytes(out.as_slice(), text.as_bytes()), "{text}");
+        assert!(rt; out.as_slice() == text.as_bytes(), "{text}");
     }
     Ok(())
 }
@@ -104,10 +97,10 @@ fn numbers_texts_and_messages(rt: HostRuntime) -> Result<(), Fail> {
 #[test]
 fn no_frame(rt: HostRuntime) {
     for bits in [2048, 65535] {
-        assert!(rt; same(Frame::of_bits(bits), None), "{bits}");
+        assert!(rt; Frame::of_bits(bits).is_none(), "{bits}");
     }
     for text in NO_TEXTS {
-        assert!(rt; same(Frame::read_text(text.as_bytes()), None), "{text}");
+        assert!(rt; Frame::read_text(text.as_bytes()).is_none(), "{text}");
     }
 }
 
@@ -146,6 +139,6 @@ fn lines_of_entries(rt: HostRuntime) {
             outcome,
         };
         entry.text(&mut out);
-        assert!(rt; same_bytes(out.as_slice(), line.as_bytes()), "{line}");
+        assert!(rt; out.as_slice() == line.as_bytes(), "{line}");
     }
 }

@@ -1,5 +1,4 @@
 use super::*;
-use il_same::same;
 
 // A row: what PPE set, the status, an identify byte and what it is behind the device.
 static POLLS: [(Option<u8>, u8, u8, u8); 8] = [
@@ -23,16 +22,10 @@ fn polls(rt: HostRuntime) {
         }
         assert!(rt; status < 64);
         service.set(status);
-        assert!(rt;
-            same(service.on_idy(byte), behind),
-            "polled, status {status}"
-        );
+        assert!(rt; service.on_idy(byte) == behind, "polled, status {status}");
         service.on_ppd();
-        assert!(rt; same(service.assignment(), None), "no place");
-        assert!(rt;
-            same(service.on_idy(byte), byte),
-            "not polled, status {status}"
-        );
+        assert!(rt; service.assignment().is_none(), "no place");
+        assert!(rt; service.on_idy(byte) == byte, "not polled, status {status}");
     }
 }
 
@@ -42,10 +35,7 @@ fn status_bytes(rt: HostRuntime) {
     for (status, wants, answer) in [(0, false, 0x00), (3, true, 0x43), (63, true, 0x7F)] {
         assert!(rt; status < 64);
         service.set(status);
-        assert!(rt; same(service.wants(), wants), "wants, status {status}");
-        assert!(rt;
-            same(service.status_byte(), answer),
-            "byte, status {status}"
-        );
+        assert!(rt; service.wants() == wants, "wants, status {status}");
+        assert!(rt; service.status_byte() == answer, "byte, status {status}");
     }
 }
