@@ -3,6 +3,8 @@
 use crate::images::formatted;
 use crate::runs::{Behind, Given, answers, run};
 use il_same::{same, same_bytes};
+use std::alloc::Global;
+use std::process::Abort;
 use std::test::Fail;
 
 /// The frames of the first `status` of a run, over a drive and a printer.
@@ -56,40 +58,55 @@ fn a_byte_that_is_altered(rt: HostRuntime) -> Result<(), Fail> {
     Ok(())
 }
 
-/// What follows the drive on the loop, a script, the status of its run, and the output.
-const LOOPS: [(Behind, &[u8], u8, &[u8]); 3] = [
-    (
-        Behind::Printer,
-        b"devices\npoll\nsay 4849\npaper\n",
-        0,
-        b"device 1 10\ndevice 2 20\nok\npoll 00 quiet\nok\nok\npaper 4849 2\nok\n",
-    ),
-    (
-        Behind::Nothing,
-        b"devices\nsay 41\npaper\n",
-        1,
-        b"device 1 10\nok\nerror 12 NoPrinter\nerror 12 NoPrinter\n",
-    ),
-    (
-        Behind::Quiet,
-        b"devices\n",
-        0,
-        b"device 1 10\ndevice 2 --\nok\n",
-    ),
-];
+/// A quiet run over a loop of the drive and this device.
+fn answers_with(
+    rt: &impl Abort,
+    alloc: Global,
+    behind: Behind,
+    script: &[u8],
+    status: u8,
+    output: &[u8],
+) -> Result<(), Fail> {
+    let tape = formatted(alloc)?;
+    answers(
+        rt,
+        alloc,
+        &Given {
+            behind,
+            ..Given::script(&tape, script)
+        },
+        status,
+        output,
+    )
+}
 
 #[test]
 fn devices_polls_and_the_printer(rt: HostRuntime) -> Result<(), Fail> {
     let alloc = rt.alloc();
-    let tape = formatted(alloc)?;
-    for (behind, script, status, output) in LOOPS {
-        let given = Given {
-            behind,
-            ..Given::script(&tape, script)
-        };
-        answers(&rt, alloc, &given, status, output)?;
-    }
-    Ok(())
+    answers_with(
+        &rt,
+        alloc,
+        Behind::Printer,
+        b"devices\npoll\nsay 4849\npaper\n",
+        0,
+        b"device 1 10\ndevice 2 20\nok\npoll 00 quiet\nok\nok\npaper 4849 2\nok\n",
+    )?;
+    answers_with(
+        &rt,
+        alloc,
+        Behind::Nothing,
+        b"devices\nsay 41\npaper\n",
+        1,
+        b"device 1 10\nok\nerror 12 NoPrinter\nerror 12 NoPrinter\n",
+    )?;
+    answers_with(
+        &rt,
+        alloc,
+        Behind::Quiet,
+        b"devices\n",
+        0,
+        b"device 1 10\ndevice 2 --\nok\n",
+    )
 }
 
 #[test]

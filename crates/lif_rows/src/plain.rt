@@ -1,5 +1,5 @@
 //! The plain functions of the model: slots, and legal directories.
-ghost use Rattle.std.specs.Prelude.{◌≡◌};
+ghost use Rattle.std.specs.Prelude.{◌≡◌, ◌<◌};
 ghost use Rattle.lif_model.specs.Header.{directory_end};
 
 use crate::labels::named;
@@ -29,13 +29,27 @@ fn header() -> Record
     bytes
 }
 
+/// The redo file's entry on a tape of twelve records.
+fn redo() -> [u8; 32] {
+    let mut bytes = entry(b'R', 0, 8, 4);
+    bytes[..12].copy_from_slice(b"REDOFILE  \xE0\xD0");
+    bytes
+}
+
+/// Puts an entry into slot k of a directory record.
+fn put_entry(directory: &mut Record, k: usize, entry: &[u8; 32])
+    requires { k < 8 }
+{
+    directory[32 * k..32 * k + 32].copy_from_slice(entry);
+}
+
 /// Three slots, and the type of the fourth, high byte first: FFFF hex alone ends a directory.
 #[test]
 fn slots_stop_at_the_end(rt: HostRuntime) -> Result<(), Fail> {
     let mut directory = [0; RECORD];
-    directory[..32].copy_from_slice(&entry(b'A', 1, 4, 1));
-    directory[32..64].copy_from_slice(&entry(b'B', 0, 5, 1));
-    directory[64..76].copy_from_slice(b"REDOFILE  \xE0\xD0");
+    put_entry(&mut directory, 0, &entry(b'A', 1, 4, 1));
+    put_entry(&mut directory, 1, &entry(b'B', 0, 5, 1));
+    put_entry(&mut directory, 2, &redo());
     for (high, low, count) in [(0, 0, 16), (0, 0xFF, 16), (0xFF, 0xFF, 3)] {
         directory[106] = high;
         directory[107] = low;

@@ -74,7 +74,7 @@ fn compare_whole(rt: &impl Abort, log: &[Entry], count: usize) {
             frame: frame_of(rt, text),
             outcome: Outcome::Back(frame_of(rt, back)),
         };
-        assert!(rt; same(*entry, want), "{text}");
+        assert!(rt; same(*entry, want), "an entry that came back");
     }
 }
 
