@@ -15,18 +15,19 @@ use Rattle.lif_model.specs.Made.{filled, new_entry, with_type}
 use Rattle.lif_model.specs.Printed.{printed}
 use Rattle.lif_model.specs.Volume.{volume_of}
 use Rattle.lif_model.specs.Apply as volume
+use Rattle.lif_model.specs.declared.refusal.Refusal.TheVariants as refusal
 use Rattle.lif_model.proofs.Examples as base
 use Rattle.lif_model.proofs.VolumeExamples.{file, purged, a_name, b_name}
 use Rattle.il_frames.specs.declared.frame.Class.TheVariants as class
 use Rattle.il_frames.specs.Frames.{framed}
-use Rattle.il_script.specs.Replies.{reply_line}
+use Rattle.il_script.specs.Replies.{code_of, reply_line}
 use Rattle.il_script.specs.declared.reply.Code.TheVariants as code
 use Rattle.il_script.specs.declared.reply.Reply.TheVariants as reply
 use Rattle.host_model.specs.Requests.{OfVolume, Devices, Status, Poll, Say, Paper, Item, Asks, NoCommand, items_of, item_of}
 use Rattle.host_model.specs.LoopStates.{LoopState, printer_at, poll_frame, all_ids}
 use Rattle.host_model.specs.HostStates.{HostState, volume_at}
 use Rattle.host_model.specs.Listing.{volume_line, file_line, listing}
-use Rattle.host_model.specs.Replies.{code_of, reply_of, volume_behind, reply_text, label_line, data_line}
+use Rattle.host_model.specs.Replies.{reply_of, volume_behind, reply_text, label_line, data_line}
 use Rattle.host_model.proofs.Small.{texts_differ, empty_host, a_host, a_tape, host_with, printer, quiet}
 
 -- ---- requests
@@ -113,9 +114,10 @@ unfolding two_at four_at name_of is_open entry_at entries_of redo_name
 refusals = (refl, refl, refl, refl, refl, refl, refl, refl)
 
 -- the code of each refusal has its name
-codes_of : (code_of volume.NotLif ≡ code.NotLif) × (code_of volume.NoRedo ≡ code.NoRedo) × (code_of volume.Protected ≡ code.Protected) × (code_of volume.NoFile ≡ code.NoFile)
-    × (code_of volume.Exists ≡ code.Exists) × (code_of volume.NoSlot ≡ code.NoSlot) × (code_of volume.NoRoom ≡ code.NoRoom) × (code_of volume.InUse ≡ code.InUse)
-codes_of = (refl, refl, refl, refl, refl, refl, refl, refl)
+codes_of : (code_of refusal.NotLif ≡ code.NotLif) × (code_of refusal.NoRedo ≡ code.NoRedo) × (code_of refusal.Protected ≡ code.Protected) × (code_of refusal.NoFile ≡ code.NoFile)
+    × (code_of refusal.Exists ≡ code.Exists) × (code_of refusal.NoSlot ≡ code.NoSlot) × (code_of refusal.NoRoom ≡ code.NoRoom) × (code_of refusal.InUse ≡ code.InUse)
+    × (code_of refusal.NeedsUpgrade ≡ code.NeedsUpgrade) × (code_of refusal.OutOfOrder ≡ code.OutOfOrder)
+codes_of = (refl, refl, refl, refl, refl, refl, refl, refl, refl, refl)
 
 refusal_text : reply_text (asks_store a_name) a_host (reply.No code.Exists) ≡ codes "error 5 Exists" ++ 10 ∷ []
 unfolding digits

@@ -8,14 +8,14 @@ use Rattle.lif_model.specs.Directory.{type_of, implementation_of}
 use Rattle.lif_model.specs.Legal.{slot_named}
 use Rattle.lif_model.specs.Printed.{printed}
 use Rattle.lif_model.specs.Volume.{Volume}
-use Rattle.lif_model.specs.Apply.{VolumeCommand, Refusal, apply}
+use Rattle.lif_model.specs.Apply.{VolumeCommand, apply}
 use Rattle.lif_model.specs.Apply as volume
+use Rattle.lif_model.specs.declared.refusal.Refusal.{Refusal}
 use Rattle.il_frames.specs.declared.entry.Entry.{Entry}
 use Rattle.il_frames.specs.declared.frame.Frame.{Frame}
 use Rattle.il_frames.specs.Frames.{byte_of, has_service}
 use Rattle.il_frames.specs.Entries.{entry_text}
-use Rattle.il_script.specs.Replies.{text_line, next, reply_line}
-use Rattle.il_script.specs.declared.reply.Code.{Code}
+use Rattle.il_script.specs.Replies.{text_line, next, reply_line, code_of}
 use Rattle.il_script.specs.declared.reply.Code.TheVariants as code
 use Rattle.il_script.specs.declared.reply.Reply.{Reply}
 use Rattle.il_script.specs.declared.reply.Reply.TheVariants as reply
@@ -25,17 +25,6 @@ use Rattle.host_model.specs.HostStates.{HostState, volume_at}
 use Rattle.host_model.specs.Listing.{type_text, listing}
 
 -- ---- replies
-
--- the code of a refusal has its name
-abbrev pub code_of : Refusal → Code
-code_of volume.NotLif = code.NotLif
-code_of volume.NoRedo = code.NoRedo
-code_of volume.Protected = code.Protected
-code_of volume.NoFile = code.NoFile
-code_of volume.Exists = code.Exists
-code_of volume.NoSlot = code.NoSlot
-code_of volume.NoRoom = code.NoRoom
-code_of volume.InUse = code.InUse
 
 abbrev pub refused_as : Option Refusal → Reply
 refused_as None = reply.Ok

@@ -1,5 +1,5 @@
 -- What the program tells on standard error.
-use Rattle.std.specs.Prelude.{ℕ, ◌==◌, List, Option, Some, None, if◌then◌else◌, codes}
+use Rattle.std.specs.Prelude.{ℕ, ◌==◌, ◌++◌, ◌∷◌, [], List, Option, Some, None, if◌then◌else◌, codes}
 
 -- the text for an exit status; a run that reads its script to the end tells nothing
 abbrev pub message_of : ℕ → Option (List ℕ)
@@ -12,3 +12,11 @@ message_of status =
     if status == 7 then Some (codes "il: out of memory") else
     if status == 8 then Some (codes "il: script too long") else
     if status == 9 then Some (codes "il: image could not be opened") else None
+
+-- a text as a line, or nothing
+abbrev pub as_line : Option (List ℕ) → List ℕ
+as_line None = []
+as_line (Some text) = text ++ 10 ∷ []
+
+abbrev pub line_of : ℕ → List ℕ
+line_of status = as_line (message_of status)

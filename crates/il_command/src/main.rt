@@ -2,18 +2,20 @@
 #![tactic(auto)]
 
 mod messages;
+mod running;
+mod telling;
 
 ghost use Rattle.std.specs.Prelude.{◌≡◌, ◌≢◌};
 ghost use Rattle.std.specs.IoError.{error_kind};
 ghost use Rattle.std.specs.declared.io.ErrorKind.TheVariants.{OutOfMemory};
 
 use il_device::{Device, Printer};
-use il_host::{Ended, Rig, run_il};
-use il_ports::{FileMedium, StdSink, StdSource};
-use messages::message;
+use il_ports::SystemImages;
+use running::run_with;
 use std::env;
 use std::io::{self, BufReader, ErrorKind};
 use std::process::ExitCode;
+use telling::told;
 
 const BAD_WORDS: u8 = 2;
 
@@ -30,20 +32,23 @@ fn unread_words(error: &io::Error) -> u8
     }
 }
 
-/// Runs the script, and gives the exit status.
+/// The words after the program's name, or the exit status where they were not read.
+fn words_of(rt: &HostRuntime) -> Result<Vec<String>, u8> {
+    let args = env::args(rt).map_err(|error| unread_words(&error))?;
+    args.skip(1)
+        .collect::<Vec<String>>(rt.alloc())
+        .map_err(|_| OUT_OF_MEMORY)
+}
+
+/// Runs the script that comes on standard input, and gives the exit status.
 fn run(rt: &HostRuntime) -> u8 {
-    let args = match env::args(rt) {
-        Ok(args) => args,
-        Err(error) => return unread_words(&error),
-    };
-    let Ok(words) = args.skip(1).collect::<Vec<String>>(rt.alloc()) else {
-        return OUT_OF_MEMORY;
+    let words = match words_of(rt) {
+        Ok(words) => words,
+        Err(status) => return status,
     };
     let Ok(reader) = BufReader::new(rt.alloc(), rt.reader()) else {
         return OUT_OF_MEMORY;
     };
-    let mut script = StdSource::new(reader);
-    let mut out = StdSink::new(io::writer(rt));
     let Ok(printer) = Printer::new(rt.alloc()) else {
         return OUT_OF_MEMORY;
     };
@@ -55,20 +60,20 @@ fn run(rt: &HostRuntime) -> u8 {
     if after.push(printer).is_err() {
         return OUT_OF_MEMORY;
     }
-    let rig = Rig {
-        medium: FileMedium::new(rt),
-        before: Vec::new(rt.alloc()),
+    let images = SystemImages::new(rt);
+    run_with(
+        rt.alloc(),
+        words.as_slice(),
+        reader,
+        io::writer(rt),
+        images,
         after,
-    };
-    let Ended { status, rig } = run_il(rt.alloc(), words.as_slice(), &mut script, &mut out, rig);
-    drop(rig);
-    status
+    )
+    .close()
 }
 
 fn main(rt: HostRuntime) -> ExitCode {
     let status = run(&rt);
-    if let Some(text) = message(status) {
-        let _ = eprintln!(rt; "{text}");
-    }
+    let _ = told(&mut rt.stderr(), status);
     ExitCode::from(status)
 }

@@ -1,7 +1,7 @@
 #![tactic(auto)]
 
 ghost use Rattle.std.specs.Prelude.{◌≡◌, ◌↔◌, IsTrue};
-ghost use Rattle.il_device.specs.State.{DeviceState, IsIdle};
+ghost use Rattle.il_device.specs.State.{DeviceState, IsDevice, IsIdle};
 ghost use Rattle.il_device.specs.Takes.{Takes};
 
 use il_frames::Frame;
@@ -20,9 +20,10 @@ pub trait Device: Drop {
     ghost state: { Self → DeviceState };
 
     /// Whether the device has no address, no role, no place in a parallel poll and no frame of its
-    /// own on the loop.
+    /// own on the loop. That it keeps the rules of every device is seen here too.
     fn is_idle(&self) -> bool
-        ensures { IsTrue result ↔ IsIdle (state self.now) };
+        ensures idle { IsTrue result ↔ IsIdle (state self.now) }
+        ensures device { IsDevice (state self.now) };
 
     /// The byte that answers SAI, if there is one.
     fn accessory(&self) -> Option<u8>

@@ -46,7 +46,7 @@ impl Heard {
     /// Keeps the byte where the device is to hear it and there is room.
     pub fn take(&mut self, turn: Turn, byte: u8)
         ensures bytes { self.new ≡ heard_after turn 8192 self.old byte }
-        ensures room { length self.old ≤ 8192 }
+        ensures room { length self.new ≤ 8192 }
     {
         let _ = &self.bytes;
         if turn == Turn::Hear {

@@ -122,7 +122,8 @@ impl Interface {
 
     /// Whether there is no address, no role, no place in a parallel poll and no own frame.
     pub fn is_idle(&self) -> bool
-        ensures { IsTrue result ↔ IsIdleInterface self.now }
+        ensures idle { IsTrue result ↔ IsIdleInterface self.now }
+        ensures standing { IsInterface self.now }
     {
         self.roles == Roles::NONE && self.service.assignment().is_none() && self.own.is_none()
     }

@@ -26,7 +26,7 @@ pub struct Printer {
 }
 
 impl Model for Printer {
-    ghost use Rattle.std.specs.Prelude.{◌≡◌, Some};
+    ghost use Rattle.std.specs.Prelude.{◌≡◌, ◌≤◌, Some, length};
     ghost use Rattle.il_device.specs.State.{DeviceState};
     ghost use Rattle.il_device.specs.Interfaces.{device_on};
 
@@ -34,7 +34,9 @@ impl Model for Printer {
 
     ghost view = { λ p. device_on p.interface p.heard 8192 };
 
-    ghost invariant = { λ p. (p.interface.service.status ≡ 0) × (p.interface.accessory ≡ Some 32) };
+    ghost invariant = { λ p. (p.interface.service.status ≡ 0)
+        × (p.interface.accessory ≡ Some 32)
+        × (length p.heard ≤ 8192) };
 }
 
 impl Printer {

@@ -7,7 +7,8 @@ use Rattle.std.proofs.lemmas.Bool.{and_parts, and_right, eqb-true, ltb-true, le-
 use Rattle.std.proofs.lemmas.List.{append-nil}
 use Rattle.il_ports.specs.Stores.{IsStore, RecordsView}
 use Rattle.il_ports.specs.Transfers.{WritesOnly}
-use Rattle.lif_model.specs.Apply.{Fetch, Refusal, Store, VolumeCommand, refusal_of}
+use Rattle.lif_model.specs.Apply.{Fetch, Store, VolumeCommand, refusal_of}
+use Rattle.lif_model.specs.declared.refusal.Refusal.{Refusal}
 use Rattle.lif_model.specs.Commit.{IsSettleWrite, IsTarget, close_writes, commit_writes, content_writes, settle_writes}
 use Rattle.lif_model.specs.Directory.{slots_of, start_of}
 use Rattle.lif_model.specs.Fit.{At, Place, fit_in, redo_place}

@@ -15,7 +15,6 @@ use Rattle.il_ports.specs.Media.{MediumView, IsMedium}
 use Rattle.il_ports.specs.Stores.{RecordsView, Begun, Continues, GoesOn, IsReady}
 use Rattle.il_ports.specs.declared.records.Trouble.{Trouble}
 use Rattle.il_ports.specs.declared.records.Trouble.TheVariants as trouble
-use Rattle.lif_plan.specs.Refusals.{reason}
 use Rattle.lif_volume.specs.Views.{IsOpen, VolumeView}
 use Rattle.lif_volume.specs.Answers.{store_answer}
 use Rattle.lif_volume.specs.Commands.{AnswersTo, calls_needed, mounting}
@@ -33,10 +32,10 @@ use Rattle.il_record.proofs.StoreResumes.{agrees}
 use Rattle.il_script.specs.declared.reply.Reply.{Reply}
 use Rattle.il_script.specs.declared.reply.Reply.TheVariants as reply
 use Rattle.il_script.specs.Sheet.{Sheet}
-use Rattle.il_script.specs.Replies.{reply_line}
+use Rattle.il_script.specs.Replies.{code_of, reply_line}
 use Rattle.host_model.specs.Requests.{Asks, Item, OfVolume, is_of_volume}
 use Rattle.host_model.specs.HostStates.{HostState, log_room, text_room, volume_at}
-use Rattle.host_model.specs.Replies.{code_of, reply_text, told_of}
+use Rattle.host_model.specs.Replies.{reply_text, told_of}
 use Rattle.host_model.specs.Steps.{TellsReply}
 use Rattle.il_host.specs.HostView.{HostView, MakesFewCalls, Performed, calls_behind}
 use Rattle.il_host.specs.Hosts.{IsUsable, host_in, loop_in, store_in, volume_in}
@@ -299,7 +298,7 @@ module _ {M I : Type 0} {D : I → Type 0} (view : M → MediumView) (seen : Rin
               usable.volume_open.valid (agrees seen o.records.control) (agrees seen b.records.control) began usable.log low left u (ring_in m.records.control) calls (loop_in seen m.records) makes (agrees seen m.records.control) turns None goes answers carries
           did (Err (Refused why)) goes answers carries =
               volume_asked view seen (ring_in o.records.control) (ring_in b.records.control) (ring_in n.records.control) command (loop_in seen o.records) (loop_in seen b.records) (loop_in seen n.records)
-              usable.volume_open.valid (agrees seen o.records.control) (agrees seen b.records.control) began usable.log low left u (ring_in m.records.control) calls (loop_in seen m.records) makes (agrees seen m.records.control) turns (Some (reason why)) goes answers carries
+              usable.volume_open.valid (agrees seen o.records.control) (agrees seen b.records.control) began usable.log low left u (ring_in m.records.control) calls (loop_in seen m.records) makes (agrees seen m.records.control) turns (Some why) goes answers carries
           did (Err (Troubled e)) goes answers carries =
               volume_failed view seen (ring_in o.records.control) (ring_in b.records.control) (ring_in n.records.control) command (loop_in seen o.records) (loop_in seen b.records) (loop_in seen n.records)
               usable.volume_open.valid (agrees seen o.records.control) (agrees seen b.records.control) began usable.log low left u (ring_in m.records.control) calls (loop_in seen m.records) makes (agrees seen m.records.control) turns e goes
@@ -325,7 +324,7 @@ module _ {M I : Type 0} {D : I → Type 0} (view : M → MediumView) (seen : Rin
           by : (fault : VolumeFault) → GoesOn calls (store_in view seen m.records) (store_in view seen n.records) (store_answer {T = T} (Err fault)) → AnswersTo {T = T} command (store_in view seen) (volume_in m) (volume_in n) (Err fault)
               → Performed (Asks (OfVolume command)) (volume_reply {T = Unit {0}} (Err fault)) (host_in view seen o before text_space file_space) (host_in view seen n (reply_line (volume_reply {T = Unit {0}} (Err fault))) text_space file_space)
           by (Refused why) goes answers =
-              asked {T = T} (Err (Refused why)) calls before (reply_line (reply.No (code_of (reason why)))) few goes turns answers (not_carried command (reply.No (code_of (reason why))) _ _ _ tt) (λ told. refl)
+              asked {T = T} (Err (Refused why)) calls before (reply_line (reply.No (code_of why))) few goes turns answers (not_carried command (reply.No (code_of why)) _ _ _ tt) (λ told. refl)
           by (Troubled e) goes answers =
               asked {T = T} (Err (Troubled e)) calls before (reply_line (fault_of e)) few goes turns answers (none_carried command e _ _ _) (λ told. sym (fault_text (Asks (OfVolume command)) (host_in view seen o before text_space file_space).state e))
 

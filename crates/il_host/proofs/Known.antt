@@ -1,7 +1,7 @@
 -- Known bytes that grow, and writes that may have stopped in between.
-use Rattle.std.proofs.Common.{◌≡◌, ◌≤◌, ◌<◌, ℕ, ◌+◌, ◌-◌, List, [], ◌++◌, Option, Some, None, length, take, drop, get_or, sym, ap, subst, ◌∙◌, arith, append_assoc, append-nil, length-append, length-drop}
+use Rattle.std.proofs.Common.{◌≡◌, ◌≤◌, ◌<◌, ℕ, ◌+◌, ◌-◌, List, [], ◌∷◌, ◌++◌, Option, Some, None, length, take, drop, get_or, sym, ap, subst, ◌∙◌, arith, append_assoc, append-nil, length-append, length-drop}
 use Rattle.std.proofs.Math.Seq.{take-add, take-length, take-append-add}
-use Rattle.std.proofs.lemmas.List.{take-append-le, take-append-drop, drop_more}
+use Rattle.std.proofs.lemmas.List.{take-append-le, take-append-drop, take_more}
 use Rattle.std.proofs.lemmas.Grind.{flat_map-append}
 use Rattle.std.specs.Prelude.{Result, Ok, Err, IsErr}
 use Rattle.std.specs.Io.KnownBytes.{Appends}
@@ -9,7 +9,7 @@ use Rattle.il_frames.specs.declared.entry.Entry.{Entry}
 use Rattle.il_frames.specs.Entries.{entry_text}
 use Rattle.il_script.specs.Replies.{text_line}
 use Rattle.host_model.specs.Replies.{trace_text}
-use Rattle.il_host.specs.Writing.{WritesAll}
+use Rattle.il_host.specs.Writing.{WritesAll, Waits}
 
 pub appends-trans : (a b c : Option (List ℕ)) (xs ys : List ℕ) → Appends a b xs → Appends b c ys → Appends a c (xs ++ ys)
 appends-trans None b c xs ys h k = tt
@@ -55,9 +55,37 @@ pub written_on : {E : Type 0} (a b c : Option (List ℕ)) (text xs ys : List ℕ
 written_on a b c text xs ys (Ok u) is h k = subst (λ l. Appends a c l) (sym is) (appends-trans a b c xs ys h k)
 written_on a b c text xs ys (Err e) is h k = stopped_behind a b c text xs ys is h k
 
--- the text of a log around one of its entries
-pub trace-around : (log : List Entry) (i : ℕ) (d : Entry) → i < length log
-    → trace_text log ≡ trace_text (take i log) ++ (text_line (entry_text (get_or log i d)) ++ trace_text (drop (i + 1) log))
-trace-around log i d within =
+-- ---- a text of which the last bytes wait
+
+pub waits_then : (a b c : Option (List ℕ)) (text xs ys : List ℕ) → Waits a b text xs → Waits b c xs ys → Waits a c text ys
+waits_then a b c text xs ys h k = record {
+  written = h.written ++ k.written;
+  appended = appends-trans a b c h.written k.written h.appended k.appended;
+  whole = h.whole ∙ ap (λ l. h.written ++ l) k.whole ∙ sym (append_assoc h.written k.written ys);
+}
+
+pub waits_more : (a b : Option (List ℕ)) (text xs ys : List ℕ) → Waits a b text xs → Waits a b (text ++ ys) (xs ++ ys)
+waits_more a b text xs ys h = record {
+  written = h.written;
+  appended = h.appended;
+  whole = ap (λ l. l ++ ys) h.whole ∙ append_assoc h.written xs ys;
+}
+
+pub waits_stopped : (a b c : Option (List ℕ)) (text xs : List ℕ) → Waits a b text xs → Stopped b c xs → Stopped a c text
+waits_stopped a b c text xs h k = stopped_behind a b c text h.written xs h.whole h.appended k
+
+pub waits_written : {E : Type 0} (a b c : Option (List ℕ)) (text xs : List ℕ) (r : Result (Unit {0}) E) → Waits a b text xs → WritesAll b c xs r → WritesAll a c text r
+waits_written a b c text xs r h k = written_on a b c text h.written xs r h.whole h.appended k
+
+-- ---- logs
+
+-- the text of a log, in two
+pub trace-split : (log : List Entry) (i : ℕ) → trace_text log ≡ trace_text (take i log) ++ trace_text (drop i log)
+trace-split log i =
     ap trace_text (sym (take-append-drop i log)) ∙ flat_map-append (λ (e : Entry). text_line (entry_text e)) (take i log) (drop i log)
-    ∙ ap (λ l. trace_text (take i log) ++ trace_text l) (drop_more log i d within)
+
+-- and with one entry more
+pub trace-more : (log : List Entry) (i : ℕ) (d : Entry) → i < length log → trace_text (take (i + 1) log) ≡ trace_text (take i log) ++ text_line (entry_text (get_or log i d))
+trace-more log i d within =
+    ap trace_text (take_more log i d within) ∙ flat_map-append (λ (e : Entry). text_line (entry_text e)) (take i log) (get_or log i d ∷ [])
+    ∙ ap (λ l. trace_text (take i log) ++ l) (append-nil (text_line (entry_text (get_or log i d))))

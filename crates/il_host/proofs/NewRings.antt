@@ -32,10 +32,17 @@ module _ {M X : Type 0} (state : X → DeviceState) (xs ys : List X) (medium : M
       subst (λ (r : RingView M). Each MayPoll 1 (devices_of r)) (sym same)
       (new_may_poll r ring (ap (λ (d : DriveView M). d.state) drive) (subst (All MayStand) (sym before) (All-map MayStand state xs first)) (subst (All MayStand) (sym after) (All-map MayStand state ys last)))
 
--- the paper of each device of a new ring is short, where that of each box is
+-- the paper of a device that may stand on a new ring is short
+short_of : (ds : List DeviceState) → All MayStand ds → All IsShort ds
+short_of ds stand = λ i d within. let keeps = (stand i d within).2 in record { heard = keeps.heard; room = keeps.room }
+
+-- the paper of each device of a new ring is short
 pub new_ring_short : {M X : Type 0} (view : M → Seen_medium) (state : X → DeviceState) (l : SeenLoop M) (r s : RingView M) (xs ys : List X) → l ≡ record { control = LostAt s; sound = false; since = since_is.Unbroken; resumes = 0 } → s ≡ r
-    → r.before ≡ map state xs → r.after ≡ map state ys → All (λ x. IsShort (state x)) xs → All (λ x. IsShort (state x)) ys → AllShort (standing_state view l.sound l.control).loop
+    → r.before ≡ map state xs → r.after ≡ map state ys → All (λ x. MayStand (state x)) xs → All (λ x. MayStand (state x)) ys → AllShort (standing_state view l.sound l.control).loop
 new_ring_short {M} view state l r s xs ys fresh same before after first last =
     subst (λ (l : SeenLoop M). AllShort (standing_state view l.sound l.control).loop) (sym fresh)
     (subst (λ (s : RingView M). AllShort (on_ring view false false s).loop) (sym same)
-    (record { before = every_same IsShort r.before (map state xs) before (every_map IsShort state xs first); after = every_same IsShort r.after (map state ys) after (every_map IsShort state ys last) }))
+    (record {
+      before = every_same IsShort r.before (map state xs) before (short_of (map state xs) (every_map MayStand state xs first));
+      after = every_same IsShort r.after (map state ys) after (short_of (map state ys) (every_map MayStand state ys last));
+    }))

@@ -93,7 +93,7 @@ few_slots view new is kept = kept_tells new.kept kept is.legal (λ header legal.
 
 -- so the lines of a volume and the last line have room
 pub listing_fits : {R S : Type 0} (view : R → RecordsView S) (new : VolumeView R) → IsOpen view new → is_some new.kept ≡ true
-    → 72 * (length new.slots + 1) + 20 ≤ text_room (view new.records).record_count
+    → 72 * (length new.slots + 1) + 23 ≤ text_room (view new.records).record_count
 listing_fits view new is kept = omega (arith, few_slots view new is kept, is.size)
 
 -- ---- a file is no longer than its tape

@@ -1,7 +1,8 @@
 -- A command of the volume, from the moment at which its log is emptied to its reply, is a step of a run.
 use Rattle.std.proofs.Common.{◌≡◌, ◌≤◌, ℕ, false, Option, Some, refl, sym, subst}
 use Rattle.std.specs.Prelude.{Ok, Err}
-use Rattle.lif_model.specs.Apply.{Refusal, VolumeCommand, apply}
+use Rattle.lif_model.specs.Apply.{VolumeCommand, apply}
+use Rattle.lif_model.specs.declared.refusal.Refusal.{Refusal}
 use Rattle.lif_model.specs.Tape.{Tape}
 use Rattle.lif_model.specs.Volume.{is_foreign_gated, volume_of}
 use Rattle.il_ports.specs.Media.{MediumView}

@@ -3,7 +3,8 @@ use Rattle.std.proofs.Common.{◌≡◌, ◌∙◌, ⊎_elim, inl, inr, ℕ, Boo
 use Rattle.std.specs.Prelude.{Ok, Err, option_and_then, IfSome}
 use Rattle.lif_model.specs.Tape.{Tape}
 use Rattle.lif_model.specs.Volume.{is_foreign_gated, volume_of}
-use Rattle.lif_model.specs.Apply.{Refusal, VolumeCommand, apply}
+use Rattle.lif_model.specs.Apply.{VolumeCommand, apply}
+use Rattle.lif_model.specs.declared.refusal.Refusal.{Refusal}
 use Rattle.lif_model.proofs.Moments.{after_still, started, still, weaker}
 use Rattle.il_frames.specs.declared.entry.Entry.{Entry}
 use Rattle.il_ports.specs.Media.{MediumView}

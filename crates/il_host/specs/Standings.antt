@@ -9,16 +9,14 @@ use Rattle.il_drive.specs.State.{drive_id, status_of}
 use Rattle.il_ring.specs.declared.plan.Planned.{Planned}
 use Rattle.il_ring.specs.Plans.{hops_of}
 use Rattle.il_record.specs.LoopStores.{AtIdle, AtLost, HasRing, LoopView, Nowhere, Resumes, Standing, counted_resume}
-use Rattle.lif_plan.specs.Refusals.{reason}
 use Rattle.lif_volume.specs.declared.fault.VolumeFault.{VolumeFault}
 use Rattle.lif_volume.specs.declared.fault.VolumeFault.TheVariants.{Refused, Trouble as Troubled}
 use Rattle.il_script.specs.declared.reply.Reply.{Reply}
 use Rattle.il_script.specs.declared.reply.Reply.TheVariants as reply
-use Rattle.il_script.specs.Replies.{reply_line}
+use Rattle.il_script.specs.Replies.{code_of, reply_line}
 use Rattle.il_script.specs.Sheet.{Sheet}
 use Rattle.host_model.specs.Requests.{Item}
 use Rattle.host_model.specs.HostStates.{HostState, fresh_host, log_room}
-use Rattle.host_model.specs.Replies.{code_of}
 use Rattle.host_model.specs.RingStates.{state_on}
 use Rattle.host_model.specs.Steps.{Event, is_fault}
 
@@ -122,5 +120,5 @@ fault_of trouble.Medium = reply.FaultMedium
 -- the reply to a command of the volume, by the volume's answer
 abbrev pub volume_reply : {T : Type 0} → Result T VolumeFault → Reply
 volume_reply (Ok x) = reply.Ok
-volume_reply (Err (Refused why)) = reply.No (code_of (reason why))
+volume_reply (Err (Refused why)) = reply.No (code_of why)
 volume_reply (Err (Troubled e)) = fault_of e

@@ -1,5 +1,5 @@
 -- A write that may have stopped in between.
-use Rattle.std.specs.Prelude.{ℕ, ◌≤◌, ◌++◌, Bool, true, false, List, length, take, Option, Result, Ok, Err}
+use Rattle.std.specs.Prelude.{ℕ, ◌≡◌, ◌≤◌, ◌++◌, Bool, true, false, List, length, take, Option, Result, Ok, Err}
 use Rattle.std.specs.Io.KnownBytes.{Appends}
 use Rattle.il_frames.specs.declared.entry.Entry.{Entry}
 use Rattle.host_model.specs.Replies.{trace_text}
@@ -7,6 +7,17 @@ use Rattle.host_model.specs.Replies.{trace_text}
 abbrev pub WritesAll : {E : Type 0} → Option (List ℕ) → Option (List ℕ) → List ℕ → Result (Unit {0}) E → Type 0
 WritesAll before now text (Ok u) = Appends before now text
 WritesAll before now text (Err e) = (n : ℕ) × (n ≤ length text) × Appends before now (take n text)
+
+-- of a text all was written but what waits
+pub record Waits (before now : Option (List ℕ)) (text waiting : List ℕ) : Type 0 where
+  pub written : List ℕ
+  pub appended : Appends before now written
+  pub whole : text ≡ written ++ waiting
+
+-- what waited may have been written, so that there is room; or the write stopped within it
+abbrev pub MakesRoom : {E : Type 0} → Option (List ℕ) → Option (List ℕ) → (waited waiting : List ℕ) → Result (Unit {0}) E → Type 0
+MakesRoom before now waited waiting (Ok u) = Waits before now waited waiting
+MakesRoom before now waited waiting (Err e) = (n : ℕ) × (n ≤ length waited) × Appends before now (take n waited)
 
 -- what is told of a command: its log, unless the run is quiet, and the text of its reply
 abbrev pub told_text : Bool → List Entry → List ℕ → List ℕ

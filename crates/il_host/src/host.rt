@@ -91,7 +91,7 @@ impl<M: Medium + Drop> Host<M> {
     /// Ends the text of a reply.
     pub(crate) fn answered(&mut self, reply: Reply) -> Reply
         requires volume_open { IsOpen ⟦<LoopRecords<M> as Records>⟧.view (volume_in self.old.volume) }
-        requires room { length self.old.page.text + 20 ≤ self.old.page.room }
+        requires room { length self.old.page.text + 23 ≤ self.old.page.room }
         ensures ended { Ends reply self.old.volume self.old.page (length self.old.file.items) result self.new.volume self.new.page (length self.new.file.items) }
         ensures drive { HasDriveStatus (⟦<LoopRecords<M> as Looped<M>>⟧.looped self.old.volume.records).control }
     {
@@ -104,7 +104,7 @@ impl<M: Medium + Drop> Host<M> {
     /// The reply to a trouble of the store, with its line.
     pub(crate) fn faulted(&mut self, trouble: Trouble) -> Reply
         requires volume_open { IsOpen ⟦<LoopRecords<M> as Records>⟧.view (volume_in self.old.volume) }
-        requires room { length self.old.page.text + 20 ≤ self.old.page.room }
+        requires room { length self.old.page.text + 23 ≤ self.old.page.room }
         ensures ended { Ends (fault_of trouble) self.old.volume self.old.page (length self.old.file.items) result self.new.volume self.new.page (length self.new.file.items) }
         ensures drive { HasDriveStatus (⟦<LoopRecords<M> as Looped<M>>⟧.looped self.old.volume.records).control }
     {

@@ -5,7 +5,6 @@ ghost use Rattle.il_ring.specs.Plans.{IsPlan};
 ghost use Rattle.il_ring.specs.Rings.{MayStand};
 ghost use Rattle.host_model.specs.HostStates.{log_room, text_room};
 ghost use Rattle.il_host.specs.Hosts.{IsOpened, IsClosed};
-ghost use Rattle.il_host.specs.Shorts.{IsShort};
 
 use crate::host::Host;
 use crate::performer::Performer;
@@ -43,8 +42,6 @@ impl<M: Medium + Drop> Host<M> {
         requires few { length rig.before.items + length rig.after.items ≤ 29 }
         requires before { All (λ b. MayStand (state b)) rig.before.items }
         requires after { All (λ b. MayStand (state b)) rig.after.items }
-        requires short_before { All (λ b. IsShort (state b)) rig.before.items }
-        requires short_after { All (λ b. IsShort (state b)) rig.after.items }
         requires size { IsSize (M.view rig.medium).record_count }
         requires plan { IsPlan plan.now }
         ensures opened { IfOk result (λ host. IsOpened M.view rig.medium (map (λ b. state b) rig.before.items) (map (λ b. state b) rig.after.items) plan.now (⟦<Host<M> as Performer>⟧.view host)) }

@@ -4,7 +4,6 @@ ghost use Rattle.lif_model.specs.Shelf.{IsSize};
 ghost use Rattle.il_ring.specs.Rings.{MayStand};
 ghost use Rattle.host_model.specs.Endings.{HasEndingCause, HasNoTape, IsEarly};
 ghost use Rattle.host_model.specs.Leaves.{LeavesBy};
-ghost use Rattle.il_host.specs.Shorts.{IsShort};
 ghost use Rattle.il_host.specs.Run.{end_of};
 ghost use Rattle.il_host.specs.Whole.{AnswersOver, MayHaveLeft, RunLeaves, outside};
 ghost use Rattle.il_host.specs.Words.{order_in, order_of};
@@ -41,8 +40,6 @@ fn run_script<S: Source, K: Sink, M: Medium + Drop>(
     requires few { length rig.before.items + length rig.after.items ≤ 29 }
     requires before { All (λ b. MayStand (⟦<Box<dyn Device> as Device>⟧.state b)) rig.before.items }
     requires after { All (λ b. MayStand (⟦<Box<dyn Device> as Device>⟧.state b)) rig.after.items }
-    requires short_before { All (λ b. IsShort (⟦<Box<dyn Device> as Device>⟧.state b)) rig.before.items }
-    requires short_after { All (λ b. IsShort (⟦<Box<dyn Device> as Device>⟧.state b)) rig.after.items }
     requires size { IsSize (M.view rig.medium).record_count }
     requires plan { IsPlan words.now.plan.items }
     requires seed { IfSome words.now.generated (λ g. g.seed < 2147483648) }
@@ -88,8 +85,6 @@ fn run<S: Source, K: Sink, M: Medium + Drop>(
     requires few { length rig.before.items + length rig.after.items ≤ 29 }
     requires before { All (λ b. MayStand (⟦<Box<dyn Device> as Device>⟧.state b)) rig.before.items }
     requires after { All (λ b. MayStand (⟦<Box<dyn Device> as Device>⟧.state b)) rig.after.items }
-    requires short_before { All (λ b. IsShort (⟦<Box<dyn Device> as Device>⟧.state b)) rig.before.items }
-    requires short_after { All (λ b. IsShort (⟦<Box<dyn Device> as Device>⟧.state b)) rig.after.items }
     ensures leaves { LeavesBy (end_of result.0) (order_in (map string_bytes words.now))
         (outside (M.view rig.medium) (S.left script.old) (K.written out.old) (map ⟦<Box<dyn Device> as Device>⟧.state rig.before.items) (map ⟦<Box<dyn Device> as Device>⟧.state rig.after.items))
         (outside (M.view result.1.medium) (S.left script.new) (K.written out.new) (map ⟦<Box<dyn Device> as Device>⟧.state result.1.before.items) (map ⟦<Box<dyn Device> as Device>⟧.state result.1.after.items))
@@ -125,8 +120,6 @@ pub fn run_il<S: Source, K: Sink, M: Medium + Drop>(
     requires few { length rig.before.items + length rig.after.items ≤ 29 }
     requires before { All (λ b. MayStand (⟦<Box<dyn Device> as Device>⟧.state b)) rig.before.items }
     requires after { All (λ b. MayStand (⟦<Box<dyn Device> as Device>⟧.state b)) rig.after.items }
-    requires short_before { All (λ b. IsShort (⟦<Box<dyn Device> as Device>⟧.state b)) rig.before.items }
-    requires short_after { All (λ b. IsShort (⟦<Box<dyn Device> as Device>⟧.state b)) rig.after.items }
     ensures { RunLeaves result.status (map string_bytes words.now) (M.view rig.medium) (M.view result.rig.medium)
         (outside (M.view rig.medium) (S.left script.old) (K.written out.old) (map ⟦<Box<dyn Device> as Device>⟧.state rig.before.items) (map ⟦<Box<dyn Device> as Device>⟧.state rig.after.items))
         (outside (M.view result.rig.medium) (S.left script.new) (K.written out.new) (map ⟦<Box<dyn Device> as Device>⟧.state result.rig.before.items) (map ⟦<Box<dyn Device> as Device>⟧.state result.rig.after.items))

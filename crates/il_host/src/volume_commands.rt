@@ -1,11 +1,9 @@
 ghost use Rattle.std.specs.Prelude.{◌≡◌, ◌≢◌, ◌≤◌, ◌<◌, ◌+◌, [], length, Err};
-ghost use Rattle.lif_plan.specs.Refusals.{reason};
 ghost use Rattle.lif_volume.specs.Views.{IsOpen};
 ghost use Rattle.lif_model.specs.Apply as command;
 ghost use Rattle.lif_dir.specs.Entries.{name_bytes};
 ghost use Rattle.lif_dir.specs.Names.{made_name, label_bytes};
 ghost use Rattle.host_model.specs.Requests.{Asks, OfVolume};
-ghost use Rattle.host_model.specs.Replies.{code_of};
 ghost use Rattle.il_host.specs.HostView.{Performed};
 ghost use Rattle.il_host.specs.Hosts.{volume_in};
 ghost use Rattle.il_host.specs.Standings.{Ends, HasDriveStatus, volume_reply};
@@ -17,7 +15,7 @@ use il_ports::{Medium, Records};
 use il_record::{LoopRecords, Looped};
 use il_script::{Code, Reply};
 use lif_dir::{Name, NewLabel, NewName};
-use lif_volume::{Refusal, VolumeFault};
+use lif_volume::VolumeFault;
 
 impl<M: Medium + Drop> Host<M> {
     /// Lists the volume and its files.
@@ -160,7 +158,7 @@ impl<M: Medium + Drop> Host<M> {
     /// The reply to a command that tells nothing, by the volume's answer.
     fn ended(&mut self, answer: Result<(), VolumeFault>) -> Reply
         requires volume_open { IsOpen ⟦<LoopRecords<M> as Records>⟧.view (volume_in self.old.volume) }
-        requires room { length self.old.page.text + 20 ≤ self.old.page.room }
+        requires room { length self.old.page.text + 23 ≤ self.old.page.room }
         ensures ended { Ends (volume_reply answer) self.old.volume self.old.page (length self.old.file.items) result self.new.volume self.new.page (length self.new.file.items) }
         ensures drive { HasDriveStatus (⟦<LoopRecords<M> as Looped<M>>⟧.looped self.old.volume.records).control }
     {
@@ -173,29 +171,13 @@ impl<M: Medium + Drop> Host<M> {
     /// The reply to a command that the volume did not perform.
     fn refused(&mut self, fault: VolumeFault) -> Reply
         requires volume_open { IsOpen ⟦<LoopRecords<M> as Records>⟧.view (volume_in self.old.volume) }
-        requires room { length self.old.page.text + 20 ≤ self.old.page.room }
+        requires room { length self.old.page.text + 23 ≤ self.old.page.room }
         ensures ended { Ends (volume_reply {T = Unit {0}} (Err fault)) self.old.volume self.old.page (length self.old.file.items) result self.new.volume self.new.page (length self.new.file.items) }
         ensures drive { HasDriveStatus (⟦<LoopRecords<M> as Looped<M>>⟧.looped self.old.volume.records).control }
     {
         match fault {
-            VolumeFault::Refused(refusal) => self.answered(Reply::No(code(refusal))),
+            VolumeFault::Refused(refusal) => self.answered(Reply::No(Code::from(refusal))),
             VolumeFault::Trouble(trouble) => self.faulted(trouble),
         }
-    }
-}
-
-/// The code of a refusal.
-fn code(refusal: Refusal) -> Code
-    ensures { result ≡ code_of (reason refusal) }
-{
-    match refusal {
-        Refusal::NotLif => Code::NotLif,
-        Refusal::NoFile => Code::NoFile,
-        Refusal::Exists => Code::Exists,
-        Refusal::NoSlot => Code::NoSlot,
-        Refusal::NoRoom => Code::NoRoom,
-        Refusal::NoRedo => Code::NoRedo,
-        Refusal::InUse => Code::InUse,
-        Refusal::Protected => Code::Protected,
     }
 }

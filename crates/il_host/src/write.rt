@@ -1,12 +1,20 @@
 ghost use Rattle.lif_model.specs.Causes.{HasCause};
 ghost use Rattle.host_model.specs.Replies.{trace_text};
-ghost use Rattle.il_host.specs.Writing.{WritesAll, told_text};
+ghost use Rattle.il_host.specs.Writing.{WritesAll, MakesRoom, told_text};
+ghost use Rattle.std.specs.Prelude.{◌≡◌, ◌≤◌, ◌+◌, ◌++◌, OnOk};
+ghost use Rattle.arrayvec.specs.ArrayVec.{array_vec_len};
 ghost use Rattle.il_script.specs.Replies.{text_line};
 ghost use Rattle.il_frames.specs.Entries.{entry_text};
 
 use arrayvec::ArrayVec;
 use il_frames::Entry;
 use il_ports::{Failed, Sink};
+
+/// How many bytes of a trace are written as one piece, at most.
+const PIECE: usize = 4096;
+
+/// How many bytes the line of an entry has, at most, with its line feed.
+const LONGEST_LINE: usize = 41;
 
 /// Writes all of the bytes, in as many pieces as the sink takes. After a fault a front of them was written.
 pub fn write_all<K: Sink>(out: &mut K, bytes: &[u8]) -> Result<(), Failed>
@@ -21,28 +29,41 @@ pub fn write_all<K: Sink>(out: &mut K, bytes: &[u8]) -> Result<(), Failed>
     Ok(())
 }
 
-/// Writes the line of an entry, of at most 41 bytes, as one piece.
-fn write_entry<K: Sink>(out: &mut K, entry: &Entry) -> Result<(), Failed>
-    ensures bytes { WritesAll (K.written out.old) (K.written out.new) (text_line (entry_text entry.now)) result }
-    ensures cause { HasCause (K.faults out.old) (K.faults out.new) result }
+/// Puts the line of an entry after those that wait to be written.
+fn put_entry(waiting: &mut ArrayVec<u8, PIECE>, entry: &Entry)
+    requires { array_vec_len waiting.old + LONGEST_LINE ≤ PIECE }
+    ensures { waiting.new.items ≡ waiting.old.items ++ text_line (entry_text entry.now) }
 {
     let mut text = ArrayVec::new();
     entry.text(&mut text);
-    let mut line: ArrayVec<u8, 41> = ArrayVec::new();
-    line.try_extend_from_slice(&text).unwrap();
-    line.push(b'\n');
-    write_all(out, &line)
+    waiting.try_extend_from_slice(&text).unwrap();
+    waiting.push(b'\n');
 }
 
-/// Writes a log, a line for each entry.
+/// Writes what waits where it leaves no room for one more line.
+fn make_room<K: Sink>(out: &mut K, waiting: &mut ArrayVec<u8, PIECE>) -> Result<(), Failed>
+    ensures bytes { MakesRoom (K.written out.old) (K.written out.new) waiting.old.items waiting.new.items result }
+    ensures room { OnOk result (array_vec_len waiting.new + LONGEST_LINE ≤ PIECE) }
+    ensures cause { HasCause (K.faults out.old) (K.faults out.new) result }
+{
+    if waiting.remaining_capacity() < LONGEST_LINE {
+        write_all(out, waiting)?;
+        waiting.clear();
+    }
+    Ok(())
+}
+
+/// Writes a log, a line for each entry, in pieces: one where a line finds no more room, and one at the end.
 fn write_trace<K: Sink>(out: &mut K, log: &[Entry]) -> Result<(), Failed>
     ensures bytes { WritesAll (K.written out.old) (K.written out.new) (trace_text log.now) result }
     ensures cause { HasCause (K.faults out.old) (K.faults out.new) result }
 {
+    let mut waiting = ArrayVec::new();
     'entries: for entry in log {
-        write_entry(out, entry)?;
+        make_room(out, &mut waiting)?;
+        put_entry(&mut waiting, entry);
     }
-    Ok(())
+    write_all(out, &waiting)
 }
 
 /// Writes what is told of a command: its log, unless the run is quiet, and the text of its reply.

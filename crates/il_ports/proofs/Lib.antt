@@ -1,9 +1,13 @@
-pub mod Images
+pub mod ImageBytes
 pub mod Shelves
 pub mod Kept
-pub mod Fronts
+pub mod FileBytes
+pub mod FileCalls
+pub mod FileTapes
+pub mod FoundFiles
 pub mod Examples
 pub mod Transfers
 pub mod Stores
 pub mod OneRecord
 pub mod RunsInMemory
+pub mod MemoryFiles

@@ -10,5 +10,14 @@ pub mod MemoryStream
 pub mod Drive
 pub mod MemoryMedium
 pub mod InDrive
-pub mod FileMedium
+pub mod Files
+pub mod Storing
+pub mod NamedImages
+pub mod FileTapes
+pub mod FileDrives
+pub mod FindingFiles
+pub mod FileLaws
+pub mod UntoldFiles
+pub mod Past
+pub mod MemoryFiles
 pub mod MemoryRecords

@@ -4,7 +4,7 @@ use Rattle.lif_model.specs.Tape.{Tape, IsTape, DidRead, DidReadRun}
 use Rattle.lif_model.specs.Shelf.{bytes_of}
 use Rattle.lif_model.specs.Stops.{Torn, Wrote, Elapses, StandsStill, LeavesOnly}
 use Rattle.lif_model.specs.Transfers.{Transfer, PartlyReplaced, WroteRun}
-use Rattle.il_ports.specs.Trouble.{HasTroubleCause, answers_ok, failure_of}
+use Rattle.il_ports.specs.Trouble.{HasTroubleCause, KeepsReady, answers_ok, failure_of}
 use Rattle.il_ports.specs.Transfers.{Adds}
 use Rattle.il_ports.specs.declared.records.Trouble.{Trouble}
 
@@ -72,6 +72,7 @@ pub record Continues {S T : Type 0} (calls : ℕ) (v w : RecordsView S) (answer 
   pub told : is_some w.tape ≡ is_some v.tape
   pub size : w.record_count ≡ v.record_count
   pub sound : w.sound ≡ answers_ok answer
+  pub ready : KeepsReady v.ready w.ready answer
   pub left : v.calls_left ≤ w.calls_left + calls
   pub room : w.room ≡ v.room
   pub failed : v.failed None → w.failed (failure_of answer)

@@ -23,3 +23,9 @@ answers_ok (Err _) = false
 abbrev pub failure_of : {T E : Type 0} → Result T E → Option E
 failure_of (Ok _) = None
 failure_of (Err e) = Some e
+
+-- the way to the records stays set up: only a frame ends that
+abbrev pub KeepsReady : {T : Type 0} → Bool → Bool → Result T Trouble → Type 0
+KeepsReady before now (Ok _) = before ≡ true → now ≡ true
+KeepsReady before now (Err Frame) = Unit {0}
+KeepsReady before now (Err Medium) = before ≡ true → now ≡ true

@@ -1,191 +1,96 @@
-ghost use Rattle.std.specs.Prelude.{◌≡◌, ◌*◌, ◌<◌, ◌≤◌, ℕ, List, length, None, Some, IfOk, OnOk};
-ghost use Rattle.std.specs.Io.Seek.{MovesTo};
-ghost use Rattle.lif_model.specs.Shelf.{piece};
-ghost use Rattle.il_ports.specs.FileMedium.{IsFront, IsFound};
+ghost use Rattle.std.specs.Prelude.{◌≡◌, IfOk, None, Some, false};
+ghost use Rattle.lif_model.specs.Shelf.{Shelf, image_of, image_bytes};
+ghost use Rattle.il_ports.specs.NamedImages.{Bears, SettledIfRead};
+ghost use Rattle.il_ports.specs.FileDrives.{IsFoundFile};
+ghost use Rattle.il_ports.specs.FindingFiles.{Claims, LaidOut, Claimable, WasMade};
+ghost use Rattle.il_ports.specs.Sizes.{records_of_size};
+ghost use Rattle.il_ports.specs.declared.tape_file.Access.TheVariants.{Change};
 
+use crate::file_tape::FileTape;
 use crate::image::Size;
-use crate::lock::{Access, ImageFile};
+use crate::images::{Images, Look};
 use crate::medium::{Inserted, Medium, New};
 use crate::stream::{Failed, faulted};
-use std::fs::{self, File, OpenFile, OpenOptions};
-use std::io::{self, ErrorKind, Read, Seek, SeekFrom, Write};
+use crate::tape_file::{Access, TapeFile};
+use std::io::{self, ErrorKind};
 use std::marker::Model;
-use std::rt::Files;
 
-/// Reads the front of a record: 256 bytes, or those up to the end. It says how many.
-fn read_front<F: Read>(file: &mut F, into: &mut [u8; 256]) -> io::Result<usize>
-    ensures bound { IfOk result (λ n. n ≤ 256) }
-    ensures bytes { (bytes : List ℕ) → F.remaining file.old ≡ Some bytes → IfOk result (λ n. IsFront bytes into.new n) }
+/// Claims a file that was opened, and brings to the disk what an earlier program may have left in the system's memory.
+/// It says how long the file is.
+fn take<F: TapeFile>(file: &mut F, access: Access) -> io::Result<u64>
+    requires sound { Claimable access (F.view file.old) }
+    ensures { Claims access (F.view file.old) (F.view file.new) result }
 {
-    let mut filled = 0;
-    'pieces: while filled < 256 {
-        let count = file.read(&mut into[filled..])?;
-        if count == 0 {
-            return Ok(filled);
-        }
-        filled += count;
+    if !file.claim(access) {
+        return Err(ErrorKind::WouldBlock.into());
     }
-    Ok(filled)
+    file.apart()?;
+    let length = file.len()?;
+    if access == Access::Change {
+        file.settle()?;
+    }
+    Ok(length)
 }
 
-/// Reads a record. What a file that ends within it lacks are zeros.
-#[tactic(auto, unfolding(lif_model::specs::Shelf::piece))]
-fn read_record<F: Read>(file: &mut F, into: &mut [u8; 256]) -> io::Result<()>
-    ensures { (bytes : List ℕ) → F.remaining file.old ≡ Some bytes → OnOk result (into.new ≡ piece bytes) }
-{
-    let count = read_front(file, into)?;
-    into[count..].fill(0);
-    Ok(())
-}
-
-/// Goes to where record n begins.
-fn seek_record<F: Seek>(file: &mut F, n: u16) -> io::Result<()>
-    ensures { MovesTo (F.stream_position file.old) (F.stream_position file.new) (256 * n) result }
-{
-    file.seek(SeekFrom::Start(256 * u64::from(n)))?;
-    Ok(())
-}
-
-fn read_record_at<F: Read + Seek>(file: &mut F, n: u16, into: &mut [u8; 256]) -> io::Result<()> {
-    seek_record(file, n)?;
-    read_record(file, into)
-}
-
-/// Why a record was not written.
-#[derive(Clone, Copy, Debug, PartialEq, Eq)]
-pub(crate) enum WriteFault {
-    /// The file is as the disk has it, with any bytes in the record.
-    Failed,
-    /// The file was not synced: what it reads as may never reach the disk.
-    Unsynced,
-}
-
-/// Writes a record. A file that ends before it grows up to its end, with zeros in between.
-fn put_record<F: Write + Seek>(file: &mut F, n: u16, from: &[u8; 256]) -> io::Result<()> {
-    seek_record(file, n)?;
-    file.write_all(from)
-}
-
-/// Writes a record, and waits until the disk has it: also where it was not written whole.
-pub(crate) fn write_record_at<F: Write + Seek + OpenFile>(
+/// Gives a new file its full size, of zeros, and waits until the disk has it and its name.
+fn lay_out<F: TapeFile, I: Images<F>>(
+    images: &mut I,
     file: &mut F,
-    n: u16,
-    from: &[u8; 256],
-) -> Result<(), WriteFault> {
-    let wrote = put_record(file, n, from);
-    match file.sync_data() {
-        Ok(()) => wrote.map_err(|_| WriteFault::Failed),
-        Err(_) => Err(WriteFault::Unsynced),
+    name: &str,
+    size: Size,
+) -> io::Result<()>
+    requires sound { (F.view file.old).broken ≡ false }
+    requires held { (F.view file.old).held Change }
+    ensures same { I.shelf images.new ≡ I.shelf images.old }
+    ensures did { LaidOut (image_bytes (records_of_size size)) (F.view file.old) (F.view file.new) result }
+{
+    file.apart()?;
+    file.set_len(size.bytes())?;
+    file.settle()?;
+    images.settle_name(name)
+}
+
+/// A new file of zeros, which has its full size at once. It is removed again where it cannot have that, while the
+/// lock is held; where another program has the lock already, the file is that program's.
+fn make<F: TapeFile + Drop, I: Images<F>>(images: &mut I, name: &str, size: Size) -> io::Result<F>
+    ensures same { I.shelf images.new ≡ I.shelf images.old }
+    ensures did { IfOk result (λ file. WasMade name.now (I.shelf images.old) (image_bytes (records_of_size size)) (F.view file)) }
+{
+    let mut file = images.make(name)?;
+    if !file.claim(Access::Change) {
+        return Err(ErrorKind::WouldBlock.into());
+    }
+    match lay_out(images, &mut file, name, size) {
+        Ok(()) => Ok(file),
+        Err(error) => {
+            let _ = images.remove(name);
+            Err(error)
+        }
     }
 }
 
-/// Whether there is a file of that name. What is no file, such as a folder or a pipe, is an error, and is not opened.
-fn is_there<R: Files>(files: &R, name: &str) -> io::Result<bool> {
-    match fs::metadata(files, name) {
-        Ok(found) if found.is_file() => Ok(true),
-        Ok(_) => Err(ErrorKind::InvalidInput.into()),
-        Err(error) if error.kind() == ErrorKind::NotFound => Ok(false),
-        Err(error) => Err(error),
-    }
-}
-
-/// Opens a file to change it, or, where it may not be written, to read it alone.
-fn open<R: Files>(files: &R, name: &str) -> io::Result<(R::File, Access)> {
-    match OpenOptions::new().read(true).write(true).open(files, name) {
-        Ok(file) => Ok((file, Access::Change)),
+/// Opens an image to change it, where it may be changed and that is asked for, and else to read it alone.
+fn open<F: TapeFile, I: Images<F>>(
+    images: &mut I,
+    name: &str,
+    access: Access,
+) -> io::Result<(F, Access)>
+    ensures same { I.shelf images.new ≡ I.shelf images.old }
+    ensures did { IfOk result (λ opened. Bears name.now (I.shelf images.old) (image_of name.now) (F.view opened.0) × SettledIfRead opened.1 (F.view opened.0)) }
+{
+    match images.open(name, access) {
+        Ok(file) => Ok((file, access)),
         Err(error) => match error.kind() {
             ErrorKind::PermissionDenied | ErrorKind::ReadOnlyFilesystem => {
-                Ok((File::open(files, name)?, Access::Read))
+                Ok((images.open(name, Access::Read)?, Access::Read))
             }
             _ => Err(error),
         },
     }
 }
 
-/// A sync, where the file system has one. One that has none, as some that are read alone, is taken as it is.
-fn if_it_can(synced: io::Result<()>) -> io::Result<()> {
-    match synced {
-        Err(error) if error.kind() == ErrorKind::InvalidInput => Ok(()),
-        Err(error) if error.kind() == ErrorKind::Unsupported => Ok(()),
-        _ => synced,
-    }
-}
-
-/// Claims a file that was opened, and syncs what an earlier run may have left in the system's memory. A file that is
-/// read alone need not be synced. It says how long the file is; what is no file is an error.
-fn settle<F: ImageFile>(file: &F, access: Access) -> io::Result<u64> {
-    if !file.metadata()?.is_file() {
-        return Err(ErrorKind::InvalidInput.into());
-    }
-    if !file.claim(access) {
-        return Err(ErrorKind::WouldBlock.into());
-    }
-    let synced = if_it_can(file.sync_all());
-    if access == Access::Change {
-        synced?;
-    }
-    Ok(file.metadata()?.len())
-}
-
-/// The folder of a path.
-fn folder_of(name: &str) -> &str {
-    match name.rsplit_once('/') {
-        None => ".",
-        Some(("", _)) => "/",
-        Some((folder, _)) => folder,
-    }
-}
-
-/// Syncs the folder of a new file, so that its name is on the disk too. A folder that may not be read is left out.
-fn sync_folder<R: Files>(files: &R, name: &str) -> io::Result<()> {
-    match File::open(files, folder_of(name)) {
-        Ok(folder) => if_it_can(folder.sync_all()),
-        Err(_) => Ok(()),
-    }
-}
-
-/// Gives a new file its full size, of zeros, and waits until the disk has it.
-fn lay_out_file<R: Files>(files: &R, file: R::File, name: &str, size: Size) -> io::Result<R::File>
-where
-    R::File: Drop,
-{
-    let file = apart(file)?;
-    file.set_len(size.bytes())?;
-    file.sync_all()?;
-    sync_folder(files, name)?;
-    Ok(file)
-}
-
-/// A new file of zeros, which has its full size at once. It is removed again where it cannot have that, while the
-/// lock is held; where another program has the lock already, the file is that program's.
-fn make<R: Files>(files: &R, name: &str, size: Size) -> io::Result<R::File>
-where
-    R::File: ImageFile,
-{
-    let file = File::create_new(files, name)?;
-    if !file.claim(Access::Change) {
-        return Err(ErrorKind::WouldBlock.into());
-    }
-    match lay_out_file(files, file, name, size) {
-        Ok(file) => Ok(file),
-        Err(error) => {
-            let _ = fs::remove_file(files, name);
-            Err(error)
-        }
-    }
-}
-
-/// The file, under a number above those of the standard streams. One of these that was closed before the program
-/// began has left its number free, and what is written to it would otherwise change the image.
-fn apart<F: OpenFile + Drop>(file: F) -> io::Result<F> {
-    match file.try_clone() {
-        Err(error) if error.kind() == ErrorKind::Unsupported => Ok(file),
-        clone => clone,
-    }
-}
-
 /// What an insert finds.
-enum Found<F> {
+enum Found<F: TapeFile + Drop> {
     /// A file, the size that it reads as, and what it may be used for.
     Tape(F, Size, Access),
     NoSuch,
@@ -193,27 +98,61 @@ enum Found<F> {
     BadSize(u64),
 }
 
-fn find<R: Files>(files: &R, name: &str, new: New) -> io::Result<Found<R::File>>
-where
-    R::File: ImageFile,
-    ensures { IfOk result (λ found. IsFound new found) }
+/// The image that is there.
+fn find_file<F: TapeFile + Drop, I: Images<F>>(
+    images: &mut I,
+    name: &str,
+    new: New,
+    access: Access,
+) -> io::Result<Found<F>>
+    ensures same { I.shelf images.new ≡ I.shelf images.old }
+    ensures did { IfOk result (λ found. IsFoundFile F.view name.now new (I.shelf images.old) found) }
 {
-    if !is_there(files, name)? {
-        let Some(size) = new.size() else {
-            return Ok(Found::NoSuch);
-        };
-        return Ok(Found::Tape(make(files, name, size)?, size, Access::Change));
+    let (mut file, access) = open(images, name, access)?;
+    let length = take(&mut file, access)?;
+    match Size::of(length) {
+        Some(size) => Ok(Found::Tape(file, size, access)),
+        None => Ok(Found::BadSize(length)),
     }
-    let (file, access) = open(files, name)?;
-    let length = settle(&file, access)?;
-    let Some(size) = Size::of(length) else {
-        return Ok(Found::BadSize(length));
-    };
-    Ok(Found::Tape(apart(file)?, size, access))
 }
 
-/// Images as files, with a drive: an image is named by its path. What a file holds is not told, so that clauses speak
-/// of sizes and of counts of faults alone. What follows is no clause:
+/// The image that is made, where one is.
+fn make_file<F: TapeFile + Drop, I: Images<F>>(
+    images: &mut I,
+    name: &str,
+    new: New,
+    access: Access,
+) -> io::Result<Found<F>>
+    requires missing { (s : Shelf) → I.shelf images.old ≡ Some s → image_of name.now s ≡ None }
+    ensures same { I.shelf images.new ≡ I.shelf images.old }
+    ensures did { IfOk result (λ found. IsFoundFile F.view name.now new (I.shelf images.old) found) }
+{
+    let Some(size) = new.size() else {
+        return Ok(Found::NoSuch);
+    };
+    if access == Access::Read {
+        return Err(ErrorKind::PermissionDenied.into());
+    }
+    Ok(Found::Tape(make(images, name, size)?, size, access))
+}
+
+fn find<F: TapeFile + Drop, I: Images<F>>(
+    images: &mut I,
+    name: &str,
+    new: New,
+    access: Access,
+) -> io::Result<Found<F>>
+    ensures same { I.shelf images.new ≡ I.shelf images.old }
+    ensures did { IfOk result (λ found. IsFoundFile F.view name.now new (I.shelf images.old) found) }
+{
+    match images.look(name)? {
+        Look::Missing => make_file(images, name, new, access),
+        Look::File => find_file(images, name, new, access),
+        Look::Other => Err(ErrorKind::InvalidInput.into()),
+    }
+}
+
+/// Images as files, with a drive: an image is named by its path.
 ///
 /// A missing file is `NoSuch`, or with `new` is made of 131,072 or of 630,784 zeros; a file of more bytes than a disc
 /// is `BadSize`. What is no file, such as a folder or a device, a missing folder above a new image and any other
@@ -222,88 +161,80 @@ where
 /// file's end makes the file longer, up to the end of the record and with zeros in between; no file grows past the
 /// bytes of its tape or disc, or becomes shorter. After each write, also a failed one, comes a sync; where that
 /// fails, what the file reads as may never reach the disk, so each further read and write is a fault, and nothing
-/// more is asked of the file. No memory is taken.
+/// more is asked of the file. No memory is taken but by the images themselves.
 #[derive(Drop)]
-pub struct FileMedium<R: Files + Drop> {
-    files: R,
-    file: Option<R::File>,
-    size: Option<Size>,
+pub struct FileMedium<F: TapeFile + Drop, I: Images<F> + Drop> {
+    images: I,
     access: Access,
-    /// A sync failed.
-    is_broken: bool,
+    tape: Option<FileTape<F>>,
+    /// How many calls failed while no tape was in.
     faults: u64,
 }
 
-impl<R: Files + Drop> Model for FileMedium<R> {
-    ghost use Rattle.std.specs.Prelude.{◌≡◌, is_some};
-    ghost use Rattle.il_ports.specs.FileMedium.{FileState};
+impl<F: TapeFile + Drop, I: Images<F> + Drop> Model for FileMedium<F, I> {
+    ghost use Rattle.il_ports.specs.FileDrives.{FileDrive};
 
-    ghost Value = { FileState };
+    ghost Value = { FileDrive F };
 
-    ghost view = { λ m. record { size = m.size; faults = m.faults } };
-
-    ghost invariant = { λ m. is_some m.size ≡ is_some m.file };
+    ghost view = { λ m. record { images = I.shelf m.images; access = m.access; tape = m.tape; faults = m.faults } };
 }
 
-impl<R: Files + Drop> FileMedium<R> {
-    /// An empty drive over the files that the runtime gives.
-    pub fn new(files: R) -> FileMedium<R>
-        ensures { result ≡ record { size = None; faults = 0 } }
+impl<F: TapeFile + Drop, I: Images<F> + Drop> FileMedium<F, I> {
+    ghost use Rattle.std.specs.Prelude.{◌≡◌, None, option_map};
+    ghost use Rattle.il_ports.specs.declared.tape_file.Access.TheVariants.{Change, Read};
+    ghost use Rattle.il_ports.specs.FileDrives.{file_in};
+
+    /// An empty drive over these images.
+    pub fn new(images: I) -> FileMedium<F, I>
+        ensures { result ≡ record { images = I.shelf images; access = Change; tape = None; faults = 0 } }
     {
         FileMedium {
-            files,
-            file: None,
-            size: None,
-            access: Access::Read,
-            is_broken: false,
+            images,
+            access: Access::Change,
+            tape: None,
             faults: 0,
         }
     }
+
+    /// The same to read alone: each write is a counted fault, and so is an insert that would make an image.
+    pub fn to_read(images: I) -> FileMedium<F, I>
+        ensures { result ≡ record { images = I.shelf images; access = Read; tape = None; faults = 0 } }
+    {
+        FileMedium {
+            images,
+            access: Access::Read,
+            tape: None,
+            faults: 0,
+        }
+    }
+
+    /// The file of the tape that is in.
+    pub fn file(&self) -> Option<&F>
+        ensures { option_map (λ file. file.now) result ≡ file_in self.now.tape }
+    {
+        self.tape.as_ref().map(|tape| tape.file())
+    }
 }
 
-impl<R: Files + Drop> Medium for FileMedium<R>
-where
-    R::File: ImageFile,
-{
-    ghost use Rattle.std.specs.Prelude.{◌≡◌, None, IfOk};
-    ghost use Rattle.lif_model.specs.Causes.{HasCause};
-    ghost use Rattle.il_ports.specs.Media.{MediumView};
-    ghost use Rattle.il_ports.specs.Inserting.{InsertResult};
-    ghost use Rattle.il_ports.specs.FileMedium.{untold};
-    ghost use Rattle.il_ports.specs.Sizes.{records_of_any, any_is_size};
-    ghost use Rattle.il_ports.specs.Counted.{faults_after};
+impl<F: TapeFile + Drop, I: Images<F> + Drop> Medium for FileMedium<F, I> {
+    ghost use Rattle.std.specs.Prelude.{◌≡◌, ◌<◌};
+    ghost use Rattle.il_ports.specs.Media.{DidInsert, DidReadRecord, DidWriteRecord};
+    ghost use Rattle.il_ports.specs.FileDrives.{drive_view, drive_of, PutsIn, OnTape, ReadsTape, WritesTape};
+    ghost use Rattle.il_ports.specs.FileLaws.{drive_laws};
 
-    ghost view = { λ m. record {
-      shelf = None;
-      inside = None;
-      tape = None;
-      record_count = records_of_any m.size;
-      faults = m.faults;
-      moment = 0;
-      left_since = λ k c. Unit {0};
-    } };
+    ghost view = { λ m. drive_view F.view m.images m.tape m.faults };
 
-    ghost is_medium = { λ m. record {
-      sizes = λ some. any_is_size m.size some;
-      is_tape = λ t is. untold t is;
-      is_image = λ s name t is named told. untold t told;
-      leaves_now = λ k t le is. tt;
-      leaves_only = λ t c is left. untold t is;
-      leaves_none = λ s c is none left. untold s is;
-    } };
+    ghost is_medium = { λ m. drive_laws F.view m.images m.tape m.faults F.is_file };
 
     fn insert(&mut self, name: &str, new: New) -> Result<Inserted, Failed>
-        requires { records_of_any self.old.size ≡ 0 }
-        ensures answer { InsertResult name.now new None None None None (records_of_any self.new.size) result }
-        ensures cause { HasCause self.old.faults self.new.faults result }
-        ensures counts { self.new.faults ≡ faults_after self.old.faults result }
+        requires { (drive_of F.view self.old).record_count ≡ 0 }
+        ensures did { DidInsert name.now new (drive_of F.view self.old) (drive_of F.view self.new) result }
+        ensures access { self.new.access ≡ self.old.access }
+        ensures file { PutsIn F.view name.now self.old self.new result }
     {
-        match find(&self.files, name, new) {
+        match find(&mut self.images, name, new, self.access) {
             Ok(Found::Tape(file, size, access)) => {
-                self.file = Some(file);
-                self.size = Some(size);
-                self.access = access;
-                self.is_broken = false;
+                self.tape = Some(FileTape::new(file, size, access, self.faults));
                 Ok(Inserted::Tape)
             }
             Ok(Found::NoSuch) => Ok(Inserted::NoSuch),
@@ -313,35 +244,33 @@ where
     }
 
     fn size(&self) -> u16 {
-        match self.size {
-            Some(size) => size.records(),
+        match &self.tape {
+            Some(tape) => tape.records(),
             None => 0,
         }
     }
 
-    fn read(&mut self, n: u16, into: &mut [u8; 256]) -> Result<(), Failed> {
-        let Some(file) = &mut self.file else {
+    fn read(&mut self, n: u16, into: &mut [u8; 256]) -> Result<(), Failed>
+        requires { n < (drive_of F.view self.old).record_count }
+        ensures did { DidReadRecord n into.new (drive_of F.view self.old) (drive_of F.view self.new) result }
+        ensures access { self.new.access ≡ self.old.access }
+        ensures file { OnTape (ReadsTape F.view result) self.old.tape self.new.tape }
+    {
+        let Some(tape) = &mut self.tape else {
             unreachable!()
         };
-        if self.is_broken || read_record_at(file, n, into).is_err() {
-            return Err(faulted(&mut self.faults));
-        }
-        Ok(())
+        tape.read(n, into)
     }
 
-    fn write(&mut self, n: u16, from: &[u8; 256]) -> Result<(), Failed> {
-        let Some(file) = &mut self.file else {
+    fn write(&mut self, n: u16, from: &[u8; 256]) -> Result<(), Failed>
+        requires { n < (drive_of F.view self.old).record_count }
+        ensures did { DidWriteRecord n from.now (drive_of F.view self.old) (drive_of F.view self.new) result }
+        ensures access { self.new.access ≡ self.old.access }
+        ensures file { OnTape (WritesTape F.view n result) self.old.tape self.new.tape }
+    {
+        let Some(tape) = &mut self.tape else {
             unreachable!()
         };
-        if self.is_broken || self.access == Access::Read {
-            return Err(faulted(&mut self.faults));
-        }
-        match write_record_at(file, n, from) {
-            Ok(()) => Ok(()),
-            Err(fault) => {
-                self.is_broken = fault == WriteFault::Unsynced;
-                Err(faulted(&mut self.faults))
-            }
-        }
+        tape.write(n, from)
     }
 }

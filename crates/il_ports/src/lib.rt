@@ -4,27 +4,31 @@
 
 mod adapters;
 mod file_medium;
-#[cfg(test)]
-mod file_tests;
+mod file_tape;
 mod image;
-mod lock;
+mod images;
 mod medium;
+mod memory_file;
+mod memory_images;
 mod memory_medium;
 mod memory_records;
 mod memory_stream;
 mod records;
-#[cfg(test)]
-mod records_tests;
 mod stream;
-#[cfg(test)]
-mod tests;
+mod system_files;
+mod tape_file;
 
 pub use adapters::{StdSink, StdSource};
 pub use file_medium::FileMedium;
-pub use lock::{Access, ImageFile};
+pub use file_tape::FileTape;
+pub use images::{Images, Look};
 pub use medium::{Inserted, Medium, New};
+pub use memory_file::MemoryFile;
+pub use memory_images::MemoryImages;
 pub use memory_medium::MemoryMedium;
 pub use memory_records::MemoryRecords;
 pub use memory_stream::{MemorySink, MemorySource};
 pub use records::{Records, Trouble};
 pub use stream::{Failed, Sink, Source};
+pub use system_files::SystemImages;
+pub use tape_file::{Access, TapeFile};

@@ -36,7 +36,7 @@ enum Offer<'a> {
 }
 
 /// The place and the bytes of the first image of that name.
-fn find<'a>(images: &'a [(String, Vec<u8>)], name: &str) -> Option<(usize, &'a [u8])>
+pub(crate) fn find<'a>(images: &'a [(String, Vec<u8>)], name: &str) -> Option<(usize, &'a [u8])>
     ensures place { MatchOption result (place_of name.now (images_of images.now) ≡ None)
         (λ found. place_of name.now (images_of images.now) ≡ Some found.0) }
     ensures bytes { MatchOption result (image_of name.now (images_of images.now) ≡ None)

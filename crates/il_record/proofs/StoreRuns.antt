@@ -72,6 +72,7 @@ module _ {M S : Type 0} (view : M → MediumView) (seen : S → RingView M) (p q
       told = told;
       size = size;
       sound = refl;
+      ready = λ was. refl;
       left = calls_less k n r s used few;
       room = ap calls_in units.came.talked.adds.room;
       failed = λ none. none;
@@ -89,6 +90,7 @@ module _ {M S : Type 0} (view : M → MediumView) (seen : S → RingView M) (p q
       told = told;
       size = size;
       sound = refl;
+      ready = λ was. refl;
       left = calls_less k n r s used few;
       room = ap calls_in units.came.talked.adds.room;
       failed = failed_medium log;
@@ -105,6 +107,7 @@ module _ {M S : Type 0} (view : M → MediumView) (seen : S → RingView M) (p q
       told = told;
       size = size;
       sound = refl;
+      ready = tt;
       left = calls_less k n r s used few;
       room = ap calls_in came.talked.adds.room;
       failed = failed_frame log;

@@ -56,6 +56,7 @@ module _ {M S : Type 0} (view : M → MediumView) (seen : S → RingView M) (p q
       told = still.stays_in.told;
       size = still.stays_in.size;
       sound = refl;
+      ready = λ was. refl;
       left = calls_less 1 n r s used (omega (arith, few));
       room = ap calls_in units.came.talked.adds.room;
       failed = λ none. subst (λ log. FailedAtIdle log None) (sym (same (unfailed none))) refl;
@@ -77,6 +78,7 @@ module _ {M S : Type 0} (view : M → MediumView) (seen : S → RingView M) (p q
       told = still.stays_in.told;
       size = still.stays_in.size;
       sound = refl;
+      ready = tt;
       left = calls_less 1 n r s used (omega (arith, few));
       room = ap calls_in units.came.talked.adds.room;
       failed = λ none. subst (λ log. FailedAtLost log (Some trouble.Frame)) (sym (broke (unfailed none))) refl;

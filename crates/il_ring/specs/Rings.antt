@@ -2,7 +2,7 @@
 use Rattle.std.specs.Prelude.{◌≡◌, ◌≢◌, ◌≤◌, ◌+◌, ◌-◌, ◌==◌, ℕ, Bool, true, false, List, [], ◌∷◌, ◌++◌, length, map, Option, Some, None, find, option_map}
 use Rattle.il_frames.specs.Frames.{is_data}
 use Rattle.il_device.specs.declared.roles.Roles.{Roles}
-use Rattle.il_device.specs.State.{DeviceState, IsIdle, risen}
+use Rattle.il_device.specs.State.{DeviceState, IsDevice, IsIdle, risen}
 use Rattle.il_ports.specs.Media.{MediumView}
 use Rattle.il_drive.specs.State.{DriveView, device_of, drive_id}
 use Rattle.il_ring.specs.declared.plan.Planned.{Planned}
@@ -46,9 +46,13 @@ pub record IsRing {M : Type 0} (r : RingView M) : Type 0 where
 
 -- ---- a new ring
 
--- a device that may stand on a new ring: nothing has come to it, and it is no second drive
+-- nothing has come to it, and it is no second drive
+abbrev pub IsNewcomer : DeviceState → Type 0
+IsNewcomer d = IsIdle d × (d.accessory ≢ Some drive_id)
+
+-- a device that may stand on a new ring: a newcomer, which keeps the rules of every device
 abbrev pub MayStand : DeviceState → Type 0
-MayStand d = IsIdle d × (d.accessory ≢ Some drive_id)
+MayStand d = IsIdle d × (d.accessory ≢ Some drive_id) × IsDevice d
 
 -- nothing has happened yet
 abbrev pub fresh_books : List Planned → ℕ → BooksView

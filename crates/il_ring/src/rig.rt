@@ -1,6 +1,6 @@
 ghost use Rattle.std.specs.Prelude.{◌↔◌, ◌+◌, ◌≤◌, IsTrue, length};
 ghost use Rattle.std.specs.List.{All};
-ghost use Rattle.il_ring.specs.Rings.{MayStand};
+ghost use Rattle.il_ring.specs.Rings.{IsNewcomer, MayStand};
 
 use il_device::Device;
 use il_ports::Medium;
@@ -37,9 +37,12 @@ impl<M: Medium> Rig<M> {
     /// in a parallel poll or a frame of its own on the loop; and none has the accessory ID 16,
     /// which is the drive's.
     pub fn fits(&self) -> bool
-        ensures { IsTrue result ↔ ((length self.now.before.items + length self.now.after.items ≤ 29)
+        ensures exact { IsTrue result ↔ ((length self.now.before.items + length self.now.after.items ≤ 29)
+            × All (λ b. IsNewcomer (state b)) self.now.before.items
+            × All (λ b. IsNewcomer (state b)) self.now.after.items) }
+        ensures stands { IsTrue result → (length self.now.before.items + length self.now.after.items ≤ 29)
             × All (λ b. MayStand (state b)) self.now.before.items
-            × All (λ b. MayStand (state b)) self.now.after.items) }
+            × All (λ b. MayStand (state b)) self.now.after.items }
     {
         self.before.len() <= MOST_BOXED
             && self.after.len() <= MOST_BOXED - self.before.len()
@@ -50,14 +53,16 @@ impl<M: Medium> Rig<M> {
 
 /// Whether a device may stand beside the drive on a new ring.
 fn may_stand<D: Device>(device: &D) -> bool
-    ensures { IsTrue result ↔ MayStand (D.state device.now) }
+    ensures exact { IsTrue result ↔ IsNewcomer (D.state device.now) }
+    ensures stands { IsTrue result → MayStand (D.state device.now) }
 {
     device.is_idle() && device.accessory() != Some(DRIVE_ID)
 }
 
 /// Whether each of them may.
 fn all_may_stand<D: Device>(devices: &[D]) -> bool
-    ensures { IsTrue result ↔ All (λ d. MayStand (D.state d)) devices.now }
+    ensures exact { IsTrue result ↔ All (λ d. IsNewcomer (D.state d)) devices.now }
+    ensures stands { IsTrue result → All (λ d. MayStand (D.state d)) devices.now }
 {
     devices.iter().all(|device| may_stand(device))
 }

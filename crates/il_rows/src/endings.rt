@@ -82,7 +82,7 @@ fn a_sink_takes_what_it_has_room_for(rt: HostRuntime) -> Result<(), Fail> {
     let alloc = rt.alloc();
     let image = formatted(alloc)?;
     let quiet = Given::script(&image, b"label");
-    // The text of a reply is one piece, and so is each line of a trace.
+    // The text of a reply is one piece, and so is a trace of few lines.
     let cases: [(Given, u8, &[u8]); 3] = [
         (Given { room: 10, ..quiet }, 6, b""),
         (Given { room: 16, ..quiet }, 0, b"label HPTAPE\nok\n"),
@@ -92,12 +92,24 @@ fn a_sink_takes_what_it_has_room_for(rt: HostRuntime) -> Result<(), Fail> {
                 ..quiet.with_words("TAPE")
             },
             6,
-            b"~ 0 IFC = IFC\n~ 0 RFC = RFC\n",
+            b"",
         ),
     ];
     for (given, status, output) in cases {
         answers(&rt, alloc, &given, status, output)?;
     }
+    // Of a longer trace the first piece: whole lines, as many as 4,096 bytes hold.
+    let traced = Given {
+        room: 5000,
+        ..quiet.with_words("TAPE")
+    };
+    let left = run(alloc, &traced)?;
+    assert!(rt; same(left.status, 6), "the status of a long trace");
+    assert!(rt;
+        left.output.len() > 4055 && left.output.len() <= 4096,
+        "the length of a piece"
+    );
+    assert!(rt; left.output.ends_with(b"\n"), "whole lines");
     Ok(())
 }
 

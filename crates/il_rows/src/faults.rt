@@ -7,9 +7,9 @@ use std::alloc::{AllocError, Global};
 use std::process::Abort;
 use std::test::Fail;
 
-const STORE: &[u8] = b"store A 0001 00000000 41\n";
+pub(crate) const STORE: &[u8] = b"store A 0001 00000000 41\n";
 
-const SCRIPT: &[u8] = b"store A 0001 00000000 41\ndir\n";
+pub(crate) const SCRIPT: &[u8] = b"store A 0001 00000000 41\ndir\n";
 
 const WITHOUT: &[u8] = b"volume HPTAPE 2 2 1 16\nfile REDOFILE E0D0 508 4 00000000\nok\n";
 
@@ -17,7 +17,11 @@ const WITH: &[u8] =
     b"volume HPTAPE 2 2 2 16\nfile A 0001 4 1 00000000\nfile REDOFILE E0D0 508 4 00000000\nok\n";
 
 /// This line, and then one of the two listings: whether the file is there.
-fn listed_behind(alloc: Global, line: &[u8], output: &[u8]) -> Result<Option<bool>, AllocError> {
+pub(crate) fn listed_behind(
+    alloc: Global,
+    line: &[u8],
+    output: &[u8],
+) -> Result<Option<bool>, AllocError> {
     for (listing, is_there) in [(WITHOUT, false), (WITH, true)] {
         let mut wanted = Vec::from_slice(alloc, line)?;
         wanted.extend_from_slice(listing)?;

@@ -3,7 +3,6 @@
 ghost use Rattle.std.specs.Prelude.{◌≤◌, length, IfOk};
 ghost use Rattle.std.specs.List.{All};
 ghost use Rattle.il_ring.specs.Rings.{MayStand};
-ghost use Rattle.il_host.specs.Shorts.{IsShort};
 
 use il_device::{Device, Printer, Quiet};
 use il_host::{Ended, Rig, run_il};
@@ -83,7 +82,7 @@ impl<'a> Given<'a> {
     }
 }
 
-fn words_of(alloc: Global, words: &str) -> Result<Vec<String>, AllocError> {
+pub(crate) fn words_of(alloc: Global, words: &str) -> Result<Vec<String>, AllocError> {
     let mut all = Vec::new(alloc);
     for word in words.split(' ') {
         if !word.is_empty() {
@@ -93,7 +92,10 @@ fn words_of(alloc: Global, words: &str) -> Result<Vec<String>, AllocError> {
     Ok(all)
 }
 
-fn shelf_of(alloc: Global, image: Option<&[u8]>) -> Result<Vec<(String, Vec<u8>)>, AllocError> {
+pub(crate) fn shelf_of(
+    alloc: Global,
+    image: Option<&[u8]>,
+) -> Result<Vec<(String, Vec<u8>)>, AllocError> {
     let mut shelf = Vec::new(alloc);
     if let Some(bytes) = image {
         shelf.push((
@@ -106,7 +108,6 @@ fn shelf_of(alloc: Global, image: Option<&[u8]>) -> Result<Vec<(String, Vec<u8>)
 
 fn printer(alloc: Global) -> Result<Box<dyn Device>, AllocError>
     ensures stand { IfOk result (λ b. MayStand (⟦<Box<dyn Device> as Device>⟧.state b)) }
-    ensures short { IfOk result (λ b. IsShort (⟦<Box<dyn Device> as Device>⟧.state b)) }
 {
     let printer: Box<dyn Device> = Box::new(alloc, Printer::new(alloc)?)?;
     Ok(printer)
@@ -114,16 +115,14 @@ fn printer(alloc: Global) -> Result<Box<dyn Device>, AllocError>
 
 fn quiet(alloc: Global) -> Result<Box<dyn Device>, AllocError>
     ensures stand { IfOk result (λ b. MayStand (⟦<Box<dyn Device> as Device>⟧.state b)) }
-    ensures short { IfOk result (λ b. IsShort (⟦<Box<dyn Device> as Device>⟧.state b)) }
 {
     let quiet: Box<dyn Device> = Box::new(alloc, Quiet::new())?;
     Ok(quiet)
 }
 
-fn devices_of(alloc: Global, behind: Behind) -> Result<Vec<Box<dyn Device>>, AllocError>
+pub(crate) fn devices_of(alloc: Global, behind: Behind) -> Result<Vec<Box<dyn Device>>, AllocError>
     ensures few { IfOk result (λ devices. length devices.items ≤ 29) }
     ensures stand { IfOk result (λ devices. All (λ b. MayStand (⟦<Box<dyn Device> as Device>⟧.state b)) devices.items) }
-    ensures short { IfOk result (λ devices. All (λ b. IsShort (⟦<Box<dyn Device> as Device>⟧.state b)) devices.items) }
 {
     let mut devices = Vec::new(alloc);
     match behind {

@@ -1,6 +1,7 @@
 use crate::command::LineFault;
+use lif_model::Refusal;
 
-/// Why a line or a command is refused. The numbers are 1 to 12 in this order.
+/// Why a line or a command is refused. The numbers are 1 to 17 in this order.
 #[derive(Clone, Copy, Debug, PartialEq, Eq)]
 pub enum Code {
     /// The line is in none of the forms.
@@ -27,6 +28,16 @@ pub enum Code {
     Protected,
     /// There is no printer on the loop.
     NoPrinter,
+    /// A batch has more parts or more bytes than a batch may have.
+    BatchTooLarge,
+    /// The redo file is of version 1, and the command needs one of version 2.
+    NeedsUpgrade,
+    /// The files do not stand in the order of their slots.
+    OutOfOrder,
+    /// A file is no text, or a line of it is too long.
+    NotText,
+    /// No device on the loop takes control over.
+    NoTaker,
 }
 
 /// How a line or a command went.
@@ -49,7 +60,7 @@ impl Code {
     /// The line of a reply that tells this code by its number and name, with its line feed.
     pub fn line(self) -> &'static [u8]
         ensures text { result.now ≡ error_line self }
-        ensures size { length result.now ≤ 20 }
+        ensures size { length result.now ≤ 23 }
     {
         match self {
             Code::BadLine => b"error 1 BadLine\n",
@@ -64,6 +75,11 @@ impl Code {
             Code::InUse => b"error 10 InUse\n",
             Code::Protected => b"error 11 Protected\n",
             Code::NoPrinter => b"error 12 NoPrinter\n",
+            Code::BatchTooLarge => b"error 13 BatchTooLarge\n",
+            Code::NeedsUpgrade => b"error 14 NeedsUpgrade\n",
+            Code::OutOfOrder => b"error 15 OutOfOrder\n",
+            Code::NotText => b"error 16 NotText\n",
+            Code::NoTaker => b"error 17 NoTaker\n",
         }
     }
 }
@@ -82,6 +98,28 @@ impl From<LineFault> for Code {
     }
 }
 
+impl From<Refusal> for Code {
+    ghost use Rattle.std.specs.Prelude.{◌≡◌};
+    ghost use Rattle.il_script.specs.Replies.{code_of};
+
+    ghost from_gives = { λ refusal code. code ≡ code_of refusal };
+
+    fn from(refusal: Refusal) -> Code {
+        match refusal {
+            Refusal::NotLif => Code::NotLif,
+            Refusal::NoFile => Code::NoFile,
+            Refusal::Exists => Code::Exists,
+            Refusal::NoSlot => Code::NoSlot,
+            Refusal::NoRoom => Code::NoRoom,
+            Refusal::NoRedo => Code::NoRedo,
+            Refusal::InUse => Code::InUse,
+            Refusal::Protected => Code::Protected,
+            Refusal::NeedsUpgrade => Code::NeedsUpgrade,
+            Refusal::OutOfOrder => Code::OutOfOrder,
+        }
+    }
+}
+
 impl Reply {
     ghost use Rattle.std.specs.Prelude.{◌≡◌, ◌≤◌, length};
     ghost use Rattle.il_script.specs.Replies.{reply_line, is_ok};
@@ -89,7 +127,7 @@ impl Reply {
     /// The last line of the reply's text, with its line feed.
     pub fn last_line(self) -> &'static [u8]
         ensures text { result.now ≡ reply_line self }
-        ensures size { length result.now ≤ 20 }
+        ensures size { length result.now ≤ 23 }
     {
         match self {
             Reply::Ok => b"ok\n",

@@ -14,7 +14,8 @@ use Rattle.lif_model.specs.Redo.{One, Two, redo_start}
 use Rattle.lif_model.specs.Legal.{is_live, has_records, occupies, end_of, is_live_named, has_file}
 use Rattle.lif_model.specs.Volume.{redo_name, redo_type, redo_entry, upgraded_entry, is_redo_entry, is_redo_file, is_adopted_with, is_adopted, Volume, IsVolume, IsAdopted}
 use Rattle.lif_model.specs.Fit.{Place, At, redo_place, can_append, fit_in}
-use Rattle.lif_model.specs.Apply.{VolumeCommand, Dir, Label, Fetch, Store, Rename, Purge, Adopt, Upgrade, Format, IsWellFormed, Refusal, lacks_redo, is_protected, is_full, runs_past_gate, is_upgraded, runs_past_redo, is_too_long, first_met, store_checks, checks_of, refusal_of, stored, with_slot, renamed, upgraded, fresh_volume, volume_after, volume_made, next_unless, apply}
+use Rattle.lif_model.specs.Apply.{VolumeCommand, Dir, Label, Fetch, Store, Rename, Purge, Adopt, Upgrade, Format, IsWellFormed, lacks_redo, is_protected, is_full, runs_past_gate, is_upgraded, runs_past_redo, is_too_long, first_met, store_checks, checks_of, refusal_of, stored, with_slot, renamed, upgraded, fresh_volume, volume_after, volume_made, next_unless, apply}
+use Rattle.lif_model.specs.declared.refusal.Refusal.{Refusal}
 use Rattle.lif_model.proofs.Lists.{any_at, any_from, none_at, none_of_filter}
 use Rattle.lif_model.proofs.Made.{new_name, new_type, new_start, new_length, new_size, named_name, named_type, named_start, named_length, named_size, typed_type, typed_start, typed_length, typed_size, extent_name, extent_type, extent_start, extent_length, extent_size, fresh_size, fresh_start, fresh_length, fresh_readable}
 use Rattle.lif_model.proofs.Fit.{IsPlaceIn, fit_tells, place_is_free}

@@ -10,7 +10,10 @@ use Rattle.lif_model.specs.Shelf.{piece}
 use Rattle.lif_model.specs.Redo.{One, Two}
 use Rattle.lif_model.specs.Volume.{redo_entry, upgraded_entry, is_adopted_with, Volume}
 use Rattle.lif_model.specs.Fit.{Place, At, NoSlot, NoRoom, fit, candidates}
-use Rattle.lif_model.specs.Apply.{VolumeCommand, Dir, Fetch, Store, Rename, Purge, Adopt, Upgrade, Format, Refusal, NotLif, NoRedo, Protected, NoFile, Exists, InUse, first_met, store_checks, refusal_of, stored, apply}
+use Rattle.lif_model.specs.Apply.{VolumeCommand, Dir, Fetch, Store, Rename, Purge, Adopt, Upgrade, Format, first_met, store_checks, refusal_of, stored, apply}
+use Rattle.lif_model.specs.declared.refusal.Refusal.{Refusal}
+use Rattle.lif_model.specs.declared.refusal.Refusal.TheVariants as refusal
+use Rattle.lif_model.specs.declared.refusal.Refusal.TheVariants.{NotLif, NoRedo, Protected, NoFile, Exists, InUse}
 use Rattle.lif_model.proofs.Examples as base
 use Rattle.lif_model.proofs.VolumeExamples.{file, purged, junk, a_name, b_name}
 
@@ -129,8 +132,8 @@ stored_again = (refl, refl)
 abbrev with_a : Volume
 with_a = record { header = base.header; slots = file a_name 4 1 ∷ redo ∷ []; files = empty }
 
-handed_in : (first_met (store_checks 12 with_a b_name (At 1 6)) ≡ None) × (first_met (store_checks 12 with_a b_name NoSlot) ≡ Some Refusal.NoSlot)
-    × (first_met (store_checks 12 with_a b_name NoRoom) ≡ Some Refusal.NoRoom) × (first_met (store_checks 12 with_a a_name NoRoom) ≡ Some Exists)
+handed_in : (first_met (store_checks 12 with_a b_name (At 1 6)) ≡ None) × (first_met (store_checks 12 with_a b_name NoSlot) ≡ Some refusal.NoSlot)
+    × (first_met (store_checks 12 with_a b_name NoRoom) ≡ Some refusal.NoRoom) × (first_met (store_checks 12 with_a a_name NoRoom) ≡ Some Exists)
     × ((stored with_a b_name 1 (replicate 4 0) (66 ∷ []) (At 1 6)).slots ≡ file a_name 4 1 ∷ file b_name 6 1 ∷ redo ∷ [])
 unfolding two_at four_at name_of new_entry
 handed_in = (refl, refl, refl, refl, refl)
@@ -150,7 +153,7 @@ abbrev redo_of_sixteen : List ℕ
 redo_of_sixteen = redo_entry One 16
 
 -- the eighth file finds no slot, and after a purge that of the purged file, at its record
-eighth_file : (refusal_of 16 (store (numbered 8) (88 ∷ [])) (small (seven ++ redo_of_sixteen ∷ [])) ≡ Some Refusal.NoSlot)
+eighth_file : (refusal_of 16 (store (numbered 8) (88 ∷ [])) (small (seven ++ redo_of_sixteen ∷ [])) ≡ Some refusal.NoSlot)
     × (fit 16 3 8 (file (numbered 1) 3 1 ∷ purged (file (numbered 2) 4 1) ∷ file (numbered 3) 5 1 ∷ file (numbered 4) 6 1 ∷ file (numbered 5) 7 1 ∷ file (numbered 6) 8 1 ∷ file (numbered 7) 9 1 ∷ redo_of_sixteen ∷ []) 1 ≡ At 1 4)
 unfolding two_at four_at name_of fresh_header piece new_entry with_type
 eighth_file = (refl, refl)
@@ -161,7 +164,7 @@ seventh_file : fit 16 4 16 (file (numbered 1) 4 1 ∷ file (numbered 2) 5 1 ∷ 
 unfolding two_at four_at name_of new_entry
 seventh_file = refl
 
-no_room : refusal_of 16 (store (numbered 8) (replicate 2305 0)) (small (redo_of_sixteen ∷ [])) ≡ Some Refusal.NoRoom
+no_room : refusal_of 16 (store (numbered 8) (replicate 2305 0)) (small (redo_of_sixteen ∷ [])) ≡ Some refusal.NoRoom
 unfolding two_at four_at name_of fresh_header piece new_entry
 no_room = refl
 
@@ -193,7 +196,7 @@ unfolding two_at four_at name_of with_type
 in_use = (refl, refl, refl, refl, refl, refl)
 
 -- an adopted volume can be formatted, and a full one cannot be adopted
-formats_adopted : (answer (Format (codes "HPTAPE") 8) (redo ∷ []) ≡ None) × (answer Adopt (replicate 16 (purged (file a_name 4 1))) ≡ Some Refusal.NoSlot)
+formats_adopted : (answer (Format (codes "HPTAPE") 8) (redo ∷ []) ≡ None) × (answer Adopt (replicate 16 (purged (file a_name 4 1))) ≡ Some refusal.NoSlot)
 unfolding two_at four_at name_of with_type
 formats_adopted = (refl, refl)
 
@@ -259,5 +262,5 @@ formatted_header = (refl, refl, refl)
 
 -- on a tape of twelve records a directory of six records ends at the gate, and one of seven would
 -- end behind it
-longest_directory : (refusal_of 12 (Format (codes "HPTAPE") 48) None ≡ None) × (refusal_of 12 (Format (codes "HPTAPE") 49) None ≡ Some Refusal.NoRoom) × (refusal_of 512 (Format (codes "HPTAPE") 4048) None ≡ None)
+longest_directory : (refusal_of 12 (Format (codes "HPTAPE") 48) None ≡ None) × (refusal_of 12 (Format (codes "HPTAPE") 49) None ≡ Some refusal.NoRoom) × (refusal_of 512 (Format (codes "HPTAPE") 4048) None ≡ None)
 longest_directory = (refl, refl, refl)

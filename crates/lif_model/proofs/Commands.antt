@@ -13,7 +13,8 @@ use Rattle.lif_model.specs.Transfers.{Replaced, PartlyReplaced}
 use Rattle.lif_model.specs.Legal.{occupies, end_of, is_legal}
 use Rattle.lif_model.specs.Volume.{IsAdopted, files_of, is_adopted_with, is_adopted, Volume, volume_in, volume_of, is_foreign_gated}
 use Rattle.lif_model.specs.Fit.{Place, At, fit_in}
-use Rattle.lif_model.specs.Apply.{Refusal, VolumeCommand, Dir, Label, Fetch, Store, Rename, Purge, Adopt, Upgrade, Format, IsWellFormed, lacks_redo, runs_past_gate, is_too_long, checks_of, refusal_of, fresh_volume, volume_after}
+use Rattle.lif_model.specs.Apply.{VolumeCommand, Dir, Label, Fetch, Store, Rename, Purge, Adopt, Upgrade, Format, IsWellFormed, lacks_redo, runs_past_gate, is_too_long, checks_of, refusal_of, fresh_volume, volume_after}
+use Rattle.lif_model.specs.declared.refusal.Refusal.TheVariants as refusal
 use Rattle.lif_model.specs.Writing.{with_file, format_changes, chosen_place, changes_of, written_by}
 use Rattle.lif_model.proofs.Fit.{IsPlaceIn, fit_tells}
 use Rattle.lif_model.proofs.Apply.{NoneMet, none_met, upgrade_is_two}
@@ -176,7 +177,7 @@ module _ (n : ℕ) (u : Tape) (label : List ℕ) (slots : ℕ) (tape : IsTape n 
       go : (volume : Option Volume) → refusal_of n (Format label slots) volume ≡ None → is_too_long n slots ≡ false
       go None unmet = unrefused (is_too_long n slots) unmet
         where
-          unrefused : (b : Bool) → (if b then Some Refusal.NoRoom else None) ≡ None → b ≡ false
+          unrefused : (b : Bool) → (if b then Some refusal.NoRoom else None) ≡ None → b ≡ false
           unrefused true unmet = cc
           unrefused false unmet = refl
       go (Some v) unmet = (none_met n (Format label slots) v unmet).0

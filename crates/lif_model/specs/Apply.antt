@@ -11,6 +11,8 @@ use Rattle.lif_model.specs.Made.{new_entry, with_name, with_type, fresh_header, 
 use Rattle.lif_model.specs.Legal.{occupies, end_of, is_live_named, has_file}
 use Rattle.lif_model.specs.Volume.{Volume, Files, redo_name, redo_entry, upgraded_entry, is_redo_file, is_adopted_with, is_adopted}
 use Rattle.lif_model.specs.Fit.{Place, At, redo_place, fit_in}
+use Rattle.lif_model.specs.declared.refusal.Refusal.{Refusal}
+use Rattle.lif_model.specs.declared.refusal.Refusal.TheVariants.{NotLif, NoRedo, Protected, NoFile, Exists, NoSlot, NoRoom, InUse}
 
 -- ---- commands
 
@@ -38,17 +40,6 @@ IsWellFormed (Purge name) = length name ≡ 10
 IsWellFormed Adopt = Unit {0}
 IsWellFormed Upgrade = Unit {0}
 IsWellFormed (Format label slots) = (length label ≡ 6) × (0 < slots)
-
--- in the order in which they are tested
-pub data Refusal : Type 0 where
-  NotLif : Refusal
-  NoRedo : Refusal
-  Protected : Refusal
-  NoFile : Refusal
-  Exists : Refusal
-  NoSlot : Refusal
-  NoRoom : Refusal
-  InUse : Refusal
 
 -- ---- what refuses a command
 

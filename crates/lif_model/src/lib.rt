@@ -10,10 +10,12 @@ mod checking;
 mod choosing;
 mod fields;
 mod reading;
+mod refusal;
 
 pub use checking::plain_is_legal;
 pub use choosing::{Spot, plain_fit};
 pub use reading::plain_slots;
+pub use refusal::Refusal;
 
 /// The number of bytes in a record of a tape.
 pub const RECORD: usize = 256;

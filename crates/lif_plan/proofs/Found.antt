@@ -9,7 +9,8 @@ use Rattle.lif_model.specs.Directory.{name_of}
 use Rattle.lif_model.specs.Redo.{Version, redo_start, redo_length}
 use Rattle.lif_model.specs.Pairs.{all_pairs}
 use Rattle.lif_model.specs.Legal.{is_live, is_live_named, has_file, slot_named, have_other_names}
-use Rattle.lif_model.specs.Apply.{Fetch, Protected, NoFile, is_protected, lacks_file, refusal_of}
+use Rattle.lif_model.specs.Apply.{Fetch, is_protected, lacks_file, refusal_of}
+use Rattle.lif_model.specs.declared.refusal.Refusal.TheVariants.{Protected, NoFile}
 use Rattle.lif_model.specs.Volume.{Volume, redo_name, redo_type, is_redo_entry, is_redo_file, is_adopted}
 use Rattle.lif_model.proofs.Lists.{any_at, any_from, filter_pairs_tell}
 use Rattle.lif_model.proofs.Legal.{names_tell}

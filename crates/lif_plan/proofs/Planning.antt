@@ -14,8 +14,10 @@ use Rattle.lif_model.specs.Pairs.{all_pairs}
 use Rattle.lif_model.specs.Legal.{is_live, is_live_named, occupies, has_file, slot_named, have_other_names, end_of}
 use Rattle.lif_model.specs.Volume.{Volume, IsVolume, volume_in, redo_name, redo_type, redo_entry, upgraded_entry, is_redo_entry, is_redo_file, is_adopted_with, is_adopted}
 use Rattle.lif_model.specs.Fit.{NoSlot}
-use Rattle.lif_model.specs.Apply.{VolumeCommand, IsWellFormed, Dir, Label, Fetch, Store, Rename, Purge, Adopt, Upgrade, Format, NotLif, NoRedo, Protected, NoFile, Exists, InUse, refusal_of, is_full, runs_past_gate, is_upgraded, runs_past_redo, with_slot, renamed, upgraded, volume_after}
-use Rattle.lif_model.specs.Apply as model
+use Rattle.lif_model.specs.Apply.{VolumeCommand, IsWellFormed, Dir, Label, Fetch, Store, Rename, Purge, Adopt, Upgrade, Format, refusal_of, is_full, runs_past_gate, is_upgraded, runs_past_redo, with_slot, renamed, upgraded, volume_after}
+use Rattle.lif_model.specs.declared.refusal.Refusal.TheVariants.{NotLif, NoRedo, Protected, NoFile, Exists, InUse}
+use Rattle.lif_model.specs.declared.refusal.Refusal.TheVariants as refusal
+use Rattle.lif_model.specs.declared.refusal.Refusal.{Refusal}
 use Rattle.lif_model.specs.Writing.{entry_from, place_named, changed_slot, last_slot, slot_writes}
 use Rattle.lif_model.proofs.Lists.{any_at, any_from}
 use Rattle.lif_model.proofs.Made.{named_type, typed_type, extent_type, new_type}
@@ -103,9 +105,9 @@ module _ (n : ℕ) (v : Volume) where
       λ i. if not (adopted i) then Some NoRedo else if (adopted i && one i) || (adopted i && other i) then Some Protected else if not (has i) then Some NoFile else if has_later i && not (same i) then Some Exists else None
 
   pub adopt_is : (a h u g : Bool) → is_adopted n v.slots ≡ a → has_file v.slots redo_name ≡ h → is_full v ≡ u → runs_past_gate n v ≡ g
-      → refusal_of n Adopt (Some v) ≡ (if not a && h then Some Exists else if not a && u then Some model.NoSlot else if not a && g then Some InUse else None)
+      → refusal_of n Adopt (Some v) ≡ (if not a && h then Some Exists else if not a && u then Some refusal.NoSlot else if not a && g then Some InUse else None)
   adopt_is a h u g adopted has full past =
-      λ i. if not (adopted i) && has i then Some Exists else if not (adopted i) && full i then Some model.NoSlot else if not (adopted i) && past i then Some InUse else None
+      λ i. if not (adopted i) && has i then Some Exists else if not (adopted i) && full i then Some refusal.NoSlot else if not (adopted i) && past i then Some InUse else None
 
   pub upgrade_is : (a t r : Bool) → is_adopted n v.slots ≡ a → is_upgraded n v ≡ t → runs_past_redo n v ≡ r
       → refusal_of n Upgrade (Some v) ≡ (if not a then Some NoRedo else if not t && r then Some InUse else None)
@@ -202,7 +204,7 @@ at_no slots name None is some = at_none slots name (sym is)
 at_no slots name (Some p) is some = cc
 
 -- a name is changed to itself
-pub free_where : (g : Bool) → {r : Option model.Refusal} → r ≡ (if g && not true then Some Exists else None) → r ≡ None
+pub free_where : (g : Bool) → {r : Option Refusal} → r ≡ (if g && not true then Some Exists else None) → r ≡ None
 free_where true is = is
 free_where false is = is
 

@@ -11,7 +11,8 @@ use Rattle.lif_model.specs.Made.{with_type, file_length}
 use Rattle.lif_model.specs.Legal.{is_live, is_live_named, has_file}
 use Rattle.lif_model.specs.Volume.{Volume, redo_name, is_adopted}
 use Rattle.lif_model.specs.Fit.{Place, redo_place, fit_in}
-use Rattle.lif_model.specs.Apply.{Store, NoRedo, Protected, Exists, NoSlot, NoRoom, refusal_of, placed, lacks_slot, lacks_room}
+use Rattle.lif_model.specs.Apply.{Store, refusal_of, placed, lacks_slot, lacks_room}
+use Rattle.lif_model.specs.declared.refusal.Refusal.TheVariants.{NoRedo, Protected, Exists, NoSlot, NoRoom}
 use Rattle.lif_model.specs.Writing.{entry_from, last_slot, stored_writes}
 use Rattle.lif_model.proofs.Adopted.{position_tells}
 use Rattle.lif_model.proofs.Slots.{live_named_tells}

@@ -13,17 +13,17 @@ use Rattle.lif_redo.specs.Reading.{version_of}
 use Rattle.lif_redo.specs.declared.versions.Version as redo
 use Rattle.lif_dir.specs.declared.entries.Slot.{Slot}
 use Rattle.lif_dir.specs.Entries.{entry_bytes, slot_of}
-use Rattle.lif_plan.specs.declared.refusal.Refusal.{Refusal}
+use Rattle.lif_model.specs.declared.refusal.Refusal.{Refusal}
 use Rattle.lif_plan.specs.declared.placing.Moved.{Moved}
 use Rattle.lif_plan.specs.declared.placing.Placement.{Placement}
-use Rattle.lif_plan.specs.Refusals.{reason, keeps_behind}
+use Rattle.lif_plan.specs.Refusals.{keeps_behind}
 
 -- ---- the name
 
 -- a store of that name is refused, whatever it stores
 pub record IsNameRefused (n : ℕ) (name : List ℕ) (slots : List (List ℕ)) (why : Refusal) : Type 0 where
   pub refused : (v : Volume) → v.slots ≡ slots → (kind : ℕ) (implementation bytes : List ℕ)
-      → refusal_of n (Store name kind implementation bytes) (Some v) ≡ Some (reason why)
+      → refusal_of n (Store name kind implementation bytes) (Some v) ≡ Some why
   pub known : keeps_behind why ≡ true
 
 -- no test of the name refuses it, and the volume is adopted with that version

@@ -13,9 +13,9 @@ use Rattle.lif_redo.specs.Reading.{version_of}
 use Rattle.lif_redo.specs.declared.versions.Version as redo
 use Rattle.lif_dir.specs.declared.entries.Slot.{Slot}
 use Rattle.lif_dir.specs.Entries.{entry_bytes, slot_of}
-use Rattle.lif_plan.specs.declared.refusal.Refusal.{Refusal}
+use Rattle.lif_model.specs.declared.refusal.Refusal.{Refusal}
 use Rattle.lif_plan.specs.declared.plans.SlotChange.{SlotChange}
-use Rattle.lif_plan.specs.Refusals.{reason, keeps_behind}
+use Rattle.lif_plan.specs.Refusals.{keeps_behind}
 
 -- ---- the version of the redo file
 
@@ -80,7 +80,7 @@ pub record IsVolumeWith (n : ℕ) (header : HeaderParts) (slots : List (List ℕ
 
 -- the command is refused
 pub record RefusesAs (n : ℕ) (command : VolumeCommand) (header : HeaderParts) (slots : List (List ℕ)) (why : Refusal) : Type 0 where
-  pub refused : (v : Volume) → IsVolumeWith n header slots v → refusal_of n command (Some v) ≡ Some (reason why)
+  pub refused : (v : Volume) → IsVolumeWith n header slots v → refusal_of n command (Some v) ≡ Some why
   pub known : keeps_behind why ≡ true
 
 -- it changes nothing

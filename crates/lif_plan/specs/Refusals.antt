@@ -1,19 +1,7 @@
--- Why a command is refused.
+-- What is said of a refusal.
 use Rattle.std.specs.Prelude.{◌≡◌, ◌⊎◌, Bool, true, false, List, [], ◌∷◌}
-use Rattle.lif_model.specs.Apply as model
-use Rattle.lif_plan.specs.declared.refusal.Refusal.{Refusal}
-use Rattle.lif_plan.specs.declared.refusal.Refusal.TheVariants as refusal
-
--- a refusal in the words of the definitions
-abbrev pub reason : Refusal → model.Refusal
-reason refusal.NotLif = model.NotLif
-reason refusal.NoFile = model.NoFile
-reason refusal.Exists = model.Exists
-reason refusal.NoSlot = model.NoSlot
-reason refusal.NoRoom = model.NoRoom
-reason refusal.NoRedo = model.NoRedo
-reason refusal.InUse = model.InUse
-reason refusal.Protected = model.Protected
+use Rattle.lif_model.specs.declared.refusal.Refusal.{Refusal}
+use Rattle.lif_model.specs.declared.refusal.Refusal.TheVariants as refusal
 
 -- whether the directory is kept behind a refusal: behind all but NotLif
 abbrev pub keeps_behind : Refusal → Bool

@@ -11,15 +11,15 @@ ghost use Rattle.lif_model.specs.Volume.{Volume, is_redo_entry, is_redo_file, is
 ghost use Rattle.lif_model.specs.Apply.{Fetch, refusal_of};
 ghost use Rattle.lif_redo.specs.Reading.{version_of};
 ghost use Rattle.lif_dir.specs.Entries.{name_bytes, entry_bytes, slot_bytes};
-ghost use Rattle.lif_plan.specs.Refusals.{IsAmong, reason, keeps_behind};
+ghost use Rattle.lif_plan.specs.Refusals.{IsAmong, keeps_behind};
 ghost use Rattle.lif_plan.specs.Entries.{IsFileOf};
-ghost use Rattle.lif_plan.specs.declared.refusal.Refusal.TheVariants as refusal;
+ghost use Rattle.lif_model.specs.declared.refusal.Refusal.TheVariants as refusal;
 ghost use Rattle.std.specs.Prelude.{◌∷◌};
 
 use crate::extents::{Extent, follow_each_other, gather, lie_within, sort_by_start};
-use crate::refusal::Refusal;
 use lif_dir::{FileEntry, Name, SlotTable, Steps};
 use lif_header::Header;
+use lif_model::Refusal;
 use lif_redo::Version;
 use std::alloc::{AllocError, Global};
 use std::marker::Brand;
@@ -83,7 +83,7 @@ impl Directory {
             (filter is_live (map slot_bytes self.now.table.slots)) ≡ true }
         ensures refusal { (v : Volume) → v.slots ≡ map slot_bytes self.now.table.slots
             → refusal_of size (Fetch (name_bytes name.now)) (Some v)
-            ≡ option_map reason (result_err result) }
+            ≡ result_err result }
         ensures slot { IfOk result (λ file. (slot : List ℕ)
             × (slot_named (map slot_bytes self.now.table.slots) (name_bytes name.now)
             ≡ Some slot)

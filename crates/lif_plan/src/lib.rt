@@ -7,10 +7,9 @@ mod extents;
 mod fresh;
 mod placing;
 mod plans;
-mod refusal;
 
 pub use directory::{Directory, File};
 pub use fresh::FreshVolume;
+pub use lif_model::Refusal;
 pub use placing::{Moved, Placement};
 pub use plans::{ENTRIES, SlotChange};
-pub use refusal::Refusal;

@@ -12,13 +12,13 @@ ghost use Rattle.lif_model.specs.Writing.{stored_writes};
 ghost use Rattle.lif_dir.specs.Entries.{AreSlots, name_bytes, entry_bytes, slot_of, slot_from, slot_bytes};
 ghost use Rattle.lif_plan.specs.Refusals.{IsAmong};
 ghost use Rattle.lif_plan.specs.Placements.{IsNewName, MayTake, LiesWithin, placed_writes, placed_slots, placed_bytes};
-ghost use Rattle.lif_plan.specs.declared.refusal.Refusal.TheVariants as refusal;
+ghost use Rattle.lif_model.specs.declared.refusal.Refusal.TheVariants as refusal;
 
 use crate::directory::Directory;
 use crate::plans::{ENTRIES, is_redo_name};
-use crate::refusal::Refusal;
 use lif_dir::{FileEntry, Name, Slot};
 use lif_header::Header;
+use lif_model::Refusal;
 use lif_redo::Version;
 
 /// The redo entry, which moves on by one slot and stands after the new file's.

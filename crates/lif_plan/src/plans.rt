@@ -13,13 +13,13 @@ ghost use Rattle.lif_dir.specs.Names.{made_name};
 ghost use Rattle.lif_plan.specs.Directories.{IsLegalDirectory};
 ghost use Rattle.lif_plan.specs.Refusals.{IsAmong};
 ghost use Rattle.lif_plan.specs.Plans.{IsPlan, IsVersionOf, IsVersionOfEntry, reaches_past, slots_with, bytes_with};
-ghost use Rattle.lif_plan.specs.declared.refusal.Refusal.TheVariants as refusal;
+ghost use Rattle.lif_model.specs.declared.refusal.Refusal.TheVariants as refusal;
 
 use crate::directory::{Directory, REDO_KIND, REDO_NAME, is_redo_entry, is_redo_file, place_of};
 use crate::extents::occupies;
-use crate::refusal::Refusal;
 use lif_dir::{FileEntry, Name, NewName, Slot};
 use lif_header::Header;
+use lif_model::Refusal;
 use lif_redo::Version;
 use std::marker::Brand;
 use std::sync::ledger::Blank;

@@ -34,12 +34,11 @@ use Rattle.lif_redo.proofs.Writes.{no_write}
 use Rattle.lif_redo.proofs.Told.{was_told}
 use Rattle.lif_dir.specs.declared.entries.Slot.{Slot}
 use Rattle.lif_dir.specs.Entries.{entry_bytes, slot_of, slot_from, slot_bytes}
-use Rattle.lif_plan.specs.declared.refusal.Refusal.{Refusal}
+use Rattle.lif_model.specs.declared.refusal.Refusal.{Refusal}
 use Rattle.lif_volume.specs.declared.fault.VolumeFault.TheVariants.{Refused, Trouble as Troubled}
 use Rattle.lif_plan.specs.declared.plans.SlotChange.{SlotChange}
 use Rattle.lif_volume.specs.Views.{VolumeView, IsOpen, IsDirectoryOf}
 use Rattle.lif_plan.specs.Directories.{IsLegalDirectory}
-use Rattle.lif_plan.specs.Refusals.{reason}
 use Rattle.lif_volume.specs.Changing.{changes_when, IsChanged, committing_on, HasEitherVolume, VolumeTurns, writes_if_any}
 use Rattle.lif_plan.specs.Plans.{version_for}
 use Rattle.lif_plan.specs.Plans.{change_writes, slots_with, bytes_with, RefusesAs, ChangesNothing, ChangesSlot}
@@ -47,7 +46,6 @@ use Rattle.lif_volume.specs.Plans.{CarriesOut}
 use Rattle.lif_volume.proofs.Mounting.{kept_is_of, volume_on}
 use Rattle.lif_volume.proofs.Fetching.{legal_of}
 use Rattle.lif_plan.proofs.Planning.{version_agrees}
-use Rattle.lif_model.specs.Apply as model
 
 -- ---- the four commands
 
@@ -230,8 +228,8 @@ module _ {R S : Type 0} (view : R → RecordsView S) (x : VolumeView R) (header 
         on_tape = λ t told. record {
           few = omega arith;
           written = λ u now. same_tape t u _ told now;
-          answers = λ u now. refused_stays n command (volume_of t) (reason why) (ap (refusal_of n command) (volume_is t told) ∙ plan.refused (volume_on t) (with_is t told))
-              ∙ ap (λ (w : Tape). (Some (reason why), volume_of w)) (sym (same_tape t u _ told now));
+          answers = λ u now. refused_stays n command (volume_of t) why (ap (refusal_of n command) (volume_is t told) ∙ plan.refused (volume_on t) (with_is t told))
+              ∙ ap (λ (w : Tape). (Some why, volume_of w)) (sym (same_tape t u _ told now));
           stops = rests t told;
           added = λ list was. was;
         };
@@ -290,7 +288,7 @@ module _ {R S : Type 0} (view : R → RecordsView S) (x : VolumeView R) (header 
               record {
                 volume = elim both.0 [
                   | inl e ↦ inl (e ∙ sym (volume_is t told))
-                  | inr e ↦ inr (e ∙ sym (ap (λ (p : Option model.Refusal × Option Volume). p.1) (applied t told (plan.free v (with_is t told)))))
+                  | inr e ↦ inr (e ∙ sym (ap (λ (p : Option Refusal × Option Volume). p.1) (applied t told (plan.free v (with_is t told)))))
                 ];
                 own_gate = both.1;
               }

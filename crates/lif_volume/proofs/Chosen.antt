@@ -10,7 +10,8 @@ use Rattle.lif_model.specs.Made.{new_entry, file_length}
 use Rattle.lif_model.specs.Legal.{has_file}
 use Rattle.lif_model.specs.Volume.{Volume, is_adopted, is_adopted_with}
 use Rattle.lif_model.specs.Fit.{Place, At, low_of, high_of, slots_behind, candidates, first_fit, fit_among, fit, fit_in}
-use Rattle.lif_model.specs.Apply.{Store, NoSlot, NoRoom, refusal_of, placed, stored, lacks_slot, lacks_room}
+use Rattle.lif_model.specs.Apply.{Store, refusal_of, placed, stored, lacks_slot, lacks_room}
+use Rattle.lif_model.specs.declared.refusal.Refusal.TheVariants.{NoSlot, NoRoom}
 use Rattle.lif_model.specs.Writing.{stored_writes, slot_writes}
 use Rattle.lif_model.proofs.Made.{new_start, new_length, new_type}
 use Rattle.lif_model.proofs.Fit.{high_below, IsPlace, fit_tells}

@@ -8,7 +8,7 @@ use Rattle.lif_model.specs.Gate.{is_open}
 use Rattle.lif_model.specs.Made.{with_type}
 use Rattle.lif_model.proofs.Examples as base
 use Rattle.lif_model.proofs.VolumeExamples.{file, purged, a_name, b_name}
-use Rattle.lif_plan.specs.declared.refusal.Refusal.TheVariants as refusal
+use Rattle.lif_model.specs.declared.refusal.Refusal.TheVariants as refusal
 use Rattle.lif_volume.specs.declared.fault.VolumeFault.TheVariants.{Refused}
 use Rattle.lif_plan.specs.Entries.{extent_of, lies_within, ends_first}
 use Rattle.lif_volume.specs.Answers.{keeps}

@@ -16,7 +16,7 @@ use Rattle.lif_model.specs.Writing.{with_entry}
 use Rattle.lif_model.specs.Transfers.{Transfer}
 use Rattle.lif_model.proofs.Examples as base
 use Rattle.lif_model.proofs.VolumeExamples.{file, purged, a_name, b_name, numbered}
-use Rattle.lif_plan.specs.declared.refusal.Refusal.TheVariants as refusal
+use Rattle.lif_model.specs.declared.refusal.Refusal.TheVariants as refusal
 use Rattle.lif_volume.specs.declared.fault.VolumeFault.TheVariants.{Refused, Trouble as Troubled}
 use Rattle.il_ports.specs.declared.records.Trouble.TheVariants.{Medium}
 use Rattle.il_ports.specs.Transfers.{WritesOnly}

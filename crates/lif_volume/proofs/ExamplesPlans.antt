@@ -19,7 +19,7 @@ use Rattle.lif_redo.specs.declared.versions.Version.TheVariants as redo
 use Rattle.lif_dir.specs.Entries.{slot_of}
 use Rattle.lif_dir.specs.declared.entries.FileEntry.{FileEntry}
 use Rattle.lif_plan.specs.declared.plans.SlotChange.{SlotChange}
-use Rattle.lif_plan.specs.declared.refusal.Refusal.TheVariants as refusal
+use Rattle.lif_model.specs.declared.refusal.Refusal.TheVariants as refusal
 use Rattle.lif_volume.specs.declared.fault.VolumeFault.TheVariants.{Refused}
 use Rattle.lif_plan.specs.Plans.{IsVersionOf, IsVersionOfEntry, IsPlan, CommitsWith, reaches_past, change_writes, slots_with, bytes_with}
 use Rattle.lif_volume.specs.Plans.{BroughtIn, there, read, IsStagedAs, AreOthers, IsOfDirectory, IsWrittenOn}

@@ -9,7 +9,8 @@ use Rattle.lif_model.specs.Directory.{start_of, length_of, slots_of}
 use Rattle.lif_model.specs.Redo.{settled}
 use Rattle.lif_model.specs.Legal.{is_live, has_records, is_live_named, has_file, slot_named, is_legal}
 use Rattle.lif_model.specs.Volume.{Volume, content_of}
-use Rattle.lif_model.specs.Apply.{Fetch, Protected, NoFile, refusal_of, is_protected, lacks_file}
+use Rattle.lif_model.specs.Apply.{Fetch, refusal_of, is_protected, lacks_file}
+use Rattle.lif_model.specs.declared.refusal.Refusal.TheVariants.{Protected, NoFile}
 use Rattle.lif_model.specs.Transfers.{Transfer}
 use Rattle.lif_model.proofs.Legal.{legal_tells}
 use Rattle.lif_model.proofs.Slots.{readable_tells, live_named_tells}

@@ -13,7 +13,6 @@ use Rattle.lif_model.specs.Transfers.{Replaced, PartlyReplaced}
 use Rattle.lif_model.specs.Volume.{Volume, IsVolume, IsAdopted, volume_in, volume_of, is_adopted_with}
 use Rattle.lif_model.specs.Fit.{Place, At}
 use Rattle.lif_model.specs.Apply.{VolumeCommand, Store, stored, refusal_of, volume_after}
-use Rattle.lif_model.specs.Apply as model
 use Rattle.lif_model.specs.Writing.{slot_record, changes_by, changes_of, chosen_place, with_file, with_records}
 use Rattle.lif_model.proofs.Moments.{started, goes_on, follows}
 use Rattle.lif_model.proofs.Made.{file_bytes}
@@ -33,11 +32,10 @@ use Rattle.lif_redo.specs.Writing.{AddsWrites}
 use Rattle.lif_redo.proofs.Told.{was_told}
 use Rattle.lif_dir.specs.declared.entries.Slot.{Slot}
 use Rattle.lif_dir.specs.Entries.{entry_bytes, slot_of, slot_from, slot_bytes}
-use Rattle.lif_plan.specs.declared.refusal.Refusal.{Refusal}
+use Rattle.lif_model.specs.declared.refusal.Refusal.{Refusal}
 use Rattle.lif_plan.specs.declared.placing.Moved.{Moved}
 use Rattle.lif_plan.specs.declared.placing.Placement.{Placement}
 use Rattle.lif_plan.specs.Directories.{IsLegalDirectory}
-use Rattle.lif_plan.specs.Refusals.{reason}
 use Rattle.lif_plan.specs.Plans.{RefusesAs, version_for}
 use Rattle.lif_plan.specs.Placements.{MovesWithin, put_in, placed_writes, placed_slots, placed_bytes}
 use Rattle.lif_plan.proofs.Planning.{version_is_redo}
@@ -79,8 +77,8 @@ module _ {R S : Type 0} (view : R → RecordsView S) (x : VolumeView R) (header 
     kept = sym (ap (λ (b : Bool). if b then x.kept else None) plan.known);
     on_tape = λ t told. record {
       written = λ u now. same_tape t u _ told now;
-      answers = λ u now. refused_stays n command (volume_of t) (reason why) (ap (refusal_of n command) (volume_is view x header opened kept store t told) ∙ plan.refused (volume_on t) (with_is view x header opened kept store t told))
-          ∙ ap (λ (w : Tape). (Some (reason why), volume_of w)) (sym (same_tape t u _ told now));
+      answers = λ u now. refused_stays n command (volume_of t) why (ap (refusal_of n command) (volume_is view x header opened kept store t told) ∙ plan.refused (volume_on t) (with_is view x header opened kept store t told))
+          ∙ ap (λ (w : Tape). (Some why, volume_of w)) (sym (same_tape t u _ told now));
       stops = rests view x header opened kept store command t told;
       added = record { goes_on = λ list was. ([], subst (view x.records).transferred (sym (append-nil list)) was, tt) };
     };
@@ -197,7 +195,7 @@ module _ {R S : Type 0} (view : R → RecordsView S) (x : VolumeView R) (header 
           record {
             volume = elim both.0 [
               | inl e ↦ inl (e ∙ sym (volume_is view x header opened kept store t told))
-              | inr e ↦ inr (e ∙ sym (ap (λ (p : Option model.Refusal × Option Volume). p.1) (applied view x header opened kept store command t told free)))
+              | inr e ↦ inr (e ∙ sym (ap (λ (p : Option Refusal × Option Volume). p.1) (applied view x header opened kept store command t told free)))
             ];
             own_gate = both.1;
           }

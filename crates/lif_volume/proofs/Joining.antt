@@ -8,20 +8,18 @@ use Rattle.lif_model.specs.Redo.{redo_of, settled, Changes}
 use Rattle.lif_model.specs.Commit.{IsSettleWrite}
 use Rattle.lif_model.specs.Volume.{Volume, volume_in, volume_of}
 use Rattle.lif_model.specs.Apply.{VolumeCommand, Dir, Label, Fetch, Store, Rename, Purge, Adopt, Upgrade, Format, refusal_of, apply}
-use Rattle.lif_model.specs.Apply as model
 use Rattle.lif_model.specs.Transfers.{Transfer}
 use Rattle.lif_model.proofs.Moments.{follows, weaker}
 use Rattle.lif_model.proofs.Redo.{settled_twice}
 use Rattle.il_ports.specs.Stores.{RecordsView, IsReady, GoesOn}
 use Rattle.il_ports.specs.Transfers.{GoesOnBy, AddsOnly}
 use Rattle.il_ports.proofs.Stores.{goes_further, goes_within}
-use Rattle.lif_plan.specs.declared.refusal.Refusal.{Refusal}
-use Rattle.lif_plan.specs.declared.refusal.Refusal.TheVariants as refusal
+use Rattle.lif_model.specs.declared.refusal.Refusal.{Refusal}
+use Rattle.lif_model.specs.declared.refusal.Refusal.TheVariants as refusal
 use Rattle.lif_volume.specs.declared.fault.VolumeFault.{VolumeFault}
 use Rattle.lif_volume.specs.declared.fault.VolumeFault.TheVariants.{Refused, Trouble as Troubled}
 use Rattle.lif_volume.specs.Views.{VolumeView, IsOpen}
 use Rattle.lif_plan.specs.Directories.{IsLegalDirectory}
-use Rattle.lif_plan.specs.Refusals.{reason}
 use Rattle.lif_volume.specs.Answers.{store_answer, keeps, Answers, IsNotLif, IsLegalAs, IsSettledAs, HasVolumeOf}
 use Rattle.lif_volume.specs.Commands.{fetching, Consults, mounting, mounting_on, AnswersTo, KeepsVolume}
 use Rattle.lif_volume.specs.Changing.{changes_when, IsChanged, refused_tape, IsWrittenAs, keeps_behind_command, committing, committing_on, HasEitherVolume, VolumeTurns, writes_if_any, SettlesAndWrites, AddsCommit, IsOneOf, MountsAndCommits, Writes, TurnsVolume, WritesByCommit}
@@ -58,7 +56,7 @@ keeps_is Upgrade was answer of = refl
 keeps_is (Format label slots) was answer of = absurd of
 
 -- of a tape that is not legal
-not_lif : (n : ℕ) (command : VolumeCommand) → IsOfDirectory command → refusal_of n command None ≡ Some model.NotLif
+not_lif : (n : ℕ) (command : VolumeCommand) → IsOfDirectory command → refusal_of n command None ≡ Some refusal.NotLif
 not_lif n Dir of = absurd of
 not_lif n Label of = absurd of
 not_lif n (Fetch name) of = absurd of
@@ -73,7 +71,7 @@ not_lif n (Format label slots) of = absurd of
 
 pub answers_from : {T : Type 0} (n : ℕ) (command : VolumeCommand) (s t u : Tape) (a : Result T VolumeFault) → volume_of s ≡ volume_of t → Answers n command s u a → Answers n command t u a
 answers_from n command s t u (Ok x) same is = subst (λ (v : Option Volume). apply n command v ≡ (None, volume_of u)) same is
-answers_from n command s t u (Err (Refused why)) same is = subst (λ (v : Option Volume). apply n command v ≡ (Some (reason why), volume_of u)) same is
+answers_from n command s t u (Err (Refused why)) same is = subst (λ (v : Option Volume). apply n command v ≡ (Some why, volume_of u)) same is
 answers_from n command s t u (Err (Troubled trouble)) same is = tt
 
 written_from : {T : Type 0} (n : ℕ) (command : VolumeCommand) (t u : Tape) (a : Result T VolumeFault) → IsOfDirectory command → volume_of (settled t) ≡ volume_of t

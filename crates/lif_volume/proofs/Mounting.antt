@@ -7,7 +7,9 @@ use Rattle.lif_model.specs.Redo.{Changes, redo_of, settled}
 use Rattle.lif_model.specs.Legal.{is_legal}
 use Rattle.lif_model.specs.Commit.{SettlesAs}
 use Rattle.lif_model.specs.Volume.{Volume, files_of, volume_if, volume_in, volume_of, is_foreign_gated}
-use Rattle.lif_model.specs.Apply.{VolumeCommand, Dir, Label, Fetch, Refusal, NotLif, refusal_of, next_unless, apply}
+use Rattle.lif_model.specs.Apply.{VolumeCommand, Dir, Label, Fetch, refusal_of, next_unless, apply}
+use Rattle.lif_model.specs.declared.refusal.Refusal.{Refusal}
+use Rattle.lif_model.specs.declared.refusal.Refusal.TheVariants.{NotLif}
 use Rattle.lif_model.specs.Transfers.{Transfer}
 use Rattle.lif_model.proofs.Moments.{weaker, still}
 use Rattle.lif_model.proofs.Redo.{settled_twice}
@@ -23,7 +25,6 @@ use Rattle.lif_volume.specs.declared.fault.VolumeFault.TheVariants.{Refused, Tro
 use Rattle.lif_volume.specs.declared.volume.Volume as declared
 use Rattle.lif_volume.specs.Views.{VolumeView, IsDirectoryOf}
 use Rattle.lif_volume.specs.Answers.{HasVolumeOf, Answers, IsSettledAs, IsLegalAs, IsNotLif, store_answer}
-use Rattle.lif_plan.specs.Refusals.{reason}
 use Rattle.lif_volume.specs.Commands.{VolumeStays, Consults, mounting, mounting_on}
 
 -- what contracts see of a volume
@@ -137,5 +138,5 @@ module _ (n : ℕ) (t u : Tape) (same : u ≡ settled t) where
 pub answers_fault : (n : ℕ) (t u : Tape) (tape : Option Tape) (command : VolumeCommand) (fault : VolumeFault) → refusal_of n command None ≡ Some NotLif → tape ≡ Some u
     → IsNotLif fault → IsLegalAs {T = Unit {0}} (settled t) (Err fault) → IsSettledAs t tape (store_answer {T = Unit {0}} (Err fault)) → Answers {T = Unit {0}} n command t u (Err fault)
 answers_fault n t u tape command (Refused why) refused now only off settles =
-    answers_not_lif n t u (behind t u tape now settles) command refused off ∙ ap (λ (r : Refusal). (Some r, volume_of u)) (sym (ap reason only))
+    answers_not_lif n t u (behind t u tape now settles) command refused off ∙ ap (λ (r : Refusal). (Some r, volume_of u)) (sym only)
 answers_fault n t u tape command (Troubled trouble) refused now only off settles = tt

@@ -99,7 +99,7 @@ pub goes_fewer : {S T : Type 0} (j k : ℕ) (v w : RecordsView S) (r : Result T 
 goes_fewer j k v w r left goes =
     let c = goes.continues in
     record {
-      continues = record { valid = c.valid; told = c.told; size = c.size; sound = c.sound; left = left; room = c.room; failed = c.failed; cause = c.cause };
+      continues = record { valid = c.valid; told = c.told; size = c.size; sound = c.sound; ready = c.ready; left = left; room = c.room; failed = c.failed; cause = c.cause };
       stood = goes.stood;
       resumed = goes.resumed;
     }

@@ -13,7 +13,7 @@ use Rattle.lif_model.specs.Legal.{is_live, occupies, lies_between, are_apart, ha
 use Rattle.std.proofs.lemmas.Bool.{and_parts}
 use Rattle.lif_model.specs.Volume.{Volume, IsVolume, redo_entry, volume_in, volume_of}
 use Rattle.lif_model.specs.Apply.{VolumeCommand, Format, IsWellFormed, is_too_long, lacks_redo, runs_past_gate, refusal_of, fresh_volume, next_unless, apply}
-use Rattle.lif_model.specs.Apply as model
+use Rattle.lif_model.specs.declared.refusal.Refusal.{Refusal}
 use Rattle.lif_model.specs.Writing.{format_changes}
 use Rattle.lif_model.proofs.Moments.{weaker}
 use Rattle.lif_model.proofs.Redo.{settled_twice}
@@ -28,9 +28,8 @@ use Rattle.il_ports.proofs.Stores.{goes_within, goes_further, quiet_run, quiet_n
 use Rattle.lif_redo.specs.Writing.{AddsWrites}
 use Rattle.lif_redo.proofs.Told.{was_told}
 use Rattle.lif_dir.specs.Entries.{slot_from, slot_bytes}
-use Rattle.lif_plan.specs.declared.refusal.Refusal.TheVariants as refusal
+use Rattle.lif_model.specs.declared.refusal.Refusal.TheVariants as refusal
 use Rattle.lif_plan.specs.Directories.{IsLegalDirectory}
-use Rattle.lif_plan.specs.Refusals.{reason}
 use Rattle.lif_volume.specs.declared.fault.VolumeFault.{VolumeFault}
 use Rattle.lif_volume.specs.declared.fault.VolumeFault.TheVariants.{Refused, Trouble as Troubled}
 use Rattle.lif_volume.specs.Views.{VolumeView, IsOpen, IsDirectoryOf}
@@ -45,8 +44,8 @@ use Rattle.lif_volume.proofs.Joining.{long_there, legal_there, carried_on, settl
 -- ---- what is tested
 
 in_use_is : (n : ℕ) (v : Volume) (label : List ℕ) (slots : ℕ) (b : Bool) → is_too_long n slots ≡ false → (lacks_redo n v && runs_past_gate n v) ≡ b
-    → refusal_of n (Format label slots) (Some v) ≡ (if b then Some model.InUse else None)
-in_use_is n v label slots b fits is = λ i. if fits i then Some model.NoRoom else if is i then Some model.InUse else None
+    → refusal_of n (Format label slots) (Some v) ≡ (if b then Some refusal.InUse else None)
+in_use_is n v label slots b fits is = λ i. if fits i then Some refusal.NoRoom else if is i then Some refusal.InUse else None
 
 -- by the test that the code makes
 pub room_is : (n size slots : ℕ) (b : Bool) → size ≡ n → b ≡ not (is_too_long size slots) → b ≡ true → is_too_long n slots ≡ false
@@ -87,7 +86,7 @@ module _ {R S : Type 0} (view : R → RecordsView S) (x y : VolumeView R) (heade
   module _ (size : ℕ) (is : size ≡ (view y.records).record_count) (b : Bool)
       (tested : (v : Volume) → v.slots ≡ map slot_bytes y.slots → b ≡ (lacks_redo size v && runs_past_gate size v)) (t : Tape) (told : (view x.records).tape ≡ Some t) (label : List ℕ) (slots : ℕ)
       (fits : is_too_long (view x.records).record_count slots ≡ false) where
-    answer_is : refusal_of (view x.records).record_count (Format label slots) (volume_in (settled t)) ≡ (if b then Some model.InUse else None)
+    answer_is : refusal_of (view x.records).record_count (Format label slots) (volume_in (settled t)) ≡ (if b then Some refusal.InUse else None)
     answer_is =
         let on : IsDirectoryOf (settled t) header y.slots = kept_is_of y header (settled t) kept (opened.known (settled t) (mounted.settles t told)) in
         let same : size ≡ (view x.records).record_count = is ∙ mounted.goes_on.continues.size in
@@ -161,7 +160,7 @@ module _ {R S : Type 0} (view : R → RecordsView S) (x : VolumeView R) (label :
         record {
           volume = elim both.0 [
             | inl e ↦ inl (e ∙ sym volume_is)
-            | inr e ↦ inr (e ∙ sym (ap (λ (p : Option model.Refusal × Option Volume). p.1) applied))
+            | inr e ↦ inr (e ∙ sym (ap (λ (p : Option Refusal × Option Volume). p.1) applied))
           ];
           own_gate = both.1;
         }
@@ -328,8 +327,8 @@ module _ {R S : Type 0} (view : R → RecordsView S) (x y : VolumeView R) (label
   refused_answers (Refused why) cleared fits t u told now =
       let n = (view x.records).record_count in
       let same : u ≡ settled t = behind t u (view y.records).tape now (cleared.settles t told) in
-      refused_stays n (Format label slots) (volume_of t) (reason why) (cleared.free t told label slots fits)
-      ∙ ap (λ (v : Option Volume). (Some (reason why), v)) (sym (ap volume_of same ∙ ap volume_in (settled_twice t)))
+      refused_stays n (Format label slots) (volume_of t) why (cleared.free t told label slots fits)
+      ∙ ap (λ (v : Option Volume). (Some why, v)) (sym (ap volume_of same ∙ ap volume_in (settled_twice t)))
   refused_answers (Troubled trouble) cleared fits t u told now = tt
 
   pub refused_stops : KeepsVolume view x y → TurnsVolume (Format label slots) view x y

@@ -17,7 +17,7 @@ use Rattle.il_ports.specs.Transfers.{WritesOnly, GoesOnBy}
 use Rattle.il_ports.proofs.Stores.{goes_further, goes_within}
 use Rattle.il_ports.proofs.Transfers.{wider, then_more}
 use Rattle.lif_dir.specs.Entries.{slot_bytes}
-use Rattle.lif_plan.specs.declared.refusal.Refusal.{Refusal}
+use Rattle.lif_model.specs.declared.refusal.Refusal.{Refusal}
 use Rattle.lif_plan.specs.declared.placing.Placement.{Placement}
 use Rattle.lif_volume.specs.declared.fault.VolumeFault.{VolumeFault}
 use Rattle.lif_volume.specs.declared.fault.VolumeFault.TheVariants.{Refused, Trouble as Troubled}

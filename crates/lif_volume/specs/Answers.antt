@@ -6,9 +6,9 @@ use Rattle.lif_model.specs.Legal.{is_legal}
 use Rattle.lif_model.specs.Volume.{volume_of, is_foreign_gated}
 use Rattle.lif_model.specs.Apply.{VolumeCommand, apply}
 use Rattle.il_ports.specs.declared.records.Trouble.{Trouble}
-use Rattle.lif_plan.specs.declared.refusal.Refusal.{Refusal}
-use Rattle.lif_plan.specs.declared.refusal.Refusal.TheVariants as refusal
-use Rattle.lif_plan.specs.Refusals.{reason, keeps_behind}
+use Rattle.lif_model.specs.declared.refusal.Refusal.{Refusal}
+use Rattle.lif_model.specs.declared.refusal.Refusal.TheVariants as refusal
+use Rattle.lif_plan.specs.Refusals.{keeps_behind}
 use Rattle.lif_volume.specs.declared.fault.VolumeFault.{VolumeFault}
 use Rattle.lif_volume.specs.declared.fault.VolumeFault.TheVariants.{Refused, Trouble as Troubled}
 
@@ -35,7 +35,7 @@ IsLegalAs t (Err (Troubled _)) = Unit {0}
 abbrev pub Answers : {T : Type 0} → ℕ → VolumeCommand → Tape → Tape → Result T VolumeFault → Type 0
 Answers n command t u (Ok _) = apply n command (volume_of t) ≡ (None, volume_of u)
 Answers n command t u (Err (Refused why)) =
-    apply n command (volume_of t) ≡ (Some (reason why), volume_of u)
+    apply n command (volume_of t) ≡ (Some why, volume_of u)
 Answers n command t u (Err (Troubled _)) = Unit {0}
 
 -- whether it is kept behind this answer: behind an Ok and these refusals

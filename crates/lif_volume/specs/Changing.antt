@@ -11,8 +11,8 @@ use Rattle.lif_model.specs.Transfers.{Transfer}
 use Rattle.il_ports.specs.Stores.{RecordsView, GoesOn, RunLeaves}
 use Rattle.il_ports.specs.Transfers.{WritesOnly, GoesOnBy}
 use Rattle.lif_redo.specs.Writing.{writes_among, AreSingle}
-use Rattle.lif_plan.specs.declared.refusal.Refusal.{Refusal}
-use Rattle.lif_plan.specs.declared.refusal.Refusal.TheVariants as refusal
+use Rattle.lif_model.specs.declared.refusal.Refusal.{Refusal}
+use Rattle.lif_model.specs.declared.refusal.Refusal.TheVariants as refusal
 use Rattle.lif_plan.specs.Refusals.{IsAmong}
 use Rattle.lif_plan.specs.Plans.{version_for}
 use Rattle.lif_volume.specs.declared.fault.VolumeFault.{VolumeFault}

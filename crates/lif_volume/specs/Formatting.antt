@@ -5,7 +5,6 @@ use Rattle.lif_model.specs.Redo.{settled}
 use Rattle.lif_model.specs.Volume.{Volume, volume_in}
 use Rattle.lif_model.specs.Apply.{VolumeCommand, Format, is_too_long, refusal_of}
 use Rattle.il_ports.specs.Stores.{RecordsView, GoesOn}
-use Rattle.lif_plan.specs.Refusals.{reason}
 use Rattle.lif_volume.specs.declared.fault.VolumeFault.{VolumeFault}
 use Rattle.lif_volume.specs.declared.fault.VolumeFault.TheVariants.{Refused, Trouble as Troubled}
 use Rattle.lif_volume.specs.Views.{VolumeView}
@@ -28,7 +27,7 @@ MountsAnyAndCommits command view old new answer =
 abbrev pub IsFreeAs : {T : Type 0} → ℕ → Option Volume → Result T VolumeFault → Type 0
 IsFreeAs n volume (Ok _) = (label : List ℕ) (slots : ℕ) → is_too_long n slots ≡ false → refusal_of n (Format label slots) volume ≡ None
 IsFreeAs n volume (Err (Refused why)) =
-    (label : List ℕ) (slots : ℕ) → is_too_long n slots ≡ false → refusal_of n (Format label slots) volume ≡ Some (reason why)
+    (label : List ℕ) (slots : ℕ) → is_too_long n slots ≡ false → refusal_of n (Format label slots) volume ≡ Some why
 IsFreeAs n volume (Err (Troubled _)) = Unit {0}
 
 -- whether the directory is kept: it may be or not where the tape is free

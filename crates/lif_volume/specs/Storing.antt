@@ -15,7 +15,7 @@ use Rattle.il_ports.specs.Stores.{RecordsView, GoesOn}
 use Rattle.il_ports.specs.Transfers.{WritesOnly, GoesOnBy}
 use Rattle.lif_redo.specs.Reading.{version_of}
 use Rattle.lif_redo.specs.Writing.{writes_among, AreSingle}
-use Rattle.lif_plan.specs.declared.refusal.Refusal.{Refusal}
+use Rattle.lif_model.specs.declared.refusal.Refusal.{Refusal}
 use Rattle.lif_plan.specs.declared.placing.Placement.{Placement}
 use Rattle.lif_plan.specs.Plans.{version_for, IsVolumeWith, RefusesAs}
 use Rattle.lif_plan.specs.Placements.{LiesWithin, placed_writes, placed_bytes}

@@ -11,8 +11,8 @@ ghost use Rattle.lif_volume.specs.Changing.{IsOneOf, MountsAndCommits, Writes};
 ghost use Rattle.lif_volume.specs.Changing.{TurnsVolume, WritesByCommit};
 ghost use Rattle.lif_volume.specs.Plans.{IsOfDirectory, CarriesOut};
 ghost use Rattle.lif_plan.specs.Plans.{IsPlan};
-ghost use Rattle.lif_plan.specs.declared.refusal.Refusal.{Refusal};
-ghost use Rattle.lif_plan.specs.declared.refusal.Refusal.TheVariants as refusal;
+ghost use Rattle.lif_model.specs.declared.refusal.Refusal.{Refusal};
+ghost use Rattle.lif_model.specs.declared.refusal.Refusal.TheVariants as refusal;
 
 use crate::fault::VolumeFault;
 use crate::volume::{Seen, Volume};

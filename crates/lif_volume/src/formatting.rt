@@ -6,7 +6,7 @@ ghost use Rattle.lif_model.specs.Volume.{volume_in};
 ghost use Rattle.lif_model.specs.Apply.{Format, is_too_long, refusal_of};
 ghost use Rattle.il_ports.specs.Stores.{IsReady};
 ghost use Rattle.lif_dir.specs.Names.{label_bytes};
-ghost use Rattle.lif_plan.specs.declared.refusal.Refusal.TheVariants as refusal;
+ghost use Rattle.lif_model.specs.declared.refusal.Refusal.TheVariants as refusal;
 ghost use Rattle.lif_volume.specs.Views.{IsOpen};
 ghost use Rattle.lif_volume.specs.Answers.{refused};
 ghost use Rattle.lif_volume.specs.Commands.{IsReadyFor, AnswersTo, KeepsVolume, WritesBySettling};

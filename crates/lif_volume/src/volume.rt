@@ -79,7 +79,7 @@ impl<R: Records> Volume<R> {
     ghost use Rattle.lif_volume.specs.Commands.{Lists, Labels, FetchesFile, FetchesByRun};
     ghost use Rattle.std.specs.Prelude.{[], ◌∷◌};
     ghost use Rattle.lif_volume.specs.Changing.{IsOneOf};
-    ghost use Rattle.lif_plan.specs.declared.refusal.Refusal.TheVariants as refusal;
+    ghost use Rattle.lif_model.specs.declared.refusal.Refusal.TheVariants as refusal;
 
     /// A volume on these records, of which nothing is read yet. All memory of the volume is taken
     /// here; where there is none the records are handed back.

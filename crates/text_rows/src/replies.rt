@@ -5,7 +5,7 @@ use il_script::{Code, LineFault, Page, Reply};
 use std::test::Fail;
 
 /// Each reply, and its last line.
-const REPLIES: [(Reply, &str); 15] = [
+const REPLIES: [(Reply, &str); 20] = [
     (Reply::Ok, "ok\n"),
     (Reply::No(Code::BadLine), "error 1 BadLine\n"),
     (Reply::No(Code::LineTooLong), "error 2 LineTooLong\n"),
@@ -19,6 +19,11 @@ const REPLIES: [(Reply, &str); 15] = [
     (Reply::No(Code::InUse), "error 10 InUse\n"),
     (Reply::No(Code::Protected), "error 11 Protected\n"),
     (Reply::No(Code::NoPrinter), "error 12 NoPrinter\n"),
+    (Reply::No(Code::BatchTooLarge), "error 13 BatchTooLarge\n"),
+    (Reply::No(Code::NeedsUpgrade), "error 14 NeedsUpgrade\n"),
+    (Reply::No(Code::OutOfOrder), "error 15 OutOfOrder\n"),
+    (Reply::No(Code::NotText), "error 16 NotText\n"),
+    (Reply::No(Code::NoTaker), "error 17 NoTaker\n"),
     (Reply::FaultFrame, "fault frame\n"),
     (Reply::FaultMedium, "fault medium\n"),
 ];

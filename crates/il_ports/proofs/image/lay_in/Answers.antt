@@ -1,5 +1,5 @@
 use Rattle.std.proofs.Common.{length, arith}
-use Rattle.il_ports.proofs.Images.{cut_next, cut_end, shaped_next}
+use Rattle.il_ports.proofs.ImageBytes.{cut_next, cut_end, shaped_next}
 use Rattle.il_ports.proofs.image.lay_in.Goals as goal
 
 pub loop-record-preserved : goal.loop-record-preserved

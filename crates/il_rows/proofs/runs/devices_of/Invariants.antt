@@ -1,12 +1,10 @@
 use Rattle.std.proofs.Common.{◌≤◌, length}
 use Rattle.std.specs.List.{All}
 use Rattle.il_ring.specs.Rings.{MayStand}
-use Rattle.il_host.specs.Shorts.{IsShort}
 use Rattle.il_rows.proofs.runs.devices_of.Given as goal
 
 abbrev pub invariant-quiets : goal.invariant-quiets
 invariant-quiets g l = record {
   count : length l.devices.items ≤ l.counter;
   stand : All (λ b. MayStand ((g.dyn-1.0.entry b.vtable).1.state b.value)) l.devices.items;
-  short : All (λ b. IsShort ((g.dyn-1.0.entry b.vtable).1.state b.value)) l.devices.items;
 }

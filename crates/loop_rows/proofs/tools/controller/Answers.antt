@@ -7,12 +7,12 @@ use Rattle.loop_rows.proofs.tools.controller.Goals as goal
 
 pub lost_of-requires-clause-lost : goal.lost_of-requires-clause-lost
 lost_of-requires-clause-lost g c =
-    let fit = c.fits-fits.ensures.0 c.if-fits.true in
+    let fit = c.fits-fits.ensures.stands c.if-fits.true in
     new_lost _ _ _ c.in-Ok.ensures.ring c.in-Ok.ensures.books (ap (λ d. d.state) c.in-Ok.ensures.drive) (subst (All MayStand) (sym c.in-Ok.ensures.before) (all_mapped MayStand _ _ fit.1))
     (subst (All MayStand) (sym c.in-Ok.ensures.after) (all_mapped MayStand _ _ fit.2))
 
 pub lost_of-requires-clause-places : goal.lost_of-requires-clause-places
 lost_of-requires-clause-places g c =
-    let fit = c.fits-fits.ensures.0 c.if-fits.true in
+    let fit = c.fits-fits.ensures.stands c.if-fits.true in
     new_may_poll _ c.in-Ok.ensures.ring (ap (λ d. d.state) c.in-Ok.ensures.drive) (subst (All MayStand) (sym c.in-Ok.ensures.before) (all_mapped MayStand _ _ fit.1))
     (subst (All MayStand) (sym c.in-Ok.ensures.after) (all_mapped MayStand _ _ fit.2))

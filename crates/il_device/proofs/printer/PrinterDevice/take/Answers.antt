@@ -40,7 +40,7 @@ returns-in-Pass-clause-takes c =
     }) in
     rw (← c.self.view_is)
     (Takes-on i k heard now 8192 f out c.roles-before.ensures.standing c.effect-turn.ensures.standing
-    c.take.ensures.room (lit≤ tt) (Behind-effect i k f c.effect-turn.ensures.state) bytes answers)
+    c.self.invariant.2 (lit≤ tt) (Behind-effect i k f c.effect-turn.ensures.state) bytes answers)
 
 pub returns-in-Pass-clause-printer : goal.returns-in-Pass-clause-printer
 returns-in-Pass-clause-printer c =
@@ -84,4 +84,4 @@ returns-in-Compare-clause-takes c =
     (ap (λ x. x.own) c.finish.ensures.state) in
     rw (← c.self.view_is)
     (Takes-on i k heard now 8192 f out c.roles-before.ensures.standing c.finish.ensures.standing
-    c.take.ensures.room (lit≤ tt) behind bytes answers)
+    c.self.invariant.2 (lit≤ tt) behind bytes answers)

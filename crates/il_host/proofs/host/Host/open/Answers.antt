@@ -21,7 +21,7 @@ returns-in-Ok-open-clause-opened g c =
         size = search rules;
         stands = search rules;
         log = search rules;
-        short = new_ring_short g.M.Medium.view _ _ _ _ c.args.rig.before.items c.args.rig.after.items (ap (loop_in _) c.in-Ok-open.ensures.records ∙ c.new-3.ensures.at) c.new-2.ensures made.before made.after c.requires.short_before c.requires.short_after;
+        short = new_ring_short g.M.Medium.view _ _ _ _ c.args.rig.before.items c.args.rig.after.items (ap (loop_in _) c.in-Ok-open.ensures.records ∙ c.new-3.ensures.at) c.new-2.ensures made.before made.after c.requires.before c.requires.after;
         text = search rules;
         file = search rules;
       };

@@ -50,3 +50,23 @@ returns-in-Protected-clause-text c = sym (ap error_line c.in-Protected.is)
 pub returns-in-NoPrinter-clause-text : goal.returns-in-NoPrinter-clause-text
 unfolding digits
 returns-in-NoPrinter-clause-text c = sym (ap error_line c.in-NoPrinter.is)
+
+pub returns-in-BatchTooLarge-clause-text : goal.returns-in-BatchTooLarge-clause-text
+unfolding digits
+returns-in-BatchTooLarge-clause-text c = sym (ap error_line c.in-BatchTooLarge.is)
+
+pub returns-in-NeedsUpgrade-clause-text : goal.returns-in-NeedsUpgrade-clause-text
+unfolding digits
+returns-in-NeedsUpgrade-clause-text c = sym (ap error_line c.in-NeedsUpgrade.is)
+
+pub returns-in-OutOfOrder-clause-text : goal.returns-in-OutOfOrder-clause-text
+unfolding digits
+returns-in-OutOfOrder-clause-text c = sym (ap error_line c.in-OutOfOrder.is)
+
+pub returns-in-NotText-clause-text : goal.returns-in-NotText-clause-text
+unfolding digits
+returns-in-NotText-clause-text c = sym (ap error_line c.in-NotText.is)
+
+pub returns-in-NoTaker-clause-text : goal.returns-in-NoTaker-clause-text
+unfolding digits
+returns-in-NoTaker-clause-text c = sym (ap error_line c.in-NoTaker.is)

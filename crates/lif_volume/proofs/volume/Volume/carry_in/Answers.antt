@@ -8,7 +8,7 @@ use Rattle.il_ports.specs.Stores.{StoredRun}
 use Rattle.lif_redo.specs.Reading.{version_of}
 use Rattle.lif_dir.specs.Entries.{slot_bytes}
 use Rattle.lif_model.proofs.Made.{length_cut}
-use Rattle.lif_plan.specs.declared.refusal.Refusal.{Refusal}
+use Rattle.lif_model.specs.declared.refusal.Refusal.{Refusal}
 use Rattle.lif_plan.specs.declared.placing.Placement.{Placement}
 use Rattle.lif_plan.specs.Placements.{placed_writes}
 use Rattle.lif_volume.specs.Views.{VolumeView}

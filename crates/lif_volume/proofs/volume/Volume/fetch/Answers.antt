@@ -14,14 +14,13 @@ use Rattle.lif_volume.specs.declared.volume.Fetched.{Fetched}
 use Rattle.lif_volume.specs.declared.volume.Volume.{Volume}
 use Rattle.lif_plan.specs.Directories.{IsLegalDirectory}
 use Rattle.lif_volume.specs.Views.{IsDirectoryOf}
-use Rattle.lif_plan.specs.Refusals.{reason}
 use Rattle.lif_volume.specs.Answers.{refused, troubled}
 use Rattle.il_ports.specs.declared.records.Trouble.{Trouble}
 use Rattle.il_ports.specs.Transfers.{GoesOnBy}
 use Rattle.il_ports.specs.Stores.{GoesOn}
 use Rattle.il_ports.proofs.Stores.{goes_within}
 use Rattle.lif_volume.specs.Commands.{EndsWithRead, mounting, fetching}
-use Rattle.lif_plan.specs.declared.refusal.Refusal.TheVariants as refusal
+use Rattle.lif_model.specs.declared.refusal.Refusal.TheVariants as refusal
 use Rattle.lif_volume.proofs.Joining.{long_there, fetch_bound, not_lif_only}
 use Rattle.lif_volume.proofs.Mounting.{seen, behind, kept_is_of, stays_reading, answers_refused, answers_fetch}
 use Rattle.lif_volume.proofs.Fetching.{legal_of, file_ready, file_within, file_room, file_goes_on, file_few, open_reading, ends_with_read, run_behind, file_is_fetched}
@@ -76,7 +75,7 @@ returns-in_err-file-clause-answers g c =
     let on : IsDirectoryOf (settled t) header c.mount.new.self.directory.table.slots =
     kept_is_of y header (settled t) e.kept (e.open.known (settled t) (e.consults.settles t told)) in
     let size : c.size.result ≡ n = c.size.ensures ∙ e.consults.goes_on.continues.size in
-    rw is (answers_refused n t u (behind t u _ now (e.consults.settles t told)) (Fetch (name_bytes c.args.name.now)) (reason c.in_err-file.field-0.0) (e.exactly t told)
+    rw is (answers_refused n t u (behind t u _ now (e.consults.settles t told)) (Fetch (name_bytes c.args.name.now)) c.in_err-file.field-0.0 (e.exactly t told)
     (λ v same. ap (λ (m : ℕ). refusal_of m (Fetch (name_bytes c.args.name.now)) (Some v)) (sym size) ∙ c.in_err-file.ensures.refusal v (same ∙ sym on.directory.bytes)))
 
 pub returns-in-Err-clause-consults : goal.returns-in-Err-clause-consults

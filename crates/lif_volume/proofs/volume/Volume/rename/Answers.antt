@@ -3,8 +3,8 @@ use Rattle.std.specs.Prelude.{Err}
 use Rattle.lif_model.specs.Apply.{Rename}
 use Rattle.lif_dir.specs.Entries.{name_bytes, slot_bytes}
 use Rattle.lif_dir.specs.Names.{made_name}
-use Rattle.lif_plan.specs.declared.refusal.Refusal.{Refusal}
-use Rattle.lif_plan.specs.declared.refusal.Refusal.TheVariants as refusal
+use Rattle.lif_model.specs.declared.refusal.Refusal.{Refusal}
+use Rattle.lif_model.specs.declared.refusal.Refusal.TheVariants as refusal
 use Rattle.lif_plan.specs.Plans.{IsPlan}
 use Rattle.lif_volume.proofs.Mounting.{seen}
 use Rattle.lif_volume.proofs.Joining.{altered, not_altered, not_lif_only, among_more, long_there, ready_there}

@@ -2,8 +2,8 @@ use Rattle.std.proofs.Common.{◌≡◌, ◌∷◌, [], ℕ, List, map, subst, r
 use Rattle.std.specs.Prelude.{Err}
 use Rattle.lif_model.specs.Apply.{Upgrade}
 use Rattle.lif_dir.specs.Entries.{slot_bytes}
-use Rattle.lif_plan.specs.declared.refusal.Refusal.{Refusal}
-use Rattle.lif_plan.specs.declared.refusal.Refusal.TheVariants as refusal
+use Rattle.lif_model.specs.declared.refusal.Refusal.{Refusal}
+use Rattle.lif_model.specs.declared.refusal.Refusal.TheVariants as refusal
 use Rattle.lif_plan.specs.Plans.{IsPlan}
 use Rattle.lif_volume.proofs.Mounting.{seen}
 use Rattle.lif_volume.proofs.Joining.{altered, not_altered, not_lif_only, among_more, long_there, ready_there}

@@ -1,0 +1,24 @@
+-- A run of the program, by what `run_il` leaves over what was made for it.
+use Rattle.std.proofs.Common.{◌≡◌, ℕ, List, Option, subst}
+use Rattle.il_device.specs.State.{DeviceState}
+use Rattle.il_ports.specs.Media.{MediumView}
+use Rattle.il_host.specs.Whole.{RunLeaves, outside}
+
+module _ {D : Type 0} (view : D → MediumView) (status : ℕ) (words : List (List ℕ)) (now : D) (left_now written_now : Option (List ℕ)) (after before_now after_now : List DeviceState) (source_faults sink_faults : ℕ) (untouched : Type 0) where
+  -- over this drive, script, output and counts
+  abbrev Leaves : D → Option (List ℕ) → Option (List ℕ) → List DeviceState → ℕ → ℕ → Type 0
+  Leaves d left written before source sink =
+      RunLeaves status words (view d) (view now) (outside (view d) left written before after) (outside (view now) left_now written_now before_now after_now) source source_faults sink sink_faults untouched
+
+  pub ran_by : (fresh old : D) (left left_old written written_old : Option (List ℕ)) (before before_old : List DeviceState) (source sink : ℕ) (same : Type 0)
+      → Leaves old left_old written_old before_old source sink → old ≡ fresh → left_old ≡ left → written_old ≡ written → before_old ≡ before → source ≡ 0 → sink ≡ 0 → (untouched → same)
+      → RunLeaves status words (view fresh) (view now) (outside (view fresh) left written before after) (outside (view now) left_now written_now before_now after_now) 0 source_faults 0 sink_faults same
+  ran_by fresh old left left_old written written_old before before_old source sink same ran fresh_is left_is written_is before_is source_is sink_is stays =
+      let told =
+      subst (λ (d : D). Leaves d left written before 0 0) fresh_is
+      (subst (λ (o : Option (List ℕ)). Leaves old o written before 0 0) left_is
+      (subst (λ (o : Option (List ℕ)). Leaves old left_old o before 0 0) written_is
+      (subst (λ (l : List DeviceState). Leaves old left_old written_old l 0 0) before_is
+      (subst (λ (n : ℕ). Leaves old left_old written_old before_old n 0) source_is
+      (subst (λ (n : ℕ). Leaves old left_old written_old before_old source n) sink_is ran)))))
+      in record { end = told.end; status_is = told.status_is; cause = told.cause; leaves = told.leaves; empty = told.empty; early = λ early. stays (told.early early) }

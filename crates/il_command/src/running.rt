@@ -1,0 +1,83 @@
+ghost use Rattle.std.specs.Prelude.{◌≡◌, ◌≤◌, [], length, map, string_bytes};
+ghost use Rattle.std.specs.List.{All};
+ghost use Rattle.il_ring.specs.Rings.{MayStand};
+ghost use Rattle.il_ports.specs.FileDrives.{empty_drive};
+ghost use Rattle.il_host.specs.Whole.{RunLeaves, outside};
+
+use il_device::Device;
+use il_host::{Ended, Rig, run_il};
+use il_ports::{FileMedium, Images, Medium, Sink, Source, StdSink, StdSource, TapeFile};
+use std::alloc::Global;
+use std::io::{Read, Write};
+
+/// How a run ended, and what it hands back.
+#[derive(Drop)]
+pub struct Finished<R: Read + Drop, W: Write + Drop, F: TapeFile + Drop, I: Images<F> + Drop> {
+    /// The exit status.
+    pub status: u8,
+    /// What is left of the script.
+    pub script: StdSource<R>,
+    /// What was written.
+    pub out: StdSink<W>,
+    /// The drive with the image, and the devices after it.
+    pub rig: Rig<FileMedium<F, I>>,
+}
+
+impl<R: Read + Drop, W: Write + Drop, F: TapeFile + Drop, I: Images<F> + Drop> Finished<
+    R,
+    W,
+    F,
+    I,
+> {
+    ghost use Rattle.std.specs.Prelude.{◌≡◌};
+
+    /// Closes the image, and says the exit status.
+    pub fn close(self) -> u8
+        ensures { result ≡ self.status }
+    {
+        let Finished {
+            status,
+            script,
+            out,
+            rig,
+        } = self;
+        drop(script);
+        drop(out);
+        drop(rig);
+        status
+    }
+}
+
+/// A run over a reader and a writer of std, over named images, and over the devices after the drive, as `run_il` makes
+/// it. It takes no memory of its own.
+pub fn run_with<R: Read + Drop, W: Write + Drop, F: TapeFile + Drop, I: Images<F> + Drop>(
+    alloc: Global,
+    words: &[String],
+    reader: R,
+    writer: W,
+    images: I,
+    after: Vec<Box<dyn Device>>,
+) -> Finished<R, W, F, I>
+    requires few { length after.items ≤ 29 }
+    requires stand { All (λ b. MayStand (⟦<Box<dyn Device> as Device>⟧.state b)) after.items }
+    ensures { RunLeaves result.status (map string_bytes words.now) (empty_drive (I.shelf images) 0) (⟦<FileMedium<F, I> as Medium>⟧.view result.rig.medium)
+        (outside (empty_drive (I.shelf images) 0) (R.remaining reader) (W.contents writer) [] (map ⟦<Box<dyn Device> as Device>⟧.state after.items))
+        (outside (⟦<FileMedium<F, I> as Medium>⟧.view result.rig.medium) (⟦<StdSource<R> as Source>⟧.left result.script) (⟦<StdSink<W> as Sink>⟧.written result.out) (map ⟦<Box<dyn Device> as Device>⟧.state result.rig.before.items) (map ⟦<Box<dyn Device> as Device>⟧.state result.rig.after.items))
+        0 (⟦<StdSource<R> as Source>⟧.faults result.script) 0 (⟦<StdSink<W> as Sink>⟧.faults result.out)
+        ((⟦<StdSource<R> as Source>⟧.left result.script ≡ R.remaining reader) × (⟦<StdSink<W> as Sink>⟧.written result.out ≡ W.contents writer)) }
+{
+    let mut script = StdSource::new(reader);
+    let mut out = StdSink::new(writer);
+    let rig = Rig {
+        medium: FileMedium::new(images),
+        before: Vec::new(alloc),
+        after,
+    };
+    let Ended { status, rig } = run_il(alloc, words, &mut script, &mut out, rig);
+    Finished {
+        status,
+        script,
+        out,
+        rig,
+    }
+}

@@ -1,0 +1,25 @@
+-- A file in memory.
+use Rattle.std.specs.Prelude.{◌≡◌, ℕ, Bool, List, length, unwrap_or, Option, Some}
+use Rattle.std.proofs.Common.{refl, inl, sym, ◌∙◌, ap}
+use Rattle.il_ports.specs.Files.{FileView, IsFile}
+use Rattle.il_ports.specs.Past.{Contents, Since, only_kept}
+use Rattle.il_ports.specs.declared.tape_file.Access.{Access}
+
+abbrev pub memory_view : List ℕ → List ℕ → List ℕ → Option Access → Bool → ℕ → Contents → FileView
+memory_view name seen kept held broken failures past = record {
+  named = Some name;
+  seen = Some seen;
+  kept = Some kept;
+  held = λ access. held ≡ Some access;
+  broken = broken;
+  failures = failures;
+  moment = length past;
+  left_since = Since past kept;
+}
+
+pub memory_is_file : (name seen kept : List ℕ) (held : Option Access) (broken : Bool) (failures : ℕ) (past : Contents) → IsFile (memory_view name seen kept held broken failures past)
+memory_is_file name seen kept held broken failures past = record {
+  told = refl;
+  leaves_now = λ k b le is. inl (ap (λ (o : Option (List ℕ)). unwrap_or o kept) (sym is));
+  leaves_only = λ b c is left. only_kept past kept c left ∙ ap (λ (o : Option (List ℕ)). unwrap_or o kept) is;
+}
