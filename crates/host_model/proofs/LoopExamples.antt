@@ -12,6 +12,7 @@ use Rattle.il_frames.specs.Frames.{framed}
 use Rattle.il_frames.specs.declared.frame.Frame.{Frame}
 use Rattle.loop_model.specs.Entries.{unl, lad}
 use Rattle.loop_model.specs.Exchanges.{Command, Identify, Echo, Send, Receive, Sst, Sai, Stopped, Piece, Whole}
+use Rattle.loop_model.specs.Polls.{poll_enable, poll_unconfigure}
 use Rattle.loop_model.specs.Units.{RecordUnit}
 use Rattle.il_script.specs.declared.reply.Code.TheVariants as code
 use Rattle.il_script.specs.declared.reply.Reply.{Reply}
@@ -21,7 +22,7 @@ use Rattle.host_model.specs.LoopStates.{LoopState}
 use Rattle.host_model.specs.HostStates.{volume_at}
 use Rattle.host_model.specs.Next.{Next}
 use Rattle.host_model.specs.Steps.{IsCarried}
-use Rattle.host_model.specs.Courses.{keeps_course, course_of, poll_enable, poll_unconfigure}
+use Rattle.host_model.specs.Courses.{keeps_course, course_of}
 use Rattle.host_model.proofs.StepExamples.{told, asking, status_pieces, lost_pieces}
 use Rattle.host_model.proofs.Small.{printer, empty_host, numbers_differ, false_is_not_true}
 
@@ -68,7 +69,7 @@ said = record {
   status = refl;
 }
 
--- behind a fault a front, and one byte of any value
+-- behind a fault the first ones, and one byte of any value
 said_in_part : Says reply.FaultFrame (heard (codes "HX") 2)
 said_in_part = record {
   devices = record {
@@ -76,7 +77,7 @@ said_in_part = record {
     after = (
       record {
         accessory = refl;
-        hears = record { front = 1; within = omega arith; more = codes "X"; few = omega arith; heard = record { heard = refl; heard_count = refl; room = refl; accessory = refl } };
+        hears = (1, omega arith, record { more = codes "X"; few = omega arith; heard = record { heard = refl; heard_count = refl; room = refl; accessory = refl } });
         service = λ h. refl;
       },
       tt,

@@ -1,21 +1,28 @@
 -- What is said of the devices of a ring, in the words of what the ring stands for.
 use Rattle.std.proofs.Common.{◌≡◌, ◌≤◌, ◌+◌, ◌++◌, ◌∙◌, ℕ, suc, Bool, List, [], ◌∷◌, length, map, Option, Some, None, refl, sym, ap, subst, arith, length-append}
 use Rattle.il_frames.specs.declared.entry.Entry.{Entry}
+use Rattle.il_frames.specs.declared.frame.Class.TheVariants as class
+use Rattle.il_frames.specs.declared.frame.Frame.{Frame}
+use Rattle.il_frames.specs.Frames.{framed}
+use Rattle.il_device.specs.Passing.{identified}
 use Rattle.il_device.specs.State.{DeviceState, risen_by}
 use Rattle.il_ports.specs.Media.{MediumView}
 use Rattle.il_drive.specs.State.{drive_id, device_of}
+use Rattle.loop_model.specs.Devices.{EachBecomes}
 use Rattle.loop_model.specs.Loops.{host_loop}
+use Rattle.loop_model.specs.Polls.{poll_place, polled_along}
 use Rattle.loop_model.specs.Reach.{links, passes, held_at_end}
 use Rattle.loop_model.specs.Roles.{OneTalker, roles_after}
+use Rattle.loop_model.proofs.DeviceLaws.{each_weaker}
 use Rattle.il_ring.specs.Adds.{Adds}
 use Rattle.il_ring.specs.Rings.{RingView, devices_of, roles_of, drive_party}
 use Rattle.il_ring.specs.Rounded.{AllTook, Took}
 use Rattle.il_script.specs.declared.reply.Reply.{Reply}
 use Rattle.host_model.specs.Requests.{Item}
-use Rattle.host_model.specs.LoopStates.{LoopState, all_roles, all_ids, all_wants, device_count, ring_of}
+use Rattle.host_model.specs.LoopStates.{LoopState, all_roles, all_ids, device_count, drive_at, poll_frame, ring_of}
 use Rattle.host_model.specs.HostStates.{log_room}
 use Rattle.host_model.specs.RingStates.{loop_on, state_on}
-use Rattle.host_model.specs.Next.{EachBecomes, BoxedBecome}
+use Rattle.host_model.specs.Next.{BoxedBecome}
 use Rattle.host_model.specs.Steps.{Travels, TookFrames}
 
 -- ---- all devices
@@ -29,9 +36,6 @@ all_told tell (d ∷ before) drive after = ap (λ ds. tell d ∷ ds) (all_told t
 pub roles_on : {M : Type 0} (r : RingView M) → all_roles (loop_on r) ≡ roles_of (devices_of r)
 roles_on r = sym (all_told (λ d. d.roles) r.before (device_of r.drive.state) r.after)
 
-pub wants_on : {M : Type 0} (r : RingView M) → all_wants (loop_on r) ≡ map (λ d. d.wants) (devices_of r)
-wants_on r = sym (all_told (λ d. d.wants) r.before (device_of r.drive.state) r.after)
-
 pub ids_on : {M : Type 0} (r : RingView M) → r.drive.state.interface.accessory ≡ Some drive_id → all_ids (loop_on r) ≡ map (λ d. d.accessory) (devices_of r)
 ids_on r is =
     ap (λ id. map (λ d. d.accessory) r.before ++ id ∷ map (λ d. d.accessory) r.after) (sym is)
@@ -42,6 +46,22 @@ count_on r = sym (length-append r.before (device_of r.drive.state ∷ r.after))
 
 pub ring_on : {M : Type 0} (r : RingView M) → ring_of (loop_on r) ≡ host_loop (length (devices_of r)) (drive_party r)
 ring_on r = ap (λ k. host_loop k (drive_party r)) (count_on r)
+
+-- ---- the parallel poll
+
+-- behind all devices the frame is that behind the first ones and then the others
+polled_parts : (k : ℕ) (xs ys : List DeviceState) (f : Frame) → polled_along k (xs ++ ys) f ≡ polled_along (k + length xs) ys (polled_along k xs f)
+polled_parts k [] ys f = let same : k ≡ k + 0 = omega arith in ap (λ j. polled_along j ys f) same
+polled_parts k (x ∷ xs) ys f =
+    let g = identified (poll_place k) x.wants f in
+    let same : k + 1 + length xs ≡ k + suc (length xs) = omega arith in
+    polled_parts (k + 1) xs ys g ∙ ap (λ j. polled_along j ys (polled_along (k + 1) xs g)) same
+
+pub poll_on : {M : Type 0} (r : RingView M) → polled_along 1 (devices_of r) (framed class.Idy 0x00) ≡ poll_frame (loop_on r)
+poll_on r =
+    let behind = device_of r.drive.state ∷ r.after in
+    let place : 1 + length r.before ≡ drive_at (loop_on r) = omega arith in
+    polled_parts 1 r.before behind (framed class.Idy 0x00) ∙ ap (λ j. polled_along j behind (polled_along 1 r.before (framed class.Idy 0x00))) place
 
 -- ---- the devices beside the drive
 
@@ -73,13 +93,6 @@ took_each k sending entries held j [] [] h = tt
 took_each k sending entries held j (d ∷ ds) (e ∷ es) h = (h.0, took_each k sending entries held (j + 1) ds es h.1)
 took_each k sending entries held j [] (e ∷ es) h = absurd h
 took_each k sending entries held j (d ∷ ds) [] h = absurd h
-
-each_weaker : (R S : ℕ → DeviceState → DeviceState → Type 0) → ((party : ℕ) (d e : DeviceState) → R party d e → S party d e)
-    → (party : ℕ) (ds es : List DeviceState) → EachBecomes R party ds es → EachBecomes S party ds es
-each_weaker R S weaker party [] [] h = tt
-each_weaker R S weaker party (d ∷ ds) (e ∷ es) h = (weaker party d e h.0, each_weaker R S weaker (party + 1) ds es h.1)
-each_weaker R S weaker party [] (e ∷ es) h = absurd h
-each_weaker R S weaker party (d ∷ ds) [] h = absurd h
 
 took_frames : (k : ℕ) (log : List Entry) (party : ℕ) (d e : DeviceState) → Took k None log (held_at_end None log) party d e → TookFrames k log party d e
 took_frames k log party d e h =

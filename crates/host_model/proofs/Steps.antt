@@ -1,37 +1,18 @@
 -- Laws of one step, for those who say a part of it by itself.
-use Rattle.std.proofs.Common.{◌≡◌, ◌≢◌, ◌≤◌, ◌+◌, ◌↔◌, ◌∙◌, ℕ, suc, cond, List, [], ◌∷◌, length, refl, ap, subst, arith}
+use Rattle.std.proofs.Common.{◌≡◌, ◌≢◌, ◌≤◌, ◌+◌, ◌↔◌, ◌∙◌, ℕ, cond, List, [], ◌∷◌, length, refl, ap, subst, arith}
 use Rattle.il_device.specs.State.{DeviceState}
+use Rattle.loop_model.specs.Devices.{EachBecomes}
 use Rattle.loop_model.specs.Loops.{host_loop}
 use Rattle.loop_model.specs.Reach.{met}
 use Rattle.loop_model.specs.Units.{RecordUnit}
+use Rattle.loop_model.proofs.DeviceLaws.{each_length, each_same, each_then}
 use Rattle.il_script.specs.declared.reply.Reply.{Reply}
 use Rattle.il_script.specs.declared.reply.Reply.TheVariants as reply
 use Rattle.host_model.specs.LoopStates.{LoopState, device_count, drive_at, ring_of}
-use Rattle.host_model.specs.Next.{EachBecomes, BoxedBecome}
+use Rattle.host_model.specs.Next.{BoxedBecome}
 use Rattle.host_model.specs.Steps.{Event, IsStep, HasReplyCause, is_frame_fault}
 
 -- ---- devices one by one
-
-pub each_length : (R : ℕ → DeviceState → DeviceState → Type 0) (party : ℕ) (ds es : List DeviceState) → EachBecomes R party ds es → length es ≡ length ds
-each_length R party [] [] h = refl
-each_length R party (d ∷ ds) (e ∷ es) h = ap suc (each_length R (party + 1) ds es h.1)
-each_length R party [] (e ∷ es) h = absurd h
-each_length R party (d ∷ ds) [] h = absurd h
-
--- what holds of each device as it is
-pub each_same : (R : ℕ → DeviceState → DeviceState → Type 0) → ((party : ℕ) (d : DeviceState) → R party d d) → (party : ℕ) (ds : List DeviceState) → EachBecomes R party ds ds
-each_same R same party [] = tt
-each_same R same party (d ∷ ds) = (same party d, each_same R same (party + 1) ds)
-
--- one step behind the other
-pub each_then : (R S T : ℕ → DeviceState → DeviceState → Type 0) → ((party : ℕ) (d e f : DeviceState) → R party d e → S party e f → T party d f)
-    → (party : ℕ) (ds es fs : List DeviceState) → EachBecomes R party ds es → EachBecomes S party es fs → EachBecomes T party ds fs
-each_then R S T join party [] [] [] a b = tt
-each_then R S T join party (d ∷ ds) (e ∷ es) (f ∷ fs) a b = (join party d e f a.0 b.0, each_then R S T join (party + 1) ds es fs a.1 b.1)
-each_then R S T join party [] (e ∷ es) fs a b = absurd a
-each_then R S T join party (d ∷ ds) [] fs a b = absurd a
-each_then R S T join party [] [] (f ∷ fs) a b = absurd b
-each_then R S T join party (d ∷ ds) (e ∷ es) [] a b = absurd b
 
 pub boxed_same : (R : ℕ → DeviceState → DeviceState → Type 0) → ((party : ℕ) (d : DeviceState) → R party d d) → (z : LoopState) → BoxedBecome R z z
 boxed_same R same z = record { before = each_same R same 1 z.before; after = each_same R same (length z.before + 2) z.after }

@@ -6,8 +6,9 @@ use Rattle.std.specs.Str.{bytes_eq}
 use Rattle.il_frames.specs.declared.frame.Frame.{Frame}
 use Rattle.il_frames.specs.Frames.{byte_of}
 use Rattle.il_drive.specs.Resting.{sdc}
-use Rattle.loop_model.specs.Entries.{command, ifc, aau, unl, lad, is_frame}
+use Rattle.loop_model.specs.Entries.{ifc, aau, unl, lad, is_frame}
 use Rattle.loop_model.specs.Exchanges.{Exchange, Command, Address, Send, Receive, Identify, Answer, NotTaken, Stopped, Sst, Sai, Piece, Whole, Cut}
+use Rattle.loop_model.specs.Polls.{poll_enable, poll_unconfigure}
 use Rattle.host_model.specs.Requests.{Devices, Status, Poll, Say, Item, Asks}
 use Rattle.host_model.specs.LoopStates.{LoopState, device_count, drive_at, all_ids, status_byte, poll_frame, printer_at}
 
@@ -73,13 +74,6 @@ clears_due z = is_commanding unl ∷ is_commanding (lad (drive_at z)) ∷ is_com
 abbrev pub ids_due : ℕ → List (Option ℕ) → List Due
 ids_due party [] = []
 ids_due party (id ∷ ids) = is_id_told party id ∷ ids_due (party + 1) ids
-
--- parallel poll enable n, and parallel poll unconfigure
-abbrev pub poll_enable : ℕ → Frame
-poll_enable n = command (0x80 + n)
-
-abbrev pub poll_unconfigure : Frame
-poll_unconfigure = command 0x15
 
 -- so many parties from this one on get their places in the poll
 abbrev pub places_due : ℕ → ℕ → List Due

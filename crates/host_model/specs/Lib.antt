@@ -5,7 +5,6 @@ pub mod RingStates
 pub mod Listing
 pub mod Replies
 pub mod Generated
-pub mod Hearing
 pub mod Next
 pub mod Courses
 pub mod Steps

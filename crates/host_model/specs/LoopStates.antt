@@ -1,11 +1,10 @@
 -- What stands on the loop between two commands, and what the commands of the loop tell of it.
-use Rattle.std.specs.Prelude.{ℕ, suc, ◌+◌, ◌-◌, nat_le, Bool, true, if◌then◌else◌, List, [], ◌∷◌, ◌++◌, length, map, Option, Some, None, option_map}
+use Rattle.std.specs.Prelude.{ℕ, suc, ◌+◌, List, ◌∷◌, ◌++◌, length, map, Option, Some, option_map}
 use Rattle.std.specs.List.{position}
 use Rattle.il_frames.specs.declared.frame.Class.TheVariants as class
 use Rattle.il_frames.specs.declared.frame.Frame.{Frame}
 use Rattle.il_frames.specs.Frames.{framed}
 use Rattle.il_poll.specs.Service.{wants_service, status_byte_of}
-use Rattle.il_poll.specs.declared.service.Assignment.{Assignment}
 use Rattle.il_device.specs.declared.roles.Roles.{Roles}
 use Rattle.il_device.specs.Roles.{no_roles}
 use Rattle.il_device.specs.State.{DeviceState}
@@ -13,6 +12,7 @@ use Rattle.il_device.specs.Passing.{identified}
 use Rattle.il_drive.specs.State.{drive_id}
 use Rattle.il_ring.specs.Rings.{printer_id, has_id, paper_of}
 use Rattle.loop_model.specs.Loops.{Loop, host_loop}
+use Rattle.loop_model.specs.Polls.{poll_place, polled_along}
 
 -- the devices before the drive, in the order of the ring; the drive's status, 0 to 3, and its roles; the devices behind it
 pub record LoopState : Type 0 where
@@ -49,10 +49,6 @@ all_roles z = map (λ d. d.roles) z.before ++ z.drive ∷ map (λ d. d.roles) z.
 abbrev pub all_ids : LoopState → List (Option ℕ)
 all_ids z = map (λ d. d.accessory) z.before ++ Some drive_id ∷ map (λ d. d.accessory) z.after
 
--- which of them want service: the drive does while its status is not 0
-abbrev pub all_wants : LoopState → List Bool
-all_wants z = map (λ d. d.wants) z.before ++ wants_service z.status ∷ map (λ d. d.wants) z.after
-
 -- ---- what the drive tells of itself
 
 -- the byte that answers a request for its status
@@ -61,18 +57,12 @@ status_byte z = status_byte_of z.status
 
 -- ---- the parallel poll (HP-IL Interface Specification, parallel poll)
 
--- the first eight parties have a bit each, from bit 0 on, and set it where they want service
-abbrev pub place_in_poll : ℕ → Option Assignment
-place_in_poll party = if nat_le party 8 then Some (record { bit = party - 1; sense = true }) else None
-
--- the identify frame behind these devices, of which the first is that party
-abbrev pub polled_from : ℕ → List Bool → Frame → Frame
-polled_from party [] f = f
-polled_from party (wants ∷ more) f = polled_from (party + 1) more (identified (place_in_poll party) wants f)
-
--- the frame that comes back to the host
+-- The identify frame that comes back to the host, behind the devices before the drive, the drive and those behind it. The drive wants
+-- service while its status is not 0.
 abbrev pub poll_frame : LoopState → Frame
-poll_frame z = polled_from 1 (all_wants z) (framed class.Idy 0x00)
+poll_frame z =
+    let before = polled_along 1 z.before (framed class.Idy 0x00) in
+    polled_along (drive_at z + 1) z.after (identified (poll_place (drive_at z)) (wants_service z.status) before)
 
 -- ---- the printer
 

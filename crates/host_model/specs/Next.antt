@@ -1,23 +1,17 @@
 -- What an item leaves of the loop, by its reply.
-use Rattle.std.specs.Prelude.{◌≡◌, ◌⊎◌, ◌≤◌, ◌+◌, ◌==◌, ℕ, Bool, true, false, MatchBool, List, [], ◌∷◌, length, Option, Some, None}
+use Rattle.std.specs.Prelude.{◌≡◌, ◌⊎◌, ◌≤◌, ◌+◌, ◌==◌, ℕ, Bool, true, false, MatchBool, List, length, Option, Some, None}
 use Rattle.il_device.specs.State.{DeviceState}
+use Rattle.loop_model.specs.Devices.{EachBecomes}
+use Rattle.loop_model.specs.Listening.{HearsAll, HearsInPart}
 use Rattle.il_ring.specs.Outcomes.{HearsNothing}
 use Rattle.il_script.specs.declared.reply.Reply.{Reply}
 use Rattle.il_script.specs.declared.reply.Reply.TheVariants as reply
 use Rattle.host_model.specs.Requests.{OfVolume, Status, Poll, Say, Paper, Item, Asks, NoCommand}
 use Rattle.host_model.specs.LoopStates.{LoopState, printer_at}
-use Rattle.host_model.specs.Hearing.{HearsAll, HearsFront}
 
 -- ---- device by device
 
--- these devices, of which the first is that party, become the others one by one
-abbrev pub EachBecomes : (ℕ → DeviceState → DeviceState → Type 0) → ℕ → List DeviceState → List DeviceState → Type 0
-EachBecomes R party [] [] = Unit {0}
-EachBecomes R party (d ∷ ds) (e ∷ es) = R party d e × EachBecomes R (party + 1) ds es
-EachBecomes R party [] (e ∷ es) = ⊥
-EachBecomes R party (d ∷ ds) [] = ⊥
-
--- the same of all devices beside the drive
+-- the devices beside the drive become others, one by one
 pub record BoxedBecome (R : ℕ → DeviceState → DeviceState → Type 0) (z y : LoopState) : Type 0 where
   pub before : EachBecomes R 1 z.before y.before
   pub after : EachBecomes R (length z.before + 2) z.after y.after
@@ -28,10 +22,10 @@ abbrev pub is_party : ℕ → Option ℕ → Bool
 is_party party None = false
 is_party party (Some other) = party == other
 
--- with ok the printer hears all bytes, and with a fault a front of them
+-- with ok the printer hears all bytes, and with a fault the first ones, and then at most one byte of any value
 abbrev pub HearsSaid : List ℕ → Reply → DeviceState → DeviceState → Type 0
 HearsSaid bytes reply.Ok d e = HearsAll bytes d e
-HearsSaid bytes reply.FaultFrame d e = HearsFront bytes d e
+HearsSaid bytes reply.FaultFrame d e = (whole : ℕ) × (whole ≤ length bytes) × HearsInPart whole bytes d e
 HearsSaid bytes r d e = HearsNothing d e
 
 -- no other device hears anything, and behind no other item any device does

@@ -17,6 +17,7 @@ use Rattle.loop_model.specs.Exchanges.{Reading}
 use Rattle.loop_model.specs.Reach.{links, passes, met}
 use Rattle.il_device.specs.declared.roles.Roles.{Roles}
 use Rattle.loop_model.specs.Hearing.{heard_by}
+use Rattle.loop_model.specs.Listening.{HearsAll}
 use Rattle.loop_model.specs.Roles.{OneTalker, roles_after}
 use Rattle.loop_model.specs.Units.{RecordUnit, units_of, ends_within}
 use Rattle.il_script.specs.declared.reply.Reply.{Reply}
@@ -26,7 +27,6 @@ use Rattle.host_model.specs.LoopStates.{all_roles, device_count, ring_of}
 use Rattle.host_model.specs.HostStates.{HostState, volume_at, HasOwnGate, log_room}
 use Rattle.host_model.specs.Replies.{reply_of, volume_behind}
 use Rattle.host_model.specs.Courses.{begins_with, cleared_first, course_of, keeps_course}
-use Rattle.host_model.specs.Hearing.{HearsAll}
 use Rattle.host_model.specs.Next.{Next, BoxedBecome}
 
 pub record Event : Type 0 where

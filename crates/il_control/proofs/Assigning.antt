@@ -13,13 +13,15 @@ use Rattle.il_device.specs.Roles.{is_own}
 use Rattle.il_device.specs.State.{DeviceState}
 use Rattle.loop_model.specs.Entries.{lad, unl}
 use Rattle.loop_model.specs.Roles.{are_numbered}
+use Rattle.loop_model.specs.Devices.{EachBecomes}
+use Rattle.loop_model.specs.Polls.{poll_enable}
 use Rattle.loop_model.proofs.SendLaws.{message_of-lad}
 use Rattle.il_ring.specs.Lists.{First}
 use Rattle.il_ring.specs.Outcomes.{HearsNothing, Obeys}
 use Rattle.il_ring.specs.Rings.{RingView, devices_of, roles_of}
 use Rattle.il_control.specs.Calls.{IsIdle, Obeyed, ObeyedInPart}
 use Rattle.il_control.proofs.Calls.{hears_then}
-use Rattle.il_control.specs.Places.{ppe, EachTo, GivenPlace}
+use Rattle.il_control.specs.Places.{GivenPlace}
 
 abbrev is_ppe : ℕ → Message → Bool
 is_ppe n (msg.Ppe m) = m == n
@@ -29,8 +31,8 @@ is_ppe-true : (n : ℕ) (m : Message) → is_ppe n m ≡ true → m ≡ msg.Ppe 
 is_ppe-true n (msg.Ppe m) e = ap msg.Ppe (eqb-true m n e)
 is_ppe-true n m e = cc
 
-pub message_of-ppe : (n : ℕ) → n < 16 → message_of (ppe n) ≡ msg.Ppe n
-message_of-ppe n small = is_ppe-true n (message_of (ppe n)) (agree_below_at (λ n. is_ppe n (message_of (ppe n))) (λ n. true) 16 n refl small)
+pub message_of-ppe : (n : ℕ) → n < 16 → message_of (poll_enable n) ≡ msg.Ppe n
+message_of-ppe n small = is_ppe-true n (message_of (poll_enable n)) (agree_below_at (λ n. is_ppe n (message_of (poll_enable n))) (λ n. true) 16 n refl small)
 
 -- each device has the place that it had, or is party a and has this one
 pub record MayHavePlace (a n k : ℕ) (d e : DeviceState) : Type 0 where
@@ -87,7 +89,7 @@ kept a n k c d e chosen same = subst (MayHavePlace a n k c) (sym same) (record {
 
 -- ---- all devices
 
-all_chosen : (a k : ℕ) (cs ds es : List DeviceState) → are_numbered k (roles_of cs) ≡ true → First (Obeys msg.Unl) (length cs) cs ds → First (Obeys (msg.Lad a)) (length ds) ds es → EachTo (IsChosen a) k cs es
+all_chosen : (a k : ℕ) (cs ds es : List DeviceState) → are_numbered k (roles_of cs) ≡ true → First (Obeys msg.Unl) (length cs) cs ds → First (Obeys (msg.Lad a)) (length ds) ds es → EachBecomes (IsChosen a) k cs es
 all_chosen a k [] [] [] numbers first more = tt
 all_chosen a k (c ∷ cs) (d ∷ ds) (e ∷ es) numbers first more =
     let parts = and_parts (is_own c.roles.address k) (are_numbered (suc k) (roles_of cs)) numbers in
@@ -98,7 +100,7 @@ all_chosen a k [] (d ∷ ds) es numbers first more = absurd first
 all_chosen a k (c ∷ cs) [] es numbers first more = absurd first
 all_chosen a k (c ∷ cs) (d ∷ ds) [] numbers first more = absurd more
 
-all_given : (a n k : ℕ) (cs ds es : List DeviceState) → EachTo (IsChosen a) k cs ds → First (Obeys (msg.Ppe n)) (length ds) ds es → EachTo (GivenPlace a n) k cs es
+all_given : (a n k : ℕ) (cs ds es : List DeviceState) → EachBecomes (IsChosen a) k cs ds → First (Obeys (msg.Ppe n)) (length ds) ds es → EachBecomes (GivenPlace a n) k cs es
 all_given a n k [] [] [] first more = tt
 all_given a n k (c ∷ cs) (d ∷ ds) (e ∷ es) first more = (given a n k c d e first.0 more.0, all_given a n (k + 1) cs ds es first.1 more.1)
 all_given a n k [] [] (e ∷ es) first more = absurd more
@@ -106,7 +108,7 @@ all_given a n k [] (d ∷ ds) es first more = absurd first
 all_given a n k (c ∷ cs) [] es first more = absurd first
 all_given a n k (c ∷ cs) (d ∷ ds) [] first more = absurd more
 
-some_given : (a n k j : ℕ) (cs ds es : List DeviceState) → EachTo (IsChosen a) k cs ds → First (Obeys (msg.Ppe n)) j ds es → EachTo (MayHavePlace a n) k cs es
+some_given : (a n k j : ℕ) (cs ds es : List DeviceState) → EachBecomes (IsChosen a) k cs ds → First (Obeys (msg.Ppe n)) j ds es → EachBecomes (MayHavePlace a n) k cs es
 some_given a n k j [] [] [] first more = tt
 some_given a n k zero (c ∷ cs) (d ∷ ds) (e ∷ es) first more = (kept a n k c d e first.0 more.0, some_given a n (k + 1) zero cs ds es first.1 more.1)
 some_given a n k (suc j) (c ∷ cs) (d ∷ ds) (e ∷ es) first more = (may_have a n k c e (given a n k c d e first.0 more.0), some_given a n (k + 1) j cs ds es first.1 more.1)
@@ -117,21 +119,21 @@ some_given a n k j (c ∷ cs) (d ∷ ds) [] first more = absurd more
 
 -- ---- three commands
 
-chosen_behind : {M : Type 0} (r m u : RingView M) (a : ℕ) (f g : Frame) → IsIdle r → a ≤ 30 → f ≡ unl → g ≡ lad a → Obeyed (message_of f) r m → Obeyed (message_of g) m u → EachTo (IsChosen a) 1 (devices_of r) (devices_of u)
+chosen_behind : {M : Type 0} (r m u : RingView M) (a : ℕ) (f g : Frame) → IsIdle r → a ≤ 30 → f ≡ unl → g ≡ lad a → Obeyed (message_of f) r m → Obeyed (message_of g) m u → EachBecomes (IsChosen a) 1 (devices_of r) (devices_of u)
 chosen_behind r m u a f g idle low is_unl is_lad first more =
     all_chosen a 1 (devices_of r) (devices_of m) (devices_of u) idle.numbered (subst (λ f. First (Obeys (message_of f)) (length (devices_of r)) (devices_of r) (devices_of m)) is_unl first)
     (subst (λ message. First (Obeys message) (length (devices_of m)) (devices_of m) (devices_of u)) (ap message_of is_lad ∙ message_of-lad a (le-leb a 30 low)) more)
 
 -- all whole
-pub place_given : {M : Type 0} (r m u s : RingView M) (a n : ℕ) (f g h : Frame) → IsIdle r → a ≤ 30 → n < 16 → f ≡ unl → g ≡ lad a → h ≡ ppe n → Obeyed (message_of f) r m → Obeyed (message_of g) m u → Obeyed (message_of h) u s
-    → EachTo (GivenPlace a n) 1 (devices_of r) (devices_of s)
+pub place_given : {M : Type 0} (r m u s : RingView M) (a n : ℕ) (f g h : Frame) → IsIdle r → a ≤ 30 → n < 16 → f ≡ unl → g ≡ lad a → h ≡ poll_enable n → Obeyed (message_of f) r m → Obeyed (message_of g) m u → Obeyed (message_of h) u s
+    → EachBecomes (GivenPlace a n) 1 (devices_of r) (devices_of s)
 place_given r m u s a n f g h idle low small is_unl is_lad is_ppe first more last =
     all_given a n 1 (devices_of r) (devices_of u) (devices_of s) (chosen_behind r m u a f g idle low is_unl is_lad first more)
     (subst (λ message. First (Obeys message) (length (devices_of u)) (devices_of u) (devices_of s)) (ap message_of is_ppe ∙ message_of-ppe n small) last)
 
 -- PPE was broken off
-pub place_in_part : {M : Type 0} (r m u s : RingView M) (a n : ℕ) (f g h : Frame) → IsIdle r → a ≤ 30 → n < 16 → f ≡ unl → g ≡ lad a → h ≡ ppe n → Obeyed (message_of f) r m → Obeyed (message_of g) m u → ObeyedInPart (message_of h) u s
-    → EachTo (MayHavePlace a n) 1 (devices_of r) (devices_of s)
+pub place_in_part : {M : Type 0} (r m u s : RingView M) (a n : ℕ) (f g h : Frame) → IsIdle r → a ≤ 30 → n < 16 → f ≡ unl → g ≡ lad a → h ≡ poll_enable n → Obeyed (message_of f) r m → Obeyed (message_of g) m u → ObeyedInPart (message_of h) u s
+    → EachBecomes (MayHavePlace a n) 1 (devices_of r) (devices_of s)
 place_in_part r m u s a n f g h idle low small is_unl is_lad is_ppe first more last =
     some_given a n 1 last.0 (devices_of r) (devices_of u) (devices_of s) (chosen_behind r m u a f g idle low is_unl is_lad first more)
     (subst (λ message. First (Obeys message) last.0 (devices_of u) (devices_of s)) (ap message_of is_ppe ∙ message_of-ppe n small) last.1)

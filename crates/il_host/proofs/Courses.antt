@@ -1,5 +1,5 @@
 -- What calls of the loop ask for is what their courses have due.
-use Rattle.std.proofs.Common.{◌≡◌, ◌+◌, ◌-◌, ◌++◌, ◌==◌, ◌∙◌, ℕ, zero, suc, Bool, true, false, List, [], ◌∷◌, length, map, get_or, Option, Some, None, refl, sym, ap, ap₂, subst, arith, append_assoc, append-nil, length-append}
+use Rattle.std.proofs.Common.{◌≡◌, ◌+◌, ◌-◌, ◌++◌, ◌==◌, ◌∙◌, ℕ, zero, suc, Bool, true, false, List, [], ◌∷◌, length, get_or, Option, Some, None, refl, sym, ap, ap₂, subst, arith, append_assoc, append-nil, length-append}
 use Rattle.std.specs.List.{starts_with}
 use Rattle.std.specs.Prelude.{nat_eq, take}
 use Rattle.std.specs.Str.{bytes_eq}
@@ -12,13 +12,12 @@ use Rattle.il_device.specs.State.{DeviceState}
 use Rattle.loop_model.specs.Entries.{is_frame, lad, unl}
 use Rattle.loop_model.specs.Exchanges.{Answer, NotTaken, ToItsEnd, Stopped, Exchange, Command, Address, Send, Receive, Identify, Sai, Sst, Sda, Sdi, Start, Echo, is_exchange, bytes_of}
 use Rattle.loop_model.specs.Loops.{Loop}
+use Rattle.loop_model.specs.Polls.{poll_enable, poll_unconfigure}
 use Rattle.il_control.specs.Receives.{accessory_at}
-use Rattle.il_control.specs.Places.{ppe}
 use Rattle.il_record.specs.Asks.{Ask, AskHear, AskIdentify, AskTell, IsFirstOf, Told, ask_of, told_of, up_to}
 use Rattle.il_record.specs.LoopCalls.{id_asks, id_told, ids_of, say_asks}
-use Rattle.il_record.specs.Polls.{collect_asks, place_asks, polled_along, ppu}
-use Rattle.host_model.specs.LoopStates.{polled_from}
-use Rattle.host_model.specs.Courses.{bytes_due, ids_due, is_commanding, is_id_answer, is_id_told, is_identified, is_said, places_due, poll_unconfigure}
+use Rattle.il_record.specs.Polls.{collect_asks, place_asks}
+use Rattle.host_model.specs.Courses.{bytes_due, ids_due, is_commanding, is_id_answer, is_id_told, is_identified, is_said, places_due}
 use Rattle.il_host.proofs.Keeping.{Meets, MeetsOne, meets_command, meets_then, same_frame}
 
 -- ---- address by address
@@ -142,19 +141,14 @@ meets_identify l f = record { whole = whole; broken = broken }
 
 meets_places_from : (l : Loop) (k n : ℕ) → Meets l (from place_asks k n) (places_due k n)
 meets_places_from l k zero = tt
-meets_places_from l k (suc n) = (meets_command l unl, (meets_command l (lad k), (meets_command l (ppe (7 + k)), meets_places_from l (k + 1) n)))
+meets_places_from l k (suc n) = (meets_command l unl, (meets_command l (lad k), (meets_command l (poll_enable (7 + k)), meets_places_from l (k + 1) n)))
 
 -- the first devices take their places, all answer, and the places are taken away
 pub meets_poll : (l : Loop) (f : Frame) (n : ℕ) → Meets l (up_to place_asks n ++ collect_asks f) (places_due 1 n ++ is_commanding unl ∷ is_identified f ∷ is_commanding poll_unconfigure ∷ [])
 meets_poll l f n =
     meets_then l (up_to place_asks n) (collect_asks f) (places_due 1 n) (is_commanding unl ∷ is_identified f ∷ is_commanding poll_unconfigure ∷ [])
     (subst (λ asks. Meets l asks (places_due 1 n)) (sym (up_to_from place_asks n)) (meets_places_from l 1 n))
-    (meets_command l unl, (meets_identify l f, (meets_command l ppu, tt)))
-
--- the frame that comes back, in the words of the host
-pub polled_wants : (k : ℕ) (ds : List DeviceState) (f : Frame) → polled_along k ds f ≡ polled_from k (map (λ d. d.wants) ds) f
-polled_wants k [] f = refl
-polled_wants k (d ∷ ds) f = polled_wants (k + 1) ds _
+    (meets_command l unl, (meets_identify l f, (meets_command l poll_unconfigure, tt)))
 
 -- ---- bytes for a printer
 

@@ -1,14 +1,15 @@
 -- What is said of the devices of a ring one by one, as what a host's loop becomes.
-use Rattle.std.proofs.Common.{◌≡◌, ◌≢◌, ◌≤◌, ◌<◌, ◌+◌, ℕ, zero, suc, List, [], ◌∷◌, length, refl, arith}
+use Rattle.std.proofs.Common.{◌≡◌, ◌≢◌, ◌≤◌, ◌<◌, ◌+◌, ℕ, List, [], ◌∷◌, length, arith}
 use Rattle.il_device.specs.State.{DeviceState}
 use Rattle.il_drive.specs.State.{device_of}
+use Rattle.loop_model.specs.Devices.{EachBecomes}
 use Rattle.il_ring.specs.Lists.{First}
 use Rattle.il_ring.specs.Outcomes.{HearsNothing}
 use Rattle.il_ring.specs.Rings.{RingView, devices_of, drive_party}
-use Rattle.il_control.specs.Places.{EachTo}
 use Rattle.il_record.specs.Came.{OthersUnheard, OnlyHeard}
+use Rattle.il_record.proofs.Commands.{each_all}
 use Rattle.host_model.specs.RingStates.{loop_on}
-use Rattle.host_model.specs.Next.{EachBecomes, BoxedBecome}
+use Rattle.host_model.specs.Next.{BoxedBecome}
 use Rattle.host_model.proofs.RingStates.{beside_drive}
 
 -- ---- by the forms that the calls have
@@ -18,19 +19,6 @@ each_unheard a k [] [] h = tt
 each_unheard a k (d ∷ ds) (e ∷ es) h = (h.0, each_unheard a (k + 1) ds es h.1)
 each_unheard a k [] (e ∷ es) h = absurd h
 each_unheard a k (d ∷ ds) [] h = absurd h
-
-each_first : (R : DeviceState → DeviceState → Type 0) (k j : ℕ) (ds es : List DeviceState) → j ≡ length ds → First R j ds es → EachBecomes (λ party d e. R d e) k ds es
-each_first R k j [] [] all h = tt
-each_first R k zero (d ∷ ds) (e ∷ es) all h = absurd (omega (arith, all))
-each_first R k (suc j) (d ∷ ds) (e ∷ es) all h = let fewer : j ≡ length ds = omega (arith, all) in (h.0, each_first R (k + 1) j ds es fewer h.1)
-each_first R k j [] (e ∷ es) all h = absurd h
-each_first R k j (d ∷ ds) [] all h = absurd h
-
-each_to : (R : ℕ → DeviceState → DeviceState → Type 0) (k : ℕ) (ds es : List DeviceState) → EachTo R k ds es → EachBecomes R k ds es
-each_to R k [] [] h = tt
-each_to R k (d ∷ ds) (e ∷ es) h = (h.0, each_to R (k + 1) ds es h.1)
-each_to R k [] (e ∷ es) h = absurd h
-each_to R k (d ∷ ds) [] h = absurd h
 
 -- ---- the devices beside the drive
 
@@ -75,9 +63,9 @@ boxed_unheard S r s same unheard weaker =
 pub boxed_first : {M : Type 0} (R : DeviceState → DeviceState → Type 0) (S : ℕ → DeviceState → DeviceState → Type 0) (r s : RingView M) → length s.before ≡ length r.before
     → First R (length (devices_of r)) (devices_of r) (devices_of s) → ((party : ℕ) (d e : DeviceState) → R d e → S party d e) → BoxedBecome S (loop_on r) (loop_on s)
 boxed_first R S r s same first weaker =
-    boxed_by (λ party d e. R d e) S r s same (λ party d e other h. weaker party d e h) (each_first R 1 (length (devices_of r)) (devices_of r) (devices_of s) refl first)
+    boxed_by (λ party d e. R d e) S r s same (λ party d e other h. weaker party d e h) (each_all R (λ party d e. R d e) (λ party d e h. h) 1 (devices_of r) (devices_of s) first)
 
 -- each device of the ring became so, by its party
 pub boxed_to : {M : Type 0} (R S : ℕ → DeviceState → DeviceState → Type 0) (r s : RingView M) → length s.before ≡ length r.before
-    → EachTo R 1 (devices_of r) (devices_of s) → ((party : ℕ) (d e : DeviceState) → R party d e → S party d e) → BoxedBecome S (loop_on r) (loop_on s)
-boxed_to R S r s same each weaker = boxed_by R S r s same (λ party d e other h. weaker party d e h) (each_to R 1 (devices_of r) (devices_of s) each)
+    → EachBecomes R 1 (devices_of r) (devices_of s) → ((party : ℕ) (d e : DeviceState) → R party d e → S party d e) → BoxedBecome S (loop_on r) (loop_on s)
+boxed_to R S r s same each weaker = boxed_by R S r s same (λ party d e other h. weaker party d e h) each

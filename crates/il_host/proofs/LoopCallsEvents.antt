@@ -1,6 +1,7 @@
 -- The exchanges of asking for accessory IDs, of polling and of printing, once the loop is ready.
-use Rattle.std.proofs.Common.{◌≡◌, ◌≤◌, ◌++◌, ◌∙◌, ℕ, Bool, true, false, min, List, [], ◌∷◌, length, map, Option, Some, None, refl, sym, ap, ap₂, subst, arith, append-nil}
+use Rattle.std.proofs.Common.{◌≡◌, ◌≤◌, ◌+◌, ◌++◌, ◌∙◌, ℕ, Bool, true, false, min, List, [], ◌∷◌, length, map, Option, Some, None, refl, sym, ap, ap₂, subst, arith, append-nil}
 use Rattle.il_frames.specs.declared.frame.Frame.{Frame}
+use Rattle.il_device.specs.Passing.{identified}
 use Rattle.il_device.specs.State.{DeviceState}
 use Rattle.il_ports.specs.Media.{MediumView}
 use Rattle.il_drive.specs.State.{drive_id}
@@ -10,19 +11,20 @@ use Rattle.il_ring.specs.Rings.{RingView, devices_of, drive_party}
 use Rattle.il_control.specs.Calls.{IsFree, Stays, idy, loop_of}
 use Rattle.il_record.specs.Asks.{CameAsked, up_to}
 use Rattle.il_record.specs.LoopCalls.{AllNamed, LeavesDrive, LeftAlone, NotSaid, Said, id_asks, ids_of, say_asks}
-use Rattle.il_record.specs.Polls.{HasPolled, PollBroke, poll_asks, polled_along}
+use Rattle.il_record.specs.Polls.{HasPolled, PollBroke, poll_asks}
 use Rattle.il_record.specs.Runs.{Interrupted, address_asks}
 use Rattle.il_script.specs.declared.reply.Reply.TheVariants as reply
 use Rattle.il_script.specs.declared.reply.Code.{Code}
 use Rattle.host_model.specs.Requests.{Item, Asks, Devices, Poll, Say}
-use Rattle.host_model.specs.LoopStates.{all_ids, device_count, poll_frame, polled_from, printer_at}
+use Rattle.host_model.specs.LoopStates.{all_ids, device_count, poll_frame, printer_at}
 use Rattle.host_model.specs.RingStates.{loop_on}
-use Rattle.host_model.specs.Courses.{Due, addressed_first, bytes_due, course_of, ids_due, is_commanding, is_identified, places_due, poll_unconfigure}
+use Rattle.host_model.specs.Courses.{Due, addressed_first, bytes_due, course_of, ids_due, is_commanding, is_identified, places_due}
 use Rattle.host_model.specs.Steps.{Exchanged}
-use Rattle.host_model.proofs.RingStates.{count_on, ids_on, wants_on}
+use Rattle.host_model.proofs.RingStates.{count_on, ids_on, poll_on}
 use Rattle.loop_model.specs.Entries.{unl}
+use Rattle.loop_model.specs.Polls.{poll_place, poll_unconfigure, polled_along}
 use Rattle.il_host.proofs.CommandTravels.{event_on}
-use Rattle.il_host.proofs.Courses.{meets_ids, meets_poll, meets_say, polled_wants}
+use Rattle.il_host.proofs.Courses.{meets_ids, meets_poll, meets_say}
 use Rattle.il_host.proofs.Keeping.{Keeps, keeps_asked, keeps_broken, keeps_then}
 use Rattle.il_host.proofs.LoopEvents.{IsOfLoop, Readies, keeps_interrupted, keeps_ready, loop_broken, loop_done, loop_refused}
 use Rattle.il_host.proofs.StatusEvents.{ready_leaves}
@@ -40,6 +42,18 @@ ready_told : {M X : Type 0} (view : M → MediumView) (tell : DeviceState → X)
 ready_told {M} view tell same true r m ready = ap (λ (m : RingView M). map tell (devices_of m)) ready.0
 ready_told view tell same false r m ready = told_same tell same (devices_of r) (devices_of m) ready.1.leaves.stays
 
+-- the poll's frame tells which devices want service, and that stays
+polled_same : (k : ℕ) (ds es : List DeviceState) (f : Frame) → First (Stays true) (length ds) ds es → polled_along k es f ≡ polled_along k ds f
+polled_same k [] [] f stays = refl
+polled_same k (d ∷ ds) (e ∷ es) f stays =
+    polled_same (k + 1) ds es (identified (poll_place k) e.wants f) stays.1 ∙ ap (λ wants. polled_along (k + 1) ds (identified (poll_place k) wants f)) (stays.0.wants refl)
+polled_same k [] (e ∷ es) f stays = absurd stays
+polled_same k (d ∷ ds) [] f stays = absurd stays
+
+ready_polled : {M : Type 0} (view : M → MediumView) (was : Bool) (r m : RingView M) → Readies view was r m → polled_along 1 (devices_of m) idy ≡ polled_along 1 (devices_of r) idy
+ready_polled {M} view true r m ready = ap (λ (m : RingView M). polled_along 1 (devices_of m) idy) ready.0
+ready_polled view false r m ready = polled_same 1 (devices_of r) (devices_of m) idy ready.1.leaves.stays
+
 ready_count : {M : Type 0} (view : M → MediumView) (was : Bool) (r m : RingView M) → Readies view was r m → length (devices_of m) ≡ length (devices_of r)
 ready_count {M} view true r m ready = ap (λ (m : RingView M). length (devices_of m)) ready.0
 ready_count view false r m ready = ready.1.came.units.came.talked.adds.size
@@ -53,7 +67,7 @@ module _ {M : Type 0} (view : M → MediumView) (was : Bool) (r m : RingView M) 
   ready_ids drive = ready_told view (λ d. d.accessory) (λ d e stays. stays.nothing.accessory) was r m ready ∙ sym (ids_on r drive)
 
   pub ready_frame : polled_along 1 (devices_of m) idy ≡ poll_frame (loop_on r)
-  ready_frame = polled_wants 1 (devices_of m) idy ∙ ap (λ wants. polled_from 1 wants idy) (ready_told view (λ d. d.wants) (λ d e stays. stays.wants refl) was r m ready ∙ sym (wants_on r))
+  ready_frame = ready_polled view was r m ready ∙ poll_on r
 
 -- ---- any command of the loop
 

@@ -5,12 +5,13 @@ use Rattle.il_frames.specs.declared.frame.Frame.{Frame}
 use Rattle.il_device.specs.State.{DeviceState}
 use Rattle.il_ports.specs.Media.{MediumView}
 use Rattle.il_drive.specs.State.{status_of}
+use Rattle.loop_model.specs.Listening.{HearsAll, HearsInPart}
 use Rattle.il_ring.specs.Outcomes.{HearsNothing}
 use Rattle.il_ring.specs.Rings.{RingView}
 use Rattle.il_control.specs.Calls.{Stays}
 use Rattle.il_control.proofs.Calls.{hears_then}
 use Rattle.il_record.specs.Asks.{Ask}
-use Rattle.il_record.specs.Listening.{Hears, HearsBytes, HearsInPart, HearsPart}
+use Rattle.il_record.specs.Listening.{Hears, HearsPart}
 use Rattle.il_record.specs.LoopCalls.{AllNamed, LeftAlone, NotSaid, Said}
 use Rattle.il_record.specs.Polls.{HasPolled, PollBroke, PollsOn, Released}
 use Rattle.il_script.specs.declared.reply.Reply.{Reply}
@@ -19,12 +20,11 @@ use Rattle.il_script.specs.declared.reply.Code.{Code}
 use Rattle.host_model.specs.Requests.{Asks, Devices, Poll, Say}
 use Rattle.host_model.specs.LoopStates.{printer_at}
 use Rattle.host_model.specs.RingStates.{loop_on}
-use Rattle.host_model.specs.Hearing.{HearsAll, HearsFront}
-use Rattle.host_model.specs.Next.{BoxedBecome, DeviceBehind, Next, is_party}
+use Rattle.host_model.specs.Next.{BoxedBecome, DeviceBehind, HearsSaid, Next, is_party}
 use Rattle.host_model.proofs.Steps.{boxed_then}
 use Rattle.il_host.proofs.Devices.{boxed_first, boxed_to}
 use Rattle.il_host.proofs.LoopEvents.{Readies}
-use Rattle.il_host.proofs.LoopNext.{IsStill, Still, Deaf, either, front_none, hears_all, hears_front, ready_still}
+use Rattle.il_host.proofs.LoopNext.{IsStill, Still, Deaf, either, hears_all, hears_part, ready_still, said_none}
 use Rattle.il_host.proofs.StatusEvents.{ready_leaves}
 
 -- a device that heard nothing in two parts
@@ -100,7 +100,7 @@ module _ {M : Type 0} (view : M → MediumView) (was : Bool) (r m s : RingView M
   say_unnamed_next bytes asks left = record {
     devices =
         behind Deaf (DeviceBehind (Asks (Say bytes)) reply.FaultFrame (loop_on r))
-        (λ party d e f first more. let both = hears_then d e f first.nothing more in record { accessory = both.accessory; hears = either (is_party party (printer_at (loop_on r))) (front_none bytes d f both) both; service = λ is. cc })
+        (λ party d e f first more. let both = hears_then d e f first.nothing more in record { accessory = both.accessory; hears = either (is_party party (printer_at (loop_on r))) (said_none bytes d f both) both; service = λ is. cc })
         (boxed_first (Stays false) Deaf m s left.came.units.came.talked.adds.before left.stays (λ party d e stays. stays.nothing));
     status = same_status left.drive.status;
   }
@@ -111,15 +111,15 @@ module _ {M : Type 0} (view : M → MediumView) (was : Bool) (r m n s : RingView
   status_said : status_of s.drive.state ≡ status_of n.drive.state → status_of s.drive.state ≡ status_of r.drive.state
   status_said same = same ∙ left.drive.status ∙ (ready_leaves view was r m ready).status
 
-  hears_said : (b : Bool) (d e f : DeviceState) → HearsNothing d e → MatchBool b (HearsBytes bytes e f) (HearsNothing e f) → MatchBool b (HearsAll bytes d f) (HearsNothing d f)
+  hears_said : (b : Bool) (d e f : DeviceState) → HearsNothing d e → MatchBool b (HearsAll bytes e f) (HearsNothing e f) → MatchBool b (HearsAll bytes d f) (HearsNothing d f)
   hears_said true d e f first more = hears_all bytes d e f first more
   hears_said false d e f first more = hears_then d e f first more
 
-  hears_part : (whole : ℕ) (b : Bool) (d e f : DeviceState) → whole ≤ length bytes → HearsNothing d e → MatchBool b (HearsInPart whole bytes e f) (HearsNothing e f) → MatchBool b (HearsFront bytes d f) (HearsNothing d f)
-  hears_part whole true d e f within first more = hears_front whole bytes d e f within first more
-  hears_part whole false d e f within first more = hears_then d e f first more
+  hears_some : (whole : ℕ) (b : Bool) (d e f : DeviceState) → whole ≤ length bytes → HearsNothing d e → MatchBool b (HearsInPart whole bytes e f) (HearsNothing e f) → MatchBool b (HearsSaid bytes reply.FaultFrame d f) (HearsNothing d f)
+  hears_some whole true d e f within first more = (whole, within, hears_part whole bytes d e f first more)
+  hears_some whole false d e f within first more = hears_then d e f first more
 
-  said_accessory : (b : Bool) (d e f : DeviceState) → HearsNothing d e → MatchBool b (HearsBytes bytes e f) (HearsNothing e f) → f.accessory ≡ d.accessory
+  said_accessory : (b : Bool) (d e f : DeviceState) → HearsNothing d e → MatchBool b (HearsAll bytes e f) (HearsNothing e f) → f.accessory ≡ d.accessory
   said_accessory true d e f first more = more.accessory ∙ first.accessory
   said_accessory false d e f first more = more.accessory ∙ first.accessory
 
@@ -152,7 +152,7 @@ module _ {M : Type 0} (view : M → MediumView) (was : Bool) (r m n s : RingView
         boxed_then Deaf (HearsPart a said.whole bytes) (DeviceBehind (Asks (Say bytes)) reply.FaultFrame (loop_on r))
         (λ party d e f first more. record {
           accessory = part_accessory said.whole (party == a) d e f first more.1;
-          hears = by_printer (HearsFront bytes d f) (HearsNothing d f) party (hears_part said.whole (party == a) d e f said.within first more.1);
+          hears = by_printer (HearsSaid bytes reply.FaultFrame d f) (HearsNothing d f) party (hears_some said.whole (party == a) d e f said.within first more.1);
           service = λ is. cc;
         })
         (loop_on r) (loop_on n) (loop_on s) (deaf_left view was r m n ready true asks left)

@@ -1,26 +1,26 @@
 -- What the commands of the loop leave of it.
-use Rattle.std.proofs.Common.{◌≡◌, ⊎_elim, inl, inr, ◌++◌, ◌∙◌, ◌≤◌, ℕ, Bool, true, false, List, [], ◌∷◌, length, take, refl, sym, ap, ap₂, subst, arith}
+use Rattle.std.proofs.Common.{◌≡◌, ⊎_elim, inl, inr, ◌++◌, ◌∙◌, ℕ, Bool, true, false, List, length, take, refl, sym, ap, ap₂, subst, arith}
 use Rattle.std.specs.Prelude.{MatchBool}
-use Rattle.il_device.specs.State.{DeviceState, risen, risen_by}
-use Rattle.il_device.specs.Takes.{kept, kept_all}
+use Rattle.il_device.specs.State.{DeviceState, risen_by}
+use Rattle.il_device.specs.Takes.{kept_all}
 use Rattle.il_ports.specs.Media.{MediumView}
 use Rattle.il_drive.specs.State.{status_of}
+use Rattle.loop_model.specs.Listening.{HearsAll, HearsInPart}
 use Rattle.il_ring.specs.Outcomes.{HearsNothing}
 use Rattle.il_ring.specs.Rings.{RingView, drive_party}
 use Rattle.il_control.specs.Calls.{Stays}
 use Rattle.il_control.proofs.Calls.{hears_then}
 use Rattle.il_record.specs.Came.{NoneHeard}
-use Rattle.il_record.specs.Listening.{HearsBytes, HearsInPart, counted_all, heard_all}
 use Rattle.il_record.specs.Runs.{LeavesDevices, Interrupted, NotPolled, Polled, address_asks}
 use Rattle.il_script.specs.declared.reply.Reply.{Reply}
 use Rattle.il_script.specs.declared.reply.Reply.TheVariants as reply
 use Rattle.host_model.specs.Requests.{Item, Asks, NoCommand, OfVolume, Devices, Status, Poll, Say, Paper}
 use Rattle.host_model.specs.LoopStates.{LoopState, printer_at}
 use Rattle.host_model.specs.RingStates.{loop_on}
-use Rattle.host_model.specs.Hearing.{HearsAll, HearsFront}
-use Rattle.host_model.specs.Next.{BoxedBecome, DeviceBehind, Next, StatusBehind, is_party}
+use Rattle.host_model.specs.Next.{BoxedBecome, DeviceBehind, HearsSaid, Next, StatusBehind, is_party}
 use Rattle.host_model.proofs.Steps.{boxed_same, boxed_then}
 use Rattle.il_record.proofs.HeardLogs.{heard_none}
+use Rattle.il_record.proofs.Listened.{nothing_in_part}
 use Rattle.il_host.proofs.Devices.{boxed_first, boxed_unheard}
 use Rattle.il_host.proofs.LoopEvents.{IsOfLoop, Readies}
 use Rattle.il_host.proofs.StatusEvents.{ready_leaves}
@@ -40,37 +40,22 @@ Still party d e = IsStill d e
 abbrev pub Deaf : ℕ → DeviceState → DeviceState → Type 0
 Deaf party d e = HearsNothing d e
 
--- the words of the calls and those of the host are the same
-same_heard : (room : ℕ) (heard bytes : List ℕ) → heard_all room heard bytes ≡ kept_all room heard bytes
-same_heard room heard [] = refl
-same_heard room heard (byte ∷ bytes) = same_heard room (kept room heard byte) bytes
-
-same_counted : (count : ℕ) (bytes : List ℕ) → counted_all count bytes ≡ risen_by (length bytes) count
-same_counted count [] = refl
-same_counted count (byte ∷ bytes) = same_counted (risen count) bytes
-
 -- behind nothing
-pub hears_all : (bytes : List ℕ) (d e f : DeviceState) → HearsNothing d e → HearsBytes bytes e f → HearsAll bytes d f
+pub hears_all : (bytes : List ℕ) (d e f : DeviceState) → HearsNothing d e → HearsAll bytes e f → HearsAll bytes d f
 hears_all bytes d e f first more = record {
-  heard = more.heard ∙ ap₂ (λ room heard. heard_all room heard bytes) first.room first.heard ∙ same_heard d.room d.heard bytes;
-  heard_count = more.heard_count ∙ ap (λ count. counted_all count bytes) first.heard_count ∙ same_counted d.heard_count bytes;
+  heard = more.heard ∙ ap₂ (λ room heard. kept_all room heard bytes) first.room first.heard;
+  heard_count = more.heard_count ∙ ap (risen_by (length bytes)) first.heard_count;
   room = more.room ∙ first.room;
   accessory = more.accessory ∙ first.accessory;
 }
 
 -- some of the bytes behind nothing
-pub hears_front : (whole : ℕ) (bytes : List ℕ) (d e f : DeviceState) → whole ≤ length bytes → HearsNothing d e → HearsInPart whole bytes e f → HearsFront bytes d f
-hears_front whole bytes d e f within first more = record { front = whole; within = within; more = more.more; few = more.few; heard = hears_all (take whole bytes ++ more.more) d e f first more.heard }
+pub hears_part : (whole : ℕ) (bytes : List ℕ) (d e f : DeviceState) → HearsNothing d e → HearsInPart whole bytes e f → HearsInPart whole bytes d f
+hears_part whole bytes d e f first more = record { more = more.more; few = more.few; heard = hears_all (take whole bytes ++ more.more) d e f first more.heard }
 
--- no byte is a front of any
-pub front_none : (bytes : List ℕ) (d e : DeviceState) → HearsNothing d e → HearsFront bytes d e
-front_none bytes d e nothing = record {
-  front = 0;
-  within = omega arith;
-  more = [];
-  few = omega arith;
-  heard = record { heard = nothing.heard; heard_count = nothing.heard_count; room = nothing.room; accessory = nothing.accessory };
-}
+-- nothing is the first none of any bytes
+pub said_none : (bytes : List ℕ) (d e : DeviceState) → HearsNothing d e → HearsSaid bytes reply.FaultFrame d e
+said_none bytes d e nothing = (0, omega arith, nothing_in_part bytes true d e nothing)
 
 -- both cases hold
 pub either : {A B : Type 0} (b : Bool) → A → B → MatchBool b A B
@@ -89,7 +74,7 @@ fault_behind (Asks Status) z party d e of_loop still = record { accessory = stil
 fault_behind (Asks Poll) z party d e of_loop still = record { accessory = still.nothing.accessory; hears = still.nothing; service = λ is. still.wants }
 fault_behind (Asks (Say bytes)) z party d e of_loop still = record {
   accessory = still.nothing.accessory;
-  hears = either (is_party party (printer_at z)) (front_none bytes d e still.nothing) still.nothing;
+  hears = either (is_party party (printer_at z)) (said_none bytes d e still.nothing) still.nothing;
   service = λ is. still.wants;
 }
 

@@ -11,6 +11,7 @@ use Rattle.il_ports.specs.Stores.{Begun, IsQuiet, IsStore, RecordsView}
 use Rattle.il_ports.specs.declared.records.Trouble.{Trouble}
 use Rattle.il_ports.specs.declared.records.Trouble.TheVariants as trouble
 use Rattle.il_drive.specs.State.{drive_id}
+use Rattle.loop_model.specs.Polls.{polled_along}
 use Rattle.il_ring.specs.Plans.{hops_of}
 use Rattle.il_ring.specs.Rings.{RingView, devices_of, drive_party, has_id, printer_id}
 use Rattle.il_control.specs.Calls.{idy}
@@ -20,7 +21,7 @@ use Rattle.il_record.specs.Asks.{up_to}
 use Rattle.il_record.specs.Called.{CallBroke, Called}
 use Rattle.il_record.specs.LoopCalls.{AllNamed, LeftAlone, NotSaid, Said, id_asks}
 use Rattle.il_record.specs.LoopStores.{Addresses, AtIdle, AtLost, LoopView, Nowhere, Standing, is_idle, view_at, view_of}
-use Rattle.il_record.specs.Polls.{HasPolled, PollBroke, poll_asks, polled_along}
+use Rattle.il_record.specs.Polls.{HasPolled, PollBroke, poll_asks}
 use Rattle.il_record.specs.Runs.{NotPolled, Polled}
 use Rattle.il_record.proofs.StoreResumes.{Agrees}
 use Rattle.il_script.specs.declared.reply.Reply.{Reply}

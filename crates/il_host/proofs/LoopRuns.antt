@@ -4,6 +4,7 @@ use Rattle.il_ports.specs.Media.{MediumView}
 use Rattle.il_drive.specs.State.{drive_id}
 use Rattle.il_drive.specs.Steps.{IsStill}
 use Rattle.loop_model.specs.Exchanges.{Stopped, Receive, Sst}
+use Rattle.loop_model.specs.Polls.{polled_along}
 use Rattle.il_frames.specs.declared.frame.Frame.{Frame}
 use Rattle.il_ring.specs.Plans.{hops_of}
 use Rattle.il_ring.specs.Rings.{RingView, devices_of, drive_party}
@@ -11,7 +12,7 @@ use Rattle.il_control.specs.Calls.{idy}
 use Rattle.il_record.specs.Asks.{up_to}
 use Rattle.il_record.specs.Came.{CameBy, NoneHeard, OnlyHeard}
 use Rattle.il_record.specs.LoopCalls.{AllNamed, LeftAlone, id_asks}
-use Rattle.il_record.specs.Polls.{HasPolled, PollBroke, poll_asks, polled_along}
+use Rattle.il_record.specs.Polls.{HasPolled, PollBroke, poll_asks}
 use Rattle.il_record.specs.Runs.{NotPolled, Polled}
 use Rattle.il_record.proofs.CameLaws.{broken_came, made_came, tape_same}
 use Rattle.il_record.proofs.HeardLogs.{heard_none, heard_then}

@@ -1,5 +1,5 @@
 -- What the frames of a command of the loop did on the ring.
-use Rattle.std.proofs.Common.{◌≡◌, ◌≤◌, Bool, true, false, [], length, subst}
+use Rattle.std.proofs.Common.{Bool, true, false, subst}
 use Rattle.il_ports.specs.Media.{MediumView}
 use Rattle.il_ring.specs.Rings.{RingView}
 use Rattle.il_record.specs.Came.{CameBy}

@@ -7,15 +7,14 @@ use Rattle.il_frames.specs.declared.entry.Entry.{Entry}
 use Rattle.il_device.specs.State.{DeviceState}
 use Rattle.il_device.specs.declared.roles.Roles.{Roles}
 use Rattle.loop_model.specs.Hearing.{heard_by}
+use Rattle.loop_model.specs.Listening.{HearsAll, HearsInPart}
 use Rattle.loop_model.proofs.HearLaws.{heard_by-append}
 use Rattle.il_ring.specs.Outcomes.{HearsNothing}
 use Rattle.il_ring.specs.Rings.{RingView, devices_of, drive_party, roles_of}
 use Rattle.il_control.proofs.Calls.{hears_then}
 use Rattle.il_record.specs.Came.{OnlyHeard, heard_on}
-use Rattle.il_record.specs.Listening.{HearsBytes, HearsInPart}
 use Rattle.host_model.specs.LoopStates.{all_roles, device_count}
 use Rattle.host_model.specs.RingStates.{loop_on}
-use Rattle.host_model.specs.Hearing.{HearsAll}
 use Rattle.host_model.specs.Next.{BoxedBecome}
 use Rattle.host_model.specs.Steps.{HearsLog}
 use Rattle.host_model.proofs.RingStates.{count_on, roles_on}
@@ -29,15 +28,15 @@ pub record HeardSome (whole : Bool) (bytes : List ℕ) (d e : DeviceState) : Typ
   pub more : List ℕ
   pub few : length more ≤ 1
   pub none : whole ≡ true → more ≡ []
-  pub heard : HearsBytes (bytes ++ more) d e
+  pub heard : HearsAll (bytes ++ more) d e
 
 -- party a heard so, and each other device nothing
 abbrev pub HeardAt : ℕ → Bool → List ℕ → ℕ → DeviceState → DeviceState → Type 0
 HeardAt a whole bytes party d e = MatchBool (party == a) (HeardSome whole bytes d e) (HearsNothing d e)
 
 -- all bytes, and the first ones
-pub heard_whole : (b : Bool) (bytes : List ℕ) (d e : DeviceState) → MatchBool b (HearsBytes bytes d e) (HearsNothing d e) → MatchBool b (HeardSome true bytes d e) (HearsNothing d e)
-heard_whole true bytes d e h = record { more = []; few = omega arith; none = λ is. refl; heard = subst (λ bytes. HearsBytes bytes d e) (sym (append-nil bytes)) h }
+pub heard_whole : (b : Bool) (bytes : List ℕ) (d e : DeviceState) → MatchBool b (HearsAll bytes d e) (HearsNothing d e) → MatchBool b (HeardSome true bytes d e) (HearsNothing d e)
+heard_whole true bytes d e h = record { more = []; few = omega arith; none = λ is. refl; heard = subst (λ bytes. HearsAll bytes d e) (sym (append-nil bytes)) h }
 heard_whole false bytes d e h = h
 
 pub heard_front : (b : Bool) (whole : ℕ) (bytes : List ℕ) (d e : DeviceState) → MatchBool b (HearsInPart whole bytes d e) (HearsNothing d e) → MatchBool b (HeardSome false (take whole bytes) d e) (HearsNothing d e)

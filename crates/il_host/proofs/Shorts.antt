@@ -9,8 +9,9 @@ use Rattle.il_device.specs.Takes.{kept, kept_all}
 use Rattle.il_frames.specs.declared.entry.Entry.{Entry}
 use Rattle.il_device.specs.declared.roles.Roles.{Roles}
 use Rattle.loop_model.specs.Hearing.{heard_by}
+use Rattle.loop_model.specs.Devices.{EachBecomes}
 use Rattle.host_model.specs.LoopStates.{LoopState, boxed}
-use Rattle.host_model.specs.Next.{EachBecomes, BoxedBecome}
+use Rattle.host_model.specs.Next.{BoxedBecome}
 use Rattle.host_model.specs.Steps.{HearsLog}
 use Rattle.il_host.specs.Shorts.{AllShort, IsShort}
 

@@ -5,6 +5,8 @@ use Rattle.il_frames.specs.declared.entry.Entry.{Entry}
 use Rattle.il_device.specs.State.{DeviceState}
 use Rattle.il_device.specs.declared.roles.Roles.{Roles}
 use Rattle.il_drive.specs.State.{status_of}
+use Rattle.loop_model.specs.Devices.{EachBecomes}
+use Rattle.loop_model.specs.Listening.{HearsAll}
 use Rattle.il_ring.specs.Outcomes.{HearsNothing}
 use Rattle.il_ring.specs.Rings.{RingView, devices_of, drive_party, roles_of}
 use Rattle.il_record.specs.Came.{OnlyHeard, OthersUnheard, heard_on}
@@ -12,8 +14,7 @@ use Rattle.il_script.specs.declared.reply.Reply.{Reply}
 use Rattle.host_model.specs.Requests.{Asks, OfVolume}
 use Rattle.host_model.specs.LoopStates.{LoopState, all_roles, device_count}
 use Rattle.host_model.specs.RingStates.{loop_on}
-use Rattle.host_model.specs.Hearing.{HearsAll}
-use Rattle.host_model.specs.Next.{BoxedBecome, DeviceBehind, EachBecomes, Next, StatusBehindVolume}
+use Rattle.host_model.specs.Next.{BoxedBecome, DeviceBehind, Next, StatusBehindVolume}
 use Rattle.host_model.specs.Steps.{HearsLog}
 use Rattle.host_model.proofs.RingStates.{count_on, roles_on}
 use Rattle.il_host.proofs.Devices.{boxed_by, boxed_unheard}

@@ -6,6 +6,7 @@ use Rattle.il_ports.specs.declared.records.Trouble.TheVariants as trouble
 use Rattle.il_ports.specs.Media.{MediumView}
 use Rattle.il_drive.specs.Steps.{IsStill}
 use Rattle.il_drive.specs.Resting.{IsFree}
+use Rattle.loop_model.specs.Polls.{polled_along}
 use Rattle.il_ring.specs.Lists.{Each}
 use Rattle.il_ring.specs.Rings.{RingView, devices_of, drive_party, spare_of}
 use Rattle.il_control.specs.Calls.{IsIdle, IsLost, idy, loop_of}
@@ -17,7 +18,7 @@ use Rattle.il_record.specs.Called.{Called, CallBroke, LeavesStore}
 use Rattle.il_record.specs.Came.{CameUnits}
 use Rattle.il_record.specs.LoopCalls.{AllNamed, LeftAlone, NotSaid, Said, id_asks}
 use Rattle.il_record.specs.LoopStores.{LoopView, Standing, Addresses, AtIdle, AtLost, HasRing, Nowhere, StandsSo, Stood, Transferred, FailedAtLost, calls_in, is_broken, since_frame, since_more, since_said, view_at, view_of}
-use Rattle.il_record.specs.Polls.{HasPolled, MayPoll, PlacesKept, PollBroke, poll_asks, polled_along}
+use Rattle.il_record.specs.Polls.{HasPolled, MayPoll, PlacesKept, PollBroke, poll_asks}
 use Rattle.il_record.specs.Runs.{NotPolled, Polled}
 use Rattle.il_record.proofs.HeardLogs.{heard_none}
 use Rattle.il_record.proofs.Places.{free_on, kept_left, kept_not_said, kept_said, kept_stays, may_poll_broke, may_poll_kept, may_poll_polled}

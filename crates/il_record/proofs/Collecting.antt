@@ -15,23 +15,26 @@ use Rattle.il_ports.specs.Media.{MediumView}
 use Rattle.loop_model.specs.Entries.{lad, unl}
 use Rattle.loop_model.specs.Exchanges.{Command, Identify, commanded, entries_of}
 use Rattle.loop_model.specs.Hearing.{has_no_data}
+use Rattle.loop_model.specs.Devices.{EachBecomes}
+use Rattle.loop_model.specs.Polls.{poll_enable, poll_place, poll_unconfigure, polled_along}
 use Rattle.il_ring.proofs.RoundPlaces.{place_kept}
 use Rattle.il_ring.specs.Lists.{Each, First}
 use Rattle.il_ring.specs.Outcomes.{Obeys}
 use Rattle.il_ring.specs.Polls.{identified_along, is_poll}
 use Rattle.il_ring.specs.Rings.{RingView, devices_of, spare_of}
 use Rattle.il_control.specs.Calls.{AllStay, BrokenOff, IsIdle, Made, Obeyed, ObeyedInPart, idy}
-use Rattle.il_control.specs.Places.{EachTo, GivenPlace, ppe}
+use Rattle.il_control.specs.Places.{GivenPlace}
 use Rattle.il_control.proofs.Assigning.{place_given, place_in_part}
 use Rattle.il_control.proofs.Calls.{hears_then}
+use Rattle.loop_model.proofs.DeviceLaws.{each_then, each_weaker}
 use Rattle.loop_model.proofs.SendLaws.{message_of-lad}
 use Rattle.il_record.specs.Asks.{Ask, AskCommand, AskIdentify, CameAsked, up_to}
 use Rattle.il_record.specs.Came.{NoneHeard}
 use Rattle.il_record.specs.LoopCalls.{LeavesDrive}
-use Rattle.il_record.specs.Polls.{Assigned, Collected, HasPolled, MayPoll, PollBroke, PollsOn, collect_asks, place_asks, poll_asks, poll_place, polled_along, ppu}
+use Rattle.il_record.specs.Polls.{Assigned, Collected, HasPolled, MayPoll, PollBroke, PollsOn, collect_asks, place_asks, poll_asks}
 use Rattle.il_record.proofs.Asking.{asked_broken, asked_made, asked_nothing, asked_on, asked_up_to, up_to_next}
 use Rattle.il_record.proofs.CameLaws.{tape_same}
-use Rattle.il_record.proofs.Commands.{PlacedTo, all_polls, all_released, command_broken, command_made, command_room, each_as, each_then, identify_broken, identify_made, identify_room, may_polls, obeyed_polls, part_polls, place_is, ppe_mild, ppu_polls, ppu_released, stays_polls, unl_broken, unl_made}
+use Rattle.il_record.proofs.Commands.{PlacedTo, all_polls, all_released, command_broken, command_made, command_room, identify_broken, identify_made, identify_room, may_polls, obeyed_polls, part_polls, place_is, ppe_mild, ppu_polls, ppu_released, stays_polls, unl_broken, unl_made}
 use Rattle.il_record.proofs.HeardLogs.{heard_same, heard_then, none_broke, none_whole}
 use Rattle.il_record.proofs.Mild.{StaysMild, mild_then}
 use Rattle.il_record.proofs.MildCame.{left_as_was, left_by, leaves_mild, leaves_then, mild_frame}
@@ -43,7 +46,7 @@ use Rattle.il_record.proofs.Used.{broken_used, command_not_used, command_used}
 
 pub record Begun {M : Type 0} (view : M → MediumView) (n : ℕ) (asks : List Ask) (r s : RingView M) : Type 0 where
   pub came : CameAsked view true asks r s
-  pub devices : EachTo PollsOn 1 (devices_of r) (devices_of s)
+  pub devices : EachBecomes PollsOn 1 (devices_of r) (devices_of s)
   pub unheard : NoneHeard r s
   pub drive : StaysMild view r.drive s.drive
   pub idle : IsIdle s
@@ -87,7 +90,7 @@ module _ {M : Type 0} (view : M → MediumView) (r : RingView M) (idle : IsIdle 
   pub not_begun : (more : List Ask) (f : Frame) (s : RingView M) → f ≡ unl → BrokenOff view (Command f) r s → ObeyedInPart (message_of f) r s → PollBroke view 3 (AskCommand unl ∷ more) r s
   not_begun more f s is broken part = not_begun_by more s (subst (λ f. BrokenOff view (Command f) r s) is broken) (subst (λ f. ObeyedInPart (message_of f) r s) is part)
 
-  pub next_made : (n : ℕ) (asks : List Ask) (f : Frame) (m s : RingView M) → mild_frame f ≡ true → list_all has_no_data (commanded 0 f) ≡ true → Begun view n asks r m → 2 ≤ spare_of m → Made view (Command f) m s → EachTo PollsOn 1 (devices_of m) (devices_of s) → Begun view (n + 2) (asks ++ AskCommand f ∷ []) r s
+  pub next_made : (n : ℕ) (asks : List Ask) (f : Frame) (m s : RingView M) → mild_frame f ≡ true → list_all has_no_data (commanded 0 f) ≡ true → Begun view n asks r m → 2 ≤ spare_of m → Made view (Command f) m s → EachBecomes PollsOn 1 (devices_of m) (devices_of s) → Begun view (n + 2) (asks ++ AskCommand f ∷ []) r s
   next_made n asks f m s mild plain so room made devices =
       let drive = command_made view m s f mild so.drive.mild made in
       let before = so.room in
@@ -115,7 +118,7 @@ module _ {M : Type 0} (view : M → MediumView) (r : RingView M) (idle : IsIdle 
         room = omega (arith, before, spent);
       }
 
-  pub next_broken : (n : ℕ) (asks more : List Ask) (f : Frame) (m s : RingView M) → mild_frame f ≡ true → list_all has_no_data (commanded 0 f) ≡ true → Begun view n asks r m → BrokenOff view (Command f) m s → EachTo PollsOn 1 (devices_of m) (devices_of s) → PollBroke view (n + 3) (asks ++ AskCommand f ∷ more) r s
+  pub next_broken : (n : ℕ) (asks more : List Ask) (f : Frame) (m s : RingView M) → mild_frame f ≡ true → list_all has_no_data (commanded 0 f) ≡ true → Begun view n asks r m → BrokenOff view (Command f) m s → EachBecomes PollsOn 1 (devices_of m) (devices_of s) → PollBroke view (n + 3) (asks ++ AskCommand f ∷ more) r s
   next_broken n asks more f m s mild plain so broken devices =
       let drive = command_broken view m s f mild so.drive.mild broken in
       let before = so.room in
@@ -160,33 +163,33 @@ module _ {M : Type 0} (view : M → MediumView) (r : RingView M) (idle : IsIdle 
 
     pub told_not : (g : Frame) (m s : RingView M) → g ≡ lad a → Begun view 2 (AskCommand unl ∷ []) r m → BrokenOff view (Command g) m s → ObeyedInPart (message_of g) m s → PollBroke view 5 (place_asks a) r s
     told_not g m s is so broken part =
-        next_broken 2 (AskCommand unl ∷ []) (AskCommand (ppe (7 + a)) ∷ []) (lad a) m s (lad_mild a low) refl so (subst (λ f. BrokenOff view (Command f) m s) is broken)
+        next_broken 2 (AskCommand unl ∷ []) (AskCommand (poll_enable (7 + a)) ∷ []) (lad a) m s (lad_mild a low) refl so (subst (λ f. BrokenOff view (Command f) m s) is broken)
         (part_polls m s (msg.Lad a) refl refl (subst (λ message. ObeyedInPart message m s) (ap message_of is ∙ lad_says) part))
 
-    pub assigned_by : (f g h : Frame) (m u s : RingView M) → f ≡ unl → g ≡ lad a → h ≡ ppe (7 + a) → Begun view 2 (AskCommand unl ∷ []) r m → Begun view 4 (AskCommand unl ∷ AskCommand (lad a) ∷ []) r u → 2 ≤ spare_of u → Obeyed (message_of f) r m → Obeyed (message_of g) m u → Made view (Command h) u s → Obeyed (message_of h) u s → Assigned view a r s
+    pub assigned_by : (f g h : Frame) (m u s : RingView M) → f ≡ unl → g ≡ lad a → h ≡ poll_enable (7 + a) → Begun view 2 (AskCommand unl ∷ []) r m → Begun view 4 (AskCommand unl ∷ AskCommand (lad a) ∷ []) r u → 2 ≤ spare_of u → Obeyed (message_of f) r m → Obeyed (message_of g) m u → Made view (Command h) u s → Obeyed (message_of h) u s → Assigned view a r s
     assigned_by f g h m u s is_unl is_lad is_ppe begun so room first more made last =
-        let now : Made view (Command (ppe (7 + a))) u s = subst (λ f. Made view (Command f) u s) is_ppe made in
-        let drive = command_made view u s (ppe (7 + a)) (ppe_mild (7 + a) small) so.drive.mild now in
+        let now : Made view (Command (poll_enable (7 + a))) u s = subst (λ f. Made view (Command f) u s) is_ppe made in
+        let drive = command_made view u s (poll_enable (7 + a)) (ppe_mild (7 + a) small) so.drive.mild now in
         let before = so.room in
-        let spent = command_room view u s (ppe (7 + a)) room now in
+        let spent = command_room view u s (poll_enable (7 + a)) room now in
         record {
-          came = asked_on view true (AskCommand unl ∷ AskCommand (lad a) ∷ []) (AskCommand (ppe (7 + a)) ∷ []) r u s idle so.came (asked_made view (Command (ppe (7 + a))) u s now refl (tape_same view u.drive s.drive drive.medium));
+          came = asked_on view true (AskCommand unl ∷ AskCommand (lad a) ∷ []) (AskCommand (poll_enable (7 + a)) ∷ []) r u s idle so.came (asked_made view (Command (poll_enable (7 + a))) u s now refl (tape_same view u.drive s.drive drive.medium));
           given = place_given r m u s a (7 + a) f g h idle low small is_unl is_lad is_ppe first more last;
-          unheard = heard_then 0 r u s so.unheard (command_heard view u s (ppe (7 + a)) refl now);
+          unheard = heard_then 0 r u s so.unheard (command_heard view u s (poll_enable (7 + a)) refl now);
           drive = leaves_mild view r.drive s.drive (mild_then view r.drive u.drive s.drive so.drive drive);
           room = omega (arith, before, spent);
         }
 
-    pub assigned_not : (f g h : Frame) (m u s : RingView M) → f ≡ unl → g ≡ lad a → h ≡ ppe (7 + a) → Begun view 2 (AskCommand unl ∷ []) r m → Begun view 4 (AskCommand unl ∷ AskCommand (lad a) ∷ []) r u → Obeyed (message_of f) r m → Obeyed (message_of g) m u → BrokenOff view (Command h) u s → ObeyedInPart (message_of h) u s → PollBroke view 7 (place_asks a) r s
+    pub assigned_not : (f g h : Frame) (m u s : RingView M) → f ≡ unl → g ≡ lad a → h ≡ poll_enable (7 + a) → Begun view 2 (AskCommand unl ∷ []) r m → Begun view 4 (AskCommand unl ∷ AskCommand (lad a) ∷ []) r u → Obeyed (message_of f) r m → Obeyed (message_of g) m u → BrokenOff view (Command h) u s → ObeyedInPart (message_of h) u s → PollBroke view 7 (place_asks a) r s
     assigned_not f g h m u s is_unl is_lad is_ppe begun so first more broken part =
-        let now : BrokenOff view (Command (ppe (7 + a))) u s = subst (λ f. BrokenOff view (Command f) u s) is_ppe broken in
-        let drive = command_broken view u s (ppe (7 + a)) (ppe_mild (7 + a) small) so.drive.mild now in
+        let now : BrokenOff view (Command (poll_enable (7 + a))) u s = subst (λ f. BrokenOff view (Command f) u s) is_ppe broken in
+        let drive = command_broken view u s (poll_enable (7 + a)) (ppe_mild (7 + a) small) so.drive.mild now in
         let before = so.room in
-        let spent = command_not_used view (ppe (7 + a)) u s now in
+        let spent = command_not_used view (poll_enable (7 + a)) u s now in
         record {
-          came = asked_on view false (AskCommand unl ∷ AskCommand (lad a) ∷ []) (AskCommand (ppe (7 + a)) ∷ []) r u s idle so.came (asked_broken view (AskCommand (ppe (7 + a))) [] (Command (ppe (7 + a))) u s refl now (tape_same view u.drive s.drive drive.medium));
+          came = asked_on view false (AskCommand unl ∷ AskCommand (lad a) ∷ []) (AskCommand (poll_enable (7 + a)) ∷ []) r u s idle so.came (asked_broken view (AskCommand (poll_enable (7 + a))) [] (Command (poll_enable (7 + a))) u s refl now (tape_same view u.drive s.drive drive.medium));
           devices = may_polls r s a some few (place_in_part r m u s a (7 + a) f g h idle low small is_unl is_lad is_ppe first more part);
-          unheard = heard_then 0 r u s so.unheard (command_unheard view u s (ppe (7 + a)) refl now);
+          unheard = heard_then 0 r u s so.unheard (command_unheard view u s (poll_enable (7 + a)) refl now);
           drive = leaves_mild view r.drive s.drive (mild_then view r.drive u.drive s.drive so.drive drive);
           room = omega (arith, before, spent);
         }
@@ -201,26 +204,26 @@ module _ {M : Type 0} (view : M → MediumView) (r : RingView M) (idle : IsIdle 
   along_same m kept still [] (e ∷ es) f took = absurd took
   along_same m kept still (d ∷ ds) [] f took = absurd took
 
-  pub collected : (f g h : Frame) (m u s : RingView M) → f ≡ unl → h ≡ ppu → Begun view 2 (AskCommand unl ∷ []) r m → Obeyed (message_of f) r m → Begun view 3 (AskCommand unl ∷ AskIdentify g ∷ []) r u → g ≡ identified_along (devices_of m) idy → Made view (Command h) u s → Obeyed (message_of h) u s → Collected view g r s
+  pub collected : (f g h : Frame) (m u s : RingView M) → f ≡ unl → h ≡ poll_unconfigure → Begun view 2 (AskCommand unl ∷ []) r m → Obeyed (message_of f) r m → Begun view 3 (AskCommand unl ∷ AskIdentify g ∷ []) r u → g ≡ identified_along (devices_of m) idy → Made view (Command h) u s → Obeyed (message_of h) u s → Collected view g r s
   collected f g h m u s is_unl is_ppu begun first so back made last =
-      let now : Made view (Command ppu) u s = subst (λ f. Made view (Command f) u s) is_ppu made in
-      let drive = command_made view u s ppu refl so.drive.mild now in
+      let now : Made view (Command poll_unconfigure) u s = subst (λ f. Made view (Command f) u s) is_ppu made in
+      let drive = command_made view u s poll_unconfigure refl so.drive.mild now in
       let before = so.room in
-      let spent = command_used view ppu u s now in
+      let spent = command_used view poll_unconfigure u s now in
       record {
         frame = back ∙ along_same msg.Unl refl refl (devices_of r) (devices_of m) idy (subst (λ f. Obeyed (message_of f) r m) is_unl first);
-        came = asked_on view true (AskCommand unl ∷ AskIdentify g ∷ []) (AskCommand ppu ∷ []) r u s idle so.came (asked_made view (Command ppu) u s now refl (tape_same view u.drive s.drive drive.medium));
+        came = asked_on view true (AskCommand unl ∷ AskIdentify g ∷ []) (AskCommand poll_unconfigure ∷ []) r u s idle so.came (asked_made view (Command poll_unconfigure) u s now refl (tape_same view u.drive s.drive drive.medium));
         released = all_released r u s so.devices (ppu_released u s (subst (λ f. Obeyed (message_of f) u s) is_ppu last));
-        unheard = heard_then 0 r u s so.unheard (command_heard view u s ppu refl now);
+        unheard = heard_then 0 r u s so.unheard (command_heard view u s poll_unconfigure refl now);
         drive = leaves_mild view r.drive s.drive (mild_then view r.drive u.drive s.drive so.drive drive);
         room = omega (arith, before, spent);
       }
 
-  pub collected_not : (f g h : Frame) (m u s : RingView M) → f ≡ unl → h ≡ ppu → Begun view 2 (AskCommand unl ∷ []) r m → Obeyed (message_of f) r m → Begun view 3 (AskCommand unl ∷ AskIdentify g ∷ []) r u → g ≡ identified_along (devices_of m) idy → BrokenOff view (Command h) u s → ObeyedInPart (message_of h) u s → PollBroke view 6 (collect_asks (identified_along (devices_of r) idy)) r s
+  pub collected_not : (f g h : Frame) (m u s : RingView M) → f ≡ unl → h ≡ poll_unconfigure → Begun view 2 (AskCommand unl ∷ []) r m → Obeyed (message_of f) r m → Begun view 3 (AskCommand unl ∷ AskIdentify g ∷ []) r u → g ≡ identified_along (devices_of m) idy → BrokenOff view (Command h) u s → ObeyedInPart (message_of h) u s → PollBroke view 6 (collect_asks (identified_along (devices_of r) idy)) r s
   collected_not f g h m u s is_unl is begun first so back broken part =
       let told : g ≡ identified_along (devices_of r) idy = back ∙ along_same msg.Unl refl refl (devices_of r) (devices_of m) idy (subst (λ f. Obeyed (message_of f) r m) is_unl first) in
       subst (λ g. PollBroke view 6 (collect_asks g) r s) told
-      (next_broken 3 (AskCommand unl ∷ AskIdentify g ∷ []) [] ppu u s refl refl so (subst (λ f. BrokenOff view (Command f) u s) is broken) (ppu_polls u s (subst (λ f. ObeyedInPart (message_of f) u s) is part)))
+      (next_broken 3 (AskCommand unl ∷ AskIdentify g ∷ []) [] poll_unconfigure u s refl refl so (subst (λ f. BrokenOff view (Command f) u s) is broken) (ppu_polls u s (subst (λ f. ObeyedInPart (message_of f) u s) is part)))
 
 -- ---- place behind place
 
@@ -249,14 +252,14 @@ next_place i k c d e few placed given = record { place = by (k == (i + 1)) refl 
         is ∙ place_is (i + 1) (omega arith) (omega (arith, few)) ∙ ap poll_place (sym at) ∙ sym (ap (λ b. if b then poll_place k else c.assignment) (le-leb k (i + 1) (omega (arith, at))))
     by false here is = is ∙ placed.place ∙ sym (ap (λ b. if b then poll_place k else c.assignment) (le_next (eqb-false k (i + 1) here)))
 
-none_placed : (k : ℕ) (ds : List DeviceState) → 1 ≤ k → EachTo (PlacedTo 0) k ds ds
+none_placed : (k : ℕ) (ds : List DeviceState) → 1 ≤ k → EachBecomes (PlacedTo 0) k ds ds
 none_placed k [] some = tt
 none_placed k (d ∷ ds) some =
     let behind : nat_le k 0 ≡ false = lt-leb k 0 (omega (arith, some)) in
     (record { place = sym (ap (λ b. if b then poll_place k else d.assignment) behind); nothing = record { heard = refl; heard_count = refl; room = refl; accessory = refl }; wants = refl }, none_placed (k + 1) ds (omega (arith, some)))
 
 -- the poll's frame behind devices of which each has its place
-along_placed : (i n k : ℕ) (ds es : List DeviceState) (f : Frame) → i ≡ min n 8 → k + length ds ≤ n + 1 → EachTo (PlacedTo i) k ds es → Each MayPoll k ds → identified_along es f ≡ polled_along k ds f
+along_placed : (i n k : ℕ) (ds es : List DeviceState) (f : Frame) → i ≡ min n 8 → k + length ds ≤ n + 1 → EachBecomes (PlacedTo i) k ds es → Each MayPoll k ds → identified_along es f ≡ polled_along k ds f
 along_placed i n k [] [] f most within placed may = refl
 along_placed i n k (d ∷ ds) (e ∷ es) f most within placed may =
     along_placed i n (k + 1) ds es (identified e.assignment e.wants f) most (omega (arith, within)) placed.1 may.1
@@ -279,7 +282,7 @@ along_placed i n k (d ∷ ds) [] f most within placed may = absurd placed
 -- the first i devices have their places
 pub record AssignedSo {M : Type 0} (view : M → MediumView) (i : ℕ) (r s : RingView M) : Type 0 where
   pub came : CameAsked view true (up_to place_asks i) r s
-  pub placed : EachTo (PlacedTo i) 1 (devices_of r) (devices_of s)
+  pub placed : EachBecomes (PlacedTo i) 1 (devices_of r) (devices_of s)
   pub unheard : NoneHeard r s
   pub drive : LeavesDrive r.drive s.drive
   pub idle : IsIdle s
@@ -312,7 +315,7 @@ module _ {M : Type 0} (view : M → MediumView) (r : RingView M) (idle : IsIdle 
       let spent = broke.room in
       record {
         came = asked_on view false (up_to place_asks i) asks r m s idle so.came broke.came;
-        devices = all_polls r m s (each_as (PlacedTo i) PollsOn (left_placed i) 1 (devices_of r) (devices_of m) so.placed) broke.devices;
+        devices = all_polls r m s (each_weaker (PlacedTo i) PollsOn (left_placed i) 1 (devices_of r) (devices_of m) so.placed) broke.devices;
         unheard = heard_then 0 r m s so.unheard broke.unheard;
         drive = leaves_then r.drive m.drive s.drive so.drive broke.drive;
         room = omega (arith, before, spent, few);
@@ -343,7 +346,7 @@ module _ {M : Type 0} (view : M → MediumView) (r : RingView M) (idle : IsIdle 
       record {
         frame = got.frame ∙ along_placed i n 1 (devices_of r) (devices_of m) idy most (omega (arith, count)) so.placed may;
         came = subst (λ n. CameAsked view true (up_to place_asks n ++ collect_asks f) r s) (most ∙ ap (λ n. min n 8) count) (asked_on view true (up_to place_asks i) (collect_asks f) r m s idle so.came got.came);
-        released = all_released r m s (each_as (PlacedTo i) PollsOn (left_placed i) 1 (devices_of r) (devices_of m) so.placed) got.released;
+        released = all_released r m s (each_weaker (PlacedTo i) PollsOn (left_placed i) 1 (devices_of r) (devices_of m) so.placed) got.released;
         unheard = heard_then 0 r m s so.unheard got.unheard;
         drive = leaves_then r.drive m.drive s.drive so.drive got.drive;
         room = omega (arith, before, spent, most);

@@ -15,6 +15,9 @@ use Rattle.il_drive.specs.Runs.{Ran}
 use Rattle.loop_model.specs.Entries.{rfc, unl}
 use Rattle.loop_model.specs.Exchanges.{Command, Identify, commanded, entries_of, returned, is_talk_address}
 use Rattle.loop_model.specs.Roles.{is_aau}
+use Rattle.loop_model.specs.Devices.{EachBecomes}
+use Rattle.loop_model.specs.Polls.{poll_enable, poll_place}
+use Rattle.loop_model.proofs.DeviceLaws.{each_then, each_weaker}
 use Rattle.il_ring.proofs.RoundPlaces.{place_kept}
 use Rattle.il_ring.specs.Journeys.{is_exact}
 use Rattle.il_ring.specs.Lists.{First}
@@ -23,20 +26,19 @@ use Rattle.il_ring.specs.Polls.{is_poll}
 use Rattle.il_ring.specs.Rings.{RingView, devices_of, drive_party, spare_of}
 use Rattle.il_control.specs.Brought.{is_auto_address}
 use Rattle.il_control.specs.Calls.{AllStay, BrokenOff, Made, Obeyed, ObeyedInPart, Stays, is_command}
-use Rattle.il_control.specs.Places.{EachTo, ppe}
 use Rattle.il_control.proofs.Assigning.{MayHavePlace, message_of-ppe}
 use Rattle.il_control.proofs.Calls.{hears_then, room_behind}
-use Rattle.il_record.specs.Polls.{PollsOn, Released, poll_place}
+use Rattle.il_record.specs.Polls.{PollsOn, Released}
 use Rattle.il_record.proofs.Mild.{IsMild, StaysMild, is_mild, mild_ran, unl_ran}
 use Rattle.il_record.proofs.MildCame.{UnlFirst, brought_mild, cut_mild, mild_entry, mild_frame, unl_cut}
 use Rattle.il_control.proofs.Brings.{command_brings}
 
 -- ---- which commands they are
 
-pub ppe_command : (n : ℕ) → n < 16 → is_command (ppe n) ≡ true
+pub ppe_command : (n : ℕ) → n < 16 → is_command (poll_enable n) ≡ true
 ppe_command n small = ap (λ m. not (is_talk_address m) && not (is_aau m)) (message_of-ppe n small)
 
-pub ppe_mild : (n : ℕ) → n < 16 → mild_frame (ppe n) ≡ true
+pub ppe_mild : (n : ℕ) → n < 16 → mild_frame (poll_enable n) ≡ true
 ppe_mild n small = ap (λ m. is_exact m && (not (is_auto_address m) && is_mild m)) (message_of-ppe n small)
 
 -- ---- the drive
@@ -122,7 +124,7 @@ released_then k c d e first more = record { place = more.place; nothing = hears_
 -- ---- all devices
 
 -- a fact of each, from one of the first so many and of those that are as they were
-each_first : (R : DeviceState → DeviceState → Type 0) (S : ℕ → DeviceState → DeviceState → Type 0) → ((k : ℕ) (d e : DeviceState) → R d e → S k d e) → ((k : ℕ) (d : DeviceState) → S k d d) → (k j : ℕ) (ds es : List DeviceState) → First R j ds es → EachTo S k ds es
+each_first : (R : DeviceState → DeviceState → Type 0) (S : ℕ → DeviceState → DeviceState → Type 0) → ((k : ℕ) (d e : DeviceState) → R d e → S k d e) → ((k : ℕ) (d : DeviceState) → S k d d) → (k j : ℕ) (ds es : List DeviceState) → First R j ds es → EachBecomes S k ds es
 each_first R S rule same k j [] [] took = tt
 each_first R S rule same k zero (d ∷ ds) (e ∷ es) took = (subst (S k d) (sym took.0) (same k d), each_first R S rule same (k + 1) zero ds es took.1)
 each_first R S rule same k (suc j) (d ∷ ds) (e ∷ es) took = (rule k d e took.0, each_first R S rule same (k + 1) j ds es took.1)
@@ -130,54 +132,36 @@ each_first R S rule same k j [] (e ∷ es) took = absurd took
 each_first R S rule same k j (d ∷ ds) [] took = absurd took
 
 -- of all of them
-pub each_all : (R : DeviceState → DeviceState → Type 0) (S : ℕ → DeviceState → DeviceState → Type 0) → ((k : ℕ) (d e : DeviceState) → R d e → S k d e) → (k : ℕ) (ds es : List DeviceState) → First R (length ds) ds es → EachTo S k ds es
+pub each_all : (R : DeviceState → DeviceState → Type 0) (S : ℕ → DeviceState → DeviceState → Type 0) → ((k : ℕ) (d e : DeviceState) → R d e → S k d e) → (k : ℕ) (ds es : List DeviceState) → First R (length ds) ds es → EachBecomes S k ds es
 each_all R S rule k [] [] took = tt
 each_all R S rule k (d ∷ ds) (e ∷ es) took = (rule k d e took.0, each_all R S rule (k + 1) ds es took.1)
 each_all R S rule k [] (e ∷ es) took = absurd took
 each_all R S rule k (d ∷ ds) [] took = absurd took
 
-pub each_as : (R S : ℕ → DeviceState → DeviceState → Type 0) → ((k : ℕ) (d e : DeviceState) → R k d e → S k d e) → (k : ℕ) (ds es : List DeviceState) → EachTo R k ds es → EachTo S k ds es
-each_as R S rule k [] [] each = tt
-each_as R S rule k (d ∷ ds) (e ∷ es) each = (rule k d e each.0, each_as R S rule (k + 1) ds es each.1)
-each_as R S rule k [] (e ∷ es) each = absurd each
-each_as R S rule k (d ∷ ds) [] each = absurd each
-
-pub each_then : (R S T : ℕ → DeviceState → DeviceState → Type 0) → ((k : ℕ) (c d e : DeviceState) → R k c d → S k d e → T k c e) → (k : ℕ) (cs ds es : List DeviceState) → EachTo R k cs ds → EachTo S k ds es → EachTo T k cs es
-each_then R S T rule k [] [] [] first more = tt
-each_then R S T rule k (c ∷ cs) (d ∷ ds) (e ∷ es) first more = (rule k c d e first.0 more.0, each_then R S T rule (k + 1) cs ds es first.1 more.1)
-each_then R S T rule k [] [] (e ∷ es) first more = absurd more
-each_then R S T rule k [] (d ∷ ds) es first more = absurd first
-each_then R S T rule k (c ∷ cs) [] es first more = absurd first
-each_then R S T rule k (c ∷ cs) (d ∷ ds) [] first more = absurd more
-
-pub each_same : (k : ℕ) (ds : List DeviceState) → EachTo PollsOn k ds ds
-each_same k [] = tt
-each_same k (d ∷ ds) = (polls_same k d, each_same (k + 1) ds)
-
 module _ {M : Type 0} (r s : RingView M) where
-  pub obeyed_polls : (m : Message) → is_poll m ≡ false → may_change_service m ≡ false → Obeyed m r s → EachTo PollsOn 1 (devices_of r) (devices_of s)
+  pub obeyed_polls : (m : Message) → is_poll m ≡ false → may_change_service m ≡ false → Obeyed m r s → EachBecomes PollsOn 1 (devices_of r) (devices_of s)
   obeyed_polls m kept still obeyed = each_all (Obeys m) PollsOn (obeys_polls m kept still) 1 (devices_of r) (devices_of s) obeyed
 
-  pub part_polls : (m : Message) → is_poll m ≡ false → may_change_service m ≡ false → ObeyedInPart m r s → EachTo PollsOn 1 (devices_of r) (devices_of s)
+  pub part_polls : (m : Message) → is_poll m ≡ false → may_change_service m ≡ false → ObeyedInPart m r s → EachBecomes PollsOn 1 (devices_of r) (devices_of s)
   part_polls m kept still part = each_first (Obeys m) PollsOn (obeys_polls m kept still) polls_same 1 part.0 (devices_of r) (devices_of s) part.1
 
-  pub stays_polls : AllStay true r s → EachTo PollsOn 1 (devices_of r) (devices_of s)
+  pub stays_polls : AllStay true r s → EachBecomes PollsOn 1 (devices_of r) (devices_of s)
   stays_polls stays = each_all (Stays true) PollsOn (λ k d e stays. polls_by k d e stays.place stays.nothing (stays.wants refl)) 1 (devices_of r) (devices_of s) stays
 
-  pub ppu_released : Obeyed msg.Ppu r s → EachTo Released 1 (devices_of r) (devices_of s)
+  pub ppu_released : Obeyed msg.Ppu r s → EachBecomes Released 1 (devices_of r) (devices_of s)
   ppu_released obeyed = each_all (Obeys msg.Ppu) Released released 1 (devices_of r) (devices_of s) obeyed
 
-  pub ppu_polls : ObeyedInPart msg.Ppu r s → EachTo PollsOn 1 (devices_of r) (devices_of s)
+  pub ppu_polls : ObeyedInPart msg.Ppu r s → EachBecomes PollsOn 1 (devices_of r) (devices_of s)
   ppu_polls part = each_first (Obeys msg.Ppu) PollsOn (λ k d e obeys. released_polls k d e (released k d e obeys)) polls_same 1 part.0 (devices_of r) (devices_of s) part.1
 
-  pub may_polls : (a : ℕ) → 1 ≤ a → a ≤ 8 → EachTo (MayHavePlace a (7 + a)) 1 (devices_of r) (devices_of s) → EachTo PollsOn 1 (devices_of r) (devices_of s)
-  may_polls a some few may = each_as (MayHavePlace a (7 + a)) PollsOn (may_have_polls a some few) 1 (devices_of r) (devices_of s) may
+  pub may_polls : (a : ℕ) → 1 ≤ a → a ≤ 8 → EachBecomes (MayHavePlace a (7 + a)) 1 (devices_of r) (devices_of s) → EachBecomes PollsOn 1 (devices_of r) (devices_of s)
+  may_polls a some few may = each_weaker (MayHavePlace a (7 + a)) PollsOn (may_have_polls a some few) 1 (devices_of r) (devices_of s) may
 
 module _ {M : Type 0} (r m s : RingView M) where
-  pub all_polls : EachTo PollsOn 1 (devices_of r) (devices_of m) → EachTo PollsOn 1 (devices_of m) (devices_of s) → EachTo PollsOn 1 (devices_of r) (devices_of s)
+  pub all_polls : EachBecomes PollsOn 1 (devices_of r) (devices_of m) → EachBecomes PollsOn 1 (devices_of m) (devices_of s) → EachBecomes PollsOn 1 (devices_of r) (devices_of s)
   all_polls first more = each_then PollsOn PollsOn PollsOn polls_then 1 (devices_of r) (devices_of m) (devices_of s) first more
 
-  pub all_released : EachTo PollsOn 1 (devices_of r) (devices_of m) → EachTo Released 1 (devices_of m) (devices_of s) → EachTo Released 1 (devices_of r) (devices_of s)
+  pub all_released : EachBecomes PollsOn 1 (devices_of r) (devices_of m) → EachBecomes Released 1 (devices_of m) (devices_of s) → EachBecomes Released 1 (devices_of r) (devices_of s)
   all_released first more = each_then PollsOn Released Released released_then 1 (devices_of r) (devices_of m) (devices_of s) first more
 
 -- ---- the places that were given

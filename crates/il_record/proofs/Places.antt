@@ -8,6 +8,7 @@ use Rattle.il_drive.specs.State.{device_of, fresh_drive}
 use Rattle.il_drive.specs.Resting.{IsFree}
 use Rattle.loop_model.specs.Exchanges.{Start}
 use Rattle.loop_model.specs.Units.{RecordUnit}
+use Rattle.loop_model.specs.Devices.{EachBecomes}
 use Rattle.il_ring.specs.Lists.{Each, First}
 use Rattle.il_ring.proofs.RoundPlaces.{place_kept}
 use Rattle.il_ring.specs.Outcomes.{Obeys}
@@ -15,7 +16,6 @@ use Rattle.il_ring.specs.Polls.{KeepsPlace, is_poll}
 use Rattle.il_ring.specs.Rings.{IsRing, MayStand, RingView, devices_of, drive_party}
 use Rattle.il_control.specs.Calls.{AllStay, IsIdle, Obeyed, ObeyedInPart, Stays}
 use Rattle.il_control.specs.Receives.{NotReceived, Received}
-use Rattle.il_control.specs.Places.{EachTo}
 use Rattle.il_record.specs.Asks.{Ask}
 use Rattle.il_record.specs.Came.{CameUnits}
 use Rattle.il_record.specs.Listening.{Hears, HearsPart}
@@ -32,7 +32,7 @@ all_kept still (d ∷ ds) (e ∷ es) stays = (stays.0.place, all_kept still ds e
 all_kept still [] (e ∷ es) stays = absurd stays
 all_kept still (d ∷ ds) [] stays = absurd stays
 
-each_kept : (R : ℕ → DeviceState → DeviceState → Type 0) → ((k : ℕ) (d e : DeviceState) → R k d e → KeepsPlace d e) → (k : ℕ) (ds es : List DeviceState) → EachTo R k ds es → First KeepsPlace (length ds) ds es
+each_kept : (R : ℕ → DeviceState → DeviceState → Type 0) → ((k : ℕ) (d e : DeviceState) → R k d e → KeepsPlace d e) → (k : ℕ) (ds es : List DeviceState) → EachBecomes R k ds es → First KeepsPlace (length ds) ds es
 each_kept R rule k [] [] each = tt
 each_kept R rule k (d ∷ ds) (e ∷ es) each = (rule k d e each.0, each_kept R rule (k + 1) ds es each.1)
 each_kept R rule k [] (e ∷ es) each = absurd each
@@ -59,13 +59,13 @@ may_on k (d ∷ ds) (e ∷ es) kept may = (⊎_elim (λ none. inl (kept.0 ∙ no
 may_on k [] (e ∷ es) kept may = absurd kept
 may_on k (d ∷ ds) [] kept may = absurd kept
 
-polls_may : (k : ℕ) (ds es : List DeviceState) → EachTo PollsOn k ds es → Each MayPoll k ds → Each MayPoll k es
+polls_may : (k : ℕ) (ds es : List DeviceState) → EachBecomes PollsOn k ds es → Each MayPoll k ds → Each MayPoll k es
 polls_may k [] [] each may = tt
 polls_may k (d ∷ ds) (e ∷ es) each may = (each.0.place may.0, polls_may (k + 1) ds es each.1 may.1)
 polls_may k [] (e ∷ es) each may = absurd each
 polls_may k (d ∷ ds) [] each may = absurd each
 
-released_may : (k : ℕ) (ds es : List DeviceState) → EachTo Released k ds es → Each MayPoll k es
+released_may : (k : ℕ) (ds es : List DeviceState) → EachBecomes Released k ds es → Each MayPoll k es
 released_may k [] [] each = tt
 released_may k (d ∷ ds) (e ∷ es) each = (inl each.0.place, released_may (k + 1) ds es each.1)
 released_may k [] (e ∷ es) each = absurd each
@@ -84,10 +84,10 @@ module _ {M : Type 0} (r s : RingView M) where
   pub kept_in_part : (m : Message) → is_poll m ≡ false → ObeyedInPart m r s → PlacesKept r s
   kept_in_part m none part = record { kept = first_kept m none part.0 (devices_of r) (devices_of s) part.1 }
 
-  pub kept_heard : (a : ℕ) (bytes : List ℕ) → EachTo (Hears a bytes) 1 (devices_of r) (devices_of s) → PlacesKept r s
+  pub kept_heard : (a : ℕ) (bytes : List ℕ) → EachBecomes (Hears a bytes) 1 (devices_of r) (devices_of s) → PlacesKept r s
   kept_heard a bytes heard = record { kept = each_kept (Hears a bytes) (λ k d e hears. hears.0) 1 (devices_of r) (devices_of s) heard }
 
-  pub kept_heard_part : (a whole : ℕ) (bytes : List ℕ) → EachTo (HearsPart a whole bytes) 1 (devices_of r) (devices_of s) → PlacesKept r s
+  pub kept_heard_part : (a whole : ℕ) (bytes : List ℕ) → EachBecomes (HearsPart a whole bytes) 1 (devices_of r) (devices_of s) → PlacesKept r s
   kept_heard_part a whole bytes heard = record { kept = each_kept (HearsPart a whole bytes) (λ k d e hears. hears.0) 1 (devices_of r) (devices_of s) heard }
 
   pub may_poll_kept : PlacesKept r s → Each MayPoll 1 (devices_of r) → Each MayPoll 1 (devices_of s)

@@ -11,10 +11,10 @@ use Rattle.il_drive.specs.declared.mode.Start.TheVariants as start
 use Rattle.il_drive.proofs.ExchangesAddressed.{message_of-lad}
 use Rattle.loop_model.specs.Entries.{rfc, lad}
 use Rattle.loop_model.specs.Exchanges.{Echo, Send, echoed, returned, commanded, is_echo, bytes_of}
+use Rattle.loop_model.specs.Devices.{EachBecomes}
 use Rattle.il_ring.specs.Journeys.{is_exact}
 use Rattle.il_ring.specs.Rings.{RingView, devices_of, drive_party}
 use Rattle.il_control.specs.Brought.{is_auto_address}
-use Rattle.il_control.specs.Places.{EachTo}
 use Rattle.il_control.proofs.Brings.{send_from_here}
 use Rattle.il_record.specs.Listening.{Hears, HearsPart}
 use Rattle.il_record.specs.Asks.{AskHear, CameAsked}
@@ -52,7 +52,7 @@ module _ {M : Type 0} (view : M → MediumView) (a : ℕ) (bytes : List ℕ) (r 
       (unl_brought start.Identity (length (devices_of r)) (drive_party r) (behind_unl a so.ds) adds.came (behind_mild a so.ds low legal) (so.made.whole.brought (send_from_here (drive_party r) a None so.ds))) adds.drive in
       record {
         came = subst (λ bytes. CameAsked view true (say_asks a bytes) r s) (so.sent ∙ take-length sent ∙ is) (asked_made view (Send a None so.ds) r s so.made refl (tape_same view r.drive s.drive drive.medium));
-        heard = subst (λ bytes. EachTo (Hears a bytes) 1 (devices_of r) (devices_of s)) (take-length sent ∙ is) so.heard;
+        heard = subst (λ bytes. EachBecomes (Hears a bytes) 1 (devices_of r) (devices_of s)) (take-length sent ∙ is) so.heard;
         unheard = so.unheard;
         by_log = λ some here. so.by_log some here ∙ take-length sent ∙ is;
         drive = drive;
@@ -71,7 +71,7 @@ module _ {M : Type 0} (view : M → MediumView) (a : ℕ) (bytes : List ℕ) (r 
         came = asked_broken view (AskHear a None bytes) [] (Send a None not.ds) r s (rest, ap (λ bytes. AskHear a None bytes) all) not.broken (tape_same view r.drive s.drive drive.medium);
         whole = not.whole;
         within = subst (λ bytes. not.whole ≤ length bytes) is not.whole_within;
-        heard = subst (λ bytes. EachTo (HearsPart a not.whole bytes) 1 (devices_of r) (devices_of s)) is not.heard;
+        heard = subst (λ bytes. EachBecomes (HearsPart a not.whole bytes) 1 (devices_of r) (devices_of s)) is not.heard;
         unheard = not.unheard;
         by_log = λ some here. not.by_log some here ∙ ap (take not.whole) is;
         drive = drive;

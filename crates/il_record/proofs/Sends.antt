@@ -22,9 +22,9 @@ use Rattle.std.specs.Int.{to_be_bytes, w16}
 use Rattle.il_drive.specs.Runs.{Ran}
 use Rattle.il_drive.proofs.ExchangesAddressed.{seeks_record}
 use Rattle.loop_model.specs.Entries.{unl, rfc, lad, ddl}
+use Rattle.loop_model.specs.Devices.{EachBecomes}
 use Rattle.il_record.proofs.Heard.{others_then, others_deaf, others_deaf_to_any, told_on}
 use Rattle.il_record.proofs.HeardLogs.{heard_in_part, heard_sent, no_data_sent, none_broke, none_by, none_whole}
-use Rattle.il_control.specs.Places.{EachTo}
 use Rattle.il_record.specs.Listening.{Hears}
 use Rattle.il_record.proofs.Listened.{hears_more, hears_no_part, hears_none, hears_part}
 use Rattle.il_record.specs.Sends.{filled, SentSo, SentAll, SendBroke, Sought}
@@ -96,7 +96,7 @@ sent_more view a number i byte bytes r m s idle within is so sent =
       told = told_on byte a 1 _ (devices_of m) (devices_of s) so.told sent.heard;
       unheard = heard.0;
       by_log = heard.1;
-      heard = subst (λ bytes. EachTo (Hears a bytes) 1 (devices_of r) (devices_of s)) next (hears_more a byte (take i bytes) 1 (devices_of r) (devices_of m) (devices_of s) so.heard so.told sent.heard);
+      heard = subst (λ bytes. EachBecomes (Hears a bytes) 1 (devices_of r) (devices_of s)) next (hears_more a byte (take i bytes) 1 (devices_of r) (devices_of m) (devices_of s) so.heard so.told sent.heard);
     }
 
 -- all were

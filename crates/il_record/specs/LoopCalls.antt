@@ -4,10 +4,10 @@ use Rattle.il_device.specs.State.{DeviceState}
 use Rattle.il_ports.specs.Media.{MediumView}
 use Rattle.il_drive.specs.State.{DriveView, status_of}
 use Rattle.loop_model.specs.Exchanges.{Sai}
+use Rattle.loop_model.specs.Devices.{EachBecomes}
 use Rattle.il_ring.specs.Rings.{RingView, devices_of, spare_of}
 use Rattle.il_control.specs.Calls.{AllStay}
 use Rattle.il_control.specs.Receives.{accessory_at}
-use Rattle.il_control.specs.Places.{EachTo}
 use Rattle.il_record.specs.Asks.{Ask, AskTell, AskHear, CameAsked, Told, up_to}
 use Rattle.il_record.specs.Came.{NoneHeard, OnlyHeard, heard_on}
 use Rattle.il_record.specs.Listening.{Hears, HearsPart}
@@ -61,7 +61,7 @@ say_asks a bytes = AskHear a None bytes ∷ []
 -- device heard exactly these bytes.
 pub record Said {M : Type 0} (view : M → MediumView) (a : ℕ) (bytes : List ℕ) (r s : RingView M) : Type 0 where
   pub came : CameAsked view true (say_asks a bytes) r s
-  pub heard : EachTo (Hears a bytes) 1 (devices_of r) (devices_of s)
+  pub heard : EachBecomes (Hears a bytes) 1 (devices_of r) (devices_of s)
   pub unheard : OnlyHeard a r s
   pub by_log : 1 ≤ a → a ≤ length (devices_of r) → heard_on r a unheard.entries ≡ bytes
   pub drive : LeavesDrive r.drive s.drive
@@ -72,7 +72,7 @@ pub record NotSaid {M : Type 0} (view : M → MediumView) (a : ℕ) (bytes : Lis
   pub came : CameAsked view false (say_asks a bytes) r s
   pub whole : ℕ
   pub within : whole ≤ length bytes
-  pub heard : EachTo (HearsPart a whole bytes) 1 (devices_of r) (devices_of s)
+  pub heard : EachBecomes (HearsPart a whole bytes) 1 (devices_of r) (devices_of s)
   pub unheard : OnlyHeard a r s
   pub by_log : 1 ≤ a → a ≤ length (devices_of r) → heard_on r a unheard.entries ≡ take whole bytes
   pub drive : LeavesDrive r.drive s.drive

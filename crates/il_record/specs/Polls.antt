@@ -1,35 +1,20 @@
 -- A parallel poll of the first eight devices, and what its answer is (HP-IL Interface Specification, parallel poll).
-use Rattle.std.specs.Prelude.{◌≡◌, ◌≤◌, ◌⊎◌, ◌+◌, ◌-◌, ◌++◌, nat_le, ℕ, true, false, if◌then◌else◌, min, List, [], ◌∷◌, length, Option, Some, None}
-use Rattle.il_frames.specs.declared.frame.Class.TheVariants as class
+use Rattle.std.specs.Prelude.{◌≡◌, ◌≤◌, ◌⊎◌, ◌+◌, ◌++◌, ℕ, true, false, if◌then◌else◌, min, List, [], ◌∷◌, length, None}
 use Rattle.il_frames.specs.declared.frame.Frame.{Frame}
-use Rattle.il_frames.specs.Frames.{framed}
-use Rattle.il_poll.specs.declared.service.Assignment.{Assignment}
-use Rattle.il_device.specs.Passing.{identified}
 use Rattle.il_device.specs.State.{DeviceState}
 use Rattle.il_ports.specs.Media.{MediumView}
 use Rattle.loop_model.specs.Entries.{lad, unl}
+use Rattle.loop_model.specs.Devices.{EachBecomes}
+use Rattle.loop_model.specs.Polls.{poll_enable, poll_place, poll_unconfigure, polled_along}
 use Rattle.il_ring.specs.Outcomes.{HearsNothing}
 use Rattle.il_ring.specs.Lists.{First}
 use Rattle.il_ring.specs.Polls.{identified_along, KeepsPlace}
 use Rattle.il_ring.specs.Rings.{RingView, devices_of, spare_of}
 use Rattle.il_control.specs.Calls.{idy}
-use Rattle.il_control.specs.Places.{EachTo, GivenPlace, ppe}
+use Rattle.il_control.specs.Places.{GivenPlace}
 use Rattle.il_record.specs.Asks.{Ask, AskCommand, AskIdentify, CameAsked, up_to}
 use Rattle.il_record.specs.Came.{NoneHeard}
 use Rattle.il_record.specs.LoopCalls.{LeavesDrive}
-
--- parallel poll unconfigure
-abbrev pub ppu : Frame
-ppu = framed class.Cmd 0x15
-
--- The place of party k: of the first eight each has a bit of its own, from bit 0 on, and sets it where it wants service.
-abbrev pub poll_place : ℕ → Option Assignment
-poll_place k = if nat_le k 8 then Some (record { bit = k - 1; sense = true }) else None
-
--- the identify frame behind devices that have these places, of which the first is party k
-abbrev pub polled_along : ℕ → List DeviceState → Frame → Frame
-polled_along k [] f = f
-polled_along k (d ∷ ds) f = polled_along (k + 1) ds (identified (poll_place k) d.wants f)
 
 -- party k has no place in the poll, or has this one
 abbrev pub MayPoll : ℕ → DeviceState → Type 0
@@ -55,11 +40,11 @@ pub record Released (k : ℕ) (d e : DeviceState) : Type 0 where
 
 -- the device of that address takes its place
 abbrev pub place_asks : ℕ → List Ask
-place_asks a = AskCommand unl ∷ AskCommand (lad a) ∷ AskCommand (ppe (7 + a)) ∷ []
+place_asks a = AskCommand unl ∷ AskCommand (lad a) ∷ AskCommand (poll_enable (7 + a)) ∷ []
 
 -- the devices that have places answer by this frame, and give them up
 abbrev pub collect_asks : Frame → List Ask
-collect_asks f = AskCommand unl ∷ AskIdentify f ∷ AskCommand ppu ∷ []
+collect_asks f = AskCommand unl ∷ AskIdentify f ∷ AskCommand poll_unconfigure ∷ []
 
 -- of so many devices
 abbrev pub poll_asks : ℕ → Frame → List Ask
@@ -71,7 +56,7 @@ poll_asks n f = up_to place_asks (min n 8) ++ collect_asks f
 pub record HasPolled {M : Type 0} (view : M → MediumView) (f : Frame) (r s : RingView M) : Type 0 where
   pub frame : f ≡ polled_along 1 (devices_of r) idy
   pub came : CameAsked view true (poll_asks (length (devices_of r)) f) r s
-  pub released : EachTo Released 1 (devices_of r) (devices_of s)
+  pub released : EachBecomes Released 1 (devices_of r) (devices_of s)
   pub unheard : NoneHeard r s
   pub drive : LeavesDrive r.drive s.drive
   pub room : spare_of r ≤ spare_of s + 53
@@ -79,7 +64,7 @@ pub record HasPolled {M : Type 0} (view : M → MediumView) (f : Frame) (r s : R
 -- what was asked for was broken off, and took n entries of the log at most; no device heard anything
 pub record PollBroke {M : Type 0} (view : M → MediumView) (n : ℕ) (asks : List Ask) (r s : RingView M) : Type 0 where
   pub came : CameAsked view false asks r s
-  pub devices : EachTo PollsOn 1 (devices_of r) (devices_of s)
+  pub devices : EachBecomes PollsOn 1 (devices_of r) (devices_of s)
   pub unheard : NoneHeard r s
   pub drive : LeavesDrive r.drive s.drive
   pub room : spare_of r ≤ spare_of s + n
@@ -89,7 +74,7 @@ pub record PollBroke {M : Type 0} (view : M → MediumView) (n : ℕ) (asks : Li
 -- the device of that address, 1 to 8, was given its place
 pub record Assigned {M : Type 0} (view : M → MediumView) (a : ℕ) (r s : RingView M) : Type 0 where
   pub came : CameAsked view true (place_asks a) r s
-  pub given : EachTo (GivenPlace a (7 + a)) 1 (devices_of r) (devices_of s)
+  pub given : EachBecomes (GivenPlace a (7 + a)) 1 (devices_of r) (devices_of s)
   pub unheard : NoneHeard r s
   pub drive : LeavesDrive r.drive s.drive
   pub room : spare_of r ≤ spare_of s + 6
@@ -98,7 +83,7 @@ pub record Assigned {M : Type 0} (view : M → MediumView) (a : ℕ) (r s : Ring
 pub record Collected {M : Type 0} (view : M → MediumView) (f : Frame) (r s : RingView M) : Type 0 where
   pub frame : f ≡ identified_along (devices_of r) idy
   pub came : CameAsked view true (collect_asks f) r s
-  pub released : EachTo Released 1 (devices_of r) (devices_of s)
+  pub released : EachBecomes Released 1 (devices_of r) (devices_of s)
   pub unheard : NoneHeard r s
   pub drive : LeavesDrive r.drive s.drive
   pub room : spare_of r ≤ spare_of s + 5

@@ -2,11 +2,11 @@
 use Rattle.std.specs.Prelude.{◌≡◌, ◌≤◌, ◌<◌, ℕ, List, ◌++◌, length, take, replicate, Option}
 use Rattle.il_ports.specs.Media.{MediumView}
 use Rattle.loop_model.specs.Exchanges.{Echo, Send, bytes_of}
+use Rattle.loop_model.specs.Devices.{EachBecomes}
 use Rattle.il_drive.specs.Resting.{IsFree, HasSought}
 use Rattle.il_ring.specs.Rings.{RingView, devices_of, drive_party}
 use Rattle.il_ring.specs.Lists.{Each}
 use Rattle.il_control.specs.Calls.{Made, BrokenOff, IsTold}
-use Rattle.il_control.specs.Places.{EachTo}
 use Rattle.il_record.specs.Came.{OnlyHeard, heard_on}
 use Rattle.il_record.specs.Listening.{Hears, HearsPart}
 
@@ -24,7 +24,7 @@ pub record SentSo {M : Type 0} (view : M → MediumView) (a : ℕ) (number : Opt
   pub told : Each (IsTold a) 1 (devices_of s)
   pub unheard : OnlyHeard a r s
   pub by_log : 1 ≤ a → a ≤ length (devices_of r) → heard_on r a unheard.entries ≡ take i bytes
-  pub heard : EachTo (Hears a (take i bytes)) 1 (devices_of r) (devices_of s)
+  pub heard : EachBecomes (Hears a (take i bytes)) 1 (devices_of r) (devices_of s)
 
 -- all were
 abbrev pub SentAll : {M : Type 0} → (M → MediumView) → ℕ → Option ℕ → List ℕ → RingView M → RingView M → Type 0
@@ -41,7 +41,7 @@ pub record SendBroke {M : Type 0} (view : M → MediumView) (a : ℕ) (number : 
   pub whole_within : whole ≤ length bytes
   pub unheard : OnlyHeard a r s
   pub by_log : 1 ≤ a → a ≤ length (devices_of r) → heard_on r a unheard.entries ≡ take whole bytes
-  pub heard : EachTo (HearsPart a whole bytes) 1 (devices_of r) (devices_of s)
+  pub heard : EachBecomes (HearsPart a whole bytes) 1 (devices_of r) (devices_of s)
 
 -- The drive, of which every exchange begins so, has sought record n.
 abbrev pub Sought : {M : Type 0} → (M → MediumView) → ℕ → ℕ → RingView M → RingView M → Type 0

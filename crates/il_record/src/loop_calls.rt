@@ -1,12 +1,13 @@
 // Calls of a store over the loop that move no record.
 ghost use Rattle.std.specs.Prelude.{◌≡◌, ◌≤◌, ◌+◌, ◌/◌, true, false, length};
+ghost use Rattle.loop_model.specs.Polls.{polled_along};
 ghost use Rattle.il_ring.specs.Rings.{spare_of, devices_of, drive_party};
 ghost use Rattle.il_control.specs.Calls.{idy};
 ghost use Rattle.il_record.specs.Asks.{up_to};
 ghost use Rattle.il_record.specs.Called.{Calls, LeavesStore};
 ghost use Rattle.il_record.specs.LoopCalls.{AllNamed, LeftAlone, NotSaid, Said, id_asks};
 ghost use Rattle.il_record.specs.LoopStores.{HasRing, StandsSo, is_idle, since_frame, since_said};
-ghost use Rattle.il_record.specs.Polls.{HasPolled, PollBroke, poll_asks, polled_along};
+ghost use Rattle.il_record.specs.Polls.{HasPolled, PollBroke, poll_asks};
 ghost use Rattle.il_record.specs.Runs.{NotPolled, Polled};
 
 use crate::records::{LoopRecords, Looped};

@@ -1,10 +1,11 @@
 // A parallel poll over the loop.
 ghost use Rattle.std.specs.Prelude.{◌≡◌, ◌≤◌, None, length, IfOk, IfErr};
+ghost use Rattle.loop_model.specs.Polls.{polled_along};
 ghost use Rattle.il_ring.specs.Rings.{spare_of, devices_of};
 ghost use Rattle.il_ring.specs.Lists.{Each};
 ghost use Rattle.il_ring.specs.Polls.{identified_along};
 ghost use Rattle.il_control.specs.Calls.{IsIdle, idy};
-ghost use Rattle.il_record.specs.Polls.{Assigned, Collected, HasPolled, MayPoll, PollBroke, collect_asks, place_asks, poll_asks, polled_along};
+ghost use Rattle.il_record.specs.Polls.{Assigned, Collected, HasPolled, MayPoll, PollBroke, collect_asks, place_asks, poll_asks};
 
 use crate::frames::{poll_enable, poll_unconfigure};
 use crate::runs::{drive_of, listen_address, unlisten};

@@ -10,5 +10,6 @@ pub mod ReachLaws
 pub mod EffectLaws
 pub mod HearLaws
 pub mod ReadingLaws
+pub mod DeviceLaws
 mod Examples
 mod TransferExamples

@@ -6,3 +6,6 @@ pub mod Exchanges
 pub mod Hearing
 pub mod Units
 pub mod Effect
+pub mod Devices
+pub mod Listening
+pub mod Polls

@@ -1,4 +1,4 @@
--- What a device hears of bytes that a command sends it.
+-- What a device hears of bytes that are sent to it, one behind the other.
 use Rattle.std.specs.Prelude.{◌≡◌, ◌≤◌, ◌++◌, ℕ, List, length, take}
 use Rattle.il_device.specs.State.{DeviceState, risen_by}
 use Rattle.il_device.specs.Takes.{kept_all}
@@ -10,10 +10,8 @@ pub record HearsAll (bytes : List ℕ) (d e : DeviceState) : Type 0 where
   pub room : e.room ≡ d.room
   pub accessory : e.accessory ≡ d.accessory
 
--- the first ones of these bytes, and then at most one byte of any value
-pub record HearsFront (bytes : List ℕ) (d e : DeviceState) : Type 0 where
-  pub front : ℕ
-  pub within : front ≤ length bytes
+-- the first `whole` of these bytes, and then at most one byte of any value
+pub record HearsInPart (whole : ℕ) (bytes : List ℕ) (d e : DeviceState) : Type 0 where
   pub more : List ℕ
   pub few : length more ≤ 1
-  pub heard : HearsAll (take front bytes ++ more) d e
+  pub heard : HearsAll (take whole bytes ++ more) d e
