@@ -120,23 +120,40 @@ fn quiet(alloc: Global) -> Result<Box<dyn Device>, AllocError>
     Ok(quiet)
 }
 
-pub(crate) fn devices_of(alloc: Global, behind: Behind) -> Result<Vec<Box<dyn Device>>, AllocError>
+/// A list of one device.
+fn only(alloc: Global, device: Box<dyn Device>) -> Result<Vec<Box<dyn Device>>, AllocError>
+    requires { MayStand (⟦<Box<dyn Device> as Device>⟧.state device) }
     ensures few { IfOk result (λ devices. length devices.items ≤ 29) }
     ensures stand { IfOk result (λ devices. All (λ b. MayStand (⟦<Box<dyn Device> as Device>⟧.state b)) devices.items) }
 {
     let mut devices = Vec::new(alloc);
-    match behind {
-        Behind::Nothing => {}
-        Behind::Printer => devices.push(printer(alloc)?)?,
-        Behind::Quiet => devices.push(quiet(alloc)?)?,
-        Behind::Full => {
-            'quiets: for _ in 0..28usize {
-                devices.push(quiet(alloc)?)?;
-            }
-            devices.push(printer(alloc)?)?;
-        }
-    }
+    devices.push(device)?;
     Ok(devices)
+}
+
+/// As many devices as a ring has beside its drive, the last of them a printer.
+fn twenty_nine(alloc: Global) -> Result<Vec<Box<dyn Device>>, AllocError>
+    ensures few { IfOk result (λ devices. length devices.items ≤ 29) }
+    ensures stand { IfOk result (λ devices. All (λ b. MayStand (⟦<Box<dyn Device> as Device>⟧.state b)) devices.items) }
+{
+    let mut devices = Vec::new(alloc);
+    'quiets: for _ in 0..28usize {
+        devices.push(quiet(alloc)?)?;
+    }
+    devices.push(printer(alloc)?)?;
+    Ok(devices)
+}
+
+pub(crate) fn devices_of(alloc: Global, behind: Behind) -> Result<Vec<Box<dyn Device>>, AllocError>
+    ensures few { IfOk result (λ devices. length devices.items ≤ 29) }
+    ensures stand { IfOk result (λ devices. All (λ b. MayStand (⟦<Box<dyn Device> as Device>⟧.state b)) devices.items) }
+{
+    match behind {
+        Behind::Nothing => Ok(Vec::new(alloc)),
+        Behind::Printer => only(alloc, printer(alloc)?),
+        Behind::Quiet => only(alloc, quiet(alloc)?),
+        Behind::Full => twenty_nine(alloc),
+    }
 }
 
 /// The words that plan one fault, at this crossing.

@@ -1,7 +1,7 @@
 use Rattle.std.proofs.Common.{◌≤◌, length}
 use Rattle.std.specs.List.{All}
 use Rattle.il_ring.specs.Rings.{MayStand}
-use Rattle.il_rows.proofs.runs.devices_of.Given as goal
+use Rattle.il_rows.proofs.runs.twenty_nine.Given as goal
 
 abbrev pub invariant-quiets : goal.invariant-quiets
 invariant-quiets g l = record {
