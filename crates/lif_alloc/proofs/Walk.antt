@@ -1,5 +1,5 @@
 -- A directory walked slot by slot.
-use Rattle.std.proofs.Common.{◌≡◌, ◌≢◌, ◌<◌, ◌≤◌, ◌+◌, ◌^◌, ◌++◌, ◌&&◌, if◌then◌else◌, max, nat_lt, nat_le, not, ℕ, suc, List, [], ◌∷◌, Bool, true, false, length, get_or, take, drop, refl, sym, ◌∙◌, ap, arith}
+use Rattle.std.proofs.Common.{◌≡◌, ◌<◌, ◌+◌, ◌^◌, ◌++◌, ◌&&◌, if◌then◌else◌, max, nat_lt, nat_le, not, ℕ, suc, List, [], ◌∷◌, Bool, true, false, length, get_or, take, drop, refl, sym, ◌∙◌, ap, arith}
 use Rattle.std.proofs.lemmas.Bool.{lt-leb, leb-true, eq-eqb, ne_eqb}
 use Rattle.std.proofs.lemmas.List.{take_more}
 use Rattle.lif_model.specs.Legal.{has_records, end_of}

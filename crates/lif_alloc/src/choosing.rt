@@ -5,12 +5,7 @@ ghost use Rattle.lif_dir.specs.Entries.{entry_bytes, slot_bytes};
 ghost use Rattle.lif_alloc.specs.Choices.{place_of};
 
 use lif_dir::{FileEntry, SlotTable};
-
-/// Where the gate of the redo file stands, counted back from the end of the medium.
-const GATE: u16 = 4;
-
-/// The name of the redo file, with its spaces.
-const REDO_NAME: &[u8; 10] = b"REDOFILE  ";
+use lif_model::{GATE, REDO_NAME};
 
 /// Where a new file goes.
 #[derive(Clone, Copy, Debug, PartialEq, Eq, Drop)]

@@ -9,7 +9,9 @@ use Rattle.lif_model.specs.Tape.{Tape, record_at}
 use Rattle.lif_model.specs.Gate.{gate_of}
 use Rattle.lif_model.specs.Header.{directory_start, directory_end, is_readable}
 use Rattle.lif_model.specs.Directory.{name_of, type_of, start_of, length_of, slots_of}
-use Rattle.lif_model.specs.Redo.{Version, One, Two, versions, redo_start, redo_length, Changes, redo_of, is_none, settled, changed}
+use Rattle.lif_model.specs.declared.version.Version.{Version}
+use Rattle.lif_model.specs.declared.version.Version.TheVariants.{One, Two}
+use Rattle.lif_model.specs.Redo.{versions, redo_start, redo_length, Changes, redo_of, is_none, settled, changed}
 use Rattle.lif_model.specs.Commit.{SettlesAs, SettlesBelow, IsOldOrNew}
 use Rattle.lif_model.specs.Legal.{is_live, occupies, end_of, holds, is_live_named, is_legal_with, is_legal, IsLegal}
 use Rattle.lif_model.specs.Volume.{redo_name, redo_type, is_redo_entry, is_adopted_with, is_redo_file, is_adopted, is_file, Volume, volume_if, volume_in, volume_of, IsAdopted, is_used, is_gate_held, is_foreign_gated, IsVolume}

@@ -7,7 +7,7 @@ use Rattle.lif_model.specs.Directory.{name_of}
 use Rattle.lif_model.specs.Header.{is_readable, label_of, capacity_of}
 use Rattle.lif_model.specs.Made.{new_entry, with_type, with_extent, fresh_header, filled}
 use Rattle.lif_model.specs.Shelf.{piece}
-use Rattle.lif_model.specs.Redo.{One, Two}
+use Rattle.lif_model.specs.declared.version.Version.TheVariants.{One, Two}
 use Rattle.lif_model.specs.Volume.{redo_entry, upgraded_entry, is_adopted_with, Volume}
 use Rattle.lif_model.specs.Fit.{Place, At, NoSlot, NoRoom, fit, candidates}
 use Rattle.lif_model.specs.Apply.{VolumeCommand, Dir, Fetch, Store, Rename, Purge, Adopt, Upgrade, Format, first_met, store_checks, refusal_of, stored, apply}

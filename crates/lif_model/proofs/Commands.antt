@@ -7,7 +7,9 @@ use Rattle.lif_model.specs.Gate.{gate_of}
 use Rattle.lif_model.specs.Header.{directory_end, capacity_of}
 use Rattle.lif_model.specs.Directory.{slots_of}
 use Rattle.lif_model.specs.Made.{file_length, file_records}
-use Rattle.lif_model.specs.Redo.{Version, One, Two, changed, IsSettled}
+use Rattle.lif_model.specs.declared.version.Version.{Version}
+use Rattle.lif_model.specs.declared.version.Version.TheVariants.{One, Two}
+use Rattle.lif_model.specs.Redo.{changed, IsSettled}
 use Rattle.lif_model.specs.Commit.{SettlesBelow, IsOldOrNew, IsCommitted}
 use Rattle.lif_model.specs.Transfers.{Replaced, PartlyReplaced}
 use Rattle.lif_model.specs.Legal.{occupies, end_of, is_legal}

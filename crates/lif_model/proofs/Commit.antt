@@ -6,7 +6,8 @@ use Rattle.lif_model.specs.Tape.{Tape, record_at}
 use Rattle.lif_model.specs.Gate.{gate_of, is_open, has_open_gate}
 use Rattle.lif_model.specs.Stops.{Torn, Elapses, LeavesOnly}
 use Rattle.std.specs.Prelude.{Option, Some}
-use Rattle.lif_model.specs.Redo.{Version, redo_start, zeros, open_gate, Changes, redo_of, changed, settled}
+use Rattle.lif_model.specs.declared.version.Version.{Version}
+use Rattle.lif_model.specs.Redo.{redo_start, zeros, open_gate, Changes, redo_of, changed, settled}
 use Rattle.lif_model.specs.Commit.{AreChanges, SettlesAs, SettlesBelow, IsOldOrNew, Quiet, IsShut, IsLoaded, IsStaged, IsArmed, IsCommitted}
 use Rattle.lif_model.proofs.Moments.{started, goes_on}
 use Rattle.lif_model.proofs.Texts.{open_is_open}

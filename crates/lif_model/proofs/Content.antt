@@ -26,7 +26,7 @@ use Rattle.lif_model.proofs.Adopted.{adopted_version, is_file_tells, holds_tells
 use Rattle.lif_model.proofs.Files.{same_files, get_file, get_stored, get_removed, get_moved, content_written}
 use Rattle.lif_model.proofs.Named.{is_named, Names, equal, other, names_of, named_tells, placed_here, placed_others, purged_here, purged_others, IsRenamed, renamed_named, upgraded_named, adopted_named}
 use Rattle.lif_model.proofs.Places.{file_is_off}
-use Rattle.lif_model.specs.Redo.{One}
+use Rattle.lif_model.specs.declared.version.Version.TheVariants.{One}
 
 -- ---- files by their slots
 

@@ -7,7 +7,9 @@ use Rattle.lif_model.specs.Tape.{Tape, IsTape, record_at}
 use Rattle.lif_model.specs.Gate.{gate_of}
 use Rattle.lif_model.specs.Header.{directory_start, directory_length, directory_end, capacity_of}
 use Rattle.lif_model.specs.Directory.{is_end, entry_at, entries_of, entries_from, before_end, slots_of}
-use Rattle.lif_model.specs.Redo.{Version, One, Two, redo_length, most_targets, data_record, zeros, Changes, targets_in, held_from, held_by, redo_of, changed, settled_by, settled}
+use Rattle.lif_model.specs.declared.version.Version.{Version}
+use Rattle.lif_model.specs.declared.version.Version.TheVariants.{One, Two}
+use Rattle.lif_model.specs.Redo.{redo_length, most_targets, data_record, zeros, Changes, targets_in, held_from, held_by, redo_of, changed, settled_by, settled}
 use Rattle.lif_model.specs.Legal.{is_legal, IsLegal}
 use Rattle.lif_model.specs.Volume.{files_of, Volume, IsVolume, volume_if, volume_in, volume_of}
 use Rattle.lif_model.proofs.Legal.{legal_tells}

@@ -10,7 +10,8 @@ use Rattle.lif_model.specs.Shelf.{piece}
 use Rattle.lif_model.specs.Header.{directory_start, directory_length}
 use Rattle.lif_model.specs.Directory.{name_of, is_end, entry_at, entries_from, before_end, slots_of}
 use Rattle.lif_model.specs.Made.{end_entry, first_directory_record, fresh_header, records_for_slots}
-use Rattle.lif_model.specs.Redo.{One, redo_start, changed}
+use Rattle.lif_model.specs.declared.version.Version.TheVariants.{One}
+use Rattle.lif_model.specs.Redo.{redo_start, changed}
 use Rattle.lif_model.specs.Volume.{redo_name, redo_type, redo_entry, is_redo_entry, is_adopted_with, is_file, content_of, files_of, volume_in}
 use Rattle.lif_model.specs.Apply.{Format, IsWellFormed, is_too_long, fresh_volume}
 use Rattle.lif_model.specs.Writing.{format_changes}

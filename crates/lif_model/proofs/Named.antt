@@ -7,7 +7,7 @@ use Rattle.std.proofs.lemmas.List.Edits.{length-insert, get_or-insert_below, get
 use Rattle.std.proofs.lemmas.Slice.Eq.{bytes_eq-Decides}
 use Rattle.lif_model.specs.Directory.{name_of, type_of, is_purged}
 use Rattle.lif_model.specs.Made.{new_entry, with_name, with_type, file_length}
-use Rattle.lif_model.specs.Redo.{One, Two}
+use Rattle.lif_model.specs.declared.version.Version.TheVariants.{One, Two}
 use Rattle.lif_model.specs.Legal.{is_live, is_live_named, has_file, IsLegal}
 use Rattle.lif_model.specs.Volume.{redo_name, redo_entry, upgraded_entry, is_redo_file, is_adopted, is_file, file_named, Volume, IsVolume, IsAdopted}
 use Rattle.lif_model.specs.Fit.{redo_place}

@@ -7,7 +7,9 @@ use Rattle.lif_model.specs.Tape.{Tape, IsTape, record_at}
 use Rattle.lif_model.specs.Gate.{gate_of, is_open}
 use Rattle.lif_model.specs.Directory.{slots_of}
 use Rattle.lif_model.specs.Made.{file_length, file_records}
-use Rattle.lif_model.specs.Redo.{Version, One, versions, redo_start, Changes, changed, IsSettled}
+use Rattle.lif_model.specs.declared.version.Version.{Version}
+use Rattle.lif_model.specs.declared.version.Version.TheVariants.{One}
+use Rattle.lif_model.specs.Redo.{versions, redo_start, Changes, changed, IsSettled}
 use Rattle.lif_model.specs.Commit.{SettlesBelow, IsOldOrNew, IsCommitted, IsTarget}
 use Rattle.lif_model.specs.Transfers.{Replaced}
 use Rattle.lif_model.specs.Legal.{occupies, end_of, is_legal}

@@ -9,7 +9,8 @@ use Rattle.lif_model.specs.Transfers.{Replaced, PartlyReplaced}
 use Rattle.lif_model.specs.Gate.{gate_of}
 use Rattle.lif_model.specs.Header.{directory_start, directory_end, capacity_of}
 use Rattle.lif_model.specs.Directory.{start_of, length_of, slots_of, is_purged}
-use Rattle.lif_model.specs.Redo.{Version, redo_start, targets_place, redo_of, is_none, settled, IsSettled}
+use Rattle.lif_model.specs.declared.version.Version.{Version}
+use Rattle.lif_model.specs.Redo.{redo_start, targets_place, redo_of, is_none, settled, IsSettled}
 use Rattle.lif_model.specs.Legal.{is_live, has_records, end_of, holds}
 use Rattle.lif_model.specs.Volume.{is_redo_entry, is_adopted_with, is_file, Volume, volume_in, volume_of, IsAdopted, is_used, is_foreign_gated, is_gate_held, IsVolume, is_adopted}
 use Rattle.lif_model.specs.Fit.{redo_place}

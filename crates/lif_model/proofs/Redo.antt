@@ -4,7 +4,9 @@ use Rattle.std.proofs.lemmas.Bool.{cases_eq, cases_lt, cases_Bool, and_parts, lt
 use Rattle.std.specs.List.{list_all}
 use Rattle.lif_model.specs.Tape.{Tape, record_at}
 use Rattle.lif_model.specs.Gate.{gate_of, is_open, has_open_gate}
-use Rattle.lif_model.specs.Redo.{Version, One, Two, versions, redo_length, redo_start, most_targets, data_record, zeros, targets_place, are_targets, named_by, is_valid, Targets, Invalid, Valid, targets_among, targets_of, Changes, targets_in, held_from, held_by, behind, redo_of, changed, settled_by, settled, IsSettled}
+use Rattle.lif_model.specs.declared.version.Version.{Version}
+use Rattle.lif_model.specs.declared.version.Version.TheVariants.{One, Two}
+use Rattle.lif_model.specs.Redo.{versions, redo_length, redo_start, most_targets, data_record, zeros, targets_place, are_targets, named_by, is_valid, Targets, Invalid, Valid, targets_among, targets_of, Changes, targets_in, held_from, held_by, behind, redo_of, changed, settled_by, settled, IsSettled}
 use Rattle.lif_model.specs.Commit.{AreChanges, IsLoaded, IsArmed}
 
 -- ---- the gate

@@ -6,7 +6,8 @@ use Rattle.lif_model.specs.Stops.{Torn}
 use Rattle.lif_model.specs.Tape.{Tape, record_at}
 use Rattle.lif_model.specs.Shelf.{piece}
 use Rattle.lif_model.specs.Gate.{is_open}
-use Rattle.lif_model.specs.Redo.{One, Two, redo_start, data_record, are_targets, open_gate, zeros, targets_record, is_valid, Invalid, Valid, targets_of, changed, redo_of, settled, is_settled}
+use Rattle.lif_model.specs.declared.version.Version.TheVariants.{One, Two}
+use Rattle.lif_model.specs.Redo.{redo_start, data_record, are_targets, open_gate, zeros, targets_record, is_valid, Invalid, Valid, targets_of, changed, redo_of, settled, is_settled}
 use Rattle.lif_model.specs.Commit.{settle_writes, commit_writes}
 use Rattle.lif_model.proofs.Examples.{filled, blank}
 

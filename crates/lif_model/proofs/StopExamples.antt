@@ -7,7 +7,8 @@ use Rattle.lif_model.specs.Tape.{Tape, record_at}
 use Rattle.lif_model.specs.Shelf.{piece}
 use Rattle.lif_model.specs.Gate.{is_open}
 use Rattle.lif_model.specs.Stops.{Torn, Wrote, Elapses, StandsStill, LeavesOnly}
-use Rattle.lif_model.specs.Redo.{One, Changes, targets_record, is_valid, zeros, changed, settled}
+use Rattle.lif_model.specs.declared.version.Version.TheVariants.{One}
+use Rattle.lif_model.specs.Redo.{Changes, targets_record, is_valid, zeros, changed, settled}
 use Rattle.lif_model.specs.Commit.{SettlesAs, IsOldOrNew, Quiet, IsStaged, IsArmed, IsCommitted, IsRedoWrite}
 use Rattle.lif_model.proofs.Examples.{blank}
 use Rattle.lif_model.proofs.RedoExamples.{ones, twos, opened, named, with_redo}

@@ -7,7 +7,7 @@ use Rattle.lif_model.specs.Tape.{Tape, IsTape, record_at}
 use Rattle.lif_model.specs.Header.{directory_start, directory_length, directory_end, capacity_of}
 use Rattle.lif_model.specs.Directory.{type_of, is_end, is_purged, slots_of}
 use Rattle.lif_model.specs.Made.{new_entry, file_length, filled, file_records}
-use Rattle.lif_model.specs.Redo.{Version}
+use Rattle.lif_model.specs.declared.version.Version.{Version}
 use Rattle.lif_model.specs.Legal.{has_file, IsLegal}
 use Rattle.lif_model.specs.Transfers.{Replaced}
 use Rattle.lif_model.specs.Volume.{redo_name, is_redo_entry, is_adopted_with, is_adopted, Files, files_of, Volume, volume_in, IsAdopted}

@@ -8,7 +8,9 @@ use Rattle.lif_model.specs.Numbers.{two_at}
 use Rattle.lif_model.specs.Shelf.{piece}
 use Rattle.lif_model.specs.Tape.{Tape, record_at}
 use Rattle.lif_model.specs.Gate.{is_open}
-use Rattle.lif_model.specs.Redo.{Version, One, Two, redo_text, most_targets, data_record, open_gate, targets_place, targets_record, are_targets, numbers_at, named_by, is_valid, Targets, Invalid, Valid, targets_of, Changes, targets_in, held_from, held_by}
+use Rattle.lif_model.specs.declared.version.Version.{Version}
+use Rattle.lif_model.specs.declared.version.Version.TheVariants.{One, Two}
+use Rattle.lif_model.specs.Redo.{redo_text, most_targets, data_record, open_gate, targets_place, targets_record, are_targets, numbers_at, named_by, is_valid, Targets, Invalid, Valid, targets_of, Changes, targets_in, held_from, held_by}
 use Rattle.lif_model.specs.Commit.{AreChanges, IsLoaded}
 use Rattle.lif_model.specs.Made.{in_two}
 use Rattle.lif_model.proofs.Made.{two_behind, two_first, piece_short}

@@ -8,7 +8,8 @@ use Rattle.lif_model.specs.Shelf.{piece}
 use Rattle.lif_model.specs.Gate.{is_open}
 use Rattle.lif_model.specs.Directory.{name_of, entry_at, entries_of, slots_of}
 use Rattle.lif_model.specs.Made.{in_four, new_entry, with_name, with_type, first_directory_record, fresh_header, file_length, filled, file_records}
-use Rattle.lif_model.specs.Redo.{One, zeros, targets_record, is_valid}
+use Rattle.lif_model.specs.declared.version.Version.TheVariants.{One}
+use Rattle.lif_model.specs.Redo.{zeros, targets_record, is_valid}
 use Rattle.lif_model.specs.Legal.{ends_before, have_other_names, is_legal, slot_named}
 use Rattle.lif_model.specs.Pairs.{all_neighbours}
 use Rattle.lif_model.specs.Volume.{redo_entry, is_adopted, Volume, volume_of, is_used, is_foreign_gated}

@@ -8,7 +8,8 @@ use Rattle.std.proofs.lemmas.List.{ext_get_or, length-take-le, get_or_append_lef
 use Rattle.lif_model.specs.Tape.{Tape, IsTape, record_at}
 use Rattle.lif_model.specs.Directory.{entry_at}
 use Rattle.lif_model.specs.Pairs.{all_pairs}
-use Rattle.lif_model.specs.Redo.{Version, redo_start, most_targets, are_targets, Changes, targets_in, changed}
+use Rattle.lif_model.specs.declared.version.Version.{Version}
+use Rattle.lif_model.specs.Redo.{redo_start, most_targets, are_targets, Changes, targets_in, changed}
 use Rattle.lif_model.specs.Commit.{AreChanges}
 use Rattle.lif_model.specs.Writing.{with_entry, slot_record, entry_from, SlotWrites, with_slots, touched, records_on, changes_by}
 use Rattle.lif_model.proofs.Directory.{entry_size, set_shape}

@@ -9,7 +9,9 @@ use Rattle.lif_model.specs.Tape.{Tape, IsTape, record_at}
 use Rattle.lif_model.specs.Header.{directory_start, directory_length, directory_end, capacity_of}
 use Rattle.lif_model.specs.Directory.{is_end, slots_of}
 use Rattle.lif_model.specs.Made.{with_name, with_type}
-use Rattle.lif_model.specs.Redo.{Version, One, Two, redo_start, changed}
+use Rattle.lif_model.specs.declared.version.Version.{Version}
+use Rattle.lif_model.specs.declared.version.Version.TheVariants.{One, Two}
+use Rattle.lif_model.specs.Redo.{redo_start, changed}
 use Rattle.lif_model.specs.Legal.{is_live_named, has_file, is_legal_with, is_legal, IsLegal}
 use Rattle.lif_model.specs.Volume.{redo_name, redo_type, redo_entry, upgraded_entry, is_redo_entry, is_adopted_with, is_redo_file, is_adopted, Files, files_of, Volume, volume_in, IsAdopted}
 use Rattle.lif_model.specs.Fit.{redo_place}

@@ -6,7 +6,8 @@ use Rattle.std.specs.Str.{bytes_eq}
 use Rattle.std.specs.FinMap as files
 use Rattle.lif_model.specs.Gate.{gate_of}
 use Rattle.lif_model.specs.Header.{directory_end, capacity_of}
-use Rattle.lif_model.specs.Redo.{One, Two, redo_start}
+use Rattle.lif_model.specs.declared.version.Version.TheVariants.{One, Two}
+use Rattle.lif_model.specs.Redo.{redo_start}
 use Rattle.lif_model.specs.Made.{new_entry, with_name, with_type, fresh_header, records_for_slots, file_length, filled}
 use Rattle.lif_model.specs.Legal.{occupies, end_of, is_live_named, has_file}
 use Rattle.lif_model.specs.Volume.{Volume, Files, redo_name, redo_entry, upgraded_entry, is_redo_file, is_adopted_with, is_adopted}

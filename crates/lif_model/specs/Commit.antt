@@ -2,7 +2,8 @@
 use Rattle.std.specs.Prelude.{◌≡◌, ◌≢◌, ◌⊎◌, ◌<◌, ◌≤◌, ◌++◌, ℕ, suc, Bool, [], ◌∷◌, true, false, if◌then◌else◌, length}
 use Rattle.lif_model.specs.Tape.{Tape, record_at}
 use Rattle.lif_model.specs.Gate.{gate_of, has_open_gate}
-use Rattle.lif_model.specs.Redo.{Version, Valid, Changes, open_gate, zeros, redo_start, data_record, targets_place, targets_record, are_targets, targets_of, targets_in, behind, redo_of, changed, settled}
+use Rattle.lif_model.specs.declared.version.Version.{Version}
+use Rattle.lif_model.specs.Redo.{Valid, Changes, open_gate, zeros, redo_start, data_record, targets_place, targets_record, are_targets, targets_of, targets_in, behind, redo_of, changed, settled}
 
 -- changes that one commit of that version takes, on a tape of n records
 abbrev pub AreChanges : Version → ℕ → Changes → Type 0

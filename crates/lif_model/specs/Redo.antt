@@ -9,12 +9,10 @@ use Rattle.lif_model.specs.Shelf.{piece}
 use Rattle.lif_model.specs.Pairs.{all_pairs}
 use Rattle.lif_model.specs.Gate.{gate_of, open_text, has_open_gate}
 use Rattle.lif_model.specs.Made.{in_two}
+use Rattle.lif_model.specs.declared.version.Version.{Version}
+use Rattle.lif_model.specs.declared.version.Version.TheVariants.{One, Two}
 
 -- ---- versions: they differ in what the next four functions say of them, and in nothing else
-
-pub data Version : Type 0 where
-  One : Version
-  Two : Version
 
 -- those that a targets record may be of
 abbrev pub versions : List Version

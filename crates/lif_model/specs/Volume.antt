@@ -10,7 +10,9 @@ use Rattle.lif_model.specs.Gate.{gate_of}
 use Rattle.lif_model.specs.Header.{directory_start, directory_end, capacity_of}
 use Rattle.lif_model.specs.Directory.{name_of, type_of, start_of, length_of, is_end, slots_of}
 use Rattle.lif_model.specs.Made.{new_entry, with_extent}
-use Rattle.lif_model.specs.Redo.{Version, Two, versions, redo_length, redo_start, redo_of, is_none, settled}
+use Rattle.lif_model.specs.declared.version.Version.{Version}
+use Rattle.lif_model.specs.declared.version.Version.TheVariants.{Two}
+use Rattle.lif_model.specs.Redo.{versions, redo_length, redo_start, redo_of, is_none, settled}
 use Rattle.lif_model.specs.Legal.{is_live, holds, is_legal, IsLegal}
 
 -- ---- adopted volumes: the redo file is a file of the volume

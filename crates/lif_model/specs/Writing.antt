@@ -7,7 +7,8 @@ use Rattle.lif_model.specs.Tape.{Tape, record_at}
 use Rattle.lif_model.specs.Header.{directory_start, capacity_of}
 use Rattle.lif_model.specs.Directory.{entry_at}
 use Rattle.lif_model.specs.Made.{new_entry, with_name, with_type, first_directory_record, fresh_header, records_for_slots, file_length, file_records}
-use Rattle.lif_model.specs.Redo.{One, Changes, changed}
+use Rattle.lif_model.specs.declared.version.Version.TheVariants.{One}
+use Rattle.lif_model.specs.Redo.{Changes, changed}
 use Rattle.lif_model.specs.Legal.{is_live_named}
 use Rattle.lif_model.specs.Volume.{Volume, redo_name, redo_entry, upgraded_entry, is_adopted}
 use Rattle.lif_model.specs.Fit.{Place, At, NoSlot, redo_place, fit_in}

@@ -11,14 +11,34 @@ mod choosing;
 mod fields;
 mod reading;
 mod refusal;
+mod version;
 
 pub use checking::plain_is_legal;
 pub use choosing::{Spot, plain_fit};
 pub use reading::plain_slots;
 pub use refusal::Refusal;
+pub use version::Version;
 
 /// The number of bytes in a record of a tape.
 pub const RECORD: usize = 256;
 
 /// A record of a tape.
 pub type Record = [u8; RECORD];
+
+/// The number of bytes in an entry of a directory.
+pub const ENTRY: usize = 32;
+
+/// The number of entries in a record of a directory.
+pub const ENTRIES: usize = 8;
+
+/// The number of bytes on the largest medium, a disc.
+pub const MOST_BYTES: usize = 630_784;
+
+/// The name of the redo file, with its spaces.
+pub const REDO_NAME: &[u8; 10] = b"REDOFILE  ";
+
+/// The type of the redo file.
+pub const REDO_KIND: u16 = 0xE0D0;
+
+/// Where the gate stands, counted back from the tape's end.
+pub const GATE: u16 = 4;

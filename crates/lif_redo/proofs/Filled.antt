@@ -6,7 +6,9 @@ use Rattle.lif_model.specs.Tape.{Tape, record_at}
 use Rattle.std.specs.Prelude.{Option, Some}
 use Rattle.lif_model.specs.Gate.{gate_of, has_open_gate}
 use Rattle.lif_model.specs.Stops.{Torn, Elapses, LeavesOnly}
-use Rattle.lif_model.specs.Redo.{Version, One, Two, redo_length, redo_start, most_targets, data_record, targets_place, targets_record, Changes, targets_in}
+use Rattle.lif_model.specs.declared.version.Version.{Version}
+use Rattle.lif_model.specs.declared.version.Version.TheVariants.{One, Two}
+use Rattle.lif_model.specs.Redo.{redo_length, redo_start, most_targets, data_record, targets_place, targets_record, Changes, targets_in}
 use Rattle.lif_model.specs.Commit.{AreChanges, IsShut, IsStaged, content_writes}
 use Rattle.lif_model.proofs.Redo.{changes_long, data_place, redo_places, targets_few, targets_some}
 use Rattle.lif_model.proofs.Directory.{data_within}

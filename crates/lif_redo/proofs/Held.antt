@@ -3,7 +3,8 @@ use Rattle.std.proofs.Common.{◌≡◌, ◌<◌, ◌≤◌, ◌+◌, ◌++◌, 
 use Rattle.lif_model.specs.Tape.{Tape, record_at}
 use Rattle.lif_model.specs.Gate.{gate_of}
 use Rattle.lif_model.specs.Stops.{Torn}
-use Rattle.lif_model.specs.Redo.{Version, Valid, redo_length, redo_start, data_record, zeros, are_targets, Changes, targets_in, held_from, held_by, redo_of, changed, settled, settled_by}
+use Rattle.lif_model.specs.declared.version.Version.{Version}
+use Rattle.lif_model.specs.Redo.{Valid, redo_length, redo_start, data_record, zeros, are_targets, Changes, targets_in, held_from, held_by, redo_of, changed, settled, settled_by}
 use Rattle.lif_model.specs.Commit.{AreChanges, SettlesAs, IsArmed, settle_writes}
 use Rattle.lif_model.proofs.Redo.{redo_open, held_targets, changes_long, changes_below, data_place, elsewhere, changed_elsewhere, length_changed, settled_none, targets_some}
 use Rattle.lif_model.proofs.Commit.{in_place, closing, changed_take, changed_all, elsewhere_take, settles_too, armed_settles}

@@ -4,7 +4,8 @@ use Rattle.std.specs.List.{flat_map}
 use Rattle.std.proofs.lemmas.List.{take_more, take_all, set-append_right}
 use Rattle.lif_model.specs.Numbers.{two_at}
 use Rattle.lif_model.specs.Made.{in_two}
-use Rattle.lif_model.specs.Redo.{Version, redo_text, most_targets, numbers_at, targets_record}
+use Rattle.lif_model.specs.declared.version.Version.{Version}
+use Rattle.lif_model.specs.Redo.{redo_text, most_targets, numbers_at, targets_record}
 use Rattle.lif_model.proofs.Texts.{record_parts, text_size, numbers_size, most_fit}
 
 -- ---- written

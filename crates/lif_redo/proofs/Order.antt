@@ -1,7 +1,8 @@
 -- The writes of settling and of a commit: their order, and which records they are of.
 use Rattle.std.proofs.Common.{◌≡◌, ◌<◌, ◌++◌, ◌∙◌, ℕ, suc, List, [], ◌∷◌, Bool, true, false, length, inl, inr, refl, sym, ap, append_assoc}
 use Rattle.lif_model.specs.Gate.{gate_of}
-use Rattle.lif_model.specs.Redo.{Version, open_gate, zeros, targets_place, targets_record, Changes, targets_in}
+use Rattle.lif_model.specs.declared.version.Version.{Version}
+use Rattle.lif_model.specs.Redo.{open_gate, zeros, targets_place, targets_record, Changes, targets_in}
 use Rattle.lif_model.specs.Commit.{AreChanges, IsTarget, IsRedoWrite, IsSettleWrite, settle_writes, content_writes, close_writes, commit_writes}
 use Rattle.lif_model.proofs.Redo.{changes_long, data_place, redo_places}
 use Rattle.lif_redo.proofs.Held.{settle_some}

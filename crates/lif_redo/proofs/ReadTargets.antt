@@ -1,7 +1,9 @@
 -- What the tests of a targets record tell.
 use Rattle.std.proofs.Common.{◌≡◌, ◌&&◌, ℕ, List, Bool, true, false, if◌then◌else◌, sym, ◌∙◌, ap}
 use Rattle.std.specs.Str.{bytes_eq}
-use Rattle.lif_model.specs.Redo.{Version, One, Two, targets_record, are_targets, named_by, is_valid, Targets, Invalid, Valid, targets_of}
+use Rattle.lif_model.specs.declared.version.Version.{Version}
+use Rattle.lif_model.specs.declared.version.Version.TheVariants.{One, Two}
+use Rattle.lif_model.specs.Redo.{targets_record, are_targets, named_by, is_valid, Targets, Invalid, Valid, targets_of}
 
 module _ (n : ℕ) (bytes : List ℕ) where
   -- the tests of these targets, which are those that the record names

@@ -4,7 +4,8 @@ use Rattle.std.specs.Prelude.{Option, Some}
 use Rattle.lif_model.specs.Tape.{Tape}
 use Rattle.lif_model.specs.Gate.{gate_of, is_open}
 use Rattle.lif_model.specs.Stops.{Torn, Elapses, LeavesOnly}
-use Rattle.lif_model.specs.Redo.{Version, Changes, open_gate, changed, IsSettled}
+use Rattle.lif_model.specs.declared.version.Version.{Version}
+use Rattle.lif_model.specs.Redo.{Changes, open_gate, changed, IsSettled}
 use Rattle.lif_model.specs.Commit.{SettlesAs, IsOldOrNew, Quiet, IsShut, IsStaged, IsCommitted}
 use Rattle.lif_model.proofs.Moments.{goes_on, follows, weaker}
 use Rattle.lif_model.proofs.Redo.{zeros_are_shut, redo_closed, gate_at, settled_none}

@@ -6,19 +6,17 @@ ghost use Rattle.lif_model.specs.Commit.{AreChanges, IsCommitted, IsOldOrNew, Is
 ghost use Rattle.lif_model.specs.Commit.{SettlesAs, commit_writes, settle_writes};
 ghost use Rattle.il_ports.specs.Transfers.{AddsOnly};
 ghost use Rattle.il_ports.specs.Stores.{IsReady, GoesOn, RunLeaves};
-ghost use Rattle.lif_redo.specs.Reading.{version_of};
 ghost use Rattle.lif_redo.specs.Writing.{AddsWrites};
 
 use crate::steps::{close, finish, look, numbers, put, replay, stage};
-use crate::texts::{GATE, MOST, are_targets, open_gate_record};
-use crate::versions::Version;
+use crate::texts::{MOST, are_targets, open_gate_record};
 use il_ports::{Records, Trouble};
-use lif_model::Record;
+use lif_model::{GATE, Record, Version};
 
 /// Whether a redo file of that version, on a tape of `size` records, takes these changes: one or two with version 1,
 /// and up to 32 with version 2, of distinct records that lie before the redo file.
 pub fn are_changes(version: Version, size: u16, changes: &[(u16, Record)]) -> bool
-    ensures { IsTrue result ↔ AreChanges (version_of version) size changes.now }
+    ensures { IsTrue result ↔ AreChanges version size changes.now }
 {
     changes.len() <= MOST && are_targets(version, size, numbers(changes).as_slice())
 }
@@ -33,29 +31,29 @@ pub fn commit<R: Records>(
     changes: &[(u16, Record)],
 ) -> Result<(), Trouble>
     requires ready { IsReady (2 * length changes.now + 6) (R.view records.old) }
-    requires changes { AreChanges (version_of version) (R.view records.old).record_count changes.now }
+    requires changes { AreChanges version (R.view records.old).record_count changes.now }
     requires settled { (t : Tape) → (R.view records.old).tape ≡ Some t → IsSettled t }
 
     // At Ok the changes stand, the gate record is zero, and all else below the redo file is as before.
     ensures done { OnOk result ((t : Tape) → (R.view records.old).tape ≡ Some t → (u : Tape)
-        × ((R.view records.new).tape ≡ Some u) × IsCommitted (version_of version) changes.now t u) }
+        × ((R.view records.new).tape ≡ Some u) × IsCommitted version changes.now t u) }
     // Then no redo is open.
     ensures settled { OnOk result ((t : Tape) → (R.view records.new).tape ≡ Some t → IsSettled t) }
     // A stop at any moment leaves a tape that settles to the old one or to the one with all the changes.
     ensures any_moment { (t : Tape) → (R.view records.old).tape ≡ Some t
-        → RunLeaves (R.view records.old) (R.view records.new) (IsOldOrNew (version_of version) changes.now t) }
+        → RunLeaves (R.view records.old) (R.view records.new) (IsOldOrNew version changes.now t) }
     // So does the tape as it reads after the call.
     ensures after { (t : Tape) → (R.view records.old).tape ≡ Some t → (u : Tape)
-        × ((R.view records.new).tape ≡ Some u) × IsOldOrNew (version_of version) changes.now t u }
+        × ((R.view records.new).tape ≡ Some u) × IsOldOrNew version changes.now t u }
 
     ensures goes_on { GoesOn (2 * length changes.now + 6) (R.view records.old) (R.view records.new) result }
     // At Ok these are the writes, in their order; whether the gate read open decides on the first of them.
     ensures writes { OnOk result ((was_open : Bool) × ((t : Tape) → (R.view records.old).tape ≡ Some t
         → was_open ≡ has_open_gate t)
-        × AddsWrites (commit_writes (version_of version) (R.view records.old).record_count was_open changes.now)
+        × AddsWrites (commit_writes version (R.view records.old).record_count was_open changes.now)
         (R.view records.old).transferred (R.view records.new).transferred) }
     // So each is one of a target or of a record of the redo file.
-    ensures transfers { AddsOnly (IsRedoWrite (version_of version) (R.view records.old).record_count changes.now)
+    ensures transfers { AddsOnly (IsRedoWrite version (R.view records.old).record_count changes.now)
         (R.view records.old).transferred (R.view records.new).transferred result }
 {
     close(records)?;

@@ -10,7 +10,6 @@
 mod atomic;
 mod steps;
 mod texts;
-mod versions;
 
 pub use atomic::{are_changes, commit, settle};
-pub use versions::Version;
+pub use lif_model::Version;

@@ -4,24 +4,22 @@ ghost use Rattle.std.specs.Prelude.{length, set, OnOk, IfOk};
 ghost use Rattle.lif_model.specs.Tape.{Tape, record_at};
 ghost use Rattle.lif_model.specs.Gate.{gate_of, has_open_gate};
 ghost use Rattle.lif_model.specs.Stops.{Torn, Elapses};
-ghost use Rattle.lif_model.specs.Redo as redo;
+ghost use Rattle.lif_model.specs.declared.version.Version.{Version};
 ghost use Rattle.lif_model.specs.Redo.{are_targets, zeros, Changes, redo_of, changed, settled, targets_place};
 ghost use Rattle.lif_model.specs.Redo.{targets_record, targets_in};
 ghost use Rattle.lif_model.specs.Commit.{AreChanges, SettlesAs, Quiet, IsShut, IsStaged, IsArmed};
 ghost use Rattle.lif_model.specs.Commit.{settle_writes, close_writes, content_writes};
 ghost use Rattle.il_ports.specs.Stores.{IsReady, GoesOn, IsQuiet, RunLeaves, Fetched, Stored};
-ghost use Rattle.lif_redo.specs.Reading.{version_of, MayBeNamed, IsOpenWith, IsFound};
+ghost use Rattle.lif_redo.specs.Reading.{MayBeNamed, IsOpenWith, IsFound};
 ghost use Rattle.lif_redo.specs.Writing.{AddsWrites};
 ghost use Rattle.lif_redo.specs.Filling.{IsFilled};
 
 use crate::texts::{
-    GATE, MOST, Named, TARGETS, is_open_gate, open_gate_record, read_targets, targets_record,
-    zero_record,
+    MOST, Named, TARGETS, is_open_gate, open_gate_record, read_targets, targets_record, zero_record,
 };
-use crate::versions::Version;
 use arrayvec::ArrayVec;
 use il_ports::{Records, Trouble};
-use lif_model::{RECORD, Record};
+use lif_model::{GATE, RECORD, Record, Version};
 
 // ---- one record
 
@@ -91,8 +89,8 @@ pub fn look<R: Records>(records: &mut R) -> Result<Option<Named>, Trouble>
 /// Carries out the redo that is open with these targets.
 pub fn replay<R: Records>(records: &mut R, version: Version, targets: &[u16]) -> Result<(), Trouble>
     requires ready { IsReady (2 * length targets.now + 1) (R.view records.old) }
-    requires may_be { are_targets (version_of version) (R.view records.old).record_count targets.now ≡ true }
-    requires found { (t : Tape) → (R.view records.old).tape ≡ Some t → IsOpenWith (version_of version) targets.now t }
+    requires may_be { are_targets version (R.view records.old).record_count targets.now ≡ true }
+    requires found { (t : Tape) → (R.view records.old).tape ≡ Some t → IsOpenWith version targets.now t }
     ensures done { OnOk result ((t : Tape) → (R.view records.old).tape ≡ Some t
         → (R.view records.new).tape ≡ Some (settled t)) }
     ensures any_moment { (t : Tape) → (R.view records.old).tape ≡ Some t
@@ -119,8 +117,8 @@ pub fn close<R: Records>(records: &mut R) -> Result<(), Trouble>
     requires ready { IsReady 2 (R.view records.old) }
     requires none { (t : Tape) → (R.view records.old).tape ≡ Some t → redo_of t ≡ [] }
     ensures closed { OnOk result ((t : Tape) → (R.view records.old).tape ≡ Some t → (u : Tape)
-        × ((R.view records.new).tape ≡ Some u) × ((version : redo.Version) → IsShut version t u)) }
-    ensures any_moment { (version : redo.Version) (t : Tape) → (R.view records.old).tape ≡ Some t
+        × ((R.view records.new).tape ≡ Some u) × ((version : Version) → IsShut version t u)) }
+    ensures any_moment { (version : Version) (t : Tape) → (R.view records.old).tape ≡ Some t
         → RunLeaves (R.view records.old) (R.view records.new) (Quiet version t) }
     ensures goes_on { GoesOn 2 (R.view records.old) (R.view records.new) result }
     ensures writes { OnOk result ((was_open : Bool) × ((t : Tape) → (R.view records.old).tape ≡ Some t
@@ -144,14 +142,14 @@ pub fn fill<R: Records>(
     changes: &[(u16, Record)],
 ) -> Result<(), Trouble>
     requires ready { IsReady (length changes.now) (R.view records.old) }
-    requires changes { AreChanges (version_of version) (R.view records.old).record_count changes.now }
+    requires changes { AreChanges version (R.view records.old).record_count changes.now }
     requires shut { (t : Tape) → (R.view records.old).tape ≡ Some t → has_open_gate t ≡ false }
     ensures filled { OnOk result ((t : Tape) → (R.view records.old).tape ≡ Some t → (u : Tape)
-        × ((R.view records.new).tape ≡ Some u) × IsFilled (version_of version) (length changes.now) changes.now t u) }
+        × ((R.view records.new).tape ≡ Some u) × IsFilled version (length changes.now) changes.now t u) }
     ensures any_moment { (t : Tape) → (R.view records.old).tape ≡ Some t
-        → RunLeaves (R.view records.old) (R.view records.new) (IsShut (version_of version) t) }
+        → RunLeaves (R.view records.old) (R.view records.new) (IsShut version t) }
     ensures goes_on { GoesOn (length changes.now) (R.view records.old) (R.view records.new) result }
-    ensures writes { OnOk result (AddsWrites (content_writes (version_of version)
+    ensures writes { OnOk result (AddsWrites (content_writes version
         (R.view records.old).record_count 0 changes.now) (R.view records.old).transferred
         (R.view records.new).transferred) }
 {
@@ -181,18 +179,18 @@ pub fn stage<R: Records>(
     changes: &[(u16, Record)],
 ) -> Result<(), Trouble>
     requires ready { IsReady (length changes.now + 1) (R.view records.old) }
-    requires changes { AreChanges (version_of version) (R.view records.old).record_count changes.now }
+    requires changes { AreChanges version (R.view records.old).record_count changes.now }
     requires shut { (t : Tape) → (R.view records.old).tape ≡ Some t → has_open_gate t ≡ false }
     ensures staged { OnOk result ((t : Tape) → (R.view records.old).tape ≡ Some t → (u : Tape)
-        × ((R.view records.new).tape ≡ Some u) × IsStaged (version_of version) changes.now t u) }
+        × ((R.view records.new).tape ≡ Some u) × IsStaged version changes.now t u) }
     ensures any_moment { (t : Tape) → (R.view records.old).tape ≡ Some t
-        → RunLeaves (R.view records.old) (R.view records.new) (IsShut (version_of version) t) }
+        → RunLeaves (R.view records.old) (R.view records.new) (IsShut version t) }
     ensures goes_on { GoesOn (length changes.now + 1) (R.view records.old) (R.view records.new) result }
-    ensures writes { OnOk result (AddsWrites (content_writes (version_of version)
+    ensures writes { OnOk result (AddsWrites (content_writes version
         (R.view records.old).record_count 0 changes.now
         ++ (
           targets_place (R.view records.old).record_count,
-          targets_record (version_of version)
+          targets_record version
               (targets_in changes.now),
         ) ∷ []) (R.view records.old).transferred (R.view records.new).transferred) }
 {
@@ -210,8 +208,8 @@ pub fn stage<R: Records>(
 /// Writes the targets in place, in their order, and then closes the gate.
 pub fn finish<R: Records>(records: &mut R, changes: &[(u16, Record)]) -> Result<(), Trouble>
     requires ready { IsReady (length changes.now + 1) (R.view records.old) }
-    requires changes { (version : redo.Version) × AreChanges version (R.view records.old).record_count changes.now }
-    requires armed { (t : Tape) → (R.view records.old).tape ≡ Some t → (version : redo.Version)
+    requires changes { (version : Version) × AreChanges version (R.view records.old).record_count changes.now }
+    requires armed { (t : Tape) → (R.view records.old).tape ≡ Some t → (version : Version)
         × IsArmed version changes.now t }
     ensures done { OnOk result ((t : Tape) → (R.view records.old).tape ≡ Some t
         → (R.view records.new).tape ≡ Some (set (changed changes.now t) (gate_of (length t)) zeros)) }

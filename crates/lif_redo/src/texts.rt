@@ -7,15 +7,12 @@ ghost use Rattle.lif_model.specs.Pairs.{all_pairs};
 ghost use Rattle.lif_model.specs.Gate.{is_open};
 ghost use Rattle.lif_model.specs.Redo.{most_targets, zeros, open_gate, targets_record, are_targets, named_by};
 ghost use Rattle.lif_model.specs.Redo.{targets_of};
-ghost use Rattle.lif_redo.specs.Reading.{version_of, targets_read, MayBeNamed};
+ghost use Rattle.lif_redo.specs.Reading.{targets_read, MayBeNamed};
 
-use crate::versions::Version;
 use arrayvec::ArrayVec;
-use lif_model::{RECORD, Record};
+use lif_model::{RECORD, Record, Version};
 
-/// Where the gate and the targets record stand, counted back from the tape's end.
-pub const GATE: u16 = 4;
-
+/// Where the targets record stands, counted back from the tape's end.
 pub const TARGETS: u16 = 3;
 
 /// How many targets there are at most, of any version.
@@ -64,8 +61,8 @@ pub fn is_open_gate(bytes: &Record) -> bool
 
 /// The targets record that names these targets.
 pub fn targets_record(version: Version, targets: &[u16]) -> Record
-    requires { length targets.now ≤ most_targets (version_of version) }
-    ensures { result ≡ targets_record (version_of version) targets.now }
+    requires { length targets.now ≤ most_targets version }
+    ensures { result ≡ targets_record version targets.now }
 {
     let mut bytes = [0; RECORD];
     bytes[..COUNT].copy_from_slice(&version.text());
@@ -100,17 +97,17 @@ pub fn read_targets(size: u16, bytes: &Record) -> Option<Named>
 
 /// Whether this is the very record that names these targets, and they may be targets.
 fn is_valid(version: Version, size: u16, bytes: &Record, targets: &[u16]) -> bool
-    requires { length targets.now ≤ most_targets (version_of version) }
-    ensures { result ≡ (bytes_eq bytes.now (targets_record (version_of version) targets.now)
-        && are_targets (version_of version) size targets.now) }
+    requires { length targets.now ≤ most_targets version }
+    ensures { result ≡ (bytes_eq bytes.now (targets_record version targets.now)
+        && are_targets version size targets.now) }
 {
     *bytes == targets_record(version, targets) && are_targets(version, size, targets)
 }
 
 /// The numbers that a record of that version names.
 fn named_numbers(version: Version, bytes: &Record) -> ArrayVec<u16, MOST>
-    ensures numbers { result.items ≡ named_by (version_of version) bytes.now }
-    ensures few { length result.items ≤ most_targets (version_of version) }
+    ensures numbers { result.items ≡ named_by version bytes.now }
+    ensures few { length result.items ≤ most_targets version }
 {
     let count = usize::from(number_at(bytes, COUNT)).min(version.most_targets());
     let mut numbers = ArrayVec::new();
@@ -122,7 +119,7 @@ fn named_numbers(version: Version, bytes: &Record) -> ArrayVec<u16, MOST>
 
 /// Whether they may be the targets of a redo file on a tape of `size` records.
 pub fn are_targets(version: Version, size: u16, targets: &[u16]) -> bool
-    ensures { result ≡ are_targets (version_of version) size targets.now }
+    ensures { result ≡ are_targets version size targets.now }
 {
     !targets.is_empty()
         && (targets.len() <= version.most_targets()

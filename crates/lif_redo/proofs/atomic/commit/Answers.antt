@@ -9,7 +9,6 @@ use Rattle.lif_model.proofs.Redo.{changes_long, settled_has_none}
 use Rattle.lif_model.proofs.Commit.{committed, old_quiet}
 use Rattle.lif_redo.proofs.Run.{staged_run, opened_run, opened, is_opened, finished_run, committed_is_settled}
 use Rattle.lif_redo.proofs.Told.{was_told, still_told, same_tape, written}
-use Rattle.lif_redo.specs.Reading.{version_of}
 use Rattle.lif_redo.proofs.Filled.{changes_some}
 use Rattle.lif_redo.proofs.Order.{in_order, commit_is}
 use Rattle.lif_redo.proofs.Writes.{then_writes, same_writes, writes_only}
@@ -17,7 +16,7 @@ use Rattle.lif_redo.proofs.atomic.commit.Goals as goal
 
 pub close-requires-clause-size : goal.close-requires-clause-size
 close-requires-clause-size g c =
-    let version = version_of c.args.version in
+    let version = c.args.version in
     (changes_long version (g.R.Records.view c.args.records.now).record_count c.args.changes.now c.requires.changes).0
 
 pub close-requires-clause-none : goal.close-requires-clause-none
@@ -26,14 +25,14 @@ close-requires-clause-none g c t is =
 
 pub stage-requires-clause-shut : goal.stage-requires-clause-shut
 stage-requires-clause-shut g c t is =
-    let version = version_of c.args.version in
+    let version = c.args.version in
     let told = was_told _ _ c.close.ensures.goes_on.continues.told t is in
     let closed = c.in_ok-close.ensures.closed told.0 told.1 in
     subst (λ (u : Tape). has_open_gate u ≡ false) (same_tape _ _ _ closed.1 is) (closed.2 version).gate
 
 pub returns-in_err-close-clause-any_moment : goal.returns-in_err-close-clause-any_moment
 returns-in_err-close-clause-any_moment g c t is =
-    let version = version_of c.args.version in
+    let version = c.args.version in
     let cs = c.args.changes.now in
     weaker _ _ _ _ (IsOldOrNew version cs t) (Quiet version t) (c.close.ensures.any_moment version t is) (λ x. old_quiet version cs t x)
 
@@ -44,23 +43,23 @@ returns-in_err-close-clause-after g c t is =
 
 pub returns-in_err-stage-clause-any_moment : goal.returns-in_err-stage-clause-any_moment
 returns-in_err-stage-clause-any_moment g c t is =
-    let version = version_of c.args.version in
+    let version = c.args.version in
     let closed = c.in_ok-close.ensures.closed t is in
     staged_run version c.args.changes.now t _ _ _ _ _ _ closed.0 (c.close.ensures.any_moment version t is) (closed.2 version) (c.stage.ensures.any_moment closed.0 closed.1)
 
 pub overflow_sub-gate : goal.overflow_sub-gate
 overflow_sub-gate g c =
-    let version = version_of c.args.version in
+    let version = c.args.version in
     omega (arith, (changes_long version (g.R.Records.view c.args.records.now).record_count c.args.changes.now c.requires.changes).0, c.size-gate.ensures, c.stage.ensures.goes_on.continues.size, c.close.ensures.goes_on.continues.size)
 
 pub put-requires-clause-within : goal.put-requires-clause-within
 put-requires-clause-within g c =
-    let version = version_of c.args.version in
+    let version = c.args.version in
     omega (arith, (changes_long version (g.R.Records.view c.args.records.now).record_count c.args.changes.now c.requires.changes).0, c.size-gate.ensures, c.stage.ensures.goes_on.continues.size, c.close.ensures.goes_on.continues.size)
 
 pub finish-requires-clause-armed : goal.finish-requires-clause-armed
 finish-requires-clause-armed g c t is =
-    let version = version_of c.args.version in
+    let version = c.args.version in
     let staged_told = was_told _ _ c.put.ensures.stored.goes_on.continues.told t is in
     let closed_told = was_told _ _ c.stage.ensures.goes_on.continues.told staged_told.0 staged_told.1 in
     let told = was_told _ _ c.close.ensures.goes_on.continues.told closed_told.0 closed_told.1 in
@@ -75,7 +74,7 @@ finish-requires-clause-armed g c t is =
 
 pub returns-in_err-stage-clause-after : goal.returns-in_err-stage-clause-after
 returns-in_err-stage-clause-after g c t is =
-    let version = version_of c.args.version in
+    let version = c.args.version in
     let cs = c.args.changes.now in
     let closed = c.in_ok-close.ensures.closed t is in
     let now = still_told _ _ c.stage.ensures.goes_on.continues.told closed.0 closed.1 in (
@@ -87,7 +86,7 @@ returns-in_err-stage-clause-after g c t is =
 
 pub returns-in_err-put-clause-any_moment : goal.returns-in_err-put-clause-any_moment
 returns-in_err-put-clause-any_moment g c t is =
-    let version = version_of c.args.version in
+    let version = c.args.version in
     let cs = c.args.changes.now in
     let place : c.size-gate.result - 4 ≡ gate_of (length t) = omega (arith, ((g.met.R.Records.is_store _).is_tape t is).records, c.size-gate.ensures, c.stage.ensures.goes_on.continues.size, c.close.ensures.goes_on.continues.size) in
     let closed = c.in_ok-close.ensures.closed t is in
@@ -104,7 +103,7 @@ returns-in_err-put-clause-after g c t is =
 
 pub returns-in_err-finish-clause-any_moment : goal.returns-in_err-finish-clause-any_moment
 returns-in_err-finish-clause-any_moment g c t is =
-    let version = version_of c.args.version in
+    let version = c.args.version in
     let cs = c.args.changes.now in
     let place : c.size-gate.result - 4 ≡ gate_of (length t) = omega (arith, ((g.met.R.Records.is_store _).is_tape t is).records, c.size-gate.ensures, c.stage.ensures.goes_on.continues.size, c.close.ensures.goes_on.continues.size) in
     let closed = c.in_ok-close.ensures.closed t is in
@@ -117,7 +116,7 @@ returns-in_err-finish-clause-any_moment g c t is =
 
 pub returns-clause-any_moment : goal.returns-clause-any_moment
 returns-clause-any_moment g c t is =
-    let version = version_of c.args.version in
+    let version = c.args.version in
     let cs = c.args.changes.now in
     let place : c.size-gate.result - 4 ≡ gate_of (length t) = omega (arith, ((g.met.R.Records.is_store _).is_tape t is).records, c.size-gate.ensures, c.stage.ensures.goes_on.continues.size, c.close.ensures.goes_on.continues.size) in
     let closed = c.in_ok-close.ensures.closed t is in
@@ -140,7 +139,7 @@ returns-clause-after g c t is =
 
 pub returns-clause-done : goal.returns-clause-done
 returns-clause-done g c t is =
-    let version = version_of c.args.version in
+    let version = c.args.version in
     let cs = c.args.changes.now in
     let place : c.size-gate.result - 4 ≡ gate_of (length t) = omega (arith, ((g.met.R.Records.is_store _).is_tape t is).records, c.size-gate.ensures, c.stage.ensures.goes_on.continues.size, c.close.ensures.goes_on.continues.size) in
     let closed = c.in_ok-close.ensures.closed t is in
@@ -153,14 +152,14 @@ returns-clause-done g c t is =
 
 pub returns-clause-settled : goal.returns-clause-settled
 returns-clause-settled g c t is =
-    let version = version_of c.args.version in
+    let version = c.args.version in
     let was = was_told _ _ (c.finish.ensures.goes_on.continues.told ∙ c.put.ensures.stored.goes_on.continues.told ∙ c.stage.ensures.goes_on.continues.told ∙ c.close.ensures.goes_on.continues.told) t is in
     let done = returns-clause-done g c was.0 was.1 in
     subst IsSettled {x = done.0} (same_tape _ _ _ done.1 is) (committed_is_settled version c.args.changes.now was.0 done.0 done.2)
 
 pub returns-clause-writes : goal.returns-clause-writes
 returns-clause-writes g c =
-    let version = version_of c.args.version in
+    let version = c.args.version in
     let n = (g.R.Records.view c.args.records.now).record_count in
     let cs = c.args.changes.now in
     let closing = c.in_ok-close.ensures.writes in
@@ -178,7 +177,7 @@ returns-clause-writes g c =
 
 pub returns-clause-transfers : goal.returns-clause-transfers
 returns-clause-transfers g c =
-    let version = version_of c.args.version in
+    let version = c.args.version in
     let n = (g.R.Records.view c.args.records.now).record_count in
     let cs = c.args.changes.now in
     let writes = returns-clause-writes g c in

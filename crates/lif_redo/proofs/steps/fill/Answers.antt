@@ -4,7 +4,6 @@ use Rattle.lif_model.specs.Commit.{content_writes}
 use Rattle.lif_model.proofs.Redo.{changes_long}
 use Rattle.lif_model.proofs.Directory.{data_within}
 use Rattle.lif_model.proofs.Commit.{shut_start}
-use Rattle.lif_redo.specs.Reading.{version_of}
 use Rattle.lif_redo.proofs.Told.{written}
 use Rattle.lif_redo.proofs.Filled.{changes_few, contents_next, filled_first, filled_more, filled_write}
 use Rattle.lif_redo.proofs.Writes.{no_write, then_writes, same_writes}
@@ -17,17 +16,17 @@ loop-i-init g c =
     record {
       goes_on = goes_nowhere _ _ c.requires.ready;
       writes = no_write _;
-      filled = λ t is. (t, is, filled_first (version_of c.args.version) n c.args.changes.now t ((g.met.R.Records.is_store _).is_tape t is).records c.requires.changes (c.requires.shut t is));
-      moments = λ t is. shut_start (version_of c.args.version) t _ _ (λ x left. (g.met.R.Records.is_store _).leaves_only t x is left) (c.requires.shut t is);
+      filled = λ t is. (t, is, filled_first c.args.version n c.args.changes.now t ((g.met.R.Records.is_store _).is_tape t is).records c.requires.changes (c.requires.shut t is));
+      moments = λ t is. shut_start c.args.version t _ _ (λ x left. (g.met.R.Records.is_store _).leaves_only t x is left) (c.requires.shut t is);
     }
 
 pub data_record-requires-clause-long : goal.data_record-requires-clause-long
 data_record-requires-clause-long g c =
-    omega (arith, (changes_long (version_of c.args.version) (g.R.Records.view c.args.records.now).record_count c.args.changes.now c.requires.changes).1, c.size-size.ensures)
+    omega (arith, (changes_long c.args.version (g.R.Records.view c.args.records.now).record_count c.args.changes.now c.requires.changes).1, c.size-size.ensures)
 
 pub put-requires-clause-within : goal.put-requires-clause-within
 put-requires-clause-within g c =
-    let version = version_of c.args.version in
+    let version = c.args.version in
     let n = (g.R.Records.view c.args.records.now).record_count in
     let cs = c.args.changes.now in
     let long = (changes_long version n cs c.requires.changes).1 in
@@ -36,7 +35,7 @@ put-requires-clause-within g c =
 
 pub returns-in_err-put-clause-any_moment : goal.returns-in_err-put-clause-any_moment
 returns-in_err-put-clause-any_moment g c t is =
-    let version = version_of c.args.version in
+    let version = c.args.version in
     let n = (g.R.Records.view c.args.records.now).record_count in
     let filled = c.loop-i.invariant.filled t is in
     let place : c.data_record.result ≡ data_record version n c.loop-i.i = c.data_record.ensures ∙ ap (λ (m : ℕ). data_record version m c.loop-i.i) c.size-size.ensures in
@@ -45,7 +44,7 @@ returns-in_err-put-clause-any_moment g c t is =
 
 pub loop-i-preserved : goal.loop-i-preserved
 loop-i-preserved g c =
-    let version = version_of c.args.version in
+    let version = c.args.version in
     let n = (g.R.Records.view c.args.records.now).record_count in
     let cs = c.args.changes.now in
     let place : c.data_record.result ≡ data_record version n c.loop-i.i = c.data_record.ensures ∙ ap (λ (m : ℕ). data_record version m c.loop-i.i) c.size-size.ensures in

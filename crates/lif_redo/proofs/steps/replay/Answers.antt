@@ -6,7 +6,6 @@ use Rattle.lif_model.specs.Gate.{gate_of}
 use Rattle.lif_model.specs.Stops.{Torn}
 use Rattle.lif_model.specs.Redo.{data_record, redo_of, changed}
 use Rattle.lif_model.proofs.Moments.{started, goes_on}
-use Rattle.lif_redo.specs.Reading.{version_of}
 use Rattle.lif_redo.proofs.Told.{written}
 use Rattle.lif_redo.proofs.Held.{targets_long, redo_count, copied, copied_bytes, settles_at_first, settles_in_place, settles_closing, settled_is, settle_some}
 use Rattle.lif_redo.proofs.Writes.{no_write, then_writes, same_writes}
@@ -21,22 +20,22 @@ loop-i-init g c =
       writes = ([], λ t is. refl, refl, no_write _);
       tape = λ t is. is;
       moments = λ t is. started _ _ _ t (λ x left. (g.met.R.Records.is_store _).leaves_only t x is left)
-          (settles_at_first t n ((g.met.R.Records.is_store _).is_tape t is).records (version_of c.args.version) c.args.targets.now c.requires.may_be (c.requires.found t is));
+          (settles_at_first t n ((g.met.R.Records.is_store _).is_tape t is).records c.args.version c.args.targets.now c.requires.may_be (c.requires.found t is));
     }
 
 pub data_record-requires-clause-long : goal.data_record-requires-clause-long
 data_record-requires-clause-long g c =
-    omega (arith, (targets_long (version_of c.args.version) (g.R.Records.view c.args.records.now).record_count c.args.targets.now c.requires.may_be).1, c.size-size.ensures)
+    omega (arith, (targets_long c.args.version (g.R.Records.view c.args.records.now).record_count c.args.targets.now c.requires.may_be).1, c.size-size.ensures)
 
 pub returns-in_err-copy-clause-any_moment : goal.returns-in_err-copy-clause-any_moment
 returns-in_err-copy-clause-any_moment g c t is =
     let n = (g.R.Records.view c.args.records.now).record_count in
     goes_on _ _ _ _ _ _ _ _ _ _ (c.loop-i.invariant.tape t is) (c.loop-i.invariant.moments t is) c.copy.ensures.time
-    (λ x torn. settles_in_place t n ((g.met.R.Records.is_store _).is_tape t is).records (version_of c.args.version) c.args.targets.now c.requires.may_be (c.requires.found t is) x c.loop-i.i c.loop-i-test.true torn)
+    (λ x torn. settles_in_place t n ((g.met.R.Records.is_store _).is_tape t is).records c.args.version c.args.targets.now c.requires.may_be (c.requires.found t is) x c.loop-i.i c.loop-i-test.true torn)
 
 pub loop-i-preserved : goal.loop-i-preserved
 loop-i-preserved g c =
-    let version = version_of c.args.version in
+    let version = c.args.version in
     let n = (g.R.Records.view c.args.records.now).record_count in
     let ts = c.args.targets.now in
     let place : c.data_record.result ≡ data_record version n c.loop-i.i = c.data_record.ensures ∙ ap (λ (m : ℕ). data_record version m c.loop-i.i) c.size-size.ensures in
@@ -67,18 +66,18 @@ loop-i-preserved g c =
 
 pub overflow_sub-size : goal.overflow_sub-size
 overflow_sub-size g c =
-    omega (arith, (targets_long (version_of c.args.version) (g.R.Records.view c.args.records.now).record_count c.args.targets.now c.requires.may_be).0, c.size-size.ensures)
+    omega (arith, (targets_long c.args.version (g.R.Records.view c.args.records.now).record_count c.args.targets.now c.requires.may_be).0, c.size-size.ensures)
 
 pub put-requires-clause-within : goal.put-requires-clause-within
 put-requires-clause-within g c =
-    omega (arith, (targets_long (version_of c.args.version) (g.R.Records.view c.args.records.now).record_count c.args.targets.now c.requires.may_be).0, c.size-size.ensures, c.loop-i.invariant.goes_on.continues.size)
+    omega (arith, (targets_long c.args.version (g.R.Records.view c.args.records.now).record_count c.args.targets.now c.requires.may_be).0, c.size-size.ensures, c.loop-i.invariant.goes_on.continues.size)
 
 pub returns-in_err-put-clause-any_moment : goal.returns-in_err-put-clause-any_moment
 returns-in_err-put-clause-any_moment g c t is =
     let n = (g.R.Records.view c.args.records.now).record_count in
     let place : c.size-size.result - 4 ≡ gate_of n = omega (arith, c.size-size.ensures) in
     goes_on _ _ _ _ _ _ _ _ _ _ (c.loop-i.invariant.tape t is) (c.loop-i.invariant.moments t is) c.put.ensures.stored.time
-    (λ x torn. settles_closing t n ((g.met.R.Records.is_store _).is_tape t is).records (version_of c.args.version) c.args.targets.now c.requires.may_be (c.requires.found t is) x c.loop-i.i c.loop-i-test.false
+    (λ x torn. settles_closing t n ((g.met.R.Records.is_store _).is_tape t is).records c.args.version c.args.targets.now c.requires.may_be (c.requires.found t is) x c.loop-i.i c.loop-i-test.false
     (subst (λ (k : ℕ). Torn k (changed (take c.loop-i.i (redo_of t)) t) x) place torn))
 
 pub returns-clause-any_moment : goal.returns-clause-any_moment
@@ -86,7 +85,7 @@ returns-clause-any_moment g c t is =
     let n = (g.R.Records.view c.args.records.now).record_count in
     let place : c.size-size.result - 4 ≡ gate_of n = omega (arith, c.size-size.ensures) in
     goes_on _ _ _ _ _ _ _ _ _ _ (c.loop-i.invariant.tape t is) (c.loop-i.invariant.moments t is) c.put.ensures.stored.time
-    (λ x torn. settles_closing t n ((g.met.R.Records.is_store _).is_tape t is).records (version_of c.args.version) c.args.targets.now c.requires.may_be (c.requires.found t is) x c.loop-i.i c.loop-i-test.false
+    (λ x torn. settles_closing t n ((g.met.R.Records.is_store _).is_tape t is).records c.args.version c.args.targets.now c.requires.may_be (c.requires.found t is) x c.loop-i.i c.loop-i-test.false
     (subst (λ (k : ℕ). Torn k (changed (take c.loop-i.i (redo_of t)) t) x) place torn))
 
 pub returns-clause-done : goal.returns-clause-done
@@ -94,11 +93,11 @@ returns-clause-done g c t is =
     let n = (g.R.Records.view c.args.records.now).record_count in
     let place : c.size-size.result - 4 ≡ gate_of n = omega (arith, c.size-size.ensures) in
     written _ _ _ _ _ _ (c.in_ok-put.ensures.stored.content _ (c.loop-i.invariant.tape t is)) place c.zero_record.ensures
-    ∙ ap Some (settled_is t n ((g.met.R.Records.is_store _).is_tape t is).records (version_of c.args.version) c.args.targets.now c.requires.may_be (c.requires.found t is) c.loop-i.i c.loop-i-test.false)
+    ∙ ap Some (settled_is t n ((g.met.R.Records.is_store _).is_tape t is).records c.args.version c.args.targets.now c.requires.may_be (c.requires.found t is) c.loop-i.i c.loop-i-test.false)
 
 pub returns-clause-writes : goal.returns-clause-writes
 returns-clause-writes g c =
-    let version = version_of c.args.version in
+    let version = c.args.version in
     let n = (g.R.Records.view c.args.records.now).record_count in
     let ts = c.args.targets.now in
     let done = c.loop-i.invariant.writes in

@@ -1,5 +1,6 @@
 use Rattle.std.proofs.Common.{◌∙◌, sym, ap}
-use Rattle.lif_model.specs.Redo.{One, Two, Valid}
+use Rattle.lif_model.specs.declared.version.Version.TheVariants.{One, Two}
+use Rattle.lif_model.specs.Redo.{Valid}
 use Rattle.lif_redo.proofs.ReadTargets.{reads_one, reads_two, reads_none}
 use Rattle.lif_redo.proofs.texts.read_targets.Goals as goal
 

@@ -1,7 +1,6 @@
 //! The versions of redo files.
 ghost use Rattle.std.specs.Prelude.{◌≡◌, ◌<◌};
 ghost use Rattle.lif_model.specs.Redo.{redo_length, most_targets, redo_text, redo_start, data_record};
-ghost use Rattle.lif_redo.specs.Reading.{version_of};
 
 /// The version of a redo file: how many records change at once, and where their new contents stand.
 #[derive(Clone, Copy, Debug, PartialEq, Eq, Drop)]
@@ -15,7 +14,7 @@ pub enum Version {
 impl Version {
     /// How many records its redo file has.
     pub fn length(self) -> u16
-        ensures { result ≡ redo_length (version_of self) }
+        ensures { result ≡ redo_length self }
     {
         match self {
             Version::One => 4,
@@ -24,8 +23,8 @@ impl Version {
     }
 
     /// How many records it changes at most.
-    pub(crate) fn most_targets(self) -> usize
-        ensures { result ≡ most_targets (version_of self) }
+    pub fn most_targets(self) -> usize
+        ensures { result ≡ most_targets self }
     {
         match self {
             Version::One => 2,
@@ -34,8 +33,8 @@ impl Version {
     }
 
     /// What its targets record begins with.
-    pub(crate) fn text(self) -> [u8; 8]
-        ensures { result ≡ redo_text (version_of self) }
+    pub fn text(self) -> [u8; 8]
+        ensures { result ≡ redo_text self }
     {
         match self {
             Version::One => *b"LIFREDO1",
@@ -45,16 +44,16 @@ impl Version {
 
     /// Its first record on a tape of `size` records.
     pub fn start(self, size: u16) -> u16
-        ensures { result ≡ redo_start (version_of self) size }
+        ensures { result ≡ redo_start self size }
     {
         size.saturating_sub(self.length())
     }
 
     /// The record that holds what target `i` is to become, the first being 0.
-    pub(crate) fn data_record(self, size: u16, i: u16) -> u16
-        requires long { redo_length (version_of self) < size }
-        requires few { i < most_targets (version_of self) }
-        ensures { result ≡ data_record (version_of self) size i }
+    pub fn data_record(self, size: u16, i: u16) -> u16
+        requires long { redo_length self < size }
+        requires few { i < most_targets self }
+        ensures { result ≡ data_record self size i }
     {
         match self {
             Version::One => size - 2 + i,
