@@ -7,3 +7,4 @@ mod TableLemmas
 mod Examples
 mod Shapes
 mod Edited
+pub mod Changing

@@ -3,3 +3,4 @@ pub mod Names
 pub mod Indexes
 pub mod Tables
 pub mod Batches
+pub mod Changes

@@ -4,15 +4,13 @@ ghost use Rattle.lif_dir.specs.declared.batch.Part.TheVariants.{Store, Rename, P
 
 use crate::entries::Name;
 use crate::names::NewName;
+use lif_model::MOST_BYTES;
 use std::alloc::{AllocError, Global};
 use std::marker::Model;
 
 /// How many parts a batch has at most: with the redo entry they touch at most 32 records of a
 /// directory, which is what one commit changes.
 const MOST_PARTS: usize = 31;
-
-/// How many bytes the files of a batch have at most, which is as many as the largest medium has.
-const MOST_BYTES: usize = 630_784;
 
 /// One change of a batch.
 #[derive(Clone, Copy, Debug, PartialEq, Eq)]

@@ -2,6 +2,7 @@
 #![tactic(auto)]
 
 mod batch;
+mod change;
 mod entries;
 mod index;
 mod names;
@@ -10,6 +11,7 @@ mod steps;
 mod table;
 
 pub use batch::{Batch, Part};
+pub use change::Change;
 pub use entries::{FileEntry, Name, Slot};
 pub use names::{NewLabel, NewName, without_end_spaces};
 pub use reading::slots_of;

@@ -10,13 +10,7 @@ use crate::entries::Slot;
 use crate::table::SlotTable;
 use il_ports::{Records, Trouble};
 use lif_header::{Header, bytes_at};
-use lif_model::{RECORD, Record};
-
-/// How many bytes an entry has.
-const ENTRY: usize = 32;
-
-/// How many entries a record of the directory has.
-const ENTRIES: usize = 8;
+use lif_model::{ENTRIES, ENTRY, RECORD, Record};
 
 /// Appends the slots of one record of the directory, as far as its end, and says whether the end is
 /// in it.

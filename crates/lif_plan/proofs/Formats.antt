@@ -4,7 +4,8 @@ use Rattle.std.proofs.lemmas.List.{set-append_right}
 use Rattle.lif_model.specs.Header.{is_readable}
 use Rattle.lif_model.specs.Directory.{is_end}
 use Rattle.lif_model.specs.Made.{with_type, end_entry, first_directory_record, fresh_header, records_for_slots}
-use Rattle.lif_model.specs.Redo.{Version, redo_start, redo_length}
+use Rattle.lif_model.specs.declared.version.Version.{Version}
+use Rattle.lif_model.specs.Redo.{redo_start, redo_length}
 use Rattle.lif_model.specs.Volume.{redo_name, redo_type, redo_entry}
 use Rattle.lif_model.specs.Apply.{is_too_long}
 use Rattle.lif_model.proofs.Made.{new_type, typed_size, piece_short}

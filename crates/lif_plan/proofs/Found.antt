@@ -1,17 +1,16 @@
 -- The slot of a name, and the redo entry, as they are found in a directory whose names are distinct.
-use Rattle.std.proofs.Common.{◌≡◌, ◌≢◌, ◌<◌, ◌&&◌, ◌==◌, ℕ, List, [], Bool, true, false, if◌then◌else◌, not, length, get_or, filter, inl, inr, sym, ap, subst, ◌∙◌, arith}
-use Rattle.std.specs.Prelude.{Some, None, nat_lt}
+use Rattle.std.proofs.Common.{◌≡◌, ◌≢◌, ◌<◌, ◌&&◌, ◌==◌, ℕ, List, [], Bool, true, false, if◌then◌else◌, length, get_or, filter, inl, inr, sym, ap, ◌∙◌, arith}
+use Rattle.std.specs.Prelude.{Some, None, is_some, option_map, nat_lt}
 use Rattle.std.specs.List.{position, position_or_len}
 use Rattle.std.specs.Str.{bytes_eq}
 use Rattle.std.specs.Cmp.{both_ways}
-use Rattle.std.proofs.lemmas.Bool.{cases_Bool, cases_order, lt-ltb, ltb-true, false_from_ne_true}
+use Rattle.std.proofs.lemmas.Bool.{cases_Bool, cases_order, lt-ltb, le-ltb, false_from_ne_true}
 use Rattle.lif_model.specs.Directory.{name_of}
-use Rattle.lif_model.specs.Redo.{Version, redo_start, redo_length}
+use Rattle.lif_model.specs.declared.version.Version.{Version}
+use Rattle.lif_model.specs.Redo.{redo_start, redo_length}
 use Rattle.lif_model.specs.Pairs.{all_pairs}
 use Rattle.lif_model.specs.Legal.{is_live, is_live_named, has_file, slot_named, have_other_names}
-use Rattle.lif_model.specs.Apply.{Fetch, is_protected, lacks_file, refusal_of}
-use Rattle.lif_model.specs.declared.refusal.Refusal.TheVariants.{Protected, NoFile}
-use Rattle.lif_model.specs.Volume.{Volume, redo_name, redo_type, is_redo_entry, is_redo_file, is_adopted}
+use Rattle.lif_model.specs.Volume.{redo_name, redo_type, is_redo_entry, is_redo_file, is_adopted}
 use Rattle.lif_model.proofs.Lists.{any_at, any_from, filter_pairs_tell}
 use Rattle.lif_model.proofs.Legal.{names_tell}
 use Rattle.lif_model.proofs.Slots.{live_named_tells}
@@ -38,28 +37,29 @@ found slots name = elim (cases_Bool (has_file slots name)) [
   | inr none ↦
       let no = no_slot_has slots name none in
       let k = position_or_len (is_live_named name) slots in
-      let past : nat_lt k (length slots) ≡ false = ap (λ (j : ℕ). nat_lt j (length slots)) no.1 ∙ not_less (length slots) in
+      let past : nat_lt k (length slots) ≡ false = le-ltb k (length slots) (omega (arith, no.1)) in
       nowhere none (ap (λ (b : Bool). if b then Some k else None) past) no.0
 ]
-  where
-    not_less : (n : ℕ) → nat_lt n n ≡ false
-    not_less n = false_from_ne_true _ (λ less. let no : n < n = ltb-true n n less in absurd (omega (arith, no)))
 
 same_some : {X : Type 0} (x y : X) → Some x ≡ Some y → x ≡ y
 same_some x y e = cc
 
-pub slot_at_place : (slots : List (List ℕ)) (name : List ℕ) (k : ℕ) → position (is_live_named name) slots ≡ Some k → slot_named slots name ≡ Some (get_or slots k [])
-slot_at_place slots name k e = elim (found slots name) [
-  | at j within live place slot ↦
-      let same : j ≡ k = same_some j k (sym place ∙ e) in
-      subst (λ (i : ℕ). slot_named slots name ≡ Some (get_or slots i [])) same slot
-  | nowhere none place slot ↦ let no : None ≡ Some k = sym place ∙ e in cc
+pub slot_is : (slots : List (List ℕ)) (name : List ℕ) → slot_named slots name ≡ option_map (λ k. get_or slots k []) (position (is_live_named name) slots)
+slot_is slots name = elim (found slots name) [
+  | at k within live place slot ↦ slot ∙ sym (ap (option_map (λ j. get_or slots j [])) place)
+  | nowhere none place slot ↦ slot ∙ sym (ap (option_map (λ j. get_or slots j [])) place)
 ]
 
-pub no_slot : (slots : List (List ℕ)) (name : List ℕ) → position (is_live_named name) slots ≡ None → slot_named slots name ≡ None
-no_slot slots name e = elim (found slots name) [
-  | at j within live place slot ↦ let no : None ≡ Some j = sym e ∙ place in cc
-  | nowhere none place slot ↦ slot
+pub has_place : (slots : List (List ℕ)) (name : List ℕ) → has_file slots name ≡ is_some (position (is_live_named name) slots)
+has_place slots name = elim (found slots name) [
+  | at k within live place slot ↦ any_from [] (is_live_named name) slots k within live ∙ sym (ap is_some place)
+  | nowhere none place slot ↦ none ∙ sym (ap is_some place)
+]
+
+pub has_slot : (slots : List (List ℕ)) (name : List ℕ) → has_file slots name ≡ is_some (slot_named slots name)
+has_slot slots name = elim (found slots name) [
+  | at k within live place slot ↦ any_from [] (is_live_named name) slots k within live ∙ sym (ap is_some slot)
+  | nowhere none place slot ↦ none ∙ sym (ap is_some slot)
 ]
 
 -- ---- the redo entry
@@ -99,28 +99,6 @@ module _ (slots : List (List ℕ)) (distinct : all_pairs have_other_names (filte
     | nowhere lacks place slot ↦ false_from_ne_true _ (λ adopted.
         let it = any_at [] (is_redo_file n) slots adopted in
         let off : true ≡ false = sym (any_from [] (is_live_named redo_name) slots it.0 it.1 (redo_file_is_named n (get_or slots it.0 []) it.2)) ∙ lacks in cc)
-  ]
-
--- ---- what `fetch` is refused by
-
-module _ (n : ℕ) (v : Volume) (slots : List (List ℕ)) (name : List ℕ) (same : v.slots ≡ slots) where
-  fetch_is : (named : Bool) → (is_adopted n slots && bytes_eq name redo_name) ≡ false → has_file slots name ≡ named
-      → refusal_of n (Fetch name) (Some v) ≡ (if not named then Some NoFile else None)
-  fetch_is named off has =
-      let free : is_protected n v name ≡ false = ap (λ (s : List (List ℕ)). is_adopted n s && bytes_eq name redo_name) same ∙ off in
-      let lacks : lacks_file v name ≡ not named = ap (λ (s : List (List ℕ)). not (has_file s name)) same ∙ ap not has in
-      λ i. if free i then Some Protected else (if lacks i then Some NoFile else None)
-
-  pub fetch_found : (slot : List ℕ) → (is_adopted n slots && bytes_eq name redo_name) ≡ false → slot_named slots name ≡ Some slot → refusal_of n (Fetch name) (Some v) ≡ None
-  fetch_found slot off e = elim (found slots name) [
-    | at k within live place here ↦ fetch_is true off (any_from [] (is_live_named name) slots k within live)
-    | nowhere lacks place none ↦ let both : None ≡ Some slot = sym none ∙ e in cc
-  ]
-
-  pub fetch_lacks : (is_adopted n slots && bytes_eq name redo_name) ≡ false → slot_named slots name ≡ None → refusal_of n (Fetch name) (Some v) ≡ Some NoFile
-  fetch_lacks off e = elim (found slots name) [
-    | at k within live place here ↦ let both : None ≡ Some (get_or slots k []) = sym e ∙ here in cc
-    | nowhere lacks place none ↦ fetch_is false off lacks
   ]
 
 -- ---- entries by their fields

@@ -2,4 +2,6 @@ mod LegalExtents
 pub mod Found
 pub mod Planning
 mod Formats
-pub mod Taking
+mod Taking
+mod Chosen
+mod Examples

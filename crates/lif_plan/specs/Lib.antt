@@ -2,4 +2,3 @@ pub mod Entries
 pub mod Directories
 pub mod Refusals
 pub mod Plans
-pub mod Placements

@@ -1,33 +1,34 @@
 -- What a command is to write of the directory, before it is written.
-use Rattle.std.specs.Prelude.{◌≡◌, ◌≢◌, ◌<◌, ◌≤◌, ◌*◌, ◌++◌, ◌==◌, ◌&&◌, if◌then◌else◌, nat_lt, not, ℕ, Bool, suc, List, [], ◌∷◌, true, false, length, set, Option, Some, None, Result, Ok, Err}
+use Rattle.std.specs.Prelude.{◌≡◌, ◌⊎◌, ◌<◌, ◌≤◌, ◌+◌, ◌*◌, ◌&&◌, if◌then◌else◌, nat_lt, not, ℕ, Bool, List, [], true, false, length, get_or, Option, Some, None, Result, Ok, Err}
+use Rattle.std.specs.Str.{bytes_eq}
 use Rattle.lif_model.specs.Tape.{Tape, IsTape}
+use Rattle.lif_model.specs.Gate.{gate_of}
 use Rattle.lif_model.specs.Header.{HeaderParts, header_of}
-use Rattle.lif_model.specs.Made.{with_type}
-use Rattle.lif_model.specs.Redo.{Version, One, Two}
-use Rattle.lif_model.specs.Volume.{Volume, IsVolume, is_redo_entry, is_redo_file, is_adopted_with, is_adopted, volume_in}
-use Rattle.lif_model.specs.Legal.{occupies, end_of}
-use Rattle.lif_model.specs.Fit.{NoSlot}
-use Rattle.lif_model.specs.Apply.{VolumeCommand, IsWellFormed, Rename, Purge, Adopt, Upgrade, Format, refusal_of, volume_after}
-use Rattle.lif_model.specs.Writing.{SlotWrites, entry_from, slot_writes}
-use Rattle.lif_redo.specs.Reading.{version_of}
-use Rattle.lif_redo.specs.declared.versions.Version as redo
-use Rattle.lif_dir.specs.declared.entries.Slot.{Slot}
-use Rattle.lif_dir.specs.Entries.{entry_bytes, slot_of}
+use Rattle.lif_model.specs.Directory.{is_purged}
+use Rattle.lif_model.specs.Made.{file_length}
+use Rattle.lif_model.specs.declared.version.Version.{Version}
+use Rattle.lif_model.specs.declared.version.Version.TheVariants.{One, Two}
 use Rattle.lif_model.specs.declared.refusal.Refusal.{Refusal}
-use Rattle.lif_plan.specs.declared.plans.SlotChange.{SlotChange}
+use Rattle.lif_model.specs.Volume.{Volume, IsVolume, redo_name, is_redo_entry, is_redo_file, is_adopted_with, is_adopted, volume_in}
+use Rattle.lif_model.specs.Legal.{occupies, end_of, has_file}
+use Rattle.lif_model.specs.Fit.{At, redo_place, can_append}
+use Rattle.lif_model.specs.Apply.{VolumeCommand, IsWellFormed, Store, Rename, Purge, Adopt, Upgrade, Format, refusal_of, volume_after}
+use Rattle.lif_model.specs.Writing.{slot_writes, chosen_place, changes_of}
+use Rattle.lif_dir.specs.declared.change.Change.{Change}
+use Rattle.lif_dir.specs.Changes.{FitsIn, change_writes, bytes_with}
 use Rattle.lif_plan.specs.Refusals.{keeps_behind}
 
 -- ---- the version of the redo file
 
 -- of these slots one is that of the redo file of the version, or none is of any
-abbrev pub IsVersionOf : ℕ → List (List ℕ) → Option redo.Version → Type 0
+abbrev pub IsVersionOf : ℕ → List (List ℕ) → Option Version → Type 0
 IsVersionOf n slots None = is_adopted n slots ≡ false
-IsVersionOf n slots (Some version) = is_adopted_with n (version_of version) slots ≡ true
+IsVersionOf n slots (Some version) = is_adopted_with n version slots ≡ true
 
 -- the same of one slot
-abbrev pub IsVersionOfEntry : ℕ → List ℕ → Option redo.Version → Type 0
+abbrev pub IsVersionOfEntry : ℕ → List ℕ → Option Version → Type 0
 IsVersionOfEntry n slot None = is_redo_file n slot ≡ false
-IsVersionOfEntry n slot (Some version) = is_redo_entry n (version_of version) slot ≡ true
+IsVersionOfEntry n slot (Some version) = is_redo_entry n version slot ≡ true
 
 -- the version of the redo file in the directory, and version 1 where there is none
 abbrev pub redo_version : ℕ → List (List ℕ) → Version
@@ -41,6 +42,7 @@ version_for n command (Some v) = redo_version n v.slots
 
 -- with which a command commits
 abbrev pub CommitsWith : ℕ → Version → VolumeCommand → Volume → Type 0
+CommitsWith n version (Store name kind implementation bytes) v = is_adopted_with n version v.slots ≡ true
 CommitsWith n version (Rename old later) v = is_adopted_with n version v.slots ≡ true
 CommitsWith n version (Purge name) v = is_adopted_with n version v.slots ≡ true
 CommitsWith n version Adopt v = (version ≡ One) × (is_adopted n v.slots ≡ false)
@@ -51,24 +53,31 @@ CommitsWith n version command v = ⊥
 abbrev pub reaches_past : ℕ → ℕ → List ℕ → Bool
 reaches_past n limit slot = occupies slot && (not (is_redo_file n slot) && nat_lt limit (end_of slot))
 
--- ---- one slot that changes
+-- ---- the name of a new file
 
--- what is written of a directory that begins at record `start`: the slot, and an end behind it
--- where there is to be one
-abbrev pub change_writes : ℕ → SlotChange → Tape → SlotWrites
-change_writes start change tape = (change.slot, entry_bytes change.entry)
-    ∷ (if change.ended
-    then (suc change.slot, with_type 0xFFFF (entry_from tape start (suc change.slot))) ∷ [] else [])
+-- a store of that name is refused, whatever it stores
+pub record IsNameRefused (n : ℕ) (name : List ℕ) (slots : List (List ℕ)) (why : Refusal) : Type 0 where
+  pub refused : (v : Volume) → v.slots ≡ slots → (kind : ℕ) (implementation bytes : List ℕ)
+      → refusal_of n (Store name kind implementation bytes) (Some v) ≡ Some why
+  pub known : keeps_behind why ≡ true
 
--- the slots with the change, which replaces one of them or stands behind the last
-abbrev pub slots_with : SlotChange → List Slot → List Slot
-slots_with change slots = if change.slot == length slots then slots ++ slot_of change.entry ∷ []
-    else set slots change.slot (slot_of change.entry)
+-- no test of the name refuses it, and the volume is adopted with that version
+pub record IsNameFree (n : ℕ) (name : List ℕ) (slots : List (List ℕ)) (version : Version) : Type 0 where
+  pub adopted : is_adopted_with n version slots ≡ true
+  pub other : bytes_eq name redo_name ≡ false
+  pub none_named : has_file slots name ≡ false
+  pub ten : length name ≡ 10
 
--- the same by their bytes
-abbrev pub bytes_with : SlotChange → List (List ℕ) → List (List ℕ)
-bytes_with change slots = if change.slot == length slots then slots ++ entry_bytes change.entry ∷ []
-    else set slots change.slot (entry_bytes change.entry)
+abbrev pub IsNewName : ℕ → List ℕ → List (List ℕ) → Result Version Refusal → Type 0
+IsNewName n name slots (Err why) = IsNameRefused n name slots why
+IsNewName n name slots (Ok version) = IsNameFree n name slots version
+
+-- ---- its slot
+
+-- that of a purged file before the redo entry, or the redo entry's own
+abbrev pub MayTake : ℕ → List (List ℕ) → ℕ → Type 0
+MayTake capacity slots i = ((i < redo_place slots) × (i < length slots) × (is_purged (get_or slots i []) ≡ true))
+    ⊎ ((i ≡ redo_place slots) × (can_append capacity slots ≡ true))
 
 -- ---- plans
 
@@ -86,24 +95,35 @@ pub record RefusesAs (n : ℕ) (command : VolumeCommand) (header : HeaderParts) 
 -- it changes nothing
 pub record ChangesNothing (n : ℕ) (command : VolumeCommand) (header : HeaderParts) (slots : List (List ℕ)) : Type 0 where
   pub free : (v : Volume) → IsVolumeWith n header slots v → refusal_of n command (Some v) ≡ None
-  pub nothing : (v : Volume) → IsVolumeWith n header slots v → (u : Tape) → slot_writes n command v NoSlot u ≡ []
+  pub nothing : (v : Volume) → IsVolumeWith n header slots v → (u : Tape) → changes_of n command v u ≡ []
   pub same : (v : Volume) → IsVolumeWith n header slots v → volume_after n command v ≡ v
 
--- it changes this slot
-pub record ChangesSlot (n : ℕ) (command : VolumeCommand) (header : HeaderParts) (slots : List (List ℕ)) (change : SlotChange) : Type 0 where
+-- the file of a new entry goes to its place: behind the directory, and before the redo file
+pub record PlacesFile (n : ℕ) (command : VolumeCommand) (bytes : List ℕ) (header : HeaderParts) (slots : List (List ℕ)) (change : Change) : Type 0 where
+  pub chosen : (v : Volume) → IsVolumeWith n header slots v → chosen_place n command v ≡ At change.slot change.entry.start
+  pub count : change.entry.length ≡ file_length bytes
+  pub low : header.start + header.length ≤ change.entry.start
+  pub high : change.entry.start + change.entry.length ≤ gate_of n
+
+-- of a store; no other command has a file
+abbrev pub PlacesFileOf : ℕ → VolumeCommand → HeaderParts → List (List ℕ) → Change → Type 0
+PlacesFileOf n (Store name kind implementation bytes) header slots change =
+    PlacesFile n (Store name kind implementation bytes) bytes header slots change
+PlacesFileOf n command header slots change = Unit {0}
+
+-- it changes these slots
+pub record MakesChange (n : ℕ) (command : VolumeCommand) (header : HeaderParts) (slots : List (List ℕ)) (change : Change) : Type 0 where
   pub formed : IsWellFormed command
-  pub place : change.slot ≤ length slots
-  pub within : change.slot < 8 * header.length
-  pub end_within : change.ended ≡ true → suc change.slot < 8 * header.length
-  pub kind : change.entry.kind ≢ 0xFFFF
+  pub fits : FitsIn (8 * header.length) (length slots) change
   pub free : (v : Volume) → IsVolumeWith n header slots v → refusal_of n command (Some v) ≡ None
-  pub commits : (v : Volume) → IsVolumeWith n header slots v → CommitsWith n (version_of change.version) command v
+  pub commits : (v : Volume) → IsVolumeWith n header slots v → CommitsWith n change.version command v
+  pub file : PlacesFileOf n command header slots change
   pub writes : (v : Volume) → IsVolumeWith n header slots v → (u : Tape) → IsTape n u → volume_in u ≡ Some v
-      → slot_writes n command v NoSlot u ≡ change_writes header.start change u
+      → slot_writes n command v (chosen_place n command v) u ≡ change_writes header.start change u
   pub after : (v : Volume) → IsVolumeWith n header slots v → (volume_after n command v).slots ≡ bytes_with change slots
 
 -- what is planned for a command on a volume with this header and these slots
-abbrev pub IsPlan : ℕ → VolumeCommand → HeaderParts → List (List ℕ) → Result (Option SlotChange) Refusal → Type 0
+abbrev pub IsPlan : ℕ → VolumeCommand → HeaderParts → List (List ℕ) → Result (Option Change) Refusal → Type 0
 IsPlan n command header slots (Err why) = RefusesAs n command header slots why
 IsPlan n command header slots (Ok None) = ChangesNothing n command header slots
-IsPlan n command header slots (Ok (Some change)) = ChangesSlot n command header slots change
+IsPlan n command header slots (Ok (Some change)) = MakesChange n command header slots change

@@ -9,7 +9,6 @@ ghost use Rattle.lif_model.specs.Legal.{is_live, is_live_named, slot_named, have
 ghost use Rattle.lif_model.specs.Legal.{is_legal_with};
 ghost use Rattle.lif_model.specs.Volume.{Volume, is_redo_entry, is_redo_file, is_adopted};
 ghost use Rattle.lif_model.specs.Apply.{Fetch, refusal_of};
-ghost use Rattle.lif_redo.specs.Reading.{version_of};
 ghost use Rattle.lif_dir.specs.Entries.{name_bytes, entry_bytes, slot_bytes};
 ghost use Rattle.lif_plan.specs.Refusals.{IsAmong, keeps_behind};
 ghost use Rattle.lif_plan.specs.Entries.{IsFileOf};
@@ -19,8 +18,7 @@ ghost use Rattle.std.specs.Prelude.{◌∷◌};
 use crate::extents::{Extent, follow_each_other, gather, lie_within, sort_by_start};
 use lif_dir::{FileEntry, Name, SlotTable, Steps};
 use lif_header::Header;
-use lif_model::Refusal;
-use lif_redo::Version;
+use lif_model::{REDO_KIND, REDO_NAME, Refusal, Version};
 use std::alloc::{AllocError, Global};
 use std::marker::Brand;
 use std::sync::ledger::{Blank, Ledger};
@@ -169,16 +167,10 @@ pub fn is_redo_file(entry: FileEntry, size: u16) -> bool
 
 /// Whether the entry is that of the redo file of this version.
 pub fn is_redo_entry(entry: FileEntry, size: u16, version: Version) -> bool
-    ensures { result ≡ is_redo_entry size (version_of version) (entry_bytes entry) }
+    ensures { result ≡ is_redo_entry size version (entry_bytes entry) }
 {
     entry.name.bytes() == *REDO_NAME
         && entry.kind == REDO_KIND
         && entry.start == u32::from(version.start(size))
         && entry.length == u32::from(version.length())
 }
-
-/// The name of the redo file, with its spaces.
-pub const REDO_NAME: &[u8; 10] = b"REDOFILE  ";
-
-/// The type of the redo file.
-pub const REDO_KIND: u16 = 0xE0D0;

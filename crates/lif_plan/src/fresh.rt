@@ -2,23 +2,19 @@
 ghost use Rattle.std.specs.Prelude.{◌≡◌, ◌<◌, ◌≤◌, ◌++◌, not, false, length, drop};
 ghost use Rattle.lif_model.specs.Header.{header_of};
 ghost use Rattle.lif_model.specs.Made.{first_directory_record, fresh_header, records_for_slots};
-ghost use Rattle.lif_model.specs.Redo.{One};
+ghost use Rattle.lif_model.specs.declared.version.Version.TheVariants.{One};
 ghost use Rattle.lif_model.specs.Volume.{redo_entry};
 ghost use Rattle.lif_model.specs.Writing.{format_changes};
 ghost use Rattle.lif_model.specs.Apply.{is_too_long};
 ghost use Rattle.lif_dir.specs.Names.{label_bytes};
 
-use crate::plans::{ENTRIES, redo_entry};
+use crate::plans::redo_entry;
 use lif_dir::NewLabel;
 use lif_header::Header;
-use lif_model::{RECORD, Record};
-use lif_redo::Version;
+use lif_model::{ENTRIES, ENTRY, RECORD, Record, Version};
 
 /// The first record of the directory of a new volume.
 const FIRST: u16 = 2;
-
-/// How many bytes an entry has.
-const ENTRY: usize = 32;
 
 /// Where the type of an entry stands in it.
 const TYPE: usize = 10;

@@ -11,5 +11,3 @@ mod plans;
 pub use directory::{Directory, File};
 pub use fresh::FreshVolume;
 pub use lif_model::Refusal;
-pub use placing::{Moved, Placement};
-pub use plans::{ENTRIES, SlotChange};

@@ -6,45 +6,26 @@ ghost use Rattle.lif_model.specs.Legal.{is_live_named};
 ghost use Rattle.std.specs.Str.{bytes_eq};
 ghost use Rattle.std.specs.Prelude.{◌≢◌, [], ◌∷◌};
 ghost use Rattle.lif_model.specs.Volume.{redo_name, redo_entry};
-ghost use Rattle.lif_redo.specs.Reading.{version_of};
 ghost use Rattle.lif_model.specs.Apply.{Purge, Rename, Adopt, Upgrade};
 ghost use Rattle.lif_dir.specs.Entries.{name_bytes, entry_bytes, slot_of, slot_from, slot_bytes};
 ghost use Rattle.lif_dir.specs.Names.{made_name};
 ghost use Rattle.lif_plan.specs.Directories.{IsLegalDirectory};
 ghost use Rattle.lif_plan.specs.Refusals.{IsAmong};
-ghost use Rattle.lif_plan.specs.Plans.{IsPlan, IsVersionOf, IsVersionOfEntry, reaches_past, slots_with, bytes_with};
+ghost use Rattle.lif_dir.specs.Changes.{slots_with, FitsIn, IsToldBack};
+ghost use Rattle.lif_plan.specs.Plans.{IsPlan, IsVersionOf, IsVersionOfEntry, reaches_past};
 ghost use Rattle.lif_model.specs.declared.refusal.Refusal.TheVariants as refusal;
 
-use crate::directory::{Directory, REDO_KIND, REDO_NAME, is_redo_entry, is_redo_file, place_of};
+use crate::directory::{Directory, is_redo_entry, is_redo_file, place_of};
 use crate::extents::occupies;
-use lif_dir::{FileEntry, Name, NewName, Slot};
+use lif_dir::{Change, FileEntry, Name, NewName, Slot};
 use lif_header::Header;
-use lif_model::Refusal;
-use lif_redo::Version;
+use lif_model::{ENTRIES, REDO_KIND, REDO_NAME, Refusal, Version};
 use std::marker::Brand;
 use std::sync::ledger::Blank;
 
-/// A slot of the directory that a command changes by one commit.
-#[derive(Clone, Copy, Debug, Drop)]
-pub struct SlotChange {
-    /// The version of the redo file by which it commits.
-    pub version: Version,
-    /// The place of the slot: one of the slots, or the place after the last.
-    pub slot: usize,
-    /// What it is to hold.
-    pub entry: FileEntry,
-    /// Whether an end is put after it.
-    pub ended: bool,
-}
-
 impl Directory {
     /// What `purge` is to write, or why it is refused.
-    pub fn purge(
-        &self,
-        name: &Name,
-        header: &Header,
-        size: u16,
-    ) -> Result<Option<SlotChange>, Refusal>
+    pub fn purge(&self, name: &Name, header: &Header, size: u16) -> Result<Option<Change>, Refusal>
         requires legal { IsLegalDirectory size header.now
             (map slot_bytes self.now.table.slots) }
         ensures plan { IsPlan size (Purge (name_bytes name.now)) header.now
@@ -61,10 +42,11 @@ impl Directory {
         let Some(slot) = self.place_named(name) else {
             return Err(Refusal::NoFile);
         };
-        Ok(Some(SlotChange {
+        Ok(Some(Change {
             version,
             slot,
             entry: self.table.entry(slot).purged(),
+            next: None,
             ended: false,
         }))
     }
@@ -76,7 +58,7 @@ impl Directory {
         new: &NewName,
         header: &Header,
         size: u16,
-    ) -> Result<Option<SlotChange>, Refusal>
+    ) -> Result<Option<Change>, Refusal>
         requires legal { IsLegalDirectory size header.now
             (map slot_bytes self.now.table.slots) }
         ensures plan { IsPlan size
@@ -101,16 +83,17 @@ impl Directory {
         if self.place_named(&later).is_some() {
             return Err(Refusal::Exists);
         }
-        Ok(Some(SlotChange {
+        Ok(Some(Change {
             version,
             slot,
             entry: self.table.entry(slot).renamed(later),
+            next: None,
             ended: false,
         }))
     }
 
     /// What `adopt` is to write, nothing where there is a redo file, or why it is refused.
-    pub fn adopt(&self, header: &Header, size: u16) -> Result<Option<SlotChange>, Refusal>
+    pub fn adopt(&self, header: &Header, size: u16) -> Result<Option<Change>, Refusal>
         requires legal { IsLegalDirectory size header.now
             (map slot_bytes self.now.table.slots) }
         ensures plan { IsPlan size Adopt header.now
@@ -132,10 +115,11 @@ impl Directory {
         if self.runs_past(Version::One.start(size), size) {
             return Err(Refusal::InUse);
         }
-        Ok(Some(SlotChange {
+        Ok(Some(Change {
             version: Version::One,
             slot,
             entry: redo_entry(Version::One, size),
+            next: None,
             ended: slot + 1 < capacity,
         }))
     }
@@ -146,12 +130,12 @@ impl Directory {
     ghost use Rattle.lif_model.specs.Legal.{is_live, have_other_names};
     ghost use Rattle.std.specs.Prelude.{filter, ◌&&◌};
     ghost use Rattle.lif_model.specs.Volume.{Volume};
-    ghost use Rattle.lif_model.specs.Redo.{One};
+    ghost use Rattle.lif_model.specs.declared.version.Version.TheVariants.{One};
     ghost use Rattle.lif_model.specs.Apply.{lacks_redo, runs_past_gate};
 
     /// What `upgrade` is to write, nothing where the redo file is of version 2, or why it is
     /// refused.
-    pub fn upgrade(&self, header: &Header, size: u16) -> Result<Option<SlotChange>, Refusal>
+    pub fn upgrade(&self, header: &Header, size: u16) -> Result<Option<Change>, Refusal>
         requires size { 37 < size }
         requires legal { IsLegalDirectory size header.now
             (map slot_bytes self.now.table.slots) }
@@ -172,13 +156,14 @@ impl Directory {
             unreachable!()
         };
         let length = u32::from(Version::Two.length());
-        Ok(Some(SlotChange {
+        Ok(Some(Change {
             version: Version::One,
             slot,
             entry: self
                 .table
                 .entry(slot)
                 .moved(u32::from(start), length, [0; 4]),
+            next: None,
             ended: false,
         }))
     }
@@ -244,23 +229,13 @@ impl Directory {
         false
     }
 
-    /// Changes the slot in memory.
-    pub fn change(&mut self, change: &SlotChange)
-        requires place { change.now.slot ≤ length self.old.table.slots }
-        requires room { change.now.slot < self.old.table.room }
-        requires kind { change.now.entry.kind ≢ 0xFFFF }
-        ensures slots { self.new.table.slots ≡ slots_with change.now self.old.table.slots }
-        ensures bytes { map slot_bytes self.new.table.slots
-            ≡ bytes_with change.now (map slot_bytes self.old.table.slots) }
-        ensures told { slot_from (entry_bytes change.now.entry) ≡ slot_of change.now.entry }
-        ensures room { self.new.table.room ≡ self.old.table.room }
+    /// Changes the slots in memory.
+    pub fn change(&mut self, change: &Change)
+        requires { FitsIn self.old.table.room (length self.old.table.slots) change.now }
+        ensures changed { self.new.table ≡ record self.old.table { slots = slots_with change.now self.old.table.slots } }
+        ensures told { IsToldBack change.now }
     {
-        let slot = Slot::holding(change.entry);
-        if change.slot == self.table.len() {
-            self.table.push(slot);
-        } else {
-            self.table.set(change.slot, slot);
-        }
+        self.table.change(change);
     }
 }
 
@@ -305,7 +280,7 @@ fn version_of(entry: FileEntry, size: u16) -> Option<Version>
 
 /// The entry of a redo file on a medium of `size` records.
 pub fn redo_entry(version: Version, size: u16) -> FileEntry
-    ensures entry { entry_bytes result ≡ redo_entry (version_of version) size }
+    ensures entry { entry_bytes result ≡ redo_entry version size }
     ensures kind { result.kind ≢ 0xFFFF }
 {
     FileEntry::new(
@@ -316,6 +291,3 @@ pub fn redo_entry(version: Version, size: u16) -> FileEntry
         [0; 4],
     )
 }
-
-/// How many entries a record of a directory has.
-pub const ENTRIES: usize = 8;

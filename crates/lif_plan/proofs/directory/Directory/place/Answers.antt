@@ -1,65 +1,49 @@
-use Rattle.std.proofs.Common.{◌≡◌, ◌*◌, ◌+◌, ◌<◌, ℕ, suc, List, [], ◌∷◌, map, get_or, length, nat_lt, ap, sym, subst, ◌∙◌, arith}
-use Rattle.std.specs.Prelude.{Option, IfSome}
+use Rattle.std.proofs.Common.{◌≡◌, ◌*◌, ◌+◌, suc, true, false, Bool, map, nat_lt, ap, sym, ◌∙◌, arith, rules}
 use Rattle.std.specs.Bool.{then_some}
 use Rattle.std.proofs.lemmas.List.{length-map}
-use Rattle.lif_model.specs.Directory.{is_end}
 use Rattle.lif_model.specs.Legal.{is_live}
 use Rattle.lif_dir.specs.Entries.{entry_bytes, slot_bytes}
-use Rattle.lif_plan.specs.declared.placing.Moved.{Moved}
-use Rattle.lif_plan.specs.Placements.{MovesWithin, moved_writes, put_in}
-use Rattle.lif_plan.proofs.Taking.{within_slots, moves_within, taken_writes, taken_after}
+use Rattle.lif_plan.proofs.Taking.{Takes, within_slots, takes_own, takes_purged}
 use Rattle.lif_plan.proofs.directory.Directory.place.Goals as goal
-
-pub returns-clause-within : goal.returns-clause-within
-returns-clause-within c =
-    let slots : List (List ℕ) = map slot_bytes c.args.self.now.table.slots in
-    let k : ℕ = c.args.slot in
-    let capacity : ℕ = 8 * c.args.header.now.length in
-    let moved : Moved = record { entry = c.entry-own.result.now; ended = nat_lt (k + 2) (8 * c.from-capacity.result) } in
-    let room : 8 * c.from-capacity.result ≡ 8 * c.args.header.now.length = omega (arith, c.from-capacity.ensures, c.length.ensures) in
-    let next : k + 2 ≡ suc (suc k) = omega arith in
-    let ended : nat_lt (k + 2) (8 * c.from-capacity.result) ≡ nat_lt (suc (suc k)) (8 * c.args.header.now.length) = λ i. nat_lt (next i) (room i) in
-    let live : is_live (get_or slots k []) ≡ c.is_live.result = sym (ap is_live c.entry-own.ensures) ∙ sym c.is_live.ensures in
-    let inside : k < length slots = within_slots capacity slots k c.requires.slot c.requires.redo in
-    record {
-      slot = inside;
-      moved = subst (λ (m : Option Moved). IfSome m (MovesWithin (8 * c.args.header.now.length) (length slots) k)) (sym (c.then_some-moved.ensures ∙ ap (then_some c.is_live.result) c.of.ensures.moved))
-          (moves_within capacity slots k c.requires.slot c.requires.redo moved ended c.is_live.result live
-          c.of.ensures.kind);
-    }
-
-pub returns-clause-writes : goal.returns-clause-writes
-returns-clause-writes c = λ v u same wide begins.
-    let slots : List (List ℕ) = map slot_bytes c.args.self.now.table.slots in
-    let k : ℕ = c.args.slot in
-    let capacity : ℕ = 8 * c.args.header.now.length in
-    let moved : Moved = record { entry = c.entry-own.result.now; ended = nat_lt (k + 2) (8 * c.from-capacity.result) } in
-    let room : 8 * c.from-capacity.result ≡ 8 * c.args.header.now.length = omega (arith, c.from-capacity.ensures, c.length.ensures) in
-    let next : k + 2 ≡ suc (suc k) = omega arith in
-    let ended : nat_lt (k + 2) (8 * c.from-capacity.result) ≡ nat_lt (suc (suc k)) (8 * c.args.header.now.length) = λ i. nat_lt (next i) (room i) in
-    let live : is_live (get_or slots k []) ≡ c.is_live.result = sym (ap is_live c.entry-own.ensures) ∙ sym c.is_live.ensures in
-    taken_writes capacity slots k c.requires.slot c.requires.redo moved ended c.is_live.result live (entry_bytes c.args.entry) c.entry-own.ensures v u c.args.header.now.start same wide begins
-    ∙ ap (λ (m : Option Moved). (k, entry_bytes c.args.entry) ∷ moved_writes c.args.header.now.start k m u) (sym (c.then_some-moved.ensures ∙ ap (then_some c.is_live.result) c.of.ensures.moved))
-
-pub returns-clause-after : goal.returns-clause-after
-returns-clause-after c =
-    let slots : List (List ℕ) = map slot_bytes c.args.self.now.table.slots in
-    let k : ℕ = c.args.slot in
-    let capacity : ℕ = 8 * c.args.header.now.length in
-    let moved : Moved = record { entry = c.entry-own.result.now; ended = nat_lt (k + 2) (8 * c.from-capacity.result) } in
-    let room : 8 * c.from-capacity.result ≡ 8 * c.args.header.now.length = omega (arith, c.from-capacity.ensures, c.length.ensures) in
-    let next : k + 2 ≡ suc (suc k) = omega arith in
-    let ended : nat_lt (k + 2) (8 * c.from-capacity.result) ≡ nat_lt (suc (suc k)) (8 * c.args.header.now.length) = λ i. nat_lt (next i) (room i) in
-    let live : is_live (get_or slots k []) ≡ c.is_live.result = sym (ap is_live c.entry-own.ensures) ∙ sym c.is_live.ensures in
-    taken_after capacity slots k c.requires.slot c.requires.redo moved ended c.is_live.result live (entry_bytes c.args.entry)
-    ∙ ap (λ (m : Option Moved). put_in k m (entry_bytes c.args.entry) slots) (sym (c.then_some-moved.ensures ∙ ap (then_some c.is_live.result) c.of.ensures.moved))
+use Rattle.lif_plan.proofs.directory.Directory.place.Goals.{Then-is_live, Else-is_live}
 
 pub entry-own-requires : goal.entry-own-requires
 entry-own-requires c =
-    let slots : List (List ℕ) = map slot_bytes c.args.self.now.table.slots in
+    let slots = map slot_bytes c.args.self.now.table.slots in
     omega (arith, within_slots (8 * c.args.header.now.length) slots c.args.slot c.requires.slot c.requires.redo, length-map c.args.self.now.table.slots slot_bytes)
 
-pub of-requires : goal.of-requires
-of-requires c =
-    let slots : List (List ℕ) = map slot_bytes c.args.self.now.table.slots in
-    ap is_end c.entry-own.ensures ∙ c.requires.shape.kinds c.args.slot (within_slots (8 * c.args.header.now.length) slots c.args.slot c.requires.slot c.requires.redo)
+own : (c : Then-is_live) → Takes (8 * c.args.header.now.length) (map slot_bytes c.args.self.now.table.slots)
+    (record { version = c.args.version; slot = c.args.slot; entry = c.args.entry; next = c.then_some.result; ended = nat_lt (c.args.slot + 2) (8 * c.from-capacity.result) })
+own c =
+    let room : 8 * c.from-capacity.result ≡ 8 * c.args.header.now.length = omega (arith, c.from-capacity.ensures, c.length.ensures) in
+    let behind : c.args.slot + 2 ≡ suc (suc c.args.slot) = omega arith in
+    let live : is_live (entry_bytes c.entry-own.result.now) ≡ true = sym c.is_live-2.ensures ∙ c.if-is_live.true in
+    rw (c.then_some.ensures ∙ ap (λ (b : Bool). then_some b c.entry-own.result.now) (c.is_live.ensures ∙ live))
+    (takes_own (8 * c.args.header.now.length) (map slot_bytes c.args.self.now.table.slots) c.args.slot c.requires.slot c.requires.redo c.requires.shape c.args.version c.args.entry c.requires.kind
+    c.entry-own.result.now (nat_lt (c.args.slot + 2) (8 * c.from-capacity.result)) (sym (ap is_live c.entry-own.ensures) ∙ live) (search rules) c.entry-own.ensures (λ i. nat_lt (behind i) (room i)))
+
+purged : (c : Else-is_live) → Takes (8 * c.args.header.now.length) (map slot_bytes c.args.self.now.table.slots)
+    (record { version = c.args.version; slot = c.args.slot; entry = c.args.entry; next = c.then_some.result; ended = c.is_live-2.result })
+purged c =
+    let dead : is_live (entry_bytes c.entry-own.result.now) ≡ false = sym c.is_live-2.ensures ∙ c.if-is_live.false in
+    rw (c.then_some.ensures ∙ ap (λ (b : Bool). then_some b c.entry-own.result.now) (c.is_live.ensures ∙ dead)) (rw c.if-is_live.false
+    (takes_purged (8 * c.args.header.now.length) (map slot_bytes c.args.self.now.table.slots) c.args.slot c.requires.slot c.requires.redo c.requires.shape c.args.version c.args.entry c.requires.kind
+    (sym (ap is_live c.entry-own.ensures) ∙ dead)))
+
+pub returns-then-is_live-clause-fits : goal.returns-then-is_live-clause-fits
+returns-then-is_live-clause-fits c = (own c).fits
+
+pub returns-then-is_live-clause-writes : goal.returns-then-is_live-clause-writes
+returns-then-is_live-clause-writes c = λ v u. (own c).writes v u c.args.header.now.start
+
+pub returns-then-is_live-clause-after : goal.returns-then-is_live-clause-after
+returns-then-is_live-clause-after c = (own c).after
+
+pub returns-else-is_live-clause-fits : goal.returns-else-is_live-clause-fits
+returns-else-is_live-clause-fits c = (purged c).fits
+
+pub returns-else-is_live-clause-writes : goal.returns-else-is_live-clause-writes
+returns-else-is_live-clause-writes c = λ v u. (purged c).writes v u c.args.header.now.start
+
+pub returns-else-is_live-clause-after : goal.returns-else-is_live-clause-after
+returns-else-is_live-clause-after c = (purged c).after

@@ -1,0 +1,2 @@
+mod Staging
+mod Examples

@@ -1,0 +1,338 @@
+-- The records that are set aside for a commit, as slots are put into them.
+use Rattle.std.proofs.Common.{◌≡◌, ◌≢◌, ◌<◌, ◌≤◌, ◌+◌, ◌-◌, ◌*◌, ◌%◌, ◌++◌, ◌==◌, ℕ, zero, suc, List, [], ◌∷◌, Bool, true, false, if◌then◌else◌, Option, Some, inl, length, get_or, set, map, replicate, refl, sym, ap, subst, ◌∙◌, append-nil, arith}
+use Rattle.std.proofs.lemmas.Bool.{ne_eqb}
+use Rattle.std.specs.Prelude.{None, IfSome, Result, Ok, Err, OnOk}
+use Rattle.std.proofs.lemmas.List.{length-map, length-replicate, get_or_push}
+use Rattle.std.proofs.Math.Seq.{set-append_seam}
+use Rattle.lif_model.specs.Tape.{Tape, IsTape, record_at}
+use Rattle.lif_model.specs.Directory.{entry_at}
+use Rattle.lif_model.specs.Made.{with_type}
+use Rattle.lif_model.specs.declared.version.Version.{Version}
+use Rattle.lif_model.specs.declared.version.Version.TheVariants.{One, Two}
+use Rattle.lif_model.specs.Redo.{most_targets, redo_start, are_targets, Changes, targets_in}
+use Rattle.lif_model.specs.Commit.{AreChanges, SettlesBelow}
+use Rattle.lif_model.specs.Redo.{IsSettled}
+use Rattle.lif_model.specs.Writing.{with_entry, slot_record, entry_from, SlotWrites, with_slots, touched, changes_by}
+use Rattle.lif_model.proofs.Writing.{AreEntries, AreOther, last_written, touches_two, changes_are, targets_are, slot_written, slots_elsewhere, others_untouched}
+use Rattle.lif_model.proofs.Growing.{changes_again, changes_new}
+use Rattle.lif_model.specs.Gate.{has_open_gate}
+use Rattle.lif_model.specs.Commit.{IsCommitted, IsOldOrNew, commit_writes}
+use Rattle.lif_model.proofs.Moments.{after_still}
+use Rattle.il_ports.specs.declared.records.Trouble.{Trouble}
+use Rattle.il_ports.specs.Stores.{RecordsView, GoesOn, IsQuiet, IsStore, RunLeaves}
+use Rattle.il_ports.proofs.Stores.{goes_within, quiet_run}
+use Rattle.lif_redo.specs.Writing.{AddsWrites}
+use Rattle.lif_redo.proofs.Writes.{then_writes, same_writes}
+use Rattle.lif_dir.specs.Entries.{entry_bytes}
+use Rattle.lif_dir.specs.declared.change.Change.{Change}
+use Rattle.lif_dir.specs.declared.entries.FileEntry.{FileEntry}
+use Rattle.lif_dir.specs.Changes.{after_next, slot_after, next_write, end_write, entry_writes, change_writes}
+use Rattle.lif_commit.specs.Staged.{BroughtIn, there, read, IsStagedAs, AreOthers, LiesBelow, LiesBelowRedo, CommitsSlots}
+
+pub targets_count : (cs : Changes) → length (targets_in cs) ≡ length cs
+targets_count cs = length-map cs (λ c. c.0)
+
+number_at : (cs : Changes) (p : ℕ) → p < length cs → get_or (targets_in cs) p 0 ≡ (get_or cs p (0, [])).0
+number_at [] p lt = absurd (omega (arith, lt))
+number_at (c ∷ cs) zero lt = refl
+number_at (c ∷ cs) (suc p) lt = number_at cs p (omega (arith, lt))
+
+targets_set : (cs : Changes) (p : ℕ) (c : ℕ × List ℕ) → (get_or cs p (0, [])).0 ≡ c.0 → targets_in (set cs p c) ≡ targets_in cs
+targets_set [] p c same = refl
+targets_set (b ∷ cs) zero c same = λ i. sym same i ∷ targets_in cs
+targets_set (b ∷ cs) (suc p) c same = ap (λ (ks : List ℕ). b.0 ∷ ks) (targets_set cs p c same)
+
+targets_push : (cs : Changes) (c : ℕ × List ℕ) → targets_in (cs ++ c ∷ []) ≡ targets_in cs ++ c.0 ∷ []
+targets_push [] c = refl
+targets_push (b ∷ cs) c = ap (λ (ks : List ℕ). b.0 ∷ ks) (targets_push cs c)
+
+-- ---- which records they are
+
+module _ (start : ℕ) (ws : SlotWrites) (w : ℕ × List ℕ) (cs : Changes) (same : targets_in cs ≡ touched start ws) where
+  abbrev r : ℕ
+  r = slot_record start w.0
+
+  -- any tape that has the record
+  abbrev some : Tape
+  some = replicate (suc r) []
+
+  within : r < length some
+  within = omega (arith, length-replicate {A = List ℕ} (suc r) [])
+
+  on_some : targets_in (changes_by start ws some) ≡ targets_in cs
+  on_some = targets_are (touched start ws) (with_slots start ws some) ∙ sym same
+
+  count : length (changes_by start ws some) ≡ length cs
+  count = sym (targets_count (changes_by start ws some)) ∙ ap length on_some ∙ targets_count cs
+
+  number_same : (p : ℕ) → p < length cs → (get_or (changes_by start ws some) p (0, [])).0 ≡ (get_or cs p (0, [])).0
+  number_same p lt = sym (number_at (changes_by start ws some) p (omega (arith, lt, count))) ∙ ap (λ (ks : List ℕ). get_or ks p 0) on_some ∙ number_at cs p lt
+
+  after_is : targets_in (changes_by start (ws ++ w ∷ []) some) ≡ touched start (ws ++ w ∷ [])
+  after_is = targets_are (touched start (ws ++ w ∷ [])) (with_slots start (ws ++ w ∷ []) some)
+
+  again : (p : ℕ) → p < length cs → (get_or cs p (0, [])).0 ≡ r → targets_in cs ≡ touched start (ws ++ w ∷ [])
+  again p lt at =
+      let here : (get_or (changes_by start ws some) p (0, [])).0 ≡ r = number_same p lt ∙ at in
+      sym (sym after_is ∙ ap targets_in (changes_again start ws w some within p (omega (arith, lt, count)) here)
+      ∙ targets_set (changes_by start ws some) p (r, with_entry (get_or (changes_by start ws some) p (0, [])).1 (w.0 % 8) w.1) here ∙ on_some)
+
+  one_more : ((p : ℕ) → p < length cs → (get_or cs p (0, [])).0 ≢ r) → targets_in cs ++ r ∷ [] ≡ touched start (ws ++ w ∷ [])
+  one_more off =
+      sym (sym after_is ∙ ap targets_in (changes_new start ws w some within (λ p lt e. off p (omega (arith, lt, count)) (sym (number_same p (omega (arith, lt, count))) ∙ e)))
+      ∙ targets_push (changes_by start ws some) (r, with_entry (record_at some r) (w.0 % 8) w.1) ∙ ap (λ (ks : List ℕ). ks ++ r ∷ []) on_some)
+
+-- ---- a slot that is put into them
+
+module _ (start slot : ℕ) (tape : Option Tape) (writes : Tape → SlotWrites) (e : Tape → List ℕ) (old : Changes)
+    (staged : IsStagedAs start tape writes old) (within : (t : Tape) → tape ≡ Some t → slot_record start slot < length t) where
+  abbrev row : ℕ
+  row = slot_record start slot
+
+  put_there : (place : ℕ) (entry : List ℕ) → ((t : Tape) → tape ≡ Some t → entry ≡ e t) → place < length old → (get_or old place (0, [])).0 ≡ row
+      → IsStagedAs start tape (λ x. writes x ++ (slot, e x) ∷ []) (set old place (row, with_entry (get_or old place (0, [])).1 (slot % 8) entry))
+  put_there place entry is lt at = record {
+    targets = λ x. targets_set old place (row, with_entry (get_or old place (0, [])).1 (slot % 8) entry) at ∙ again start (writes x) (slot, e x) old (staged.targets x) place lt at;
+    contents = λ t told.
+        let now : old ≡ changes_by start (writes t) t = staged.contents t told in
+        (λ i. set (now i) place (row, with_entry (get_or (now i) place (0, [])).1 (slot % 8) (is t told i)))
+        ∙ sym (changes_again start (writes t) (slot, e t) t (within t told) place (omega (arith, lt, ap length now)) (sym (ap (λ (cs : Changes). (get_or cs place (0, [])).0) now) ∙ at));
+  }
+
+  put_new : (bytes entry : List ℕ) → ((t : Tape) → tape ≡ Some t → entry ≡ e t) → ((p : ℕ) → p < length old → (get_or old p (0, [])).0 ≢ row)
+      → ((t : Tape) → tape ≡ Some t → bytes ≡ record_at t row)
+      → IsStagedAs start tape (λ x. writes x ++ (slot, e x) ∷ []) (old ++ (row, with_entry bytes (slot % 8) entry) ∷ [])
+  put_new bytes entry is off read_as = record {
+    targets = λ x. targets_push old (row, with_entry bytes (slot % 8) entry) ∙ one_more start (writes x) (slot, e x) old (staged.targets x) off;
+    contents = λ t told.
+        let now : old ≡ changes_by start (writes t) t = staged.contents t told in
+        (λ i. now i ++ (row, with_entry (read_as t told i) (slot % 8) (is t told i)) ∷ [])
+        ∙ sym (changes_new start (writes t) (slot, e t) t (within t told) (λ p lt at. off p (omega (arith, lt, ap length now)) (ap (λ (cs : Changes). (get_or cs p (0, [])).0) now ∙ at)));
+  }
+
+  pub put_brought : (place : ℕ) (mid new : Changes) (entry : List ℕ) → BroughtIn row place tape old mid
+      → ((t : Tape) → tape ≡ Some t → entry ≡ e t)
+      → new ≡ set mid place ((get_or mid place (0, [])).0, with_entry (get_or mid place (0, [])).1 (slot % 8) entry)
+      → IsStagedAs start tape (λ x. writes x ++ (slot, e x) ∷ []) new
+  put_brought place mid new entry (there lt at same) is new_is =
+      subst (IsStagedAs start tape (λ x. writes x ++ (slot, e x) ∷ []))
+      (sym (new_is ∙ (λ i. set (same i) place ((get_or (same i) place (0, [])).0, with_entry (get_or (same i) place (0, [])).1 (slot % 8) entry))
+      ∙ ap (λ (k : ℕ). set old place (k, with_entry (get_or old place (0, [])).1 (slot % 8) entry)) at))
+      (put_there place entry is lt at)
+  put_brought place mid new entry (read off last bytes same read_as) is new_is =
+      let here : get_or mid place (0, []) ≡ (row, bytes) = (λ i. get_or (same i) (last i) (0, [])) ∙ get_or_push old (row, bytes) (0, []) (length old) refl in
+      subst (IsStagedAs start tape (λ x. writes x ++ (slot, e x) ∷ []))
+      (sym (new_is ∙ (λ i. set (same i) (last i) ((here i).0, with_entry (here i).1 (slot % 8) entry))
+      ∙ set-append_seam old (row, bytes) [] (row, with_entry bytes (slot % 8) entry)))
+      (put_new bytes entry is off read_as)
+
+  -- the record that was brought in is that of the tape with the slots so far
+  others_from : (ks : List ℕ) (k : ℕ) → ((p : ℕ) → p < length ks → get_or ks p 0 ≢ k) → AreOther ks k
+  others_from [] k off = tt
+  others_from (j ∷ js) k off = ((λ e. off 0 (omega arith) (sym e)), others_from js k (λ p lt. off (suc p) (omega (arith, lt))))
+
+  pub brought_record : (place : ℕ) (mid : Changes) → BroughtIn row place tape old mid → (t : Tape) → tape ≡ Some t
+      → (get_or mid place (0, [])).1 ≡ record_at (with_slots start (writes t) t) row
+  brought_record place mid (there lt at same) t told =
+      let now : old ≡ changes_by start (writes t) t = staged.contents t told in
+      let less : place < length (touched start (writes t)) = omega (arith, lt, ap length (staged.targets t), targets_count old) in
+      let number : get_or (touched start (writes t)) place 0 ≡ row = sym (ap (λ (ks : List ℕ). get_or ks place 0) (staged.targets t)) ∙ number_at old place lt ∙ at in
+      ap (λ (cs : Changes). (get_or cs place (0, [])).1) (same ∙ now) ∙ content_at (touched start (writes t)) place (with_slots start (writes t) t) less ∙ ap (record_at (with_slots start (writes t) t)) number
+    where
+      content_at : (ks : List ℕ) (p : ℕ) (y : Tape) → p < length ks → (get_or (map {A = ℕ} {B = ℕ × List ℕ} (λ k. (k, record_at y k)) ks) p (0, [])).1 ≡ record_at y (get_or ks p 0)
+      content_at [] p y lt = absurd (omega (arith, lt))
+      content_at (k ∷ ks) zero y lt = refl
+      content_at (k ∷ ks) (suc p) y lt = content_at ks p y (omega (arith, lt))
+  brought_record place mid (read off last bytes same read_as) t told =
+      let here : get_or mid place (0, []) ≡ (row, bytes) = (λ i. get_or (same i) (last i) (0, [])) ∙ get_or_push old (row, bytes) (0, []) (length old) refl in
+      let others : AreOther (touched start (writes t)) row = others_from (touched start (writes t)) row (λ p lt at.
+      let less : p < length old = omega (arith, lt, ap length (staged.targets t), targets_count old) in
+      off p less (sym (number_at old p less) ∙ ap (λ (ks : List ℕ). get_or ks p 0) (staged.targets t) ∙ at)) in
+      ap (λ (c : ℕ × List ℕ). c.1) here ∙ read_as t told ∙ sym (slots_elsewhere start (writes t) t row (others_untouched start (writes t) row others))
+
+-- ---- a slot that was not written
+
+entries_of_others : (room k : ℕ) (ws : SlotWrites) → AreOthers room k ws → AreEntries room ws
+entries_of_others room k [] are = tt
+entries_of_others room k (w ∷ ws) are = (are.0, are.2, entries_of_others room k ws are.3)
+
+last_of_others : (room k : ℕ) (ws : SlotWrites) (old : List ℕ) → AreOthers room k ws → last_written ws k old ≡ old
+last_of_others room k [] old are = refl
+last_of_others room k (w ∷ ws) old are =
+    last_of_others room k ws (if w.0 == k then w.1 else old) are.3 ∙ ap (λ (b : Bool). if b then w.1 else old) (ne_eqb w.0 k are.1)
+
+pub others_leave : (start n slot : ℕ) (ws : SlotWrites) (t : Tape) → IsTape n t → slot_record start slot < n → AreOthers (8 * (n - start)) slot ws
+    → entry_at (record_at (with_slots start ws t) (slot_record start slot)) (slot % 8) ≡ entry_from t start slot
+others_leave start n slot ws t is lt are =
+    slot_written start n (n - start) ws t slot is (omega (arith, lt)) (entries_of_others (8 * (n - start)) slot ws are) (omega (arith, lt))
+    ∙ last_of_others (8 * (n - start)) slot ws (entry_from t start slot) are
+
+-- an element that is there, whatever stands for those that are not
+pub value_at : (cs : Changes) (p : ℕ) (c : ℕ × List ℕ) → c ≡ get_or cs p c → p < length cs → c ≡ get_or cs p (0, [])
+value_at cs p c is lt = is ∙ there_is cs p lt
+  where
+    there_is : (cs : Changes) (p : ℕ) → p < length cs → get_or cs p c ≡ get_or cs p (0, [])
+    there_is [] p lt = absurd (omega (arith, lt))
+    there_is (b ∷ cs) zero lt = refl
+    there_is (b ∷ cs) (suc p) lt = there_is cs p (omega (arith, lt))
+
+-- ---- the slots of a change
+
+pub none_staged : (start : ℕ) (tape : Option Tape) (cs : Changes) → cs ≡ [] → IsStagedAs start tape (λ x. []) cs
+none_staged start tape cs none = record { targets = λ x. ap targets_in none; contents = λ t told. none }
+
+-- the same writes, by another form, on the same tape
+pub staged_as : (start : ℕ) (tape mid : Option Tape) (writes other : Tape → SlotWrites) (cs : Changes) → mid ≡ tape → ((x : Tape) → writes x ≡ other x)
+    → IsStagedAs start tape writes cs → IsStagedAs start mid other cs
+staged_as start tape mid writes other cs same path staged = record {
+  targets = λ x. staged.targets x ∙ ap (touched start) (path x);
+  contents = λ t told. staged.contents t (sym same ∙ told) ∙ ap (λ (ws : SlotWrites). changes_by start ws t) (path t);
+}
+
+pub entry_alone : (change : Change) (bytes : List ℕ) → bytes ≡ entry_bytes change.entry → change.next ≡ None → (change.slot, bytes) ∷ [] ≡ entry_writes change
+entry_alone change bytes is none = λ i. (change.slot, is i) ∷ next_write (suc change.slot) (sym none i)
+
+pub entry_and_next : (change : Change) (next : FileEntry) (bytes more : List ℕ) (k : ℕ) → bytes ≡ entry_bytes change.entry → more ≡ entry_bytes next → k ≡ suc change.slot
+    → change.next ≡ Some next → (change.slot, bytes) ∷ (k, more) ∷ [] ≡ entry_writes change
+entry_and_next change next bytes more k is more_is at some =
+    (λ i. (change.slot, is i) ∷ (at i, more_is i) ∷ []) ∙ (λ i. (change.slot, entry_bytes change.entry) ∷ next_write (suc change.slot) (sym some i))
+
+pub none_ended : (start : ℕ) (change : Change) (x : Tape) → change.ended ≡ false → entry_writes change ≡ change_writes start change x
+none_ended start change x off = sym (append-nil (entry_writes change)) ∙ (λ i. entry_writes change ++ end_write (sym off i) start (slot_after change) x)
+
+pub ended_too : (start k : ℕ) (change : Change) (x : Tape) → k ≡ slot_after change → change.ended ≡ true
+    → entry_writes change ++ (k, with_type 0xFFFF (entry_from x start k)) ∷ [] ≡ change_writes start change x
+ended_too start k change x at on = (λ i. entry_writes change ++ (at i, with_type 0xFFFF (entry_from x start (at i))) ∷ [])
+    ∙ (λ i. entry_writes change ++ end_write (sym on i) start (slot_after change) x)
+
+-- the end is put behind the entries
+pub entries_are_others : (start limit : ℕ) (change : Change) → LiesBelow start limit change → length (entry_bytes change.entry) ≡ 32 → IfSome change.next (λ e. length (entry_bytes e) ≡ 32)
+    → AreOthers (8 * (limit - start)) (slot_after change) (entry_writes change)
+entries_are_others start limit change below one two = by change.next below.next two
+  where
+    by : (next : Option FileEntry) → IfSome next (λ e. slot_record start (suc change.slot) < limit) → IfSome next (λ e. length (entry_bytes e) ≡ 32)
+        → AreOthers (8 * (limit - start)) (after_next change.slot next) ((change.slot, entry_bytes change.entry) ∷ next_write (suc change.slot) next)
+    by None lt more = (omega (arith, below.slot), (λ e. absurd (omega (arith, e))), one, tt)
+    by (Some e) lt more = (omega (arith, below.slot), (λ e. absurd (omega (arith, e))), one, (omega (arith, lt), (λ e. absurd (omega (arith, e))), more, tt))
+
+pub lies_below : (start limit more : ℕ) (change : Change) → limit ≤ more → LiesBelow start limit change → LiesBelow start more change
+lies_below start limit more change le below = record { slot = omega (arith, le, below.slot); next = by change.next below.next; end = λ on. omega (arith, le, below.end on) }
+  where
+    by : (next : Option FileEntry) → IfSome next (λ e. slot_record start (suc change.slot) < limit) → IfSome next (λ e. slot_record start (suc change.slot) < more)
+    by None lt = tt
+    by (Some e) lt = omega (arith, le, lt)
+
+-- ---- one commit takes them
+
+two_most : (version : Version) → 2 ≤ most_targets version
+two_most One = omega arith
+two_most Two = omega arith
+
+blank : List ℕ
+blank = replicate 32 0
+
+blank_size : length blank ≡ 32
+unfolding blank
+blank_size = refl
+
+module _ (version : Version) (n start slot : ℕ) (within : slot_record start slot < redo_start version n) where
+  -- which records are touched, the bytes do not say
+  abbrev Takes : SlotWrites → Type 0
+  Takes ws = (are_targets version n (touched start ws) ≡ true) × (length (touched start ws) ≤ 2)
+
+  by_entries : (ws : SlotWrites) → AreEntries (8 * (redo_start version n - start)) ws → 0 < length ws → length (touched start ws) ≤ 2 → Takes ws
+  by_entries ws are some few = (
+    sym (ap (λ (ks : List ℕ). are_targets version n ks) (targets_are (touched start ws) (with_slots start ws [])))
+        ∙ changes_are start (redo_start version n - start) ws are version n [] some (omega (arith, few, two_most version)) (omega (arith, within)),
+    few,
+  )
+
+  one : (e : List ℕ) → Takes ((slot, e) ∷ [])
+  one e = by_entries ((slot, blank) ∷ []) (omega (arith, within), blank_size, tt) (omega arith) (omega arith)
+
+  two : slot_record start (suc slot) < redo_start version n → (e f : List ℕ) → Takes ((slot, e) ∷ (suc slot, f) ∷ [])
+  two next e f = by_entries ((slot, blank) ∷ (suc slot, blank) ∷ []) (omega (arith, within), blank_size, (omega (arith, next), blank_size, tt)) (omega arith)
+      (touches_two start (slot_record start slot) ((slot, blank) ∷ (suc slot, blank) ∷ []) (omega arith, omega arith, (omega arith, omega arith, tt)))
+
+  three : slot_record start (suc (suc slot)) < redo_start version n → (e f g : List ℕ) → Takes ((slot, e) ∷ (suc slot, f) ∷ (suc (suc slot), g) ∷ [])
+  three last e f g =
+      let ws : SlotWrites = (slot, blank) ∷ (suc slot, blank) ∷ (suc (suc slot), blank) ∷ [] in
+      by_entries ws (omega (arith, last), blank_size, (omega (arith, last), blank_size, (omega (arith, last), blank_size, tt))) (omega arith)
+      (touches_two start (slot_record start slot) ws (omega arith, omega arith, (omega arith, omega arith, (omega arith, omega arith, tt))))
+
+  takes : (e : FileEntry) (next : Option FileEntry) (ended : Bool) → IfSome next (λ e. slot_record start (suc slot) < redo_start version n)
+      → (ended ≡ true → slot_record start (after_next slot next) < redo_start version n)
+      → Takes ((slot, entry_bytes e) ∷ (next_write (suc slot) next ++ end_write ended start (after_next slot next) []))
+  takes e None false next end = one (entry_bytes e)
+  takes e None true next end = two (end refl) (entry_bytes e) (with_type 0xFFFF (entry_from [] start (suc slot)))
+  takes e (Some more) false next end = two next (entry_bytes e) (entry_bytes more)
+  takes e (Some more) true next end = three (end refl) (entry_bytes e) (entry_bytes more) (with_type 0xFFFF (entry_from [] start (suc (suc slot))))
+
+pub change_takes : (n start : ℕ) (tape : Option Tape) (change : Change) (cs : Changes) → LiesBelowRedo n start change → IsStagedAs start tape (change_writes start change) cs
+    → AreChanges change.version n cs × (length cs ≤ 2)
+change_takes n start tape change cs below staged =
+    let both = takes change.version n start change.slot below.slot change.entry change.next change.ended below.next below.end in
+    (ap (are_targets change.version n) (staged.targets []) ∙ both.0, omega (arith, both.1, ap length (staged.targets []), targets_count cs))
+
+-- ---- before the commit
+
+pub settles_here : (version : Version) (t : Tape) → IsSettled t → SettlesBelow version t t
+settles_here version t settled = record { records = refl; same = λ k lt. ap (λ (s : Tape). record_at s k) settled }
+
+-- ---- one commit of slots
+
+-- they were set aside, and then committed
+module _ {S : Type 0} (version : Version) (start : ℕ) (slots : Tape → SlotWrites) (v m w : RecordsView S) (items now : Changes) (is : now ≡ items)
+    (size : m.record_count ≡ v.record_count) (quiet : IsQuiet v m) (staged : IsStagedAs start v.tape slots items) (reads : AddsWrites [] v.transferred m.transferred) where
+  are : (t : Tape) → v.tape ≡ Some t → now ≡ changes_by start (slots t) t
+  are t told = is ∙ staged.contents t told
+
+  pub slots_commit : (r : Result (Unit {0}) Trouble) → GoesOn 12 v w r
+      → OnOk r ((t : Tape) → m.tape ≡ Some t → (u : Tape) × (w.tape ≡ Some u) × IsCommitted version now t u)
+      → ((t : Tape) → m.tape ≡ Some t → RunLeaves m w (IsOldOrNew version now t))
+      → ((t : Tape) → m.tape ≡ Some t → (u : Tape) × (w.tape ≡ Some u) × IsOldOrNew version now t u)
+      → OnOk r ((was_open : Bool) × ((t : Tape) → m.tape ≡ Some t → was_open ≡ has_open_gate t) × AddsWrites (commit_writes version m.record_count was_open now) m.transferred w.transferred)
+      → CommitsSlots version start slots v w r
+  slots_commit r goes done moments after writes = record {
+    goes_on = goes;
+    done = stand r done;
+    any_moment = λ t told. after_still _ _ _ _ _ _ (IsOldOrNew version (changes_by start (slots t) t) t) quiet.moment quiet.since
+        (subst (λ (cs : Changes). RunLeaves m w (IsOldOrNew version cs t)) (are t told) (moments t (quiet.tape ∙ told)));
+    after = λ t told. let left = after t (quiet.tape ∙ told) in (left.0, left.1, subst (λ (cs : Changes). IsOldOrNew version cs t left.0) (are t told) left.2);
+    writes = adds r writes;
+  }
+    where
+      stand : (r : Result (Unit {0}) Trouble) → OnOk r ((t : Tape) → m.tape ≡ Some t → (u : Tape) × (w.tape ≡ Some u) × IsCommitted version now t u)
+          → OnOk r ((t : Tape) → v.tape ≡ Some t → (u : Tape) × (w.tape ≡ Some u) × IsCommitted version (changes_by start (slots t) t) t u)
+      stand (Ok x) done = λ t told. let left = done t (quiet.tape ∙ told) in (left.0, left.1, subst (λ (cs : Changes). IsCommitted version cs t left.0) (are t told) left.2)
+      stand (Err e) done = tt
+
+      adds : (r : Result (Unit {0}) Trouble) → OnOk r ((was_open : Bool) × ((t : Tape) → m.tape ≡ Some t → was_open ≡ has_open_gate t) × AddsWrites (commit_writes version m.record_count was_open now) m.transferred w.transferred)
+          → OnOk r ((t : Tape) → v.tape ≡ Some t → AddsWrites (commit_writes version v.record_count (has_open_gate t) (changes_by start (slots t) t)) v.transferred w.transferred)
+      adds (Ok x) given = λ t told.
+          same_writes ([] ++ commit_writes version m.record_count given.0 now) (commit_writes version v.record_count (has_open_gate t) (changes_by start (slots t) t)) v.transferred w.transferred
+          (λ i. commit_writes version (size i) (given.1 t (quiet.tape ∙ told) i) (are t told i)) (then_writes [] (commit_writes version m.record_count given.0 now) v.transferred m.transferred w.transferred reads given.2)
+      adds (Err e) given = tt
+
+-- the store failed while they were set aside
+pub slots_fail : {S : Type 0} (version : Version) (start : ℕ) (slots : Tape → SlotWrites) (v w : RecordsView S) (calls : ℕ) (e : Trouble) → calls ≤ 12 → IsStore v → ((t : Tape) → v.tape ≡ Some t → IsSettled t)
+    → IsQuiet v w → GoesOn {T = Unit {0}} calls v w (Err e) → CommitsSlots {T = Unit {0}} version start slots v w (Err e)
+slots_fail version start slots v w calls e few store settled quiet goes = record {
+  goes_on = goes_within calls 12 v w (Err e) few goes;
+  done = tt;
+  any_moment = λ t told. quiet_run v w (IsOldOrNew version (changes_by start (slots t) t) t) t store quiet told (inl (settles_here version t (settled t told)));
+  after = λ t told. (t, quiet.tape ∙ told, inl (settles_here version t (settled t told)));
+  writes = tt;
+}
+
+-- ---- how many calls
+
+-- where fewer calls were made than was known
+pub goes_fewer : {S T : Type 0} (j k : ℕ) (v w : RecordsView S) (r : Result T Trouble) → v.calls_left ≤ w.calls_left + k → GoesOn j v w r → GoesOn k v w r
+goes_fewer j k v w r left goes =
+    let c = goes.continues in
+    record {
+      continues = record { valid = c.valid; told = c.told; size = c.size; sound = c.sound; ready = c.ready; left = left; room = c.room; failed = c.failed; cause = c.cause };
+      stood = goes.stood;
+      resumed = goes.resumed;
+    }
