@@ -7,7 +7,7 @@ use Rattle.std.proofs.lemmas.Bool.{and_parts, and_right, eqb-true, ltb-true, le-
 use Rattle.std.proofs.lemmas.List.{append-nil}
 use Rattle.il_ports.specs.Stores.{IsStore, RecordsView}
 use Rattle.il_ports.specs.Transfers.{WritesOnly}
-use Rattle.lif_model.specs.Apply.{Fetch, Store, VolumeCommand, refusal_of}
+use Rattle.lif_model.specs.Apply.{Adopt, Dir, Fetch, Format, Label, Purge, Rename, Store, Upgrade, VolumeCommand, refusal_of}
 use Rattle.lif_model.specs.declared.refusal.Refusal.{Refusal}
 use Rattle.lif_model.specs.Commit.{IsSettleWrite, IsTarget, close_writes, commit_writes, content_writes, settle_writes}
 use Rattle.lif_model.specs.Directory.{slots_of, start_of}
@@ -16,7 +16,8 @@ use Rattle.lif_model.specs.Gate.{gate_of, has_open_gate}
 use Rattle.lif_model.specs.Header.{capacity_of, directory_end, directory_start}
 use Rattle.lif_model.specs.Legal.{slot_named}
 use Rattle.lif_model.specs.Made.{file_length, filled, new_entry, with_type}
-use Rattle.lif_model.specs.Redo.{Changes, Version, redo_length, redo_of, redo_start, settled, zeros}
+use Rattle.lif_model.specs.declared.version.Version.{Version}
+use Rattle.lif_model.specs.Redo.{Changes, redo_length, redo_of, redo_start, settled, zeros}
 use Rattle.lif_model.specs.Tape.{Tape}
 use Rattle.lif_model.specs.Transfers.{Transfer, are_carried_in, are_carried_out, is_overwritten_by, records_of}
 use Rattle.lif_model.specs.Volume.{IsVolume, Volume, is_adopted_with, volume_of}
@@ -28,12 +29,14 @@ use Rattle.lif_model.proofs.Made.{file_has_records, length_filled}
 use Rattle.lif_model.proofs.Outcomes.{target_slot}
 use Rattle.lif_model.proofs.Places.{place_below_redo}
 use Rattle.lif_model.proofs.Redo.{data_place, redo_places}
-use Rattle.lif_model.proofs.StoredFile.{storable}
+use Rattle.lif_model.proofs.StoredFile.{IsStorable, storable}
 use Rattle.lif_model.proofs.Transfers.{carries-first, carries-later, carries-nothing}
+use Rattle.lif_plan.specs.Plans.{version_for}
 use Rattle.lif_plan.proofs.Planning.{version_is_redo}
 use Rattle.lif_volume.specs.declared.volume.Fetched.{Fetched}
-use Rattle.lif_volume.specs.Commands.{AnswersTo, EndsWithRead, FetchedFile, FetchesByRun, FetchesFile, IsTold, WritesBySettling}
-use Rattle.lif_volume.specs.Storing.{AddsFile, MountsAndStores, WritesByRun, file_commit, file_when, place_when}
+use Rattle.lif_volume.specs.Commands.{EndsWithRead, FetchedFile, FetchesByRun, FetchesFile, IsTold, WritesBySettling}
+use Rattle.lif_volume.specs.Changing.{commit_when, file_runs, file_when, run_of, runs_at, writes_if_any}
+use Rattle.lif_volume.specs.Did.{Alters}
 use Rattle.lif_volume.specs.Views.{VolumeView}
 use Rattle.lif_volume.specs.declared.fault.VolumeFault.{VolumeFault}
 use Rattle.lif_volume.specs.declared.fault.VolumeFault.TheVariants.{Refused, Trouble as Troubled}
@@ -42,6 +45,7 @@ use Rattle.il_script.specs.declared.reply.Reply.TheVariants as reply
 use Rattle.host_model.specs.HostStates.{HostState, volume_at}
 use Rattle.il_host.proofs.VolumeCarries.{CarriesAs, FetchesFrom, StoresTo, none_carried}
 use Rattle.il_host.proofs.VolumeReplied.{IsSeenAs}
+use Rattle.il_host.proofs.HostVolumes.{TellsNothing}
 
 -- ---- one transfer
 
@@ -130,6 +134,11 @@ each_then P (c ∷ cs) b one two = (one.0, each_then P cs b one.1 two)
 each_target : (P : ℕ → Type 0) (cs : Changes) → ((k : ℕ) → IsTarget cs k → P k) → EachRecord P cs
 each_target P [] all = tt
 each_target P (c ∷ cs) all = (all c.0 (inl refl), each_target P cs (λ k target. all k (inr target)))
+
+-- those of a commit, or none
+each_if_any : (P : ℕ → Type 0) (version : Version) (n : ℕ) (was_open : Bool) (cs : Changes) → EachRecord P (commit_writes version n was_open cs) → EachRecord P (writes_if_any version n was_open cs)
+each_if_any P version n was_open [] each = tt
+each_if_any P version n was_open (c ∷ cs) each = each
 
 -- A commit writes records of the redo file and its targets.
 module _ (P : ℕ → Type 0) (version : Version) (n : ℕ) (long : redo_length version < n) (behind : (k : ℕ) → redo_start version n ≤ k → P k) where
@@ -235,21 +244,19 @@ module _ {among : List Transfer → Changes} {single : List Transfer → Type 0}
       go false each size rest = rest each
 
   -- The list goes on by some transfers, by the run, and by those whose writes are of other records: it carries the bytes out.
-  run_carried : (P : ℕ → Type 0) (ws : Changes) (old new : List Transfer → Type 0) → EachRecord (IsOff start count) ws
-      → ((list : List Transfer) → old list → (first more : List Transfer) × new (list ++ (first ++ run ∷ more)) × WritesOnly P first × (among more ≡ ws) × single more)
+  run_carried : (P : ℕ → Type 0) (ws : Changes) (runs : List Transfer) (old new : List Transfer → Type 0) → EachRecord (IsOff start count) ws → runs ≡ run ∷ []
+      → ((list : List Transfer) → old list → (first more : List Transfer) × new (list ++ (first ++ (runs ++ more))) × WritesOnly P first × (among more ≡ ws) × single more)
       → old [] → (list : List Transfer) × new list × (are_carried_out list start bytes ≡ true)
-  run_carried P ws old new off goes_on begun =
+  run_carried P ws runs old new off one goes_on begun =
       let is = goes_on [] begun in
-      (is.0 ++ run ∷ is.1, is.2, written_carried_out is.0 is.1 start bytes (none_over is.1 is.5 (subst (EachRecord (IsOff start count)) (sym is.4) off)))
+      (is.0 ++ run ∷ is.1, subst (λ (rs : List Transfer). new (is.0 ++ (rs ++ is.1))) one is.2, written_carried_out is.0 is.1 start bytes (none_over is.1 is.5 (subst (EachRecord (IsOff start count)) (sym is.4) off)))
 
 told_still : (old new : Option Tape) (t : Tape) → is_some new ≡ is_some old → old ≡ Some t → (u : Tape) × (new ≡ Some u)
 told_still old (Some u) t same told = (u, refl)
 told_still old None t same told = let both : false ≡ true = same ∙ ap is_some told in cc
 
 module _ {R S : Type 0} (view : R → RecordsView S) (old new : VolumeView R) (s : HostState) (seen : IsSeenAs s (view old.records)) (begun : (view old.records).transferred []) (store : IsStore (view old.records))
-    (name : List ℕ) (kind : ℕ) (implementation bytes : List ℕ) {T : Type 0} (x : T)
-    (commits : MountsAndStores {T = T} bytes view old new (Ok x)) (answers : AnswersTo {T = T} (Store name kind implementation bytes) view old new (Ok x))
-    (runs : WritesByRun {T = T} (Store name kind implementation bytes) bytes view old new (Ok x)) where
+    (name : List ℕ) (kind : ℕ) (implementation bytes : List ℕ) {T : Type 0} (x : T) (alters : Alters {T = T} (Store name kind implementation bytes) view old new (Ok x)) where
   abbrev n : ℕ
   n = (view old.records).record_count
 
@@ -260,33 +267,32 @@ module _ {R S : Type 0} (view : R → RecordsView S) (old new : VolumeView R) (s
     volume : IsVolume n v
     volume = volume_in_is n (settled t) v (settled_shape n t (store.is_tape t told)) of_tape
 
-    -- the command is not refused
-    free : refusal_of n command (Some v) ≡ None
-    free =
-        let behind = told_still (view old.records).tape (view new.records).tape t commits.goes_on.continues.told told in
-        ap (refusal_of n command) (sym of_tape) ∙ ap (λ (p : Option Refusal × Option Volume). p.0) (answers t behind.0 told behind.1)
+    -- the command is not refused, so there is a place
+    can : IsStorable n v name bytes
+    can =
+        let behind = told_still (view old.records).tape (view new.records).tape t alters.goes_on.continues.told told in
+        storable n v name kind implementation bytes
+        (ap (refusal_of n command) (sym of_tape) ∙ ap (λ (p : Option Refusal × Option Volume). p.0) (alters.answers t behind.0 told behind.1))
 
     version : (version : Version) × (is_adopted_with n version v.slots ≡ true)
-    version = adopted_version n v.slots (storable n v name kind implementation bytes free).adopted
+    version = adopted_version n v.slots can.adopted
 
-    added : AddsFile (IsSettleWrite n (redo_of t)) n command bytes (volume_of t) (settled t) (view old.records).transferred (view new.records).transferred
-    added = runs t told
+    runs_are : file_runs n command (volume_of t) ≡ run_of can.first bytes ∷ []
+    runs_are = ap (file_runs n command) of_tape ∙ ap (λ (p : Place). runs_at p bytes) can.chosen
 
-    chosen : fit_in n v (file_length bytes) ≡ At added.slot added.start
-    chosen = ap (place_when n command) (sym of_tape) ∙ added.chosen
-
-    off : EachRecord (IsOff added.start (file_length bytes)) (file_commit n command (volume_of t) (settled t))
+    off : EachRecord (IsOff can.first (file_length bytes)) (commit_when n command (volume_of t) (settled t))
     off =
         let filed : Tape = file_when n command (Some v) (settled t) in
-        subst (λ (o : Option Volume). EachRecord (IsOff added.start (file_length bytes)) (file_commit n command o (settled t))) (sym of_tape)
-        (subst (λ (w : Version). EachRecord (IsOff added.start (file_length bytes)) (commit_writes w n (has_open_gate filed) (changes_of n command v filed))) (sym (version_is_redo n version.0 v volume version.1))
-        (commit_is_off n v version.0 name kind implementation bytes added.slot added.start volume version.1 chosen (has_open_gate filed) filed))
+        subst (λ (o : Option Volume). EachRecord (IsOff can.first (file_length bytes)) (commit_when n command o (settled t))) (sym of_tape)
+        (each_if_any (IsOff can.first (file_length bytes)) (version_for n command (Some v)) n (has_open_gate filed) (changes_of n command v filed)
+        (subst (λ (w : Version). EachRecord (IsOff can.first (file_length bytes)) (commit_writes w n (has_open_gate filed) (changes_of n command v filed))) (sym (version_is_redo n version.0 v volume version.1))
+        (commit_is_off n v version.0 name kind implementation bytes can.slot can.first volume version.1 can.chosen (has_open_gate filed) filed)))
 
     stores : (list : List Transfer) × (view new.records).transferred list × StoresTo (fit_in n v (file_length bytes)) bytes list
     stores =
-        let carried = run_carried (λ t ts. refl) (λ t ts one. one) added.start (file_length bytes) (filled bytes) (length_filled bytes) (IsSettleWrite n (redo_of t)) (file_commit n command (volume_of t) (settled t))
-        (view old.records).transferred (view new.records).transferred off added.goes_on begun in
-        (carried.0, carried.1, record { slot = added.slot; start = added.start; at = chosen; carried = carried.2 })
+        let carried = run_carried (λ t ts. refl) (λ t ts one. one) can.first (file_length bytes) (filled bytes) (length_filled bytes) (IsSettleWrite n (redo_of t)) (commit_when n command (volume_of t) (settled t))
+        (file_runs n command (volume_of t)) (view old.records).transferred (view new.records).transferred off runs_are (alters.transfers t told).goes_on begun in
+        (carried.0, carried.1, record { slot = can.slot; start = can.first; at = can.chosen; carried = carried.2 })
 
   -- With ok, the reads and writes of a store carry the bytes of its file out to its place.
   pub store_carried : CarriesAs (Store name kind implementation bytes) reply.Ok s.records (volume_at s) (view new.records).transferred
@@ -300,11 +306,18 @@ module _ {R S : Type 0} (view : R → RecordsView S) (old new : VolumeView R) (s
       by None none = subst (λ (v : Option Volume). CarriesAs (Store name kind implementation bytes) reply.Ok s.records v (view new.records).transferred) (sym (volume_seen view old new s seen begun None none)) tt
       by (Some t) told = subst (λ (v : Option Volume). CarriesAs (Store name kind implementation bytes) reply.Ok s.records v (view new.records).transferred) (sym (volume_seen view old new s seen begun (Some t) told)) (on t told (volume_of t) refl)
 
--- With any other answer nothing is asked.
-pub store_answered : {R S : Type 0} (view : R → RecordsView S) (old new : VolumeView R) (s : HostState) → IsSeenAs s (view old.records) → (view old.records).transferred [] → IsStore (view old.records)
-    → (name : List ℕ) (kind : ℕ) (implementation bytes : List ℕ) {T : Type 0} (answer : Result T VolumeFault)
-    → MountsAndStores bytes view old new answer → AnswersTo (Store name kind implementation bytes) view old new answer → WritesByRun (Store name kind implementation bytes) bytes view old new answer
-    → CarriesAs (Store name kind implementation bytes) (volume_reply answer) s.records (volume_at s) (view new.records).transferred
-store_answered view old new s seen begun store name kind implementation bytes (Ok x) commits answers runs = store_carried view old new s seen begun store name kind implementation bytes x commits answers runs
-store_answered view old new s seen begun store name kind implementation bytes (Err (Refused why)) commits answers runs = tt
-store_answered view old new s seen begun store name kind implementation bytes (Err (Troubled e)) commits answers runs = none_carried (Store name kind implementation bytes) e s.records (volume_at s) (view new.records).transferred
+-- of any answer, and of the commands that carry no bytes of a file
+pub alters_carried : {R S : Type 0} (view : R → RecordsView S) (old new : VolumeView R) (s : HostState) → IsSeenAs s (view old.records) → (view old.records).transferred [] → IsStore (view old.records)
+    → (command : VolumeCommand) → TellsNothing command → {T : Type 0} (answer : Result T VolumeFault) → Alters command view old new answer
+    → CarriesAs command (volume_reply answer) s.records (volume_at s) (view new.records).transferred
+alters_carried view old new s seen begun store Dir nothing answer alters = tt
+alters_carried view old new s seen begun store Label nothing answer alters = tt
+alters_carried view old new s seen begun store (Fetch name) nothing answer alters = absurd nothing
+alters_carried view old new s seen begun store (Store name kind implementation bytes) nothing (Ok x) alters = store_carried view old new s seen begun store name kind implementation bytes x alters
+alters_carried view old new s seen begun store (Store name kind implementation bytes) nothing (Err (Refused why)) alters = tt
+alters_carried view old new s seen begun store (Store name kind implementation bytes) nothing (Err (Troubled e)) alters = none_carried (Store name kind implementation bytes) e _ _ _
+alters_carried view old new s seen begun store (Rename before later) nothing answer alters = tt
+alters_carried view old new s seen begun store (Purge name) nothing answer alters = tt
+alters_carried view old new s seen begun store Adopt nothing answer alters = tt
+alters_carried view old new s seen begun store Upgrade nothing answer alters = tt
+alters_carried view old new s seen begun store (Format label slots) nothing answer alters = tt

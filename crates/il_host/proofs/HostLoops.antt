@@ -4,6 +4,7 @@ use Rattle.std.specs.Prelude.{Result, Ok, Err, Bool, true, [], ◌∷◌, find, 
 use Rattle.std.specs.List.{All, position}
 use Rattle.std.proofs.lemmas.List.Elements.{All-head, All-tail}
 use Rattle.il_device.specs.State.{DeviceState}
+use Rattle.loop_model.specs.Polls.{polled_along}
 use Rattle.il_host.specs.Shorts.{IsShort}
 use Rattle.lif_model.proofs.Sizes.{size_bounds}
 use Rattle.il_frames.specs.declared.frame.Frame.{Frame}
@@ -24,7 +25,7 @@ use Rattle.il_record.specs.Controls.{ring_in}
 use Rattle.il_record.specs.IsStore.{is_store_at}
 use Rattle.il_record.specs.LoopCalls.{AllNamed, LeftAlone, NotSaid, Said, id_asks}
 use Rattle.il_record.specs.LoopStores.{Addresses, AtIdle, AtLost, HasRing, LoopView, Nowhere, Standing, view_at, view_of}
-use Rattle.il_record.specs.Polls.{HasPolled, PollBroke, poll_asks, polled_along}
+use Rattle.il_record.specs.Polls.{HasPolled, PollBroke, poll_asks}
 use Rattle.il_record.specs.Runs.{NotPolled, Polled}
 use Rattle.il_record.proofs.StoreResumes.{agrees}
 use Rattle.il_script.specs.declared.reply.Reply.{Reply}

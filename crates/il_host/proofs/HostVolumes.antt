@@ -1,7 +1,9 @@
 -- A command of the volume, as a host performs it.
 use Rattle.std.proofs.Common.{◌≡◌, ◌∙◌, ◌≤◌, ◌+◌, ◌-◌, ◌*◌, ◌++◌, ℕ, true, List, length, [], Option, None, Some, refl, sym, ap, subst, arith}
-use Rattle.std.specs.Prelude.{Result, Ok, Err, IfSome, map}
-use Rattle.lif_dir.specs.Entries.{slot_bytes}
+use Rattle.std.specs.Prelude.{◌≢◌, Result, Ok, Err, IfSome, map}
+use Rattle.lif_dir.specs.declared.entries.Name.{Name}
+use Rattle.lif_dir.specs.Entries.{name_bytes, slot_bytes}
+use Rattle.lif_dir.specs.Names.{label_bytes, made_name}
 use Rattle.lif_model.proofs.Legal.{legal_tells}
 use Rattle.lif_model.proofs.Slots.{readable_tells}
 use Rattle.lif_model.specs.Header.{HeaderParts}
@@ -18,7 +20,7 @@ use Rattle.il_ports.specs.declared.records.Trouble.TheVariants as trouble
 use Rattle.lif_volume.specs.Views.{IsOpen, VolumeView}
 use Rattle.lif_volume.specs.Answers.{store_answer}
 use Rattle.lif_volume.specs.Commands.{AnswersTo, calls_needed, mounting}
-use Rattle.lif_volume.specs.Changing.{Alters, TurnsVolume, committing}
+use Rattle.lif_volume.specs.Changing.{TurnsVolume}
 use Rattle.lif_volume.specs.declared.fault.VolumeFault.{VolumeFault}
 use Rattle.lif_volume.specs.declared.fault.VolumeFault.TheVariants.{Refused, Trouble as Troubled}
 use Rattle.lif_volume.specs.declared.volume.Volume.{Volume}
@@ -31,19 +33,22 @@ use Rattle.il_record.specs.IsStore.{is_store_at}
 use Rattle.il_record.proofs.StoreResumes.{agrees}
 use Rattle.il_script.specs.declared.reply.Reply.{Reply}
 use Rattle.il_script.specs.declared.reply.Reply.TheVariants as reply
+use Rattle.il_script.specs.declared.command.Command.{Command}
+use Rattle.il_script.specs.declared.command.Command.TheVariants as command
 use Rattle.il_script.specs.Sheet.{Sheet}
 use Rattle.il_script.specs.Replies.{code_of, reply_line}
-use Rattle.host_model.specs.Requests.{Asks, Item, OfVolume, is_of_volume}
+use Rattle.host_model.specs.Requests.{Asks, Item, OfVolume, is_of_volume, request_of}
 use Rattle.host_model.specs.HostStates.{HostState, log_room, text_room, volume_at}
 use Rattle.host_model.specs.Replies.{reply_text, told_of}
 use Rattle.host_model.specs.Steps.{TellsReply}
 use Rattle.il_host.specs.HostView.{HostView, MakesFewCalls, Performed, calls_behind}
 use Rattle.il_host.specs.Hosts.{IsUsable, host_in, loop_in, store_in, volume_in}
+use Rattle.il_host.specs.PlainCommands.{ChangesVolume, IsOnVolume, OnVolume}
 use Rattle.il_host.specs.Shorts.{AllShort}
 use Rattle.il_host.proofs.Shorts.{all_short}
 use Rattle.il_host.specs.Standings.{Ends, HasDriveStatus, HasLogRoom, KeepsPage, MakesSound, fault_of, log_at, state_at, volume_reply}
 use Rattle.il_host.proofs.Texts.{ok_text}
-use Rattle.il_host.proofs.VolumeCarries.{CarriesAs, CarriesNone, carries_nothing, none_carried, not_carried}
+use Rattle.il_host.proofs.VolumeCarries.{CarriesAs, none_carried, not_carried}
 use Rattle.il_host.proofs.VolumeCommands.{KeepsRing}
 use Rattle.il_host.proofs.VolumePerforms.{Performs, volume_asked, volume_failed, volume_not_asked}
 use Rattle.il_host.proofs.VolumeStarts.{stands_at}
@@ -106,17 +111,6 @@ pub mounting_few : {R S : Type 0} (view : R → RecordsView S) (old new : Volume
     → mounting (view old.records).record_count old.kept new.kept ≤ most_calls (view old.records).record_count
 mounting_few view old new is same = omega (arith, mounts_few view old new is same, is.size, same)
 
--- of a directory that need not be kept
-pub mounts_any : (n : ℕ) (was : Option HeaderParts) → mounting n was None ≤ n + 66
-mounts_any n None = omega arith
-mounts_any n (Some header) = omega arith
-
--- so does a commit
-pub commits_few : {T : Type 0} (answer : Result T VolumeFault) → committing answer ≤ 12
-commits_few (Ok x) = omega arith
-commits_few (Err (Refused why)) = omega arith
-commits_few (Err (Troubled e)) = omega arith
-
 -- ---- the text of a reply other than ok
 
 pub fault_text : (item : Item) (s : HostState) (e : Trouble) → reply_text item s (fault_of e) ≡ reply_line (fault_of e)
@@ -147,6 +141,57 @@ nothing_told command volume s reply.Ok is nothing = ap (λ lines. lines ++ reply
 nothing_told command volume s (reply.No code) is nothing = refl
 nothing_told command volume s reply.FaultFrame is nothing = refl
 nothing_told command volume s reply.FaultMedium is nothing = refl
+
+-- ---- requests
+
+-- a command of the volume, as one that the volume performs
+pub volume_request : (c : Command) (bytes : List ℕ) → IsOnVolume c → (command : VolumeCommand) × (request_of c bytes ≡ OfVolume command)
+volume_request command.Dir bytes on = (Dir, refl)
+volume_request command.Label bytes on = (Label, refl)
+volume_request (command.Fetch name) bytes on = (Fetch (name_bytes name), refl)
+volume_request (command.Store name kind implementation) bytes on = (Store (name_bytes (made_name name)) kind implementation bytes, refl)
+volume_request (command.Rename old new) bytes on = (Rename (name_bytes old) (name_bytes (made_name new)), refl)
+volume_request (command.Purge name) bytes on = (Purge (name_bytes name), refl)
+volume_request (command.Format label slots) bytes on = (Format (label_bytes label) slots, refl)
+volume_request command.Adopt bytes on = (Adopt, refl)
+volume_request command.Devices bytes on = absurd on
+volume_request command.Status bytes on = absurd on
+volume_request command.Poll bytes on = absurd on
+volume_request command.Say bytes on = absurd on
+volume_request command.Paper bytes on = absurd on
+
+-- one that is none of the three that tell something changes the volume, and tells nothing
+pub changes_volume : (c : Command) → IsOnVolume c → c ≢ command.Dir → c ≢ command.Label → ((name : Name) → c ≢ command.Fetch name) → ChangesVolume c
+changes_volume command.Dir on no_dir no_label no_fetch = absurd (no_dir refl)
+changes_volume command.Label on no_dir no_label no_fetch = absurd (no_label refl)
+changes_volume (command.Fetch name) on no_dir no_label no_fetch = absurd (no_fetch name refl)
+changes_volume (command.Store name kind implementation) on no_dir no_label no_fetch = tt
+changes_volume (command.Rename old new) on no_dir no_label no_fetch = tt
+changes_volume (command.Purge name) on no_dir no_label no_fetch = tt
+changes_volume (command.Format label slots) on no_dir no_label no_fetch = tt
+changes_volume command.Adopt on no_dir no_label no_fetch = tt
+changes_volume command.Devices on no_dir no_label no_fetch = absurd on
+changes_volume command.Status on no_dir no_label no_fetch = absurd on
+changes_volume command.Poll on no_dir no_label no_fetch = absurd on
+changes_volume command.Say on no_dir no_label no_fetch = absurd on
+changes_volume command.Paper on no_dir no_label no_fetch = absurd on
+
+-- what is said of it
+pub on_volume : (P : VolumeCommand → Type 0) (c : Command) (bytes : List ℕ) → ChangesVolume c → OnVolume (request_of c bytes) P
+    → (command : VolumeCommand) × (request_of c bytes ≡ OfVolume command) × TellsNothing command × P command
+on_volume P command.Dir bytes changes has = absurd changes
+on_volume P command.Label bytes changes has = absurd changes
+on_volume P (command.Fetch name) bytes changes has = absurd changes
+on_volume P (command.Store name kind implementation) bytes changes has = (Store (name_bytes (made_name name)) kind implementation bytes, refl, tt, has)
+on_volume P (command.Rename old new) bytes changes has = (Rename (name_bytes old) (name_bytes (made_name new)), refl, tt, has)
+on_volume P (command.Purge name) bytes changes has = (Purge (name_bytes name), refl, tt, has)
+on_volume P (command.Format label slots) bytes changes has = (Format (label_bytes label) slots, refl, tt, has)
+on_volume P command.Adopt bytes changes has = (Adopt, refl, tt, has)
+on_volume P command.Devices bytes changes has = absurd changes
+on_volume P command.Status bytes changes has = absurd changes
+on_volume P command.Poll bytes changes has = absurd changes
+on_volume P command.Say bytes changes has = absurd changes
+on_volume P command.Paper bytes changes has = absurd changes
 
 -- ---- the page and the volume behind the last line
 
@@ -337,12 +382,3 @@ module _ {M I : Type 0} {D : I → Type 0} (view : M → MediumView) (seen : Rin
       changed answer calls before nothing few goes turns answers carries =
           asked answer calls before (reply_line (volume_reply answer)) few goes turns answers carries
           (λ told. sym (nothing_told command (volume_at (host_in view seen o before text_space file_space).state) (host_in view seen o before text_space file_space).state (volume_reply answer) refl nothing))
-
-      -- and so did one that makes a commit at most, and carries no bytes of a file
-      pub altered : {T : Type 0} (answer : Result T VolumeFault) (calls : ℕ) (before : List ℕ) → TellsNothing command → CarriesNone command → calls ≤ (store_in view seen m.records).record_count + 66
-          → Alters calls command (store_in view seen) (volume_in m) (volume_in n) answer
-          → TurnsVolume command (store_in view seen) (volume_in m) (volume_in n) → AnswersTo command (store_in view seen) (volume_in m) (volume_in n) answer
-          → Performed (Asks (OfVolume command)) (volume_reply answer) (host_in view seen o before text_space file_space) (host_in view seen n (reply_line (volume_reply answer)) text_space file_space)
-      altered answer calls before nothing none few alters turns answers =
-          changed answer (calls + committing answer) before nothing (omega (arith, few, commits_few answer, opens.size, alters.goes_on.continues.size)) alters.goes_on turns answers
-          (carries_nothing command (volume_reply answer) _ _ _ none)

@@ -43,6 +43,6 @@ pub mod PaperPerforms
 pub mod PlainCommands
 pub mod NewRings
 pub mod Wholes
-pub mod HostStores
+pub mod HostChanges
 pub mod HostReads
 pub mod HostLoops

@@ -78,24 +78,7 @@ CarriesAs (Store name kind implementation bytes) reply.Ok n (Some v) transferred
 CarriesAs (Fetch name) reply.Ok n (Some v) transferred = (list : List Transfer) × transferred list × FetchesFrom (slot_named v.slots name) (get v.files name) list
 CarriesAs command answer n volume transferred = Unit {0}
 
--- nothing is said of these
-abbrev pub CarriesNone : VolumeCommand → Type 0
-CarriesNone (Store name kind implementation bytes) = ⊥
-CarriesNone (Fetch name) = ⊥
-CarriesNone command = Unit {0}
-
-pub carries_nothing : (command : VolumeCommand) (answer : Reply) (n : ℕ) (volume : Option Volume) (transferred : List Transfer → Type 0) → CarriesNone command → CarriesAs command answer n volume transferred
-carries_nothing (Store name kind implementation bytes) answer n volume transferred none = absurd none
-carries_nothing (Fetch name) answer n volume transferred none = absurd none
-carries_nothing Dir answer n volume transferred none = tt
-carries_nothing Label answer n volume transferred none = tt
-carries_nothing (Rename old new) answer n volume transferred none = tt
-carries_nothing (Purge name) answer n volume transferred none = tt
-carries_nothing Adopt answer n volume transferred none = tt
-carries_nothing Upgrade answer n volume transferred none = tt
-carries_nothing (Format label slots) answer n volume transferred none = tt
-
--- nor of a store or fetch with another reply than ok
+-- nothing is said of a store or fetch with another reply than ok
 abbrev pub NotDone : Reply → Type 0
 NotDone reply.Ok = ⊥
 NotDone other = Unit {0}

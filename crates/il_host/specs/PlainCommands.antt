@@ -1,7 +1,9 @@
 -- Commands that a script can ask for.
 use Rattle.std.specs.Prelude.{◌≢◌, ◌<◌}
 use Rattle.il_script.specs.declared.command.Command.{Command}
-use Rattle.il_script.specs.declared.command.Command.TheVariants.{Store, Format}
+use Rattle.il_script.specs.declared.command.Command.TheVariants.{Store, Rename, Purge, Format, Adopt, Devices, Status, Poll, Say, Paper}
+use Rattle.lif_model.specs.Apply.{VolumeCommand}
+use Rattle.host_model.specs.Requests.{Request, OfVolume}
 use Rattle.il_host.specs.declared.running.Asked.{Asked}
 use Rattle.il_host.specs.declared.running.Asked.TheVariants as asked
 
@@ -15,3 +17,27 @@ IsPlain command = Unit {0}
 abbrev pub IsPlainAsked : Asked → Type 0
 IsPlainAsked (asked.Command command) = IsPlain command
 IsPlainAsked (asked.NoCommand code) = Unit {0}
+
+-- ---- commands of the volume
+
+abbrev pub IsOnVolume : Command → Type 0
+IsOnVolume Devices = ⊥
+IsOnVolume Status = ⊥
+IsOnVolume Poll = ⊥
+IsOnVolume Say = ⊥
+IsOnVolume Paper = ⊥
+IsOnVolume command = Unit {0}
+
+-- one that changes it
+abbrev pub ChangesVolume : Command → Type 0
+ChangesVolume (Store name kind implementation) = Unit {0}
+ChangesVolume (Rename old new) = Unit {0}
+ChangesVolume (Purge name) = Unit {0}
+ChangesVolume (Format label slots) = Unit {0}
+ChangesVolume Adopt = Unit {0}
+ChangesVolume command = ⊥
+
+-- what is said of the command of the volume that is asked for
+abbrev pub OnVolume : Request → (VolumeCommand → Type 0) → Type 0
+OnVolume (OfVolume command) P = P command
+OnVolume request P = Unit {0}

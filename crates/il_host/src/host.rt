@@ -42,23 +42,19 @@ impl<M: Medium + Drop> Performer for Host<M> {
     fn perform(&mut self, command: &Command, bytes: &[u8]) -> Reply {
         self.page.clear();
         match command {
-            Command::Dir => self.dir(),
-            Command::Label => self.label(),
-            Command::Fetch(name) => self.fetch(name),
-            Command::Store {
-                name,
-                kind,
-                implementation,
-            } => self.store(name, *kind, *implementation, bytes),
-            Command::Rename { old, new } => self.rename(old, new),
-            Command::Purge(name) => self.purge(name),
-            Command::Format { label, slots } => self.format(label, *slots),
-            Command::Adopt => self.adopt(),
             Command::Devices => self.devices(),
             Command::Status => self.status(),
             Command::Poll => self.poll(),
             Command::Say => self.say(bytes),
             Command::Paper => self.paper(),
+            Command::Dir
+            | Command::Label
+            | Command::Fetch(_)
+            | Command::Store { .. }
+            | Command::Rename { .. }
+            | Command::Purge(_)
+            | Command::Format { .. }
+            | Command::Adopt => self.on_volume(command, bytes),
         }
     }
 

@@ -1,5 +1,6 @@
 //! Volumes: what commands answer, and what they make of a tape.
 ghost use Rattle.std.specs.Prelude.{IfOk};
+ghost use Rattle.lif_volume.specs.Seen.{seen};
 ghost use Rattle.lif_volume.specs.Views.{IsOpen};
 
 use crate::labels::{named, row};
@@ -8,7 +9,7 @@ use il_ports::{MemoryRecords, Records, Trouble};
 use il_same::{same, same_bytes};
 use lif_dir::{Name, NewLabel, NewName};
 use lif_model::{RECORD, Record};
-use lif_volume::{Fetched, Listing, Refusal, Seen, Volume, VolumeFault};
+use lif_volume::{Fetched, Listing, Refusal, Volume, VolumeFault};
 use std::alloc::{AllocError, Global};
 use std::process::Abort;
 use std::test::Fail;
@@ -89,7 +90,7 @@ pub fn open_now(
     fails: Vec<(u64, Trouble)>,
 ) -> Result<Volume<MemoryRecords>, Fail>
     ensures { IfOk result (λ volume. IsOpen ⟦<MemoryRecords as Records>⟧.view
-        (⟦<Volume<MemoryRecords> as Seen<MemoryRecords>>⟧.seen volume)) }
+        (seen volume)) }
 {
     assert!(rt; 37 < tape.len() && tape.len() < 3000);
     let records = MemoryRecords::new(alloc, tape, fails, 10000)?;
@@ -101,8 +102,8 @@ pub fn open_now(
 
 /// Lists a volume whose store is ready for it.
 fn dir_now<R: Records>(rt: &impl Abort, volume: &mut Volume<R>) -> Result<Listing, VolumeFault>
-    requires { IsOpen R.view (⟦<Volume<R> as Seen<R>>⟧.seen volume.old) }
-    ensures { IsOpen R.view (⟦<Volume<R> as Seen<R>>⟧.seen volume.new) }
+    requires { IsOpen R.view (seen volume.old) }
+    ensures { IsOpen R.view (seen volume.new) }
 {
     let size = u32::from(volume.records().size());
     assert!(rt; volume.records().is_sound());
@@ -117,8 +118,8 @@ fn fetch_now<R: Records>(
     name: &[u8],
     into: &mut [u8],
 ) -> Result<Fetched, VolumeFault>
-    requires { IsOpen R.view (⟦<Volume<R> as Seen<R>>⟧.seen volume.old) }
-    ensures { IsOpen R.view (⟦<Volume<R> as Seen<R>>⟧.seen volume.new) }
+    requires { IsOpen R.view (seen volume.old) }
+    ensures { IsOpen R.view (seen volume.new) }
 {
     let size = volume.records().size();
     assert!(rt; volume.records().is_sound());
@@ -132,8 +133,8 @@ fn fetch_now<R: Records>(
 
 /// Makes the store of a volume sound again.
 pub fn resume_now<R: Records>(rt: &impl Abort, volume: &mut Volume<R>) -> Result<(), Trouble>
-    requires { IsOpen R.view (⟦<Volume<R> as Seen<R>>⟧.seen volume.old) }
-    ensures { IsOpen R.view (⟦<Volume<R> as Seen<R>>⟧.seen volume.new) }
+    requires { IsOpen R.view (seen volume.old) }
+    ensures { IsOpen R.view (seen volume.new) }
 {
     assert!(rt; 1 <= volume.records().left());
     volume.records_mut().resume()
@@ -383,8 +384,8 @@ pub fn change_now<R: Records>(
     volume: &mut Volume<R>,
     step: Step,
 ) -> Result<(), VolumeFault>
-    requires { IsOpen R.view (⟦<Volume<R> as Seen<R>>⟧.seen volume.old) }
-    ensures { IsOpen R.view (⟦<Volume<R> as Seen<R>>⟧.seen volume.new) }
+    requires { IsOpen R.view (seen volume.old) }
+    ensures { IsOpen R.view (seen volume.new) }
 {
     let size = u32::from(volume.records().size());
     assert!(rt; volume.records().is_sound());
@@ -531,9 +532,9 @@ pub fn shows(
     slots: &[&[u8]],
 ) -> bool
     requires { IsOpen ⟦<MemoryRecords as Records>⟧.view
-        (⟦<Volume<MemoryRecords> as Seen<MemoryRecords>>⟧.seen volume.old) }
+        (seen volume.old) }
     ensures { IsOpen ⟦<MemoryRecords as Records>⟧.view
-        (⟦<Volume<MemoryRecords> as Seen<MemoryRecords>>⟧.seen volume.new) }
+        (seen volume.new) }
 {
     let answer = dir_now(rt, volume);
     if header.is_empty() {
@@ -603,9 +604,9 @@ fn comes_back(
     into: &mut [u8],
 ) -> Result<(), Fail>
     requires { IsOpen ⟦<MemoryRecords as Records>⟧.view
-        (⟦<Volume<MemoryRecords> as Seen<MemoryRecords>>⟧.seen volume.old) }
+        (seen volume.old) }
     ensures { IfOk result (λ x. IsOpen ⟦<MemoryRecords as Records>⟧.view
-        (⟦<Volume<MemoryRecords> as Seen<MemoryRecords>>⟧.seen volume.new)) }
+        (seen volume.new)) }
 {
     assert!(rt;
         change_now(rt, volume, Step::Store(name, bytes)).is_ok(),

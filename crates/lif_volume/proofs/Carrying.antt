@@ -1,163 +1,166 @@
--- What a command of the directory makes of a volume whose directory is kept.
-use Rattle.std.proofs.Common.{◌≡◌, ◌⊎◌, ◌≤◌, ◌+◌, ◌-◌, ◌*◌, ◌++◌, ◌&&◌, ◌==◌, not, ℕ, List, [], ◌∷◌, Bool, true, false, if◌then◌else◌, length, map, set, inl, inr, refl, sym, ap, subst, ◌∙◌, arith}
-use Rattle.std.specs.Prelude.{Option, Some, None, Ok, Err, IfSome}
+-- What a command makes of a volume whose directory is kept: first the file, where it has one, and then the commit.
+use Rattle.std.proofs.Common.{◌≡◌, ◌⊎◌, ◌<◌, ◌≤◌, ◌+◌, ◌-◌, ◌*◌, ◌++◌, ◌&&◌, not, ℕ, suc, List, [], ◌∷◌, Bool, true, false, if◌then◌else◌, length, map, min, inl, inr, refl, sym, ap, subst, ◌∙◌, arith, append_assoc}
+use Rattle.std.specs.Prelude.{◌≢◌, Option, Some, None, Result, Ok, Err, OnOk, IfSome}
 use Rattle.std.specs.Str.{bytes_eq}
 use Rattle.std.specs.FinMap.{empty}
+use Rattle.std.proofs.lemmas.List.{append-nil}
 use Rattle.lif_model.specs.Tape.{Tape, IsTape, record_at}
 use Rattle.lif_model.specs.Gate.{has_open_gate}
 use Rattle.lif_model.specs.Header.{HeaderParts, header_of, directory_start, directory_end}
 use Rattle.lif_model.specs.Directory.{slots_of}
-use Rattle.lif_model.specs.Redo.{Version, One, redo_start, settled, Changes, IsSettled, is_none}
+use Rattle.lif_model.specs.Made.{file_length, file_records}
+use Rattle.lif_model.specs.Shelf.{cut}
+use Rattle.lif_model.specs.declared.version.Version.{Version}
+use Rattle.lif_model.specs.declared.version.Version.TheVariants.{One}
+use Rattle.lif_model.specs.declared.refusal.Refusal.{Refusal}
+use Rattle.lif_model.specs.Redo.{redo_start, settled, Changes, IsSettled, is_none}
 use Rattle.lif_model.specs.Commit.{IsOldOrNew, IsCommitted, commit_writes}
+use Rattle.lif_model.specs.Transfers.{Transfer, Replaced, PartlyReplaced}
 use Rattle.lif_model.specs.Volume.{Volume, IsVolume, volume_in, volume_of, is_foreign_gated, is_gate_held}
-use Rattle.lif_model.specs.Fit.{NoSlot}
-use Rattle.lif_model.specs.Apply.{VolumeCommand, Dir, Label, Fetch, Store, Rename, Purge, Adopt, Upgrade, Format, IsWellFormed, refusal_of, apply, is_upgraded, renamed, upgraded, volume_after}
-use Rattle.lif_model.specs.Writing.{SlotWrites, slot_writes, changes_by, changes_of}
-use Rattle.lif_model.proofs.Moments.{weaker}
+use Rattle.lif_model.specs.Fit.{Place, At, NoSlot, NoRoom}
+use Rattle.lif_model.specs.Apply.{VolumeCommand, Dir, Label, Fetch, Store, Rename, Purge, Adopt, Upgrade, Format, IsWellFormed, refusal_of, apply, stored, is_upgraded, renamed, upgraded, volume_after}
+use Rattle.lif_model.specs.Writing.{slot_record, slot_writes, changes_at, changes_by, changes_of, chosen_place, with_file, with_records}
+use Rattle.lif_model.proofs.Moments.{started, goes_on, follows}
 use Rattle.lif_model.proofs.Redo.{settled_has_none}
+use Rattle.lif_model.proofs.Made.{file_bytes}
+use Rattle.lif_model.proofs.Recorded.{records_replaced, replaced_is, records_count}
 use Rattle.lif_model.proofs.Legal.{legal_tells, legal_from}
 use Rattle.lif_model.proofs.Slots.{readable_tells}
 use Rattle.lif_model.proofs.Adopted.{adopted_some, ends_before_redo}
 use Rattle.lif_model.proofs.Apply.{refused_stays, accepted, next_is_adopted, adopt_is_adopted, upgrade_is_two}
 use Rattle.lif_model.proofs.Directory.{volume_tells, volume_from, volume_in_is}
 use Rattle.lif_model.proofs.Outcomes.{committed_settled}
-use Rattle.lif_model.proofs.Commands.{command_stops, command_commits, adopt_stops, adopt_commits, upgrade_stops, upgrade_commits}
-use Rattle.lif_plan.specs.Plans.{CommitsWith, IsVolumeWith}
-use Rattle.lif_volume.specs.Plans.{IsOfDirectory}
-use Rattle.std.proofs.lemmas.List.{length-map, map-append, map-set}
+use Rattle.lif_model.proofs.StoredFile.{storable}
+use Rattle.lif_model.proofs.Commands.{file_first, file_stops, file_settled, command_stops, command_commits, adopt_stops, adopt_commits, upgrade_stops, upgrade_commits}
 use Rattle.il_ports.specs.declared.records.Trouble.{Trouble}
-use Rattle.il_ports.specs.Stores.{RecordsView, IsStore, IsReady, GoesOn, RunLeaves}
-use Rattle.il_ports.proofs.Stores.{goes_nowhere, goes_within, quiet_run, quiet_nowhere}
-use Rattle.lif_redo.specs.Reading.{version_of}
-use Rattle.lif_redo.specs.Writing.{AddsWrites}
-use Rattle.lif_redo.proofs.Writes.{no_write}
+use Rattle.il_ports.specs.Stores.{RecordsView, IsStore, IsReady, GoesOn, RunLeaves, StoredRun}
+use Rattle.il_ports.proofs.Stores.{goes_nowhere, goes_further, goes_within, quiet_run, quiet_nowhere}
+use Rattle.lif_redo.specs.Writing.{writes_among, AreSingle}
 use Rattle.lif_redo.proofs.Told.{was_told}
-use Rattle.lif_dir.specs.declared.entries.Slot.{Slot}
-use Rattle.lif_dir.specs.Entries.{entry_bytes, slot_of, slot_from, slot_bytes}
-use Rattle.lif_model.specs.declared.refusal.Refusal.{Refusal}
-use Rattle.lif_volume.specs.declared.fault.VolumeFault.TheVariants.{Refused, Trouble as Troubled}
-use Rattle.lif_plan.specs.declared.plans.SlotChange.{SlotChange}
-use Rattle.lif_volume.specs.Views.{VolumeView, IsOpen, IsDirectoryOf}
+use Rattle.lif_dir.specs.declared.change.Change.{Change}
+use Rattle.lif_dir.specs.declared.entries.FileEntry.{FileEntry}
+use Rattle.lif_dir.specs.Entries.{slot_from, slot_bytes}
+use Rattle.lif_dir.specs.Changes.{IsToldBack, slots_with, bytes_with}
+use Rattle.lif_dir.proofs.Changing.{changed_bytes, told_back}
+use Rattle.lif_commit.specs.Staged.{LiesBelowRedo, CommitsChange, most_commit_calls}
 use Rattle.lif_plan.specs.Directories.{IsLegalDirectory}
-use Rattle.lif_volume.specs.Changing.{changes_when, IsChanged, committing_on, HasEitherVolume, VolumeTurns, writes_if_any}
-use Rattle.lif_plan.specs.Plans.{version_for}
-use Rattle.lif_plan.specs.Plans.{change_writes, slots_with, bytes_with, RefusesAs, ChangesNothing, ChangesSlot}
-use Rattle.lif_volume.specs.Plans.{CarriesOut}
+use Rattle.lif_plan.specs.Plans.{version_for, CommitsWith, IsVolumeWith, RefusesAs, ChangesNothing, PlacesFileOf, MakesChange}
+use Rattle.lif_plan.proofs.Planning.{version_agrees}
+use Rattle.lif_volume.specs.declared.fault.VolumeFault.{VolumeFault}
+use Rattle.lif_volume.specs.declared.fault.VolumeFault.TheVariants.{Refused, Trouble as Troubled}
+use Rattle.lif_volume.specs.Views.{VolumeView, IsOpen, IsDirectoryOf}
+use Rattle.lif_volume.specs.Changing.{file_when, changes_when, changes_filed, IsChanged, run_of, runs_at, file_runs, writes_if_any, beside, carrying, carrying_on, HasEitherVolume, VolumeTurns}
+use Rattle.lif_volume.specs.Carrying.{HasFile, file_count, carry_room, changes_made, PutsFile, Puts, CarriesOut}
 use Rattle.lif_volume.proofs.Mounting.{kept_is_of, volume_on}
 use Rattle.lif_volume.proofs.Fetching.{legal_of}
-use Rattle.lif_plan.proofs.Planning.{version_agrees}
 
--- ---- the four commands
+-- ---- the commands that change slots
 
--- the records that they change
-pub changes_are : (n : ℕ) (command : VolumeCommand) (v : Volume) (u : Tape) → IsOfDirectory command
-    → changes_of n command v u ≡ changes_by (directory_start v.header) (slot_writes n command v NoSlot u) u
-changes_are n Dir v u of = absurd of
-changes_are n Label v u of = absurd of
-changes_are n (Fetch name) v u of = absurd of
-changes_are n (Store name kind implementation bytes) v u of = absurd of
-changes_are n (Rename old later) v u of = refl
-changes_are n (Purge name) v u of = refl
-changes_are n Adopt v u of = refl
-changes_are n Upgrade v u of = refl
-changes_are n (Format label slots) v u of = absurd of
+module _ (n : ℕ) (version : Version) where
+  -- the records that they change
+  pub changes_are : (command : VolumeCommand) (v : Volume) (u : Tape) → CommitsWith n version command v
+      → changes_of n command v u ≡ changes_by (directory_start v.header) (slot_writes n command v (chosen_place n command v) u) u
+  changes_are Dir v u never = absurd never
+  changes_are Label v u never = absurd never
+  changes_are (Fetch name) v u never = absurd never
+  changes_are (Store name kind implementation bytes) v u commits = refl
+  changes_are (Rename old later) v u commits = refl
+  changes_are (Purge name) v u commits = refl
+  changes_are Adopt v u commits = refl
+  changes_are Upgrade v u commits = refl
+  changes_are (Format label slots) v u never = absurd never
 
-by_case : {X : Type 0} (P : X → Type 0) (b : Bool) (x y : X) → P x → P y → P (if b then x else y)
-by_case P true x y px py = px
-by_case P false x y px py = py
+  by_case : {X : Type 0} (P : X → Type 0) (b : Bool) (x y : X) → P x → P y → P (if b then x else y)
+  by_case P true x y px py = px
+  by_case P false x y px py = py
 
-pub header_stays : (n : ℕ) (command : VolumeCommand) (v : Volume) → IsOfDirectory command → (volume_after n command v).header ≡ v.header
-header_stays n Dir v of = absurd of
-header_stays n Label v of = absurd of
-header_stays n (Fetch name) v of = absurd of
-header_stays n (Store name kind implementation bytes) v of = absurd of
-header_stays n (Rename old later) v of = by_case (λ w. w.header ≡ v.header) (bytes_eq old later) v (renamed v old later) refl refl
-header_stays n (Purge name) v of = refl
-header_stays n Adopt v of = by_case (λ w. w.header ≡ v.header) _ v _ refl refl
-header_stays n Upgrade v of = by_case (λ w. w.header ≡ v.header) (is_upgraded n v) v (upgraded n v) refl refl
-header_stays n (Format label slots) v of = absurd of
+  stored_header : (v : Volume) (name : List ℕ) (kind : ℕ) (implementation bytes : List ℕ) (place : Place) → (stored v name kind implementation bytes place).header ≡ v.header
+  stored_header v name kind implementation bytes (At slot start) = refl
+  stored_header v name kind implementation bytes NoSlot = refl
+  stored_header v name kind implementation bytes NoRoom = refl
 
--- the next volume is one for as many records
-pub next_volume : (n : ℕ) (version : Version) (command : VolumeCommand) (v : Volume) → IsVolume n v → IsWellFormed command → CommitsWith n version command v
-    → refusal_of n command (Some v) ≡ None → IsVolume n (volume_after n command v)
-next_volume n version Dir v is formed never none = absurd never
-next_volume n version Label v is formed never none = absurd never
-next_volume n version (Fetch name) v is formed never none = absurd never
-next_volume n version (Store name kind implementation bytes) v is formed never none = absurd never
-next_volume n version (Rename old later) v is formed adopted none = (next_is_adopted n (Rename old later) v (record { volume = is; adopted = adopted_some n version v.slots adopted }) formed none).volume
-next_volume n version (Purge name) v is formed adopted none = (next_is_adopted n (Purge name) v (record { volume = is; adopted = adopted_some n version v.slots adopted }) formed none).volume
-next_volume n version Adopt v is formed both none = (adopt_is_adopted n v is none).volume
-next_volume n version Upgrade v is formed both none = (upgrade_is_two n v (record { volume = is; adopted = adopted_some n One v.slots both.1 }) none).0.volume
-next_volume n version (Format label slots) v is formed never none = absurd never
+  header_stays : (command : VolumeCommand) (v : Volume) → CommitsWith n version command v → (volume_after n command v).header ≡ v.header
+  header_stays Dir v never = absurd never
+  header_stays Label v never = absurd never
+  header_stays (Fetch name) v never = absurd never
+  header_stays (Store name kind implementation bytes) v commits = stored_header v name kind implementation bytes (chosen_place n (Store name kind implementation bytes) v)
+  header_stays (Rename old later) v commits = by_case (λ w. w.header ≡ v.header) (bytes_eq old later) v (renamed v old later) refl refl
+  header_stays (Purge name) v commits = refl
+  header_stays Adopt v commits = by_case (λ w. w.header ≡ v.header) _ v _ refl refl
+  header_stays Upgrade v commits = by_case (λ w. w.header ≡ v.header) (is_upgraded n v) v (upgraded n v) refl refl
+  header_stays (Format label slots) v never = absurd never
 
--- the directory ends before the redo file by which a command commits
-pub ends_before : (n : ℕ) (version : Version) (command : VolumeCommand) (v : Volume) → IsVolume n v → CommitsWith n version command v → directory_end v.header ≤ redo_start version n
-ends_before n version Dir v is never = absurd never
-ends_before n version Label v is never = absurd never
-ends_before n version (Fetch name) v is never = absurd never
-ends_before n version (Store name kind implementation bytes) v is never = absurd never
-ends_before n version (Rename old later) v is adopted = (ends_before_redo version n v is adopted).0
-ends_before n version (Purge name) v is adopted = (ends_before_redo version n v is adopted).0
-ends_before n version Adopt v is both = subst (λ (w : Version). directory_end v.header ≤ redo_start w n) (sym both.0) (readable_tells n v.header is.legal.readable).2
-ends_before n version Upgrade v is both = subst (λ (w : Version). directory_end v.header ≤ redo_start w n) (sym both.0) (ends_before_redo One n v is both.1).0
-ends_before n version (Format label slots) v is never = absurd never
+  -- the next volume is one for as many records
+  next_volume : (command : VolumeCommand) (v : Volume) → IsVolume n v → IsWellFormed command → CommitsWith n version command v
+      → refusal_of n command (Some v) ≡ None → IsVolume n (volume_after n command v)
+  next_volume Dir v is formed never none = absurd never
+  next_volume Label v is formed never none = absurd never
+  next_volume (Fetch name) v is formed never none = absurd never
+  next_volume (Store name kind implementation bytes) v is formed adopted none = (next_is_adopted n (Store name kind implementation bytes) v (record { volume = is; adopted = adopted_some n version v.slots adopted }) formed none).volume
+  next_volume (Rename old later) v is formed adopted none = (next_is_adopted n (Rename old later) v (record { volume = is; adopted = adopted_some n version v.slots adopted }) formed none).volume
+  next_volume (Purge name) v is formed adopted none = (next_is_adopted n (Purge name) v (record { volume = is; adopted = adopted_some n version v.slots adopted }) formed none).volume
+  next_volume Adopt v is formed both none = (adopt_is_adopted n v is none).volume
+  next_volume Upgrade v is formed both none = (upgrade_is_two n v (record { volume = is; adopted = adopted_some n One v.slots both.1 }) none).0.volume
+  next_volume (Format label slots) v is formed never none = absurd never
 
-module _ (n : ℕ) (u : Tape) (v : Volume) (tape : IsTape n u) (is : volume_in u ≡ Some v) (version : Version) (x : Tape) where
-  abbrev IsNow : VolumeCommand → Type 0
-  IsNow command = (volume_of x ≡ Some (volume_after n command v)) × (is_foreign_gated x ≡ false)
+  -- the directory ends before the redo file by which a command commits
+  ends_before : (command : VolumeCommand) (v : Volume) → IsVolume n v → CommitsWith n version command v → directory_end v.header ≤ redo_start version n
+  ends_before Dir v is never = absurd never
+  ends_before Label v is never = absurd never
+  ends_before (Fetch name) v is never = absurd never
+  ends_before (Store name kind implementation bytes) v is adopted = (ends_before_redo version n v is adopted).0
+  ends_before (Rename old later) v is adopted = (ends_before_redo version n v is adopted).0
+  ends_before (Purge name) v is adopted = (ends_before_redo version n v is adopted).0
+  ends_before Adopt v is both = subst (λ (w : Version). directory_end v.header ≤ redo_start w n) (sym both.0) (readable_tells n v.header is.legal.readable).2
+  ends_before Upgrade v is both = subst (λ (w : Version). directory_end v.header ≤ redo_start w n) (sym both.0) (ends_before_redo One n v is both.1).0
+  ends_before (Format label slots) v is never = absurd never
 
-  -- a stop in the commit, and its Ok
-  pub stops_leave : (command : VolumeCommand) → IsWellFormed command → CommitsWith n version command v → refusal_of n command (Some v) ≡ None
-      → IsOldOrNew version (changes_of n command v u) u x
-      → ((volume_of x ≡ Some v) ⊎ (volume_of x ≡ Some (volume_after n command v))) × (is_foreign_gated x ≡ false)
-  stops_leave Dir formed never none left = absurd never
-  stops_leave Label formed never none left = absurd never
-  stops_leave (Fetch name) formed never none left = absurd never
-  stops_leave (Store name kind implementation bytes) formed never none left = absurd never
-  stops_leave (Rename old later) formed adopted none left = command_stops n u v tape is version (Rename old later) x adopted tt formed none left
-  stops_leave (Purge name) formed adopted none left = command_stops n u v tape is version (Purge name) x adopted tt formed none left
-  stops_leave Adopt formed both none left = adopt_stops n u v tape is x both.1 none (subst (λ (w : Version). IsOldOrNew w (changes_of n Adopt v u) u x) both.0 left)
-  stops_leave Upgrade formed both none left = upgrade_stops n u v tape is x both.1 none (subst (λ (w : Version). IsOldOrNew w (changes_of n Upgrade v u) u x) both.0 left)
-  stops_leave (Format label slots) formed never none left = absurd never
+  module _ (u : Tape) (v : Volume) (tape : IsTape n u) (is : volume_in u ≡ Some v) (x : Tape) where
+    -- a stop in the commit, and its Ok
+    stops_leave : (command : VolumeCommand) → IsWellFormed command → CommitsWith n version command v → refusal_of n command (Some v) ≡ None
+        → IsOldOrNew version (changes_of n command v u) (with_file command (chosen_place n command v) u) x
+        → ((volume_of x ≡ Some v) ⊎ (volume_of x ≡ Some (volume_after n command v))) × (is_foreign_gated x ≡ false)
+    stops_leave Dir formed never none left = absurd never
+    stops_leave Label formed never none left = absurd never
+    stops_leave (Fetch name) formed never none left = absurd never
+    stops_leave (Store name kind implementation bytes) formed adopted none left = command_stops n u v tape is version (Store name kind implementation bytes) x adopted tt formed none left
+    stops_leave (Rename old later) formed adopted none left = command_stops n u v tape is version (Rename old later) x adopted tt formed none left
+    stops_leave (Purge name) formed adopted none left = command_stops n u v tape is version (Purge name) x adopted tt formed none left
+    stops_leave Adopt formed both none left = adopt_stops n u v tape is x both.1 none (subst (λ (w : Version). IsOldOrNew w (changes_of n Adopt v u) u x) both.0 left)
+    stops_leave Upgrade formed both none left = upgrade_stops n u v tape is x both.1 none (subst (λ (w : Version). IsOldOrNew w (changes_of n Upgrade v u) u x) both.0 left)
+    stops_leave (Format label slots) formed never none left = absurd never
 
-  pub commit_makes : (command : VolumeCommand) → IsWellFormed command → CommitsWith n version command v → refusal_of n command (Some v) ≡ None
-      → IsCommitted version (changes_of n command v u) u x → IsNow command
-  commit_makes Dir formed never none done = absurd never
-  commit_makes Label formed never none done = absurd never
-  commit_makes (Fetch name) formed never none done = absurd never
-  commit_makes (Store name kind implementation bytes) formed never none done = absurd never
-  commit_makes (Rename old later) formed adopted none done = command_commits n u v tape is version (Rename old later) x adopted tt formed none done
-  commit_makes (Purge name) formed adopted none done = command_commits n u v tape is version (Purge name) x adopted tt formed none done
-  commit_makes Adopt formed both none done = adopt_commits n u v tape is x both.1 none (subst (λ (w : Version). IsCommitted w (changes_of n Adopt v u) u x) both.0 done)
-  commit_makes Upgrade formed both none done = upgrade_commits n u v tape is x none (subst (λ (w : Version). IsCommitted w (changes_of n Upgrade v u) u x) both.0 done)
-  commit_makes (Format label slots) formed never none done = absurd never
+    commit_makes : (command : VolumeCommand) → IsWellFormed command → CommitsWith n version command v → refusal_of n command (Some v) ≡ None
+        → IsCommitted version (changes_of n command v u) (with_file command (chosen_place n command v) u) x
+        → (volume_of x ≡ Some (volume_after n command v)) × (is_foreign_gated x ≡ false)
+    commit_makes Dir formed never none done = absurd never
+    commit_makes Label formed never none done = absurd never
+    commit_makes (Fetch name) formed never none done = absurd never
+    commit_makes (Store name kind implementation bytes) formed adopted none done = command_commits n u v tape is version (Store name kind implementation bytes) x adopted tt formed none done
+    commit_makes (Rename old later) formed adopted none done = command_commits n u v tape is version (Rename old later) x adopted tt formed none done
+    commit_makes (Purge name) formed adopted none done = command_commits n u v tape is version (Purge name) x adopted tt formed none done
+    commit_makes Adopt formed both none done = adopt_commits n u v tape is x both.1 none (subst (λ (w : Version). IsCommitted w (changes_of n Adopt v u) u x) both.0 done)
+    commit_makes Upgrade formed both none done = upgrade_commits n u v tape is x none (subst (λ (w : Version). IsCommitted w (changes_of n Upgrade v u) u x) both.0 done)
+    commit_makes (Format label slots) formed never none done = absurd never
 
--- ---- slots in memory
+-- ---- without a file
+
+pub without_file : (command : VolumeCommand) → HasFile command None → (file_count command ≡ 0) × ((n : ℕ) (volume : Option Volume) → file_runs n command volume ≡ [])
+    × ((n : ℕ) (volume : Option Volume) (t : Tape) → file_when n command volume t ≡ t)
+without_file Dir has = (refl, (λ n volume. refl), λ n volume t. refl)
+without_file Label has = (refl, (λ n volume. refl), λ n volume t. refl)
+without_file (Fetch name) has = (refl, (λ n volume. refl), λ n volume t. refl)
+without_file (Store name kind implementation bytes) has = cc
+without_file (Rename old later) has = (refl, (λ n volume. refl), λ n volume t. refl)
+without_file (Purge name) has = (refl, (λ n volume. refl), λ n volume t. refl)
+without_file Adopt has = (refl, (λ n volume. refl), λ n volume t. refl)
+without_file Upgrade has = (refl, (λ n volume. refl), λ n volume t. refl)
+without_file (Format label slots) has = (refl, (λ n volume. refl), λ n volume t. refl)
+
+-- ---- from a directory that is kept
 
 pub same_tape : (t u : Tape) (tape : Option Tape) → tape ≡ Some t → tape ≡ Some u → u ≡ t
 same_tape t u tape first second = let both : Some t ≡ Some u = sym first ∙ second in cc
-
-pub slots_are_from : (c : SlotChange) (xs : List Slot) → slot_from (entry_bytes c.entry) ≡ slot_of c.entry → map slot_from (map slot_bytes xs) ≡ xs
-    → map slot_from (bytes_with c (map slot_bytes xs)) ≡ slots_with c xs
-slots_are_from c xs told back = go (c.slot == length xs) refl
-  where
-    bytes : List (List ℕ)
-    bytes = map slot_bytes xs
-
-    count : length (map slot_bytes xs) ≡ length xs
-    count = length-map xs slot_bytes
-
-    go : (b : Bool) → (c.slot == length xs) ≡ b → map slot_from (bytes_with c (map slot_bytes xs)) ≡ slots_with c xs
-    go true e =
-        (λ i. map slot_from (if (ap (λ (k : ℕ). c.slot == k) count ∙ e) i then map slot_bytes xs ++ entry_bytes c.entry ∷ [] else set (map slot_bytes xs) c.slot (entry_bytes c.entry)))
-        ∙ map-append slot_from (map slot_bytes xs) (entry_bytes c.entry ∷ []) ∙ (λ i. back i ++ told i ∷ [])
-        ∙ sym (ap (λ (b : Bool). if b then xs ++ slot_of c.entry ∷ [] else set xs c.slot (slot_of c.entry)) e)
-    go false e =
-        (λ i. map slot_from (if (ap (λ (k : ℕ). c.slot == k) count ∙ e) i then map slot_bytes xs ++ entry_bytes c.entry ∷ [] else set (map slot_bytes xs) c.slot (entry_bytes c.entry)))
-        ∙ map-set slot_from (map slot_bytes xs) c.slot (entry_bytes c.entry) ∙ (λ i. set (back i) c.slot (told i))
-        ∙ sym (ap (λ (b : Bool). if b then xs ++ slot_of c.entry ∷ [] else set xs c.slot (slot_of c.entry)) e)
-
--- ---- from a directory that is kept
 
 module _ {R S : Type 0} (view : R → RecordsView S) (x : VolumeView R) (header : HeaderParts) (opened : IsOpen view x) (kept : x.kept ≡ Some header) (store : IsStore (view x.records)) where
   abbrev n : ℕ
@@ -169,11 +172,16 @@ module _ {R S : Type 0} (view : R → RecordsView S) (x : VolumeView R) (header 
   pub legal : IsLegalDirectory (view x.records).record_count header (map slot_bytes x.slots)
   legal = legal_of view x header (view x.records).record_count opened kept refl
 
-  -- some volume with it
-  abbrev pub some : List ℕ → Volume
-  some bytes = record { header = bytes; slots = map slot_bytes x.slots; files = empty }
+  readable : (0 < header.start) × (header.start + header.length ≤ n - 4)
+  readable =
+      let is = readable_tells n legal.bytes (legal_tells n legal.bytes slots legal.legal).readable in
+      (omega (arith, is.0, ap (λ (h : HeaderParts). h.start) legal.told), omega (arith, is.2, ap (λ (h : HeaderParts). h.start) legal.told, ap (λ (h : HeaderParts). h.length) legal.told))
 
-  pub some_is : IsVolumeWith (view x.records).record_count header (map slot_bytes x.slots) (some legal.bytes)
+  -- some volume with it
+  abbrev some : Volume
+  some = record { header = legal.bytes; slots = map slot_bytes x.slots; files = empty }
+
+  some_is : IsVolumeWith (view x.records).record_count header (map slot_bytes x.slots) some
   some_is = record {
     volume = record {
       header = legal.whole;
@@ -191,210 +199,543 @@ module _ {R S : Type 0} (view : R → RecordsView S) (x : VolumeView R) (header 
     pub on : IsDirectoryOf t header x.slots
     on = kept_is_of x header t kept (opened.known t told)
 
-    pub tape : IsTape (view x.records).record_count t
+    tape : IsTape (view x.records).record_count t
     tape = store.is_tape t told
 
-    pub within : volume_in t ≡ Some (volume_on t)
+    within : volume_in t ≡ Some (volume_on t)
     within = volume_from t on.directory.legal
 
-    pub volume_is : volume_of t ≡ Some (volume_on t)
+    volume_is : volume_of t ≡ Some (volume_on t)
     volume_is = ap volume_in on.settled ∙ within
 
-    pub with_is : IsVolumeWith (view x.records).record_count header (map slot_bytes x.slots) (volume_on t)
+    with_is : IsVolumeWith (view x.records).record_count header (map slot_bytes x.slots) (volume_on t)
     with_is = record { volume = volume_in_is (view x.records).record_count t (volume_on t) tape within; told = sym on.directory.header; same = sym on.directory.bytes }
 
-    pub own_gate : is_foreign_gated t ≡ false
+    own_gate : is_foreign_gated t ≡ false
     own_gate = ap (λ (cs : Changes). not (is_none cs) && is_gate_held (settled t)) (settled_has_none t on.settled)
+
+  -- a command that changes nothing is no store
+  pub nothing_is_no_store : (command : VolumeCommand) → ChangesNothing (view x.records).record_count command header (map slot_bytes x.slots) → HasFile command None
+  nothing_is_no_store Dir plan = refl
+  nothing_is_no_store Label plan = refl
+  nothing_is_no_store (Fetch name) plan = refl
+  nothing_is_no_store (Store name kind implementation bytes) plan =
+      let can = storable n some name kind implementation bytes (plan.free some some_is) in
+      let none = sym (ap (λ (p : Place). changes_at n (Store name kind implementation bytes) some p []) can.chosen) ∙ plan.nothing some some_is [] in cc
+  nothing_is_no_store (Rename old later) plan = refl
+  nothing_is_no_store (Purge name) plan = refl
+  nothing_is_no_store Adopt plan = refl
+  nothing_is_no_store Upgrade plan = refl
+  nothing_is_no_store (Format label slots) plan = refl
 
   module _ (command : VolumeCommand) where
     module _ (t : Tape) (told : (view x.records).tape ≡ Some t) where
-      pub here : HasEitherVolume (view x.records).record_count command t t
+      here : HasEitherVolume (view x.records).record_count command t t
       here = record { volume = inl refl; own_gate = own_gate t told }
 
       pub rests : VolumeTurns (view x.records).record_count command (view x.records) (view x.records) t
       rests = record { stops = quiet_run (view x.records) (view x.records) _ t store (quiet_nowhere (view x.records)) told here; after = (t, told, here) }
 
-      pub applied : refusal_of (view x.records).record_count command (Some (volume_on t)) ≡ None
+      applied : refusal_of (view x.records).record_count command (Some (volume_on t)) ≡ None
           → apply (view x.records).record_count command (volume_of t) ≡ (None, Some (volume_after (view x.records).record_count command (volume_on t)))
       applied free = ap (apply (view x.records).record_count command) (volume_is t told) ∙ accepted (view x.records).record_count command (volume_on t) free
 
-    module _ (of : IsOfDirectory command) where
-      -- the command is refused
-      pub refuses : (calls : ℕ) (why : Refusal) → IsReady calls (view x.records) → RefusesAs (view x.records).record_count command header (map slot_bytes x.slots) why
-          → CarriesOut {T = Unit {0}} command view x x (Err (Refused why))
-      refuses calls why ready plan = record {
-        goes_on = goes_nowhere calls (view x.records) ready;
-        kept = sym (ap (λ (b : Bool). if b then x.kept else None) plan.known);
-        on_tape = λ t told. record {
-          few = omega arith;
-          written = λ u now. same_tape t u _ told now;
-          answers = λ u now. refused_stays n command (volume_of t) why (ap (refusal_of n command) (volume_is t told) ∙ plan.refused (volume_on t) (with_is t told))
-              ∙ ap (λ (w : Tape). (Some why, volume_of w)) (sym (same_tape t u _ told now));
-          stops = rests t told;
-          added = λ list was. was;
-        };
-      }
+    -- the command is refused
+    pub refuses : (calls : ℕ) (why : Refusal) → IsReady calls (view x.records) → RefusesAs (view x.records).record_count command header (map slot_bytes x.slots) why
+        → CarriesOut {T = Unit {0}} command view x x (Err (Refused why))
+    refuses calls why ready plan = record {
+      goes_on = goes_within 0 (carrying {T = Unit {0}} n command x.kept (Err (Refused why))) _ _ _ (omega arith) (goes_nowhere calls (view x.records) ready);
+      kept = sym (ap (λ (b : Bool). if b then x.kept else None) plan.known);
+      on_tape = λ t told. record {
+        few = omega arith;
+        written = λ u now. same_tape t u _ told now;
+        answers = λ u now. refused_stays n command (volume_of t) why (ap (refusal_of n command) (volume_is t told) ∙ plan.refused (volume_on t) (with_is t told))
+            ∙ ap (λ (w : Tape). (Some why, volume_of w)) (sym (same_tape t u _ told now));
+        stops = rests t told;
+        added = record { goes_on = λ list was. ([], subst (view x.records).transferred (sym (append-nil list)) was, tt) };
+      };
+    }
 
-      -- it changes nothing
-      pub changes_nothing : (calls : ℕ) → IsReady calls (view x.records) → ChangesNothing (view x.records).record_count command header (map slot_bytes x.slots)
-          → CarriesOut {T = Unit {0}} command view x x (Ok tt)
-      changes_nothing calls ready plan = record {
-        goes_on = goes_within 0 12 _ _ _ (omega arith) (goes_nowhere calls (view x.records) ready);
-        kept = refl;
-        on_tape = λ t told.
-            let v : Volume = volume_on t in
-            let none : changes_when n command (volume_of t) t ≡ [] = ap (λ (w : Option Volume). changes_when n command w t) (volume_is t told) ∙ changes_are n command v t of
-            ∙ ap (λ (ws : SlotWrites). changes_by (directory_start v.header) ws t) (plan.nothing v (with_is t told) t) in
-            record {
-              few = omega arith;
-              written = λ u now. subst (λ (cs : Changes). IsChanged (version_for n command (volume_of t)) cs t u) (sym none) (same_tape t u _ told now);
-              answers = λ u now. applied t told (plan.free v (with_is t told)) ∙ ap (λ (w : Volume). (None, Some w)) (plan.same v (with_is t told))
-                  ∙ ap (λ (w : Option Volume). (None, w)) (sym (volume_is t told) ∙ ap volume_of (sym (same_tape t u _ told now)));
-              stops = rests t told;
-              added = subst (λ (cs : Changes). AddsWrites (writes_if_any (version_for n command (volume_of t)) n (has_open_gate t) cs) (view x.records).transferred (view x.records).transferred) (sym none) (no_write (view x.records).transferred);
+    -- it changes nothing: then it has no file
+    pub changes_nothing : (calls : ℕ) → IsReady calls (view x.records) → ChangesNothing (view x.records).record_count command header (map slot_bytes x.slots) → HasFile command None
+        → CarriesOut {T = Unit {0}} command view x x (Ok tt)
+    changes_nothing calls ready plan has = record {
+      goes_on = goes_within 0 (carrying {T = Unit {0}} n command x.kept (Ok tt)) _ _ _ (omega arith) (goes_nowhere calls (view x.records) ready);
+      kept = refl;
+      on_tape = λ t told.
+          let v : Volume = volume_on t in
+          let plain = without_file command has in
+          let file : file_when n command (volume_of t) t ≡ t = plain.2 n (volume_of t) t in
+          let none : changes_filed n command (volume_of t) t ≡ [] = (λ i. changes_when n command (volume_is t told i) (file i)) ∙ plan.nothing v (with_is t told) t in
+          record {
+            few = omega arith;
+            written = λ u now. subst (λ (cs : Changes). IsChanged (version_for n command (volume_of t)) cs (file_when n command (volume_of t) t) u) (sym none) (same_tape t u _ told now ∙ sym file);
+            answers = λ u now. applied t told (plan.free v (with_is t told)) ∙ ap (λ (w : Volume). (None, Some w)) (plan.same v (with_is t told))
+                ∙ ap (λ (w : Option Volume). (None, w)) (sym (volume_is t told) ∙ ap volume_of (sym (same_tape t u _ told now)));
+            stops = rests t told;
+            added = record {
+              goes_on = λ list was. (
+                [],
+                [],
+                subst (λ (runs : List Transfer). (view x.records).transferred (list ++ (runs ++ []))) (sym (plain.1 n (volume_of t))) (subst (view x.records).transferred (sym (append-nil list)) was),
+                tt,
+                sym (ap (writes_if_any (version_for n command (volume_of t)) n (has_open_gate (file_when n command (volume_of t) t))) none),
+                tt,
+              );
             };
+          };
+    }
+
+    -- it changes slots
+    module _ (change : Change) (plan : MakesChange (view x.records).record_count command header (map slot_bytes x.slots) change) where
+      abbrev version : Version
+      version = change.version
+
+      abbrev start : ℕ
+      start = header.start
+
+      commits_some : CommitsWith n version command some
+      commits_some = plan.commits some some_is
+
+      before_redo : header.start + header.length ≤ redo_start version (view x.records).record_count
+      before_redo =
+          let ends = ends_before n version command some some_is.volume commits_some in
+          omega (arith, ends, ap (λ (h : HeaderParts). h.start) legal.told, ap (λ (h : HeaderParts). h.length) legal.told)
+
+      pub lies_below : LiesBelowRedo (view x.records).record_count header.start change
+      lies_below = record {
+        slot = omega (arith, before_redo, plan.fits.within);
+        next = by change.next plan.fits.next;
+        end = λ ended. omega (arith, before_redo, plan.fits.end_within ended);
       }
+        where
+          by : (next : Option FileEntry) → IfSome next (λ e. (suc change.slot < 8 * header.length) × (e.kind ≢ 0xFFFF)) → IfSome next (λ e. slot_record header.start (suc change.slot) < redo_start version n)
+          by None is = tt
+          by (Some e) is = omega (arith, before_redo, is.0)
 
-      -- it changes a slot
-      module _ (change : SlotChange) (plan : ChangesSlot (view x.records).record_count command header (map slot_bytes x.slots) change) (formed : IsWellFormed command) where
-        abbrev version : Version
-        version = version_of change.version
+      -- ---- the tape with the file
 
-        abbrev changes : Tape → Changes
-        changes t = changes_by header.start (change_writes header.start change t) t
+      module _ (t : Tape) (told : (view x.records).tape ≡ Some t) where
+        abbrev v : Volume
+        v = volume_on t
 
-        pub before_redo : header.start + header.length ≤ redo_start version (view x.records).record_count
-        before_redo =
-            let ends = ends_before n version command (some legal.bytes) some_is.volume (plan.commits (some legal.bytes) some_is) in
-            omega (arith, ends, ap (λ (h : HeaderParts). h.start) legal.told, ap (λ (h : HeaderParts). h.length) legal.told)
+        -- as the clauses say it
+        abbrev filed : Tape
+        filed = file_when n command (volume_of t) t
 
-        module _ (t : Tape) (told : (view x.records).tape ≡ Some t) where
-          of_volume : changes_of n command (volume_on t) t ≡ changes t
-          of_volume =
-              let start : directory_start (record_at t 0) ≡ header.start = sym (ap (λ (h : HeaderParts). h.start) (on t told).directory.header) in
-              changes_are n command (volume_on t) t of ∙ (λ i. changes_by (start i) (plan.writes (volume_on t) (with_is t told) t (tape t told) (within t told) i) t)
+        free : refusal_of n command (Some v) ≡ None
+        free = plan.free v (with_is t told)
 
-          changes_is : changes_when n command (volume_of t) t ≡ changes t
-          changes_is = ap (λ (w : Option Volume). changes_when n command w t) (volume_is t told) ∙ of_volume
+        commits_here : CommitsWith n version command v
+        commits_here = plan.commits v (with_is t told)
 
-          version_is : version_for n command (volume_of t) ≡ version
-          version_is = ap (version_for n command) (volume_is t told) ∙ version_agrees n version command (volume_on t) (with_is t told).volume (plan.commits (volume_on t) (with_is t told))
+        filed_is : filed ≡ with_file command (chosen_place n command v) t
+        filed_is = ap (λ (w : Option Volume). file_when n command w t) (volume_is t told)
 
-          either : (c : Tape) → IsOldOrNew version (changes t) t c → HasEitherVolume n command t c
-          either c left =
-              let v : Volume = volume_on t in
-              let both = stops_leave n t v (tape t told) (within t told) version c command formed (plan.commits v (with_is t told)) (plan.free v (with_is t told))
-              (subst (λ (cs : Changes). IsOldOrNew version cs t c) (sym of_volume) left) in
-              record {
-                volume = elim both.0 [
-                  | inl e ↦ inl (e ∙ sym (volume_is t told))
-                  | inr e ↦ inr (e ∙ sym (ap (λ (p : Option Refusal × Option Volume). p.1) (applied t told (plan.free v (with_is t told)))))
-                ];
-                own_gate = both.1;
-              }
+        holds : IsTape n filed × (volume_in filed ≡ Some v)
+        holds = subst (λ (f : Tape). IsTape n f × (volume_in f ≡ Some v)) (sym filed_is) (file_first n t v (tape t told) (within t told) command plan.formed free)
 
-          now_is : (u : Tape) → IsCommitted version (changes t) t u → volume_of u ≡ Some (volume_after n command (volume_on t))
-          now_is u done =
-              let v : Volume = volume_on t in
-              (commit_makes n t v (tape t told) (within t told) version u command formed (plan.commits v (with_is t told)) (plan.free v (with_is t told))
-              (subst (λ (cs : Changes). IsCommitted version cs t u) (sym of_volume) done)).0
+        settled_here : IsSettled t
+        settled_here = (on t told).settled
 
-        module _ (y : VolumeView R) (any_moment : (t : Tape) → (view x.records).tape ≡ Some t → RunLeaves (view x.records) (view y.records) (IsOldOrNew version (changes t) t))
-            (after : (t : Tape) → (view x.records).tape ≡ Some t → (u : Tape) × ((view y.records).tape ≡ Some u) × IsOldOrNew version (changes t) t u) where
-          turns : (t : Tape) → (view x.records).tape ≡ Some t → VolumeTurns n command (view x.records) (view y.records) t
-          turns t told =
-              let left = after t told in
-              record { stops = weaker _ _ _ _ _ _ (any_moment t told) (λ c. either t told c); after = (left.0, left.1, either t told left.0 left.2) }
+        long : (start count : ℕ) → start + count ≤ n - 4 → start + count ≤ length t
+        long start count le = omega (arith, le, (tape t told).records)
 
-          -- the store failed
-          pub fails : (trouble : Trouble) → GoesOn {T = Unit {0}} 12 (view x.records) (view y.records) (Err trouble) → y.kept ≡ None
-              → CarriesOut {T = Unit {0}} command view x y (Err (Troubled trouble))
-          fails trouble goes none = record {
-            goes_on = goes;
-            kept = none;
+        -- the tape with the file of a store
+        module _ (name : List ℕ) (kind : ℕ) (implementation bytes : List ℕ) (placed : PlacesFileOf n (Store name kind implementation bytes) header slots change) where
+          long_of : change.entry.start + length (file_records bytes) ≤ length t
+          long_of = omega (arith, placed.high, placed.count, records_count bytes, (tape t told).records, opened.size)
+
+          pub filed_store : with_file (Store name kind implementation bytes) (chosen_place n (Store name kind implementation bytes) v) t ≡ with_records change.entry.start (file_records bytes) t
+          filed_store = ap (λ (p : Place). with_file (Store name kind implementation bytes) p t) (placed.chosen v (with_is t told))
+
+          replaced : Replaced change.entry.start (file_records bytes) t (with_records change.entry.start (file_records bytes) t)
+          replaced = records_replaced change.entry.start (file_records bytes) t long_of
+
+          pub run_is : (f : Tape) → Replaced change.entry.start (file_records bytes) t f → f ≡ with_records change.entry.start (file_records bytes) t
+          run_is f done = replaced_is change.entry.start (file_records bytes) t f long_of done
+
+          again_store : with_file (Store name kind implementation bytes) (chosen_place n (Store name kind implementation bytes) v) (with_records change.entry.start (file_records bytes) t)
+              ≡ with_records change.entry.start (file_records bytes) t
+          again_store =
+              let f : Tape = with_records change.entry.start (file_records bytes) t in
+              ap (λ (p : Place). with_file (Store name kind implementation bytes) p f) (placed.chosen v (with_is t told))
+              ∙ sym (replaced_is change.entry.start (file_records bytes) f f (omega (arith, long_of, replaced.records)) (record { records = refl; within = replaced.within; before = λ k lt. refl; behind = λ k le. refl }))
+
+        -- to write the file once more changes nothing
+        again_by : (c : VolumeCommand) → PlacesFileOf n c header slots change → with_file c (chosen_place n c v) (with_file c (chosen_place n c v) t) ≡ with_file c (chosen_place n c v) t
+        again_by Dir placed = refl
+        again_by Label placed = refl
+        again_by (Fetch name) placed = refl
+        again_by (Store name kind implementation bytes) placed =
+            let same = filed_store name kind implementation bytes placed in
+            ap (with_file (Store name kind implementation bytes) (chosen_place n (Store name kind implementation bytes) v)) same ∙ again_store name kind implementation bytes placed ∙ sym same
+        again_by (Rename old later) placed = refl
+        again_by (Purge name) placed = refl
+        again_by Adopt placed = refl
+        again_by Upgrade placed = refl
+        again_by (Format label slots) placed = refl
+
+        settled_by : (c : VolumeCommand) → PlacesFileOf n c header slots change → refusal_of n c (Some v) ≡ None → IsSettled (with_file c (chosen_place n c v) t)
+        settled_by Dir placed none = settled_here
+        settled_by Label placed none = settled_here
+        settled_by (Fetch name) placed none = settled_here
+        settled_by (Store name kind implementation bytes) placed none =
+            subst (λ (f : Tape). IsSettled f) (sym (filed_store name kind implementation bytes placed))
+            (file_settled n t v (tape t told) (within t told) name kind implementation bytes change.slot change.entry.start (with_records change.entry.start (file_records bytes) t) settled_here none
+            (placed.chosen v (with_is t told)) (replaced name kind implementation bytes placed))
+        settled_by (Rename old later) placed none = settled_here
+        settled_by (Purge name) placed none = settled_here
+        settled_by Adopt placed none = settled_here
+        settled_by Upgrade placed none = settled_here
+        settled_by (Format label slots) placed none = settled_here
+
+        again : with_file command (chosen_place n command v) filed ≡ filed
+        again = ap (with_file command (chosen_place n command v)) filed_is ∙ again_by command plan.file ∙ sym filed_is
+
+        pub filed_settled : IsSettled filed
+        filed_settled = subst (λ (f : Tape). IsSettled f) (sym filed_is) (settled_by command plan.file free)
+
+        abbrev made : Changes
+        made = changes_made header.start change filed
+
+        of_volume : changes_of n command v filed ≡ made
+        of_volume =
+            let begins : directory_start (record_at t 0) ≡ header.start = sym (ap (λ (h : HeaderParts). h.start) (on t told).directory.header) in
+            changes_are n version command v filed commits_here ∙ (λ i. changes_by (begins i) (plan.writes v (with_is t told) filed holds.0 holds.1 i) filed)
+
+        changes_is : changes_filed n command (volume_of t) t ≡ made
+        changes_is = ap (λ (w : Option Volume). changes_when n command w filed) (volume_is t told) ∙ of_volume
+
+        version_is : version_for n command (volume_of t) ≡ version
+        version_is = ap (version_for n command) (volume_is t told) ∙ version_agrees n version command v (with_is t told).volume commits_here
+
+        -- ---- what a stop leaves, and what stands behind
+
+        either : (c : Tape) → IsOldOrNew version made filed c → HasEitherVolume n command t c
+        either c left =
+            let both = stops_leave n version filed v holds.0 holds.1 c command plan.formed commits_here free
+            (subst (λ (f : Tape). IsOldOrNew version (changes_of n command v filed) f c) (sym again) (subst (λ (cs : Changes). IsOldOrNew version cs filed c) (sym of_volume) left)) in
+            record {
+              volume = elim both.0 [
+                | inl e ↦ inl (e ∙ sym (volume_is t told))
+                | inr e ↦ inr (e ∙ sym (ap (λ (p : Option Refusal × Option Volume). p.1) (applied t told free)))
+              ];
+              own_gate = both.1;
+            }
+
+        now_is : (u : Tape) → IsCommitted version made filed u → volume_of u ≡ Some (volume_after n command v)
+        now_is u done = (commit_makes n version filed v holds.0 holds.1 u command plan.formed commits_here free
+            (subst (λ (f : Tape). IsCommitted version (changes_of n command v filed) f u) (sym again) (subst (λ (cs : Changes). IsCommitted version cs filed u) (sym of_volume) done))).0
+
+        -- while the file of a store is written
+        partly : (name : List ℕ) (kind : ℕ) (implementation bytes : List ℕ) → command ≡ Store name kind implementation bytes → PlacesFileOf n (Store name kind implementation bytes) header slots change
+            → (c : Tape) → PartlyReplaced change.entry.start (file_records bytes) t c → HasEitherVolume n command t c
+        partly name kind implementation bytes is placed c left =
+            let both = file_stops n t v (tape t told) (within t told) name kind implementation bytes change.slot change.entry.start c settled_here (subst (λ (d : VolumeCommand). refusal_of n d (Some v) ≡ None) is free)
+            (placed.chosen v (with_is t told)) left in
+            record { volume = inl (both.0 ∙ sym (volume_is t told)); own_gate = both.1 }
+
+      -- ---- the file
+
+      -- there is none
+      pub files_none : (calls : ℕ) → IsReady calls (view x.records) → HasFile command None → PutsFile {T = Unit {0}} command (view x.records) (view x.records) (Ok tt)
+      files_none calls ready has =
+          let plain = without_file command has in
+          record {
+            goes_on = goes_within 0 (file_count command) _ _ _ (omega arith) (goes_nowhere calls (view x.records) ready);
             on_tape = λ t told. record {
-              few = subst (λ (cs : Changes). (view x.records).calls_left ≤ (view y.records).calls_left + committing_on {T = Unit {0}} cs (Err (Troubled trouble))) (sym (changes_is t told)) goes.continues.left;
-              written = λ u now. tt;
-              answers = λ u now. tt;
-              stops = turns t told;
-              added = tt;
+              stops = rests t told;
+              done = told ∙ ap Some (sym (plain.2 n (volume_of t) t));
+              added = λ list was. subst (λ (runs : List Transfer). (view x.records).transferred (list ++ runs)) (sym (plain.1 n (volume_of t))) (subst (view x.records).transferred (sym (append-nil list)) was);
             };
           }
 
-          module _ (goes : GoesOn {T = Unit {0}} 12 (view x.records) (view y.records) (Ok tt))
-              (done : (t : Tape) → (view x.records).tape ≡ Some t → (u : Tape) × ((view y.records).tape ≡ Some u) × IsCommitted version (changes t) t u) (still : y.kept ≡ x.kept) where
-            pub commits : ((t : Tape) → (view x.records).tape ≡ Some t → AddsWrites (commit_writes version (view x.records).record_count (has_open_gate t) (changes t)) (view x.records).transferred (view y.records).transferred)
-                → CarriesOut {T = Unit {0}} command view x y (Ok tt)
-            commits writes = record {
+      -- it is written by a run
+      module _ (name : List ℕ) (kind : ℕ) (implementation bytes : List ℕ) (is : command ≡ Store name kind implementation bytes) (placed : PlacesFileOf n (Store name kind implementation bytes) header slots change)
+          (w : RecordsView S) (r : Result (Unit {0}) Trouble) (run : StoredRun change.entry.start (file_records bytes) (view x.records) w r) where
+        runs : (t : Tape) → (view x.records).tape ≡ Some t → RunLeaves (view x.records) w (HasEitherVolume n command t)
+        runs t told = goes_on _ _ _ _ _ _ (HasEitherVolume n command t) _ (PartlyReplaced change.entry.start (file_records bytes)) t told
+            (started _ _ (HasEitherVolume n command t) t (λ c left. store.leaves_only t c told left) (here t told)) run.time (λ c left. partly t told name kind implementation bytes is placed c left)
+
+        filed_stored : (t : Tape) (told : (view x.records).tape ≡ Some t) → file_when n command (volume_of t) t ≡ with_records change.entry.start (file_records bytes) t
+        filed_stored t told = filed_is t told ∙ (λ i. with_file (is i) (chosen_place n (is i) (volume_on t)) t) ∙ filed_store t told name kind implementation bytes placed
+
+        runs_stored : (t : Tape) (told : (view x.records).tape ≡ Some t) → file_runs n command (volume_of t) ≡ run_of change.entry.start bytes ∷ []
+        runs_stored t told = (λ i. file_runs n (is i) (volume_is t told i)) ∙ ap (λ (p : Place). runs_at p bytes) (placed.chosen (volume_on t) (with_is t told))
+
+        goes_stored : GoesOn (file_count command) (view x.records) w r
+        goes_stored = subst (λ (k : ℕ). GoesOn k (view x.records) w r) (sym (ap file_count is)) run.goes_on
+
+      module _ (name : List ℕ) (kind : ℕ) (implementation bytes : List ℕ) (is : command ≡ Store name kind implementation bytes) (placed : PlacesFileOf n (Store name kind implementation bytes) header slots change) (w : RecordsView S) where
+        files_run : (r : Result (Unit {0}) Trouble) → StoredRun change.entry.start (file_records bytes) (view x.records) w r → PutsFile command (view x.records) w r
+        files_run (Ok tt) run = record {
+          goes_on = goes_stored name kind implementation bytes is placed w (Ok tt) run;
+          on_tape = λ t told.
+              let left = run.content t told in
+              let f : Tape = file_when n command (volume_of t) t in
+              let same : left.0 ≡ f = run_is t told name kind implementation bytes placed left.0 left.2 ∙ sym (filed_stored name kind implementation bytes is placed w (Ok tt) run t told) in
+              let stands : w.tape ≡ Some f = left.1 ∙ ap Some same in
+              let whole : IsSettled f = filed_settled t told in
+              record {
+                stops = record {
+                  stops = runs name kind implementation bytes is placed w (Ok tt) run t told;
+                  after = (
+                    f,
+                    stands,
+                    record {
+                      volume = inl (ap volume_in whole ∙ (holds t told).1 ∙ sym (volume_is t told));
+                      own_gate = ap (λ (cs : Changes). not (is_none cs) && is_gate_held (settled f)) (settled_has_none f whole);
+                    },
+                  );
+                };
+                done = stands;
+                added = λ list was.
+                    subst (λ (more : List Transfer). w.transferred (list ++ more)) (sym (runs_stored name kind implementation bytes is placed w (Ok tt) run t told))
+                    (subst (λ (b : List ℕ). w.transferred (list ++ record { writes = true; first = change.entry.start; bytes = b } ∷ [])) (file_bytes bytes) (run.transfers.at_end list was));
+              };
+        }
+        files_run (Err e) run = record {
+          goes_on = goes_stored name kind implementation bytes is placed w (Err e) run;
+          on_tape = λ t told.
+              let left = run.content t told in
+              record {
+                stops = record { stops = runs name kind implementation bytes is placed w (Err e) run t told; after = (left.0, left.1, partly t told name kind implementation bytes is placed left.0 left.2) };
+                done = tt;
+                added = tt;
+              };
+        }
+
+      pub files_some : (w : RecordsView S) (r : Result (Unit {0}) Trouble) (file : List ℕ) → HasFile command (Some file) → StoredRun change.entry.start (cut change.entry.length file) (view x.records) w r
+          → PutsFile command (view x.records) w r
+      files_some w r file has run = by command refl has plan.file
+        where
+          by : (c : VolumeCommand) → command ≡ c → HasFile c (Some file) → PlacesFileOf n c header slots change → PutsFile command (view x.records) w r
+          by Dir is has placed = cc
+          by Label is has placed = cc
+          by (Fetch name) is has placed = cc
+          by (Store name kind implementation bytes) is has placed =
+              let same : file ≡ bytes = cc in
+              files_run name kind implementation bytes is placed w r
+              (subst (λ (k : ℕ). StoredRun change.entry.start (cut k bytes) (view x.records) w r) placed.count
+              (subst (λ (b : List ℕ). StoredRun change.entry.start (cut change.entry.length b) (view x.records) w r) same run))
+          by (Rename old later) is has placed = cc
+          by (Purge name) is has placed = cc
+          by Adopt is has placed = cc
+          by Upgrade is has placed = cc
+          by (Format label slots) is has placed = cc
+
+      -- as many records as the directory leaves room for
+      pub file_fits : file_count command ≤ beside n (Some header)
+      file_fits = by command plan.file
+        where
+          by : (c : VolumeCommand) → PlacesFileOf n c header slots change → file_count c ≤ beside n (Some header)
+          by Dir placed = omega arith
+          by Label placed = omega arith
+          by (Fetch name) placed = omega arith
+          by (Store name kind implementation bytes) placed = omega (arith, records_count bytes, placed.count, placed.low, placed.high, readable.0)
+          by (Rename old later) placed = omega arith
+          by (Purge name) placed = omega arith
+          by Adopt placed = omega arith
+          by Upgrade placed = omega arith
+          by (Format label slots) placed = omega arith
+
+      -- ---- the file and the commit
+
+      pub puts_fail : (w : RecordsView S) (e : Trouble) → PutsFile {T = Unit {0}} command (view x.records) w (Err e) → Puts {T = Unit {0}} command header.start change (view x.records) w (Err e)
+      puts_fail w e files = record {
+        goes_on = goes_within (file_count command) (file_count command + most_commit_calls) _ _ _ (omega arith) files.goes_on;
+        on_tape = λ t told. record { stops = (files.on_tape t told).stops; done = tt; added = tt };
+      }
+
+      module _ (w : RecordsView S) (files : PutsFile {T = Unit {0}} command (view x.records) w (Ok tt)) where
+        -- the store is ready for the commit
+        pub commit_ready : IsReady (carry_room (view x.records).record_count header) (view x.records) → IsReady most_commit_calls w
+        commit_ready ready = record { valid = files.goes_on.continues.valid; sound = files.goes_on.continues.sound; left = omega (arith, ready.left, files.goes_on.continues.left, file_fits) }
+
+        pub settled_there : (f : Tape) → w.tape ≡ Some f → IsSettled f
+        settled_there f now =
+            let was = was_told _ _ files.goes_on.continues.told f now in
+            subst (λ (c : Tape). IsSettled c) (sym (same_tape (file_when n command (volume_of was.0) was.0) f _ (files.on_tape was.0 was.1).done now)) (filed_settled was.0 was.1)
+
+        pub below_there : LiesBelowRedo w.record_count header.start change
+        below_there = subst (λ (k : ℕ). LiesBelowRedo k header.start change) (sym files.goes_on.continues.size) lies_below
+
+        pub puts : (y : RecordsView S) (r : Result (Unit {0}) Trouble) → CommitsChange header.start change w y r → Puts command header.start change (view x.records) y r
+        puts y r did = record {
+          goes_on = goes_further (file_count command) most_commit_calls (view x.records) w y tt r files.goes_on did.goes_on;
+          on_tape = λ t told.
+              let first = files.on_tape t told in
+              let f : Tape = file_when n command (volume_of t) t in
+              let left = did.after f first.done in
+              record {
+                stops = record {
+                  stops = follows _ _ _ _ _ _ (HasEitherVolume n command t) (IsOldOrNew version (changes_made header.start change f) f) first.stops.stops (did.any_moment f first.done) (λ c. either t told c);
+                  after = (left.0, left.1, either t told left.0 left.2);
+                };
+                done = done_by r did t told;
+                added = added_by r did t told;
+              };
+        }
+          where
+            done_by : (r : Result (Unit {0}) Trouble) → CommitsChange header.start change w y r → (t : Tape) → (view x.records).tape ≡ Some t
+                → OnOk r ((u : Tape) × (y.tape ≡ Some u) × IsCommitted version (changes_made header.start change (file_when n command (volume_of t) t)) (file_when n command (volume_of t) t) u)
+            done_by (Ok tt) did t told = did.done (file_when n command (volume_of t) t) (files.on_tape t told).done
+            done_by (Err e) did t told = tt
+
+            added_by : (r : Result (Unit {0}) Trouble) → CommitsChange header.start change w y r → (t : Tape) → (view x.records).tape ≡ Some t
+                → OnOk r ((list : List Transfer) → (view x.records).transferred list → (more : List Transfer)
+                × y.transferred (list ++ (file_runs n command (volume_of t) ++ more))
+                × (writes_among more ≡ commit_writes version n (has_open_gate (file_when n command (volume_of t) t)) (changes_made header.start change (file_when n command (volume_of t) t)))
+                × AreSingle more)
+            added_by (Ok tt) did t told = λ list was.
+                let first = files.on_tape t told in
+                let f : Tape = file_when n command (volume_of t) t in
+                let two = (did.writes f first.done).goes_on (list ++ file_runs n command (volume_of t)) (first.added list was) in (
+                  two.0,
+                  subst y.transferred (append_assoc list (file_runs n command (volume_of t)) two.0) two.1,
+                  two.2 ∙ ap (λ (k : ℕ). commit_writes version k (has_open_gate f) (changes_made header.start change f)) files.goes_on.continues.size,
+                  two.3,
+                )
+            added_by (Err e) did t told = tt
+
+      -- ---- the whole
+
+      module _ (y : VolumeView R) where
+        few_of : {T : Type 0} (c : VolumeCommand) (t : Tape) (told : (view x.records).tape ≡ Some t) (a : Result T VolumeFault) → carrying n c (Some header) a ≤ carrying_on n c (made t told) a
+        few_of Dir t told a = omega arith
+        few_of Label t told a = omega arith
+        few_of (Fetch name) t told a = omega arith
+        few_of (Store name kind implementation bytes) t told (Ok v) = omega arith
+        few_of (Store name kind implementation bytes) t told (Err (Refused why)) = omega arith
+        few_of (Store name kind implementation bytes) t told (Err (Troubled trouble)) = omega arith
+        few_of (Rename old later) t told a = omega arith
+        few_of (Purge name) t told a = omega arith
+        few_of Adopt t told a = omega arith
+        few_of Upgrade t told a = omega arith
+        few_of (Format label slots) t told a = omega arith
+
+        carrying_is : {T : Type 0} (a : Result T VolumeFault) → carrying n command x.kept a ≡ carrying n command (Some header) a
+        carrying_is a = ap (λ (k : Option HeaderParts). carrying n command k a) kept
+
+        bound : (c : VolumeCommand) → PlacesFileOf n c header slots change → (file_count c + most_commit_calls ≤ carrying {T = Unit {0}} n c (Some header) (Ok tt))
+            × ((e : Trouble) → file_count c + most_commit_calls ≤ carrying {T = Unit {0}} n c (Some header) (Err (Troubled e)))
+        bound Dir placed = (omega arith, λ e. omega arith)
+        bound Label placed = (omega arith, λ e. omega arith)
+        bound (Fetch name) placed = (omega arith, λ e. omega arith)
+        bound (Store name kind implementation bytes) placed =
+            let few : length (file_records bytes) ≤ min (beside n (Some header)) (file_length bytes) = omega (arith, records_count bytes, placed.count, placed.low, placed.high, readable.0) in
+            (omega (arith, few), λ e. omega (arith, few))
+        bound (Rename old later) placed = (omega arith, λ e. omega arith)
+        bound (Purge name) placed = (omega arith, λ e. omega arith)
+        bound Adopt placed = (omega arith, λ e. omega arith)
+        bound Upgrade placed = (omega arith, λ e. omega arith)
+        bound (Format label slots) placed = (omega arith, λ e. omega arith)
+
+        few_is : {T : Type 0} (t : Tape) (told : (view x.records).tape ≡ Some t) (a : Result T VolumeFault) → (view x.records).calls_left ≤ (view y.records).calls_left + carrying n command x.kept a
+            → (view x.records).calls_left ≤ (view y.records).calls_left + carrying_on n command (changes_filed n command (volume_of t) t) a
+        few_is t told a left = subst (λ (cs : Changes). (view x.records).calls_left ≤ (view y.records).calls_left + carrying_on n command cs a) (sym (changes_is t told)) (omega (arith, left, carrying_is a, few_of command t told a))
+
+        -- the store failed
+        pub carry_fails : (e : Trouble) → Puts {T = Unit {0}} command header.start change (view x.records) (view y.records) (Err e) → y.kept ≡ None
+            → CarriesOut {T = Unit {0}} command view x y (Err (Troubled e))
+        carry_fails e put none =
+            let goes = goes_within (file_count command + most_commit_calls) (carrying {T = Unit {0}} n command x.kept (Err (Troubled e))) _ _ _ (omega (arith, (bound command plan.file).1 e, carrying_is {T = Unit {0}} (Err (Troubled e)))) put.goes_on in
+            record {
               goes_on = goes;
-              kept = still;
-              on_tape = λ t told.
-                  let made = done t told in
-                  record {
-                    few = subst (λ (cs : Changes). (view x.records).calls_left ≤ (view y.records).calls_left + committing_on {T = Unit {0}} cs (Ok tt)) (sym (changes_is t told)) goes.continues.left;
-                    written = λ u now.
-                        let same = same_tape made.0 u _ made.1 now in
-                        subst (λ (w : Version). IsChanged w (changes_when n command (volume_of t) t) t u) (sym (version_is t told))
-                        (subst (λ (cs : Changes). IsChanged version cs t u) (sym (changes_is t told)) (subst (IsCommitted version (changes t) t) (sym same) made.2));
-                    answers = λ u now.
-                        let same = same_tape made.0 u _ made.1 now in
-                        applied t told (plan.free (volume_on t) (with_is t told)) ∙ ap (λ (w : Option Volume). (None, w)) (sym (now_is t told made.0 made.2) ∙ ap volume_of (sym same));
-                    stops = turns t told;
-                    added = subst (λ (w : Version). AddsWrites (writes_if_any w n (has_open_gate t) (changes_when n command (volume_of t) t)) (view x.records).transferred (view y.records).transferred) (sym (version_is t told))
-                        (subst (λ (cs : Changes). AddsWrites (writes_if_any version n (has_open_gate t) cs) (view x.records).transferred (view y.records).transferred) (sym (changes_is t told)) (writes t told));
-                  };
+              kept = none;
+              on_tape = λ t told. record { few = few_is t told (Err (Troubled e)) goes.continues.left; written = λ u now. tt; answers = λ u now. tt; stops = (put.on_tape t told).stops; added = tt };
             }
 
-            -- and the slots in memory are those of the tape
-            next : IsVolume n (volume_after n command (some legal.bytes))
-            next = next_volume n version command (some legal.bytes) some_is.volume formed (plan.commits (some legal.bytes) some_is) (plan.free (some legal.bytes) some_is)
-
-            module _ (slots_are : y.slots ≡ slots_with change x.slots) (bytes_are : map slot_bytes y.slots ≡ bytes_with change (map slot_bytes x.slots)) (from : slot_from (entry_bytes change.entry) ≡ slot_of change.entry) where
-              next_is : IsVolume n (record { header = legal.bytes; slots = map slot_bytes y.slots; files = (volume_after n command (some legal.bytes)).files })
-              next_is =
-                  let w : Volume = volume_after n command (some legal.bytes) in
-                  subst (λ (xs : List (List ℕ)). IsVolume n (record { header = legal.bytes; slots = xs; files = w.files })) (plan.after (some legal.bytes) some_is ∙ sym bytes_are)
-                  (subst (λ (h : List ℕ). IsVolume n (record { header = h; slots = w.slots; files = w.files })) (header_stays n command (some legal.bytes) of) next)
-
-              legal_now : IsLegalDirectory n header (map slot_bytes y.slots)
-              legal_now = record {
-                bytes = legal.bytes;
-                told = legal.told;
-                legal = legal_from n legal.bytes (map slot_bytes y.slots) next_is.legal;
-                whole = legal.whole;
-                shape = record { few = omega (arith, next_is.room, ap (λ (h : HeaderParts). h.length) legal.told); entries = next_is.entries; kinds = next_is.kinds };
-              }
-
-              directory_now : (u : Tape) → (view y.records).tape ≡ Some u → IsDirectoryOf u header y.slots
-              directory_now u now =
-                  let was = was_told _ _ goes.continues.told u now in
-                  let t : Tape = was.0 in
-                  let made = done t was.1 in
-                  let same = same_tape made.0 u _ made.1 now in
-                  let before = on t was.1 in
-                  let settles : IsSettled u = subst (λ (w : Tape). IsSettled w) (sym same) (committed_settled version (changes t) t made.0 made.2) in
-                  let w : Volume = volume_after n command (volume_on t) in
-                  let told : volume_in u ≡ Some w = ap volume_in (sym settles) ∙ ap volume_of same ∙ now_is t was.1 made.0 made.2 in
-                  let tells = volume_tells u w told in
-                  let bytes : map slot_bytes y.slots ≡ slots_of u = bytes_are ∙ sym (plan.after (volume_on t) (with_is t was.1)) ∙ tells.2 in
-                  let back : map slot_from (map slot_bytes x.slots) ≡ x.slots = ap (map slot_from) before.directory.bytes ∙ sym before.directory.slots in
-                  record {
-                    settled = settles;
-                    directory = record {
-                      legal = tells.0;
-                      header = before.directory.header ∙ ap header_of (sym (header_stays n command (volume_on t) of) ∙ tells.1);
-                      slots = slots_are ∙ sym (slots_are_from change x.slots from back) ∙ ap (map slot_from) (sym bytes_are ∙ bytes);
-                      bytes = bytes;
+        module _ (put : Puts {T = Unit {0}} command header.start change (view x.records) (view y.records) (Ok tt)) (still : y.kept ≡ x.kept) where
+          pub carries : CarriesOut {T = Unit {0}} command view x y (Ok tt)
+          carries =
+              let goes = goes_within (file_count command + most_commit_calls) (carrying {T = Unit {0}} n command x.kept (Ok tt)) _ _ _ (omega (arith, (bound command plan.file).0, carrying_is {T = Unit {0}} (Ok tt))) put.goes_on in
+              record {
+                goes_on = goes;
+                kept = still;
+                on_tape = λ t told.
+                    let did = put.on_tape t told in
+                    let f : Tape = file_when n command (volume_of t) t in
+                    record {
+                      few = few_is t told (Ok tt) goes.continues.left;
+                      written = λ u now.
+                          let same = same_tape did.done.0 u _ did.done.1 now in
+                          subst (λ (w : Version). IsChanged w (changes_filed n command (volume_of t) t) f u) (sym (version_is t told))
+                          (subst (λ (cs : Changes). IsChanged version cs f u) (sym (changes_is t told)) (subst (IsCommitted version (made t told) f) (sym same) did.done.2));
+                      answers = λ u now.
+                          let same = same_tape did.done.0 u _ did.done.1 now in
+                          applied t told (free t told) ∙ ap (λ (w : Option Volume). (None, w)) (sym (now_is t told did.done.0 did.done.2) ∙ ap volume_of (sym same));
+                      stops = did.stops;
+                      added = record {
+                        goes_on = λ list was.
+                            let more = did.added list was in (
+                              [],
+                              more.0,
+                              more.1,
+                              tt,
+                              more.2 ∙ sym ((λ i. writes_if_any (version_is t told i) n (has_open_gate f) (changes_is t told i))),
+                              more.3,
+                            );
+                      };
                     };
-                  }
-
-              pub commits_open : y.room ≡ x.room → IsOpen view y
-              commits_open room = record {
-                valid = goes.continues.valid;
-                size = omega (arith, opened.size, goes.continues.size);
-                small = omega (arith, opened.small, goes.continues.size);
-                room = room ∙ opened.room ∙ ap (λ (k : ℕ). 8 * (k - 5)) (sym goes.continues.size);
-                legal = subst (λ (o : Option HeaderParts). IfSome o (λ h. IsLegalDirectory (view y.records).record_count h (map slot_bytes y.slots))) (sym (still ∙ kept))
-                    (subst (λ (k : ℕ). IsLegalDirectory k header (map slot_bytes y.slots)) (sym goes.continues.size) legal_now);
-                known = λ u now. subst (λ (o : Option HeaderParts). IfSome o (λ h. IsDirectoryOf u h y.slots)) (sym (still ∙ kept)) (directory_now u now);
               }
+
+          -- and the slots in memory are those of the tape
+          module _ (slots_are : y.slots ≡ slots_with change x.slots) (from : IsToldBack change) where
+            bytes_are : map slot_bytes y.slots ≡ bytes_with change (map slot_bytes x.slots)
+            bytes_are = ap (map slot_bytes) slots_are ∙ changed_bytes change x.slots
+
+            next : IsVolume n (volume_after n command some)
+            next = next_volume n version command some some_is.volume plan.formed commits_some (plan.free some some_is)
+
+            next_is : IsVolume n (record { header = legal.bytes; slots = map slot_bytes y.slots; files = (volume_after n command some).files })
+            next_is =
+                let w : Volume = volume_after n command some in
+                subst (λ (xs : List (List ℕ)). IsVolume n (record { header = legal.bytes; slots = xs; files = w.files })) (plan.after some some_is ∙ sym bytes_are)
+                (subst (λ (h : List ℕ). IsVolume n (record { header = h; slots = w.slots; files = w.files })) (header_stays n version command some commits_some) next)
+
+            legal_now : IsLegalDirectory n header (map slot_bytes y.slots)
+            legal_now = record {
+              bytes = legal.bytes;
+              told = legal.told;
+              legal = legal_from n legal.bytes (map slot_bytes y.slots) next_is.legal;
+              whole = legal.whole;
+              shape = record { few = omega (arith, next_is.room, ap (λ (h : HeaderParts). h.length) legal.told); entries = next_is.entries; kinds = next_is.kinds };
+            }
+
+            directory_now : (u : Tape) → (view y.records).tape ≡ Some u → IsDirectoryOf u header y.slots
+            directory_now u now =
+                let was = was_told _ _ put.goes_on.continues.told u now in
+                let t : Tape = was.0 in
+                let done = (put.on_tape t was.1).done in
+                let same = same_tape done.0 u _ done.1 now in
+                let before = on t was.1 in
+                let settles : IsSettled u = subst (λ (w : Tape). IsSettled w) (sym same) (committed_settled version (made t was.1) (filed t was.1) done.0 done.2) in
+                let w : Volume = volume_after n command (volume_on t) in
+                let told : volume_in u ≡ Some w = ap volume_in (sym settles) ∙ ap volume_of same ∙ now_is t was.1 done.0 done.2 in
+                let tells = volume_tells u w told in
+                let bytes : map slot_bytes y.slots ≡ slots_of u = bytes_are ∙ sym (plan.after (volume_on t) (with_is t was.1)) ∙ tells.2 in
+                let back : map slot_from (map slot_bytes x.slots) ≡ x.slots = ap (map slot_from) before.directory.bytes ∙ sym before.directory.slots in
+                record {
+                  settled = settles;
+                  directory = record {
+                    legal = tells.0;
+                    header = before.directory.header ∙ ap header_of (sym (header_stays n version command (volume_on t) (commits_here t was.1)) ∙ tells.1);
+                    slots = slots_are ∙ sym (told_back change x.slots from back) ∙ ap (map slot_from) (sym bytes_are ∙ bytes);
+                    bytes = bytes;
+                  };
+                }
+
+            pub carries_open : y.room ≡ x.room → IsOpen view y
+            carries_open room =
+                let goes = put.goes_on.continues in
+                record {
+                  valid = goes.valid;
+                  size = omega (arith, opened.size, goes.size);
+                  small = omega (arith, opened.small, goes.size);
+                  room = room ∙ opened.room ∙ ap (λ (k : ℕ). 8 * (k - 5)) (sym goes.size);
+                  legal = subst (λ (o : Option HeaderParts). IfSome o (λ h. IsLegalDirectory (view y.records).record_count h (map slot_bytes y.slots))) (sym (still ∙ kept))
+                      (subst (λ (k : ℕ). IsLegalDirectory k header (map slot_bytes y.slots)) (sym goes.size) legal_now);
+                  known = λ u now. subst (λ (o : Option HeaderParts). IfSome o (λ h. IsDirectoryOf u h y.slots)) (sym (still ∙ kept)) (directory_now u now);
+                }

@@ -10,20 +10,8 @@ use Rattle.lif_model.proofs.Examples as base
 use Rattle.lif_model.proofs.VolumeExamples.{file, purged, a_name, b_name}
 use Rattle.lif_model.specs.declared.refusal.Refusal.TheVariants as refusal
 use Rattle.lif_volume.specs.declared.fault.VolumeFault.TheVariants.{Refused}
-use Rattle.lif_plan.specs.Entries.{extent_of, lies_within, ends_first}
 use Rattle.lif_volume.specs.Answers.{keeps}
 use Rattle.lif_volume.specs.Commands.{calls_needed, directory_records, records_named, mounting, mounting_on, fetching, fetching_on}
-
--- a file of two records from record 5 on
-extents : (extent_of (file a_name 5 2) ≡ record { start = 5; end = 7 })
-    × (lies_within 5 7 (extent_of (file a_name 5 2)) ≡ true) × (lies_within 6 12 (extent_of (file a_name 5 2)) ≡ false) × (lies_within 4 6 (extent_of (file a_name 5 2)) ≡ false)
-unfolding four_at two_at
-extents = (refl, refl, refl, refl)
-
--- files that touch, and files that share a record
-neighbours : (ends_first (extent_of (file a_name 4 2)) (extent_of (file b_name 6 1)) ≡ true) × (ends_first (extent_of (file a_name 4 2)) (extent_of (file b_name 5 1)) ≡ false)
-unfolding four_at two_at
-neighbours = (refl, refl)
 
 -- a purged file has no records for a name
 named_records : (records_named (purged (file b_name 4 1) ∷ file a_name 5 2 ∷ []) a_name ≡ 2) × (records_named (purged (file b_name 4 1) ∷ file a_name 5 2 ∷ []) b_name ≡ 0)

@@ -1,6 +1,6 @@
 -- Worked examples of what commands change, computed by the checker, on a tape of twelve records: the
 -- directory is records 2 and 3, files begin at record 4, and the redo file at record 8.
-use Rattle.std.proofs.Common.{◌≡◌, ◌<◌, ◌++◌, inl, inr, ℕ, zero, suc, List, [], ◌∷◌, true, false, refl, ap, arith, codes}
+use Rattle.std.proofs.Common.{◌≡◌, ◌<◌, ◌++◌, ◌*◌, ◌∙◌, inl, inr, ℕ, zero, suc, List, [], ◌∷◌, true, false, refl, sym, ap, subst, arith, codes}
 use Rattle.std.specs.Prelude.{Option, Some, None, Ok, Err, replicate, get_or}
 use Rattle.std.specs.FinMap.{empty}
 use Rattle.lif_model.specs.Numbers.{two_at, four_at}
@@ -9,9 +9,10 @@ use Rattle.lif_model.specs.Gate.{is_open}
 use Rattle.lif_model.specs.Directory.{name_of, entry_at, entries_of}
 use Rattle.lif_model.specs.Made.{new_entry, with_type, first_directory_record, fresh_header}
 use Rattle.lif_model.specs.Shelf.{piece}
-use Rattle.lif_model.specs.Redo.{One, Two, Changes, changed, open_gate, zeros, targets_record, is_valid}
+use Rattle.lif_model.specs.declared.version.Version.TheVariants.{One, Two}
+use Rattle.lif_model.specs.Redo.{Changes, changed, open_gate, zeros, targets_record, is_valid}
 use Rattle.lif_model.specs.Volume.{Volume}
-use Rattle.lif_model.specs.Apply.{Dir, Rename, Purge, Adopt, Upgrade, Format}
+use Rattle.lif_model.specs.Apply.{Dir, Store, Rename, Purge, Adopt, Format}
 use Rattle.lif_model.specs.Writing.{with_entry}
 use Rattle.lif_model.specs.Transfers.{Transfer}
 use Rattle.lif_model.proofs.Examples as base
@@ -19,10 +20,11 @@ use Rattle.lif_model.proofs.VolumeExamples.{file, purged, a_name, b_name, number
 use Rattle.lif_model.specs.declared.refusal.Refusal.TheVariants as refusal
 use Rattle.lif_volume.specs.declared.fault.VolumeFault.TheVariants.{Refused, Trouble as Troubled}
 use Rattle.il_ports.specs.declared.records.Trouble.TheVariants.{Medium}
-use Rattle.il_ports.specs.Transfers.{WritesOnly}
+use Rattle.il_ports.specs.Transfers.{CoversOnly, WritesOnly}
 use Rattle.lif_redo.specs.Writing.{writes_among, AreSingle}
-use Rattle.lif_volume.specs.Changing.{changes_when, IsChanged, refused_tape, IsWrittenAs, IsOneOf, keeps_behind_command, committing, committing_on, HasEitherVolume, writes_if_any, SettlesAndWrites}
-use Rattle.lif_plan.specs.Plans.{redo_version, version_for}
+use Rattle.lif_volume.specs.Changing.{file_when, changes_when, changes_filed, IsChanged, refused_tape, IsWrittenAs, keeps_behind_command, committing, committing_on, filing, carrying, carrying_on, changing, HasEitherVolume, writes_if_any, commit_when, run_of, file_runs, AddsCommit}
+use Rattle.lif_volume.specs.Carrying.{HasFile, file_count, carry_room}
+use Rattle.lif_volume.specs.Did.{IsOneOf, refusals_of}
 use Rattle.lif_plan.specs.Refusals.{IsAmong}
 
 -- ---- volumes and tapes
@@ -59,13 +61,6 @@ changes : (changes_when 12 (Purge a_name) (with (a_file ∷ redo ∷ [])) old �
     × (changes_when 12 (Format (codes "HPTAPE") 16) None old ≡ (0, fresh_header 12 (codes "HPTAPE") 2) ∷ (2, base.filled (redo ++ base.end_entry)) ∷ [])
 unfolding four_at two_at name_of with_type with_entry entry_at new_entry first_directory_record piece
 changes = (refl, refl, refl, refl)
-
--- the version of the redo file in the directory, where there is one; `format` makes one of version 1
-versions : (redo_version 12 (a_file ∷ redo ∷ []) ≡ One) × (redo_version 44 (a_file ∷ redo_two ∷ []) ≡ Two) × (redo_version 12 (redo_two ∷ []) ≡ One)
-    × (version_for 44 (Rename a_name b_name) (with (a_file ∷ redo_two ∷ [])) ≡ Two) × (version_for 12 Upgrade (with (redo ∷ [])) ≡ One)
-    × (version_for 12 Adopt (with (a_file ∷ [])) ≡ One) × (version_for 44 (Format (codes "HPTAPE") 16) (with (redo_two ∷ [])) ≡ One)
-unfolding four_at two_at name_of
-versions = (refl, refl, refl, refl, refl, refl, refl)
 
 -- without changes the tape stays, with all its bytes
 same_tape : IsChanged One [] old old
@@ -174,15 +169,66 @@ read n bytes = record { writes = false; first = n; bytes = bytes }
 abbrev only : List Transfer → List Transfer → Type 0
 only one list = list ≡ one
 
--- settling reads the gate and writes nothing, and then the record is read and written
-settles_and_writes : SettlesAndWrites (λ k. ⊥) ((3, numbered 7) ∷ []) (only []) (only (read 8 (numbered 0) ∷ read 3 (numbered 5) ∷ write 3 (numbered 7) ∷ []))
-settles_and_writes = record { goes_on = goes_on }
+abbrev volume : Option Volume
+volume = with (a_file ∷ redo ∷ [])
+
+-- the run of a store goes to the first record behind the file that is there; no other command has one
+runs : (file_runs 12 (Store b_name 1 (replicate 4 0) (7 ∷ [])) volume ≡ run_of 5 (7 ∷ []) ∷ []) × (file_runs 12 (Purge a_name) volume ≡ []) × (file_runs 12 (Store b_name 1 (replicate 4 0) []) None ≡ [])
+unfolding four_at two_at name_of
+runs = (refl, refl, refl)
+
+-- and its file stands there before the directory changes
+filed : (record_at (file_when 12 (Store b_name 1 (replicate 4 0) (7 ∷ [])) volume old) 5 ≡ base.filled (7 ∷ [])) × (file_when 12 (Purge a_name) volume old ≡ old)
+unfolding four_at two_at name_of piece
+filed = (refl, refl)
+
+commits : (commit_when 12 (Rename a_name a_name) volume old ≡ []) × (changes_filed 12 (Purge a_name) volume old ≡ (2, base.filled without_a) ∷ [])
+unfolding four_at two_at name_of with_type with_entry entry_at
+commits = (refl, refl)
+
+-- A name that is given anew changes nothing: the gate and record 0 are read, and no record is written.
+adds : AddsCommit (λ k. ⊥) 12 (Rename a_name a_name) volume old (only []) (only (read 8 (numbered 0) ∷ []))
+unfolding four_at two_at name_of
+adds = record { goes_on = goes_on }
   where
     goes_on : (list : List Transfer) → only [] list → (first more : List Transfer)
-        × only (read 8 (numbered 0) ∷ read 3 (numbered 5) ∷ write 3 (numbered 7) ∷ []) (list ++ (first ++ more))
-        × WritesOnly (λ k. ⊥) first × (writes_among more ≡ (3, numbered 7) ∷ []) × AreSingle more
-    goes_on [] is = (read 8 (numbered 0) ∷ [], read 3 (numbered 5) ∷ write 3 (numbered 7) ∷ [], refl, ((λ no. cc), tt), refl, (refl, (refl, tt)))
+        × only (read 8 (numbered 0) ∷ []) (list ++ (first ++ (file_runs 12 (Rename a_name a_name) volume ++ more)))
+        × WritesOnly (λ k. ⊥) first × (writes_among more ≡ commit_when 12 (Rename a_name a_name) volume old) × AreSingle more
+    goes_on [] is = ([], read 8 (numbered 0) ∷ [], refl, tt, refl, (refl, tt))
     goes_on (t ∷ ts) is = cc
+
+-- not where a record is written behind settling
+not_adds : AddsCommit (λ k. k ≡ 8) 12 (Rename a_name a_name) volume old (only []) (only (write 3 (numbered 7) ∷ [])) → ⊥
+unfolding four_at two_at name_of
+not_adds is = let more = is.goes_on [] refl in by more.0 more.1 more.2 more.3 more.4
+  where
+    by : (first later : List Transfer) → first ++ later ≡ write 3 (numbered 7) ∷ [] → WritesOnly (λ k. k ≡ 8) first → writes_among later ≡ [] → ⊥
+    by [] later is writes none = let written : ◌≡◌ {A = Changes} ((3, numbered 7) ∷ []) [] = sym (ap writes_among is) ∙ none in cc
+    by (t ∷ ts) later is writes none =
+        let same : t ≡ write 3 (numbered 7) = cc in
+        let covers = subst (λ (x : Transfer). (x.writes ≡ true) → CoversOnly (λ k. k ≡ 8) x) same writes.0 refl in
+        let size : 256 ≡ 256 * covers.count = covers.whole in
+        let eight : 3 ≡ 8 = covers.each 0 (omega (arith, size)) in
+        absurd (omega (arith, eight))
+
+-- ---- the files and the counts of each command
+
+files : HasFile (Store b_name 1 (replicate 4 0) (7 ∷ [])) (Some (7 ∷ [])) × HasFile (Purge a_name) None
+files = (refl, refl)
+
+not_files : (HasFile (Store b_name 1 (replicate 4 0) (7 ∷ [])) None → ⊥) × (HasFile (Purge a_name) (Some []) → ⊥)
+not_files = ((λ has. cc), λ has. cc)
+
+calls : (file_count (Store b_name 1 (replicate 4 0) []) ≡ 1) × (file_count Adopt ≡ 0) × (carry_room 512 (record { label = codes "HPTAPE"; start = 2; length = 4 }) ≡ 515)
+    × (filing {T = ℕ} 512 None (7 ∷ []) (Ok 0) ≡ 13) × (carrying {T = ℕ} 512 (Store b_name 1 (replicate 4 0) (7 ∷ [])) None (Ok 0) ≡ 13)
+    × (carrying {T = ℕ} 512 (Purge a_name) None (Ok 0) ≡ 12) × (carrying_on {T = ℕ} 512 (Purge a_name) [] (Ok 0) ≡ 0) × (changing {T = ℕ} 512 Adopt None None (Ok 0) ≡ 590)
+    × (changing {T = ℕ} 512 (Store b_name 1 (replicate 4 0) (7 ∷ [])) None None (Err (Troubled Medium)) ≡ 590)
+calls = (refl, refl, refl, refl, refl, refl, refl, refl, refl)
+
+-- ---- refusals of each command
+
+names : (refusals_of Dir ≡ refusal.NotLif ∷ []) × (refusals_of (Format (codes "HPTAPE") 16) ≡ refusal.NoRoom ∷ refusal.InUse ∷ [])
+names = (refl, refl)
 
 -- ---- stops
 

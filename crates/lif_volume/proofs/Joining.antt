@@ -1,71 +1,75 @@
--- A command of the directory: it mounts, and carries out what is planned.
-use Rattle.std.proofs.Common.{◌≡◌, ◌⊎◌, ◌≤◌, ◌<◌, ◌+◌, ◌*◌, ◌++◌, ◌∷◌, ℕ, List, Bool, true, false, if◌then◌else◌, inl, inr, map, refl, sym, ap, subst, ◌∙◌, arith, append_assoc}
+-- A command that changes the volume: it mounts, and carries out what is planned.
+use Rattle.std.proofs.Common.{◌≡◌, ◌⊎◌, ◌≤◌, ◌<◌, ◌+◌, ◌*◌, ◌++◌, ◌∷◌, [], ℕ, List, Bool, true, false, if◌then◌else◌, inl, inr, map, refl, sym, ap, subst, ◌∙◌, arith, append_assoc}
 use Rattle.std.specs.Prelude.{Option, Some, None, Result, Ok, Err, IfErr, is_some}
 use Rattle.lif_model.specs.Tape.{Tape}
-use Rattle.lif_model.specs.Gate.{has_open_gate}
 use Rattle.lif_model.specs.Header.{HeaderParts}
-use Rattle.lif_model.specs.Redo.{redo_of, settled, Changes}
+use Rattle.lif_model.specs.Redo.{redo_of, settled}
 use Rattle.lif_model.specs.Commit.{IsSettleWrite}
 use Rattle.lif_model.specs.Volume.{Volume, volume_in, volume_of}
 use Rattle.lif_model.specs.Apply.{VolumeCommand, Dir, Label, Fetch, Store, Rename, Purge, Adopt, Upgrade, Format, refusal_of, apply}
 use Rattle.lif_model.specs.Transfers.{Transfer}
 use Rattle.lif_model.proofs.Moments.{follows, weaker}
 use Rattle.lif_model.proofs.Redo.{settled_twice}
+use Rattle.lif_model.proofs.Legal.{legal_tells}
+use Rattle.lif_model.proofs.Slots.{readable_tells}
 use Rattle.il_ports.specs.Stores.{RecordsView, IsReady, GoesOn}
-use Rattle.il_ports.specs.Transfers.{GoesOnBy, AddsOnly}
+use Rattle.il_ports.specs.Transfers.{WritesOnly, GoesOnBy, AddsOnly}
 use Rattle.il_ports.proofs.Stores.{goes_further, goes_within}
+use Rattle.il_ports.proofs.Transfers.{wider, then_more}
+use Rattle.lif_dir.specs.Entries.{slot_bytes}
 use Rattle.lif_model.specs.declared.refusal.Refusal.{Refusal}
 use Rattle.lif_model.specs.declared.refusal.Refusal.TheVariants as refusal
+use Rattle.lif_plan.specs.Directories.{IsLegalDirectory}
+use Rattle.lif_plan.specs.Plans.{version_for}
 use Rattle.lif_volume.specs.declared.fault.VolumeFault.{VolumeFault}
 use Rattle.lif_volume.specs.declared.fault.VolumeFault.TheVariants.{Refused, Trouble as Troubled}
 use Rattle.lif_volume.specs.Views.{VolumeView, IsOpen}
-use Rattle.lif_plan.specs.Directories.{IsLegalDirectory}
 use Rattle.lif_volume.specs.Answers.{store_answer, keeps, Answers, IsNotLif, IsLegalAs, IsSettledAs, HasVolumeOf}
 use Rattle.lif_volume.specs.Commands.{fetching, Consults, mounting, mounting_on, AnswersTo, KeepsVolume}
-use Rattle.lif_volume.specs.Changing.{changes_when, IsChanged, refused_tape, IsWrittenAs, keeps_behind_command, committing, committing_on, HasEitherVolume, VolumeTurns, writes_if_any, SettlesAndWrites, AddsCommit, IsOneOf, MountsAndCommits, Writes, TurnsVolume, WritesByCommit}
-use Rattle.lif_plan.specs.Plans.{version_for}
-use Rattle.lif_volume.specs.Plans.{IsOfDirectory, IsWrittenOn, IsAddedOn, CarriesOutOn, CarriesOut}
+use Rattle.lif_volume.specs.Changing.{file_when, changes_filed, IsChanged, refused_tape, IsWrittenOn, IsWrittenAs, keeps_behind_command, committing, filing, storing, carrying, carrying_on, changing, HasEitherVolume, VolumeTurns, AddsAsAnswered, Writes, TurnsVolume, WritesByCommit}
+use Rattle.lif_volume.specs.Carrying.{CarriesOutOn, CarriesOut, carry_room}
+use Rattle.lif_volume.specs.Did.{IsOneOf, refusals_of, Alters}
 use Rattle.lif_volume.proofs.Mounting.{behind, answers_fault}
 use Rattle.lif_volume.proofs.Fetching.{legal_of}
-use Rattle.lif_model.proofs.Legal.{legal_tells}
-use Rattle.lif_model.proofs.Slots.{readable_tells}
-use Rattle.lif_dir.specs.Entries.{slot_bytes}
 
--- ---- the four commands
+-- ---- every command but `format` mounts first, and is refused of a tape that is not legal
 
-refused_is : (command : VolumeCommand) (why : Refusal) (t : Tape) → IsOfDirectory command → refused_tape command why t ≡ settled t
-refused_is Dir why t of = absurd of
-refused_is Label why t of = absurd of
-refused_is (Fetch name) why t of = absurd of
-refused_is (Store name kind implementation bytes) why t of = absurd of
-refused_is (Rename old later) why t of = refl
-refused_is (Purge name) why t of = refl
-refused_is Adopt why t of = refl
-refused_is Upgrade why t of = refl
-refused_is (Format label slots) why t of = absurd of
+abbrev pub Mounts : VolumeCommand → Type 0
+Mounts (Format label slots) = ⊥
+Mounts command = Unit {0}
 
-keeps_is : {T : Type 0} (command : VolumeCommand) (was : Bool) (answer : Result T VolumeFault) → IsOfDirectory command → keeps_behind_command command was answer ≡ keeps answer
-keeps_is Dir was answer of = absurd of
-keeps_is Label was answer of = absurd of
-keeps_is (Fetch name) was answer of = absurd of
-keeps_is (Store name kind implementation bytes) was answer of = absurd of
-keeps_is (Rename old later) was answer of = refl
-keeps_is (Purge name) was answer of = refl
-keeps_is Adopt was answer of = refl
-keeps_is Upgrade was answer of = refl
-keeps_is (Format label slots) was answer of = absurd of
+refused_is : (command : VolumeCommand) (why : Refusal) (t : Tape) → Mounts command → refused_tape command why t ≡ settled t
+refused_is Dir why t mounts = refl
+refused_is Label why t mounts = refl
+refused_is (Fetch name) why t mounts = refl
+refused_is (Store name kind implementation bytes) why t mounts = refl
+refused_is (Rename old later) why t mounts = refl
+refused_is (Purge name) why t mounts = refl
+refused_is Adopt why t mounts = refl
+refused_is Upgrade why t mounts = refl
+refused_is (Format label slots) why t mounts = absurd mounts
 
--- of a tape that is not legal
-not_lif : (n : ℕ) (command : VolumeCommand) → IsOfDirectory command → refusal_of n command None ≡ Some refusal.NotLif
-not_lif n Dir of = absurd of
-not_lif n Label of = absurd of
-not_lif n (Fetch name) of = absurd of
-not_lif n (Store name kind implementation bytes) of = absurd of
-not_lif n (Rename old later) of = refl
-not_lif n (Purge name) of = refl
-not_lif n Adopt of = refl
-not_lif n Upgrade of = refl
-not_lif n (Format label slots) of = absurd of
+keeps_is : {T : Type 0} (command : VolumeCommand) (was : Bool) (answer : Result T VolumeFault) → Mounts command → keeps_behind_command command was answer ≡ keeps answer
+keeps_is Dir was answer mounts = refl
+keeps_is Label was answer mounts = refl
+keeps_is (Fetch name) was answer mounts = refl
+keeps_is (Store name kind implementation bytes) was answer mounts = refl
+keeps_is (Rename old later) was answer mounts = refl
+keeps_is (Purge name) was answer mounts = refl
+keeps_is Adopt was answer mounts = refl
+keeps_is Upgrade was answer mounts = refl
+keeps_is (Format label slots) was answer mounts = absurd mounts
+
+not_lif : (n : ℕ) (command : VolumeCommand) → Mounts command → refusal_of n command None ≡ Some refusal.NotLif
+not_lif n Dir mounts = refl
+not_lif n Label mounts = refl
+not_lif n (Fetch name) mounts = refl
+not_lif n (Store name kind implementation bytes) mounts = refl
+not_lif n (Rename old later) mounts = refl
+not_lif n (Purge name) mounts = refl
+not_lif n Adopt mounts = refl
+not_lif n Upgrade mounts = refl
+not_lif n (Format label slots) mounts = absurd mounts
 
 -- ---- by cases on the answer
 
@@ -74,42 +78,105 @@ answers_from n command s t u (Ok x) same is = subst (λ (v : Option Volume). app
 answers_from n command s t u (Err (Refused why)) same is = subst (λ (v : Option Volume). apply n command v ≡ (Some why, volume_of u)) same is
 answers_from n command s t u (Err (Troubled trouble)) same is = tt
 
-written_from : {T : Type 0} (n : ℕ) (command : VolumeCommand) (t u : Tape) (a : Result T VolumeFault) → IsOfDirectory command → volume_of (settled t) ≡ volume_of t
-    → IsWrittenOn n command (settled t) u a → IsWrittenAs n command t u a
-written_from n command t u (Ok x) of same is = subst (λ (v : Option Volume). IsChanged (version_for n command v) (changes_when n command v (settled t)) (settled t) u) same is
-written_from n command t u (Err (Refused why)) of same is = is ∙ sym (refused_is command why t of)
-written_from n command t u (Err (Troubled trouble)) of same is = tt
+pub written_from : {T : Type 0} (n : ℕ) (command : VolumeCommand) (t u : Tape) (a : Result T VolumeFault) → ((why : Refusal) → a ≡ Err (Refused why) → refused_tape command why t ≡ settled t)
+    → volume_of (settled t) ≡ volume_of t → IsWrittenOn n command (volume_of (settled t)) (settled t) u a → IsWrittenAs n command t u a
+written_from n command t u (Ok x) tape same is =
+    subst (λ (v : Option Volume). IsChanged (version_for n command v) (changes_filed n command v (settled t)) (file_when n command v (settled t)) u) same is
+written_from n command t u (Err (Refused why)) tape same is = is ∙ sym (tape why refl)
+written_from n command t u (Err (Troubled trouble)) tape same is = tt
 
-added_from : {T : Type 0} (n : ℕ) (command : VolumeCommand) (t : Tape) (old mid new : List Transfer → Type 0) (a : Result T VolumeFault) → volume_of (settled t) ≡ volume_of t
-    → GoesOnBy (IsSettleWrite n (redo_of t)) old mid → IsAddedOn n command (settled t) mid new a → AddsCommit n command t old new a
-added_from n command t old mid new (Ok x) same first is =
-    subst (λ (v : Option Volume). SettlesAndWrites (IsSettleWrite n (redo_of t)) (writes_if_any (version_for n command v) n (has_open_gate (settled t)) (changes_when n command v (settled t))) old new) same (record {
-      goes_on = λ list was.
-          let a = first.goes_on list was in
-          let b = is.goes_on (list ++ a.0) a.1 in
-          (a.0, b.0, subst new (append_assoc list a.0 b.0) b.1, a.2, b.2, b.3);
-    })
-added_from n command t old mid new (Err (Refused why)) same first is = record { goes_on = λ list was. let a = first.goes_on list was in (a.0, is (list ++ a.0) a.1, a.2) }
-added_from n command t old mid new (Err (Troubled trouble)) same first is = tt
+none_only : (P : ℕ → Type 0) (list : List Transfer) → WritesOnly (λ k. ⊥) list → WritesOnly P list
+none_only P [] only = tt
+none_only P (x ∷ xs) only = (λ writes. let c = only.0 writes in record { count = c.count; whole = c.whole; each = λ k lt. absurd (c.each k lt) }, none_only P xs only.1)
+
+only_then : (P : ℕ → Type 0) (xs ys : List Transfer) → WritesOnly P xs → WritesOnly (λ k. ⊥) ys → WritesOnly P (xs ++ ys)
+only_then P [] ys first next = none_only P ys next
+only_then P (x ∷ xs) ys first next = (first.0, only_then P xs ys first.1 next)
+
+pub added_from : {T : Type 0} (P : ℕ → Type 0) (n : ℕ) (command : VolumeCommand) (volume : Option Volume) (t : Tape) (old mid new : List Transfer → Type 0) (a : Result T VolumeFault)
+    → GoesOnBy P old mid → AddsAsAnswered (λ k. ⊥) n command volume t mid new a → AddsAsAnswered P n command volume t old new a
+added_from P n command volume t old mid new (Ok x) first is = record {
+  goes_on = λ list was.
+      let a = first.goes_on list was in
+      let b = is.goes_on (list ++ a.0) a.1 in
+      (a.0 ++ b.0, b.1, subst new (append_assoc list a.0 (b.0 ++ _) ∙ ap (λ (more : List Transfer). list ++ more) (sym (append_assoc a.0 b.0 _))) b.2, only_then P a.0 b.0 a.2 b.3, b.4, b.5);
+}
+added_from P n command volume t old mid new (Err (Refused why)) first is = then_more P old mid new first (wider (λ k. ⊥) P mid new (λ k no. absurd no) is)
+added_from P n command volume t old mid new (Err (Troubled trouble)) first is = tt
+
+-- ---- how many records
+
+pub filing_any : {T : Type 0} (n : ℕ) (header : HeaderParts) (bytes : List ℕ) (a : Result T VolumeFault) → filing n (Some header) bytes a ≤ filing n None bytes a
+filing_any n header bytes (Ok x) = omega arith
+filing_any n header bytes (Err (Refused why)) = omega arith
+filing_any n header bytes (Err (Troubled trouble)) = omega arith
+
+-- with what is kept behind the answer
+module _ {T : Type 0} (n : ℕ) (header : HeaderParts) (long : header.length + 5 ≤ n) (a : Result T VolumeFault) where
+  few_bound : (old after : Option HeaderParts) → after ≡ (if keeps a then Some header else None) → mounting n old (Some header) + committing a ≤ mounting n old after + committing a
+  few_bound old after is = go (keeps a) refl old
+    where
+      go : (b : Bool) → keeps a ≡ b → (o : Option HeaderParts) → mounting n o (Some header) + committing a ≤ mounting n o after + committing a
+      go true e o = let same : after ≡ Some header = is ∙ ap (λ (b : Bool). if b then Some header else None) e in subst (λ (w : Option HeaderParts). mounting n o (Some header) + committing a ≤ mounting n o w + committing a) (sym same) (omega arith)
+      go false e None = let same : after ≡ None = is ∙ ap (λ (b : Bool). if b then Some header else None) e in subst (λ (w : Option HeaderParts). 71 + header.length + committing a ≤ mounting n None w + committing a) (sym same) (omega (arith, long))
+      go false e (Some h) = omega arith
+
+  storing_bound : (old after : Option HeaderParts) (bytes : List ℕ) → after ≡ (if keeps a then Some header else None) → mounting n old (Some header) + filing n (Some header) bytes a ≤ storing n old after bytes a
+  storing_bound (Some h) after bytes is = omega (arith, filing_any n header bytes a)
+  storing_bound None after bytes is = subst (λ (w : Option HeaderParts). mounting n None (Some header) + filing n (Some header) bytes a ≤ storing n None w bytes a) (sym is) (by a)
+    where
+      refused : (why : Refusal) (b : Bool) → mounting n None (Some header) + filing {T = T} n (Some header) bytes (Err (Refused why)) ≤ storing {T = T} n None (if b then Some header else None) bytes (Err (Refused why))
+      refused why true = omega arith
+      refused why false = omega (arith, long)
+
+      by : (a : Result T VolumeFault) → mounting n None (Some header) + filing n (Some header) bytes a ≤ storing n None (if keeps a then Some header else None) bytes a
+      by (Ok x) = omega arith
+      by (Err (Refused why)) = refused why (keeps {T = T} (Err (Refused why)))
+      by (Err (Troubled trouble)) = omega (arith, long)
+
+  changing_bound : (command : VolumeCommand) (old after : Option HeaderParts) → Mounts command → after ≡ (if keeps a then Some header else None)
+      → mounting n old (Some header) + carrying n command (Some header) a ≤ changing n command old after a
+  changing_bound Dir old after mounts is = few_bound old after is
+  changing_bound Label old after mounts is = few_bound old after is
+  changing_bound (Fetch name) old after mounts is = few_bound old after is
+  changing_bound (Store name kind implementation bytes) old after mounts is = storing_bound old after bytes is
+  changing_bound (Rename old_name later) old after mounts is = few_bound old after is
+  changing_bound (Purge name) old after mounts is = few_bound old after is
+  changing_bound Adopt old after mounts is = few_bound old after is
+  changing_bound Upgrade old after mounts is = few_bound old after is
+  changing_bound (Format label slots) old after mounts is = absurd mounts
+
+-- on a told tape, of a directory that is read or not
+carrying_any : {T : Type 0} (n : ℕ) (command : VolumeCommand) (old new : Option HeaderParts) (a : Result T VolumeFault) → Mounts command → mounting n old new ≤ changing n command old new a
+carrying_any n Dir old new a mounts = omega arith
+carrying_any n Label old new a mounts = omega arith
+carrying_any n (Fetch name) old new a mounts = omega arith
+carrying_any n (Store name kind implementation bytes) (Some header) new a mounts = omega arith
+carrying_any n (Store name kind implementation bytes) None (Some header) a mounts = omega arith
+carrying_any n (Store name kind implementation bytes) None None (Ok x) mounts = omega arith
+carrying_any n (Store name kind implementation bytes) None None (Err (Refused why)) mounts = omega arith
+carrying_any n (Store name kind implementation bytes) None None (Err (Troubled trouble)) mounts = omega arith
+carrying_any n (Rename old_name later) old new a mounts = omega arith
+carrying_any n (Purge name) old new a mounts = omega arith
+carrying_any n Adopt old new a mounts = omega arith
+carrying_any n Upgrade old new a mounts = omega arith
+carrying_any n (Format label slots) old new a mounts = absurd mounts
+
+-- ---- refusals
+
+pub not_lif_only : (names : List Refusal) (f : VolumeFault) → IsNotLif f → IsOneOf (refusal.NotLif ∷ names) f
+not_lif_only names (Refused why) is = inl is
+not_lif_only names (Troubled trouble) is = tt
+
+one_more : (one : Refusal) (names : List Refusal) (f : VolumeFault) → IsOneOf names f → IsOneOf (one ∷ names) f
+one_more one names (Refused why) is = inr is
+one_more one names (Troubled trouble) is = tt
+
+pub among_more : (one : Refusal) (names : List Refusal) (r : Result (Unit {0}) VolumeFault) → IfErr r (IsOneOf names) → IfErr r (IsOneOf (one ∷ names))
+among_more one names (Ok x) is = tt
+among_more one names (Err f) is = one_more one names f is
 
 -- ---- joined
-
--- all that is said of a command that changes the directory
-pub record Altered {R S T : Type 0} (command : VolumeCommand) (view : R → RecordsView S) (old new : VolumeView R) (answer : Result T VolumeFault) : Type 0 where
-  pub commits : MountsAndCommits command view old new answer
-  pub answers : AnswersTo command view old new answer
-  pub written : Writes command view old new answer
-  pub stops : TurnsVolume command view old new
-  pub transfers : WritesByCommit command view old new answer
-
-few_bound : {T : Type 0} (n : ℕ) (old : Option HeaderParts) (header : HeaderParts) (after : Option HeaderParts) (a : Result T VolumeFault) → header.length + 5 ≤ n
-    → after ≡ (if keeps a then Some header else None) → mounting n old (Some header) + committing a ≤ mounting n old after + committing a
-few_bound n old header after a long is = go (keeps a) refl old
-  where
-    go : (b : Bool) → keeps a ≡ b → (o : Option HeaderParts) → mounting n o (Some header) + committing a ≤ mounting n o after + committing a
-    go true e o = let same : after ≡ Some header = is ∙ ap (λ (b : Bool). if b then Some header else None) e in subst (λ (w : Option HeaderParts). mounting n o (Some header) + committing a ≤ mounting n o w + committing a) (sym same) (omega arith)
-    go false e None = let same : after ≡ None = is ∙ ap (λ (b : Bool). if b then Some header else None) e in subst (λ (w : Option HeaderParts). 71 + header.length + committing a ≤ mounting n None w + committing a) (sym same) (omega (arith, long))
-    go false e (Some h) = omega arith
 
 -- the stops of both parts
 pub joined_turns : {R S : Type 0} (view : R → RecordsView S) (x y z : VolumeView R) (command : VolumeCommand) → (view y.records).record_count ≡ (view x.records).record_count
@@ -153,13 +220,19 @@ module _ {R S : Type 0} (view : R → RecordsView S) (x y z : VolumeView R) (com
 
   pub parts_transfers : ((t : Tape) → (view x.records).tape ≡ Some t → GoesOnBy (IsSettleWrite (view x.records).record_count (redo_of t)) (view x.records).transferred (view y.records).transferred)
       → WritesByCommit command view x z a
-  parts_transfers first t told = added_from (view x.records).record_count command t _ _ _ a (settled_same t told) (first t told) (carried_on t told).added
+  parts_transfers first t told =
+      added_from (IsSettleWrite (view x.records).record_count (redo_of t)) (view x.records).record_count command (volume_of t) (settled t) _ _ _ a (first t told)
+      (subst (λ (v : Option Volume). AddsAsAnswered (λ k. ⊥) (view x.records).record_count command v (settled t) (view y.records).transferred (view z.records).transferred a) (settled_same t told) (carried_on t told).added)
 
-module _ {R S : Type 0} (view : R → RecordsView S) (x y z : VolumeView R) (header : HeaderParts) (command : VolumeCommand) (of : IsOfDirectory command) (a : Result (Unit {0}) VolumeFault)
+module _ {R S : Type 0} (view : R → RecordsView S) (x y z : VolumeView R) (header : HeaderParts) (command : VolumeCommand) (mounts : Mounts command) (a : Result (Unit {0}) VolumeFault)
     (mounted : Consults {T = HeaderParts} (mounting (view x.records).record_count x.kept y.kept) (λ t. mounting_on t x.kept) view x y (Ok header)) (kept : y.kept ≡ Some header)
     (long : header.length + 5 ≤ (view x.records).record_count) (carried : CarriesOut command view y z a) where
   size : (view y.records).record_count ≡ (view x.records).record_count
   size = mounted.goes_on.continues.size
+
+  carries_on : GoesOn (carrying (view x.records).record_count command (Some header) a) (view y.records) (view z.records) (store_answer a)
+  carries_on = subst (λ (n : ℕ). GoesOn (carrying n command (Some header) a) (view y.records) (view z.records) (store_answer a)) size
+      (subst (λ (k : Option HeaderParts). GoesOn (carrying (view y.records).record_count command k a) (view y.records) (view z.records) (store_answer a)) kept carried.goes_on)
 
   module _ (t : Tape) (told : (view x.records).tape ≡ Some t) where
     same : volume_of (settled t) ≡ volume_of t
@@ -168,67 +241,56 @@ module _ {R S : Type 0} (view : R → RecordsView S) (x y z : VolumeView R) (hea
     on : CarriesOutOn (view x.records).record_count command (view y.records) (view z.records) (settled t) a
     on = carried_on view x y z command a size mounted.settles carried.on_tape t told
 
-  joined_commits : MountsAndCommits command view x z a
-  joined_commits =
+  is_kept : (b : Bool) → keeps a ≡ b → is_some z.kept ≡ keeps a
+  is_kept true e = ap is_some (carried.kept ∙ ap (λ (b : Bool). if b then y.kept else None) e ∙ kept) ∙ sym e
+  is_kept false e = ap is_some (carried.kept ∙ ap (λ (b : Bool). if b then y.kept else None) e) ∙ sym e
+
+  pub altered : (names : List Refusal) → refusals_of command ≡ refusal.NotLif ∷ names → IfErr a (IsOneOf names) → KeepsVolume view x y
+      → ((t : Tape) → (view x.records).tape ≡ Some t → GoesOnBy (IsSettleWrite (view x.records).record_count (redo_of t)) (view x.records).transferred (view y.records).transferred)
+      → Alters command view x z a
+  altered names list only stays first =
       let n = (view x.records).record_count in
       record {
-        goes_on = goes_within (mounting n x.kept (Some header) + committing a) (mounting n x.kept z.kept + committing a) (view x.records) (view z.records) (store_answer a)
-            (few_bound n x.kept header z.kept a long (carried.kept ∙ ap (λ (o : Option HeaderParts). if keeps a then o else None) kept))
-            (goes_further (mounting n x.kept (Some header)) (committing a) (view x.records) (view y.records) (view z.records) tt (store_answer a)
-            (subst (λ (o : Option HeaderParts). GoesOn {T = Unit {0}} (mounting n x.kept o) (view x.records) (view y.records) (Ok tt)) kept mounted.goes_on) carried.goes_on);
+        goes_on = goes_within (mounting n x.kept (Some header) + carrying n command (Some header) a) (changing n command x.kept z.kept a) (view x.records) (view z.records) (store_answer a)
+            (changing_bound n header long a command x.kept z.kept mounts (carried.kept ∙ ap (λ (o : Option HeaderParts). if keeps a then o else None) kept))
+            (goes_further (mounting n x.kept (Some header)) (carrying n command (Some header) a) (view x.records) (view y.records) (view z.records) tt (store_answer a)
+            (subst (λ (o : Option HeaderParts). GoesOn {T = Unit {0}} (mounting n x.kept o) (view x.records) (view y.records) (Ok tt)) kept mounted.goes_on) carries_on);
         few = λ t told.
-            let cs : changes_when n command (volume_of (settled t)) (settled t) ≡ changes_when n command (volume_of t) (settled t) = ap (λ (v : Option Volume). changes_when n command v (settled t)) (same t told) in
-            omega (arith, mounted.few t told, (on t told).few, ap (λ (c : Changes). committing_on c a) cs);
-        kept = go (keeps a) refl ∙ sym (keeps_is command (is_some x.kept) a of);
+            omega (arith, mounted.few t told, (on t told).few, ap (λ (v : Option Volume). carrying_on n command (changes_filed n command v (settled t)) a) (same t told));
+        kept = is_kept (keeps a) refl ∙ sym (keeps_is command (is_some x.kept) a mounts);
+        only = subst (λ (all : List Refusal). IfErr a (IsOneOf all)) (sym list) (among_more refusal.NotLif names a only);
+        answers = parts_answers view x y z command a size mounted.settles carried.on_tape;
+        written = λ t u told now. written_from n command t u a (λ why is. refused_is command why t mounts) (same t told) ((on t told).written u now);
+        stops = parts_stops view x y z command a size mounted.settles carried.on_tape stays;
+        transfers = parts_transfers view x y z command a size mounted.settles carried.on_tape first;
       }
-    where
-      go : (b : Bool) → keeps a ≡ b → is_some z.kept ≡ keeps a
-      go true e = ap is_some (carried.kept ∙ ap (λ (b : Bool). if b then y.kept else None) e ∙ kept) ∙ sym e
-      go false e = ap is_some (carried.kept ∙ ap (λ (b : Bool). if b then y.kept else None) e) ∙ sym e
-
-  pub altered : KeepsVolume view x y → ((t : Tape) → (view x.records).tape ≡ Some t → GoesOnBy (IsSettleWrite (view x.records).record_count (redo_of t)) (view x.records).transferred (view y.records).transferred)
-      → Altered command view x z a
-  altered stays first = record {
-    commits = joined_commits;
-    answers = parts_answers view x y z command a size mounted.settles carried.on_tape;
-    written = λ t u told now. written_from (view x.records).record_count command t u a of (same t told) ((on t told).written u now);
-    stops = parts_stops view x y z command a size mounted.settles carried.on_tape stays;
-    transfers = parts_transfers view x y z command a size mounted.settles carried.on_tape first;
-  }
 
 -- ---- where mounting is refused, or the store fails in it
 
-module _ {R S : Type 0} (view : R → RecordsView S) (x y : VolumeView R) (command : VolumeCommand) (of : IsOfDirectory command) (fault : VolumeFault)
+module _ {R S : Type 0} (view : R → RecordsView S) (x y : VolumeView R) (command : VolumeCommand) (mounts : Mounts command) (fault : VolumeFault)
     (mounted : Consults {T = HeaderParts} (mounting (view x.records).record_count x.kept y.kept) (λ t. mounting_on t x.kept) view x y (Err fault))
     (only : IsNotLif fault) (exactly : (t : Tape) → (view x.records).tape ≡ Some t → IsLegalAs {T = HeaderParts} (settled t) (Err fault)) where
-  fault_commits : MountsAndCommits {T = Unit {0}} command view x y (Err fault)
-  fault_commits = record {
-    goes_on = goes fault mounted.goes_on;
-    few = λ t told. omega (arith, mounted.few t told);
-    kept = kept fault mounted.kept ∙ sym (keeps_is {T = Unit {0}} command (is_some x.kept) (Err fault) of);
-  }
-    where
-      goes : (f : VolumeFault) → GoesOn (mounting (view x.records).record_count x.kept y.kept) (view x.records) (view y.records) (store_answer {T = HeaderParts} (Err f))
-          → GoesOn (mounting (view x.records).record_count x.kept y.kept + committing {T = Unit {0}} (Err f)) (view x.records) (view y.records) (store_answer {T = Unit {0}} (Err f))
-      goes (Refused why) is = goes_within _ _ _ _ _ (omega arith) is
-      goes (Troubled trouble) is = goes_within _ _ _ _ _ (omega arith) is
+  fault_goes_on : (f : VolumeFault) → GoesOn (mounting (view x.records).record_count x.kept y.kept) (view x.records) (view y.records) (store_answer {T = HeaderParts} (Err f))
+      → GoesOn (changing {T = Unit {0}} (view x.records).record_count command x.kept y.kept (Err f)) (view x.records) (view y.records) (store_answer {T = Unit {0}} (Err f))
+  fault_goes_on (Refused why) is = goes_within _ _ _ _ _ (carrying_any {T = Unit {0}} (view x.records).record_count command x.kept y.kept (Err (Refused why)) mounts) is
+  fault_goes_on (Troubled trouble) is = goes_within _ _ _ _ _ (carrying_any {T = Unit {0}} (view x.records).record_count command x.kept y.kept (Err (Troubled trouble)) mounts) is
 
-      kept : (f : VolumeFault) → is_some y.kept ≡ keeps {T = HeaderParts} (Err f) → is_some y.kept ≡ keeps {T = Unit {0}} (Err f)
-      kept (Refused why) is = is
-      kept (Troubled trouble) is = is
+  fault_kept : (f : VolumeFault) → is_some y.kept ≡ keeps {T = HeaderParts} (Err f) → is_some y.kept ≡ keeps {T = Unit {0}} (Err f)
+  fault_kept (Refused why) is = is
+  fault_kept (Troubled trouble) is = is
 
   fault_answers : AnswersTo {T = Unit {0}} command view x y (Err fault)
   fault_answers t u told now = by fault only (exactly t told) (mounted.settles t told)
     where
       by : (f : VolumeFault) → IsNotLif f → IsLegalAs {T = HeaderParts} (settled t) (Err f) → IsSettledAs t (view y.records).tape (store_answer {T = HeaderParts} (Err f)) → Answers {T = Unit {0}} (view x.records).record_count command t u (Err f)
-      by (Refused why) names off settles = answers_fault (view x.records).record_count t u _ command (Refused why) (not_lif (view x.records).record_count command of) now names off settles
+      by (Refused why) names off settles = answers_fault (view x.records).record_count t u _ command (Refused why) (not_lif (view x.records).record_count command mounts) now names off settles
       by (Troubled trouble) names off settles = tt
 
   fault_written : Writes {T = Unit {0}} command view x y (Err fault)
   fault_written t u told now = by fault (mounted.settles t told)
     where
       by : (f : VolumeFault) → IsSettledAs t (view y.records).tape (store_answer {T = HeaderParts} (Err f)) → IsWrittenAs {T = Unit {0}} (view x.records).record_count command t u (Err f)
-      by (Refused why) settles = behind t u _ now settles ∙ sym (refused_is command why t of)
+      by (Refused why) settles = behind t u _ now settles ∙ sym (refused_is command why t mounts)
       by (Troubled trouble) settles = tt
 
   fault_stops : KeepsVolume view x y → TurnsVolume command view x y
@@ -244,27 +306,23 @@ module _ {R S : Type 0} (view : R → RecordsView S) (x y : VolumeView R) (comma
   fault_transfers first t told = by fault (first t told)
     where
       by : (f : VolumeFault) → AddsOnly (IsSettleWrite (view x.records).record_count (redo_of t)) (view x.records).transferred (view y.records).transferred (store_answer {T = HeaderParts} (Err f))
-          → AddsCommit {T = Unit {0}} (view x.records).record_count command t (view x.records).transferred (view y.records).transferred (Err f)
+          → AddsAsAnswered {T = Unit {0}} (IsSettleWrite (view x.records).record_count (redo_of t)) (view x.records).record_count command (volume_of t) (settled t) (view x.records).transferred (view y.records).transferred (Err f)
       by (Refused why) adds = adds
       by (Troubled trouble) adds = tt
 
-  pub not_altered : KeepsVolume view x y → ((t : Tape) → (view x.records).tape ≡ Some t → AddsOnly (IsSettleWrite (view x.records).record_count (redo_of t)) (view x.records).transferred (view y.records).transferred (store_answer {T = HeaderParts} (Err fault)))
-      → Altered {T = Unit {0}} command view x y (Err fault)
-  not_altered stays first = record { commits = fault_commits; answers = fault_answers; written = fault_written; stops = fault_stops stays; transfers = fault_transfers first }
-
--- ---- refusals
-
-pub not_lif_only : (names : List Refusal) (f : VolumeFault) → IsNotLif f → IsOneOf (refusal.NotLif ∷ names) f
-not_lif_only names (Refused why) is = inl is
-not_lif_only names (Troubled trouble) is = tt
-
-one_more : (one : Refusal) (names : List Refusal) (f : VolumeFault) → IsOneOf names f → IsOneOf (one ∷ names) f
-one_more one names (Refused why) is = inr is
-one_more one names (Troubled trouble) is = tt
-
-pub among_more : (one : Refusal) (names : List Refusal) (r : Result (Unit {0}) VolumeFault) → IfErr r (IsOneOf names) → IfErr r (IsOneOf (one ∷ names))
-among_more one names (Ok x) is = tt
-among_more one names (Err f) is = one_more one names f is
+  pub not_altered : (names : List Refusal) → refusals_of command ≡ refusal.NotLif ∷ names → KeepsVolume view x y
+      → ((t : Tape) → (view x.records).tape ≡ Some t → AddsOnly (IsSettleWrite (view x.records).record_count (redo_of t)) (view x.records).transferred (view y.records).transferred (store_answer {T = HeaderParts} (Err fault)))
+      → Alters {T = Unit {0}} command view x y (Err fault)
+  not_altered names list stays first = record {
+    goes_on = fault_goes_on fault mounted.goes_on;
+    few = λ t told. omega (arith, mounted.few t told);
+    kept = fault_kept fault mounted.kept ∙ sym (keeps_is {T = Unit {0}} command (is_some x.kept) (Err fault) mounts);
+    only = subst (λ (all : List Refusal). IsOneOf all fault) (sym list) (not_lif_only names fault only);
+    answers = fault_answers;
+    written = fault_written;
+    stops = fault_stops stays;
+    transfers = fault_transfers first;
+  }
 
 -- ---- behind mounting
 
@@ -283,10 +341,10 @@ module _ {R S : Type 0} (view : R → RecordsView S) (x y : VolumeView R) (heade
       let readable = readable_tells (view y.records).record_count legal_there.bytes is.readable in
       omega (arith, readable.0, readable.2, mounted.goes_on.continues.size, ap (λ (h : HeaderParts). h.length) legal_there.told, opened.size)
 
-  pub ready_there : 37 < (view x.records).record_count → 2 * (view x.records).record_count + 40 ≤ (view x.records).calls_left → IsReady 12 (view y.records)
+  pub ready_there : 37 < (view x.records).record_count → 2 * (view x.records).record_count + 40 ≤ (view x.records).calls_left → IsReady (carry_room (view y.records).record_count header) (view y.records)
   ready_there size left =
       let goes = subst (λ (o : Option HeaderParts). GoesOn {T = Unit {0}} (mounting (view x.records).record_count x.kept o) (view x.records) (view y.records) (Ok tt)) kept mounted.goes_on in
-      record { valid = goes.continues.valid; sound = goes.continues.sound; left = omega (arith, left, size, goes.continues.left, few_mounted (view x.records).record_count x.kept header, long_there) }
+      record { valid = goes.continues.valid; sound = goes.continues.sound; left = omega (arith, left, size, goes.continues.left, few_mounted (view x.records).record_count x.kept header, long_there, goes.continues.size) }
 
 -- `fetch` may ask for more than mounting does
 pub fetch_bound : {T : Type 0} (n : ℕ) (name : List ℕ) (old : Option HeaderParts) (header : HeaderParts) (slots : List (List ℕ)) (a : Result T VolumeFault) → header.length + 5 ≤ n

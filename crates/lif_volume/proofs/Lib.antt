@@ -1,13 +1,7 @@
 mod Mounting
 mod Fetching
-mod Staging
 mod Carrying
 mod Joining
 mod Renewing
 mod Examples
 mod ExamplesChanging
-mod ExamplesPlans
-mod Placed
-mod Chosen
-mod Filed
-mod Stored

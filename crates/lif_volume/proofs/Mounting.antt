@@ -22,14 +22,9 @@ use Rattle.il_ports.proofs.Stores.{quiet_run, quiet_nowhere, goes_nowhere}
 use Rattle.il_ports.proofs.Transfers.{wider, then_more}
 use Rattle.lif_volume.specs.declared.fault.VolumeFault.{VolumeFault}
 use Rattle.lif_volume.specs.declared.fault.VolumeFault.TheVariants.{Refused, Trouble as Troubled}
-use Rattle.lif_volume.specs.declared.volume.Volume as declared
 use Rattle.lif_volume.specs.Views.{VolumeView, IsDirectoryOf}
 use Rattle.lif_volume.specs.Answers.{HasVolumeOf, Answers, IsSettledAs, IsLegalAs, IsNotLif, store_answer}
 use Rattle.lif_volume.specs.Commands.{VolumeStays, Consults, mounting, mounting_on}
-
--- what contracts see of a volume
-abbrev pub seen : {R : Type 0} → declared.Volume R → VolumeView R
-seen v = record { records = v.records; kept = v.kept; slots = v.directory.table.slots; room = v.directory.table.room }
 
 -- ---- at any moment
 

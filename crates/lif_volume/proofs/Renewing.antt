@@ -1,18 +1,20 @@
 -- `format`: any tape becomes an empty volume.
 use Rattle.std.proofs.Common.{◌≡◌, ◌<◌, ◌≤◌, ◌+◌, ◌-◌, ◌*◌, ◌&&◌, ℕ, List, [], ◌∷◌, Bool, true, false, if◌then◌else◌, length, map, inl, inr, refl, sym, ap, subst, ◌∙◌, arith}
 use Rattle.std.specs.Prelude.{Option, Some, None, Result, Ok, Err, IfErr, IfSome, is_some, filter, not}
+use Rattle.std.proofs.lemmas.List.{append-nil}
 use Rattle.lif_model.specs.Tape.{Tape, IsTape}
 use Rattle.lif_model.specs.Gate.{has_open_gate}
 use Rattle.lif_model.specs.Header.{HeaderParts, header_of, is_readable, directory_end}
 use Rattle.lif_model.specs.Made.{fresh_header, records_for_slots}
-use Rattle.lif_model.specs.Redo.{One, Changes, settled, IsSettled}
-use Rattle.lif_model.specs.Commit.{IsOldOrNew, IsCommitted, commit_writes}
+use Rattle.lif_model.specs.declared.version.Version.TheVariants.{One}
+use Rattle.lif_model.specs.Redo.{Changes, redo_of, settled, IsSettled}
+use Rattle.lif_model.specs.Commit.{IsSettleWrite, IsOldOrNew, IsCommitted, commit_writes}
 use Rattle.lif_model.specs.Pairs.{all_pairs}
 use Rattle.std.specs.List.{list_all}
 use Rattle.lif_model.specs.Legal.{is_live, occupies, lies_between, are_apart, have_other_names}
 use Rattle.std.proofs.lemmas.Bool.{and_parts}
 use Rattle.lif_model.specs.Volume.{Volume, IsVolume, redo_entry, volume_in, volume_of}
-use Rattle.lif_model.specs.Apply.{VolumeCommand, Format, IsWellFormed, is_too_long, lacks_redo, runs_past_gate, refusal_of, fresh_volume, next_unless, apply}
+use Rattle.lif_model.specs.Apply.{VolumeCommand, Format, is_too_long, lacks_redo, runs_past_gate, refusal_of, fresh_volume, next_unless, apply}
 use Rattle.lif_model.specs.declared.refusal.Refusal.{Refusal}
 use Rattle.lif_model.specs.Writing.{format_changes}
 use Rattle.lif_model.proofs.Moments.{weaker}
@@ -23,8 +25,9 @@ use Rattle.lif_model.proofs.Directory.{volume_tells, volume_from}
 use Rattle.lif_model.proofs.Outcomes.{committed_settled}
 use Rattle.lif_model.proofs.Commands.{format_stops, format_commits}
 use Rattle.il_ports.specs.declared.records.Trouble.{Trouble}
-use Rattle.il_ports.specs.Stores.{RecordsView, IsStore, GoesOn, RunLeaves}
-use Rattle.il_ports.proofs.Stores.{goes_within, goes_further, quiet_run, quiet_nowhere}
+use Rattle.il_ports.specs.Stores.{RecordsView, IsStore, IsReady, GoesOn, RunLeaves}
+use Rattle.il_ports.specs.Transfers.{GoesOnBy, AddsOnly}
+use Rattle.il_ports.proofs.Stores.{goes_nowhere, goes_within, goes_further, quiet_run, quiet_nowhere}
 use Rattle.lif_redo.specs.Writing.{AddsWrites}
 use Rattle.lif_redo.proofs.Told.{was_told}
 use Rattle.lif_dir.specs.Entries.{slot_from, slot_bytes}
@@ -33,13 +36,13 @@ use Rattle.lif_plan.specs.Directories.{IsLegalDirectory}
 use Rattle.lif_volume.specs.declared.fault.VolumeFault.{VolumeFault}
 use Rattle.lif_volume.specs.declared.fault.VolumeFault.TheVariants.{Refused, Trouble as Troubled}
 use Rattle.lif_volume.specs.Views.{VolumeView, IsOpen, IsDirectoryOf}
-use Rattle.lif_volume.specs.Answers.{store_answer, keeps, HasVolumeOf}
+use Rattle.lif_volume.specs.Answers.{store_answer, keeps, IsSettledAs, HasVolumeOf}
 use Rattle.lif_volume.specs.Commands.{Consults, mounting, mounting_on, AnswersTo, KeepsVolume}
-use Rattle.lif_volume.specs.Changing.{changes_when, IsChanged, IsWrittenAs, keeps_behind_command, committing, committing_on, HasEitherVolume, VolumeTurns, writes_if_any, IsOneOf, Writes, TurnsVolume}
-use Rattle.lif_volume.specs.Plans.{IsWrittenOn, CarriesOutOn}
-use Rattle.lif_volume.specs.Formatting.{MountsAnyAndCommits, Clears, Renews}
+use Rattle.lif_volume.specs.Changing.{changes_when, changes_filed, IsChanged, refused_tape, IsWrittenAs, keeps_behind_command, committing, committing_on, carrying_on, HasEitherVolume, VolumeTurns, writes_if_any, AddsAsAnswered, TurnsVolume}
+use Rattle.lif_volume.specs.Formatting.{Clears, Renews}
+use Rattle.lif_volume.specs.Did.{IsOneOf, refusals_of, Alters}
 use Rattle.lif_volume.proofs.Mounting.{behind, volume_on, kept_is_of}
-use Rattle.lif_volume.proofs.Joining.{long_there, legal_there, carried_on, settled_same}
+use Rattle.lif_volume.proofs.Joining.{long_there, legal_there, carried_on, settled_same, written_from, parts_answers, parts_stops, parts_transfers}
 
 -- ---- what is tested
 
@@ -219,9 +222,17 @@ module _ {R S : Type 0} (view : R → RecordsView S) (x : VolumeView R) (label :
           written = λ u now. subst (λ (ds : Changes). IsChanged One ds t u) (sym (changes_is t told)) (made_there t told u now);
           answers = λ u now. applied t told ∙ ap (λ (v : Option Volume). (None, v)) (sym (now_is t told u (made_there t told u now)));
           stops = turns t told;
-          added = subst (λ (ds : Changes). AddsWrites (writes_if_any One n (has_open_gate t) ds) (view x.records).transferred (view y.records).transferred) (sym (changes_is t told))
-              (subst (λ (w : Bool). AddsWrites (commit_writes One n w changes) (view x.records).transferred (view y.records).transferred) (writes.1 t told)
-              (subst (λ (ds : Changes). AddsWrites (commit_writes One n writes.0 ds) (view x.records).transferred (view y.records).transferred) is writes.2));
+          added = record {
+            goes_on = λ list was.
+                let more = writes.2.goes_on list was in (
+                  [],
+                  more.0,
+                  more.1,
+                  tt,
+                  more.2 ∙ (λ i. commit_writes One n (writes.1 t told i) (is i)) ∙ sym (ap (writes_if_any One n (has_open_gate t)) (changes_is t told)),
+                  more.3,
+                );
+          };
         };
       }
 
@@ -285,45 +296,46 @@ module _ {R S : Type 0} (view : R → RecordsView S) (x y z : VolumeView R) (lab
       (λ i. refusal_of (cleared.goes_on.continues.size i) (Format label slots) (volume_in (same i))) ∙ cleared.free was.0 was.1 label slots fits
 
   module _ (a : Result (Unit {0}) VolumeFault) (renews : Renews (Format label slots) view y z a) (only : IfErr a (IsOneOf [])) where
-    pub formatted_commits : MountsAnyAndCommits (Format label slots) view x z a
-    formatted_commits =
+    as_kept : (a : Result (Unit {0}) VolumeFault) → IfErr a (IsOneOf []) → keeps_behind_command (Format label slots) (is_some x.kept) a ≡ keeps a
+    as_kept (Ok v) only = refl
+    as_kept (Err (Refused why)) only = absurd only
+    as_kept (Err (Troubled trouble)) only = refl
+
+    one_of : (a : Result (Unit {0}) VolumeFault) → IfErr a (IsOneOf []) → IfErr a (IsOneOf (refusals_of (Format label slots)))
+    one_of (Ok v) only = tt
+    one_of (Err (Refused why)) only = absurd only
+    one_of (Err (Troubled trouble)) only = tt
+
+    settled_tape : (t : Tape) (a : Result (Unit {0}) VolumeFault) → IfErr a (IsOneOf []) → (why : Refusal) → a ≡ Err (Refused why) → refused_tape (Format label slots) why t ≡ settled t
+    settled_tape t (Ok v) only why is = cc
+    settled_tape t (Err (Refused other)) only why is = absurd only
+    settled_tape t (Err (Troubled trouble)) only why is = cc
+
+    pub formatted : KeepsVolume view x y → ((t : Tape) → (view x.records).tape ≡ Some t → GoesOnBy (IsSettleWrite (view x.records).record_count (redo_of t)) (view x.records).transferred (view y.records).transferred)
+        → Alters (Format label slots) view x z a
+    formatted stays first =
         let n = (view x.records).record_count in
+        let size = cleared.goes_on.continues.size in
         record {
           goes_on = goes_further (mounting n x.kept None) (committing a) (view x.records) (view y.records) (view z.records) tt (store_answer a) cleared.goes_on renews.goes_on;
           few = λ t told.
-              let on = carried_on view x y z (Format label slots) a cleared.goes_on.continues.size cleared.settles renews.on_tape t told in
-              let same = settled_same view x y z (Format label slots) a cleared.goes_on.continues.size cleared.settles renews.on_tape t told in
-              let cs : changes_when n (Format label slots) (volume_of (settled t)) (settled t) ≡ changes_when n (Format label slots) (volume_of t) (settled t) = ap (λ (v : Option Volume). changes_when n (Format label slots) v (settled t)) same in
-              omega (arith, cleared.few t told, on.few, ap (λ (c : Changes). committing_on c a) cs);
+              let on = carried_on view x y z (Format label slots) a size cleared.settles renews.on_tape t told in
+              let same = settled_same view x y z (Format label slots) a size cleared.settles renews.on_tape t told in
+              omega (arith, cleared.few t told, on.few, ap (λ (v : Option Volume). carrying_on n (Format label slots) (changes_filed n (Format label slots) v (settled t)) a) same);
           kept = renews.kept ∙ sym (as_kept a only);
+          only = one_of a only;
+          answers = parts_answers view x y z (Format label slots) a size cleared.settles renews.on_tape;
+          written = λ t u told now.
+              written_from n (Format label slots) t u a (settled_tape t a only) (settled_same view x y z (Format label slots) a size cleared.settles renews.on_tape t told)
+              ((carried_on view x y z (Format label slots) a size cleared.settles renews.on_tape t told).written u now);
+          stops = parts_stops view x y z (Format label slots) a size cleared.settles renews.on_tape stays;
+          transfers = parts_transfers view x y z (Format label slots) a size cleared.settles renews.on_tape first;
         }
-      where
-        as_kept : (a : Result (Unit {0}) VolumeFault) → IfErr a (IsOneOf []) → keeps_behind_command (Format label slots) (is_some x.kept) a ≡ keeps a
-        as_kept (Ok v) only = refl
-        as_kept (Err (Refused why)) only = absurd only
-        as_kept (Err (Troubled trouble)) only = refl
-
-    pub formatted_written : Writes (Format label slots) view x z a
-    formatted_written t u told now = by a only (on.written u now)
-      where
-        n : ℕ
-        n = (view x.records).record_count
-
-        on : CarriesOutOn (view x.records).record_count (Format label slots) (view y.records) (view z.records) (settled t) a
-        on = carried_on view x y z (Format label slots) a cleared.goes_on.continues.size cleared.settles renews.on_tape t told
-
-        same : volume_of (settled t) ≡ volume_of t
-        same = settled_same view x y z (Format label slots) a cleared.goes_on.continues.size cleared.settles renews.on_tape t told
-
-        by : (a : Result (Unit {0}) VolumeFault) → IfErr a (IsOneOf []) → IsWrittenOn (view x.records).record_count (Format label slots) (settled t) u a → IsWrittenAs (view x.records).record_count (Format label slots) t u a
-        by (Ok v) only is = subst (λ (v : Option Volume). IsChanged One (changes_when (view x.records).record_count (Format label slots) v (settled t)) (settled t) u) same is
-        by (Err (Refused why)) only is = absurd only
-        by (Err (Troubled trouble)) only is = tt
 
 -- ---- refused, or the store failed before
 
 module _ {R S : Type 0} (view : R → RecordsView S) (x y : VolumeView R) (label : List ℕ) (slots : ℕ) where
-  pub refused_answers : (fault : VolumeFault) → Clears {T = Unit {0}} view x y (Err fault) → is_too_long (view x.records).record_count slots ≡ false → AnswersTo {T = Unit {0}} (Format label slots) view x y (Err fault)
+  refused_answers : (fault : VolumeFault) → Clears {T = Unit {0}} view x y (Err fault) → is_too_long (view x.records).record_count slots ≡ false → AnswersTo {T = Unit {0}} (Format label slots) view x y (Err fault)
   refused_answers (Refused why) cleared fits t u told now =
       let n = (view x.records).record_count in
       let same : u ≡ settled t = behind t u (view y.records).tape now (cleared.settles t told) in
@@ -331,7 +343,7 @@ module _ {R S : Type 0} (view : R → RecordsView S) (x y : VolumeView R) (label
       ∙ ap (λ (v : Option Volume). (Some why, v)) (sym (ap volume_of same ∙ ap volume_in (settled_twice t)))
   refused_answers (Troubled trouble) cleared fits t u told now = tt
 
-  pub refused_stops : KeepsVolume view x y → TurnsVolume (Format label slots) view x y
+  refused_stops : KeepsVolume view x y → TurnsVolume (Format label slots) view x y
   refused_stops stays t told own =
       let first = stays t told own in
       record {
@@ -339,8 +351,72 @@ module _ {R S : Type 0} (view : R → RecordsView S) (x y : VolumeView R) (label
         after = (first.after.0, first.after.1, record { volume = inl first.after.2.volume; own_gate = first.after.2.own_gate });
       }
 
+  keeps_of : (fault : VolumeFault) → IsOneOf (refusal.InUse ∷ []) fault → is_some y.kept ≡ keeps {T = Unit {0}} (Err fault) → is_some y.kept ≡ keeps_behind_command {T = Unit {0}} (Format label slots) (is_some x.kept) (Err fault)
+  keeps_of (Refused why) (inl in_use) is = is ∙ sym (ap (λ (r : Refusal). keeps_behind_command {T = Unit {0}} (Format label slots) (is_some x.kept) (Err (Refused r))) in_use ∙ sym (ap (λ (r : Refusal). keeps {T = Unit {0}} (Err (Refused r))) in_use))
+  keeps_of (Refused why) (inr never) is = absurd never
+  keeps_of (Troubled trouble) only is = is
+
+  one_of_both : (fault : VolumeFault) → IsOneOf (refusal.InUse ∷ []) fault → IsOneOf (refusals_of (Format label slots)) fault
+  one_of_both (Refused why) only = inr only
+  one_of_both (Troubled trouble) only = tt
+
+  pub not_cleared : (fault : VolumeFault) → Clears {T = Unit {0}} view x y (Err fault) → is_too_long (view x.records).record_count slots ≡ false → IsOneOf (refusal.InUse ∷ []) fault → KeepsVolume view x y
+      → ((t : Tape) → (view x.records).tape ≡ Some t → AddsOnly (IsSettleWrite (view x.records).record_count (redo_of t)) (view x.records).transferred (view y.records).transferred (store_answer {T = Unit {0}} (Err fault)))
+      → Alters {T = Unit {0}} (Format label slots) view x y (Err fault)
+  not_cleared fault cleared fits only stays first = record {
+    goes_on = goes_within (mounting n x.kept None) (mounting n x.kept None + committing {T = Unit {0}} (Err fault)) _ _ _ (omega arith) cleared.goes_on;
+    few = λ t told. omega (arith, cleared.few t told);
+    kept = keeps_of fault only cleared.kept;
+    only = one_of_both fault only;
+    answers = refused_answers fault cleared fits;
+    written = λ t u told now. written_by fault only t u told now (cleared.settles t told);
+    stops = refused_stops stays;
+    transfers = λ t told. transfers_by fault t (first t told);
+  }
+    where
+      n : ℕ
+      n = (view x.records).record_count
+
+      written_by : (fault : VolumeFault) → IsOneOf (refusal.InUse ∷ []) fault → (t u : Tape) → (view x.records).tape ≡ Some t → (view y.records).tape ≡ Some u
+          → IsSettledAs t (view y.records).tape (store_answer {T = Unit {0}} (Err fault)) → IsWrittenAs {T = Unit {0}} n (Format label slots) t u (Err fault)
+      written_by (Refused why) (inl in_use) t u told now settles = behind t u _ now settles ∙ sym (ap (λ (r : Refusal). refused_tape (Format label slots) r t) in_use)
+      written_by (Refused why) (inr never) t u told now settles = absurd never
+      written_by (Troubled trouble) only t u told now settles = tt
+
+      transfers_by : (fault : VolumeFault) (t : Tape) → AddsOnly (IsSettleWrite n (redo_of t)) (view x.records).transferred (view y.records).transferred (store_answer {T = Unit {0}} (Err fault))
+          → AddsAsAnswered {T = Unit {0}} (IsSettleWrite n (redo_of t)) n (Format label slots) (volume_of t) (settled t) (view x.records).transferred (view y.records).transferred (Err fault)
+      transfers_by (Refused why) t adds = adds
+      transfers_by (Troubled trouble) t adds = tt
+
 -- nothing is done
-pub nothing_stops : {R S : Type 0} (view : R → RecordsView S) (x : VolumeView R) (command : VolumeCommand) → IsStore (view x.records) → TurnsVolume command view x x
+nothing_stops : {R S : Type 0} (view : R → RecordsView S) (x : VolumeView R) (command : VolumeCommand) → IsStore (view x.records) → TurnsVolume command view x x
 nothing_stops view x command store t told own =
     let here : HasEitherVolume (view x.records).record_count command t t = record { volume = inl refl; own_gate = own } in
     record { stops = quiet_run (view x.records) (view x.records) _ t store (quiet_nowhere (view x.records)) told here; after = (t, told, here) }
+
+-- the medium has no room for the directory
+module _ {R S : Type 0} (view : R → RecordsView S) (x : VolumeView R) (label : List ℕ) (slots : ℕ) (calls : ℕ) (ready : IsReady calls (view x.records)) (store : IsStore (view x.records)) (long : is_too_long (view x.records).record_count slots ≡ true) where
+  no_room_is : (volume : Option Volume) → refusal_of (view x.records).record_count (Format label slots) volume ≡ Some refusal.NoRoom
+  no_room_is None = λ i. if long i then Some refusal.NoRoom else None
+  no_room_is (Some v) = λ i. if long i then Some refusal.NoRoom else if lacks_redo (view x.records).record_count v && runs_past_gate (view x.records).record_count v then Some refusal.InUse else None
+
+  pub no_room : Alters {T = Unit {0}} (Format label slots) view x x (Err (Refused refusal.NoRoom))
+  no_room = record {
+    goes_on = goes_within 0 (mounting (view x.records).record_count x.kept None + committing {T = Unit {0}} (Err (Refused refusal.NoRoom))) _ _ _ (omega arith) (goes_nowhere calls (view x.records) ready);
+    few = λ t told. omega arith;
+    kept = refl;
+    only = inl refl;
+    answers = λ t u told now. refused_stays (view x.records).record_count (Format label slots) (volume_of t) refusal.NoRoom (no_room_is (volume_of t))
+        ∙ ap (λ (w : Tape). (Some refusal.NoRoom, volume_of w)) (sym (same_tape t u _ told now));
+    written = λ t u told now. same_tape t u _ told now;
+    stops = nothing_stops view x (Format label slots) store;
+    transfers = λ t told. record { goes_on = λ list was. ([], subst (view x.records).transferred (sym (append-nil list)) was, tt) };
+  }
+
+-- by the test that the code makes
+pub long_is : (n size slots : ℕ) (b : Bool) → size ≡ n → b ≡ not (is_too_long size slots) → b ≡ false → is_too_long n slots ≡ true
+long_is n size slots b same is off = ap (λ (k : ℕ). is_too_long k slots) (sym same) ∙ go (is_too_long size slots) (sym off ∙ is)
+  where
+    go : (x : Bool) → false ≡ not x → x ≡ true
+    go true e = refl
+    go false e = cc

@@ -1,58 +1,73 @@
--- What the commands that change a volume do.
-use Rattle.std.specs.Prelude.{◌≡◌, ◌⊎◌, ◌≤◌, ◌+◌, ◌++◌, ℕ, Bool, List, [], ◌∷◌, false, Option, Some, None, Result, Ok, Err, is_some}
+-- What the commands that change a volume do: first the file of a store, and then slots of the directory by one commit.
+use Rattle.std.specs.Prelude.{◌≡◌, ◌⊎◌, ◌+◌, ◌-◌, ◌++◌, ℕ, Bool, List, [], ◌∷◌, true, false, min, Option, Some, None, Result, Ok, Err}
 use Rattle.lif_model.specs.Tape.{Tape}
 use Rattle.lif_model.specs.Gate.{has_open_gate}
-use Rattle.lif_model.specs.Redo.{Version, Changes, redo_of, settled}
+use Rattle.lif_model.specs.Header.{HeaderParts}
+use Rattle.lif_model.specs.Made.{file_length, filled}
+use Rattle.lif_model.specs.declared.version.Version.{Version}
+use Rattle.lif_model.specs.Redo.{Changes, redo_of, settled}
 use Rattle.lif_model.specs.Commit.{IsSettleWrite, IsCommitted, commit_writes}
 use Rattle.lif_model.specs.Volume.{Volume, volume_of, is_foreign_gated}
-use Rattle.lif_model.specs.Apply.{VolumeCommand, Format, apply}
-use Rattle.lif_model.specs.Writing.{format_changes, changes_of}
+use Rattle.lif_model.specs.Fit.{Place, At, NoSlot}
+use Rattle.lif_model.specs.Apply.{VolumeCommand, Store, Format, apply}
+use Rattle.lif_model.specs.Writing.{format_changes, changes_of, with_file, chosen_place}
 use Rattle.lif_model.specs.Transfers.{Transfer}
-use Rattle.il_ports.specs.Stores.{RecordsView, GoesOn, RunLeaves}
+use Rattle.il_ports.specs.Stores.{RecordsView, RunLeaves}
 use Rattle.il_ports.specs.Transfers.{WritesOnly, GoesOnBy}
 use Rattle.lif_redo.specs.Writing.{writes_among, AreSingle}
+use Rattle.lif_commit.specs.Staged.{most_commit_calls}
 use Rattle.lif_model.specs.declared.refusal.Refusal.{Refusal}
 use Rattle.lif_model.specs.declared.refusal.Refusal.TheVariants as refusal
-use Rattle.lif_plan.specs.Refusals.{IsAmong}
 use Rattle.lif_plan.specs.Plans.{version_for}
 use Rattle.lif_volume.specs.declared.fault.VolumeFault.{VolumeFault}
 use Rattle.lif_volume.specs.declared.fault.VolumeFault.TheVariants.{Refused, Trouble as Troubled}
 use Rattle.lif_volume.specs.Views.{VolumeView}
-use Rattle.lif_volume.specs.Answers.{store_answer, keeps}
-use Rattle.lif_volume.specs.Commands.{IsTold, mounting, mounting_on}
+use Rattle.lif_volume.specs.Answers.{keeps}
+use Rattle.lif_volume.specs.Commands.{IsTold, mounting}
 
--- ---- what is written
+-- ---- what is written of a settled tape, whose volume is that one or none
 
--- the records that a command changes of a settled tape, whose volume is that one or none
+-- the place of a store's file
+abbrev pub place_when : ℕ → VolumeCommand → Option Volume → Place
+place_when n command (Some v) = chosen_place n command v
+place_when n command None = NoSlot
+
+-- the tape once the file is written; every command but a store leaves it
+abbrev pub file_when : ℕ → VolumeCommand → Option Volume → Tape → Tape
+file_when n command volume tape = with_file command (place_when n command volume) tape
+
+-- the records that change at once on a tape
 abbrev pub changes_when : ℕ → VolumeCommand → Option Volume → Tape → Changes
 changes_when n command (Some v) tape = changes_of n command v tape
 changes_when n (Format label slots) None tape = format_changes n label slots
 changes_when n command None tape = []
+
+-- those behind the file
+abbrev pub changes_filed : ℕ → VolumeCommand → Option Volume → Tape → Changes
+changes_filed n command volume tape = changes_when n command volume (file_when n command volume tape)
 
 -- the tape behind a commit of these changes, or the same tape where there are none
 abbrev pub IsChanged : Version → Changes → Tape → Tape → Type 0
 IsChanged version [] t u = u ≡ t
 IsChanged version (c ∷ cs) t u = IsCommitted version (c ∷ cs) t u
 
+-- Behind an Ok the file stands, and on the tape with the file the changes of the command: all else below the redo file
+-- is as it was, and the gate is closed. A command without changes leaves the tape.
+abbrev pub IsWrittenOn : {T : Type 0} → ℕ → VolumeCommand → Option Volume → Tape → Tape → Result T VolumeFault → Type 0
+IsWrittenOn n command volume t u (Ok _) =
+    IsChanged (version_for n command volume) (changes_filed n command volume t) (file_when n command volume t) u
+IsWrittenOn n command volume t u (Err (Refused why)) = u ≡ t
+IsWrittenOn n command volume t u (Err (Troubled _)) = Unit {0}
+
 -- the tape behind a refusal is the settled one; `format` refuses for want of room before it settles
 abbrev pub refused_tape : VolumeCommand → Refusal → Tape → Tape
 refused_tape (Format label slots) refusal.NoRoom t = t
 refused_tape command why t = settled t
 
--- Behind an Ok the changes of the command stand, all else below the redo file is as on the settled
--- tape, and the gate is closed. A command without changes leaves the settled tape.
+-- the same of any tape, which is settled first
 abbrev pub IsWrittenAs : {T : Type 0} → ℕ → VolumeCommand → Tape → Tape → Result T VolumeFault → Type 0
-IsWrittenAs n command t u (Ok _) =
-    IsChanged (version_for n command (volume_of t)) (changes_when n command (volume_of t) (settled t)) (settled t) u
 IsWrittenAs n command t u (Err (Refused why)) = u ≡ refused_tape command why t
-IsWrittenAs n command t u (Err (Troubled _)) = Unit {0}
-
--- ---- refusals
-
--- it is refused by one of these alone
-abbrev pub IsOneOf : List Refusal → VolumeFault → Type 0
-IsOneOf names (Refused why) = IsAmong names why
-IsOneOf names (Troubled _) = Unit {0}
+IsWrittenAs n command t u answer = IsWrittenOn n command (volume_of t) (settled t) u answer
 
 -- whether the directory is kept behind an answer, where it was kept before or not: `format` that is
 -- refused for want of room leaves that
@@ -65,23 +80,50 @@ keeps_behind_command command was answer = keeps answer
 -- in a commit at most, with the records that are read for it; none where the command is refused
 abbrev pub committing : {T : Type 0} → Result T VolumeFault → ℕ
 committing (Err (Refused why)) = 0
-committing (Ok _) = 12
-committing (Err (Troubled trouble)) = 12
+committing (Ok _) = most_commit_calls
+committing (Err (Troubled trouble)) = most_commit_calls
 
 -- none where the command changes nothing
 abbrev pub committing_on : {T : Type 0} → Changes → Result T VolumeFault → ℕ
 committing_on [] answer = 0
 committing_on (c ∷ cs) answer = committing answer
 
--- what goes on in the store, how many records are read and written, on a told tape too, and whether
--- the directory is kept
-pub record Alters {R S T : Type 0} (calls : ℕ) (command : VolumeCommand) (view : R → RecordsView S)
-    (old new : VolumeView R) (answer : Result T VolumeFault) : Type 0 where
-  pub goes_on : GoesOn (calls + committing answer) (view old.records) (view new.records) (store_answer answer)
-  pub few : (t : Tape) → (view old.records).tape ≡ Some t → (view old.records).calls_left
-      ≤ (view new.records).calls_left + (mounting_on t old.kept
-      + committing_on (changes_when (view old.records).record_count command (volume_of t) (settled t)) answer)
-  pub kept : is_some new.kept ≡ keeps_behind_command command (is_some old.kept) answer
+-- A file lies behind the directory and below the redo file: beside a directory with this header,
+-- or any, it has at most so many records.
+abbrev pub beside : ℕ → Option HeaderParts → ℕ
+beside n (Some header) = n - (header.length + 5)
+beside n None = n - 5
+
+-- on a medium of n records the file's, and those of a commit; none where the command is refused
+abbrev pub filing : {T : Type 0} → ℕ → Option HeaderParts → List ℕ → Result T VolumeFault → ℕ
+filing n kept bytes (Ok _) = min (beside n kept) (file_length bytes) + most_commit_calls
+filing n kept bytes (Err (Refused why)) = 0
+filing n kept bytes (Err (Troubled trouble)) = min (beside n kept) (file_length bytes) + most_commit_calls
+
+-- beside a directory with this header, or any
+abbrev pub carrying : {T : Type 0} → ℕ → VolumeCommand → Option HeaderParts → Result T VolumeFault → ℕ
+carrying n (Store name kind implementation bytes) kept answer = filing n kept bytes answer
+carrying n command kept answer = committing answer
+
+-- on a tape that is told, where these records change
+abbrev pub carrying_on : {T : Type 0} → ℕ → VolumeCommand → Changes → Result T VolumeFault → ℕ
+carrying_on n (Store name kind implementation bytes) changes answer = filing n None bytes answer
+carrying_on n command changes answer = committing_on changes answer
+
+-- So many with those of mounting; where the directory was kept, those of a file beside any. Where a
+-- directory that is read lies below the redo file, they are never more than n + 78.
+abbrev pub storing : {T : Type 0} → ℕ → (old new : Option HeaderParts) → List ℕ → Result T VolumeFault → ℕ
+storing n (Some old) new bytes answer = filing n None bytes answer
+storing n None (Some new) bytes answer = mounting n None (Some new) + filing n (Some new) bytes answer
+storing n None None bytes (Err (Refused why)) = mounting n None None
+storing n None None bytes answer = n + 78
+
+-- of every command with those of mounting; `format` mounts a tape that may be none of a legal volume, whose directory
+-- has any length
+abbrev pub changing : {T : Type 0} → ℕ → VolumeCommand → (old new : Option HeaderParts) → Result T VolumeFault → ℕ
+changing n (Store name kind implementation bytes) old new answer = storing n old new bytes answer
+changing n (Format label slots) old new answer = mounting n old None + committing answer
+changing n command old new answer = mounting n old new + committing answer
 
 -- ---- stops
 
@@ -102,29 +144,42 @@ abbrev pub writes_if_any : Version → ℕ → Bool → Changes → Changes
 writes_if_any version n was_open [] = []
 writes_if_any version n was_open (c ∷ cs) = commit_writes version n was_open (c ∷ cs)
 
--- The list goes on by transfers that write only records that have P, and then by reads and writes of
--- one record each, of which the writes are exactly these.
-pub record SettlesAndWrites (P : ℕ → Type 0) (writes : Changes) (old new : List Transfer → Type 0) : Type 0 where
-  pub goes_on : (list : List Transfer) → old list → (first more : List Transfer) × new (list ++ (first ++ more))
-      × WritesOnly P first × (writes_among more ≡ writes) × AreSingle more
+-- those of the command, made of a settled tape with that volume, or none, once the file is written
+abbrev pub commit_when : ℕ → VolumeCommand → Option Volume → Tape → Changes
+commit_when n command volume t = writes_if_any (version_for n command volume) n
+    (has_open_gate (file_when n command volume t)) (changes_filed n command volume t)
 
--- behind an Ok the writes are those of settling and of one commit of the changes; behind a refusal
--- those of settling
-abbrev pub AddsCommit : {T : Type 0} → ℕ → VolumeCommand → Tape → (List Transfer → Type 0) → (List Transfer → Type 0) → Result T VolumeFault → Type 0
-AddsCommit n command t old new (Ok _) = SettlesAndWrites (IsSettleWrite n (redo_of t))
-    (writes_if_any (version_for n command (volume_of t)) n (has_open_gate (settled t)) (changes_when n command (volume_of t) (settled t)))
-    old new
-AddsCommit n command t old new (Err (Refused why)) = GoesOnBy (IsSettleWrite n (redo_of t)) old new
-AddsCommit n command t old new (Err (Troubled _)) = Unit {0}
+-- the whole file, written by one run
+abbrev pub run_of : ℕ → List ℕ → Transfer
+run_of first bytes = record { writes = true; first = first; bytes = filled bytes }
 
--- ---- what the clauses of a command say
+abbrev pub runs_at : Place → List ℕ → List Transfer
+runs_at (At slot start) bytes = run_of start bytes ∷ []
+runs_at place bytes = []
 
--- it mounts, and makes one commit at most
-abbrev pub MountsAndCommits : {R S T : Type 0} → VolumeCommand → (R → RecordsView S) → (old new : VolumeView R) → Result T VolumeFault → Type 0
-MountsAndCommits command view old new answer =
-    Alters (mounting (view old.records).record_count old.kept new.kept) command view old new answer
+-- of a store one, to the file's place; of every other command none
+abbrev pub file_runs : ℕ → VolumeCommand → Option Volume → List Transfer
+file_runs n (Store name kind implementation bytes) volume =
+    runs_at (place_when n (Store name kind implementation bytes) volume) bytes
+file_runs n command volume = []
 
--- the tape behind the command
+-- The list goes on by transfers that write only records that have P, then by the file at its place, and then by reads
+-- and writes of one record each, of which the writes are exactly those of the commit.
+pub record AddsCommit (P : ℕ → Type 0) (n : ℕ) (command : VolumeCommand) (volume : Option Volume) (t : Tape)
+    (old new : List Transfer → Type 0) : Type 0 where
+  pub goes_on : (list : List Transfer) → old list → (first more : List Transfer)
+      × new (list ++ (first ++ (file_runs n command volume ++ more)))
+      × WritesOnly P first × (writes_among more ≡ commit_when n command volume t) × AreSingle more
+
+-- behind an Ok so; behind a refusal by transfers that write only records that have P
+abbrev pub AddsAsAnswered : {T : Type 0} → (ℕ → Type 0) → ℕ → VolumeCommand → Option Volume → Tape → (old new : List Transfer → Type 0) → Result T VolumeFault → Type 0
+AddsAsAnswered P n command volume t old new (Ok _) = AddsCommit P n command volume t old new
+AddsAsAnswered P n command volume t old new (Err (Refused why)) = GoesOnBy P old new
+AddsAsAnswered P n command volume t old new (Err (Troubled _)) = Unit {0}
+
+-- ---- what is said of a command
+
+-- the tape behind it
 abbrev pub Writes : {R S T : Type 0} → VolumeCommand → (R → RecordsView S) → (old new : VolumeView R) → Result T VolumeFault → Type 0
 Writes command view old new answer = (t u : Tape) → IsTold view old t → IsTold view new u
     → IsWrittenAs (view old.records).record_count command t u answer
@@ -134,7 +189,8 @@ abbrev pub TurnsVolume : {R S : Type 0} → VolumeCommand → (R → RecordsView
 TurnsVolume command view old new = (t : Tape) → IsTold view old t → is_foreign_gated t ≡ false
     → VolumeTurns (view old.records).record_count command (view old.records) (view new.records) t
 
--- the reads and writes go on by those of settling and of one commit
+-- the reads and writes go on by those of settling, by the file, and by those of one commit
 abbrev pub WritesByCommit : {R S T : Type 0} → VolumeCommand → (R → RecordsView S) → (old new : VolumeView R) → Result T VolumeFault → Type 0
 WritesByCommit command view old new answer = (t : Tape) → IsTold view old t
-    → AddsCommit (view old.records).record_count command t (view old.records).transferred (view new.records).transferred answer
+    → AddsAsAnswered (IsSettleWrite (view old.records).record_count (redo_of t)) (view old.records).record_count command
+    (volume_of t) (settled t) (view old.records).transferred (view new.records).transferred answer

@@ -1,4 +1,4 @@
--- What `format` does, beside what every command that changes a volume does.
+-- The two parts of `format`.
 use Rattle.std.specs.Prelude.{◌≡◌, ◌≤◌, ◌+◌, ℕ, List, false, Option, Some, None, Result, Ok, Err, is_some}
 use Rattle.lif_model.specs.Tape.{Tape}
 use Rattle.lif_model.specs.Redo.{settled}
@@ -10,18 +10,8 @@ use Rattle.lif_volume.specs.declared.fault.VolumeFault.TheVariants.{Refused, Tro
 use Rattle.lif_volume.specs.Views.{VolumeView}
 use Rattle.lif_volume.specs.Answers.{store_answer, keeps, IsSettledAs}
 use Rattle.lif_volume.specs.Commands.{mounting, mounting_on}
-use Rattle.lif_volume.specs.Changing.{Alters, committing}
-use Rattle.lif_volume.specs.Plans.{CarriesOutOn}
-
--- ---- what the clauses say
-
--- It mounts a tape that may be none of a legal volume, whose directory has any length, and makes one
--- commit at most. Where the directory is kept it makes the commit alone.
-abbrev pub MountsAnyAndCommits : {R S T : Type 0} → VolumeCommand → (R → RecordsView S) → (old new : VolumeView R) → Result T VolumeFault → Type 0
-MountsAnyAndCommits command view old new answer =
-    Alters (mounting (view old.records).record_count old.kept None) command view old new answer
-
--- ---- its two parts
+use Rattle.lif_volume.specs.Changing.{committing}
+use Rattle.lif_volume.specs.Carrying.{CarriesOutOn}
 
 -- whether a tape with that volume, or none, may be formatted, for whatever directory it has room
 abbrev pub IsFreeAs : {T : Type 0} → ℕ → Option Volume → Result T VolumeFault → Type 0

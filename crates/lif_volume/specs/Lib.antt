@@ -1,8 +1,9 @@
 pub mod Views
+pub mod Seen
+pub mod Lending
 pub mod Answers
 pub mod Commands
 pub mod Changing
-pub mod Plans
+pub mod Carrying
 pub mod Formatting
-pub mod Storing
-pub mod Lending
+pub mod Did

@@ -1,180 +1,140 @@
-//! The commands that change the directory of a volume.
-ghost use Rattle.std.specs.Prelude.{◌≡◌, List, [], ◌∷◌, map, Some, IfErr};
-ghost use Rattle.lif_model.specs.Apply.{VolumeCommand, Purge, Rename, Adopt, Upgrade};
+//! The commands that change a volume: each is planned over the directory in memory, and then carried out.
+ghost use Rattle.std.specs.Prelude.{◌≡◌, ◌≢◌, List, map, option_map, Some, IfErr};
+ghost use Rattle.lif_model.specs.Apply.{VolumeCommand, Store, Purge, Rename, Adopt, Upgrade};
+ghost use Rattle.lif_model.specs.Header.{HeaderParts};
 ghost use Rattle.il_ports.specs.Stores.{IsReady};
 ghost use Rattle.lif_dir.specs.Entries.{name_bytes, slot_bytes};
 ghost use Rattle.lif_dir.specs.Names.{made_name};
-ghost use Rattle.lif_volume.specs.Views.{IsOpen};
-ghost use Rattle.lif_volume.specs.Commands.{IsReadyFor, AnswersTo};
 ghost use Rattle.lif_plan.specs.Refusals.{IsAmong};
-ghost use Rattle.lif_volume.specs.Changing.{IsOneOf, MountsAndCommits, Writes};
-ghost use Rattle.lif_volume.specs.Changing.{TurnsVolume, WritesByCommit};
-ghost use Rattle.lif_volume.specs.Plans.{IsOfDirectory, CarriesOut};
-ghost use Rattle.lif_plan.specs.Plans.{IsPlan};
+ghost use Rattle.lif_plan.specs.Plans.{IsPlan, MakesChange};
+ghost use Rattle.lif_volume.specs.Views.{IsOpen};
+ghost use Rattle.lif_volume.specs.Seen.{seen};
+ghost use Rattle.lif_volume.specs.Commands.{IsReadyFor};
+ghost use Rattle.lif_volume.specs.Carrying.{HasFile, PutsFile, Puts, CarriesOut, carry_room};
+ghost use Rattle.lif_volume.specs.Did.{Did, IsOneOf};
 ghost use Rattle.lif_model.specs.declared.refusal.Refusal.{Refusal};
-ghost use Rattle.lif_model.specs.declared.refusal.Refusal.TheVariants as refusal;
 
 use crate::fault::VolumeFault;
-use crate::volume::{Seen, Volume};
-use il_ports::Records;
-use lif_dir::{Name, NewName};
+use crate::volume::Volume;
+use il_ports::{Records, Trouble};
+use lif_dir::{Change, Name, NewName};
 use lif_header::Header;
-use lif_plan::{Refusal, SlotChange};
+use lif_plan::Refusal;
 
 impl<R: Records> Volume<R> {
+    /// Stores a new file of this name: its bytes, filled up with zeros, in as many records as hold
+    /// them and one at least, and an entry of this type and implementation field, without a date.
+    /// The type is none of a purged file and none that ends a directory. The volume has to be
+    /// adopted. The redo file's name is protected.
+    ///
+    /// The file is written first, into records that no file has, and then the directory changes by
+    /// one commit. The entry takes the slot of a purged file, or that of the redo entry, which then
+    /// moves on by one; where a slot follows that, it becomes the end and keeps its other bytes.
+    pub fn store(
+        &mut self,
+        name: &NewName,
+        kind: u16,
+        implementation: [u8; 4],
+        bytes: &[u8],
+    ) -> Result<(), VolumeFault>
+        requires open { IsOpen R.view (seen self.old) }
+        requires ready { IsReadyFor R.view (seen self.old) }
+        requires live { kind ≢ 0 }
+        requires no_end { kind ≢ 0xFFFF }
+        ensures open { IsOpen R.view (seen self.new) }
+        ensures did { Did (Store (name_bytes (made_name name.now)) kind implementation bytes.now)
+            R.view (seen self.old) (seen self.new) result }
+    {
+        let header = self.mount()?;
+        let size = self.records.size();
+        let plan = self
+            .directory
+            .store(name, kind, implementation, bytes, &header, size);
+        self.carry_out(&header, plan, Some(bytes))
+    }
+
     /// Purges the file of this name: its slot gets the type 0, and all else in the directory stays.
     /// The volume has to be adopted. The redo file is protected.
     pub fn purge(&mut self, name: &Name) -> Result<(), VolumeFault>
-        requires open { IsOpen R.view (⟦<Volume<R> as Seen<R>>⟧.seen self.old) }
-        requires ready { IsReadyFor R.view (⟦<Volume<R> as Seen<R>>⟧.seen self.old) }
-        ensures open { IsOpen R.view (⟦<Volume<R> as Seen<R>>⟧.seen self.new) }
-        ensures commits { MountsAndCommits (Purge (name_bytes name.now)) R.view
-            (⟦<Volume<R> as Seen<R>>⟧.seen self.old)
-            (⟦<Volume<R> as Seen<R>>⟧.seen self.new) result }
-        ensures only { IfErr result
-            (IsOneOf (refusal.NotLif ∷ refusal.NoRedo ∷ refusal.Protected ∷ refusal.NoFile ∷ [])) }
-        ensures answers { AnswersTo (Purge (name_bytes name.now)) R.view
-            (⟦<Volume<R> as Seen<R>>⟧.seen self.old)
-            (⟦<Volume<R> as Seen<R>>⟧.seen self.new) result }
-        ensures written { Writes (Purge (name_bytes name.now)) R.view
-            (⟦<Volume<R> as Seen<R>>⟧.seen self.old)
-            (⟦<Volume<R> as Seen<R>>⟧.seen self.new) result }
-        // A stop at any moment leaves the volume before or the one after, and so does a trouble.
-        ensures stops { TurnsVolume (Purge (name_bytes name.now)) R.view
-            (⟦<Volume<R> as Seen<R>>⟧.seen self.old)
-            (⟦<Volume<R> as Seen<R>>⟧.seen self.new) }
-        ensures transfers { WritesByCommit (Purge (name_bytes name.now)) R.view
-            (⟦<Volume<R> as Seen<R>>⟧.seen self.old)
-            (⟦<Volume<R> as Seen<R>>⟧.seen self.new) result }
+        requires open { IsOpen R.view (seen self.old) }
+        requires ready { IsReadyFor R.view (seen self.old) }
+        ensures open { IsOpen R.view (seen self.new) }
+        ensures did { Did (Purge (name_bytes name.now)) R.view (seen self.old) (seen self.new) result }
     {
         let header = self.mount()?;
         let plan = self.directory.purge(name, &header, self.records.size());
-        self.alter(&header, plan)
+        self.carry_out(&header, plan, None)
     }
 
     /// Gives a file another name: the ten bytes of its name change, and all else in the directory
     /// stays. Its own name changes nothing. The volume has to be adopted. The redo file is
     /// protected, and its name too.
     pub fn rename(&mut self, old: &Name, new: &NewName) -> Result<(), VolumeFault>
-        requires open { IsOpen R.view (⟦<Volume<R> as Seen<R>>⟧.seen self.old) }
-        requires ready { IsReadyFor R.view (⟦<Volume<R> as Seen<R>>⟧.seen self.old) }
-        ensures open { IsOpen R.view (⟦<Volume<R> as Seen<R>>⟧.seen self.new) }
-        ensures commits { MountsAndCommits (Rename (name_bytes old.now) (name_bytes (made_name new.now))) R.view
-            (⟦<Volume<R> as Seen<R>>⟧.seen self.old)
-            (⟦<Volume<R> as Seen<R>>⟧.seen self.new) result }
-        ensures only { IfErr result
-            (IsOneOf (refusal.NotLif ∷ refusal.NoRedo ∷ refusal.Protected ∷ refusal.NoFile
-            ∷ refusal.Exists ∷ [])) }
-        ensures answers { AnswersTo (Rename (name_bytes old.now) (name_bytes (made_name new.now))) R.view
-            (⟦<Volume<R> as Seen<R>>⟧.seen self.old)
-            (⟦<Volume<R> as Seen<R>>⟧.seen self.new) result }
-        ensures written { Writes (Rename (name_bytes old.now) (name_bytes (made_name new.now))) R.view
-            (⟦<Volume<R> as Seen<R>>⟧.seen self.old)
-            (⟦<Volume<R> as Seen<R>>⟧.seen self.new) result }
-        // A stop at any moment leaves the volume before or the one after, and so does a trouble.
-        ensures stops { TurnsVolume (Rename (name_bytes old.now) (name_bytes (made_name new.now))) R.view
-            (⟦<Volume<R> as Seen<R>>⟧.seen self.old)
-            (⟦<Volume<R> as Seen<R>>⟧.seen self.new) }
-        ensures transfers { WritesByCommit (Rename (name_bytes old.now) (name_bytes (made_name new.now))) R.view
-            (⟦<Volume<R> as Seen<R>>⟧.seen self.old)
-            (⟦<Volume<R> as Seen<R>>⟧.seen self.new) result }
+        requires open { IsOpen R.view (seen self.old) }
+        requires ready { IsReadyFor R.view (seen self.old) }
+        ensures open { IsOpen R.view (seen self.new) }
+        ensures did { Did (Rename (name_bytes old.now) (name_bytes (made_name new.now)))
+            R.view (seen self.old) (seen self.new) result }
     {
         let header = self.mount()?;
         let plan = self
             .directory
             .rename(old, new, &header, self.records.size());
-        self.alter(&header, plan)
+        self.carry_out(&header, plan, None)
     }
 
     /// Gives the volume a redo file of version 1: its entry comes after the last slot, and an end
     /// after it where the directory has a slot more. An adopted volume stays as it is.
     pub fn adopt(&mut self) -> Result<(), VolumeFault>
-        requires open { IsOpen R.view (⟦<Volume<R> as Seen<R>>⟧.seen self.old) }
-        requires ready { IsReadyFor R.view (⟦<Volume<R> as Seen<R>>⟧.seen self.old) }
-        ensures open { IsOpen R.view (⟦<Volume<R> as Seen<R>>⟧.seen self.new) }
-        ensures commits { MountsAndCommits Adopt R.view
-            (⟦<Volume<R> as Seen<R>>⟧.seen self.old)
-            (⟦<Volume<R> as Seen<R>>⟧.seen self.new) result }
-        ensures only { IfErr result
-            (IsOneOf (refusal.NotLif ∷ refusal.Exists ∷ refusal.NoSlot ∷ refusal.InUse ∷ [])) }
-        ensures answers { AnswersTo Adopt R.view
-            (⟦<Volume<R> as Seen<R>>⟧.seen self.old)
-            (⟦<Volume<R> as Seen<R>>⟧.seen self.new) result }
-        ensures written { Writes Adopt R.view
-            (⟦<Volume<R> as Seen<R>>⟧.seen self.old)
-            (⟦<Volume<R> as Seen<R>>⟧.seen self.new) result }
-        // A stop at any moment leaves the volume before or the one after, and so does a trouble.
-        ensures stops { TurnsVolume Adopt R.view
-            (⟦<Volume<R> as Seen<R>>⟧.seen self.old)
-            (⟦<Volume<R> as Seen<R>>⟧.seen self.new) }
-        ensures transfers { WritesByCommit Adopt R.view
-            (⟦<Volume<R> as Seen<R>>⟧.seen self.old)
-            (⟦<Volume<R> as Seen<R>>⟧.seen self.new) result }
+        requires open { IsOpen R.view (seen self.old) }
+        requires ready { IsReadyFor R.view (seen self.old) }
+        ensures open { IsOpen R.view (seen self.new) }
+        ensures did { Did Adopt R.view (seen self.old) (seen self.new) result }
     {
         let header = self.mount()?;
         let plan = self.directory.adopt(&header, self.records.size());
-        self.alter(&header, plan)
+        self.carry_out(&header, plan, None)
     }
 
     /// Makes the redo file one of version 2, which has the last 34 records. A volume of version 2
     /// stays as it is.
     pub fn upgrade(&mut self) -> Result<(), VolumeFault>
-        requires open { IsOpen R.view (⟦<Volume<R> as Seen<R>>⟧.seen self.old) }
-        requires ready { IsReadyFor R.view (⟦<Volume<R> as Seen<R>>⟧.seen self.old) }
-        ensures open { IsOpen R.view (⟦<Volume<R> as Seen<R>>⟧.seen self.new) }
-        ensures commits { MountsAndCommits Upgrade R.view
-            (⟦<Volume<R> as Seen<R>>⟧.seen self.old)
-            (⟦<Volume<R> as Seen<R>>⟧.seen self.new) result }
-        ensures only { IfErr result
-            (IsOneOf (refusal.NotLif ∷ refusal.NoRedo ∷ refusal.InUse ∷ [])) }
-        ensures answers { AnswersTo Upgrade R.view
-            (⟦<Volume<R> as Seen<R>>⟧.seen self.old)
-            (⟦<Volume<R> as Seen<R>>⟧.seen self.new) result }
-        ensures written { Writes Upgrade R.view
-            (⟦<Volume<R> as Seen<R>>⟧.seen self.old)
-            (⟦<Volume<R> as Seen<R>>⟧.seen self.new) result }
-        // A stop at any moment leaves the volume before or the one after, and so does a trouble.
-        ensures stops { TurnsVolume Upgrade R.view
-            (⟦<Volume<R> as Seen<R>>⟧.seen self.old)
-            (⟦<Volume<R> as Seen<R>>⟧.seen self.new) }
-        ensures transfers { WritesByCommit Upgrade R.view
-            (⟦<Volume<R> as Seen<R>>⟧.seen self.old)
-            (⟦<Volume<R> as Seen<R>>⟧.seen self.new) result }
+        requires open { IsOpen R.view (seen self.old) }
+        requires ready { IsReadyFor R.view (seen self.old) }
+        ensures open { IsOpen R.view (seen self.new) }
+        ensures did { Did Upgrade R.view (seen self.old) (seen self.new) result }
     {
         let header = self.mount()?;
         let plan = self.directory.upgrade(&header, self.records.size());
-        self.alter(&header, plan)
+        self.carry_out(&header, plan, None)
     }
 
-    /// Carries out what is planned of the directory, which is kept: by one commit, after which the
-    /// slots in memory are those of the tape again, or not at all.
-    fn alter(
+    /// Carries out what is planned of the directory, which is kept: the file by one run, where there is one, and the
+    /// change by one commit, after which the slots in memory are those of the tape again; or nothing at all.
+    fn carry_out(
         &mut self,
         header: &Header,
-        plan: Result<Option<SlotChange>, Refusal>,
+        plan: Result<Option<Change>, Refusal>,
+        file: Option<&[u8]>,
     ) -> Result<(), VolumeFault>
-        requires open { IsOpen R.view (⟦<Volume<R> as Seen<R>>⟧.seen self.old) }
-        requires ready { IsReady 12 (R.view (⟦<Volume<R> as Seen<R>>⟧.seen self.old).records) }
-        requires kept { (⟦<Volume<R> as Seen<R>>⟧.seen self.old).kept ≡ Some header.now }
-        requires plan { (command : VolumeCommand) × IsOfDirectory command
-            × IsPlan (R.view (⟦<Volume<R> as Seen<R>>⟧.seen self.old).records).record_count
-            command header.now (map slot_bytes (⟦<Volume<R> as Seen<R>>⟧.seen self.old).slots) plan }
-        ensures open { IsOpen R.view (⟦<Volume<R> as Seen<R>>⟧.seen self.new) }
-        ensures carried { (command : VolumeCommand) → IsOfDirectory command
-            → IsPlan (R.view (⟦<Volume<R> as Seen<R>>⟧.seen self.old).records).record_count
-            command header.now (map slot_bytes (⟦<Volume<R> as Seen<R>>⟧.seen self.old).slots) plan
-            → CarriesOut command R.view (⟦<Volume<R> as Seen<R>>⟧.seen self.old)
-            (⟦<Volume<R> as Seen<R>>⟧.seen self.new) result }
-        ensures only { (names : List Refusal) → IfErr plan (IsAmong names)
-            → IfErr result (IsOneOf names) }
+        requires open { IsOpen R.view (seen self.old) }
+        requires ready { IsReady (carry_room (R.view (seen self.old).records).record_count header.now)
+            (R.view (seen self.old).records) }
+        requires kept { (seen self.old).kept ≡ Some header.now }
+        requires plan { (command : VolumeCommand) × HasFile command (option_map (λ bytes. bytes.now) file)
+            × IsPlan (R.view (seen self.old).records).record_count command header.now
+            (map slot_bytes (seen self.old).slots) plan }
+        ensures open { IsOpen R.view (seen self.new) }
+        ensures carried { (command : VolumeCommand) → HasFile command (option_map (λ bytes. bytes.now) file.entry)
+            → IsPlan (R.view (seen self.old).records).record_count command header.now
+            (map slot_bytes (seen self.old).slots) plan
+            → CarriesOut command R.view (seen self.old) (seen self.new) result }
+        ensures only { (names : List Refusal) → IfErr plan (IsAmong names) → IfErr result (IsOneOf names) }
     {
         let Some(change) = plan? else {
             return Ok(());
         };
-        match self
-            .staged
-            .commit(&mut self.records, header.start(), &change)
-        {
+        match self.put(header, &change, file) {
             Ok(()) => {
                 self.directory.change(&change);
                 Ok(())
@@ -182,6 +142,52 @@ impl<R: Records> Volume<R> {
             Err(trouble) => {
                 self.kept = None;
                 Err(VolumeFault::Trouble(trouble))
+            }
+        }
+    }
+
+    /// Writes the file, where there is one, and commits the change.
+    fn put(&mut self, header: &Header, change: &Change, file: Option<&[u8]>) -> Result<(), Trouble>
+        requires open { IsOpen R.view (seen self.old) }
+        requires ready { IsReady (carry_room (R.view (seen self.old).records).record_count header.now)
+            (R.view (seen self.old).records) }
+        requires kept { (seen self.old).kept ≡ Some header.now }
+        requires plan { (command : VolumeCommand) × HasFile command (option_map (λ bytes. bytes.now) file)
+            × MakesChange (R.view (seen self.old).records).record_count command header.now
+            (map slot_bytes (seen self.old).slots) change.now }
+        ensures still { seen self.new ≡ record (seen self.old) { records = (seen self.new).records } }
+        ensures put { (command : VolumeCommand) → HasFile command (option_map (λ bytes. bytes.now) file.entry)
+            → MakesChange (R.view (seen self.old).records).record_count command header.now
+            (map slot_bytes (seen self.old).slots) change.now
+            → Puts command header.now.start change.now (R.view (seen self.old).records)
+            (R.view (seen self.new).records) result }
+    {
+        self.put_file(change, file)?;
+        self.staged
+            .commit(&mut self.records, header.start(), change)
+    }
+
+    /// Writes the file to the records that its entry tells, by one run, where there is one.
+    fn put_file(&mut self, change: &Change, file: Option<&[u8]>) -> Result<(), Trouble>
+        requires open { IsOpen R.view (seen self.old) }
+        requires plan { (command : VolumeCommand) × (header : HeaderParts) × HasFile command (option_map (λ bytes. bytes.now) file)
+            × ((seen self.old).kept ≡ Some header)
+            × IsReady (carry_room (R.view (seen self.old).records).record_count header) (R.view (seen self.old).records)
+            × MakesChange (R.view (seen self.old).records).record_count command header
+            (map slot_bytes (seen self.old).slots) change.now }
+        ensures still { seen self.new ≡ record (seen self.old) { records = (seen self.new).records } }
+        ensures files { (command : VolumeCommand) (header : HeaderParts) → HasFile command (option_map (λ bytes. bytes.now) file.entry)
+            → (seen self.old).kept ≡ Some header
+            → MakesChange (R.view (seen self.old).records).record_count command header
+            (map slot_bytes (seen self.old).slots) change.now
+            → PutsFile command (R.view (seen self.old).records) (R.view (seen self.new).records) result }
+    {
+        match file {
+            None => Ok(()),
+            Some(bytes) => {
+                let first = change.entry.start as u16;
+                let count = change.entry.length as u16;
+                self.records.write_run(first, count, bytes)
             }
         }
     }

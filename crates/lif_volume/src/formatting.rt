@@ -9,16 +9,18 @@ ghost use Rattle.lif_dir.specs.Names.{label_bytes};
 ghost use Rattle.lif_model.specs.declared.refusal.Refusal.TheVariants as refusal;
 ghost use Rattle.lif_volume.specs.Views.{IsOpen};
 ghost use Rattle.lif_volume.specs.Answers.{refused};
-ghost use Rattle.lif_volume.specs.Commands.{IsReadyFor, AnswersTo, KeepsVolume, WritesBySettling};
-ghost use Rattle.lif_volume.specs.Changing.{IsOneOf, Writes, TurnsVolume, WritesByCommit};
-ghost use Rattle.lif_volume.specs.Formatting.{MountsAnyAndCommits, Clears, Renews};
+ghost use Rattle.lif_volume.specs.Seen.{seen};
+ghost use Rattle.lif_volume.specs.Commands.{IsReadyFor, KeepsVolume, WritesBySettling};
+ghost use Rattle.lif_volume.specs.Formatting.{Clears, Renews};
+ghost use Rattle.lif_volume.specs.Did.{Did, IsOneOf};
 
 use crate::fault::VolumeFault;
-use crate::volume::{Seen, Volume};
+use crate::volume::Volume;
 use il_ports::Records;
 use lif_dir::NewLabel;
+use lif_model::Version;
 use lif_plan::{FreshVolume, Refusal};
-use lif_redo::{Version, commit};
+use lif_redo::commit;
 
 impl<R: Records> Volume<R> {
     /// Makes the tape an empty volume with this label, a directory of at least so many slots, one or
@@ -30,34 +32,16 @@ impl<R: Records> Volume<R> {
     /// is read or written; and with InUse where a legal volume without a redo file has a file where
     /// the redo file is to be.
     pub fn format(&mut self, label: &NewLabel, slots: u16) -> Result<(), VolumeFault>
-        requires open { IsOpen R.view (⟦<Volume<R> as Seen<R>>⟧.seen self.old) }
-        requires ready { IsReadyFor R.view (⟦<Volume<R> as Seen<R>>⟧.seen self.old) }
+        requires open { IsOpen R.view (seen self.old) }
+        requires ready { IsReadyFor R.view (seen self.old) }
         requires slots { 0 < slots }
-        ensures open { IsOpen R.view (⟦<Volume<R> as Seen<R>>⟧.seen self.new) }
-        ensures commits { MountsAnyAndCommits (Format (label_bytes label.now) slots) R.view
-            (⟦<Volume<R> as Seen<R>>⟧.seen self.old)
-            (⟦<Volume<R> as Seen<R>>⟧.seen self.new) result }
+        ensures open { IsOpen R.view (seen self.new) }
+        ensures did { Did (Format (label_bytes label.now) slots) R.view (seen self.old) (seen self.new) result }
         // Where the medium has no room nothing is done, and nothing is forgotten.
-        ensures no_room { is_too_long
-            (R.view (⟦<Volume<R> as Seen<R>>⟧.seen self.old).records).record_count slots ≡ true
-            → (result ≡ Err (refused refusal.NoRoom))
-            × ((⟦<Volume<R> as Seen<R>>⟧.seen self.new) ≡ (⟦<Volume<R> as Seen<R>>⟧.seen self.old)) }
-        ensures only { is_too_long
-            (R.view (⟦<Volume<R> as Seen<R>>⟧.seen self.old).records).record_count slots ≡ false
+        ensures no_room { is_too_long (R.view (seen self.old).records).record_count slots ≡ true
+            → (result ≡ Err (refused refusal.NoRoom)) × (seen self.new ≡ seen self.old) }
+        ensures room { is_too_long (R.view (seen self.old).records).record_count slots ≡ false
             → IfErr result (IsOneOf (refusal.InUse ∷ [])) }
-        ensures answers { AnswersTo (Format (label_bytes label.now) slots) R.view
-            (⟦<Volume<R> as Seen<R>>⟧.seen self.old)
-            (⟦<Volume<R> as Seen<R>>⟧.seen self.new) result }
-        ensures written { Writes (Format (label_bytes label.now) slots) R.view
-            (⟦<Volume<R> as Seen<R>>⟧.seen self.old)
-            (⟦<Volume<R> as Seen<R>>⟧.seen self.new) result }
-        // A stop at any moment leaves the volume before or the one after, and so does a trouble.
-        ensures stops { TurnsVolume (Format (label_bytes label.now) slots) R.view
-            (⟦<Volume<R> as Seen<R>>⟧.seen self.old)
-            (⟦<Volume<R> as Seen<R>>⟧.seen self.new) }
-        ensures transfers { WritesByCommit (Format (label_bytes label.now) slots) R.view
-            (⟦<Volume<R> as Seen<R>>⟧.seen self.old)
-            (⟦<Volume<R> as Seen<R>>⟧.seen self.new) result }
     {
         if !FreshVolume::fits(slots, self.records.size()) {
             return Err(VolumeFault::Refused(Refusal::NoRoom));
@@ -69,16 +53,16 @@ impl<R: Records> Volume<R> {
     /// Settles the tape, and tells whether it may be formatted: where it holds no legal volume, and
     /// where no file stands where the redo file is to be.
     fn clear_for_format(&mut self) -> Result<(), VolumeFault>
-        requires open { IsOpen R.view (⟦<Volume<R> as Seen<R>>⟧.seen self.old) }
-        requires ready { IsReadyFor R.view (⟦<Volume<R> as Seen<R>>⟧.seen self.old) }
-        ensures open { IsOpen R.view (⟦<Volume<R> as Seen<R>>⟧.seen self.new) }
-        ensures clears { Clears R.view (⟦<Volume<R> as Seen<R>>⟧.seen self.old)
-            (⟦<Volume<R> as Seen<R>>⟧.seen self.new) result }
+        requires open { IsOpen R.view (seen self.old) }
+        requires ready { IsReadyFor R.view (seen self.old) }
+        ensures open { IsOpen R.view (seen self.new) }
+        ensures clears { Clears R.view (seen self.old)
+            (seen self.new) result }
         ensures only { IfErr result (IsOneOf (refusal.InUse ∷ [])) }
-        ensures stays { KeepsVolume R.view (⟦<Volume<R> as Seen<R>>⟧.seen self.old)
-            (⟦<Volume<R> as Seen<R>>⟧.seen self.new) }
-        ensures transfers { WritesBySettling R.view (⟦<Volume<R> as Seen<R>>⟧.seen self.old)
-            (⟦<Volume<R> as Seen<R>>⟧.seen self.new) result }
+        ensures stays { KeepsVolume R.view (seen self.old)
+            (seen self.new) }
+        ensures transfers { WritesBySettling R.view (seen self.old)
+            (seen self.new) result }
     {
         match self.mount() {
             Ok(_) => {
@@ -94,21 +78,21 @@ impl<R: Records> Volume<R> {
 
     /// Makes a settled tape that may be formatted an empty volume, and keeps its directory.
     fn renew(&mut self, label: &NewLabel, slots: u16) -> Result<(), VolumeFault>
-        requires open { IsOpen R.view (⟦<Volume<R> as Seen<R>>⟧.seen self.old) }
-        requires ready { IsReady 12 (R.view (⟦<Volume<R> as Seen<R>>⟧.seen self.old).records) }
+        requires open { IsOpen R.view (seen self.old) }
+        requires ready { IsReady 12 (R.view (seen self.old).records) }
         requires slots { 0 < slots }
         requires fits { is_too_long
-            (R.view (⟦<Volume<R> as Seen<R>>⟧.seen self.old).records).record_count slots ≡ false }
+            (R.view (seen self.old).records).record_count slots ≡ false }
         requires settled { (t : Tape)
-            → (R.view (⟦<Volume<R> as Seen<R>>⟧.seen self.old).records).tape ≡ Some t → IsSettled t }
+            → (R.view (seen self.old).records).tape ≡ Some t → IsSettled t }
         requires free { (t : Tape)
-            → (R.view (⟦<Volume<R> as Seen<R>>⟧.seen self.old).records).tape ≡ Some t → refusal_of
-            (R.view (⟦<Volume<R> as Seen<R>>⟧.seen self.old).records).record_count
+            → (R.view (seen self.old).records).tape ≡ Some t → refusal_of
+            (R.view (seen self.old).records).record_count
             (Format (label_bytes label.now) slots) (volume_in t) ≡ None }
-        ensures open { IsOpen R.view (⟦<Volume<R> as Seen<R>>⟧.seen self.new) }
+        ensures open { IsOpen R.view (seen self.new) }
         ensures renews { Renews (Format (label_bytes label.now) slots) R.view
-            (⟦<Volume<R> as Seen<R>>⟧.seen self.old)
-            (⟦<Volume<R> as Seen<R>>⟧.seen self.new) result }
+            (seen self.old)
+            (seen self.new) result }
         ensures only { IfErr result (IsOneOf []) }
     {
         let fresh = FreshVolume::new(label, slots, self.records.size());

@@ -8,10 +8,8 @@ mod changing;
 mod fault;
 mod formatting;
 mod reading;
-mod staged;
-mod storing;
 mod volume;
 
 pub use fault::VolumeFault;
 pub use lif_plan::Refusal;
-pub use volume::{Fetched, Kept, Listing, Seen, Volume};
+pub use volume::{Fetched, Kept, Listing, Volume};

@@ -1,11 +1,11 @@
 use crate::fault::VolumeFault;
 use crate::reading::{read_directory, read_front};
-use crate::staged::Staged;
 use il_ports::Records;
+use lif_commit::Staged;
 use lif_dir::{Name, SlotTable};
 use lif_header::Header;
-use lif_model::RECORD;
-use lif_plan::{Directory, ENTRIES};
+use lif_model::{ENTRIES, RECORD};
+use lif_plan::Directory;
 use lif_redo::settle;
 use std::alloc::Global;
 
@@ -37,13 +37,6 @@ pub struct Kept<R> {
     pub records: R,
 }
 
-/// What contracts see of a volume.
-pub trait Seen<R> {
-    ghost use Rattle.lif_volume.specs.Views.{VolumeView};
-
-    ghost seen: { Self → VolumeView R };
-}
-
 /// A LIF volume on a store of records.
 #[derive(Drop)]
 pub struct Volume<R> {
@@ -53,33 +46,19 @@ pub struct Volume<R> {
     pub(crate) kept: Option<Header>,
 }
 
-impl<R: Records> Seen<R> for Volume<R> {
-    ghost use Rattle.lif_volume.specs.Views.{VolumeView};
-
-    ghost seen = { λ v. record {
-      records = v.records;
-      kept = v.kept;
-      slots = v.directory.table.slots;
-      room = v.directory.table.room;
-    } };
-}
-
 impl<R: Records> Volume<R> {
-    ghost use Rattle.std.specs.Prelude.{◌≡◌, ◌<◌, ◌≤◌, ◌*◌, length, Some, None, Ok, IfSome, IfOk};
-    ghost use Rattle.std.specs.Prelude.{IfErr, is_some};
+    ghost use Rattle.std.specs.Prelude.{◌≡◌, ◌<◌, ◌≤◌, ◌*◌, length, Some, None, Ok, IfSome, IfOk, IfErr, is_some};
     ghost use Rattle.std.specs.Borrow.{sem};
     ghost use Rattle.lif_model.specs.Apply.{Dir, Label, Fetch};
     ghost use Rattle.il_ports.specs.Stores.{Begun};
     ghost use Rattle.lif_dir.specs.Entries.{name_bytes};
     ghost use Rattle.lif_volume.specs.Views.{IsOpen};
+    ghost use Rattle.lif_volume.specs.Seen.{seen};
     ghost use Rattle.lif_volume.specs.Lending.{LendsRecords};
     ghost use Rattle.lif_volume.specs.Answers.{IsNotLif};
-    ghost use Rattle.lif_volume.specs.Commands.{IsReadyFor, Mounts, MountsAndReads, AnswersTo};
-    ghost use Rattle.lif_volume.specs.Commands.{IsRefusedExactly, KeepsVolume, WritesBySettling};
+    ghost use Rattle.lif_volume.specs.Commands.{IsReadyFor, Mounts, IsRefusedExactly, KeepsVolume, WritesBySettling};
     ghost use Rattle.lif_volume.specs.Commands.{Lists, Labels, FetchesFile, FetchesByRun};
-    ghost use Rattle.std.specs.Prelude.{[], ◌∷◌};
-    ghost use Rattle.lif_volume.specs.Changing.{IsOneOf};
-    ghost use Rattle.lif_model.specs.declared.refusal.Refusal.TheVariants as refusal;
+    ghost use Rattle.lif_volume.specs.Did.{Did};
 
     /// A volume on these records, of which nothing is read yet. All memory of the volume is taken
     /// here; where there is none the records are handed back.
@@ -87,11 +66,11 @@ impl<R: Records> Volume<R> {
         requires valid { (R.view records).valid }
         requires size { 37 < (R.view records).record_count }
         ensures open { IfOk result (λ volume.
-            IsOpen R.view (⟦<Volume<R> as Seen<R>>⟧.seen volume)) }
+            IsOpen R.view (seen volume)) }
         ensures records { IfOk result (λ volume.
-            (⟦<Volume<R> as Seen<R>>⟧.seen volume).records ≡ records) }
+            (seen volume).records ≡ records) }
         ensures kept { IfOk result (λ volume.
-            (⟦<Volume<R> as Seen<R>>⟧.seen volume).kept ≡ None) }
+            (seen volume).kept ≡ None) }
         ensures handed_back { IfErr result (λ kept. kept.records ≡ records) }
     {
         let room = ENTRIES * (usize::from(records.size()) - BESIDE);
@@ -108,14 +87,14 @@ impl<R: Records> Volume<R> {
 
     /// Whether record 0 and the directory are kept from the last command.
     pub fn is_kept(&self) -> bool
-        ensures { result ≡ is_some (⟦<Volume<R> as Seen<R>>⟧.seen self.now).kept }
+        ensures { result ≡ is_some (seen self.now).kept }
     {
         self.kept.is_some()
     }
 
     /// The store of records.
     pub fn records(&self) -> &R
-        ensures { result.now ≡ (⟦<Volume<R> as Seen<R>>⟧.seen self.now).records }
+        ensures { result.now ≡ (seen self.now).records }
     {
         &self.records
     }
@@ -123,7 +102,7 @@ impl<R: Records> Volume<R> {
     /// The store of records, lent. What was kept of the directory is forgotten.
     pub fn records_mut(&mut self) -> &mut R
         ensures* writes_back { sem 𝓛 (LendsRecords R.row self.entry result) }
-        ensures value { result.now ≡ (⟦<Volume<R> as Seen<R>>⟧.seen self.old).records }
+        ensures value { result.now ≡ (seen self.old).records }
     {
         self.kept = None;
         &mut self.records
@@ -131,28 +110,28 @@ impl<R: Records> Volume<R> {
 
     /// Empties the log that the store keeps, if it keeps one. What is kept of the directory stays.
     pub fn begin(&mut self)
-        requires { IsOpen R.view (⟦<Volume<R> as Seen<R>>⟧.seen self.old) }
-        ensures open { IsOpen R.view (⟦<Volume<R> as Seen<R>>⟧.seen self.new) }
-        ensures begun { Begun (R.view (⟦<Volume<R> as Seen<R>>⟧.seen self.old).records)
-            (R.view (⟦<Volume<R> as Seen<R>>⟧.seen self.new).records) }
-        ensures kept { (⟦<Volume<R> as Seen<R>>⟧.seen self.new).kept
-            ≡ (⟦<Volume<R> as Seen<R>>⟧.seen self.old).kept }
-        ensures slots { (⟦<Volume<R> as Seen<R>>⟧.seen self.new).slots
-            ≡ (⟦<Volume<R> as Seen<R>>⟧.seen self.old).slots }
+        requires { IsOpen R.view (seen self.old) }
+        ensures open { IsOpen R.view (seen self.new) }
+        ensures begun { Begun (R.view (seen self.old).records)
+            (R.view (seen self.new).records) }
+        ensures kept { (seen self.new).kept
+            ≡ (seen self.old).kept }
+        ensures slots { (seen self.new).slots
+            ≡ (seen self.old).slots }
     {
         self.records.begin();
     }
 
     /// Hands the records back.
     pub fn into_records(self) -> R
-        ensures { result ≡ (⟦<Volume<R> as Seen<R>>⟧.seen self).records }
+        ensures { result ≡ (seen self).records }
     {
         self.records
     }
 
     /// The slots that the last reading of the directory found: all of them after an Ok of `dir`.
     pub fn slots(&self) -> &SlotTable
-        ensures { result.now.slots ≡ (⟦<Volume<R> as Seen<R>>⟧.seen self.now).slots }
+        ensures { result.now.slots ≡ (seen self.now).slots }
     {
         &self.directory.table
     }
@@ -160,24 +139,24 @@ impl<R: Records> Volume<R> {
     /// Settles the tape, reads record 0 and the directory, tests that they are legal, and keeps
     /// them. Where they are kept it does nothing.
     pub(crate) fn mount(&mut self) -> Result<Header, VolumeFault>
-        requires open { IsOpen R.view (⟦<Volume<R> as Seen<R>>⟧.seen self.old) }
-        requires ready { IsReadyFor R.view (⟦<Volume<R> as Seen<R>>⟧.seen self.old) }
-        ensures open { IsOpen R.view (⟦<Volume<R> as Seen<R>>⟧.seen self.new) }
-        ensures consults { Mounts R.view (⟦<Volume<R> as Seen<R>>⟧.seen self.old)
-            (⟦<Volume<R> as Seen<R>>⟧.seen self.new) result }
+        requires open { IsOpen R.view (seen self.old) }
+        requires ready { IsReadyFor R.view (seen self.old) }
+        ensures open { IsOpen R.view (seen self.new) }
+        ensures consults { Mounts R.view (seen self.old)
+            (seen self.new) result }
         ensures kept { IfOk result (λ header.
-            (⟦<Volume<R> as Seen<R>>⟧.seen self.new).kept ≡ Some header) }
-        ensures still { IfSome (⟦<Volume<R> as Seen<R>>⟧.seen self.old).kept (λ header.
+            (seen self.new).kept ≡ Some header) }
+        ensures still { IfSome (seen self.old).kept (λ header.
             (result ≡ Ok header) × (self.new ≡ self.old)) }
         // It is refused exactly where the settled tape is not legal, and then with NotLif.
         ensures only { IfErr result IsNotLif }
-        ensures exactly { IsRefusedExactly R.view (⟦<Volume<R> as Seen<R>>⟧.seen self.old) result }
+        ensures exactly { IsRefusedExactly R.view (seen self.old) result }
         // The volume of a tape that is not foreign-gated stays: a stop at any moment leaves it, and
         // so does a trouble.
-        ensures stays { KeepsVolume R.view (⟦<Volume<R> as Seen<R>>⟧.seen self.old)
-            (⟦<Volume<R> as Seen<R>>⟧.seen self.new) }
-        ensures transfers { WritesBySettling R.view (⟦<Volume<R> as Seen<R>>⟧.seen self.old)
-            (⟦<Volume<R> as Seen<R>>⟧.seen self.new) result }
+        ensures stays { KeepsVolume R.view (seen self.old)
+            (seen self.new) }
+        ensures transfers { WritesBySettling R.view (seen self.old)
+            (seen self.new) result }
     {
         if let Some(header) = self.kept {
             return Ok(header);
@@ -190,24 +169,13 @@ impl<R: Records> Volume<R> {
 
     /// Lists the volume: what record 0 says, and the slots, which stand in `slots` from then on.
     pub fn dir(&mut self) -> Result<Listing, VolumeFault>
-        requires open { IsOpen R.view (⟦<Volume<R> as Seen<R>>⟧.seen self.old) }
-        requires ready { IsReadyFor R.view (⟦<Volume<R> as Seen<R>>⟧.seen self.old) }
-        ensures open { IsOpen R.view (⟦<Volume<R> as Seen<R>>⟧.seen self.new) }
-        ensures consults { Mounts R.view (⟦<Volume<R> as Seen<R>>⟧.seen self.old)
-            (⟦<Volume<R> as Seen<R>>⟧.seen self.new) result }
-        ensures answers { AnswersTo Dir R.view (⟦<Volume<R> as Seen<R>>⟧.seen self.old)
-            (⟦<Volume<R> as Seen<R>>⟧.seen self.new) result }
-        // It is refused exactly where the settled tape is not legal, and then with NotLif.
-        ensures only { IfErr result IsNotLif }
-        ensures exactly { IsRefusedExactly R.view (⟦<Volume<R> as Seen<R>>⟧.seen self.old) result }
-        ensures listed { IfOk result (Lists R.view (⟦<Volume<R> as Seen<R>>⟧.seen self.old)
-            (⟦<Volume<R> as Seen<R>>⟧.seen self.new)) }
-        // The volume of a tape that is not foreign-gated stays: a stop at any moment leaves it, and
-        // so does a trouble.
-        ensures stays { KeepsVolume R.view (⟦<Volume<R> as Seen<R>>⟧.seen self.old)
-            (⟦<Volume<R> as Seen<R>>⟧.seen self.new) }
-        ensures transfers { WritesBySettling R.view (⟦<Volume<R> as Seen<R>>⟧.seen self.old)
-            (⟦<Volume<R> as Seen<R>>⟧.seen self.new) result }
+        requires open { IsOpen R.view (seen self.old) }
+        requires ready { IsReadyFor R.view (seen self.old) }
+        ensures open { IsOpen R.view (seen self.new) }
+        ensures did { Did Dir R.view (seen self.old) (seen self.new) result }
+        // It is refused exactly where the settled tape is not legal.
+        ensures exactly { IsRefusedExactly R.view (seen self.old) result }
+        ensures listed { IfOk result (Lists R.view (seen self.old) (seen self.new)) }
     {
         let header = self.mount()?;
         Ok(Listing {
@@ -219,24 +187,13 @@ impl<R: Records> Volume<R> {
 
     /// The label of the volume, with its spaces.
     pub fn label(&mut self) -> Result<[u8; 6], VolumeFault>
-        requires open { IsOpen R.view (⟦<Volume<R> as Seen<R>>⟧.seen self.old) }
-        requires ready { IsReadyFor R.view (⟦<Volume<R> as Seen<R>>⟧.seen self.old) }
-        ensures open { IsOpen R.view (⟦<Volume<R> as Seen<R>>⟧.seen self.new) }
-        ensures consults { Mounts R.view (⟦<Volume<R> as Seen<R>>⟧.seen self.old)
-            (⟦<Volume<R> as Seen<R>>⟧.seen self.new) result }
-        ensures answers { AnswersTo Label R.view (⟦<Volume<R> as Seen<R>>⟧.seen self.old)
-            (⟦<Volume<R> as Seen<R>>⟧.seen self.new) result }
-        // It is refused exactly where the settled tape is not legal, and then with NotLif.
-        ensures only { IfErr result IsNotLif }
-        ensures exactly { IsRefusedExactly R.view (⟦<Volume<R> as Seen<R>>⟧.seen self.old) result }
-        ensures label { IfOk result
-            (λ label. Labels R.view (⟦<Volume<R> as Seen<R>>⟧.seen self.old) label) }
-        // The volume of a tape that is not foreign-gated stays: a stop at any moment leaves it, and
-        // so does a trouble.
-        ensures stays { KeepsVolume R.view (⟦<Volume<R> as Seen<R>>⟧.seen self.old)
-            (⟦<Volume<R> as Seen<R>>⟧.seen self.new) }
-        ensures transfers { WritesBySettling R.view (⟦<Volume<R> as Seen<R>>⟧.seen self.old)
-            (⟦<Volume<R> as Seen<R>>⟧.seen self.new) result }
+        requires open { IsOpen R.view (seen self.old) }
+        requires ready { IsReadyFor R.view (seen self.old) }
+        ensures open { IsOpen R.view (seen self.new) }
+        ensures did { Did Label R.view (seen self.old) (seen self.new) result }
+        // It is refused exactly where the settled tape is not legal.
+        ensures exactly { IsRefusedExactly R.view (seen self.old) result }
+        ensures label { IfOk result (Labels R.view (seen self.old)) }
     {
         let header = self.mount()?;
         Ok(header.label())
@@ -245,31 +202,14 @@ impl<R: Records> Volume<R> {
     /// Reads all records of a file into the front of `into`, by one run, or by none where it has no
     /// records. The redo file of an adopted volume is protected.
     pub fn fetch(&mut self, name: &Name, into: &mut [u8]) -> Result<Fetched, VolumeFault>
-        requires open { IsOpen R.view (⟦<Volume<R> as Seen<R>>⟧.seen self.old) }
-        requires ready { IsReadyFor R.view (⟦<Volume<R> as Seen<R>>⟧.seen self.old) }
-        requires room { 256 * (R.view (⟦<Volume<R> as Seen<R>>⟧.seen self.old).records).record_count
-            ≤ length into.old }
-        ensures open { IsOpen R.view (⟦<Volume<R> as Seen<R>>⟧.seen self.new) }
-        ensures consults { MountsAndReads (name_bytes name.now) R.view
-            (⟦<Volume<R> as Seen<R>>⟧.seen self.old)
-            (⟦<Volume<R> as Seen<R>>⟧.seen self.new) result }
-        ensures only { IfErr result
-            (IsOneOf (refusal.NotLif ∷ refusal.Protected ∷ refusal.NoFile ∷ [])) }
-        ensures answers { AnswersTo (Fetch (name_bytes name.now)) R.view
-            (⟦<Volume<R> as Seen<R>>⟧.seen self.old)
-            (⟦<Volume<R> as Seen<R>>⟧.seen self.new) result }
-        ensures fetched { IfOk result (λ fetched. FetchesFile (name_bytes name.now) R.view
-            (⟦<Volume<R> as Seen<R>>⟧.seen self.old) fetched into.new) }
-        ensures run { IfOk result (λ fetched. FetchesByRun (name_bytes name.now) R.view
-            (⟦<Volume<R> as Seen<R>>⟧.seen self.old)
-            (⟦<Volume<R> as Seen<R>>⟧.seen self.new)
+        requires open { IsOpen R.view (seen self.old) }
+        requires ready { IsReadyFor R.view (seen self.old) }
+        requires room { 256 * (R.view (seen self.old).records).record_count ≤ length into.old }
+        ensures open { IsOpen R.view (seen self.new) }
+        ensures did { Did (Fetch (name_bytes name.now)) R.view (seen self.old) (seen self.new) result }
+        ensures fetched { IfOk result (λ fetched. FetchesFile (name_bytes name.now) R.view (seen self.old) fetched into.new) }
+        ensures run { IfOk result (λ fetched. FetchesByRun (name_bytes name.now) R.view (seen self.old) (seen self.new)
             fetched into.new) }
-        // The volume of a tape that is not foreign-gated stays: a stop at any moment leaves it, and
-        // so does a trouble.
-        ensures stays { KeepsVolume R.view (⟦<Volume<R> as Seen<R>>⟧.seen self.old)
-            (⟦<Volume<R> as Seen<R>>⟧.seen self.new) }
-        ensures transfers { WritesBySettling R.view (⟦<Volume<R> as Seen<R>>⟧.seen self.old)
-            (⟦<Volume<R> as Seen<R>>⟧.seen self.new) result }
     {
         self.mount()?;
         let file = self.directory.file_named(name, self.records.size())?;

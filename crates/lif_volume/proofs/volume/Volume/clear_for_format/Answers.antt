@@ -1,5 +1,5 @@
 use Rattle.std.proofs.Common.{sym, ◌∙◌}
-use Rattle.lif_volume.proofs.Mounting.{seen}
+use Rattle.lif_volume.specs.Seen.{seen}
 use Rattle.lif_volume.proofs.Renewing.{names_there, clears_used, clears_free}
 use Rattle.lif_volume.proofs.volume.Volume.clear_for_format.Goals as goal
 

@@ -1,19 +1,33 @@
-use Rattle.std.proofs.Common.{◌≡◌, ◌∙◌, refl, rules}
+use Rattle.std.proofs.Common.{[], ◌≡◌, ◌∙◌, refl, rules}
 use Rattle.std.specs.Prelude.{Err}
 use Rattle.lif_model.specs.Apply.{Dir}
-use Rattle.lif_volume.proofs.Mounting.{seen, behind, kept_is_of, answers_dir, answers_fault}
+use Rattle.lif_volume.specs.Seen.{seen}
+use Rattle.lif_volume.proofs.Mounting.{behind, kept_is_of, answers_dir, answers_fault}
+use Rattle.lif_volume.proofs.Joining.{not_lif_only}
 use Rattle.lif_volume.proofs.volume.Volume.dir.Goals as goal
 
-pub returns-in_err-header-clause-answers : goal.returns-in_err-header-clause-answers
-returns-in_err-header-clause-answers g c = λ t u told now.
+pub returns-in_err-header-clause-did : goal.returns-in_err-header-clause-did
+returns-in_err-header-clause-did g c =
     let is : c.from_residual.result ≡ Err c.in_err-header.field-0.0 = search rules in
     let e = c.in_err-header.ensures in
-    rw is (answers_fault (g.R.Records.view c.args.self.now.records).record_count t u _ Dir c.in_err-header.field-0.0 refl now e.only (e.exactly t told) (e.consults.settles t told))
+    record {
+      consults = search rules;
+      only = rw is (not_lif_only [] c.in_err-header.field-0.0 e.only);
+      answers = λ t u told now. rw is (answers_fault (g.R.Records.view c.args.self.now.records).record_count t u _ Dir c.in_err-header.field-0.0 refl now e.only (e.exactly t told) (e.consults.settles t told));
+      stays = search rules;
+      transfers = search rules;
+    }
 
-pub returns-clause-answers : goal.returns-clause-answers
-returns-clause-answers g c = λ t u told now.
+pub returns-clause-did : goal.returns-clause-did
+returns-clause-did g c =
     let e = c.in_ok-header.ensures in
-    answers_dir (g.R.Records.view c.args.self.now.records).record_count t u (behind t u _ now (e.consults.settles t told)) (e.exactly t told)
+    record {
+      consults = search rules;
+      only = tt;
+      answers = λ t u told now. answers_dir (g.R.Records.view c.args.self.now.records).record_count t u (behind t u _ now (e.consults.settles t told)) (e.exactly t told);
+      stays = e.stays;
+      transfers = e.transfers;
+    }
 
 pub returns-clause-listed : goal.returns-clause-listed
 returns-clause-listed g c = λ t told.

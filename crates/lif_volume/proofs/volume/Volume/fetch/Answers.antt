@@ -22,28 +22,10 @@ use Rattle.il_ports.proofs.Stores.{goes_within}
 use Rattle.lif_volume.specs.Commands.{EndsWithRead, mounting, fetching}
 use Rattle.lif_model.specs.declared.refusal.Refusal.TheVariants as refusal
 use Rattle.lif_volume.proofs.Joining.{long_there, fetch_bound, not_lif_only}
-use Rattle.lif_volume.proofs.Mounting.{seen, behind, kept_is_of, stays_reading, answers_refused, answers_fetch}
+use Rattle.lif_volume.specs.Seen.{seen}
+use Rattle.lif_volume.proofs.Mounting.{behind, kept_is_of, stays_reading, answers_fault, answers_refused, answers_fetch}
 use Rattle.lif_volume.proofs.Fetching.{legal_of, file_ready, file_within, file_room, file_goes_on, file_few, open_reading, ends_with_read, run_behind, file_is_fetched}
 use Rattle.lif_volume.proofs.volume.Volume.fetch.Goals as goal
-
-pub returns-in_err-file-clause-consults : goal.returns-in_err-file-clause-consults
-returns-in_err-file-clause-consults g c =
-    let is : c.from_residual-in_err-file.result ≡ Err (refused c.in_err-file.field-0.0) = search rules in
-    let x = seen c.args.self.now in
-    let y = seen c.mount.new.self in
-    let view = g.R.Records.view in
-    let n = (view c.args.self.now.records).record_count in
-    let e = c.in_ok-mount.ensures in
-    let header : HeaderParts = c.in_ok-mount.field-0 in
-    let failed : Result Fetched VolumeFault = Err (refused c.in_err-file.field-0.0) in
-    rw is (record {
-      goes_on = goes_within (mounting n x.kept (Some header)) (fetching n (name_bytes c.args.name.now) x.kept (map slot_bytes x.slots) failed) _ _ _
-          (fetch_bound n (name_bytes c.args.name.now) x.kept header (map slot_bytes x.slots) failed (long_there view x y header e.kept e.consults e.open))
-          (subst (λ (o : Option HeaderParts). GoesOn {T = Unit {0}} (mounting n x.kept o) (view x.records) (view y.records) (Ok tt)) e.kept e.consults.goes_on);
-      few = λ t told. omega (arith, e.consults.few t told);
-      settles = e.consults.settles;
-      kept = e.consults.kept ∙ sym c.in_err-file.ensures.known;
-    })
 
 pub read_front-requires : goal.read_front-requires
 read_front-requires g c =
@@ -62,58 +44,87 @@ read_front-requires g c =
       room = file_room view x y header (name_bytes c.args.name.now) file.0 c.in_ok-file.file.count c.requires.open.size e.kept e.consults legal file.1 file.2.count (length c.args.into.now) c.requires.room;
     }
 
-pub returns-in_err-file-clause-answers : goal.returns-in_err-file-clause-answers
-returns-in_err-file-clause-answers g c =
-    let x = seen c.args.self.now in
-    let y = seen c.mount.new.self in
-    let view = g.R.Records.view in
-    let n = (view c.args.self.now.records).record_count in
-    let e = c.in_ok-mount.ensures in
-    let header : HeaderParts = c.in_ok-mount.field-0 in
-    λ t u told now.
-    let is : c.from_residual-in_err-file.result ≡ Err (refused c.in_err-file.field-0.0) = search rules in
-    let on : IsDirectoryOf (settled t) header c.mount.new.self.directory.table.slots =
-    kept_is_of y header (settled t) e.kept (e.open.known (settled t) (e.consults.settles t told)) in
-    let size : c.size.result ≡ n = c.size.ensures ∙ e.consults.goes_on.continues.size in
-    rw is (answers_refused n t u (behind t u _ now (e.consults.settles t told)) (Fetch (name_bytes c.args.name.now)) c.in_err-file.field-0.0 (e.exactly t told)
-    (λ v same. ap (λ (m : ℕ). refusal_of m (Fetch (name_bytes c.args.name.now)) (Some v)) (sym size) ∙ c.in_err-file.ensures.refusal v (same ∙ sym on.directory.bytes)))
+pub returns-in_err-mount-clause-did : goal.returns-in_err-mount-clause-did
+returns-in_err-mount-clause-did g c = record {
+  consults = search rules;
+  only = (let is : c.from_residual.result ≡ Err c.in_err-mount.field-0.0 = search rules in rw is (not_lif_only (refusal.Protected ∷ refusal.NoFile ∷ []) c.in_err-mount.field-0.0 c.in_err-mount.ensures.only));
+  answers = λ t u told now.
+      (let is : c.from_residual.result ≡ Err c.in_err-mount.field-0.0 = search rules in
+      let e = c.in_err-mount.ensures in
+      rw is (answers_fault (g.R.Records.view c.args.self.now.records).record_count t u _ (Fetch (name_bytes c.args.name.now)) c.in_err-mount.field-0.0 refl now e.only (e.exactly t told) (e.consults.settles t told)));
+  stays = search rules;
+  transfers = search rules;
+}
 
-pub returns-in-Err-clause-consults : goal.returns-in-Err-clause-consults
-returns-in-Err-clause-consults g c =
-    let x = seen c.args.self.now in
-    let y = seen c.mount.new.self in
-    let view = g.R.Records.view in
-    let n = (view c.args.self.now.records).record_count in
-    let e = c.in_ok-mount.ensures in
-    let header : HeaderParts = c.in_ok-mount.field-0 in
-    let file = c.in_ok-file.ensures.slot in
-    let legal : IsLegalDirectory n header (map slot_bytes y.slots) = legal_of view y header n e.open e.kept e.consults.goes_on.continues.size in
-    let on : (t : Tape) → (view c.args.self.now.records).tape ≡ Some t → IsDirectoryOf (settled t) header c.mount.new.self.directory.table.slots = λ t told.
-    kept_is_of y header (settled t) e.kept (e.open.known (settled t) (e.consults.settles t told)) in
-    let failed : Result (Unit {0}) Trouble = Err c.in-Err.trouble in
-    let answer : Result Fetched VolumeFault = Err (troubled c.in-Err.trouble) in
-    record {
-      goes_on = file_goes_on view x y header (name_bytes c.args.name.now) file.0 c.in_ok-file.file.count c.requires.open.size e.kept e.consults legal file.1 file.2.count c.read_front.new.records failed answer (λ s. refl) (λ h k. let both = subst (λ (o : Option HeaderParts). IfSome o (λ p. (◌≡◌ {A = Result HeaderParts VolumeFault} (Ok header) (Ok p)) × (c.mount.new.self ≡ c.args.self.now))) k e.still in
-          ap (λ (v : Volume g.row.R.Denot). map slot_bytes v.directory.table.slots) both.1) c.in-Err.ensures.goes_on;
-      few = λ t told. file_few view x y header (name_bytes c.args.name.now) file.0 c.in_ok-file.file.count c.requires.open.size e.kept e.consults legal file.1 file.2.count c.read_front.new.records failed answer (λ s. refl) t told (on t told).directory.bytes c.in-Err.ensures.goes_on;
-      settles = λ t told. tt;
-      kept = refl;
-    }
+pub returns-in_err-file-clause-did : goal.returns-in_err-file-clause-did
+returns-in_err-file-clause-did g c = record {
+  consults =
+      let is : c.from_residual-in_err-file.result ≡ Err (refused c.in_err-file.field-0.0) = search rules in
+      let x = seen c.args.self.now in
+      let y = seen c.mount.new.self in
+      let view = g.R.Records.view in
+      let n = (view c.args.self.now.records).record_count in
+      let e = c.in_ok-mount.ensures in
+      let header : HeaderParts = c.in_ok-mount.field-0 in
+      let failed : Result Fetched VolumeFault = Err (refused c.in_err-file.field-0.0) in
+      rw is (record {
+        goes_on = goes_within (mounting n x.kept (Some header)) (fetching n (name_bytes c.args.name.now) x.kept (map slot_bytes x.slots) failed) _ _ _
+            (fetch_bound n (name_bytes c.args.name.now) x.kept header (map slot_bytes x.slots) failed (long_there view x y header e.kept e.consults e.open))
+            (subst (λ (o : Option HeaderParts). GoesOn {T = Unit {0}} (mounting n x.kept o) (view x.records) (view y.records) (Ok tt)) e.kept e.consults.goes_on);
+        few = λ t told. omega (arith, e.consults.few t told);
+        settles = e.consults.settles;
+        kept = e.consults.kept ∙ sym c.in_err-file.ensures.known;
+      });
+  only =
+      let is : c.from_residual-in_err-file.result ≡ Err (refused c.in_err-file.field-0.0) = search rules in
+      rw is (inr c.in_err-file.ensures.only);
+  answers =
+      let x = seen c.args.self.now in
+      let y = seen c.mount.new.self in
+      let view = g.R.Records.view in
+      let n = (view c.args.self.now.records).record_count in
+      let e = c.in_ok-mount.ensures in
+      let header : HeaderParts = c.in_ok-mount.field-0 in
+      λ t u told now.
+      let is : c.from_residual-in_err-file.result ≡ Err (refused c.in_err-file.field-0.0) = search rules in
+      let on : IsDirectoryOf (settled t) header c.mount.new.self.directory.table.slots =
+      kept_is_of y header (settled t) e.kept (e.open.known (settled t) (e.consults.settles t told)) in
+      let size : c.size.result ≡ n = c.size.ensures ∙ e.consults.goes_on.continues.size in
+      rw is (answers_refused n t u (behind t u _ now (e.consults.settles t told)) (Fetch (name_bytes c.args.name.now)) c.in_err-file.field-0.0 (e.exactly t told)
+      (λ v same. ap (λ (m : ℕ). refusal_of m (Fetch (name_bytes c.args.name.now)) (Some v)) (sym size) ∙ c.in_err-file.ensures.refusal v (same ∙ sym on.directory.bytes)));
+  stays = search rules;
+  transfers = search rules;
+}
 
-pub returns-in-Err-clause-stays : goal.returns-in-Err-clause-stays
-returns-in-Err-clause-stays g c =
-    let e = c.in_ok-mount.ensures in
-    λ t told off. stays_reading _ t off _ _ (e.stays t told off) c.read_front.ensures.quiet
-
-pub returns-in_err-mount-clause-only : goal.returns-in_err-mount-clause-only
-returns-in_err-mount-clause-only g c =
-    let is : c.from_residual.result ≡ Err c.in_err-mount.field-0.0 = search rules in
-    rw is (not_lif_only (refusal.Protected ∷ refusal.NoFile ∷ []) c.in_err-mount.field-0.0 c.in_err-mount.ensures.only)
-
-pub returns-in_err-file-clause-only : goal.returns-in_err-file-clause-only
-returns-in_err-file-clause-only g c =
-    let is : c.from_residual-in_err-file.result ≡ Err (refused c.in_err-file.field-0.0) = search rules in
-    rw is (inr c.in_err-file.ensures.only)
+pub returns-in-Err-clause-did : goal.returns-in-Err-clause-did
+returns-in-Err-clause-did g c = record {
+  consults =
+      let x = seen c.args.self.now in
+      let y = seen c.mount.new.self in
+      let view = g.R.Records.view in
+      let n = (view c.args.self.now.records).record_count in
+      let e = c.in_ok-mount.ensures in
+      let header : HeaderParts = c.in_ok-mount.field-0 in
+      let file = c.in_ok-file.ensures.slot in
+      let legal : IsLegalDirectory n header (map slot_bytes y.slots) = legal_of view y header n e.open e.kept e.consults.goes_on.continues.size in
+      let on : (t : Tape) → (view c.args.self.now.records).tape ≡ Some t → IsDirectoryOf (settled t) header c.mount.new.self.directory.table.slots = λ t told.
+      kept_is_of y header (settled t) e.kept (e.open.known (settled t) (e.consults.settles t told)) in
+      let failed : Result (Unit {0}) Trouble = Err c.in-Err.trouble in
+      let answer : Result Fetched VolumeFault = Err (troubled c.in-Err.trouble) in
+      record {
+        goes_on = file_goes_on view x y header (name_bytes c.args.name.now) file.0 c.in_ok-file.file.count c.requires.open.size e.kept e.consults legal file.1 file.2.count c.read_front.new.records failed answer (λ s. refl) (λ h k. let both = subst (λ (o : Option HeaderParts). IfSome o (λ p. (◌≡◌ {A = Result HeaderParts VolumeFault} (Ok header) (Ok p)) × (c.mount.new.self ≡ c.args.self.now))) k e.still in
+            ap (λ (v : Volume g.row.R.Denot). map slot_bytes v.directory.table.slots) both.1) c.in-Err.ensures.goes_on;
+        few = λ t told. file_few view x y header (name_bytes c.args.name.now) file.0 c.in_ok-file.file.count c.requires.open.size e.kept e.consults legal file.1 file.2.count c.read_front.new.records failed answer (λ s. refl) t told (on t told).directory.bytes c.in-Err.ensures.goes_on;
+        settles = λ t told. tt;
+        kept = refl;
+      };
+  only = tt;
+  answers = λ t u told now. tt;
+  stays =
+      let e = c.in_ok-mount.ensures in
+      λ t told off. stays_reading _ t off _ _ (e.stays t told off) c.read_front.ensures.quiet;
+  transfers = λ t told. tt;
+}
 
 pub returns : goal.returns
 returns g c =
@@ -135,17 +146,23 @@ returns g c =
     let answer : Result Fetched VolumeFault = Ok (record { kind = c.in_ok-file.file.kind; implementation = c.in_ok-file.file.implementation; length = 256 * c.in_ok-file.file.count }) in
     record {
       «open» = open_reading view y c.read_front.new.records e.open c.in_default.ensures.goes_on.continues.valid c.in_default.ensures.goes_on.continues.size c.read_front.ensures.quiet.tape;
-      consults = record {
-        goes_on = file_goes_on view x y header (name_bytes c.args.name.now) file.0 c.in_ok-file.file.count c.requires.open.size e.kept e.consults legal file.1 file.2.count c.read_front.new.records done answer (λ s. refl) (λ h k. let both = subst (λ (o : Option HeaderParts). IfSome o (λ p. (◌≡◌ {A = Result HeaderParts VolumeFault} (Ok header) (Ok p)) × (c.mount.new.self ≡ c.args.self.now))) k e.still in
-            ap (λ (v : Volume g.row.R.Denot). map slot_bytes v.directory.table.slots) both.1) c.in_default.ensures.goes_on;
-        few = λ t told. file_few view x y header (name_bytes c.args.name.now) file.0 c.in_ok-file.file.count c.requires.open.size e.kept e.consults legal file.1 file.2.count c.read_front.new.records done answer (λ s. refl) t told (on t told).directory.bytes c.in_default.ensures.goes_on;
-        settles = λ t told. c.read_front.ensures.quiet.tape ∙ e.consults.settles t told;
-        kept = e.consults.kept;
+      did = record {
+        consults = record {
+          goes_on = file_goes_on view x y header (name_bytes c.args.name.now) file.0 c.in_ok-file.file.count c.requires.open.size e.kept e.consults legal file.1 file.2.count c.read_front.new.records done answer (λ s. refl) (λ h k. let both = subst (λ (o : Option HeaderParts). IfSome o (λ p. (◌≡◌ {A = Result HeaderParts VolumeFault} (Ok header) (Ok p)) × (c.mount.new.self ≡ c.args.self.now))) k e.still in
+              ap (λ (v : Volume g.row.R.Denot). map slot_bytes v.directory.table.slots) both.1) c.in_default.ensures.goes_on;
+          few = λ t told. file_few view x y header (name_bytes c.args.name.now) file.0 c.in_ok-file.file.count c.requires.open.size e.kept e.consults legal file.1 file.2.count c.read_front.new.records done answer (λ s. refl) t told (on t told).directory.bytes c.in_default.ensures.goes_on;
+          settles = λ t told. c.read_front.ensures.quiet.tape ∙ e.consults.settles t told;
+          kept = e.consults.kept;
+        };
+        only = tt;
+        answers = λ t u told now.
+            answers_fetch n t u (behind t u _ now (c.read_front.ensures.quiet.tape ∙ e.consults.settles t told)) (name_bytes c.args.name.now) (e.exactly t told)
+            (λ v same. ap (λ (m : ℕ). refusal_of m (Fetch (name_bytes c.args.name.now)) (Some v)) (sym size) ∙ c.in_ok-file.ensures.refusal v (same ∙ sym (on t told).directory.bytes));
+        stays = λ t told off. stays_reading _ t off _ _ (e.stays t told off) c.read_front.ensures.quiet;
+        transfers = λ t told.
+            run_behind (P t) c.in_ok-file.file.first c.in_ok-file.file.count _ old _ (view c.read_front.new.records).transferred (e.transfers t told) c.in_default.ensures.run
+            (λ none. subst (λ (r : g.row.R.Denot). GoesOnBy (P t) old (view r).transferred) (sym (c.in_default.ensures.none none).1) (e.transfers t told));
       };
-      only = tt;
-      answers = λ t u told now.
-          answers_fetch n t u (behind t u _ now (c.read_front.ensures.quiet.tape ∙ e.consults.settles t told)) (name_bytes c.args.name.now) (e.exactly t told)
-          (λ v same. ap (λ (m : ℕ). refusal_of m (Fetch (name_bytes c.args.name.now)) (Some v)) (sym size) ∙ c.in_ok-file.ensures.refusal v (same ∙ sym (on t told).directory.bytes));
       fetched = λ t told.
           let long : length (settled t) ≡ n = length_settled t ∙ ((g.met.R.Records.is_store c.args.self.now.records).is_tape t told).records in
           file_is_fetched n t (map slot_bytes y.slots) (name_bytes c.args.name.now) file.0 c.in_ok-file.file c.read_front.new.into long (e.exactly t told) (on t told).directory.bytes file.1 file.2
@@ -157,8 +174,4 @@ returns g c =
           let read : EndsWithRead (P t) (start_of file.0) bytes old new = subst (λ (k : ℕ). EndsWithRead (P t) k bytes old new) file.2.first
           (ends_with_read (P t) c.in_ok-file.file.first bytes old _ new (e.transfers t told) (c.in_default.ensures.run (omega (arith, some)))) in
           subst (λ (o : Option (List ℕ)). IfSome o (λ slot. EndsWithRead (P t) (start_of slot) bytes old new)) (sym here) read;
-      stays = λ t told off. stays_reading _ t off _ _ (e.stays t told off) c.read_front.ensures.quiet;
-      transfers = λ t told.
-          run_behind (P t) c.in_ok-file.file.first c.in_ok-file.file.count _ old _ (view c.read_front.new.records).transferred (e.transfers t told) c.in_default.ensures.run
-          (λ none. subst (λ (r : g.row.R.Denot). GoesOnBy (P t) old (view r).transferred) (sym (c.in_default.ensures.none none).1) (e.transfers t told));
     }

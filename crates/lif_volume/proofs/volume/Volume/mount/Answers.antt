@@ -8,7 +8,8 @@ use Rattle.lif_dir.specs.Entries.{slot_bytes}
 use Rattle.lif_plan.specs.Directories.{IsLegalDirectory}
 use Rattle.lif_volume.specs.Commands.{mounting, mounting_on}
 use Rattle.lif_model.specs.Legal.{is_legal}
-use Rattle.lif_volume.proofs.Mounting.{seen, stays_here, stays_settling, stays_reading, reads_behind, adds_behind, consults_nothing, kept_is_of}
+use Rattle.lif_volume.specs.Seen.{seen}
+use Rattle.lif_volume.proofs.Mounting.{stays_here, stays_settling, stays_reading, reads_behind, adds_behind, consults_nothing, kept_is_of}
 use Rattle.lif_volume.proofs.volume.Volume.mount.Goals as goal
 
 pub returns-clause-exactly : goal.returns-clause-exactly

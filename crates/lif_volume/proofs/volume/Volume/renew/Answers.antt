@@ -2,13 +2,13 @@ use Rattle.std.proofs.Common.{◌≡◌, ℕ, [], ◌∷◌, refl, ap, ◌∙◌
 use Rattle.std.specs.Prelude.{Some, None}
 use Rattle.lif_model.specs.Header.{header_of}
 use Rattle.lif_model.specs.Made.{fresh_header, records_for_slots}
-use Rattle.lif_model.specs.Redo.{One}
+use Rattle.lif_model.specs.declared.version.Version.TheVariants.{One}
 use Rattle.lif_model.specs.Volume.{redo_entry}
 use Rattle.lif_model.specs.Writing.{format_changes}
 use Rattle.lif_dir.specs.Names.{label_bytes}
 use Rattle.lif_dir.specs.Entries.{slot_from}
 use Rattle.lif_volume.specs.Views.{VolumeView}
-use Rattle.lif_volume.proofs.Mounting.{seen}
+use Rattle.lif_volume.specs.Seen.{seen}
 use Rattle.lif_volume.proofs.Renewing.{renewing_fails, renewed, renewed_open}
 use Rattle.lif_volume.proofs.volume.Volume.renew.Goals as goal
 

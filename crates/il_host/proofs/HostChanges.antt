@@ -1,13 +1,13 @@
--- A store, as a host performs it.
+-- The commands that change the volume, as a host performs them.
 use Rattle.std.proofs.Common.{◌≡◌, ◌≤◌, ◌+◌, ℕ, List, Option, None, Some, refl, subst, arith}
 use Rattle.std.specs.Prelude.{Result, Ok, Err}
-use Rattle.lif_model.specs.Apply.{Store, VolumeCommand}
+use Rattle.lif_model.specs.Apply.{Adopt, Dir, Fetch, Format, Label, Purge, Rename, Store, Upgrade, VolumeCommand}
 use Rattle.lif_model.specs.Header.{HeaderParts}
 use Rattle.il_ports.specs.Media.{MediumView, IsMedium}
 use Rattle.il_ports.specs.Stores.{Begun, Continues, RecordsView}
-use Rattle.lif_volume.specs.Changing.{TurnsVolume}
-use Rattle.lif_volume.specs.Commands.{AnswersTo, mounting}
-use Rattle.lif_volume.specs.Storing.{MountsAndStores, WritesByRun, storing}
+use Rattle.lif_volume.specs.Changing.{changing, committing, storing}
+use Rattle.lif_volume.specs.Commands.{mounting}
+use Rattle.lif_volume.specs.Did.{Alters}
 use Rattle.lif_volume.specs.Views.{IsOpen, VolumeView}
 use Rattle.lif_volume.specs.declared.fault.VolumeFault.{VolumeFault}
 use Rattle.lif_volume.specs.declared.fault.VolumeFault.TheVariants.{Refused, Trouble as Troubled}
@@ -22,8 +22,8 @@ use Rattle.host_model.specs.Requests.{Asks, OfVolume}
 use Rattle.il_host.specs.HostView.{Performed}
 use Rattle.il_host.specs.Hosts.{IsUsable, host_in, loop_in, store_in, volume_in}
 use Rattle.il_host.specs.Standings.{HasDriveStatus, MakesSound, volume_reply}
-use Rattle.il_host.proofs.FileCarries.{store_answered}
-use Rattle.il_host.proofs.HostVolumes.{changed, most_calls, mounts_few, none_asked, seen_asked}
+use Rattle.il_host.proofs.FileCarries.{alters_carried}
+use Rattle.il_host.proofs.HostVolumes.{TellsNothing, changed, most_calls, mounts_few, none_asked, seen_asked}
 
 -- it takes no more calls than a command of a volume may
 stores_few : {R S T : Type 0} (view : R → RecordsView S) (old new : VolumeView R) (bytes : List ℕ) (answer : Result T VolumeFault) → IsOpen view new → (view new.records).record_count ≡ (view old.records).record_count
@@ -50,26 +50,50 @@ stores_few {T = T} view old new bytes answer is size = by old.kept new.kept (λ 
     by None None long (Err (Refused why)) = omega arith
     by None None long (Err (Troubled e)) = omega arith
 
+-- of a directory that need not be kept
+mounts_any : (n : ℕ) (was : Option HeaderParts) → mounting n was None ≤ n + 66
+mounts_any n None = omega arith
+mounts_any n (Some header) = omega arith
+
+-- nor does a commit
+commits_few : {T : Type 0} (answer : Result T VolumeFault) → committing answer ≤ 12
+commits_few (Ok x) = omega arith
+commits_few (Err (Refused why)) = omega arith
+commits_few (Err (Troubled e)) = omega arith
+
+changing_few : {R S T : Type 0} (view : R → RecordsView S) (old new : VolumeView R) (command : VolumeCommand) (answer : Result T VolumeFault) → IsOpen view new → (view new.records).record_count ≡ (view old.records).record_count
+    → changing (view old.records).record_count command old.kept new.kept answer ≤ most_calls (view old.records).record_count
+changing_few {T = T} view old new command answer is size = by command
+  where
+    plain : mounting (view old.records).record_count old.kept new.kept + committing answer ≤ most_calls (view old.records).record_count
+    plain = omega (arith, mounts_few view old new is size, commits_few answer)
+
+    by : (command : VolumeCommand) → changing (view old.records).record_count command old.kept new.kept answer ≤ most_calls (view old.records).record_count
+    by Dir = plain
+    by Label = plain
+    by (Fetch name) = plain
+    by (Store name kind implementation bytes) = stores_few view old new bytes answer is size
+    by (Rename before later) = plain
+    by (Purge name) = plain
+    by Adopt = plain
+    by Upgrade = plain
+    by (Format label slots) = omega (arith, mounts_any (view old.records).record_count old.kept, commits_few answer)
+
 module _ {M I : Type 0} {D : I → Type 0} (view : M → MediumView) (seen : Ring M I D → RingView M) (o b n : Volume (LoopRecords M I D)) (text_space file_space : ℕ)
     (usable : IsUsable view (store_in view seen) (volume_in o) (loop_in seen o.records) text_space file_space) (began : Begun (store_in view seen o.records) (store_in view seen b.records))
-    (name : List ℕ) (kind : ℕ) (implementation bytes : List ℕ) (opens : IsOpen (store_in view seen) (volume_in n)) (low : HasDriveStatus (loop_in seen n.records).control)
+    (command : VolumeCommand) (opens : IsOpen (store_in view seen) (volume_in n)) (low : HasDriveStatus (loop_in seen n.records).control)
     (m : Volume (LoopRecords M I D)) (u : Unit {0}) (makes : MakesSound view (loop_in seen b.records) (loop_in seen m.records) (Ok u)) (sounds : Continues {T = Unit {0}} 1 (store_in view seen b.records) (store_in view seen m.records) (Ok u)) where
-  pub stored : {T : Type 0} (answer : Result T VolumeFault) (before : List ℕ) → ((x : M) → IsMedium (view x))
-      → MountsAndStores bytes (store_in view seen) (volume_in m) (volume_in n) answer
-      → AnswersTo (Store name kind implementation bytes) (store_in view seen) (volume_in m) (volume_in n) answer
-      → TurnsVolume (Store name kind implementation bytes) (store_in view seen) (volume_in m) (volume_in n)
-      → WritesByRun (Store name kind implementation bytes) bytes (store_in view seen) (volume_in m) (volume_in n) answer
-      → Performed (Asks (OfVolume (Store name kind implementation bytes))) (volume_reply answer) (host_in view seen o before text_space file_space) (host_in view seen n (reply_line (volume_reply answer)) text_space file_space)
-  stored answer before law commits answers turns runs =
+  -- a command that tells nothing, as the volume did it
+  pub altered : {T : Type 0} (answer : Result T VolumeFault) (before : List ℕ) → ((x : M) → IsMedium (view x)) → TellsNothing command
+      → Alters command (store_in view seen) (volume_in m) (volume_in n) answer
+      → Performed (Asks (OfVolume command)) (volume_reply answer) (host_in view seen o before text_space file_space) (host_in view seen n (reply_line (volume_reply answer)) text_space file_space)
+  altered answer before law nothing alters =
       changed view seen o b n text_space file_space usable began command opens low m u makes sounds answer
-      (storing (store_in view seen m.records).record_count (volume_in m).kept (volume_in n).kept bytes answer) before tt
-      (stores_few (store_in view seen) (volume_in m) (volume_in n) bytes answer opens commits.goes_on.continues.size)
-      commits.goes_on turns answers
-      (store_answered (store_in view seen) (volume_in m) (volume_in n) (host_in view seen o before text_space file_space).state
+      (changing (store_in view seen m.records).record_count command (volume_in m).kept (volume_in n).kept answer) before nothing
+      (changing_few (store_in view seen) (volume_in m) (volume_in n) command answer opens alters.goes_on.continues.size)
+      alters.goes_on alters.stops alters.answers
+      (alters_carried (store_in view seen) (volume_in m) (volume_in n) (host_in view seen o before text_space file_space).state
       (seen_asked view seen o b n text_space file_space usable began command opens low m u makes sounds before)
       (none_asked view seen o b n text_space file_space usable began command opens low m u makes sounds)
       (is_store_at view seen (ring_in m.records.control) m.records.sound m.records.since m.records.resumes (loop_in seen m.records).control law)
-      name kind implementation bytes answer commits answers runs)
-    where
-      command : VolumeCommand
-      command = Store name kind implementation bytes
+      command nothing answer alters)

@@ -1,0 +1,85 @@
+-- What it is to carry out what is planned for a command, on a volume whose directory is kept.
+use Rattle.std.specs.Prelude.{◌≡◌, ◌≤◌, ◌+◌, ◌++◌, if◌then◌else◌, ℕ, List, length, Option, Some, None, OnOk, Result}
+use Rattle.lif_model.specs.Tape.{Tape}
+use Rattle.lif_model.specs.Gate.{has_open_gate}
+use Rattle.lif_model.specs.Header.{HeaderParts}
+use Rattle.lif_model.specs.Made.{file_records}
+use Rattle.lif_model.specs.Commit.{IsCommitted, commit_writes}
+use Rattle.lif_model.specs.Redo.{Changes}
+use Rattle.lif_model.specs.Volume.{volume_of}
+use Rattle.lif_model.specs.Apply.{VolumeCommand, Store}
+use Rattle.lif_model.specs.Transfers.{Transfer}
+use Rattle.lif_model.specs.Writing.{changes_by}
+use Rattle.il_ports.specs.declared.records.Trouble.{Trouble}
+use Rattle.il_ports.specs.Stores.{RecordsView, GoesOn}
+use Rattle.lif_redo.specs.Writing.{writes_among, AreSingle}
+use Rattle.lif_commit.specs.Staged.{most_commit_calls}
+use Rattle.lif_dir.specs.declared.change.Change.{Change}
+use Rattle.lif_dir.specs.Changes.{change_writes}
+use Rattle.lif_volume.specs.declared.fault.VolumeFault.{VolumeFault}
+use Rattle.lif_volume.specs.Views.{VolumeView}
+use Rattle.lif_volume.specs.Answers.{keeps, store_answer, Answers}
+use Rattle.lif_volume.specs.Changing.{beside, file_when, changes_filed, file_runs, carrying, carrying_on, IsWrittenOn, VolumeTurns, AddsAsAnswered}
+
+-- as many records as a file beside a directory with this header and a commit may read and write
+abbrev pub carry_room : ℕ → HeaderParts → ℕ
+carry_room n header = beside n (Some header) + most_commit_calls
+
+-- ---- the file
+
+-- these are the bytes of the command's file: a store has one, and no other command
+abbrev pub HasFile : VolumeCommand → Option (List ℕ) → Type 0
+HasFile (Store name kind implementation bytes) file = file ≡ Some bytes
+HasFile command file = file ≡ None
+
+-- how many records the file has
+abbrev pub file_count : VolumeCommand → ℕ
+file_count (Store name kind implementation bytes) = length (file_records bytes)
+file_count command = 0
+
+-- The file is written, on a told tape which is settled. Behind an Ok it stands, by one run.
+pub record PutsFileOn {S T : Type 0} (n : ℕ) (command : VolumeCommand) (v w : RecordsView S) (t : Tape) (answer : Result T Trouble) : Type 0 where
+  pub stops : VolumeTurns n command v w t
+  pub done : OnOk answer (w.tape ≡ Some (file_when n command (volume_of t) t))
+  pub added : OnOk answer ((list : List Transfer) → v.transferred list → w.transferred (list ++ file_runs n command (volume_of t)))
+
+pub record PutsFile {S T : Type 0} (command : VolumeCommand) (v w : RecordsView S) (answer : Result T Trouble) : Type 0 where
+  pub goes_on : GoesOn (file_count command) v w answer
+  pub on_tape : (t : Tape) → v.tape ≡ Some t → PutsFileOn v.record_count command v w t answer
+
+-- ---- the file and the commit of a change, of a directory that begins at record `start`
+
+-- the records that change on a tape
+abbrev pub changes_made : ℕ → Change → Tape → Changes
+changes_made start change t = changes_by start (change_writes start change t) t
+
+pub record PutsOn {S T : Type 0} (n : ℕ) (command : VolumeCommand) (start : ℕ) (change : Change) (v w : RecordsView S) (t : Tape) (answer : Result T Trouble) : Type 0 where
+  pub stops : VolumeTurns n command v w t
+  -- behind an Ok the change stands on the tape with the file
+  pub done : OnOk answer ((u : Tape) × (w.tape ≡ Some u)
+      × IsCommitted change.version (changes_made start change (file_when n command (volume_of t) t)) (file_when n command (volume_of t) t) u)
+  pub added : OnOk answer ((list : List Transfer) → v.transferred list → (more : List Transfer)
+      × w.transferred (list ++ (file_runs n command (volume_of t) ++ more))
+      × (writes_among more ≡ commit_writes change.version n (has_open_gate (file_when n command (volume_of t) t)) (changes_made start change (file_when n command (volume_of t) t)))
+      × AreSingle more)
+
+pub record Puts {S T : Type 0} (command : VolumeCommand) (start : ℕ) (change : Change) (v w : RecordsView S) (answer : Result T Trouble) : Type 0 where
+  pub goes_on : GoesOn (file_count command + most_commit_calls) v w answer
+  pub on_tape : (t : Tape) → v.tape ≡ Some t → PutsOn v.record_count command start change v w t answer
+
+-- ---- the whole
+
+-- on a told tape, which is settled
+pub record CarriesOutOn {S T : Type 0} (n : ℕ) (command : VolumeCommand) (v w : RecordsView S) (t : Tape) (answer : Result T VolumeFault) : Type 0 where
+  pub few : v.calls_left ≤ w.calls_left + carrying_on n command (changes_filed n command (volume_of t) t) answer
+  pub written : (u : Tape) → w.tape ≡ Some u → IsWrittenOn n command (volume_of t) t u answer
+  pub answers : (u : Tape) → w.tape ≡ Some u → Answers n command t u answer
+  pub stops : VolumeTurns n command v w t
+  pub added : AddsAsAnswered (λ k. ⊥) n command (volume_of t) t v.transferred w.transferred answer
+
+-- from a volume whose directory is kept
+pub record CarriesOut {R S T : Type 0} (command : VolumeCommand) (view : R → RecordsView S) (old new : VolumeView R) (answer : Result T VolumeFault) : Type 0 where
+  pub goes_on : GoesOn (carrying (view old.records).record_count command old.kept answer) (view old.records) (view new.records) (store_answer answer)
+  pub kept : new.kept ≡ (if keeps answer then old.kept else None)
+  pub on_tape : (t : Tape) → (view old.records).tape ≡ Some t
+      → CarriesOutOn (view old.records).record_count command (view old.records) (view new.records) t answer
