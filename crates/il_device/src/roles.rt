@@ -32,14 +32,14 @@ impl Roles {
     }
 
     /// Whether the device takes this address at AAD: it has none, and the address is 1 to 30.
-    pub(crate) fn takes_address(self, address: u8) -> bool
+    pub fn takes_address(self, address: u8) -> bool
         ensures { result ≡ takes_address self.address address }
     {
         self.address.is_none() && 1 <= address && address <= 30
     }
 
     /// The roles that a message leaves.
-    pub(crate) fn after(self, message: Message) -> Roles
+    pub fn after(self, message: Message) -> Roles
         ensures { result ≡ roles_after self message }
     {
         match message {

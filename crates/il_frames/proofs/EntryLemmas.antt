@@ -21,7 +21,7 @@ all_decimals : all_below (λ n. has_no_space (decimal n)) 256 ≡ true
 unfolding all_below digits
 all_decimals = refl
 
-has_no_space-decimal : (n : ℕ) → n < 256 → has_no_space (decimal n) ≡ true
+pub has_no_space-decimal : (n : ℕ) → n < 256 → has_no_space (decimal n) ≡ true
 has_no_space-decimal n h = all_below-at (λ k. has_no_space (decimal k)) 256 n all_decimals h
 
 no_space : (c : ℕ) (cs : List ℕ) → has_no_space (c ∷ cs) ≡ true → c ≡ 32 → ⊥
@@ -75,17 +75,17 @@ outcome_text-injective (outcome.Lost q) (outcome.Taken r) ho hp e = absurd (mark
 outcome_text-injective (outcome.Lost q) (outcome.Lost r) ho hp e =
     ap outcome.Lost (same_party (codes " ! ") q r ho hp e)
 
-abbrev entry : ℕ → Frame → Outcome → Entry
+abbrev pub entry : ℕ → Frame → Outcome → Entry
 entry s f o = record { source = s; frame = f; outcome = o }
 
-same_entry : (a b : Entry) → a.source ≡ b.source → a.frame ≡ b.frame → a.outcome ≡ b.outcome → a ≡ b
+pub same_entry : (a b : Entry) → a.source ≡ b.source → a.frame ≡ b.frame → a.outcome ≡ b.outcome → a ≡ b
 same_entry a b p q r =
     ap (λ (s : ℕ). entry s a.frame a.outcome) p
     ∙ ap (λ (f : Frame). entry b.source f a.outcome) q
     ∙ ap (λ (o : Outcome). entry b.source b.frame o) r
 
 -- what follows the source in a line
-abbrev tail_of : Entry → List ℕ
+abbrev pub tail_of : Entry → List ℕ
 tail_of e = text_of e.frame ++ outcome_text e.outcome
 
 grouped : (d t o : List ℕ) →
@@ -93,7 +93,7 @@ grouped : (d t o : List ℕ) →
 grouped d t o = simp append_assoc
 
 -- a line by its parts
-entry_text-parts : (e : Entry) → entry_text e ≡ codes "~ " ++ (decimal e.source ++ 32 ∷ tail_of e)
+pub entry_text-parts : (e : Entry) → entry_text e ≡ codes "~ " ++ (decimal e.source ++ 32 ∷ tail_of e)
 entry_text-parts e = grouped (decimal e.source) (text_of e.frame) (outcome_text e.outcome)
 
 pub only_entry : (e : Entry) (s : List ℕ) → IsEntry e → s ≡ entry_text e →

@@ -7,9 +7,9 @@ use Rattle.il_frames.specs.declared.message.Message.TheVariants as msg
 use Rattle.il_frames.specs.declared.entry.Entry.{Entry}
 use Rattle.il_frames.specs.declared.entry.Outcome.TheVariants as outcome
 use Rattle.il_frames.specs.Frames.{class_of, byte_of, framed, IsFrame, number_of_class, bits_of, is_data, has_service, with_service, same_but_service}
-use Rattle.il_frames.specs.Messages.{commands, ready_messages, message_in, message_of, is_in_range}
+use Rattle.il_frames.specs.Messages.{commands, ready_messages, message_in, message_of, is_in_range, frame_of, by_name}
 use Rattle.il_frames.specs.Texts.{name_of, number_of, hex_pair, number_text, message_text, text_of}
-use Rattle.il_frames.specs.Names.{candidate_of}
+use Rattle.il_frames.specs.Names.{candidate_of, is_space}
 use Rattle.il_frames.specs.Entries.{outcome_text, entry_text, IsEntry}
 
 -- LAD 01 is 1057: control bits 100, byte 21 hex
@@ -91,6 +91,23 @@ ppe_no_range = refl
 address_no_range : is_in_range (msg.Tad 31) ≡ false
 address_no_range = refl
 
+-- TAD 05 is said by the command 45 hex
+talk_frame : frame_of (msg.Tad 5) ≡ framed class.Cmd 0x45
+talk_frame = refl
+
+unnamed_frame : frame_of (msg.OtherRdy 0xFF) ≡ framed class.Rdy 0xFF
+unnamed_frame = refl
+
+-- byte 02 of the commands has no name and says itself; byte 00 says NUL
+unnamed_by_name : by_name (msg.OtherCmd 2) ≡ msg.OtherCmd 2
+unnamed_by_name = refl
+
+named_by_name : by_name (msg.OtherCmd 0) ≡ msg.Nul
+named_by_name = refl
+
+talk_by_name : by_name (msg.Tad 5) ≡ msg.Tad 5
+talk_by_name = refl
+
 talk_name : name_of (msg.Tad 5) ≡ codes "TAD"
 talk_name = refl
 
@@ -131,6 +148,12 @@ read_unnamed = refl
 read_false : candidate_of (codes "CMD 00") ≡ Some (framed class.Cmd 0)
 unfolding decode_pairs
 read_false = refl
+
+space : is_space 0x20 ≡ true
+space = refl
+
+digit_is_no_space : is_space 0x30 ≡ false
+digit_is_no_space = refl
 
 came_back : outcome_text (outcome.Back (framed class.Rdy 0x83)) ≡ codes " = AAD 03"
 came_back = refl

@@ -6,7 +6,7 @@ use Rattle.il_frames.specs.declared.frame.Class.TheVariants as class
 use Rattle.il_frames.specs.declared.frame.Frame.{Frame}
 use Rattle.il_frames.specs.declared.message.Message.{Message}
 use Rattle.il_frames.specs.declared.message.Message.TheVariants as msg
-use Rattle.il_frames.specs.Frames.{class_of, byte_of}
+use Rattle.il_frames.specs.Frames.{class_of, byte_of, framed}
 
 -- a row of a table: a byte and its message; or a first byte, how many bytes from there on, and the
 -- message of each, which carries the byte's place among them, from 0
@@ -103,3 +103,55 @@ is_in_range (msg.Ddt n) = nat_lt n 32
 is_in_range (msg.OtherCmd n) = nat_lt n 256
 is_in_range (msg.OtherRdy n) = nat_lt n 256
 is_in_range m = true
+
+-- the frame that says a message whose number is in its range
+abbrev pub frame_of : Message → Frame
+frame_of (msg.Dab n) = framed class.Dab n
+frame_of (msg.Dsr n) = framed class.Dsr n
+frame_of (msg.End n) = framed class.End n
+frame_of (msg.Esr n) = framed class.Esr n
+frame_of (msg.Idy n) = framed class.Idy n
+frame_of (msg.Isr n) = framed class.Isr n
+frame_of msg.Nul = framed class.Cmd 0x00
+frame_of msg.Gtl = framed class.Cmd 0x01
+frame_of msg.Sdc = framed class.Cmd 0x04
+frame_of msg.Ppd = framed class.Cmd 0x05
+frame_of msg.Get = framed class.Cmd 0x08
+frame_of msg.Eln = framed class.Cmd 0x0F
+frame_of msg.Nop = framed class.Cmd 0x10
+frame_of msg.Llo = framed class.Cmd 0x11
+frame_of msg.Dcl = framed class.Cmd 0x14
+frame_of msg.Ppu = framed class.Cmd 0x15
+frame_of msg.Ear = framed class.Cmd 0x18
+frame_of (msg.Lad n) = framed class.Cmd (0x20 + n)
+frame_of msg.Unl = framed class.Cmd 0x3F
+frame_of (msg.Tad n) = framed class.Cmd (0x40 + n)
+frame_of msg.Unt = framed class.Cmd 0x5F
+frame_of (msg.Sad n) = framed class.Cmd (0x60 + n)
+frame_of (msg.Ppe n) = framed class.Cmd (0x80 + n)
+frame_of msg.Ifc = framed class.Cmd 0x90
+frame_of msg.Ren = framed class.Cmd 0x92
+frame_of msg.Nre = framed class.Cmd 0x93
+frame_of msg.Aau = framed class.Cmd 0x9A
+frame_of msg.Lpd = framed class.Cmd 0x9B
+frame_of (msg.Ddl n) = framed class.Cmd (0xA0 + n)
+frame_of (msg.Ddt n) = framed class.Cmd (0xC0 + n)
+frame_of (msg.OtherCmd n) = framed class.Cmd n
+frame_of msg.Rfc = framed class.Rdy 0x00
+frame_of msg.Eto = framed class.Rdy 0x40
+frame_of msg.Ete = framed class.Rdy 0x41
+frame_of msg.Nrd = framed class.Rdy 0x42
+frame_of msg.Sda = framed class.Rdy 0x60
+frame_of msg.Sst = framed class.Rdy 0x61
+frame_of msg.Sdi = framed class.Rdy 0x62
+frame_of msg.Sai = framed class.Rdy 0x63
+frame_of msg.Tct = framed class.Rdy 0x64
+frame_of (msg.Aad n) = framed class.Rdy (0x80 + n)
+frame_of msg.Iaa = framed class.Rdy 0x9F
+frame_of (msg.OtherRdy n) = framed class.Rdy n
+
+-- a byte that has a name says what its name says; any other message says itself
+abbrev pub by_name : Message → Message
+by_name (msg.OtherCmd byte) = message_in commands byte msg.OtherCmd
+by_name (msg.OtherRdy byte) = message_in ready_messages byte msg.OtherRdy
+by_name m = m

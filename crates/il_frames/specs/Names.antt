@@ -1,6 +1,6 @@
 -- Which frame a text can only be the text of, by the two tables of names of the code. That it is no
 -- other frame's is what `Frame::read_text` says by the texts alone.
-use Rattle.std.specs.Prelude.{ℕ, ◌+◌, ◌%◌, Option, Some, None, Result, Ok, Err, List, [], ◌∷◌, find, slice_index, nat_eq}
+use Rattle.std.specs.Prelude.{ℕ, ◌+◌, ◌%◌, ◌==◌, Bool, Option, Some, None, Result, Ok, Err, List, [], ◌∷◌, find, slice_index, nat_eq}
 use Rattle.std.specs.Cmp.Lexicographic.{pointwise}
 use Rattle.hex.specs.Hex.{decode_sized}
 use Rattle.hex.specs.declared.error.FromHexError.{FromHexError}
@@ -38,3 +38,7 @@ frame_named None (Some row) (Some number) = Some (framed row.1 ((row.2 + number)
 abbrev pub candidate_of : List ℕ → Option Frame
 candidate_of text =
     frame_named (row_of ALONE (letters_of text)) (row_of NUMBERED (letters_of text)) (number_in text)
+
+-- the byte is a space
+abbrev pub is_space : ℕ → Bool
+is_space byte = byte == 32

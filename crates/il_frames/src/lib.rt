@@ -4,6 +4,7 @@
 
 mod entry;
 mod frame;
+mod line;
 mod message;
 mod names;
 mod text;

@@ -4,6 +4,7 @@ ghost use Rattle.std.specs.Prelude.{◌≡◌, true};
 ghost use Rattle.il_frames.specs.declared.message.Message.TheVariants as msg;
 ghost use Rattle.il_frames.specs.Frames.{IsFrame};
 ghost use Rattle.il_frames.specs.Messages.{commands, ready_messages, message_in, message_of, is_in_range};
+ghost use Rattle.il_frames.specs.Messages.{frame_of, by_name};
 ghost use Rattle.il_frames.specs.Messages as spec;
 ghost use Rattle.il_frames.specs.declared.frame.Frame.{Frame};
 
@@ -181,5 +182,61 @@ impl Frame {
         ensures distinct { (other : Frame) → IsFrame other → message_of other ≡ result → other ≡ self.now }
     {
         message_at(self.class(), self.byte())
+    }
+
+    /// The frame that says this message, whose number is in its range: an address is at most 30, the
+    /// number of `Ppe` is below 16, and that of `Ddl` and `Ddt` below 32. An `OtherCmd` or `OtherRdy`
+    /// of a byte that has a name is the frame of that name.
+    pub fn of(message: Message) -> Frame
+        requires in_range { is_in_range message ≡ true }
+        ensures value { result ≡ frame_of message }
+        ensures says { message_of result ≡ by_name message }
+        ensures frame { IsFrame result }
+    {
+        match message {
+            Message::Dab(byte) => Frame::new(Class::Dab, byte),
+            Message::Dsr(byte) => Frame::new(Class::Dsr, byte),
+            Message::End(byte) => Frame::new(Class::End, byte),
+            Message::Esr(byte) => Frame::new(Class::Esr, byte),
+            Message::Idy(byte) => Frame::new(Class::Idy, byte),
+            Message::Isr(byte) => Frame::new(Class::Isr, byte),
+            Message::Nul => Frame::new(Class::Cmd, 0x00),
+            Message::Gtl => Frame::new(Class::Cmd, 0x01),
+            Message::Sdc => Frame::new(Class::Cmd, 0x04),
+            Message::Ppd => Frame::new(Class::Cmd, 0x05),
+            Message::Get => Frame::new(Class::Cmd, 0x08),
+            Message::Eln => Frame::new(Class::Cmd, 0x0F),
+            Message::Nop => Frame::new(Class::Cmd, 0x10),
+            Message::Llo => Frame::new(Class::Cmd, 0x11),
+            Message::Dcl => Frame::new(Class::Cmd, 0x14),
+            Message::Ppu => Frame::new(Class::Cmd, 0x15),
+            Message::Ear => Frame::new(Class::Cmd, 0x18),
+            Message::Lad(number) => Frame::new(Class::Cmd, 0x20 + number),
+            Message::Unl => Frame::new(Class::Cmd, 0x3F),
+            Message::Tad(number) => Frame::new(Class::Cmd, 0x40 + number),
+            Message::Unt => Frame::new(Class::Cmd, 0x5F),
+            Message::Sad(number) => Frame::new(Class::Cmd, 0x60 + number),
+            Message::Ppe(number) => Frame::new(Class::Cmd, 0x80 + number),
+            Message::Ifc => Frame::new(Class::Cmd, 0x90),
+            Message::Ren => Frame::new(Class::Cmd, 0x92),
+            Message::Nre => Frame::new(Class::Cmd, 0x93),
+            Message::Aau => Frame::new(Class::Cmd, 0x9A),
+            Message::Lpd => Frame::new(Class::Cmd, 0x9B),
+            Message::Ddl(number) => Frame::new(Class::Cmd, 0xA0 + number),
+            Message::Ddt(number) => Frame::new(Class::Cmd, 0xC0 + number),
+            Message::OtherCmd(byte) => Frame::new(Class::Cmd, byte),
+            Message::Rfc => Frame::new(Class::Rdy, 0x00),
+            Message::Eto => Frame::new(Class::Rdy, 0x40),
+            Message::Ete => Frame::new(Class::Rdy, 0x41),
+            Message::Nrd => Frame::new(Class::Rdy, 0x42),
+            Message::Sda => Frame::new(Class::Rdy, 0x60),
+            Message::Sst => Frame::new(Class::Rdy, 0x61),
+            Message::Sdi => Frame::new(Class::Rdy, 0x62),
+            Message::Sai => Frame::new(Class::Rdy, 0x63),
+            Message::Tct => Frame::new(Class::Rdy, 0x64),
+            Message::Aad(number) => Frame::new(Class::Rdy, 0x80 + number),
+            Message::Iaa => Frame::new(Class::Rdy, 0x9F),
+            Message::OtherRdy(byte) => Frame::new(Class::Rdy, byte),
+        }
     }
 }

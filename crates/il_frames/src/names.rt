@@ -72,7 +72,7 @@ fn row_named(rows: &[Name], letters: [u8; 3]) -> Option<Name>
 }
 
 /// The byte there, or 0 past the end.
-fn byte_at(text: &[u8], index: usize) -> u8
+pub(crate) fn byte_at(text: &[u8], index: usize) -> u8
     ensures { result ≡ slice_index text.now index }
 {
     text.get(index).copied().unwrap_or(0)
@@ -89,7 +89,7 @@ fn number_at(text: &[u8]) -> Option<u8>
 }
 
 /// The one frame that may have this text: its own text is still to be compared.
-fn candidate(text: &[u8]) -> Option<Frame>
+pub(crate) fn candidate(text: &[u8]) -> Option<Frame>
     ensures { result ≡ candidate_of text.now }
 {
     let letters = [byte_at(text, 0), byte_at(text, 1), byte_at(text, 2)];

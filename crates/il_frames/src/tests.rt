@@ -79,6 +79,27 @@ static NO_TEXTS: [&str; 16] = [
     "LAD-01", "LAD 01 ", "PPE 10", "RFC 00", "XYZ 00",
 ];
 
+// Lines that no entry has: a part that lacks, a leading zero, a party past 255, a false mark or spelling,
+// and a byte too many at the end, at the head or between the parts.
+static NO_LINES: [&str; 16] = [
+    "",
+    "~",
+    "~ 0",
+    "~ 0 SST",
+    "~ 0 SST >",
+    "~ 0 SST > ",
+    "~ 01 SST > 1",
+    "~ 0 SST > 01",
+    "~ 256 SST > 1",
+    "~ 0 SST > 256",
+    "~ 0 SST < 1",
+    "~ 0 RDY 61 > 1",
+    "~ 0 SST > 1 ",
+    " ~ 0 SST > 1",
+    "~ 0 SST  > 1",
+    "~ 0 SST = RDY 61",
+];
+
 #[test]
 fn numbers_texts_and_messages(rt: HostRuntime) -> Result<(), Fail> {
     let mut out = ArrayVec::new();
@@ -87,6 +108,7 @@ fn numbers_texts_and_messages(rt: HostRuntime) -> Result<(), Fail> {
         assert!(rt; frame.bits() == bits, "{text}");
         assert!(rt; frame.message() == message, "{text}");
         assert!(rt; Frame::new(frame.class(), frame.byte()) == frame, "{text}");
+        assert!(rt; Frame::of(frame.message()) == frame, "{text}");
         assert!(rt; Frame::read_text(text.as_bytes()) == Some(frame), "{text}");
         frame.text(&mut out);
         assert!(rt; out.as_slice() == text.as_bytes(), "{text}");
@@ -101,6 +123,13 @@ fn no_frame(rt: HostRuntime) {
     }
     for text in NO_TEXTS {
         assert!(rt; Frame::read_text(text.as_bytes()).is_none(), "{text}");
+    }
+}
+
+#[test]
+fn no_entry(rt: HostRuntime) {
+    for line in NO_LINES {
+        assert!(rt; Entry::read_text(line.as_bytes()).is_none(), "{line}");
     }
 }
 
@@ -140,5 +169,6 @@ fn lines_of_entries(rt: HostRuntime) {
         };
         entry.text(&mut out);
         assert!(rt; out.as_slice() == line.as_bytes(), "{line}");
+        assert!(rt; Entry::read_text(line.as_bytes()) == Some(entry), "{line}");
     }
 }

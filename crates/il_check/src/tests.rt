@@ -1,0 +1,101 @@
+use super::*;
+use il_frames::Entry;
+use std::test::Fail;
+
+// Logs of two devices without roles: the lines of a log, and whether there was one talker at most after each.
+static LOGS: [(&[&str], &[bool]); 3] = [
+    // the first device talks, and the second ends the talk
+    (
+        &[
+            "~ 0 AAD 01 = AAD 03",
+            "~ 0 TAD 01 = TAD 01",
+            "~ 0 SST > 1",
+            "~ 1 DAB 00 = DAB 00",
+            "~ 2 ETO > 0",
+            "~ 1 ETO > 0",
+        ],
+        &[true, true, true, true, false, false],
+    ),
+    // the second device talks after the first; a TAD 01 that is lost before the second leaves two talkers
+    (
+        &[
+            "~ 0 AAD 01 = AAD 03",
+            "~ 0 TAD 01 = TAD 01",
+            "~ 0 TAD 02 = TAD 02",
+            "~ 2 DAB 41 = DAB 41",
+            "~ 0 TAD 01 ! 2",
+        ],
+        &[true, true, true, true, false],
+    ),
+    // no device talks, so the host may send data, and no ETO
+    (&["~ 0 DAB 41 = DAB 41", "~ 0 ETO = ETO"], &[true, false]),
+];
+
+#[test]
+fn logs_with_one_talker(rt: HostRuntime) -> Result<(), Fail> {
+    for (lines, answers) in LOGS {
+        let mut talkers = Talkers::new(2);
+        for (line, answer) in lines.iter().zip(answers) {
+            let entry = Entry::read_text(line.as_bytes()).ok_or(*line)?;
+            assert!(rt; talkers.take(entry) == *answer, "{line}");
+        }
+    }
+    Ok(())
+}
+
+// Logs of a ring of two devices: the lines, and after each of them whether the log can go on to a list of
+// exchanges, and whether it is one.
+static EXCHANGES: [&[(&str, bool, bool)]; 4] = [
+    // a receive, and a send whose data came back altered
+    &[
+        ("~ 0 AAD 01 = AAD 03", true, true),
+        ("~ 0 UNL = UNL", true, false),
+        ("~ 0 RFC = RFC", true, true),
+        ("~ 0 TAD 01 = TAD 01", true, false),
+        ("~ 0 RFC = RFC", true, false),
+        ("~ 0 SST > 1", true, false),
+        ("~ 1 DAB 00 = DSR 00", true, false),
+        ("~ 1 ETO > 0", true, false),
+        ("~ 0 UNT = UNT", true, false),
+        ("~ 0 RFC = RFC", true, true),
+        ("~ 0 UNL = UNL", true, false),
+        ("~ 0 RFC = RFC", true, true),
+        ("~ 0 LAD 01 = LAD 01", true, false),
+        ("~ 0 RFC = RFC", true, true),
+        ("~ 0 DAB 41 = DAB 40", true, true),
+        ("~ 0 DAB 41 = DAB 41", false, false),
+    ],
+    // a talker that was stopped, whose last byte came back altered
+    &[
+        ("~ 0 UNL = UNL", true, false),
+        ("~ 0 RFC = RFC", true, true),
+        ("~ 0 TAD 02 = TAD 02", true, false),
+        ("~ 0 RFC = RFC", true, false),
+        ("~ 0 DDT 02 = DDT 02", true, false),
+        ("~ 0 RFC = RFC", true, false),
+        ("~ 0 SDA > 2", true, false),
+        ("~ 0 NRD = NRD", true, false),
+        ("~ 2 END 05 = END 07", true, false),
+        ("~ 2 ETE > 0", true, true),
+    ],
+    // three devices answer on a ring of two
+    &[("~ 0 AAD 01 = AAD 04", false, false)],
+    // a talk address without UNL before it
+    &[
+        ("~ 0 TAD 01 = TAD 01", false, false),
+        ("~ 0 UNL ! 1", false, false),
+    ],
+];
+
+#[test]
+fn logs_of_exchanges(rt: HostRuntime) -> Result<(), Fail> {
+    for lines in EXCHANGES {
+        let mut exchanges = Exchanges::new(2);
+        for (line, goes_on, may_end) in lines {
+            let entry = Entry::read_text(line.as_bytes()).ok_or(*line)?;
+            assert!(rt; exchanges.take(entry) == *goes_on, "{line}");
+            assert!(rt; exchanges.may_end() == *may_end, "{line}");
+        }
+    }
+    Ok(())
+}
