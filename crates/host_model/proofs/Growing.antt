@@ -11,7 +11,7 @@ use Rattle.lif_model.proofs.Moments.{started, follows, weaker}
 use Rattle.il_script.specs.Replies.{is_ok}
 use Rattle.il_script.specs.declared.reply.Reply.{Reply}
 use Rattle.il_script.specs.declared.reply.Reply.TheVariants as reply
-use Rattle.host_model.specs.Requests.{OfVolume, Devices, Status, Poll, Say, Paper, Item, Asks, NoCommand}
+use Rattle.host_model.specs.Requests.{OfVolume, Get, Devices, Status, Poll, Say, Paper, Item, Asks, NoCommand}
 use Rattle.host_model.specs.HostStates.{HostState, HasOwnGate}
 use Rattle.host_model.specs.Steps.{Event, IsStep}
 use Rattle.host_model.specs.Stops.{MayBeLeft, LeftWithin}
@@ -82,6 +82,7 @@ tally_more (q ∷ rs) r = ap (with_reply q) (tally_more rs r) ∙ turned q r (ta
 -- a stop as an item begins leaves the tape as it is
 pub left_at_first : (item : Item) (s : HostState) (x : Tape) → HasOwnGate s → s.tape ≡ Some x → MayBeLeft item s x
 left_at_first (Asks (OfVolume command)) s x gate is = (inl (sym (ap (option_and_then volume_of) is)), subst (λ o. IfSome o (λ t. is_foreign_gated t ≡ false)) is gate)
+left_at_first (Asks (Get name)) s x gate is = (sym (ap (option_and_then volume_of) is), subst (λ o. IfSome o (λ t. is_foreign_gated t ≡ false)) is gate)
 left_at_first (Asks Devices) s x gate is = is
 left_at_first (Asks Status) s x gate is = is
 left_at_first (Asks Poll) s x gate is = is

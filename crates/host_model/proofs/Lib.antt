@@ -12,4 +12,5 @@ mod RunExamples
 mod EndExamples
 mod FetchExample
 mod ClearExamples
+mod GetExamples
 pub mod NoCommands

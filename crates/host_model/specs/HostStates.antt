@@ -38,6 +38,6 @@ HasOwnGate s = IfSome s.tape (λ t. is_foreign_gated t ≡ false)
 abbrev pub log_room : ℕ → ℕ
 log_room records = 1600 * records + 10000
 
--- how many bytes the text of one reply may have
+-- How many bytes the text of one reply may have. An empty line of a text has two bytes on the tape and seven in a reply.
 abbrev pub text_room : ℕ → ℕ
-text_room records = 600 * records + 20000
+text_room records = 1000 * records + 20000

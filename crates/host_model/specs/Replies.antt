@@ -1,8 +1,9 @@
 -- What a command replies where no fault comes in between, and the texts of replies and logs.
-use Rattle.std.specs.Prelude.{ℕ, ◌+◌, List, [], ◌∷◌, ◌++◌, Option, Some, None, if◌then◌else◌, codes, decimal}
+use Rattle.std.specs.Prelude.{ℕ, ◌+◌, ◌==◌, List, [], ◌∷◌, ◌++◌, Option, Some, None, if◌then◌else◌, codes, decimal}
 use Rattle.std.specs.List.{flat_map}
 use Rattle.std.specs.FinMap.{get}
 use Rattle.hex.specs.Hex.{encode_upper}
+use Rattle.lif_text.specs.Pieces.{lines_in}
 use Rattle.lif_model.specs.Header.{label_of}
 use Rattle.lif_model.specs.Directory.{type_of, implementation_of}
 use Rattle.lif_model.specs.Legal.{slot_named}
@@ -19,10 +20,25 @@ use Rattle.il_script.specs.Replies.{text_line, next, reply_line, code_of}
 use Rattle.il_script.specs.declared.reply.Code.TheVariants as code
 use Rattle.il_script.specs.declared.reply.Reply.{Reply}
 use Rattle.il_script.specs.declared.reply.Reply.TheVariants as reply
-use Rattle.host_model.specs.Requests.{OfVolume, Devices, Status, Poll, Say, Paper, Item, Asks, NoCommand}
+use Rattle.host_model.specs.Requests.{OfVolume, Get, Devices, Status, Poll, Say, Paper, Item, Asks, NoCommand, text_type}
 use Rattle.host_model.specs.LoopStates.{all_ids, status_byte, poll_frame, printer_at, paper_on}
 use Rattle.host_model.specs.HostStates.{HostState, volume_at}
 use Rattle.host_model.specs.Listing.{type_text, listing}
+
+-- ---- text files
+
+-- the lines of a file of this type with these bytes; None where it is no text
+abbrev pub lines_of_type : ℕ → List ℕ → Option (List (List ℕ))
+lines_of_type kind bytes = if kind == text_type then lines_in bytes else None
+
+abbrev pub lines_of_found : Option (List ℕ) → Option (List ℕ) → Option (List (List ℕ))
+lines_of_found (Some slot) (Some bytes) = lines_of_type (type_of slot) bytes
+lines_of_found _ _ = None
+
+-- the lines of the file of that name, by its slot and all bytes of its records
+abbrev pub lines_of_file : List ℕ → Option Volume → Option (List (List ℕ))
+lines_of_file name None = None
+lines_of_file name (Some v) = lines_of_found (slot_named v.slots name) (get v.files name)
 
 -- ---- replies
 
@@ -35,9 +51,20 @@ abbrev pub if_printer : {X : Type 0} → Option X → Reply
 if_printer None = reply.No code.NoPrinter
 if_printer (Some x) = reply.Ok
 
+-- ok where there are lines
+abbrev pub if_text : Option (List (List ℕ)) → Reply
+if_text None = reply.No code.NotText
+if_text (Some lines) = reply.Ok
+
+-- a refusal of the fetch goes before
+abbrev pub got_as : Option Refusal → Option (List (List ℕ)) → Reply
+got_as None lines = if_text lines
+got_as (Some refusal) lines = reply.No (code_of refusal)
+
 -- the reply to an item by what stands before it, where no fault comes in between
 abbrev pub reply_of : Item → HostState → Reply
 reply_of (Asks (OfVolume command)) s = refused_as (apply s.records command (volume_at s)).0
+reply_of (Asks (Get name)) s = got_as (apply s.records (volume.Fetch name) (volume_at s)).0 (lines_of_file name (volume_at s))
 reply_of (Asks (Say bytes)) s = if_printer (printer_at s.loop)
 reply_of (Asks Paper) s = if_printer (paper_on s.loop)
 reply_of (Asks _) s = reply.Ok
@@ -67,6 +94,14 @@ label_line v = text_line (codes "label" ++ next (printed (label_of v.header)))
 abbrev pub data_line : Option (List ℕ) → Option (List ℕ) → List ℕ
 data_line (Some slot) (Some bytes) = text_line (codes "data" ++ next (type_text (type_of slot)) ++ next (bytes_text (implementation_of slot)) ++ next (bytes_text bytes))
 data_line _ _ = []
+
+-- `line HEX` of each line of a text
+abbrev pub line_text : List ℕ → List ℕ
+line_text line = text_line (codes "line" ++ next (bytes_text line))
+
+abbrev pub lines_text : Option (List (List ℕ)) → List ℕ
+lines_text None = []
+lines_text (Some lines) = flat_map line_text lines
 
 -- of the commands of a volume these three tell something
 abbrev pub told_of_volume : VolumeCommand → Volume → List ℕ
@@ -105,6 +140,7 @@ paper_line (Some paper) = text_line (codes "paper" ++ next (bytes_text paper.0) 
 -- by what stands before the command
 abbrev pub lines_before : Item → HostState → List ℕ
 lines_before (Asks (OfVolume command)) s = told_of command (volume_at s)
+lines_before (Asks (Get name)) s = lines_text (lines_of_file name (volume_at s))
 lines_before (Asks Devices) s = device_lines 1 (all_ids s.loop)
 lines_before (Asks Status) s = status_line (status_byte s.loop)
 lines_before (Asks Poll) s = poll_line (poll_frame s.loop)

@@ -22,7 +22,7 @@ use Rattle.loop_model.specs.Roles.{OneTalker, roles_after}
 use Rattle.loop_model.specs.Units.{RecordUnit, units_of, ends_within}
 use Rattle.il_script.specs.declared.reply.Reply.{Reply}
 use Rattle.il_script.specs.declared.reply.Reply.TheVariants as reply
-use Rattle.host_model.specs.Requests.{OfVolume, Item, Asks, is_of_volume, uses_frames}
+use Rattle.host_model.specs.Requests.{OfVolume, Get, Item, Asks, is_of_volume, uses_frames}
 use Rattle.host_model.specs.LoopStates.{all_roles, device_count, ring_of}
 use Rattle.host_model.specs.HostStates.{HostState, volume_at, HasOwnGate, log_room}
 use Rattle.host_model.specs.Replies.{reply_of, volume_behind}
@@ -126,11 +126,13 @@ abbrev pub IsFetchedFrom : Option (List ℕ) → Option (List ℕ) → List Reco
 IsFetchedFrom (Some slot) (Some bytes) units = carries transfer_of is_in units (start_of slot) bytes ≡ true
 IsFetchedFrom _ _ units = ⊥
 
--- with ok, the transfers of a store or fetch carry exactly the bytes of the file
+-- with ok, the transfers of a store, a fetch or a get carry exactly the bytes of the file
 abbrev pub IsCarried : Item → Reply → ℕ → Option Volume → List RecordUnit → Type 0
 IsCarried (Asks (OfVolume (Store name kind implementation bytes))) reply.Ok n (Some v) units =
     IsStoredAt (fit_in n v (file_length bytes)) bytes units
 IsCarried (Asks (OfVolume (Fetch name))) reply.Ok n (Some v) units =
+    IsFetchedFrom (slot_named v.slots name) (get v.files name) units
+IsCarried (Asks (Get name)) reply.Ok n (Some v) units =
     IsFetchedFrom (slot_named v.slots name) (get v.files name) units
 IsCarried _ _ n volume units = Unit {0}
 

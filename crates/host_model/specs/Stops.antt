@@ -3,16 +3,17 @@ use Rattle.std.specs.Prelude.{◌≡◌, ◌⊎◌, ℕ, true, false, List, [], 
 use Rattle.lif_model.specs.Stops.{LeavesOnly}
 use Rattle.lif_model.specs.Tape.{Tape}
 use Rattle.lif_model.specs.Volume.{volume_of, is_foreign_gated}
-use Rattle.host_model.specs.Requests.{OfVolume, Item, Asks}
+use Rattle.host_model.specs.Requests.{OfVolume, Get, Item, Asks}
 use Rattle.host_model.specs.HostStates.{HostState, volume_at, HasOwnGate}
 use Rattle.host_model.specs.Replies.{volume_behind}
 use Rattle.host_model.specs.Steps.{Event}
 
 -- Within a command of the volume a stop leaves a tape that has the volume before it or the one that it makes, and no gate that
--- is not ours; within any other item, the tape as it is.
+-- is not ours; a get makes none. Within any other item a stop leaves the tape as it is.
 abbrev pub MayBeLeft : Item → HostState → Tape → Type 0
 MayBeLeft (Asks (OfVolume command)) s x =
     ((volume_of x ≡ volume_at s) ⊎ (volume_of x ≡ volume_behind (Asks (OfVolume command)) s)) × (is_foreign_gated x ≡ false)
+MayBeLeft (Asks (Get name)) s x = (volume_of x ≡ volume_at s) × (is_foreign_gated x ≡ false)
 MayBeLeft _ s x = s.tape ≡ Some x
 
 -- the same of all stops since the moment `before` at which the item began; earlier ones are told by `past`

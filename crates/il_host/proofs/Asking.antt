@@ -8,7 +8,7 @@ use Rattle.il_script.specs.declared.command.LineFault.{LineFault}
 use Rattle.il_script.specs.declared.reply.Code.{Code}
 use Rattle.il_script.specs.declared.reply.Reply.{Reply}
 use Rattle.il_script.specs.declared.reply.Reply.TheVariants as reply
-use Rattle.host_model.specs.Requests.{Item, Asks, NoCommand, request_of, item_of_reading}
+use Rattle.host_model.specs.Requests.{Item, NoCommand, item_for, item_of_reading}
 use Rattle.host_model.specs.HostStates.{HostState}
 use Rattle.host_model.specs.Replies.{trace_text}
 use Rattle.host_model.specs.Steps.{Event}
@@ -29,11 +29,11 @@ skipped (Ok (Some asked)) h = cc
 skipped (Err fault) h = cc
 
 pub understood : (r : Result (Option Asked) LineFault) (command : Command) (bytes : List ℕ) → command_read r ≡ Ok (Some command) → bytes ≡ bytes_read r
-    → item_of_reading r ≡ Some (Asks (request_of command bytes))
+    → item_of_reading r ≡ Some (item_for command bytes)
 understood (Ok None) command bytes h b = cc
 understood (Ok (Some asked)) command bytes h b =
     let same : asked.command ≡ command = cc in
-    ap (λ (c : Command). Some (Asks (request_of c asked.bytes))) same ∙ ap (λ l. Some (Asks (request_of command l))) (sym b)
+    ap (λ (c : Command). Some (item_for c asked.bytes)) same ∙ ap (λ l. Some (item_for command l)) (sym b)
 understood (Err fault) command bytes h b = cc
 
 pub refused : (r : Result (Option Asked) LineFault) (fault : LineFault) → command_read r ≡ Err fault → item_of_reading r ≡ Some (NoCommand (fault_code fault))

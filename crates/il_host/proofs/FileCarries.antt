@@ -1,5 +1,5 @@
 -- The reads and writes that the clauses of a volume tell of a store and of a fetch carry the bytes of the file.
-use Rattle.std.proofs.Common.{◌≡◌, ◌⊎◌, ◌∙◌, ◌<◌, ◌≤◌, ◌+◌, ◌++◌, ◌*◌, ◌&&◌, ◌||◌, ◌==◌, ℕ, zero, suc, Bool, true, false, not, if◌then◌else◌, nat_eq, nat_lt, List, [], ◌∷◌, length, get_or, take, Option, Some, None, option_and_then, inl, inr, refl, sym, ap, subst, arith}
+use Rattle.std.proofs.Common.{◌≡◌, ◌⊎◌, ◌∙◌, ◌<◌, ◌≤◌, ◌+◌, ◌++◌, ◌*◌, ◌&&◌, ◌||◌, ◌==◌, ℕ, zero, suc, Bool, true, false, not, if◌then◌else◌, nat_eq, nat_lt, List, [], ◌∷◌, length, map, get_or, take, Option, Some, None, option_and_then, inl, inr, refl, sym, ap, subst, arith}
 use Rattle.std.specs.Prelude.{IfSome, Result, Ok, Err, is_some}
 use Rattle.std.specs.FinMap.{get}
 use Rattle.std.specs.List.{list_any}
@@ -7,7 +7,7 @@ use Rattle.std.proofs.lemmas.Bool.{and_parts, and_right, eqb-true, ltb-true, le-
 use Rattle.std.proofs.lemmas.List.{append-nil}
 use Rattle.il_ports.specs.Stores.{IsStore, RecordsView}
 use Rattle.il_ports.specs.Transfers.{WritesOnly}
-use Rattle.lif_model.specs.Apply.{Adopt, Dir, Fetch, Format, Label, Purge, Rename, Store, Upgrade, VolumeCommand, refusal_of}
+use Rattle.lif_model.specs.Apply.{Adopt, Dir, Fetch, Format, Label, Purge, Rename, Store, Upgrade, Batch, VolumeCommand, refusal_of}
 use Rattle.lif_model.specs.declared.refusal.Refusal.{Refusal}
 use Rattle.lif_model.specs.Commit.{IsSettleWrite, IsTarget, close_writes, commit_writes, content_writes, settle_writes}
 use Rattle.lif_model.specs.Directory.{slots_of, start_of}
@@ -21,7 +21,8 @@ use Rattle.lif_model.specs.Redo.{Changes, redo_length, redo_of, redo_start, sett
 use Rattle.lif_model.specs.Tape.{Tape}
 use Rattle.lif_model.specs.Transfers.{Transfer, are_carried_in, are_carried_out, is_overwritten_by, records_of}
 use Rattle.lif_model.specs.Volume.{IsVolume, Volume, is_adopted_with, volume_of}
-use Rattle.lif_model.specs.Writing.{IsSlotWritten, SlotWrites, changes_at, changes_by, changes_of, entry_on, last_slot, stored_writes, with_slots}
+use Rattle.lif_model.specs.Parts as part
+use Rattle.lif_model.specs.Writing.{IsSlotWritten, SlotWrites, part_files, changes_at, changes_by, changes_of, entry_on, last_slot, stored_writes, with_slots}
 use Rattle.lif_model.proofs.Adopted.{adopted_version}
 use Rattle.lif_model.proofs.Directory.{settled_shape, volume_in_is, volume_tells}
 use Rattle.lif_model.proofs.Fit.{IsPlaceIn, fit_tells}
@@ -35,7 +36,7 @@ use Rattle.lif_plan.specs.Plans.{version_for}
 use Rattle.lif_plan.proofs.Planning.{version_is_redo}
 use Rattle.lif_volume.specs.declared.volume.Fetched.{Fetched}
 use Rattle.lif_volume.specs.Commands.{EndsWithRead, FetchedFile, FetchesByRun, FetchesFile, IsTold, WritesBySettling}
-use Rattle.lif_volume.specs.Changing.{commit_when, file_runs, file_when, run_of, runs_at, writes_if_any}
+use Rattle.lif_volume.specs.Changing.{commit_when, file_runs, file_when, run_of, writes_if_any}
 use Rattle.lif_volume.specs.Did.{Alters}
 use Rattle.lif_volume.specs.Views.{VolumeView}
 use Rattle.lif_volume.specs.declared.fault.VolumeFault.{VolumeFault}
@@ -278,7 +279,7 @@ module _ {R S : Type 0} (view : R → RecordsView S) (old new : VolumeView R) (s
     version = adopted_version n v.slots can.adopted
 
     runs_are : file_runs n command (volume_of t) ≡ run_of can.first bytes ∷ []
-    runs_are = ap (file_runs n command) of_tape ∙ ap (λ (p : Place). runs_at p bytes) can.chosen
+    runs_are = ap (file_runs n command) of_tape ∙ ap (λ (p : Place). map (λ file. run_of file.start file.bytes) (part_files (part.Store name kind implementation bytes) p)) can.chosen
 
     off : EachRecord (IsOff can.first (file_length bytes)) (commit_when n command (volume_of t) (settled t))
     off =
@@ -320,4 +321,5 @@ alters_carried view old new s seen begun store (Rename before later) nothing ans
 alters_carried view old new s seen begun store (Purge name) nothing answer alters = tt
 alters_carried view old new s seen begun store Adopt nothing answer alters = tt
 alters_carried view old new s seen begun store Upgrade nothing answer alters = tt
+alters_carried view old new s seen begun store (Batch parts) nothing answer alters = absurd nothing
 alters_carried view old new s seen begun store (Format label slots) nothing answer alters = tt

@@ -1,7 +1,7 @@
 -- The commands that change the volume, as a host performs them.
 use Rattle.std.proofs.Common.{◌≡◌, ◌≤◌, ◌+◌, ℕ, List, Option, None, Some, refl, subst, arith}
 use Rattle.std.specs.Prelude.{Result, Ok, Err}
-use Rattle.lif_model.specs.Apply.{Adopt, Dir, Fetch, Format, Label, Purge, Rename, Store, Upgrade, VolumeCommand}
+use Rattle.lif_model.specs.Apply.{Adopt, Dir, Fetch, Format, Label, Batch, Purge, Rename, Store, Upgrade, VolumeCommand}
 use Rattle.lif_model.specs.Header.{HeaderParts}
 use Rattle.il_ports.specs.Media.{MediumView, IsMedium}
 use Rattle.il_ports.specs.Stores.{Begun, Continues, RecordsView}
@@ -56,28 +56,29 @@ mounts_any n None = omega arith
 mounts_any n (Some header) = omega arith
 
 -- nor does a commit
-commits_few : {T : Type 0} (answer : Result T VolumeFault) → committing answer ≤ 12
+commits_few : {T : Type 0} (answer : Result T VolumeFault) → committing answer ≤ 10
 commits_few (Ok x) = omega arith
 commits_few (Err (Refused why)) = omega arith
 commits_few (Err (Troubled e)) = omega arith
 
-changing_few : {R S T : Type 0} (view : R → RecordsView S) (old new : VolumeView R) (command : VolumeCommand) (answer : Result T VolumeFault) → IsOpen view new → (view new.records).record_count ≡ (view old.records).record_count
+changing_few : {R S T : Type 0} (view : R → RecordsView S) (old new : VolumeView R) (command : VolumeCommand) (answer : Result T VolumeFault) → TellsNothing command → IsOpen view new → (view new.records).record_count ≡ (view old.records).record_count
     → changing (view old.records).record_count command old.kept new.kept answer ≤ most_calls (view old.records).record_count
-changing_few {T = T} view old new command answer is size = by command
+changing_few {T = T} view old new command answer nothing is size = by command nothing
   where
     plain : mounting (view old.records).record_count old.kept new.kept + committing answer ≤ most_calls (view old.records).record_count
     plain = omega (arith, mounts_few view old new is size, commits_few answer)
 
-    by : (command : VolumeCommand) → changing (view old.records).record_count command old.kept new.kept answer ≤ most_calls (view old.records).record_count
-    by Dir = plain
-    by Label = plain
-    by (Fetch name) = plain
-    by (Store name kind implementation bytes) = stores_few view old new bytes answer is size
-    by (Rename before later) = plain
-    by (Purge name) = plain
-    by Adopt = plain
-    by Upgrade = plain
-    by (Format label slots) = omega (arith, mounts_any (view old.records).record_count old.kept, commits_few answer)
+    by : (command : VolumeCommand) → TellsNothing command → changing (view old.records).record_count command old.kept new.kept answer ≤ most_calls (view old.records).record_count
+    by Dir nothing = absurd nothing
+    by Label nothing = absurd nothing
+    by (Fetch name) nothing = absurd nothing
+    by (Store name kind implementation bytes) nothing = stores_few view old new bytes answer is size
+    by (Rename before later) nothing = plain
+    by (Purge name) nothing = plain
+    by Adopt nothing = plain
+    by Upgrade nothing = plain
+    by (Batch parts) nothing = absurd nothing
+    by (Format label slots) nothing = omega (arith, mounts_any (view old.records).record_count old.kept, commits_few answer)
 
 module _ {M I : Type 0} {D : I → Type 0} (view : M → MediumView) (seen : Ring M I D → RingView M) (o b n : Volume (LoopRecords M I D)) (text_space file_space : ℕ)
     (usable : IsUsable view (store_in view seen) (volume_in o) (loop_in seen o.records) text_space file_space) (began : Begun (store_in view seen o.records) (store_in view seen b.records))
@@ -90,7 +91,7 @@ module _ {M I : Type 0} {D : I → Type 0} (view : M → MediumView) (seen : Rin
   altered answer before law nothing alters =
       changed view seen o b n text_space file_space usable began command opens low m u makes sounds answer
       (changing (store_in view seen m.records).record_count command (volume_in m).kept (volume_in n).kept answer) before nothing
-      (changing_few (store_in view seen) (volume_in m) (volume_in n) command answer opens alters.goes_on.continues.size)
+      (changing_few (store_in view seen) (volume_in m) (volume_in n) command answer nothing opens alters.goes_on.continues.size)
       alters.goes_on alters.stops alters.answers
       (alters_carried (store_in view seen) (volume_in m) (volume_in n) (host_in view seen o before text_space file_space).state
       (seen_asked view seen o b n text_space file_space usable began command opens low m u makes sounds before)

@@ -104,6 +104,8 @@ lent_open {M} {I} {T} {D} view seen v lends records k P answer opens same leaves
       room = opens.room ∙ ap (λ n. 8 * (n - 5)) (sym size);
       legal = tt;
       known = λ t told. tt;
+      gate = λ t told. tt;
+      end = λ t told. tt;
     }
 
 -- ---- a host over a volume that was o before, and b behind the emptying of its log

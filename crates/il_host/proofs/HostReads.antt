@@ -1,6 +1,9 @@
 -- The commands that tell a label or the bytes of a file, as a host performs them.
 use Rattle.std.proofs.Common.{◌≡◌, ◌≤◌, ◌++◌, ◌∙◌, ℕ, List, map, take, Option, Some, None, refl, sym, ap, arith}
-use Rattle.std.specs.Prelude.{Result, Ok, Err, IfSome, option_map, unwrap_or}
+use Rattle.std.specs.Prelude.{Result, Ok, Err, IfSome, length, option_map, unwrap_or}
+use Rattle.std.specs.Global.{Vec}
+use Rattle.std.specs.List.{length_refill}
+use Rattle.std.specs.Vec.{with_items}
 use Rattle.std.specs.FinMap.{empty}
 use Rattle.lif_dir.specs.Entries.{slot_bytes}
 use Rattle.lif_model.specs.Apply.{Fetch, Label}
@@ -31,6 +34,12 @@ use Rattle.il_host.proofs.FileCarries.{fetch_carried}
 use Rattle.il_host.proofs.HostVolumes.{done, most_calls, mounting_few, none_asked, refused, seen_asked}
 use Rattle.il_host.proofs.Texts.{data_told, label_told, short_slot}
 use Rattle.il_host.proofs.VolumeReplied.{stays_turns}
+
+-- ---- the buffer for files
+
+-- bytes that are written over a vector's leave its length
+pub same_length : (v : Vec ℕ) (xs : List ℕ) → length (with_items v xs).items ≡ length v.items
+same_length v xs = sym (length_refill v.len v.items xs v.ok.0) ∙ v.ok.0
 
 -- ---- how many records a fetch takes
 

@@ -10,7 +10,7 @@ use Rattle.lif_model.specs.Header.{HeaderParts}
 use Rattle.lif_model.specs.Tape.{Tape}
 use Rattle.lif_model.specs.Volume.{volume_of, Volume as LifVolume}
 use Rattle.lif_plan.specs.Directories.{IsLegalDirectory}
-use Rattle.lif_model.specs.Apply.{VolumeCommand, Dir, Label, Fetch, Store, Rename, Purge, Adopt, Upgrade, Format}
+use Rattle.lif_model.specs.Apply.{VolumeCommand, Dir, Label, Fetch, Store, Rename, Purge, Adopt, Upgrade, Batch, Format}
 use Rattle.lif_model.specs.Shelf.{IsSize}
 use Rattle.lif_model.proofs.Sizes.{size_bounds}
 use Rattle.il_ports.specs.Media.{MediumView, IsMedium}
@@ -91,7 +91,7 @@ enough_calls n size = let bounds = size_bounds n size in omega (arith, bounds.0,
 
 -- no command of a volume takes more on a tape of n records: to mount, to write a file, and to commit
 abbrev pub most_calls : ℕ → ℕ
-most_calls n = n + 78
+most_calls n = n + 76
 
 -- to make a directory kept takes fewer
 pub mounts_few : {R S : Type 0} (view : R → RecordsView S) (old new : VolumeView R) → IsOpen view new → (view new.records).record_count ≡ (view old.records).record_count
@@ -122,6 +122,7 @@ abbrev pub TellsNothing : VolumeCommand → Type 0
 TellsNothing Dir = ⊥
 TellsNothing Label = ⊥
 TellsNothing (Fetch name) = ⊥
+TellsNothing (Batch parts) = ⊥
 TellsNothing command = Unit {0}
 
 no_lines : (command : VolumeCommand) (volume : Option LifVolume) → TellsNothing command → told_of command volume ≡ []
@@ -134,6 +135,7 @@ no_lines (Rename old new) (Some v) nothing = refl
 no_lines (Purge name) (Some v) nothing = refl
 no_lines Adopt (Some v) nothing = refl
 no_lines Upgrade (Some v) nothing = refl
+no_lines (Batch parts) (Some v) nothing = absurd nothing
 no_lines (Format label slots) (Some v) nothing = refl
 
 nothing_told : (command : VolumeCommand) (volume : Option LifVolume) (s : HostState) (r : Reply) → volume_at s ≡ volume → TellsNothing command → reply_text (Asks (OfVolume command)) s r ≡ reply_line r
@@ -154,6 +156,8 @@ volume_request (command.Rename old new) bytes on = (Rename (name_bytes old) (nam
 volume_request (command.Purge name) bytes on = (Purge (name_bytes name), refl)
 volume_request (command.Format label slots) bytes on = (Format (label_bytes label) slots, refl)
 volume_request command.Adopt bytes on = (Adopt, refl)
+volume_request (command.Put name) bytes on = absurd on
+volume_request (command.Get name) bytes on = absurd on
 volume_request command.Devices bytes on = absurd on
 volume_request command.Status bytes on = absurd on
 volume_request command.Poll bytes on = absurd on
@@ -170,6 +174,8 @@ changes_volume (command.Rename old new) on no_dir no_label no_fetch = tt
 changes_volume (command.Purge name) on no_dir no_label no_fetch = tt
 changes_volume (command.Format label slots) on no_dir no_label no_fetch = tt
 changes_volume command.Adopt on no_dir no_label no_fetch = tt
+changes_volume (command.Put name) on no_dir no_label no_fetch = absurd on
+changes_volume (command.Get name) on no_dir no_label no_fetch = absurd on
 changes_volume command.Devices on no_dir no_label no_fetch = absurd on
 changes_volume command.Status on no_dir no_label no_fetch = absurd on
 changes_volume command.Poll on no_dir no_label no_fetch = absurd on
@@ -187,6 +193,8 @@ on_volume P (command.Rename old new) bytes changes has = (Rename (name_bytes old
 on_volume P (command.Purge name) bytes changes has = (Purge (name_bytes name), refl, tt, has)
 on_volume P (command.Format label slots) bytes changes has = (Format (label_bytes label) slots, refl, tt, has)
 on_volume P command.Adopt bytes changes has = (Adopt, refl, tt, has)
+on_volume P (command.Put name) bytes changes has = absurd changes
+on_volume P (command.Get name) bytes changes has = absurd changes
 on_volume P command.Devices bytes changes has = absurd changes
 on_volume P command.Status bytes changes has = absurd changes
 on_volume P command.Poll bytes changes has = absurd changes

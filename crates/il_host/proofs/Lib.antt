@@ -46,3 +46,6 @@ pub mod Wholes
 pub mod HostChanges
 pub mod HostReads
 pub mod HostLoops
+pub mod Getting
+pub mod TextPerforms
+pub mod TextLines

@@ -6,7 +6,7 @@ use Rattle.il_ports.specs.Media.{MediumView}
 use Rattle.il_ring.specs.Rings.{RingView}
 use Rattle.il_script.specs.declared.reply.Reply.TheVariants as reply
 use Rattle.il_script.specs.declared.reply.Code.{Code}
-use Rattle.host_model.specs.Requests.{Asks, Devices, Item, NoCommand, OfVolume, Paper, Poll, Say, Status, uses_frames}
+use Rattle.host_model.specs.Requests.{Asks, Devices, Get, Item, NoCommand, OfVolume, Paper, Poll, Say, Status, uses_frames}
 use Rattle.host_model.specs.HostStates.{HasOwnGate, HostState, volume_at}
 use Rattle.host_model.specs.Replies.{reply_of, volume_behind}
 use Rattle.host_model.specs.RingStates.{state_on}
@@ -21,6 +21,7 @@ pub record LeavesTape {M : Type 0} (view : M → MediumView) (r s : RingView M) 
 
 pub sends_frames : (item : Item) → IsOfLoop item → uses_frames item ≡ true
 sends_frames (Asks (OfVolume command)) of_loop = absurd of_loop
+sends_frames (Asks (Get name)) of_loop = absurd of_loop
 sends_frames (Asks Devices) of_loop = refl
 sends_frames (Asks Status) of_loop = refl
 sends_frames (Asks Poll) of_loop = refl
@@ -30,6 +31,7 @@ sends_frames (NoCommand code) of_loop = absurd of_loop
 
 same_volume : (item : Item) (s : HostState) → IsOfLoop item → volume_at s ≡ volume_behind item s
 same_volume (Asks (OfVolume command)) s of_loop = absurd of_loop
+same_volume (Asks (Get name)) s of_loop = absurd of_loop
 same_volume (Asks Devices) s of_loop = refl
 same_volume (Asks Status) s of_loop = refl
 same_volume (Asks Poll) s of_loop = refl

@@ -10,10 +10,10 @@ use Rattle.lif_dir.specs.Names.{is_digit, name_of_bytes, new_label}
 use Rattle.lif_dir.specs.declared.entries.Name.{Name}
 use Rattle.il_script.specs.Words.{words_of, without_return, is_none, only_one, only_two, only_four}
 use Rattle.il_script.specs.Digits.{file_type, hex_bytes, is_number, number_up_to, payload_of, type_in, value_of}
-use Rattle.il_script.specs.Commands.{Asked, asked_of, command_of, command_read, format_of, in_form, is_comment, lone_of, name_of_part, naming, new_name_of_bytes, not_skipped, reading_of, reading_of_words, rename_of, say_of, spelt_as, store_of, with_name, without_bytes, word_command}
+use Rattle.il_script.specs.Commands.{Asked, asked_of, command_of, command_read, format_of, in_form, is_comment, put_of, lone_of, name_of_part, naming, new_name_of_bytes, not_skipped, reading_of, reading_of_words, rename_of, say_of, spelt_as, store_of, with_name, without_bytes, word_command}
 use Rattle.il_script.specs.declared.limits.TheConstants.{MOST_SLOTS}
 use Rattle.il_script.specs.declared.command.Command.{Command}
-use Rattle.il_script.specs.declared.command.Command.TheVariants.{Dir, Label, Fetch, Store, Rename, Purge, Format, Adopt, Devices, Status, Poll, Paper}
+use Rattle.il_script.specs.declared.command.Command.TheVariants.{Dir, Label, Fetch, Store, Put, Get, Rename, Purge, Format, Adopt, Devices, Status, Poll, Paper}
 use Rattle.il_script.specs.declared.command.LineFault.{LineFault}
 use Rattle.il_host.specs.PlainCommands.{IsPlain}
 
@@ -121,9 +121,10 @@ plain_lone word parts = formed Plain (word_command word) _ (λ fault. tt) (λ co
 plain_command : (word : List ℕ) (parts : List (List ℕ)) → Plain (command_of word parts)
 plain_command word parts =
     either Plain (bytes_eq word (codes "fetch")) _ _ (plain_name Fetch (name_of_part parts) (λ name. tt))
+    (either Plain (bytes_eq word (codes "get")) _ _ (plain_name Get (name_of_part parts) (λ name. tt))
     (either Plain (bytes_eq word (codes "purge")) _ _ (plain_name Purge (name_of_part parts) (λ name. tt))
     (either Plain (bytes_eq word (codes "rename")) _ _ (plain_rename parts)
-    (either Plain (bytes_eq word (codes "format")) _ _ (plain_format parts) (plain_lone word parts))))
+    (either Plain (bytes_eq word (codes "format")) _ _ (plain_format parts) (plain_lone word parts)))))
 
 plain_bare : (r : Result Command LineFault) → Plain r → PlainAsked (without_bytes r)
 plain_bare (Ok command) plain = plain
@@ -138,6 +139,13 @@ plain_store parts =
     formed PlainAsked (payload_of p.3) _ (λ fault. tt) (λ bytes is.
     named PlainAsked name (λ name. Ok (record { command = Store name kind implementation; bytes = bytes })) (λ fault. tt) (λ name. type_some (hex_bytes 2 p.1) (from_be_bytes w16) kind found))))))
 
+plain_put : (parts : List (List ℕ)) → PlainAsked (put_of parts)
+plain_put parts =
+    formed PlainAsked (only_two parts) _ (λ fault. tt) (λ p is.
+    formed PlainAsked (spelt_as new_name_of_bytes p.0) _ (λ fault. tt) (λ name is.
+    formed PlainAsked (payload_of p.1) _ (λ fault. tt) (λ bytes is.
+    named PlainAsked name (λ name. Ok (record { command = Put name; bytes = bytes })) (λ fault. tt) (λ name. tt))))
+
 plain_say : (parts : List (List ℕ)) → PlainAsked (say_of parts)
 plain_say parts =
     formed PlainAsked (only_one parts) _ (λ fault. tt) (λ part is. formed PlainAsked (payload_of part) _ (λ fault. tt) (λ bytes is. tt))
@@ -145,7 +153,8 @@ plain_say parts =
 plain_asked : (word : List ℕ) (parts : List (List ℕ)) → PlainAsked (asked_of word parts)
 plain_asked word parts =
     either PlainAsked (bytes_eq word (codes "store")) _ _ (plain_store parts)
-    (either PlainAsked (bytes_eq word (codes "say")) _ _ (plain_say parts) (plain_bare (command_of word parts) (plain_command word parts)))
+    (either PlainAsked (bytes_eq word (codes "put")) _ _ (plain_put parts)
+    (either PlainAsked (bytes_eq word (codes "say")) _ _ (plain_say parts) (plain_bare (command_of word parts) (plain_command word parts))))
 
 -- ---- lines
 

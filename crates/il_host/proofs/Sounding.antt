@@ -2,7 +2,7 @@
 use Rattle.std.proofs.Common.{◌≡◌, ◌∙◌, ⊎_elim, inl, inr, ℕ, Bool, true, false, not, List, refl, sym}
 use Rattle.il_script.specs.declared.reply.Reply.{Reply}
 use Rattle.il_script.specs.declared.reply.Reply.TheVariants as reply
-use Rattle.host_model.specs.Requests.{Asks, Devices, Item, NoCommand, OfVolume, Paper, Poll, Say, Status, is_of_volume}
+use Rattle.host_model.specs.Requests.{Asks, Devices, Get, Item, NoCommand, OfVolume, Paper, Poll, Say, Status, is_of_volume}
 use Rattle.host_model.specs.LoopStates.{all_roles, device_count}
 use Rattle.host_model.specs.HostStates.{HostState}
 use Rattle.host_model.specs.Replies.{reply_of, volume_behind}
@@ -21,6 +21,7 @@ sounding e was is = record e { before = state_sounding was e.before; after = sta
 
 same_reply : (item : Item) (sound : Bool) (s : HostState) → reply_of item (state_sounding sound s) ≡ reply_of item s
 same_reply (Asks (OfVolume command)) sound s = refl
+same_reply (Asks (Get name)) sound s = refl
 same_reply (Asks Devices) sound s = refl
 same_reply (Asks Status) sound s = refl
 same_reply (Asks Poll) sound s = refl
@@ -30,6 +31,7 @@ same_reply (NoCommand code) sound s = refl
 
 same_behind : (item : Item) (sound : Bool) (s : HostState) → volume_behind item (state_sounding sound s) ≡ volume_behind item s
 same_behind (Asks (OfVolume command)) sound s = refl
+same_behind (Asks (Get name)) sound s = refl
 same_behind (Asks Devices) sound s = refl
 same_behind (Asks Status) sound s = refl
 same_behind (Asks Poll) sound s = refl

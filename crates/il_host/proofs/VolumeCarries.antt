@@ -4,7 +4,7 @@ use Rattle.std.specs.FinMap.{get}
 use Rattle.il_ports.specs.Media.{MediumView}
 use Rattle.il_ports.specs.declared.records.Trouble.{Trouble}
 use Rattle.il_ports.specs.declared.records.Trouble.TheVariants as trouble
-use Rattle.lif_model.specs.Apply.{VolumeCommand, Adopt, Dir, Fetch, Format, Label, Purge, Rename, Store, Upgrade}
+use Rattle.lif_model.specs.Apply.{VolumeCommand, Adopt, Dir, Fetch, Format, Label, Purge, Rename, Store, Upgrade, Batch}
 use Rattle.lif_model.specs.Directory.{start_of}
 use Rattle.lif_model.specs.Fit.{Place, At, fit_in}
 use Rattle.lif_model.specs.Legal.{slot_named}
@@ -135,4 +135,5 @@ module _ {M : Type 0} (view : M → MediumView) (was : Bool) (r s : RingView M) 
   carries_by (Purge name) reply.Ok so = λ ok a good. tt
   carries_by Adopt reply.Ok so = λ ok a good. tt
   carries_by Upgrade reply.Ok so = λ ok a good. tt
+  carries_by (Batch parts) reply.Ok so = λ ok a good. tt
   carries_by (Format label slots) reply.Ok so = λ ok a good. tt

@@ -5,6 +5,7 @@ use Rattle.lif_model.specs.Stops.{StandsStill}
 use Rattle.il_device.specs.State.{DeviceState}
 use Rattle.il_ports.specs.Media.{MediumView}
 use Rattle.il_ports.specs.Stores.{RecordsView}
+use Rattle.lif_volume.specs.Seen as volume
 use Rattle.lif_volume.specs.Views.{VolumeView, IsOpen}
 use Rattle.lif_volume.specs.declared.volume.Volume.{Volume}
 use Rattle.il_ring.specs.declared.plan.Planned.{Planned}
@@ -56,7 +57,7 @@ store_in view seen l = view_of view seen (ring_in l.control) (loop_in seen l)
 
 -- a volume over it
 abbrev pub volume_in : {R : Type 0} → Volume R → VolumeView R
-volume_in v = record { records = v.records; kept = v.kept; slots = v.directory.table.slots; room = v.directory.table.room }
+volume_in v = volume.seen v
 
 -- all of it
 abbrev pub host_in : {M I : Type 0} {D : I → Type 0} → (M → MediumView) → (Ring M I D → RingView M) → Volume (LoopRecords M I D) → List ℕ → (text_space file_space : ℕ) → HostView

@@ -1,7 +1,7 @@
 -- Commands that a script can ask for.
 use Rattle.std.specs.Prelude.{◌≢◌, ◌<◌}
 use Rattle.il_script.specs.declared.command.Command.{Command}
-use Rattle.il_script.specs.declared.command.Command.TheVariants.{Store, Rename, Purge, Format, Adopt, Devices, Status, Poll, Say, Paper}
+use Rattle.il_script.specs.declared.command.Command.TheVariants.{Store, Put, Get, Rename, Purge, Format, Adopt, Devices, Status, Poll, Say, Paper}
 use Rattle.lif_model.specs.Apply.{VolumeCommand}
 use Rattle.host_model.specs.Requests.{Request, OfVolume}
 use Rattle.il_host.specs.declared.running.Asked.{Asked}
@@ -20,7 +20,10 @@ IsPlainAsked (asked.NoCommand code) = Unit {0}
 
 -- ---- commands of the volume
 
+-- one that is performed as it is asked; a text is made or told beside it
 abbrev pub IsOnVolume : Command → Type 0
+IsOnVolume (Put name) = ⊥
+IsOnVolume (Get name) = ⊥
 IsOnVolume Devices = ⊥
 IsOnVolume Status = ⊥
 IsOnVolume Poll = ⊥

@@ -3,7 +3,7 @@ use Rattle.std.specs.Prelude.{◌≡◌, ℕ, true, List, Option, Result, is_som
 use Rattle.lif_model.specs.Stops.{LeavesOnly}
 use Rattle.il_frames.specs.declared.entry.Entry.{Entry}
 use Rattle.il_script.specs.declared.reply.Reply.{Reply}
-use Rattle.host_model.specs.Requests.{Item, Asks, NoCommand, request_of}
+use Rattle.host_model.specs.Requests.{Item, NoCommand, item_for}
 use Rattle.host_model.specs.HostStates.{HasOwnGate}
 use Rattle.host_model.specs.Steps.{Event, IsStep, TellsReply}
 use Rattle.host_model.specs.Stops.{StopsLeave, LeftWithin}
@@ -36,7 +36,7 @@ end_of ending.InsertFailed = end.InsertFailed
 
 -- the item of what a line asks for, with the bytes that the line carries
 abbrev pub item_asked : Asked → List ℕ → Item
-item_asked (asked.Command command) bytes = Asks (request_of command bytes)
+item_asked (asked.Command command) bytes = item_for command bytes
 item_asked (asked.NoCommand code) bytes = NoCommand code
 
 -- an item that was answered, with this log

@@ -1,9 +1,10 @@
-ghost use Rattle.std.specs.Prelude.{◌≤◌, ◌+◌, length};
+ghost use Rattle.std.specs.Prelude.{◌≡◌, ◌≤◌, ◌+◌, length};
 ghost use Rattle.il_ports.specs.Stores.{Continues};
 ghost use Rattle.lif_volume.specs.Views.{IsOpen};
 ghost use Rattle.il_host.specs.Hosts.{volume_in};
 ghost use Rattle.il_host.specs.Standings.{Ends, HasDriveStatus, KeepsPage, MakesSound, fault_of};
 
+use crate::made_text::MadeText;
 use crate::performer::Performer;
 use il_device::Device;
 use il_frames::Entry;
@@ -19,6 +20,7 @@ pub struct Host<M: Medium> {
     pub(crate) volume: Volume<LoopRecords<M>>,
     pub(crate) page: Page,
     pub(crate) file: Vec<u8>,
+    pub(crate) text: MadeText,
     pub(crate) devices: PhantomData<Box<dyn Device>>,
 }
 
@@ -47,6 +49,8 @@ impl<M: Medium + Drop> Performer for Host<M> {
             Command::Poll => self.poll(),
             Command::Say => self.say(bytes),
             Command::Paper => self.paper(),
+            Command::Put(name) => self.put(name, bytes),
+            Command::Get(name) => self.get(name),
             Command::Dir
             | Command::Label
             | Command::Fetch(_)
@@ -77,6 +81,7 @@ impl<M: Medium + Drop> Host<M> {
         ensures sounds { Continues 1 (⟦<LoopRecords<M> as Records>⟧.view self.old.volume.records) (⟦<LoopRecords<M> as Records>⟧.view self.new.volume.records) result }
         ensures opens { IsOpen ⟦<LoopRecords<M> as Records>⟧.view (volume_in self.new.volume) }
         ensures rests { KeepsPage self.old.page (length self.old.file.items) self.new.page (length self.new.file.items) }
+        ensures text { self.new.text ≡ self.old.text }
     {
         if self.volume.records().is_sound() {
             return Ok(());

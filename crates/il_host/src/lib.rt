@@ -10,12 +10,14 @@ mod host;
 mod listing;
 mod loop_commands;
 mod loop_texts;
+mod made_text;
 mod opening;
 mod parts;
 mod performer;
 mod run;
 mod running;
 mod scripts;
+mod text_commands;
 mod volume_commands;
 mod write;
 

@@ -1,12 +1,16 @@
 //! The texts that the commands of a volume tell.
-ghost use Rattle.std.specs.Prelude.{◌≡◌, ◌+◌, ◌*◌, ◌≤◌, ◌++◌, length};
+ghost use Rattle.std.specs.Prelude.{◌≡◌, ◌+◌, ◌*◌, ◌≤◌, ◌++◌, [], true, is_some, length};
+ghost use Rattle.lif_text.specs.Pieces.{lines_in};
 ghost use Rattle.lif_dir.specs.Entries.{entry_bytes};
 ghost use Rattle.host_model.specs.Listing.{volume_line, slot_lines};
+ghost use Rattle.host_model.specs.Replies.{line_text, lines_of_type, lines_text, if_text};
 ghost use Rattle.il_host.specs.Texts.{parts_of, listing_text, entry_line, label_text, data_text};
 
 use crate::parts::{put_next_bytes, put_next_hex, put_next_name, put_next_number};
-use il_script::Page;
+use crate::text_commands::TEXT_TYPE;
+use il_script::{Code, Page, Reply};
 use lif_dir::{FileEntry, SlotTable};
+use lif_text::{Piece, next};
 use lif_volume::{Fetched, Listing};
 
 /// The line of the volume, of which so many slots are used.
@@ -87,4 +91,57 @@ pub(crate) fn put_data(page: &mut Page, fetched: &Fetched, bytes: &[u8])
     put_next_bytes(page, &fetched.implementation);
     put_next_bytes(page, bytes);
     page.put(b"\n");
+}
+
+/// A line of a text file.
+fn put_line(page: &mut Page, line: &[u8])
+    requires { length page.old.text + 2 * length line.now + 7 ≤ page.old.room }
+    ensures text { page.new ≡ record page.old { text = page.old.text ++ line_text line.now } }
+    ensures size { 2 * length page.new.text ≤ 2 * length page.old.text + 7 * (length line.now + 2) }
+{
+    page.put(b"line");
+    put_next_bytes(page, line);
+    page.put(b"\n");
+}
+
+/// The lines that bytes tell; the answer is whether they are a text.
+fn put_lines(page: &mut Page, bytes: &[u8]) -> bool
+    requires { 2 * length page.old.text + 7 * length bytes.now ≤ 2 * page.old.room }
+    ensures text { result ≡ is_some (lines_in bytes.now) }
+    ensures lines { result ≡ true → page.new.text ≡ page.old.text ++ lines_text (lines_in bytes.now) }
+    ensures size { 2 * length page.new.text ≤ 2 * length page.old.text + 7 * length bytes.now }
+    ensures room { page.new.room ≡ page.old.room }
+{
+    let mut at = 0;
+    'lines: loop {
+        match next(bytes, at) {
+            Ok(
+                Piece::Line {
+                    from,
+                    to,
+                    next: after,
+                },
+            ) => {
+                put_line(page, &bytes[from..to]);
+                at = after;
+            }
+            Ok(Piece::End) => return true,
+            Err(_) => return false,
+        }
+    }
+}
+
+/// The lines of a file of this type with these bytes, where it is a text; the reply is then ok.
+pub(crate) fn put_text(page: &mut Page, kind: u16, bytes: &[u8]) -> Reply
+    requires blank { page.old.text ≡ [] }
+    requires room { 7 * length bytes.now ≤ 2 * page.old.room }
+    ensures reply { result ≡ if_text (lines_of_type kind bytes.now) }
+    ensures text { page.new ≡ record page.old { text = page.old.text ++ lines_text (lines_of_type kind bytes.now) } }
+    ensures size { 2 * length page.new.text ≤ 7 * length bytes.now }
+{
+    if kind == TEXT_TYPE && put_lines(page, bytes) {
+        return Reply::Ok;
+    }
+    page.clear();
+    Reply::No(Code::NotText)
 }

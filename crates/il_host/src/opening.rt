@@ -7,6 +7,7 @@ ghost use Rattle.host_model.specs.HostStates.{log_room, text_room};
 ghost use Rattle.il_host.specs.Hosts.{IsOpened, IsClosed};
 
 use crate::host::Host;
+use crate::made_text::MadeText;
 use crate::performer::Performer;
 use il_control::Lost;
 use il_ports::Medium;
@@ -24,14 +25,15 @@ fn log_room(records: u16) -> usize
     1600 * usize::from(records) + 10_000
 }
 
-/// Memory for the text of every reply, and for the bytes of every file, on a medium of so many records.
-fn reserve(alloc: Global, records: u16) -> Result<(Page, Vec<u8>), AllocError>
+/// Memory for the text of every reply, for the bytes of every file, on a medium of so many records, and for the text of
+/// every payload.
+fn reserve(alloc: Global, records: u16) -> Result<(Page, Vec<u8>, MadeText), AllocError>
     ensures page { IfOk result (λ r. r.0 ≡ record { text = []; room = text_room records }) }
     ensures file { IfOk result (λ r. length r.1.items ≡ 256 * records) }
 {
-    let page = Page::new(alloc, 600 * usize::from(records) + 20_000)?;
+    let page = Page::new(alloc, 1000 * usize::from(records) + 20_000)?;
     let file = vec![in alloc; 0; 256 * usize::from(records)]?;
-    Ok((page, file))
+    Ok((page, file, MadeText::new(alloc)?))
 }
 
 impl<M: Medium + Drop> Host<M> {
@@ -51,7 +53,7 @@ impl<M: Medium + Drop> Host<M> {
         ensures after { IfErr result (λ refused. map (λ b. state b) refused.rig.after.items ≡ map (λ b. state b) rig.after.items) }
     {
         let records = rig.medium.size();
-        let Ok((page, file)) = reserve(alloc, records) else {
+        let Ok((page, file, text)) = reserve(alloc, records) else {
             return Err(Refused { rig });
         };
         let ring = match Ring::new(alloc, rig, plan, log_room(records)) {
@@ -63,6 +65,7 @@ impl<M: Medium + Drop> Host<M> {
                 volume,
                 page,
                 file,
+                text,
                 devices: PhantomData,
             }),
             Err(kept) => Err(Refused {

@@ -6,7 +6,7 @@ use il_script::{Command, Reply};
 pub trait Performer {
     ghost use Rattle.std.specs.Prelude.{◌≡◌, ◌≤◌, length};
     ghost use Rattle.il_script.specs.declared.limits.TheConstants.{LONGEST_PAYLOAD};
-    ghost use Rattle.host_model.specs.Requests.{Asks, request_of};
+    ghost use Rattle.host_model.specs.Requests.{item_for};
     ghost use Rattle.il_host.specs.HostView.{HostView, IsHost, Performed};
     ghost use Rattle.il_host.specs.PlainCommands.{IsPlain};
 
@@ -17,7 +17,7 @@ pub trait Performer {
         requires valid { (view self.old).valid }
         requires plain { IsPlain command.now }
         requires few { length bytes.now ≤ LONGEST_PAYLOAD }
-        ensures { Performed (Asks (request_of command.now bytes.now)) result (view self.old) (view self.new) };
+        ensures { Performed (item_for command.now bytes.now) result (view self.old) (view self.new) };
 
     /// The text of the reply to the last command.
     fn text(&self) -> &[u8]

@@ -60,7 +60,7 @@ impl<M: Medium + Drop> Host<M> {
     }
 
     /// The reply to a command that tells nothing, by the volume's answer.
-    fn ended(&mut self, answer: Result<(), VolumeFault>) -> Reply
+    pub(crate) fn ended(&mut self, answer: Result<(), VolumeFault>) -> Reply
         requires volume_open { IsOpen ⟦<LoopRecords<M> as Records>⟧.view (volume_in self.old.volume) }
         requires room { length self.old.page.text + 23 ≤ self.old.page.room }
         ensures ended { Ends (volume_reply answer) self.old.volume self.old.page (length self.old.file.items) result self.new.volume self.new.page (length self.new.file.items) }
@@ -73,7 +73,7 @@ impl<M: Medium + Drop> Host<M> {
     }
 
     /// The reply to a command that the volume did not perform.
-    fn refused(&mut self, fault: VolumeFault) -> Reply
+    pub(crate) fn refused(&mut self, fault: VolumeFault) -> Reply
         requires volume_open { IsOpen ⟦<LoopRecords<M> as Records>⟧.view (volume_in self.old.volume) }
         requires room { length self.old.page.text + 23 ≤ self.old.page.room }
         ensures ended { Ends (volume_reply {T = Unit {0}} (Err fault)) self.old.volume self.old.page (length self.old.file.items) result self.new.volume self.new.page (length self.new.file.items) }

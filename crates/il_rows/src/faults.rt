@@ -60,14 +60,14 @@ fn a_store_counts_whole_or_not_at_all(rt: HostRuntime) -> Result<(), Fail> {
     let alloc = rt.alloc();
     let lost = crossings_tried(&rt, alloc, "--lose ", "")?;
     let altered = crossings_tried(&rt, alloc, "--alter ", ":01")?;
-    // The store has 9,300 crossings: 33 to address the loop and clear the drive, 849 for each of five reads and 837 for
+    // The store has 7,602 crossings: 33 to address the loop and clear the drive, 849 for each of three reads and 837 for
     // each of six writes.
-    assert!(rt; same(lost, 96), "the crossings that are lost");
+    assert!(rt; same(lost, 79), "the crossings that are lost");
     assert!(rt; same(altered, lost), "the crossings that are altered");
     let tape = formatted(alloc)?;
     for (words, output) in [
-        ("--quiet --lose 9300 TAPE", b"fault frame\n".as_slice()),
-        ("--quiet --lose 9301 TAPE", b"ok\n".as_slice()),
+        ("--quiet --lose 7602 TAPE", b"fault frame\n".as_slice()),
+        ("--quiet --lose 7603 TAPE", b"ok\n".as_slice()),
     ] {
         let left = run(alloc, &Given::script(&tape, STORE).with_words(words))?;
         assert!(rt; same_bytes(&left.output, output), "{words}");
@@ -154,8 +154,8 @@ fn reads_tried(rt: &impl Abort, alloc: Global) -> Result<u64, Fail> {
 
 #[test]
 fn each_read_of_a_store_fails(rt: HostRuntime) -> Result<(), Fail> {
-    // The gate, record 0 and the directory's record; that record again for the commit, and the gate.
-    assert!(rt; same(reads_tried(&rt, rt.alloc())?, 5), "the reads");
+    // The gate, record 0 and the directory's record; the commit reads none.
+    assert!(rt; same(reads_tried(&rt, rt.alloc())?, 3), "the reads");
     Ok(())
 }
 

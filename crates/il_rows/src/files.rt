@@ -77,7 +77,7 @@ fn each_call_of_the_file_fails(rt: HostRuntime) -> Result<(), Fail> {
         ErrorKind::Interrupted,
     ] {
         let mut given_up = 0u64;
-        for call in 5..=21 {
+        for call in 5..=19 {
             let left = run_over(alloc, &tape, 256, (call, kind), SCRIPT)?;
             assert!(rt; same(left.status, 1), "the status, call {call}");
             let is_there = found_next(&rt, alloc, &left.kept, call)?;
@@ -89,7 +89,7 @@ fn each_call_of_the_file_fails(rt: HostRuntime) -> Result<(), Fail> {
             }
         }
         assert!(rt; same(given_up, 6), "the syncs");
-        let left = run_over(alloc, &tape, 256, (22, kind), SCRIPT)?;
+        let left = run_over(alloc, &tape, 256, (20, kind), SCRIPT)?;
         assert!(rt; same(left.status, 0), "no call is left to fail");
     }
     Ok(())

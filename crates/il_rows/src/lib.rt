@@ -22,4 +22,6 @@ mod printing;
 #[cfg(test)]
 mod runs;
 #[cfg(test)]
+mod texts;
+#[cfg(test)]
 mod volumes;

@@ -13,7 +13,7 @@ use Rattle.il_script.specs.Commands.{spelt_as, reading_of, command_read, bytes_r
 use Rattle.il_script.specs.Replies.{text_line, reply_line}
 use Rattle.il_script.specs.declared.lines.Line.TheVariants.{Text, TooLong}
 use Rattle.il_script.specs.declared.limits.TheConstants.{LONGEST_LINE, LONGEST_PAYLOAD, LONGEST_SCRIPT, MOST_SLOTS}
-use Rattle.il_script.specs.declared.command.Command.TheVariants.{Dir, Label, Fetch, Store, Rename, Purge, Format, Adopt, Devices, Status, Poll, Say, Paper}
+use Rattle.il_script.specs.declared.command.Command.TheVariants.{Dir, Label, Fetch, Store, Put, Get, Rename, Purge, Format, Adopt, Devices, Status, Poll, Say, Paper}
 use Rattle.il_script.specs.declared.command.LineFault.TheVariants.{BadLine, BadName}
 use Rattle.il_script.specs.declared.reply.Code.TheVariants as code
 use Rattle.il_script.specs.declared.reply.Reply.TheVariants as reply
@@ -133,13 +133,22 @@ store_line : reading_of (codes "store A E080 00000180 4142") ≡ Ok (Some (recor
 unfolding hex_on_literals
 store_line = refl
 
+-- the bytes of a text stand as they are spelt
+put_line : reading_of (codes "put A 790a") ≡ Ok (Some (record { command = Put made; bytes = 121 ∷ 10 ∷ [] }))
+unfolding hex_on_literals
+put_line = refl
+
+get_line : reading_of (codes "get a") ≡ Ok (Some (record { command = Get (record { bytes = codes "a         " }); bytes = [] }))
+get_line = refl
+
 say_line : reading_of (codes "say -") ≡ Ok (Some (record { command = Say; bytes = [] }))
 say_line = refl
 
 -- a name counts only where the line is in a form
 bad_names : (reading_of (codes "fetch ELEVENCHARS") ≡ Err BadName) × (reading_of (codes "rename A a") ≡ Err BadName) × (reading_of (codes "format a 8") ≡ Err BadName)
+    × (reading_of (codes "put a -") ≡ Err BadName) × (reading_of (codes "get ELEVENCHARS") ≡ Err BadName) × (reading_of (codes "put a") ≡ Err BadLine)
     × (reading_of (codes "format a 0") ≡ Err BadLine) × (reading_of (codes "rename ELEVENCHARS %") ≡ Err BadLine)
-bad_names = (refl, refl, refl, refl, refl)
+bad_names = (refl, refl, refl, refl, refl, refl, refl, refl)
 
 -- the two parts of a reading
 said : (command_read (Ok (Some (record { command = Say; bytes = codes "A" }))) ≡ Ok (Some Say)) × (bytes_read (Ok (Some (record { command = Say; bytes = codes "A" }))) ≡ codes "A") × (bytes_read (Err BadName) ≡ [])

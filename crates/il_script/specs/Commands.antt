@@ -9,7 +9,7 @@ use Rattle.il_script.specs.Digits.{number_up_to, hex_bytes, payload_of, type_in}
 use Rattle.il_script.specs.Spelling.{spelt}
 use Rattle.il_script.specs.declared.limits.TheConstants.{MOST_SLOTS}
 use Rattle.il_script.specs.declared.command.Command.{Command}
-use Rattle.il_script.specs.declared.command.Command.TheVariants.{Dir, Label, Fetch, Store, Rename, Purge, Format, Adopt, Devices, Status, Poll, Say, Paper}
+use Rattle.il_script.specs.declared.command.Command.TheVariants.{Dir, Label, Fetch, Store, Put, Get, Rename, Purge, Format, Adopt, Devices, Status, Poll, Say, Paper}
 use Rattle.il_script.specs.declared.command.LineFault.{LineFault}
 use Rattle.il_script.specs.declared.command.LineFault.TheVariants.{BadLine, BadName}
 
@@ -51,6 +51,10 @@ naming command (Err fault) = Err fault
 abbrev pub fetch_of : List (List ℕ) → Result Command LineFault
 fetch_of parts = naming Fetch (name_of_part parts)
 
+-- `get NAME`
+abbrev pub get_of : List (List ℕ) → Result Command LineFault
+get_of parts = naming Get (name_of_part parts)
+
 -- `purge NAME`
 abbrev pub purge_of : List (List ℕ) → Result Command LineFault
 purge_of parts = naming Purge (name_of_part parts)
@@ -65,10 +69,18 @@ abbrev pub format_of : List (List ℕ) → Result Command LineFault
 format_of parts = in_form (only_two parts) (λ p. in_form (spelt_as new_label p.0) (λ label. in_form (number_up_to MOST_SLOTS p.1) (λ slots.
     with_name label (λ label. Ok (Format label slots)))))
 
+-- a command of the name that a file is given, with the bytes that a text spells
+abbrev pub carrying : (NewName → Command) → Option NewName → List ℕ → Result Asked LineFault
+carrying command name text = in_form (payload_of text) (λ bytes. with_name name (λ name. Ok (record { command = command name; bytes = bytes })))
+
 -- `store NAME TYPE IMPL HEX`: TYPE has four hex digits, IMPL, the implementation field, eight
 abbrev pub store_of : List (List ℕ) → Result Asked LineFault
 store_of parts = in_form (only_four parts) (λ p. in_form (spelt_as new_name_of_bytes p.0) (λ name. in_form (type_in p.1) (λ kind. in_form (hex_bytes 4 p.2) (λ implementation.
-    in_form (payload_of p.3) (λ bytes. with_name name (λ name. Ok (record { command = Store name kind implementation; bytes = bytes })))))))
+    carrying (λ name. Store name kind implementation) name p.3))))
+
+-- `put NAME HEX`
+abbrev pub put_of : List (List ℕ) → Result Asked LineFault
+put_of parts = in_form (only_two parts) (λ p. in_form (spelt_as new_name_of_bytes p.0) (λ name. carrying Put name p.1))
 
 -- `say HEX`
 abbrev pub say_of : List (List ℕ) → Result Asked LineFault
@@ -94,6 +106,7 @@ lone_of word parts = in_form (word_command word) (λ command. if is_none parts t
 abbrev pub command_of : List ℕ → List (List ℕ) → Result Command LineFault
 command_of word parts =
     if bytes_eq word (codes "fetch") then fetch_of parts else
+    if bytes_eq word (codes "get") then get_of parts else
     if bytes_eq word (codes "purge") then purge_of parts else
     if bytes_eq word (codes "rename") then rename_of parts else
     if bytes_eq word (codes "format") then format_of parts else lone_of word parts
@@ -106,6 +119,7 @@ without_bytes (Err fault) = Err fault
 abbrev pub asked_of : List ℕ → List (List ℕ) → Result Asked LineFault
 asked_of word parts =
     if bytes_eq word (codes "store") then store_of parts else
+    if bytes_eq word (codes "put") then put_of parts else
     if bytes_eq word (codes "say") then say_of parts else without_bytes (command_of word parts)
 
 -- ---- lines

@@ -1,8 +1,8 @@
 use lif_dir::{Name, NewLabel, NewName};
 use thiserror::Error;
 
-/// What a line of a script asks for. The bytes of `Store` and `Say` stand in the [`Payload`](crate::Payload) that the
-/// line was read with.
+/// What a line of a script asks for. The bytes of `Store`, `Put` and `Say` stand in the [`Payload`](crate::Payload)
+/// that the line was read with.
 #[derive(Clone, Copy, Debug, PartialEq, Eq)]
 pub enum Command {
     /// Lists the volume and its files.
@@ -20,6 +20,10 @@ pub enum Command {
         /// Its implementation field.
         implementation: [u8; 4],
     },
+    /// Makes a text file of the payload, whose bytes 0A hex end its lines.
+    Put(NewName),
+    /// Tells the lines of a text file.
+    Get(Name),
     /// Gives a file another name.
     Rename {
         /// The name that it has.

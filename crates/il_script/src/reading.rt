@@ -1,7 +1,9 @@
-ghost use Rattle.std.specs.Prelude.{◌≡◌, ◌≤◌, [], length};
-ghost use Rattle.il_script.specs.Digits.{number_up_to};
+ghost use Rattle.std.specs.Prelude.{◌≡◌, ◌≤◌, [], Ok, length};
+ghost use Rattle.il_script.specs.Digits.{number_up_to, payload_of};
 ghost use Rattle.il_script.specs.Words.{words_of};
-ghost use Rattle.il_script.specs.Commands.{is_comment, fetch_of, purge_of, rename_of, format_of, store_of, say_of, word_command, lone_of, command_of, asked_of, reading_of, command_in, bytes_in, command_read, bytes_read, name_of_part};
+ghost use Rattle.il_script.specs.Commands.{is_comment, fetch_of, get_of, purge_of, rename_of, format_of, carrying, store_of, put_of, say_of, word_command, lone_of, command_of, asked_of, reading_of, command_in, bytes_in, command_read, bytes_read, name_of_part, in_form, with_name};
+ghost use Rattle.il_script.specs.declared.command.Command.{Command};
+ghost use Rattle.lif_dir.specs.declared.names.NewName.{NewName};
 
 use crate::command::{Command, LineFault};
 use crate::digits::{read_hex, read_number, read_type};
@@ -9,7 +11,7 @@ use crate::limits::{LONGEST_LINE, MOST_SLOTS};
 use crate::payload::Payload;
 use crate::spelling::{spelt_name, spelt_new_label, spelt_new_name};
 use crate::words::{four_parts, is_end, next_word, one_part, two_parts, without_return};
-use lif_dir::Name;
+use lif_dir::{Name, NewName};
 
 /// What a line asks for, and into `payload` the bytes that its command carries. `None` stands for a line that is
 /// skipped: one without words, or one whose first word begins with `#`. A carriage return at the end of the line is
@@ -47,6 +49,9 @@ fn read_command(word: &[u8], rest: &[u8], payload: &mut Payload) -> Result<Comma
     if word == b"store".as_slice() {
         return read_store(rest, payload);
     }
+    if word == b"put".as_slice() {
+        return read_put(rest, payload);
+    }
     if word == b"say".as_slice() {
         return read_say(rest, payload);
     }
@@ -59,6 +64,9 @@ fn read_bare(word: &[u8], rest: &[u8]) -> Result<Command, LineFault>
 {
     if word == b"fetch".as_slice() {
         return read_fetch(rest);
+    }
+    if word == b"get".as_slice() {
+        return read_get(rest);
     }
     if word == b"purge".as_slice() {
         return read_purge(rest);
@@ -117,6 +125,14 @@ fn read_fetch(rest: &[u8]) -> Result<Command, LineFault>
     Ok(Command::Fetch(name))
 }
 
+/// `get NAME`
+fn read_get(rest: &[u8]) -> Result<Command, LineFault>
+    ensures { result ≡ get_of (words_of rest.now) }
+{
+    let name = read_name(rest)?;
+    Ok(Command::Get(name))
+}
+
 /// `purge NAME`
 fn read_purge(rest: &[u8]) -> Result<Command, LineFault>
     ensures { result ≡ purge_of (words_of rest.now) }
@@ -168,18 +184,44 @@ fn read_store(rest: &[u8], payload: &mut Payload) -> Result<Command, LineFault>
     let name = spelt_new_name(name).ok_or(LineFault::BadLine)?;
     let kind = read_type(kind).ok_or(LineFault::BadLine)?;
     let implementation = read_hex(implementation).ok_or(LineFault::BadLine)?;
-    if !payload.read(bytes) {
-        return Err(LineFault::BadLine);
-    }
-    let Some(name) = name else {
-        payload.clear();
-        return Err(LineFault::BadName);
-    };
+    let name = read_carried(name, bytes, payload)?;
     Ok(Command::Store {
         name,
         kind,
         implementation,
     })
+}
+
+/// `put NAME HEX`
+fn read_put(rest: &[u8], payload: &mut Payload) -> Result<Command, LineFault>
+    requires size { length rest.now ≤ LONGEST_LINE }
+    requires empty { payload.old ≡ [] }
+    ensures command { result ≡ command_in (put_of (words_of rest.now)) }
+    ensures payload { payload.new ≡ bytes_in (put_of (words_of rest.now)) }
+{
+    let (name, bytes) = two_parts(rest).ok_or(LineFault::BadLine)?;
+    let name = spelt_new_name(name).ok_or(LineFault::BadLine)?;
+    let name = read_carried(name, bytes, payload)?;
+    Ok(Command::Put(name))
+}
+
+/// Takes the bytes that a text spells, for the file that gets this name. Where either does not serve there are none.
+fn read_carried(
+    name: Option<NewName>,
+    text: &[u8],
+    payload: &mut Payload,
+) -> Result<NewName, LineFault>
+    requires { length text.now ≤ LONGEST_LINE }
+    ensures name { result ≡ in_form (payload_of text.now) (λ bytes. with_name name (λ name. Ok name)) }
+    ensures payload { (command : NewName → Command) → payload.new ≡ bytes_in (carrying command name text.now) }
+{
+    if !payload.read(text) {
+        return Err(LineFault::BadLine);
+    }
+    if name.is_none() {
+        payload.clear();
+    }
+    name.ok_or(LineFault::BadName)
 }
 
 /// `say HEX`

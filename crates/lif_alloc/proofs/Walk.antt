@@ -1,11 +1,14 @@
 -- A directory walked slot by slot.
-use Rattle.std.proofs.Common.{◌≡◌, ◌<◌, ◌+◌, ◌^◌, ◌++◌, ◌&&◌, if◌then◌else◌, max, nat_lt, nat_le, not, ℕ, suc, List, [], ◌∷◌, Bool, true, false, length, get_or, take, drop, refl, sym, ◌∙◌, ap, arith}
-use Rattle.std.proofs.lemmas.Bool.{lt-leb, leb-true, eq-eqb, ne_eqb}
+use Rattle.std.proofs.Common.{◌≡◌, ◌<◌, ◌≤◌, ◌+◌, ◌^◌, ◌++◌, ◌&&◌, if◌then◌else◌, max, nat_lt, nat_le, nat_eq, not, ℕ, suc, List, [], ◌∷◌, Bool, true, false, length, get_or, take, drop, filter, inl, inr, refl, sym, ◌∙◌, ap, arith}
+use Rattle.std.specs.List.{list_any}
+use Rattle.std.proofs.lemmas.Bool.{cases_Bool, and_cases, lt-leb, leb-true, eq-eqb, ne_eqb}
 use Rattle.std.proofs.lemmas.List.{take_more}
-use Rattle.lif_model.specs.Legal.{has_records, end_of}
-use Rattle.lif_model.specs.Fit.{redo_place, can_append, greatest_end, least_start, high_of, low_of}
+use Rattle.lif_model.specs.Directory.{is_purged}
+use Rattle.lif_model.specs.Legal.{is_live, has_records, end_of}
+use Rattle.lif_model.specs.Fit.{Place, purged_from, redo_place, can_append, greatest_end, least_start, high_of, low_of}
 use Rattle.lif_model.specs.Gate.{gate_of}
 use Rattle.lif_model.proofs.Fit.{high_below}
+use Rattle.lif_model.proofs.Plain.{fit_after, fit_skips, fit_passes}
 
 -- ---- the records before the slots behind
 
@@ -59,3 +62,20 @@ pub append_is : (capacity count redo : ℕ) (slots : List (List ℕ)) → redo �
     → nat_lt count capacity ≡ can_append capacity slots
 append_is capacity count redo slots is long last =
     (λ i. sym (eq-eqb (suc (redo_place slots)) (length slots) (omega arith)) i && nat_lt (long i) capacity)
+
+-- a slot that is not barred may be taken
+abbrev pub may_take : List ℕ → ℕ → Bool
+may_take barred i = not (list_any (nat_eq i) barred)
+
+-- a slot that is live, or that may not be taken, is passed over
+pub not_taken : (n low : ℕ) (slots : List (List ℕ)) (barred : List ℕ) (count r i : ℕ) (tail : List ℕ) (whole : Place) (seen : Bool) → i < r → r ≤ length slots
+    → (not (is_live (get_or slots i [])) && may_take barred i) ≡ false
+    → fit_after seen n low slots count (filter (may_take barred) (purged_from i (drop i (take r slots)) ++ tail)) ≡ whole
+    → fit_after seen n low slots count (filter (may_take barred) (purged_from (i + 1) (drop (i + 1) (take r slots)) ++ tail)) ≡ whole
+not_taken n low slots barred count r i tail whole seen lt le off so_far = elim (cases_Bool (is_purged (get_or slots i []))) [
+  | inl on ↦ elim (and_cases (not (is_live (get_or slots i []))) (may_take barred i) off) [
+    | inl dead ↦ let both : true ≡ false = sym (ap (λ (b : Bool). not (not b)) on) ∙ dead in cc
+    | inr free ↦ fit_passes n low slots (may_take barred) count r i tail whole seen lt le on free so_far
+  ]
+  | inr live ↦ fit_skips n low slots (may_take barred) count r i tail whole seen lt le live so_far
+]

@@ -1,6 +1,7 @@
-ghost use Rattle.std.specs.Prelude.{◌≡◌, ◌+◌, ◌<◌, ◌≤◌, ◌^◌, if◌then◌else◌, max, nat_le, length, map, drop};
-ghost use Rattle.lif_model.specs.Legal.{has_records, end_of};
-ghost use Rattle.lif_model.specs.Fit.{NoSlot, NoRoom, redo_place, can_append, least_start, fit};
+ghost use Rattle.std.specs.Prelude.{◌≡◌, ◌+◌, ◌<◌, ◌≤◌, ◌^◌, if◌then◌else◌, max, ◌&&◌, not, nat_le, nat_eq, length, map, drop};
+ghost use Rattle.std.specs.List.{list_any};
+ghost use Rattle.lif_model.specs.Legal.{is_live, has_records, end_of};
+ghost use Rattle.lif_model.specs.Fit.{NoSlot, NoRoom, redo_place, can_append, least_start, fit, fit_beside};
 ghost use Rattle.lif_dir.specs.Entries.{entry_bytes, slot_bytes};
 ghost use Rattle.lif_alloc.specs.Choices.{place_of};
 
@@ -36,6 +37,22 @@ pub fn choose(slots: &SlotTable, directory_end: u32, capacity: u32, count: u32, 
     ensures { place_of result
         ≡ fit size directory_end capacity (map slot_bytes slots.now.slots) count }
 {
+    choose_beside(slots, &[], directory_end, capacity, count, size)
+}
+
+/// The same, where the file may not take the slots that are `barred`: those of files that the batch
+/// has purged of which it is a part.
+pub fn choose_beside(
+    slots: &SlotTable,
+    barred: &[usize],
+    directory_end: u32,
+    capacity: u32,
+    count: u32,
+    size: u16,
+) -> Choice
+    ensures { place_of result
+        ≡ fit_beside size directory_end capacity (map slot_bytes slots.now.slots) barred.now count }
+{
     let gate = u64::from(size.saturating_sub(GATE));
     let count = u64::from(count);
     let redo = redo_place(slots);
@@ -43,7 +60,7 @@ pub fn choose(slots: &SlotTable, directory_end: u32, capacity: u32, count: u32, 
     let mut seen = false;
     for k in 0..redo {
         let entry = slots.entry(k);
-        if !entry.is_live() {
+        if may_take(entry, barred, k) {
             if is_free(slots, k + 1, low + count, gate) {
                 return Choice::At {
                     slot: k as u32,
@@ -54,7 +71,7 @@ pub fn choose(slots: &SlotTable, directory_end: u32, capacity: u32, count: u32, 
         }
         low = raised(low, *entry);
     }
-    if !can_append(slots, redo, capacity) {
+    if !can_append(slots, redo, capacity) || is_barred(barred, redo) {
         return refusal(seen);
     }
     if is_free(slots, redo, low + count, gate) {
@@ -65,6 +82,21 @@ pub fn choose(slots: &SlotTable, directory_end: u32, capacity: u32, count: u32, 
     } else {
         Choice::NoRoom
     }
+}
+
+/// Whether the slot with this entry is that of a purged file, and none of those that may not be
+/// taken.
+fn may_take(entry: &FileEntry, barred: &[usize], slot: usize) -> bool
+    ensures { result ≡ (not (is_live (entry_bytes entry.now)) && not (list_any (nat_eq slot) barred.now)) }
+{
+    !entry.is_live() && !is_barred(barred, slot)
+}
+
+/// Whether a slot is one of those that may not be taken.
+fn is_barred(barred: &[usize], slot: usize) -> bool
+    ensures { result ≡ list_any (nat_eq slot) barred.now }
+{
+    barred.iter().any(|&other| slot == other)
 }
 
 /// The place of the redo entry, or the number of slots where there is none.

@@ -3,4 +3,4 @@
 
 mod choosing;
 
-pub use choosing::{Choice, choose};
+pub use choosing::{Choice, choose, choose_beside};

@@ -1,6 +1,6 @@
 -- Worked examples of changes and of what is set aside for them, computed by the checker, on a tape of twelve records:
 -- the directory begins at record 2, and the redo file of version 1 at record 8.
-use Rattle.std.proofs.Common.{◌≡◌, ◌≢◌, ◌⊎◌, ◌<◌, ◌++◌, inl, inr, ℕ, zero, suc, List, [], ◌∷◌, Bool, true, false, refl, sym, ap, subst, ◌∙◌, arith, codes}
+use Rattle.std.proofs.Common.{◌≡◌, ◌≢◌, ◌⊎◌, ◌<◌, ◌+◌, ◌*◌, ◌++◌, inl, inr, ℕ, zero, suc, List, [], ◌∷◌, Bool, true, false, refl, sym, ap, subst, ◌∙◌, arith, codes}
 use Rattle.std.specs.Prelude.{Option, Some, None, Ok, Err, replicate, get_or}
 use Rattle.lif_model.specs.Tape.{Tape, record_at}
 use Rattle.lif_model.specs.Shelf.{piece}
@@ -11,7 +11,7 @@ use Rattle.lif_model.specs.declared.version.Version.TheVariants.{One}
 use Rattle.lif_model.specs.Redo.{Changes, changed, open_gate, zeros, targets_record}
 use Rattle.lif_model.specs.Commit.{IsCommitted, SettlesBelow, IsOldOrNew, commit_writes}
 use Rattle.lif_model.specs.Transfers.{Transfer}
-use Rattle.lif_model.specs.Writing.{SlotWrites, with_entry, changes_by}
+use Rattle.lif_model.specs.Writing.{SlotWrites, entry_from, with_entry, changes_by}
 use Rattle.lif_model.proofs.Examples as base
 use Rattle.lif_model.proofs.VolumeExamples.{file, a_name, b_name, numbered}
 use Rattle.il_ports.specs.declared.records.Trouble.{Trouble}
@@ -22,7 +22,7 @@ use Rattle.lif_dir.specs.Entries.{slot_of}
 use Rattle.lif_dir.specs.declared.change.Change.{Change}
 use Rattle.lif_dir.specs.declared.entries.FileEntry.{FileEntry}
 use Rattle.lif_dir.specs.Changes.{after_next, slot_after, FitsIn, next_write, end_write, entry_writes, change_writes, put_slot, put_next, put_change, slots_with, bytes_with}
-use Rattle.lif_commit.specs.Staged.{BroughtIn, there, read, IsStagedAs, AreOthers, LiesBelow, LiesBelowRedo, CommitsSlots, CommitsChange}
+use Rattle.lif_commit.specs.Staged.{BroughtIn, there, read, IsStagedAs, AreOthers, Knows, EndsWith, HoldsSlots, KeepsLast, count_with, touched_by, past_end, calls_of, CommitsSlots, CommitsChange}
 
 -- ---- changes
 
@@ -65,9 +65,9 @@ not_places = ((λ is. absurd (omega (arith, is))), (λ is. absurd (omega (arith,
 -- in the last slot without an end, and behind the last slot with one
 fits : FitsIn 1 1 alone × FitsIn 3 1 last × FitsIn 3 1 both
 fits = (
-  record { place = omega arith; within = omega arith; kind = λ is. absurd (omega (arith, is)); next = tt; end_within = λ on. cc },
-  record { place = omega arith; within = omega arith; kind = λ is. absurd (omega (arith, is)); next = tt; end_within = λ on. omega arith },
-  record { place = omega arith; within = omega arith; kind = λ is. absurd (omega (arith, is)); next = (omega arith, (λ is. absurd (omega (arith, is)))); end_within = λ on. omega arith },
+  record { place = omega arith; within = omega arith; kind = λ is. absurd (omega (arith, is)); next = tt; end_within = λ on. cc; end_there = λ more room. absurd (omega (arith, more)) },
+  record { place = omega arith; within = omega arith; kind = λ is. absurd (omega (arith, is)); next = tt; end_within = λ on. omega arith; end_there = λ more room. refl },
+  record { place = omega arith; within = omega arith; kind = λ is. absurd (omega (arith, is)); next = (omega arith, (λ is. absurd (omega (arith, is)))); end_within = λ on. omega arith; end_there = λ more room. refl },
 )
 
 -- not past the place behind the last slot, where the end has no slot, or with an entry that is an end
@@ -180,29 +180,56 @@ others = (
 not_others : (AreOthers 16 1 ((1, a_file) ∷ []) → ⊥) × (AreOthers 1 2 ((1, a_file) ∷ []) → ⊥)
 not_others = ((λ are. are.1 refl), (λ are. absurd (omega (arith, are.0))))
 
--- ---- where a change lies
+-- ---- what is known of a directory
 
 -- slot 7 is the last of record 2
 abbrev seam : Change
 seam = record alone { slot = 7; ended = true }
 
-below : LiesBelow 2 3 alone × LiesBelow 2 3 both × LiesBelow 2 4 seam × LiesBelowRedo 12 2 seam × LiesBelowRedo 7 2 both
-below = (
-  record { slot = omega arith; next = tt; end = λ on. cc },
-  record { slot = omega arith; next = omega arith; end = λ on. omega arith },
-  record { slot = omega arith; next = tt; end = λ on. omega arith },
-  record { slot = omega arith; next = tt; end = λ on. omega arith },
-  record { slot = omega arith; next = omega arith; end = λ on. omega arith },
+-- with one slot before it stands in a directory of two records, and not in one
+known_before : Knows 2 1 (a_file ∷ []) (record_at tape 2) tape
+unfolding entry_at
+known_before = record { each = here; end = λ short. refl }
+  where
+    here : (k : ℕ) → k < 1 → get_or (a_file ∷ []) k [] ≡ entry_from tape 2 k
+    here zero lt = refl
+    here (suc k) lt = absurd (omega (arith, lt))
+
+-- not with another slot, or another record for the one with the end; where every slot is taken, there is none
+not_known : (Knows 2 1 (b_file ∷ []) (record_at tape 2) tape → ⊥) × (Knows 2 1 (a_file ∷ []) (record_at tape 3) tape → ⊥) × EndsWith 2 1 8 [] tape
+unfolding entry_at
+not_known = (
+  (λ knows. let byte : 66 ≡ 65 = ap (λ (e : List ℕ). get_or e 0 0) (knows.each 0 (omega arith)) in absurd (omega (arith, byte))),
+  (λ knows. let byte : 0 ≡ 65 = ap (λ (e : List ℕ). get_or e 0 0) (knows.end (omega arith)) in absurd (omega (arith, byte))),
+  λ short. absurd (omega (arith, short)),
 )
 
--- its end is in record 3
-not_below : (LiesBelow 2 2 alone → ⊥) × (LiesBelow 2 3 seam → ⊥) × (LiesBelowRedo 7 2 seam → ⊥) × (LiesBelowRedo 6 2 both → ⊥)
-not_below = (
-  (λ below. absurd (omega (arith, below.slot))),
-  (λ below. absurd (omega (arith, below.end refl))),
-  (λ below. absurd (omega (arith, below.end refl))),
-  (λ below. absurd (omega (arith, below.slot))),
-)
+counts : (count_with 1 last ≡ 2) × (count_with 2 alone ≡ 2) × (count_with 1 both ≡ 2) × (touched_by 2 both ≡ 2 ∷ []) × (touched_by 2 seam ≡ 2 ∷ 3 ∷ [])
+    × (past_end 2 7 (touched_by 2 seam) ≡ 1) × (calls_of 2 1 false alone ≡ 5) × (calls_of 2 7 true seam ≡ 9)
+counts = (refl, refl, refl, refl, refl, refl, refl, refl)
+
+not_counts : (count_with 1 both ≢ 1) × (past_end 2 8 (touched_by 2 seam) ≢ 1) × (calls_of 2 1 false alone ≢ 6)
+not_counts = ((λ is. absurd (omega (arith, is))), (λ is. absurd (omega (arith, is))), (λ is. absurd (omega (arith, is))))
+
+-- the record that is among the changes, and the one that stands where it is not
+keeps : KeepsLast 3 ((2, a_file) ∷ (3, b_file) ∷ []) a_file b_file × KeepsLast 4 ((2, a_file) ∷ []) a_file a_file
+keeps = (inl (1, omega arith, refl, refl), inr ((λ p lt. none p lt), refl))
+  where
+    none : (p : ℕ) → p < 1 → (get_or {A = ℕ × List ℕ} ((2, a_file) ∷ []) p (0, [])).0 ≢ 4
+    none zero lt = λ is. absurd (omega (arith, is))
+    none (suc p) lt = absurd (omega (arith, lt))
+
+holds : HoldsSlots (a_file ∷ []) 0 1 (record_at tape 2)
+unfolding entry_at
+holds = record { size = refl; entries = first }
+  where
+    first : (k : ℕ) → k < 1 → entry_at (record_at tape 2) k ≡ get_or (a_file ∷ []) (8 * 0 + k) []
+    first zero lt = refl
+    first (suc k) lt = absurd (omega (arith, lt))
+
+not_holds : HoldsSlots (b_file ∷ []) 0 1 (record_at tape 2) → ⊥
+unfolding entry_at
+not_holds is = let byte : 65 ≡ 66 = ap (λ (e : List ℕ). get_or e 0 0) (is.entries 0 (omega arith)) in absurd (omega (arith, byte))
 
 -- ---- a commit
 
@@ -242,15 +269,15 @@ write n bytes = record { writes = true; first = n; bytes = bytes }
 abbrev fetch : ℕ → List ℕ → Transfer
 fetch n bytes = record { writes = false; first = n; bytes = bytes }
 
--- the record and the gate are read, and then the content, the targets, the gate, the record in place and the gate again are written
+-- the content, the targets, the gate, the record in place and the gate again are written
 abbrev transfers : List Transfer
-transfers = fetch 2 (record_at tape 2) ∷ fetch 8 base.blank ∷ write 10 content ∷ write 9 (targets_record One (2 ∷ [])) ∷ write 8 open_gate ∷ write 2 content ∷ write 8 zeros ∷ []
+transfers = write 10 content ∷ write 9 (targets_record One (2 ∷ [])) ∷ write 8 open_gate ∷ write 2 content ∷ write 8 zeros ∷ []
 
 abbrev before : RecordsView ℕ
 before = store tape None true 0 12 (λ c. c ≡ tape) []
 
 abbrev done : RecordsView ℕ
-done = store new None true 0 5 (λ c. (c ≡ tape) ⊎ (c ≡ new)) transfers
+done = store new None true 0 7 (λ c. (c ≡ tape) ⊎ (c ≡ new)) transfers
 
 abbrev broken : RecordsView ℕ
 broken = store tape (Some Medium) false 1 11 (λ c. c ≡ tape) []
@@ -261,7 +288,7 @@ unfolding is_open
 old_settles = record { records = refl; same = λ k lt. refl }
 
 -- the medium failed before anything was written: the old directory stands, whatever was to change
-fails : (slots : Tape → SlotWrites) → CommitsSlots {T = ℕ} One 2 slots before broken (Err Medium)
+fails : (slots : Tape → SlotWrites) → CommitsSlots {T = ℕ} 5 One 2 slots before broken (Err Medium)
 fails slots = record {
   goes_on = record {
     continues = record { valid = tt; told = refl; size = refl; sound = refl; ready = λ is. is; left = omega arith; room = refl; failed = λ is. refl; cause = (refl, record { later = omega arith; risen = omega arith }) };
@@ -277,8 +304,12 @@ fails slots = record {
     settles : (t c : Tape) → Some tape ≡ Some t → c ≡ tape → SettlesBelow One t c
     settles t c told is = let same : tape ≡ t = cc in subst (SettlesBelow One t) (sym is) (subst (λ (x : Tape). SettlesBelow One x tape) same old_settles)
 
-fails_change : CommitsChange {T = ℕ} 2 both before broken (Err Medium)
+fails_change : CommitsChange {T = ℕ} 2 1 false both before broken (Err Medium)
 fails_change = fails (change_writes 2 both)
+
+-- not in more calls
+not_fails : CommitsChange {T = ℕ} 2 1 false both before (store tape (Some Medium) false 1 6 (λ c. c ≡ tape) []) (Err Medium) → ⊥
+not_fails commits = absurd (omega (arith, commits.goes_on.continues.left))
 
 -- all was written
 abbrev its_changes : Changes
@@ -312,14 +343,14 @@ unfolding open_gate zeros targets_record piece
 adds = record { goes_on = goes_on }
   where
     goes_on : (list : List Transfer) → list ≡ [] → (more : List Transfer) × (list ++ more ≡ transfers) × (writes_among more ≡ commit_writes One 12 false its_changes) × AreSingle more
-    goes_on [] is = (transfers, refl, refl, (refl, (refl, (refl, (refl, (refl, (refl, (refl, tt))))))))
+    goes_on [] is = (transfers, refl, refl, (refl, (refl, (refl, (refl, (refl, tt))))))
     goes_on (t ∷ ts) is = cc
 
 not_open : has_open_gate tape ≡ false
 unfolding is_open
 not_open = refl
 
-succeeds : CommitsChange {T = ℕ} 2 alone before done (Ok 0)
+succeeds : CommitsChange {T = ℕ} 2 1 false alone before done (Ok 0)
 unfolding with_entry
 succeeds = record {
   goes_on = record {
@@ -343,7 +374,7 @@ succeeds = record {
     either c (inr is) = inr (subst (SettlesBelow One (changed its_changes tape)) (sym is) new_settles)
 
 -- an Ok that leaves the old record is none
-not_succeeds : CommitsChange {T = ℕ} 2 alone before (store tape None true 0 5 (λ c. c ≡ tape) transfers) (Ok 0) → ⊥
+not_succeeds : CommitsChange {T = ℕ} 2 1 false alone before (store tape None true 0 7 (λ c. c ≡ tape) transfers) (Ok 0) → ⊥
 unfolding with_entry
 not_succeeds commits = let left = commits.done tape refl in no left.0 left.1 left.2
   where

@@ -1,2 +1,3 @@
-mod Staging
+pub mod Staging
 mod Examples
+pub mod Ends

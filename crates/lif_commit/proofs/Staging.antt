@@ -1,6 +1,7 @@
 -- The records that are set aside for a commit, as slots are put into them.
-use Rattle.std.proofs.Common.{◌≡◌, ◌≢◌, ◌<◌, ◌≤◌, ◌+◌, ◌-◌, ◌*◌, ◌%◌, ◌++◌, ◌==◌, ℕ, zero, suc, List, [], ◌∷◌, Bool, true, false, if◌then◌else◌, Option, Some, inl, length, get_or, set, map, replicate, refl, sym, ap, subst, ◌∙◌, append-nil, arith}
-use Rattle.std.proofs.lemmas.Bool.{ne_eqb}
+use Rattle.std.proofs.Common.{◌≡◌, ◌≢◌, ◌⊎◌, ◌<◌, ◌≤◌, ◌+◌, ◌-◌, ◌*◌, ◌%◌, ◌++◌, ◌==◌, ℕ, zero, suc, List, [], ◌∷◌, Bool, true, false, if◌then◌else◌, nat_lt, ◌/◌, filter, Option, Some, inl, inr, max, length, length-append, length-set, get_or, set, map, replicate, refl, sym, ap, subst, ◌∙◌, append-nil, arith}
+use Rattle.std.proofs.lemmas.Bool.{ne_eqb, eq-eqb, eqb-true, cases_lt}
+use Rattle.std.proofs.Math.Nat.{max-eq_left, max-eq_right, max-le, le-max_right}
 use Rattle.std.specs.Prelude.{None, IfSome, Result, Ok, Err, OnOk}
 use Rattle.std.proofs.lemmas.List.{length-map, length-replicate, get_or_push}
 use Rattle.std.proofs.Math.Seq.{set-append_seam}
@@ -22,12 +23,33 @@ use Rattle.il_ports.specs.declared.records.Trouble.{Trouble}
 use Rattle.il_ports.specs.Stores.{RecordsView, GoesOn, IsQuiet, IsStore, RunLeaves}
 use Rattle.il_ports.proofs.Stores.{goes_within, quiet_run}
 use Rattle.lif_redo.specs.Writing.{AddsWrites}
+use Rattle.lif_redo.specs.Atomic.{commit_calls}
 use Rattle.lif_redo.proofs.Writes.{then_writes, same_writes}
 use Rattle.lif_dir.specs.Entries.{entry_bytes}
 use Rattle.lif_dir.specs.declared.change.Change.{Change}
 use Rattle.lif_dir.specs.declared.entries.FileEntry.{FileEntry}
-use Rattle.lif_dir.specs.Changes.{after_next, slot_after, next_write, end_write, entry_writes, change_writes}
-use Rattle.lif_commit.specs.Staged.{BroughtIn, there, read, IsStagedAs, AreOthers, LiesBelow, LiesBelowRedo, CommitsSlots}
+use Rattle.lif_dir.specs.Changes.{FitsIn, put_slot, put_next, put_change, after_next, slot_after, next_write, end_write, entry_writes, change_writes}
+use Rattle.lif_commit.specs.Staged.{BroughtIn, there, read, IsStagedAs, AreOthers, CommitsSlots, touched_by, past_end, calls_of, count_with, most_commit_calls}
+
+-- the slots that change, of a directory that begins at record `start`, lie in records below that one
+pub record LiesBelow (start limit : ℕ) (change : Change) : Type 0 where
+  pub slot : slot_record start change.slot < limit
+  pub next : IfSome change.next (λ next. slot_record start (suc change.slot) < limit)
+  pub end : change.ended ≡ true → slot_record start (slot_after change) < limit
+
+pub fits_below : (start size count limit : ℕ) (change : Change) → FitsIn (8 * size) count change → start + size ≤ limit → LiesBelow start limit change
+fits_below start size count limit change fits le = record { slot = omega (arith, fits.within, le); next = by change.next fits.next; end = λ on. omega (arith, fits.end_within on, le) }
+  where
+    by : (next : Option FileEntry) → IfSome next (λ e. (suc change.slot < 8 * size) × (e.kind ≢ 0xFFFF)) → IfSome next (λ e. slot_record start (suc change.slot) < limit)
+    by None lt = tt
+    by (Some e) lt = omega (arith, lt.0, le)
+
+pub fits_after : (room count : ℕ) (change : Change) → FitsIn room count change → slot_after change ≤ room
+fits_after room count change fits = by change.next fits.next
+  where
+    by : (next : Option FileEntry) → IfSome next (λ e. (suc change.slot < room) × (e.kind ≢ 0xFFFF)) → after_next change.slot next ≤ room
+    by None lt = omega (arith, fits.within)
+    by (Some e) lt = omega (arith, lt.0)
 
 pub targets_count : (cs : Changes) → length (targets_in cs) ≡ length cs
 targets_count cs = length-map cs (λ c. c.0)
@@ -215,13 +237,6 @@ entries_are_others start limit change below one two = by change.next below.next 
     by None lt more = (omega (arith, below.slot), (λ e. absurd (omega (arith, e))), one, tt)
     by (Some e) lt more = (omega (arith, below.slot), (λ e. absurd (omega (arith, e))), one, (omega (arith, lt), (λ e. absurd (omega (arith, e))), more, tt))
 
-pub lies_below : (start limit more : ℕ) (change : Change) → limit ≤ more → LiesBelow start limit change → LiesBelow start more change
-lies_below start limit more change le below = record { slot = omega (arith, le, below.slot); next = by change.next below.next; end = λ on. omega (arith, le, below.end on) }
-  where
-    by : (next : Option FileEntry) → IfSome next (λ e. slot_record start (suc change.slot) < limit) → IfSome next (λ e. slot_record start (suc change.slot) < more)
-    by None lt = tt
-    by (Some e) lt = omega (arith, le, lt)
-
 -- ---- one commit takes them
 
 two_most : (version : Version) → 2 ≤ most_targets version
@@ -268,7 +283,7 @@ module _ (version : Version) (n start slot : ℕ) (within : slot_record start sl
   takes e (Some more) false next end = two next (entry_bytes e) (entry_bytes more)
   takes e (Some more) true next end = three (end refl) (entry_bytes e) (entry_bytes more) (with_type 0xFFFF (entry_from [] start (suc (suc slot))))
 
-pub change_takes : (n start : ℕ) (tape : Option Tape) (change : Change) (cs : Changes) → LiesBelowRedo n start change → IsStagedAs start tape (change_writes start change) cs
+pub change_takes : (n start : ℕ) (tape : Option Tape) (change : Change) (cs : Changes) → LiesBelow start (redo_start change.version n) change → IsStagedAs start tape (change_writes start change) cs
     → AreChanges change.version n cs × (length cs ≤ 2)
 change_takes n start tape change cs below staged =
     let both = takes change.version n start change.slot below.slot change.entry change.next change.ended below.next below.end in
@@ -287,13 +302,13 @@ module _ {S : Type 0} (version : Version) (start : ℕ) (slots : Tape → SlotWr
   are : (t : Tape) → v.tape ≡ Some t → now ≡ changes_by start (slots t) t
   are t told = is ∙ staged.contents t told
 
-  pub slots_commit : (r : Result (Unit {0}) Trouble) → GoesOn 12 v w r
+  pub slots_commit : (calls : ℕ) (r : Result (Unit {0}) Trouble) → GoesOn calls v w r
       → OnOk r ((t : Tape) → m.tape ≡ Some t → (u : Tape) × (w.tape ≡ Some u) × IsCommitted version now t u)
       → ((t : Tape) → m.tape ≡ Some t → RunLeaves m w (IsOldOrNew version now t))
       → ((t : Tape) → m.tape ≡ Some t → (u : Tape) × (w.tape ≡ Some u) × IsOldOrNew version now t u)
       → OnOk r ((was_open : Bool) × ((t : Tape) → m.tape ≡ Some t → was_open ≡ has_open_gate t) × AddsWrites (commit_writes version m.record_count was_open now) m.transferred w.transferred)
-      → CommitsSlots version start slots v w r
-  slots_commit r goes done moments after writes = record {
+      → CommitsSlots calls version start slots v w r
+  slots_commit calls r goes done moments after writes = record {
     goes_on = goes;
     done = stand r done;
     any_moment = λ t told. after_still _ _ _ _ _ _ (IsOldOrNew version (changes_by start (slots t) t) t) quiet.moment quiet.since
@@ -315,10 +330,10 @@ module _ {S : Type 0} (version : Version) (start : ℕ) (slots : Tape → SlotWr
       adds (Err e) given = tt
 
 -- the store failed while they were set aside
-pub slots_fail : {S : Type 0} (version : Version) (start : ℕ) (slots : Tape → SlotWrites) (v w : RecordsView S) (calls : ℕ) (e : Trouble) → calls ≤ 12 → IsStore v → ((t : Tape) → v.tape ≡ Some t → IsSettled t)
-    → IsQuiet v w → GoesOn {T = Unit {0}} calls v w (Err e) → CommitsSlots {T = Unit {0}} version start slots v w (Err e)
-slots_fail version start slots v w calls e few store settled quiet goes = record {
-  goes_on = goes_within calls 12 v w (Err e) few goes;
+pub slots_fail : {S : Type 0} (version : Version) (start : ℕ) (slots : Tape → SlotWrites) (v w : RecordsView S) (most calls : ℕ) (e : Trouble) → calls ≤ most → IsStore v → ((t : Tape) → v.tape ≡ Some t → IsSettled t)
+    → IsQuiet v w → GoesOn {T = Unit {0}} calls v w (Err e) → CommitsSlots {T = Unit {0}} most version start slots v w (Err e)
+slots_fail version start slots v w most calls e few store settled quiet goes = record {
+  goes_on = goes_within calls most v w (Err e) few goes;
   done = tt;
   any_moment = λ t told. quiet_run v w (IsOldOrNew version (changes_by start (slots t) t) t) t store quiet told (inl (settles_here version t (settled t told)));
   after = λ t told. (t, quiet.tape ∙ told, inl (settles_here version t (settled t told)));
@@ -336,3 +351,115 @@ goes_fewer j k v w r left goes =
       stood = goes.stood;
       resumed = goes.resumed;
     }
+
+-- ---- how many are read
+
+filter_fewer : (p : ℕ → Bool) (ks : List ℕ) → length (filter p ks) ≤ length ks
+filter_fewer p [] = omega arith
+filter_fewer p (k ∷ ks) = go (p k) (filter_fewer p ks)
+  where
+    go : (b : Bool) → length (filter p ks) ≤ length ks → length (if b then k ∷ filter p ks else filter p ks) ≤ suc (length ks)
+    go true le = omega (arith, le)
+    go false le = omega (arith, le)
+
+filter_push : (p : ℕ → Bool) (ks : List ℕ) (k : ℕ) → length (filter p (ks ++ k ∷ [])) ≡ length (filter p ks) + (if p k then 1 else 0)
+filter_push p [] k = go (p k)
+  where
+    go : (b : Bool) → length (if b then k ∷ [] else []) ≡ 0 + (if b then 1 else 0)
+    go true = refl
+    go false = refl
+filter_push p (j ∷ ks) k = go (p j) (filter_push p ks k)
+  where
+    go : (b : Bool) → length (filter p (ks ++ k ∷ [])) ≡ length (filter p ks) + (if p k then 1 else 0)
+        → length (if b then j ∷ filter p (ks ++ k ∷ []) else filter p (ks ++ k ∷ [])) ≡ length (if b then j ∷ filter p ks else filter p ks) + (if p k then 1 else 0)
+    go true is = omega (arith, is)
+    go false is = is
+
+-- a record that was not among them comes last: it counts where it is past the end
+pub past_more : (start count n : ℕ) (bytes : List ℕ) (old : Changes)
+    → past_end start count (targets_in (old ++ (n, bytes) ∷ [])) ≡ past_end start count (targets_in old) + (if nat_lt (start + count / 8) n then 1 else 0)
+past_more start count n bytes old =
+    ap (past_end start count) (targets_push old (n, bytes)) ∙ filter_push (λ k. nat_lt (start + count / 8) k) (targets_in old) n
+
+-- nor do they count otherwise, whatever they hold
+pub past_set : (start count place : ℕ) (cs : Changes) (c : ℕ × List ℕ) → (get_or cs place (0, [])).0 ≡ c.0
+    → past_end start count (targets_in (set cs place c)) ≡ past_end start count (targets_in cs)
+past_set start count place cs c same = ap (past_end start count) (targets_set cs place c same)
+
+-- no more than are touched
+pub past_few : (start count : ℕ) (ks : List ℕ) → past_end start count ks ≤ length ks
+past_few start count ks = filter_fewer (λ k. nat_lt (start + count / 8) k) ks
+
+pub touched_is : (start : ℕ) (tape : Option Tape) (change : Change) (cs : Changes) → IsStagedAs start tape (change_writes start change) cs
+    → (targets_in cs ≡ touched_by start change) × (length cs ≡ length (touched_by start change))
+touched_is start tape change cs staged = (staged.targets [], sym (targets_count cs) ∙ ap length (staged.targets []))
+
+-- ---- which records a change touches
+
+-- the bytes of a tape do not say which
+pub touched_same : (start : ℕ) (change : Change) (x : Tape) → touched start (change_writes start change x) ≡ touched_by start change
+touched_same start change x = by change.next change.ended
+  where
+    by : (next : Option FileEntry) (ended : Bool)
+        → touched start ((change.slot, entry_bytes change.entry) ∷ (next_write (suc change.slot) next ++ end_write ended start (after_next change.slot next) x))
+        ≡ touched start ((change.slot, entry_bytes change.entry) ∷ (next_write (suc change.slot) next ++ end_write ended start (after_next change.slot next) []))
+    by None false = refl
+    by None true = refl
+    by (Some e) false = refl
+    by (Some e) true = refl
+
+-- one at least, and two at most
+pub touched_few : (start : ℕ) (change : Change) → (0 < length (touched_by start change)) × (length (touched_by start change) ≤ 2)
+touched_few start change = (omega arith, by change.next change.ended)
+  where
+    slot : ℕ
+    slot = change.slot
+
+    low : ℕ
+    low = slot_record start change.slot
+
+    by : (next : Option FileEntry) (ended : Bool)
+        → length (touched start ((slot, entry_bytes change.entry) ∷ (next_write (suc slot) next ++ end_write ended start (after_next slot next) []))) ≤ 2
+    by None false = omega arith
+    by None true = touches_two start low ((slot, entry_bytes change.entry) ∷ (suc slot, with_type 0xFFFF (entry_from [] start (suc slot))) ∷ []) (omega arith, omega arith, (omega arith, omega arith, tt))
+    by (Some e) false = touches_two start low ((slot, entry_bytes change.entry) ∷ (suc slot, entry_bytes e) ∷ []) (omega arith, omega arith, (omega arith, omega arith, tt))
+    by (Some e) true = touches_two start low ((slot, entry_bytes change.entry) ∷ (suc slot, entry_bytes e) ∷ (suc (suc slot), with_type 0xFFFF (entry_from [] start (suc (suc slot)))) ∷ [])
+        (omega arith, omega arith, (omega arith, omega arith, (omega arith, omega arith, tt)))
+
+pub calls_most : (start count : ℕ) (is_open : Bool) (change : Change) → calls_of start count is_open change ≤ most_commit_calls
+calls_most start count is_open change = omega (arith, touched_few start change, past_few start count (touched_by start change), few is_open (length (touched_by start change)))
+  where
+    few : (b : Bool) (k : ℕ) → commit_calls b k ≤ 2 * k + 4
+    few true k = omega arith
+    few false k = omega arith
+
+-- ---- how many slots there are then
+
+length_put : {X : Type 0} (xs : List X) (k : ℕ) (x : X) → k ≤ length xs → length (put_slot xs k x) ≡ max (length xs) (suc k)
+length_put xs k x le = go (k == length xs) refl
+  where
+    go : (b : Bool) → (k == length xs) ≡ b → length (if b then xs ++ x ∷ [] else set xs k x) ≡ max (length xs) (suc k)
+    go true e = length-append xs (x ∷ []) ∙ omega (arith, eqb-true k (length xs) e) ∙ sym (max-eq_right {n = length xs} {m = suc k} (omega (arith, eqb-true k (length xs) e)))
+    go false e = length-set xs k x ∙ sym (max-eq_left {n = length xs} {m = suc k} (omega (arith, le, other)))
+      where
+        other : k ≢ length xs
+        other same = let no : false ≡ true = sym e ∙ eq-eqb k (length xs) same in cc
+
+pub count_is : {X : Type 0} (f : FileEntry → X) (change : Change) (xs : List X) → change.slot ≤ length xs → length (put_change f change xs) ≡ count_with (length xs) change
+count_is f change xs le = by change.next
+  where
+    k : ℕ
+    k = change.slot
+
+    first : length (put_slot xs change.slot (f change.entry)) ≡ max (length xs) (suc change.slot)
+    first = length_put xs change.slot (f change.entry) le
+
+    by : (next : Option FileEntry) → length (put_next f (suc change.slot) next (put_slot xs change.slot (f change.entry))) ≡ max (length xs) (after_next change.slot next)
+    by None = first
+    by (Some e) =
+        length_put (put_slot xs k (f change.entry)) (suc k) (f e) (omega (arith, first, le-max_right (length xs) (suc k)))
+        ∙ ap (λ (m : ℕ). max m (suc (suc k))) first ∙ most (cases_lt (length xs) (suc (suc k)))
+      where
+        most : (length xs < suc (suc k)) ⊎ (suc (suc k) ≤ length xs) → max (max (length xs) (suc k)) (suc (suc k)) ≡ max (length xs) (suc (suc k))
+        most (inl less) = max-eq_right {n = max (length xs) (suc k)} {m = suc (suc k)} (max-le (omega (arith, less)) (omega arith)) ∙ sym (max-eq_right {n = length xs} {m = suc (suc k)} (omega (arith, less)))
+        most (inr more) = ap (λ (m : ℕ). max m (suc (suc k))) (max-eq_left {n = length xs} {m = suc k} (omega (arith, more)))

@@ -1,14 +1,16 @@
 -- Records that are set aside for a commit, and slots of a directory that change by it.
-use Rattle.std.specs.Prelude.{◌≡◌, ◌≢◌, ◌<◌, ◌++◌, ℕ, suc, List, [], ◌∷◌, true, length, get_or, Option, Some, IfSome, OnOk, Result}
+use Rattle.std.specs.Prelude.{◌≡◌, ◌≢◌, ◌⊎◌, ◌<◌, ◌+◌, ◌*◌, ◌/◌, ◌++◌, nat_lt, max, ℕ, Bool, List, [], ◌∷◌, length, get_or, filter, Option, Some, OnOk, Result}
 use Rattle.lif_model.specs.Tape.{Tape, record_at}
 use Rattle.lif_model.specs.declared.version.Version.{Version}
-use Rattle.lif_model.specs.Redo.{Changes, redo_start, targets_in}
+use Rattle.lif_model.specs.Redo.{Changes, targets_in}
 use Rattle.lif_model.specs.Commit.{IsCommitted, IsOldOrNew, commit_writes}
-use Rattle.lif_model.specs.Writing.{SlotWrites, slot_record, touched, changes_by}
+use Rattle.lif_model.specs.Directory.{entry_at}
+use Rattle.lif_model.specs.Writing.{SlotWrites, entry_from, touched, changes_by}
 use Rattle.lif_model.specs.Gate.{has_open_gate}
 use Rattle.il_ports.specs.declared.records.Trouble.{Trouble}
 use Rattle.il_ports.specs.Stores.{RecordsView, GoesOn, RunLeaves}
 use Rattle.lif_redo.specs.Writing.{AddsWrites}
+use Rattle.lif_redo.specs.Atomic.{commit_calls}
 use Rattle.lif_dir.specs.declared.change.Change.{Change}
 use Rattle.lif_dir.specs.Changes.{slot_after, change_writes}
 
@@ -32,25 +34,56 @@ abbrev pub AreOthers : ℕ → ℕ → SlotWrites → Type 0
 AreOthers room k [] = Unit {0}
 AreOthers room k (w ∷ ws) = (w.0 < room) × (w.0 ≢ k) × (length w.1 ≡ 32) × AreOthers room k ws
 
--- ---- a change
+-- ---- what is known of a directory, which begins at record `start` and has so many records
 
--- the slots that change, of a directory that begins at record `start`, lie in records below that one
-pub record LiesBelow (start limit : ℕ) (change : Change) : Type 0 where
-  pub slot : slot_record start change.slot < limit
-  pub next : IfSome change.next (λ next. slot_record start (suc change.slot) < limit)
-  pub end : change.ended ≡ true → slot_record start (slot_after change) < limit
+-- of so many slots the end stands in this record
+abbrev pub EndsWith : ℕ → ℕ → ℕ → List ℕ → Tape → Type 0
+EndsWith start size count last t = count < 8 * size → last ≡ record_at t (start + count / 8)
 
--- so below the redo file by which it commits, on a tape of n records
-abbrev pub LiesBelowRedo : ℕ → ℕ → Change → Type 0
-LiesBelowRedo n start change = LiesBelow start (redo_start change.version n) change
+-- the slots, as far as the end, and the record with the end
+pub record Knows (start size : ℕ) (slots : List (List ℕ)) (last : List ℕ) (t : Tape) : Type 0 where
+  pub each : (k : ℕ) → k < length slots → get_or slots k [] ≡ entry_from t start k
+  pub end : EndsWith start size (length slots) last t
 
--- how many records a commit of a directory reads and writes at most: it changes two records of it
+-- the entries of this record are so many of the slots, from slot 8 i on
+pub record HoldsSlots (slots : List (List ℕ)) (i count : ℕ) (bytes : List ℕ) : Type 0 where
+  pub size : length bytes ≡ 256
+  pub entries : (k : ℕ) → k < count → entry_at bytes k ≡ get_or slots (8 * i + k) []
+
+-- the record with the end is what these changes put into record n, or it stays
+abbrev pub KeepsLast : ℕ → Changes → (old new : List ℕ) → Type 0
+KeepsLast n changes old new =
+    ((p : ℕ) × (p < length changes) × ((get_or changes p (0, [])).0 ≡ n) × (new ≡ (get_or changes p (0, [])).1))
+    ⊎ (((p : ℕ) → p < length changes → (get_or changes p (0, [])).0 ≢ n) × (new ≡ old))
+
+-- how many slots there are with the change
+abbrev pub count_with : ℕ → Change → ℕ
+count_with count change = max count (slot_after change)
+
+-- ---- how many records a commit reads and writes
+
+-- the records that a change touches; the bytes of a tape do not say which
+abbrev pub touched_by : ℕ → Change → List ℕ
+touched_by start change = touched start (change_writes start change [])
+
+-- the records past the one with the end, of so many slots: they are read
+abbrev pub past_end : ℕ → ℕ → List ℕ → ℕ
+past_end start count records = length (filter (λ n. nat_lt (start + count / 8) n) records)
+
+-- of a directory of so many slots, where the gate reads open or not
+abbrev pub calls_of : ℕ → ℕ → Bool → Change → ℕ
+calls_of start count is_open change =
+    past_end start count (touched_by start change) + commit_calls is_open (length (touched_by start change))
+
+-- at most: it changes two records of a directory
 abbrev pub most_commit_calls : ℕ
-most_commit_calls = 12
+most_commit_calls = 10
+
+-- ---- a commit
 
 -- Slots of a settled directory, which begins at record `start`, change by one commit of that version.
-pub record CommitsSlots {S T : Type 0} (version : Version) (start : ℕ) (slots : Tape → SlotWrites) (v w : RecordsView S) (answer : Result T Trouble) : Type 0 where
-  pub goes_on : GoesOn most_commit_calls v w answer
+pub record CommitsSlots {S T : Type 0} (calls : ℕ) (version : Version) (start : ℕ) (slots : Tape → SlotWrites) (v w : RecordsView S) (answer : Result T Trouble) : Type 0 where
+  pub goes_on : GoesOn calls v w answer
   -- behind an Ok they stand
   pub done : OnOk answer ((t : Tape) → v.tape ≡ Some t
       → (u : Tape) × (w.tape ≡ Some u) × IsCommitted version (changes_by start (slots t) t) t u)
@@ -62,5 +95,6 @@ pub record CommitsSlots {S T : Type 0} (version : Version) (start : ℕ) (slots 
   pub writes : OnOk answer ((t : Tape) → v.tape ≡ Some t
       → AddsWrites (commit_writes version v.record_count (has_open_gate t) (changes_by start (slots t) t)) v.transferred w.transferred)
 
-abbrev pub CommitsChange : {S T : Type 0} → ℕ → Change → (v w : RecordsView S) → Result T Trouble → Type 0
-CommitsChange start change v w answer = CommitsSlots change.version start (change_writes start change) v w answer
+abbrev pub CommitsChange : {S T : Type 0} → ℕ → ℕ → Bool → Change → (v w : RecordsView S) → Result T Trouble → Type 0
+CommitsChange start count is_open change v w answer =
+    CommitsSlots (calls_of start count is_open change) change.version start (change_writes start change) v w answer

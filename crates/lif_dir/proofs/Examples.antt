@@ -9,6 +9,9 @@ use Rattle.lif_dir.specs.declared.entries.FileEntry.{FileEntry}
 use Rattle.lif_dir.specs.declared.entries.Slot.TheVariants.{Live, Purged, End}
 use Rattle.lif_dir.specs.Entries.{spaced, name_bytes, entry_bytes, entry_from, slot_of, slot_from, slot_bytes, is_entry}
 use Rattle.lif_dir.specs.Names.{is_made, name_of_bytes, new_name, made_name, new_label, label_bytes}
+use Rattle.lif_model.specs.Parts as model
+use Rattle.lif_dir.specs.declared.batch.Part.TheVariants as batch
+use Rattle.lif_dir.specs.Batches.{bytes_at, parts_of}
 use Rattle.lif_dir.specs.Indexes.{is_live_at, name_at, name_in, IsUpTo, IsIndex, AreSorted}
 use Rattle.lif_dir.specs.Tables.{IsInRoom, IsIndexed}
 use Rattle.lif_dir.proofs.Searching.{sorted_here}
@@ -168,3 +171,17 @@ sorted_three = sorted_here three places index_of_three
 
 no_slots_indexed : IsIndexed 0 2 2 [] []
 no_slots_indexed = empty_indexed 0 2 2 [] [] (lit≤ tt) refl refl refl
+
+-- ---- the parts of a batch
+
+-- two of its bytes
+some_bytes : (bytes_at (65 ∷ 66 ∷ 67 ∷ 68 ∷ []) 1 2 ≡ 66 ∷ 67 ∷ []) × (bytes_at (65 ∷ 66 ∷ []) 2 0 ≡ [])
+some_bytes = (refl, refl)
+
+-- a store of them, a rename and a purge
+the_parts : parts_of (record {
+  parts = batch.Store (record { name = record { bytes = codes "A         " } }) 1 (replicate 4 0) 1 2 ∷ batch.Rename (record { bytes = codes "B         " }) (record { name = record { bytes = codes "C         " } })
+      ∷ batch.Purge (record { bytes = codes "D         " }) ∷ [];
+  bytes = 65 ∷ 66 ∷ 67 ∷ 68 ∷ [];
+}) ≡ model.Store (codes "A         ") 1 (replicate 4 0) (66 ∷ 67 ∷ []) ∷ model.Rename (codes "B         ") (codes "C         ") ∷ model.Purge (codes "D         ") ∷ []
+the_parts = refl

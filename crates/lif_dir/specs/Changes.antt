@@ -20,13 +20,15 @@ abbrev pub slot_after : Change → ℕ
 slot_after change = after_next change.slot change.next
 
 -- In a directory of so many slots, with room for so many, each slot that changes is one of them or stands behind the
--- last, no entry is an end, and the end that is put behind them has a slot.
+-- last, no entry is an end, and the end that is put behind them has a slot; where they are more than before and there is
+-- a slot for it, an end is put.
 pub record FitsIn (room count : ℕ) (change : Change) : Type 0 where
   pub place : change.slot ≤ count
   pub within : change.slot < room
   pub kind : change.entry.kind ≢ 0xFFFF
   pub next : IfSome change.next (λ next. (suc change.slot < room) × (next.kind ≢ 0xFFFF))
   pub end_within : change.ended ≡ true → slot_after change < room
+  pub end_there : count < slot_after change → slot_after change < room → change.ended ≡ true
 
 -- ---- what is written
 

@@ -4,3 +4,4 @@ pub mod Indexes
 pub mod Tables
 pub mod Batches
 pub mod Changes
+pub mod Reading

@@ -4,13 +4,9 @@ ghost use Rattle.lif_dir.specs.declared.batch.Part.TheVariants.{Store, Rename, P
 
 use crate::entries::Name;
 use crate::names::NewName;
-use lif_model::MOST_BYTES;
+use lif_model::{MOST_BYTES, MOST_PARTS};
 use std::alloc::{AllocError, Global};
 use std::marker::Model;
-
-/// How many parts a batch has at most: with the redo entry they touch at most 32 records of a
-/// directory, which is what one commit changes.
-const MOST_PARTS: usize = 31;
 
 /// One change of a batch.
 #[derive(Clone, Copy, Debug, PartialEq, Eq)]

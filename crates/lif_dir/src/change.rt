@@ -1,5 +1,5 @@
 //! What a command changes of a directory by one commit.
-ghost use Rattle.std.specs.Prelude.{◌≡◌, ◌<◌, ◌≤◌, ◌^◌, true, length};
+ghost use Rattle.std.specs.Prelude.{◌≡◌, ◌<◌, ◌≤◌, ◌^◌, ℕ, true, length};
 ghost use Rattle.lif_dir.specs.Changes.{put_slot, slot_after, slots_with, FitsIn, IsToldBack};
 ghost use Rattle.lif_dir.specs.Entries.{is_entry};
 
@@ -36,9 +36,9 @@ impl Change {
 }
 
 impl SlotTable {
-    /// Changes the slots. Each is one of them, or stands after the last, where there is room for it.
+    /// Changes the slots of a directory, for all of which there is room. Each is one of them, or stands after the last.
     pub fn change(&mut self, change: &Change)
-        requires { FitsIn self.old.room (length self.old.slots) change.now }
+        requires { (capacity : ℕ) × (capacity ≤ self.old.room) × FitsIn capacity (length self.old.slots) change.now }
         ensures changed { self.new ≡ record self.old { slots = slots_with change.now self.old.slots } }
         ensures told { IsToldBack change.now }
     {

@@ -14,6 +14,6 @@ pub use batch::{Batch, Part};
 pub use change::Change;
 pub use entries::{FileEntry, Name, Slot};
 pub use names::{NewLabel, NewName, without_end_spaces};
-pub use reading::slots_of;
+pub use reading::{read_slots, slots_of};
 pub use steps::Steps;
 pub use table::SlotTable;

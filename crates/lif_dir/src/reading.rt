@@ -1,10 +1,10 @@
-ghost use Rattle.std.specs.Prelude.{◌≡◌, ◌≤◌, ◌+◌, ◌*◌, ◌++◌, length, map, Some, OnOk};
+ghost use Rattle.std.specs.Prelude.{◌≡◌, ◌≤◌, ◌<◌, ◌+◌, ◌*◌, ◌/◌, ◌++◌, length, map, true, false, Some, OnOk};
 ghost use Rattle.std.specs.List.{list_any};
-ghost use Rattle.lif_model.specs.Tape.{Tape};
-ghost use Rattle.lif_model.specs.Directory.{is_end, entries_of, before_end, slots_from};
-ghost use Rattle.il_ports.specs.Stores.{IsReady, GoesOn, IsQuiet};
-ghost use Rattle.il_ports.specs.Transfers.{AddsOnly};
-ghost use Rattle.lif_dir.specs.Entries.{slot_from, slot_bytes, AreSlots};
+ghost use Rattle.lif_model.specs.Tape.{Tape, record_at};
+ghost use Rattle.lif_model.specs.Directory.{is_end, entries_of, before_end};
+ghost use Rattle.il_ports.specs.Stores.{IsReady};
+ghost use Rattle.lif_dir.specs.Entries.{slot_from, slot_bytes};
+ghost use Rattle.lif_dir.specs.Reading.{ReadsSlots};
 
 use crate::entries::Slot;
 use crate::table::SlotTable;
@@ -21,7 +21,8 @@ fn append_slots(bytes: &Record, table: &mut SlotTable) -> bool
         ++ before_end (entries_of bytes.now) }
     ensures ended { result ≡ list_any is_end (entries_of bytes.now) }
     ensures room { table.new.room ≡ table.old.room }
-    ensures count { length table.new.slots ≤ length table.old.slots + 8 }
+    ensures part { result ≡ true → length table.new.slots < length table.old.slots + 8 }
+    ensures whole { result ≡ false → length table.new.slots ≡ length table.old.slots + 8 }
 {
     for k in 0..ENTRIES {
         match Slot::of(&bytes_at(bytes, ENTRY * k)) {
@@ -45,28 +46,32 @@ pub fn slots_of<R: Records>(
     requires within { header.now.start + header.now.length ≤ (R.view records.old).record_count }
     requires ready { IsReady header.now.length (R.view records.old) }
     requires room { 8 * header.now.length ≤ table.old.room }
+    ensures reads { ReadsSlots header.now (R.view records.old) (R.view records.new) table.new.slots result }
+    ensures room { table.new.room ≡ table.old.room }
+{
+    read_slots(records, header, table, &mut [0; RECORD])
+}
 
-    // What was read, where the records tell the tape: as slots, and as the bytes of each.
-    ensures done { OnOk result ((t : Tape) → (R.view records.old).tape ≡ Some t →
-        table.new.slots ≡ map slot_from (slots_from t header.now.start header.now.length)) }
-    ensures bytes { OnOk result ((t : Tape) → (R.view records.old).tape ≡ Some t →
-        map slot_bytes table.new.slots ≡ slots_from t header.now.start header.now.length) }
-
-    // Whether the tape is told or not, these are slots of such a directory.
-    ensures shape { OnOk result (AreSlots (8 * header.now.length) (map slot_bytes table.new.slots)) }
-
-    // No record changes. No more records are read than the directory has; there are reads alone,
-    // and no call of `resume`.
-    ensures goes_on { GoesOn header.now.length (R.view records.old) (R.view records.new) result }
-    ensures quiet { IsQuiet (R.view records.old) (R.view records.new) }
-    ensures transfers { AddsOnly (λ n. ⊥) (R.view records.old).transferred (R.view records.new).transferred result }
+/// The same, and leaves in `last` the record that holds the end of the directory, where it has one.
+pub fn read_slots<R: Records>(
+    records: &mut R,
+    header: &Header,
+    table: &mut SlotTable,
+    last: &mut Record,
+) -> Result<(), Trouble>
+    requires within { header.now.start + header.now.length ≤ (R.view records.old).record_count }
+    requires ready { IsReady header.now.length (R.view records.old) }
+    requires room { 8 * header.now.length ≤ table.old.room }
+    ensures reads { ReadsSlots header.now (R.view records.old) (R.view records.new) table.new.slots result }
+    ensures last { OnOk result ((t : Tape) → (R.view records.old).tape ≡ Some t →
+        length table.new.slots < 8 * header.now.length
+        → last.new ≡ record_at t (header.now.start + length table.new.slots / 8)) }
     ensures room { table.new.room ≡ table.old.room }
 {
     table.clear();
-    let mut bytes = [0; RECORD];
     for n in header.start()..header.end() {
-        records.read(n, &mut bytes)?;
-        if append_slots(&bytes, table) {
+        records.read(n, last)?;
+        if append_slots(last, table) {
             return Ok(());
         }
     }

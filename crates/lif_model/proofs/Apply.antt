@@ -1,10 +1,12 @@
 -- The next volume of each command: a refused command leaves the volume, and any other leaves a
 -- legal one, with its redo file.
 use Rattle.std.proofs.Common.{◌≡◌, ◌≢◌, ◌⊎◌, ◌<◌, ◌≤◌, ◌+◌, ◌-◌, ◌*◌, ◌++◌, ◌&&◌, ◌==◌, ℕ, zero, suc, List, [], ◌∷◌, Bool, true, false, not, if◌then◌else◌, Option, Some, None, length, map, get_or, set, insert, replicate, inl, inr, refl, sym, ◌∙◌, ap, subst, arith, nat_lt, length-set, get_or-set_other}
+use Rattle.std.specs.Prelude.{All}
 use Rattle.std.specs.Str.{bytes_eq}
 use Rattle.std.proofs.lemmas.Bool.{cases_lt, and_parts, and_from, and_cases, or_left, or_parts, ltb-true, ltb-false, leb-false, eqb-true, eq-eqb, ne_eqb, not_from_true, not_from_false, false_from_ne_true}
 use Rattle.std.proofs.lemmas.List.{length_push, length-map, get_or-map}
 use Rattle.std.proofs.lemmas.List.Edits.{length-insert, get_or-insert_below, get_or-insert_above}
+use Rattle.std.proofs.lemmas.List.Elements.{All-head, All-tail}
 use Rattle.std.proofs.lemmas.Slice.Eq.{bytes_eq-Decides}
 use Rattle.lif_model.specs.Gate.{gate_of}
 use Rattle.lif_model.specs.Header.{directory_start, directory_length, directory_end, capacity_of}
@@ -14,12 +16,14 @@ use Rattle.lif_model.specs.declared.version.Version.TheVariants.{One, Two}
 use Rattle.lif_model.specs.Redo.{redo_start}
 use Rattle.lif_model.specs.Legal.{is_live, has_records, occupies, end_of, is_live_named, has_file}
 use Rattle.lif_model.specs.Volume.{redo_name, redo_type, redo_entry, upgraded_entry, is_redo_entry, is_redo_file, is_adopted_with, is_adopted, Volume, IsVolume, IsAdopted}
-use Rattle.lif_model.specs.Fit.{Place, At, redo_place, can_append, fit_in}
-use Rattle.lif_model.specs.Apply.{VolumeCommand, Dir, Label, Fetch, Store, Rename, Purge, Adopt, Upgrade, Format, IsWellFormed, lacks_redo, is_protected, is_full, runs_past_gate, is_upgraded, runs_past_redo, is_too_long, first_met, store_checks, checks_of, refusal_of, stored, with_slot, renamed, upgraded, fresh_volume, volume_after, volume_made, next_unless, apply}
+use Rattle.lif_model.specs.Fit.{Place, At, redo_place, can_append, fit_in, fit_beside_in}
+use Rattle.lif_model.specs.Apply.{VolumeCommand, Dir, Label, Fetch, Store, Rename, Purge, Adopt, Upgrade, Batch, Format, IsWellFormed, lacks_redo, is_protected, is_full, runs_past_gate, is_upgraded, runs_past_redo, is_too_long, first_met, store_checks, part_checks, Midway, before_parts, part_place, after_part, after_parts, parts_checks, checks_of, refusal_of, stored, with_slot, renamed, upgraded, fresh_volume, volume_after, volume_made, next_unless, apply}
+use Rattle.lif_model.specs.Parts.{Part, IsWellFormedPart}
+use Rattle.lif_model.specs.Parts as part
 use Rattle.lif_model.specs.declared.refusal.Refusal.{Refusal}
 use Rattle.lif_model.proofs.Lists.{any_at, any_from, none_at, none_of_filter}
 use Rattle.lif_model.proofs.Made.{new_name, new_type, new_start, new_length, new_size, named_name, named_type, named_start, named_length, named_size, typed_type, typed_start, typed_length, typed_size, extent_name, extent_type, extent_start, extent_length, extent_size, fresh_size, fresh_start, fresh_length, fresh_readable}
-use Rattle.lif_model.proofs.Fit.{IsPlaceIn, fit_tells, place_is_free}
+use Rattle.lif_model.proofs.Fit.{IsPlaceIn, fit_tells, fit_beside_tells, place_is_free}
 use Rattle.lif_model.proofs.Adopted.{redo_file_tells, redo_file_is_live, redo_file_is_named, redo_entry_tells, redo_place_is, redo_is_alone, with_slot_at}
 use Rattle.lif_model.proofs.Slots.{readable_tells, occupies_tells, live_named_tells, other_name, HasNew, set_new, before_insert, insert_new, push_new, each_with_new, legal_with_new, StaysPut, legal_map, each_map, slot_cases}
 
@@ -38,6 +42,7 @@ made_is n (Rename old new) v = refl
 made_is n (Purge name) v = refl
 made_is n Adopt v = refl
 made_is n Upgrade v = refl
+made_is n (Batch parts) v = refl
 made_is n (Format label slots) v = refl
 
 pub accepted : (n : ℕ) (command : VolumeCommand) (v : Volume) → refusal_of n command (Some v) ≡ None → apply n command (Some v) ≡ (None, Some (volume_after n command v))
@@ -48,13 +53,37 @@ abbrev pub NoneMet : List (Bool × Refusal) → Type 0
 NoneMet [] = Unit {0}
 NoneMet (check ∷ checks) = (check.0 ≡ false) × NoneMet checks
 
-met_none : (checks : List (Bool × Refusal)) → first_met checks ≡ None → NoneMet checks
+pub met_none : (checks : List (Bool × Refusal)) → first_met checks ≡ None → NoneMet checks
 met_none [] is = tt
 met_none (check ∷ checks) is = go check.0 refl is (λ rest. met_none checks rest)
   where
     go : (b : Bool) → check.0 ≡ b → (if b then Some check.1 else first_met checks) ≡ None → (first_met checks ≡ None → NoneMet checks) → (check.0 ≡ false) × NoneMet checks
     go true e is rest = cc
     go false e is rest = (e, rest is)
+
+-- and where none is met, nothing is refused
+pub unmet_none : (checks : List (Bool × Refusal)) → NoneMet checks → first_met checks ≡ None
+unmet_none [] unmet = refl
+unmet_none (check ∷ checks) unmet = ap (λ (b : Bool). if b then Some check.1 else first_met checks) unmet.0 ∙ unmet_none checks unmet.1
+
+-- the first refusal of two lists of tests
+pub first_of_more : (first second : List (Bool × Refusal)) → NoneMet first → first_met (first ++ second) ≡ first_met second
+first_of_more [] second unmet = refl
+first_of_more (check ∷ first) second unmet = ap (λ (b : Bool). if b then Some check.1 else first_met (first ++ second)) unmet.0 ∙ first_of_more first second unmet.1
+
+pub first_of_first : (first second : List (Bool × Refusal)) (why : Refusal) → first_met first ≡ Some why → first_met (first ++ second) ≡ Some why
+first_of_first [] second why is = cc
+first_of_first (check ∷ first) second why is = go check.0 is (first_of_first first second why)
+  where
+    go : (b : Bool) → (if b then Some check.1 else first_met first) ≡ Some why → (first_met first ≡ Some why → first_met (first ++ second) ≡ Some why)
+        → (if b then Some check.1 else first_met (first ++ second)) ≡ Some why
+    go true is rest = is
+    go false is rest = rest is
+
+-- of two lists of tests
+pub unmet_parts : (first second : List (Bool × Refusal)) → NoneMet (first ++ second) → NoneMet first × NoneMet second
+unmet_parts [] second unmet = (tt, unmet)
+unmet_parts (check ∷ first) second unmet = let rest = unmet_parts first second unmet.1 in ((unmet.0, rest.0), rest.1)
 
 -- where a command is not refused, none of its tests is met
 pub none_met : (n : ℕ) (command : VolumeCommand) (v : Volume) → refusal_of n command (Some v) ≡ None → NoneMet (checks_of n command v)
@@ -504,6 +533,27 @@ format_is_adopted n label slots formed fits =
     one zero lt P here = here
     one (suc i) lt P here = absurd (omega arith)
 
+-- ---- batches
+
+-- the next volume of a part of a batch is again legal and adopted
+pub part_is_adopted : (n : ℕ) (m : Midway) (p : Part) → IsAdopted n m.volume → IsWellFormedPart p → NoneMet (part_checks n m.volume (part_place n m p) p)
+    → IsAdopted n (after_part n p m).volume
+part_is_adopted n m (part.Store name kind implementation bytes) is formed unmet =
+    let v : Volume = m.volume in
+    let found = store_has_place n v name (fit_beside_in n v m.barred (file_length bytes)) unmet in
+    subst (λ (place : Place). IsAdopted n (stored v name kind implementation bytes place)) (sym found.2)
+    (stored_is_adopted n v name kind implementation bytes found.0 found.1 is formed unmet.1.1.0
+    (fit_beside_tells n (directory_end v.header) (capacity_of v.header) v.slots m.barred (file_length bytes) found.0 found.1 found.2).0)
+part_is_adopted n m (part.Rename old later) is formed unmet = rename_is_adopted n m.volume old later is formed (unmet_none (checks_of n (Rename old later) m.volume) unmet)
+part_is_adopted n m (part.Purge name) is formed unmet = purge_is_adopted n m.volume name is (unmet_none (checks_of n (Purge name) m.volume) unmet)
+
+pub parts_are_adopted : (n : ℕ) (parts : List Part) (m : Midway) → IsAdopted n m.volume → All IsWellFormedPart parts → NoneMet (parts_checks n parts m)
+    → IsAdopted n (after_parts n parts m).volume
+parts_are_adopted n [] m is formed unmet = is
+parts_are_adopted n (p ∷ parts) m is formed unmet =
+    let both = unmet_parts (part_checks n m.volume (part_place n m p) p) (parts_checks n parts (after_part n p m)) unmet in
+    parts_are_adopted n parts (after_part n p m) (part_is_adopted n m p is (All-head IsWellFormedPart p parts formed) both.0) (All-tail IsWellFormedPart p parts formed) both.1
+
 -- ---- every command
 
 -- the next volume of a command on a legal adopted volume is again legal and adopted
@@ -516,4 +566,5 @@ next_is_adopted n (Rename old later) v is formed none = rename_is_adopted n v ol
 next_is_adopted n (Purge name) v is formed none = purge_is_adopted n v name is none
 next_is_adopted n Adopt v is formed none = adopt_is_adopted n v is.volume none
 next_is_adopted n Upgrade v is formed none = (upgrade_is_two n v is none).0
+next_is_adopted n (Batch parts) v is formed none = parts_are_adopted n parts (before_parts v) is formed.1 (none_met n (Batch parts) v none).1.1
 next_is_adopted n (Format label slots) v is formed none = format_is_adopted n label slots formed (none_met n (Format label slots) v none).0

@@ -1,12 +1,13 @@
 -- What is known of a place that was chosen.
-use Rattle.std.proofs.Common.{◌≡◌, ◌⊎◌, ◌<◌, ◌≤◌, ◌+◌, ◌-◌, ◌++◌, ◌==◌, ℕ, zero, suc, max, min, List, [], ◌∷◌, Bool, true, false, if◌then◌else◌, length, get_or, take, drop, inl, inr, refl, sym, ◌∙◌, ap, subst, arith, nat_le, length-take, length-drop, get_or-take, get_or-drop}
-use Rattle.std.proofs.lemmas.Bool.{cases_eq, cases_lt, cases_Bool, leb-true, eq-eqb}
+use Rattle.std.proofs.Common.{filter, nat_eq, not, ◌≡◌, ◌⊎◌, ◌<◌, ◌≤◌, ◌+◌, ◌-◌, ◌++◌, ◌==◌, ℕ, zero, suc, max, min, List, [], ◌∷◌, Bool, true, false, if◌then◌else◌, length, get_or, take, drop, inl, inr, refl, sym, ◌∙◌, ap, subst, arith, nat_le, length-take, length-drop, get_or-take, get_or-drop}
+use Rattle.std.specs.List.{list_any}
+use Rattle.std.proofs.lemmas.Bool.{cases_eq, cases_lt, cases_Bool, leb-true, eq-eqb, not-true}
 use Rattle.lif_model.specs.Gate.{gate_of}
 use Rattle.lif_model.specs.Header.{directory_end, capacity_of}
 use Rattle.lif_model.specs.Directory.{start_of, is_purged}
 use Rattle.lif_model.specs.Legal.{end_of, has_records}
 use Rattle.lif_model.specs.Volume.{Volume}
-use Rattle.lif_model.specs.Fit.{At, redo_place, purged_from, can_append, candidates, greatest_end, least_start, slots_behind, low_of, high_of, first_fit, fit_among, fit}
+use Rattle.lif_model.specs.Fit.{At, redo_place, purged_from, can_append, candidates, greatest_end, least_start, slots_behind, low_of, high_of, first_fit, fit_among, fit, fit_beside}
 
 -- ---- the bounds
 
@@ -130,23 +131,59 @@ behind_drop slots high m k le lt on =
     let at : get_or (drop m slots) (k - m) [] ≡ get_or slots k [] = get_or-drop m slots (k - m) [] ∙ ap (λ (j : ℕ). get_or slots j []) (omega arith) in
     omega (arith, each_start high (drop m slots) (k - m) (omega (arith, length-drop m slots)) (ap has_records at ∙ on), ap start_of at)
 
-pub fit_tells : (n directory_end capacity : ℕ) (slots : List (List ℕ)) (count i start : ℕ) → fit n directory_end capacity slots count ≡ At i start → IsPlace n directory_end capacity slots count i start
-fit_tells n low capacity slots count i start is =
-    let found = among_tells (IsCandidate capacity slots) n low slots count (candidates capacity slots) i start (candidates_are capacity slots) is in
+-- what is known of a candidate with room
+candidate_tells : (n directory_end capacity : ℕ) (slots : List (List ℕ)) (count i start : ℕ) → IsCandidate capacity slots i → start ≡ low_of directory_end slots i
+    → start + count ≤ high_of n slots i → IsPlace n directory_end capacity slots count i start
+candidate_tells n low capacity slots count i start candidate from below =
     record {
-      candidate = found.0;
-      low = omega (arith, found.1, low_above low (take i slots));
-      high = omega (arith, found.2, high_below (gate_of n) (slots_behind slots i));
+      candidate = candidate;
+      low = omega (arith, from, low_above low (take i slots));
+      high = omega (arith, below, high_below (gate_of n) (slots_behind slots i));
       before = λ k lt long on.
           let at : get_or (take i slots) k [] ≡ get_or slots k [] = get_or-take i slots k [] lt in
-          omega (arith, found.1, each_end low (take i slots) k (omega (arith, length-take i slots)) (ap has_records at ∙ on), ap end_of at);
-      behind = λ k lt long on. omega (arith, found.2, high_at k lt long on (cases_Bool (i == redo_place slots)));
-      own = λ e long on. omega (arith, found.2, ap (λ (b : Bool). least_start (gate_of n) (if b then drop i slots else drop (suc i) slots)) (eq-eqb i (redo_place slots) e), behind_drop slots (gate_of n) i i (omega arith) long on);
+          omega (arith, from, each_end low (take i slots) k (omega (arith, length-take i slots)) (ap has_records at ∙ on), ap end_of at);
+      behind = λ k lt long on. omega (arith, below, high_at k lt long on (cases_Bool (i == redo_place slots)));
+      own = λ e long on. omega (arith, below, ap (λ (b : Bool). least_start (gate_of n) (if b then drop i slots else drop (suc i) slots)) (eq-eqb i (redo_place slots) e), behind_drop slots (gate_of n) i i (omega arith) long on);
     }
   where
     high_at : (k : ℕ) → i < k → k < length slots → has_records (get_or slots k []) ≡ true → (i == redo_place slots ≡ true) ⊎ (i == redo_place slots ≡ false) → high_of n slots i ≤ start_of (get_or slots k [])
     high_at k lt long on (inl e) = omega (arith, ap (λ (b : Bool). least_start (gate_of n) (if b then drop i slots else drop (suc i) slots)) e, behind_drop slots (gate_of n) i k (omega arith) long on)
     high_at k lt long on (inr e) = omega (arith, ap (λ (b : Bool). least_start (gate_of n) (if b then drop i slots else drop (suc i) slots)) e, behind_drop slots (gate_of n) (suc i) k (omega arith) long on)
+
+pub fit_tells : (n directory_end capacity : ℕ) (slots : List (List ℕ)) (count i start : ℕ) → fit n directory_end capacity slots count ≡ At i start → IsPlace n directory_end capacity slots count i start
+fit_tells n low capacity slots count i start is =
+    let found = among_tells (IsCandidate capacity slots) n low slots count (candidates capacity slots) i start (candidates_are capacity slots) is in
+    candidate_tells n low capacity slots count i start found.0 found.1 found.2
+
+-- ---- a choice that leaves slots out
+
+each_filter : (P : ℕ → Type 0) (keep : ℕ → Bool) (is : List ℕ) → Each P is → Each (λ i. P i × (keep i ≡ true)) (filter keep is)
+each_filter P keep [] each = tt
+each_filter P keep (i ∷ is) each = go (keep i) refl (each_filter P keep is each.1)
+  where
+    go : (b : Bool) → keep i ≡ b → Each (λ i. P i × (keep i ≡ true)) (filter keep is)
+        → Each (λ i. P i × (keep i ≡ true)) (if b then i ∷ filter keep is else filter keep is)
+    go true e rest = ((each.0, e), rest)
+    go false e rest = rest
+
+-- it gives a place as well, and none in a slot that is barred
+pub fit_beside_tells : (n directory_end capacity : ℕ) (slots : List (List ℕ)) (barred : List ℕ) (count i start : ℕ)
+    → fit_beside n directory_end capacity slots barred count ≡ At i start
+    → IsPlace n directory_end capacity slots count i start × (list_any (nat_eq i) barred ≡ false)
+fit_beside_tells n low capacity slots barred count i start is =
+    let keep : ℕ → Bool = λ i. not (list_any (nat_eq i) barred) in
+    let found = among_tells (λ i. IsCandidate capacity slots i × (keep i ≡ true)) n low slots count (filter keep (candidates capacity slots)) i start
+    (each_filter (IsCandidate capacity slots) keep (candidates capacity slots) (candidates_are capacity slots)) is in
+    (candidate_tells n low capacity slots count i start found.0.0 found.1 found.2, not-true (list_any (nat_eq i) barred) found.0.1)
+
+filter_none : (is : List ℕ) → filter (λ i. not (list_any (nat_eq i) [])) is ≡ is
+filter_none [] = refl
+filter_none (i ∷ is) = ap (λ (js : List ℕ). i ∷ js) (filter_none is)
+
+-- with none barred it is the choice itself
+pub fit_beside_none : (n directory_end capacity : ℕ) (slots : List (List ℕ)) (count : ℕ)
+    → fit_beside n directory_end capacity slots [] count ≡ fit n directory_end capacity slots count
+fit_beside_none n low capacity slots count = ap (fit_among n low slots count) (filter_none (candidates capacity slots))
 
 -- a place meets no file: neither a live nor a purged slot that has records, other than the slot
 -- that it replaces

@@ -18,7 +18,7 @@ with_more start (w ∷ ws) more t = with_more start ws more (set t (slot_record 
 -- ---- one write more
 
 -- a number stands in a list, or each of the list is another
-abbrev is_among : List ℕ → ℕ → Bool
+abbrev pub is_among : List ℕ → ℕ → Bool
 is_among ks r = list_any (λ k. nat_eq k r) ks
 
 none_other : (ks : List ℕ) (r : ℕ) → is_among ks r ≡ false → AreOther ks r
@@ -46,7 +46,7 @@ filter_push test (k ∷ ks) r = go (test k) (filter_push test ks r)
     go false rest = rest
 
 -- a record that was touched before is not touched again, and any other one behind those
-touched_more : (start : ℕ) (ws : SlotWrites) (w : ℕ × List ℕ)
+pub touched_more : (start : ℕ) (ws : SlotWrites) (w : ℕ × List ℕ)
     → touched start (ws ++ w ∷ []) ≡ touched start ws ++ (if is_among (touched start ws) (slot_record start w.0) then [] else slot_record start w.0 ∷ [])
 touched_more start [] w = refl
 touched_more start (v ∷ ws) w = ap (λ (ks : List ℕ). q ∷ filter (λ k. not (nat_eq k q)) ks) (touched_more start ws w) ∙ go (cases_eq r q) (is_among (touched start ws) r) refl

@@ -38,3 +38,9 @@ pub mod Places
 pub mod Content
 pub mod Lookups
 pub mod Sorting
+pub mod Parts
+pub mod NewFiles
+pub mod PartsWritten
+pub mod Batches
+pub mod Touching
+pub mod BatchExamples

@@ -97,34 +97,50 @@ purged_step r i slots lt le =
     at_drop_more (purged_from i) (take r slots) i [] (omega (arith, length-take r slots))
     ∙ ap (λ (slot : List ℕ). if is_purged slot then i ∷ purged_from (suc i) (drop (i + 1) (take r slots)) else purged_from (suc i) (drop (i + 1) (take r slots))) (get_or-take r slots i [] lt)
 
-module _ (n low : ℕ) (slots : List (List ℕ)) (count r i : ℕ) (tail : List ℕ) (whole : Place) (seen : Bool) (lt : i < r) (le : r ≤ length slots) where
+-- all of a list
+pub all_picked : (is : List ℕ) → filter (λ i. true) is ≡ is
+all_picked [] = refl
+all_picked (i ∷ is) = ap (λ (js : List ℕ). i ∷ js) (all_picked is)
+
+-- those of the candidates that are picked, from place i on
+module _ (n low : ℕ) (slots : List (List ℕ)) (pick : ℕ → Bool) (count r i : ℕ) (tail : List ℕ) (whole : Place) (seen : Bool) (lt : i < r) (le : r ≤ length slots) where
   abbrev rest : ℕ → List ℕ
-  rest j = purged_from j (drop j (take r slots)) ++ tail
+  rest j = filter pick (purged_from j (drop j (take r slots)) ++ tail)
 
-  step : (b : Bool) → is_purged (get_or slots i []) ≡ b → rest i ≡ ((if b then i ∷ purged_from (suc i) (drop (i + 1) (take r slots)) else purged_from (suc i) (drop (i + 1) (take r slots))) ++ tail)
-  step b is = ap (λ (cs : List ℕ). cs ++ tail) (purged_step r i slots lt le ∙ ap (λ (c : Bool). if c then i ∷ purged_from (suc i) (drop (i + 1) (take r slots)) else purged_from (suc i) (drop (i + 1) (take r slots))) is)
+  abbrev later : List ℕ
+  later = purged_from (suc i) (drop (i + 1) (take r slots)) ++ tail
 
-  next_place : purged_from (suc i) (drop (i + 1) (take r slots)) ++ tail ≡ rest (i + 1)
-  next_place = let one : suc i ≡ i + 1 = omega arith in ap (λ (j : ℕ). purged_from j (drop (i + 1) (take r slots)) ++ tail) one
+  step : (b : Bool) → is_purged (get_or slots i []) ≡ b → rest i ≡ filter pick ((if b then i ∷ purged_from (suc i) (drop (i + 1) (take r slots)) else purged_from (suc i) (drop (i + 1) (take r slots))) ++ tail)
+  step b is = ap (λ (cs : List ℕ). filter pick (cs ++ tail)) (purged_step r i slots lt le ∙ ap (λ (c : Bool). if c then i ∷ purged_from (suc i) (drop (i + 1) (take r slots)) else purged_from (suc i) (drop (i + 1) (take r slots))) is)
+
+  next_place : filter pick later ≡ rest (i + 1)
+  next_place = let one : suc i ≡ i + 1 = omega arith in ap (λ (j : ℕ). filter pick (purged_from j (drop (i + 1) (take r slots)) ++ tail)) one
 
   -- a slot that is not purged
   pub fit_skips : is_purged (get_or slots i []) ≡ false → fit_after seen n low slots count (rest i) ≡ whole → fit_after seen n low slots count (rest (i + 1)) ≡ whole
   fit_skips off so_far = sym (ap (fit_after seen n low slots count) (step false off ∙ next_place)) ∙ so_far
 
+  -- a purged one that is not picked
+  pub fit_passes : is_purged (get_or slots i []) ≡ true → pick i ≡ false → fit_after seen n low slots count (rest i) ≡ whole → fit_after seen n low slots count (rest (i + 1)) ≡ whole
+  fit_passes on off so_far = sym (ap (fit_after seen n low slots count) (step true on ∙ ap (λ (b : Bool). if b then i ∷ filter pick later else filter pick later) off ∙ next_place)) ∙ so_far
+
+  picked : is_purged (get_or slots i []) ≡ true → pick i ≡ true → rest i ≡ i ∷ filter pick later
+  picked on is = step true on ∙ ap (λ (b : Bool). if b then i ∷ filter pick later else filter pick later) is
+
   from_first : (b : Bool) (cs : List ℕ) → fit_after b n low slots count (i ∷ cs) ≡ first_fit n low slots count (i ∷ cs)
   from_first true cs = refl
   from_first false cs = refl
 
-  -- a purged one without room
-  pub fit_goes_on : is_purged (get_or slots i []) ≡ true → nat_le (low_of low slots i + count) (high_of n slots i) ≡ false → fit_after seen n low slots count (rest i) ≡ whole
+  -- one without room
+  pub fit_goes_on : is_purged (get_or slots i []) ≡ true → pick i ≡ true → nat_le (low_of low slots i + count) (high_of n slots i) ≡ false → fit_after seen n low slots count (rest i) ≡ whole
       → fit_after true n low slots count (rest (i + 1)) ≡ whole
-  fit_goes_on on off so_far =
+  fit_goes_on on is off so_far =
       sym (ap (fit_after true n low slots count) next_place)
-      ∙ sym (ap (λ (b : Bool). if b then At i (low_of low slots i) else first_fit n low slots count (purged_from (suc i) (drop (i + 1) (take r slots)) ++ tail)) off)
-      ∙ sym (from_first seen (purged_from (suc i) (drop (i + 1) (take r slots)) ++ tail)) ∙ sym (ap (fit_after seen n low slots count) (step true on)) ∙ so_far
+      ∙ sym (ap (λ (b : Bool). if b then At i (low_of low slots i) else first_fit n low slots count (filter pick later)) off)
+      ∙ sym (from_first seen (filter pick later)) ∙ sym (ap (fit_after seen n low slots count) (picked on is)) ∙ so_far
 
-  -- a purged one with room
-  pub fit_found : is_purged (get_or slots i []) ≡ true → nat_le (low_of low slots i + count) (high_of n slots i) ≡ true → fit_after seen n low slots count (rest i) ≡ whole → At i (low_of low slots i) ≡ whole
-  fit_found on is so_far =
-      sym (ap (λ (b : Bool). if b then At i (low_of low slots i) else first_fit n low slots count (purged_from (suc i) (drop (i + 1) (take r slots)) ++ tail)) is)
-      ∙ sym (from_first seen (purged_from (suc i) (drop (i + 1) (take r slots)) ++ tail)) ∙ sym (ap (fit_after seen n low slots count) (step true on)) ∙ so_far
+  -- one with room
+  pub fit_found : is_purged (get_or slots i []) ≡ true → pick i ≡ true → nat_le (low_of low slots i + count) (high_of n slots i) ≡ true → fit_after seen n low slots count (rest i) ≡ whole → At i (low_of low slots i) ≡ whole
+  fit_found on is room so_far =
+      sym (ap (λ (b : Bool). if b then At i (low_of low slots i) else first_fit n low slots count (filter pick later)) room)
+      ∙ sym (from_first seen (filter pick later)) ∙ sym (ap (fit_after seen n low slots count) (picked on is)) ∙ so_far

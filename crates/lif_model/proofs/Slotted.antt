@@ -9,10 +9,10 @@ use Rattle.lif_model.specs.Tape.{Tape, IsTape, record_at}
 use Rattle.lif_model.specs.Header.{directory_start, directory_length, directory_end, capacity_of}
 use Rattle.lif_model.specs.Directory.{is_end, entries_from, before_end, slots_of}
 use Rattle.lif_model.specs.Made.{with_type}
-use Rattle.lif_model.specs.Legal.{is_live_named, has_file, IsLegal}
+use Rattle.lif_model.specs.Legal.{is_live_named, place_named, has_file, IsLegal}
 use Rattle.lif_model.specs.Volume.{Volume, IsVolume, volume_in}
 use Rattle.lif_model.specs.Apply.{with_slot}
-use Rattle.lif_model.specs.Writing.{slot_record, entry_from, entry_on, SlotWrites, with_slots, ended_behind, last_slot, place_named}
+use Rattle.lif_model.specs.Writing.{slot_record, entry_from, entry_on, SlotWrites, with_slots, ended_behind, last_slot}
 use Rattle.lif_model.proofs.Made.{typed_type, typed_size}
 use Rattle.lif_model.proofs.Slots.{readable_tells, HasNew, before_insert, insert_new, push_new}
 use Rattle.lif_model.proofs.Adopted.{position_tells, with_slot_at}
@@ -61,7 +61,7 @@ is_on n u v is e =
 -- ---- the slot behind the last
 
 -- a write of an end behind slot k leaves every other slot
-ended_other : (capacity : ℕ) (u : Tape) (k j : ℕ) (old : List ℕ) → j ≢ k → last_written (ended_behind capacity u k) j old ≡ old
+pub ended_other : (capacity : ℕ) (u : Tape) (k j : ℕ) (old : List ℕ) → j ≢ k → last_written (ended_behind capacity u k) j old ≡ old
 ended_other capacity u k j old ne = go (nat_lt k capacity)
   where
     go : (b : Bool) → last_written (if b then (k, with_type 0xFFFF (entry_on u k)) ∷ [] else []) j old ≡ old
@@ -75,7 +75,7 @@ ended_is capacity u k old lt =
     ap (λ (b : Bool). last_written (if b then (k, with_type 0xFFFF (entry_on u k)) ∷ [] else []) k old) (lt-ltb k capacity lt)
     ∙ ap (λ (b : Bool). if b then with_type 0xFFFF (entry_on u k) else old) (eq-eqb k k refl)
 
-ended_entries : (capacity : ℕ) (u : Tape) (k : ℕ) → ((j : ℕ) → j < capacity → length (entry_on u j) ≡ 32)
+pub ended_entries : (capacity : ℕ) (u : Tape) (k : ℕ) → ((j : ℕ) → j < capacity → length (entry_on u j) ≡ 32)
     → AreEntries capacity (ended_behind capacity u k)
 ended_entries capacity u k sizes = elim (cases_lt k capacity) [
   | inl lt ↦ subst (λ (b : Bool). AreEntries capacity (if b then (k, with_type 0xFFFF (entry_on u k)) ∷ [] else [])) (sym (lt-ltb k capacity lt)) (lt, typed_size 0xFFFF (entry_on u k) ∙ sizes k lt, tt)
@@ -129,7 +129,7 @@ module _ (n : ℕ) (t : Tape) (v : Volume) (on : IsOn n t v) where
   fits : start + room ≤ n
   fits = omega (arith, on.ends)
 
-  on_header : (k : ℕ) → entry_from t start k ≡ entry_on t k
+  pub on_header : (k : ℕ) → entry_from t start k ≡ entry_on t k
   on_header k = ap (λ (h : List ℕ). entry_from t (directory_start h) k) on.header
 
   -- each slot is where it stands on the tape

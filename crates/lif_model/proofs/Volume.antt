@@ -41,10 +41,10 @@ bytes_agree x y k (suc n) same =
 pub content_agree : (x y : Tape) (slot : List ℕ) → ((k : ℕ) → holds k slot ≡ true → record_at x k ≡ record_at y k) → content_of x slot ≡ content_of y slot
 content_agree x y slot same = bytes_agree x y (start_of slot) (length_of slot) (λ j le lt. same j (and_from _ _ (le-leb (start_of slot) j le) (lt-ltb j (end_of slot) lt)))
 
-abbrev entries_at : ℕ → Tape → List (List ℕ) → List (List ℕ × List ℕ)
+abbrev pub entries_at : ℕ → Tape → List (List ℕ) → List (List ℕ × List ℕ)
 entries_at n tape slots = map (λ slot. (name_of slot, content_of tape slot)) (filter (is_file n) slots)
 
-map_agrees : (n : ℕ) (x y : Tape) (slots : List (List ℕ)) → ((k : ℕ) → list_any (λ slot. is_file n slot && holds k slot) slots ≡ true → record_at x k ≡ record_at y k)
+pub map_agrees : (n : ℕ) (x y : Tape) (slots : List (List ℕ)) → ((k : ℕ) → list_any (λ slot. is_file n slot && holds k slot) slots ≡ true → record_at x k ≡ record_at y k)
     → entries_at n x slots ≡ entries_at n y slots
 map_agrees n x y [] same = refl
 map_agrees n x y (slot ∷ slots) same =

@@ -17,7 +17,7 @@ use Rattle.lif_model.proofs.History.{record_behind}
 
 -- ---- one entry of one record
 
-entry_byte : (bytes : List ℕ) (k i : ℕ) → i < 32 → get_or (entry_at bytes k) i 0 ≡ get_or bytes (32 * k + i) 0
+pub entry_byte : (bytes : List ℕ) (k i : ℕ) → i < 32 → get_or (entry_at bytes k) i 0 ≡ get_or bytes (32 * k + i) 0
 unfolding entry_at
 entry_byte bytes k i lt = get_or-take 32 (drop (32 * k) bytes) i 0 lt ∙ get_or-drop (32 * k) bytes i 0
 
@@ -91,7 +91,7 @@ untouched start room (w ∷ ws) k are out = (λ e. apart e out, untouched start 
     apart e (inr behind) = absurd (omega (arith, e, behind, are.0))
 
 -- the bytes of record k behind the writes
-abbrev rewritten : ℕ → SlotWrites → ℕ → List ℕ → List ℕ
+abbrev pub rewritten : ℕ → SlotWrites → ℕ → List ℕ → List ℕ
 rewritten start [] k bytes = bytes
 rewritten start (w ∷ ws) k bytes = rewritten start ws k (if slot_record start w.0 == k then with_entry bytes (w.0 % 8) w.1 else bytes)
 
@@ -107,7 +107,7 @@ module _ (start : ℕ) where
   length_slots [] t = refl
   length_slots (w ∷ ws) t = length_slots ws (set t (slot_record start w.0) (with_entry (record_at t (slot_record start w.0)) (w.0 % 8) w.1)) ∙ length-set t (slot_record start w.0) _
 
-  slots_record : (ws : SlotWrites) (t : Tape) (k : ℕ) → k < length t → record_at (with_slots start ws t) k ≡ rewritten start ws k (record_at t k)
+  pub slots_record : (ws : SlotWrites) (t : Tape) (k : ℕ) → k < length t → record_at (with_slots start ws t) k ≡ rewritten start ws k (record_at t k)
   slots_record [] t k lt = refl
   slots_record (w ∷ ws) t k lt =
       let r : ℕ = slot_record start w.0 in
@@ -291,7 +291,7 @@ others_untouched start (w ∷ ws) k others = (others.0, others_untouched start w
 -- ---- what the changes make
 
 -- each of these records as on u makes u of a tape that differs from it in no other record
-changed_to : (ks : List ℕ) (u t : Tape) → length u ≡ length t → ((k : ℕ) → k < length t → AreOther ks k → record_at u k ≡ record_at t k)
+pub changed_to : (ks : List ℕ) (u t : Tape) → length u ≡ length t → ((k : ℕ) → k < length t → AreOther ks k → record_at u k ≡ record_at t k)
     → changed (records_on u ks) t ≡ u
 changed_to [] u t size same = sym (ext_get_or [] u t size (λ k lt. same k (omega (arith, lt, size)) tt))
 changed_to (j ∷ ks) u t size same = changed_to ks u (set t j (record_at u j)) (size ∙ sym (length-set t j (record_at u j))) (λ k lt others. elim (cases_eq k j) [

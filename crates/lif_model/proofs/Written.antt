@@ -12,11 +12,11 @@ use Rattle.lif_model.specs.Made.{with_name, with_type}
 use Rattle.lif_model.specs.declared.version.Version.{Version}
 use Rattle.lif_model.specs.declared.version.Version.TheVariants.{One, Two}
 use Rattle.lif_model.specs.Redo.{redo_start, changed}
-use Rattle.lif_model.specs.Legal.{is_live_named, has_file, is_legal_with, is_legal, IsLegal}
+use Rattle.lif_model.specs.Legal.{is_live_named, place_named, has_file, is_legal_with, is_legal, IsLegal}
 use Rattle.lif_model.specs.Volume.{redo_name, redo_type, redo_entry, upgraded_entry, is_redo_entry, is_adopted_with, is_redo_file, is_adopted, Files, files_of, Volume, volume_in, IsAdopted}
 use Rattle.lif_model.specs.Fit.{redo_place}
 use Rattle.lif_model.specs.Apply.{Purge, Rename, Adopt, Upgrade, IsWellFormed, is_protected, is_upgraded, checks_of, refusal_of, with_slot, moved_key, renamed, upgraded, volume_after}
-use Rattle.lif_model.specs.Writing.{entry_on, last_slot, place_named, changed_slot, SlotWrites, with_slots, changes_by, written_by}
+use Rattle.lif_model.specs.Writing.{entry_on, last_slot, changed_slot, SlotWrites, with_slots, changes_by, written_by}
 use Rattle.lif_model.proofs.Lists.{any_at, any_from}
 use Rattle.lif_model.proofs.Legal.{legal_from}
 use Rattle.lif_model.proofs.Slots.{live_named_tells, push_new}

@@ -1,6 +1,6 @@
 -- The choice of a place for a new file on an adopted volume, which is this project's own rule.
-use Rattle.std.specs.Prelude.{◌+◌, ◌++◌, ◌&&◌, ◌==◌, if◌then◌else◌, nat_lt, nat_le, max, min, ℕ, suc, Bool, List, [], ◌∷◌, length, take, drop}
-use Rattle.std.specs.List.{position_or_len}
+use Rattle.std.specs.Prelude.{◌+◌, ◌++◌, ◌&&◌, ◌==◌, if◌then◌else◌, nat_lt, nat_le, nat_eq, not, max, min, ℕ, suc, Bool, List, [], ◌∷◌, length, take, drop, filter}
+use Rattle.std.specs.List.{position_or_len, list_any}
 use Rattle.lif_model.specs.Gate.{gate_of}
 use Rattle.lif_model.specs.Header.{directory_end, capacity_of}
 use Rattle.lif_model.specs.Directory.{start_of, is_purged}
@@ -72,5 +72,13 @@ fit_among n directory_end slots count (i ∷ rest) = first_fit n directory_end s
 abbrev pub fit : ℕ → ℕ → ℕ → List (List ℕ) → ℕ → Place
 fit n directory_end capacity slots count = fit_among n directory_end slots count (candidates capacity slots)
 
+-- the same, where these slots are no candidates
+abbrev pub fit_beside : ℕ → ℕ → ℕ → List (List ℕ) → List ℕ → ℕ → Place
+fit_beside n directory_end capacity slots barred count =
+    fit_among n directory_end slots count (filter (λ i. not (list_any (nat_eq i) barred)) (candidates capacity slots))
+
 abbrev pub fit_in : ℕ → Volume → ℕ → Place
 fit_in n v count = fit n (directory_end v.header) (capacity_of v.header) v.slots count
+
+abbrev pub fit_beside_in : ℕ → Volume → List ℕ → ℕ → Place
+fit_beside_in n v barred count = fit_beside n (directory_end v.header) (capacity_of v.header) v.slots barred count

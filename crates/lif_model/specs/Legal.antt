@@ -1,6 +1,6 @@
 -- Legal volumes: which extents and names the live files of a directory may have (the LIF directory format).
 use Rattle.std.specs.Prelude.{◌≡◌, ◌≢◌, ◌⊎◌, ◌<◌, ◌≤◌, ◌+◌, ◌&&◌, ◌||◌, nat_lt, nat_le, not, ℕ, Bool, true, List, [], length, get_or, filter, find, Option}
-use Rattle.std.specs.List.{list_all, list_any}
+use Rattle.std.specs.List.{list_all, list_any, position_or_len}
 use Rattle.std.specs.Str.{bytes_eq}
 use Rattle.lif_model.specs.Tape.{Tape, record_at}
 use Rattle.lif_model.specs.Header.{directory_end, is_readable}
@@ -52,6 +52,10 @@ have_other_names a b = not (bytes_eq (name_of a) (name_of b))
 -- a live file of that name
 abbrev pub has_file : List (List ℕ) → List ℕ → Bool
 has_file slots name = list_any (is_live_named name) slots
+
+-- the place of the first live slot of that name
+abbrev pub place_named : List ℕ → List (List ℕ) → ℕ
+place_named name slots = position_or_len (is_live_named name) slots
 
 -- the live slot of that name; in a legal directory there is at most one
 abbrev pub slot_named : List (List ℕ) → List ℕ → Option (List ℕ)

@@ -14,6 +14,7 @@ pub mod Redo
 pub mod Legal
 pub mod Volume
 pub mod Fit
+pub mod Parts
 pub mod Apply
 pub mod Writing
 pub mod Commit

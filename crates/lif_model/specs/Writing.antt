@@ -1,18 +1,20 @@
 -- What each command writes on a tape of n records: slots of the directory, the records that these
 -- touch, and the records of a file.
-use Rattle.std.specs.Prelude.{◌≡◌, ◌⊎◌, ◌<◌, ◌≤◌, ◌+◌, ◌*◌, ◌/◌, ◌%◌, ◌++◌, nat_eq, nat_lt, not, if◌then◌else◌, ℕ, suc, List, [], ◌∷◌, length, take, drop, get_or, set, map, filter}
-use Rattle.std.specs.List.{position_or_len}
+use Rattle.std.specs.Prelude.{◌≡◌, ◌⊎◌, ◌+◌, ◌*◌, ◌/◌, ◌%◌, ◌++◌, nat_eq, nat_lt, not, Bool, if◌then◌else◌, ℕ, suc, List, [], ◌∷◌, length, take, drop, get_or, set, map, filter}
 use Rattle.std.specs.Str.{bytes_eq}
+use Rattle.std.specs.Cmp.Lexicographic.{pointwise}
 use Rattle.lif_model.specs.Tape.{Tape, record_at}
 use Rattle.lif_model.specs.Header.{directory_start, capacity_of}
 use Rattle.lif_model.specs.Directory.{entry_at}
 use Rattle.lif_model.specs.Made.{new_entry, with_name, with_type, first_directory_record, fresh_header, records_for_slots, file_length, file_records}
 use Rattle.lif_model.specs.declared.version.Version.TheVariants.{One}
 use Rattle.lif_model.specs.Redo.{Changes, changed}
-use Rattle.lif_model.specs.Legal.{is_live_named}
+use Rattle.lif_model.specs.Legal.{is_live, place_named}
 use Rattle.lif_model.specs.Volume.{Volume, redo_name, redo_entry, upgraded_entry, is_adopted}
 use Rattle.lif_model.specs.Fit.{Place, At, NoSlot, redo_place, fit_in}
-use Rattle.lif_model.specs.Apply.{VolumeCommand, Store, Rename, Purge, Adopt, Upgrade, Format, is_upgraded}
+use Rattle.lif_model.specs.Parts.{Part}
+use Rattle.lif_model.specs.Parts as part
+use Rattle.lif_model.specs.Apply.{VolumeCommand, Store, Rename, Purge, Adopt, Upgrade, Batch, Format, is_upgraded, Midway, before_parts, part_place, after_part, after_parts}
 
 -- ---- slots as they stand on a tape (the LIF directory format: eight entries in a record)
 
@@ -66,10 +68,6 @@ changes_by start writes tape = records_on (with_slots start writes tape) (touche
 
 -- ---- the slots that a command writes
 
--- the place of the live slot of a name
-abbrev pub place_named : List ℕ → List (List ℕ) → ℕ
-place_named name slots = position_or_len (is_live_named name) slots
-
 -- slot k ends the directory and keeps its other bytes, where the directory has room for it
 abbrev pub ended_behind : ℕ → Tape → ℕ → SlotWrites
 ended_behind capacity tape k =
@@ -91,20 +89,81 @@ abbrev pub changed_slot : List ℕ → (List ℕ → List ℕ) → List (List �
 changed_slot name change slots =
     (place_named name slots, change (get_or slots (place_named name slots) [])) ∷ []
 
--- what a command writes of the directory; a store's place is handed in, since commands that change
--- the directory at once each have a place of their own
-abbrev pub slot_writes : ℕ → VolumeCommand → Volume → Place → Tape → SlotWrites
-slot_writes n (Store name kind implementation bytes) v (At i start) tape =
+-- what a part of a batch, or a command by itself, writes of the directory, where a store has that place
+abbrev pub part_writes : Part → Volume → Place → Tape → SlotWrites
+part_writes (part.Store name kind implementation bytes) v (At i start) tape =
     stored_writes v i (new_entry name kind start (file_length bytes) implementation) tape
-slot_writes n (Rename old new) v place tape =
+part_writes (part.Store name kind implementation bytes) v place tape = []
+part_writes (part.Rename old new) v place tape =
     if bytes_eq old new then [] else changed_slot old (with_name new) v.slots
-slot_writes n (Purge name) v place tape = changed_slot name (with_type 0) v.slots
+part_writes (part.Purge name) v place tape = changed_slot name (with_type 0) v.slots
+
+-- what the parts write, one part after the other
+abbrev pub parts_writes : ℕ → List Part → Midway → Tape → SlotWrites
+parts_writes n [] m tape = []
+parts_writes n (p ∷ parts) m tape =
+    part_writes p m.volume (part_place n m p) tape ++ parts_writes n parts (after_part n p m) tape
+
+-- the slots before and after are the same, byte by byte
+abbrev pub same_slots : List (List ℕ) → List (List ℕ) → Bool
+same_slots old new = pointwise bytes_eq old new
+
+-- nothing, where the slots after all parts are those before
+abbrev pub batch_writes : ℕ → List Part → Volume → Tape → SlotWrites
+batch_writes n parts v tape =
+    if same_slots v.slots (after_parts n parts (before_parts v)).volume.slots then []
+    else parts_writes n parts (before_parts v) tape
+
+-- what a command writes of the directory; a store's place is handed in
+abbrev pub slot_writes : ℕ → VolumeCommand → Volume → Place → Tape → SlotWrites
+slot_writes n (Store name kind implementation bytes) v place tape =
+    part_writes (part.Store name kind implementation bytes) v place tape
+slot_writes n (Rename old new) v place tape = part_writes (part.Rename old new) v place tape
+slot_writes n (Purge name) v place tape = part_writes (part.Purge name) v place tape
 slot_writes n Adopt v place tape =
     if is_adopted n v.slots then []
     else last_slot (capacity_of v.header) tape (length v.slots) (redo_entry One n)
 slot_writes n Upgrade v place tape =
     if is_upgraded n v then [] else changed_slot redo_name (upgraded_entry n) v.slots
+slot_writes n (Batch parts) v place tape = batch_writes n parts v tape
 slot_writes n command v place tape = []
+
+-- ---- the files that a command writes
+
+-- a file's slot, its first record and its bytes
+pub record NewFile : Type 0 where
+  pub slot : ℕ
+  pub start : ℕ
+  pub bytes : List ℕ
+
+-- of a store, at that place
+abbrev pub part_files : Part → Place → List NewFile
+part_files (part.Store name kind implementation bytes) (At i start) =
+    record { slot = i; start = start; bytes = bytes } ∷ []
+part_files (part.Store name kind implementation bytes) place = []
+part_files (part.Rename old new) place = []
+part_files (part.Purge name) place = []
+
+-- of all parts, in their order
+abbrev pub parts_files : ℕ → List Part → Midway → List NewFile
+parts_files n [] m = []
+parts_files n (p ∷ parts) m = part_files p (part_place n m p) ++ parts_files n parts (after_part n p m)
+
+-- the file's slot is live among these
+abbrev pub is_left_in : List (List ℕ) → NewFile → Bool
+is_left_in slots file = is_live (get_or slots file.slot [])
+
+-- those whose slot is live after all parts
+abbrev pub files_left : ℕ → List Part → Volume → List NewFile
+files_left n parts v =
+    filter (is_left_in (after_parts n parts (before_parts v)).volume.slots) (parts_files n parts (before_parts v))
+
+-- those of a command; a store's place is handed in
+abbrev pub files_written : ℕ → VolumeCommand → Volume → Place → List NewFile
+files_written n (Store name kind implementation bytes) v place =
+    part_files (part.Store name kind implementation bytes) place
+files_written n (Batch parts) v place = files_left n parts v
+files_written n command v place = []
 
 -- ---- the tape that a command makes
 
@@ -113,17 +172,14 @@ abbrev pub with_records : ℕ → List (List ℕ) → Tape → Tape
 with_records first [] tape = tape
 with_records first (r ∷ rs) tape = with_records (suc first) rs (set tape first r)
 
--- the tape with the file of a store; every other command leaves it
-abbrev pub with_file : VolumeCommand → Place → Tape → Tape
-with_file (Store name kind implementation bytes) (At i start) tape =
-    with_records start (file_records bytes) tape
-with_file command place tape = tape
+-- the tape with these files, one after the other
+abbrev pub with_files : List NewFile → Tape → Tape
+with_files [] tape = tape
+with_files (file ∷ files) tape = with_files files (with_records file.start (file_records file.bytes) tape)
 
--- record k is one of the file of a store
-abbrev pub IsFileRecord : VolumeCommand → Place → ℕ → Type 0
-IsFileRecord (Store name kind implementation bytes) (At i start) k =
-    (start ≤ k) × (k < start + file_length bytes)
-IsFileRecord command place k = ⊥
+-- the tape with the files of a command
+abbrev pub with_file : ℕ → VolumeCommand → Volume → Place → Tape → Tape
+with_file n command v place tape = with_files (files_written n command v place) tape
 
 -- what `format` writes of any tape: record 0, and the first record of a directory whose only slot
 -- is the redo entry
@@ -138,10 +194,10 @@ changes_at n (Format label slots) v place tape = format_changes n label slots
 changes_at n command v place tape =
     changes_by (directory_start v.header) (slot_writes n command v place tape) tape
 
--- the file first, and then the changes
+-- the files first, and then the changes
 abbrev pub written_at : ℕ → VolumeCommand → Volume → Place → Tape → Tape
 written_at n command v place tape =
-    changed (changes_at n command v place tape) (with_file command place tape)
+    changed (changes_at n command v place tape) (with_file n command v place tape)
 
 -- the place of a store
 abbrev pub chosen_place : ℕ → VolumeCommand → Volume → Place

@@ -34,6 +34,10 @@ pub const ENTRIES: usize = 8;
 /// The number of bytes on the largest medium, a disc.
 pub const MOST_BYTES: usize = 630_784;
 
+/// How many parts a batch has at most: with the redo entry they touch at most 32 records of a
+/// directory, which is what one commit changes.
+pub const MOST_PARTS: usize = 31;
+
 /// The name of the redo file, with its spaces.
 pub const REDO_NAME: &[u8; 10] = b"REDOFILE  ";
 

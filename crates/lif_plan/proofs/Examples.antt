@@ -13,7 +13,7 @@ use Rattle.lif_model.specs.Made.{with_type, new_entry, fresh_header}
 use Rattle.lif_model.specs.declared.version.Version.TheVariants.{One, Two}
 use Rattle.lif_model.specs.Volume.{Volume, redo_name}
 use Rattle.lif_model.specs.Fit.{At, fit, fit_in}
-use Rattle.lif_model.specs.Apply.{VolumeCommand, Dir, Store, Rename, Purge, Adopt, Upgrade, refusal_of, fresh_volume, Format}
+use Rattle.lif_model.specs.Apply.{VolumeCommand, Dir, Store, Rename, Purge, Adopt, Upgrade, first_met, store_checks, fresh_volume, Format}
 use Rattle.lif_model.specs.declared.refusal.Refusal.TheVariants as refusal
 use Rattle.lif_model.proofs.Apply.{format_is_adopted}
 use Rattle.lif_model.proofs.Examples as base
@@ -106,11 +106,11 @@ not_name_free free = let there : true ≡ false = free.none_named in cc
 
 name_refused : IsNewName 12 a_name (a_file ∷ redo_one ∷ []) (Err refusal.Exists)
 unfolding four_at two_at name_of
-name_refused = record { refused = λ v same kind implementation bytes. ap (λ (slots : List (List ℕ)). refusal_of 12 (Store a_name kind implementation bytes) (Some (record v { slots = slots }))) same; known = refl }
+name_refused = record { refused = λ v same place. ap (λ (slots : List (List ℕ)). first_met (store_checks 12 (record v { slots = slots }) a_name place)) same; known = refl }
 
 not_name_refused : IsNameRefused 12 b_name (a_file ∷ redo_one ∷ []) refusal.Exists → ⊥
 unfolding four_at two_at name_of
-not_name_refused is = let no : refusal_of 12 (Store b_name 1 (replicate 4 0) (replicate 256 7)) (Some (with (a_file ∷ redo_one ∷ []))) ≡ Some refusal.Exists = is.refused (with (a_file ∷ redo_one ∷ [])) refl 1 (replicate 4 0) (replicate 256 7) in cc
+not_name_refused is = let no : first_met (store_checks 12 (with (a_file ∷ redo_one ∷ [])) b_name (At 1 5)) ≡ Some refusal.Exists = is.refused (with (a_file ∷ redo_one ∷ [])) refl (At 1 5) in cc
 
 -- a purged slot before the redo entry, or its own, where the directory has room for one more
 may_take : MayTake 16 (purged a_file ∷ redo_one ∷ []) 0 × MayTake 16 (a_file ∷ redo_one ∷ []) 1
@@ -194,7 +194,7 @@ not_refused plan = let kept : false ≡ true = plan.known in cc
 -- the volume is adopted already
 nothing : IsPlan 12 Adopt header (a_file ∷ redo_one ∷ []) (Ok None)
 unfolding four_at two_at name_of
-nothing = leaves (λ v is. refl) (λ v is u. refl) (λ v is. refl)
+nothing = leaves tt (λ v is. refl) (λ v is u. refl) (λ v is. refl)
 
 not_nothing : IsPlan 12 (Purge redo_name) header (redo_one ∷ []) (Ok None) → ⊥
 unfolding four_at two_at name_of new_entry
@@ -205,7 +205,7 @@ without_a = record { version = One; slot = 0; entry = entry_from (purged a_file)
 
 changed : IsPlan 12 (Purge a_name) header (a_file ∷ redo_one ∷ []) (Ok (Some without_a))
 unfolding four_at two_at name_of with_type date_of implementation_of
-changed = makes without_a refl (record { place = omega arith; within = omega arith; kind = λ no. absurd (omega (arith, no)); next = tt; end_within = λ no. cc }) tt
+changed = makes without_a refl (record { place = omega arith; within = omega arith; kind = λ no. absurd (omega (arith, no)); next = tt; end_within = λ no. cc; end_there = λ more room. absurd (omega (arith, more)) }) tt
     (λ v is. refl) (λ v is. refl) (λ v is u told. refl) (λ v is. refl)
 
 -- a slot that is not there, and a file that is refused

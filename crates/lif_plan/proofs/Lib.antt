@@ -3,5 +3,9 @@ pub mod Found
 pub mod Planning
 mod Formats
 mod Taking
+mod PartPlans
+mod BatchPlans
+mod Remembered
 mod Chosen
 mod Examples
+mod BatchExamples

@@ -16,8 +16,8 @@ use Rattle.lif_model.specs.declared.version.Version.TheVariants.{One, Two}
 use Rattle.lif_model.specs.Redo.{redo_start}
 use Rattle.lif_model.specs.Pairs.{all_pairs}
 use Rattle.lif_model.specs.Legal.{is_live, is_live_named, occupies, has_file, slot_named, have_other_names, end_of}
-use Rattle.lif_model.specs.Volume.{Volume, IsVolume, volume_in, redo_name, is_redo_entry, is_redo_file, is_adopted_with, is_adopted}
-use Rattle.lif_model.specs.Apply.{VolumeCommand, IsWellFormed, Dir, Label, Fetch, Store, Rename, Purge, Adopt, Upgrade, Format, refusal_of, with_slot, volume_after}
+use Rattle.lif_model.specs.Volume.{Volume, IsVolume, redo_name, is_redo_entry, is_redo_file, is_adopted_with, is_adopted}
+use Rattle.lif_model.specs.Apply.{VolumeCommand, IsWellFormed, Dir, Label, Fetch, Store, Rename, Purge, Adopt, Upgrade, Batch, Format, refusal_of, with_slot, volume_after}
 use Rattle.lif_model.specs.declared.refusal.Refusal.{Refusal}
 use Rattle.lif_model.specs.Writing.{entry_from, ended_behind, changed_slot, changes_of, slot_writes, chosen_place}
 use Rattle.lif_model.proofs.Lists.{any_at, any_from}
@@ -73,6 +73,7 @@ version_agrees n version (Rename old later) v is adopted = version_is_redo n ver
 version_agrees n version (Purge name) v is adopted = version_is_redo n version v is adopted
 version_agrees n version Adopt v is both = ap (λ (b : Bool). if b then Two else One) (lacks_two n v.slots both.1) ∙ sym both.0
 version_agrees n version Upgrade v is both = version_is_redo n One v is both.1 ∙ sym both.0
+version_agrees n version (Batch parts) v is adopted = version_is_redo n version v is adopted
 version_agrees n version (Format label slots) v is never = absurd never
 
 pub version_tells : (n : ℕ) (slots : List (List ℕ)) (r : Option Version) → IsVersionOf n slots r → is_adopted n slots ≡ is_some r
@@ -126,9 +127,10 @@ module _ {n : ℕ} {command : VolumeCommand} {header : HeaderParts} {slots : Lis
   pub refuses : {why : Refusal} → keeps_behind why ≡ true → Holds n header slots (λ v. refusal_of n command (Some v) ≡ Some why) → RefusesAs n command header slots why
   refuses {why} known refused = record { refused = of_slots (λ v. refusal_of n command (Some v) ≡ Some why) refused; known = known }
 
-  pub leaves : Holds n header slots (λ v. refusal_of n command (Some v) ≡ None) → Holds n header slots (λ v. (u : Tape) → changes_of n command v u ≡ []) → Holds n header slots (λ v. volume_after n command v ≡ v)
+  pub leaves : IsWellFormed command → Holds n header slots (λ v. refusal_of n command (Some v) ≡ None) → Holds n header slots (λ v. (u : Tape) → changes_of n command v u ≡ []) → Holds n header slots (λ v. volume_after n command v ≡ v)
       → ChangesNothing n command header slots
-  leaves free nothing same = record {
+  leaves formed free nothing same = record {
+    formed = formed;
     free = of_slots (λ v. refusal_of n command (Some v) ≡ None) free;
     nothing = of_slots (λ v. (u : Tape) → changes_of n command v u ≡ []) nothing;
     same = of_slots (λ v. volume_after n command v ≡ v) same;
@@ -136,7 +138,7 @@ module _ {n : ℕ} {command : VolumeCommand} {header : HeaderParts} {slots : Lis
 
   pub makes : (c : Change) → IsWellFormed command → FitsIn (8 * header.length) (length slots) c → PlacesFileOf n command header slots c
       → Holds n header slots (λ v. refusal_of n command (Some v) ≡ None) → Holds n header slots (CommitsWith n c.version command)
-      → Holds n header slots (λ v. (u : Tape) → volume_in u ≡ Some v → slot_writes n command v (chosen_place n command v) u ≡ change_writes header.start c u)
+      → Holds n header slots (λ v. (u : Tape) → directory_start (record_at u 0) ≡ header.start → slot_writes n command v (chosen_place n command v) u ≡ change_writes header.start c u)
       → Holds n header slots (λ v. (volume_after n command v).slots ≡ bytes_with c slots) → MakesChange n command header slots c
   makes c formed fits file free commits writes after = record {
     formed = formed;
@@ -144,7 +146,7 @@ module _ {n : ℕ} {command : VolumeCommand} {header : HeaderParts} {slots : Lis
     file = file;
     free = of_slots (λ v. refusal_of n command (Some v) ≡ None) free;
     commits = of_slots (CommitsWith n c.version command) commits;
-    writes = λ v is u shape. of_slots (λ v. (u : Tape) → volume_in u ≡ Some v → slot_writes n command v (chosen_place n command v) u ≡ change_writes header.start c u) writes v is u;
+    writes = of_slots (λ v. (u : Tape) → directory_start (record_at u 0) ≡ header.start → slot_writes n command v (chosen_place n command v) u ≡ change_writes header.start c u) writes;
     after = of_slots (λ v. (volume_after n command v).slots ≡ bytes_with c slots) after;
   }
 
@@ -185,6 +187,7 @@ module _ {n : ℕ} {command : VolumeCommand} {header : HeaderParts} {slots : Lis
         kind = not_end_kind entry widths (ap is_end bytes ∙ keeps (get_or slots p []) (legal.shape.entries p here.0) (legal.shape.kinds p here.0));
         next = tt;
         end_within = λ on. let no : false ≡ true = on in cc;
+        end_there = λ more room. absurd (omega (arith, more, here.0));
       }) file free commits
       (λ v is u told. writes v is u ∙ ap (λ (k : ℕ). (k, change (get_or slots k [])) ∷ []) place ∙ ap (λ (b : List ℕ). (p, b) ∷ []) (sym bytes))
       (λ v is. after v is ∙ with_slot_at n v.header slots name change p is.volume.legal here.0 here.1 ∙ ap (set slots p) (sym bytes) ∙ sym (put_within slots p (entry_bytes entry) here.0))

@@ -1,7 +1,7 @@
 -- What a new file's entry changes of the directory.
 use Rattle.std.proofs.Common.{◌≡◌, ◌<◌, ◌++◌, ℕ, suc, zero, List, [], ◌∷◌, Bool, true, false, not, nat_eq, nat_lt, length, get_or, set, length-set, inl, inr, refl, sym, ap, ◌∙◌, arith}
 use Rattle.std.specs.Prelude.{◌≢◌, Some, None, insert}
-use Rattle.std.proofs.lemmas.Bool.{and_parts, eqb-true, ltb-true, eq-eqb, ne_eqb, cases_Bool}
+use Rattle.std.proofs.lemmas.Bool.{and_parts, eqb-true, ltb-true, lt-ltb, eq-eqb, ne_eqb, cases_Bool}
 use Rattle.lif_model.specs.Tape.{Tape, record_at}
 use Rattle.lif_model.specs.Header.{directory_start, capacity_of}
 use Rattle.lif_model.specs.Directory.{is_end}
@@ -74,6 +74,7 @@ module _ (capacity : ℕ) (slots : List (List ℕ)) (k : ℕ) (may : MayTake cap
             kind = no_end;
             next = (omega (arith, is.1, is.2), not_end_kind own widths (ap is_end bytes ∙ shape.kinds k within_slots));
             end_within = λ e. ltb-true (suc (suc k)) capacity (sym on ∙ e);
+            end_there = λ more room. on ∙ lt-ltb (suc (suc k)) capacity room;
           };
           writes = λ v u start same wide begins. rw same (rw is.0 (λ i. (k, new) ∷ (suc k, sym bytes i) ∷ end_is (capacity_of v.header) capacity start (suc (suc k)) u ended wide begins on i));
           after = rw is.0 (insert_last [] slots k new is.1 ∙ ap (λ (b : List ℕ). set slots k new ++ b ∷ []) (sym bytes)
@@ -84,7 +85,7 @@ module _ (capacity : ℕ) (slots : List (List ℕ)) (k : ℕ) (may : MayTake cap
     pub takes_purged : is_live (get_or slots k []) ≡ false → Takes capacity slots (record { version = version; slot = k; entry = entry; next = None; ended = false })
     takes_purged dead =
         let is = purged_slot dead in record {
-          fits = record { place = omega (arith, is.1); within = omega (arith, is.1, shape.few); kind = no_end; next = tt; end_within = λ e. let no : false ≡ true = e in cc };
+          fits = record { place = omega (arith, is.1); within = omega (arith, is.1, shape.few); kind = no_end; next = tt; end_within = λ e. let no : false ≡ true = e in cc; end_there = λ more room. absurd (omega (arith, more, is.1)) };
           writes = λ v u start same wide begins. rw same (rw is.0 refl);
           after = rw is.0 (sym (put_within slots k (entry_bytes entry) is.1));
         }

@@ -2,3 +2,5 @@ pub mod Entries
 pub mod Directories
 pub mod Refusals
 pub mod Plans
+pub mod Parts
+pub mod Batches

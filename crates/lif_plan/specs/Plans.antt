@@ -1,18 +1,18 @@
 -- What a command is to write of the directory, before it is written.
 use Rattle.std.specs.Prelude.{◌≡◌, ◌⊎◌, ◌<◌, ◌≤◌, ◌+◌, ◌*◌, ◌&&◌, if◌then◌else◌, nat_lt, not, ℕ, Bool, List, [], true, false, length, get_or, Option, Some, None, Result, Ok, Err}
 use Rattle.std.specs.Str.{bytes_eq}
-use Rattle.lif_model.specs.Tape.{Tape, IsTape}
+use Rattle.lif_model.specs.Tape.{Tape, record_at}
 use Rattle.lif_model.specs.Gate.{gate_of}
-use Rattle.lif_model.specs.Header.{HeaderParts, header_of}
+use Rattle.lif_model.specs.Header.{HeaderParts, directory_start, header_of}
 use Rattle.lif_model.specs.Directory.{is_purged}
 use Rattle.lif_model.specs.Made.{file_length}
 use Rattle.lif_model.specs.declared.version.Version.{Version}
 use Rattle.lif_model.specs.declared.version.Version.TheVariants.{One, Two}
 use Rattle.lif_model.specs.declared.refusal.Refusal.{Refusal}
-use Rattle.lif_model.specs.Volume.{Volume, IsVolume, redo_name, is_redo_entry, is_redo_file, is_adopted_with, is_adopted, volume_in}
+use Rattle.lif_model.specs.Volume.{Volume, IsVolume, redo_name, is_redo_entry, is_redo_file, is_adopted_with, is_adopted}
 use Rattle.lif_model.specs.Legal.{occupies, end_of, has_file}
-use Rattle.lif_model.specs.Fit.{At, redo_place, can_append}
-use Rattle.lif_model.specs.Apply.{VolumeCommand, IsWellFormed, Store, Rename, Purge, Adopt, Upgrade, Format, refusal_of, volume_after}
+use Rattle.lif_model.specs.Fit.{Place, At, redo_place, can_append, fit_in}
+use Rattle.lif_model.specs.Apply.{VolumeCommand, IsWellFormed, Dir, Label, Fetch, Store, Rename, Purge, Adopt, Upgrade, Batch, Format, first_met, store_checks, refusal_of, volume_after}
 use Rattle.lif_model.specs.Writing.{slot_writes, chosen_place, changes_of}
 use Rattle.lif_dir.specs.declared.change.Change.{Change}
 use Rattle.lif_dir.specs.Changes.{FitsIn, change_writes, bytes_with}
@@ -45,6 +45,7 @@ abbrev pub CommitsWith : ℕ → Version → VolumeCommand → Volume → Type 0
 CommitsWith n version (Store name kind implementation bytes) v = is_adopted_with n version v.slots ≡ true
 CommitsWith n version (Rename old later) v = is_adopted_with n version v.slots ≡ true
 CommitsWith n version (Purge name) v = is_adopted_with n version v.slots ≡ true
+CommitsWith n version (Batch parts) v = is_adopted_with n version v.slots ≡ true
 CommitsWith n version Adopt v = (version ≡ One) × (is_adopted n v.slots ≡ false)
 CommitsWith n version Upgrade v = (version ≡ One) × (is_adopted_with n One v.slots ≡ true)
 CommitsWith n version command v = ⊥
@@ -55,10 +56,9 @@ reaches_past n limit slot = occupies slot && (not (is_redo_file n slot) && nat_l
 
 -- ---- the name of a new file
 
--- a store of that name is refused, whatever it stores
+-- a store of that name is refused, whatever its place
 pub record IsNameRefused (n : ℕ) (name : List ℕ) (slots : List (List ℕ)) (why : Refusal) : Type 0 where
-  pub refused : (v : Volume) → v.slots ≡ slots → (kind : ℕ) (implementation bytes : List ℕ)
-      → refusal_of n (Store name kind implementation bytes) (Some v) ≡ Some why
+  pub refused : (v : Volume) → v.slots ≡ slots → (place : Place) → first_met (store_checks n v name place) ≡ Some why
   pub known : keeps_behind why ≡ true
 
 -- no test of the name refuses it, and the volume is adopted with that version
@@ -94,22 +94,31 @@ pub record RefusesAs (n : ℕ) (command : VolumeCommand) (header : HeaderParts) 
 
 -- it changes nothing
 pub record ChangesNothing (n : ℕ) (command : VolumeCommand) (header : HeaderParts) (slots : List (List ℕ)) : Type 0 where
+  pub formed : IsWellFormed command
   pub free : (v : Volume) → IsVolumeWith n header slots v → refusal_of n command (Some v) ≡ None
   pub nothing : (v : Volume) → IsVolumeWith n header slots v → (u : Tape) → changes_of n command v u ≡ []
   pub same : (v : Volume) → IsVolumeWith n header slots v → volume_after n command v ≡ v
 
 -- the file of a new entry goes to its place: behind the directory, and before the redo file
-pub record PlacesFile (n : ℕ) (command : VolumeCommand) (bytes : List ℕ) (header : HeaderParts) (slots : List (List ℕ)) (change : Change) : Type 0 where
-  pub chosen : (v : Volume) → IsVolumeWith n header slots v → chosen_place n command v ≡ At change.slot change.entry.start
+pub record PlacesFile (n : ℕ) (place : Volume → Place) (bytes : List ℕ) (header : HeaderParts) (slots : List (List ℕ)) (change : Change) : Type 0 where
+  pub chosen : (v : Volume) → IsVolumeWith n header slots v → place v ≡ At change.slot change.entry.start
   pub count : change.entry.length ≡ file_length bytes
   pub low : header.start + header.length ≤ change.entry.start
   pub high : change.entry.start + change.entry.length ≤ gate_of n
 
--- of a store; no other command has a file
+-- of a store; a batch changes slots of many parts, and no other command has a file
 abbrev pub PlacesFileOf : ℕ → VolumeCommand → HeaderParts → List (List ℕ) → Change → Type 0
 PlacesFileOf n (Store name kind implementation bytes) header slots change =
-    PlacesFile n (Store name kind implementation bytes) bytes header slots change
-PlacesFileOf n command header slots change = Unit {0}
+    PlacesFile n (λ v. fit_in n v (file_length bytes)) bytes header slots change
+PlacesFileOf n (Batch parts) header slots change = ⊥
+PlacesFileOf n Dir header slots change = Unit {0}
+PlacesFileOf n Label header slots change = Unit {0}
+PlacesFileOf n (Fetch name) header slots change = Unit {0}
+PlacesFileOf n (Rename old later) header slots change = Unit {0}
+PlacesFileOf n (Purge name) header slots change = Unit {0}
+PlacesFileOf n Adopt header slots change = Unit {0}
+PlacesFileOf n Upgrade header slots change = Unit {0}
+PlacesFileOf n (Format label count) header slots change = Unit {0}
 
 -- it changes these slots
 pub record MakesChange (n : ℕ) (command : VolumeCommand) (header : HeaderParts) (slots : List (List ℕ)) (change : Change) : Type 0 where
@@ -118,7 +127,7 @@ pub record MakesChange (n : ℕ) (command : VolumeCommand) (header : HeaderParts
   pub free : (v : Volume) → IsVolumeWith n header slots v → refusal_of n command (Some v) ≡ None
   pub commits : (v : Volume) → IsVolumeWith n header slots v → CommitsWith n change.version command v
   pub file : PlacesFileOf n command header slots change
-  pub writes : (v : Volume) → IsVolumeWith n header slots v → (u : Tape) → IsTape n u → volume_in u ≡ Some v
+  pub writes : (v : Volume) → IsVolumeWith n header slots v → (u : Tape) → directory_start (record_at u 0) ≡ header.start
       → slot_writes n command v (chosen_place n command v) u ≡ change_writes header.start change u
   pub after : (v : Volume) → IsVolumeWith n header slots v → (volume_after n command v).slots ≡ bytes_with change slots
 

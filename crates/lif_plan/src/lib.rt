@@ -2,12 +2,14 @@
 //! anything is written.
 #![tactic(auto)]
 
+mod batches;
 mod directory;
 mod extents;
 mod fresh;
 mod placing;
 mod plans;
 
+pub use batches::{BatchPlan, PlannedFile};
 pub use directory::{Directory, File};
 pub use fresh::FreshVolume;
 pub use lif_model::Refusal;

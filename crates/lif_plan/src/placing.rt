@@ -15,11 +15,13 @@ ghost use Rattle.lif_dir.specs.Changes.{FitsIn, change_writes, bytes_with};
 ghost use Rattle.lif_plan.specs.Directories.{IsLegalDirectory};
 ghost use Rattle.lif_plan.specs.Refusals.{IsAmong};
 ghost use Rattle.lif_plan.specs.Plans.{IsNewName, MayTake, IsPlan};
+ghost use Rattle.lif_plan.specs.Parts.{IsPartPlan};
+ghost use Rattle.lif_model.specs.Parts as part;
 ghost use Rattle.lif_model.specs.declared.refusal.Refusal.TheVariants as refusal;
 
 use crate::directory::Directory;
 use crate::plans::is_redo_name;
-use lif_alloc::{Choice, choose};
+use lif_alloc::{Choice, choose_beside};
 use lif_dir::{Change, FileEntry, Name, NewName};
 use lif_header::Header;
 use lif_model::{ENTRIES, RECORD, Refusal, Version};
@@ -71,11 +73,35 @@ impl Directory {
             ∷ refusal.NoSlot ∷ refusal.NoRoom ∷ [])) }
         ensures some { IfOk result (λ change. IsSome change) }
     {
+        self.store_beside(name, kind, implementation, bytes, &[], header, size)
+    }
+
+    /// The same for a part of a batch, which may not take the slots that the batch has purged.
+    pub(crate) fn store_beside(
+        &self,
+        name: &NewName,
+        kind: u16,
+        implementation: [u8; 4],
+        bytes: &[u8],
+        barred: &[usize],
+        header: &Header,
+        size: u16,
+    ) -> Result<Option<Change>, Refusal>
+        requires legal { IsLegalDirectory size header.now (map slot_bytes self.now.table.slots) }
+        requires live { kind ≢ 0 }
+        requires no_end { kind ≢ 0xFFFF }
+        ensures plan { IsPartPlan size
+            (part.Store (name_bytes (made_name name.now)) kind implementation bytes.now) barred.now header.now
+            (map slot_bytes self.now.table.slots) result }
+        ensures only { IfErr result (IsAmong (refusal.NoRedo ∷ refusal.Protected ∷ refusal.Exists
+            ∷ refusal.NoSlot ∷ refusal.NoRoom ∷ [])) }
+        ensures some { IfOk result (λ change. IsSome change) }
+    {
         let version = self.new_name(&name.name(), size)?;
         let end = u32::from(header.end());
         let capacity = ENTRIES as u32 * u32::from(header.length());
         let count = records_for(bytes);
-        match choose(&self.table, end, capacity, count, size) {
+        match choose_beside(&self.table, barred, end, capacity, count, size) {
             Choice::At { slot, start } => {
                 let entry = FileEntry::new(name.name(), kind, start, count, implementation);
                 Ok(Some(self.place(version, slot as usize, entry, header)))

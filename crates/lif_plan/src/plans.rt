@@ -1,5 +1,5 @@
 //! What the commands of the directory are to write, before they write it.
-ghost use Rattle.std.specs.Prelude.{◌≡◌, ◌<◌, ◌≤◌, ◌+◌, ◌*◌, true, length, map, IfErr};
+ghost use Rattle.std.specs.Prelude.{ℕ, ◌≡◌, ◌<◌, ◌≤◌, ◌+◌, ◌*◌, true, length, map, IfErr};
 ghost use Rattle.std.specs.Prelude.{IfSome};
 ghost use Rattle.std.specs.List.{position, list_any};
 ghost use Rattle.lif_model.specs.Legal.{is_live_named};
@@ -231,7 +231,7 @@ impl Directory {
 
     /// Changes the slots in memory.
     pub fn change(&mut self, change: &Change)
-        requires { FitsIn self.old.table.room (length self.old.table.slots) change.now }
+        requires { (capacity : ℕ) × (capacity ≤ self.old.table.room) × FitsIn capacity (length self.old.table.slots) change.now }
         ensures changed { self.new.table ≡ record self.old.table { slots = slots_with change.now self.old.table.slots } }
         ensures told { IsToldBack change.now }
     {

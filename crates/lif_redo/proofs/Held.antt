@@ -1,12 +1,12 @@
 -- The changes that an open redo stands for, one after the other.
-use Rattle.std.proofs.Common.{◌≡◌, ◌<◌, ◌≤◌, ◌+◌, ◌++◌, ◌∙◌, ℕ, zero, suc, List, [], ◌∷◌, true, length, get_or, set, take, map, refl, sym, ap, subst, arith}
+use Rattle.std.proofs.Common.{◌≡◌, ◌<◌, ◌≤◌, ◌+◌, ◌++◌, ◌∙◌, ℕ, zero, suc, List, [], ◌∷◌, true, false, length, get_or, set, take, map, refl, sym, ap, subst, arith}
 use Rattle.lif_model.specs.Tape.{Tape, record_at}
-use Rattle.lif_model.specs.Gate.{gate_of}
+use Rattle.lif_model.specs.Gate.{gate_of, is_open, has_open_gate}
 use Rattle.lif_model.specs.Stops.{Torn}
 use Rattle.lif_model.specs.declared.version.Version.{Version}
 use Rattle.lif_model.specs.Redo.{Valid, redo_length, redo_start, data_record, zeros, are_targets, Changes, targets_in, held_from, held_by, redo_of, changed, settled, settled_by}
 use Rattle.lif_model.specs.Commit.{AreChanges, SettlesAs, IsArmed, settle_writes}
-use Rattle.lif_model.proofs.Redo.{redo_open, held_targets, changes_long, changes_below, data_place, elsewhere, changed_elsewhere, length_changed, settled_none, targets_some}
+use Rattle.lif_model.proofs.Redo.{zeros_are_shut, gate_at, length_settled, settled_gate, redo_open, held_targets, changes_long, changes_below, data_place, elsewhere, changed_elsewhere, length_changed, settled_none, targets_some}
 use Rattle.lif_model.proofs.Commit.{in_place, closing, changed_take, changed_all, elsewhere_take, settles_too, armed_settles}
 use Rattle.lif_redo.specs.Reading.{IsOpenWith}
 
@@ -124,6 +124,14 @@ module _ (t : Tape) (n : ℕ) (size : length t ≡ n) (version : Version) (targe
       ap (λ (u : Tape). set u (gate_of n) zeros) (changed_all (redo_of t) i t (omega (arith, all, redo_count)))
       ∙ ap (λ (m : ℕ). set (changed (redo_of t) t) (gate_of m) zeros) (sym size)
       ∙ sym (settled_some t (redo_of t) redo_some refl)
+
+  -- the gate then reads closed
+  pub shut_then : has_open_gate (settled t) ≡ false
+  shut_then = by (redo_of t) refl redo_some
+    where
+      by : (cs : Changes) → redo_of t ≡ cs → 0 < length cs → has_open_gate (settled t) ≡ false
+      by [] is some = absurd (omega (arith, some))
+      by (c ∷ cs) is some = gate_at (length t) (settled t) (length_settled t) ∙ ap is_open (settled_gate t c cs is) ∙ zeros_are_shut
 
   pub redo_is_open : redo_of t ≡ [] → ⊥
   redo_is_open none = absurd (omega (arith, redo_some, ap (λ (cs : Changes). length cs) none))

@@ -7,3 +7,4 @@ pub mod Writes
 pub mod Held
 pub mod Filled
 pub mod Order
+pub mod Promised

@@ -1,14 +1,13 @@
-ghost use Rattle.std.specs.Prelude.{◌≡◌, ◌≢◌, ◌↔◌, ◌≤◌, ◌+◌, ◌*◌, Bool, [], length, IsTrue, IfOk, OnOk, true, Some};
+ghost use Rattle.std.specs.Prelude.{◌≡◌, ◌≢◌, ◌↔◌, ◌≤◌, ◌+◌, ◌*◌, [], length, IsTrue, IfOk, Some};
 ghost use Rattle.lif_model.specs.Tape.{Tape};
 ghost use Rattle.lif_model.specs.Gate.{has_open_gate};
-ghost use Rattle.lif_model.specs.Redo.{Changes, redo_of, settled, IsSettled};
-ghost use Rattle.lif_model.specs.Commit.{AreChanges, IsCommitted, IsOldOrNew, IsRedoWrite, IsSettleWrite};
-ghost use Rattle.lif_model.specs.Commit.{SettlesAs, commit_writes, settle_writes};
-ghost use Rattle.il_ports.specs.Transfers.{AddsOnly};
-ghost use Rattle.il_ports.specs.Stores.{IsReady, GoesOn, RunLeaves};
-ghost use Rattle.lif_redo.specs.Writing.{AddsWrites};
+ghost use Rattle.lif_model.specs.Redo.{redo_of, IsSettled};
+ghost use Rattle.lif_model.specs.Commit.{AreChanges};
+ghost use Rattle.il_ports.specs.Stores.{IsReady};
+ghost use Rattle.lif_redo.specs.Reading.{is_applied, reads_open};
+ghost use Rattle.lif_redo.specs.Atomic.{Commits, Settles, commit_calls};
 
-use crate::steps::{close, finish, look, numbers, put, replay, stage};
+use crate::steps::{Found, close, finish, is_gate_open, look, numbers, put, replay, stage};
 use crate::texts::{MOST, are_targets, open_gate_record};
 use il_ports::{Records, Trouble};
 use lif_model::{GATE, Record, Version};
@@ -33,35 +32,55 @@ pub fn commit<R: Records>(
     requires ready { IsReady (2 * length changes.now + 6) (R.view records.old) }
     requires changes { AreChanges version (R.view records.old).record_count changes.now }
     requires settled { (t : Tape) → (R.view records.old).tape ≡ Some t → IsSettled t }
-
-    // At Ok the changes stand, the gate record is zero, and all else below the redo file is as before.
-    ensures done { OnOk result ((t : Tape) → (R.view records.old).tape ≡ Some t → (u : Tape)
-        × ((R.view records.new).tape ≡ Some u) × IsCommitted version changes.now t u) }
-    // Then no redo is open.
-    ensures settled { OnOk result ((t : Tape) → (R.view records.new).tape ≡ Some t → IsSettled t) }
-    // A stop at any moment leaves a tape that settles to the old one or to the one with all the changes.
-    ensures any_moment { (t : Tape) → (R.view records.old).tape ≡ Some t
-        → RunLeaves (R.view records.old) (R.view records.new) (IsOldOrNew version changes.now t) }
-    // So does the tape as it reads after the call.
-    ensures after { (t : Tape) → (R.view records.old).tape ≡ Some t → (u : Tape)
-        × ((R.view records.new).tape ≡ Some u) × IsOldOrNew version changes.now t u }
-
-    ensures goes_on { GoesOn (2 * length changes.now + 6) (R.view records.old) (R.view records.new) result }
-    // At Ok these are the writes, in their order; whether the gate read open decides on the first of them.
-    ensures writes { OnOk result ((was_open : Bool) × ((t : Tape) → (R.view records.old).tape ≡ Some t
-        → was_open ≡ has_open_gate t)
-        × AddsWrites (commit_writes version (R.view records.old).record_count was_open changes.now)
-        (R.view records.old).transferred (R.view records.new).transferred) }
-    // So each is one of a target or of a record of the redo file.
-    ensures transfers { AddsOnly (IsRedoWrite version (R.view records.old).record_count changes.now)
-        (R.view records.old).transferred (R.view records.new).transferred result }
+    ensures { Commits (2 * length changes.now + 6) version changes.now (R.view records.old) (R.view records.new) result }
 {
-    close(records)?;
+    let is_open = is_gate_open(records)?;
+    commit_known(records, version, changes, is_open)
+}
+
+/// The same, of a tape of which it is known whether its gate reads open. For k changes 2 k + 3 calls of the store are
+/// made at most, and one more where it does.
+pub fn commit_known<R: Records>(
+    records: &mut R,
+    version: Version,
+    changes: &[(u16, Record)],
+    is_open: bool,
+) -> Result<(), Trouble>
+    requires ready { IsReady (commit_calls is_open (length changes.now)) (R.view records.old) }
+    requires changes { AreChanges version (R.view records.old).record_count changes.now }
+    requires settled { (t : Tape) → (R.view records.old).tape ≡ Some t → IsSettled t }
+    requires gate { (t : Tape) → (R.view records.old).tape ≡ Some t → is_open ≡ has_open_gate t }
+    ensures { Commits (commit_calls is_open (length changes.now)) version changes.now (R.view records.old) (R.view records.new) result }
+{
+    close(records, is_open)?;
     stage(records, version, changes)?;
     let gate = records.size() - GATE;
     put(records, gate, &open_gate_record())?;
     finish(records, changes)?;
     Ok(())
+}
+
+/// What settling found of the gate.
+#[derive(Clone, Copy, Debug, PartialEq, Eq, Drop)]
+pub enum Gate {
+    /// It reads closed: no redo was open.
+    Closed,
+    /// A redo was open, and is carried out: the gate reads closed now.
+    Applied,
+    /// It reads open, but the targets are valid of no version: no redo is open, and the tape stays as it is.
+    Open,
+}
+
+impl Gate {
+    /// Whether the gate reads open after settling.
+    pub fn reads_open(self) -> bool
+        ensures { result ≡ reads_open self }
+    {
+        match self {
+            Gate::Open => true,
+            Gate::Closed | Gate::Applied => false,
+        }
+    }
 }
 
 /// Carries out the redo that is open, of either version, if one is, and answers whether one was. A power stop at any
@@ -70,37 +89,31 @@ pub fn commit<R: Records>(
 pub fn settle<R: Records>(records: &mut R) -> Result<bool, Trouble>
     requires size { 4 ≤ (R.view records.old).record_count }
     requires ready { IsReady 70 (R.view records.old) }
-
-    ensures done { OnOk result ((t : Tape) → (R.view records.old).tape ≡ Some t
-        → (R.view records.new).tape ≡ Some (settled t)) }
-    ensures settled { OnOk result ((t : Tape) → (R.view records.new).tape ≡ Some t → IsSettled t) }
+    ensures settles { Settles (R.view records.old) (R.view records.new) result }
     // It answers true exactly where the gate was open with valid targets.
     ensures applied { IfOk result (λ applied. (t : Tape) → (R.view records.old).tape ≡ Some t
         → (IsTrue applied ↔ (redo_of t ≢ []))) }
-    ensures any_moment { (t : Tape) → (R.view records.old).tape ≡ Some t
-        → RunLeaves (R.view records.old) (R.view records.new) (SettlesAs (settled t)) }
-    ensures after { (t : Tape) → (R.view records.old).tape ≡ Some t → (u : Tape)
-        × ((R.view records.new).tape ≡ Some u) × SettlesAs (settled t) u }
-    // Where no redo is open the tape stays as it is, at any moment and after the call.
-    ensures idle { (t : Tape) → (R.view records.old).tape ≡ Some t → redo_of t ≡ []
-        → ((R.view records.new).tape ≡ Some t) × RunLeaves (R.view records.old) (R.view records.new) (λ x. x ≡ t) }
+{
+    Ok(settle_gate(records)? == Gate::Applied)
+}
 
-    ensures goes_on { GoesOn 70 (R.view records.old) (R.view records.new) result }
-    // At Ok the writes are those of some redo, in their order, and where the tape is told those of the one that was
-    // open.
-    ensures writes { OnOk result ((changes : Changes) × ((t : Tape) → (R.view records.old).tape ≡ Some t
-        → changes ≡ redo_of t)
-        × AddsWrites (settle_writes (R.view records.old).record_count changes) (R.view records.old).transferred
-        (R.view records.new).transferred) }
-    ensures transfers { (t : Tape) → (R.view records.old).tape ≡ Some t
-        → AddsOnly (IsSettleWrite (R.view records.old).record_count (redo_of t)) (R.view records.old).transferred
-        (R.view records.new).transferred result }
+/// The same, and answers what was found of the gate.
+pub fn settle_gate<R: Records>(records: &mut R) -> Result<Gate, Trouble>
+    requires size { 4 ≤ (R.view records.old).record_count }
+    requires ready { IsReady 70 (R.view records.old) }
+    ensures settles { Settles (R.view records.old) (R.view records.new) result }
+    ensures applied { IfOk result (λ gate. (t : Tape) → (R.view records.old).tape ≡ Some t
+        → (IsTrue (is_applied gate) ↔ (redo_of t ≢ []))) }
+    // Whether the gate reads open then.
+    ensures gate { IfOk result (λ gate. (t : Tape) → (R.view records.new).tape ≡ Some t
+        → reads_open gate ≡ has_open_gate t) }
 {
     match look(records)? {
-        None => Ok(false),
-        Some(named) => {
+        Found::Shut => Ok(Gate::Closed),
+        Found::Idle => Ok(Gate::Open),
+        Found::Redo(named) => {
             replay(records, named.version, named.targets.as_slice())?;
-            Ok(true)
+            Ok(Gate::Applied)
         }
     }
 }

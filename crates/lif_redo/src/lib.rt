@@ -11,5 +11,5 @@ mod atomic;
 mod steps;
 mod texts;
 
-pub use atomic::{are_changes, commit, settle};
+pub use atomic::{Gate, are_changes, commit, commit_known, settle, settle_gate};
 pub use lif_model::Version;

@@ -1,5 +1,5 @@
 //! The steps of settling and of a commit, in the order in which they are made.
-ghost use Rattle.std.specs.Prelude.{◌≡◌, ◌<◌, ◌≤◌, ◌+◌, ◌*◌, ◌++◌, ℕ, List, Bool, [], ◌∷◌, true, false, Some};
+ghost use Rattle.std.specs.Prelude.{◌≡◌, ◌<◌, ◌≤◌, ◌+◌, ◌*◌, ◌++◌, ℕ, List, [], if◌then◌else◌, ◌∷◌, true, false, Some};
 ghost use Rattle.std.specs.Prelude.{length, set, OnOk, IfOk};
 ghost use Rattle.lif_model.specs.Tape.{Tape, record_at};
 ghost use Rattle.lif_model.specs.Gate.{gate_of, has_open_gate};
@@ -10,7 +10,7 @@ ghost use Rattle.lif_model.specs.Redo.{targets_record, targets_in};
 ghost use Rattle.lif_model.specs.Commit.{AreChanges, SettlesAs, Quiet, IsShut, IsStaged, IsArmed};
 ghost use Rattle.lif_model.specs.Commit.{settle_writes, close_writes, content_writes};
 ghost use Rattle.il_ports.specs.Stores.{IsReady, GoesOn, IsQuiet, RunLeaves, Fetched, Stored};
-ghost use Rattle.lif_redo.specs.Reading.{MayBeNamed, IsOpenWith, IsFound};
+ghost use Rattle.lif_redo.specs.Reading.{MayBeFound, IsOpenWith, IsFound};
 ghost use Rattle.lif_redo.specs.Writing.{AddsWrites};
 ghost use Rattle.lif_redo.specs.Filling.{IsFilled};
 
@@ -66,24 +66,52 @@ fn copy<R: Records>(records: &mut R, from: u16, to: u16) -> Result<(), Trouble>
 
 // ---- settling
 
+/// What the gate and the targets record hold.
+#[derive(Drop)]
+pub enum Found {
+    /// The gate reads closed.
+    Shut,
+    /// The gate reads open, but the targets are valid of no version: no redo is open.
+    Idle,
+    /// A redo is open.
+    Redo(Named),
+}
+
+/// Whether the gate reads open.
+pub fn is_gate_open<R: Records>(records: &mut R) -> Result<bool, Trouble>
+    requires size { 4 ≤ (R.view records.old).record_count }
+    requires ready { IsReady 1 (R.view records.old) }
+    ensures gate { IfOk result (λ is_open. (t : Tape) → (R.view records.old).tape ≡ Some t → is_open ≡ has_open_gate t) }
+    ensures quiet { IsQuiet (R.view records.old) (R.view records.new) }
+    ensures goes_on { GoesOn 1 (R.view records.old) (R.view records.new) result }
+    ensures writes { OnOk result (AddsWrites [] (R.view records.old).transferred (R.view records.new).transferred) }
+{
+    let gate = records.size() - GATE;
+    let mut bytes = [0; RECORD];
+    get(records, gate, &mut bytes)?;
+    Ok(is_open_gate(&bytes))
+}
+
 /// Reads which redo is open, if one is.
-pub fn look<R: Records>(records: &mut R) -> Result<Option<Named>, Trouble>
+pub fn look<R: Records>(records: &mut R) -> Result<Found, Trouble>
     requires size { 4 ≤ (R.view records.old).record_count }
     requires ready { IsReady 2 (R.view records.old) }
     ensures found { IfOk result (λ found. (t : Tape) → (R.view records.old).tape ≡ Some t → IsFound t found) }
-    ensures may_be { IfOk result (MayBeNamed (R.view records.old).record_count) }
+    ensures may_be { IfOk result (MayBeFound (R.view records.old).record_count) }
     ensures quiet { IsQuiet (R.view records.old) (R.view records.new) }
     ensures goes_on { GoesOn 2 (R.view records.old) (R.view records.new) result }
     ensures writes { OnOk result (AddsWrites [] (R.view records.old).transferred (R.view records.new).transferred) }
 {
+    if !is_gate_open(records)? {
+        return Ok(Found::Shut);
+    }
     let size = records.size();
     let mut bytes = [0; RECORD];
-    get(records, size - GATE, &mut bytes)?;
-    if !is_open_gate(&bytes) {
-        return Ok(None);
-    }
     get(records, size - TARGETS, &mut bytes)?;
-    Ok(read_targets(size, &bytes))
+    Ok(match read_targets(size, &bytes) {
+        None => Found::Idle,
+        Some(named) => Found::Redo(named),
+    })
 }
 
 /// Carries out the redo that is open with these targets.
@@ -112,24 +140,21 @@ pub fn replay<R: Records>(records: &mut R, version: Version, targets: &[u16]) ->
 // ---- a commit
 
 /// Closes a gate that reads open though no redo is.
-pub fn close<R: Records>(records: &mut R) -> Result<(), Trouble>
+pub fn close<R: Records>(records: &mut R, is_open: bool) -> Result<(), Trouble>
     requires size { 4 < (R.view records.old).record_count }
-    requires ready { IsReady 2 (R.view records.old) }
+    requires ready { IsReady 1 (R.view records.old) }
     requires none { (t : Tape) → (R.view records.old).tape ≡ Some t → redo_of t ≡ [] }
+    requires gate { (t : Tape) → (R.view records.old).tape ≡ Some t → is_open ≡ has_open_gate t }
     ensures closed { OnOk result ((t : Tape) → (R.view records.old).tape ≡ Some t → (u : Tape)
         × ((R.view records.new).tape ≡ Some u) × ((version : Version) → IsShut version t u)) }
     ensures any_moment { (version : Version) (t : Tape) → (R.view records.old).tape ≡ Some t
         → RunLeaves (R.view records.old) (R.view records.new) (Quiet version t) }
-    ensures goes_on { GoesOn 2 (R.view records.old) (R.view records.new) result }
-    ensures writes { OnOk result ((was_open : Bool) × ((t : Tape) → (R.view records.old).tape ≡ Some t
-        → was_open ≡ has_open_gate t)
-        × AddsWrites (close_writes (R.view records.old).record_count was_open) (R.view records.old).transferred
-        (R.view records.new).transferred) }
+    ensures goes_on { GoesOn (if is_open then 1 else 0) (R.view records.old) (R.view records.new) result }
+    ensures writes { OnOk result (AddsWrites (close_writes (R.view records.old).record_count is_open)
+        (R.view records.old).transferred (R.view records.new).transferred) }
 {
-    let gate = records.size() - GATE;
-    let mut bytes = [0; RECORD];
-    get(records, gate, &mut bytes)?;
-    if is_open_gate(&bytes) {
+    if is_open {
+        let gate = records.size() - GATE;
         put(records, gate, &zero_record())?;
     }
     Ok(())

@@ -42,17 +42,18 @@ const F: &[u8] = b"F         \0\x01\0\0\0\x04\0\0\0\0\0\0\0\0\0\0\x80\x01\0\0\0\
 const G: &[u8] = b"G         \0\x01\0\0\0\x04\0\0\0\0\0\0\0\0\0\0\x80\x01\0\0\0\0";
 
 /// A store writes its file first. A commit writes the contents, the targets, the gate, the records in
-/// place, and the gate again. What is read is the gate, record 0 and the directory; and for the
-/// commit each record of a slot, and the gate. A tape without a header has no directory to be read.
+/// place, and the gate again. What is read is the gate, record 0 and the directory as far as its end;
+/// and for the commit a record past the one with the end. A tape without a header has no directory to
+/// be read.
 const TURNS: [Turn; 10] = [
-    (ONE, Step::Purge(b"A"), (HEADER, &[PURGED, REDO]), 2, 5, 10),
+    (ONE, Step::Purge(b"A"), (HEADER, &[PURGED, REDO]), 2, 5, 8),
     (
         ONE,
         Step::Rename(b"A", b"B"),
         (HEADER, &[RENAMED, REDO]),
         2,
         5,
-        10,
+        8,
     ),
     (
         TWO,
@@ -60,20 +61,20 @@ const TURNS: [Turn; 10] = [
         (HEADER, &[RENAMED, REDO_TWO]),
         2,
         5,
-        10,
+        8,
     ),
-    ((HEADER, &[FILE]), Step::Adopt, ONE, 2, 5, 10),
-    (ONE, Step::Upgrade, TWO, 2, 5, 10),
-    (TWO, SECOND_STEP, SECOND, 3, 7, 11),
-    ((FOREIGN_HEADER, &[PROGRAM]), SECOND_STEP, SECOND, 3, 7, 11),
-    ((b"", &[FILE]), SECOND_STEP, SECOND, 3, 7, 10),
+    ((HEADER, &[FILE]), Step::Adopt, ONE, 2, 5, 8),
+    (ONE, Step::Upgrade, TWO, 2, 5, 8),
+    (TWO, SECOND_STEP, SECOND, 3, 7, 10),
+    ((FOREIGN_HEADER, &[PROGRAM]), SECOND_STEP, SECOND, 3, 7, 10),
+    ((b"", &[FILE]), SECOND_STEP, SECOND, 3, 7, 9),
     (
         (HEADER, &[FILE, JUNK, REDO]),
         STORE,
         (HEADER, &[FILE, SECOND_FILE, REDO]),
         4,
         7,
-        12,
+        10,
     ),
     (
         (HEADER, &[FILE, C, D, E, F, G, REDO_TWO]),
@@ -81,7 +82,7 @@ const TURNS: [Turn; 10] = [
         (HEADER, &[FILE, C, D, E, F, G, SECOND_FILE, REDO_TWO]),
         5,
         9,
-        15,
+        13,
     ),
 ];
 

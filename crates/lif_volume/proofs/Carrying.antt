@@ -1,161 +1,59 @@
 -- What a command makes of a volume whose directory is kept: first the file, where it has one, and then the commit.
-use Rattle.std.proofs.Common.{◌≡◌, ◌⊎◌, ◌<◌, ◌≤◌, ◌+◌, ◌-◌, ◌*◌, ◌++◌, ◌&&◌, not, ℕ, suc, List, [], ◌∷◌, Bool, true, false, if◌then◌else◌, length, map, min, inl, inr, refl, sym, ap, subst, ◌∙◌, arith, append_assoc}
-use Rattle.std.specs.Prelude.{◌≢◌, Option, Some, None, Result, Ok, Err, OnOk, IfSome}
-use Rattle.std.specs.Str.{bytes_eq}
+use Rattle.std.proofs.Common.{◌≡◌, ◌⊎◌, ◌<◌, ◌≤◌, ◌+◌, ◌-◌, ◌*◌, ◌/◌, ◌%◌, ◌++◌, ◌&&◌, not, ℕ, List, [], ◌∷◌, Bool, true, false, if◌then◌else◌, length, map, get_or, min, inl, inr, refl, sym, ap, subst, ◌∙◌, arith, append_assoc}
+use Rattle.std.specs.Prelude.{Option, Some, None, Result, Ok, Err, OnOk, IfSome}
 use Rattle.std.specs.FinMap.{empty}
-use Rattle.std.proofs.lemmas.List.{append-nil}
+use Rattle.std.proofs.lemmas.List.{append-nil, length-map}
 use Rattle.lif_model.specs.Tape.{Tape, IsTape, record_at}
-use Rattle.lif_model.specs.Gate.{has_open_gate}
-use Rattle.lif_model.specs.Header.{HeaderParts, header_of, directory_start, directory_end}
-use Rattle.lif_model.specs.Directory.{slots_of}
+use Rattle.lif_model.specs.Gate.{gate_of, is_open, has_open_gate}
+use Rattle.lif_model.specs.Header.{HeaderParts, header_of, directory_start}
+use Rattle.lif_model.specs.Directory.{entry_at, slots_of}
 use Rattle.lif_model.specs.Made.{file_length, file_records}
 use Rattle.lif_model.specs.Shelf.{cut}
 use Rattle.lif_model.specs.declared.version.Version.{Version}
-use Rattle.lif_model.specs.declared.version.Version.TheVariants.{One}
 use Rattle.lif_model.specs.declared.refusal.Refusal.{Refusal}
-use Rattle.lif_model.specs.Redo.{redo_start, settled, Changes, IsSettled, is_none}
+use Rattle.lif_model.specs.Redo.{redo_start, settled, Changes, targets_in, IsSettled, is_none}
 use Rattle.lif_model.specs.Commit.{IsOldOrNew, IsCommitted, commit_writes}
 use Rattle.lif_model.specs.Transfers.{Transfer, Replaced, PartlyReplaced}
 use Rattle.lif_model.specs.Volume.{Volume, IsVolume, volume_in, volume_of, is_foreign_gated, is_gate_held}
-use Rattle.lif_model.specs.Fit.{Place, At, NoSlot, NoRoom}
-use Rattle.lif_model.specs.Apply.{VolumeCommand, Dir, Label, Fetch, Store, Rename, Purge, Adopt, Upgrade, Format, IsWellFormed, refusal_of, apply, stored, is_upgraded, renamed, upgraded, volume_after}
-use Rattle.lif_model.specs.Writing.{slot_record, slot_writes, changes_at, changes_by, changes_of, chosen_place, with_file, with_records}
+use Rattle.lif_model.specs.Fit.{Place}
+use Rattle.lif_model.specs.Apply.{VolumeCommand, Dir, Label, Fetch, Store, Rename, Purge, Adopt, Upgrade, Batch, Format, refusal_of, apply, volume_after}
+use Rattle.lif_model.specs.Parts as part
+use Rattle.lif_model.specs.Writing.{entry_from, NewFile, with_files, part_files, touched, with_slots, changes_at, changes_by, changes_of, chosen_place, with_file, with_records}
 use Rattle.lif_model.proofs.Moments.{started, goes_on, follows}
-use Rattle.lif_model.proofs.Redo.{settled_has_none}
+use Rattle.lif_model.proofs.Redo.{zeros_are_shut, gate_at, same_gate, settled_has_none}
+use Rattle.lif_model.proofs.Writing.{targets_are}
 use Rattle.lif_model.proofs.Made.{file_bytes}
 use Rattle.lif_model.proofs.Recorded.{records_replaced, replaced_is, records_count}
 use Rattle.lif_model.proofs.Legal.{legal_tells, legal_from}
 use Rattle.lif_model.proofs.Slots.{readable_tells}
-use Rattle.lif_model.proofs.Adopted.{adopted_some, ends_before_redo}
-use Rattle.lif_model.proofs.Apply.{refused_stays, accepted, next_is_adopted, adopt_is_adopted, upgrade_is_two}
-use Rattle.lif_model.proofs.Directory.{volume_tells, volume_from, volume_in_is}
+use Rattle.lif_model.proofs.Apply.{refused_stays, accepted}
+use Rattle.lif_model.proofs.Directory.{slot_at, volume_tells, volume_from, volume_in_is}
 use Rattle.lif_model.proofs.Outcomes.{committed_settled}
 use Rattle.lif_model.proofs.StoredFile.{storable}
-use Rattle.lif_model.proofs.Commands.{file_first, file_stops, file_settled, command_stops, command_commits, adopt_stops, adopt_commits, upgrade_stops, upgrade_commits}
+use Rattle.lif_model.proofs.Commands.{file_first, file_stops, file_settled}
 use Rattle.il_ports.specs.declared.records.Trouble.{Trouble}
 use Rattle.il_ports.specs.Stores.{RecordsView, IsStore, IsReady, GoesOn, RunLeaves, StoredRun}
 use Rattle.il_ports.proofs.Stores.{goes_nowhere, goes_further, goes_within, quiet_run, quiet_nowhere}
 use Rattle.lif_redo.specs.Writing.{writes_among, AreSingle}
 use Rattle.lif_redo.proofs.Told.{was_told}
 use Rattle.lif_dir.specs.declared.change.Change.{Change}
-use Rattle.lif_dir.specs.declared.entries.FileEntry.{FileEntry}
-use Rattle.lif_dir.specs.Entries.{slot_from, slot_bytes}
-use Rattle.lif_dir.specs.Changes.{IsToldBack, slots_with, bytes_with}
+use Rattle.lif_dir.specs.Entries.{slot_of, slot_from, slot_bytes}
+use Rattle.lif_dir.specs.Changes.{IsToldBack, change_writes, slots_with, bytes_with}
 use Rattle.lif_dir.proofs.Changing.{changed_bytes, told_back}
-use Rattle.lif_commit.specs.Staged.{LiesBelowRedo, CommitsChange, most_commit_calls}
+use Rattle.lif_redo.specs.Atomic.{commit_calls}
+use Rattle.lif_commit.specs.Staged.{Knows, EndsWith, CommitsChange, count_with, touched_by, past_end, calls_of, most_commit_calls}
+use Rattle.lif_commit.proofs.Staging.{touched_same, touched_few, calls_most, count_is}
 use Rattle.lif_plan.specs.Directories.{IsLegalDirectory}
 use Rattle.lif_plan.specs.Plans.{version_for, CommitsWith, IsVolumeWith, RefusesAs, ChangesNothing, PlacesFileOf, MakesChange}
 use Rattle.lif_plan.proofs.Planning.{version_agrees}
 use Rattle.lif_volume.specs.declared.fault.VolumeFault.{VolumeFault}
 use Rattle.lif_volume.specs.declared.fault.VolumeFault.TheVariants.{Refused, Trouble as Troubled}
 use Rattle.lif_volume.specs.Views.{VolumeView, IsOpen, IsDirectoryOf}
-use Rattle.lif_volume.specs.Changing.{file_when, changes_when, changes_filed, IsChanged, run_of, runs_at, file_runs, writes_if_any, beside, carrying, carrying_on, HasEitherVolume, VolumeTurns}
+use Rattle.lif_volume.specs.Changing.{file_when, changes_when, changes_filed, IsChanged, run_of, file_runs, writes_if_any, beside, carrying, committing_on, carrying_on, HasEitherVolume, VolumeTurns}
 use Rattle.lif_volume.specs.Carrying.{HasFile, file_count, carry_room, changes_made, PutsFile, Puts, CarriesOut}
 use Rattle.lif_volume.proofs.Mounting.{kept_is_of, volume_on}
 use Rattle.lif_volume.proofs.Fetching.{legal_of}
-
--- ---- the commands that change slots
-
-module _ (n : ℕ) (version : Version) where
-  -- the records that they change
-  pub changes_are : (command : VolumeCommand) (v : Volume) (u : Tape) → CommitsWith n version command v
-      → changes_of n command v u ≡ changes_by (directory_start v.header) (slot_writes n command v (chosen_place n command v) u) u
-  changes_are Dir v u never = absurd never
-  changes_are Label v u never = absurd never
-  changes_are (Fetch name) v u never = absurd never
-  changes_are (Store name kind implementation bytes) v u commits = refl
-  changes_are (Rename old later) v u commits = refl
-  changes_are (Purge name) v u commits = refl
-  changes_are Adopt v u commits = refl
-  changes_are Upgrade v u commits = refl
-  changes_are (Format label slots) v u never = absurd never
-
-  by_case : {X : Type 0} (P : X → Type 0) (b : Bool) (x y : X) → P x → P y → P (if b then x else y)
-  by_case P true x y px py = px
-  by_case P false x y px py = py
-
-  stored_header : (v : Volume) (name : List ℕ) (kind : ℕ) (implementation bytes : List ℕ) (place : Place) → (stored v name kind implementation bytes place).header ≡ v.header
-  stored_header v name kind implementation bytes (At slot start) = refl
-  stored_header v name kind implementation bytes NoSlot = refl
-  stored_header v name kind implementation bytes NoRoom = refl
-
-  header_stays : (command : VolumeCommand) (v : Volume) → CommitsWith n version command v → (volume_after n command v).header ≡ v.header
-  header_stays Dir v never = absurd never
-  header_stays Label v never = absurd never
-  header_stays (Fetch name) v never = absurd never
-  header_stays (Store name kind implementation bytes) v commits = stored_header v name kind implementation bytes (chosen_place n (Store name kind implementation bytes) v)
-  header_stays (Rename old later) v commits = by_case (λ w. w.header ≡ v.header) (bytes_eq old later) v (renamed v old later) refl refl
-  header_stays (Purge name) v commits = refl
-  header_stays Adopt v commits = by_case (λ w. w.header ≡ v.header) _ v _ refl refl
-  header_stays Upgrade v commits = by_case (λ w. w.header ≡ v.header) (is_upgraded n v) v (upgraded n v) refl refl
-  header_stays (Format label slots) v never = absurd never
-
-  -- the next volume is one for as many records
-  next_volume : (command : VolumeCommand) (v : Volume) → IsVolume n v → IsWellFormed command → CommitsWith n version command v
-      → refusal_of n command (Some v) ≡ None → IsVolume n (volume_after n command v)
-  next_volume Dir v is formed never none = absurd never
-  next_volume Label v is formed never none = absurd never
-  next_volume (Fetch name) v is formed never none = absurd never
-  next_volume (Store name kind implementation bytes) v is formed adopted none = (next_is_adopted n (Store name kind implementation bytes) v (record { volume = is; adopted = adopted_some n version v.slots adopted }) formed none).volume
-  next_volume (Rename old later) v is formed adopted none = (next_is_adopted n (Rename old later) v (record { volume = is; adopted = adopted_some n version v.slots adopted }) formed none).volume
-  next_volume (Purge name) v is formed adopted none = (next_is_adopted n (Purge name) v (record { volume = is; adopted = adopted_some n version v.slots adopted }) formed none).volume
-  next_volume Adopt v is formed both none = (adopt_is_adopted n v is none).volume
-  next_volume Upgrade v is formed both none = (upgrade_is_two n v (record { volume = is; adopted = adopted_some n One v.slots both.1 }) none).0.volume
-  next_volume (Format label slots) v is formed never none = absurd never
-
-  -- the directory ends before the redo file by which a command commits
-  ends_before : (command : VolumeCommand) (v : Volume) → IsVolume n v → CommitsWith n version command v → directory_end v.header ≤ redo_start version n
-  ends_before Dir v is never = absurd never
-  ends_before Label v is never = absurd never
-  ends_before (Fetch name) v is never = absurd never
-  ends_before (Store name kind implementation bytes) v is adopted = (ends_before_redo version n v is adopted).0
-  ends_before (Rename old later) v is adopted = (ends_before_redo version n v is adopted).0
-  ends_before (Purge name) v is adopted = (ends_before_redo version n v is adopted).0
-  ends_before Adopt v is both = subst (λ (w : Version). directory_end v.header ≤ redo_start w n) (sym both.0) (readable_tells n v.header is.legal.readable).2
-  ends_before Upgrade v is both = subst (λ (w : Version). directory_end v.header ≤ redo_start w n) (sym both.0) (ends_before_redo One n v is both.1).0
-  ends_before (Format label slots) v is never = absurd never
-
-  module _ (u : Tape) (v : Volume) (tape : IsTape n u) (is : volume_in u ≡ Some v) (x : Tape) where
-    -- a stop in the commit, and its Ok
-    stops_leave : (command : VolumeCommand) → IsWellFormed command → CommitsWith n version command v → refusal_of n command (Some v) ≡ None
-        → IsOldOrNew version (changes_of n command v u) (with_file command (chosen_place n command v) u) x
-        → ((volume_of x ≡ Some v) ⊎ (volume_of x ≡ Some (volume_after n command v))) × (is_foreign_gated x ≡ false)
-    stops_leave Dir formed never none left = absurd never
-    stops_leave Label formed never none left = absurd never
-    stops_leave (Fetch name) formed never none left = absurd never
-    stops_leave (Store name kind implementation bytes) formed adopted none left = command_stops n u v tape is version (Store name kind implementation bytes) x adopted tt formed none left
-    stops_leave (Rename old later) formed adopted none left = command_stops n u v tape is version (Rename old later) x adopted tt formed none left
-    stops_leave (Purge name) formed adopted none left = command_stops n u v tape is version (Purge name) x adopted tt formed none left
-    stops_leave Adopt formed both none left = adopt_stops n u v tape is x both.1 none (subst (λ (w : Version). IsOldOrNew w (changes_of n Adopt v u) u x) both.0 left)
-    stops_leave Upgrade formed both none left = upgrade_stops n u v tape is x both.1 none (subst (λ (w : Version). IsOldOrNew w (changes_of n Upgrade v u) u x) both.0 left)
-    stops_leave (Format label slots) formed never none left = absurd never
-
-    commit_makes : (command : VolumeCommand) → IsWellFormed command → CommitsWith n version command v → refusal_of n command (Some v) ≡ None
-        → IsCommitted version (changes_of n command v u) (with_file command (chosen_place n command v) u) x
-        → (volume_of x ≡ Some (volume_after n command v)) × (is_foreign_gated x ≡ false)
-    commit_makes Dir formed never none done = absurd never
-    commit_makes Label formed never none done = absurd never
-    commit_makes (Fetch name) formed never none done = absurd never
-    commit_makes (Store name kind implementation bytes) formed adopted none done = command_commits n u v tape is version (Store name kind implementation bytes) x adopted tt formed none done
-    commit_makes (Rename old later) formed adopted none done = command_commits n u v tape is version (Rename old later) x adopted tt formed none done
-    commit_makes (Purge name) formed adopted none done = command_commits n u v tape is version (Purge name) x adopted tt formed none done
-    commit_makes Adopt formed both none done = adopt_commits n u v tape is x both.1 none (subst (λ (w : Version). IsCommitted w (changes_of n Adopt v u) u x) both.0 done)
-    commit_makes Upgrade formed both none done = upgrade_commits n u v tape is x none (subst (λ (w : Version). IsCommitted w (changes_of n Upgrade v u) u x) both.0 done)
-    commit_makes (Format label slots) formed never none done = absurd never
-
--- ---- without a file
-
-pub without_file : (command : VolumeCommand) → HasFile command None → (file_count command ≡ 0) × ((n : ℕ) (volume : Option Volume) → file_runs n command volume ≡ [])
-    × ((n : ℕ) (volume : Option Volume) (t : Tape) → file_when n command volume t ≡ t)
-without_file Dir has = (refl, (λ n volume. refl), λ n volume t. refl)
-without_file Label has = (refl, (λ n volume. refl), λ n volume t. refl)
-without_file (Fetch name) has = (refl, (λ n volume. refl), λ n volume t. refl)
-without_file (Store name kind implementation bytes) has = cc
-without_file (Rename old later) has = (refl, (λ n volume. refl), λ n volume t. refl)
-without_file (Purge name) has = (refl, (λ n volume. refl), λ n volume t. refl)
-without_file Adopt has = (refl, (λ n volume. refl), λ n volume t. refl)
-without_file Upgrade has = (refl, (λ n volume. refl), λ n volume t. refl)
-without_file (Format label slots) has = (refl, (λ n volume. refl), λ n volume t. refl)
+use Rattle.lif_volume.proofs.Making.{files_are, changes_are, header_stays, next_volume, ends_before, stops_leave, commit_makes, without_file}
 
 -- ---- from a directory that is kept
 
@@ -172,7 +70,7 @@ module _ {R S : Type 0} (view : R → RecordsView S) (x : VolumeView R) (header 
   pub legal : IsLegalDirectory (view x.records).record_count header (map slot_bytes x.slots)
   legal = legal_of view x header (view x.records).record_count opened kept refl
 
-  readable : (0 < header.start) × (header.start + header.length ≤ n - 4)
+  pub readable : (0 < header.start) × (header.start + header.length ≤ n - 4)
   readable =
       let is = readable_tells n legal.bytes (legal_tells n legal.bytes slots legal.legal).readable in
       (omega (arith, is.0, ap (λ (h : HeaderParts). h.start) legal.told), omega (arith, is.2, ap (λ (h : HeaderParts). h.start) legal.told, ap (λ (h : HeaderParts). h.length) legal.told))
@@ -215,18 +113,19 @@ module _ {R S : Type 0} (view : R → RecordsView S) (x : VolumeView R) (header 
     own_gate = ap (λ (cs : Changes). not (is_none cs) && is_gate_held (settled t)) (settled_has_none t on.settled)
 
   -- a command that changes nothing is no store
-  pub nothing_is_no_store : (command : VolumeCommand) → ChangesNothing (view x.records).record_count command header (map slot_bytes x.slots) → HasFile command None
-  nothing_is_no_store Dir plan = refl
-  nothing_is_no_store Label plan = refl
-  nothing_is_no_store (Fetch name) plan = refl
-  nothing_is_no_store (Store name kind implementation bytes) plan =
+  pub nothing_is_no_store : (command : VolumeCommand) (file : Option (List ℕ)) → HasFile command file → ChangesNothing (view x.records).record_count command header (map slot_bytes x.slots) → HasFile command None
+  nothing_is_no_store Dir file has plan = refl
+  nothing_is_no_store Label file has plan = refl
+  nothing_is_no_store (Fetch name) file has plan = refl
+  nothing_is_no_store (Store name kind implementation bytes) file has plan =
       let can = storable n some name kind implementation bytes (plan.free some some_is) in
       let none = sym (ap (λ (p : Place). changes_at n (Store name kind implementation bytes) some p []) can.chosen) ∙ plan.nothing some some_is [] in cc
-  nothing_is_no_store (Rename old later) plan = refl
-  nothing_is_no_store (Purge name) plan = refl
-  nothing_is_no_store Adopt plan = refl
-  nothing_is_no_store Upgrade plan = refl
-  nothing_is_no_store (Format label slots) plan = refl
+  nothing_is_no_store (Rename old later) file has plan = refl
+  nothing_is_no_store (Purge name) file has plan = refl
+  nothing_is_no_store Adopt file has plan = refl
+  nothing_is_no_store Upgrade file has plan = refl
+  nothing_is_no_store (Batch parts) file has plan = absurd has
+  nothing_is_no_store (Format label slots) file has plan = refl
 
   module _ (command : VolumeCommand) where
     module _ (t : Tape) (told : (view x.records).tape ≡ Some t) where
@@ -297,21 +196,10 @@ module _ {R S : Type 0} (view : R → RecordsView S) (x : VolumeView R) (header 
       commits_some : CommitsWith n version command some
       commits_some = plan.commits some some_is
 
-      before_redo : header.start + header.length ≤ redo_start version (view x.records).record_count
+      pub before_redo : header.start + header.length ≤ redo_start version (view x.records).record_count
       before_redo =
           let ends = ends_before n version command some some_is.volume commits_some in
           omega (arith, ends, ap (λ (h : HeaderParts). h.start) legal.told, ap (λ (h : HeaderParts). h.length) legal.told)
-
-      pub lies_below : LiesBelowRedo (view x.records).record_count header.start change
-      lies_below = record {
-        slot = omega (arith, before_redo, plan.fits.within);
-        next = by change.next plan.fits.next;
-        end = λ ended. omega (arith, before_redo, plan.fits.end_within ended);
-      }
-        where
-          by : (next : Option FileEntry) → IfSome next (λ e. (suc change.slot < 8 * header.length) × (e.kind ≢ 0xFFFF)) → IfSome next (λ e. slot_record header.start (suc change.slot) < redo_start version n)
-          by None is = tt
-          by (Some e) is = omega (arith, before_redo, is.0)
 
       -- ---- the tape with the file
 
@@ -329,8 +217,8 @@ module _ {R S : Type 0} (view : R → RecordsView S) (x : VolumeView R) (header 
         commits_here : CommitsWith n version command v
         commits_here = plan.commits v (with_is t told)
 
-        filed_is : filed ≡ with_file command (chosen_place n command v) t
-        filed_is = ap (λ (w : Option Volume). file_when n command w t) (volume_is t told)
+        filed_is : filed ≡ with_file n command v (chosen_place n command v) t
+        filed_is = ap (λ (w : Option Volume). file_when n command w t) (volume_is t told) ∙ ap (λ (fs : List NewFile). with_files fs t) (files_are n command v)
 
         holds : IsTape n filed × (volume_in filed ≡ Some v)
         holds = subst (λ (f : Tape). IsTape n f × (volume_in f ≡ Some v)) (sym filed_is) (file_first n t v (tape t told) (within t told) command plan.formed free)
@@ -346,8 +234,8 @@ module _ {R S : Type 0} (view : R → RecordsView S) (x : VolumeView R) (header 
           long_of : change.entry.start + length (file_records bytes) ≤ length t
           long_of = omega (arith, placed.high, placed.count, records_count bytes, (tape t told).records, opened.size)
 
-          pub filed_store : with_file (Store name kind implementation bytes) (chosen_place n (Store name kind implementation bytes) v) t ≡ with_records change.entry.start (file_records bytes) t
-          filed_store = ap (λ (p : Place). with_file (Store name kind implementation bytes) p t) (placed.chosen v (with_is t told))
+          pub filed_store : with_file n (Store name kind implementation bytes) v (chosen_place n (Store name kind implementation bytes) v) t ≡ with_records change.entry.start (file_records bytes) t
+          filed_store = ap (λ (p : Place). with_file n (Store name kind implementation bytes) v p t) (placed.chosen v (with_is t told))
 
           replaced : Replaced change.entry.start (file_records bytes) t (with_records change.entry.start (file_records bytes) t)
           replaced = records_replaced change.entry.start (file_records bytes) t long_of
@@ -355,28 +243,29 @@ module _ {R S : Type 0} (view : R → RecordsView S) (x : VolumeView R) (header 
           pub run_is : (f : Tape) → Replaced change.entry.start (file_records bytes) t f → f ≡ with_records change.entry.start (file_records bytes) t
           run_is f done = replaced_is change.entry.start (file_records bytes) t f long_of done
 
-          again_store : with_file (Store name kind implementation bytes) (chosen_place n (Store name kind implementation bytes) v) (with_records change.entry.start (file_records bytes) t)
+          again_store : with_file n (Store name kind implementation bytes) v (chosen_place n (Store name kind implementation bytes) v) (with_records change.entry.start (file_records bytes) t)
               ≡ with_records change.entry.start (file_records bytes) t
           again_store =
               let f : Tape = with_records change.entry.start (file_records bytes) t in
-              ap (λ (p : Place). with_file (Store name kind implementation bytes) p f) (placed.chosen v (with_is t told))
+              ap (λ (p : Place). with_file n (Store name kind implementation bytes) v p f) (placed.chosen v (with_is t told))
               ∙ sym (replaced_is change.entry.start (file_records bytes) f f (omega (arith, long_of, replaced.records)) (record { records = refl; within = replaced.within; before = λ k lt. refl; behind = λ k le. refl }))
 
         -- to write the file once more changes nothing
-        again_by : (c : VolumeCommand) → PlacesFileOf n c header slots change → with_file c (chosen_place n c v) (with_file c (chosen_place n c v) t) ≡ with_file c (chosen_place n c v) t
+        again_by : (c : VolumeCommand) → PlacesFileOf n c header slots change → with_file n c v (chosen_place n c v) (with_file n c v (chosen_place n c v) t) ≡ with_file n c v (chosen_place n c v) t
         again_by Dir placed = refl
         again_by Label placed = refl
         again_by (Fetch name) placed = refl
         again_by (Store name kind implementation bytes) placed =
             let same = filed_store name kind implementation bytes placed in
-            ap (with_file (Store name kind implementation bytes) (chosen_place n (Store name kind implementation bytes) v)) same ∙ again_store name kind implementation bytes placed ∙ sym same
+            ap (with_file n (Store name kind implementation bytes) v (chosen_place n (Store name kind implementation bytes) v)) same ∙ again_store name kind implementation bytes placed ∙ sym same
         again_by (Rename old later) placed = refl
         again_by (Purge name) placed = refl
         again_by Adopt placed = refl
         again_by Upgrade placed = refl
+        again_by (Batch parts) placed = absurd placed
         again_by (Format label slots) placed = refl
 
-        settled_by : (c : VolumeCommand) → PlacesFileOf n c header slots change → refusal_of n c (Some v) ≡ None → IsSettled (with_file c (chosen_place n c v) t)
+        settled_by : (c : VolumeCommand) → PlacesFileOf n c header slots change → refusal_of n c (Some v) ≡ None → IsSettled (with_file n c v (chosen_place n c v) t)
         settled_by Dir placed none = settled_here
         settled_by Label placed none = settled_here
         settled_by (Fetch name) placed none = settled_here
@@ -388,10 +277,62 @@ module _ {R S : Type 0} (view : R → RecordsView S) (x : VolumeView R) (header 
         settled_by (Purge name) placed none = settled_here
         settled_by Adopt placed none = settled_here
         settled_by Upgrade placed none = settled_here
+        settled_by (Batch parts) placed none = absurd placed
         settled_by (Format label slots) placed none = settled_here
 
-        again : with_file command (chosen_place n command v) filed ≡ filed
-        again = ap (with_file command (chosen_place n command v)) filed_is ∙ again_by command plan.file ∙ sym filed_is
+        -- the directory, the gate and what lies behind it are none of the file's records
+        aside_by : (c : VolumeCommand) → PlacesFileOf n c header slots change → (k : ℕ) → (k < header.start + header.length) ⊎ (n - 4 ≤ k)
+            → record_at (with_file n c v (chosen_place n c v) t) k ≡ record_at t k
+        aside_by Dir placed k off = refl
+        aside_by Label placed k off = refl
+        aside_by (Fetch name) placed k off = refl
+        aside_by (Store name kind implementation bytes) placed k off = ap (λ (f : Tape). record_at f k) (filed_store name kind implementation bytes placed) ∙ elim off [
+          | inl low ↦ (replaced name kind implementation bytes placed).before k (omega (arith, low, placed.low))
+          | inr high ↦ (replaced name kind implementation bytes placed).behind k (omega (arith, high, placed.high, placed.count, records_count bytes))
+        ]
+        aside_by (Rename old later) placed k off = refl
+        aside_by (Purge name) placed k off = refl
+        aside_by Adopt placed k off = refl
+        aside_by Upgrade placed k off = refl
+        aside_by (Batch parts) placed k off = absurd placed
+        aside_by (Format label slots) placed k off = refl
+
+        aside : (k : ℕ) → (k < header.start + header.length) ⊎ (n - 4 ≤ k) → record_at filed k ≡ record_at t k
+        aside k off = ap (λ (f : Tape). record_at f k) filed_is ∙ aside_by command plan.file k off
+
+        begins : directory_start (record_at t 0) ≡ header.start
+        begins = sym (ap (λ (h : HeaderParts). h.start) (on t told).directory.header)
+
+        begins_filed : directory_start (record_at filed 0) ≡ header.start
+        begins_filed = ap directory_start (aside 0 (inl (omega (arith, readable.0)))) ∙ begins
+
+        gate_here : x.is_open ≡ has_open_gate t
+        gate_here = subst (λ (o : Option HeaderParts). IfSome o (λ h. x.is_open ≡ has_open_gate t)) kept (opened.gate t told)
+
+        pub gate_filed : x.is_open ≡ has_open_gate filed
+        gate_filed = gate_here ∙ sym (same_gate filed t (holds.0.records ∙ sym (tape t told).records) (aside (gate_of (length t)) (inr (omega (arith, (tape t told).records)))))
+
+        pub knows_filed : Knows header.start header.length (map slot_bytes x.slots) x.last filed
+        knows_filed = record { each = each; end = end }
+          where
+            count : length (map slot_bytes x.slots) ≡ length x.slots
+            count = length-map x.slots slot_bytes
+
+            each : (k : ℕ) → k < length slots → get_or slots k [] ≡ entry_from filed header.start k
+            each k lt =
+                ap (λ (xs : List (List ℕ)). get_or xs k []) (on t told).directory.bytes
+                ∙ slot_at t k (omega (arith, lt, ap length (on t told).directory.bytes))
+                ∙ ap (λ (s : ℕ). entry_at (record_at t (s + k / 8)) (k % 8)) begins
+                ∙ ap (λ (r : List ℕ). entry_at r (k % 8)) (sym (aside (header.start + k / 8) (inl (omega (arith, lt, legal.shape.few)))))
+
+            end : EndsWith header.start header.length (length slots) x.last filed
+            end short =
+                subst (λ (o : Option HeaderParts). IfSome o (λ h. EndsWith h.start h.length (length x.slots) x.last t)) kept (opened.end t told) (omega (arith, short, count))
+                ∙ ap (λ (k : ℕ). record_at t (header.start + k / 8)) (sym count)
+                ∙ sym (aside (header.start + length slots / 8) (inl (omega (arith, short))))
+
+        again : with_file n command v (chosen_place n command v) filed ≡ filed
+        again = ap (with_file n command v (chosen_place n command v)) filed_is ∙ again_by command plan.file ∙ sym filed_is
 
         pub filed_settled : IsSettled filed
         filed_settled = subst (λ (f : Tape). IsSettled f) (sym filed_is) (settled_by command plan.file free)
@@ -401,14 +342,69 @@ module _ {R S : Type 0} (view : R → RecordsView S) (x : VolumeView R) (header 
 
         of_volume : changes_of n command v filed ≡ made
         of_volume =
-            let begins : directory_start (record_at t 0) ≡ header.start = sym (ap (λ (h : HeaderParts). h.start) (on t told).directory.header) in
-            changes_are n version command v filed commits_here ∙ (λ i. changes_by (begins i) (plan.writes v (with_is t told) filed holds.0 holds.1 i) filed)
+            changes_are n version command v filed commits_here ∙ (λ i. changes_by (begins i) (plan.writes v (with_is t told) filed begins_filed i) filed)
 
         changes_is : changes_filed n command (volume_of t) t ≡ made
         changes_is = ap (λ (w : Option Volume). changes_when n command w filed) (volume_is t told) ∙ of_volume
 
         version_is : version_for n command (volume_of t) ≡ version
         version_is = ap (version_for n command) (volume_is t told) ∙ version_agrees n version command v (with_is t told).volume commits_here
+
+        -- ---- how many calls
+
+        targets_are_touched : targets_in made ≡ touched_by header.start change
+        targets_are_touched = targets_are (touched header.start (change_writes header.start change filed)) (with_slots header.start (change_writes header.start change filed) filed) ∙ touched_same header.start change filed
+
+        many : length made ≡ length (touched_by header.start change)
+        many = sym (length-map made (λ c. c.0)) ∙ ap length targets_are_touched
+
+        -- as the clauses say it
+        calls_are : past_end (directory_start (record_at t 0)) (length (slots_of t)) (targets_in made) + commit_calls (has_open_gate t) (length made) ≡ calls_of header.start (length x.slots) x.is_open change
+        calls_are = λ i. past_end (begins i) (count i) (targets_are_touched i) + commit_calls (sym gate_here i) (many i)
+          where
+            count : length (slots_of t) ≡ length x.slots
+            count = sym (ap length (on t told).directory.bytes) ∙ length-map x.slots slot_bytes
+
+        committing_is : (c : VolumeCommand) → CommitsWith n version c v → (cs : Changes) → cs ≡ made
+            → (committing_on {T = Unit {0}} c t cs (Ok tt) ≡ calls_of header.start (length x.slots) x.is_open change)
+            × ((e : Trouble) → committing_on {T = Unit {0}} c t cs (Err (Troubled e)) ≡ calls_of header.start (length x.slots) x.is_open change)
+        committing_is c commits [] is = absurd (omega (arith, ap length is, many, (touched_few header.start change).0))
+        committing_is c commits (m ∷ ms) is = by c commits
+          where
+            both : past_end (directory_start (record_at t 0)) (length (slots_of t)) (targets_in (m ∷ ms)) + commit_calls (has_open_gate t) (length (m ∷ ms)) ≡ calls_of header.start (length x.slots) x.is_open change
+            both = ap (λ (cs : Changes). past_end (directory_start (record_at t 0)) (length (slots_of t)) (targets_in cs) + commit_calls (has_open_gate t) (length cs)) is ∙ calls_are
+
+            by : (c : VolumeCommand) → CommitsWith n version c v
+                → (committing_on {T = Unit {0}} c t (m ∷ ms) (Ok tt) ≡ calls_of header.start (length x.slots) x.is_open change)
+                × ((e : Trouble) → committing_on {T = Unit {0}} c t (m ∷ ms) (Err (Troubled e)) ≡ calls_of header.start (length x.slots) x.is_open change)
+            by Dir never = absurd never
+            by Label never = absurd never
+            by (Fetch name) never = absurd never
+            by (Store name kind implementation bytes) commits = (both, λ e. both)
+            by (Rename old later) commits = (both, λ e. both)
+            by (Purge name) commits = (both, λ e. both)
+            by Adopt commits = (both, λ e. both)
+            by Upgrade commits = (both, λ e. both)
+            by (Batch parts) commits = (both, λ e. both)
+            by (Format label slots) never = absurd never
+
+        -- no more than the clauses say
+        few_of : (c : VolumeCommand) → PlacesFileOf n c header slots change → CommitsWith n version c v
+            → (file_count c + calls_of header.start (length x.slots) x.is_open change ≤ carrying_on {T = Unit {0}} n c t made (Ok tt))
+            × ((e : Trouble) → file_count c + calls_of header.start (length x.slots) x.is_open change ≤ carrying_on {T = Unit {0}} n c t made (Err (Troubled e)))
+        few_of Dir placed never = absurd never
+        few_of Label placed never = absurd never
+        few_of (Fetch name) placed never = absurd never
+        few_of (Store name kind implementation bytes) placed commits =
+            let is = committing_is (Store name kind implementation bytes) commits made refl in
+            let few : length (file_records bytes) ≤ min (beside n None) (file_length bytes) = omega (arith, records_count bytes, placed.count, placed.low, placed.high, readable.0) in
+            (omega (arith, few, is.0), λ e. omega (arith, few, is.1 e))
+        few_of (Rename old later) placed commits = let is = committing_is (Rename old later) commits made refl in (omega (arith, is.0), λ e. omega (arith, is.1 e))
+        few_of (Purge name) placed commits = let is = committing_is (Purge name) commits made refl in (omega (arith, is.0), λ e. omega (arith, is.1 e))
+        few_of Adopt placed commits = let is = committing_is Adopt commits made refl in (omega (arith, is.0), λ e. omega (arith, is.1 e))
+        few_of Upgrade placed commits = let is = committing_is Upgrade commits made refl in (omega (arith, is.0), λ e. omega (arith, is.1 e))
+        few_of (Batch parts) placed commits = absurd placed
+        few_of (Format label slots) placed never = absurd never
 
         -- ---- what a stop leaves, and what stands behind
 
@@ -459,10 +455,11 @@ module _ {R S : Type 0} (view : R → RecordsView S) (x : VolumeView R) (header 
             (started _ _ (HasEitherVolume n command t) t (λ c left. store.leaves_only t c told left) (here t told)) run.time (λ c left. partly t told name kind implementation bytes is placed c left)
 
         filed_stored : (t : Tape) (told : (view x.records).tape ≡ Some t) → file_when n command (volume_of t) t ≡ with_records change.entry.start (file_records bytes) t
-        filed_stored t told = filed_is t told ∙ (λ i. with_file (is i) (chosen_place n (is i) (volume_on t)) t) ∙ filed_store t told name kind implementation bytes placed
+        filed_stored t told = filed_is t told ∙ (λ i. with_file n (is i) (volume_on t) (chosen_place n (is i) (volume_on t)) t) ∙ filed_store t told name kind implementation bytes placed
 
         runs_stored : (t : Tape) (told : (view x.records).tape ≡ Some t) → file_runs n command (volume_of t) ≡ run_of change.entry.start bytes ∷ []
-        runs_stored t told = (λ i. file_runs n (is i) (volume_is t told i)) ∙ ap (λ (p : Place). runs_at p bytes) (placed.chosen (volume_on t) (with_is t told))
+        runs_stored t told = (λ i. file_runs n (is i) (volume_is t told i))
+            ∙ ap (λ (p : Place). map (λ file. run_of file.start file.bytes) (part_files (part.Store name kind implementation bytes) p)) (placed.chosen (volume_on t) (with_is t told))
 
         goes_stored : GoesOn (file_count command) (view x.records) w r
         goes_stored = subst (λ (k : ℕ). GoesOn k (view x.records) w r) (sym (ap file_count is)) run.goes_on
@@ -523,6 +520,7 @@ module _ {R S : Type 0} (view : R → RecordsView S) (x : VolumeView R) (header 
           by (Purge name) is has placed = cc
           by Adopt is has placed = cc
           by Upgrade is has placed = cc
+          by (Batch parts) is has placed = absurd placed
           by (Format label slots) is has placed = cc
 
       -- as many records as the directory leaves room for
@@ -538,13 +536,15 @@ module _ {R S : Type 0} (view : R → RecordsView S) (x : VolumeView R) (header 
           by (Purge name) placed = omega arith
           by Adopt placed = omega arith
           by Upgrade placed = omega arith
+          by (Batch parts) placed = absurd placed
           by (Format label slots) placed = omega arith
 
       -- ---- the file and the commit
 
-      pub puts_fail : (w : RecordsView S) (e : Trouble) → PutsFile {T = Unit {0}} command (view x.records) w (Err e) → Puts {T = Unit {0}} command header.start change (view x.records) w (Err e)
-      puts_fail w e files = record {
-        goes_on = goes_within (file_count command) (file_count command + most_commit_calls) _ _ _ (omega arith) files.goes_on;
+      pub puts_fail : (calls : ℕ) (w : RecordsView S) (e : Trouble) → PutsFile {T = Unit {0}} command (view x.records) w (Err e)
+          → Puts {T = Unit {0}} calls command header.start change (view x.records) w (Err e)
+      puts_fail calls w e files = record {
+        goes_on = goes_within (file_count command) (file_count command + calls) _ _ _ (omega arith) files.goes_on;
         on_tape = λ t told. record { stops = (files.on_tape t told).stops; done = tt; added = tt };
       }
 
@@ -558,12 +558,20 @@ module _ {R S : Type 0} (view : R → RecordsView S) (x : VolumeView R) (header 
             let was = was_told _ _ files.goes_on.continues.told f now in
             subst (λ (c : Tape). IsSettled c) (sym (same_tape (file_when n command (volume_of was.0) was.0) f _ (files.on_tape was.0 was.1).done now)) (filed_settled was.0 was.1)
 
-        pub below_there : LiesBelowRedo w.record_count header.start change
-        below_there = subst (λ (k : ℕ). LiesBelowRedo k header.start change) (sym files.goes_on.continues.size) lies_below
+        pub gate_there : (f : Tape) → w.tape ≡ Some f → x.is_open ≡ has_open_gate f
+        gate_there f now =
+            let was = was_told _ _ files.goes_on.continues.told f now in
+            subst (λ (c : Tape). x.is_open ≡ has_open_gate c) (sym (same_tape (file_when n command (volume_of was.0) was.0) f _ (files.on_tape was.0 was.1).done now)) (gate_filed was.0 was.1)
 
-        pub puts : (y : RecordsView S) (r : Result (Unit {0}) Trouble) → CommitsChange header.start change w y r → Puts command header.start change (view x.records) y r
+        pub knows_there : (f : Tape) → w.tape ≡ Some f → Knows header.start header.length (map slot_bytes x.slots) x.last f
+        knows_there f now =
+            let was = was_told _ _ files.goes_on.continues.told f now in
+            subst (λ (c : Tape). Knows header.start header.length (map slot_bytes x.slots) x.last c) (sym (same_tape (file_when n command (volume_of was.0) was.0) f _ (files.on_tape was.0 was.1).done now)) (knows_filed was.0 was.1)
+
+        pub puts : (y : RecordsView S) (r : Result (Unit {0}) Trouble) → CommitsChange header.start (length x.slots) x.is_open change w y r
+            → Puts (calls_of header.start (length x.slots) x.is_open change) command header.start change (view x.records) y r
         puts y r did = record {
-          goes_on = goes_further (file_count command) most_commit_calls (view x.records) w y tt r files.goes_on did.goes_on;
+          goes_on = goes_further (file_count command) (calls_of header.start (length x.slots) x.is_open change) (view x.records) w y tt r files.goes_on did.goes_on;
           on_tape = λ t told.
               let first = files.on_tape t told in
               let f : Tape = file_when n command (volume_of t) t in
@@ -578,12 +586,12 @@ module _ {R S : Type 0} (view : R → RecordsView S) (x : VolumeView R) (header 
               };
         }
           where
-            done_by : (r : Result (Unit {0}) Trouble) → CommitsChange header.start change w y r → (t : Tape) → (view x.records).tape ≡ Some t
+            done_by : (r : Result (Unit {0}) Trouble) → CommitsChange header.start (length x.slots) x.is_open change w y r → (t : Tape) → (view x.records).tape ≡ Some t
                 → OnOk r ((u : Tape) × (y.tape ≡ Some u) × IsCommitted version (changes_made header.start change (file_when n command (volume_of t) t)) (file_when n command (volume_of t) t) u)
             done_by (Ok tt) did t told = did.done (file_when n command (volume_of t) t) (files.on_tape t told).done
             done_by (Err e) did t told = tt
 
-            added_by : (r : Result (Unit {0}) Trouble) → CommitsChange header.start change w y r → (t : Tape) → (view x.records).tape ≡ Some t
+            added_by : (r : Result (Unit {0}) Trouble) → CommitsChange header.start (length x.slots) x.is_open change w y r → (t : Tape) → (view x.records).tape ≡ Some t
                 → OnOk r ((list : List Transfer) → (view x.records).transferred list → (more : List Transfer)
                 × y.transferred (list ++ (file_runs n command (volume_of t) ++ more))
                 × (writes_among more ≡ commit_writes version n (has_open_gate (file_when n command (volume_of t) t)) (changes_made header.start change (file_when n command (volume_of t) t)))
@@ -602,55 +610,51 @@ module _ {R S : Type 0} (view : R → RecordsView S) (x : VolumeView R) (header 
       -- ---- the whole
 
       module _ (y : VolumeView R) where
-        few_of : {T : Type 0} (c : VolumeCommand) (t : Tape) (told : (view x.records).tape ≡ Some t) (a : Result T VolumeFault) → carrying n c (Some header) a ≤ carrying_on n c (made t told) a
-        few_of Dir t told a = omega arith
-        few_of Label t told a = omega arith
-        few_of (Fetch name) t told a = omega arith
-        few_of (Store name kind implementation bytes) t told (Ok v) = omega arith
-        few_of (Store name kind implementation bytes) t told (Err (Refused why)) = omega arith
-        few_of (Store name kind implementation bytes) t told (Err (Troubled trouble)) = omega arith
-        few_of (Rename old later) t told a = omega arith
-        few_of (Purge name) t told a = omega arith
-        few_of Adopt t told a = omega arith
-        few_of Upgrade t told a = omega arith
-        few_of (Format label slots) t told a = omega arith
+        abbrev calls : ℕ
+        calls = calls_of header.start (length x.slots) x.is_open change
+
+        few_calls : calls_of header.start (length x.slots) x.is_open change ≤ most_commit_calls
+        few_calls = calls_most header.start (length x.slots) x.is_open change
 
         carrying_is : {T : Type 0} (a : Result T VolumeFault) → carrying n command x.kept a ≡ carrying n command (Some header) a
         carrying_is a = ap (λ (k : Option HeaderParts). carrying n command k a) kept
 
-        bound : (c : VolumeCommand) → PlacesFileOf n c header slots change → (file_count c + most_commit_calls ≤ carrying {T = Unit {0}} n c (Some header) (Ok tt))
-            × ((e : Trouble) → file_count c + most_commit_calls ≤ carrying {T = Unit {0}} n c (Some header) (Err (Troubled e)))
-        bound Dir placed = (omega arith, λ e. omega arith)
-        bound Label placed = (omega arith, λ e. omega arith)
-        bound (Fetch name) placed = (omega arith, λ e. omega arith)
+        bound : (c : VolumeCommand) → PlacesFileOf n c header slots change → (file_count c + calls ≤ carrying {T = Unit {0}} n c (Some header) (Ok tt))
+            × ((e : Trouble) → file_count c + calls ≤ carrying {T = Unit {0}} n c (Some header) (Err (Troubled e)))
+        bound Dir placed = (omega (arith, few_calls), λ e. omega (arith, few_calls))
+        bound Label placed = (omega (arith, few_calls), λ e. omega (arith, few_calls))
+        bound (Fetch name) placed = (omega (arith, few_calls), λ e. omega (arith, few_calls))
         bound (Store name kind implementation bytes) placed =
             let few : length (file_records bytes) ≤ min (beside n (Some header)) (file_length bytes) = omega (arith, records_count bytes, placed.count, placed.low, placed.high, readable.0) in
-            (omega (arith, few), λ e. omega (arith, few))
-        bound (Rename old later) placed = (omega arith, λ e. omega arith)
-        bound (Purge name) placed = (omega arith, λ e. omega arith)
-        bound Adopt placed = (omega arith, λ e. omega arith)
-        bound Upgrade placed = (omega arith, λ e. omega arith)
-        bound (Format label slots) placed = (omega arith, λ e. omega arith)
+            (omega (arith, few, few_calls), λ e. omega (arith, few, few_calls))
+        bound (Rename old later) placed = (omega (arith, few_calls), λ e. omega (arith, few_calls))
+        bound (Purge name) placed = (omega (arith, few_calls), λ e. omega (arith, few_calls))
+        bound Adopt placed = (omega (arith, few_calls), λ e. omega (arith, few_calls))
+        bound Upgrade placed = (omega (arith, few_calls), λ e. omega (arith, few_calls))
+        bound (Batch parts) placed = absurd placed
+        bound (Format label slots) placed = (omega (arith, few_calls), λ e. omega (arith, few_calls))
 
-        few_is : {T : Type 0} (t : Tape) (told : (view x.records).tape ≡ Some t) (a : Result T VolumeFault) → (view x.records).calls_left ≤ (view y.records).calls_left + carrying n command x.kept a
-            → (view x.records).calls_left ≤ (view y.records).calls_left + carrying_on n command (changes_filed n command (volume_of t) t) a
-        few_is t told a left = subst (λ (cs : Changes). (view x.records).calls_left ≤ (view y.records).calls_left + carrying_on n command cs a) (sym (changes_is t told)) (omega (arith, left, carrying_is a, few_of command t told a))
+        few_is : {T : Type 0} (t : Tape) (told : (view x.records).tape ≡ Some t) (a : Result T VolumeFault) → file_count command + calls ≤ carrying_on n command t (made t told) a
+            → (view x.records).calls_left ≤ (view y.records).calls_left + (file_count command + calls)
+            → (view x.records).calls_left ≤ (view y.records).calls_left + carrying_on n command t (changes_filed n command (volume_of t) t) a
+        few_is t told a few left =
+            subst (λ (cs : Changes). (view x.records).calls_left ≤ (view y.records).calls_left + carrying_on n command t cs a) (sym (changes_is t told)) (omega (arith, left, few))
 
         -- the store failed
-        pub carry_fails : (e : Trouble) → Puts {T = Unit {0}} command header.start change (view x.records) (view y.records) (Err e) → y.kept ≡ None
+        pub carry_fails : (e : Trouble) → Puts {T = Unit {0}} calls command header.start change (view x.records) (view y.records) (Err e) → y.kept ≡ None
             → CarriesOut {T = Unit {0}} command view x y (Err (Troubled e))
         carry_fails e put none =
-            let goes = goes_within (file_count command + most_commit_calls) (carrying {T = Unit {0}} n command x.kept (Err (Troubled e))) _ _ _ (omega (arith, (bound command plan.file).1 e, carrying_is {T = Unit {0}} (Err (Troubled e)))) put.goes_on in
+            let goes = goes_within (file_count command + calls) (carrying {T = Unit {0}} n command x.kept (Err (Troubled e))) _ _ _ (omega (arith, (bound command plan.file).1 e, carrying_is {T = Unit {0}} (Err (Troubled e)))) put.goes_on in
             record {
               goes_on = goes;
               kept = none;
-              on_tape = λ t told. record { few = few_is t told (Err (Troubled e)) goes.continues.left; written = λ u now. tt; answers = λ u now. tt; stops = (put.on_tape t told).stops; added = tt };
+              on_tape = λ t told. record { few = few_is t told (Err (Troubled e)) ((few_of t told command plan.file (commits_here t told)).1 e) put.goes_on.continues.left; written = λ u now. tt; answers = λ u now. tt; stops = (put.on_tape t told).stops; added = tt };
             }
 
-        module _ (put : Puts {T = Unit {0}} command header.start change (view x.records) (view y.records) (Ok tt)) (still : y.kept ≡ x.kept) where
+        module _ (put : Puts {T = Unit {0}} calls command header.start change (view x.records) (view y.records) (Ok tt)) (still : y.kept ≡ x.kept) where
           pub carries : CarriesOut {T = Unit {0}} command view x y (Ok tt)
           carries =
-              let goes = goes_within (file_count command + most_commit_calls) (carrying {T = Unit {0}} n command x.kept (Ok tt)) _ _ _ (omega (arith, (bound command plan.file).0, carrying_is {T = Unit {0}} (Ok tt))) put.goes_on in
+              let goes = goes_within (file_count command + calls) (carrying {T = Unit {0}} n command x.kept (Ok tt)) _ _ _ (omega (arith, (bound command plan.file).0, carrying_is {T = Unit {0}} (Ok tt))) put.goes_on in
               record {
                 goes_on = goes;
                 kept = still;
@@ -658,7 +662,7 @@ module _ {R S : Type 0} (view : R → RecordsView S) (x : VolumeView R) (header 
                     let did = put.on_tape t told in
                     let f : Tape = file_when n command (volume_of t) t in
                     record {
-                      few = few_is t told (Ok tt) goes.continues.left;
+                      few = few_is t told (Ok tt) (few_of t told command plan.file (commits_here t told)).0 put.goes_on.continues.left;
                       written = λ u now.
                           let same = same_tape did.done.0 u _ did.done.1 now in
                           subst (λ (w : Version). IsChanged w (changes_filed n command (volume_of t) t) f u) (sym (version_is t told))
@@ -727,8 +731,16 @@ module _ {R S : Type 0} (view : R → RecordsView S) (x : VolumeView R) (header 
                   };
                 }
 
-            pub carries_open : y.room ≡ x.room → IsOpen view y
-            carries_open room =
+            shut_now : (u : Tape) → (view y.records).tape ≡ Some u → has_open_gate u ≡ false
+            shut_now u now =
+                let was = was_told _ _ put.goes_on.continues.told u now in
+                let done = (put.on_tape was.0 was.1).done in
+                let committed : IsCommitted version (made was.0 was.1) (filed was.0 was.1) u = subst (IsCommitted version (made was.0 was.1) (filed was.0 was.1)) (sym (same_tape done.0 u _ done.1 now)) done.2 in
+                gate_at (length (filed was.0 was.1)) u committed.records ∙ ap is_open committed.gate ∙ zeros_are_shut
+
+            pub carries_open : y.room ≡ x.room → y.is_open ≡ false
+                → ((u : Tape) → (view y.records).tape ≡ Some u → EndsWith header.start header.length (count_with (length x.slots) change) y.last u) → IsOpen view y
+            carries_open room shut ends =
                 let goes = put.goes_on.continues in
                 record {
                   valid = goes.valid;
@@ -738,4 +750,7 @@ module _ {R S : Type 0} (view : R → RecordsView S) (x : VolumeView R) (header 
                   legal = subst (λ (o : Option HeaderParts). IfSome o (λ h. IsLegalDirectory (view y.records).record_count h (map slot_bytes y.slots))) (sym (still ∙ kept))
                       (subst (λ (k : ℕ). IsLegalDirectory k header (map slot_bytes y.slots)) (sym goes.size) legal_now);
                   known = λ u now. subst (λ (o : Option HeaderParts). IfSome o (λ h. IsDirectoryOf u h y.slots)) (sym (still ∙ kept)) (directory_now u now);
+                  gate = λ u now. subst (λ (o : Option HeaderParts). IfSome o (λ h. y.is_open ≡ has_open_gate u)) (sym (still ∙ kept)) (shut ∙ sym (shut_now u now));
+                  end = λ u now. subst (λ (o : Option HeaderParts). IfSome o (λ h. EndsWith h.start h.length (length y.slots) y.last u)) (sym (still ∙ kept))
+                      (subst (λ (k : ℕ). EndsWith header.start header.length k y.last u) (sym (ap length slots_are ∙ count_is slot_of change x.slots (omega (arith, plan.fits.place, length-map x.slots slot_bytes)))) (ends u now));
                 }

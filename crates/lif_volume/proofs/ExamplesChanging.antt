@@ -142,9 +142,15 @@ kept : (keeps_behind_command {T = ℕ} (Format (codes "HPTAPE") 16) true (Err (R
     × (keeps_behind_command {T = ℕ} (Purge a_name) true (Err (Refused refusal.NotLif)) ≡ false) × (keeps_behind_command {T = ℕ} (Purge a_name) true (Err (Troubled Medium)) ≡ false)
 kept = (refl, refl, refl, refl, refl, refl)
 
-counts : (committing {T = ℕ} (Ok 0) ≡ 12) × (committing {T = ℕ} (Err (Refused refusal.NoFile)) ≡ 0) × (committing {T = ℕ} (Err (Troubled Medium)) ≡ 12)
-    × (committing_on {T = ℕ} [] (Ok 0) ≡ 0) × (committing_on {T = ℕ} ((2, []) ∷ []) (Ok 0) ≡ 12)
-counts = (refl, refl, refl, refl, refl)
+counts : (committing {T = ℕ} (Ok 0) ≡ 10) × (committing {T = ℕ} (Err (Refused refusal.NoFile)) ≡ 0) × (committing {T = ℕ} (Err (Troubled Medium)) ≡ 10)
+counts = (refl, refl, refl)
+
+-- on a tape with two slots and a closed gate: a change of the record with the end, and of that record and the next one
+counts_on : (committing_on {T = ℕ} Adopt old [] (Ok 0) ≡ 0) × (committing_on {T = ℕ} Adopt old ((2, []) ∷ []) (Ok 0) ≡ 5)
+    × (committing_on {T = ℕ} Adopt old ((2, []) ∷ (3, []) ∷ []) (Err (Troubled Medium)) ≡ 8) × (committing_on {T = ℕ} (Format (codes "HPTAPE") 16) old ((0, []) ∷ (3, []) ∷ []) (Ok 0) ≡ 7)
+    × (committing_on {T = ℕ} Adopt old ((2, []) ∷ []) (Err (Refused refusal.NoFile)) ≡ 0)
+unfolding is_open four_at two_at entry_at entries_of
+counts_on = (refl, refl, refl, refl, refl)
 
 -- ---- the writes
 
@@ -219,10 +225,10 @@ files = (refl, refl)
 not_files : (HasFile (Store b_name 1 (replicate 4 0) (7 ∷ [])) None → ⊥) × (HasFile (Purge a_name) (Some []) → ⊥)
 not_files = ((λ has. cc), λ has. cc)
 
-calls : (file_count (Store b_name 1 (replicate 4 0) []) ≡ 1) × (file_count Adopt ≡ 0) × (carry_room 512 (record { label = codes "HPTAPE"; start = 2; length = 4 }) ≡ 515)
-    × (filing {T = ℕ} 512 None (7 ∷ []) (Ok 0) ≡ 13) × (carrying {T = ℕ} 512 (Store b_name 1 (replicate 4 0) (7 ∷ [])) None (Ok 0) ≡ 13)
-    × (carrying {T = ℕ} 512 (Purge a_name) None (Ok 0) ≡ 12) × (carrying_on {T = ℕ} 512 (Purge a_name) [] (Ok 0) ≡ 0) × (changing {T = ℕ} 512 Adopt None None (Ok 0) ≡ 590)
-    × (changing {T = ℕ} 512 (Store b_name 1 (replicate 4 0) (7 ∷ [])) None None (Err (Troubled Medium)) ≡ 590)
+calls : (file_count (Store b_name 1 (replicate 4 0) []) ≡ 1) × (file_count Adopt ≡ 0) × (carry_room 512 (record { label = codes "HPTAPE"; start = 2; length = 4 }) ≡ 513)
+    × (filing {T = ℕ} 512 None (7 ∷ []) (Ok 0) ≡ 1) × (carrying {T = ℕ} 512 (Store b_name 1 (replicate 4 0) (7 ∷ [])) None (Ok 0) ≡ 11)
+    × (carrying {T = ℕ} 512 (Purge a_name) None (Ok 0) ≡ 10) × (carrying_on {T = ℕ} 512 (Purge a_name) [] [] (Ok 0) ≡ 0) × (changing {T = ℕ} 512 Adopt None None (Ok 0) ≡ 588)
+    × (changing {T = ℕ} 512 (Store b_name 1 (replicate 4 0) (7 ∷ [])) None None (Err (Troubled Medium)) ≡ 588)
 calls = (refl, refl, refl, refl, refl, refl, refl, refl, refl)
 
 -- ---- refusals of each command

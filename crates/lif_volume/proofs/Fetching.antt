@@ -137,6 +137,8 @@ open_reading view y records is valid size tape = record {
   room = is.room ∙ ap (λ (n : ℕ). 8 * (n - 5)) (sym size);
   legal = subst (λ (n : ℕ). IfSome y.kept (λ h. IsLegalDirectory n h (map slot_bytes y.slots))) (sym size) is.legal;
   known = λ t told. is.known t (sym tape ∙ told);
+  gate = λ t told. is.gate t (sym tape ∙ told);
+  end = λ t told. is.end t (sym tape ∙ told);
 }
 
 -- ---- the list of reads and writes

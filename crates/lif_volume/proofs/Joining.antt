@@ -6,7 +6,7 @@ use Rattle.lif_model.specs.Header.{HeaderParts}
 use Rattle.lif_model.specs.Redo.{redo_of, settled}
 use Rattle.lif_model.specs.Commit.{IsSettleWrite}
 use Rattle.lif_model.specs.Volume.{Volume, volume_in, volume_of}
-use Rattle.lif_model.specs.Apply.{VolumeCommand, Dir, Label, Fetch, Store, Rename, Purge, Adopt, Upgrade, Format, refusal_of, apply}
+use Rattle.lif_model.specs.Apply.{VolumeCommand, Dir, Label, Fetch, Store, Rename, Purge, Adopt, Upgrade, Batch, Format, refusal_of, apply}
 use Rattle.lif_model.specs.Transfers.{Transfer}
 use Rattle.lif_model.proofs.Moments.{follows, weaker}
 use Rattle.lif_model.proofs.Redo.{settled_twice}
@@ -32,10 +32,11 @@ use Rattle.lif_volume.specs.Did.{IsOneOf, refusals_of, Alters}
 use Rattle.lif_volume.proofs.Mounting.{behind, answers_fault}
 use Rattle.lif_volume.proofs.Fetching.{legal_of}
 
--- ---- every command but `format` mounts first, and is refused of a tape that is not legal
+-- ---- every command of one change mounts first, and is refused of a tape that is not legal; `format` is not
 
 abbrev pub Mounts : VolumeCommand → Type 0
 Mounts (Format label slots) = ⊥
+Mounts (Batch parts) = ⊥
 Mounts command = Unit {0}
 
 refused_is : (command : VolumeCommand) (why : Refusal) (t : Tape) → Mounts command → refused_tape command why t ≡ settled t
@@ -47,6 +48,7 @@ refused_is (Rename old later) why t mounts = refl
 refused_is (Purge name) why t mounts = refl
 refused_is Adopt why t mounts = refl
 refused_is Upgrade why t mounts = refl
+refused_is (Batch parts) why t mounts = absurd mounts
 refused_is (Format label slots) why t mounts = absurd mounts
 
 keeps_is : {T : Type 0} (command : VolumeCommand) (was : Bool) (answer : Result T VolumeFault) → Mounts command → keeps_behind_command command was answer ≡ keeps answer
@@ -58,6 +60,7 @@ keeps_is (Rename old later) was answer mounts = refl
 keeps_is (Purge name) was answer mounts = refl
 keeps_is Adopt was answer mounts = refl
 keeps_is Upgrade was answer mounts = refl
+keeps_is (Batch parts) was answer mounts = absurd mounts
 keeps_is (Format label slots) was answer mounts = absurd mounts
 
 not_lif : (n : ℕ) (command : VolumeCommand) → Mounts command → refusal_of n command None ≡ Some refusal.NotLif
@@ -69,6 +72,7 @@ not_lif n (Rename old later) mounts = refl
 not_lif n (Purge name) mounts = refl
 not_lif n Adopt mounts = refl
 not_lif n Upgrade mounts = refl
+not_lif n (Batch parts) mounts = absurd mounts
 not_lif n (Format label slots) mounts = absurd mounts
 
 -- ---- by cases on the answer
@@ -121,15 +125,15 @@ module _ {T : Type 0} (n : ℕ) (header : HeaderParts) (long : header.length + 5
       go false e None = let same : after ≡ None = is ∙ ap (λ (b : Bool). if b then Some header else None) e in subst (λ (w : Option HeaderParts). 71 + header.length + committing a ≤ mounting n None w + committing a) (sym same) (omega (arith, long))
       go false e (Some h) = omega arith
 
-  storing_bound : (old after : Option HeaderParts) (bytes : List ℕ) → after ≡ (if keeps a then Some header else None) → mounting n old (Some header) + filing n (Some header) bytes a ≤ storing n old after bytes a
+  storing_bound : (old after : Option HeaderParts) (bytes : List ℕ) → after ≡ (if keeps a then Some header else None) → mounting n old (Some header) + (filing n (Some header) bytes a + committing a) ≤ storing n old after bytes a
   storing_bound (Some h) after bytes is = omega (arith, filing_any n header bytes a)
-  storing_bound None after bytes is = subst (λ (w : Option HeaderParts). mounting n None (Some header) + filing n (Some header) bytes a ≤ storing n None w bytes a) (sym is) (by a)
+  storing_bound None after bytes is = subst (λ (w : Option HeaderParts). mounting n None (Some header) + (filing n (Some header) bytes a + committing a) ≤ storing n None w bytes a) (sym is) (by a)
     where
-      refused : (why : Refusal) (b : Bool) → mounting n None (Some header) + filing {T = T} n (Some header) bytes (Err (Refused why)) ≤ storing {T = T} n None (if b then Some header else None) bytes (Err (Refused why))
+      refused : (why : Refusal) (b : Bool) → mounting n None (Some header) + (filing {T = T} n (Some header) bytes (Err (Refused why)) + committing {T = T} (Err (Refused why))) ≤ storing {T = T} n None (if b then Some header else None) bytes (Err (Refused why))
       refused why true = omega arith
       refused why false = omega (arith, long)
 
-      by : (a : Result T VolumeFault) → mounting n None (Some header) + filing n (Some header) bytes a ≤ storing n None (if keeps a then Some header else None) bytes a
+      by : (a : Result T VolumeFault) → mounting n None (Some header) + (filing n (Some header) bytes a + committing a) ≤ storing n None (if keeps a then Some header else None) bytes a
       by (Ok x) = omega arith
       by (Err (Refused why)) = refused why (keeps {T = T} (Err (Refused why)))
       by (Err (Troubled trouble)) = omega (arith, long)
@@ -144,6 +148,7 @@ module _ {T : Type 0} (n : ℕ) (header : HeaderParts) (long : header.length + 5
   changing_bound (Purge name) old after mounts is = few_bound old after is
   changing_bound Adopt old after mounts is = few_bound old after is
   changing_bound Upgrade old after mounts is = few_bound old after is
+  changing_bound (Batch parts) old after mounts is = absurd mounts
   changing_bound (Format label slots) old after mounts is = absurd mounts
 
 -- on a told tape, of a directory that is read or not
@@ -160,6 +165,7 @@ carrying_any n (Rename old_name later) old new a mounts = omega arith
 carrying_any n (Purge name) old new a mounts = omega arith
 carrying_any n Adopt old new a mounts = omega arith
 carrying_any n Upgrade old new a mounts = omega arith
+carrying_any n (Batch parts) old new a mounts = absurd mounts
 carrying_any n (Format label slots) old new a mounts = absurd mounts
 
 -- ---- refusals
@@ -256,7 +262,7 @@ module _ {R S : Type 0} (view : R → RecordsView S) (x y z : VolumeView R) (hea
             (goes_further (mounting n x.kept (Some header)) (carrying n command (Some header) a) (view x.records) (view y.records) (view z.records) tt (store_answer a)
             (subst (λ (o : Option HeaderParts). GoesOn {T = Unit {0}} (mounting n x.kept o) (view x.records) (view y.records) (Ok tt)) kept mounted.goes_on) carries_on);
         few = λ t told.
-            omega (arith, mounted.few t told, (on t told).few, ap (λ (v : Option Volume). carrying_on n command (changes_filed n command v (settled t)) a) (same t told));
+            omega (arith, mounted.few t told, (on t told).few, ap (λ (v : Option Volume). carrying_on n command (settled t) (changes_filed n command v (settled t)) a) (same t told));
         kept = is_kept (keeps a) refl ∙ sym (keeps_is command (is_some x.kept) a mounts);
         only = subst (λ (all : List Refusal). IfErr a (IsOneOf all)) (sym list) (among_more refusal.NotLif names a only);
         answers = parts_answers view x y z command a size mounted.settles carried.on_tape;

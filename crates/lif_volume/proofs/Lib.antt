@@ -1,5 +1,6 @@
 mod Mounting
 mod Fetching
+mod Making
 mod Carrying
 mod Joining
 mod Renewing

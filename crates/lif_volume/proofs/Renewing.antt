@@ -1,11 +1,11 @@
 -- `format`: any tape becomes an empty volume.
-use Rattle.std.proofs.Common.{◌≡◌, ◌<◌, ◌≤◌, ◌+◌, ◌-◌, ◌*◌, ◌&&◌, ℕ, List, [], ◌∷◌, Bool, true, false, if◌then◌else◌, length, map, inl, inr, refl, sym, ap, subst, ◌∙◌, arith}
+use Rattle.std.proofs.Common.{◌≡◌, ◌<◌, ◌≤◌, ◌+◌, ◌-◌, ◌*◌, ◌/◌, ◌&&◌, ℕ, List, [], ◌∷◌, Bool, true, false, if◌then◌else◌, length, length-set, get_or-set_same, set, map, inl, inr, refl, sym, ap, subst, ◌∙◌, arith}
 use Rattle.std.specs.Prelude.{Option, Some, None, Result, Ok, Err, IfErr, IfSome, is_some, filter, not}
 use Rattle.std.proofs.lemmas.List.{append-nil}
-use Rattle.lif_model.specs.Tape.{Tape, IsTape}
-use Rattle.lif_model.specs.Gate.{has_open_gate}
+use Rattle.lif_model.specs.Tape.{Tape, IsTape, record_at}
+use Rattle.lif_model.specs.Gate.{is_open, has_open_gate}
 use Rattle.lif_model.specs.Header.{HeaderParts, header_of, is_readable, directory_end}
-use Rattle.lif_model.specs.Made.{fresh_header, records_for_slots}
+use Rattle.lif_model.specs.Made.{fresh_header, first_directory_record, records_for_slots}
 use Rattle.lif_model.specs.declared.version.Version.TheVariants.{One}
 use Rattle.lif_model.specs.Redo.{Changes, redo_of, settled, IsSettled}
 use Rattle.lif_model.specs.Commit.{IsSettleWrite, IsOldOrNew, IsCommitted, commit_writes}
@@ -18,7 +18,8 @@ use Rattle.lif_model.specs.Apply.{VolumeCommand, Format, is_too_long, lacks_redo
 use Rattle.lif_model.specs.declared.refusal.Refusal.{Refusal}
 use Rattle.lif_model.specs.Writing.{format_changes}
 use Rattle.lif_model.proofs.Moments.{weaker}
-use Rattle.lif_model.proofs.Redo.{settled_twice}
+use Rattle.lif_model.proofs.Redo.{zeros_are_shut, gate_at, settled_twice}
+use Rattle.lif_model.proofs.Made.{fresh_start}
 use Rattle.lif_model.proofs.Legal.{legal_from}
 use Rattle.lif_model.proofs.Apply.{refused_stays, format_is_adopted}
 use Rattle.lif_model.proofs.Directory.{volume_tells, volume_from}
@@ -28,6 +29,8 @@ use Rattle.il_ports.specs.declared.records.Trouble.{Trouble}
 use Rattle.il_ports.specs.Stores.{RecordsView, IsStore, IsReady, GoesOn, RunLeaves}
 use Rattle.il_ports.specs.Transfers.{GoesOnBy, AddsOnly}
 use Rattle.il_ports.proofs.Stores.{goes_nowhere, goes_within, goes_further, quiet_run, quiet_nowhere}
+use Rattle.lif_redo.specs.Atomic.{commit_calls}
+use Rattle.lif_commit.specs.Staged.{EndsWith, most_commit_calls}
 use Rattle.lif_redo.specs.Writing.{AddsWrites}
 use Rattle.lif_redo.proofs.Told.{was_told}
 use Rattle.lif_dir.specs.Entries.{slot_from, slot_bytes}
@@ -173,9 +176,14 @@ module _ {R S : Type 0} (view : R → RecordsView S) (x : VolumeView R) (label :
 
   module _ (y : VolumeView R) (cs : Changes) (is : cs ≡ format_changes (view x.records).record_count label slots)
       (any_moment : (t : Tape) → (view x.records).tape ≡ Some t → RunLeaves (view x.records) (view y.records) (IsOldOrNew One cs t))
-      (after : (t : Tape) → (view x.records).tape ≡ Some t → (u : Tape) × ((view y.records).tape ≡ Some u) × IsOldOrNew One cs t u) where
-    count : 2 * length cs + 6 ≤ 12
-    count = omega (arith, ap length is)
+      (after : (t : Tape) → (view x.records).tape ≡ Some t → (u : Tape) × ((view y.records).tape ≡ Some u) × IsOldOrNew One cs t u)
+      (gate : (t : Tape) → (view x.records).tape ≡ Some t → x.is_open ≡ has_open_gate t) where
+    few : (b : Bool) → commit_calls b (length cs) ≤ most_commit_calls
+    few true = omega (arith, ap length is)
+    few false = omega (arith, ap length is)
+
+    calls_are : (t : Tape) → (view x.records).tape ≡ Some t → commit_calls x.is_open (length cs) ≡ commit_calls (has_open_gate t) (length (format_changes (view x.records).record_count label slots))
+    calls_are t told = λ i. commit_calls (gate t told i) (length (is i))
 
     turns : (t : Tape) → (view x.records).tape ≡ Some t → VolumeTurns n command (view x.records) (view y.records) t
     turns t told =
@@ -184,15 +192,15 @@ module _ {R S : Type 0} (view : R → RecordsView S) (x : VolumeView R) (label :
         record { stops = weaker _ _ _ _ _ _ (any_moment t told) each; after = (left.0, left.1, each left.0 left.2) }
 
     -- the store failed
-    pub renewing_fails : (trouble : Trouble) → GoesOn {T = Unit {0}} (2 * length cs + 6) (view x.records) (view y.records) (Err trouble) → y.kept ≡ None
+    pub renewing_fails : (trouble : Trouble) → GoesOn {T = Unit {0}} (commit_calls x.is_open (length cs)) (view x.records) (view y.records) (Err trouble) → y.kept ≡ None
         → Renews {T = Unit {0}} command view x y (Err (Troubled trouble))
     renewing_fails trouble goes none =
-        let within : GoesOn {T = Unit {0}} 12 (view x.records) (view y.records) (Err trouble) = goes_within (2 * length cs + 6) 12 _ _ _ count goes in
+        let within : GoesOn {T = Unit {0}} most_commit_calls (view x.records) (view y.records) (Err trouble) = goes_within (commit_calls x.is_open (length cs)) most_commit_calls _ _ _ (few x.is_open) goes in
         record {
           goes_on = within;
           kept = ap is_some none;
           on_tape = λ t told. record {
-            few = subst (λ (ds : Changes). (view x.records).calls_left ≤ (view y.records).calls_left + committing_on {T = Unit {0}} ds (Err (Troubled trouble))) (sym (changes_is t told)) within.continues.left;
+            few = subst (λ (ds : Changes). (view x.records).calls_left ≤ (view y.records).calls_left + committing_on {T = Unit {0}} (Format label slots) t ds (Err (Troubled trouble))) (sym (changes_is t told)) (omega (arith, goes.continues.left, calls_are t told));
             written = λ u now. tt;
             answers = λ u now. tt;
             stops = turns t told;
@@ -200,11 +208,11 @@ module _ {R S : Type 0} (view : R → RecordsView S) (x : VolumeView R) (label :
           };
         }
 
-    module _ (goes : GoesOn {T = Unit {0}} (2 * length cs + 6) (view x.records) (view y.records) (Ok tt))
+    module _ (goes : GoesOn {T = Unit {0}} (commit_calls x.is_open (length cs)) (view x.records) (view y.records) (Ok tt))
         (done : (t : Tape) → (view x.records).tape ≡ Some t → (u : Tape) × ((view y.records).tape ≡ Some u) × IsCommitted One cs t u)
         (header : HeaderParts) (kept : y.kept ≡ Some header) where
-      within : GoesOn {T = Unit {0}} 12 (view x.records) (view y.records) (Ok tt)
-      within = goes_within (2 * length cs + 6) 12 _ _ _ count goes
+      within : GoesOn {T = Unit {0}} most_commit_calls (view x.records) (view y.records) (Ok tt)
+      within = goes_within (commit_calls x.is_open (length cs)) most_commit_calls _ _ _ (few x.is_open) goes
 
       made_there : (t : Tape) (told : (view x.records).tape ≡ Some t) → (u : Tape) → (view y.records).tape ≡ Some u → IsCommitted One changes t u
       made_there t told u now =
@@ -218,7 +226,7 @@ module _ {R S : Type 0} (view : R → RecordsView S) (x : VolumeView R) (label :
         goes_on = within;
         kept = ap is_some kept;
         on_tape = λ t told. record {
-          few = subst (λ (ds : Changes). (view x.records).calls_left ≤ (view y.records).calls_left + committing_on {T = Unit {0}} ds (Ok tt)) (sym (changes_is t told)) within.continues.left;
+          few = subst (λ (ds : Changes). (view x.records).calls_left ≤ (view y.records).calls_left + committing_on {T = Unit {0}} (Format label slots) t ds (Ok tt)) (sym (changes_is t told)) (omega (arith, goes.continues.left, calls_are t told));
           written = λ u now. subst (λ (ds : Changes). IsChanged One ds t u) (sym (changes_is t told)) (made_there t told u now);
           answers = λ u now. applied t told ∙ ap (λ (v : Option Volume). (None, v)) (sym (now_is t told u (made_there t told u now)));
           stops = turns t told;
@@ -268,8 +276,29 @@ module _ {R S : Type 0} (view : R → RecordsView S) (x : VolumeView R) (label :
               };
             }
 
-        pub renewed_open : y.room ≡ x.room → IsOpen view y
-        renewed_open room = record {
+        -- the gate reads closed
+        shut_now : (u : Tape) → (view y.records).tape ≡ Some u → has_open_gate u ≡ false
+        shut_now u now =
+            let was = was_told _ _ goes.continues.told u now in
+            let there = made_there was.0 was.1 u now in
+            gate_at (length was.0) u there.records ∙ ap is_open there.gate ∙ zeros_are_shut
+
+        -- and the directory's first record holds its end
+        ends_now : y.last ≡ first_directory_record (redo_entry One (view x.records).record_count) → (u : Tape) → (view y.records).tape ≡ Some u
+            → EndsWith header.start header.length (length y.slots) y.last u
+        ends_now last u now short =
+            let was = was_told _ _ goes.continues.told u now in
+            let there = made_there was.0 was.1 u now in
+            let first : List ℕ = fresh_header (view x.records).record_count label (records_for_slots slots) in
+            let entry : List ℕ = first_directory_record (redo_entry One (view x.records).record_count) in
+            let long : length was.0 ≡ n = (tape was.0 was.1).records in
+            let at : header.start ≡ 2 = ap (λ (h : HeaderParts). h.start) header_is ∙ fresh_start n label (records_for_slots slots) six in
+            let place : header.start + length y.slots / 8 ≡ 2 = omega (arith, at, ap length slots_are) in
+            last ∙ sym (get_or-set_same (set was.0 0 first) 2 entry [] (omega (arith, length-set was.0 0 first, long, opened.size)))
+            ∙ sym (there.below 2 (omega (arith, long, opened.size))) ∙ ap (record_at u) (sym place)
+
+        pub renewed_open : y.room ≡ x.room → y.is_open ≡ false → y.last ≡ first_directory_record (redo_entry One (view x.records).record_count) → IsOpen view y
+        renewed_open room shut last = record {
           valid = goes.continues.valid;
           size = omega (arith, opened.size, goes.continues.size);
           small = omega (arith, opened.small, goes.continues.size);
@@ -277,6 +306,8 @@ module _ {R S : Type 0} (view : R → RecordsView S) (x : VolumeView R) (label :
           legal = subst (λ (k : Option HeaderParts). IfSome k (λ h. IsLegalDirectory (view y.records).record_count h (map slot_bytes y.slots))) (sym kept)
               (subst (λ (m : ℕ). IsLegalDirectory m header (map slot_bytes y.slots)) (sym goes.continues.size) legal_now);
           known = λ u now. subst (λ (k : Option HeaderParts). IfSome k (λ h. IsDirectoryOf u h y.slots)) (sym kept) (directory_now u now);
+          gate = λ u now. subst (λ (k : Option HeaderParts). IfSome k (λ h. y.is_open ≡ has_open_gate u)) (sym kept) (shut ∙ sym (shut_now u now));
+          end = λ u now. subst (λ (k : Option HeaderParts). IfSome k (λ h. EndsWith h.start h.length (length y.slots) y.last u)) (sym kept) (ends_now last u now);
         }
 
 -- ---- both parts
@@ -321,7 +352,7 @@ module _ {R S : Type 0} (view : R → RecordsView S) (x y z : VolumeView R) (lab
           few = λ t told.
               let on = carried_on view x y z (Format label slots) a size cleared.settles renews.on_tape t told in
               let same = settled_same view x y z (Format label slots) a size cleared.settles renews.on_tape t told in
-              omega (arith, cleared.few t told, on.few, ap (λ (v : Option Volume). carrying_on n (Format label slots) (changes_filed n (Format label slots) v (settled t)) a) same);
+              omega (arith, cleared.few t told, on.few, ap (λ (v : Option Volume). carrying_on n (Format label slots) (settled t) (changes_filed n (Format label slots) v (settled t)) a) same);
           kept = renews.kept ∙ sym (as_kept a only);
           only = one_of a only;
           answers = parts_answers view x y z (Format label slots) a size cleared.settles renews.on_tape;

@@ -7,7 +7,7 @@ use Rattle.lif_model.specs.Made.{file_records}
 use Rattle.lif_model.specs.Commit.{IsCommitted, commit_writes}
 use Rattle.lif_model.specs.Redo.{Changes}
 use Rattle.lif_model.specs.Volume.{volume_of}
-use Rattle.lif_model.specs.Apply.{VolumeCommand, Store}
+use Rattle.lif_model.specs.Apply.{VolumeCommand, Dir, Label, Fetch, Store, Rename, Purge, Adopt, Upgrade, Batch, Format}
 use Rattle.lif_model.specs.Transfers.{Transfer}
 use Rattle.lif_model.specs.Writing.{changes_by}
 use Rattle.il_ports.specs.declared.records.Trouble.{Trouble}
@@ -19,7 +19,7 @@ use Rattle.lif_dir.specs.Changes.{change_writes}
 use Rattle.lif_volume.specs.declared.fault.VolumeFault.{VolumeFault}
 use Rattle.lif_volume.specs.Views.{VolumeView}
 use Rattle.lif_volume.specs.Answers.{keeps, store_answer, Answers}
-use Rattle.lif_volume.specs.Changing.{beside, file_when, changes_filed, file_runs, carrying, carrying_on, IsWrittenOn, VolumeTurns, AddsAsAnswered}
+use Rattle.lif_volume.specs.Changing.{beside, file_when, changes_filed, file_runs, records_stored, carrying, carrying_on, IsWrittenOn, VolumeTurns, AddsAsAnswered}
 
 -- as many records as a file beside a directory with this header and a commit may read and write
 abbrev pub carry_room : ℕ → HeaderParts → ℕ
@@ -27,14 +27,23 @@ carry_room n header = beside n (Some header) + most_commit_calls
 
 -- ---- the file
 
--- these are the bytes of the command's file: a store has one, and no other command
+-- these are the bytes of the command's file: a store has one, a batch any number, and no other command one
 abbrev pub HasFile : VolumeCommand → Option (List ℕ) → Type 0
 HasFile (Store name kind implementation bytes) file = file ≡ Some bytes
-HasFile command file = file ≡ None
+HasFile (Batch parts) file = ⊥
+HasFile Dir file = file ≡ None
+HasFile Label file = file ≡ None
+HasFile (Fetch name) file = file ≡ None
+HasFile (Rename old new) file = file ≡ None
+HasFile (Purge name) file = file ≡ None
+HasFile Adopt file = file ≡ None
+HasFile Upgrade file = file ≡ None
+HasFile (Format label slots) file = file ≡ None
 
 -- how many records the file has
 abbrev pub file_count : VolumeCommand → ℕ
 file_count (Store name kind implementation bytes) = length (file_records bytes)
+file_count (Batch parts) = records_stored parts
 file_count command = 0
 
 -- The file is written, on a told tape which is settled. Behind an Ok it stands, by one run.
@@ -63,15 +72,16 @@ pub record PutsOn {S T : Type 0} (n : ℕ) (command : VolumeCommand) (start : �
       × (writes_among more ≡ commit_writes change.version n (has_open_gate (file_when n command (volume_of t) t)) (changes_made start change (file_when n command (volume_of t) t)))
       × AreSingle more)
 
-pub record Puts {S T : Type 0} (command : VolumeCommand) (start : ℕ) (change : Change) (v w : RecordsView S) (answer : Result T Trouble) : Type 0 where
-  pub goes_on : GoesOn (file_count command + most_commit_calls) v w answer
+-- in so many calls of the commit
+pub record Puts {S T : Type 0} (calls : ℕ) (command : VolumeCommand) (start : ℕ) (change : Change) (v w : RecordsView S) (answer : Result T Trouble) : Type 0 where
+  pub goes_on : GoesOn (file_count command + calls) v w answer
   pub on_tape : (t : Tape) → v.tape ≡ Some t → PutsOn v.record_count command start change v w t answer
 
 -- ---- the whole
 
 -- on a told tape, which is settled
 pub record CarriesOutOn {S T : Type 0} (n : ℕ) (command : VolumeCommand) (v w : RecordsView S) (t : Tape) (answer : Result T VolumeFault) : Type 0 where
-  pub few : v.calls_left ≤ w.calls_left + carrying_on n command (changes_filed n command (volume_of t) t) answer
+  pub few : v.calls_left ≤ w.calls_left + carrying_on n command t (changes_filed n command (volume_of t) t) answer
   pub written : (u : Tape) → w.tape ≡ Some u → IsWrittenOn n command (volume_of t) t u answer
   pub answers : (u : Tape) → w.tape ≡ Some u → Answers n command t u answer
   pub stops : VolumeTurns n command v w t

@@ -1,21 +1,25 @@
 -- What the commands that change a volume do: first the file of a store, and then slots of the directory by one commit.
-use Rattle.std.specs.Prelude.{◌≡◌, ◌⊎◌, ◌+◌, ◌-◌, ◌++◌, ℕ, Bool, List, [], ◌∷◌, true, false, min, Option, Some, None, Result, Ok, Err}
-use Rattle.lif_model.specs.Tape.{Tape}
+use Rattle.std.specs.Prelude.{◌≡◌, ◌⊎◌, ◌+◌, ◌-◌, ◌++◌, ℕ, Bool, List, [], ◌∷◌, true, false, length, map, min, Option, Some, None, Result, Ok, Err}
+use Rattle.lif_model.specs.Tape.{Tape, record_at}
 use Rattle.lif_model.specs.Gate.{has_open_gate}
-use Rattle.lif_model.specs.Header.{HeaderParts}
+use Rattle.lif_model.specs.Header.{HeaderParts, directory_start}
+use Rattle.lif_model.specs.Directory.{slots_of}
 use Rattle.lif_model.specs.Made.{file_length, filled}
 use Rattle.lif_model.specs.declared.version.Version.{Version}
-use Rattle.lif_model.specs.Redo.{Changes, redo_of, settled}
+use Rattle.lif_model.specs.Redo.{Changes, targets_in, redo_of, settled}
 use Rattle.lif_model.specs.Commit.{IsSettleWrite, IsCommitted, commit_writes}
 use Rattle.lif_model.specs.Volume.{Volume, volume_of, is_foreign_gated}
-use Rattle.lif_model.specs.Fit.{Place, At, NoSlot}
-use Rattle.lif_model.specs.Apply.{VolumeCommand, Store, Format, apply}
-use Rattle.lif_model.specs.Writing.{format_changes, changes_of, with_file, chosen_place}
+use Rattle.lif_model.specs.Parts.{Part}
+use Rattle.lif_model.specs.Parts as part
+use Rattle.lif_model.specs.Apply.{VolumeCommand, Store, Batch, Format, apply}
+use Rattle.lif_model.specs.Fit.{Place, NoSlot, fit_in}
+use Rattle.lif_model.specs.Writing.{format_changes, changes_of, NewFile, part_files, files_left, with_files}
 use Rattle.lif_model.specs.Transfers.{Transfer}
 use Rattle.il_ports.specs.Stores.{RecordsView, RunLeaves}
 use Rattle.il_ports.specs.Transfers.{WritesOnly, GoesOnBy}
 use Rattle.lif_redo.specs.Writing.{writes_among, AreSingle}
-use Rattle.lif_commit.specs.Staged.{most_commit_calls}
+use Rattle.lif_redo.specs.Atomic.{commit_calls}
+use Rattle.lif_commit.specs.Staged.{past_end, most_commit_calls}
 use Rattle.lif_model.specs.declared.refusal.Refusal.{Refusal}
 use Rattle.lif_model.specs.declared.refusal.Refusal.TheVariants as refusal
 use Rattle.lif_plan.specs.Plans.{version_for}
@@ -28,13 +32,21 @@ use Rattle.lif_volume.specs.Commands.{IsTold, mounting}
 -- ---- what is written of a settled tape, whose volume is that one or none
 
 -- the place of a store's file
-abbrev pub place_when : ℕ → VolumeCommand → Option Volume → Place
-place_when n command (Some v) = chosen_place n command v
-place_when n command None = NoSlot
+abbrev pub place_when : ℕ → List ℕ → Option Volume → Place
+place_when n bytes (Some v) = fit_in n v (file_length bytes)
+place_when n bytes None = NoSlot
 
--- the tape once the file is written; every command but a store leaves it
+-- the files that it writes
+abbrev pub files_when : ℕ → VolumeCommand → Option Volume → List NewFile
+files_when n (Store name kind implementation bytes) volume =
+    part_files (part.Store name kind implementation bytes) (place_when n bytes volume)
+files_when n (Batch parts) (Some v) = files_left n parts v
+files_when n (Batch parts) None = []
+files_when n command volume = []
+
+-- the tape once they are written
 abbrev pub file_when : ℕ → VolumeCommand → Option Volume → Tape → Tape
-file_when n command volume tape = with_file command (place_when n command volume) tape
+file_when n command volume tape = with_files (files_when n command volume) tape
 
 -- the records that change at once on a tape
 abbrev pub changes_when : ℕ → VolumeCommand → Option Volume → Tape → Changes
@@ -70,9 +82,10 @@ IsWrittenAs n command t u (Err (Refused why)) = u ≡ refused_tape command why t
 IsWrittenAs n command t u answer = IsWrittenOn n command (volume_of t) (settled t) u answer
 
 -- whether the directory is kept behind an answer, where it was kept before or not: `format` that is
--- refused for want of room leaves that
+-- refused for want of room leaves that, and a batch that is refused forgets it
 abbrev pub keeps_behind_command : {T : Type 0} → VolumeCommand → Bool → Result T VolumeFault → Bool
 keeps_behind_command (Format label slots) was (Err (Refused refusal.NoRoom)) = was
+keeps_behind_command (Batch parts) was (Err (Refused why)) = false
 keeps_behind_command command was answer = keeps answer
 
 -- ---- how many records are read and written
@@ -83,10 +96,18 @@ committing (Err (Refused why)) = 0
 committing (Ok _) = most_commit_calls
 committing (Err (Troubled trouble)) = most_commit_calls
 
--- none where the command changes nothing
-abbrev pub committing_on : {T : Type 0} → Changes → Result T VolumeFault → ℕ
-committing_on [] answer = 0
-committing_on (c ∷ cs) answer = committing answer
+-- those of the directory past the one with the end; `format` reads none
+abbrev pub past_on : VolumeCommand → Tape → Changes → ℕ
+past_on (Format label slots) t changes = 0
+past_on command t changes = past_end (directory_start (record_at t 0)) (length (slots_of t)) (targets_in changes)
+
+-- in a commit of these changes of a settled tape that is told; none where the command changes nothing
+abbrev pub committing_on : {T : Type 0} → VolumeCommand → Tape → Changes → Result T VolumeFault → ℕ
+committing_on command t [] answer = 0
+committing_on command t (c ∷ cs) (Err (Refused why)) = 0
+committing_on command t (c ∷ cs) (Ok _) = past_on command t (c ∷ cs) + commit_calls (has_open_gate t) (length (c ∷ cs))
+committing_on command t (c ∷ cs) (Err (Troubled trouble)) =
+    past_on command t (c ∷ cs) + commit_calls (has_open_gate t) (length (c ∷ cs))
 
 -- A file lies behind the directory and below the redo file: beside a directory with this header,
 -- or any, it has at most so many records.
@@ -94,34 +115,55 @@ abbrev pub beside : ℕ → Option HeaderParts → ℕ
 beside n (Some header) = n - (header.length + 5)
 beside n None = n - 5
 
--- on a medium of n records the file's, and those of a commit; none where the command is refused
+-- on a medium of n records the file's; none where the command is refused
 abbrev pub filing : {T : Type 0} → ℕ → Option HeaderParts → List ℕ → Result T VolumeFault → ℕ
-filing n kept bytes (Ok _) = min (beside n kept) (file_length bytes) + most_commit_calls
+filing n kept bytes (Ok _) = min (beside n kept) (file_length bytes)
 filing n kept bytes (Err (Refused why)) = 0
-filing n kept bytes (Err (Troubled trouble)) = min (beside n kept) (file_length bytes) + most_commit_calls
+filing n kept bytes (Err (Troubled trouble)) = min (beside n kept) (file_length bytes)
+
+-- in a commit of a batch at most: it changes 32 records of a directory
+abbrev pub most_batch_calls : ℕ
+most_batch_calls = 100
+
+-- the records of the files that a batch stores
+abbrev pub records_stored : List Part → ℕ
+records_stored [] = 0
+records_stored (part.Store name kind implementation bytes ∷ parts) = file_length bytes + records_stored parts
+records_stored (part.Rename old new ∷ parts) = records_stored parts
+records_stored (part.Purge name ∷ parts) = records_stored parts
+
+-- the files of a batch and its commit; none where it is refused
+abbrev pub batching : {T : Type 0} → List Part → Result T VolumeFault → ℕ
+batching parts (Ok _) = records_stored parts + most_batch_calls
+batching parts (Err (Refused why)) = 0
+batching parts (Err (Troubled trouble)) = records_stored parts + most_batch_calls
 
 -- beside a directory with this header, or any
 abbrev pub carrying : {T : Type 0} → ℕ → VolumeCommand → Option HeaderParts → Result T VolumeFault → ℕ
-carrying n (Store name kind implementation bytes) kept answer = filing n kept bytes answer
+carrying n (Store name kind implementation bytes) kept answer = filing n kept bytes answer + committing answer
+carrying n (Batch parts) kept answer = batching parts answer
 carrying n command kept answer = committing answer
 
--- on a tape that is told, where these records change
-abbrev pub carrying_on : {T : Type 0} → ℕ → VolumeCommand → Changes → Result T VolumeFault → ℕ
-carrying_on n (Store name kind implementation bytes) changes answer = filing n None bytes answer
-carrying_on n command changes answer = committing_on changes answer
+-- on a settled tape that is told, where these records change
+abbrev pub carrying_on : {T : Type 0} → ℕ → VolumeCommand → Tape → Changes → Result T VolumeFault → ℕ
+carrying_on n (Store name kind implementation bytes) t changes answer =
+    filing n None bytes answer + committing_on (Store name kind implementation bytes) t changes answer
+carrying_on n (Batch parts) t changes answer = records_stored parts + committing_on (Batch parts) t changes answer
+carrying_on n command t changes answer = committing_on command t changes answer
 
 -- So many with those of mounting; where the directory was kept, those of a file beside any. Where a
--- directory that is read lies below the redo file, they are never more than n + 78.
+-- directory that is read lies below the redo file, they are never more than n + 76.
 abbrev pub storing : {T : Type 0} → ℕ → (old new : Option HeaderParts) → List ℕ → Result T VolumeFault → ℕ
-storing n (Some old) new bytes answer = filing n None bytes answer
-storing n None (Some new) bytes answer = mounting n None (Some new) + filing n (Some new) bytes answer
+storing n (Some old) new bytes answer = filing n None bytes answer + committing answer
+storing n None (Some new) bytes answer = mounting n None (Some new) + (filing n (Some new) bytes answer + committing answer)
 storing n None None bytes (Err (Refused why)) = mounting n None None
-storing n None None bytes answer = n + 78
+storing n None None bytes answer = n + 76
 
 -- of every command with those of mounting; `format` mounts a tape that may be none of a legal volume, whose directory
 -- has any length
 abbrev pub changing : {T : Type 0} → ℕ → VolumeCommand → (old new : Option HeaderParts) → Result T VolumeFault → ℕ
 changing n (Store name kind implementation bytes) old new answer = storing n old new bytes answer
+changing n (Batch parts) old new answer = mounting n old new + batching parts answer
 changing n (Format label slots) old new answer = mounting n old None + committing answer
 changing n command old new answer = mounting n old new + committing answer
 
@@ -153,15 +195,9 @@ commit_when n command volume t = writes_if_any (version_for n command volume) n
 abbrev pub run_of : ℕ → List ℕ → Transfer
 run_of first bytes = record { writes = true; first = first; bytes = filled bytes }
 
-abbrev pub runs_at : Place → List ℕ → List Transfer
-runs_at (At slot start) bytes = run_of start bytes ∷ []
-runs_at place bytes = []
-
--- of a store one, to the file's place; of every other command none
+-- of each file that the command writes one, from its start on
 abbrev pub file_runs : ℕ → VolumeCommand → Option Volume → List Transfer
-file_runs n (Store name kind implementation bytes) volume =
-    runs_at (place_when n (Store name kind implementation bytes) volume) bytes
-file_runs n command volume = []
+file_runs n command volume = map (λ file. run_of file.start file.bytes) (files_when n command volume)
 
 -- The list goes on by transfers that write only records that have P, then by the file at its place, and then by reads
 -- and writes of one record each, of which the writes are exactly those of the commit.

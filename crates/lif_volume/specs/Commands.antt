@@ -1,7 +1,8 @@
 -- What the commands that read a volume do.
-use Rattle.std.specs.Prelude.{◌≡◌, ◌≤◌, ◌<◌, ◌+◌, ◌*◌, ◌++◌, if◌then◌else◌, ℕ, List, [], ◌∷◌, false, length, map, take, Option, option_map, Some, None, Result, Ok, Err, IfSome, is_some, unwrap_or}
+use Rattle.std.specs.Prelude.{◌≡◌, ◌≤◌, ◌<◌, ◌+◌, ◌*◌, ◌++◌, if◌then◌else◌, ℕ, List, [], ◌∷◌, false, length, map, take, Option, option_map, Some, None, Result, Ok, Err, OnOk, IfSome, is_some, unwrap_or}
 use Rattle.std.specs.FinMap.{get}
 use Rattle.lif_model.specs.Tape.{Tape, record_at}
+use Rattle.lif_model.specs.Gate.{has_open_gate}
 use Rattle.lif_model.specs.Header.{is_readable, directory_length, label_of, HeaderParts, header_of}
 use Rattle.lif_model.specs.Directory.{type_of, start_of, length_of, implementation_of, slots_of}
 use Rattle.lif_model.specs.Redo.{redo_of, settled}
@@ -160,6 +161,10 @@ WritesBySettling view old new answer = (t : Tape) → IsTold view old t
 -- the listing and the slots are those of the settled tape
 abbrev pub Lists : {R S : Type 0} → (R → RecordsView S) → (old new : VolumeView R) → Listing → Type 0
 Lists view old new listing = (t : Tape) → IsTold view old t → Listed (settled t) listing new.slots
+
+-- it is known whether the gate reads open, where the store did not fail
+abbrev pub TellsGate : {R S T : Type 0} → (R → RecordsView S) → VolumeView R → Result T VolumeFault → Type 0
+TellsGate view new answer = OnOk (store_answer answer) ((t : Tape) → IsTold view new t → new.is_open ≡ has_open_gate t)
 
 -- the label is that of the settled tape
 abbrev pub Labels : {R S : Type 0} → (R → RecordsView S) → VolumeView R → List ℕ → Type 0

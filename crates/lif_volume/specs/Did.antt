@@ -4,9 +4,9 @@ use Rattle.lif_model.specs.Tape.{Tape}
 use Rattle.lif_model.specs.Header.{HeaderParts}
 use Rattle.lif_model.specs.Redo.{settled}
 use Rattle.lif_model.specs.Volume.{volume_of}
-use Rattle.lif_model.specs.Apply.{VolumeCommand, Dir, Label, Fetch, Store, Rename, Purge, Adopt, Upgrade, Format}
+use Rattle.lif_model.specs.Apply.{VolumeCommand, Dir, Label, Fetch, Store, Rename, Purge, Adopt, Upgrade, Batch, Format}
 use Rattle.lif_model.specs.declared.refusal.Refusal.{Refusal}
-use Rattle.lif_model.specs.declared.refusal.Refusal.TheVariants.{NotLif, NoFile, Exists, NoSlot, NoRoom, NoRedo, InUse, Protected}
+use Rattle.lif_model.specs.declared.refusal.Refusal.TheVariants.{NotLif, NoFile, Exists, NoSlot, NoRoom, NoRedo, InUse, Protected, NeedsUpgrade}
 use Rattle.il_ports.specs.Stores.{RecordsView, GoesOn}
 use Rattle.lif_dir.specs.Entries.{slot_bytes}
 use Rattle.lif_plan.specs.Refusals.{IsAmong}
@@ -34,6 +34,7 @@ refusals_of (Rename old new) = NotLif ∷ NoRedo ∷ Protected ∷ NoFile ∷ Ex
 refusals_of (Purge name) = NotLif ∷ NoRedo ∷ Protected ∷ NoFile ∷ []
 refusals_of Adopt = NotLif ∷ Exists ∷ NoSlot ∷ InUse ∷ []
 refusals_of Upgrade = NotLif ∷ NoRedo ∷ InUse ∷ []
+refusals_of (Batch parts) = NotLif ∷ NoRedo ∷ NeedsUpgrade ∷ Protected ∷ NoFile ∷ Exists ∷ NoSlot ∷ NoRoom ∷ []
 refusals_of (Format label slots) = NoRoom ∷ InUse ∷ []
 
 -- ---- a command that changes no volume
@@ -66,7 +67,7 @@ pub record Alters {R S T : Type 0} (command : VolumeCommand) (view : R → Recor
   pub goes_on : GoesOn (changing (view old.records).record_count command old.kept new.kept answer)
       (view old.records) (view new.records) (store_answer answer)
   pub few : (t : Tape) → IsTold view old t → (view old.records).calls_left ≤ (view new.records).calls_left
-      + (mounting_on t old.kept + carrying_on (view old.records).record_count command
+      + (mounting_on t old.kept + carrying_on (view old.records).record_count command (settled t)
       (changes_filed (view old.records).record_count command (volume_of t) (settled t)) answer)
   pub kept : is_some new.kept ≡ keeps_behind_command command (is_some old.kept) answer
   pub only : IfErr answer (IsOneOf (refusals_of command))
@@ -81,4 +82,10 @@ abbrev pub Did : {R S T : Type 0} → VolumeCommand → (R → RecordsView S) �
 Did Dir view old new answer = Reads Dir view old new answer
 Did Label view old new answer = Reads Label view old new answer
 Did (Fetch name) view old new answer = Reads (Fetch name) view old new answer
-Did command view old new answer = Alters command view old new answer
+Did (Store name kind implementation bytes) view old new answer = Alters (Store name kind implementation bytes) view old new answer
+Did (Rename before later) view old new answer = Alters (Rename before later) view old new answer
+Did (Purge name) view old new answer = Alters (Purge name) view old new answer
+Did Adopt view old new answer = Alters Adopt view old new answer
+Did Upgrade view old new answer = Alters Upgrade view old new answer
+Did (Batch parts) view old new answer = Alters (Batch parts) view old new answer
+Did (Format label slots) view old new answer = Alters (Format label slots) view old new answer

@@ -1,10 +1,12 @@
 //! The commands that change a volume: each is planned over the directory in memory, and then carried out.
-ghost use Rattle.std.specs.Prelude.{◌≡◌, ◌≢◌, List, map, option_map, Some, IfErr};
+ghost use Rattle.std.specs.Prelude.{◌≡◌, ◌≢◌, List, length, map, option_map, Some, IfErr, OnOk};
+ghost use Rattle.lif_model.specs.Tape.{Tape};
 ghost use Rattle.lif_model.specs.Apply.{VolumeCommand, Store, Purge, Rename, Adopt, Upgrade};
 ghost use Rattle.lif_model.specs.Header.{HeaderParts};
 ghost use Rattle.il_ports.specs.Stores.{IsReady};
 ghost use Rattle.lif_dir.specs.Entries.{name_bytes, slot_bytes};
 ghost use Rattle.lif_dir.specs.Names.{made_name};
+ghost use Rattle.lif_commit.specs.Staged.{EndsWith, count_with, calls_of};
 ghost use Rattle.lif_plan.specs.Refusals.{IsAmong};
 ghost use Rattle.lif_plan.specs.Plans.{IsPlan, MakesChange};
 ghost use Rattle.lif_volume.specs.Views.{IsOpen};
@@ -136,6 +138,7 @@ impl<R: Records> Volume<R> {
         };
         match self.put(header, &change, file) {
             Ok(()) => {
+                self.is_open = false;
                 self.directory.change(&change);
                 Ok(())
             }
@@ -155,16 +158,26 @@ impl<R: Records> Volume<R> {
         requires plan { (command : VolumeCommand) × HasFile command (option_map (λ bytes. bytes.now) file)
             × MakesChange (R.view (seen self.old).records).record_count command header.now
             (map slot_bytes (seen self.old).slots) change.now }
-        ensures still { seen self.new ≡ record (seen self.old) { records = (seen self.new).records } }
+        ensures still { seen self.new ≡ record (seen self.old) { records = (seen self.new).records; last = (seen self.new).last } }
+        // After an Ok the record with the end is known.
+        ensures end { OnOk result ((t : Tape) → (R.view (seen self.new).records).tape ≡ Some t
+            → EndsWith header.now.start header.now.length
+            (count_with (length (seen self.old).slots) change.now) (seen self.new).last t) }
         ensures put { (command : VolumeCommand) → HasFile command (option_map (λ bytes. bytes.now) file.entry)
             → MakesChange (R.view (seen self.old).records).record_count command header.now
             (map slot_bytes (seen self.old).slots) change.now
-            → Puts command header.now.start change.now (R.view (seen self.old).records)
+            → Puts (calls_of header.now.start (length (seen self.old).slots) (seen self.old).is_open change.now)
+            command header.now.start change.now (R.view (seen self.old).records)
             (R.view (seen self.new).records) result }
     {
         self.put_file(change, file)?;
-        self.staged
-            .commit(&mut self.records, header.start(), change)
+        self.staged.commit(
+            &mut self.records,
+            header,
+            &self.directory.table,
+            change,
+            self.is_open,
+        )
     }
 
     /// Writes the file to the records that its entry tells, by one run, where there is one.

@@ -10,7 +10,9 @@ ghost use Rattle.lif_model.specs.declared.refusal.Refusal.TheVariants as refusal
 ghost use Rattle.lif_volume.specs.Views.{IsOpen};
 ghost use Rattle.lif_volume.specs.Answers.{refused};
 ghost use Rattle.lif_volume.specs.Seen.{seen};
-ghost use Rattle.lif_volume.specs.Commands.{IsReadyFor, KeepsVolume, WritesBySettling};
+ghost use Rattle.lif_volume.specs.Commands.{IsReadyFor, KeepsVolume, WritesBySettling, TellsGate};
+ghost use Rattle.lif_model.specs.Gate.{has_open_gate};
+ghost use Rattle.lif_commit.specs.Staged.{most_commit_calls};
 ghost use Rattle.lif_volume.specs.Formatting.{Clears, Renews};
 ghost use Rattle.lif_volume.specs.Did.{Did, IsOneOf};
 
@@ -20,7 +22,7 @@ use il_ports::Records;
 use lif_dir::NewLabel;
 use lif_model::Version;
 use lif_plan::{FreshVolume, Refusal};
-use lif_redo::commit;
+use lif_redo::commit_known;
 
 impl<R: Records> Volume<R> {
     /// Makes the tape an empty volume with this label, a directory of at least so many slots, one or
@@ -63,6 +65,7 @@ impl<R: Records> Volume<R> {
             (seen self.new) }
         ensures transfers { WritesBySettling R.view (seen self.old)
             (seen self.new) result }
+        ensures gate { TellsGate R.view (seen self.new) result }
     {
         match self.mount() {
             Ok(_) => {
@@ -79,12 +82,14 @@ impl<R: Records> Volume<R> {
     /// Makes a settled tape that may be formatted an empty volume, and keeps its directory.
     fn renew(&mut self, label: &NewLabel, slots: u16) -> Result<(), VolumeFault>
         requires open { IsOpen R.view (seen self.old) }
-        requires ready { IsReady 12 (R.view (seen self.old).records) }
+        requires ready { IsReady most_commit_calls (R.view (seen self.old).records) }
         requires slots { 0 < slots }
         requires fits { is_too_long
             (R.view (seen self.old).records).record_count slots ≡ false }
         requires settled { (t : Tape)
             → (R.view (seen self.old).records).tape ≡ Some t → IsSettled t }
+        requires gate { (t : Tape) → (R.view (seen self.old).records).tape ≡ Some t
+            → (seen self.old).is_open ≡ has_open_gate t }
         requires free { (t : Tape)
             → (R.view (seen self.old).records).tape ≡ Some t → refusal_of
             (R.view (seen self.old).records).record_count
@@ -96,10 +101,17 @@ impl<R: Records> Volume<R> {
         ensures only { IfErr result (IsOneOf []) }
     {
         let fresh = FreshVolume::new(label, slots, self.records.size());
-        if let Err(trouble) = commit(&mut self.records, Version::One, &fresh.changes) {
+        if let Err(trouble) = commit_known(
+            &mut self.records,
+            Version::One,
+            &fresh.changes,
+            self.is_open,
+        ) {
             self.kept = None;
             return Err(VolumeFault::Trouble(trouble));
         }
+        self.is_open = false;
+        self.staged.ends_with(&fresh.changes[1].1);
         self.directory.renew(self.records.size());
         self.kept = Some(fresh.header);
         Ok(())

@@ -4,6 +4,7 @@ ghost use Rattle.lif_model.specs.Tape.{Tape, DidReadRun};
 ghost use Rattle.il_ports.specs.Stores.{IsReady, GoesOn, IsQuiet};
 ghost use Rattle.il_ports.specs.Transfers.{Adds, AddsOnly};
 ghost use Rattle.lif_dir.specs.Entries.{slot_bytes};
+ghost use Rattle.lif_commit.specs.Staged.{EndsWith};
 ghost use Rattle.lif_plan.specs.Directories.{IsLegalDirectory};
 ghost use Rattle.lif_volume.specs.Views.{IsDirectoryOn};
 ghost use Rattle.lif_volume.specs.Answers.{store_answer, IsNotLif, IsLegalAs};
@@ -11,16 +12,18 @@ ghost use Rattle.lif_volume.specs.Commands.{directory_records};
 
 use crate::fault::VolumeFault;
 use il_ports::{Records, Trouble};
-use lif_dir::slots_of;
+use lif_commit::Staged;
 use lif_header::Header;
 use lif_model::RECORD;
 use lif_plan::{Directory, Refusal};
 
 /// Reads record 0 and the directory, and tests that they are legal: if not, the answer is NotLif.
-/// No record changes. After any other answer than Ok the slots in memory are any.
+/// No record changes. After any other answer than Ok the slots in memory are any. `staged` keeps the
+/// record with the end.
 pub fn read_directory<R: Records>(
     records: &mut R,
     directory: &mut Directory,
+    staged: &mut Staged,
 ) -> Result<Header, VolumeFault>
     requires size { 5 ≤ (R.view records.old).record_count }
     requires ready { IsReady ((R.view records.old).record_count - 4) (R.view records.old) }
@@ -30,6 +33,8 @@ pub fn read_directory<R: Records>(
         (R.view records.old).record_count header (map slot_bytes directory.new.table.slots)) }
     ensures found { IfOk result (λ header. (t : Tape) → (R.view records.old).tape ≡ Some t
         → IsDirectoryOn t header directory.new.table.slots) }
+    ensures end { IfOk result (λ header. (t : Tape) → (R.view records.old).tape ≡ Some t
+        → EndsWith header.start header.length (length directory.new.table.slots) staged.new.last t) }
     ensures exactly { (t : Tape) → (R.view records.old).tape ≡ Some t → IsLegalAs t result }
     ensures only { IfErr result IsNotLif }
 
@@ -50,7 +55,7 @@ pub fn read_directory<R: Records>(
     let Ok(header) = Header::read(&bytes, size) else {
         return Err(VolumeFault::Refused(Refusal::NotLif));
     };
-    slots_of(records, &header, &mut directory.table)?;
+    staged.read_slots(records, &header, &mut directory.table)?;
     if !directory.is_legal(&header, size) {
         return Err(VolumeFault::Refused(Refusal::NotLif));
     }

@@ -6,7 +6,7 @@ use lif_dir::{Name, SlotTable};
 use lif_header::Header;
 use lif_model::{ENTRIES, RECORD};
 use lif_plan::Directory;
-use lif_redo::settle;
+use lif_redo::settle_gate;
 use std::alloc::Global;
 
 /// What `dir` answers: what record 0 says. The slots stand in `Volume::slots`.
@@ -44,6 +44,8 @@ pub struct Volume<R> {
     pub(crate) directory: Directory,
     pub(crate) staged: Staged,
     pub(crate) kept: Option<Header>,
+    /// Whether the gate of the redo file reads open.
+    pub(crate) is_open: bool,
 }
 
 impl<R: Records> Volume<R> {
@@ -56,7 +58,7 @@ impl<R: Records> Volume<R> {
     ghost use Rattle.lif_volume.specs.Seen.{seen};
     ghost use Rattle.lif_volume.specs.Lending.{LendsRecords};
     ghost use Rattle.lif_volume.specs.Answers.{IsNotLif};
-    ghost use Rattle.lif_volume.specs.Commands.{IsReadyFor, Mounts, IsRefusedExactly, KeepsVolume, WritesBySettling};
+    ghost use Rattle.lif_volume.specs.Commands.{IsReadyFor, Mounts, IsRefusedExactly, KeepsVolume, WritesBySettling, TellsGate};
     ghost use Rattle.lif_volume.specs.Commands.{Lists, Labels, FetchesFile, FetchesByRun};
     ghost use Rattle.lif_volume.specs.Did.{Did};
 
@@ -80,6 +82,7 @@ impl<R: Records> Volume<R> {
                 directory,
                 staged,
                 kept: None,
+                is_open: false,
             }),
             _ => Err(Kept { records }),
         }
@@ -157,12 +160,13 @@ impl<R: Records> Volume<R> {
             (seen self.new) }
         ensures transfers { WritesBySettling R.view (seen self.old)
             (seen self.new) result }
+        ensures gate { TellsGate R.view (seen self.new) result }
     {
         if let Some(header) = self.kept {
             return Ok(header);
         }
-        settle(&mut self.records)?;
-        let header = read_directory(&mut self.records, &mut self.directory)?;
+        self.is_open = settle_gate(&mut self.records)?.reads_open();
+        let header = read_directory(&mut self.records, &mut self.directory, &mut self.staged)?;
         self.kept = Some(header);
         Ok(header)
     }

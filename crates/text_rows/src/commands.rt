@@ -141,6 +141,29 @@ const LINES: &str = "\
 !store a 0001 00000000 -\n\
 -store a 0001 00000000 4\n\
 !store ELEVENCHARS 0001 00000000 -\n\
++put A -\n\
++put A%20 -\n\
+-put\n\
+-put A\n\
+-put A - -\n\
+-put A 0001 00000000 -\n\
+-put A 4\n\
+-put A 4x\n\
+-put A --\n\
+-put % -\n\
+!put a -\n\
+-put a 4\n\
+!put ELEVENCHARS 41\n\
+-put ELEVENCHARS hello\n\
+-puts A -\n\
+-Put A -\n\
++get A\n\
++get a-b\n\
+-get\n\
+-get A B\n\
+-get %\n\
+!get ELEVENCHARS\n\
+-gets A\n\
 -say\n\
 +say -\n\
 -say - -\n\
@@ -198,10 +221,13 @@ fn commands_have_their_parts(rt: HostRuntime) -> Result<(), Fail> {
     };
     let rename = Command::Rename { old: file, new };
     let format = Command::Format { label, slots: 4048 };
-    let rows: [(&str, &[u8], Command); 7] = [
+    let rows: [(&str, &[u8], Command); 10] = [
         ("store DATA_1 e080 001aFF03 4142fF", b"AB\xFF", store),
         ("store DATA_1 E080 001AFF03 -", b"", store),
+        ("put DATA_1 68690A0a79", b"hi\n\ny", Command::Put(new)),
+        ("put DATA_1%20 -", b"", Command::Put(new)),
         ("fetch A%20%00%25", b"", Command::Fetch(file)),
+        ("get A%20%00%25", b"", Command::Get(file)),
         ("purge A%20%00%25%20", b"", Command::Purge(file)),
         ("rename A%20%00%25 DATA_1%20", b"", rename),
         ("format TAPE 4048", b"", format),
@@ -226,6 +252,8 @@ fn no_bytes_of_a_line_before_stay(rt: HostRuntime) -> Result<(), Fail> {
         "list",
         "say 4",
         "store a 0001 00000000 4142",
+        "put a 4142",
+        "get A",
         "fetch ELEVENCHARS",
     ] {
         let before = read(&rt, &mut payload, b"say 414243");

@@ -1,4 +1,4 @@
-//! Tests of the script and of the words.
+//! Tests of the script, of the words and of text files.
 #![tactic(auto)]
 
 #[cfg(test)]
@@ -7,5 +7,7 @@ mod commands;
 mod pieces;
 #[cfg(test)]
 mod replies;
+#[cfg(test)]
+mod texts;
 #[cfg(test)]
 mod words;

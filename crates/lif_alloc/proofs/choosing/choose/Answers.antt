@@ -1,54 +1,7 @@
-use Rattle.std.proofs.Common.{◌≡◌, ◌<◌, ◌≤◌, ◌+◌, [], ℕ, List, true, false, if◌then◌else◌, max, length, map, get_or, sym, ap, ◌∙◌, arith}
-use Rattle.std.proofs.lemmas.Bool.{not-true}
-use Rattle.std.proofs.lemmas.List.{length-map}
-use Rattle.lif_model.specs.Directory.{is_purged}
-use Rattle.lif_model.specs.Legal.{has_records, end_of}
-use Rattle.lif_model.specs.Fit.{At, redo_place, low_of}
-use Rattle.lif_model.proofs.Plain.{fit_skips, fit_goes_on, fit_found}
-use Rattle.lif_dir.specs.Entries.{slot_bytes, entry_bytes}
-use Rattle.lif_alloc.proofs.Walk.{purged_is, room_before, starts_low, greatest_next}
+use Rattle.std.proofs.Common.{◌∙◌, map}
+use Rattle.lif_model.proofs.Fit.{fit_beside_none}
+use Rattle.lif_dir.specs.Entries.{slot_bytes}
 use Rattle.lif_alloc.proofs.choosing.choose.Goals as goal
-use Rattle.lif_alloc.proofs.choosing.choose.Goals.{then-not-is_live+else-is_free, else-not-is_live}
 
-pub overflow_cast-result-then-is_free : goal.overflow_cast-result-then-is_free
-overflow_cast-result-then-is_free c =
-    omega (arith, starts_low c.loop-k.low c.from-count.result c.from-gate.result _ (omega arith) (sym c.is_free.ensures ∙ c.if-is_free.true))
-
-pub returns-then-is_free : goal.returns-then-is_free
-returns-then-is_free c =
-    let bytes : List (List ℕ) = map slot_bytes c.args.slots.now.slots in
-    let within : c.redo_place-redo.result ≤ length bytes = omega (arith, length-map c.args.slots.now.slots slot_bytes) in
-    let before : c.loop-k.k < redo_place bytes = omega (arith, c.redo_place-redo.ensures.value) in
-    let purged : is_purged (get_or bytes c.loop-k.k []) ≡ true = sym (ap is_purged c.entry-entry.ensures) ∙ purged_is _ (sym c.is_live.ensures ∙ c.if-not-is_live.true) in
-    let ends : c.loop-k.low + c.from-count.result ≡ low_of c.args.directory_end bytes c.loop-k.k + c.args.count = omega (arith, c.loop-k.invariant.low) in
-    let room = room_before c.args.size c.args.directory_end c.args.count _ c.from-gate.result c.loop-k.k bytes before ends (omega arith) in
-    ap (At c.loop-k.k) c.loop-k.invariant.low
-    ∙ fit_found c.args.size c.args.directory_end bytes c.args.count c.redo_place-redo.result c.loop-k.k _ _ c.loop-k.seen c.loop-k-test.true within purged
-    (sym room ∙ sym c.is_free.ensures ∙ c.if-is_free.true) c.loop-k.invariant.rest
-
-pub loop-k-preserved : goal.loop-k-preserved
-loop-k-preserved c =
-    let bytes : List (List ℕ) = map slot_bytes c.args.slots.now.slots in
-    let within : c.redo_place-redo.result ≤ length bytes = omega (arith, length-map c.args.slots.now.slots slot_bytes) in
-    let before : c.loop-k.k < redo_place bytes = omega (arith, c.redo_place-redo.ensures.value) in
-    let ends : c.loop-k.low + c.from-count.result ≡ low_of c.args.directory_end bytes c.loop-k.k + c.args.count = omega (arith, c.loop-k.invariant.low) in
-    let room = room_before c.args.size c.args.directory_end c.args.count _ c.from-gate.result c.loop-k.k bytes before ends (omega arith) in
-    let next = greatest_next c.args.directory_end c.loop-k.k bytes (entry_bytes c.entry-entry.result.now) (omega (arith, within)) c.entry-entry.ensures in
-    record {
-      low = c.raised-low.ensures.value
-          ∙ (λ i. if has_records (entry_bytes c.entry-entry.result.now) then max (c.loop-k.invariant.low i) (end_of (entry_bytes c.entry-entry.result.now)) else c.loop-k.invariant.low i) ∙ sym next;
-      bound = c.raised-low.ensures.bound c.loop-k.invariant.bound;
-      rest = elim c.if-not-is_live.branch [
-        | then-not-is_live+else-is_free w ↦
-            let purged : is_purged (get_or bytes c.loop-k.k []) ≡ true = sym (ap is_purged c.entry-entry.ensures) ∙ purged_is _ (sym c.is_live.ensures ∙ w.if-not-is_live.true) in
-            rw w.seen-is (fit_goes_on c.args.size c.args.directory_end bytes c.args.count c.redo_place-redo.result c.loop-k.k _ _ c.loop-k.seen c.loop-k-test.true within purged
-            (sym room ∙ sym w.is_free.ensures ∙ w.if-is_free.false) c.loop-k.invariant.rest)
-        | else-not-is_live w ↦
-            let live : is_purged (get_or bytes c.loop-k.k []) ≡ false = sym (ap is_purged c.entry-entry.ensures) ∙ not-true _ (sym c.is_live.ensures ∙ w.if-not-is_live.false) in
-            rw w.seen-is (fit_skips c.args.size c.args.directory_end bytes c.args.count c.redo_place-redo.result c.loop-k.k _ _ c.loop-k.seen c.loop-k-test.true within live c.loop-k.invariant.rest)
-      ];
-    }
-
-pub overflow_cast-result-then-is_free-2-2 : goal.overflow_cast-result-then-is_free-2-2
-overflow_cast-result-then-is_free-2-2 c =
-    omega (arith, starts_low c.loop-k.low c.from-count.result c.from-gate.result _ (omega arith) (sym c.is_free-2.ensures ∙ c.if-is_free-2.true))
+pub returns : goal.returns
+returns c = c.choose_beside.ensures ∙ fit_beside_none c.args.size c.args.directory_end c.args.capacity (map slot_bytes c.args.slots.now.slots) c.args.count

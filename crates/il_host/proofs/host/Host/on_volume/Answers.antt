@@ -1,8 +1,5 @@
-use Rattle.std.proofs.Common.{◌≡◌, ◌∙◌, ℕ, List, take, sym, ap, arith}
+use Rattle.std.proofs.Common.{◌∙◌, ℕ, List, take, sym, ap, arith}
 use Rattle.std.specs.Prelude.{length, min}
-use Rattle.std.specs.List.{length_refill}
-use Rattle.std.specs.Global.{Vec}
-use Rattle.std.specs.Vec.{with_items}
 use Rattle.std.proofs.lemmas.List.{take_min, with_items_is}
 use Rattle.lif_dir.specs.Entries.{name_bytes}
 use Rattle.lif_model.specs.Apply.{Dir, Label}
@@ -11,15 +8,11 @@ use Rattle.il_script.specs.Sheet.{Sheet}
 use Rattle.il_host.specs.Hosts.{volume_in}
 use Rattle.il_host.specs.Texts.{data_text, label_text, listing_text}
 use Rattle.il_host.proofs.HostChanges.{altered}
-use Rattle.il_host.proofs.HostReads.{fetched, labelled, not_fetched}
+use Rattle.il_host.proofs.HostReads.{fetched, labelled, not_fetched, same_length}
 use Rattle.il_host.proofs.HostVolumes.{changes_volume, done, ends_blank, ends_told, mounting_few, not_asked, on_volume, ready_behind, refused, volume_request}
 use Rattle.il_host.proofs.Texts.{dir_told, listing_fits}
 use Rattle.il_host.proofs.VolumeReplied.{stays_turns}
 use Rattle.il_host.proofs.host.Host.on_volume.Goals as goal
-
--- bytes that are written over a vector's leave its length
-same_length : (v : Vec ℕ) (xs : List ℕ) → length (with_items v xs).items ≡ length v.items
-same_length v xs = sym (length_refill v.len v.items xs v.ok.0) ∙ v.ok.0
 
 pub returns-in-Err : goal.returns-in-Err
 returns-in-Err g c =

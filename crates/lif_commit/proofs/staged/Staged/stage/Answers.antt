@@ -11,7 +11,7 @@ returns-in_ok-end-clause-reads g c = then_writes [] [] _ _ _ c.in_ok-put_entries
 pub returns-in_ok-end-clause-staged : goal.returns-in_ok-end-clause-staged
 returns-in_ok-end-clause-staged g c =
     let change = c.args.change.now in
-    let start : ℕ = c.args.start in
+    let start : ℕ = c.args.header.now.start in
     let quiet = c.put_entries.ensures.quiet in
     let entries = staged_as start _ _ (λ x. entry_writes change) (λ x. entry_writes change) c.put_entries.new.self.changes.items quiet.tape (λ x. refl) c.in_ok-put_entries.ensures.staged in
     let others = subst (λ (n : ℕ). AreOthers (8 * (n - start)) c.slot_after.result (entry_writes change)) (sym c.put_entries.ensures.goes_on.continues.size)
@@ -21,5 +21,5 @@ returns-in_ok-end-clause-staged g c =
 
 pub returns-else-change-clause-staged : goal.returns-else-change-clause-staged
 returns-else-change-clause-staged g c =
-    staged_as c.args.start _ _ (λ x. entry_writes c.args.change.now) (change_writes c.args.start c.args.change.now) c.put_entries.new.self.changes.items refl
-    (λ x. none_ended c.args.start c.args.change.now x c.if-change.false) c.in_ok-put_entries.ensures.staged
+    staged_as c.args.header.now.start _ _ (λ x. entry_writes c.args.change.now) (change_writes c.args.header.now.start c.args.change.now) c.put_entries.new.self.changes.items refl
+    (λ x. none_ended c.args.header.now.start c.args.change.now x c.if-change.false) c.in_ok-put_entries.ensures.staged

@@ -1,11 +1,10 @@
 use Rattle.std.proofs.Common.{◌≡◌, ◌<◌, ◌≤◌, ◌+◌, ◌*◌, ◌++◌, ◌∷◌, [], ℕ, suc, List, true, false, nat_lt, length, map, refl, ap, sym, ◌∙◌, arith}
-use Rattle.std.proofs.lemmas.Bool.{ltb-true, le-leb, lt-leb}
+use Rattle.std.proofs.lemmas.Bool.{ltb-true, lt-ltb, le-leb, lt-leb}
 use Rattle.std.proofs.lemmas.List.{length-map}
 use Rattle.std.specs.Prelude.{is_some}
-use Rattle.lif_model.specs.Header.{HeaderParts, directory_start, capacity_of}
+use Rattle.lif_model.specs.Header.{HeaderParts, capacity_of}
 use Rattle.lif_model.specs.Legal.{has_file}
 use Rattle.lif_model.specs.Volume.{redo_name}
-use Rattle.lif_model.proofs.Directory.{volume_tells}
 use Rattle.lif_model.specs.Writing.{SlotWrites}
 use Rattle.lif_dir.specs.Entries.{entry_bytes, slot_bytes}
 use Rattle.lif_plan.proofs.Found.{has_place}
@@ -15,7 +14,7 @@ use Rattle.lif_plan.proofs.directory.Directory.adopt.Goals as goal
 pub returns-then-is_some-clause-plan : goal.returns-then-is_some-clause-plan
 returns-then-is_some-clause-plan c =
     let on = version_tells c.args.size (map slot_bytes c.args.self.now.table.slots) c.redo_version.result c.redo_version.ensures ∙ sym c.is_some.ensures ∙ c.if-is_some.true in
-    leaves (λ v is. simp on refl) (λ v is u. simp on refl) (λ v is. simp on refl)
+    leaves tt (λ v is. simp on refl) (λ v is u. simp on refl) (λ v is. simp on refl)
 
 pub returns-then-is_some-2-clause-plan : goal.returns-then-is_some-2-clause-plan
 returns-then-is_some-2-clause-plan c =
@@ -59,7 +58,7 @@ returns-clause-plan c =
     let capacity : 8 * c.from-capacity.result ≡ 8 * c.args.header.now.length = omega (arith, c.from-capacity.ensures, c.length.ensures) in
     let ended : nat_lt (k + 1) (8 * c.from-capacity.result) ≡ nat_lt (suc k) (8 * c.args.header.now.length) = λ i. nat_lt (next i) (capacity i) in
     makes _ tt
-    (record { place = omega (arith, spot); within = omega (arith, spot, room); kind = c.redo_entry.ensures.kind; next = tt; end_within = λ on. ltb-true (suc k) (8 * c.args.header.now.length) (sym ended ∙ on) }) tt
+    (record { place = omega (arith, spot); within = omega (arith, spot, room); kind = c.redo_entry.ensures.kind; next = tt; end_within = λ on. ltb-true (suc k) (8 * c.args.header.now.length) (sym ended ∙ on); end_there = λ more room. ended ∙ lt-ltb (suc k) (8 * c.args.header.now.length) room }) tt
     (λ v is. simp (
       off,
       has,
@@ -67,9 +66,7 @@ returns-clause-plan c =
       sym (past_gate n slots c.start.result c.start.ensures off) ∙ sym c.runs_past.ensures ∙ c.if-runs_past.false,
     ) refl)
     (λ v is. (refl, off))
-    (λ v is u told.
-    let begins = ap directory_start (sym (volume_tells u (record v { slots = slots }) told).1) ∙ ap (λ (h : HeaderParts). h.start) is.told in
-    simp off (rw (sym spot) (rw (sym c.redo_entry.ensures.entry)
+    (λ v is u begins. simp off (rw (sym spot) (rw (sym c.redo_entry.ensures.entry)
     (ap (λ (ws : SlotWrites). (k, entry_bytes c.redo_entry.result) ∷ ws)
     (end_is (capacity_of v.header) (8 * c.args.header.now.length) c.args.header.now.start (suc k) u _ (ap (λ (h : HeaderParts). 8 * h.length) is.told) begins ended)))))
     (λ v is. simp off (ap (λ (b : List ℕ). slots ++ b ∷ []) (sym c.redo_entry.ensures.entry) ∙ sym (put_last slots k (entry_bytes c.redo_entry.result) spot)))

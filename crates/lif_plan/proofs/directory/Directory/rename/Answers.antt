@@ -35,7 +35,7 @@ returns-then-eq-clause-plan c =
     let adopted = adopted_some c.args.size c.in-Some.version slots c.in-Some.ensures in
     let has = has_place slots (name_bytes c.args.old.now) ∙ ap is_some (sym c.in-Some-place_named.ensures.place) in
     let one : bytes_eq (name_bytes c.args.old.now) (name_bytes c.name-later.result) ≡ true = (λ i. bytes_eq (sym c.bytes.ensures i) (sym c.bytes-2.ensures i)) ∙ sym c.eq.ensures ∙ c.if-eq.true in
-    rw (sym c.name-later.ensures) (leaves
+    rw (sym c.name-later.ensures) (leaves (c.is_redo_name.ensures.wide, c.is_redo_name-else-is_redo_name.ensures.wide)
     (λ v is. simp (adopted, sym c.is_redo_name.ensures.same ∙ c.if-is_redo_name.false, sym c.is_redo_name-else-is_redo_name.ensures.same ∙ c.if-is_redo_name-2.false, has, one) (simp (and_right (has_file slots (name_bytes c.name-later.result)) false refl) refl))
     (λ v is u. simp one refl) (λ v is. simp one refl))
 

@@ -22,7 +22,7 @@ returns-in-Some-Two-clause-plan c =
     let n : ℕ = c.args.size in
     let slots = map slot_bytes c.args.self.now.table.slots in
     let two : is_adopted_with n Two slots ≡ true = ap (λ (w : Version). is_adopted_with n w slots) (sym c.in-Some-Two.field-0-is) ∙ c.in-Some-Two.ensures in
-    leaves (λ v is. simp (adopted_some n Two slots two, two) refl) (λ v is u. simp two refl) (λ v is. simp two refl)
+    leaves tt (λ v is. simp (adopted_some n Two slots two, two) refl) (λ v is u. simp two refl) (λ v is. simp two refl)
 
 pub returns-then-end-start-clause-plan : goal.returns-then-end-start-clause-plan
 returns-then-end-start-clause-plan c =

@@ -1,5 +1,6 @@
 use Rattle.std.proofs.Common.{◌≡◌, ◌≤◌, ◌+◌, ◌-◌, ◌*◌, ℕ, map, refl, ap, sym, subst, ◌∙◌, arith, rules}
-use Rattle.std.specs.Prelude.{Option, None, Some, Ok, Err}
+use Rattle.std.specs.Prelude.{Option, None, Some, Ok, Err, IfSome}
+use Rattle.lif_model.specs.Gate.{has_open_gate}
 use Rattle.lif_model.specs.Header.{HeaderParts}
 use Rattle.lif_model.specs.Redo.{settled}
 use Rattle.il_ports.specs.Stores.{GoesOn}
@@ -13,7 +14,7 @@ use Rattle.lif_volume.proofs.Mounting.{stays_here, stays_settling, stays_reading
 use Rattle.lif_volume.proofs.volume.Volume.mount.Goals as goal
 
 pub returns-clause-exactly : goal.returns-clause-exactly
-returns-clause-exactly g c = λ t told. c.in_ok-header.ensures.exactly (settled t) (c.in_ok-settle.ensures.done t told)
+returns-clause-exactly g c = λ t told. c.in_ok-header.ensures.exactly (settled t) (c.in_ok-settle_gate.ensures.settles.done t told)
 
 pub returns-in-Some-clause-consults : goal.returns-in-Some-clause-consults
 returns-in-Some-clause-consults g c =
@@ -27,32 +28,32 @@ returns-in-Some-clause-exactly g c = λ t told.
 pub returns-in-Some-clause-stays : goal.returns-in-Some-clause-stays
 returns-in-Some-clause-stays g c = λ t told off. stays_here _ t off (g.met.R.Records.is_store c.args.self.now.records) told
 
-pub returns-in_err-settle-clause-stays : goal.returns-in_err-settle-clause-stays
-returns-in_err-settle-clause-stays g c = λ t told off.
-    let e = c.settle.ensures in
+pub returns-in_err-settle_gate-clause-stays : goal.returns-in_err-settle_gate-clause-stays
+returns-in_err-settle_gate-clause-stays g c = λ t told off.
+    let e = c.settle_gate.ensures.settles in
     stays_settling _ t off _ (e.any_moment t told) (e.after t told) (λ none. e.idle t told none)
 
 pub returns-in_err-header-clause-stays : goal.returns-in_err-header-clause-stays
 returns-in_err-header-clause-stays g c = λ t told off.
-    let e = c.settle.ensures in
+    let e = c.settle_gate.ensures.settles in
     stays_reading _ t off _ _ (stays_settling _ t off _ (e.any_moment t told) (e.after t told) (λ none. e.idle t told none)) c.read_directory.ensures.quiet
 
 pub returns-clause-stays : goal.returns-clause-stays
 returns-clause-stays g c = λ t told off.
-    let e = c.settle.ensures in
+    let e = c.settle_gate.ensures.settles in
     stays_reading _ t off _ _ (stays_settling _ t off _ (e.any_moment t told) (e.after t told) (λ none. e.idle t told none)) c.read_directory.ensures.quiet
 
 pub returns-in_err-header-clause-transfers : goal.returns-in_err-header-clause-transfers
 returns-in_err-header-clause-transfers g c = λ t told.
     let is : c.from_residual-in_err-header.result ≡ Err c.in_err-header.field-0.0 = search rules in
-    rw is (adds_behind _ _ _ _ c.in_err-header.field-0.0 (c.in_ok-settle.ensures.transfers t told) c.in_err-header.ensures.transfers)
+    rw is (adds_behind _ _ _ _ c.in_err-header.field-0.0 (c.in_ok-settle_gate.ensures.settles.transfers t told) c.in_err-header.ensures.transfers)
 
 pub returns-clause-transfers : goal.returns-clause-transfers
-returns-clause-transfers g c = λ t told. reads_behind _ _ _ _ (c.in_ok-settle.ensures.transfers t told) c.in_ok-header.ensures.transfers
+returns-clause-transfers g c = λ t told. reads_behind _ _ _ _ (c.in_ok-settle_gate.ensures.settles.transfers t told) c.in_ok-header.ensures.transfers
 
 pub returns-clause-open : goal.returns-clause-open
 returns-clause-open g c =
-    let s = c.in_ok-settle.ensures in
+    let s = c.in_ok-settle_gate.ensures.settles in
     let r = c.in_ok-header.ensures in
     record {
       valid = r.goes_on.continues.valid;
@@ -61,6 +62,8 @@ returns-clause-open g c =
       room = r.room ∙ c.requires.open.room ∙ ap (λ (n : ℕ). 8 * (n - 5)) (sym (r.goes_on.continues.size ∙ s.goes_on.continues.size));
       legal = subst (λ (n : ℕ). IsLegalDirectory n c.in_ok-header.header (map slot_bytes c.read_directory.new.directory.table.slots)) (sym r.goes_on.continues.size) r.legal;
       known = λ t told. record { settled = s.settled t (sym r.quiet.tape ∙ told); directory = r.found t (sym r.quiet.tape ∙ told) };
+      gate = λ t told. c.reads_open-self.ensures ∙ c.in_ok-settle_gate.ensures.gate t (sym r.quiet.tape ∙ told);
+      end = λ t told. r.end t (sym r.quiet.tape ∙ told);
     }
 
 pub returns-clause-consults : goal.returns-clause-consults
@@ -68,14 +71,21 @@ returns-clause-consults g c =
     let view = g.R.Records.view in
     let n = (view c.args.self.now.records).record_count in
     let header = c.in_ok-header.header in
-    let s = c.in_ok-settle.ensures in
+    let s = c.in_ok-settle_gate.ensures.settles in
     let r = c.in_ok-header.ensures in
     let none : c.args.self.now.kept ≡ None = search rules in
     record {
       goes_on = subst (λ (o : Option HeaderParts). GoesOn (mounting n o (Some header)) (view c.args.self.now.records) (view c.read_directory.new.records) (Ok tt)) (sym none)
-          (goes_within (70 + (1 + header.length)) (71 + header.length) _ _ _ (omega arith) (goes_further 70 (1 + header.length) _ _ _ c.in_ok-settle.field-0 _ s.goes_on r.reads));
+          (goes_within (70 + (1 + header.length)) (71 + header.length) _ _ _ (omega arith) (goes_further 70 (1 + header.length) _ _ _ c.in_ok-settle_gate.field-0 _ s.goes_on r.reads));
       few = λ t told. subst (λ (o : Option HeaderParts). (view c.args.self.now.records).calls_left ≤ (view c.read_directory.new.records).calls_left + mounting_on t o) (sym none)
           (omega (arith, s.goes_on.continues.left, r.few (settled t) (s.done t told)));
       settles = λ t told. r.quiet.tape ∙ s.done t told;
       kept = refl;
     }
+
+pub returns-in-Some-clause-gate : goal.returns-in-Some-clause-gate
+returns-in-Some-clause-gate g c = λ t told.
+    subst (λ (o : Option HeaderParts). IfSome o (λ h. c.args.self.now.is_open ≡ has_open_gate t)) c.in-Some.is (c.requires.open.gate t told)
+
+pub returns-clause-gate : goal.returns-clause-gate
+returns-clause-gate g c = λ t told. c.reads_open-self.ensures ∙ c.in_ok-settle_gate.ensures.gate t (sym c.in_ok-header.ensures.quiet.tape ∙ told)

@@ -1,0 +1,4 @@
+pub mod Buffer
+pub mod Cutting
+pub mod Format
+pub mod Pieces
