@@ -1,6 +1,7 @@
 -- Worked examples of the definitions, by hand from the rules of the loop.
 use Rattle.std.proofs.Common.{◌≡◌, ℕ, true, false, refl, Some, None, Option, [], ◌∷◌, lit≤, ap}
 use Rattle.il_frames.specs.declared.frame.Class.TheVariants as class
+use Rattle.il_frames.specs.declared.frame.Frame.{Frame}
 use Rattle.il_frames.specs.declared.message.Message.TheVariants as msg
 use Rattle.il_frames.specs.Frames.{class_of, framed}
 use Rattle.il_frames.specs.Messages.{message_of}
@@ -15,7 +16,7 @@ use Rattle.il_device.specs.State.{DeviceState, fresh, IsIdle, IsSent, IsCount, I
 use Rattle.il_device.specs.Passing.{served, identified, counted_on, passed}
 use Rattle.il_device.specs.Takes.{eto, ete, turn_of, heard_after, count_after, may_change_service, identity, AnswersEcho, Takes}
 use Rattle.il_device.specs.Interfaces.{fresh_interface, turn_on, interface_after, device_on}
-use Rattle.il_device.specs.Printers.{status_answer, printer_answer}
+use Rattle.il_device.specs.Plain.{status_answer, plain_answer, fresh_plain, TakesAsPlain}
 use Rattle.il_device.specs.Walks.{sent_on, Walk}
 
 -- a talker, a listener and an idle device, all with address 2
@@ -262,11 +263,22 @@ fresh_on : device_on (fresh_interface (Some 32)) [] 8192 ≡ fresh (Some 32) 819
 fresh_on = refl
 
 -- a printer answers SST by the status byte 00, and passes SDA
-printer_status : status_answer (message_of (framed class.Rdy 0x61)) (framed class.Rdy 0x61) ≡ Source (framed class.Dab 0)
+printer_status : status_answer 0 (message_of (framed class.Rdy 0x61)) (framed class.Rdy 0x61) ≡ Source (framed class.Dab 0)
 printer_status = refl
 
-printer_passes : printer_answer turn.Begin (framed class.Rdy 0x60) (framed class.Rdy 0x60) ≡ Pass (framed class.Rdy 0x60)
+printer_passes : plain_answer (Some 32) 0 turn.Begin (framed class.Rdy 0x60) (framed class.Rdy 0x60) ≡ Pass (framed class.Rdy 0x60)
 printer_passes = refl
+
+-- a device that wants service says so in its status byte
+status_told : status_answer 3 (message_of (framed class.Rdy 0x61)) (framed class.Rdy 0x61) ≡ Source (framed class.Dab 0x43)
+status_told = refl
+
+-- a device without an accessory ID passes every frame, and wants no service where its status is 0
+quiet_passes : (room : ℕ) (s : DeviceState) (f : Frame) (out : Out) (t : DeviceState) → TakesAsPlain None 0 room s f out t → out ≡ Pass (passed s.roles t.assignment false f)
+quiet_passes room s f out t h = h.answer
+
+quiet_is : fresh_plain None 0 0 [] ≡ fresh None 0
+quiet_is = refl
 
 -- behind a device that sends goes its frame
 sent : sent_on (Source eto) ≡ eto

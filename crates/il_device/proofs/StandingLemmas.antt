@@ -9,10 +9,7 @@ use Rattle.il_poll.specs.Service.{IsPlace, assigned}
 use Rattle.il_device.specs.declared.roles.Roles.{Roles}
 use Rattle.il_device.specs.declared.interface.OwnFrame.{OwnFrame}
 use Rattle.il_device.specs.Roles.{is_own, takes_address, roles_after, own_after, assignment_after, stopped}
-use Rattle.il_device.specs.declared.interface.Turn.{Turn}
-use Rattle.il_device.specs.declared.interface.Turn.TheVariants as turn
-use Rattle.il_device.specs.State.{IsAddress, IsSent, IsStanding, IsCount, risen}
-use Rattle.il_device.specs.Takes.{count_after}
+use Rattle.il_device.specs.State.{IsAddress, IsSent, IsStanding}
 
 -- what holds of both values holds of the chosen one
 either_way : {A : Type 0} (P : A → Type 0) (b : Bool) (x y : A) → P x → P y → P (if b then x else y)
@@ -92,13 +89,3 @@ IsStanding-after r own place m h = record {
   sender = sender_after r own m h.sender;
   in_poll = place_after r place m h.in_poll;
 }
-
-pub IsCount-risen : (n : ℕ) → IsCount n → IsCount (risen n)
-IsCount-risen n h = omega arith
-
-pub IsCount-counted : (turn : Turn) (n : ℕ) → IsCount n → IsCount (count_after turn n)
-IsCount-counted turn.Hear n h = IsCount-risen n h
-IsCount-counted turn.Pass n h = h
-IsCount-counted turn.Begin n h = h
-IsCount-counted (turn.Identify id) n h = h
-IsCount-counted (turn.Compare own) n h = h

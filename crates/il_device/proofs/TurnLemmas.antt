@@ -1,22 +1,19 @@
 -- From what a frame does to the part that every device has alike, what it does to the device.
-use Rattle.std.proofs.Common.{◌≡◌, ℕ, ◌≤◌, Bool, true, false, Option, None, List, [], ◌∷◌, ◌++◌, length, refl, arith, sym, ap, subst, inl, inr, length-append}
+use Rattle.std.proofs.Common.{◌≡◌, ℕ, ◌≤◌, Bool, true, false, Option, Some, None, List, [], ◌∷◌, ◌++◌, length, refl, arith, sym, ap, subst, inl, inr, length-append}
 use Rattle.std.specs.Prelude.{◌⊎◌, ◌||◌, if◌then◌else◌, nat_lt}
 use Rattle.std.proofs.lemmas.Bool.Decides.{nat_tests}
 use Rattle.il_frames.specs.declared.frame.Frame.{Frame}
-use Rattle.il_frames.specs.declared.message.Message.{Message}
-use Rattle.il_frames.specs.declared.message.Message.TheVariants as msg
-use Rattle.il_frames.specs.Frames.{byte_of, same_but_service}
+use Rattle.il_frames.specs.declared.frame.Class.TheVariants as class
+use Rattle.il_frames.specs.Frames.{byte_of, framed, same_but_service}
 use Rattle.il_frames.specs.Messages.{message_of}
 use Rattle.il_poll.specs.Service.{wants_service}
 use Rattle.il_device.specs.declared.device.Out.{Out}
-use Rattle.il_device.specs.declared.device.Out.TheVariants.{Pass, Source}
+use Rattle.il_device.specs.declared.device.Out.TheVariants.{Source}
 use Rattle.il_device.specs.declared.interface.OwnFrame.{OwnFrame}
 use Rattle.il_device.specs.declared.interface.Turn.{Turn}
 use Rattle.il_device.specs.declared.interface.Turn.TheVariants as turn
-use Rattle.il_device.specs.declared.roles.Roles.{Roles}
 use Rattle.il_device.specs.State.{DeviceState}
-use Rattle.il_device.specs.Takes.{Takes, Answers, AnswersEcho, GoesOn, Ends, Passes, heard_after, may_change_service, turn_at, turn_at_data, turn_at_start, eto, ete}
-use Rattle.il_device.specs.Printers.{printer_answer}
+use Rattle.il_device.specs.Takes.{Takes, Answers, AnswersEcho, GoesOn, Ends, Passes, heard_after, may_change_service, identity, eto, ete}
 use Rattle.il_device.specs.Interfaces.{InterfaceState, IsInterface, turn_on, interface_after, device_on}
 
 -- no more bytes are kept than there is room for
@@ -102,29 +99,16 @@ Answers-pass (turn.Compare own) s f out t may h = absurd may
 pub MayPass-or : (asked : Turn) → (asked ≡ turn.Pass) ⊎ (asked ≡ turn.Hear) → MayPass asked
 MayPass-or asked e = elim e [ inl p ↦ rw p tt | inr q ↦ rw q tt ]
 
-at_data : (listens : Bool) → MayPass (turn_at_data None listens)
-at_data true = tt
-at_data false = tt
-
-at_start : (talks : Bool) (asked : Turn) → MayPass asked → MayPass (turn_at_start None talks asked)
-at_start true asked h = h
-at_start false asked h = tt
-
-without_own : (r : Roles) (m : Message) → MayPass (turn_at r None None m)
-without_own r (msg.Dab b) = at_data r.listens
-without_own r (msg.Dsr b) = at_data r.listens
-without_own r (msg.End b) = at_data r.listens
-without_own r (msg.Esr b) = at_data r.listens
-without_own r msg.Sda = at_start r.talks turn.Begin tt
-without_own r msg.Sst = at_start r.talks turn.Begin tt
-without_own r msg.Sdi = at_start r.talks turn.Begin tt
-without_own r msg.Sai = at_start r.talks turn.Pass tt
-without_own r _ = tt
-
--- every frame may pass a device that has no frame on the loop and no accessory ID
-pub MayPass-without_own : (r : Roles) (own : Option OwnFrame) (accessory : Option ℕ) (m : Message) →
-    own ≡ None → accessory ≡ None → MayPass (turn_at r own accessory m)
-MayPass-without_own r own accessory m o a = rw (o, a) (without_own r m)
+-- the accessory ID is sent
+pub Answers-identity : (asked : Turn) (id : ℕ) (s : DeviceState) (f : Frame) (out : Out) (t : DeviceState) →
+    asked ≡ turn.Identify id → out ≡ Source (framed class.Dab id) → t.own ≡ Some (identity id) → Answers asked s f out t
+Answers-identity asked id s f out t is e h = Answers-at asked (turn.Identify id) s f out t is (record {
+  answer = e;
+  on_loop = h;
+  is_data = refl;
+  service = λ set. cc;
+  runs = refl;
+})
 
 -- where there is no room nothing is kept
 pub heard_after-roomless : (asked : Turn) (byte : ℕ) → [] ≡ heard_after asked 0 [] byte
@@ -148,7 +132,3 @@ pub Answers-ended : (asked : Turn) (own : OwnFrame) (s : DeviceState) (f : Frame
     asked ≡ turn.Compare own →
     out ≡ Source (if same_but_service own.frame f then eto else ete) → t.own ≡ None → Answers asked s f out t
 Answers-ended asked own s f out t is e h = Answers-at asked (turn.Compare own) s f out t is (echo_ended (same_but_service own.frame f) own out t e h)
-
-pub printer_answer-pass : (asked : Turn) (f on : Frame) →
-    (asked ≡ turn.Pass) ⊎ (asked ≡ turn.Hear) → Pass on ≡ printer_answer asked f on
-printer_answer-pass asked f on e = elim e [ inl p ↦ rw p refl | inr q ↦ rw q refl ]

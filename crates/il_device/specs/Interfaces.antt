@@ -1,6 +1,7 @@
 -- The part that every device has alike: all of its state but the bytes that it keeps.
 use Rattle.std.specs.Prelude.{ℕ, ◌≡◌, Option, None, List}
 use Rattle.il_frames.specs.declared.frame.Frame.{Frame}
+use Rattle.il_frames.specs.declared.message.Message.{Message}
 use Rattle.il_frames.specs.Messages.{message_of}
 use Rattle.il_poll.specs.declared.service.Assignment.{Assignment}
 use Rattle.il_poll.specs.Service.{Service, wants_service}
@@ -51,15 +52,20 @@ turn_on i f = turn_at i.roles i.own i.accessory (message_of f)
 abbrev pub placed : Service → Option Assignment → Service
 placed service place = record service { assignment = place }
 
+-- behind what a message does to the roles, the own frame and the place in the poll. Data does nothing
+-- to them
+abbrev pub obeyed : InterfaceState → Message → InterfaceState
+obeyed i m = record i {
+  roles = roles_after i.roles m;
+  own = own_after i.roles i.own m;
+  service = placed i.service (assignment_after i.roles i.service.assignment m);
+}
+
 -- behind the effect of a frame, and before the answer
 abbrev pub interface_after : InterfaceState → Frame → InterfaceState
-interface_after i f = record {
-  roles = roles_after i.roles (message_of f);
-  own = own_after i.roles i.own (message_of f);
-  service = placed i.service (assignment_after i.roles i.service.assignment (message_of f));
+interface_after i f = record (obeyed i (message_of f)) {
   heard_count = count_after (turn_on i f) i.heard_count;
   frames = risen i.frames;
-  accessory = i.accessory;
 }
 
 -- behind a frame that the device sent, or behind the end of a transmission

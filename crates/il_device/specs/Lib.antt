@@ -3,5 +3,5 @@ pub mod State
 pub mod Passing
 pub mod Takes
 pub mod Interfaces
-pub mod Printers
+pub mod Plain
 pub mod Walks

@@ -62,3 +62,13 @@ assignment_after r place _ = place
 -- the start messages
 abbrev pub is_start : Message → Bool
 is_start m = elim m [ msg.Sda ↦ true | msg.Sst ↦ true | msg.Sdi ↦ true | msg.Sai ↦ true | _ ↦ false ]
+
+-- what a data or end frame says
+abbrev pub is_data_message : Message → Bool
+is_data_message m = elim m [
+  | msg.Dab b ↦ true
+  | msg.Dsr b ↦ true
+  | msg.End b ↦ true
+  | msg.Esr b ↦ true
+  | _ ↦ false
+]

@@ -1,15 +1,15 @@
 #![tactic(auto)]
 
-ghost use Rattle.std.specs.Prelude.{◌≡◌, ◌↔◌, ◌<◌, IsTrue, Some, None, true, if◌then◌else◌};
+ghost use Rattle.std.specs.Prelude.{◌≡◌, ◌↔◌, ◌<◌, IsTrue, Some, None, true, false, if◌then◌else◌};
 ghost use Rattle.il_frames.specs.Frames as frames;
 ghost use Rattle.il_frames.specs.Messages.{message_of, is_in_range};
 ghost use Rattle.il_poll.specs.Service.{wants_service, status_byte_of};
 ghost use Rattle.il_device.specs.Interfaces.{InterfaceState, IsInterface, IsIdleInterface, fresh_interface};
-ghost use Rattle.il_device.specs.Interfaces.{interface_after, turn_on, placed, with_status};
+ghost use Rattle.il_device.specs.Interfaces.{interface_after, obeyed, turn_on, placed, with_status};
 ghost use Rattle.il_device.specs.Interfaces.{passed_on, identified_on, sending};
 ghost use Rattle.il_device.specs.Passing as passing;
-ghost use Rattle.il_device.specs.Roles.{own_after, assignment_after};
-ghost use Rattle.il_device.specs.Takes.{count_after, turn_at_data, turn_at_start};
+ghost use Rattle.il_device.specs.Roles.{own_after, assignment_after, is_data_message};
+ghost use Rattle.il_device.specs.Takes.{count_after, turn_at, turn_at_data, turn_at_start};
 ghost use Rattle.il_device.specs.Takes.{just_sent, eto, ete};
 ghost use Rattle.il_device.specs.declared.device.Out.TheVariants.{Source};
 
@@ -179,14 +179,12 @@ impl Interface {
         self.accessory
     }
 
-    /// What the frame asks of the device.
-    fn turn(&self, frame: Frame) -> Turn
-        ensures { result ≡ turn_on self.now frame }
+    /// What a message that is no data and no end asks of the device.
+    fn turn(&self, message: Message) -> Turn
+        requires other { is_data_message message ≡ false }
+        ensures { result ≡ turn_at self.now.roles self.now.own self.now.accessory message }
     {
-        match frame.message() {
-            Message::Dab(_) | Message::Dsr(_) | Message::End(_) | Message::Esr(_) => {
-                self.turn_at_data()
-            }
+        match message {
             Message::Sda | Message::Sst | Message::Sdi => self.turn_at_start(Turn::Begin),
             Message::Sai => match self.accessory {
                 Some(id) => self.turn_at_start(Turn::Identify(id)),
@@ -225,14 +223,30 @@ impl Interface {
         ensures state { self.new ≡ interface_after self.old frame }
         ensures standing { IsInterface self.new }
     {
-        let turn = self.turn(frame);
-        let message = frame.message();
+        let turn = if frame.is_data() {
+            self.turn_at_data()
+        } else {
+            self.obey(frame)
+        };
+        self.heard_count = counted(turn, self.heard_count);
+        self.frames = self.frames.saturating_add(1);
+        turn
+    }
+
+    /// What a frame that is no data and no end does to every device alike but to the counts, and what
+    /// it asks of this one. It stands apart, so that the way of a data frame stays short.
+    #[inline(never)]
+    fn obey(&mut self, frame: Frame) -> Turn
+        requires other { frames.is_data frame ≡ false }
+        ensures turn { result ≡ turn_on self.old frame }
+        ensures state { self.new ≡ obeyed self.old (message_of frame) }
+    {
+        let message = said(frame);
+        let turn = self.turn(message);
         let roles = self.roles;
         self.own = own_behind(roles, self.own, message);
         self.roles = roles.after(message);
         poll(&mut self.service, roles, message);
-        self.heard_count = counted(turn, self.heard_count);
-        self.frames = self.frames.saturating_add(1);
         turn
     }
 
@@ -240,10 +254,21 @@ impl Interface {
     pub fn passed(&self, before: Roles, frame: Frame) -> Frame
         ensures { result ≡ passed_on self.now before frame }
     {
-        match frame.message() {
-            Message::Dab(_) | Message::Dsr(_) | Message::End(_) | Message::Esr(_) => {
-                served(self.wants(), frame)
-            }
+        if frame.is_data() {
+            served(self.wants(), frame)
+        } else {
+            self.passed_other(before, frame)
+        }
+    }
+
+    /// The same of a frame that is no data and no end. It stands apart, so that the way of a data
+    /// frame stays short.
+    #[inline(never)]
+    fn passed_other(&self, before: Roles, frame: Frame) -> Frame
+        requires other { frames.is_data frame ≡ false }
+        ensures { result ≡ passed_on self.now before frame }
+    {
+        match said(frame) {
             Message::Idy(_) | Message::Isr(_) => self.identified(frame),
             Message::Aad(address) if before.takes_address(address) => {
                 Frame::new(Class::Rdy, FIRST_AAD + address + 1)
@@ -296,6 +321,16 @@ impl OwnFrame {
     {
         self.frame.same_but_service(frame)
     }
+}
+
+/// What a frame that is no data and no end says, which is no data and no end message.
+fn said(frame: Frame) -> Message
+    requires other { frames.is_data frame ≡ false }
+    ensures value { result ≡ message_of frame }
+    ensures range { is_in_range result ≡ true }
+    ensures other { is_data_message result ≡ false }
+{
+    frame.message()
 }
 
 /// The frame as it goes on, its service bit set where service is wanted.

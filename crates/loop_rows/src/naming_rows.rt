@@ -1,7 +1,7 @@
 // The accessory IDs of all devices of a loop, and what they answer to a parallel poll.
 ghost use Rattle.std.specs.Prelude.{IfOk};
 
-use crate::plain::Plain;
+use crate::plain::caller;
 use crate::tools::{frame_of, store, tape};
 use arrayvec::ArrayVec;
 use il_device::{Device, Printer, Quiet};
@@ -112,7 +112,7 @@ fn names_and_polls(rt: HostRuntime) -> Result<(), Fail> {
                     continue;
                 }
                 b'P' => Box::new(alloc, Printer::new(alloc)?)?,
-                b'C' => Box::new(alloc, Plain::caller())?,
+                b'C' => Box::new(alloc, caller())?,
                 _ => Box::new(alloc, Quiet::new())?,
             };
             if behind {

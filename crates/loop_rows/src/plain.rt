@@ -1,73 +1,46 @@
-//! A device for tests.
+//! Devices for tests.
 
-use il_device::{Device, Interface, Out, Turn};
-use il_frames::{Class, Frame};
-use std::marker::Model;
+use il_device::{Kind, Plain};
 
-/// A device that tells its accessory ID, and sends and keeps nothing else.
+/// The kind with this accessory ID, which keeps no byte and wants service at every moment.
 #[derive(Drop)]
-pub(crate) struct Plain {
-    interface: Interface,
-}
+pub(crate) struct Calling<const ID: u8>;
 
-impl Model for Plain {
-    ghost use Rattle.std.specs.Prelude.{[]};
-    ghost use Rattle.il_device.specs.State.{DeviceState};
-    ghost use Rattle.il_device.specs.Interfaces.{device_on};
+impl<const ID: u8> Kind for Calling<ID> {
+    ghost use Rattle.std.specs.Prelude.{Some, []};
+    ghost use Rattle.std.proofs.Common.{lit≤};
 
-    ghost Value = { DeviceState };
+    ghost accessory = { Some ID };
 
-    ghost view = { λ d. device_on d.interface [] 0 };
-}
+    ghost status = { 1 };
 
-impl Plain {
-    /// One with the accessory ID of a drive.
-    pub(crate) fn second_drive() -> Plain {
-        Plain {
-            interface: Interface::new(Some(16)),
-        }
-    }
+    ghost room = { 0 };
 
-    /// One that wants service at every moment, and has the accessory ID 5.
-    pub(crate) fn caller() -> Plain {
-        let mut interface = Interface::new(Some(5));
-        interface.set_status(1);
-        Plain { interface }
-    }
-}
-
-impl Device for Plain {
-    ghost state = { λ d. d };
-
-    fn is_idle(&self) -> bool {
-        self.interface.is_idle()
-    }
+    ghost bytes = { λ kind. [] };
 
     fn accessory(&self) -> Option<u8> {
-        self.interface.accessory()
+        Some(ID)
     }
 
-    fn heard(&self) -> &[u8] {
-        let _ = &self.interface;
+    fn status(&self) -> u8 {
+        1
+    }
+
+    fn bytes(&self) -> &[u8] {
         &[]
     }
 
-    fn heard_count(&self) -> u64 {
-        self.interface.heard_count()
-    }
+    fn hear(&mut self, _byte: u8) {}
 
-    fn frames(&self) -> u64 {
-        self.interface.frames()
-    }
+    ghost small = { λ kind. (lit≤ tt, lit≤ tt) };
+}
 
-    fn take(&mut self, frame: Frame) -> Out {
-        let before = self.interface.roles();
-        match self.interface.effect(frame) {
-            Turn::Identify(id) => self.interface.source(Frame::new(Class::Dab, id), true),
-            Turn::Compare(own) => self.interface.finish(own.is_echo(frame)),
-            Turn::Pass | Turn::Hear | Turn::Begin => {
-                Out::Pass(self.interface.passed(before, frame))
-            }
-        }
-    }
+/// One with the accessory ID of a drive.
+pub(crate) fn second_drive() -> Plain<Calling<16>> {
+    Plain::of(Calling)
+}
+
+/// One with the accessory ID 5.
+pub(crate) fn caller() -> Plain<Calling<5>> {
+    Plain::of(Calling)
 }

@@ -1,6 +1,6 @@
 // Rounds of the ring: what arrives, the log, the crossings, and what the printer heard.
 
-use crate::plain::Plain;
+use crate::plain::second_drive;
 use crate::tools::{compare_log, frame_of, has_paper, tape};
 use PlanFault::{Alter, Lose};
 use il_device::{Device, Printer, Quiet};
@@ -473,7 +473,7 @@ fn printer_first(rt: HostRuntime) -> Result<(), Fail> {
     let first: Box<dyn Device> = Box::new(alloc, Printer::new(alloc)?)?;
     let second: Box<dyn Device> = Box::new(alloc, Printer::new(alloc)?)?;
     let (mut before, mut after) = (Vec::new(alloc), Vec::new(alloc));
-    let drive: Box<dyn Device> = Box::new(alloc, Plain::second_drive())?;
+    let drive: Box<dyn Device> = Box::new(alloc, second_drive())?;
     before.push(first)?;
     after.push(second)?;
     after.push(drive)?;
