@@ -39,39 +39,21 @@ pub struct Lost<M: Medium> {
 }
 
 impl<M: Medium> Seen<M> for Idle<M> {
-    ghost use Rattle.std.specs.Prelude.{map};
-    ghost use Rattle.il_ring.specs.Rings.{RingView};
+    ghost use Rattle.il_ring.specs.Seen.{ring_seen};
 
-    ghost seen = { λ s. record {
-      before = map (λ b. (Device-box b).state b.value) s.ring.boxes.before.items;
-      drive = s.ring.drive;
-      after = map (λ b. (Device-box b).state b.value) s.ring.boxes.after.items;
-      books = s.ring.books;
-    } };
+    ghost seen = { λ s. ring_seen (λ b. (Device-box b).state b.value) s.ring };
 }
 
 impl<M: Medium> Seen<M> for Lost<M> {
-    ghost use Rattle.std.specs.Prelude.{map};
-    ghost use Rattle.il_ring.specs.Rings.{RingView};
+    ghost use Rattle.il_ring.specs.Seen.{ring_seen};
 
-    ghost seen = { λ s. record {
-      before = map (λ b. (Device-box b).state b.value) s.ring.boxes.before.items;
-      drive = s.ring.drive;
-      after = map (λ b. (Device-box b).state b.value) s.ring.boxes.after.items;
-      books = s.ring.books;
-    } };
+    ghost seen = { λ s. ring_seen (λ b. (Device-box b).state b.value) s.ring };
 }
 
 impl<M: Medium> Seen<M> for Sending<M> {
-    ghost use Rattle.std.specs.Prelude.{map};
-    ghost use Rattle.il_ring.specs.Rings.{RingView};
+    ghost use Rattle.il_ring.specs.Seen.{ring_seen};
 
-    ghost seen = { λ s. record {
-      before = map (λ b. (Device-box b).state b.value) s.ring.boxes.before.items;
-      drive = s.ring.drive;
-      after = map (λ b. (Device-box b).state b.value) s.ring.boxes.after.items;
-      books = s.ring.books;
-    } };
+    ghost seen = { λ s. ring_seen (λ b. (Device-box b).state b.value) s.ring };
 }
 
 impl<M: Medium> Sending<M> {

@@ -79,7 +79,8 @@ impl<M: Medium> Drive<M> {
     /// pointer 0, position 0, not filled, status 0, mode Rest.
     pub fn new(medium: M) -> Drive<M>
         requires { 0 < (M.view medium).record_count }
-        ensures { result ≡ record { state = fresh_drive; medium = medium } }
+        ensures fresh { result ≡ record { state = fresh_drive; medium = medium } }
+        ensures drive { IsDrive (M.view medium).record_count fresh_drive }
     {
         Drive {
             interface: Interface::new(Some(ID)),

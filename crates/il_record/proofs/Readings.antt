@@ -16,7 +16,7 @@ use Rattle.il_device.specs.declared.interface.OwnFrame.{OwnFrame}
 use Rattle.il_device.specs.Roles.{is_own}
 use Rattle.il_ports.specs.Media.{MediumView, IsMedium}
 use Rattle.lif_model.specs.Tape.{bytes_from}
-use Rattle.il_drive.specs.State.{DriveView, IsDrive, device_of}
+use Rattle.il_drive.specs.State.{DriveView, device_of}
 use Rattle.il_drive.specs.Runs.{Ran, AllData}
 use Rattle.il_drive.proofs.Beginning.{joins}
 use Rattle.il_drive.specs.Resting.{IsFree}
@@ -61,8 +61,8 @@ pub idle_mute : {M : Type 0} (r : RingView M) → IsIdle r → r.drive.state.int
 idle_mute r idle = silent_here r.before (device_of r.drive.state) r.after (none_talk 1 (devices_of r) idle.silent)
 
 -- and sends nothing
-pub idle_silent : {M : Type 0} (n : ℕ) (r : RingView M) → IsIdle r → IsDrive n r.drive.state → r.drive.state.interface.own ≡ None
-idle_silent n r idle drive = by r.drive.state.interface.own refl drive.standing.standing.sender
+pub idle_silent : {M : Type 0} (r : RingView M) → IsIdle r → r.drive.state.interface.own ≡ None
+idle_silent r idle = by r.drive.state.interface.own refl idle.free.ring.drive.1.standing.standing.sender
   where
     by : (own : Option OwnFrame) → r.drive.state.interface.own ≡ own → IsSent own r.drive.state.interface.roles.talks → r.drive.state.interface.own ≡ None
     by None is sent = is

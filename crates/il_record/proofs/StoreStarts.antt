@@ -7,8 +7,9 @@ use Rattle.il_ports.specs.Media.{MediumView}
 use Rattle.il_ports.specs.Stores.{RecordsView, Begun, Resumed}
 use Rattle.il_drive.specs.Steps.{IsStill}
 use Rattle.il_drive.specs.Resting.{IsFree}
-use Rattle.il_ring.specs.Rings.{RingView, devices_of, drive_party, spare_of}
+use Rattle.il_ring.specs.Rings.{RingView, IsRing, devices_of, drive_party, spare_of}
 use Rattle.il_ring.specs.Lists.{Each}
+use Rattle.il_ring.proofs.Rings.{IsRing-clear}
 use Rattle.il_control.specs.Calls.{AllStay, IsFree as IsFreeRing, IsLost, loop_of}
 use Rattle.il_record.specs.Polls.{MayPoll}
 use Rattle.il_control.specs.Calls as calls
@@ -131,7 +132,7 @@ module _ {M S : Type 0} (view : M → MediumView) (seen : S → RingView M) (p q
   }
     where
       free_cleared : IsFreeRing (cleared r)
-      free_cleared = record { ring = record { few = free.ring.few; plan = free.ring.plan; crossings = free.ring.crossings; held = free.ring.held }; held = free.held }
+      free_cleared = record { ring = IsRing-clear r free.ring; held = free.held }
 
 -- a new store
 pub fresh : {M S : Type 0} (view : M → MediumView) (seen : S → RingView M) (q : Option S) (r : RingView M) → IsLost r → Each MayPoll 1 (devices_of r) → r.books.log ≡ [] → IsStart seen q r → IsFresh (view_at view seen q false since.Unbroken 0 (AtLost r))
@@ -145,19 +146,16 @@ fresh view seen q r lost may empty here = record {
 
 -- ---- the loop is addressed
 
-low_party : {M : Type 0} (r t : RingView M) (party : ℕ) → t ≡ r → party ≡ drive_party t → party ≤ 30 → drive_party r ≤ 30
-low_party r t party same is low = let e = ap (λ (r : RingView _). drive_party r) same in omega (arith, e, is, low)
-
-pub addressed : {M : Type 0} (view : M → MediumView) (n party : ℕ) (r t s : RingView M) (log : Since) (old new : LoopView M) → t ≡ r → party ≡ drive_party t → party ≤ 30 → calls.Resumed view n r s → AllStay true r s → log ≡ since_more old.since → new ≡ record old { control = AtIdle s; since = log } → Addressed view r old new
-addressed {M} view n party r t s log old new same is low done stays logged left = record {
+pub addressed : {M : Type 0} (view : M → MediumView) (n : ℕ) (r s : RingView M) (log : Since) (old new : LoopView M) → IsRing r → calls.Resumed view n r s → AllStay true r s → log ≡ since_more old.since → new ≡ record old { control = AtIdle s; since = log } → Addressed view r old new
+addressed {M} view n r s log old new ring done stays logged left = record {
   ring = s;
   left = subst (λ (log : Since). new ≡ record old { control = AtIdle s; since = log }) logged left;
-  readied = readied view n r s (low_party r t party same is low) done stays;
+  readied = readied view n r s (omega (arith, ring.few)) done stays;
   used = resumed_used view n r s done;
 }
 
-pub not_addressed : {M : Type 0} (view : M → MediumView) (party : ℕ) (r t s : RingView M) (old new : LoopView M) → t ≡ r → party ≡ drive_party t → party ≤ 30 → calls.NotResumed view r s → AllStay true r s → new ≡ record old { control = AtLost s; sound = false; since = since_frame old.since } → NotAddressed view r old new
-not_addressed view party r t s old new same is low not stays left = let so = not_readied view r s (low_party r t party same is low) not stays in record { ring = s; left = left; interrupted = so.0; leaves = so.1; used = not_resumed_used view r s not }
+pub not_addressed : {M : Type 0} (view : M → MediumView) (r s : RingView M) (old new : LoopView M) → IsRing r → calls.NotResumed view r s → AllStay true r s → new ≡ record old { control = AtLost s; sound = false; since = since_frame old.since } → NotAddressed view r old new
+not_addressed view r s old new ring not stays left = let so = not_readied view r s (omega (arith, ring.few)) not stays in record { ring = s; left = left; interrupted = so.0; leaves = so.1; used = not_resumed_used view r s not }
 
 -- a call in which the controller was taken out
 pub addresses_as : {M T : Type 0} (view : M → MediumView) (r : RingView M) (old mid new : LoopView M) (answer : Result T Trouble) → old.control ≡ AtLost r → mid ≡ record old { control = Nowhere } → Addresses view (AtLost r) mid new answer → Addresses view old.control old new answer

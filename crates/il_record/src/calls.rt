@@ -6,7 +6,6 @@ ghost use Rattle.il_record.specs.LoopCalls.{AllNamed, LeftAlone, Named, NotSaid,
 ghost use Rattle.il_record.specs.Asks.{up_to};
 
 use crate::exchanges::send;
-use crate::runs::drive_of;
 use arrayvec::ArrayVec;
 use il_control::{Idle, Lost, Sot};
 use il_ports::Medium;
@@ -48,8 +47,6 @@ pub(crate) fn accessories<M: Medium>(
     ensures used { IfOk result (λ named. spare_of (⟦<Idle<M> as Seen<M>>⟧.seen idle) ≤ spare_of (⟦<Idle<M> as Seen<M>>⟧.seen named) + 13 * count) }
     ensures used_lost { IfErr result (λ lost. spare_of (⟦<Idle<M> as Seen<M>>⟧.seen idle) ≤ spare_of (⟦<Lost<M> as Seen<M>>⟧.seen lost) + (13 * count + 1)) }
 {
-    // Behind it the proof sees that the drive sends nothing.
-    let _ = drive_of(&idle);
     into.clear();
     let mut idle = idle;
     for place in 0..count {
@@ -70,7 +67,5 @@ pub(crate) fn say<M: Medium>(idle: Idle<M>, printer: u8, bytes: &[u8]) -> Result
     ensures used { IfOk result (λ said. spare_of (⟦<Idle<M> as Seen<M>>⟧.seen idle) ≤ spare_of (⟦<Idle<M> as Seen<M>>⟧.seen said) + (length bytes.now + 6)) }
     ensures used_lost { IfErr result (λ lost. spare_of (⟦<Idle<M> as Seen<M>>⟧.seen idle) ≤ spare_of (⟦<Lost<M> as Seen<M>>⟧.seen lost) + (length bytes.now + 7)) }
 {
-    // Behind it the proof sees that the drive sends nothing.
-    let _ = drive_of(&idle);
     send(idle, printer, None, bytes, bytes.len())
 }

@@ -8,7 +8,7 @@ ghost use Rattle.il_control.specs.Calls.{IsIdle, idy};
 ghost use Rattle.il_record.specs.Polls.{Assigned, Collected, HasPolled, MayPoll, PollBroke, collect_asks, place_asks, poll_asks};
 
 use crate::frames::{poll_enable, poll_unconfigure};
-use crate::runs::{drive_of, listen_address, unlisten};
+use crate::runs::{listen_address, unlisten};
 use il_control::{Idle, Lost};
 use il_frames::Frame;
 use il_ports::Medium;
@@ -54,8 +54,6 @@ pub(crate) fn parallel_poll<M: Medium>(
     ensures polled { IfOk result (λ told. HasPolled M.view told.1 (⟦<Idle<M> as Seen<M>>⟧.seen idle) (⟦<Idle<M> as Seen<M>>⟧.seen told.0)) }
     ensures broken { IfErr result (λ lost. PollBroke M.view 54 (poll_asks count (polled_along 1 (devices_of (⟦<Idle<M> as Seen<M>>⟧.seen idle)) idy)) (⟦<Idle<M> as Seen<M>>⟧.seen idle) (⟦<Lost<M> as Seen<M>>⟧.seen lost)) }
 {
-    // Behind it the proof sees that the drive sends nothing.
-    let _ = drive_of(&idle);
     let mut idle = idle;
     for place in 0..count.min(8) {
         idle = assign(idle, place + 1)?;

@@ -121,20 +121,12 @@ pub trait Looped<M> {
 }
 
 impl<M: Medium> Looped<M> for LoopRecords<M> {
-    ghost use Rattle.std.specs.Prelude.{map};
-    ghost use Rattle.il_ring.specs.Rings.{RingView};
+    ghost use Rattle.il_ring.specs.Seen.{ring_seen};
     ghost use Rattle.il_record.specs.LoopStores.{LoopView};
     ghost use Rattle.il_record.specs.Controls.{standing_of};
 
     ghost looped = { λ l. record {
-      control = standing_of
-          (λ r. record {
-            before = map (λ b. (Device-box b).state b.value) r.boxes.before.items;
-            drive = r.drive;
-            after = map (λ b. (Device-box b).state b.value) r.boxes.after.items;
-            books = r.books;
-          })
-          l.control;
+      control = standing_of (ring_seen (λ b. (Device-box b).state b.value)) l.control;
       sound = l.sound;
       since = l.since;
       resumes = l.resumes;
@@ -274,8 +266,6 @@ impl<M: Medium + Drop> LoopRecords<M> {
         requires room { 64 ≤ spare_of (⟦<Lost<M> as Seen<M>>⟧.seen lost) }
         ensures { Addresses M.view (AtLost (⟦<Lost<M> as Seen<M>>⟧.seen lost)) (⟦<LoopRecords<M> as Looped<M>>⟧.looped self.old) (⟦<LoopRecords<M> as Looped<M>>⟧.looped self.new) result }
     {
-        // Behind it the proof sees the range of parties.
-        let _ = lost.ring().party();
         match lost.resume() {
             Ok((idle, _)) => {
                 self.control = Control::Idle(idle);
@@ -324,8 +314,8 @@ impl<M: Medium + Drop> LoopRecords<M> {
 }
 
 impl<M: Medium + Drop> Records for LoopRecords<M> {
-    ghost use Rattle.std.specs.Prelude.{map, None};
-    ghost use Rattle.il_ring.specs.Rings.{RingView};
+    ghost use Rattle.std.specs.Prelude.{None};
+    ghost use Rattle.il_ring.specs.Seen.{ring_seen};
     ghost use Rattle.il_ports.specs.Stores.{Resumed, IsReady, AreRecords, Fetched, Stored, FetchedRun, StoredRun};
     ghost use Rattle.il_record.specs.LoopStores.{view_at};
     ghost use Rattle.il_record.specs.Controls.{ring_in, standing_of};
@@ -333,22 +323,8 @@ impl<M: Medium + Drop> Records for LoopRecords<M> {
 
     type Start = Option<Ring<M>>;
 
-    ghost view = { λ l. view_at M.view
-        (λ r. record {
-          before = map (λ b. (Device-box b).state b.value) r.boxes.before.items;
-          drive = r.drive;
-          after = map (λ b. (Device-box b).state b.value) r.boxes.after.items;
-          books = r.books;
-        })
-        (ring_in l.control) l.sound l.since l.resumes
-        (standing_of
-        (λ r. record {
-          before = map (λ b. (Device-box b).state b.value) r.boxes.before.items;
-          drive = r.drive;
-          after = map (λ b. (Device-box b).state b.value) r.boxes.after.items;
-          books = r.books;
-        })
-        l.control) };
+    ghost view = { λ l. view_at M.view (ring_seen (λ b. (Device-box b).state b.value)) (ring_in l.control) l.sound l.since l.resumes
+        (standing_of (ring_seen (λ b. (Device-box b).state b.value)) l.control) };
 
     ghost is_store = { λ l. is_store_at M.view _ _ l.sound l.since l.resumes _ M.is_medium };
 

@@ -6,7 +6,6 @@ ghost use Rattle.il_ports.specs.Stores.{AreRecords};
 ghost use Rattle.il_ring.specs.Rings.{spare_of, drive_party};
 ghost use Rattle.il_control.specs.Calls.{IsIdle, is_command};
 ghost use Rattle.loop_model.specs.Entries.{unl, lad};
-ghost use Rattle.il_drive.specs.State.{IsDrive};
 ghost use Rattle.il_record.specs.Came.{CameUnits};
 ghost use Rattle.il_record.specs.Polls.{PlacesKept};
 ghost use Rattle.il_record.specs.Runs.{Cleared, Interrupted, clear_asks, Polled, NotPolled, ReadAs, ReadBroke, WroteAs, WriteBroke};
@@ -46,12 +45,8 @@ fn selected_device_clear() -> Frame
 pub(crate) fn drive_of<M: Medium>(idle: &Idle<M>) -> u8
     ensures party { result ≡ drive_party (⟦<Idle<M> as Seen<M>>⟧.seen idle.now) }
     ensures range { result ≤ 30 }
-    ensures drive { IsDrive (M.view (⟦<Idle<M> as Seen<M>>⟧.seen idle.now).drive.medium).record_count (⟦<Idle<M> as Seen<M>>⟧.seen idle.now).drive.state }
 {
-    let ring = idle.ring();
-    // Behind it the proof sees what holds of the drive.
-    let _ = ring.medium();
-    ring.party()
+    idle.ring().party()
 }
 
 /// Has the drive, which has this address, rest with status 0.
@@ -86,8 +81,6 @@ pub(crate) fn status<M: Medium>(idle: Idle<M>, drive: u8) -> Result<(Idle<M>, u8
     ensures used { IfOk result (λ told. spare_of (⟦<Idle<M> as Seen<M>>⟧.seen idle) ≤ spare_of (⟦<Idle<M> as Seen<M>>⟧.seen told.0) + 13) }
     ensures used_lost { IfErr result (λ lost. spare_of (⟦<Idle<M> as Seen<M>>⟧.seen idle) ≤ spare_of (⟦<Lost<M> as Seen<M>>⟧.seen lost) + 14) }
 {
-    // Behind it the proof sees that the drive sends nothing.
-    let _ = drive_of(&idle);
     let mut status = [0; 1];
     let (idle, _) = idle.receive(drive, None, Sot::Sst, &mut status)?;
     Ok((idle, status[0]))
@@ -135,7 +128,6 @@ pub(crate) fn write_run<M: Medium>(
     requires address { drive ≤ 30 }
     requires at { drive ≡ drive_party (⟦<Idle<M> as Seen<M>>⟧.seen idle) }
     requires free { IsFree drive (⟦<Idle<M> as Seen<M>>⟧.seen idle).drive.state }
-    requires buffer { length (⟦<Idle<M> as Seen<M>>⟧.seen idle).drive.state.buffer_0 ≡ 256 }
     requires some { 1 ≤ count }
     requires within { first + count ≤ (M.view (⟦<Idle<M> as Seen<M>>⟧.seen idle).drive.medium).record_count }
     ensures wrote { IfOk result (λ wrote. WroteAs M.view drive first (cut count from.now) wrote.1 (⟦<Idle<M> as Seen<M>>⟧.seen idle) (⟦<Idle<M> as Seen<M>>⟧.seen wrote.0)) }

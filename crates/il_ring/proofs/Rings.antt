@@ -9,6 +9,7 @@ use Rattle.il_device.specs.Takes.{Takes}
 use Rattle.il_device.specs.declared.device.Out.{Out}
 use Rattle.il_device.specs.declared.device.Out.TheVariants.{Pass, Source}
 use Rattle.il_ports.specs.Media.{MediumView}
+use Rattle.il_drive.specs.State.{DriveView, IsDrive}
 use Rattle.il_ring.specs.declared.plan.Planned.{Planned}
 use Rattle.il_ring.specs.declared.plan.Arrival.{Arrival}
 use Rattle.il_ring.specs.declared.flight.Flight.{Flight}
@@ -118,6 +119,16 @@ module _ {M : Type 0} (view : M → MediumView) (r s : RingView M) (held : Optio
   pub round-room : s.books.room ≡ r.books.room
   round-room = at_home.room
 
+-- ---- the drive keeps its law
+
+Meets-drive : {M : Type 0} (view : M → MediumView) (k : ℕ) (t u : Trip) (f : Flight) (o : Option Flight) (d e : DriveView M) → (n : ℕ) × IsDrive n d.state → Meets (DriveTakes view) k t f o d u e → (n : ℕ) × IsDrive n e.state
+Meets-drive view k t u f None d e is meets = subst (λ (d : DriveView _). (n : ℕ) × IsDrive n d.state) (sym meets.1) is
+Meets-drive view k t u f (Some g) d e is meets = ((view e.medium).record_count, meets.1.law)
+
+Reaches-drive : {M : Type 0} (view : M → MediumView) (plan : List Planned) (k : ℕ) (t u : Trip) (o : Option Flight) (d e : DriveView M) → (n : ℕ) × IsDrive n d.state → Reaches (DriveTakes view) plan k t o d u e → (n : ℕ) × IsDrive n e.state
+Reaches-drive view plan k t u None d e is reaches = subst (λ (d : DriveView _). (n : ℕ) × IsDrive n d.state) (sym reaches.1) is
+Reaches-drive view plan k t u (Some f) d e is reaches = Meets-drive view k t u f (hit (next_fault plan t.crossings) f) d e is reaches
+
 -- ---- what keeps it
 
 -- a round does
@@ -134,8 +145,9 @@ IsRing-round view r s held f answer round is is_held =
       plan = subst IsPlan (sym (round-plan view r s held f answer round)) is.plan;
       crossings = books.crossings;
       held = books.held;
+      drive = Reaches-drive view r.books.plan (length r.before + 1) round.at_drive round.past_drive round.at_drive.flight r.drive s.drive is.drive round.at;
     }
 
 -- and so does an emptying of the log
 pub IsRing-clear : {M : Type 0} (r : RingView M) → IsRing r → IsRing (record r { books = record r.books { log = [] } })
-IsRing-clear r is = record { few = is.few; plan = is.plan; crossings = is.crossings; held = is.held }
+IsRing-clear r is = record { few = is.few; plan = is.plan; crossings = is.crossings; held = is.held; drive = is.drive }

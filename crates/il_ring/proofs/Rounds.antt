@@ -8,7 +8,7 @@ use Rattle.il_ring.specs.declared.flight.Flight.{Flight}
 use Rattle.il_ring.specs.declared.plan.Arrival.{Arrival}
 use Rattle.il_ring.specs.Books.{BooksView, KeepsBooks}
 use Rattle.il_ring.specs.Journeys.{Journey, Passage, DriveTakes, trip_of}
-use Rattle.il_ring.specs.Rings.{Round, home, arrived, arriving}
+use Rattle.il_ring.specs.Rings.{RingView, Round, home, arrived, arriving}
 
 pub from_walks : {M : Type 0} (view : M → MediumView) (before before_then : List DeviceState) (drive drive_then : DriveView M) (after after_then : List DeviceState) (party i j k : ℕ)
     (b₀ b₁ b₂ b₃ b₄ : BooksView) (f : Flight) (one two three : Option Flight) (answer : Arrival)
@@ -34,3 +34,7 @@ from_walks view before before_then drive drive_then after after_then party i j k
       ∙ ap (λ held. home (record b₃ { plan = b₀.plan; room = b₀.room; held = held }) three) (k₃.held ∙ k₂.held ∙ k₁.held);
   answer_is = answered ∙ ap (λ plan. arrived (arriving plan b₃.crossings three)) (k₃.plan ∙ k₂.plan ∙ k₁.plan);
 }
+
+-- by an equal ring
+pub round_at : {M : Type 0} (view : M → MediumView) (t r s : RingView M) (f : Flight) (answer : Arrival) → t ≡ r → Round view t t.books.held f answer s → Round view r r.books.held f answer s
+round_at view t r s f answer same round = subst (λ r. Round view r r.books.held f answer s) same round

@@ -12,7 +12,7 @@ use Rattle.il_device.specs.declared.device.Out.TheVariants.{Pass, Source}
 use Rattle.il_device.specs.State.{DeviceState, risen}
 use Rattle.il_device.specs.Takes.{Takes}
 use Rattle.il_ports.specs.Media.{MediumView}
-use Rattle.il_drive.specs.State.{DriveView, device_of}
+use Rattle.il_drive.specs.State.{DriveView, IsDrive, device_of}
 use Rattle.il_drive.specs.Steps.{Did}
 use Rattle.il_drive.specs.Table.{drive_step}
 use Rattle.il_ring.specs.declared.plan.Planned.{Planned}
@@ -63,10 +63,11 @@ Journey plan k t (d ∷ ds) u (e ∷ es) = (m : Trip) × Passage Takes plan k t 
 Journey plan k t [] u (e ∷ es) = ⊥
 Journey plan k t (d ∷ ds) u [] = ⊥
 
--- the drive takes a frame as every device does, and as its table says
+-- the drive takes a frame as every device does, and as its table says, and keeps its law
 pub record DriveTakes {M : Type 0} (view : M → MediumView) (d : DriveView M) (f : Frame) (out : Out) (e : DriveView M) : Type 0 where
   pub takes : Takes (device_of d.state) f out (device_of e.state)
   pub did : Did view (drive_step (view d.medium).record_count d.state f) (e.state, out) d.medium e.medium
+  pub law : IsDrive (view e.medium).record_count e.state
 
 -- a message whose frame goes on as it is, or as the next AAD
 abbrev pub is_exact : Message → Bool

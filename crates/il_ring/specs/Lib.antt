@@ -9,3 +9,4 @@ pub mod Rounded
 pub mod Outcomes
 pub mod Adds
 pub mod Polls
+pub mod Seen

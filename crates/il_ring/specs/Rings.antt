@@ -4,7 +4,7 @@ use Rattle.il_frames.specs.Frames.{is_data}
 use Rattle.il_device.specs.declared.roles.Roles.{Roles}
 use Rattle.il_device.specs.State.{DeviceState, IsDevice, IsIdle, risen}
 use Rattle.il_ports.specs.Media.{MediumView}
-use Rattle.il_drive.specs.State.{DriveView, device_of, drive_id}
+use Rattle.il_drive.specs.State.{DriveView, IsDrive, device_of, drive_id}
 use Rattle.il_ring.specs.declared.plan.Planned.{Planned}
 use Rattle.il_ring.specs.declared.flight.Flight.{Flight}
 use Rattle.il_ring.specs.declared.plan.Arrival.{Arrival}
@@ -37,12 +37,13 @@ drive_party r = length r.before + 1
 abbrev pub spare_of : {M : Type 0} → RingView M → ℕ
 spare_of r = r.books.room - length r.books.log
 
--- what holds of a ring at every moment from its making on
+-- what holds of a ring at every moment from its making on; its drive is one over a tape of some number of records
 pub record IsRing {M : Type 0} (r : RingView M) : Type 0 where
   pub few : length r.before + length r.after ≤ 29
   pub plan : IsPlan r.books.plan
   pub crossings : r.books.crossings ≤ last_crossing
   pub held : IsHeld r.books.held
+  pub drive : (n : ℕ) × IsDrive n r.drive.state
 
 -- ---- a new ring
 

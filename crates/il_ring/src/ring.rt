@@ -39,25 +39,39 @@ pub(crate) struct Boxes {
     ghost few: { length before.items + length after.items ≤ 29 },
 }
 
+/// What a ring consists of.
+#[derive(Drop)]
+pub(crate) struct Parts<M: Medium> {
+    pub boxes: Boxes,
+    pub drive: Drive<M>,
+    pub books: Books,
+}
+
+impl<M: Medium> Parts<M> {
+    /// The devices and the medium, in their order.
+    fn into_rig(self) -> Rig<M>
+        ensures { result ≡ record { medium = self.drive.medium; before = self.boxes.before; after = self.boxes.after } }
+    {
+        let Parts { boxes, drive, .. } = self;
+        Rig {
+            medium: drive.into_medium(),
+            before: boxes.before,
+            after: boxes.after,
+        }
+    }
+}
+
 /// The simulated loop: the host, the drive over its medium, the devices beside it, the plan and the
-/// log. It takes memory in `new` alone.
+/// log. It takes memory in `new` alone. Its parts stand in a box, so that a ring is moved at the cost of a pointer.
 #[derive(Drop)]
 pub struct Ring<M: Medium> {
-    boxes: Boxes,
-    drive: Drive<M>,
-    books: Books,
+    parts: Box<Parts<M>>,
 }
 
 impl<M: Medium> Seen<M> for Ring<M> {
-    ghost use Rattle.std.specs.Prelude.{map};
-    ghost use Rattle.il_ring.specs.Rings.{RingView};
+    ghost use Rattle.il_ring.specs.Seen.{ring_seen};
 
-    ghost seen = { λ r. record {
-      before = map (λ b. (Device-box b).state b.value) r.boxes.before.items;
-      drive = r.drive;
-      after = map (λ b. (Device-box b).state b.value) r.boxes.after.items;
-      books = r.books;
-    } };
+    ghost seen = { λ r. ring_seen (λ b. (Device-box b).state b.value) r };
 }
 
 impl<M: Medium> Ring<M> {
@@ -82,20 +96,24 @@ impl<M: Medium> Ring<M> {
         ensures ring { IfOk result (λ ring. IsRing (⟦<Ring<M> as Seen<M>>⟧.seen ring)) }
         ensures refused { IfErr result (λ refused. refused.rig ≡ rig) }
     {
-        match Books::new(alloc, plan, room) {
-            Err(_) => Err(Refused { rig }),
-            Ok(books) => {
-                let Rig {
-                    medium,
-                    before,
-                    after,
-                } = rig;
-                Ok(Ring {
-                    boxes: Boxes { before, after },
-                    drive: Drive::new(medium),
-                    books,
-                })
-            }
+        let Ok(books) = Books::new(alloc, plan, room) else {
+            return Err(Refused { rig });
+        };
+        let Rig {
+            medium,
+            before,
+            after,
+        } = rig;
+        let parts = Parts {
+            boxes: Boxes { before, after },
+            drive: Drive::new(medium),
+            books,
+        };
+        match Box::new(alloc, parts) {
+            Ok(parts) => Ok(Ring { parts }),
+            Err(failed) => Err(Refused {
+                rig: failed.value.into_rig(),
+            }),
         }
     }
 
@@ -104,28 +122,28 @@ impl<M: Medium> Ring<M> {
     pub fn held(&self) -> Option<Frame>
         ensures { result ≡ option_map (λ f. f.now) (⟦<Ring<M> as Seen<M>>⟧.seen self.now).books.held }
     {
-        self.books.held().map(|flight| flight.now)
+        self.parts.books.held().map(|flight| flight.now)
     }
 
     /// How many more entries the log has room for.
     pub fn spare(&self) -> usize
         ensures { result ≡ spare_of (⟦<Ring<M> as Seen<M>>⟧.seen self.now) }
     {
-        self.books.spare()
+        self.parts.books.spare()
     }
 
     /// The log, oldest entry first.
     pub fn log(&self) -> &[Entry]
         ensures { result.now ≡ (⟦<Ring<M> as Seen<M>>⟧.seen self.now).books.log }
     {
-        self.books.log()
+        self.parts.books.log()
     }
 
     /// Empties the log. The count of crossings and the held frame stay.
     pub fn clear_log(&mut self)
         ensures { ⟦<Ring<M> as Seen<M>>⟧.seen self.new ≡ record (⟦<Ring<M> as Seen<M>>⟧.seen self.old) { books = record (⟦<Ring<M> as Seen<M>>⟧.seen self.old).books { log = [] } } }
     {
-        self.books.clear_log();
+        self.parts.books.clear_log();
     }
 
     /// How many crossings of links there were since the ring was made. The count stays at its
@@ -133,7 +151,7 @@ impl<M: Medium> Ring<M> {
     pub fn crossings(&self) -> u64
         ensures { result ≡ (⟦<Ring<M> as Seen<M>>⟧.seen self.now).books.crossings }
     {
-        self.books.crossings()
+        self.parts.books.crossings()
     }
 
     /// The medium of the drive, whose tape stays in.
@@ -142,7 +160,7 @@ impl<M: Medium> Ring<M> {
         // What holds of the drive at every moment.
         ensures drive { IsDrive (M.view (⟦<Ring<M> as Seen<M>>⟧.seen self.now).drive.medium).record_count (⟦<Ring<M> as Seen<M>>⟧.seen self.now).drive.state }
     {
-        self.drive.medium()
+        self.parts.drive.medium()
     }
 
     /// The drive's party, 1 to 30: its place among the devices, counted from the host's output.
@@ -150,7 +168,7 @@ impl<M: Medium> Ring<M> {
         ensures party { result ≡ drive_party (⟦<Ring<M> as Seen<M>>⟧.seen self.now) }
         ensures range { result ≤ 30 }
     {
-        self.boxes.before.len() as u8 + 1
+        self.parts.boxes.before.len() as u8 + 1
     }
 
     /// The number of devices on the loop, the drive among them: 1 to 30.
@@ -158,7 +176,7 @@ impl<M: Medium> Ring<M> {
         ensures count { result ≡ length (devices_of (⟦<Ring<M> as Seen<M>>⟧.seen self.now)) }
         ensures range { result ≤ 30 }
     {
-        self.party() + self.boxes.after.len() as u8
+        self.party() + self.parts.boxes.after.len() as u8
     }
 
     /// The paper of the first printer, counted from the host's output: the first bytes that it
@@ -167,7 +185,7 @@ impl<M: Medium> Ring<M> {
     pub fn paper(&self) -> Option<(&[u8], u64)>
         ensures { option_map (λ p. (p.0.now, p.1)) result ≡ paper_of ((⟦<Ring<M> as Seen<M>>⟧.seen self.now).before ++ (⟦<Ring<M> as Seen<M>>⟧.seen self.now).after) }
     {
-        paper_in(&self.boxes.before).or(paper_in(&self.boxes.after))
+        paper_in(&self.parts.boxes.before).or(paper_in(&self.parts.boxes.after))
     }
 
     /// The devices and the medium as the ring leaves them, in their order.
@@ -176,12 +194,7 @@ impl<M: Medium> Ring<M> {
         ensures before { map (λ b. state b) result.before.items ≡ (⟦<Ring<M> as Seen<M>>⟧.seen self).before }
         ensures after { map (λ b. state b) result.after.items ≡ (⟦<Ring<M> as Seen<M>>⟧.seen self).after }
     {
-        let Ring { boxes, drive, .. } = self;
-        Rig {
-            medium: drive.into_medium(),
-            before: boxes.before,
-            after: boxes.after,
-        }
+        Box::into_inner(self.parts).into_rig()
     }
 
     /// The host sends a frame, which goes round the loop. What arrives at the host: the frame as it
@@ -239,7 +252,7 @@ impl<M: Medium> Ring<M> {
         // No device hears anything that does not listen.
         ensures kept { AllKeep (devices_of (⟦<Ring<M> as Seen<M>>⟧.seen self.old)) (devices_of (⟦<Ring<M> as Seen<M>>⟧.seen self.new)) }
     {
-        let flight = self.books.take_held().unwrap();
+        let flight = self.parts.books.take_held().unwrap();
         self.round(flight)
     }
 
@@ -249,9 +262,14 @@ impl<M: Medium> Ring<M> {
         ensures { Round M.view (⟦<Ring<M> as Seen<M>>⟧.seen self.old) (⟦<Ring<M> as Seen<M>>⟧.seen self.old).books.held flight result (⟦<Ring<M> as Seen<M>>⟧.seen self.new) }
     {
         let party = self.party();
-        let on = walk_past(&mut self.boxes.before, 1, &mut self.books, Some(flight));
-        let on = pass_drive(&mut self.drive, party, &mut self.books, on);
-        let on = walk_past(&mut self.boxes.after, party + 1, &mut self.books, on);
-        self.books.home(on)
+        let Parts {
+            boxes,
+            drive,
+            books,
+        } = &mut *self.parts;
+        let on = walk_past(&mut boxes.before, 1, books, Some(flight));
+        let on = pass_drive(drive, party, books, on);
+        let on = walk_past(&mut boxes.after, party + 1, books, on);
+        books.home(on)
     }
 }

@@ -6,7 +6,7 @@ use Rattle.il_record.proofs.Used.{used_on}
 use Rattle.il_record.proofs.calls.accessories.Goals as goal
 
 pub loop-place-init : goal.loop-place-init
-loop-place-init g c = named_none g.M.Medium.view _ c.requires.idle (idle_silent _ _ c.requires.idle c.drive_of.ensures.drive) _ c.clear.ensures
+loop-place-init g c = named_none g.M.Medium.view _ c.requires.idle (idle_silent _ c.requires.idle) _ c.clear.ensures
 
 pub returns-in_err-next-clause-broken : goal.returns-in_err-next-clause-broken
 returns-in_err-next-clause-broken g c = if_err _ _ _ c.from_residual.ensures (named_part g.M.Medium.view _ c.requires.idle c.loop-place.place c.args.count _ _ _ (omega (arith, c.loop-place-test.true)) c.loop-place.invariant c.in_err-next.ensures.broken)

@@ -5,7 +5,7 @@ use Rattle.il_record.proofs.Sends.{if_err, ok_as, err_as}
 use Rattle.il_record.proofs.poll.parallel_poll.Goals as goal
 
 pub loop-place-init : goal.loop-place-init
-loop-place-init g c = assigned_none g.M.Medium.view _ c.requires.idle (idle_silent _ _ c.requires.idle c.drive_of.ensures.drive)
+loop-place-init g c = assigned_none g.M.Medium.view _ c.requires.idle (idle_silent _ c.requires.idle)
 
 pub returns-in_err-idle-clause-broken : goal.returns-in_err-idle-clause-broken
 returns-in_err-idle-clause-broken g c = if_err _ _ _ c.from_residual.ensures (broke_placing g.M.Medium.view _ c.requires.idle c.loop-place.place c.args.count _ _ (omega (arith, c.loop-place-test.true, c.min-place-end.ensures)) c.loop-place.invariant c.in_err-idle.ensures.broken)
