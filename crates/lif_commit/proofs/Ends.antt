@@ -1,19 +1,18 @@
 -- The record with the end of a directory: what is known of it, and what a commit makes of it.
-use Rattle.std.proofs.Common.{◌≡◌, ◌≢◌, ◌<◌, ◌≤◌, ◌+◌, ◌*◌, ◌/◌, ◌%◌, ◌++◌, ℕ, zero, suc, Bool, List, [], ◌∷◌, true, length, get_or, inl, inr, refl, sym, ap, subst, ◌∙◌, arith}
+use Rattle.std.proofs.Common.{◌≡◌, ◌≢◌, ◌<◌, ◌≤◌, ◌+◌, ◌*◌, ◌/◌, ◌%◌, ◌++◌, ℕ, zero, suc, List, [], ◌∷◌, length, get_or, inl, inr, refl, sym, ap, subst, ◌∙◌, arith}
 use Rattle.std.proofs.lemmas.Bool.{cases_lt, cases_eq}
 use Rattle.std.proofs.lemmas.List.{ext_get_or}
-use Rattle.std.proofs.Math.Nat.{max-eq_left, max-eq_right}
 use Rattle.lif_model.specs.Tape.{Tape, record_at}
 use Rattle.lif_model.specs.Directory.{entry_at}
-use Rattle.lif_model.specs.Made.{with_type}
 use Rattle.lif_model.specs.declared.version.Version.{Version}
 use Rattle.lif_model.specs.Redo.{Changes, changed, redo_start}
 use Rattle.lif_model.specs.Commit.{IsCommitted}
-use Rattle.lif_model.specs.Writing.{SlotWrites, with_entry, slot_record, entry_from, with_slots, touched, records_on, changes_by}
+use Rattle.lif_model.specs.Writing.{SlotWrites, with_entry, slot_record, with_slots, touched, records_on, changes_by}
 use Rattle.lif_model.proofs.Writing.{AreOther, Untouched, entry_byte, entry_keeps_size, entry_here, entry_other, changed_to, length_slots, slots_elsewhere, others_untouched}
 use Rattle.lif_dir.specs.declared.change.Change.{Change}
-use Rattle.lif_dir.specs.Changes.{FitsIn, slot_after, entry_writes, end_write, change_writes}
-use Rattle.lif_commit.specs.Staged.{Knows, EndsWith, HoldsSlots, KeepsLast, count_with}
+use Rattle.lif_dir.specs.Changes.{AreInTurn, all_writes, count_with_all}
+use Rattle.lif_commit.specs.Staged.{Knows, EndsWith, HoldsSlots, KeepsLast}
+use Rattle.lif_commit.proofs.Turns.{end_is_put, count_grows}
 
 -- ---- a record by its entries
 
@@ -66,20 +65,23 @@ touches : (start : ℕ) (ws more : SlotWrites) (k n : ℕ) (bytes : List ℕ) �
 touches start [] more k n bytes at others = others.0 at
 touches start (w ∷ ws) more k n bytes at others = touches start ws more k n bytes at others.1
 
-pub ends_kept : (version : Version) (start size : ℕ) (slots : List (List ℕ)) (change : Change) (cs : Changes) (old new : List ℕ) (t u : Tape)
-    → Knows start size slots old t → FitsIn (8 * size) (length slots) change → start + size ≤ redo_start version (length t)
-    → cs ≡ changes_by start (change_writes start change t) t → IsCommitted version cs t u
-    → KeepsLast (start + count_with (length slots) change / 8) cs old new → EndsWith start size (count_with (length slots) change) new u
-ends_kept version start size slots change cs old new t u knows fits below are done keeps short = by keeps
+pub ends_kept : (version : Version) (start size : ℕ) (slots later : List (List ℕ)) (changes : List Change) (cs : Changes) (old new : List ℕ) (t u : Tape)
+    → Knows start size slots old t → AreInTurn (8 * size) slots changes later → start + size ≤ redo_start version (length t)
+    → cs ≡ changes_by start (all_writes start changes t) t → IsCommitted version cs t u
+    → KeepsLast (start + count_with_all (length slots) changes / 8) cs old new → EndsWith start size (count_with_all (length slots) changes) new u
+ends_kept version start size slots later changes cs old new t u knows turn below are done keeps short = by keeps
   where
+    count : ℕ
+    count = count_with_all (length slots) changes
+
     ws : SlotWrites
-    ws = change_writes start change t
+    ws = all_writes start changes t
 
     y : Tape
     y = with_slots start ws t
 
     n : ℕ
-    n = start + count_with (length slots) change / 8
+    n = start + count / 8
 
     -- what the commit left of that record
     stands : record_at y n ≡ record_at u n
@@ -93,13 +95,11 @@ ends_kept version start size slots change cs old new t u knows fits below are do
         ∙ ap (record_at y) (sym (ap (λ (ds : Changes). (get_or ds there.0 (0, [])).0) are) ∙ there.2) ∙ stands
     by (inr nowhere) =
         let untouched : Untouched start ws n = others_untouched start ws n (none_is y (touched start ws) n (λ p lt e. nowhere.0 p (omega (arith, lt, ap length are)) (ap (λ (ds : Changes). (get_or ds p (0, [])).0) are ∙ e))) in
-        elim (cases_lt (length slots) (slot_after change)) [
-          | inl more ↦
-              let count : count_with (length slots) change ≡ slot_after change = max-eq_right (omega (arith, more)) in
-              let on : change.ended ≡ true = fits.end_there more (omega (arith, short, count)) in
-              absurd (touches start (entry_writes change) [] (slot_after change) n (with_type 0xFFFF (entry_from t start (slot_after change))) (omega (arith, count))
-              (subst (λ (b : Bool). Untouched start (entry_writes change ++ end_write b start (slot_after change) t) n) on untouched))
+        elim (cases_lt (length slots) count) [
+          | inl grown ↦
+              let put = end_is_put (8 * size) start slots later changes t turn grown short in
+              absurd (touches start put.0 put.1 count n put.2 refl (subst (λ (vs : SlotWrites). Untouched start vs n) put.3 untouched))
           | inr same ↦
-              let count : count_with (length slots) change ≡ length slots = max-eq_left same in
-              nowhere.1 ∙ knows.end (omega (arith, short, count)) ∙ ap (λ (k : ℕ). record_at t (start + k / 8)) (sym count) ∙ sym (slots_elsewhere start ws t n untouched) ∙ stands
+              let as_many : count ≡ length slots = omega (arith, same, count_grows (length slots) changes) in
+              nowhere.1 ∙ knows.end (omega (arith, short, as_many)) ∙ ap (λ (k : ℕ). record_at t (start + k / 8)) (sym as_many) ∙ sym (slots_elsewhere start ws t n untouched) ∙ stands
         ]

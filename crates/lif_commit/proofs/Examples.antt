@@ -1,7 +1,7 @@
 -- Worked examples of changes and of what is set aside for them, computed by the checker, on a tape of twelve records:
 -- the directory begins at record 2, and the redo file of version 1 at record 8.
-use Rattle.std.proofs.Common.{◌≡◌, ◌≢◌, ◌⊎◌, ◌<◌, ◌+◌, ◌*◌, ◌++◌, inl, inr, ℕ, zero, suc, List, [], ◌∷◌, Bool, true, false, refl, sym, ap, subst, ◌∙◌, arith, codes}
-use Rattle.std.specs.Prelude.{Option, Some, None, Ok, Err, replicate, get_or}
+use Rattle.std.proofs.Common.{◌≡◌, ◌≢◌, ◌⊎◌, ◌<◌, ◌+◌, ◌*◌, ◌++◌, inl, inr, ℕ, zero, suc, List, [], ◌∷◌, Bool, true, false, refl, sym, ap, length, subst, ◌∙◌, arith, codes}
+use Rattle.std.specs.Prelude.{Option, Some, None, Ok, Err, replicate, length, get_or}
 use Rattle.lif_model.specs.Tape.{Tape, record_at}
 use Rattle.lif_model.specs.Shelf.{piece}
 use Rattle.lif_model.specs.Gate.{is_open, has_open_gate}
@@ -17,12 +17,15 @@ use Rattle.lif_model.proofs.VolumeExamples.{file, a_name, b_name, numbered}
 use Rattle.il_ports.specs.declared.records.Trouble.{Trouble}
 use Rattle.il_ports.specs.declared.records.Trouble.TheVariants.{Medium}
 use Rattle.il_ports.specs.Stores.{RecordsView, RunLeaves}
+use Rattle.il_ports.proofs.Stores.{goes_nowhere, goes_within, quiet_nowhere}
+use Rattle.lif_redo.proofs.Writes.{no_write}
 use Rattle.lif_redo.specs.Writing.{writes_among, AreSingle, AddsWrites}
 use Rattle.lif_dir.specs.Entries.{slot_of}
 use Rattle.lif_dir.specs.declared.change.Change.{Change}
 use Rattle.lif_dir.specs.declared.entries.FileEntry.{FileEntry}
-use Rattle.lif_dir.specs.Changes.{after_next, slot_after, FitsIn, next_write, end_write, entry_writes, change_writes, put_slot, put_next, put_change, slots_with, bytes_with}
-use Rattle.lif_commit.specs.Staged.{BroughtIn, there, read, IsStagedAs, AreOthers, Knows, EndsWith, HoldsSlots, KeepsLast, count_with, touched_by, past_end, calls_of, CommitsSlots, CommitsChange}
+use Rattle.lif_dir.specs.Changes.{after_next, slot_after, FitsIn, next_write, end_write, entry_writes, change_writes, put_slot, put_next, put_change, slots_with, bytes_with, count_with, count_with_all}
+use Rattle.lif_commit.specs.Staged.{BroughtIn, there, read, IsStagedAs, AreBefore, Knows, EndsWith, HoldsSlots, KeepsLast, touched_by, touched_by_all, past_end, calls_among, calls_of, calls_of_all, CommitsSlots, CommitsChange, CommitsAll, StagesAll}
+use Rattle.lif_commit.proofs.Staging.{none_staged, goes_told}
 
 -- ---- changes
 
@@ -65,14 +68,15 @@ not_places = ((λ is. absurd (omega (arith, is))), (λ is. absurd (omega (arith,
 -- in the last slot without an end, and behind the last slot with one
 fits : FitsIn 1 1 alone × FitsIn 3 1 last × FitsIn 3 1 both
 fits = (
-  record { place = omega arith; within = omega arith; kind = λ is. absurd (omega (arith, is)); next = tt; end_within = λ on. cc; end_there = λ more room. absurd (omega (arith, more)) },
-  record { place = omega arith; within = omega arith; kind = λ is. absurd (omega (arith, is)); next = tt; end_within = λ on. omega arith; end_there = λ more room. refl },
-  record { place = omega arith; within = omega arith; kind = λ is. absurd (omega (arith, is)); next = (omega arith, (λ is. absurd (omega (arith, is)))); end_within = λ on. omega arith; end_there = λ more room. refl },
+  record { place = omega arith; one = omega arith; within = omega arith; kind = λ is. absurd (omega (arith, is)); next = tt; end_within = λ on. cc; end_past = λ on. cc; end_there = λ more room. absurd (omega (arith, more)) },
+  record { place = omega arith; one = omega arith; within = omega arith; kind = λ is. absurd (omega (arith, is)); next = tt; end_within = λ on. omega arith; end_past = λ on. omega arith; end_there = λ more room. refl },
+  record { place = omega arith; one = omega arith; within = omega arith; kind = λ is. absurd (omega (arith, is)); next = (omega arith, (λ is. absurd (omega (arith, is)))); end_within = λ on. omega arith; end_past = λ on. omega arith; end_there = λ more room. refl },
 )
 
--- not past the place behind the last slot, where the end has no slot, or with an entry that is an end
-not_fits : (FitsIn 16 0 last → ⊥) × (FitsIn 2 1 last → ⊥) × (FitsIn 16 1 (record alone { entry = record b_entry { kind = 0xFFFF } }) → ⊥)
-not_fits = ((λ fits. absurd (omega (arith, fits.place))), (λ fits. absurd (omega (arith, fits.end_within refl))), (λ fits. fits.kind refl))
+-- not past the place behind the last slot, not two behind it, where the end has no slot, where it is a slot of those before, or with an
+-- entry that is an end
+not_fits : (FitsIn 16 0 last → ⊥) × (FitsIn 16 0 both → ⊥) × (FitsIn 2 1 last → ⊥) × (FitsIn 16 2 last → ⊥) × (FitsIn 16 1 (record alone { entry = record b_entry { kind = 0xFFFF } }) → ⊥)
+not_fits = ((λ fits. absurd (omega (arith, fits.place))), (λ fits. absurd (omega (arith, fits.one))), (λ fits. absurd (omega (arith, fits.end_within refl))), (λ fits. absurd (omega (arith, fits.end_past refl))), (λ fits. fits.kind refl))
 
 -- ---- what is written
 
@@ -171,14 +175,14 @@ not_staged = (
     first : Changes → ℕ
     first cs = get_or (get_or cs 0 (0, [])).1 0 0
 
-others : AreOthers 16 2 ((1, a_file) ∷ (3, a_file) ∷ []) × AreOthers 16 2 (entry_writes both)
-others = (
-  (omega arith, (λ is. absurd (omega (arith, is))), refl, (omega arith, (λ is. absurd (omega (arith, is))), refl, tt)),
-  (omega arith, (λ is. absurd (omega (arith, is))), refl, (omega arith, (λ is. absurd (omega (arith, is))), refl, tt)),
+are_before : AreBefore 16 4 ((1, a_file) ∷ (3, a_file) ∷ []) × AreBefore 16 2 (entry_writes both)
+are_before = (
+  (omega arith, omega arith, refl, (omega arith, omega arith, refl, tt)),
+  (omega arith, omega arith, refl, (omega arith, omega arith, refl, tt)),
 )
 
-not_others : (AreOthers 16 1 ((1, a_file) ∷ []) → ⊥) × (AreOthers 1 2 ((1, a_file) ∷ []) → ⊥)
-not_others = ((λ are. are.1 refl), (λ are. absurd (omega (arith, are.0))))
+not_before : (AreBefore 16 1 ((1, a_file) ∷ []) → ⊥) × (AreBefore 1 2 ((1, a_file) ∷ []) → ⊥)
+not_before = ((λ are. absurd (omega (arith, are.1))), (λ are. absurd (omega (arith, are.0))))
 
 -- ---- what is known of a directory
 
@@ -205,11 +209,18 @@ not_known = (
 )
 
 counts : (count_with 1 last ≡ 2) × (count_with 2 alone ≡ 2) × (count_with 1 both ≡ 2) × (touched_by 2 both ≡ 2 ∷ []) × (touched_by 2 seam ≡ 2 ∷ 3 ∷ [])
-    × (past_end 2 7 (touched_by 2 seam) ≡ 1) × (calls_of 2 1 false alone ≡ 5) × (calls_of 2 7 true seam ≡ 9)
-counts = (refl, refl, refl, refl, refl, refl, refl, refl)
+    × (past_end 2 7 (touched_by 2 seam) ≡ 1) × (calls_of 2 1 false alone ≡ 5) × (calls_of 2 7 true seam ≡ 9) × (calls_among 2 7 false (2 ∷ 3 ∷ []) ≡ 8)
+counts = (refl, refl, refl, refl, refl, refl, refl, refl, refl)
 
-not_counts : (count_with 1 both ≢ 1) × (past_end 2 8 (touched_by 2 seam) ≢ 1) × (calls_of 2 1 false alone ≢ 6)
-not_counts = ((λ is. absurd (omega (arith, is))), (λ is. absurd (omega (arith, is))), (λ is. absurd (omega (arith, is))))
+not_counts : (count_with 1 both ≢ 1) × (past_end 2 8 (touched_by 2 seam) ≢ 1) × (calls_of 2 1 false alone ≢ 6) × (calls_among 2 8 false (2 ∷ 3 ∷ []) ≢ 8)
+not_counts = ((λ is. absurd (omega (arith, is))), (λ is. absurd (omega (arith, is))), (λ is. absurd (omega (arith, is))), (λ is. absurd (omega (arith, is))))
+
+-- of two changes in one record it is touched once
+counts_all : (count_with_all 1 (last ∷ both ∷ []) ≡ 2) × (touched_by_all 2 (alone ∷ seam ∷ alone ∷ []) ≡ 2 ∷ 3 ∷ []) × (calls_of_all 2 7 false (alone ∷ seam ∷ []) ≡ 8)
+counts_all = (refl, refl, refl)
+
+not_counts_all : (count_with_all 1 (last ∷ both ∷ []) ≢ 3) × (touched_by_all 2 (alone ∷ alone ∷ []) ≢ 2 ∷ 2 ∷ []) × (calls_of_all 2 7 false (alone ∷ seam ∷ []) ≢ 12)
+not_counts_all = ((λ is. absurd (omega (arith, is))), (λ is. let count : 1 ≡ 2 = ap length is in absurd (omega (arith, count))), (λ is. absurd (omega (arith, is))))
 
 -- the record that is among the changes, and the one that stands where it is not
 keeps : KeepsLast 3 ((2, a_file) ∷ (3, b_file) ∷ []) a_file b_file × KeepsLast 4 ((2, a_file) ∷ []) a_file a_file
@@ -374,6 +385,10 @@ succeeds = record {
     either c (inr is) = inr (subst (SettlesBelow One (changed its_changes tape)) (sym is) new_settles)
 
 -- an Ok that leaves the old record is none
+-- the same, as one of changes in turn
+succeeds_all : CommitsAll {T = ℕ} One 2 1 false (alone ∷ []) before done (Ok 0)
+succeeds_all = succeeds
+
 not_succeeds : CommitsChange {T = ℕ} 2 1 false alone before (store tape None true 0 7 (λ c. c ≡ tape) transfers) (Ok 0) → ⊥
 unfolding with_entry
 not_succeeds commits = let left = commits.done tape refl in no left.0 left.1 left.2
@@ -383,3 +398,22 @@ not_succeeds commits = let left = commits.done tape refl in no left.0 left.1 lef
         let same : tape ≡ u = cc in
         let byte : 65 ≡ 66 = ap (λ (x : Tape). get_or (record_at x 2) 0 0) same ∙ ap (λ (bytes : List ℕ). get_or bytes 0 0) (is.below 2 (omega arith)) in
         absurd (omega (arith, byte))
+
+-- ---- changes that are set aside
+
+none_stages : StagesAll 2 1 [] before before [] (Ok 1)
+none_stages = record {
+  goes_on = goes_told 3 before before tt 1 (goes_within 0 3 before before (Ok tt) (omega arith) (goes_nowhere 3 before (record { valid = tt; sound = refl; left = omega arith })));
+  few = omega arith;
+  quiet = quiet_nowhere before;
+  reads = no_write before.transferred;
+  staged = none_staged 2 (Some tape) [] refl;
+  count = refl;
+}
+
+-- not with another count of slots, or another record than what is touched
+not_stages : (StagesAll 2 1 [] before before [] (Ok 2) → ⊥) × (StagesAll 2 1 [] before before ((2, content) ∷ []) (Ok 1) → ⊥)
+not_stages = (
+  (λ stages. absurd (omega (arith, stages.count))),
+  (λ stages. let count : 1 ≡ 0 = ap length (stages.staged.targets []) in absurd (omega (arith, count))),
+)

@@ -1,3 +1,4 @@
 pub mod Staging
 mod Examples
 pub mod Ends
+pub mod Turns

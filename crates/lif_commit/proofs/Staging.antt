@@ -1,5 +1,5 @@
 -- The records that are set aside for a commit, as slots are put into them.
-use Rattle.std.proofs.Common.{◌≡◌, ◌≢◌, ◌⊎◌, ◌<◌, ◌≤◌, ◌+◌, ◌-◌, ◌*◌, ◌%◌, ◌++◌, ◌==◌, ℕ, zero, suc, List, [], ◌∷◌, Bool, true, false, if◌then◌else◌, nat_lt, ◌/◌, filter, Option, Some, inl, inr, max, length, length-append, length-set, get_or, set, map, replicate, refl, sym, ap, subst, ◌∙◌, append-nil, arith}
+use Rattle.std.proofs.Common.{◌≡◌, ◌≢◌, ◌⊎◌, ◌<◌, ◌≤◌, ◌+◌, ◌-◌, ◌*◌, ◌%◌, ◌++◌, ◌==◌, ℕ, zero, suc, List, [], ◌∷◌, Bool, true, false, if◌then◌else◌, not, nat_eq, nat_lt, ◌/◌, filter, Option, Some, inl, inr, max, length, length-append, length-set, get_or, set, map, replicate, refl, sym, ap, subst, ◌∙◌, append-nil, arith}
 use Rattle.std.proofs.lemmas.Bool.{ne_eqb, eq-eqb, eqb-true, cases_lt}
 use Rattle.std.proofs.Math.Nat.{max-eq_left, max-eq_right, max-le, le-max_right}
 use Rattle.std.specs.Prelude.{None, IfSome, Result, Ok, Err, OnOk}
@@ -9,13 +9,14 @@ use Rattle.lif_model.specs.Tape.{Tape, IsTape, record_at}
 use Rattle.lif_model.specs.Directory.{entry_at}
 use Rattle.lif_model.specs.Made.{with_type}
 use Rattle.lif_model.specs.declared.version.Version.{Version}
-use Rattle.lif_model.specs.declared.version.Version.TheVariants.{One, Two}
 use Rattle.lif_model.specs.Redo.{most_targets, redo_start, are_targets, Changes, targets_in}
-use Rattle.lif_model.specs.Commit.{AreChanges, SettlesBelow}
+use Rattle.lif_model.specs.Commit.{SettlesBelow}
 use Rattle.lif_model.specs.Redo.{IsSettled}
 use Rattle.lif_model.specs.Writing.{with_entry, slot_record, entry_from, SlotWrites, with_slots, touched, changes_by}
 use Rattle.lif_model.proofs.Writing.{AreEntries, AreOther, last_written, touches_two, changes_are, targets_are, slot_written, slots_elsewhere, others_untouched}
 use Rattle.lif_model.proofs.Growing.{changes_again, changes_new}
+use Rattle.lif_model.proofs.Directory.{entry_size}
+use Rattle.lif_model.proofs.Made.{typed_size}
 use Rattle.lif_model.specs.Gate.{has_open_gate}
 use Rattle.lif_model.specs.Commit.{IsCommitted, IsOldOrNew, commit_writes}
 use Rattle.lif_model.proofs.Moments.{after_still}
@@ -28,8 +29,8 @@ use Rattle.lif_redo.proofs.Writes.{then_writes, same_writes}
 use Rattle.lif_dir.specs.Entries.{entry_bytes}
 use Rattle.lif_dir.specs.declared.change.Change.{Change}
 use Rattle.lif_dir.specs.declared.entries.FileEntry.{FileEntry}
-use Rattle.lif_dir.specs.Changes.{FitsIn, put_slot, put_next, put_change, after_next, slot_after, next_write, end_write, entry_writes, change_writes}
-use Rattle.lif_commit.specs.Staged.{BroughtIn, there, read, IsStagedAs, AreOthers, CommitsSlots, touched_by, past_end, calls_of, count_with, most_commit_calls}
+use Rattle.lif_dir.specs.Changes.{FitsIn, put_slot, put_next, put_change, after_next, slot_after, next_write, end_write, entry_writes, change_writes, count_with}
+use Rattle.lif_commit.specs.Staged.{BroughtIn, there, read, IsStagedAs, AreBefore, CommitsSlots, touched_by, past_end, calls_of, most_commit_calls}
 
 -- the slots that change, of a directory that begins at record `start`, lie in records below that one
 pub record LiesBelow (start limit : ℕ) (change : Change) : Type 0 where
@@ -174,20 +175,28 @@ module _ (start slot : ℕ) (tape : Option Tape) (writes : Tape → SlotWrites) 
 
 -- ---- a slot that was not written
 
-entries_of_others : (room k : ℕ) (ws : SlotWrites) → AreOthers room k ws → AreEntries room ws
-entries_of_others room k [] are = tt
-entries_of_others room k (w ∷ ws) are = (are.0, are.2, entries_of_others room k ws are.3)
+entries_before : (room k : ℕ) (ws : SlotWrites) → AreBefore room k ws → AreEntries room ws
+entries_before room k [] are = tt
+entries_before room k (w ∷ ws) are = (are.0, are.2, entries_before room k ws are.3)
 
-last_of_others : (room k : ℕ) (ws : SlotWrites) (old : List ℕ) → AreOthers room k ws → last_written ws k old ≡ old
-last_of_others room k [] old are = refl
-last_of_others room k (w ∷ ws) old are =
-    last_of_others room k ws (if w.0 == k then w.1 else old) are.3 ∙ ap (λ (b : Bool). if b then w.1 else old) (ne_eqb w.0 k are.1)
+last_of_before : (room k : ℕ) (ws : SlotWrites) (old : List ℕ) → AreBefore room k ws → last_written ws k old ≡ old
+last_of_before room k [] old are = refl
+last_of_before room k (w ∷ ws) old are =
+    last_of_before room k ws (if w.0 == k then w.1 else old) are.3 ∙ ap (λ (b : Bool). if b then w.1 else old) (ne_eqb w.0 k (λ e. absurd (omega (arith, e, are.1))))
 
-pub others_leave : (start n slot : ℕ) (ws : SlotWrites) (t : Tape) → IsTape n t → slot_record start slot < n → AreOthers (8 * (n - start)) slot ws
+pub before_leave : (start n slot : ℕ) (ws : SlotWrites) (t : Tape) → IsTape n t → slot_record start slot < n → AreBefore (8 * (n - start)) slot ws
     → entry_at (record_at (with_slots start ws t) (slot_record start slot)) (slot % 8) ≡ entry_from t start slot
-others_leave start n slot ws t is lt are =
-    slot_written start n (n - start) ws t slot is (omega (arith, lt)) (entries_of_others (8 * (n - start)) slot ws are) (omega (arith, lt))
-    ∙ last_of_others (8 * (n - start)) slot ws (entry_from t start slot) are
+before_leave start n slot ws t is lt are =
+    slot_written start n (n - start) ws t slot is (omega (arith, lt)) (entries_before (8 * (n - start)) slot ws are) (omega (arith, lt))
+    ∙ last_of_before (8 * (n - start)) slot ws (entry_from t start slot) are
+
+pub before_more : (room k m : ℕ) (ws : SlotWrites) → k ≤ m → AreBefore room k ws → AreBefore room m ws
+before_more room k m [] le are = tt
+before_more room k m (w ∷ ws) le are = (are.0, omega (arith, are.1, le), are.2, before_more room k m ws le are.3)
+
+pub before_append : (room k : ℕ) (ws more : SlotWrites) → AreBefore room k ws → AreBefore room k more → AreBefore room k (ws ++ more)
+before_append room k [] more are others = others
+before_append room k (w ∷ ws) more are others = (are.0, are.1, are.2, before_append room k ws more are.3 others)
 
 -- an element that is there, whatever stands for those that are not
 pub value_at : (cs : Changes) (p : ℕ) (c : ℕ × List ℕ) → c ≡ get_or cs p c → p < length cs → c ≡ get_or cs p (0, [])
@@ -228,21 +237,32 @@ ended_too start k change x at on = (λ i. entry_writes change ++ (at i, with_typ
     ∙ (λ i. entry_writes change ++ end_write (sym on i) start (slot_after change) x)
 
 -- the end is put behind the entries
-pub entries_are_others : (start limit : ℕ) (change : Change) → LiesBelow start limit change → length (entry_bytes change.entry) ≡ 32 → IfSome change.next (λ e. length (entry_bytes e) ≡ 32)
-    → AreOthers (8 * (limit - start)) (slot_after change) (entry_writes change)
-entries_are_others start limit change below one two = by change.next below.next two
+pub entries_are_before : (start limit : ℕ) (change : Change) → LiesBelow start limit change → length (entry_bytes change.entry) ≡ 32 → IfSome change.next (λ e. length (entry_bytes e) ≡ 32)
+    → AreBefore (8 * (limit - start)) (slot_after change) (entry_writes change)
+entries_are_before start limit change below one two = by change.next below.next two
   where
     by : (next : Option FileEntry) → IfSome next (λ e. slot_record start (suc change.slot) < limit) → IfSome next (λ e. length (entry_bytes e) ≡ 32)
-        → AreOthers (8 * (limit - start)) (after_next change.slot next) ((change.slot, entry_bytes change.entry) ∷ next_write (suc change.slot) next)
-    by None lt more = (omega (arith, below.slot), (λ e. absurd (omega (arith, e))), one, tt)
-    by (Some e) lt more = (omega (arith, below.slot), (λ e. absurd (omega (arith, e))), one, (omega (arith, lt), (λ e. absurd (omega (arith, e))), more, tt))
+        → AreBefore (8 * (limit - start)) (after_next change.slot next) ((change.slot, entry_bytes change.entry) ∷ next_write (suc change.slot) next)
+    by None lt more = (omega (arith, below.slot), omega arith, one, tt)
+    by (Some e) lt more = (omega (arith, below.slot), omega arith, one, (omega (arith, lt), omega arith, more, tt))
+
+-- and all of it before the place behind the end
+pub change_is_before : (start limit : ℕ) (change : Change) (t : Tape) → IsTape limit t → LiesBelow start limit change
+    → AreBefore (8 * (limit - start)) (slot_after change) (entry_writes change) → AreBefore (8 * (limit - start)) (suc (slot_after change)) (change_writes start change t)
+change_is_before start limit change t is below entries =
+    before_append (8 * (limit - start)) (suc (slot_after change)) (entry_writes change) (end_write change.ended start (slot_after change) t)
+    (before_more (8 * (limit - start)) (slot_after change) (suc (slot_after change)) (entry_writes change) (omega arith) entries) (by change.ended below.end)
+  where
+    by : (ended : Bool) → (ended ≡ true → slot_record start (slot_after change) < limit) → AreBefore (8 * (limit - start)) (suc (slot_after change)) (end_write ended start (slot_after change) t)
+    by false lt = tt
+    by true lt =
+        let whole : length (entry_from t start (slot_after change)) ≡ 32 =
+        entry_size (record_at t (slot_record start (slot_after change))) (slot_after change % 8) (is.bytes (slot_record start (slot_after change)) (lt refl)) (omega arith) in
+        (omega (arith, lt refl), omega arith, typed_size 0xFFFF (entry_from t start (slot_after change)) ∙ whole, tt)
 
 -- ---- one commit takes them
 
-two_most : (version : Version) → 2 ≤ most_targets version
-two_most One = omega arith
-two_most Two = omega arith
-
+-- the same slots, with other bytes
 blank : List ℕ
 blank = replicate 32 0
 
@@ -250,44 +270,41 @@ blank_size : length blank ≡ 32
 unfolding blank
 blank_size = refl
 
-module _ (version : Version) (n start slot : ℕ) (within : slot_record start slot < redo_start version n) where
-  -- which records are touched, the bytes do not say
-  abbrev Takes : SlotWrites → Type 0
-  Takes ws = (are_targets version n (touched start ws) ≡ true) × (length (touched start ws) ≤ 2)
+blanked : SlotWrites → SlotWrites
+blanked [] = []
+blanked (w ∷ ws) = (w.0, blank) ∷ blanked ws
 
-  by_entries : (ws : SlotWrites) → AreEntries (8 * (redo_start version n - start)) ws → 0 < length ws → length (touched start ws) ≤ 2 → Takes ws
-  by_entries ws are some few = (
-    sym (ap (λ (ks : List ℕ). are_targets version n ks) (targets_are (touched start ws) (with_slots start ws [])))
-        ∙ changes_are start (redo_start version n - start) ws are version n [] some (omega (arith, few, two_most version)) (omega (arith, within)),
-    few,
-  )
+-- which records are touched, the bytes do not say
+touched_blank : (start : ℕ) (ws : SlotWrites) → touched start (blanked ws) ≡ touched start ws
+unfolding blanked
+touched_blank start [] = refl
+touched_blank start (w ∷ ws) = ap (λ (ks : List ℕ). slot_record start w.0 ∷ filter (λ k. not (nat_eq k (slot_record start w.0))) ks) (touched_blank start ws)
 
-  one : (e : List ℕ) → Takes ((slot, e) ∷ [])
-  one e = by_entries ((slot, blank) ∷ []) (omega (arith, within), blank_size, tt) (omega arith) (omega arith)
+-- each slot is one of so many
+abbrev pub AreWithin : ℕ → SlotWrites → Type 0
+AreWithin room [] = Unit {0}
+AreWithin room (w ∷ ws) = (w.0 < room) × AreWithin room ws
 
-  two : slot_record start (suc slot) < redo_start version n → (e f : List ℕ) → Takes ((slot, e) ∷ (suc slot, f) ∷ [])
-  two next e f = by_entries ((slot, blank) ∷ (suc slot, blank) ∷ []) (omega (arith, within), blank_size, (omega (arith, next), blank_size, tt)) (omega arith)
-      (touches_two start (slot_record start slot) ((slot, blank) ∷ (suc slot, blank) ∷ []) (omega arith, omega arith, (omega arith, omega arith, tt)))
+blank_entries : (room : ℕ) (ws : SlotWrites) → AreWithin room ws → AreEntries room (blanked ws)
+unfolding blanked
+blank_entries room [] are = tt
+blank_entries room (w ∷ ws) are = (are.0, blank_size, blank_entries room ws are.1)
 
-  three : slot_record start (suc (suc slot)) < redo_start version n → (e f g : List ℕ) → Takes ((slot, e) ∷ (suc slot, f) ∷ (suc (suc slot), g) ∷ [])
-  three last e f g =
-      let ws : SlotWrites = (slot, blank) ∷ (suc slot, blank) ∷ (suc (suc slot), blank) ∷ [] in
-      by_entries ws (omega (arith, last), blank_size, (omega (arith, last), blank_size, (omega (arith, last), blank_size, tt))) (omega arith)
-      (touches_two start (slot_record start slot) ws (omega arith, omega arith, (omega arith, omega arith, (omega arith, omega arith, tt))))
+blank_some : (ws : SlotWrites) → 0 < length ws → 0 < length (blanked ws)
+unfolding blanked
+blank_some [] some = absurd (omega (arith, some))
+blank_some (w ∷ ws) some = omega arith
 
-  takes : (e : FileEntry) (next : Option FileEntry) (ended : Bool) → IfSome next (λ e. slot_record start (suc slot) < redo_start version n)
-      → (ended ≡ true → slot_record start (after_next slot next) < redo_start version n)
-      → Takes ((slot, entry_bytes e) ∷ (next_write (suc slot) next ++ end_write ended start (after_next slot next) []))
-  takes e None false next end = one (entry_bytes e)
-  takes e None true next end = two (end refl) (entry_bytes e) (with_type 0xFFFF (entry_from [] start (suc slot)))
-  takes e (Some more) false next end = two next (entry_bytes e) (entry_bytes more)
-  takes e (Some more) true next end = three (end refl) (entry_bytes e) (entry_bytes more) (with_type 0xFFFF (entry_from [] start (suc (suc slot))))
+pub within_append : (room : ℕ) (ws more : SlotWrites) → AreWithin room ws → AreWithin room more → AreWithin room (ws ++ more)
+within_append room [] more are others = others
+within_append room (w ∷ ws) more are others = (are.0, within_append room ws more are.1 others)
 
-pub change_takes : (n start : ℕ) (tape : Option Tape) (change : Change) (cs : Changes) → LiesBelow start (redo_start change.version n) change → IsStagedAs start tape (change_writes start change) cs
-    → AreChanges change.version n cs × (length cs ≤ 2)
-change_takes n start tape change cs below staged =
-    let both = takes change.version n start change.slot below.slot change.entry change.next change.ended below.next below.end in
-    (ap (are_targets change.version n) (staged.targets []) ∙ both.0, omega (arith, both.1, ap length (staged.targets []), targets_count cs))
+pub writes_taken : (version : Version) (n start size : ℕ) (ws : SlotWrites) → start + size ≤ redo_start version n → AreWithin (8 * size) ws → 0 < length ws
+    → length (touched start ws) ≤ most_targets version → are_targets version n (touched start ws) ≡ true
+writes_taken version n start size ws below are some few =
+    ap (are_targets version n) (sym (touched_blank start ws))
+    ∙ sym (ap (are_targets version n) (targets_are (touched start (blanked ws)) (with_slots start (blanked ws) [])))
+    ∙ changes_are start size (blanked ws) (blank_entries (8 * size) ws are) version n [] (blank_some ws some) (omega (arith, few, ap length (touched_blank start ws))) below
 
 -- ---- before the commit
 
@@ -352,6 +369,26 @@ goes_fewer j k v w r left goes =
       resumed = goes.resumed;
     }
 
+-- with another value after an Ok
+pub goes_told : {S T U : Type 0} (j : ℕ) (v w : RecordsView S) (x : T) (y : U) → GoesOn j v w (Ok x) → GoesOn j v w (Ok y)
+goes_told j v w x y goes =
+    let c = goes.continues in
+    record {
+      continues = record { valid = c.valid; told = c.told; size = c.size; sound = c.sound; ready = c.ready; left = c.left; room = c.room; failed = c.failed; cause = c.cause };
+      stood = goes.stood;
+      resumed = goes.resumed;
+    }
+
+-- and after a failure, whatever is told else
+pub goes_failed : {S T U : Type 0} (j : ℕ) (v w : RecordsView S) (e : Trouble) → GoesOn {T = T} j v w (Err e) → GoesOn {T = U} j v w (Err e)
+goes_failed j v w e goes =
+    let c = goes.continues in
+    record {
+      continues = record { valid = c.valid; told = c.told; size = c.size; sound = c.sound; ready = c.ready; left = c.left; room = c.room; failed = c.failed; cause = c.cause };
+      stood = goes.stood;
+      resumed = goes.resumed;
+    }
+
 -- ---- how many are read
 
 filter_fewer : (p : ℕ → Bool) (ks : List ℕ) → length (filter p ks) ≤ length ks
@@ -386,13 +423,16 @@ pub past_set : (start count place : ℕ) (cs : Changes) (c : ℕ × List ℕ) �
     → past_end start count (targets_in (set cs place c)) ≡ past_end start count (targets_in cs)
 past_set start count place cs c same = ap (past_end start count) (targets_set cs place c same)
 
+pub past_push : (start count : ℕ) (ks : List ℕ) (k : ℕ) → past_end start count (ks ++ k ∷ []) ≡ past_end start count ks + (if nat_lt (start + count / 8) k then 1 else 0)
+past_push start count ks k = filter_push (λ k. nat_lt (start + count / 8) k) ks k
+
 -- no more than are touched
 pub past_few : (start count : ℕ) (ks : List ℕ) → past_end start count ks ≤ length ks
 past_few start count ks = filter_fewer (λ k. nat_lt (start + count / 8) k) ks
 
-pub touched_is : (start : ℕ) (tape : Option Tape) (change : Change) (cs : Changes) → IsStagedAs start tape (change_writes start change) cs
-    → (targets_in cs ≡ touched_by start change) × (length cs ≡ length (touched_by start change))
-touched_is start tape change cs staged = (staged.targets [], sym (targets_count cs) ∙ ap length (staged.targets []))
+pub touched_is : (start : ℕ) (tape : Option Tape) (writes : Tape → SlotWrites) (cs : Changes) → IsStagedAs start tape writes cs
+    → (targets_in cs ≡ touched start (writes [])) × (length cs ≡ length (touched start (writes [])))
+touched_is start tape writes cs staged = (staged.targets [], sym (targets_count cs) ∙ ap length (staged.targets []))
 
 -- ---- which records a change touches
 

@@ -1,30 +1,32 @@
 //! The records that one commit is to change.
-ghost use Rattle.std.specs.Prelude.{◌≡◌, ◌<◌, ◌≤◌, ◌+◌, ◌-◌, ◌/◌, ◌*◌, ◌^◌, ◌++◌, ℕ, [], ◌∷◌, true, length, map};
+ghost use Rattle.std.specs.Prelude.{◌≡◌, ◌<◌, ◌≤◌, ◌+◌, ◌-◌, ◌/◌, ◌*◌, ◌^◌, ◌++◌, ℕ, suc, List, [], ◌∷◌, true, length, map};
 ghost use Rattle.std.specs.Prelude.{vec_capacity};
 ghost use Rattle.std.specs.Prelude.{Some, IfOk, OnOk};
 ghost use Rattle.lif_model.specs.Tape.{Tape, record_at};
 ghost use Rattle.lif_model.specs.Gate.{has_open_gate};
 ghost use Rattle.lif_model.specs.Directory.{entry_at};
 ghost use Rattle.lif_model.specs.Made.{with_type};
-ghost use Rattle.lif_model.specs.Redo.{IsSettled, redo_start, targets_in};
+ghost use Rattle.lif_model.specs.Parts.{most_parts};
+ghost use Rattle.lif_model.specs.Redo.{IsSettled, redo_start, most_targets, targets_in};
+ghost use Rattle.lif_model.specs.declared.version.Version.TheVariants.{Two};
 ghost use Rattle.lif_model.specs.Writing.{SlotWrites, with_entry, slot_record, entry_from};
 ghost use Rattle.il_ports.specs.Stores.{IsReady, GoesOn, IsQuiet};
 ghost use Rattle.lif_redo.specs.Writing.{AddsWrites};
 ghost use Rattle.lif_dir.specs.Entries.{slot_bytes};
 ghost use Rattle.lif_dir.specs.Reading.{ReadsSlots};
-ghost use Rattle.lif_dir.specs.Changes.{FitsIn, slot_after, entry_writes, change_writes};
-ghost use Rattle.lif_commit.specs.Staged.{BroughtIn, AreOthers, CommitsChange, IsStagedAs, HoldsSlots};
-ghost use Rattle.lif_commit.specs.Staged.{Knows, EndsWith, KeepsLast, count_with, past_end, most_commit_calls};
+ghost use Rattle.lif_dir.specs.Changes.{FitsIn, slot_after, entry_writes, change_writes, count_with, AreInTurn, count_with_all};
+ghost use Rattle.lif_commit.specs.Staged.{BroughtIn, AreBefore, CommitsChange, CommitsAll, IsStagedAs, HoldsSlots, StagesAll};
+ghost use Rattle.lif_commit.specs.Staged.{Knows, EndsWith, KeepsLast, past_end, touched_by_all, calls_of_all, most_commit_calls};
 
 use il_ports::{Records, Trouble};
 use lif_dir::{Change, SlotTable, read_slots};
 use lif_header::{Header, bytes_at};
-use lif_model::{ENTRIES, ENTRY, RECORD, Record};
+use lif_model::{ENTRIES, ENTRY, MOST_PARTS, RECORD, Record, Version};
 use lif_redo::commit_known;
 use std::alloc::{AllocError, Global};
 
-/// How many records one commit changes at most.
-const MOST: usize = 32;
+/// How many slots one commit changes at most: those of a file and the redo entry, and an end, for each part of a batch.
+const MOST: usize = 3 * MOST_PARTS;
 
 /// The records that one commit is to change, each with what it is to hold, and the record with the end of the directory.
 /// All memory is taken by `new`.
@@ -32,7 +34,7 @@ const MOST: usize = 32;
 pub struct Staged {
     changes: Vec<(u16, Record)>,
     last: Record,
-    ghost memory: { 32 ≤ vec_capacity changes },
+    ghost memory: { 3 * most_parts ≤ vec_capacity changes },
 }
 
 impl Staged {
@@ -94,9 +96,70 @@ impl Staged {
         ensures last { OnOk result ((t : Tape) → (R.view records.new).tape ≡ Some t
             → EndsWith header.now.start header.now.length (count_with (length table.now.slots) change.now) self.new.last t) }
     {
-        self.stage(records, header, table, change)?;
-        commit_known(records, change.version, &self.changes, is_open)?;
-        self.keep(header, table.len().max(change.slot_after()));
+        self.commit_by(records, header, table, change.version, &[*change], is_open)
+    }
+
+    /// The same for changes in turn, 31 at most, which touch 32 records of the directory at most: by one commit of
+    /// version 2.
+    pub fn commit_all<R: Records>(
+        &mut self,
+        records: &mut R,
+        header: &Header,
+        table: &SlotTable,
+        changes: &[Change],
+        is_open: bool,
+    ) -> Result<(), Trouble>
+        requires ready { IsReady (calls_of_all header.now.start (length table.now.slots) true changes.now) (R.view records.old) }
+        requires settled { (t : Tape) → (R.view records.old).tape ≡ Some t → IsSettled t }
+        requires gate { (t : Tape) → (R.view records.old).tape ≡ Some t → is_open ≡ has_open_gate t }
+        requires known { (t : Tape) → (R.view records.old).tape ≡ Some t
+            → Knows header.now.start header.now.length (map slot_bytes table.now.slots) self.old.last t }
+        requires small { (R.view records.old).record_count < 2 ^ 16 }
+        requires shape { length table.now.slots ≤ 8 * header.now.length }
+        requires turn { (later : List (List ℕ))
+            × AreInTurn (8 * header.now.length) (map slot_bytes table.now.slots) changes.now later }
+        requires some { 0 < length changes.now }
+        requires parts { length changes.now ≤ most_parts }
+        requires few { length (touched_by_all header.now.start changes.now) ≤ most_targets Two }
+        requires below { header.now.start + header.now.length ≤ redo_start Two (R.view records.old).record_count }
+        ensures commits { CommitsAll Two header.now.start (length table.now.slots) is_open changes.now (R.view records.old) (R.view records.new) result }
+        // After an Ok this is the record with the end.
+        ensures last { OnOk result ((t : Tape) → (R.view records.new).tape ≡ Some t
+            → EndsWith header.now.start header.now.length (count_with_all (length table.now.slots) changes.now) self.new.last t) }
+    {
+        self.commit_by(records, header, table, Version::Two, changes, is_open)
+    }
+
+    /// The same by a commit of this version.
+    fn commit_by<R: Records>(
+        &mut self,
+        records: &mut R,
+        header: &Header,
+        table: &SlotTable,
+        version: Version,
+        changes: &[Change],
+        is_open: bool,
+    ) -> Result<(), Trouble>
+        requires ready { IsReady (calls_of_all header.now.start (length table.now.slots) true changes.now) (R.view records.old) }
+        requires settled { (t : Tape) → (R.view records.old).tape ≡ Some t → IsSettled t }
+        requires gate { (t : Tape) → (R.view records.old).tape ≡ Some t → is_open ≡ has_open_gate t }
+        requires known { (t : Tape) → (R.view records.old).tape ≡ Some t
+            → Knows header.now.start header.now.length (map slot_bytes table.now.slots) self.old.last t }
+        requires small { (R.view records.old).record_count < 2 ^ 16 }
+        requires shape { length table.now.slots ≤ 8 * header.now.length }
+        requires turn { (later : List (List ℕ))
+            × AreInTurn (8 * header.now.length) (map slot_bytes table.now.slots) changes.now later }
+        requires some { 0 < length changes.now }
+        requires parts { length changes.now ≤ most_parts }
+        requires few { length (touched_by_all header.now.start changes.now) ≤ most_targets version }
+        requires below { header.now.start + header.now.length ≤ redo_start version (R.view records.old).record_count }
+        ensures commits { CommitsAll version header.now.start (length table.now.slots) is_open changes.now (R.view records.old) (R.view records.new) result }
+        ensures last { OnOk result ((t : Tape) → (R.view records.new).tape ≡ Some t
+            → EndsWith header.now.start header.now.length (count_with_all (length table.now.slots) changes.now) self.new.last t) }
+    {
+        let count = self.stage(records, header, table, changes)?;
+        commit_known(records, version, &self.changes, is_open)?;
+        self.keep(header, count);
         Ok(())
     }
 
@@ -113,8 +176,39 @@ impl Staged {
 }
 
 impl Staged {
-    /// Brings in the records of the slots that change, and changes them in memory.
+    /// Brings in the records of the slots that change, and changes them in memory, one change after the other. Tells how
+    /// many slots there are then.
     fn stage<R: Records>(
+        &mut self,
+        records: &mut R,
+        header: &Header,
+        table: &SlotTable,
+        changes: &[Change],
+    ) -> Result<usize, Trouble>
+        requires ready { IsReady (past_end header.now.start (length table.now.slots)
+            (touched_by_all header.now.start changes.now) + 3) (R.view records.old) }
+        requires known { (t : Tape) → (R.view records.old).tape ≡ Some t
+            → Knows header.now.start header.now.length (map slot_bytes table.now.slots) self.old.last t }
+        requires small { (R.view records.old).record_count < 2 ^ 16 }
+        requires turn { (later : List (List ℕ))
+            × AreInTurn (8 * header.now.length) (map slot_bytes table.now.slots) changes.now later }
+        requires parts { length changes.now ≤ most_parts }
+        requires below { header.now.start + header.now.length ≤ (R.view records.old).record_count }
+        ensures stages { StagesAll header.now.start (length table.now.slots) changes.now
+            (R.view records.old) (R.view records.new) self.new.changes.items result }
+        ensures last { self.new.last ≡ self.old.last }
+    {
+        self.changes.clear();
+        let mut count = table.len();
+        for k in 0..changes.len() {
+            self.add(records, header, table, &changes[k])?;
+            count = count.max(changes[k].slot_after());
+        }
+        Ok(count)
+    }
+
+    /// Brings in the records of the slots of one change more, and changes them in memory.
+    fn add<R: Records>(
         &mut self,
         records: &mut R,
         header: &Header,
@@ -125,17 +219,28 @@ impl Staged {
         requires known { (t : Tape) → (R.view records.old).tape ≡ Some t
             → Knows header.now.start header.now.length (map slot_bytes table.now.slots) self.old.last t }
         requires small { (R.view records.old).record_count < 2 ^ 16 }
-        requires fits { FitsIn (8 * header.now.length) (length table.now.slots) change.now }
+        requires fits { (count : ℕ) × FitsIn (8 * header.now.length) count change.now }
         requires below { header.now.start + header.now.length ≤ (R.view records.old).record_count }
+        requires room { length self.old.changes.items + 3 ≤ 3 * most_parts }
         ensures goes_on { GoesOn 3 (R.view records.old) (R.view records.new) result }
-        ensures few { OnOk result ((R.view records.old).calls_left ≤ (R.view records.new).calls_left
+        ensures few { OnOk result ((R.view records.old).calls_left
+            + past_end header.now.start (length table.now.slots) (targets_in self.old.changes.items)
+            ≤ (R.view records.new).calls_left
             + past_end header.now.start (length table.now.slots) (targets_in self.new.changes.items)) }
         ensures quiet { IsQuiet (R.view records.old) (R.view records.new) }
         ensures reads { OnOk result (AddsWrites [] (R.view records.old).transferred
             (R.view records.new).transferred) }
+        ensures count { length self.new.changes.items ≤ length self.old.changes.items + 3 }
         ensures last { self.new.last ≡ self.old.last }
-        ensures staged { OnOk result (IsStagedAs header.now.start (R.view records.old).tape
-            (change_writes header.now.start change.now) self.new.changes.items) }
+        ensures staged { OnOk result ((writes : Tape → SlotWrites)
+            → IsStagedAs header.now.start (R.view records.old).tape writes self.old.changes.items
+            → ((t : Tape) → (R.view records.old).tape ≡ Some t → change.now.ended ≡ true
+            → AreBefore (8 * ((R.view records.old).record_count - header.now.start)) (slot_after change.now) (writes t))
+            → IsStagedAs header.now.start (R.view records.old).tape
+            (λ x. writes x ++ change_writes header.now.start change.now x) self.new.changes.items) }
+        ensures entries { OnOk result ((t : Tape) → (R.view records.old).tape ≡ Some t
+            → AreBefore (8 * ((R.view records.old).record_count - header.now.start)) (suc (slot_after change.now))
+            (change_writes header.now.start change.now t)) }
     {
         self.put_entries(records, header, table, change)?;
         if change.ended {
@@ -156,22 +261,26 @@ impl Staged {
         requires known { (t : Tape) → (R.view records.old).tape ≡ Some t
             → Knows header.now.start header.now.length (map slot_bytes table.now.slots) self.old.last t }
         requires small { (R.view records.old).record_count < 2 ^ 16 }
-        requires fits { FitsIn (8 * header.now.length) (length table.now.slots) change.now }
+        requires fits { (count : ℕ) × FitsIn (8 * header.now.length) count change.now }
         requires below { header.now.start + header.now.length ≤ (R.view records.old).record_count }
+        requires room { length self.old.changes.items + 2 ≤ 3 * most_parts }
         ensures goes_on { GoesOn 2 (R.view records.old) (R.view records.new) result }
-        ensures few { OnOk result ((R.view records.old).calls_left ≤ (R.view records.new).calls_left
+        ensures few { OnOk result ((R.view records.old).calls_left
+            + past_end header.now.start (length table.now.slots) (targets_in self.old.changes.items)
+            ≤ (R.view records.new).calls_left
             + past_end header.now.start (length table.now.slots) (targets_in self.new.changes.items)) }
-        ensures count { length self.new.changes.items ≤ 2 }
         ensures quiet { IsQuiet (R.view records.old) (R.view records.new) }
         ensures reads { OnOk result (AddsWrites [] (R.view records.old).transferred
             (R.view records.new).transferred) }
+        ensures count { length self.new.changes.items ≤ length self.old.changes.items + 2 }
         ensures last { self.new.last ≡ self.old.last }
-        ensures staged { OnOk result (IsStagedAs header.now.start (R.view records.old).tape
-            (λ x. entry_writes change.now) self.new.changes.items) }
-        ensures others { OnOk result (AreOthers (8 * ((R.view records.old).record_count - header.now.start))
+        ensures staged { OnOk result ((writes : Tape → SlotWrites)
+            → IsStagedAs header.now.start (R.view records.old).tape writes self.old.changes.items
+            → IsStagedAs header.now.start (R.view records.old).tape
+            (λ x. writes x ++ entry_writes change.now) self.new.changes.items) }
+        ensures entries { OnOk result (AreBefore (8 * ((R.view records.old).record_count - header.now.start))
             (slot_after change.now) (entry_writes change.now)) }
     {
-        self.changes.clear();
         self.put(records, header, table, change.slot, &change.entry.bytes())?;
         if let Some(next) = &change.next {
             self.put(records, header, table, change.slot + 1, &next.bytes())?;
@@ -194,7 +303,7 @@ impl Staged {
         requires small { (R.view records.old).record_count < 2 ^ 16 }
         requires within { slot_record header.now.start slot < (R.view records.old).record_count }
         requires inside { slot < 8 * header.now.length }
-        requires room { length self.old.changes.items < 32 }
+        requires room { length self.old.changes.items < 3 * most_parts }
         ensures goes_on { GoesOn 1 (R.view records.old) (R.view records.new) result }
         ensures few { OnOk result ((R.view records.old).calls_left
             + past_end header.now.start (length table.now.slots) (targets_in self.old.changes.items)
@@ -203,8 +312,8 @@ impl Staged {
         ensures quiet { IsQuiet (R.view records.old) (R.view records.new) }
         ensures reads { OnOk result (AddsWrites [] (R.view records.old).transferred
             (R.view records.new).transferred) }
-        ensures last { self.new.last ≡ self.old.last }
         ensures count { length self.new.changes.items ≤ length self.old.changes.items + 1 }
+        ensures last { self.new.last ≡ self.old.last }
         ensures staged { OnOk result ((writes : Tape → SlotWrites)
             → IsStagedAs header.now.start (R.view records.old).tape writes self.old.changes.items
             → IsStagedAs header.now.start (R.view records.old).tape
@@ -229,7 +338,7 @@ impl Staged {
         requires small { (R.view records.old).record_count < 2 ^ 16 }
         requires within { slot_record header.now.start slot < (R.view records.old).record_count }
         requires inside { slot < 8 * header.now.length }
-        requires room { length self.old.changes.items < 32 }
+        requires room { length self.old.changes.items < 3 * most_parts }
         ensures goes_on { GoesOn 1 (R.view records.old) (R.view records.new) result }
         ensures few { OnOk result ((R.view records.old).calls_left
             + past_end header.now.start (length table.now.slots) (targets_in self.old.changes.items)
@@ -238,11 +347,12 @@ impl Staged {
         ensures quiet { IsQuiet (R.view records.old) (R.view records.new) }
         ensures reads { OnOk result (AddsWrites [] (R.view records.old).transferred
             (R.view records.new).transferred) }
+        ensures count { length self.new.changes.items ≤ length self.old.changes.items + 1 }
         ensures last { self.new.last ≡ self.old.last }
         ensures staged { OnOk result ((writes : Tape → SlotWrites)
             → IsStagedAs header.now.start (R.view records.old).tape writes self.old.changes.items
-            → ((x : Tape) → AreOthers (8 * ((R.view records.old).record_count - header.now.start)) slot
-            (writes x))
+            → ((t : Tape) → (R.view records.old).tape ≡ Some t
+            → AreBefore (8 * ((R.view records.old).record_count - header.now.start)) slot (writes t))
             → IsStagedAs header.now.start (R.view records.old).tape
             (λ x. writes x ++ (slot, with_type 0xFFFF (entry_from x header.now.start slot)) ∷ [])
             self.new.changes.items) }
@@ -267,7 +377,7 @@ impl Staged {
         requires small { (R.view records.old).record_count < 2 ^ 16 }
         requires within { slot_record header.now.start slot < (R.view records.old).record_count }
         requires inside { slot < 8 * header.now.length }
-        requires room { length self.old.changes.items < 32 }
+        requires room { length self.old.changes.items < 3 * most_parts }
         ensures goes_on { GoesOn 1 (R.view records.old) (R.view records.new) result }
         ensures few { OnOk result ((R.view records.old).calls_left
             + past_end header.now.start (length table.now.slots) (targets_in self.old.changes.items)
@@ -276,11 +386,11 @@ impl Staged {
         ensures quiet { IsQuiet (R.view records.old) (R.view records.new) }
         ensures reads { OnOk result (AddsWrites [] (R.view records.old).transferred
             (R.view records.new).transferred) }
+        ensures count { length self.new.changes.items ≤ length self.old.changes.items + 1 }
         ensures last { self.new.last ≡ self.old.last }
         ensures found { IfOk result (λ place. BroughtIn (slot_record header.now.start slot) place (R.view records.old).tape
             self.old.changes.items self.new.changes.items) }
         ensures within { IfOk result (λ place. place < length self.new.changes.items) }
-        ensures count { length self.new.changes.items ≤ length self.old.changes.items + 1 }
     {
         let n = header.start() + (slot / ENTRIES) as u16;
         if let Some(place) = self.place_of(n) {

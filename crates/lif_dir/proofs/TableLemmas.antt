@@ -1,9 +1,9 @@
 -- A table and its index.
-use Rattle.std.proofs.Common.{◌≡◌, ◌≢◌, ◌⊎◌, ◌<◌, ◌≤◌, ◌+◌, ◌++◌, ℕ, zero, suc, Bool, true, false, List, [], ◌∷◌, if◌then◌else◌, cond, length, get_or, set, map, filter, nat_lt, inl, inr, refl, sym, ◌∙◌, ap, subst, arith}
+use Rattle.std.proofs.Common.{◌≡◌, ◌≢◌, ◌⊎◌, ◌<◌, ◌≤◌, ◌+◌, ◌++◌, ℕ, zero, suc, Bool, true, false, List, [], ◌∷◌, if◌then◌else◌, cond, length, get_or, set, map, take, filter, nat_lt, inl, inr, refl, sym, ◌∙◌, ap, subst, arith}
 use Rattle.std.specs.Prelude.{Option, Some, None, MatchOption, is_some, slice_get}
 use Rattle.std.specs.List.{insert, position, position_or_len}
 use Rattle.std.proofs.lemmas.Bool.{cases_eq, cases_lt, cases_Bool, and_from, lt-ltb, le-ltb}
-use Rattle.std.proofs.lemmas.List.{get_or_past, get_or_push, length-map}
+use Rattle.std.proofs.lemmas.List.{get_or_past, get_or_push, length-map, take_all, take_more}
 use Rattle.std.proofs.lemmas.List.Sums.{position_or_len_is}
 use Rattle.std.proofs.lemmas.Slice.Eq.{bytes_eq-Decides}
 use Rattle.lif_model.specs.Pairs.{all_pairs}
@@ -12,6 +12,7 @@ use Rattle.lif_model.proofs.Lists.{filter_pairs_tell, any_from, none_from}
 use Rattle.lif_model.proofs.Legal.{names_tell, names_from}
 use Rattle.lif_model.proofs.Slots.{live_named_tells}
 use Rattle.lif_dir.specs.declared.entries.Slot.{Slot}
+use Rattle.lif_dir.specs.declared.entries.Slot.TheVariants.{End}
 use Rattle.lif_dir.specs.Entries.{slot_bytes}
 use Rattle.lif_dir.specs.Indexes.{is_live_at, name_at, IsIndex}
 use Rattle.lif_dir.specs.Tables.{IsIndexed}
@@ -71,6 +72,18 @@ module _ (slots whole : List Slot) (slot : Slot) (at : ℕ) (is : whole ≡ slot
 
   pub pushed_count : length (filter is_live (set (map slot_bytes whole) at [])) ≡ length (filter is_live (map slot_bytes slots))
   pushed_count = ap (λ (xs : List (List ℕ)). length (filter is_live xs)) without ∙ count_pushed (map slot_bytes slots)
+
+  -- and the last one taken away again
+  pub popped_index : (places : List ℕ) → IsIndex (set (map slot_bytes whole) at []) places → IsIndex (map slot_bytes slots) places
+  popped_index places index =
+      let bytes : List (List ℕ) = map slot_bytes slots in
+      let past : is_live_at bytes (length bytes) ≡ false = ap is_live (get_or_past bytes (length bytes) [] (omega arith)) ∙ no_slot in
+      let new : is_live_at (bytes ++ [] ∷ []) (length bytes) ≡ false = ap is_live (get_or_push bytes [] [] (length bytes) refl) ∙ no_slot in
+      unchanged (bytes ++ [] ∷ []) bytes places 0 (length bytes) (subst (λ (xs : List (List ℕ)). IsIndex xs places) without index) (λ i ne. sym (push_same bytes [] i ne)) new past
+
+-- all but the last, and the last
+pub but_last : (slots : List Slot) (k : ℕ) → k + 1 ≡ length slots → slots ≡ take k slots ++ get_or slots k End ∷ []
+but_last slots k is = sym (take_all (k + 1) slots (omega (arith, is))) ∙ take_more slots k End (omega (arith, is))
 
 pub out_set : (slots : List Slot) (k : ℕ) (slot : Slot) → set (map slot_bytes (set slots k slot)) k [] ≡ set (map slot_bytes slots) k []
 out_set [] k slot = refl

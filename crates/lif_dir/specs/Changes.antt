@@ -1,5 +1,5 @@
 -- What a command changes of a directory: a slot, the slot behind it where that changes too, and an end behind them.
-use Rattle.std.specs.Prelude.{◌≡◌, ◌≢◌, ◌<◌, ◌≤◌, ◌++◌, ◌==◌, if◌then◌else◌, ℕ, suc, Bool, List, [], ◌∷◌, true, length, set, Option, Some, None, IfSome}
+use Rattle.std.specs.Prelude.{◌≡◌, ◌≢◌, ◌<◌, ◌≤◌, ◌++◌, ◌==◌, if◌then◌else◌, ℕ, suc, Bool, List, [], ◌∷◌, true, length, max, set, Option, Some, None, IfSome}
 use Rattle.lif_model.specs.Tape.{Tape}
 use Rattle.lif_model.specs.Made.{with_type}
 use Rattle.lif_model.specs.Writing.{SlotWrites, entry_from}
@@ -19,15 +19,17 @@ after_next k (Some next) = suc (suc k)
 abbrev pub slot_after : Change → ℕ
 slot_after change = after_next change.slot change.next
 
--- In a directory of so many slots, with room for so many, each slot that changes is one of them or stands behind the
--- last, no entry is an end, and the end that is put behind them has a slot; where they are more than before and there is
--- a slot for it, an end is put.
+-- In a directory of so many slots, with room for so many, each slot that changes is one of them or, as one at most, stands
+-- behind the last, no entry is an end, and the end that is put behind them has a slot, past all slots before; where they are more
+-- than before and there is a slot for it, an end is put.
 pub record FitsIn (room count : ℕ) (change : Change) : Type 0 where
   pub place : change.slot ≤ count
+  pub one : slot_after change ≤ suc count
   pub within : change.slot < room
   pub kind : change.entry.kind ≢ 0xFFFF
   pub next : IfSome change.next (λ next. (suc change.slot < room) × (next.kind ≢ 0xFFFF))
   pub end_within : change.ended ≡ true → slot_after change < room
+  pub end_past : change.ended ≡ true → count < slot_after change
   pub end_there : count < slot_after change → slot_after change < room → change.ended ≡ true
 
 -- ---- what is written
@@ -74,3 +76,24 @@ bytes_with = put_change entry_bytes
 pub record IsToldBack (change : Change) : Type 0 where
   pub entry : slot_from (entry_bytes change.entry) ≡ slot_of change.entry
   pub next : IfSome change.next (λ next. slot_from (entry_bytes next) ≡ slot_of next)
+
+-- how many slots there are with the change
+abbrev pub count_with : ℕ → Change → ℕ
+count_with count change = max count (slot_after change)
+
+-- ---- changes, one after the other
+
+-- each fits in the directory with those before it, and these are the slots after all
+abbrev pub AreInTurn : ℕ → List (List ℕ) → List Change → List (List ℕ) → Type 0
+AreInTurn room slots [] later = slots ≡ later
+AreInTurn room slots (c ∷ cs) later = FitsIn room (length slots) c × AreInTurn room (bytes_with c slots) cs later
+
+-- how many slots there are with all of them
+abbrev pub count_with_all : ℕ → List Change → ℕ
+count_with_all count [] = count
+count_with_all count (c ∷ cs) = count_with_all (count_with count c) cs
+
+-- all that they write of a directory that begins at record `start`
+abbrev pub all_writes : ℕ → List Change → Tape → SlotWrites
+all_writes start [] tape = []
+all_writes start (c ∷ cs) tape = change_writes start c tape ++ all_writes start cs tape

@@ -1,5 +1,5 @@
 ghost use Rattle.std.specs.Prelude.{◌≡◌, ◌==◌, ◌<◌, ◌≤◌, ◌+◌, ◌-◌, ◌*◌, ◌^◌, Some, true, [], ◌∷◌, ◌++◌, length};
-ghost use Rattle.std.specs.Prelude.{map, filter, slice_get, slice_index_or, slice_set, is_some, IfOk};
+ghost use Rattle.std.specs.Prelude.{map, filter, take, slice_get, slice_index_or, slice_set, is_some, IfOk};
 ghost use Rattle.std.specs.List.{insert, position};
 ghost use Rattle.lif_model.specs.Pairs.{all_pairs};
 ghost use Rattle.lif_model.specs.Legal.{is_live, is_live_named, has_file, have_other_names};
@@ -119,6 +119,25 @@ impl SlotTable {
         self.index.take_out(&self.slots, k);
         self.slots[k] = slot;
         self.index.put_in(&self.slots, k);
+    }
+
+    /// Keeps the first `count` slots alone. A table that has no more stays.
+    pub fn truncate(&mut self, count: usize)
+        ensures { self.new ≡ record self.old { slots = take count self.old.slots } }
+    {
+        while self.slots.len() > count {
+            self.pop();
+        }
+    }
+
+    /// Takes the last slot away, which the table has.
+    fn pop(&mut self)
+        requires some { 0 < length self.old.slots }
+        ensures { self.new ≡ record self.old { slots = take (length self.old.slots - 1) self.old.slots } }
+    {
+        let last = self.slots.len() - 1;
+        self.index.take_out(&self.slots, last);
+        self.slots.truncate(last);
     }
 
     /// Puts a slot before the last one, which moves on by one place: so a file takes the slot of

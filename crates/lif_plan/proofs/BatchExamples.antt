@@ -16,12 +16,12 @@ use Rattle.lif_model.specs.declared.refusal.Refusal.TheVariants as refusal
 use Rattle.lif_model.proofs.Examples as base
 use Rattle.lif_model.proofs.VolumeExamples.{file, purged, a_name, b_name}
 use Rattle.lif_dir.specs.declared.change.Change.{Change}
-use Rattle.lif_dir.specs.Entries.{entry_from, entry_bytes}
-use Rattle.lif_dir.specs.Changes.{bytes_with}
+use Rattle.lif_dir.specs.Entries.{entry_from, entry_bytes, slot_from}
+use Rattle.lif_dir.specs.Changes.{bytes_with, AreInTurn, all_writes}
 use Rattle.lif_plan.specs.declared.batches.PlannedFile.{PlannedFile}
 use Rattle.lif_plan.specs.declared.batches.Before.{Before}
 use Rattle.lif_plan.specs.Parts.{place_beside, part_refusal, RefusesPart, LeavesAll, purged_at, PlacesPart, MakesPart, IsPartPlan}
-use Rattle.lif_plan.specs.Batches.{AreInTurn, all_writes, file_of, file_at, PlansBatch, IsBatchPlan, IsRemembered, is_as_before, is_left, Remembers, SoFar, TakesPart, TakesAll}
+use Rattle.lif_plan.specs.Batches.{file_of, file_at, PlansBatch, IsBatchPlan, IsFileWithin, LiesBetween, IsRemembered, is_as_before, is_left, Recalls, Remembers, SoFar, TakesPart, TakesAll}
 use Rattle.lif_plan.proofs.Planning.{of_slots, leaves, makes}
 use Rattle.lif_plan.proofs.PartPlans.{refuses_part, rename_part, purge_part}
 use Rattle.lif_plan.proofs.BatchPlans.{so_far_none, so_far_more, batch_plan, needs_upgrade}
@@ -81,7 +81,7 @@ without_a = record { version = Two; slot = 0; entry = entry_from gone; next = No
 purging : IsPartPlan 44 (part.Purge a_name) [] header (a_file ∷ redo ∷ []) (Ok (Some without_a))
 unfolding four_at two_at name_of with_type date_of implementation_of
 purging = purge_part 44 [] header (a_file ∷ redo ∷ []) a_name (Ok (Some without_a))
-    (makes without_a refl (record { place = omega arith; within = omega arith; kind = λ no. absurd (omega (arith, no)); next = tt; end_within = λ no. cc; end_there = λ more room. absurd (omega (arith, more)) }) tt
+    (makes without_a refl (record { place = omega arith; one = omega arith; within = omega arith; kind = λ no. absurd (omega (arith, no)); next = tt; end_within = λ no. cc; end_past = λ no. cc; end_there = λ more room. absurd (omega (arith, more)) }) tt
     (λ v is. refl) (λ v is. refl) (λ v is u begins. refl) (λ v is. refl))
 
 -- a slot that is not there
@@ -117,7 +117,7 @@ new_files = (refl, refl)
 
 in_turn : AreInTurn 16 (a_file ∷ redo ∷ []) (without_a ∷ []) (gone ∷ redo ∷ []) × AreInTurn 16 (redo ∷ []) [] (redo ∷ [])
 unfolding four_at two_at name_of with_type date_of implementation_of
-in_turn = ((record { place = omega arith; within = omega arith; kind = λ no. absurd (omega (arith, no)); next = tt; end_within = λ no. cc; end_there = λ more room. absurd (omega (arith, more)) }, refl), refl)
+in_turn = ((record { place = omega arith; one = omega arith; within = omega arith; kind = λ no. absurd (omega (arith, no)); next = tt; end_within = λ no. cc; end_past = λ no. cc; end_there = λ more room. absurd (omega (arith, more)) }, refl), refl)
 
 not_in_turn : AreInTurn 0 (a_file ∷ redo ∷ []) (without_a ∷ []) (gone ∷ redo ∷ []) → ⊥
 not_in_turn turn = absurd (omega (arith, turn.0.within))
@@ -131,13 +131,20 @@ b_planned = record { slot = 1; start = 5; from = 2; length = 1 }
 of_batch : file_of (65 ∷ 66 ∷ 67 ∷ 68 ∷ []) b_planned ≡ record { slot = 1; start = 5; bytes = 67 ∷ [] }
 of_batch = refl
 
+-- two bytes of so many from the third one on, and a file of one record on a tape of 44
+within : IsFileWithin 4 b_planned × (IsFileWithin 2 b_planned → ⊥)
+within = (omega arith, λ is. absurd (omega (arith, is)))
+
+between : LiesBetween 44 header (record { slot = 1; start = 5; bytes = 67 ∷ [] }) × (LiesBetween 44 header (record { slot = 1; start = 10; bytes = 67 ∷ [] }) → ⊥)
+between = ((omega arith, omega arith), λ is. absurd (omega (arith, is.1)))
+
 -- its slot is live, purged, or not there
 left : (is_left (gone ∷ file b_name 5 1 ∷ redo ∷ []) b_planned ≡ true) × (is_left (redo ∷ gone ∷ []) b_planned ≡ false) × (is_left (redo ∷ []) b_planned ≡ false)
 unfolding four_at two_at with_type
 left = (refl, refl, refl)
 
 abbrev a_before : Before
-a_before = record { slot = 0; entry = entry_from a_file }
+a_before = record { slot = 0; held = slot_from a_file }
 
 known : IsRemembered (a_before ∷ []) 0 × (IsRemembered (a_before ∷ []) 1 → ⊥)
 known = (refl, λ is. cc)
@@ -146,11 +153,15 @@ as_before : (is_as_before (a_file ∷ redo ∷ []) a_before ≡ true) × (is_as_
 unfolding four_at two_at name_of with_type date_of implementation_of
 as_before = (refl, refl)
 
-remembered : Remembers (a_file ∷ redo ∷ []) (a_file ∷ redo ∷ []) []
-remembered = remembers_none (a_file ∷ redo ∷ []) [] refl
+recalled : Recalls (slot_from a_file ∷ []) a_before × (Recalls [] a_before → ⊥)
+unfolding four_at two_at name_of
+recalled = (record { within = omega arith; held = refl; entry = refl }, λ is. absurd (omega (arith, is.within)))
+
+remembered : Remembers (slot_from a_file ∷ []) (slot_from a_file ∷ []) []
+remembered = remembers_none (slot_from a_file ∷ []) [] refl
 
 -- fewer slots than before
-not_remembered : Remembers (a_file ∷ redo ∷ []) [] [] → ⊥
+not_remembered : Remembers (slot_from a_file ∷ []) [] [] → ⊥
 not_remembered is = absurd (omega (arith, is.longer))
 
 -- ---- a batch

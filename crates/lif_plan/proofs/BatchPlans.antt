@@ -2,29 +2,33 @@
 use Rattle.std.proofs.Common.{◌≤◌, ◌≡◌, ◌<◌, ◌+◌, ◌*◌, ◌++◌, ℕ, suc, List, [], ◌∷◌, Bool, true, false, not, if◌then◌else◌, length, get_or, map, take, drop, zero, refl, sym, ap, subst, ◌∙◌, arith, append-nil, append_assoc}
 use Rattle.std.specs.Prelude.{filter, All, Some, None}
 use Rattle.std.specs.FinMap.{empty}
-use Rattle.std.proofs.lemmas.List.{take_more, map-append}
-use Rattle.std.proofs.lemmas.List.Elements.{All-append, All-cons, All-nil}
+use Rattle.std.proofs.lemmas.List.{length-append, take_more, map-append}
+use Rattle.std.proofs.lemmas.List.Elements.{All-append, All-cons, All-filter, All-nil}
+use Rattle.std.proofs.lemmas.Slice.Eq.{slice_eq-Decides, bytes_eq-Decides}
 use Rattle.lif_model.specs.Tape.{Tape}
-use Rattle.lif_model.specs.Header.{HeaderParts, header_of}
-use Rattle.lif_model.specs.Volume.{Volume, is_adopted_with, is_adopted, IsAdopted}
+use Rattle.lif_model.specs.Header.{HeaderParts, header_of, directory_start, directory_length, directory_end}
+use Rattle.lif_model.specs.Made.{file_length}
+use Rattle.lif_model.specs.Redo.{redo_start}
+use Rattle.lif_model.specs.Volume.{Volume, IsVolume, is_adopted_with, is_adopted, IsAdopted}
 use Rattle.lif_model.specs.Fit.{At}
 use Rattle.lif_model.specs.Parts.{Part, most_parts, IsWellFormedPart}
 use Rattle.lif_model.specs.Parts as part
 use Rattle.lif_model.specs.Apply.{Batch, first_met, Midway, before_parts, part_place, part_checks, after_part, after_parts, parts_checks}
 use Rattle.lif_model.specs.declared.refusal.Refusal.{Refusal}
 use Rattle.lif_model.specs.declared.refusal.Refusal.TheVariants.{NoRedo, NeedsUpgrade}
+use Rattle.lif_model.specs.declared.version.Version.{Version}
 use Rattle.lif_model.specs.declared.version.Version.TheVariants.{One, Two}
-use Rattle.lif_model.specs.Writing.{SlotWrites, NewFile, part_writes, part_files, is_left_in, same_slots}
+use Rattle.lif_model.specs.Writing.{SlotWrites, NewFile, part_writes, part_files, parts_files, is_left_in, same_slots}
 use Rattle.lif_model.proofs.Legal.{legal_tells, legal_from}
 use Rattle.lif_model.proofs.Apply.{NoneMet, met_none, first_of_more, first_of_first, part_is_adopted}
 use Rattle.lif_model.proofs.Adopted.{adopted_some}
-use Rattle.lif_model.proofs.Parts.{part_does, header_next, after_more, checks_more, writes_more, files_of_more}
+use Rattle.lif_model.proofs.Parts.{PartDoes, AreUnrefused, part_does, midway_first, header_next, version_next, each_file, files_within, after_more, checks_more, writes_more, files_of_more}
 use Rattle.lif_dir.specs.declared.change.Change.{Change}
-use Rattle.lif_dir.specs.Changes.{FitsIn, change_writes, bytes_with}
+use Rattle.lif_dir.specs.Changes.{FitsIn, change_writes, bytes_with, AreInTurn, all_writes}
 use Rattle.lif_plan.specs.Directories.{IsLegalDirectory}
 use Rattle.lif_plan.specs.Plans.{IsVolumeWith, RefusesAs}
 use Rattle.lif_plan.specs.Parts.{place_beside, part_refusal, RefusesPart, LeavesAll, purged_at, PlacesPart, MakesPart}
-use Rattle.lif_plan.specs.Batches.{AreInTurn, all_writes, PlansBatch, SoFar, file_at}
+use Rattle.lif_plan.specs.Batches.{PlansBatch, LiesBetween, SoFar, file_at}
 use Rattle.lif_plan.proofs.Planning.{refuses, one_version}
 
 -- ---- volumes and directories in memory
@@ -81,11 +85,19 @@ so_far_none n header slots two = record {
   free = λ v is. refl;
   volume = λ v is. is;
   adopted = λ v is. record { volume = is.volume; adopted = adopted_some n Two v.slots (ap (is_adopted_with n Two) is.same ∙ two) };
+  two = λ v is. ap (is_adopted_with n Two) is.same ∙ two;
   bars = λ v is. refl;
   in_turn = refl;
+  few = omega arith;
+  versions = λ v is. All-nil (λ c. c.version ≡ Two);
   writes = λ v is u begins. refl;
   stored = λ v is. refl;
 }
+
+-- a volume that is adopted with version 2 is adopted with no other
+is_two : (version : Version) (v : Volume) {n : ℕ} → IsVolume n v → is_adopted_with n Two v.slots ≡ true → is_adopted_with n version v.slots ≡ true → version ≡ Two
+is_two One v {n} is two one = let no : true ≡ false = sym two ∙ one_version n v is one in cc
+is_two Two v is two with = refl
 
 module _ (n : ℕ) (header : HeaderParts) (slots : List (List ℕ)) (parts : List Part) (later : List (List ℕ)) (changes : List Change) (files : List NewFile) (barred : List ℕ)
     (so_far : SoFar n header slots parts later changes files barred) (p : Part) where
@@ -131,8 +143,11 @@ module _ (n : ℕ) (header : HeaderParts) (slots : List (List ℕ)) (parts : Lis
     free = λ v is. free_more v is (leaves.free (mid v).volume (so_far.volume v is));
     volume = λ v is. subst (λ (m : Midway). IsVolumeWith n header later m.volume) (sym (after v is)) (so_far.volume v is);
     adopted = λ v is. subst (λ (m : Midway). IsAdopted n m.volume) (sym (after v is)) (so_far.adopted v is);
+    two = λ v is. subst (λ (m : Midway). is_adopted_with n Two m.volume.slots ≡ true) (sym (after v is)) (so_far.two v is);
     bars = λ v is. ap (λ (m : Midway). m.barred) (after v is);
     in_turn = so_far.in_turn;
+    few = omega (arith, so_far.few, length-append parts (p ∷ []));
+    versions = so_far.versions;
     writes = λ v is u begins.
         writes_more n parts (p ∷ []) (before_parts v) u
         ∙ (λ i. so_far.writes v is u begins i ++ (append-nil (part_writes p (mid v).volume (part_place n (mid v) p) u)
@@ -159,8 +174,12 @@ module _ (n : ℕ) (header : HeaderParts) (slots : List (List ℕ)) (parts : Lis
     free = λ v is. free_more v is (makes.free (mid v).volume (so_far.volume v is));
     volume = λ v is. (next v is).0;
     adopted = λ v is. (next v is).1;
+    two = λ v is. subst (λ (m : Midway). is_adopted_with n Two m.volume.slots ≡ true) (sym (after v is)) (version_next n (here_mid v) p Two (so_far.adopted v is) (here_does v is) (so_far.two v is));
     bars = λ v is. ap (λ (m : Midway). m.barred) (after v is) ∙ ap (λ (bs : List ℕ). barred ++ bs) (makes.purges (mid v).volume (so_far.volume v is));
     in_turn = turn_more (8 * header.length) slots later changes change so_far.in_turn makes.fits;
+    few = omega (arith, so_far.few, length-append parts (p ∷ []), length-append changes (change ∷ []));
+    versions = λ v is. All-append (λ c. c.version ≡ Two) changes (change ∷ []) (so_far.versions v is)
+        (All-cons (λ c. c.version ≡ Two) change [] (is_two change.version (mid v).volume (so_far.adopted v is).volume (so_far.two v is) (makes.commits (mid v).volume (so_far.volume v is))) (All-nil (λ c. c.version ≡ Two)));
     writes = λ v is u begins.
         writes_more n parts (p ∷ []) (before_parts v) u
         ∙ (λ i. so_far.writes v is u begins i ++ (append-nil (part_writes p (mid v).volume (part_place n (mid v) p) u)
@@ -174,6 +193,13 @@ module _ (n : ℕ) (header : HeaderParts) (slots : List (List ℕ)) (parts : Lis
     where
       after : (v : Volume) → IsVolumeWith n header slots v → after_parts n (parts ++ p ∷ []) (before_parts v) ≡ after_part n p (record { volume = (mid v).volume; barred = barred })
       after v is = after_more n parts (p ∷ []) (before_parts v) ∙ ap (after_part n p) (mid_is v is)
+
+      here_mid : Volume → Midway
+      here_mid v = record { volume = (mid v).volume; barred = barred }
+
+      here_does : (v : Volume) → IsVolumeWith n header slots v → PartDoes n (here_mid v) p
+      here_does v is = part_does n (here_mid v) p (so_far.adopted v is) makes.formed
+          (met_none (part_checks n (here_mid v).volume (part_place n (here_mid v) p) p) (makes.free (mid v).volume (so_far.volume v is)))
 
       next : (v : Volume) → IsVolumeWith n header slots v
           → IsVolumeWith n header (bytes_with change later) (after_parts n (parts ++ p ∷ []) (before_parts v)).volume × IsAdopted n (after_parts n (parts ++ p ∷ []) (before_parts v)).volume
@@ -237,7 +263,29 @@ batch_plan n parts header slots later changes files left barred unchanged two fe
       (λ i. if not (adopted_some n Two v.slots upgraded i) then Some NoRedo else if not (upgraded i) then Some NeedsUpgrade else first_met (parts_checks n parts (before_parts v))) ∙ so_far.free v is;
   after = λ v is. (so_far.volume v is).same;
   in_turn = so_far.in_turn;
+  few = omega (arith, so_far.few, few);
   writes = so_far.writes;
+  versions = so_far.versions;
+  between = λ v is.
+      let with : is_adopted_with n Two v.slots ≡ true = ap (is_adopted_with n Two) is.same ∙ two in
+      let adopted : IsAdopted n v = record { volume = is.volume; adopted = adopted_some n Two v.slots with } in
+      let are : AreUnrefused n parts (before_parts v) = record { midway = midway_first n v adopted; formed = so_far.formed; unmet = met_none (parts_checks n parts (before_parts v)) (so_far.free v is) } in
+      let start : directory_start v.header ≡ header.start = ap (λ (h : HeaderParts). h.start) is.told in
+      let long : directory_length v.header ≡ header.length = ap (λ (h : HeaderParts). h.length) is.told in
+      let all : All (LiesBetween n header) (parts_files n parts (before_parts v)) =
+      each_file (λ f. (directory_end v.header ≤ f.start) × (f.start + file_length f.bytes ≤ redo_start Two n)) (LiesBetween n header) (parts_files n parts (before_parts v))
+      (λ f both. (omega (arith, both.0, start, long), both.1)) (files_within n parts (before_parts v) Two are with) in
+      subst (All (LiesBetween n header)) (sym files_are)
+      (All-filter (is_left_in later) (LiesBetween n header) files (subst (All (LiesBetween n header)) (so_far.stored v is) all));
   left = λ v is. (λ i. filter (is_left_in ((so_far.volume v is).same i)) (so_far.stored v is i)) ∙ sym files_are;
   same = same;
 }
+
+-- where the directory does not stay as it is, there are changes
+pub changes_some : {n : ℕ} {parts : List Part} {header : HeaderParts} {slots later : List (List ℕ)} {changes : List Change} {files : List NewFile}
+    → PlansBatch n parts header slots later changes files false → 0 < length changes
+changes_some {n} {parts} {header} {slots} {later} {changes} {files} plan = go changes plan.in_turn
+  where
+    go : (cs : List Change) → AreInTurn (8 * header.length) slots cs later → 0 < length cs
+    go [] same = let no : false ≡ true = plan.same ∙ (slice_eq-Decides bytes_eq-Decides slots later (same_slots slots later) refl).1 same in cc
+    go (c ∷ cs) turn = omega arith

@@ -205,7 +205,7 @@ without_a = record { version = One; slot = 0; entry = entry_from (purged a_file)
 
 changed : IsPlan 12 (Purge a_name) header (a_file ∷ redo_one ∷ []) (Ok (Some without_a))
 unfolding four_at two_at name_of with_type date_of implementation_of
-changed = makes without_a refl (record { place = omega arith; within = omega arith; kind = λ no. absurd (omega (arith, no)); next = tt; end_within = λ no. cc; end_there = λ more room. absurd (omega (arith, more)) }) tt
+changed = makes without_a refl (record { place = omega arith; one = omega arith; within = omega arith; kind = λ no. absurd (omega (arith, no)); next = tt; end_within = λ no. cc; end_past = λ no. cc; end_there = λ more room. absurd (omega (arith, more)) }) tt
     (λ v is. refl) (λ v is. refl) (λ v is u told. refl) (λ v is. refl)
 
 -- a slot that is not there, and a file that is refused

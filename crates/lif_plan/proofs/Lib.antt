@@ -4,7 +4,7 @@ pub mod Planning
 mod Formats
 mod Taking
 mod PartPlans
-mod BatchPlans
+pub mod BatchPlans
 mod Remembered
 mod Chosen
 mod Examples

@@ -183,10 +183,12 @@ module _ {n : ℕ} {command : VolumeCommand} {header : HeaderParts} {slots : Lis
       makes (record { version = version; slot = p; entry = entry; next = None; ended = false }) formed
       (record {
         place = omega (arith, here.0);
+        one = omega (arith, here.0);
         within = omega (arith, here.0, legal.shape.few);
         kind = not_end_kind entry widths (ap is_end bytes ∙ keeps (get_or slots p []) (legal.shape.entries p here.0) (legal.shape.kinds p here.0));
         next = tt;
         end_within = λ on. let no : false ≡ true = on in cc;
+        end_past = λ on. let no : false ≡ true = on in cc;
         end_there = λ more room. absurd (omega (arith, more, here.0));
       }) file free commits
       (λ v is u told. writes v is u ∙ ap (λ (k : ℕ). (k, change (get_or slots k [])) ∷ []) place ∙ ap (λ (b : List ℕ). (p, b) ∷ []) (sym bytes))

@@ -70,10 +70,12 @@ module _ (capacity : ℕ) (slots : List (List ℕ)) (k : ℕ) (may : MayTake cap
         let new : List ℕ = entry_bytes entry in record {
           fits = record {
             place = omega (arith, is.1);
+            one = omega (arith, is.1);
             within = omega (arith, is.1, is.2);
             kind = no_end;
             next = (omega (arith, is.1, is.2), not_end_kind own widths (ap is_end bytes ∙ shape.kinds k within_slots));
             end_within = λ e. ltb-true (suc (suc k)) capacity (sym on ∙ e);
+            end_past = λ e. omega (arith, is.1);
             end_there = λ more room. on ∙ lt-ltb (suc (suc k)) capacity room;
           };
           writes = λ v u start same wide begins. rw same (rw is.0 (λ i. (k, new) ∷ (suc k, sym bytes i) ∷ end_is (capacity_of v.header) capacity start (suc (suc k)) u ended wide begins on i));
@@ -85,7 +87,7 @@ module _ (capacity : ℕ) (slots : List (List ℕ)) (k : ℕ) (may : MayTake cap
     pub takes_purged : is_live (get_or slots k []) ≡ false → Takes capacity slots (record { version = version; slot = k; entry = entry; next = None; ended = false })
     takes_purged dead =
         let is = purged_slot dead in record {
-          fits = record { place = omega (arith, is.1); within = omega (arith, is.1, shape.few); kind = no_end; next = tt; end_within = λ e. let no : false ≡ true = e in cc; end_there = λ more room. absurd (omega (arith, more, is.1)) };
+          fits = record { place = omega (arith, is.1); one = omega (arith, is.1); within = omega (arith, is.1, shape.few); kind = no_end; next = tt; end_within = λ e. let no : false ≡ true = e in cc; end_past = λ e. let no : false ≡ true = e in cc; end_there = λ more room. absurd (omega (arith, more, is.1)) };
           writes = λ v u start same wide begins. rw same (rw is.0 refl);
           after = rw is.0 (sym (put_within slots k (entry_bytes entry) is.1));
         }

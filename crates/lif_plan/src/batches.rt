@@ -1,5 +1,5 @@
 //! What a batch is to write of the directory, before it writes it.
-ghost use Rattle.std.specs.Prelude.{◌≡◌, ◌<◌, ◌≤◌, ◌+◌, ◌*◌, ◌++◌, ◌∷◌, ℕ, List, [], true, length, map, filter, get_or, nat_eq, IfOk};
+ghost use Rattle.std.specs.Prelude.{◌≡◌, ◌<◌, ◌≤◌, ◌+◌, ◌*◌, ◌++◌, ◌∷◌, ℕ, List, All, [], true, length, map, filter, get_or, nat_eq, IfOk};
 ghost use Rattle.std.specs.List.{list_any, list_all};
 ghost use Rattle.std.specs.Vec.{vec_len, vec_capacity};
 ghost use Rattle.lif_model.specs.Legal.{is_live};
@@ -8,14 +8,15 @@ ghost use Rattle.lif_model.specs.Parts.{most_parts};
 ghost use Rattle.lif_model.specs.Writing.{same_slots};
 ghost use Rattle.lif_model.specs.Volume.{is_adopted_with};
 ghost use Rattle.lif_model.specs.declared.version.Version.TheVariants.{Two};
+ghost use Rattle.lif_dir.specs.declared.entries.Slot as entries;
 ghost use Rattle.lif_dir.specs.Entries.{slot_bytes};
 ghost use Rattle.lif_dir.specs.Batches.{IsPartOf, part_of, parts_of};
 ghost use Rattle.lif_plan.specs.Directories.{IsLegalDirectory};
 ghost use Rattle.lif_plan.specs.Parts.{IsPartPlan, purged_at};
-ghost use Rattle.lif_plan.specs.Batches.{file_of, file_at, IsBatchPlan, Remembers, IsRemembered, SoFar, TakesPart, TakesAll, is_left, is_as_before};
+ghost use Rattle.lif_plan.specs.Batches.{file_of, file_at, IsBatchPlan, IsFileWithin, Remembers, IsRemembered, SoFar, TakesPart, TakesAll, is_left, is_as_before};
 
 use crate::directory::Directory;
-use lif_dir::{Batch, Change, FileEntry, Part, SlotTable};
+use lif_dir::{Batch, Change, Part, Slot, SlotTable};
 use lif_header::Header;
 use lif_model::{MOST_PARTS, Refusal, Version};
 use std::alloc::{AllocError, Global};
@@ -40,7 +41,7 @@ pub struct PlannedFile {
 #[derive(Clone, Copy, Debug, Drop)]
 pub struct Before {
     slot: usize,
-    entry: FileEntry,
+    held: Slot,
 }
 
 /// What a batch is to write. All memory is taken by `new`.
@@ -100,6 +101,8 @@ impl BatchPlan {
         ensures few_changes { vec_len self.new.changes ≤ vec_len self.old.changes + 1 }
         ensures few_files { vec_len self.new.files ≤ vec_len self.old.files + 1 }
         ensures few_barred { vec_len self.new.barred ≤ vec_len self.old.barred + 1 }
+        ensures within { (count : ℕ) → IsPartOf count part.now → All (IsFileWithin count) self.old.files.items
+            → All (IsFileWithin count) self.new.files.items }
         ensures befores { self.new.befores ≡ self.old.befores }
         ensures count { self.new.count ≡ self.old.count }
     {
@@ -123,9 +126,9 @@ impl BatchPlan {
     fn remember(&mut self, slot: usize, table: &SlotTable)
         requires room { vec_len self.old.befores < 2 * most_parts }
         requires longer { self.old.count ≤ length table.now.slots }
-        ensures remembered { (slots : List (List ℕ)) → length slots ≡ self.old.count
-            → Remembers slots (map slot_bytes table.now.slots) self.old.befores.items
-            → Remembers slots (map slot_bytes table.now.slots) self.new.befores.items }
+        ensures remembered { (slots : List entries.Slot) → length slots ≡ self.old.count
+            → Remembers slots table.now.slots self.old.befores.items
+            → Remembers slots table.now.slots self.new.befores.items }
         ensures slot { slot < self.old.count → IsRemembered self.new.befores.items slot }
         ensures others { (j : ℕ) → IsRemembered self.old.befores.items j → IsRemembered self.new.befores.items j }
         ensures few { vec_len self.new.befores ≤ vec_len self.old.befores + 1 }
@@ -135,8 +138,8 @@ impl BatchPlan {
         ensures count { self.new.count ≡ self.old.count }
     {
         if slot < self.count && !self.knows(slot) {
-            let entry = *table.entry(slot);
-            self.befores.push(Before { slot, entry }).unwrap();
+            let held = *table.get(slot);
+            self.befores.push(Before { slot, held }).unwrap();
         }
     }
 
@@ -159,9 +162,9 @@ impl BatchPlan {
 
     /// Whether the slots are those with which the batch began.
     fn is_unchanged(&self, table: &SlotTable) -> bool
-        ensures { (slots : List (List ℕ)) → length slots ≡ self.now.count
-            → Remembers slots (map slot_bytes table.now.slots) self.now.befores.items
-            → result ≡ same_slots slots (map slot_bytes table.now.slots) }
+        ensures { (slots : List entries.Slot) → length slots ≡ self.now.count
+            → Remembers slots table.now.slots self.now.befores.items
+            → result ≡ same_slots (map slot_bytes slots) (map slot_bytes table.now.slots) }
     {
         table.len() == self.count && self.hold_still(table)
     }
@@ -185,7 +188,12 @@ fn is_live_in(table: &SlotTable, slot: usize) -> bool
 fn holds_still(table: &SlotTable, before: &Before) -> bool
     ensures { result ≡ is_as_before (map slot_bytes table.now.slots) before.now }
 {
-    before.slot < table.len() && table.entry(before.slot).bytes() == before.entry.bytes()
+    match &before.held {
+        Slot::Live(held) | Slot::Purged(held) => {
+            before.slot < table.len() && table.entry(before.slot).bytes() == held.bytes()
+        }
+        Slot::End => false,
+    }
 }
 
 impl Directory {
@@ -244,9 +252,11 @@ impl Directory {
             → TakesPart size header.now slots parts (part_of bytes.now part.now) plan.old.barred.items
             (map slot_bytes self.old.table.slots) (map slot_bytes self.new.table.slots)
             plan.new.changes.items (map (file_of bytes.now) plan.new.files.items) plan.new.barred.items result }
-        ensures remembers { (slots : List (List ℕ)) → length slots ≡ plan.old.count
-            → Remembers slots (map slot_bytes self.old.table.slots) plan.old.befores.items
-            → Remembers slots (map slot_bytes self.new.table.slots) plan.new.befores.items }
+        ensures remembers { (slots : List entries.Slot) → length slots ≡ plan.old.count
+            → Remembers slots self.old.table.slots plan.old.befores.items
+            → Remembers slots self.new.table.slots plan.new.befores.items }
+        ensures within { All (IsFileWithin (length bytes.now)) plan.old.files.items
+            → All (IsFileWithin (length bytes.now)) plan.new.files.items }
         ensures count { plan.new.count ≡ plan.old.count }
         ensures room { self.new.table.room ≡ self.old.table.room }
         ensures few_changes { vec_len plan.new.changes ≤ vec_len plan.old.changes + 1 }
@@ -283,8 +293,8 @@ impl Directory {
         ensures takes { TakesAll size header.now (map slot_bytes self.old.table.slots) (parts_of batch.now)
             (map slot_bytes self.new.table.slots) plan.new.changes.items
             (map (file_of batch.now.bytes) plan.new.files.items) plan.new.barred.items result }
-        ensures remembers { Remembers (map slot_bytes self.old.table.slots) (map slot_bytes self.new.table.slots)
-            plan.new.befores.items }
+        ensures remembers { Remembers self.old.table.slots self.new.table.slots plan.new.befores.items }
+        ensures within { All (IsFileWithin (length batch.now.bytes)) plan.new.files.items }
         ensures few { length (parts_of batch.now) ≤ most_parts }
         ensures count { plan.new.count ≡ plan.old.count }
         ensures room { self.new.table.room ≡ self.old.table.room }
@@ -297,9 +307,49 @@ impl Directory {
         Ok(())
     }
 
-    /// What a batch is to write of the directory, or why it is refused. The slots in memory are those
-    /// after the batch then, and `Ok` says whether they are those before it. After a refusal they are
-    /// to be forgotten.
+    /// Plans a batch on a volume that is adopted with version 2, and leaves the slots in memory as they
+    /// are after its parts, or after those before the one that is refused.
+    fn plan_parts(
+        &mut self,
+        batch: &Batch,
+        header: &Header,
+        size: u16,
+        plan: &mut BatchPlan,
+    ) -> Result<bool, Refusal>
+        requires legal { IsLegalDirectory size header.now (map slot_bytes self.old.table.slots) }
+        requires room { 8 * header.now.length ≤ self.old.table.room }
+        requires two { is_adopted_with size Two (map slot_bytes self.old.table.slots) ≡ true }
+        ensures plan { IsBatchPlan size (parts_of batch.now) header.now (map slot_bytes self.old.table.slots)
+            (map slot_bytes self.new.table.slots) plan.new.changes.items
+            (map (file_of batch.now.bytes) plan.new.files.items) result }
+        ensures within { IfOk result (λ unchanged. All (IsFileWithin (length batch.now.bytes)) plan.new.files.items) }
+        ensures remembers { Remembers self.old.table.slots self.new.table.slots plan.new.befores.items }
+        ensures count { plan.new.count ≡ length self.old.table.slots }
+        ensures room { self.new.table.room ≡ self.old.table.room }
+    {
+        plan.begin(self.table.len());
+        self.take_parts(batch, header, size, plan)?;
+        plan.keep_left(&self.table);
+        Ok(plan.is_unchanged(&self.table))
+    }
+
+    /// Makes the slots in memory those with which the batch began.
+    fn give_back(&mut self, plan: &BatchPlan)
+        requires { (slots : List entries.Slot) × (length slots ≡ plan.now.count)
+            × Remembers slots self.old.table.slots plan.now.befores.items }
+        ensures { (slots : List entries.Slot) → length slots ≡ plan.now.count
+            → Remembers slots self.old.table.slots plan.now.befores.items
+            → self.new.table ≡ record self.old.table { slots = slots } }
+    {
+        self.table.truncate(plan.count);
+        for k in 0..plan.befores.len() {
+            let before = &plan.befores[k];
+            self.table.set(before.slot, before.held);
+        }
+    }
+
+    /// What a batch is to write of the directory, or why it is refused; `Ok` says whether the directory
+    /// stays as it is. The slots in memory stay as they are.
     pub fn batch(
         &mut self,
         batch: &Batch,
@@ -309,19 +359,19 @@ impl Directory {
     ) -> Result<bool, Refusal>
         requires legal { IsLegalDirectory size header.now (map slot_bytes self.old.table.slots) }
         requires room { 8 * header.now.length ≤ self.old.table.room }
-        ensures plan { IsBatchPlan size (parts_of batch.now) header.now (map slot_bytes self.old.table.slots)
-            (map slot_bytes self.new.table.slots) plan.new.changes.items
+        ensures plan { (later : List (List ℕ)) × IsBatchPlan size (parts_of batch.now) header.now
+            (map slot_bytes self.old.table.slots) later plan.new.changes.items
             (map (file_of batch.now.bytes) plan.new.files.items) result }
-        ensures room { self.new.table.room ≡ self.old.table.room }
+        ensures within { IfOk result (λ unchanged. All (IsFileWithin (length batch.now.bytes)) plan.new.files.items) }
+        ensures table { self.new.table ≡ self.old.table }
     {
         match self.redo_version(size) {
             None => return Err(Refusal::NoRedo),
             Some(Version::One) => return Err(Refusal::NeedsUpgrade),
             Some(Version::Two) => {}
         }
-        plan.begin(self.table.len());
-        self.take_parts(batch, header, size, plan)?;
-        plan.keep_left(&self.table);
-        Ok(plan.is_unchanged(&self.table))
+        let planned = self.plan_parts(batch, header, size, plan);
+        self.give_back(plan);
+        planned
     }
 }

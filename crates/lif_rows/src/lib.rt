@@ -2,6 +2,8 @@
 #![tactic(auto)]
 
 #[cfg(test)]
+mod batched;
+#[cfg(test)]
 mod batches;
 #[cfg(test)]
 mod directories;

@@ -31,15 +31,15 @@ const TWO_RECORDS: &[u8] = &[7; 500];
 const STORE: Step<'static> = Step::Store(b"B", TWO_RECORDS);
 
 /// Files without records, which leave one slot of the first record.
-const C: &[u8] = b"C         \0\x01\0\0\0\x04\0\0\0\0\0\0\0\0\0\0\x80\x01\0\0\0\0";
+pub const C: &[u8] = b"C         \0\x01\0\0\0\x04\0\0\0\0\0\0\0\0\0\0\x80\x01\0\0\0\0";
 
-const D: &[u8] = b"D         \0\x01\0\0\0\x04\0\0\0\0\0\0\0\0\0\0\x80\x01\0\0\0\0";
+pub const D: &[u8] = b"D         \0\x01\0\0\0\x04\0\0\0\0\0\0\0\0\0\0\x80\x01\0\0\0\0";
 
-const E: &[u8] = b"E         \0\x01\0\0\0\x04\0\0\0\0\0\0\0\0\0\0\x80\x01\0\0\0\0";
+pub const E: &[u8] = b"E         \0\x01\0\0\0\x04\0\0\0\0\0\0\0\0\0\0\x80\x01\0\0\0\0";
 
-const F: &[u8] = b"F         \0\x01\0\0\0\x04\0\0\0\0\0\0\0\0\0\0\x80\x01\0\0\0\0";
+pub const F: &[u8] = b"F         \0\x01\0\0\0\x04\0\0\0\0\0\0\0\0\0\0\x80\x01\0\0\0\0";
 
-const G: &[u8] = b"G         \0\x01\0\0\0\x04\0\0\0\0\0\0\0\0\0\0\x80\x01\0\0\0\0";
+pub const G: &[u8] = b"G         \0\x01\0\0\0\x04\0\0\0\0\0\0\0\0\0\0\x80\x01\0\0\0\0";
 
 /// A store writes its file first. A commit writes the contents, the targets, the gate, the records in
 /// place, and the gate again. What is read is the gate, record 0 and the directory as far as its end;
@@ -87,7 +87,7 @@ const TURNS: [Turn; 10] = [
 ];
 
 /// The tape after the first `k` writes, torn within the next.
-fn stopped(
+pub fn stopped(
     rt: &impl Abort,
     mut tape: Vec<Record>,
     writes: &[(u16, Record)],
@@ -105,7 +105,7 @@ fn stopped(
 
 /// A stop within any of these writes leaves what was shown before, and from the write that opens the
 /// gate on what is shown after them.
-fn stops(
+pub fn stops(
     rt: &impl Abort,
     alloc: Global,
     before: Shown,

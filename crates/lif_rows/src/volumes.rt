@@ -101,7 +101,7 @@ pub fn open_now(
 }
 
 /// Lists a volume whose store is ready for it.
-fn dir_now<R: Records>(rt: &impl Abort, volume: &mut Volume<R>) -> Result<Listing, VolumeFault>
+pub fn dir_now<R: Records>(rt: &impl Abort, volume: &mut Volume<R>) -> Result<Listing, VolumeFault>
     requires { IsOpen R.view (seen volume.old) }
     ensures { IsOpen R.view (seen volume.new) }
 {
@@ -112,7 +112,7 @@ fn dir_now<R: Records>(rt: &impl Abort, volume: &mut Volume<R>) -> Result<Listin
 }
 
 /// Fetches a file of a volume whose store is ready for it.
-fn fetch_now<R: Records>(
+pub fn fetch_now<R: Records>(
     rt: &impl Abort,
     volume: &mut Volume<R>,
     name: &[u8],
@@ -141,7 +141,7 @@ pub fn resume_now<R: Records>(rt: &impl Abort, volume: &mut Volume<R>) -> Result
 }
 
 /// Whether the slots are these, with all their bytes.
-fn holds<R: Records>(volume: &Volume<R>, slots: &[&[u8]]) -> bool {
+pub fn holds<R: Records>(volume: &Volume<R>, slots: &[&[u8]]) -> bool {
     let table = volume.slots();
     if table.len() != slots.len() {
         return false;
@@ -415,17 +415,17 @@ pub fn change_now<R: Records>(
     }
 }
 
-fn new_name(bytes: &[u8]) -> Option<NewName> {
+pub fn new_name(bytes: &[u8]) -> Option<NewName> {
     NewName::of(&Name::of(bytes)?)
 }
 
-const NO_REDO: Result<(), VolumeFault> = Err(VolumeFault::Refused(Refusal::NoRedo));
+pub const NO_REDO: Result<(), VolumeFault> = Err(VolumeFault::Refused(Refusal::NoRedo));
 
 const PROTECTED: Result<(), VolumeFault> = Err(VolumeFault::Refused(Refusal::Protected));
 
-const NO_FILE: Result<(), VolumeFault> = Err(VolumeFault::Refused(Refusal::NoFile));
+pub const NO_FILE: Result<(), VolumeFault> = Err(VolumeFault::Refused(Refusal::NoFile));
 
-const EXISTS: Result<(), VolumeFault> = Err(VolumeFault::Refused(Refusal::Exists));
+pub const EXISTS: Result<(), VolumeFault> = Err(VolumeFault::Refused(Refusal::Exists));
 
 const IN_USE: Result<(), VolumeFault> = Err(VolumeFault::Refused(Refusal::InUse));
 

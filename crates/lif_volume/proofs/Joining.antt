@@ -1,6 +1,7 @@
 -- A command that changes the volume: it mounts, and carries out what is planned.
 use Rattle.std.proofs.Common.{◌≡◌, ◌⊎◌, ◌≤◌, ◌<◌, ◌+◌, ◌*◌, ◌++◌, ◌∷◌, [], ℕ, List, Bool, true, false, if◌then◌else◌, inl, inr, map, refl, sym, ap, subst, ◌∙◌, arith, append_assoc}
 use Rattle.std.specs.Prelude.{Option, Some, None, Result, Ok, Err, IfErr, is_some}
+use Rattle.std.proofs.Math.Nat.{le-max_right}
 use Rattle.lif_model.specs.Tape.{Tape}
 use Rattle.lif_model.specs.Header.{HeaderParts}
 use Rattle.lif_model.specs.Redo.{redo_of, settled}
@@ -21,16 +22,19 @@ use Rattle.lif_model.specs.declared.refusal.Refusal.{Refusal}
 use Rattle.lif_model.specs.declared.refusal.Refusal.TheVariants as refusal
 use Rattle.lif_plan.specs.Directories.{IsLegalDirectory}
 use Rattle.lif_plan.specs.Plans.{version_for}
+use Rattle.lif_plan.specs.Refusals.{IsAmong, keeps_behind}
+use Rattle.lif_model.specs.Parts.{Part}
 use Rattle.lif_volume.specs.declared.fault.VolumeFault.{VolumeFault}
 use Rattle.lif_volume.specs.declared.fault.VolumeFault.TheVariants.{Refused, Trouble as Troubled}
 use Rattle.lif_volume.specs.Views.{VolumeView, IsOpen}
 use Rattle.lif_volume.specs.Answers.{store_answer, keeps, Answers, IsNotLif, IsLegalAs, IsSettledAs, HasVolumeOf}
-use Rattle.lif_volume.specs.Commands.{fetching, Consults, mounting, mounting_on, AnswersTo, KeepsVolume}
-use Rattle.lif_volume.specs.Changing.{file_when, changes_filed, IsChanged, refused_tape, IsWrittenOn, IsWrittenAs, keeps_behind_command, committing, filing, storing, carrying, carrying_on, changing, HasEitherVolume, VolumeTurns, AddsAsAnswered, Writes, TurnsVolume, WritesByCommit}
-use Rattle.lif_volume.specs.Carrying.{CarriesOutOn, CarriesOut, carry_room}
+use Rattle.lif_volume.specs.Commands.{batch_calls_needed, fetching, Consults, mounting, mounting_on, AnswersTo, KeepsVolume}
+use Rattle.lif_volume.specs.Changing.{file_when, changes_filed, IsChanged, refused_tape, IsWrittenOn, IsWrittenAs, keeps_behind_command, committing, filing, with_mounting, storing, batching, batching_all, carrying, carrying_on, changing, HasEitherVolume, VolumeTurns, AddsAsAnswered, Writes, TurnsVolume, WritesByCommit}
+use Rattle.lif_volume.specs.Carrying.{CarriesOutOn, CarriesOut, carry_room, batch_room}
 use Rattle.lif_volume.specs.Did.{IsOneOf, refusals_of, Alters}
 use Rattle.lif_volume.proofs.Mounting.{behind, answers_fault}
 use Rattle.lif_volume.proofs.Fetching.{legal_of}
+use Rattle.lif_volume.proofs.Batched.{batch_refusals}
 
 -- ---- every command of one change mounts first, and is refused of a tape that is not legal; `format` is not
 
@@ -110,11 +114,6 @@ added_from P n command volume t old mid new (Err (Troubled trouble)) first is = 
 
 -- ---- how many records
 
-pub filing_any : {T : Type 0} (n : ℕ) (header : HeaderParts) (bytes : List ℕ) (a : Result T VolumeFault) → filing n (Some header) bytes a ≤ filing n None bytes a
-filing_any n header bytes (Ok x) = omega arith
-filing_any n header bytes (Err (Refused why)) = omega arith
-filing_any n header bytes (Err (Troubled trouble)) = omega arith
-
 -- with what is kept behind the answer
 module _ {T : Type 0} (n : ℕ) (header : HeaderParts) (long : header.length + 5 ≤ n) (a : Result T VolumeFault) where
   few_bound : (old after : Option HeaderParts) → after ≡ (if keeps a then Some header else None) → mounting n old (Some header) + committing a ≤ mounting n old after + committing a
@@ -125,18 +124,52 @@ module _ {T : Type 0} (n : ℕ) (header : HeaderParts) (long : header.length + 5
       go false e None = let same : after ≡ None = is ∙ ap (λ (b : Bool). if b then Some header else None) e in subst (λ (w : Option HeaderParts). 71 + header.length + committing a ≤ mounting n None w + committing a) (sym same) (omega (arith, long))
       go false e (Some h) = omega arith
 
-  storing_bound : (old after : Option HeaderParts) (bytes : List ℕ) → after ≡ (if keeps a then Some header else None) → mounting n old (Some header) + (filing n (Some header) bytes a + committing a) ≤ storing n old after bytes a
-  storing_bound (Some h) after bytes is = omega (arith, filing_any n header bytes a)
-  storing_bound None after bytes is = subst (λ (w : Option HeaderParts). mounting n None (Some header) + (filing n (Some header) bytes a + committing a) ≤ storing n None w bytes a) (sym is) (by a)
+  -- none where it is refused
+  mounted_bound : (calls : Option HeaderParts → ℕ) (most : ℕ) → calls (Some header) ≤ calls None → ((why : Refusal) → a ≡ Err (Refused why) → calls (Some header) ≡ 0) → 71 + header.length + calls (Some header) ≤ most
+      → (old after : Option HeaderParts) → after ≡ (if keeps a then Some header else None) → mounting n old (Some header) + calls (Some header) ≤ with_mounting n old after calls most a
+  mounted_bound calls most any none all (Some h) after is = omega (arith, any)
+  mounted_bound calls most any none all None after is = subst (λ (w : Option HeaderParts). mounting n None (Some header) + calls (Some header) ≤ with_mounting n None w calls most a) (sym is) (by a none)
     where
-      refused : (why : Refusal) (b : Bool) → mounting n None (Some header) + (filing {T = T} n (Some header) bytes (Err (Refused why)) + committing {T = T} (Err (Refused why))) ≤ storing {T = T} n None (if b then Some header else None) bytes (Err (Refused why))
-      refused why true = omega arith
-      refused why false = omega (arith, long)
+      refused : (why : Refusal) → calls (Some header) ≡ 0 → (b : Bool) → mounting n None (Some header) + calls (Some header) ≤ with_mounting {T = T} n None (if b then Some header else None) calls most (Err (Refused why))
+      refused why zero true = omega arith
+      refused why zero false = omega (arith, long, zero)
 
-      by : (a : Result T VolumeFault) → mounting n None (Some header) + (filing n (Some header) bytes a + committing a) ≤ storing n None (if keeps a then Some header else None) bytes a
-      by (Ok x) = omega arith
-      by (Err (Refused why)) = refused why (keeps {T = T} (Err (Refused why)))
-      by (Err (Troubled trouble)) = omega (arith, long)
+      by : (a : Result T VolumeFault) → ((why : Refusal) → a ≡ Err (Refused why) → calls (Some header) ≡ 0) → mounting n None (Some header) + calls (Some header) ≤ with_mounting n None (if keeps a then Some header else None) calls most a
+      by (Ok x) none = omega arith
+      by (Err (Refused why)) none = refused why (none why refl) (keeps {T = T} (Err (Refused why)))
+      by (Err (Troubled trouble)) none = omega (arith, all)
+
+  storing_bound : (old after : Option HeaderParts) (bytes : List ℕ) → after ≡ (if keeps a then Some header else None) → mounting n old (Some header) + (filing n (Some header) bytes a + committing a) ≤ storing n old after bytes a
+  storing_bound old after bytes is = mounted_bound (λ kept. filing n kept bytes a + committing a) (n + 76) (any a) (none a) (all a) old after is
+    where
+      any : (b : Result T VolumeFault) → filing n (Some header) bytes b + committing b ≤ filing n None bytes b + committing b
+      any (Ok x) = omega arith
+      any (Err (Refused why)) = omega arith
+      any (Err (Troubled trouble)) = omega arith
+
+      none : (b : Result T VolumeFault) (why : Refusal) → b ≡ Err (Refused why) → filing n (Some header) bytes b + committing b ≡ 0
+      none b why is = ap (λ (c : Result T VolumeFault). filing n (Some header) bytes c + committing c) is
+
+      all : (b : Result T VolumeFault) → 71 + header.length + (filing n (Some header) bytes b + committing b) ≤ n + 76
+      all (Ok x) = omega (arith, long)
+      all (Err (Refused why)) = omega (arith, long)
+      all (Err (Troubled trouble)) = omega (arith, long)
+
+  batching_bound : (old after : Option HeaderParts) (parts : List Part) → after ≡ (if keeps a then Some header else None) → mounting n old (Some header) + batching n (Some header) parts a ≤ batching_all n old after parts a
+  batching_bound old after parts is = mounted_bound (λ kept. batching n kept parts a) (n + 138) (any a) (none a) (all a) old after is
+    where
+      any : (b : Result T VolumeFault) → batching n (Some header) parts b ≤ batching n None parts b
+      any (Ok x) = omega arith
+      any (Err (Refused why)) = omega arith
+      any (Err (Troubled trouble)) = omega arith
+
+      none : (b : Result T VolumeFault) (why : Refusal) → b ≡ Err (Refused why) → batching n (Some header) parts b ≡ 0
+      none b why is = ap (λ (c : Result T VolumeFault). batching n (Some header) parts c) is
+
+      all : (b : Result T VolumeFault) → 71 + header.length + batching n (Some header) parts b ≤ n + 138
+      all (Ok x) = omega (arith, long)
+      all (Err (Refused why)) = omega (arith, long)
+      all (Err (Troubled trouble)) = omega (arith, long)
 
   changing_bound : (command : VolumeCommand) (old after : Option HeaderParts) → Mounts command → after ≡ (if keeps a then Some header else None)
       → mounting n old (Some header) + carrying n command (Some header) a ≤ changing n command old after a
@@ -152,6 +185,13 @@ module _ {T : Type 0} (n : ℕ) (header : HeaderParts) (long : header.length + 5
   changing_bound (Format label slots) old after mounts is = absurd mounts
 
 -- on a told tape, of a directory that is read or not
+batching_any : {T : Type 0} (n : ℕ) (parts : List Part) (old new : Option HeaderParts) (a : Result T VolumeFault) → mounting n old new ≤ changing n (Batch parts) old new a
+batching_any n parts (Some header) new a = omega arith
+batching_any n parts None (Some header) a = omega arith
+batching_any n parts None None (Ok x) = omega arith
+batching_any n parts None None (Err (Refused why)) = omega arith
+batching_any n parts None None (Err (Troubled trouble)) = omega arith
+
 carrying_any : {T : Type 0} (n : ℕ) (command : VolumeCommand) (old new : Option HeaderParts) (a : Result T VolumeFault) → Mounts command → mounting n old new ≤ changing n command old new a
 carrying_any n Dir old new a mounts = omega arith
 carrying_any n Label old new a mounts = omega arith
@@ -230,23 +270,49 @@ module _ {R S : Type 0} (view : R → RecordsView S) (x y z : VolumeView R) (com
       added_from (IsSettleWrite (view x.records).record_count (redo_of t)) (view x.records).record_count command (volume_of t) (settled t) _ _ _ a (first t told)
       (subst (λ (v : Option Volume). AddsAsAnswered (λ k. ⊥) (view x.records).record_count command v (settled t) (view y.records).transferred (view z.records).transferred a) (settled_same t told) (carried_on t told).added)
 
-module _ {R S : Type 0} (view : R → RecordsView S) (x y z : VolumeView R) (header : HeaderParts) (command : VolumeCommand) (mounts : Mounts command) (a : Result (Unit {0}) VolumeFault)
+module _ {R S : Type 0} (view : R → RecordsView S) (x y z : VolumeView R) (header : HeaderParts) (command : VolumeCommand) (settled_first : (why : Refusal) (t : Tape) → refused_tape command why t ≡ settled t) (a : Result (Unit {0}) VolumeFault)
     (mounted : Consults {T = HeaderParts} (mounting (view x.records).record_count x.kept y.kept) (λ t. mounting_on t x.kept) view x y (Ok header)) (kept : y.kept ≡ Some header)
-    (long : header.length + 5 ≤ (view x.records).record_count) (carried : CarriesOut command view y z a) where
+    (carries : GoesOn (carrying (view y.records).record_count command y.kept a) (view y.records) (view z.records) (store_answer a))
+    (carried : (t : Tape) → (view y.records).tape ≡ Some t → CarriesOutOn (view y.records).record_count command (view y.records) (view z.records) t a) where
   size : (view y.records).record_count ≡ (view x.records).record_count
   size = mounted.goes_on.continues.size
 
   carries_on : GoesOn (carrying (view x.records).record_count command (Some header) a) (view y.records) (view z.records) (store_answer a)
   carries_on = subst (λ (n : ℕ). GoesOn (carrying n command (Some header) a) (view y.records) (view z.records) (store_answer a)) size
-      (subst (λ (k : Option HeaderParts). GoesOn (carrying (view y.records).record_count command k a) (view y.records) (view z.records) (store_answer a)) kept carried.goes_on)
+      (subst (λ (k : Option HeaderParts). GoesOn (carrying (view y.records).record_count command k a) (view y.records) (view z.records) (store_answer a)) kept carries)
 
   module _ (t : Tape) (told : (view x.records).tape ≡ Some t) where
     same : volume_of (settled t) ≡ volume_of t
-    same = settled_same view x y z command a size mounted.settles carried.on_tape t told
+    same = settled_same view x y z command a size mounted.settles carried t told
 
     on : CarriesOutOn (view x.records).record_count command (view y.records) (view z.records) (settled t) a
-    on = carried_on view x y z command a size mounted.settles carried.on_tape t told
+    on = carried_on view x y z command a size mounted.settles carried t told
 
+  -- with what is kept then
+  pub altered_as : mounting (view x.records).record_count x.kept (Some header) + carrying (view x.records).record_count command (Some header) a ≤ changing (view x.records).record_count command x.kept z.kept a
+      → is_some z.kept ≡ keeps_behind_command command (is_some x.kept) a
+      → (names : List Refusal) → refusals_of command ≡ refusal.NotLif ∷ names → IfErr a (IsOneOf names) → KeepsVolume view x y
+      → ((t : Tape) → (view x.records).tape ≡ Some t → GoesOnBy (IsSettleWrite (view x.records).record_count (redo_of t)) (view x.records).transferred (view y.records).transferred)
+      → Alters command view x z a
+  altered_as bound after names list only stays first =
+      let n = (view x.records).record_count in
+      record {
+        goes_on = goes_within (mounting n x.kept (Some header) + carrying n command (Some header) a) (changing n command x.kept z.kept a) (view x.records) (view z.records) (store_answer a) bound
+            (goes_further (mounting n x.kept (Some header)) (carrying n command (Some header) a) (view x.records) (view y.records) (view z.records) tt (store_answer a)
+            (subst (λ (o : Option HeaderParts). GoesOn {T = Unit {0}} (mounting n x.kept o) (view x.records) (view y.records) (Ok tt)) kept mounted.goes_on) carries_on);
+        few = λ t told.
+            omega (arith, mounted.few t told, (on t told).few, ap (λ (v : Option Volume). carrying_on n command (settled t) (changes_filed n command v (settled t)) a) (same t told));
+        kept = after;
+        only = subst (λ (all : List Refusal). IfErr a (IsOneOf all)) (sym list) (among_more refusal.NotLif names a only);
+        answers = parts_answers view x y z command a size mounted.settles carried;
+        written = λ t u told now. written_from n command t u a (λ why is. settled_first why t) (same t told) ((on t told).written u now);
+        stops = parts_stops view x y z command a size mounted.settles carried stays;
+        transfers = parts_transfers view x y z command a size mounted.settles carried first;
+      }
+
+module _ {R S : Type 0} (view : R → RecordsView S) (x y z : VolumeView R) (header : HeaderParts) (command : VolumeCommand) (mounts : Mounts command) (a : Result (Unit {0}) VolumeFault)
+    (mounted : Consults {T = HeaderParts} (mounting (view x.records).record_count x.kept y.kept) (λ t. mounting_on t x.kept) view x y (Ok header)) (kept : y.kept ≡ Some header)
+    (long : header.length + 5 ≤ (view x.records).record_count) (carried : CarriesOut command view y z a) where
   is_kept : (b : Bool) → keeps a ≡ b → is_some z.kept ≡ keeps a
   is_kept true e = ap is_some (carried.kept ∙ ap (λ (b : Bool). if b then y.kept else None) e ∙ kept) ∙ sym e
   is_kept false e = ap is_some (carried.kept ∙ ap (λ (b : Bool). if b then y.kept else None) e) ∙ sym e
@@ -254,32 +320,21 @@ module _ {R S : Type 0} (view : R → RecordsView S) (x y z : VolumeView R) (hea
   pub altered : (names : List Refusal) → refusals_of command ≡ refusal.NotLif ∷ names → IfErr a (IsOneOf names) → KeepsVolume view x y
       → ((t : Tape) → (view x.records).tape ≡ Some t → GoesOnBy (IsSettleWrite (view x.records).record_count (redo_of t)) (view x.records).transferred (view y.records).transferred)
       → Alters command view x z a
-  altered names list only stays first =
-      let n = (view x.records).record_count in
-      record {
-        goes_on = goes_within (mounting n x.kept (Some header) + carrying n command (Some header) a) (changing n command x.kept z.kept a) (view x.records) (view z.records) (store_answer a)
-            (changing_bound n header long a command x.kept z.kept mounts (carried.kept ∙ ap (λ (o : Option HeaderParts). if keeps a then o else None) kept))
-            (goes_further (mounting n x.kept (Some header)) (carrying n command (Some header) a) (view x.records) (view y.records) (view z.records) tt (store_answer a)
-            (subst (λ (o : Option HeaderParts). GoesOn {T = Unit {0}} (mounting n x.kept o) (view x.records) (view y.records) (Ok tt)) kept mounted.goes_on) carries_on);
-        few = λ t told.
-            omega (arith, mounted.few t told, (on t told).few, ap (λ (v : Option Volume). carrying_on n command (settled t) (changes_filed n command v (settled t)) a) (same t told));
-        kept = is_kept (keeps a) refl ∙ sym (keeps_is command (is_some x.kept) a mounts);
-        only = subst (λ (all : List Refusal). IfErr a (IsOneOf all)) (sym list) (among_more refusal.NotLif names a only);
-        answers = parts_answers view x y z command a size mounted.settles carried.on_tape;
-        written = λ t u told now. written_from n command t u a (λ why is. refused_is command why t mounts) (same t told) ((on t told).written u now);
-        stops = parts_stops view x y z command a size mounted.settles carried.on_tape stays;
-        transfers = parts_transfers view x y z command a size mounted.settles carried.on_tape first;
-      }
+  altered = altered_as view x y z header command (λ why t. refused_is command why t mounts) a mounted kept carried.goes_on carried.on_tape
+      (changing_bound (view x.records).record_count header long a command x.kept z.kept mounts (carried.kept ∙ ap (λ (o : Option HeaderParts). if keeps a then o else None) kept))
+      (is_kept (keeps a) refl ∙ sym (keeps_is command (is_some x.kept) a mounts))
 
 -- ---- where mounting is refused, or the store fails in it
 
-module _ {R S : Type 0} (view : R → RecordsView S) (x y : VolumeView R) (command : VolumeCommand) (mounts : Mounts command) (fault : VolumeFault)
+module _ {R S : Type 0} (view : R → RecordsView S) (x y : VolumeView R) (command : VolumeCommand) (settled_first : (why : Refusal) (t : Tape) → refused_tape command why t ≡ settled t)
+    (lacks : refusal_of (view x.records).record_count command None ≡ Some refusal.NotLif)
+    (more : (a : Result (Unit {0}) VolumeFault) → mounting (view x.records).record_count x.kept y.kept ≤ changing (view x.records).record_count command x.kept y.kept a) (fault : VolumeFault)
     (mounted : Consults {T = HeaderParts} (mounting (view x.records).record_count x.kept y.kept) (λ t. mounting_on t x.kept) view x y (Err fault))
     (only : IsNotLif fault) (exactly : (t : Tape) → (view x.records).tape ≡ Some t → IsLegalAs {T = HeaderParts} (settled t) (Err fault)) where
   fault_goes_on : (f : VolumeFault) → GoesOn (mounting (view x.records).record_count x.kept y.kept) (view x.records) (view y.records) (store_answer {T = HeaderParts} (Err f))
       → GoesOn (changing {T = Unit {0}} (view x.records).record_count command x.kept y.kept (Err f)) (view x.records) (view y.records) (store_answer {T = Unit {0}} (Err f))
-  fault_goes_on (Refused why) is = goes_within _ _ _ _ _ (carrying_any {T = Unit {0}} (view x.records).record_count command x.kept y.kept (Err (Refused why)) mounts) is
-  fault_goes_on (Troubled trouble) is = goes_within _ _ _ _ _ (carrying_any {T = Unit {0}} (view x.records).record_count command x.kept y.kept (Err (Troubled trouble)) mounts) is
+  fault_goes_on (Refused why) is = goes_within _ _ _ _ _ (more (Err (Refused why))) is
+  fault_goes_on (Troubled trouble) is = goes_within _ _ _ _ _ (more (Err (Troubled trouble))) is
 
   fault_kept : (f : VolumeFault) → is_some y.kept ≡ keeps {T = HeaderParts} (Err f) → is_some y.kept ≡ keeps {T = Unit {0}} (Err f)
   fault_kept (Refused why) is = is
@@ -289,14 +344,14 @@ module _ {R S : Type 0} (view : R → RecordsView S) (x y : VolumeView R) (comma
   fault_answers t u told now = by fault only (exactly t told) (mounted.settles t told)
     where
       by : (f : VolumeFault) → IsNotLif f → IsLegalAs {T = HeaderParts} (settled t) (Err f) → IsSettledAs t (view y.records).tape (store_answer {T = HeaderParts} (Err f)) → Answers {T = Unit {0}} (view x.records).record_count command t u (Err f)
-      by (Refused why) names off settles = answers_fault (view x.records).record_count t u _ command (Refused why) (not_lif (view x.records).record_count command mounts) now names off settles
+      by (Refused why) names off settles = answers_fault (view x.records).record_count t u _ command (Refused why) lacks now names off settles
       by (Troubled trouble) names off settles = tt
 
   fault_written : Writes {T = Unit {0}} command view x y (Err fault)
   fault_written t u told now = by fault (mounted.settles t told)
     where
       by : (f : VolumeFault) → IsSettledAs t (view y.records).tape (store_answer {T = HeaderParts} (Err f)) → IsWrittenAs {T = Unit {0}} (view x.records).record_count command t u (Err f)
-      by (Refused why) settles = behind t u _ now settles ∙ sym (refused_is command why t mounts)
+      by (Refused why) settles = behind t u _ now settles ∙ sym (settled_first why t)
       by (Troubled trouble) settles = tt
 
   fault_stops : KeepsVolume view x y → TurnsVolume command view x y
@@ -316,19 +371,86 @@ module _ {R S : Type 0} (view : R → RecordsView S) (x y : VolumeView R) (comma
       by (Refused why) adds = adds
       by (Troubled trouble) adds = tt
 
-  pub not_altered : (names : List Refusal) → refusals_of command ≡ refusal.NotLif ∷ names → KeepsVolume view x y
+  pub not_altered_as : keeps_behind_command {T = Unit {0}} command (is_some x.kept) (Err fault) ≡ keeps {T = Unit {0}} (Err fault) → (names : List Refusal) → refusals_of command ≡ refusal.NotLif ∷ names → KeepsVolume view x y
       → ((t : Tape) → (view x.records).tape ≡ Some t → AddsOnly (IsSettleWrite (view x.records).record_count (redo_of t)) (view x.records).transferred (view y.records).transferred (store_answer {T = HeaderParts} (Err fault)))
       → Alters {T = Unit {0}} command view x y (Err fault)
-  not_altered names list stays first = record {
+  not_altered_as after names list stays first = record {
     goes_on = fault_goes_on fault mounted.goes_on;
     few = λ t told. omega (arith, mounted.few t told);
-    kept = fault_kept fault mounted.kept ∙ sym (keeps_is {T = Unit {0}} command (is_some x.kept) (Err fault) mounts);
+    kept = fault_kept fault mounted.kept ∙ sym after;
     only = subst (λ (all : List Refusal). IsOneOf all fault) (sym list) (not_lif_only names fault only);
     answers = fault_answers;
     written = fault_written;
     stops = fault_stops stays;
     transfers = fault_transfers first;
   }
+
+module _ {R S : Type 0} (view : R → RecordsView S) (x y : VolumeView R) (command : VolumeCommand) (mounts : Mounts command) (fault : VolumeFault)
+    (mounted : Consults {T = HeaderParts} (mounting (view x.records).record_count x.kept y.kept) (λ t. mounting_on t x.kept) view x y (Err fault))
+    (only : IsNotLif fault) (exactly : (t : Tape) → (view x.records).tape ≡ Some t → IsLegalAs {T = HeaderParts} (settled t) (Err fault)) where
+  pub not_altered : (names : List Refusal) → refusals_of command ≡ refusal.NotLif ∷ names → KeepsVolume view x y
+      → ((t : Tape) → (view x.records).tape ≡ Some t → AddsOnly (IsSettleWrite (view x.records).record_count (redo_of t)) (view x.records).transferred (view y.records).transferred (store_answer {T = HeaderParts} (Err fault)))
+      → Alters {T = Unit {0}} command view x y (Err fault)
+  not_altered = not_altered_as view x y command (λ why t. refused_is command why t mounts) (not_lif (view x.records).record_count command mounts)
+      (λ a. carrying_any {T = Unit {0}} (view x.records).record_count command x.kept y.kept a mounts) fault mounted only exactly (keeps_is {T = Unit {0}} command (is_some x.kept) (Err fault) mounts)
+
+-- ---- a batch
+
+module _ {R S : Type 0} (view : R → RecordsView S) (x y : VolumeView R) (parts : List Part) where
+  abbrev all_names : List Refusal
+  all_names = batch_refusals
+
+  -- mounting is refused, or the store fails in it
+  pub batch_not_altered : (fault : VolumeFault) → Consults {T = HeaderParts} (mounting (view x.records).record_count x.kept y.kept) (λ t. mounting_on t x.kept) view x y (Err fault) → IsNotLif fault
+      → ((t : Tape) → (view x.records).tape ≡ Some t → IsLegalAs {T = HeaderParts} (settled t) (Err fault)) → KeepsVolume view x y
+      → ((t : Tape) → (view x.records).tape ≡ Some t → AddsOnly (IsSettleWrite (view x.records).record_count (redo_of t)) (view x.records).transferred (view y.records).transferred (store_answer {T = HeaderParts} (Err fault)))
+      → Alters {T = Unit {0}} (Batch parts) view x y (Err fault)
+  batch_not_altered fault mounted only exactly stays first =
+      not_altered_as view x y (Batch parts) (λ why t. refl) refl (λ a. batching_any (view x.records).record_count parts x.kept y.kept a) fault mounted only exactly (by fault only) all_names refl stays first
+    where
+      by : (f : VolumeFault) → IsNotLif f → keeps_behind_command {T = Unit {0}} (Batch parts) (is_some x.kept) (Err f) ≡ keeps {T = Unit {0}} (Err f)
+      by (Refused why) is = sym (ap keeps_behind is)
+      by (Troubled trouble) is = refl
+
+  module _ (z : VolumeView R) (header : HeaderParts)
+      (mounted : Consults {T = HeaderParts} (mounting (view x.records).record_count x.kept y.kept) (λ t. mounting_on t x.kept) view x y (Ok header)) (kept : y.kept ≡ Some header)
+      (long : header.length + 5 ≤ (view x.records).record_count) (stays : KeepsVolume view x y)
+      (first : (t : Tape) → (view x.records).tape ≡ Some t → GoesOnBy (IsSettleWrite (view x.records).record_count (redo_of t)) (view x.records).transferred (view y.records).transferred) where
+    -- it is refused, and the directory is read anew by the next command
+    pub batch_refused : (why : Refusal) → GoesOn {T = Unit {0}} 0 (view y.records) (view z.records) (Ok tt)
+        → ((t : Tape) → (view y.records).tape ≡ Some t → CarriesOutOn {T = Unit {0}} (view y.records).record_count (Batch parts) (view y.records) (view z.records) t (Err (Refused why)))
+        → z.kept ≡ None → IsAmong all_names why → Alters {T = Unit {0}} (Batch parts) view x z (Err (Refused why))
+    batch_refused why goes carried none among =
+        altered_as view x y z header (Batch parts) (λ w t. refl) (Err (Refused why)) mounted kept goes carried
+        (subst (λ (o : Option HeaderParts). mounting n x.kept (Some header) + 0 ≤ batching_all {T = Unit {0}} n x.kept o parts (Err (Refused why))) (sym none) (fewer x.kept))
+        (ap is_some none) all_names refl among stays first
+      where
+        n : ℕ
+        n = (view x.records).record_count
+
+        fewer : (o : Option HeaderParts) → mounting n o (Some header) + 0 ≤ batching_all {T = Unit {0}} n o None parts (Err (Refused why))
+        fewer None = omega (arith, long)
+        fewer (Some h) = omega arith
+
+    -- it is carried out, or the store fails
+    pub batch_altered : (a : Result (Unit {0}) VolumeFault) → CarriesOut (Batch parts) view y z a → IfErr a (IsOneOf []) → Alters (Batch parts) view x z a
+    batch_altered a carried only =
+        altered_as view x y z header (Batch parts) (λ w t. refl) a mounted kept carried.goes_on carried.on_tape
+        (batching_bound n header long a x.kept z.kept parts (carried.kept ∙ ap (λ (o : Option HeaderParts). if keeps a then o else None) kept))
+        (after a carried.kept only) all_names refl (none_refused a only) stays first
+      where
+        n : ℕ
+        n = (view x.records).record_count
+
+        after : (b : Result (Unit {0}) VolumeFault) → z.kept ≡ (if keeps b then y.kept else None) → IfErr b (IsOneOf []) → is_some z.kept ≡ keeps_behind_command (Batch parts) (is_some x.kept) b
+        after (Ok w) is none = ap is_some (is ∙ kept)
+        after (Err (Refused why)) is none = absurd none
+        after (Err (Troubled trouble)) is none = ap is_some is
+
+        none_refused : (b : Result (Unit {0}) VolumeFault) → IfErr b (IsOneOf []) → IfErr b (IsOneOf all_names)
+        none_refused (Ok w) none = tt
+        none_refused (Err (Refused why)) none = absurd none
+        none_refused (Err (Troubled trouble)) none = tt
 
 -- ---- behind mounting
 
@@ -351,6 +473,13 @@ module _ {R S : Type 0} (view : R → RecordsView S) (x y : VolumeView R) (heade
   ready_there size left =
       let goes = subst (λ (o : Option HeaderParts). GoesOn {T = Unit {0}} (mounting (view x.records).record_count x.kept o) (view x.records) (view y.records) (Ok tt)) kept mounted.goes_on in
       record { valid = goes.continues.valid; sound = goes.continues.sound; left = omega (arith, left, size, goes.continues.left, few_mounted (view x.records).record_count x.kept header, long_there, goes.continues.size) }
+
+  -- for a batch
+  pub batch_ready_there : batch_calls_needed (view x.records).record_count ≤ (view x.records).calls_left → IsReady (batch_room (view y.records).record_count header) (view y.records)
+  batch_ready_there left =
+      let n = (view x.records).record_count in
+      let goes = subst (λ (o : Option HeaderParts). GoesOn {T = Unit {0}} (mounting n x.kept o) (view x.records) (view y.records) (Ok tt)) kept mounted.goes_on in
+      record { valid = goes.continues.valid; sound = goes.continues.sound; left = omega (arith, left, le-max_right (2 * n + 40) (n + 138), goes.continues.left, few_mounted n x.kept header, long_there, goes.continues.size) }
 
 -- `fetch` may ask for more than mounting does
 pub fetch_bound : {T : Type 0} (n : ℕ) (name : List ℕ) (old : Option HeaderParts) (header : HeaderParts) (slots : List (List ℕ)) (a : Result T VolumeFault) → header.length + 5 ≤ n

@@ -1,8 +1,13 @@
 mod Mounting
 mod Fetching
 mod Making
+mod Filing
+mod Planned
 mod Carrying
+pub mod Batched
+mod CarryingAll
 mod Joining
 mod Renewing
 mod Examples
 mod ExamplesChanging
+mod ExamplesBatch

@@ -1,6 +1,7 @@
 -- What the commands that change slots make of a volume, whatever it is kept in.
 use Rattle.std.proofs.Common.{◌≡◌, ◌⊎◌, ◌≤◌, ℕ, List, [], ◌∷◌, Bool, true, false, if◌then◌else◌, refl, sym, subst, ◌∙◌}
-use Rattle.std.specs.Prelude.{Option, Some, None}
+use Rattle.std.specs.Prelude.{All, Option, Some, None}
+use Rattle.std.proofs.lemmas.List.Elements.{All-nil}
 use Rattle.std.specs.Str.{bytes_eq}
 use Rattle.lif_model.specs.Tape.{Tape, IsTape}
 use Rattle.lif_model.specs.Header.{directory_start, directory_end}
@@ -14,13 +15,14 @@ use Rattle.lif_model.specs.Apply.{VolumeCommand, Dir, Label, Fetch, Store, Renam
 use Rattle.lif_model.specs.Parts.{Part}
 use Rattle.lif_model.specs.Parts as part
 use Rattle.lif_model.specs.Writing.{slot_writes, changes_by, changes_of, chosen_place, files_written, with_file}
+use Rattle.lif_model.proofs.NewFiles.{IsAsideFile}
 use Rattle.lif_model.proofs.Slots.{readable_tells}
 use Rattle.lif_model.proofs.Adopted.{adopted_some, ends_before_redo}
 use Rattle.lif_model.proofs.Apply.{next_is_adopted, adopt_is_adopted, upgrade_is_two}
-use Rattle.lif_model.proofs.Commands.{command_stops, command_commits, adopt_stops, adopt_commits, upgrade_stops, upgrade_commits}
+use Rattle.lif_model.proofs.Commands.{command_files, command_stops, command_commits, adopt_stops, adopt_commits, upgrade_stops, upgrade_commits}
 use Rattle.lif_plan.specs.Plans.{CommitsWith}
-use Rattle.lif_volume.specs.Changing.{files_when, file_when, file_runs}
-use Rattle.lif_volume.specs.Carrying.{HasFile, file_count}
+use Rattle.lif_volume.specs.Changing.{files_when}
+use Rattle.lif_volume.specs.Carrying.{HasFile}
 
 -- ---- the commands that change slots
 
@@ -140,17 +142,30 @@ files_are n Upgrade v = refl
 files_are n (Batch parts) v = refl
 files_are n (Format label slots) v = refl
 
+-- each lies at spare records of the tape
+pub files_spare : (n : ℕ) (version : Version) (u : Tape) (v : Volume) → IsTape n u → volume_in u ≡ Some v → (command : VolumeCommand) → IsWellFormed command → CommitsWith n version command v
+    → refusal_of n command (Some v) ≡ None → All (IsAsideFile version u) (files_written n command v (chosen_place n command v))
+files_spare n version u v tape is Dir formed never none = absurd never
+files_spare n version u v tape is Label formed never none = absurd never
+files_spare n version u v tape is (Fetch name) formed never none = absurd never
+files_spare n version u v tape is (Store name kind implementation bytes) formed adopted none = command_files n u v tape is version (Store name kind implementation bytes) adopted formed none
+files_spare n version u v tape is (Rename old later) formed adopted none = All-nil (IsAsideFile version u)
+files_spare n version u v tape is (Purge name) formed adopted none = All-nil (IsAsideFile version u)
+files_spare n version u v tape is Adopt formed both none = All-nil (IsAsideFile version u)
+files_spare n version u v tape is Upgrade formed both none = All-nil (IsAsideFile version u)
+files_spare n version u v tape is (Batch parts) formed adopted none = command_files n u v tape is version (Batch parts) adopted formed none
+files_spare n version u v tape is (Format label slots) formed never none = absurd never
+
 -- ---- without a file
 
-pub without_file : (command : VolumeCommand) → HasFile command None → (file_count command ≡ 0) × ((n : ℕ) (volume : Option Volume) → file_runs n command volume ≡ [])
-    × ((n : ℕ) (volume : Option Volume) (t : Tape) → file_when n command volume t ≡ t)
-without_file Dir has = (refl, (λ n volume. refl), λ n volume t. refl)
-without_file Label has = (refl, (λ n volume. refl), λ n volume t. refl)
-without_file (Fetch name) has = (refl, (λ n volume. refl), λ n volume t. refl)
-without_file (Store name kind implementation bytes) has = cc
-without_file (Rename old later) has = (refl, (λ n volume. refl), λ n volume t. refl)
-without_file (Purge name) has = (refl, (λ n volume. refl), λ n volume t. refl)
-without_file Adopt has = (refl, (λ n volume. refl), λ n volume t. refl)
-without_file Upgrade has = (refl, (λ n volume. refl), λ n volume t. refl)
-without_file (Batch parts) has = absurd has
-without_file (Format label slots) has = (refl, (λ n volume. refl), λ n volume t. refl)
+pub without_file : (command : VolumeCommand) → HasFile command None → (n : ℕ) (volume : Option Volume) → files_when n command volume ≡ []
+without_file Dir has n volume = refl
+without_file Label has n volume = refl
+without_file (Fetch name) has n volume = refl
+without_file (Store name kind implementation bytes) has n volume = cc
+without_file (Rename old later) has n volume = refl
+without_file (Purge name) has n volume = refl
+without_file Adopt has n volume = refl
+without_file Upgrade has n volume = refl
+without_file (Batch parts) has n volume = absurd has
+without_file (Format label slots) has n volume = refl

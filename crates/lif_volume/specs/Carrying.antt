@@ -1,29 +1,69 @@
 -- What it is to carry out what is planned for a command, on a volume whose directory is kept.
-use Rattle.std.specs.Prelude.{◌≡◌, ◌≤◌, ◌+◌, ◌++◌, if◌then◌else◌, ℕ, List, length, Option, Some, None, OnOk, Result}
+use Rattle.std.specs.Prelude.{◌≡◌, ◌≤◌, ◌+◌, ◌++◌, if◌then◌else◌, ℕ, List, [], ◌∷◌, false, length, map, Option, Some, None, OnOk, Result}
 use Rattle.lif_model.specs.Tape.{Tape}
 use Rattle.lif_model.specs.Gate.{has_open_gate}
 use Rattle.lif_model.specs.Header.{HeaderParts}
-use Rattle.lif_model.specs.Made.{file_records}
+use Rattle.lif_model.specs.Made.{file_length, file_records}
+use Rattle.lif_model.specs.declared.version.Version.{Version}
 use Rattle.lif_model.specs.Commit.{IsCommitted, commit_writes}
 use Rattle.lif_model.specs.Redo.{Changes}
 use Rattle.lif_model.specs.Volume.{volume_of}
 use Rattle.lif_model.specs.Apply.{VolumeCommand, Dir, Label, Fetch, Store, Rename, Purge, Adopt, Upgrade, Batch, Format}
-use Rattle.lif_model.specs.Transfers.{Transfer}
-use Rattle.lif_model.specs.Writing.{changes_by}
+use Rattle.lif_model.specs.Transfers.{Transfer, PartlyReplaced}
+use Rattle.lif_model.specs.Writing.{SlotWrites, NewFile, with_files, changes_by}
 use Rattle.il_ports.specs.declared.records.Trouble.{Trouble}
-use Rattle.il_ports.specs.Stores.{RecordsView, GoesOn}
+use Rattle.il_ports.specs.Stores.{RecordsView, GoesOn, RunLeaves}
 use Rattle.lif_redo.specs.Writing.{writes_among, AreSingle}
-use Rattle.lif_commit.specs.Staged.{most_commit_calls}
+use Rattle.lif_commit.specs.Staged.{most_commit_calls, most_batch_calls}
 use Rattle.lif_dir.specs.declared.change.Change.{Change}
-use Rattle.lif_dir.specs.Changes.{change_writes}
+use Rattle.lif_dir.specs.declared.entries.Slot.{Slot}
+use Rattle.lif_dir.specs.Entries.{slot_bytes}
+use Rattle.lif_model.specs.Parts.{Part}
+use Rattle.lif_plan.specs.declared.batches.PlannedFile.{PlannedFile}
+use Rattle.lif_plan.specs.Batches.{PlansBatch, file_of}
+use Rattle.lif_dir.specs.Changes.{slots_with}
 use Rattle.lif_volume.specs.declared.fault.VolumeFault.{VolumeFault}
 use Rattle.lif_volume.specs.Views.{VolumeView}
 use Rattle.lif_volume.specs.Answers.{keeps, store_answer, Answers}
-use Rattle.lif_volume.specs.Changing.{beside, file_when, changes_filed, file_runs, records_stored, carrying, carrying_on, IsWrittenOn, VolumeTurns, AddsAsAnswered}
+use Rattle.lif_volume.specs.Changing.{beside, file_when, changes_filed, runs_filed, file_runs, records_stored, carrying, carrying_on, IsWrittenOn, VolumeTurns, AddsAsAnswered}
 
 -- as many records as a file beside a directory with this header and a commit may read and write
 abbrev pub carry_room : ℕ → HeaderParts → ℕ
 carry_room n header = beside n (Some header) + most_commit_calls
+
+-- the same for the files of a batch and its commit
+abbrev pub batch_room : ℕ → HeaderParts → ℕ
+batch_room n header = beside n (Some header) + most_batch_calls
+
+-- These changes and files are planned for a batch of these parts, whose bytes these are, and it changes the directory.
+abbrev pub ChangesByParts : List Part → ℕ → HeaderParts → List Slot → List ℕ → List Change → List PlannedFile → Type 0
+ChangesByParts parts n header slots bytes changes files =
+    (later : List (List ℕ)) × PlansBatch n parts header (map slot_bytes slots) later changes (map (file_of bytes) files) false
+
+-- ---- files, one after the other
+
+-- how many records they have
+abbrev pub records_filed : List NewFile → ℕ
+records_filed [] = 0
+records_filed (file ∷ files) = file_length file.bytes + records_filed files
+
+-- a file lies within so many records
+abbrev pub EndsWithin : ℕ → NewFile → Type 0
+EndsWithin n file = file.start + file_length file.bytes ≤ n
+
+-- Tape x is tape t with the first of them, or the next one is being written then.
+pub data IsPartlyFiled (files : List NewFile) (t x : Tape) : Type 0 where
+  some_stand : (done rest : List NewFile) → files ≡ done ++ rest → x ≡ with_files done t → IsPartlyFiled files t x
+  next_begun : (done : List NewFile) (next : NewFile) (rest : List NewFile) → files ≡ done ++ next ∷ rest
+      → PartlyReplaced next.start (file_records next.bytes) (with_files done t) x → IsPartlyFiled files t x
+
+-- they are written, each by one run
+pub record WritesFiles {S T : Type 0} (files : List NewFile) (v w : RecordsView S) (answer : Result T Trouble) : Type 0 where
+  pub goes_on : GoesOn (records_filed files) v w answer
+  pub stops : (t : Tape) → v.tape ≡ Some t → RunLeaves v w (IsPartlyFiled files t)
+  pub after : (t : Tape) → v.tape ≡ Some t → (u : Tape) × (w.tape ≡ Some u) × IsPartlyFiled files t u
+  pub done : OnOk answer ((t : Tape) → v.tape ≡ Some t → w.tape ≡ Some (with_files files t))
+  pub added : OnOk answer ((list : List Transfer) → v.transferred list → w.transferred (list ++ runs_filed files))
 
 -- ---- the file
 
@@ -56,26 +96,33 @@ pub record PutsFile {S T : Type 0} (command : VolumeCommand) (v w : RecordsView 
   pub goes_on : GoesOn (file_count command) v w answer
   pub on_tape : (t : Tape) → v.tape ≡ Some t → PutsFileOn v.record_count command v w t answer
 
--- ---- the file and the commit of a change, of a directory that begins at record `start`
+-- ---- the slots in memory
+
+-- with these changes, one after the other
+abbrev pub slots_with_all : List Change → List Slot → List Slot
+slots_with_all [] slots = slots
+slots_with_all (change ∷ changes) slots = slots_with_all changes (slots_with change slots)
+
+-- ---- the files and the commit of slots, of a directory that begins at record `start`
 
 -- the records that change on a tape
-abbrev pub changes_made : ℕ → Change → Tape → Changes
-changes_made start change t = changes_by start (change_writes start change t) t
+abbrev pub changes_made : ℕ → (Tape → SlotWrites) → Tape → Changes
+changes_made start slots t = changes_by start (slots t) t
 
-pub record PutsOn {S T : Type 0} (n : ℕ) (command : VolumeCommand) (start : ℕ) (change : Change) (v w : RecordsView S) (t : Tape) (answer : Result T Trouble) : Type 0 where
+pub record PutsOn {S T : Type 0} (n : ℕ) (command : VolumeCommand) (version : Version) (start : ℕ) (slots : Tape → SlotWrites) (v w : RecordsView S) (t : Tape) (answer : Result T Trouble) : Type 0 where
   pub stops : VolumeTurns n command v w t
-  -- behind an Ok the change stands on the tape with the file
+  -- behind an Ok the slots stand on the tape with the files
   pub done : OnOk answer ((u : Tape) × (w.tape ≡ Some u)
-      × IsCommitted change.version (changes_made start change (file_when n command (volume_of t) t)) (file_when n command (volume_of t) t) u)
+      × IsCommitted version (changes_made start slots (file_when n command (volume_of t) t)) (file_when n command (volume_of t) t) u)
   pub added : OnOk answer ((list : List Transfer) → v.transferred list → (more : List Transfer)
       × w.transferred (list ++ (file_runs n command (volume_of t) ++ more))
-      × (writes_among more ≡ commit_writes change.version n (has_open_gate (file_when n command (volume_of t) t)) (changes_made start change (file_when n command (volume_of t) t)))
+      × (writes_among more ≡ commit_writes version n (has_open_gate (file_when n command (volume_of t) t)) (changes_made start slots (file_when n command (volume_of t) t)))
       × AreSingle more)
 
 -- in so many calls of the commit
-pub record Puts {S T : Type 0} (calls : ℕ) (command : VolumeCommand) (start : ℕ) (change : Change) (v w : RecordsView S) (answer : Result T Trouble) : Type 0 where
+pub record Puts {S T : Type 0} (calls : ℕ) (command : VolumeCommand) (version : Version) (start : ℕ) (slots : Tape → SlotWrites) (v w : RecordsView S) (answer : Result T Trouble) : Type 0 where
   pub goes_on : GoesOn (file_count command + calls) v w answer
-  pub on_tape : (t : Tape) → v.tape ≡ Some t → PutsOn v.record_count command start change v w t answer
+  pub on_tape : (t : Tape) → v.tape ≡ Some t → PutsOn v.record_count command version start slots v w t answer
 
 -- ---- the whole
 

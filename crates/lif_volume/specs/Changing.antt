@@ -19,7 +19,7 @@ use Rattle.il_ports.specs.Stores.{RecordsView, RunLeaves}
 use Rattle.il_ports.specs.Transfers.{WritesOnly, GoesOnBy}
 use Rattle.lif_redo.specs.Writing.{writes_among, AreSingle}
 use Rattle.lif_redo.specs.Atomic.{commit_calls}
-use Rattle.lif_commit.specs.Staged.{past_end, most_commit_calls}
+use Rattle.lif_commit.specs.Staged.{past_end, most_commit_calls, most_batch_calls}
 use Rattle.lif_model.specs.declared.refusal.Refusal.{Refusal}
 use Rattle.lif_model.specs.declared.refusal.Refusal.TheVariants as refusal
 use Rattle.lif_plan.specs.Plans.{version_for}
@@ -90,11 +90,15 @@ keeps_behind_command command was answer = keeps answer
 
 -- ---- how many records are read and written
 
--- in a commit at most, with the records that are read for it; none where the command is refused
+-- so many, and none where the command is refused
+abbrev pub unless_refused : {T : Type 0} → ℕ → Result T VolumeFault → ℕ
+unless_refused calls (Ok _) = calls
+unless_refused calls (Err (Refused why)) = 0
+unless_refused calls (Err (Troubled trouble)) = calls
+
+-- in a commit at most, with the records that are read for it
 abbrev pub committing : {T : Type 0} → Result T VolumeFault → ℕ
-committing (Err (Refused why)) = 0
-committing (Ok _) = most_commit_calls
-committing (Err (Troubled trouble)) = most_commit_calls
+committing answer = unless_refused most_commit_calls answer
 
 -- those of the directory past the one with the end; `format` reads none
 abbrev pub past_on : VolumeCommand → Tape → Changes → ℕ
@@ -110,20 +114,14 @@ committing_on command t (c ∷ cs) (Err (Troubled trouble)) =
     past_on command t (c ∷ cs) + commit_calls (has_open_gate t) (length (c ∷ cs))
 
 -- A file lies behind the directory and below the redo file: beside a directory with this header,
--- or any, it has at most so many records.
+-- or any, it has at most so many records, and so have the files of a batch together.
 abbrev pub beside : ℕ → Option HeaderParts → ℕ
 beside n (Some header) = n - (header.length + 5)
 beside n None = n - 5
 
--- on a medium of n records the file's; none where the command is refused
+-- on a medium of n records the file's
 abbrev pub filing : {T : Type 0} → ℕ → Option HeaderParts → List ℕ → Result T VolumeFault → ℕ
-filing n kept bytes (Ok _) = min (beside n kept) (file_length bytes)
-filing n kept bytes (Err (Refused why)) = 0
-filing n kept bytes (Err (Troubled trouble)) = min (beside n kept) (file_length bytes)
-
--- in a commit of a batch at most: it changes 32 records of a directory
-abbrev pub most_batch_calls : ℕ
-most_batch_calls = 100
+filing n kept bytes answer = unless_refused (min (beside n kept) (file_length bytes)) answer
 
 -- the records of the files that a batch stores
 abbrev pub records_stored : List Part → ℕ
@@ -132,38 +130,48 @@ records_stored (part.Store name kind implementation bytes ∷ parts) = file_leng
 records_stored (part.Rename old new ∷ parts) = records_stored parts
 records_stored (part.Purge name ∷ parts) = records_stored parts
 
--- the files of a batch and its commit; none where it is refused
-abbrev pub batching : {T : Type 0} → List Part → Result T VolumeFault → ℕ
-batching parts (Ok _) = records_stored parts + most_batch_calls
-batching parts (Err (Refused why)) = 0
-batching parts (Err (Troubled trouble)) = records_stored parts + most_batch_calls
+-- on a medium of n records
+abbrev pub batch_filing : {T : Type 0} → ℕ → Option HeaderParts → List Part → Result T VolumeFault → ℕ
+batch_filing n kept parts answer = unless_refused (min (beside n kept) (records_stored parts)) answer
+
+-- with its commit
+abbrev pub batching : {T : Type 0} → ℕ → Option HeaderParts → List Part → Result T VolumeFault → ℕ
+batching n kept parts answer = batch_filing n kept parts answer + unless_refused most_batch_calls answer
 
 -- beside a directory with this header, or any
 abbrev pub carrying : {T : Type 0} → ℕ → VolumeCommand → Option HeaderParts → Result T VolumeFault → ℕ
 carrying n (Store name kind implementation bytes) kept answer = filing n kept bytes answer + committing answer
-carrying n (Batch parts) kept answer = batching parts answer
+carrying n (Batch parts) kept answer = batching n kept parts answer
 carrying n command kept answer = committing answer
 
 -- on a settled tape that is told, where these records change
 abbrev pub carrying_on : {T : Type 0} → ℕ → VolumeCommand → Tape → Changes → Result T VolumeFault → ℕ
 carrying_on n (Store name kind implementation bytes) t changes answer =
     filing n None bytes answer + committing_on (Store name kind implementation bytes) t changes answer
-carrying_on n (Batch parts) t changes answer = records_stored parts + committing_on (Batch parts) t changes answer
+carrying_on n (Batch parts) t changes answer = batch_filing n None parts answer + committing_on (Batch parts) t changes answer
 carrying_on n command t changes answer = committing_on command t changes answer
 
--- So many with those of mounting; where the directory was kept, those of a file beside any. Where a
--- directory that is read lies below the redo file, they are never more than n + 76.
+-- So many with those of mounting, where it is so many beside a directory, and at most so many in all; where the directory
+-- was kept, those beside any.
+abbrev pub with_mounting : {T : Type 0} → ℕ → (old new : Option HeaderParts) → (Option HeaderParts → ℕ) → ℕ → Result T VolumeFault → ℕ
+with_mounting n (Some old) new calls most answer = calls None
+with_mounting n None (Some new) calls most answer = mounting n None (Some new) + calls (Some new)
+with_mounting n None None calls most (Err (Refused why)) = mounting n None None
+with_mounting n None None calls most answer = most
+
+-- Where a directory that is read lies below the redo file, a store takes never more than n + 76,
 abbrev pub storing : {T : Type 0} → ℕ → (old new : Option HeaderParts) → List ℕ → Result T VolumeFault → ℕ
-storing n (Some old) new bytes answer = filing n None bytes answer + committing answer
-storing n None (Some new) bytes answer = mounting n None (Some new) + (filing n (Some new) bytes answer + committing answer)
-storing n None None bytes (Err (Refused why)) = mounting n None None
-storing n None None bytes answer = n + 76
+storing n old new bytes answer = with_mounting n old new (λ kept. filing n kept bytes answer + committing answer) (n + 76) answer
+
+-- and a batch never more than n + 138.
+abbrev pub batching_all : {T : Type 0} → ℕ → (old new : Option HeaderParts) → List Part → Result T VolumeFault → ℕ
+batching_all n old new parts answer = with_mounting n old new (λ kept. batching n kept parts answer) (n + 138) answer
 
 -- of every command with those of mounting; `format` mounts a tape that may be none of a legal volume, whose directory
 -- has any length
 abbrev pub changing : {T : Type 0} → ℕ → VolumeCommand → (old new : Option HeaderParts) → Result T VolumeFault → ℕ
 changing n (Store name kind implementation bytes) old new answer = storing n old new bytes answer
-changing n (Batch parts) old new answer = mounting n old new + batching parts answer
+changing n (Batch parts) old new answer = batching_all n old new parts answer
 changing n (Format label slots) old new answer = mounting n old None + committing answer
 changing n command old new answer = mounting n old new + committing answer
 
@@ -195,9 +203,13 @@ commit_when n command volume t = writes_if_any (version_for n command volume) n
 abbrev pub run_of : ℕ → List ℕ → Transfer
 run_of first bytes = record { writes = true; first = first; bytes = filled bytes }
 
--- of each file that the command writes one, from its start on
+-- of each file one, from its start on
+abbrev pub runs_filed : List NewFile → List Transfer
+runs_filed files = map (λ file. run_of file.start file.bytes) files
+
+-- those that the command writes
 abbrev pub file_runs : ℕ → VolumeCommand → Option Volume → List Transfer
-file_runs n command volume = map (λ file. run_of file.start file.bytes) (files_when n command volume)
+file_runs n command volume = runs_filed (files_when n command volume)
 
 -- The list goes on by transfers that write only records that have P, then by the file at its place, and then by reads
 -- and writes of one record each, of which the writes are exactly those of the commit.

@@ -1,5 +1,5 @@
 -- What the commands that read a volume do.
-use Rattle.std.specs.Prelude.{◌≡◌, ◌≤◌, ◌<◌, ◌+◌, ◌*◌, ◌++◌, if◌then◌else◌, ℕ, List, [], ◌∷◌, false, length, map, take, Option, option_map, Some, None, Result, Ok, Err, OnOk, IfSome, is_some, unwrap_or}
+use Rattle.std.specs.Prelude.{◌≡◌, ◌≤◌, ◌<◌, ◌+◌, ◌*◌, ◌++◌, if◌then◌else◌, ℕ, List, [], ◌∷◌, false, length, map, max, take, Option, option_map, Some, None, Result, Ok, Err, OnOk, IfSome, is_some, unwrap_or}
 use Rattle.std.specs.FinMap.{get}
 use Rattle.lif_model.specs.Tape.{Tape, record_at}
 use Rattle.lif_model.specs.Gate.{has_open_gate}
@@ -65,9 +65,18 @@ fetching_on t name old answer = mounting_on t old + reading (slots_of (settled t
 
 -- ---- every command
 
+-- A batch may ask for more on a medium of fewer than 98 records: for those of mounting, of the files beside the directory,
+-- and of its commit.
+abbrev pub batch_calls_needed : ℕ → ℕ
+batch_calls_needed n = max (calls_needed n) (n + 138)
+
 -- the store is ready for a command of a volume
 abbrev pub IsReadyFor : {R S : Type 0} → (R → RecordsView S) → VolumeView R → Type 0
 IsReadyFor view volume = IsReady (calls_needed (view volume.records).record_count) (view volume.records)
+
+-- and for a batch
+abbrev pub IsReadyForBatch : {R S : Type 0} → (R → RecordsView S) → VolumeView R → Type 0
+IsReadyForBatch view volume = IsReady (batch_calls_needed (view volume.records).record_count) (view volume.records)
 
 -- A command that changes no volume. It reads and writes so many records at most, and on a told tape
 -- so many; where the store did not fail the tape is the settled one; and the directory is kept

@@ -61,7 +61,7 @@ pub record Reads {R S T : Type 0} (command : VolumeCommand) (view : R → Record
 
 -- ---- a command that changes the volume
 
--- It settles the tape, writes the file of a store, and makes one commit at most. A stop at any moment leaves the volume
+-- It settles the tape, writes the file of a store or those of a batch, and makes one commit at most. A stop at any moment leaves the volume
 -- before or the one behind, where the tape is not foreign-gated, and so does a trouble.
 pub record Alters {R S T : Type 0} (command : VolumeCommand) (view : R → RecordsView S) (old new : VolumeView R) (answer : Result T VolumeFault) : Type 0 where
   pub goes_on : GoesOn (changing (view old.records).record_count command old.kept new.kept answer)

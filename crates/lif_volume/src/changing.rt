@@ -6,7 +6,8 @@ ghost use Rattle.lif_model.specs.Header.{HeaderParts};
 ghost use Rattle.il_ports.specs.Stores.{IsReady};
 ghost use Rattle.lif_dir.specs.Entries.{name_bytes, slot_bytes};
 ghost use Rattle.lif_dir.specs.Names.{made_name};
-ghost use Rattle.lif_commit.specs.Staged.{EndsWith, count_with, calls_of};
+ghost use Rattle.lif_dir.specs.Changes.{change_writes, count_with};
+ghost use Rattle.lif_commit.specs.Staged.{EndsWith, calls_of};
 ghost use Rattle.lif_plan.specs.Refusals.{IsAmong};
 ghost use Rattle.lif_plan.specs.Plans.{IsPlan, MakesChange};
 ghost use Rattle.lif_volume.specs.Views.{IsOpen};
@@ -167,8 +168,8 @@ impl<R: Records> Volume<R> {
             → MakesChange (R.view (seen self.old).records).record_count command header.now
             (map slot_bytes (seen self.old).slots) change.now
             → Puts (calls_of header.now.start (length (seen self.old).slots) (seen self.old).is_open change.now)
-            command header.now.start change.now (R.view (seen self.old).records)
-            (R.view (seen self.new).records) result }
+            command change.now.version header.now.start (change_writes header.now.start change.now)
+            (R.view (seen self.old).records) (R.view (seen self.new).records) result }
     {
         self.put_file(change, file)?;
         self.staged.commit(

@@ -4,6 +4,7 @@
 //! legal. What it read is kept from one command to the next.
 #![tactic(auto)]
 
+mod batching;
 mod changing;
 mod fault;
 mod formatting;

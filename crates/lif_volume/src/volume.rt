@@ -5,7 +5,7 @@ use lif_commit::Staged;
 use lif_dir::{Name, SlotTable};
 use lif_header::Header;
 use lif_model::{ENTRIES, RECORD};
-use lif_plan::Directory;
+use lif_plan::{BatchPlan, Directory};
 use lif_redo::settle_gate;
 use std::alloc::Global;
 
@@ -43,6 +43,7 @@ pub struct Volume<R> {
     pub(crate) records: R,
     pub(crate) directory: Directory,
     pub(crate) staged: Staged,
+    pub(crate) plan: BatchPlan,
     pub(crate) kept: Option<Header>,
     /// Whether the gate of the redo file reads open.
     pub(crate) is_open: bool,
@@ -76,11 +77,16 @@ impl<R: Records> Volume<R> {
         ensures handed_back { IfErr result (λ kept. kept.records ≡ records) }
     {
         let room = ENTRIES * (usize::from(records.size()) - BESIDE);
-        match (Directory::new(alloc, room), Staged::new(alloc)) {
-            (Ok(directory), Ok(staged)) => Ok(Volume {
+        match (
+            Directory::new(alloc, room),
+            Staged::new(alloc),
+            BatchPlan::new(alloc),
+        ) {
+            (Ok(directory), Ok(staged), Ok(plan)) => Ok(Volume {
                 records,
                 directory,
                 staged,
+                plan,
                 kept: None,
                 is_open: false,
             }),

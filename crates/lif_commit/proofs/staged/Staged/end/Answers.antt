@@ -4,7 +4,7 @@ use Rattle.lif_model.specs.Directory.{entry_at}
 use Rattle.lif_model.specs.Made.{with_type}
 use Rattle.lif_model.specs.Redo.{Changes}
 use Rattle.lif_model.specs.Writing.{with_entry, slot_record, entry_from}
-use Rattle.lif_commit.proofs.Staging.{past_set, value_at, put_brought, brought_record, others_leave}
+use Rattle.lif_commit.proofs.Staging.{past_set, value_at, put_brought, brought_record, before_leave}
 use Rattle.lif_commit.proofs.staged.Staged.end.Goals as goal
 
 pub returns-clause-staged : goal.returns-clause-staged
@@ -20,7 +20,7 @@ returns-clause-staged g c = λ writes staged others.
     within place mid
     (set mid place (c.index_mut.result.now.0, c.end_entry.new.bytes)) ended c.in_ok-place.ensures.found
     (λ t told. ap (λ (bytes : List ℕ). with_type 0xFFFF (entry_at bytes (c.args.slot % 8))) (brought_record c.args.header.now.start c.args.slot view.tape writes (λ x. with_type 0xFFFF (entry_from x c.args.header.now.start c.args.slot)) c.args.self.now.changes.items staged within place mid c.in_ok-place.ensures.found t told)
-    ∙ ap (with_type 0xFFFF) (others_leave c.args.header.now.start view.record_count c.args.slot (writes t) t (shape t told) c.requires.within (others t)))
+    ∙ ap (with_type 0xFFFF) (before_leave c.args.header.now.start view.record_count c.args.slot (writes t) t (shape t told) c.requires.within (others t told)))
     (ap (λ (bytes : List ℕ). set mid place (c.index_mut.result.now.0, bytes)) c.end_entry.ensures
     ∙ (λ i. set mid place ((value i).0, with_entry (value i).1 (c.args.slot % 8) (with_type 0xFFFF (entry_at (value i).1 (c.args.slot % 8))))))
 

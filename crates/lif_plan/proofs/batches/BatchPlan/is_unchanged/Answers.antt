@@ -1,7 +1,6 @@
 use Rattle.std.proofs.Common.{◌≡◌, ◌==◌, ◌&&◌, ◌∙◌, Bool, true, length, map, ap, sym, arith}
 use Rattle.std.specs.List.{list_all}
 use Rattle.std.proofs.lemmas.Bool.{eq-eqb}
-use Rattle.std.proofs.lemmas.List.{length-map}
 use Rattle.lif_dir.specs.Entries.{slot_bytes}
 use Rattle.lif_plan.specs.Batches.{is_as_before}
 use Rattle.lif_plan.proofs.Remembered.{unchanged_is}
@@ -9,7 +8,7 @@ use Rattle.lif_plan.proofs.batches.BatchPlan.is_unchanged.Goals as goal
 
 pub returns-then-len-self : goal.returns-then-len-self
 returns-then-len-self c = λ slots long is.
-    let later = map slot_bytes c.args.table.now.slots in
+    let later = c.args.table.now.slots in
     let befores = c.args.self.now.befores.items in
-    let as_many : (length later == length slots) ≡ true = eq-eqb (length later) (length slots) (omega (arith, long, c.if-len-self.true, c.len.ensures.count, length-map c.args.table.now.slots slot_bytes)) in
-    c.hold_still.ensures ∙ sym (ap (λ (b : Bool). b && list_all (is_as_before later) befores) as_many) ∙ unchanged_is slots later befores is
+    let as_many : (length later == length slots) ≡ true = eq-eqb (length later) (length slots) (omega (arith, long, c.if-len-self.true, c.len.ensures.count)) in
+    c.hold_still.ensures ∙ sym (ap (λ (b : Bool). b && list_all (is_as_before (map slot_bytes later)) befores) as_many) ∙ unchanged_is slots later befores is

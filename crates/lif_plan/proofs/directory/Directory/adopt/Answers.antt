@@ -58,7 +58,7 @@ returns-clause-plan c =
     let capacity : 8 * c.from-capacity.result ≡ 8 * c.args.header.now.length = omega (arith, c.from-capacity.ensures, c.length.ensures) in
     let ended : nat_lt (k + 1) (8 * c.from-capacity.result) ≡ nat_lt (suc k) (8 * c.args.header.now.length) = λ i. nat_lt (next i) (capacity i) in
     makes _ tt
-    (record { place = omega (arith, spot); within = omega (arith, spot, room); kind = c.redo_entry.ensures.kind; next = tt; end_within = λ on. ltb-true (suc k) (8 * c.args.header.now.length) (sym ended ∙ on); end_there = λ more room. ended ∙ lt-ltb (suc k) (8 * c.args.header.now.length) room }) tt
+    (record { place = omega (arith, spot); one = omega (arith, spot); within = omega (arith, spot, room); kind = c.redo_entry.ensures.kind; next = tt; end_within = λ on. ltb-true (suc k) (8 * c.args.header.now.length) (sym ended ∙ on); end_past = λ on. omega (arith, spot); end_there = λ more room. ended ∙ lt-ltb (suc k) (8 * c.args.header.now.length) room }) tt
     (λ v is. simp (
       off,
       has,

@@ -1,13 +1,15 @@
-use Rattle.std.proofs.Common.{◌≡◌, ◌++◌, ◌∷◌, [], ◌∙◌, ℕ, List, sym, subst, map, arith}
-use Rattle.std.specs.Prelude.{Option, Ok}
+use Rattle.std.proofs.Common.{◌≡◌, ◌++◌, ◌∷◌, [], ◌∙◌, ℕ, List, length, sym, subst, map, arith}
+use Rattle.std.specs.Prelude.{All, Option, Ok}
+use Rattle.std.proofs.lemmas.List.{length-map}
 use Rattle.lif_dir.specs.declared.change.Change.{Change}
-use Rattle.lif_dir.specs.Changes.{bytes_with}
+use Rattle.lif_dir.specs.declared.entries.Slot.{Slot}
+use Rattle.lif_dir.specs.Changes.{slots_with}
 use Rattle.lif_dir.specs.Entries.{slot_bytes}
 use Rattle.lif_dir.specs.Batches.{part_of}
 use Rattle.lif_dir.proofs.Changing.{changed_bytes}
 use Rattle.lif_plan.specs.declared.batches.Before.{Before}
 use Rattle.lif_plan.specs.Parts.{LeavesAll, purged_at, MakesPart, IsPartPlan}
-use Rattle.lif_plan.specs.Batches.{file_of, file_at, Remembers}
+use Rattle.lif_plan.specs.Batches.{file_of, file_at, IsFileWithin, Remembers}
 use Rattle.lif_plan.proofs.BatchPlans.{so_far_same, so_far_more, so_far_is}
 use Rattle.lif_plan.proofs.Remembered.{change_keeps}
 use Rattle.lif_plan.proofs.directory.Directory.take_part.Goals as goal
@@ -45,14 +47,19 @@ returns-clause-takes c = λ slots parts so_far.
 
 pub returns-clause-remembers : goal.returns-clause-remembers
 returns-clause-remembers c = λ slots long is.
-    let later = map slot_bytes c.args.self.now.table.slots in
+    let later = c.args.self.now.table.slots in
     let change = c.in-Some.change in
     let befores : List Before = c.remember-2.new.self.befores.items in
     let first = c.remember.ensures.remembered slots long is in
     let second = c.remember-2.ensures.remembered slots (long ∙ sym c.remember.ensures.count) first in
-    let kept : Remembers slots (bytes_with change later) befores =
-    change_keeps slots later befores change second (plan c).fits.place
+    let kept : Remembers slots (slots_with change later) befores =
+    change_keeps slots later befores change second (omega (arith, (plan c).fits.place, length-map later slot_bytes))
     (λ lt. c.remember-2.ensures.others change.slot (c.remember.ensures.slot (omega (arith, lt, long))))
     (λ lt. c.remember-2.ensures.slot (omega (arith, lt, long, c.remember.ensures.count))) in
-    subst (λ (xs : List (List ℕ)). Remembers slots xs c.add.new.self.befores.items) (sym ((λ i. map slot_bytes (c.change.ensures.changed i).slots) ∙ changed_bytes change c.args.self.now.table.slots))
-    (subst (λ (bs : List Before). Remembers slots (bytes_with change later) bs) (sym (λ i. (c.add.ensures.befores i).items)) kept)
+    subst (λ (xs : List Slot). Remembers slots xs c.add.new.self.befores.items) (sym (λ i. (c.change.ensures.changed i).slots))
+    (subst (λ (bs : List Before). Remembers slots (slots_with change later) bs) (sym (λ i. (c.add.ensures.befores i).items)) kept)
+
+pub returns-clause-within : goal.returns-clause-within
+returns-clause-within c = λ all.
+    let count = length c.args.bytes.now in
+    c.add.ensures.within count c.requires.part (subst (All (IsFileWithin count)) (sym (λ i. ((c.remember-2.ensures.files ∙ c.remember.ensures.files) i).items)) all)

@@ -1,5 +1,6 @@
 use Rattle.std.proofs.Common.{length, ◌≡◌, [], ◌∙◌, ℕ, suc, List, ap, sym, subst, map, take, drop, get_or, refl, arith, rules}
-use Rattle.std.specs.Prelude.{Err}
+use Rattle.std.specs.Prelude.{All, Err}
+use Rattle.std.proofs.lemmas.List.Elements.{All-nil}
 use Rattle.std.proofs.lemmas.List.{length-map, take_all}
 use Rattle.lif_model.specs.Parts as model
 use Rattle.lif_dir.specs.declared.batch.Part.{Part}
@@ -8,7 +9,7 @@ use Rattle.lif_dir.specs.Entries.{slot_bytes}
 use Rattle.lif_dir.specs.Batches.{part_of, parts_of}
 use Rattle.lif_model.specs.Apply.{Batch}
 use Rattle.lif_plan.specs.Plans.{RefusesAs}
-use Rattle.lif_plan.specs.Batches.{file_of, SoFar}
+use Rattle.lif_plan.specs.Batches.{file_of, IsFileWithin, SoFar}
 use Rattle.lif_plan.proofs.BatchPlans.{a_volume, of_volume, so_far_none, so_far_is, batch_refused, parts_split, parts_next}
 use Rattle.lif_plan.proofs.Remembered.{remembers_none}
 use Rattle.lif_plan.proofs.directory.Directory.take_parts.Goals as goal
@@ -22,7 +23,8 @@ loop-k-init c =
     let slots = map slot_bytes c.args.self.now.table.slots in
     record {
       so_far = so_far_is refl (sym c.requires.changes) (sym (ap (map (file_of c.bytes-bytes.result.now)) c.requires.files)) (sym c.requires.barred) (so_far_none c.args.size c.args.header.now slots c.requires.two);
-      remembers = remembers_none slots c.args.plan.now.befores.items c.requires.befores;
+      remembers = remembers_none c.args.self.now.table.slots c.args.plan.now.befores.items c.requires.befores;
+      within = subst (All (IsFileWithin (length c.bytes-bytes.result.now))) (sym c.requires.files) (All-nil (IsFileWithin (length c.bytes-bytes.result.now)));
       count = refl;
       room = refl;
       changes = search rules;
@@ -59,7 +61,8 @@ loop-k-preserved c =
       so_far = subst (λ (ps : List model.Part). SoFar c.args.size c.args.header.now slots ps (map slot_bytes c.take_part.new.self.table.slots) c.take_part.new.plan.changes.items
           (map (file_of c.bytes-bytes.result.now) c.take_part.new.plan.files.items) c.take_part.new.plan.barred.items) (parts_next f parts k no_part c.loop-k-test.true)
           (c.in_ok-take_part.ensures.takes slots (map f (take k parts)) c.loop-k.invariant.so_far);
-      remembers = c.take_part.ensures.remembers slots (omega (arith, length-map c.args.self.now.table.slots slot_bytes, c.loop-k.invariant.count, c.requires.count)) c.loop-k.invariant.remembers;
+      remembers = c.take_part.ensures.remembers c.args.self.now.table.slots (omega (arith, c.loop-k.invariant.count, c.requires.count)) c.loop-k.invariant.remembers;
+      within = c.take_part.ensures.within c.loop-k.invariant.within;
       count = c.take_part.ensures.count ∙ c.loop-k.invariant.count;
       room = c.take_part.ensures.room ∙ c.loop-k.invariant.room;
       changes = omega (arith, c.take_part.ensures.few_changes, c.loop-k.invariant.changes);

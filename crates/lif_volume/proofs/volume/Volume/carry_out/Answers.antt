@@ -8,7 +8,7 @@ use Rattle.lif_plan.specs.Plans.{IsPlan, ChangesNothing, MakesChange}
 use Rattle.lif_volume.specs.Views.{VolumeView}
 use Rattle.lif_volume.specs.Seen.{seen}
 use Rattle.lif_volume.specs.Answers.{refused}
-use Rattle.lif_volume.proofs.Carrying.{readable, refuses, changes_nothing, nothing_is_no_store, carry_fails, carries, carries_open}
+use Rattle.lif_volume.proofs.Carrying.{readable, refuses, changes_nothing, plan_leaves, of_change, carry_fails, carries, change_opens}
 use Rattle.lif_volume.proofs.volume.Volume.carry_out.Goals as goal
 
 pub change-requires : goal.change-requires
@@ -34,8 +34,7 @@ returns-in_default-clause-carried g c = λ command has plan.
     let none : c.in_ok-change.field-0 ≡ None = search rules in
     let nothing : ChangesNothing (g.R.Records.view c.args.self.now.records).record_count command c.args.header.now (map slot_bytes c.args.self.now.directory.table.slots) =
     subst (IsPlan (g.R.Records.view c.args.self.now.records).record_count command c.args.header.now (map slot_bytes c.args.self.now.directory.table.slots)) (c.in_ok-change.was ∙ ap Ok none) plan in
-    changes_nothing g.R.Records.view (seen c.args.self.now) c.args.header.now c.requires.open c.requires.kept (g.met.R.Records.is_store c.args.self.now.records) command _ c.requires.ready nothing
-    (nothing_is_no_store g.R.Records.view (seen c.args.self.now) c.args.header.now c.requires.open c.requires.kept (g.met.R.Records.is_store c.args.self.now.records) command _ has nothing)
+    changes_nothing g.R.Records.view (seen c.args.self.now) c.args.header.now c.requires.open c.requires.kept (g.met.R.Records.is_store c.args.self.now.records) command (plan_leaves g.R.Records.view (seen c.args.self.now) c.args.header.now c.requires.open c.requires.kept (g.met.R.Records.is_store c.args.self.now.records) command _ has nothing) _ c.requires.ready
 
 pub returns-in-Ok-clause-open : goal.returns-in-Ok-clause-open
 returns-in-Ok-clause-open g c =
@@ -44,7 +43,7 @@ returns-in-Ok-clause-open g c =
     subst (IsPlan (g.R.Records.view c.args.self.now.records).record_count p.0 c.args.header.now (map slot_bytes c.args.self.now.directory.table.slots)) (c.in_ok-change.was ∙ ap Ok c.in-Some.is) p.2 in
     let still = c.put.ensures.still in
     let y : VolumeView g.row.R.Denot = record { records = c.put.new.self.records; kept = c.put.new.self.kept; is_open = false; last = c.put.new.self.staged.last; slots = c.change.new.self.table.slots; room = c.change.new.self.table.room } in
-    carries_open g.R.Records.view (seen c.args.self.now) c.args.header.now c.requires.open c.requires.kept (g.met.R.Records.is_store c.args.self.now.records) p.0 c.in-Some.change plan y
+    change_opens g.R.Records.view (seen c.args.self.now) c.args.header.now c.requires.open c.requires.kept (g.met.R.Records.is_store c.args.self.now.records) p.0 c.in-Some.change plan y
     (c.in-Ok.ensures.put p.0 p.1 plan) (ap (λ (v : VolumeView g.row.R.Denot). v.kept) still)
     (ap (λ (t : Table). t.slots) c.change.ensures.changed ∙ ap (λ (v : VolumeView g.row.R.Denot). slots_with c.in-Some.change v.slots) still) c.change.ensures.told
     (ap (λ (t : Table). t.room) c.change.ensures.changed ∙ ap (λ (v : VolumeView g.row.R.Denot). v.room) still) refl c.in-Ok.ensures.end
@@ -54,7 +53,7 @@ returns-in-Ok-clause-carried g c = λ command has planned.
     let plan : MakesChange (g.R.Records.view c.args.self.now.records).record_count command c.args.header.now (map slot_bytes c.args.self.now.directory.table.slots) c.in-Some.change =
     subst (IsPlan (g.R.Records.view c.args.self.now.records).record_count command c.args.header.now (map slot_bytes c.args.self.now.directory.table.slots)) (c.in_ok-change.was ∙ ap Ok c.in-Some.is) planned in
     let y : VolumeView g.row.R.Denot = record { records = c.put.new.self.records; kept = c.put.new.self.kept; is_open = false; last = c.put.new.self.staged.last; slots = c.change.new.self.table.slots; room = c.change.new.self.table.room } in
-    carries g.R.Records.view (seen c.args.self.now) c.args.header.now c.requires.open c.requires.kept (g.met.R.Records.is_store c.args.self.now.records) command c.in-Some.change plan y
+    carries g.R.Records.view (seen c.args.self.now) c.args.header.now c.requires.open c.requires.kept (g.met.R.Records.is_store c.args.self.now.records) command (of_change g.R.Records.view (seen c.args.self.now) c.args.header.now c.requires.open c.requires.kept (g.met.R.Records.is_store c.args.self.now.records) command c.in-Some.change plan) y
     (c.in-Ok.ensures.put command has plan) (ap (λ (v : VolumeView g.row.R.Denot). v.kept) c.put.ensures.still)
 
 pub returns-in-Err-clause-carried : goal.returns-in-Err-clause-carried
@@ -62,5 +61,5 @@ returns-in-Err-clause-carried g c = λ command has planned.
     let plan : MakesChange (g.R.Records.view c.args.self.now.records).record_count command c.args.header.now (map slot_bytes c.args.self.now.directory.table.slots) c.in-Some.change =
     subst (IsPlan (g.R.Records.view c.args.self.now.records).record_count command c.args.header.now (map slot_bytes c.args.self.now.directory.table.slots)) (c.in_ok-change.was ∙ ap Ok c.in-Some.is) planned in
     let y : VolumeView g.row.R.Denot = record { records = c.put.new.self.records; kept = None; is_open = c.put.new.self.is_open; last = c.put.new.self.staged.last; slots = c.put.new.self.directory.table.slots; room = c.put.new.self.directory.table.room } in
-    carry_fails g.R.Records.view (seen c.args.self.now) c.args.header.now c.requires.open c.requires.kept (g.met.R.Records.is_store c.args.self.now.records) command c.in-Some.change plan y c.in-Err.trouble
+    carry_fails g.R.Records.view (seen c.args.self.now) c.args.header.now c.requires.open c.requires.kept (g.met.R.Records.is_store c.args.self.now.records) command (of_change g.R.Records.view (seen c.args.self.now) c.args.header.now c.requires.open c.requires.kept (g.met.R.Records.is_store c.args.self.now.records) command c.in-Some.change plan) y c.in-Err.trouble
     (c.in-Err.ensures.put command has plan) refl
