@@ -13,4 +13,5 @@ mod EndExamples
 mod FetchExample
 mod ClearExamples
 mod GetExamples
+mod BatchExamples
 pub mod NoCommands

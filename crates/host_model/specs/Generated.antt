@@ -1,7 +1,7 @@
 -- The script that a run makes by itself, of a seed and a number of lines: this project's own.
 use Rattle.std.specs.Prelude.{ℕ, Bool, zero, suc, ◌+◌, ◌*◌, ◌/◌, ◌%◌, ◌==◌, nat_lt, if◌then◌else◌, List, [], ◌∷◌, ◌++◌, map, codes, Some}
 use Rattle.il_script.specs.Replies.{next}
-use Rattle.host_model.specs.Requests.{Item, items_in}
+use Rattle.host_model.specs.Requests.{Item, lone_items}
 use Rattle.host_model.specs.Replies.{bytes_text}
 
 -- ---- draws
@@ -59,6 +59,6 @@ abbrev pub generated_lines : ℕ → ℕ → List (List ℕ)
 generated_lines seed zero = []
 generated_lines seed (suc count) = codes "format GENTAP 64" ∷ more_lines seed count
 
--- what they ask for
+-- what they ask for: none begins a batch
 abbrev pub items_generated : ℕ → ℕ → List Item
-items_generated seed count = items_in (map Some (generated_lines seed count))
+items_generated seed count = lone_items (map Some (generated_lines seed count))

@@ -1,10 +1,12 @@
 -- What the lines of a script ask a host for.
-use Rattle.std.specs.Prelude.{ℕ, Bool, true, false, List, Option, Some, None, Result, Ok, Err, map, replicate}
-use Rattle.std.specs.List.{filter_map}
+use Rattle.std.specs.Prelude.{ℕ, ◌+◌, ◌++◌, ◌&&◌, if◌then◌else◌, nat_lt, nat_le, Bool, true, false, List, [], ◌∷◌, length, Option, Some, None, Result, Ok, Err, map, replicate}
+use Rattle.std.specs.List.{cons_option, filter_map}
 use Rattle.lif_text.specs.Cutting.{cut_lines, long_line}
 use Rattle.lif_text.specs.Format.{encode}
 use Rattle.lif_model.specs.Apply.{VolumeCommand}
 use Rattle.lif_model.specs.Apply as volume
+use Rattle.lif_model.specs.Parts.{Part, most_parts}
+use Rattle.lif_model.specs.Parts as part
 use Rattle.lif_dir.specs.Entries.{name_bytes}
 use Rattle.lif_dir.specs.Names.{made_name, label_bytes}
 use Rattle.il_script.specs.Commands.{Asked, reading_of}
@@ -47,6 +49,9 @@ request_of (command.Rename old new) bytes = OfVolume (volume.Rename (name_bytes 
 request_of (command.Purge name) bytes = OfVolume (volume.Purge (name_bytes name))
 request_of (command.Format label slots) bytes = OfVolume (volume.Format (label_bytes label) slots)
 request_of command.Adopt bytes = OfVolume volume.Adopt
+request_of command.Upgrade bytes = OfVolume volume.Upgrade
+request_of command.Begin bytes = OfVolume (volume.Batch [])
+request_of command.Commit bytes = OfVolume (volume.Batch [])
 request_of command.Devices bytes = Devices
 request_of command.Status bytes = Status
 request_of command.Poll bytes = Poll
@@ -65,28 +70,131 @@ abbrev pub unless_long : Option ℕ → Request → Item
 unless_long None request = Asks request
 unless_long (Some number) request = NoCommand code.NotText
 
--- a command as an item: where a line is too long for a text, the lines that are to be put are no text
+-- A command as an item, where no other line is: where a line is too long for a text, the lines that are to be put are no text; and
+-- there is no batch to be committed, nor is one that begins ever committed.
 abbrev pub item_for : Command → List ℕ → Item
 item_for (command.Put name) bytes = unless_long (long_line (cut_lines bytes)) (request_of (command.Put name) bytes)
+item_for command.Begin bytes = NoCommand code.BadLine
+item_for command.Commit bytes = NoCommand code.BadLine
 item_for command bytes = Asks (request_of command bytes)
 
--- a line that is skipped is no item
-abbrev pub item_of_reading : Result (Option Asked) LineFault → Option Item
-item_of_reading (Ok None) = None
-item_of_reading (Ok (Some asked)) = Some (item_for asked.command asked.bytes)
-item_of_reading (Err fault) = Some (NoCommand (fault_code fault))
+-- a reading by the code that refuses it
+abbrev pub coded : {X : Type 0} → Result X LineFault → Result X Code
+coded (Ok x) = Ok x
+coded (Err fault) = Err (fault_code fault)
 
--- a line that is too long is told as None, whatever it holds
+-- what a line asks for, or why it is no command; a line that is too long is told as None, whatever it holds
+abbrev pub reads : Option (List ℕ) → Result (Option Asked) Code
+reads None = Err code.LineTooLong
+reads (Some line) = coded (reading_of line)
+
+-- a line that is skipped is no item
+abbrev pub item_of_read : Result (Option Asked) Code → Option Item
+item_of_read (Ok None) = None
+item_of_read (Ok (Some asked)) = Some (item_for asked.command asked.bytes)
+item_of_read (Err why) = Some (NoCommand why)
+
 abbrev pub item_of : Option (List ℕ) → Option Item
-item_of None = Some (NoCommand code.LineTooLong)
-item_of (Some line) = item_of_reading (reading_of line)
+item_of line = item_of_read (reads line)
+
+-- the items of lines of which none begins a batch
+abbrev pub lone_items : List (Option (List ℕ)) → List Item
+lone_items lines = filter_map item_of lines
+
+-- ---- batches of a script
+
+-- What stands open behind some lines: no batch; one with these parts; or one that a line has spoilt, by the code that tells why.
+pub data Gathering : Type 0 where
+  Outside : Gathering
+  Within : List Part → Gathering
+  Spoilt : Code → Gathering
+
+-- the part that a command asks for, where it is one
+abbrev pub part_asked : Command → List ℕ → Option Part
+part_asked (command.Store name kind implementation) bytes = Some (part.Store (name_bytes (made_name name)) kind implementation bytes)
+part_asked (command.Rename old new) bytes = Some (part.Rename (name_bytes old) (name_bytes (made_name new)))
+part_asked (command.Purge name) bytes = Some (part.Purge (name_bytes name))
+part_asked command bytes = None
+
+-- how many bytes a part brings
+abbrev pub bytes_brought : Part → ℕ
+bytes_brought (part.Store name kind implementation bytes) = length bytes
+bytes_brought (part.Rename old new) = 0
+bytes_brought (part.Purge name) = 0
+
+abbrev pub all_brought : List Part → ℕ
+all_brought [] = 0
+all_brought (p ∷ parts) = bytes_brought p + all_brought parts
+
+-- a batch takes 31 parts, and as many bytes as the largest medium has
+abbrev pub has_room_for : List Part → Part → Bool
+has_room_for parts p = nat_lt (length parts) most_parts && nat_le (all_brought parts + bytes_brought p) 630784
+
+-- with a part more, where there is one and room for it
+abbrev pub with_part : List Part → Option Part → Gathering
+with_part parts None = Spoilt code.BadLine
+with_part parts (Some p) = if has_room_for parts p then Within (parts ++ p ∷ []) else Spoilt code.BatchTooLarge
+
+-- a command within a batch: `commit` ends it, and what is no part spoils it
+abbrev pub within_by : List Part → Command → List ℕ → Gathering
+within_by parts command.Commit bytes = Outside
+within_by parts command bytes = with_part parts (part_asked command bytes)
+
+abbrev pub within_read : List Part → Result (Option Asked) Code → Gathering
+within_read parts (Ok None) = Within parts
+within_read parts (Ok (Some asked)) = within_by parts asked.command asked.bytes
+within_read parts (Err why) = Spoilt why
+
+-- a command of one of these two
+abbrev pub is_begin : Command → Bool
+is_begin command.Begin = true
+is_begin command = false
+
+abbrev pub is_commit : Command → Bool
+is_commit command.Commit = true
+is_commit command = false
+
+-- the line reads as such a command
+abbrev pub reads_as : (Command → Bool) → Result (Option Asked) Code → Bool
+reads_as test (Ok None) = false
+reads_as test (Ok (Some asked)) = test asked.command
+reads_as test (Err why) = false
+
+-- what stands open behind a line more
+abbrev pub gathering_by : Gathering → Result (Option Asked) Code → Gathering
+gathering_by Outside read = if reads_as is_begin read then Within [] else Outside
+gathering_by (Within parts) read = within_read parts read
+gathering_by (Spoilt why) read = if reads_as is_commit read then Outside else Spoilt why
+
+-- The item that a line makes: `commit` that of a batch, its parts or the reply that spoils it; and outside a batch each line that
+-- is not skipped its own.
+abbrev pub item_by : Gathering → Result (Option Asked) Code → Option Item
+item_by Outside read = if reads_as is_begin read then None else item_of_read read
+item_by (Within parts) read = if reads_as is_commit read then Some (Asks (OfVolume (volume.Batch parts))) else None
+item_by (Spoilt why) read = if reads_as is_commit read then Some (NoCommand why) else None
+
+-- the items of some lines, a batch being complete with its line `commit`
+abbrev pub items_from : Gathering → List (Option (List ℕ)) → List Item
+items_from g [] = []
+items_from g (line ∷ lines) = cons_option (item_by g (reads line)) (items_from (gathering_by g (reads line)) lines)
 
 abbrev pub items_in : List (Option (List ℕ)) → List Item
-items_in lines = filter_map item_of lines
+items_in lines = items_from Outside lines
+
+-- what stands open behind some lines
+abbrev pub gathered : Gathering → List (Option (List ℕ)) → Gathering
+gathered g [] = g
+gathered g (line ∷ lines) = gathered (gathering_by g (reads line)) lines
+
+-- a batch that the script's end leaves open is one item
+abbrev pub left_open : Gathering → List Item
+left_open Outside = []
+left_open (Within parts) = NoCommand code.BadLine ∷ []
+left_open (Spoilt why) = NoCommand code.BadLine ∷ []
 
 -- the items of a script
 abbrev pub items_of : List ℕ → List Item
-items_of script = items_in (map line_told (lines_of script))
+items_of script = items_in (map line_told (lines_of script)) ++ left_open (gathered Outside (map line_told (lines_of script)))
 
 -- ---- kinds of items
 

@@ -1,5 +1,5 @@
 -- One step of a run: an item, what was replied, the log, and what stands before and behind.
-use Rattle.std.specs.Prelude.{◌≡◌, ◌≢◌, ◌⊎◌, ◌≤◌, ◌++◌, ◌&&◌, ℕ, Bool, true, false, not, List, [], length, Option, Some, None, is_some}
+use Rattle.std.specs.Prelude.{◌≡◌, ◌≢◌, ◌⊎◌, ◌≤◌, ◌++◌, ◌&&◌, ℕ, Bool, All, true, false, not, List, [], length, Option, Some, None, is_some}
 use Rattle.std.specs.FinMap.{get}
 use Rattle.lif_model.specs.Causes.{Rose}
 use Rattle.lif_model.specs.Tape.{Tape}
@@ -8,7 +8,8 @@ use Rattle.lif_model.specs.Legal.{slot_named}
 use Rattle.lif_model.specs.Made.{file_length, filled}
 use Rattle.lif_model.specs.Fit.{Place, At, fit_in}
 use Rattle.lif_model.specs.Volume.{Volume}
-use Rattle.lif_model.specs.Apply.{Store, Fetch}
+use Rattle.lif_model.specs.Apply.{Store, Fetch, Batch}
+use Rattle.lif_model.specs.Writing.{NewFile, files_left}
 use Rattle.lif_model.specs.Transfers.{carries}
 use Rattle.il_frames.specs.declared.entry.Entry.{Entry}
 use Rattle.il_device.specs.State.{DeviceState, risen_by}
@@ -126,10 +127,16 @@ abbrev pub IsFetchedFrom : Option (List ℕ) → Option (List ℕ) → List Reco
 IsFetchedFrom (Some slot) (Some bytes) units = carries transfer_of is_in units (start_of slot) bytes ≡ true
 IsFetchedFrom _ _ units = ⊥
 
--- with ok, the transfers of a store, a fetch or a get carry exactly the bytes of the file
+-- the bytes of each of these files went out to its place
+abbrev pub AreStored : List NewFile → List RecordUnit → Type 0
+AreStored files units = All (λ f. carries transfer_of is_out units f.start (filled f.bytes) ≡ true) files
+
+-- with ok, the transfers of a store, a fetch or a get carry exactly the bytes of the file, and those of a batch the bytes of each file
+-- that it leaves
 abbrev pub IsCarried : Item → Reply → ℕ → Option Volume → List RecordUnit → Type 0
 IsCarried (Asks (OfVolume (Store name kind implementation bytes))) reply.Ok n (Some v) units =
     IsStoredAt (fit_in n v (file_length bytes)) bytes units
+IsCarried (Asks (OfVolume (Batch parts))) reply.Ok n (Some v) units = AreStored (files_left n parts v) units
 IsCarried (Asks (OfVolume (Fetch name))) reply.Ok n (Some v) units =
     IsFetchedFrom (slot_named v.slots name) (get v.files name) units
 IsCarried (Asks (Get name)) reply.Ok n (Some v) units =

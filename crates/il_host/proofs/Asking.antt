@@ -1,5 +1,6 @@
 -- What a line asks for, and how that is answered.
-use Rattle.std.proofs.Common.{◌≡◌, ◌∙◌, ◌++◌, ℕ, Bool, true, false, List, [], Option, Some, None, refl, sym, ap, subst}
+use Rattle.std.specs.List.{cons_option}
+use Rattle.std.proofs.Common.{◌≡◌, ◌∙◌, ◌++◌, ℕ, Bool, true, false, List, [], ◌∷◌, Option, Some, None, refl, sym, ap, subst}
 use Rattle.std.specs.Prelude.{Result, Ok, Err, option_map}
 use Rattle.il_script.specs.Commands.{Asked, command_read, bytes_read}
 use Rattle.il_script.specs.Replies.{fault_code, reply_line}
@@ -8,7 +9,9 @@ use Rattle.il_script.specs.declared.command.LineFault.{LineFault}
 use Rattle.il_script.specs.declared.reply.Code.{Code}
 use Rattle.il_script.specs.declared.reply.Reply.{Reply}
 use Rattle.il_script.specs.declared.reply.Reply.TheVariants as reply
-use Rattle.host_model.specs.Requests.{Item, NoCommand, item_for, item_of_reading}
+use Rattle.lif_model.specs.Parts.{Part}
+use Rattle.host_model.specs.Requests.{Item, NoCommand, item_for, item_of_read, coded}
+use Rattle.il_host.specs.Gathering.{read_with}
 use Rattle.host_model.specs.HostStates.{HostState}
 use Rattle.host_model.specs.Replies.{trace_text}
 use Rattle.host_model.specs.Steps.{Event}
@@ -23,34 +26,47 @@ use Rattle.il_host.proofs.Images.{images_kept}
 
 -- ---- readings
 
-pub skipped : (r : Result (Option Asked) LineFault) → command_read r ≡ Ok None → item_of_reading r ≡ None
+pub skipped : (r : Result (Option Asked) LineFault) → command_read r ≡ Ok None → item_of_read (coded r) ≡ None
 skipped (Ok None) h = refl
 skipped (Ok (Some asked)) h = cc
 skipped (Err fault) h = cc
 
 pub understood : (r : Result (Option Asked) LineFault) (command : Command) (bytes : List ℕ) → command_read r ≡ Ok (Some command) → bytes ≡ bytes_read r
-    → item_of_reading r ≡ Some (item_for command bytes)
+    → item_of_read (coded r) ≡ Some (item_for command bytes)
 understood (Ok None) command bytes h b = cc
 understood (Ok (Some asked)) command bytes h b =
     let same : asked.command ≡ command = cc in
     ap (λ (c : Command). Some (item_for c asked.bytes)) same ∙ ap (λ l. Some (item_for command l)) (sym b)
 understood (Err fault) command bytes h b = cc
 
-pub refused : (r : Result (Option Asked) LineFault) (fault : LineFault) → command_read r ≡ Err fault → item_of_reading r ≡ Some (NoCommand (fault_code fault))
+pub refused : (r : Result (Option Asked) LineFault) (fault : LineFault) → command_read r ≡ Err fault → item_of_read (coded r) ≡ Some (NoCommand (fault_code fault))
 refused (Ok None) fault h = cc
 refused (Ok (Some asked)) fault h = cc
 refused (Err fault') fault h =
     let same : fault' ≡ fault = cc in
     ap (λ (f : LineFault). Some (NoCommand (fault_code f))) same
 
--- what was read asks for no item, or for this one
-pub asks_nothing : (read : Option Wanted) (payload : List ℕ) (o : Option Item) → option_map (λ (w : Wanted). item_asked w payload) read ≡ o → read ≡ None → o ≡ None
-asks_nothing read payload o h is = sym h ∙ ap (option_map (λ (w : Wanted). item_asked w payload)) is
+-- the reading with its bytes
+pub reads_back : (r : Result (Option Asked) LineFault) → read_with (coded (command_read r)) (bytes_read r) ≡ coded r
+reads_back (Ok None) = refl
+reads_back (Ok (Some asked)) = refl
+reads_back (Err fault) = refl
 
-pub asks_this : (read : Option Wanted) (wanted : Wanted) (payload bytes : List ℕ) (o : Option Item) → option_map (λ (w : Wanted). item_asked w payload) read ≡ o
-    → read ≡ Some wanted → bytes ≡ payload → o ≡ Some (item_asked wanted bytes)
-asks_this read wanted payload bytes o h is same =
-    sym h ∙ ap (option_map (λ (w : Wanted). item_asked w payload)) is ∙ ap (λ l. Some (item_asked wanted l)) (sym same)
+-- what was gathered asks for no item, or for this one
+pub asks_nothing : (wanted : Option Wanted) (bytes : List ℕ) (parts : List Part) (o : Option Item) → option_map (λ (w : Wanted). item_asked w bytes parts) wanted ≡ o → wanted ≡ None → o ≡ None
+asks_nothing wanted bytes parts o h is = sym h ∙ ap (option_map (λ (w : Wanted). item_asked w bytes parts)) is
+
+pub asks_this : (wanted : Option Wanted) (this : Wanted) (bytes : List ℕ) (parts : List Part) (o : Option Item) → option_map (λ (w : Wanted). item_asked w bytes parts) wanted ≡ o
+    → wanted ≡ Some this → o ≡ Some (item_asked this bytes parts)
+asks_this wanted this bytes parts o h is = sym h ∙ ap (option_map (λ (w : Wanted). item_asked w bytes parts)) is
+
+-- what is left open asks for nothing, or for this
+pub left_nothing : (wanted : Option Wanted) (bytes : List ℕ) (parts : List Part) (items : List Item) → cons_option (option_map (λ (w : Wanted). item_asked w bytes parts) wanted) [] ≡ items → wanted ≡ None → items ≡ []
+left_nothing wanted bytes parts items h is = sym h ∙ ap (λ (o : Option Wanted). cons_option (option_map (λ (w : Wanted). item_asked w bytes parts) o) []) is
+
+pub left_this : (wanted : Option Wanted) (this : Wanted) (bytes : List ℕ) (parts : List Part) (items : List Item) → cons_option (option_map (λ (w : Wanted). item_asked w bytes parts) wanted) [] ≡ items
+    → wanted ≡ Some this → items ≡ item_asked this bytes parts ∷ []
+left_this wanted this bytes parts items h is = sym h ∙ ap (λ (o : Option Wanted). cons_option (option_map (λ (w : Wanted). item_asked w bytes parts) o) []) is
 
 -- ---- texts
 

@@ -1,13 +1,13 @@
 -- The reads and writes that the clauses of a volume tell of a store and of a fetch carry the bytes of the file.
 use Rattle.std.proofs.Common.{◌≡◌, ◌⊎◌, ◌∙◌, ◌<◌, ◌≤◌, ◌+◌, ◌++◌, ◌*◌, ◌&&◌, ◌||◌, ◌==◌, ℕ, zero, suc, Bool, true, false, not, if◌then◌else◌, nat_eq, nat_lt, List, [], ◌∷◌, length, map, get_or, take, Option, Some, None, option_and_then, inl, inr, refl, sym, ap, subst, arith}
-use Rattle.std.specs.Prelude.{IfSome, Result, Ok, Err, is_some}
+use Rattle.std.specs.Prelude.{IfSome, Ok, is_some}
 use Rattle.std.specs.FinMap.{get}
 use Rattle.std.specs.List.{list_any}
 use Rattle.std.proofs.lemmas.Bool.{and_parts, and_right, eqb-true, ltb-true, le-ltb}
 use Rattle.std.proofs.lemmas.List.{append-nil}
 use Rattle.il_ports.specs.Stores.{IsStore, RecordsView}
 use Rattle.il_ports.specs.Transfers.{WritesOnly}
-use Rattle.lif_model.specs.Apply.{Adopt, Dir, Fetch, Format, Label, Purge, Rename, Store, Upgrade, Batch, VolumeCommand, refusal_of}
+use Rattle.lif_model.specs.Apply.{Fetch, Store, VolumeCommand, refusal_of}
 use Rattle.lif_model.specs.declared.refusal.Refusal.{Refusal}
 use Rattle.lif_model.specs.Commit.{IsSettleWrite, IsTarget, close_writes, commit_writes, content_writes, settle_writes}
 use Rattle.lif_model.specs.Directory.{slots_of, start_of}
@@ -39,14 +39,10 @@ use Rattle.lif_volume.specs.Commands.{EndsWithRead, FetchedFile, FetchesByRun, F
 use Rattle.lif_volume.specs.Changing.{commit_when, file_runs, file_when, run_of, writes_if_any}
 use Rattle.lif_volume.specs.Did.{Alters}
 use Rattle.lif_volume.specs.Views.{VolumeView}
-use Rattle.lif_volume.specs.declared.fault.VolumeFault.{VolumeFault}
-use Rattle.lif_volume.specs.declared.fault.VolumeFault.TheVariants.{Refused, Trouble as Troubled}
-use Rattle.il_host.specs.Standings.{volume_reply}
 use Rattle.il_script.specs.declared.reply.Reply.TheVariants as reply
 use Rattle.host_model.specs.HostStates.{HostState, volume_at}
-use Rattle.il_host.proofs.VolumeCarries.{CarriesAs, FetchesFrom, StoresTo, none_carried}
+use Rattle.il_host.proofs.VolumeCarries.{CarriesAs, FetchesFrom, StoresTo}
 use Rattle.il_host.proofs.VolumeReplied.{IsSeenAs}
-use Rattle.il_host.proofs.HostVolumes.{TellsNothing}
 
 -- ---- one transfer
 
@@ -72,7 +68,7 @@ written_carried_out first more start bytes kept =
 -- ---- a fetch
 
 module _ {R S : Type 0} (view : R → RecordsView S) (old new : VolumeView R) (s : HostState) (seen : IsSeenAs s (view old.records)) (begun : (view old.records).transferred []) where
-  volume_seen : (tape : Option Tape) → (view old.records).tape ≡ tape → volume_at s ≡ option_and_then volume_of tape
+  pub volume_seen : (tape : Option Tape) → (view old.records).tape ≡ tape → volume_at s ≡ option_and_then volume_of tape
   volume_seen tape told = ap (option_and_then volume_of) (seen.tape ∙ told)
 
   module _ (name into : List ℕ) (fetched : Fetched) (file : FetchesFile name view old fetched into) (run : FetchesByRun name view old new fetched into) (settles : WritesBySettling view old new (Ok fetched)) where
@@ -124,7 +120,7 @@ module _ {R S : Type 0} (view : R → RecordsView S) (old new : VolumeView R) (s
 -- ---- which records a store writes
 -- These laws tell of volumes alone, and may move down to the crate that defines them.
 
-abbrev EachRecord : (ℕ → Type 0) → Changes → Type 0
+abbrev pub EachRecord : (ℕ → Type 0) → Changes → Type 0
 EachRecord P [] = Unit {0}
 EachRecord P (c ∷ cs) = P c.0 × EachRecord P cs
 
@@ -132,12 +128,12 @@ each_then : (P : ℕ → Type 0) (a b : Changes) → EachRecord P a → EachReco
 each_then P [] b one two = two
 each_then P (c ∷ cs) b one two = (one.0, each_then P cs b one.1 two)
 
-each_target : (P : ℕ → Type 0) (cs : Changes) → ((k : ℕ) → IsTarget cs k → P k) → EachRecord P cs
+pub each_target : (P : ℕ → Type 0) (cs : Changes) → ((k : ℕ) → IsTarget cs k → P k) → EachRecord P cs
 each_target P [] all = tt
 each_target P (c ∷ cs) all = (all c.0 (inl refl), each_target P cs (λ k target. all k (inr target)))
 
 -- those of a commit, or none
-each_if_any : (P : ℕ → Type 0) (version : Version) (n : ℕ) (was_open : Bool) (cs : Changes) → EachRecord P (commit_writes version n was_open cs) → EachRecord P (writes_if_any version n was_open cs)
+pub each_if_any : (P : ℕ → Type 0) (version : Version) (n : ℕ) (was_open : Bool) (cs : Changes) → EachRecord P (commit_writes version n was_open cs) → EachRecord P (writes_if_any version n was_open cs)
 each_if_any P version n was_open [] each = tt
 each_if_any P version n was_open (c ∷ cs) each = each
 
@@ -155,7 +151,7 @@ module _ (P : ℕ → Type 0) (version : Version) (n : ℕ) (long : redo_length 
   each_settle [] each = tt
   each_settle (c ∷ cs) each = each_then P (c ∷ cs) ((gate_of n, zeros) ∷ []) each (behind _ (redo_places version n).0, tt)
 
-  each_commit : (was_open : Bool) (cs : Changes) → EachRecord P cs → EachRecord P (commit_writes version n was_open cs)
+  pub each_commit : (was_open : Bool) (cs : Changes) → EachRecord P cs → EachRecord P (commit_writes version n was_open cs)
   each_commit was_open cs each =
       each_then P (close_writes n was_open) _ (each_close was_open)
       (each_then P (content_writes version n 0 cs) _ (each_content 0 cs)
@@ -192,7 +188,7 @@ stored_within n v count i start volume place entry tape j written = go (nat_eq i
     go false e (inr none) = absurd none
 
 -- record k is none of so many from `start` on
-abbrev IsOff : ℕ → ℕ → ℕ → Type 0
+abbrev pub IsOff : ℕ → ℕ → ℕ → Type 0
 IsOff start count k = (k < start) ⊎ (start + count ≤ k)
 
 -- No write of the commit of a store is one of a record of the file.
@@ -219,6 +215,12 @@ commit_is_off n v version name kind implementation bytes slot start volume adopt
     writes : SlotWrites
     writes = stored_writes v slot entry tape
 
+-- Runs of records that lie apart: the first one is none that writes over the second.
+pub apart_off : (first start wide count : ℕ) (other bytes : List ℕ) → length other ≡ 256 * wide → length bytes ≡ 256 * count → (first + wide ≤ start) ⊎ (start + count ≤ first)
+    → (nat_lt first (start + records_of bytes) && nat_lt start (first + records_of other)) ≡ false
+apart_off first start wide count other bytes size whole (inl before) = and_right (nat_lt first (start + records_of bytes)) _ (le-ltb start (first + records_of other) (omega (arith, before, size)))
+apart_off first start wide count other bytes size whole (inr behind) = ap (λ (b : Bool). b && nat_lt start (first + records_of other)) (le-ltb first (start + records_of bytes) (omega (arith, behind, whole)))
+
 -- ---- a store
 
 -- How the clause tells the writes among single transfers is handed in, as its functions are of a library that this crate does not name.
@@ -229,10 +231,12 @@ module _ {among : List Transfer → Changes} {single : List Transfer → Type 0}
   run = record { writes = true; first = start; bytes = bytes }
 
   one_off : (first : ℕ) (one : List ℕ) → length one ≡ 256 → IsOff start count first → (nat_lt first (start + records_of bytes) && nat_lt start (first + records_of one)) ≡ false
-  one_off first one size (inl before) = and_right (nat_lt first (start + records_of bytes)) _ (le-ltb start (first + records_of one) (omega (arith, before, size)))
-  one_off first one size (inr behind) = ap (λ (b : Bool). b && nat_lt start (first + records_of one)) (le-ltb first (start + records_of bytes) (omega (arith, behind, whole)))
+  one_off first one size off = apart_off first start 1 count one bytes size whole (elim off [
+    | inl before ↦ inl (omega (arith, before))
+    | inr behind ↦ inr behind
+  ])
 
-  none_over : (ts : List Transfer) → single ts → EachRecord (IsOff start count) (among ts) → list_any (λ y. is_overwritten_by run y) ts ≡ false
+  pub none_over : (ts : List Transfer) → single ts → EachRecord (IsOff start count) (among ts) → list_any (λ y. is_overwritten_by run y) ts ≡ false
   none_over [] one each = refl
   none_over (t ∷ ts) one each =
       let both = parts t ts one in
@@ -252,7 +256,7 @@ module _ {among : List Transfer → Changes} {single : List Transfer → Type 0}
       let is = goes_on [] begun in
       (is.0 ++ run ∷ is.1, subst (λ (rs : List Transfer). new (is.0 ++ (rs ++ is.1))) one is.2, written_carried_out is.0 is.1 start bytes (none_over is.1 is.5 (subst (EachRecord (IsOff start count)) (sym is.4) off)))
 
-told_still : (old new : Option Tape) (t : Tape) → is_some new ≡ is_some old → old ≡ Some t → (u : Tape) × (new ≡ Some u)
+pub told_still : (old new : Option Tape) (t : Tape) → is_some new ≡ is_some old → old ≡ Some t → (u : Tape) × (new ≡ Some u)
 told_still old (Some u) t same told = (u, refl)
 told_still old None t same told = let both : false ≡ true = same ∙ ap is_some told in cc
 
@@ -306,20 +310,3 @@ module _ {R S : Type 0} (view : R → RecordsView S) (old new : VolumeView R) (s
       by : (tape : Option Tape) → (view old.records).tape ≡ tape → CarriesAs (Store name kind implementation bytes) reply.Ok s.records (volume_at s) (view new.records).transferred
       by None none = subst (λ (v : Option Volume). CarriesAs (Store name kind implementation bytes) reply.Ok s.records v (view new.records).transferred) (sym (volume_seen view old new s seen begun None none)) tt
       by (Some t) told = subst (λ (v : Option Volume). CarriesAs (Store name kind implementation bytes) reply.Ok s.records v (view new.records).transferred) (sym (volume_seen view old new s seen begun (Some t) told)) (on t told (volume_of t) refl)
-
--- of any answer, and of the commands that carry no bytes of a file
-pub alters_carried : {R S : Type 0} (view : R → RecordsView S) (old new : VolumeView R) (s : HostState) → IsSeenAs s (view old.records) → (view old.records).transferred [] → IsStore (view old.records)
-    → (command : VolumeCommand) → TellsNothing command → {T : Type 0} (answer : Result T VolumeFault) → Alters command view old new answer
-    → CarriesAs command (volume_reply answer) s.records (volume_at s) (view new.records).transferred
-alters_carried view old new s seen begun store Dir nothing answer alters = tt
-alters_carried view old new s seen begun store Label nothing answer alters = tt
-alters_carried view old new s seen begun store (Fetch name) nothing answer alters = absurd nothing
-alters_carried view old new s seen begun store (Store name kind implementation bytes) nothing (Ok x) alters = store_carried view old new s seen begun store name kind implementation bytes x alters
-alters_carried view old new s seen begun store (Store name kind implementation bytes) nothing (Err (Refused why)) alters = tt
-alters_carried view old new s seen begun store (Store name kind implementation bytes) nothing (Err (Troubled e)) alters = none_carried (Store name kind implementation bytes) e _ _ _
-alters_carried view old new s seen begun store (Rename before later) nothing answer alters = tt
-alters_carried view old new s seen begun store (Purge name) nothing answer alters = tt
-alters_carried view old new s seen begun store Adopt nothing answer alters = tt
-alters_carried view old new s seen begun store Upgrade nothing answer alters = tt
-alters_carried view old new s seen begun store (Batch parts) nothing answer alters = absurd nothing
-alters_carried view old new s seen begun store (Format label slots) nothing answer alters = tt

@@ -12,7 +12,7 @@ use Rattle.il_script.specs.Sheet.{Sheet}
 use Rattle.il_script.specs.declared.reply.Reply.{Reply}
 use Rattle.il_script.specs.declared.reply.Reply.TheVariants as reply
 use Rattle.il_script.proofs.UpperDigits.{encode-append}
-use Rattle.host_model.specs.Requests.{item_of, items_in}
+use Rattle.host_model.specs.Requests.{item_of, lone_items}
 use Rattle.host_model.specs.Generated.{draw, drawn, stores, rising, store_line, purge_line, fetch_line, chosen_line, more_lines, generated_lines, items_generated}
 use Rattle.host_model.specs.Steps.{Event}
 use Rattle.host_model.specs.Runs.{Summary, Tally, with_reply, tally_of, replies, items_asked, all_ok, event_text, summary, tally_text, output}
@@ -25,7 +25,7 @@ use Rattle.il_host.specs.Generating.{next_line, next_state, line_at, state_at, A
 use Rattle.il_host.specs.declared.ending.Ending.{Ending}
 use Rattle.il_host.specs.declared.ending.Ending.TheVariants as ending
 use Rattle.il_host.proofs.Answered.{Answered, answered_none, answered_more, answers_script}
-use Rattle.il_host.proofs.Runs.{items_push}
+use Rattle.il_host.proofs.Runs.{lone_push}
 
 -- ---- bytes
 
@@ -130,7 +130,7 @@ line_is_item place x line is = ap (λ l. is_some (item_of (Some l))) is ∙ at_i
 pub record Generating (seed count place state : ℕ) (v w : HostView) (t : Tally) : Type 0 where
   pub lines : List (List ℕ)
   pub events : List Event
-  pub answered : Answered v w (items_in (map Some lines)) events
+  pub answered : Answered v w (lone_items (map Some lines)) events
   pub whole : generated_lines seed count ≡ lines ++ lines_at place state (count - place)
   pub counted : tally_of (replies events) ≡ t
 
@@ -149,14 +149,14 @@ pub one_more_generated : (seed count place state state' : ℕ) (v w x : HostView
 one_more_generated seed count place state state' v w x t t' line r s within line_is state_is a counts =
     let answers = a.answers None in
     let e : Event = event_of a.item r answers.log w x in
-    let more : items_in (map Some (s.lines ++ line ∷ [])) ≡ items_in (map Some s.lines) ++ a.item ∷ [] =
-    ap items_in (map-append Some s.lines (line ∷ [])) ∙ items_push (map Some s.lines) (Some line) a.item a.asks in
+    let more : lone_items (map Some (s.lines ++ line ∷ [])) ≡ lone_items (map Some s.lines) ++ a.item ∷ [] =
+    ap lone_items (map-append Some s.lines (line ∷ [])) ∙ lone_push (map Some s.lines) (Some line) a.item a.asks in
     let left : count - place ≡ suc (count - (place + 1)) = omega arith in
     record {
       lines = s.lines ++ line ∷ [];
       events = s.events ++ e ∷ [];
       answered = subst (λ items. Answered v x items (s.events ++ e ∷ [])) (sym more)
-          (answered_more v w x (items_in (map Some s.lines)) s.events a.item r Summary None None (Ok tt) s.answered answers);
+          (answered_more v w x (lone_items (map Some s.lines)) s.events a.item r Summary None None (Ok tt) s.answered answers);
       whole = s.whole ∙ ap (λ n. s.lines ++ lines_at place state n) left ∙ ap (λ l. s.lines ++ l) (lines-more place state (count - (place + 1)))
           ∙ sym (append_assoc s.lines (line_at place state ∷ []) (lines_at (suc place) (state_at place state) (count - (place + 1))))
           ∙ (λ i. (s.lines ++ (sym line_is) i ∷ []) ++ lines_at ((sym (add-one place)) i) ((sym state_is) i) (count - (place + 1)));
@@ -196,7 +196,7 @@ module _ (seed count place state : ℕ) (v w : HostView) (t : Tally) (page clear
   asks : items_asked s.events ≡ items_generated seed count
   asks =
       let none : lines_at place state (count - place) ≡ [] = ap (lines_at place state) (omega arith) ∙ nothing_left place state in
-      s.answered.asked ∙ ap (λ l. items_in (map Some l)) (sym (s.whole ∙ ap (λ l. s.lines ++ l) none ∙ append-nil s.lines))
+      s.answered.asked ∙ ap (λ l. lone_items (map Some l)) (sym (s.whole ∙ ap (λ l. s.lines ++ l) none ∙ append-nil s.lines))
 
   size : length s.events ≡ count
   size = sym (length-map s.events (λ (e : Event). e.item)) ∙ ap length asks ∙ items_generated-length seed count

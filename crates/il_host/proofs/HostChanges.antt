@@ -1,11 +1,12 @@
 -- The commands that change the volume, as a host performs them.
 use Rattle.std.proofs.Common.{◌≡◌, ◌≤◌, ◌+◌, ℕ, List, Option, None, Some, refl, subst, arith}
 use Rattle.std.specs.Prelude.{Result, Ok, Err}
+use Rattle.lif_model.specs.Parts.{Part}
 use Rattle.lif_model.specs.Apply.{Adopt, Dir, Fetch, Format, Label, Batch, Purge, Rename, Store, Upgrade, VolumeCommand}
 use Rattle.lif_model.specs.Header.{HeaderParts}
 use Rattle.il_ports.specs.Media.{MediumView, IsMedium}
 use Rattle.il_ports.specs.Stores.{Begun, Continues, RecordsView}
-use Rattle.lif_volume.specs.Changing.{changing, committing, storing}
+use Rattle.lif_volume.specs.Changing.{batching, beside, changing, committing, filing, with_mounting}
 use Rattle.lif_volume.specs.Commands.{mounting}
 use Rattle.lif_volume.specs.Did.{Alters}
 use Rattle.lif_volume.specs.Views.{IsOpen, VolumeView}
@@ -22,13 +23,16 @@ use Rattle.host_model.specs.Requests.{Asks, OfVolume}
 use Rattle.il_host.specs.HostView.{Performed}
 use Rattle.il_host.specs.Hosts.{IsUsable, host_in, loop_in, store_in, volume_in}
 use Rattle.il_host.specs.Standings.{HasDriveStatus, MakesSound, volume_reply}
-use Rattle.il_host.proofs.FileCarries.{alters_carried}
+use Rattle.il_host.proofs.BatchCarries.{alters_carried}
+use Rattle.il_host.proofs.VolumeCarries.{IsFormedAs}
 use Rattle.il_host.proofs.HostVolumes.{TellsNothing, changed, most_calls, mounts_few, none_asked, seen_asked}
 
--- it takes no more calls than a command of a volume may
-stores_few : {R S T : Type 0} (view : R → RecordsView S) (old new : VolumeView R) (bytes : List ℕ) (answer : Result T VolumeFault) → IsOpen view new → (view new.records).record_count ≡ (view old.records).record_count
-    → storing (view old.records).record_count old.kept new.kept bytes answer ≤ most_calls (view old.records).record_count
-stores_few {T = T} view old new bytes answer is size = by old.kept new.kept (λ header kept. mounted header kept) answer
+-- where the calls beside a directory are few, those with mounting are
+few_with_mounting : {R S T : Type 0} (view : R → RecordsView S) (old new : VolumeView R) (answer : Result T VolumeFault) → IsOpen view new → (view new.records).record_count ≡ (view old.records).record_count
+    → (calls : Option HeaderParts → ℕ) (most : ℕ) → most ≤ most_calls (view old.records).record_count → calls None ≤ most_calls (view old.records).record_count
+    → ((header : HeaderParts) → header.length + 5 ≤ (view old.records).record_count → 71 + header.length + calls (Some header) ≤ most_calls (view old.records).record_count)
+    → with_mounting (view old.records).record_count old.kept new.kept calls most answer ≤ most_calls (view old.records).record_count
+few_with_mounting {T = T} view old new answer is size calls most all any beside = by old.kept new.kept (λ header kept. mounted header kept) answer
   where
     count : ℕ
     count = (view old.records).record_count
@@ -39,16 +43,23 @@ stores_few {T = T} view old new bytes answer is size = by old.kept new.kept (λ 
         let few = subst (λ (kept : Option HeaderParts). mounting count None kept ≤ count + 66) kept (mounts_few view (record old { kept = None }) new is size) in
         omega (arith, few)
 
-    by : (was kept : Option HeaderParts) → ((header : HeaderParts) → kept ≡ Some header → header.length + 5 ≤ count) → (answer : Result T VolumeFault) → storing count was kept bytes answer ≤ most_calls count
-    by (Some old) kept long (Ok x) = omega arith
-    by (Some old) kept long (Err (Refused why)) = omega arith
-    by (Some old) kept long (Err (Troubled e)) = omega arith
-    by None (Some header) long (Ok x) = omega (arith, long header refl)
-    by None (Some header) long (Err (Refused why)) = omega (arith, long header refl)
-    by None (Some header) long (Err (Troubled e)) = omega (arith, long header refl)
-    by None None long (Ok x) = omega arith
+    by : (was kept : Option HeaderParts) → ((header : HeaderParts) → kept ≡ Some header → header.length + 5 ≤ count) → (answer : Result T VolumeFault) → with_mounting count was kept calls most answer ≤ most_calls count
+    by (Some old) kept long answer = any
+    by None (Some header) long answer = omega (arith, beside header (long header refl))
+    by None None long (Ok x) = all
     by None None long (Err (Refused why)) = omega arith
-    by None None long (Err (Troubled e)) = omega arith
+    by None None long (Err (Troubled e)) = all
+
+-- a file, or those of a batch, lie beside the directory
+stores_few : {T : Type 0} (n : ℕ) (kept : Option HeaderParts) (bytes : List ℕ) (answer : Result T VolumeFault) → filing n kept bytes answer + committing answer ≤ beside n kept + 10
+stores_few n kept bytes (Ok x) = omega arith
+stores_few n kept bytes (Err (Refused why)) = omega arith
+stores_few n kept bytes (Err (Troubled e)) = omega arith
+
+batches_few : {T : Type 0} (n : ℕ) (kept : Option HeaderParts) (parts : List Part) (answer : Result T VolumeFault) → batching n kept parts answer ≤ beside n kept + 72
+batches_few n kept parts (Ok x) = omega arith
+batches_few n kept parts (Err (Refused why)) = omega arith
+batches_few n kept parts (Err (Troubled e)) = omega arith
 
 -- of a directory that need not be kept
 mounts_any : (n : ℕ) (was : Option HeaderParts) → mounting n was None ≤ n + 66
@@ -65,6 +76,9 @@ changing_few : {R S T : Type 0} (view : R → RecordsView S) (old new : VolumeVi
     → changing (view old.records).record_count command old.kept new.kept answer ≤ most_calls (view old.records).record_count
 changing_few {T = T} view old new command answer nothing is size = by command nothing
   where
+    count : ℕ
+    count = (view old.records).record_count
+
     plain : mounting (view old.records).record_count old.kept new.kept + committing answer ≤ most_calls (view old.records).record_count
     plain = omega (arith, mounts_few view old new is size, commits_few answer)
 
@@ -72,12 +86,16 @@ changing_few {T = T} view old new command answer nothing is size = by command no
     by Dir nothing = absurd nothing
     by Label nothing = absurd nothing
     by (Fetch name) nothing = absurd nothing
-    by (Store name kind implementation bytes) nothing = stores_few view old new bytes answer is size
+    by (Store name kind implementation bytes) nothing =
+        few_with_mounting view old new answer is size (λ kept. filing count kept bytes answer + committing answer) (count + 76) (omega arith)
+        (omega (arith, stores_few count None bytes answer)) (λ header long. omega (arith, stores_few count (Some header) bytes answer, long))
     by (Rename before later) nothing = plain
     by (Purge name) nothing = plain
     by Adopt nothing = plain
     by Upgrade nothing = plain
-    by (Batch parts) nothing = absurd nothing
+    by (Batch parts) nothing =
+        few_with_mounting view old new answer is size (λ kept. batching count kept parts answer) (count + 138) (omega arith)
+        (omega (arith, batches_few count None parts answer)) (λ header long. omega (arith, batches_few count (Some header) parts answer, long))
     by (Format label slots) nothing = omega (arith, mounts_any (view old.records).record_count old.kept, commits_few answer)
 
 module _ {M I : Type 0} {D : I → Type 0} (view : M → MediumView) (seen : Ring M I D → RingView M) (o b n : Volume (LoopRecords M I D)) (text_space file_space : ℕ)
@@ -85,10 +103,10 @@ module _ {M I : Type 0} {D : I → Type 0} (view : M → MediumView) (seen : Rin
     (command : VolumeCommand) (opens : IsOpen (store_in view seen) (volume_in n)) (low : HasDriveStatus (loop_in seen n.records).control)
     (m : Volume (LoopRecords M I D)) (u : Unit {0}) (makes : MakesSound view (loop_in seen b.records) (loop_in seen m.records) (Ok u)) (sounds : Continues {T = Unit {0}} 1 (store_in view seen b.records) (store_in view seen m.records) (Ok u)) where
   -- a command that tells nothing, as the volume did it
-  pub altered : {T : Type 0} (answer : Result T VolumeFault) (before : List ℕ) → ((x : M) → IsMedium (view x)) → TellsNothing command
+  pub altered : {T : Type 0} (answer : Result T VolumeFault) (before : List ℕ) → ((x : M) → IsMedium (view x)) → TellsNothing command → IsFormedAs command answer
       → Alters command (store_in view seen) (volume_in m) (volume_in n) answer
       → Performed (Asks (OfVolume command)) (volume_reply answer) (host_in view seen o before text_space file_space) (host_in view seen n (reply_line (volume_reply answer)) text_space file_space)
-  altered answer before law nothing alters =
+  altered answer before law nothing formed alters =
       changed view seen o b n text_space file_space usable began command opens low m u makes sounds answer
       (changing (store_in view seen m.records).record_count command (volume_in m).kept (volume_in n).kept answer) before nothing
       (changing_few (store_in view seen) (volume_in m) (volume_in n) command answer nothing opens alters.goes_on.continues.size)
@@ -97,4 +115,4 @@ module _ {M I : Type 0} {D : I → Type 0} (view : M → MediumView) (seen : Rin
       (seen_asked view seen o b n text_space file_space usable began command opens low m u makes sounds before)
       (none_asked view seen o b n text_space file_space usable began command opens low m u makes sounds)
       (is_store_at view seen (ring_in m.records.control) m.records.sound m.records.since m.records.resumes (loop_in seen m.records).control law)
-      command nothing answer alters)
+      command nothing answer formed alters)

@@ -19,7 +19,7 @@ use Rattle.il_ports.specs.declared.records.Trouble.{Trouble}
 use Rattle.il_ports.specs.declared.records.Trouble.TheVariants as trouble
 use Rattle.lif_volume.specs.Views.{IsOpen, VolumeView}
 use Rattle.lif_volume.specs.Answers.{store_answer}
-use Rattle.lif_volume.specs.Commands.{AnswersTo, calls_needed, mounting}
+use Rattle.lif_volume.specs.Commands.{AnswersTo, batch_calls_needed, calls_needed, mounting}
 use Rattle.lif_volume.specs.Changing.{TurnsVolume}
 use Rattle.lif_volume.specs.declared.fault.VolumeFault.{VolumeFault}
 use Rattle.lif_volume.specs.declared.fault.VolumeFault.TheVariants.{Refused, Trouble as Troubled}
@@ -48,7 +48,7 @@ use Rattle.il_host.specs.Shorts.{AllShort}
 use Rattle.il_host.proofs.Shorts.{all_short}
 use Rattle.il_host.specs.Standings.{Ends, HasDriveStatus, HasLogRoom, KeepsPage, MakesSound, fault_of, log_at, state_at, volume_reply}
 use Rattle.il_host.proofs.Texts.{ok_text}
-use Rattle.il_host.proofs.VolumeCarries.{CarriesAs, none_carried, not_carried}
+use Rattle.il_host.proofs.VolumeCarries.{CarriesAs, IsFormedAs, none_carried, not_carried}
 use Rattle.il_host.proofs.VolumeCommands.{KeepsRing}
 use Rattle.il_host.proofs.VolumePerforms.{Performs, volume_asked, volume_failed, volume_not_asked}
 use Rattle.il_host.proofs.VolumeStarts.{stands_at}
@@ -89,9 +89,9 @@ records_of {M} view seen p l = by l.control
 pub enough_calls : (n : ℕ) → IsSize n → 3 * n + 42 ≤ calls_in (log_room n)
 enough_calls n size = let bounds = size_bounds n size in omega (arith, bounds.0, bounds.1)
 
--- no command of a volume takes more on a tape of n records: to mount, to write a file, and to commit
+-- no command of a volume takes more on a tape of n records: to mount, to write its files, and to commit
 abbrev pub most_calls : ℕ → ℕ
-most_calls n = n + 76
+most_calls n = n + 138
 
 -- to make a directory kept takes fewer
 pub mounts_few : {R S : Type 0} (view : R → RecordsView S) (old new : VolumeView R) → IsOpen view new → (view new.records).record_count ≡ (view old.records).record_count
@@ -122,7 +122,6 @@ abbrev pub TellsNothing : VolumeCommand → Type 0
 TellsNothing Dir = ⊥
 TellsNothing Label = ⊥
 TellsNothing (Fetch name) = ⊥
-TellsNothing (Batch parts) = ⊥
 TellsNothing command = Unit {0}
 
 no_lines : (command : VolumeCommand) (volume : Option LifVolume) → TellsNothing command → told_of command volume ≡ []
@@ -135,7 +134,7 @@ no_lines (Rename old new) (Some v) nothing = refl
 no_lines (Purge name) (Some v) nothing = refl
 no_lines Adopt (Some v) nothing = refl
 no_lines Upgrade (Some v) nothing = refl
-no_lines (Batch parts) (Some v) nothing = absurd nothing
+no_lines (Batch parts) (Some v) nothing = refl
 no_lines (Format label slots) (Some v) nothing = refl
 
 nothing_told : (command : VolumeCommand) (volume : Option LifVolume) (s : HostState) (r : Reply) → volume_at s ≡ volume → TellsNothing command → reply_text (Asks (OfVolume command)) s r ≡ reply_line r
@@ -156,6 +155,7 @@ volume_request (command.Rename old new) bytes on = (Rename (name_bytes old) (nam
 volume_request (command.Purge name) bytes on = (Purge (name_bytes name), refl)
 volume_request (command.Format label slots) bytes on = (Format (label_bytes label) slots, refl)
 volume_request command.Adopt bytes on = (Adopt, refl)
+volume_request command.Upgrade bytes on = (Upgrade, refl)
 volume_request (command.Put name) bytes on = absurd on
 volume_request (command.Get name) bytes on = absurd on
 volume_request command.Devices bytes on = absurd on
@@ -163,6 +163,8 @@ volume_request command.Status bytes on = absurd on
 volume_request command.Poll bytes on = absurd on
 volume_request command.Say bytes on = absurd on
 volume_request command.Paper bytes on = absurd on
+volume_request command.Begin bytes on = absurd on
+volume_request command.Commit bytes on = absurd on
 
 -- one that is none of the three that tell something changes the volume, and tells nothing
 pub changes_volume : (c : Command) → IsOnVolume c → c ≢ command.Dir → c ≢ command.Label → ((name : Name) → c ≢ command.Fetch name) → ChangesVolume c
@@ -174,6 +176,7 @@ changes_volume (command.Rename old new) on no_dir no_label no_fetch = tt
 changes_volume (command.Purge name) on no_dir no_label no_fetch = tt
 changes_volume (command.Format label slots) on no_dir no_label no_fetch = tt
 changes_volume command.Adopt on no_dir no_label no_fetch = tt
+changes_volume command.Upgrade on no_dir no_label no_fetch = tt
 changes_volume (command.Put name) on no_dir no_label no_fetch = absurd on
 changes_volume (command.Get name) on no_dir no_label no_fetch = absurd on
 changes_volume command.Devices on no_dir no_label no_fetch = absurd on
@@ -181,18 +184,21 @@ changes_volume command.Status on no_dir no_label no_fetch = absurd on
 changes_volume command.Poll on no_dir no_label no_fetch = absurd on
 changes_volume command.Say on no_dir no_label no_fetch = absurd on
 changes_volume command.Paper on no_dir no_label no_fetch = absurd on
+changes_volume command.Begin on no_dir no_label no_fetch = absurd on
+changes_volume command.Commit on no_dir no_label no_fetch = absurd on
 
 -- what is said of it
 pub on_volume : (P : VolumeCommand → Type 0) (c : Command) (bytes : List ℕ) → ChangesVolume c → OnVolume (request_of c bytes) P
-    → (command : VolumeCommand) × (request_of c bytes ≡ OfVolume command) × TellsNothing command × P command
+    → (command : VolumeCommand) × (request_of c bytes ≡ OfVolume command) × TellsNothing command × ((answer : Result (Unit {0}) VolumeFault) → IsFormedAs command answer) × P command
 on_volume P command.Dir bytes changes has = absurd changes
 on_volume P command.Label bytes changes has = absurd changes
 on_volume P (command.Fetch name) bytes changes has = absurd changes
-on_volume P (command.Store name kind implementation) bytes changes has = (Store (name_bytes (made_name name)) kind implementation bytes, refl, tt, has)
-on_volume P (command.Rename old new) bytes changes has = (Rename (name_bytes old) (name_bytes (made_name new)), refl, tt, has)
-on_volume P (command.Purge name) bytes changes has = (Purge (name_bytes name), refl, tt, has)
-on_volume P (command.Format label slots) bytes changes has = (Format (label_bytes label) slots, refl, tt, has)
-on_volume P command.Adopt bytes changes has = (Adopt, refl, tt, has)
+on_volume P (command.Store name kind implementation) bytes changes has = (Store (name_bytes (made_name name)) kind implementation bytes, refl, tt, λ answer. tt, has)
+on_volume P (command.Rename old new) bytes changes has = (Rename (name_bytes old) (name_bytes (made_name new)), refl, tt, λ answer. tt, has)
+on_volume P (command.Purge name) bytes changes has = (Purge (name_bytes name), refl, tt, λ answer. tt, has)
+on_volume P (command.Format label slots) bytes changes has = (Format (label_bytes label) slots, refl, tt, λ answer. tt, has)
+on_volume P command.Adopt bytes changes has = (Adopt, refl, tt, λ answer. tt, has)
+on_volume P command.Upgrade bytes changes has = (Upgrade, refl, tt, λ answer. tt, has)
 on_volume P (command.Put name) bytes changes has = absurd changes
 on_volume P (command.Get name) bytes changes has = absurd changes
 on_volume P command.Devices bytes changes has = absurd changes
@@ -200,6 +206,8 @@ on_volume P command.Status bytes changes has = absurd changes
 on_volume P command.Poll bytes changes has = absurd changes
 on_volume P command.Say bytes changes has = absurd changes
 on_volume P command.Paper bytes changes has = absurd changes
+on_volume P command.Begin bytes changes has = absurd changes
+on_volume P command.Commit bytes changes has = absurd changes
 
 -- ---- the page and the volume behind the last line
 
@@ -256,6 +264,14 @@ module _ {M I : Type 0} {D : I → Type 0} (view : M → MediumView) (seen : Rin
       let used = sounds.left in
       let size = sounds.size ∙ began.size in
       record { valid = sounds.valid; sound = sounds.sound; left = omega (arith, enough, used, size) }
+
+  -- and for a batch, on a medium of this size
+  pub batch_ready : {T : Type 0} (x : T) (m : Volume (LoopRecords M I D)) → Continues 1 (store_in view seen b.records) (store_in view seen m.records) (Ok x) → IsReady (batch_calls_needed (store_in view seen m.records).record_count) (store_in view seen m.records)
+  batch_ready x m sounds =
+      let ready = ready_behind x m sounds in
+      let size = sounds.size ∙ began.size in
+      let bounds = size_bounds count usable.size in
+      record { valid = ready.valid; sound = ready.sound; left = omega (arith, ready.left, size, bounds.0) }
 
   module _ (opens : IsOpen (store_in view seen) (volume_in n)) where
     -- it can be used again
@@ -341,7 +357,13 @@ module _ {M I : Type 0} {D : I → Type 0} (view : M → MediumView) (seen : Rin
               omega (arith, used, more, few, size, bounds.0)
 
           left : 1 ≤ (store_in view seen n.records).calls_left
-          left = let enough = begun_left in let used = sounds.left in let more = goes.continues.left in let size = sounds.size ∙ began.size in omega (arith, enough, used, more, few, size)
+          left =
+              let enough = begun_left in
+              let used = sounds.left in
+              let more = goes.continues.left in
+              let size = sounds.size ∙ began.size in
+              let bounds = size_bounds count usable.size in
+              omega (arith, enough, used, more, few, size, bounds.0)
 
           did : (answer : Result T VolumeFault) → GoesOn calls (store_in view seen m.records) (store_in view seen n.records) (store_answer answer) → AnswersTo command (store_in view seen) (volume_in m) (volume_in n) answer
               → CarriesAs command (volume_reply answer) (host_in view seen o before text_space file_space).state.records (volume_at (host_in view seen o before text_space file_space).state) (store_in view seen n.records).transferred

@@ -27,6 +27,7 @@ pub mod Texts
 mod Examples
 pub mod Known
 pub mod Shorts
+pub mod BatchParts
 pub mod Asking
 pub mod Images
 pub mod Answered
@@ -34,6 +35,7 @@ pub mod Runs
 pub mod GeneratedRuns
 pub mod HostVolumes
 pub mod FileCarries
+pub mod BatchCarries
 pub mod VolumeAsked
 pub mod LoopRuns
 pub mod SayHeard
@@ -49,3 +51,4 @@ pub mod HostLoops
 pub mod Getting
 pub mod TextPerforms
 pub mod TextLines
+pub mod Drives

@@ -13,17 +13,17 @@ use Rattle.il_script.specs.Digits.{file_type, hex_bytes, is_number, number_up_to
 use Rattle.il_script.specs.Commands.{Asked, asked_of, command_of, command_read, format_of, in_form, is_comment, put_of, lone_of, name_of_part, naming, new_name_of_bytes, not_skipped, reading_of, reading_of_words, rename_of, say_of, spelt_as, store_of, with_name, without_bytes, word_command}
 use Rattle.il_script.specs.declared.limits.TheConstants.{MOST_SLOTS}
 use Rattle.il_script.specs.declared.command.Command.{Command}
-use Rattle.il_script.specs.declared.command.Command.TheVariants.{Dir, Label, Fetch, Store, Put, Get, Rename, Purge, Format, Adopt, Devices, Status, Poll, Paper}
+use Rattle.il_script.specs.declared.command.Command.TheVariants.{Dir, Label, Fetch, Store, Put, Get, Rename, Purge, Format, Adopt, Upgrade, Begin, Commit, Devices, Status, Poll, Paper}
 use Rattle.il_script.specs.declared.command.LineFault.{LineFault}
-use Rattle.il_host.specs.PlainCommands.{IsPlain}
+use Rattle.il_host.specs.PlainCommands.{IsFormed, IsFormedRead}
 
 -- of what was read, where it is a command
 abbrev Plain : Result Command LineFault → Type 0
-Plain (Ok command) = IsPlain command
+Plain (Ok command) = IsFormed command
 Plain (Err fault) = Unit {0}
 
 abbrev PlainAsked : Result Asked LineFault → Type 0
-PlainAsked (Ok asked) = IsPlain asked.command
+PlainAsked (Ok asked) = IsFormed asked.command
 PlainAsked (Err fault) = Unit {0}
 
 either : {X : Type 0} (P : X → Type 0) (b : Bool) (x y : X) → P x → P y → P (if b then x else y)
@@ -82,7 +82,7 @@ number_some most text found is =
 
 -- ---- the forms
 
-plain_name : (f : Name → Command) (r : Result Name LineFault) → ((name : Name) → IsPlain (f name)) → Plain (naming f r)
+plain_name : (f : Name → Command) (r : Result Name LineFault) → ((name : Name) → IsFormed (f name)) → Plain (naming f r)
 plain_name f (Ok name) all = all name
 plain_name f (Err fault) all = tt
 
@@ -100,20 +100,20 @@ plain_rename parts =
     formed Plain (spelt_as new_name_of_bytes p.1) _ (λ fault. tt) (λ new is.
     named Plain old (λ old. with_name new (λ new. Ok (Rename old new))) (λ fault. tt) (λ old. named Plain new (λ new. Ok (Rename old new)) (λ fault. tt) (λ new. tt)))))
 
-plain_word : (word : List ℕ) (command : Command) → word_command word ≡ Some command → IsPlain command
+plain_word : (word : List ℕ) (command : Command) → word_command word ≡ Some command → IsFormed command
 plain_word word command is =
-    by_words (bytes_eq word (codes "dir")) (bytes_eq word (codes "label")) (bytes_eq word (codes "adopt")) (bytes_eq word (codes "devices")) (bytes_eq word (codes "status")) (bytes_eq word (codes "poll")) (bytes_eq word (codes "paper")) is
+    by_words (bytes_eq word (codes "dir")) (bytes_eq word (codes "label")) (bytes_eq word (codes "adopt")) (bytes_eq word (codes "upgrade")) (bytes_eq word (codes "begin")) (bytes_eq word (codes "commit")) (bytes_eq word (codes "devices")) (bytes_eq word (codes "status")) (bytes_eq word (codes "poll")) (bytes_eq word (codes "paper")) is
   where
-    plain_if : (b : Bool) (c : Command) (o : Option Command) → IsPlain c → (o ≡ Some command → IsPlain command) → (if b then Some c else o) ≡ Some command → IsPlain command
-    plain_if true c o plain more is = let same : c ≡ command = cc in subst IsPlain same plain
+    plain_if : (b : Bool) (c : Command) (o : Option Command) → IsFormed c → (o ≡ Some command → IsFormed command) → (if b then Some c else o) ≡ Some command → IsFormed command
+    plain_if true c o plain more is = let same : c ≡ command = cc in subst IsFormed same plain
     plain_if false c o plain more is = more is
 
-    none : None ≡ Some command → IsPlain command
+    none : None ≡ Some command → IsFormed command
     none is = cc
 
-    by_words : (a b d e f g h : Bool) → (if a then Some Dir else if b then Some Label else if d then Some Adopt else if e then Some Devices else if f then Some Status else if g then Some Poll else if h then Some Paper else None) ≡ Some command → IsPlain command
-    by_words a b d e f g h =
-        plain_if a Dir _ tt (plain_if b Label _ tt (plain_if d Adopt _ tt (plain_if e Devices _ tt (plain_if f Status _ tt (plain_if g Poll _ tt (plain_if h Paper _ tt none))))))
+    by_words : (a b d k m n e f g h : Bool) → (if a then Some Dir else if b then Some Label else if d then Some Adopt else if k then Some Upgrade else if m then Some Begin else if n then Some Commit else if e then Some Devices else if f then Some Status else if g then Some Poll else if h then Some Paper else None) ≡ Some command → IsFormed command
+    by_words a b d k m n e f g h =
+        plain_if a Dir _ tt (plain_if b Label _ tt (plain_if d Adopt _ tt (plain_if k Upgrade _ tt (plain_if m Begin _ tt (plain_if n Commit _ tt (plain_if e Devices _ tt (plain_if f Status _ tt (plain_if g Poll _ tt (plain_if h Paper _ tt none)))))))))
 
 plain_lone : (word : List ℕ) (parts : List (List ℕ)) → Plain (lone_of word parts)
 plain_lone word parts = formed Plain (word_command word) _ (λ fault. tt) (λ command is. either Plain (is_none parts) (Ok command) _ (plain_word word command is) tt)
@@ -158,18 +158,23 @@ plain_asked word parts =
 
 -- ---- lines
 
-plain_one : (r : Result Asked LineFault) (command : Command) → PlainAsked r → command_read (not_skipped r) ≡ Ok (Some command) → IsPlain command
-plain_one (Ok asked) command plain is = let same : asked.command ≡ command = cc in subst IsPlain same plain
+plain_one : (r : Result Asked LineFault) (command : Command) → PlainAsked r → command_read (not_skipped r) ≡ Ok (Some command) → IsFormed command
+plain_one (Ok asked) command plain is = let same : asked.command ≡ command = cc in subst IsFormed same plain
 plain_one (Err fault) command plain is = cc
 
-plain_words : (words : List (List ℕ)) (command : Command) → command_read (reading_of_words words) ≡ Ok (Some command) → IsPlain command
+plain_words : (words : List (List ℕ)) (command : Command) → command_read (reading_of_words words) ≡ Ok (Some command) → IsFormed command
 plain_words [] command is = cc
 plain_words (word ∷ parts) command is = by (is_comment word) is
   where
-    by : (b : Bool) → command_read (if b then Ok None else not_skipped (asked_of word parts)) ≡ Ok (Some command) → IsPlain command
+    by : (b : Bool) → command_read (if b then Ok None else not_skipped (asked_of word parts)) ≡ Ok (Some command) → IsFormed command
     by true is = cc
     by false is = plain_one (asked_of word parts) command (plain_asked word parts) is
 
 -- what a line asks for
-pub plain_read : (line : List ℕ) (command : Command) → command_read (reading_of line) ≡ Ok (Some command) → IsPlain command
+pub plain_read : (line : List ℕ) (command : Command) → command_read (reading_of line) ≡ Ok (Some command) → IsFormed command
 plain_read line command is = plain_words (words_of (without_return line)) command is
+
+-- of a line that is skipped nothing is asked
+pub read_formed : (line : List ℕ) (read : Option Command) → command_read (reading_of line) ≡ Ok read → IsFormedRead (Ok read)
+read_formed line None is = tt
+read_formed line (Some command) is = plain_read line command is

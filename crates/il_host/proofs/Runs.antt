@@ -1,39 +1,57 @@
 -- A run over a script, line by line.
-use Rattle.std.proofs.Common.{◌≡◌, ℕ, ◌≤◌, ◌<◌, ◌⊎◌, inl, inr, ◌&&◌, Bool, true, false, List, [], ◌∷◌, ◌++◌, Option, Some, None, is_some, length, take, map, refl, sym, ap, subst, ◌∙◌, arith, append-nil, length-append}
+use Rattle.std.proofs.Common.{◌≡◌, ℕ, ◌≤◌, ◌<◌, ◌⊎◌, inl, inr, ◌&&◌, Bool, true, false, List, [], ◌∷◌, ◌++◌, Option, Some, None, is_some, if◌then◌else◌, length, take, map, refl, sym, ap, subst, ◌∙◌, arith, append-nil, append_assoc, length-append}
 use Rattle.std.proofs.lemmas.List.{take-append-le, take_all}
 use Rattle.std.proofs.lemmas.List.Elements.{filter_map-append}
 use Rattle.std.specs.Prelude.{Result, Ok, Err}
 use Rattle.std.specs.List.{cons_option, flat_map}
 use Rattle.std.specs.Io.KnownBytes.{Appends, IsAtEnd}
 use Rattle.il_script.specs.declared.limits.TheConstants.{LONGEST_SCRIPT}
-use Rattle.il_script.specs.LineCut.{line_cut, line_told}
+use Rattle.il_script.specs.LineCut.{line_cut, line_told, lines_of}
 use Rattle.il_script.specs.Progress.{Progress, Given, GivesWhole, GivesAll, Turn, line_given}
 use Rattle.il_script.specs.Replies.{is_ok}
 use Rattle.il_script.specs.declared.lines.Line.{Line}
 use Rattle.il_script.specs.declared.lines.Line.TheVariants.{Text, TooLong, End, Fault, Over}
 use Rattle.il_script.specs.declared.reply.Reply.{Reply}
 use Rattle.il_script.proofs.Gives.{given-front}
-use Rattle.host_model.specs.Requests.{Item, item_of, items_in, items_of}
+use Rattle.host_model.specs.Requests.{Item, Gathering, Outside, reads, gathering_by, gathered, item_by, item_of, items_from, items_in, items_of, left_open, lone_items}
 use Rattle.host_model.specs.HostStates.{HostState}
 use Rattle.host_model.specs.Steps.{Event}
 use Rattle.host_model.specs.Runs.{items_asked, all_ok, event_text, output}
-use Rattle.host_model.specs.Leaves.{TellsTexts, WritesToLast, WritesPart}
+use Rattle.host_model.specs.Leaves.{AsksFirst, TellsTexts, WritesToLast, WritesPart}
+use Rattle.host_model.specs.Endings.{HasEndingCause}
 use Rattle.host_model.specs.Orders.{quiet_mode}
 use Rattle.host_model.proofs.Growing.{all_ok_more, texts_more, told_stays}
 use Rattle.il_host.specs.HostView.{HostView, IsHost}
-use Rattle.il_host.specs.Run.{Answers, AnswersScript, event_of}
+use Rattle.il_host.specs.Run.{Answers, AnswersScript, end_of, event_of}
 use Rattle.il_host.specs.Writing.{WritesAll}
+use Rattle.il_host.specs.declared.ending.Ending.{Ending}
 use Rattle.il_host.specs.declared.ending.Ending.TheVariants as ending
 use Rattle.il_host.proofs.Answered.{Answered, answered_none, answered_more, answers_script}
 use Rattle.il_host.proofs.Known.{appends-trans, appends-none}
 
 -- ---- items
 
-pub items_push : (given : List (Option (List ℕ))) (line : Option (List ℕ)) (item : Item) → item_of line ≡ Some item → items_in (given ++ line ∷ []) ≡ items_in given ++ item ∷ []
-items_push given line item i = filter_map-append item_of given (line ∷ []) ∙ ap (λ o. items_in given ++ cons_option o []) i
+-- of lines of which none begins a batch
+pub lone_push : (given : List (Option (List ℕ))) (line : Option (List ℕ)) (item : Item) → item_of line ≡ Some item → lone_items (given ++ line ∷ []) ≡ lone_items given ++ item ∷ []
+lone_push given line item i = filter_map-append item_of given (line ∷ []) ∙ ap (λ o. lone_items given ++ cons_option o []) i
 
-items_same : (given : List (Option (List ℕ))) (line : Option (List ℕ)) → item_of line ≡ None → items_in (given ++ line ∷ []) ≡ items_in given
-items_same given line n = filter_map-append item_of given (line ∷ []) ∙ ap (λ o. items_in given ++ cons_option o []) n ∙ append-nil (items_in given)
+gathered_append : (g : Gathering) (xs ys : List (Option (List ℕ))) → gathered g (xs ++ ys) ≡ gathered (gathered g xs) ys
+gathered_append g [] ys = refl
+gathered_append g (x ∷ xs) ys = gathered_append (gathering_by g (reads x)) xs ys
+
+items_append : (g : Gathering) (xs ys : List (Option (List ℕ))) → items_from g (xs ++ ys) ≡ items_from g xs ++ items_from (gathered g xs) ys
+items_append g [] ys = refl
+items_append g (x ∷ xs) ys = go (item_by g (reads x)) (items_append (gathering_by g (reads x)) xs ys)
+  where
+    go : (o : Option Item) → items_from (gathering_by g (reads x)) (xs ++ ys) ≡ items_from (gathering_by g (reads x)) xs ++ items_from (gathered (gathering_by g (reads x)) xs) ys
+        → cons_option o (items_from (gathering_by g (reads x)) (xs ++ ys)) ≡ cons_option o (items_from (gathering_by g (reads x)) xs) ++ items_from (gathered (gathering_by g (reads x)) xs) ys
+    go None rest = rest
+    go (Some item) rest = ap (λ items. item ∷ items) rest
+
+-- a line more, which makes this item or none
+items_push : (given : List (Option (List ℕ))) (standing : Gathering) (line : Option (List ℕ)) (o : Option Item) → gathered Outside given ≡ standing → item_by standing (reads line) ≡ o
+    → items_in (given ++ line ∷ []) ≡ items_in given ++ cons_option o []
+items_push given standing line o is makes = items_append Outside given (line ∷ []) ∙ ap (λ p. items_in given ++ cons_option p []) (ap (λ g. item_by g (reads line)) is ∙ makes)
 
 -- ---- texts
 
@@ -73,18 +91,20 @@ given-fresh script left e = record {
   lines = inl (record { lines = refl; begun = refl });
 }
 
--- the items of what was given of the script were answered, from v to w
-pub record Sofar (quiet : Bool) (progress : Progress) (v w : HostView) (left_before left before now : Option (List ℕ)) (ok : Bool) : Type 0 where
+-- the items of what was given of the script were answered, from v to w, and this stands open
+pub record Sofar (quiet : Bool) (progress : Progress) (standing : Gathering) (v w : HostView) (left_before left before now : Option (List ℕ)) (ok : Bool) : Type 0 where
   pub given : List (Option (List ℕ))
+  pub opens : gathered Outside given ≡ standing
   pub events : List Event
   pub answered : Answered v w (items_in given) events
   pub stands : (script : List ℕ) → left_before ≡ Some script → Given script progress left given
   pub written : is_some v.state.tape ≡ true → Appends before now (texts quiet events)
   pub replies : all_ok events ≡ ok
 
-pub sofar-start : (quiet : Bool) (progress : Progress) (v : HostView) (left now : Option (List ℕ)) → progress ≡ fresh → IsHost v → Sofar quiet progress v v left left now now true
+pub sofar-start : (quiet : Bool) (progress : Progress) (v : HostView) (left now : Option (List ℕ)) → progress ≡ fresh → IsHost v → Sofar quiet progress Outside v v left left now now true
 sofar-start quiet progress v left now e host = record {
   given = [];
+  opens = refl;
   events = [];
   answered = answered_none v host;
   stands = λ script told. subst (λ (p : Progress). Given script p left []) (sym e) (given-fresh script left told);
@@ -107,21 +127,25 @@ turn-line script new left given Fault a b d t = absurd (b refl)
 turn-line script new left given Over a b d t = absurd (d refl)
 
 -- the turn gave a line more, and the host stands as before
-pub sofar-gives : (quiet : Bool) (old new : Progress) (v w : HostView) (left_before left left' before now : Option (List ℕ)) (ok : Bool) (line : Line)
-    → (s : Sofar quiet old v w left_before left before now ok) → GivesLine old left new left' line
+pub sofar-gives : (quiet : Bool) (old new : Progress) (standing : Gathering) (v w : HostView) (left_before left left' before now : Option (List ℕ)) (ok : Bool) (line : Line)
+    → (s : Sofar quiet old standing v w left_before left before now ok) → GivesLine old left new left' line
     → (line ≡ End → ⊥) → (line ≡ Fault → ⊥) → (line ≡ Over → ⊥)
     → (script : List ℕ) → left_before ≡ Some script → Given script new left' (s.given ++ line_given new line ∷ [])
-sofar-gives quiet old new v w left_before left left' before now ok line s gives a b d script told =
+sofar-gives quiet old new standing v w left_before left left' before now ok line s gives a b d script told =
     turn-line script new left' s.given line a b d (gives script s.given (s.stands script told))
 
+opens_more : (given : List (Option (List ℕ))) (line : Option (List ℕ)) (standing after : Gathering) → gathered Outside given ≡ standing → after ≡ gathering_by standing (reads line) → gathered Outside (given ++ line ∷ []) ≡ after
+opens_more given line standing after is goes = gathered_append Outside given (line ∷ []) ∙ ap (λ g. gathering_by g (reads line)) is ∙ sym goes
+
 -- a line that asks for nothing
-pub sofar-skips : (quiet : Bool) (old new : Progress) (v w : HostView) (left_before left left' before now : Option (List ℕ)) (ok : Bool) (line : Option (List ℕ))
-    → (s : Sofar quiet old v w left_before left before now ok) → ((script : List ℕ) → left_before ≡ Some script → Given script new left' (s.given ++ line ∷ []))
-    → item_of line ≡ None → Sofar quiet new v w left_before left' before now ok
-sofar-skips quiet old new v w left_before left left' before now ok line s g n = record {
+pub sofar-skips : (quiet : Bool) (old new : Progress) (standing after : Gathering) (v w : HostView) (left_before left left' before now : Option (List ℕ)) (ok : Bool) (line : Option (List ℕ))
+    → (s : Sofar quiet old standing v w left_before left before now ok) → ((script : List ℕ) → left_before ≡ Some script → Given script new left' (s.given ++ line ∷ []))
+    → after ≡ gathering_by standing (reads line) → item_by standing (reads line) ≡ None → Sofar quiet new after v w left_before left' before now ok
+sofar-skips quiet old new standing after v w left_before left left' before now ok line s g goes n = record {
   given = s.given ++ line ∷ [];
+  opens = opens_more s.given line standing after s.opens goes;
   events = s.events;
-  answered = subst (λ items. Answered v w items s.events) (sym (items_same s.given line n)) s.answered;
+  answered = subst (λ items. Answered v w items s.events) (sym (items_push s.given standing line None s.opens n ∙ append-nil (items_in s.given))) s.answered;
   stands = g;
   written = s.written;
   replies = s.replies;
@@ -129,43 +153,35 @@ sofar-skips quiet old new v w left_before left left' before now ok line s g n = 
 
 -- ---- a line that was answered
 
--- all but what was written
-module _ {E : Type 0} (quiet : Bool) (old new : Progress) (v w x : HostView) (left_before left left' before now now' : Option (List ℕ)) (ok : Bool) (line : Option (List ℕ)) (item : Item) (r : Reply)
-    (written : Result (Unit {0}) E) (s : Sofar quiet old v w left_before left before now ok)
-    (g : (script : List ℕ) → left_before ≡ Some script → Given script new left' (s.given ++ line ∷ [])) (i : item_of line ≡ Some item) (a : Answers item r (quiet_mode quiet) w x now now' written) where
+-- an item more, and the items that it makes
+module _ {E : Type 0} (quiet : Bool) (old : Progress) (standing : Gathering) (v w x : HostView) (left_before left before now now' : Option (List ℕ)) (ok : Bool) (item : Item) (r : Reply)
+    (written : Result (Unit {0}) E) (s : Sofar quiet old standing v w left_before left before now ok) (a : Answers item r (quiet_mode quiet) w x now now' written) where
   abbrev e : Event
   e = event_of item r a.log w x
 
-  answered : Answered v x (items_in (s.given ++ line ∷ [])) (s.events ++ e ∷ [])
-  answered = subst (λ items. Answered v x items (s.events ++ e ∷ [])) (sym (items_push s.given line item i))
-      (answered_more v w x (items_in s.given) s.events item r (quiet_mode quiet) now now' written s.answered a)
+  answered_all : (items : List Item) → items ≡ items_in s.given ++ item ∷ [] → Answered v x items (s.events ++ e ∷ [])
+  answered_all items is = subst (λ items. Answered v x items (s.events ++ e ∷ [])) (sym is) (answered_more v w x (items_in s.given) s.events item r (quiet_mode quiet) now now' written s.answered a)
 
   told_now : is_some v.state.tape ≡ true → is_some w.state.tape ≡ true
   told_now told = told_stays v.hops v.state s.events w.state s.answered.chain ∙ told
 
-  -- and its text was written
-  pub sofar-more : (all : Bool) (u : Unit {0}) → written ≡ Ok u → all ≡ (ok && is_ok r) → Sofar quiet new v x left_before left' before now' all
-  sofar-more all u is o = record {
-    given = s.given ++ line ∷ [];
-    events = s.events ++ e ∷ [];
-    answered = answered;
-    stands = g;
-    written = λ told.
-        let here = subst (λ (r : Result (Unit {0}) E). WritesAll now now' (event_text (quiet_mode quiet) e) r) is (a.bytes (λ h. told_now told)) in
-        subst (λ l. Appends before now' l) (sym (texts_more (quiet_mode quiet) s.events e))
-        (appends-trans before now now' (texts quiet s.events) (event_text (quiet_mode quiet) e) (s.written told) here);
-    replies = all_ok_more s.events e ∙ ap (λ b. b && is_ok r) s.replies ∙ sym o;
-  }
+  -- its text was written
+  written_all : (u : Unit {0}) → written ≡ Ok u → is_some v.state.tape ≡ true → Appends before now' (texts quiet (s.events ++ e ∷ []))
+  written_all u is told =
+      let here = subst (λ (r : Result (Unit {0}) E). WritesAll now now' (event_text (quiet_mode quiet) e) r) is (a.bytes (λ h. told_now told)) in
+      subst (λ l. Appends before now' l) (sym (texts_more (quiet_mode quiet) s.events e))
+      (appends-trans before now now' (texts quiet s.events) (event_text (quiet_mode quiet) e) (s.written told) here)
+
+  replies_all : (all : Bool) → all ≡ (ok && is_ok r) → all_ok (s.events ++ e ∷ []) ≡ all
+  replies_all all o = all_ok_more s.events e ∙ ap (λ b. b && is_ok r) s.replies ∙ sym o
 
   -- or the sink failed
-  pub ends-front : (failed : E) → written ≡ Err failed → AnswersScript None ending.SinkFailed (quiet_mode quiet) v x left_before left' before now'
-  ends-front failed is = answers_script None ending.SinkFailed (quiet_mode quiet) v x left_before left' before now' _ (s.events ++ e ∷ []) answered
-      (λ script told.
-      let f = given-front script new left' (s.given ++ line ∷ []) (g script told) in
-      record {
-        more = items_in f.more;
-        are = ap items_in f.whole ∙ filter_map-append item_of (s.given ++ line ∷ []) f.more ∙ ap (λ l. l ++ items_in f.more) (sym answered.asked);
-      })
+  failed_at : (failed : E) → written ≡ Err failed → (items : List Item) → items ≡ items_in s.given ++ item ∷ [] → ((script : List ℕ) → left_before ≡ Some script → AsksFirst script items) → (left' : Option (List ℕ))
+      → AnswersScript None ending.SinkFailed (quiet_mode quiet) v x left_before left' before now'
+  failed_at failed is items items_are first left' =
+      let answered = answered_all items items_are in
+      answers_script None ending.SinkFailed (quiet_mode quiet) v x left_before left' before now' _ (s.events ++ e ∷ []) answered
+      (λ script told. let asks = first script told in record { more = asks.more; are = asks.are ∙ ap (λ l. l ++ asks.more) (sym answered.asked) })
       tt
       (λ tells.
       let told = tells_texts quiet v.state tells in
@@ -180,6 +196,37 @@ module _ {E : Type 0} (quiet : Bool) (old new : Progress) (v w x : HostView) (le
         written = appends-trans before now now' (output (quiet_mode quiet) s.events) (take here.0 (event_text (quiet_mode quiet) e)) done here.2;
       }))
 
+-- of a line
+module _ {E : Type 0} (quiet : Bool) (old new : Progress) (standing after : Gathering) (v w x : HostView) (left_before left left' before now now' : Option (List ℕ)) (ok : Bool) (line : Option (List ℕ)) (item : Item) (r : Reply)
+    (written : Result (Unit {0}) E) (s : Sofar quiet old standing v w left_before left before now ok)
+    (g : (script : List ℕ) → left_before ≡ Some script → Given script new left' (s.given ++ line ∷ [])) (goes : after ≡ gathering_by standing (reads line)) (i : item_by standing (reads line) ≡ Some item)
+    (a : Answers item r (quiet_mode quiet) w x now now' written) where
+  items_now : items_in (s.given ++ line ∷ []) ≡ items_in s.given ++ item ∷ []
+  items_now = items_push s.given standing line (Some item) s.opens i
+
+  pub sofar-more : (all : Bool) (u : Unit {0}) → written ≡ Ok u → all ≡ (ok && is_ok r) → Sofar quiet new after v x left_before left' before now' all
+  sofar-more all u is o = record {
+    given = s.given ++ line ∷ [];
+    opens = opens_more s.given line standing after s.opens goes;
+    events = s.events ++ event_of item r a.log w x ∷ [];
+    answered = answered_all quiet old standing v w x left_before left before now now' ok item r written s a (items_in (s.given ++ line ∷ [])) items_now;
+    stands = g;
+    written = written_all quiet old standing v w x left_before left before now now' ok item r written s a u is;
+    replies = replies_all quiet old standing v w x left_before left before now now' ok item r written s a all o;
+  }
+
+  pub ends-front : (failed : E) → written ≡ Err failed → AnswersScript None ending.SinkFailed (quiet_mode quiet) v x left_before left' before now'
+  ends-front failed is = failed_at quiet old standing v w x left_before left before now now' ok item r written s a failed is (items_in (s.given ++ line ∷ [])) items_now
+      (λ script told.
+      let f = given-front script new left' (s.given ++ line ∷ []) (g script told) in
+      let all : List (Option (List ℕ)) = map line_told (lines_of script) in
+      record {
+        more = items_from (gathered Outside (s.given ++ line ∷ [])) f.more ++ left_open (gathered Outside all);
+        are = ap (λ ls. items_in ls ++ left_open (gathered Outside all)) f.whole
+            ∙ ap (λ items. items ++ left_open (gathered Outside all)) (items_append Outside (s.given ++ line ∷ []) f.more)
+            ∙ append_assoc (items_in (s.given ++ line ∷ [])) (items_from (gathered Outside (s.given ++ line ∷ [])) f.more) (left_open (gathered Outside all));
+      }) left'
+
 -- ---- ends
 
 going-whole : (behind : List ℕ) (new : Progress) (given : List (Option (List ℕ))) → new.ended ≡ false → GivesWhole behind new.begun given ⊎ GivesAll behind new given → given ≡ map line_told (line_cut behind).whole
@@ -191,21 +238,53 @@ held-whole behind new given e (inl w) = w.lines
 held-whole behind new given e (inr w) = absurd (omega (arith, ap length w.held))
 
 -- the turn that gave no line
-module _ (quiet : Bool) (old new : Progress) (v w : HostView) (left_before left left' before now : Option (List ℕ)) (ok : Bool) (s : Sofar quiet old v w left_before left before now ok) where
+module _ (quiet : Bool) (old new : Progress) (standing : Gathering) (v w : HostView) (left_before left left' before now : Option (List ℕ)) (ok : Bool) (s : Sofar quiet old standing v w left_before left before now ok) where
   whole : TellsTexts (quiet_mode quiet) v.state → Appends before now (output (quiet_mode quiet) s.events)
   whole tells = subst (λ l. Appends before now l) (sym (output_is quiet s.events)) (s.written (tells_texts quiet v.state tells))
 
-  -- the script was read to its end
-  ended : (script : List ℕ) → GivesLine old left new left' End → left_before ≡ Some script → (items_asked s.events ≡ items_of script) × IsAtEnd left' × (length script ≤ LONGEST_SCRIPT)
+  -- the script was read to its end, where this is left open
+  ended : (script : List ℕ) → GivesLine old left new left' End → left_before ≡ Some script → (items_of script ≡ items_in s.given ++ left_open standing) × IsAtEnd left' × (length script ≤ LONGEST_SCRIPT)
   ended script gives told =
       let t = gives script s.given (s.stands script told) in
-      (s.answered.asked ∙ ap items_in t.0, t.1, t.2)
+      (sym (ap (λ ls. items_in ls ++ left_open (gathered Outside ls)) t.0) ∙ ap (λ g. items_in s.given ++ left_open g) s.opens, t.1, t.2)
 
-  pub ends-ok : GivesLine old left new left' End → ok ≡ true → AnswersScript None ending.AllOk (quiet_mode quiet) v w left_before left' before now
-  ends-ok gives e = answers_script None ending.AllOk (quiet_mode quiet) v w left_before left' before now _ s.events s.answered (λ script told. ended script gives told) (s.replies ∙ e) whole
+  -- nothing is left open
+  pub ends-whole : GivesLine old left new left' End → left_open standing ≡ [] → (end : Ending) → end ≡ (if ok then ending.AllOk else ending.SomeNotOk) → AnswersScript None end (quiet_mode quiet) v w left_before left' before now
+  ends-whole gives none end is = subst (λ (d : Ending). AnswersScript None d (quiet_mode quiet) v w left_before left' before now) (sym is) (by ok s.replies)
+    where
+      asks : (script : List ℕ) → left_before ≡ Some script → (items_asked s.events ≡ items_of script) × IsAtEnd left' × (length script ≤ LONGEST_SCRIPT)
+      asks script told =
+          let e = ended script gives told in
+          (s.answered.asked ∙ sym (e.0 ∙ ap (λ items. items_in s.given ++ items) none ∙ append-nil (items_in s.given)), e.1, e.2)
 
-  pub ends-not-ok : GivesLine old left new left' End → ok ≡ false → AnswersScript None ending.SomeNotOk (quiet_mode quiet) v w left_before left' before now
-  ends-not-ok gives e = answers_script None ending.SomeNotOk (quiet_mode quiet) v w left_before left' before now _ s.events s.answered (λ script told. ended script gives told) (s.replies ∙ e) whole
+      by : (b : Bool) → all_ok s.events ≡ b → AnswersScript None (if b then ending.AllOk else ending.SomeNotOk) (quiet_mode quiet) v w left_before left' before now
+      by true good = answers_script None ending.AllOk (quiet_mode quiet) v w left_before left' before now _ s.events s.answered asks good whole
+      by false bad = answers_script None ending.SomeNotOk (quiet_mode quiet) v w left_before left' before now _ s.events s.answered asks bad whole
+
+  -- a batch is left open, and that was answered
+  module _ {E : Type 0} (x : HostView) (now' : Option (List ℕ)) (item : Item) (r : Reply) (written : Result (Unit {0}) E) (a : Answers item r (quiet_mode quiet) w x now now' written) (leaves : left_open standing ≡ item ∷ []) (gives : GivesLine old left new left' End) where
+    pub ends-open : (u : Unit {0}) → written ≡ Ok u → (end : Ending) → end ≡ (if ok && is_ok r then ending.AllOk else ending.SomeNotOk) → AnswersScript None end (quiet_mode quiet) v x left_before left' before now'
+    ends-open u is end end_is = subst (λ (d : Ending). AnswersScript None d (quiet_mode quiet) v x left_before left' before now') (sym end_is) (by (ok && is_ok r) (replies_all quiet old standing v w x left_before left before now now' ok item r written s a (ok && is_ok r) refl))
+      where
+        answered : Answered v x (items_in s.given ++ item ∷ []) (s.events ++ event_of item r a.log w x ∷ [])
+        answered = answered_all quiet old standing v w x left_before left before now now' ok item r written s a (items_in s.given ++ item ∷ []) refl
+
+        asks : (script : List ℕ) → left_before ≡ Some script → (items_asked (s.events ++ event_of item r a.log w x ∷ []) ≡ items_of script) × IsAtEnd left' × (length script ≤ LONGEST_SCRIPT)
+        asks script told =
+            let e = ended script gives told in
+            (answered.asked ∙ sym (e.0 ∙ ap (λ items. items_in s.given ++ items) leaves), e.1, e.2)
+
+        all_written : TellsTexts (quiet_mode quiet) v.state → Appends before now' (output (quiet_mode quiet) (s.events ++ event_of item r a.log w x ∷ []))
+        all_written tells = subst (λ l. Appends before now' l) (sym (output_is quiet (s.events ++ event_of item r a.log w x ∷ [])))
+            (written_all quiet old standing v w x left_before left before now now' ok item r written s a u is (tells_texts quiet v.state tells))
+
+        by : (b : Bool) → all_ok (s.events ++ event_of item r a.log w x ∷ []) ≡ b → AnswersScript None (if b then ending.AllOk else ending.SomeNotOk) (quiet_mode quiet) v x left_before left' before now'
+        by true good = answers_script None ending.AllOk (quiet_mode quiet) v x left_before left' before now' _ (s.events ++ event_of item r a.log w x ∷ []) answered asks good all_written
+        by false bad = answers_script None ending.SomeNotOk (quiet_mode quiet) v x left_before left' before now' _ (s.events ++ event_of item r a.log w x ∷ []) answered asks bad all_written
+
+    pub ends-open-front : (failed : E) → written ≡ Err failed → AnswersScript None ending.SinkFailed (quiet_mode quiet) v x left_before left' before now'
+    ends-open-front failed is = failed_at quiet old standing v w x left_before left before now now' ok item r written s a failed is (items_in s.given ++ item ∷ []) refl
+        (λ script told. record { more = []; are = (ended script gives told).0 ∙ ap (λ items. items_in s.given ++ items) leaves ∙ sym (append-nil (items_in s.given ++ item ∷ [])) }) left'
 
   -- the source failed
   pub ends-taken : GivesLine old left new left' Fault → (new.ended ≡ false) × (new.held ≡ []) → AnswersScript None ending.SourceFailed (quiet_mode quiet) v w left_before left' before now
@@ -232,3 +311,12 @@ module _ (quiet : Bool) (old new : Progress) (v w : HostView) (left_before left 
         s.answered.asked ∙ ap items_in (held-whole t.behind new s.given e.1 t.lines) ∙ ap (λ l. items_in (map line_told (line_cut l).whole)) (sym front),
       ))
       tt whole
+
+-- the counts of faults behind a script that was answered whole
+pub whole_cause : (b : Bool) (end : Ending) (source source_now sink sink_now medium medium_now : ℕ) → end ≡ (if b then ending.AllOk else ending.SomeNotOk) → source_now ≡ source → sink_now ≡ sink → medium ≤ medium_now
+    → HasEndingCause (end_of end) source source_now sink sink_now medium medium_now
+whole_cause b end source source_now sink sink_now medium medium_now is source_is sink_is grown = subst (λ (d : Ending). HasEndingCause (end_of d) source source_now sink sink_now medium medium_now) (sym is) (by b)
+  where
+    by : (b : Bool) → HasEndingCause (end_of (if b then ending.AllOk else ending.SomeNotOk)) source source_now sink sink_now medium medium_now
+    by true = record { source = source_is; sink = sink_is; medium = grown }
+    by false = record { source = source_is; sink = sink_is; medium = grown }

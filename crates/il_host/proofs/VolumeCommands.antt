@@ -174,7 +174,7 @@ module _ {M : Type 0} (view : M → MediumView) (command : VolumeCommand) (begun
       }
 
   -- The store was made sound, and the volume's command did with it what every store allows. The reply fits the answer of the store; with ok
-  -- the bytes of a store or fetch were carried.
+  -- the bytes of a store, a batch or a fetch were carried.
   pub volume_done : {S T : Type 0} (x : T) (seen : S → RingView M) (p q : Option S) (calls : ℕ) (mid : LoopView M) (answer : Result (Unit {0}) Trouble) (answered : Reply) → begun.since ≡ since.Unbroken → MakesSound view begun mid (Ok x)
       → Agrees seen p mid.control → GoesOn calls (view_of view seen p mid) (view_of view seen q new) answer → FitsAnswer answer answered
       → CarriesAs command answered (state_at view begun.sound begun.control).records (volume_at (state_at view begun.sound begun.control)) (view_of view seen q new).transferred

@@ -9,5 +9,6 @@ pub mod IsHosts
 pub mod PlainCommands
 pub mod Words
 pub mod Whole
+pub mod Gathering
 pub mod Generating
 pub mod Buffers

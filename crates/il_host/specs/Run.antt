@@ -3,7 +3,9 @@ use Rattle.std.specs.Prelude.{◌≡◌, ℕ, true, List, Option, Result, is_som
 use Rattle.lif_model.specs.Stops.{LeavesOnly}
 use Rattle.il_frames.specs.declared.entry.Entry.{Entry}
 use Rattle.il_script.specs.declared.reply.Reply.{Reply}
-use Rattle.host_model.specs.Requests.{Item, NoCommand, item_for}
+use Rattle.lif_model.specs.Parts.{Part}
+use Rattle.lif_model.specs.Apply.{Batch}
+use Rattle.host_model.specs.Requests.{Item, Asks, OfVolume, NoCommand, item_for}
 use Rattle.host_model.specs.HostStates.{HasOwnGate}
 use Rattle.host_model.specs.Steps.{Event, IsStep, TellsReply}
 use Rattle.host_model.specs.Stops.{StopsLeave, LeftWithin}
@@ -34,10 +36,11 @@ end_of ending.InsertFailed = end.InsertFailed
 
 -- ---- one line
 
--- the item of what a line asks for, with the bytes that the line carries
-abbrev pub item_asked : Asked → List ℕ → Item
-item_asked (asked.Command command) bytes = item_for command bytes
-item_asked (asked.NoCommand code) bytes = NoCommand code
+-- the item of what a line asks for, with the bytes that the line carries, or the parts of the batch that it ends
+abbrev pub item_asked : Asked → List ℕ → List Part → Item
+item_asked (asked.Command command) bytes parts = item_for command bytes
+item_asked asked.Batch bytes parts = Asks (OfVolume (Batch parts))
+item_asked (asked.NoCommand code) bytes parts = NoCommand code
 
 -- an item that was answered, with this log
 abbrev pub event_of : Item → Reply → List Entry → HostView → HostView → Event

@@ -8,7 +8,7 @@ ghost use Rattle.host_model.specs.Replies.{bytes_text};
 ghost use Rattle.host_model.specs.Requests.{item_of};
 ghost use Rattle.host_model.specs.Runs.{Summary, count_line};
 ghost use Rattle.il_host.specs.Generating.{next_line, next_state, line_at, state_at, AnswersLine};
-ghost use Rattle.il_host.specs.PlainCommands.{IsPlainAsked};
+ghost use Rattle.il_host.specs.PlainCommands.{IsAlone, IsPlainAsked};
 ghost use Rattle.il_host.specs.Run.{Answers, AnswersScript, end_of, item_asked};
 
 use crate::ending::Ending;
@@ -132,11 +132,13 @@ fn put_line(page: &mut Page, draws: &mut Draws, place: u16)
 fn reply_to<P: Performer>(host: &mut P, asked: Asked, bytes: &[u8]) -> Reply
     requires valid { (P.view host.old).valid }
     requires plain { IsPlainAsked asked }
+    requires alone { IsAlone asked }
     requires few { length bytes.now ≤ LONGEST_PAYLOAD }
-    ensures { (written : Option (List ℕ)) → Answers {E = Unit {0}} (item_asked asked bytes.now) result Summary (P.view host.old) (P.view host.new) written written (Ok tt) }
+    ensures { (written : Option (List ℕ)) → Answers {E = Unit {0}} (item_asked asked bytes.now []) result Summary (P.view host.old) (P.view host.new) written written (Ok tt) }
 {
     match asked {
         Asked::Command(command) => host.perform(&command, bytes),
+        Asked::Batch => unreachable!(),
         Asked::NoCommand(code) => Reply::No(code),
     }
 }

@@ -11,6 +11,7 @@ use il_frames::Entry;
 use il_ports::{Medium, Records, Trouble};
 use il_record::{LoopRecords, Looped};
 use il_script::{Command, Page, Reply};
+use lif_dir::Batch;
 use lif_volume::Volume;
 use std::marker::PhantomData;
 
@@ -25,18 +26,12 @@ pub struct Host<M: Medium> {
 }
 
 impl<M: Medium + Drop> Performer for Host<M> {
-    ghost use Rattle.std.specs.Prelude.{map};
+    ghost use Rattle.il_ring.specs.Seen.{ring_seen};
     ghost use Rattle.il_host.specs.HostView.{HostView};
     ghost use Rattle.il_host.specs.Hosts.{host_in};
     ghost use Rattle.il_host.specs.IsHosts.{is_host_at};
 
-    ghost view = { λ h. host_in M.view
-        (λ r. record {
-          before = map (λ b. (Device-box b).state b.value) r.boxes.before.items;
-          drive = r.drive;
-          after = map (λ b. (Device-box b).state b.value) r.boxes.after.items;
-          books = r.books;
-        })
+    ghost view = { λ h. host_in M.view (ring_seen (λ b. (Device-box b).state b.value))
         h.volume h.page.text h.page.room (length h.file.items) };
 
     ghost is_host = { λ h valid. is_host_at M.view _ h.volume h.page.text h.page.room (length h.file.items) M.is_medium valid };
@@ -58,8 +53,15 @@ impl<M: Medium + Drop> Performer for Host<M> {
             | Command::Rename { .. }
             | Command::Purge(_)
             | Command::Format { .. }
-            | Command::Adopt => self.on_volume(command, bytes),
+            | Command::Adopt
+            | Command::Upgrade => self.on_volume(command, bytes),
+            Command::Begin | Command::Commit => unreachable!(),
         }
+    }
+
+    fn perform_batch(&mut self, batch: &Batch) -> Reply {
+        self.page.clear();
+        self.on_batch(batch)
     }
 
     fn text(&self) -> &[u8] {
@@ -96,8 +98,6 @@ impl<M: Medium + Drop> Host<M> {
         ensures ended { Ends reply self.old.volume self.old.page (length self.old.file.items) result self.new.volume self.new.page (length self.new.file.items) }
         ensures drive { HasDriveStatus (⟦<LoopRecords<M> as Looped<M>>⟧.looped self.old.volume.records).control }
     {
-        // Behind it the proof sees what holds of the drive.
-        let _ = self.volume.records().ring().medium();
         self.page.put(reply.last_line());
         reply
     }

@@ -5,6 +5,7 @@
 #![tactic(auto)]
 
 mod ending;
+mod gathering;
 mod generating;
 mod host;
 mod listing;

@@ -8,7 +8,7 @@ ghost use Rattle.lif_volume.specs.Views.{IsOpen};
 ghost use Rattle.host_model.specs.Requests.{Asks, Devices, Paper, Poll, Say, Status};
 ghost use Rattle.il_host.specs.HostView.{Performed};
 ghost use Rattle.il_host.specs.Hosts.{volume_in};
-ghost use Rattle.il_host.specs.Standings.{HasDriveId, KeepsPage};
+ghost use Rattle.il_host.specs.Standings.{KeepsPage};
 
 use crate::host::Host;
 use crate::loop_texts::{put_devices, put_paper, put_poll, put_status};
@@ -63,7 +63,6 @@ impl<M: Medium + Drop> Host<M> {
         requires blank { (⟦<Host<M> as Performer>⟧.view self.old).text ≡ [] }
         ensures { Performed (Asks Devices) result (⟦<Host<M> as Performer>⟧.view self.old) (⟦<Host<M> as Performer>⟧.view self.new) }
     {
-        self.see_drive();
         self.volume.begin();
         if let Err(trouble) = self.make_ready() {
             return self.faulted(trouble);
@@ -85,7 +84,6 @@ impl<M: Medium + Drop> Host<M> {
         requires few { length bytes.now ≤ LONGEST_PAYLOAD }
         ensures { Performed (Asks (Say bytes.now)) result (⟦<Host<M> as Performer>⟧.view self.old) (⟦<Host<M> as Performer>⟧.view self.new) }
     {
-        self.see_drive();
         self.volume.begin();
         if let Err(trouble) = self.make_ready() {
             return self.faulted(trouble);
@@ -117,14 +115,6 @@ impl<M: Medium + Drop> Host<M> {
             }
             None => self.answered(Reply::No(Code::NoPrinter)),
         }
-    }
-
-    /// Behind it the proof sees the accessory ID of the drive.
-    fn see_drive(&self)
-        requires { IsOpen ⟦<LoopRecords<M> as Records>⟧.view (volume_in self.now.volume) }
-        ensures { HasDriveId (⟦<LoopRecords<M> as Looped<M>>⟧.looped self.now.volume.records).control }
-    {
-        let _ = self.volume.records().ring().medium();
     }
 
     /// Addresses the loop, where it is not ready. Else what is kept of the directory stays.

@@ -1,5 +1,6 @@
 use il_frames::Entry;
 use il_script::{Command, Reply};
+use lif_dir::Batch;
 
 /// What performs commands, one after the other. The loop over a script is proved for every performer, and the host is
 /// one.
@@ -9,6 +10,9 @@ pub trait Performer {
     ghost use Rattle.host_model.specs.Requests.{item_for};
     ghost use Rattle.il_host.specs.HostView.{HostView, IsHost, Performed};
     ghost use Rattle.il_host.specs.PlainCommands.{IsPlain};
+    ghost use Rattle.lif_model.specs.Apply as volume;
+    ghost use Rattle.lif_dir.specs.Batches.{parts_of};
+    ghost use Rattle.host_model.specs.Requests.{Asks, OfVolume};
 
     ghost view: { Self → HostView };
 
@@ -18,6 +22,11 @@ pub trait Performer {
         requires plain { IsPlain command.now }
         requires few { length bytes.now ≤ LONGEST_PAYLOAD }
         ensures { Performed (item_for command.now bytes.now) result (view self.old) (view self.new) };
+
+    /// Makes the changes of a batch as one.
+    fn perform_batch(&mut self, batch: &Batch) -> Reply
+        requires valid { (view self.old).valid }
+        ensures { Performed (Asks (OfVolume (volume.Batch (parts_of batch.now)))) result (view self.old) (view self.new) };
 
     /// The text of the reply to the last command.
     fn text(&self) -> &[u8]

@@ -12,6 +12,7 @@ use crate::running::answer_all;
 use il_ports::{Sink, Source};
 use il_script::{Lines, Page, Payload};
 use il_words::Generated;
+use lif_dir::Batch;
 use std::alloc::{AllocError, Global};
 
 /// Memory for the lines of a script and what they carry.
@@ -19,6 +20,8 @@ use std::alloc::{AllocError, Global};
 pub struct Buffers {
     pub lines: Lines,
     pub payload: Payload,
+    /// What `begin` and `commit` put together.
+    pub batch: Batch,
     /// A line that is generated.
     pub page: Page,
 }
@@ -31,6 +34,7 @@ impl Buffers {
         Ok(Buffers {
             lines: Lines::new(alloc)?,
             payload: Payload::new(alloc)?,
+            batch: Batch::new(alloc)?,
             page: Page::new(alloc, GENERATED_ROOM)?,
         })
     }
@@ -57,7 +61,15 @@ pub fn answer_script<S: Source, P: Performer, K: Sink>(
     ensures late { IsEarly (end_of result) → ⊥ }
 {
     match generated {
-        None => answer_all(buffers.lines, buffers.payload, script, host, out, quiet),
+        None => answer_all(
+            buffers.lines,
+            buffers.payload,
+            buffers.batch,
+            script,
+            host,
+            out,
+            quiet,
+        ),
         Some(made) => answer_generated(
             buffers.page,
             buffers.payload,

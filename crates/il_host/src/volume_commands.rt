@@ -2,7 +2,9 @@ ghost use Rattle.std.specs.Prelude.{◌≡◌, ◌≤◌, ◌+◌, [], length, E
 ghost use Rattle.lif_volume.specs.Views.{IsOpen};
 ghost use Rattle.lif_volume.specs.Commands.{IsReadyFor};
 ghost use Rattle.lif_volume.specs.Did.{Alters};
-ghost use Rattle.host_model.specs.Requests.{Asks, request_of};
+ghost use Rattle.lif_model.specs.Apply as command;
+ghost use Rattle.lif_dir.specs.Batches.{parts_of};
+ghost use Rattle.host_model.specs.Requests.{Asks, OfVolume, request_of};
 ghost use Rattle.il_host.specs.HostView.{Performed};
 ghost use Rattle.il_host.specs.Hosts.{volume_in};
 ghost use Rattle.il_host.specs.PlainCommands.{ChangesVolume, IsOnVolume, IsPlain, OnVolume};
@@ -14,6 +16,7 @@ use crate::performer::Performer;
 use il_ports::{Medium, Records};
 use il_record::{LoopRecords, Looped};
 use il_script::{Code, Command, Reply};
+use lif_dir::Batch;
 use lif_volume::{Volume, VolumeFault};
 
 impl<M: Medium + Drop> Host<M> {
@@ -57,6 +60,20 @@ impl<M: Medium + Drop> Host<M> {
                 self.ended(answer)
             }
         }
+    }
+
+    /// Makes the changes of a batch as one.
+    pub(crate) fn on_batch(&mut self, batch: &Batch) -> Reply
+        requires valid { (⟦<Host<M> as Performer>⟧.view self.old).valid }
+        requires blank { (⟦<Host<M> as Performer>⟧.view self.old).text ≡ [] }
+        ensures { Performed (Asks (OfVolume (command.Batch (parts_of batch.now)))) result (⟦<Host<M> as Performer>⟧.view self.old) (⟦<Host<M> as Performer>⟧.view self.new) }
+    {
+        self.volume.begin();
+        if let Err(trouble) = self.make_sound() {
+            return self.faulted(trouble);
+        }
+        let answer = self.volume.batch(batch);
+        self.ended(answer)
     }
 
     /// The reply to a command that tells nothing, by the volume's answer.
@@ -110,6 +127,7 @@ fn alter<R: Records>(
         Command::Purge(name) => volume.purge(name),
         Command::Format { label, slots } => volume.format(label, *slots),
         Command::Adopt => volume.adopt(),
+        Command::Upgrade => volume.upgrade(),
         _ => unreachable!(),
     }
 }

@@ -16,55 +16,91 @@ const WITHOUT: &[u8] = b"volume HPTAPE 2 2 1 16\nfile REDOFILE E0D0 508 4 000000
 const WITH: &[u8] =
     b"volume HPTAPE 2 2 2 16\nfile A 0001 4 1 00000000\nfile REDOFILE E0D0 508 4 00000000\nok\n";
 
-/// This line, and then one of the two listings: whether the file is there.
+/// A change under a fault: the script makes it, and then lists the directory without what it made or with it.
+#[derive(Clone, Copy)]
+pub(crate) struct Change<'a> {
+    pub(crate) tape: &'a [u8],
+    pub(crate) script: &'a [u8],
+    pub(crate) without: &'a [u8],
+    pub(crate) with: &'a [u8],
+}
+
+/// The store of a file on this tape.
+fn store_on<'a>(tape: &'a [u8]) -> Change<'a> {
+    Change {
+        tape,
+        script: SCRIPT,
+        without: WITHOUT,
+        with: WITH,
+    }
+}
+
+/// This line, and then one of the two listings of the store: whether the file is there.
 pub(crate) fn listed_behind(
     alloc: Global,
     line: &[u8],
     output: &[u8],
 ) -> Result<Option<bool>, AllocError> {
-    for (listing, is_there) in [(WITHOUT, false), (WITH, true)] {
-        let mut wanted = Vec::from_slice(alloc, line)?;
-        wanted.extend_from_slice(listing)?;
-        if output == wanted.as_slice() {
-            return Ok(Some(is_there));
-        }
-    }
-    Ok(None)
+    store_on(&[]).listed_behind(alloc, line, output)
 }
 
-/// How many of the crossings 1, 98, 195 and so on the store has. A fault at each of them leaves the file or not.
-fn crossings_tried(
-    rt: &impl Abort,
-    alloc: Global,
-    option: &str,
-    change: &str,
-) -> Result<u64, Fail> {
-    let tape = formatted(alloc)?;
-    for tried in 0..1000 {
-        let words = words_with(alloc, option, 97 * tried + 1, change)?;
-        let left = run(alloc, &Given::script(&tape, SCRIPT).with_words(&words))?;
-        if left.output.starts_with(b"ok\n") {
-            return Ok(tried);
+impl<'a> Change<'a> {
+    /// This line, and then one of the two listings: whether it is the second.
+    pub(crate) fn listed_behind(
+        &self,
+        alloc: Global,
+        line: &[u8],
+        output: &[u8],
+    ) -> Result<Option<bool>, AllocError> {
+        for (listing, is_there) in [(self.without, false), (self.with, true)] {
+            let mut wanted = Vec::from_slice(alloc, line)?;
+            wanted.extend_from_slice(listing)?;
+            if output == wanted.as_slice() {
+                return Ok(Some(is_there));
+            }
         }
-        assert!(rt;
-            listed_behind(alloc, b"fault frame\n", &left.output)?.is_some(),
-            "crossing {tried}"
-        );
-        assert!(rt; same(left.status, 1), "the status of crossing {tried}");
+        Ok(None)
     }
-    Ok(1000)
+
+    /// How many of the crossings 1, 98, 195 and so on the change has. A fault at each of them leaves it made or not.
+    pub(crate) fn crossings_tried(
+        &self,
+        rt: &impl Abort,
+        alloc: Global,
+        option: &str,
+        end: &str,
+    ) -> Result<u64, Fail> {
+        for tried in 0..1000 {
+            let words = words_with(alloc, option, 97 * tried + 1, end)?;
+            let left = run(
+                alloc,
+                &Given::script(self.tape, self.script).with_words(&words),
+            )?;
+            if left.output.starts_with(b"ok\n") {
+                return Ok(tried);
+            }
+            assert!(rt;
+                self.listed_behind(alloc, b"fault frame\n", &left.output)?
+                    .is_some(),
+                "crossing {tried}"
+            );
+            assert!(rt; same(left.status, 1), "the status of crossing {tried}");
+        }
+        Ok(1000)
+    }
 }
 
 #[test]
 fn a_store_counts_whole_or_not_at_all(rt: HostRuntime) -> Result<(), Fail> {
     let alloc = rt.alloc();
-    let lost = crossings_tried(&rt, alloc, "--lose ", "")?;
-    let altered = crossings_tried(&rt, alloc, "--alter ", ":01")?;
+    let tape = formatted(alloc)?;
+    let store = store_on(&tape);
+    let lost = store.crossings_tried(&rt, alloc, "--lose ", "")?;
+    let altered = store.crossings_tried(&rt, alloc, "--alter ", ":01")?;
     // The store has 7,602 crossings: 33 to address the loop and clear the drive, 849 for each of three reads and 837 for
     // each of six writes.
     assert!(rt; same(lost, 79), "the crossings that are lost");
     assert!(rt; same(altered, lost), "the crossings that are altered");
-    let tape = formatted(alloc)?;
     for (words, output) in [
         ("--quiet --lose 7602 TAPE", b"fault frame\n".as_slice()),
         ("--quiet --lose 7603 TAPE", b"ok\n".as_slice()),
@@ -90,7 +126,7 @@ fn a_write_that_fails(rt: HostRuntime) -> Result<(), Fail> {
 }
 
 /// An open gate.
-fn open_gate() -> [u8; 256] {
+pub(crate) fn open_gate() -> [u8; 256] {
     let mut bytes = [0; 256];
     for (byte, letter) in bytes.iter_mut().zip(b"LIFREDO1 OPEN   ") {
         *byte = *letter;
@@ -160,7 +196,7 @@ fn each_read_of_a_store_fails(rt: HostRuntime) -> Result<(), Fail> {
 }
 
 /// The image as it was behind the first writes, with these bytes in the record of the next.
-fn stopped_at(
+pub(crate) fn stopped_at(
     alloc: Global,
     tape: &[u8],
     writes: &[(u16, [u8; 256])],

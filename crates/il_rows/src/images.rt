@@ -6,12 +6,16 @@ use std::alloc::{AllocError, Global};
 pub const REDO_ENTRY: &[u8] =
     b"REDOFILE  \xE0\xD0\0\0\x01\xFC\0\0\0\x04\0\0\0\0\0\0\x80\x01\0\0\0\0";
 
+/// The entry of a redo file that takes batches, on a tape of 512 records.
+pub const SECOND_REDO_ENTRY: &[u8] =
+    b"REDOFILE  \xE0\xD0\0\0\x01\xDE\0\0\0\x22\0\0\0\0\0\0\x80\x01\0\0\0\0";
+
 /// An entry that ends a directory.
 pub const END_ENTRY: &[u8] =
     b"\0\0\0\0\0\0\0\0\0\0\xFF\xFF\0\0\0\0\0\0\0\0\0\0\0\0\0\0\0\0\0\0\0\0";
 
 /// The entry of a file A of one record, the first behind the directory.
-const FILE_ENTRY: &[u8] = b"A         \0\x01\0\0\0\x04\0\0\0\x01\0\0\0\0\0\0\x80\x01\0\0\0\0";
+pub const FILE_ENTRY: &[u8] = b"A         \0\x01\0\0\0\x04\0\0\0\x01\0\0\0\0\0\0\x80\x01\0\0\0\0";
 
 /// The header of a volume HPTAPE with room for sixteen entries in records 2 and 3.
 const HEADER: &[u8] =

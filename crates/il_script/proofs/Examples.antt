@@ -13,7 +13,7 @@ use Rattle.il_script.specs.Commands.{spelt_as, reading_of, command_read, bytes_r
 use Rattle.il_script.specs.Replies.{text_line, reply_line}
 use Rattle.il_script.specs.declared.lines.Line.TheVariants.{Text, TooLong}
 use Rattle.il_script.specs.declared.limits.TheConstants.{LONGEST_LINE, LONGEST_PAYLOAD, LONGEST_SCRIPT, MOST_SLOTS}
-use Rattle.il_script.specs.declared.command.Command.TheVariants.{Dir, Label, Fetch, Store, Put, Get, Rename, Purge, Format, Adopt, Devices, Status, Poll, Say, Paper}
+use Rattle.il_script.specs.declared.command.Command.TheVariants.{Dir, Label, Fetch, Store, Put, Get, Rename, Purge, Format, Adopt, Upgrade, Begin, Commit, Devices, Status, Poll, Say, Paper}
 use Rattle.il_script.specs.declared.command.LineFault.TheVariants.{BadLine, BadName}
 use Rattle.il_script.specs.declared.reply.Code.TheVariants as code
 use Rattle.il_script.specs.declared.reply.Reply.TheVariants as reply
@@ -109,9 +109,11 @@ skipped : (reading_of [] ≡ Ok None) × (reading_of (codes "  ") ≡ Ok None) �
 skipped = (refl, refl, refl)
 
 lone_lines : (reading_of (codes "label") ≡ Ok (Some (record { command = Label; bytes = [] }))) × (reading_of (codes "adopt") ≡ Ok (Some (record { command = Adopt; bytes = [] })))
+    × (reading_of (codes "upgrade") ≡ Ok (Some (record { command = Upgrade; bytes = [] })))
+    × (reading_of (codes "begin") ≡ Ok (Some (record { command = Begin; bytes = [] }))) × (reading_of (codes "commit") ≡ Ok (Some (record { command = Commit; bytes = [] })))
     × (reading_of (codes "devices") ≡ Ok (Some (record { command = Devices; bytes = [] }))) × (reading_of (codes "status") ≡ Ok (Some (record { command = Status; bytes = [] })))
     × (reading_of (codes "poll") ≡ Ok (Some (record { command = Poll; bytes = [] }))) × (reading_of (codes "paper") ≡ Ok (Some (record { command = Paper; bytes = [] })))
-lone_lines = (refl, refl, refl, refl, refl, refl)
+lone_lines = (refl, refl, refl, refl, refl, refl, refl, refl, refl)
 
 -- a part too many, and a word that is none of the commands
 bad_lines : (reading_of (codes "dir A") ≡ Err BadLine) × (reading_of (codes "list") ≡ Err BadLine) × (reading_of (codes "fetch") ≡ Err BadLine)

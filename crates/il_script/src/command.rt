@@ -42,6 +42,12 @@ pub enum Command {
     },
     /// Gives a volume of another program its redo file.
     Adopt,
+    /// Makes the redo file one of version 2.
+    Upgrade,
+    /// Begins a batch: the stores, renames and purges up to `Commit` are made as one.
+    Begin,
+    /// Ends a batch.
+    Commit,
     /// Lists the devices on the loop.
     Devices,
     /// Tells the drive's status.

@@ -102,6 +102,15 @@ fn lone_command(word: &[u8]) -> Option<Command>
     if word == b"adopt".as_slice() {
         return Some(Command::Adopt);
     }
+    if word == b"upgrade".as_slice() {
+        return Some(Command::Upgrade);
+    }
+    if word == b"begin".as_slice() {
+        return Some(Command::Begin);
+    }
+    if word == b"commit".as_slice() {
+        return Some(Command::Commit);
+    }
     if word == b"devices".as_slice() {
         return Some(Command::Devices);
     }

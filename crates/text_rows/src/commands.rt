@@ -188,10 +188,13 @@ fn each_form_and_what_comes_near_it(rt: HostRuntime) -> Result<(), Fail> {
 }
 
 /// Lines with commands of no parts.
-const LONE: [(&str, Command); 7] = [
+const LONE: [(&str, Command); 10] = [
     ("dir", Command::Dir),
     ("label", Command::Label),
     ("adopt", Command::Adopt),
+    ("upgrade", Command::Upgrade),
+    ("begin", Command::Begin),
+    ("commit", Command::Commit),
     ("devices", Command::Devices),
     ("status", Command::Status),
     ("poll", Command::Poll),

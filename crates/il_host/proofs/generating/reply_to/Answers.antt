@@ -1,4 +1,4 @@
-use Rattle.std.proofs.Common.{sym, subst}
+use Rattle.std.proofs.Common.{[], sym, subst}
 use Rattle.std.specs.Prelude.{Ok}
 use Rattle.il_script.specs.declared.reply.Reply.TheVariants as reply
 use Rattle.host_model.specs.Runs.{Summary}
@@ -12,5 +12,5 @@ pub returns-in-NoCommand : goal.returns-in-NoCommand
 returns-in-NoCommand g c = λ written.
     let v = g.P.Performer.view c.args.host.now in
     let code = c.in-NoCommand.code in
-    subst (λ (a : Asked). Answers {E = Unit {0}} (item_asked a c.args.bytes.now) (reply.No code) Summary v v written written (Ok tt)) (sym c.in-NoCommand.is)
+    subst (λ (a : Asked). Answers {E = Unit {0}} (item_asked a c.args.bytes.now []) (reply.No code) Summary v v written written (Ok tt)) (sym c.in-NoCommand.is)
     (answers_refusal code Summary v written written (Ok tt) c.requires.valid (g.met.P.Performer.is_host c.args.host.now c.requires.valid) (appends-none written))

@@ -9,18 +9,19 @@ use Rattle.il_host.proofs.running.read_text.Goals as goal
 pub returns-in-Ok-None-clause-item : goal.returns-in-Ok-None-clause-item
 returns-in-Ok-None-clause-item c =
     let command = sym (c.in-Ok-None.is ∙ ap Ok c.in-Ok-None.field-0-is) ∙ c.read_line.ensures.command in
-    sym (skipped (reading_of c.args.text.now) (sym command))
+    λ parts. sym (skipped (reading_of c.args.text.now) (sym command))
 
 pub returns-in-Ok-Some-clause-item : goal.returns-in-Ok-Some-clause-item
 returns-in-Ok-Some-clause-item c =
     let command = sym (c.in-Ok-Some.is ∙ ap Ok c.in-Ok-Some.field-0-is) ∙ c.read_line.ensures.command in
-    sym (understood (reading_of c.args.text.now) c.in-Ok-Some.command c.read_line.new.payload (sym command) c.read_line.ensures.payload)
+    λ parts. ap Some (c.alone.ensures.item c.read_line.new.payload parts) ∙ sym (understood (reading_of c.args.text.now) c.in-Ok-Some.command c.read_line.new.payload (sym command) c.read_line.ensures.payload)
 
 pub returns-in-Err-clause-item : goal.returns-in-Err-clause-item
 returns-in-Err-clause-item c =
     let command = sym c.in-Err.is ∙ c.read_line.ensures.command in
-    sym (refused (reading_of c.args.text.now) c.in-Err.fault (sym command) ∙ ap (λ code. Some (NoCommand code)) (sym c.from.ensures))
+    λ parts. sym (refused (reading_of c.args.text.now) c.in-Err.fault (sym command) ∙ ap (λ code. Some (NoCommand code)) (sym c.from.ensures))
 
-pub returns-in-Ok-Some-clause-plain : goal.returns-in-Ok-Some-clause-plain
-returns-in-Ok-Some-clause-plain c =
-    plain_read c.args.text.now c.in-Ok-Some.command (sym (sym (c.in-Ok-Some.is ∙ ap Ok c.in-Ok-Some.field-0-is) ∙ c.read_line.ensures.command))
+pub alone-requires : goal.alone-requires
+alone-requires c = record {
+  formed = plain_read c.args.text.now c.in-Ok-Some.command (sym (sym (c.in-Ok-Some.is ∙ ap Ok c.in-Ok-Some.field-0-is) ∙ c.read_line.ensures.command));
+}

@@ -113,4 +113,4 @@ returns-in_default-command g c =
     (changes_volume c.args.command.now c.requires.volume c.in_default-command.not-Dir c.in_default-command.not-Label c.in_default-command.not-Fetch) c.alter-answer.ensures.did in
     rw did.1 (ends_blank c.make_sound.ensures.rests c.requires.blank c.ended.ensures.ended
     (altered _ _ c.args.self.now.volume c.begin.new.self c.alter-answer.new.volume _ _ c.requires.valid c.begin.ensures.begun did.0 c.alter-answer.ensures.open c.ended.ensures.drive c.make_sound.new.self.volume c.in_default.field-0 c.in_default.ensures.makes c.in_default.ensures.sounds
-    _ _ g.met.M.Medium.is_medium did.2 did.3))
+    _ _ g.met.M.Medium.is_medium did.2 (did.3 _) did.4))

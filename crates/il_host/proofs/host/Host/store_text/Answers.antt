@@ -24,4 +24,4 @@ returns g c =
     (ends_blank c.make_sound.ensures.rests c.requires.blank c.ended.ensures.ended
     (altered _ _ c.args.self.now.volume c.begin.new.self c.store-answer.new.self _ _ c.requires.valid c.begin.ensures.begun
     (Store (name_bytes (made_name c.args.name.now)) text_type (replicate 4 0) c.bytes.result.now) c.store-answer.ensures.open c.ended.ensures.drive c.make_sound.new.self.volume c.in_default.field-0 c.in_default.ensures.makes c.in_default.ensures.sounds
-    _ _ g.met.M.Medium.is_medium tt c.store-answer.ensures.did))
+    _ _ g.met.M.Medium.is_medium tt tt c.store-answer.ensures.did))

@@ -1,0 +1,5 @@
+use Rattle.il_host.proofs.Drives.{has_status}
+use Rattle.il_host.proofs.host.Host.answered.Goals as goal
+
+pub returns-clause-drive : goal.returns-clause-drive
+returns-clause-drive g c = has_status g.M.Medium.view _ _ _ c.requires.volume_open.valid
