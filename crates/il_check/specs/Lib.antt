@@ -1,3 +1,4 @@
 pub mod Talkers
 pub mod Places
 pub mod Exchanges
+pub mod Expected

@@ -99,3 +99,47 @@ fn logs_of_exchanges(rt: HostRuntime) -> Result<(), Fail> {
     }
     Ok(())
 }
+
+// What may stand in a record: zeros alone, sevens alone, or both.
+const OLD: (bool, bool) = (true, false);
+
+const NEW: (bool, bool) = (false, true);
+
+const ANY: (bool, bool) = (true, true);
+
+// Writes of sevens on a tape of three records of zeros: the first record, the number of bytes, whether the
+// status was 0, the fault, and what may stand in each record after it.
+static WRITES: [(u16, usize, bool, Option<UnitFault>, [(bool, bool); 3]); 10] = [
+    (1, 512, true, None, [OLD, NEW, NEW]),
+    (1, 768, true, Some(UnitFault::BadUnit), [OLD, OLD, OLD]),
+    (0, 300, true, Some(UnitFault::BadUnit), [OLD, OLD, OLD]),
+    (9, 0, true, None, [OLD, OLD, OLD]),
+    (1, 255, false, None, [OLD, OLD, OLD]),
+    (1, 256, false, None, [OLD, ANY, OLD]),
+    (2, 511, false, None, [OLD, OLD, ANY]),
+    (3, 256, false, None, [OLD, OLD, OLD]),
+    (0, 512, false, Some(UnitFault::Unclear), [OLD, OLD, OLD]),
+    (0, 768, true, None, [NEW, NEW, NEW]),
+];
+
+#[test]
+fn writes_of_sevens(rt: HostRuntime) -> Result<(), Fail> {
+    for (first, count, is_good, fault, stands) in WRITES {
+        let mut expected = Expected::new(rt.alloc(), 3)?;
+        expected.push(&[0; 256]);
+        expected.push(&[0; 256]);
+        expected.push(&[0; 256]);
+        let sevens = [7; 768];
+        let bytes = sevens.get(..count).ok_or("count")?;
+        let answer = expected.write(first, bytes, is_good);
+        assert!(rt; answer.err() == fault, "{first} {count}");
+        for place in 0..3 {
+            let found = (
+                expected.allows(place, &[0; 256]),
+                expected.allows(place, &[7; 256]),
+            );
+            assert!(rt; found == stands[place as usize], "{first} {count} {place}");
+        }
+    }
+    Ok(())
+}
