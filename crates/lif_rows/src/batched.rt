@@ -4,7 +4,7 @@ ghost use Rattle.lif_volume.specs.Seen.{seen};
 ghost use Rattle.lif_volume.specs.Views.{IsOpen};
 
 use crate::labels::row;
-use crate::stops::{C, D, E, F, G, stopped, stops};
+use crate::stops::{C, D, E, F, G, stopped, stops, torn_contents};
 use crate::tapes::put;
 use crate::volumes::{
     EXISTS, FILE, HEADER, NO_FILE, NO_REDO, PURGED, REDO, REDO_TWO, RENAMED, SECOND_FILE, Step,
@@ -310,6 +310,15 @@ fn stores(rt: &impl Abort, alloc: Global) -> Result<Batch, Fail> {
     Ok(batch)
 }
 
+/// The files that it leaves, each with its byte.
+fn stored(alloc: Global) -> Result<Vec<([u8; 2], u8)>, Fail> {
+    let mut files = Vec::new(alloc);
+    for k in 0..MOST {
+        files.push((name_of(k), k))?;
+    }
+    Ok(files)
+}
+
 /// The tape of a new volume of so many slots with a redo file of version 2.
 fn new_volume(rt: &impl Abort, alloc: Global, slots: u16) -> Result<Vec<Record>, Fail> {
     let tape = tape_with(rt, alloc, b"", &[])?;
@@ -325,85 +334,117 @@ fn copied(alloc: Global, records: &[Record]) -> Result<Vec<Record>, Fail> {
     Ok(tape)
 }
 
-/// Whether the volume has the redo file alone, or all 31 files with their bytes beside it.
+/// Whether the volume has the redo file alone, or so many slots and all these files with their bytes.
 fn has_all_or_none<R: Records>(
     rt: &impl Abort,
     volume: &mut Volume<R>,
     all: bool,
+    slots: usize,
+    files: &[([u8; 2], u8)],
     into: &mut [u8],
 ) -> Result<(), Fail>
     requires { IsOpen R.view (seen volume.old) }
     ensures { IfOk result (λ x. IsOpen R.view (seen volume.new)) }
 {
     assert!(rt; dir_now(rt, volume).is_ok(), "listed");
-    let count = if all { usize::from(MOST) + 1 } else { 1 };
-    assert!(rt; volume.slots().len() == count, "files");
+    let count = if all { slots } else { 1 };
+    assert!(rt; volume.slots().len() == count, "slots");
     if all {
-        for k in 0..MOST {
-            let fetched = fetch_now(rt, volume, &name_of(k), into)?;
+        for (name, byte) in files {
+            let fetched = fetch_now(rt, volume, name, into)?;
             let first = into.first().copied();
             row(
                 rt,
-                fetched.length == RECORD && first == Some(k),
+                fetched.length == RECORD && first == Some(*byte),
                 "file",
-                u64::from(k),
+                u64::from(*byte),
             );
         }
     }
     Ok(())
 }
 
-/// Thirty-one stores at the end of a directory, of which four records past the one with the end change: a stop within
-/// any write leaves all files or none, and so does a failure of any call.
-#[test]
-fn thirty_one_stores_are_made_as_one(rt: HostRuntime) -> Result<(), Fail> {
-    let alloc = rt.alloc();
-    let batch = stores(&rt, alloc)?;
-    let tape = new_volume(&rt, alloc, 40)?;
+/// A stop within any write of a batch leaves all files or none: on a new volume, by the write that opens the gate.
+fn stops_whole(
+    rt: &impl Abort,
+    alloc: Global,
+    batch: &Batch,
+    opening: usize,
+    slots: usize,
+    files: &[([u8; 2], u8)],
+) -> Result<(), Fail> {
+    let tape = new_volume(rt, alloc, 40)?;
     let mut into = Vec::with_capacity(alloc, 512 * RECORD)?;
     into.resize(512 * RECORD, 0x55)?;
-    let mut volume = open_now(&rt, alloc, copied(alloc, &tape)?, Vec::new(alloc))?;
-    assert!(rt; batch_now(&rt, &mut volume, &batch).is_ok(), "stored");
-    has_all_or_none(&rt, &mut volume, true, &mut into)?;
+    let mut volume = open_now(rt, alloc, copied(alloc, &tape)?, Vec::new(alloc))?;
+    assert!(rt; batch_now(rt, &mut volume, batch).is_ok(), "made");
+    has_all_or_none(rt, &mut volume, true, slots, files, &mut into)?;
     let records = volume.into_records();
-    // The files, the contents of five records, the targets, and then the gate.
-    let opening = usize::from(MOST) + 6;
-    assert!(rt; records.writes().len() == opening + 7, "writes");
-    for k in 0..=records.writes().len() {
-        for torn in [[0; RECORD], [0xFF; RECORD]] {
-            let left = stopped(&rt, copied(alloc, &tape)?, records.writes(), k, &torn);
-            let mut volume = open_now(&rt, alloc, left, Vec::new(alloc))?;
-            has_all_or_none(&rt, &mut volume, opening < k, &mut into)?;
+    let writes = records.writes();
+    for k in 0..=writes.len() {
+        for (torn, opens) in torn_contents() {
+            let left = stopped(rt, copied(alloc, &tape)?, writes, k, &torn);
+            let mut volume = open_now(rt, alloc, left, Vec::new(alloc))?;
+            let all = opening < k || k == opening && opens;
+            has_all_or_none(rt, &mut volume, all, slots, files, &mut into)?;
         }
     }
     Ok(())
 }
 
+/// Thirty-one stores at the end of a directory, of which four records past the one with the end change.
 #[test]
-fn a_failing_call_leaves_thirty_one_stores_or_none(rt: HostRuntime) -> Result<(), Fail> {
+fn a_stop_leaves_all_files_or_none(rt: HostRuntime) -> Result<(), Fail> {
     let alloc = rt.alloc();
-    let trouble = Err(VolumeFault::Trouble(Trouble::Medium));
     let batch = stores(&rt, alloc)?;
-    let tape = new_volume(&rt, alloc, 40)?;
+    // The files, the contents of five records, the targets, and then the gate.
+    let opening = usize::from(MOST) + 6;
+    let slots = usize::from(MOST) + 1;
+    stops_whole(&rt, alloc, &batch, opening, slots, &stored(alloc)?)?;
+    let batch = batch_of(&rt, alloc, FOUR)?;
+    stops_whole(&rt, alloc, &batch, 3, 3, &[(*b"A ", b'B')])
+}
+
+/// A failure of any of its first calls leaves all files of a batch or none.
+fn fails_whole(
+    rt: &impl Abort,
+    alloc: Global,
+    batch: &Batch,
+    calls: u64,
+    slots: usize,
+    files: &[([u8; 2], u8)],
+) -> Result<(), Fail> {
+    let trouble = Err(VolumeFault::Trouble(Trouble::Medium));
+    let tape = new_volume(rt, alloc, 40)?;
     let mut into = Vec::with_capacity(alloc, 512 * RECORD)?;
     into.resize(512 * RECORD, 0x55)?;
-    // The gate, record 0, the directory as far as its end, the files, four records past the end, and the commit.
-    for call in 1..=51 {
+    for call in 1..=calls {
         let mut fails = Vec::new(alloc);
         fails.push((call, Trouble::Medium))?;
-        let mut volume = open_now(&rt, alloc, copied(alloc, &tape)?, fails)?;
+        let mut volume = open_now(rt, alloc, copied(alloc, &tape)?, fails)?;
         row(
-            &rt,
-            same(batch_now(&rt, &mut volume, &batch), trouble),
+            rt,
+            same(batch_now(rt, &mut volume, batch), trouble),
             "call fails",
             call,
         );
-        assert!(rt; resume_now(&rt, &mut volume).is_ok(), "resumed");
-        assert!(rt; dir_now(&rt, &mut volume).is_ok(), "listed");
+        assert!(rt; resume_now(rt, &mut volume).is_ok(), "resumed");
+        assert!(rt; dir_now(rt, &mut volume).is_ok(), "listed");
         let all = 1 < volume.slots().len();
-        has_all_or_none(&rt, &mut volume, all, &mut into)?;
+        has_all_or_none(rt, &mut volume, all, slots, files, &mut into)?;
     }
     Ok(())
+}
+
+#[test]
+fn a_failing_call_leaves_all_files_or_none(rt: HostRuntime) -> Result<(), Fail> {
+    let alloc = rt.alloc();
+    let batch = stores(&rt, alloc)?;
+    let slots = usize::from(MOST) + 1;
+    // The gate, record 0, the directory as far as its end, the files, four records past the end, and the commit.
+    fails_whole(&rt, alloc, &batch, 51, slots, &stored(alloc)?)?;
+    let batch = batch_of(&rt, alloc, FOUR)?;
+    fails_whole(&rt, alloc, &batch, 9, 3, &[(*b"A ", b'B')])
 }
 
 /// A directory of which every slot is taken has no slot for a store, also where the batch has purged one, and a

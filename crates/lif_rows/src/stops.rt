@@ -103,6 +103,13 @@ pub fn stopped(
     tape
 }
 
+/// What a stop within a write may leave in its record, and whether that opens the gate where it is the gate.
+pub fn torn_contents() -> [(Record, bool); 3] {
+    let mut gate = [0; RECORD];
+    gate[..GATE.len()].copy_from_slice(GATE);
+    [([0; RECORD], false), ([0xFF; RECORD], false), (gate, true)]
+}
+
 /// A stop within any of these writes leaves what was shown before, and from the write that opens the
 /// gate on what is shown after them.
 pub fn stops(
@@ -113,10 +120,8 @@ pub fn stops(
     opening: usize,
     writes: &[(u16, Record)],
 ) -> Result<(), Fail> {
-    let mut gate = [0; RECORD];
-    gate[..GATE.len()].copy_from_slice(GATE);
     for k in 0..=writes.len() {
-        for (torn, opens) in [([0; RECORD], false), ([0xFF; RECORD], false), (gate, true)] {
+        for (torn, opens) in torn_contents() {
             let tape = tape_with(rt, alloc, before.0, before.1)?;
             let tape = stopped(rt, tape, writes, k, &torn);
             let mut volume = open_now(rt, alloc, tape, Vec::new(alloc))?;
