@@ -1,6 +1,6 @@
 -- Pieces of 256 bytes, and a list of which one part is replaced.
-use Rattle.std.proofs.Common.{◌≡◌, ◌<◌, ◌≤◌, ◌∙◌, ◌+◌, ◌-◌, ◌*◌, ◌/◌, ◌%◌, ◌++◌, ◌⊎◌, inl, inr, ℕ, suc, zero, false, List, [], ◌∷◌, Option, Some, length, take, drop, get_or, set, map, nat_le, append_assoc, append-nil, refl, sym, ap, subst, arith}
-use Rattle.std.proofs.lemmas.List.{take_more_set, take_all, nil_from_length, length-take-le, length-append, length-drop, take-append-drop, get_or-take, get_or-drop, get_or-append-add, get_or_append_left, get_or-append_right}
+use Rattle.std.proofs.Common.{◌≡◌, ◌<◌, ◌≤◌, ◌∙◌, ◌+◌, ◌-◌, ◌*◌, ◌/◌, ◌%◌, ◌++◌, ◌⊎◌, inl, inr, ℕ, suc, zero, false, List, [], ◌∷◌, Option, Some, length, take, drop, get_or, set, map, nat_le, append_assoc, refl, sym, ap, subst, arith}
+use Rattle.std.proofs.lemmas.List.{take_more_set, nil_from_length, length-take-le, length-append, length-drop, take-append-drop, get_or-take, get_or-drop, get_or-append-add, get_or_append_left, get_or-append_right}
 use Rattle.std.proofs.lemmas.Bool.{cases_lt}
 use Rattle.std.proofs.lemmas.Bool.Decides.{nat_tests}
 use Rattle.lif_model.specs.Transfers.{records_of, cut_up, full_pieces}
@@ -48,15 +48,6 @@ pub learned_next : (n i : ℕ) (records : List (Option (List ℕ))) (rest rest�
     take (i + 1) (set records i (Some next)) ++ map Some (cut_up (n - (i + 1)) rest₂) ≡ all
 learned_next n i records rest rest₂ next all is_first is_rest within more so_far =
     rw (is_first, is_rest) (learned_step n i records rest all within more so_far)
-
--- all are
-pub learned_all : (n i : ℕ) (records : List (Option (List ℕ))) (rest : List ℕ) (all : List (Option (List ℕ))) →
-    i ≡ n → length records ≡ n → take i records ++ map Some (cut_up (n - i) rest) ≡ all → records ≡ all
-learned_all n i records rest all last size so_far =
-    let none : n - i ≡ 0 = omega (arith, last) in
-    let long : length records ≤ i = omega (arith, last, size) in
-    sym (append-nil records) ∙ ap (λ (l : List (Option (List ℕ))). l ++ []) (sym (take_all i records long))
-    ∙ sym (ap (λ (m : ℕ). take i records ++ map Some (cut_up m rest)) none) ∙ so_far
 
 -- ---- one part replaced
 

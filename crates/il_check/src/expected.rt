@@ -92,14 +92,14 @@ impl Expected {
     }
 
     /// The next record of the tape before the log. There has to be room for it.
-    pub fn push(&mut self, record: &[u8; 256])
+    pub fn push(&mut self, bytes: &Record)
         requires { length self.old.records < self.old.room }
         ensures { self.new ≡ record {
-          records = self.old.records ++ Some «record».now ∷ [];
+          records = self.old.records ++ Some bytes.now ∷ [];
           room = self.old.room;
         } }
     {
-        self.records.push(Some(*record)).unwrap();
+        self.records.push(Some(*bytes)).unwrap();
     }
 
     /// Reads a unit that wrote these bytes from record `first` on, and whose status was 0, or else was
@@ -159,15 +159,15 @@ impl Expected {
         }
     }
 
-    /// Whether this record may stand at that place, which the tape has.
-    pub fn allows(&self, place: u16, record: &[u8; 256]) -> bool
+    /// Whether these bytes may stand in the record at that place, which the tape has.
+    pub fn allows(&self, place: u16, bytes: &Record) -> bool
         requires { place < length self.now.records }
         ensures { MatchBool result
-            (IsAllowedAs (get_or self.now.records place None) «record».now)
-            (IsAllowedAs (get_or self.now.records place None) «record».now → ⊥) }
+            (IsAllowedAs (get_or self.now.records place None) bytes.now)
+            (IsAllowedAs (get_or self.now.records place None) bytes.now → ⊥) }
     {
         match &self.records[place as usize] {
-            Some(known) => *known == *record,
+            Some(known) => *known == *bytes,
             None => true,
         }
     }
