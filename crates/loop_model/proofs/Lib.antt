@@ -11,5 +11,7 @@ pub mod EffectLaws
 pub mod HearLaws
 pub mod ReadingLaws
 pub mod DeviceLaws
+pub mod LeadingLaws
 mod Examples
 mod TransferExamples
+mod LeadingExamples

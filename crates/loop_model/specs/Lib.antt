@@ -2,6 +2,7 @@ pub mod Loops
 pub mod Entries
 pub mod Reach
 pub mod Roles
+pub mod Leading
 pub mod Exchanges
 pub mod Hearing
 pub mod Units
