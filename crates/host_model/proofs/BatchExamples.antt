@@ -14,14 +14,12 @@ use Rattle.lif_model.specs.Apply as volume
 use Rattle.lif_model.specs.Writing.{NewFile, files_left}
 use Rattle.lif_model.proofs.Examples as base
 use Rattle.lif_model.proofs.VolumeExamples.{a_name, b_name}
-use Rattle.loop_model.specs.Effect.{is_out, transfer_of}
-use Rattle.lif_model.specs.Transfers.{carries}
 use Rattle.loop_model.specs.Units.{RecordUnit}
 use Rattle.il_script.specs.declared.reply.Code.{Code}
 use Rattle.il_script.specs.declared.reply.Code.TheVariants as code
 use Rattle.il_script.specs.declared.reply.Reply.TheVariants as reply
 use Rattle.host_model.specs.Requests.{Asks, Item, NoCommand, OfVolume, items_of}
-use Rattle.host_model.specs.Steps.{AreStored, IsCarried}
+use Rattle.host_model.specs.Steps.{AreStored, IsCarried, WentOut}
 use Rattle.host_model.proofs.Small.{false_is_not_true}
 use Rattle.host_model.proofs.StepExamples.{lines}
 
@@ -144,20 +142,20 @@ unfolding two_at four_at name_of new_entry filled with_type
 left = refl
 
 abbrev GoesOut : List RecordUnit → NewFile → Type 0
-GoesOut units f = carries transfer_of is_out units f.start (filled f.bytes) ≡ true
+GoesOut units f = WentOut units f.start (filled f.bytes)
 
 -- each file that is left went out
 all_out : Carries (written 4 65 ∷ written 6 66 ∷ [])
 unfolding filled
 all_out =
     let units : List RecordUnit = written 4 65 ∷ written 6 66 ∷ [] in
-    subst (λ (files : List NewFile). AreStored files units) (sym left) (All-cons (GoesOut units) a_file (b_file ∷ []) refl (All-cons (GoesOut units) b_file [] refl (All-nil (GoesOut units))))
+    subst (λ (files : List NewFile). AreStored files units) (sym left) (All-cons (GoesOut units) a_file (b_file ∷ []) (refl, refl) (All-cons (GoesOut units) b_file [] (refl, refl) (All-nil (GoesOut units))))
 
 -- B did not, or something was written over it
 b_left_out : Carries (written 4 65 ∷ written 5 67 ∷ []) → ⊥
 unfolding filled
-b_left_out h = false_is_not_true (subst (λ (files : List NewFile). AreStored files (written 4 65 ∷ written 5 67 ∷ [])) left h 1 b_file (omega arith))
+b_left_out h = false_is_not_true (subst (λ (files : List NewFile). AreStored files (written 4 65 ∷ written 5 67 ∷ [])) left h 1 b_file (omega arith)).0
 
 b_written_over : Carries (written 4 65 ∷ written 6 66 ∷ written 6 67 ∷ []) → ⊥
 unfolding filled
-b_written_over h = false_is_not_true (subst (λ (files : List NewFile). AreStored files (written 4 65 ∷ written 6 66 ∷ written 6 67 ∷ [])) left h 1 b_file (omega arith))
+b_written_over h = false_is_not_true (subst (λ (files : List NewFile). AreStored files (written 4 65 ∷ written 6 66 ∷ written 6 67 ∷ [])) left h 1 b_file (omega arith)).0

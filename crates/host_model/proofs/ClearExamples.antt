@@ -11,7 +11,7 @@ use Rattle.il_script.specs.declared.reply.Reply.TheVariants as reply
 use Rattle.host_model.specs.Requests.{OfVolume, Item, Asks}
 use Rattle.host_model.specs.HostStates.{HostState}
 use Rattle.host_model.specs.Courses.{Due, begins_with, cleared_first, is_commanding}
-use Rattle.host_model.specs.Steps.{IsStep}
+use Rattle.host_model.specs.Steps.{Acts, IsStep}
 use Rattle.host_model.proofs.Small.{a_host, false_is_not_true}
 use Rattle.host_model.proofs.StepExamples.{log_of, asking, lost_event, lost_host, hop_is_none, sixth}
 
@@ -51,8 +51,8 @@ abbrev pub asks_fetch : Item
 asks_fetch = Asks (OfVolume (volume.Fetch a_name))
 
 -- a fetch of which the addressing is broken off
-lost_fetch : IsStep sixth (record lost_event { item = asks_fetch })
-lost_fetch = record {
+lost_fetch_acts : Acts sixth (record lost_event { item = asks_fetch })
+lost_fetch_acts = record {
   replied = record { may = refl; whole = λ h g. inl refl; stays = λ h. absurd (false_is_not_true (sym h)); told = refl; size = refl; gate = λ g. g };
   next = record {
     devices = record {
@@ -79,9 +79,12 @@ lost_fetch = record {
   still = λ h. absurd (false_is_not_true (sym h));
 }
 
+lost_fetch : IsStep sixth (record lost_event { item = asks_fetch })
+lost_fetch = record { acts = lost_fetch_acts; directory = record { kept = refl; log = λ on. absurd (false_is_not_true on) } }
+
 -- and the store counted as sound behind it
 sound_behind_a_fault : IsStep sixth (record lost_event { item = asks_fetch; after = record lost_host { sound = true } }) → ⊥
-sound_behind_a_fault s = false_is_not_true (sym (s.sound refl))
+sound_behind_a_fault s = false_is_not_true (sym (s.acts.sound refl))
 
 -- ---- what is no step
 
@@ -108,4 +111,4 @@ abbrev pub failed_host : HostState
 failed_host = record a_host { ready = true }
 
 without_clearing : IsStep [] (record { item = asks_fetch; reply = reply.No code.NoFile; log = []; before = failed_host; after = record failed_host { sound = true } }) → ⊥
-without_clearing s = some_entry unl (is_commanding (lad 1) ∷ is_commanding sdc ∷ []) s.exchanged.reading.pieces (s.exchanged.begins refl) s.exchanged.reading.entries
+without_clearing s = some_entry unl (is_commanding (lad 1) ∷ is_commanding sdc ∷ []) s.acts.exchanged.reading.pieces (s.acts.exchanged.begins refl) s.acts.exchanged.reading.entries

@@ -104,7 +104,9 @@ empty_script = record {
   tells = run_tells [] start [] start refl refl (omega arith);
   asks = λ script told. subst (λ s. AsksScript AllOk s (Some []) []) (ap (λ o. unwrap_or o []) told) (refl, refl, omega arith);
   ok = refl;
-  writes = λ told. refl;
+  texts = [];
+  texts_are = tt;
+  writes = refl;
   back = record { tape = refl; faults = refl; before = refl; after = refl };
   stops = λ told gate x h. h;
   shelf = λ shelf told. record {

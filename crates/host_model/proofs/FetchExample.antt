@@ -1,19 +1,19 @@
 -- A worked example, computed by the checker: a file of one record is fetched, by one transfer over the loop.
-use Rattle.std.proofs.Common.{ℕ, List, [], ◌∷◌, Option, Some, None, refl, sym, subst, arith, map, take, true}
+use Rattle.std.proofs.Common.{ℕ, List, [], ◌∷◌, Option, Some, None, refl, sym, subst, arith, map, replicate, take, false, true}
 use Rattle.lif_model.specs.Numbers.{two_at, four_at}
 use Rattle.lif_model.specs.Gate.{is_open}
 use Rattle.lif_model.specs.Directory.{name_of, entry_at, entries_of}
 use Rattle.lif_model.specs.Apply as volume
 use Rattle.lif_model.proofs.VolumeExamples.{file, a_name}
 use Rattle.loop_model.specs.Loops.{host_loop}
-use Rattle.loop_model.specs.Units.{units_of}
+use Rattle.loop_model.specs.Units.{RecordUnit, units_of}
 use Rattle.il_drive.specs.Resting.{sdc}
 use Rattle.loop_model.specs.Entries.{ifc, aau, unl, lad}
 use Rattle.loop_model.specs.Exchanges.{Echo, Command, Address, Send, Receive, Sda, Sst, Stopped, Piece, Whole}
 use Rattle.il_script.specs.declared.reply.Reply.TheVariants as reply
 use Rattle.host_model.specs.Requests.{OfVolume, Asks}
 use Rattle.host_model.specs.HostStates.{HostState}
-use Rattle.host_model.specs.Steps.{Event, IsStep, Travels, Exchanged, IsFetchedFrom}
+use Rattle.host_model.specs.Steps.{Acts, Event, IsFetchedFrom, Travels, IsStep, Exchanged}
 use Rattle.host_model.proofs.Small.{printer, a_host, a_tape, false_is_not_true}
 use Rattle.host_model.proofs.TextExamples.{a_bytes, a_found}
 use Rattle.host_model.proofs.StepExamples.{log_of, addressed}
@@ -32,6 +32,7 @@ fetched_host = record a_host {
   crossings = 882;
   ready = true;
   sound = true;
+  kept = true;
   loop = record { before = []; status = 0; drive = addressed 1; after = record printer { roles = addressed 2; frames = 294 } ∷ [] };
 }
 
@@ -55,12 +56,12 @@ fetch_exchanged = record {
   outside = refl;
   cause = (refl, refl, refl);
   effect = (a_tape, refl, refl);
-  carried = subst Carried (sym a_found) refl;
+  carried = subst Carried (sym a_found) (refl, refl);
 }
 
-fetch_step : IsStep [] fetch_event
+fetch_acts : Acts [] fetch_event
 unfolding two_at four_at name_of is_open entry_at entries_of
-fetch_step = record {
+fetch_acts = record {
   replied = record { may = tt; whole = λ h. (refl, refl); stays = λ h. refl; told = refl; size = refl; gate = λ g. g };
   next = record {
     devices = record {
@@ -78,7 +79,22 @@ fetch_step = record {
   still = λ h. absurd (false_is_not_true (sym h));
 }
 
+fetch_step : IsStep [] fetch_event
+fetch_step = record { acts = fetch_acts; directory = record { kept = refl; log = λ on. absurd (false_is_not_true on) } }
+
 -- with bytes of another record it carries nothing of the file
 carried_of_another : IsFetchedFrom (Some (file a_name 5 1)) (Some a_bytes) (units_of (host_loop 2 1) fetch_pieces) → ⊥
 unfolding two_at four_at
-carried_of_another h = false_is_not_true h
+carried_of_another h = false_is_not_true h.0
+
+-- and two records by one unit alone
+abbrev got : ℕ → List ℕ → RecordUnit
+got first bytes = record { writes = false; first = first; bytes = bytes; status = Some 0 }
+
+carried_in_at_once : IsFetchedFrom (Some (file a_name 4 2)) (Some (replicate 512 7)) (got 4 (replicate 512 7) ∷ [])
+unfolding two_at four_at
+carried_in_at_once = (refl, refl)
+
+carried_in_by_parts : IsFetchedFrom (Some (file a_name 4 2)) (Some (replicate 512 7)) (got 4 (replicate 256 7) ∷ got 5 (replicate 256 7) ∷ []) → ⊥
+unfolding two_at four_at
+carried_in_by_parts h = false_is_not_true h.1

@@ -3,7 +3,6 @@ use Rattle.std.proofs.Common.{◌≡◌, ◌++◌, ◌∙◌, ◌&&◌, ℕ, tru
 use Rattle.std.proofs.Math.Bool.{and-true, and_assoc}
 use Rattle.std.proofs.lemmas.List.{map-append}
 use Rattle.std.specs.Prelude.{option_and_then, IfSome}
-use Rattle.std.specs.List.{flat_map}
 use Rattle.lif_model.specs.Stops.{LeavesOnly}
 use Rattle.lif_model.specs.Tape.{Tape}
 use Rattle.lif_model.specs.Volume.{volume_of, is_foreign_gated}
@@ -15,7 +14,7 @@ use Rattle.host_model.specs.Requests.{OfVolume, Get, Devices, Status, Poll, Say,
 use Rattle.host_model.specs.HostStates.{HostState, HasOwnGate}
 use Rattle.host_model.specs.Steps.{Event, IsStep}
 use Rattle.host_model.specs.Stops.{MayBeLeft, LeftWithin}
-use Rattle.host_model.specs.Runs.{Chained, items_asked, all_ok, OutputMode, event_text, Tally, with_reply, tally_of}
+use Rattle.host_model.specs.Runs.{AreTextsOf, Chained, IsTextOf, items_asked, all_ok, OutputMode, event_text, event_texts, Tally, with_reply, tally_of}
 use Rattle.host_model.proofs.NoCommands.{told_tape}
 
 -- the events still follow each other
@@ -32,27 +31,36 @@ pub all_ok_more : (events : List Event) (e : Event) → all_ok (events ++ e ∷ 
 all_ok_more [] e = and-true (is_ok e.reply)
 all_ok_more (d ∷ events) e = ap (λ b. is_ok d.reply && b) (all_ok_more events e) ∙ sym (and_assoc (is_ok d.reply) (all_ok events) (is_ok e.reply))
 
-pub texts_more : (mode : OutputMode) (events : List Event) (e : Event) → flat_map (event_text mode) (events ++ e ∷ []) ≡ flat_map (event_text mode) events ++ event_text mode e
-texts_more mode [] e = append-nil (event_text mode e)
-texts_more mode (d ∷ events) e =
-    ap (λ l. event_text mode d ++ l) (texts_more mode events e) ∙ sym (append_assoc (event_text mode d) (flat_map (event_text mode) events) (event_text mode e))
+pub texts_push : (events : List Event) (texts : List (List ℕ)) (e : Event) (text : List ℕ) → AreTextsOf events texts → IsTextOf e text → AreTextsOf (events ++ e ∷ []) (texts ++ text ∷ [])
+texts_push [] [] e text are is = (is, tt)
+texts_push (d ∷ events) (other ∷ texts) e text are is = (are.0, texts_push events texts e text are.1 is)
+texts_push [] (other ∷ texts) e text are is = absurd are
+texts_push (d ∷ events) [] e text are is = absurd are
+
+pub texts_more : (mode : OutputMode) (events : List Event) (texts : List (List ℕ)) (e : Event) (text : List ℕ) → AreTextsOf events texts
+    → event_texts mode (events ++ e ∷ []) (texts ++ text ∷ []) ≡ event_texts mode events texts ++ event_text mode e text
+texts_more mode [] [] e text are = append-nil (event_text mode e text)
+texts_more mode (d ∷ events) (other ∷ texts) e text are =
+    ap (λ l. event_text mode d other ++ l) (texts_more mode events texts e text are.1) ∙ sym (append_assoc (event_text mode d other) (event_texts mode events texts) (event_text mode e text))
+texts_more mode [] (other ∷ texts) e text are = absurd are
+texts_more mode (d ∷ events) [] e text are = absurd are
 
 -- a tape that is told stays told, and no gate that is not ours comes to be
 pub told_stays : (hops : List ℕ) (start : HostState) (events : List Event) (finish : HostState) → Chained hops start events finish → is_some finish.tape ≡ is_some start.tape
 told_stays hops start [] finish chain = ap (λ (s : HostState). is_some s.tape) chain
 told_stays hops start (e ∷ events) finish chain =
-    told_stays hops e.after events finish chain.2 ∙ chain.1.replied.told ∙ ap (λ (s : HostState). is_some s.tape) chain.0
+    told_stays hops e.after events finish chain.2 ∙ chain.1.acts.replied.told ∙ ap (λ (s : HostState). is_some s.tape) chain.0
 
 pub gate_stays : (hops : List ℕ) (start : HostState) (events : List Event) (finish : HostState) → Chained hops start events finish → HasOwnGate start → HasOwnGate finish
 gate_stays hops start [] finish chain gate = subst HasOwnGate (sym chain) gate
 gate_stays hops start (e ∷ events) finish chain gate =
-    gate_stays hops e.after events finish chain.2 (chain.1.replied.gate (subst HasOwnGate (sym chain.0) gate))
+    gate_stays hops e.after events finish chain.2 (chain.1.acts.replied.gate (subst HasOwnGate (sym chain.0) gate))
 
 -- the medium keeps its size
 pub size_stays : (hops : List ℕ) (start : HostState) (events : List Event) (finish : HostState) → Chained hops start events finish → finish.records ≡ start.records
 size_stays hops start [] finish chain = ap (λ (s : HostState). s.records) chain
 size_stays hops start (e ∷ events) finish chain =
-    size_stays hops e.after events finish chain.2 ∙ chain.1.replied.size ∙ ap (λ (s : HostState). s.records) chain.0
+    size_stays hops e.after events finish chain.2 ∙ chain.1.acts.replied.size ∙ ap (λ (s : HostState). s.records) chain.0
 
 -- one reply more at the end counts as one at the beginning
 turned : (r q : Reply) (t : Tally) → with_reply r (with_reply q t) ≡ with_reply q (with_reply r t)

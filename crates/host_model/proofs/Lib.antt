@@ -14,4 +14,5 @@ mod FetchExample
 mod ClearExamples
 mod GetExamples
 mod BatchExamples
+mod DirectoryExamples
 pub mod NoCommands

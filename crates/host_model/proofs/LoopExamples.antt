@@ -1,6 +1,7 @@
 -- Worked examples of what one command leaves and of the exchanges that it makes, computed by the checker.
 use Rattle.std.proofs.Common.{◌≡◌, ℕ, List, [], ◌∷◌, Some, None, true, false, refl, arith, codes, replicate, Bool, ◌+◌, ◌++◌}
 use Rattle.lif_model.specs.Numbers.{two_at, four_at}
+use Rattle.lif_model.specs.Fit.{At}
 use Rattle.lif_model.specs.Gate.{is_open}
 use Rattle.lif_model.specs.Directory.{name_of, entry_at, entries_of}
 use Rattle.lif_model.specs.Made.{filled}
@@ -21,7 +22,7 @@ use Rattle.host_model.specs.Requests.{Poll, OfVolume, Devices, Status, Say, Item
 use Rattle.host_model.specs.LoopStates.{LoopState}
 use Rattle.host_model.specs.HostStates.{volume_at}
 use Rattle.host_model.specs.Next.{Next}
-use Rattle.host_model.specs.Steps.{IsCarried}
+use Rattle.host_model.specs.Steps.{IsCarried, IsStoredAt}
 use Rattle.host_model.specs.Courses.{keeps_course, course_of}
 use Rattle.host_model.proofs.StepExamples.{told, asking, status_pieces, lost_pieces}
 use Rattle.host_model.proofs.Small.{printer, empty_host, numbers_differ, false_is_not_true}
@@ -37,22 +38,34 @@ asks_store = Asks (OfVolume (Store a_name 1 (replicate 4 0) (codes "AB")))
 -- a file of two bytes goes to record 4, filled up to a record
 carried_out : IsCarried asks_store reply.Ok 12 (volume_at empty_host) (stored 4 (base.filled (codes "AB")))
 unfolding two_at four_at name_of is_open entry_at entries_of filled
-carried_out = refl
+carried_out = (refl, refl)
 
 -- not to another record, and not without the zeros
 carried_elsewhere : IsCarried asks_store reply.Ok 12 (volume_at empty_host) (stored 5 (base.filled (codes "AB"))) → ⊥
 unfolding two_at four_at name_of is_open entry_at entries_of filled
-carried_elsewhere = λ h. false_is_not_true h
+carried_elsewhere = λ h. false_is_not_true h.0
 
 carried_short : IsCarried asks_store reply.Ok 12 (volume_at empty_host) (stored 4 (codes "AB")) → ⊥
 unfolding two_at four_at name_of is_open entry_at entries_of filled
-carried_short = λ h. false_is_not_true h
+carried_short = λ h. false_is_not_true h.0
 
 -- and not by a transfer whose status is not 0
 carried_by_a_bad_one : IsCarried asks_store reply.Ok 12 (volume_at empty_host)
     (record { writes = true; first = 4; bytes = base.filled (codes "AB"); status = Some 0x42 } ∷ []) → ⊥
 unfolding two_at four_at name_of is_open entry_at entries_of filled
-carried_by_a_bad_one = λ h. false_is_not_true h
+carried_by_a_bad_one = λ h. false_is_not_true h.0
+
+-- and a file of two records by one transfer alone
+abbrev long_bytes : List ℕ
+long_bytes = replicate 512 7
+
+carried_at_once : IsStoredAt (At 0 4) long_bytes (stored 4 long_bytes)
+unfolding filled
+carried_at_once = (refl, refl)
+
+carried_in_parts : IsStoredAt (At 0 4) long_bytes (stored 4 (replicate 256 7) ++ stored 5 (replicate 256 7)) → ⊥
+unfolding filled
+carried_in_parts = λ h. false_is_not_true h.1
 
 -- ---- what the printer hears
 

@@ -12,7 +12,7 @@ use Rattle.host_model.specs.Requests.{NoCommand}
 use Rattle.host_model.specs.LoopStates.{all_roles, device_count}
 use Rattle.host_model.specs.HostStates.{HostState}
 use Rattle.host_model.specs.Next.{DeviceBehind}
-use Rattle.host_model.specs.Steps.{Event, IsStep, OnTapes, TookFrames, HearsLog}
+use Rattle.host_model.specs.Steps.{Acts, OnTapes, Event, TookFrames, IsStep, HearsLog}
 use Rattle.host_model.specs.Stops.{StopsLeave}
 use Rattle.host_model.proofs.Steps.{boxed_same}
 
@@ -35,8 +35,8 @@ same_tape (Some t) = refl
 false_is_not_true : false ≡ true → ⊥
 false_is_not_true h = cc
 
-pub no_command : (hops : List ℕ) (code : Code) (s : HostState) → is_at_most_one (talkers (all_roles s.loop)) ≡ true → IsStep hops (refusal code s)
-no_command hops code s one = record {
+no_command_acts : (hops : List ℕ) (code : Code) (s : HostState) → is_at_most_one (talkers (all_roles s.loop)) ≡ true → Acts hops (refusal code s)
+no_command_acts hops code s one = record {
   replied = record { may = tt; whole = λ told. (refl, refl); stays = λ h. refl; told = refl; size = refl; gate = λ g. g };
   next = record {
     devices = boxed_same (DeviceBehind (NoCommand code) (reply.No code) s.loop)
@@ -67,6 +67,9 @@ no_command hops code s one = record {
   unsound = λ h g. absurd (false_is_not_true g);
   still = λ h. (refl, refl);
 }
+
+pub no_command : (hops : List ℕ) (code : Code) (s : HostState) → is_at_most_one (talkers (all_roles s.loop)) ≡ true → IsStep hops (refusal code s)
+no_command hops code s one = record { acts = no_command_acts hops code s one; directory = record { kept = refl; log = λ on. tt } }
 
 -- ---- stops
 

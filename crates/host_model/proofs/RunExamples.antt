@@ -1,5 +1,5 @@
 -- Worked examples of runs, computed by the checker: the status is asked for twice, and the sixth crossing is lost.
-use Rattle.std.proofs.Common.{◌≡◌, ◌++◌, ℕ, List, [], ◌∷◌, Some, true, false, inl, inr, refl, sym, ap, arith, length, take, codes, replicate}
+use Rattle.std.proofs.Common.{◌≡◌, ◌++◌, ℕ, List, [], ◌∷◌, Some, None, true, false, inl, inr, refl, sym, ap, arith, length, map, take, codes, replicate}
 use Rattle.std.specs.Prelude.{◌-◌, ◌*◌, ◌+◌, unwrap_or, get_or, is_some}
 use Rattle.std.specs.Fmt.{digits}
 use Rattle.lif_model.specs.Tape.{record_at}
@@ -17,9 +17,9 @@ use Rattle.il_script.specs.declared.reply.Reply.TheVariants as reply
 use Rattle.host_model.specs.Requests.{OfVolume, Status, Item, Asks, items_of}
 use Rattle.host_model.specs.Generated.{draw, drawn, generated_lines, items_generated}
 use Rattle.host_model.specs.HostStates.{HostState}
-use Rattle.host_model.specs.Steps.{Event, IsStep}
+use Rattle.host_model.specs.Steps.{Acts, IsStep, Event}
 use Rattle.host_model.specs.Stops.{MayBeLeft, LeftWithin}
-use Rattle.host_model.specs.Runs.{Chained, all_ok, tally_of, WithTrace, Quiet, Summary, event_text, output}
+use Rattle.host_model.specs.Runs.{Chained, all_ok, tally_of, WithTrace, Quiet, Summary, AreTextsOf, IsTextOf, event_text, output, reply_text_of}
 use Rattle.host_model.specs.Histories.{RunTells}
 use Rattle.host_model.specs.Endings.{SourceFailed, SinkFailed, AllOk, SomeNotOk, exit_status}
 use Rattle.host_model.specs.Leaves.{AsksScript, WritesAs, IsOkAs}
@@ -36,8 +36,8 @@ late_host = record asked_host { crossings = 48; loop = record asked_host.loop { 
 abbrev pub late_event : Event
 late_event = record status_event { before = lost_host; after = late_host }
 
-late_step : IsStep sixth late_event
-late_step = record {
+late_acts : Acts sixth late_event
+late_acts = record {
   replied = record { may = tt; whole = λ h. (refl, refl); stays = λ h. refl; told = refl; size = refl; gate = λ g. g };
   next = record {
     devices = record {
@@ -64,6 +64,9 @@ late_step = record {
   still = λ h. absurd (false_is_not_true (sym h));
 }
 
+late_step : IsStep sixth late_event
+late_step = record { acts = late_acts; directory = record { kept = refl; log = λ on. absurd (false_is_not_true on) } }
+
 abbrev pub events : List Event
 events = lost_event ∷ late_event ∷ []
 
@@ -79,35 +82,60 @@ together = run_tells sixth empty_host events late_host chained refl (omega arith
 
 -- ---- what it writes
 
-traced : event_text WithTrace lost_event ≡ lines (codes "~ 0 IFC = IFC" ∷ codes "~ 0 RFC ! 0" ∷ codes "fault frame" ∷ [])
+abbrev pub texts : List (List ℕ)
+texts = map reply_text_of events
+
+texts_told : AreTextsOf events texts
+texts_told = (λ told. refl, (λ told. refl, tt))
+
+-- a reply that is told has its own text, and each event has one
+other_text : IsTextOf late_event [] → ⊥
+unfolding encode_with
+other_text told = texts_differ _ _ refl (told (λ h. absurd (false_is_not_true h)))
+
+text_left_out : AreTextsOf events (reply_text_of late_event ∷ []) → ⊥
+text_left_out are = are.1
+
+traced : event_text WithTrace lost_event (reply_text_of lost_event) ≡ lines (codes "~ 0 IFC = IFC" ∷ codes "~ 0 RFC ! 0" ∷ codes "fault frame" ∷ [])
 unfolding digits
 traced = refl
 
-traced_whole : output WithTrace events ≡ lines (codes "~ 0 IFC = IFC" ∷ codes "~ 0 RFC ! 0" ∷ codes "fault frame"
+traced_whole : output WithTrace events texts ≡ lines (codes "~ 0 IFC = IFC" ∷ codes "~ 0 RFC ! 0" ∷ codes "fault frame"
     ∷ codes "~ 0 IFC = IFC" ∷ codes "~ 0 RFC = RFC" ∷ codes "~ 0 AAU = AAU" ∷ codes "~ 0 RFC = RFC"
     ∷ codes "~ 0 AAD 01 = AAD 03" ∷ codes "~ 0 UNL = UNL" ∷ codes "~ 0 RFC = RFC" ∷ codes "~ 0 TAD 01 = TAD 01" ∷ codes "~ 0 RFC = RFC" ∷ codes "~ 0 SST > 1"
     ∷ codes "~ 0 NRD = NRD" ∷ codes "~ 1 DAB 00 = DAB 00" ∷ codes "~ 1 ETO > 0" ∷ codes "~ 0 UNT = UNT" ∷ codes "~ 0 RFC = RFC" ∷ codes "status 00" ∷ codes "ok" ∷ [])
 unfolding digits encode_with
 traced_whole = refl
 
-quiet : output Quiet events ≡ lines (codes "fault frame" ∷ codes "status 00" ∷ codes "ok" ∷ [])
+quiet : output Quiet events texts ≡ lines (codes "fault frame" ∷ codes "status 00" ∷ codes "ok" ∷ [])
 unfolding encode_with
 quiet = refl
 
-summed : output Summary events ≡ lines (codes "generated 2" ∷ codes "ok 1" ∷ codes "error 0" ∷ codes "fault 1" ∷ [])
+summed : output Summary events texts ≡ lines (codes "generated 2" ∷ codes "ok 1" ∷ codes "error 0" ∷ codes "fault 1" ∷ [])
 unfolding digits
 summed = refl
 
 -- the reply behind its log, and no reply left out; a fault is no error
-reply_first : event_text WithTrace lost_event ≡ lines (codes "fault frame" ∷ codes "~ 0 IFC = IFC" ∷ codes "~ 0 RFC ! 0" ∷ []) → ⊥
+reply_first : event_text WithTrace lost_event (reply_text_of lost_event) ≡ lines (codes "fault frame" ∷ codes "~ 0 IFC = IFC" ∷ codes "~ 0 RFC ! 0" ∷ []) → ⊥
 unfolding digits
 reply_first = texts_differ _ _ refl
 
-quiet_without_faults : output Quiet events ≡ lines (codes "status 00" ∷ codes "ok" ∷ []) → ⊥
+-- What a directory's reply tells where the tape is not told may be any text; but its log is written.
+abbrev pub untold_event : Event
+untold_event = record lost_event { item = Asks (OfVolume volume.Dir); before = record empty_host { tape = None } }
+
+any_text : IsTextOf untold_event (codes "x")
+any_text told = absurd (false_is_not_true (told refl))
+
+trace_left_out : WritesAs AllOk WithTrace (untold_event ∷ []) (codes "x" ∷ []) (Some []) (Some (codes "x")) → ⊥
+unfolding digits
+trace_left_out written = texts_differ _ _ refl written
+
+quiet_without_faults : output Quiet events texts ≡ lines (codes "status 00" ∷ codes "ok" ∷ []) → ⊥
 unfolding encode_with
 quiet_without_faults = texts_differ _ _ refl
 
-fault_as_error : output Summary events ≡ lines (codes "generated 2" ∷ codes "ok 1" ∷ codes "error 1" ∷ codes "fault 0" ∷ []) → ⊥
+fault_as_error : output Summary events texts ≡ lines (codes "generated 2" ∷ codes "ok 1" ∷ codes "error 1" ∷ codes "fault 0" ∷ []) → ⊥
 unfolding digits
 fault_as_error = texts_differ _ _ refl
 
@@ -135,9 +163,9 @@ cut_line : AsksScript SourceFailed (codes "status" ++ 10 ∷ codes "status") (So
 cut_line = record { taken = codes "status" ++ 10 ∷ codes "stat"; rest = codes "us"; known = refl; whole = refl; are = refl }
 
 -- where the sink failed in the second text
-written_front : WritesAs SinkFailed Quiet events (Some []) (Some (lines (codes "fault frame" ∷ []) ++ codes "stat"))
+written_front : WritesAs SinkFailed Quiet events texts (Some []) (Some (lines (codes "fault frame" ∷ []) ++ codes "stat"))
 unfolding encode_with
-written_front = record { done = lost_event ∷ []; last = late_event; are = refl; size = 4; front = omega arith; written = refl }
+written_front = record { done = lost_event ∷ []; last = late_event; are = refl; said = reply_text_of lost_event ∷ []; text = reply_text_of late_event; texts_are = refl; size = 4; front = omega arith; written = refl }
 
 -- ---- a script that is generated
 

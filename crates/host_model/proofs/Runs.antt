@@ -91,7 +91,7 @@ pub faults_of_run : (hops : List ℕ) (start : HostState) (events : List Event) 
 faults_of_run hops start [] finish chain = let same = ap (λ s. s.faults) chain in omega (arith, same)
 faults_of_run hops start (e ∷ events) finish chain =
     let first = ap (λ s. s.faults) chain.0 in
-    let here = faults_grow e.reply _ _ _ _ chain.1.exchanged.cause in
+    let here = faults_grow e.reply _ _ _ _ chain.1.acts.exchanged.cause in
     let rest = faults_of_run hops e.after events finish chain.2 in
     omega (arith, first, here, rest)
 
@@ -100,8 +100,8 @@ faults_of_run hops start (e ∷ events) finish chain =
 crossed_more : (hops : List ℕ) (e : Event) (events : List Event) → IsStep hops e → crossed_behind e.after events ≡ crossed_behind e.before (e ∷ events)
 crossed_more hops e events s =
     let k = device_count e.before.loop in
-    ap (λ j. risen_by (all_links j events) e.after.crossings) (count_stays _ e.before.loop e.after.loop s.next.devices)
-    ∙ ap (risen_by (all_links k events)) s.travels.crossings ∙ sym (risen_more (λ e. links k e.log) e events e.before.crossings)
+    ap (λ j. risen_by (all_links j events) e.after.crossings) (count_stays _ e.before.loop e.after.loop s.acts.next.devices)
+    ∙ ap (risen_by (all_links k events)) s.acts.travels.crossings ∙ sym (risen_more (λ e. links k e.log) e events e.before.crossings)
 
 -- the reply of an event is a fault where a hop was met from here on up to there
 abbrev IsLostBetween : List ℕ → Event → ℕ → ℕ → Type 0
@@ -145,7 +145,8 @@ tells_nothing hops start alone = record {
 -- one step before what is told of the others
 pub tells_more : (hops : List ℕ) (e : Event) (events : List Event) (finish : HostState) → IsStep hops e → e.before.crossings ≤ 18446744073709551615
     → Chained hops e.after events finish → RunTells hops e.after events finish → RunTells hops e.before (e ∷ events) finish
-tells_more hops e events finish s low chain t =
+tells_more hops e events finish step low chain t =
+    let s = step.acts in
     let grown = faults_of_run hops e.after events finish chain in
     let k = device_count e.before.loop in
     let count : device_count e.after.loop ≡ k = count_stays _ e.before.loop e.after.loop s.next.devices in
@@ -167,7 +168,7 @@ tells_more hops e events finish s low chain t =
           (λ party d f g first more. more ∙ ap (risen_by (all_passes k party events)) first ∙ sym (risen_more (λ e. passes k party e.log) e events d.frames))
           e.before.loop e.after.loop finish.loop s.travels.frames
           (subst (λ j. BoxedBecome (TookAll j events) e.after.loop finish.loop) count t.frames);
-      lost = λ done f more are. lost_in_run hops e.before done f more finish (subst (λ es. Chained hops e.before es finish) are (refl, s, chain));
+      lost = λ done f more are. lost_in_run hops e.before done f more finish (subst (λ es. Chained hops e.before es finish) are (refl, step, chain));
       few_lost =
           let once = lost_once e.reply _ _ _ _ cause in
           let split = length-met hops e.before.crossings e.after.crossings finish.crossings here.0 behind in
@@ -192,7 +193,7 @@ pub run_tells : (hops : List ℕ) (start : HostState) (events : List Event) (fin
     → is_at_most_one (talkers (all_roles start.loop)) ≡ true → start.crossings ≤ 18446744073709551615 → RunTells hops start events finish
 run_tells hops start [] finish chain alone low = subst (λ s. RunTells hops start [] s) (sym chain) (tells_nothing hops start alone)
 run_tells hops start (e ∷ events) finish chain alone low =
-    let s = chain.1 in
+    let s = chain.1.acts in
     let first : e.before.crossings ≤ 18446744073709551615 = let same = ap (λ s. s.crossings) chain.0 in omega (arith, same, low) in
     let rose = s.travels.crossings in
     let range = risen_within (links (device_count e.before.loop) e.log) e.before.crossings first in
@@ -200,4 +201,4 @@ run_tells hops start (e ∷ events) finish chain alone low =
     let one : is_at_most_one (talkers (all_roles e.after.loop)) ≡ true =
     subst (λ rs. is_at_most_one (talkers rs) ≡ true) (sym s.travels.roles) (still_one (all_roles e.before.loop) e.log s.travels.one_talker) in
     let rest = run_tells hops e.after events finish chain.2 one next in
-    subst (λ s. RunTells hops s (e ∷ events) finish) chain.0 (tells_more hops e events finish s first chain.2 rest)
+    subst (λ s. RunTells hops s (e ∷ events) finish) chain.0 (tells_more hops e events finish chain.1 first chain.2 rest)

@@ -19,7 +19,7 @@ use Rattle.il_script.specs.declared.reply.Reply.TheVariants as reply
 use Rattle.host_model.specs.Requests.{Status, Asks}
 use Rattle.host_model.specs.HostStates.{HostState}
 use Rattle.host_model.specs.Replies.{trace_text}
-use Rattle.host_model.specs.Steps.{Event, IsStep}
+use Rattle.host_model.specs.Steps.{Acts, IsStep, Event}
 use Rattle.host_model.proofs.Small.{printer, empty_host, a_tape, texts_differ, numbers_differ, false_is_not_true}
 
 -- ---- asking for the status after power on
@@ -65,8 +65,8 @@ asked_host = record empty_host {
 abbrev pub status_event : Event
 status_event = record { item = Asks Status; reply = reply.Ok; log = log_of status_pieces; before = empty_host; after = asked_host }
 
-pub status_step : IsStep [] status_event
-status_step = record {
+status_acts : Acts [] status_event
+status_acts = record {
   replied = record { may = tt; whole = λ h. (refl, refl); stays = λ h. refl; told = refl; size = refl; gate = λ g. g };
   next = record {
     devices = record {
@@ -93,6 +93,9 @@ status_step = record {
   still = λ h. absurd (false_is_not_true (sym h));
 }
 
+pub status_step : IsStep [] status_event
+status_step = record { acts = status_acts; directory = record { kept = refl; log = λ on. absurd (false_is_not_true on) } }
+
 -- ---- what is no step
 
 abbrev pub sixth : List ℕ
@@ -103,42 +106,42 @@ hop_is_none h = cc
 
 -- one frame more at the printer
 one_more_frame : IsStep [] (record status_event { after = record asked_host { loop = record asked_host.loop { after = record printer { roles = addressed 2; frames = 15 } ∷ [] } } }) → ⊥
-one_more_frame s = numbers_differ 15 14 refl s.travels.frames.after.0
+one_more_frame s = numbers_differ 15 14 refl s.acts.travels.frames.after.0
 
 -- a byte at the printer that no entry of the log has brought
 one_more_byte : IsStep [] (record status_event { after = record asked_host { loop = record asked_host.loop { after = record printer { roles = addressed 2; frames = 14; heard_count = 1 } ∷ [] } } }) → ⊥
 one_more_byte s =
-    let heard = s.heard.after.0 in
+    let heard = s.acts.heard.after.0 in
     numbers_differ 1 0 refl (heard.heard.heard_count ∙ ap (λ more. risen_by (length more) 0) (heard.none refl))
 
 -- a crossing that no entry stands for
 one_more_crossing : IsStep [] (record status_event { after = record asked_host { crossings = 43 } }) → ⊥
-one_more_crossing s = numbers_differ 43 42 refl s.travels.crossings
+one_more_crossing s = numbers_differ 43 42 refl s.acts.travels.crossings
 
 -- the drive is left without its address
 no_address : IsStep [] (record status_event { after = record asked_host { loop = record asked_host.loop { drive = no_roles } } }) → ⊥
-no_address s = numbers_differ 0 1 refl (ap (λ rs. unwrap_or (roles_at 1 rs).address 0) s.travels.roles)
+no_address s = numbers_differ 0 1 refl (ap (λ rs. unwrap_or (roles_at 1 rs).address 0) s.acts.travels.roles)
 
 -- a refusal, or a fault of the medium, of a command that has neither
 refused_status : IsStep [] (record status_event { reply = reply.No code.NotLif }) → ⊥
-refused_status s = no_is_ok (s.replied.whole (λ h. refl)).0
+refused_status s = no_is_ok (s.acts.replied.whole (λ h. refl)).0
   where
     no_is_ok : reply.No code.NotLif ≡ reply.Ok → ⊥
     no_is_ok h = cc
 
 medium_at_status : IsStep [] (record status_event { reply = reply.FaultMedium }) → ⊥
-medium_at_status s = false_is_not_true s.replied.may
+medium_at_status s = false_is_not_true s.acts.replied.may
 
 -- `fault frame` where no fault is planned, and ok where one was met
 fault_without_a_plan : IsStep [] (record status_event { reply = reply.FaultFrame }) → ⊥
-fault_without_a_plan s = s.exchanged.cause.0 refl
+fault_without_a_plan s = s.acts.exchanged.cause.0 refl
 
 ok_in_spite_of_a_hop : IsStep (6 ∷ []) status_event → ⊥
-ok_in_spite_of_a_hop s = hop_is_none s.exchanged.cause.0
+ok_in_spite_of_a_hop s = hop_is_none s.acts.exchanged.cause.0
 
 -- another tape behind it
 another_tape : IsStep [] (record status_event { after = record asked_host { tape = Some a_tape } }) → ⊥
-another_tape s = texts_differ (record_at a_tape 4) (record_at base.formatted 4) refl (ap (λ t. record_at (unwrap_or t []) 4) (s.replied.stays refl))
+another_tape s = texts_differ (record_at a_tape 4) (record_at base.formatted 4) refl (ap (λ t. record_at (unwrap_or t []) 4) (s.acts.replied.stays refl))
 
 -- ---- a loss at the sixth crossing
 
@@ -156,8 +159,8 @@ lost_host = record empty_host { crossings = 6; loop = record empty_host.loop { a
 abbrev pub lost_event : Event
 lost_event = record { item = Asks Status; reply = reply.FaultFrame; log = log_of lost_pieces; before = empty_host; after = lost_host }
 
-pub lost_step : IsStep (6 ∷ []) lost_event
-lost_step = record {
+lost_acts : Acts (6 ∷ []) lost_event
+lost_acts = record {
   replied = record { may = refl; whole = λ h g. inl refl; stays = λ h. refl; told = refl; size = refl; gate = λ g. g };
   next = record {
     devices = record {
@@ -184,6 +187,9 @@ lost_step = record {
   still = λ h. absurd (false_is_not_true (sym h));
 }
 
+pub lost_step : IsStep (6 ∷ []) lost_event
+lost_step = record { acts = lost_acts; directory = record { kept = refl; log = λ on. absurd (false_is_not_true on) } }
+
 -- with a plan of the seventh crossing the loss is no step
 lost_too_early : IsStep (7 ∷ []) lost_event → ⊥
-lost_too_early s = s.exchanged.cause.0 refl
+lost_too_early s = s.acts.exchanged.cause.0 refl

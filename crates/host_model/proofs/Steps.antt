@@ -63,7 +63,7 @@ faults_grow (reply.No c) hops before now units cause = omega (arith, cause.1)
 
 -- the reply is `fault frame` exactly where a planned hop was met
 pub lost_exactly : (hops : List ℕ) (e : Event) → IsStep hops e → (e.reply ≡ reply.FaultFrame) ↔ (met hops e.before.crossings e.after.crossings ≢ [])
-lost_exactly hops e s = by_reply e.reply (met hops e.before.crossings e.after.crossings) _ _ _ s.exchanged.cause
+lost_exactly hops e s = by_reply e.reply (met hops e.before.crossings e.after.crossings) _ _ _ s.acts.exchanged.cause
   where
     by_reply : (r : Reply) (found : List ℕ) (before now : ℕ) (units : List RecordUnit) → HasReplyCause r found before now units → (r ≡ reply.FaultFrame) ↔ (found ≢ [])
     by_reply reply.FaultFrame found before now units cause = (λ h. cause.0, λ h. refl)

@@ -17,12 +17,14 @@ pub record HostState : Type 0 where
   pub ready : Bool
   -- records can be read and written; behind a fault they cannot until the drive is cleared
   pub sound : Bool
+  -- the directory of a legal volume is kept in memory; then the store is sound
+  pub kept : Bool
   pub loop : LoopState
 
 -- a host that was just opened
 abbrev pub fresh_host : Option Tape → ℕ → ℕ → List DeviceState → List DeviceState → HostState
 fresh_host tape records faults before after =
-    record { tape = tape; records = records; faults = faults; crossings = 0; ready = false; sound = false; loop = fresh_loop before after }
+    record { tape = tape; records = records; faults = faults; crossings = 0; ready = false; sound = false; kept = false; loop = fresh_loop before after }
 
 -- the volume: none where the tape is not legal, or not told
 abbrev pub volume_at : HostState → Option Volume

@@ -10,7 +10,7 @@ use Rattle.host_model.specs.Generated.{items_generated}
 use Rattle.host_model.specs.HostStates.{HostState}
 use Rattle.host_model.specs.Steps.{Event}
 use Rattle.host_model.specs.Stops.{LeavesWithin}
-use Rattle.host_model.specs.Runs.{Chained, items_asked, all_ok, OutputMode, Summary, event_text, summary, output}
+use Rattle.host_model.specs.Runs.{AreTextsOf, Chained, items_asked, all_ok, OutputMode, Summary, event_text, summary, output}
 use Rattle.host_model.specs.Histories.{RunTells}
 use Rattle.host_model.specs.Endings.{RunEnd, AllOk, SomeNotOk, BadWords, NoImage, ImageTooLarge, SourceFailed, SinkFailed, OutOfMemory, ScriptTooLong, InsertFailed}
 use Rattle.host_model.specs.Orders.{Order, Outside, Opens, Inserts, HandsBack, mode_of}
@@ -59,22 +59,25 @@ abbrev pub WritesFront : Option (List ℕ) → Option (List ℕ) → List ℕ �
 WritesFront before now text = (size : ℕ) × (size ≤ length text) × Appends before now (take size text)
 
 -- the text of all events but the last, and of the last a front
-pub record WritesToLast (mode : OutputMode) (events : List Event) (before now : Option (List ℕ)) : Type 0 where
+pub record WritesToLast (mode : OutputMode) (events : List Event) (texts : List (List ℕ)) (before now : Option (List ℕ)) : Type 0 where
   pub done : List Event
   pub last : Event
   pub are : events ≡ done ++ last ∷ []
+  pub said : List (List ℕ)
+  pub text : List ℕ
+  pub texts_are : texts ≡ said ++ text ∷ []
   pub size : ℕ
-  pub front : size ≤ length (event_text mode last)
-  pub written : Appends before now (output mode done ++ take size (event_text mode last))
+  pub front : size ≤ length (event_text mode last text)
+  pub written : Appends before now (output mode done said ++ take size (event_text mode last text))
 
 -- where the sink failed
-abbrev pub WritesPart : OutputMode → List Event → Option (List ℕ) → Option (List ℕ) → Type 0
-WritesPart Summary events before now = WritesFront before now (summary events)
-WritesPart mode events before now = WritesToLast mode events before now
+abbrev pub WritesPart : OutputMode → List Event → List (List ℕ) → Option (List ℕ) → Option (List ℕ) → Type 0
+WritesPart Summary events texts before now = WritesFront before now (summary events)
+WritesPart mode events texts before now = WritesToLast mode events texts before now
 
-abbrev pub WritesAs : RunEnd → OutputMode → List Event → Option (List ℕ) → Option (List ℕ) → Type 0
-WritesAs SinkFailed mode events before now = WritesPart mode events before now
-WritesAs _ mode events before now = Appends before now (output mode events)
+abbrev pub WritesAs : RunEnd → OutputMode → List Event → List (List ℕ) → Option (List ℕ) → Option (List ℕ) → Type 0
+WritesAs SinkFailed mode events texts before now = WritesPart mode events texts before now
+WritesAs _ mode events texts before now = Appends before now (output mode events texts)
 
 -- ---- the shelf
 
@@ -91,11 +94,6 @@ KeepsShelf order old now = (shelf : Shelf) → old.shelf ≡ Some shelf → HasI
 
 -- ---- a run over a script
 
--- the texts of replies are told by the tape; the summary needs none
-abbrev pub TellsTexts : OutputMode → HostState → Type 0
-TellsTexts Summary start = Unit {0}
-TellsTexts _ start = is_some start.tape ≡ true
-
 -- whether all replies are ok decides between two endings
 abbrev pub IsOkAs : RunEnd → List Event → Type 0
 IsOkAs AllOk events = all_ok events ≡ true
@@ -103,7 +101,7 @@ IsOkAs SomeNotOk events = all_ok events ≡ false
 IsOkAs _ events = Unit {0}
 
 -- One list of events from the opened host on meets all that is said: each is a step, and begins where the one before it ends;
--- together they tell what a run tells; the items are those of the script; their texts were written; the tape and the devices
+-- together they tell what a run tells; the items are those of the script; their logs and texts were written; the tape and the devices
 -- handed back are those behind the last one; each tape that a stop since the run began may have left, `stopped`, is one of theirs;
 -- and of the shelf no other image changed.
 pub record RunsOver (end : RunEnd) (order : Order) (old now : Outside) (stopped : Tape → Type 0) : Type 0 where
@@ -115,7 +113,9 @@ pub record RunsOver (end : RunEnd) (order : Order) (old now : Outside) (stopped 
   pub tells : RunTells order.hops start events finish
   pub asks : AsksAs order.generated end old.left now.left (items_asked events)
   pub ok : IsOkAs end events
-  pub writes : TellsTexts (mode_of order) start → WritesAs end (mode_of order) events old.written now.written
+  pub texts : List (List ℕ)
+  pub texts_are : AreTextsOf events texts
+  pub writes : WritesAs end (mode_of order) events texts old.written now.written
   pub back : HandsBack finish now
   pub stops : LeavesWithin start events finish stopped
   pub shelf : KeepsShelf order old now

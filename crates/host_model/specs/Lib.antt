@@ -7,6 +7,7 @@ pub mod Replies
 pub mod Generated
 pub mod Next
 pub mod Courses
+pub mod Directories
 pub mod Steps
 pub mod Stops
 pub mod Runs

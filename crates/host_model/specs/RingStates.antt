@@ -1,5 +1,5 @@
 -- What a ring stands for, with its drive and medium.
-use Rattle.std.specs.Prelude.{Bool}
+use Rattle.std.specs.Prelude.{Bool, false}
 use Rattle.il_ports.specs.Media.{MediumView}
 use Rattle.il_drive.specs.State.{status_of}
 use Rattle.il_ring.specs.Rings.{RingView}
@@ -14,7 +14,7 @@ loop_on r = record {
   after = r.after;
 }
 
--- of a host whose controller is ready or not, and whose store is sound or not
+-- of a host whose controller is ready or not, whose store is sound or not, and which keeps no directory
 abbrev pub state_on : {M : Type 0} → (M → MediumView) → (ready sound : Bool) → RingView M → HostState
 state_on view ready sound r = record {
   tape = (view r.drive.medium).tape;
@@ -23,5 +23,6 @@ state_on view ready sound r = record {
   crossings = r.books.crossings;
   ready = ready;
   sound = sound;
+  kept = false;
   loop = loop_on r;
 }

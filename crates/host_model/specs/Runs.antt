@@ -8,7 +8,7 @@ use Rattle.il_script.specs.declared.reply.Reply.TheVariants as reply
 use Rattle.host_model.specs.Requests.{Item}
 use Rattle.host_model.specs.HostStates.{HostState}
 use Rattle.host_model.specs.Replies.{reply_text, trace_text}
-use Rattle.host_model.specs.Steps.{Event, IsStep}
+use Rattle.host_model.specs.Steps.{Event, IsStep, TellsReply}
 
 -- each event is a step, and begins where the one before it ends
 abbrev pub Chained : List ℕ → HostState → List Event → HostState → Type 0
@@ -72,11 +72,25 @@ summary events = tally_text (length events) (tally_of (replies events))
 abbrev pub reply_text_of : Event → List ℕ
 reply_text_of e = reply_text e.item e.before e.reply
 
--- what is written for one event, as it ends
-abbrev pub event_text : OutputMode → Event → List ℕ
-event_text WithTrace e = trace_text e.log ++ reply_text_of e
-event_text Quiet e = reply_text_of e
-event_text Summary e = []
+-- The text of an event's reply, where what it depends on is told. Of a reply that a tape decides which is not told, it may be any.
+abbrev pub IsTextOf : Event → List ℕ → Type 0
+IsTextOf e text = TellsReply e.item e.before → text ≡ reply_text_of e
+
+-- one such text for each event
+abbrev pub AreTextsOf : List Event → List (List ℕ) → Type 0
+AreTextsOf [] [] = Unit {0}
+AreTextsOf (e ∷ events) (text ∷ texts) = IsTextOf e text × AreTextsOf events texts
+AreTextsOf events texts = ⊥
+
+-- what is written for one event, as it ends: the lines of its log, whatever the tape is, and the text of its reply
+abbrev pub event_text : OutputMode → Event → List ℕ → List ℕ
+event_text WithTrace e text = trace_text e.log ++ text
+event_text Quiet e text = text
+event_text Summary e text = []
+
+abbrev pub event_texts : OutputMode → List Event → List (List ℕ) → List ℕ
+event_texts mode (e ∷ events) (text ∷ texts) = event_text mode e text ++ event_texts mode events texts
+event_texts mode events texts = []
 
 -- what is written behind the last event
 abbrev pub closing_text : OutputMode → List Event → List ℕ
@@ -84,5 +98,5 @@ closing_text Summary events = summary events
 closing_text _ events = []
 
 -- all that a run writes
-abbrev pub output : OutputMode → List Event → List ℕ
-output mode events = flat_map (event_text mode) events ++ closing_text mode events
+abbrev pub output : OutputMode → List Event → List (List ℕ) → List ℕ
+output mode events texts = event_texts mode events texts ++ closing_text mode events

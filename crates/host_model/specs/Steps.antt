@@ -1,9 +1,11 @@
 -- One step of a run: an item, what was replied, the log, and what stands before and behind.
-use Rattle.std.specs.Prelude.{◌≡◌, ◌≢◌, ◌⊎◌, ◌≤◌, ◌++◌, ◌&&◌, ℕ, Bool, All, true, false, not, List, [], length, Option, Some, None, is_some}
+use Rattle.std.specs.Prelude.{◌≡◌, ◌≢◌, ◌⊎◌, ◌≤◌, ◌++◌, ◌==◌, ◌&&◌, ◌||◌, ℕ, Bool, All, true, false, not, List, [], length, Option, Some, None, is_some}
+use Rattle.std.specs.List.{list_any}
+use Rattle.std.specs.Str.{bytes_eq}
 use Rattle.std.specs.FinMap.{get}
 use Rattle.lif_model.specs.Causes.{Rose}
 use Rattle.lif_model.specs.Tape.{Tape}
-use Rattle.lif_model.specs.Directory.{start_of}
+use Rattle.lif_model.specs.Directory.{start_of, length_of}
 use Rattle.lif_model.specs.Legal.{slot_named}
 use Rattle.lif_model.specs.Made.{file_length, filled}
 use Rattle.lif_model.specs.Fit.{Place, At, fit_in}
@@ -29,6 +31,7 @@ use Rattle.host_model.specs.HostStates.{HostState, volume_at, HasOwnGate, log_ro
 use Rattle.host_model.specs.Replies.{reply_of, volume_behind}
 use Rattle.host_model.specs.Courses.{begins_with, cleared_first, course_of, keeps_course}
 use Rattle.host_model.specs.Next.{Next, BoxedBecome}
+use Rattle.host_model.specs.Directories.{kept_after, LogOfKept}
 
 pub record Event : Type 0 where
   pub item : Item
@@ -117,19 +120,28 @@ OnTapes None now P = Unit {0}
 OnTapes (Some t) None P = ⊥
 OnTapes (Some t) (Some u) P = P t u
 
+-- one of the units that pass the test begins at record n and has by itself all these bytes
+abbrev pub in_one : (RecordUnit → Bool) → List RecordUnit → ℕ → List ℕ → Bool
+in_one test units n bytes = list_any (λ w. test w && ((w.first == n) && bytes_eq w.bytes bytes)) units
+
+-- these bytes went out to the records from n on, by one unit, and no later one wrote over them
+abbrev pub WentOut : List RecordUnit → ℕ → List ℕ → Type 0
+WentOut units n bytes = (carries transfer_of is_out units n bytes ≡ true) × (in_one is_out units n bytes ≡ true)
+
 -- the bytes of a store went out to its place, filled up to whole records
 abbrev pub IsStoredAt : Place → List ℕ → List RecordUnit → Type 0
-IsStoredAt (At slot start) bytes units = carries transfer_of is_out units start (filled bytes) ≡ true
+IsStoredAt (At slot start) bytes units = WentOut units start (filled bytes)
 IsStoredAt _ bytes units = ⊥
 
--- the bytes of a file came in from its records
+-- the bytes of a file came in from its records, by one unit, where it has any
 abbrev pub IsFetchedFrom : Option (List ℕ) → Option (List ℕ) → List RecordUnit → Type 0
-IsFetchedFrom (Some slot) (Some bytes) units = carries transfer_of is_in units (start_of slot) bytes ≡ true
+IsFetchedFrom (Some slot) (Some bytes) units =
+    (carries transfer_of is_in units (start_of slot) bytes ≡ true) × (((length_of slot == 0) || in_one is_in units (start_of slot) bytes) ≡ true)
 IsFetchedFrom _ _ units = ⊥
 
 -- the bytes of each of these files went out to its place
 abbrev pub AreStored : List NewFile → List RecordUnit → Type 0
-AreStored files units = All (λ f. carries transfer_of is_out units f.start (filled f.bytes) ≡ true) files
+AreStored files units = All (λ f. WentOut units f.start (filled f.bytes)) files
 
 -- with ok, the transfers of a store, a fetch or a get carry exactly the bytes of the file, and those of a batch the bytes of each file
 -- that it leaves
@@ -159,8 +171,8 @@ pub record Exchanged (hops : List ℕ) (e : Event) : Type 0 where
 
 -- ---- a step
 
--- what holds of each event, faults being planned at these crossings
-pub record IsStep (hops : List ℕ) (e : Event) : Type 0 where
+-- what an item did to the tape, the loop and its devices, and what its log tells of that, faults being planned at these crossings
+pub record Acts (hops : List ℕ) (e : Event) : Type 0 where
   pub replied : Replied e
   pub next : Next e.item e.reply e.before.loop e.after.loop
   pub travels : Travels e
@@ -174,3 +186,13 @@ pub record IsStep (hops : List ℕ) (e : Event) : Type 0 where
   pub unsound : is_of_volume e.item ≡ false → uses_frames e.item ≡ true → e.after.sound ≡ (e.before.sound && not (is_frame_fault e.reply))
   -- an item that sends no frame has no log and leaves everything
   pub still : uses_frames e.item ≡ false → (e.log ≡ []) × (e.after ≡ e.before)
+
+-- what became of the directory in memory, and what the log has where it was kept before
+pub record KeepsDirectory (e : Event) : Type 0 where
+  pub kept : e.after.kept ≡ kept_after e.item e.before.kept e.reply
+  pub log : e.before.kept ≡ true → LogOfKept e.item e.reply e.before e.log
+
+-- what holds of each event
+pub record IsStep (hops : List ℕ) (e : Event) : Type 0 where
+  pub acts : Acts hops e
+  pub directory : KeepsDirectory e

@@ -1,6 +1,6 @@
 -- What a line asks for, and how that is answered.
 use Rattle.std.specs.List.{cons_option}
-use Rattle.std.proofs.Common.{◌≡◌, ◌∙◌, ◌++◌, ℕ, Bool, true, false, List, [], ◌∷◌, Option, Some, None, refl, sym, ap, subst}
+use Rattle.std.proofs.Common.{◌≡◌, ◌∙◌, ℕ, Bool, true, false, List, [], ◌∷◌, Option, Some, None, refl, sym, ap, subst}
 use Rattle.std.specs.Prelude.{Result, Ok, Err, option_map}
 use Rattle.il_script.specs.Commands.{Asked, command_read, bytes_read}
 use Rattle.il_script.specs.Replies.{fault_code, reply_line}
@@ -13,9 +13,8 @@ use Rattle.lif_model.specs.Parts.{Part}
 use Rattle.host_model.specs.Requests.{Item, NoCommand, item_for, item_of_read, coded}
 use Rattle.il_host.specs.Gathering.{read_with}
 use Rattle.host_model.specs.HostStates.{HostState}
-use Rattle.host_model.specs.Replies.{trace_text}
 use Rattle.host_model.specs.Steps.{Event}
-use Rattle.host_model.specs.Runs.{OutputMode, event_text, reply_text_of}
+use Rattle.host_model.specs.Runs.{OutputMode, event_text}
 use Rattle.host_model.specs.Orders.{quiet_mode}
 use Rattle.host_model.proofs.NoCommands.{refusal, no_command, no_command_stops}
 use Rattle.il_host.specs.HostView.{HostView, IsHost, Performed}
@@ -70,39 +69,49 @@ left_this wanted this bytes parts items h is = sym h ∙ ap (λ (o : Option Want
 
 -- ---- texts
 
-told_event : (quiet : Bool) (e : Event) (text : List ℕ) → text ≡ reply_text_of e → told_text quiet e.log text ≡ event_text (quiet_mode quiet) e
-told_event true e text h = h
-told_event false e text h = ap (λ l. trace_text e.log ++ l) h
+told_event : (quiet : Bool) (e : Event) (text : List ℕ) → told_text quiet e.log text ≡ event_text (quiet_mode quiet) e text
+told_event true e text = refl
+told_event false e text = refl
 
-told_refusal : (quiet : Bool) (code : Code) (s : HostState) → reply_line (reply.No code) ≡ event_text (quiet_mode quiet) (refusal code s)
+told_refusal : (quiet : Bool) (code : Code) (s : HostState) → reply_line (reply.No code) ≡ event_text (quiet_mode quiet) (refusal code s) (reply_line (reply.No code))
 told_refusal true code s = refl
 told_refusal false code s = refl
 
 -- ---- answers
 
--- to a command that was performed
-pub answers_command : {E : Type 0} (item : Item) (r : Reply) (quiet : Bool) (v w : HostView) (before now : Option (List ℕ)) (written : Result (Unit {0}) E)
-    → Performed item r v w → WritesAll before now (told_text quiet w.log w.text) written → Answers item r (quiet_mode quiet) v w before now written
-answers_command item r quiet v w before now written p h = record {
+-- to an item that was performed, in each mode
+pub answers_performed : {E : Type 0} (item : Item) (r : Reply) (mode : OutputMode) (v w : HostView) (before now : Option (List ℕ)) (written : Result (Unit {0}) E)
+    → Performed item r v w → WritesAll before now (event_text mode (event_of item r w.log v w) w.text) written → Answers item r mode v w before now written
+answers_performed item r mode v w before now written p h = record {
   log = w.log;
   valid = p.valid;
   hops = p.hops;
   step = p.step;
   stops = p.stops;
-  bytes = λ tells. subst (λ text. WritesAll before now text written) (told_event quiet (event_of item r w.log v w) w.text (p.text tells)) h;
+  text = w.text;
+  text_is = p.text;
+  bytes = h;
   images = p.images;
 }
 
+-- and what is told of it was written
+pub answers_command : {E : Type 0} (item : Item) (r : Reply) (quiet : Bool) (v w : HostView) (before now : Option (List ℕ)) (written : Result (Unit {0}) E)
+    → Performed item r v w → WritesAll before now (told_text quiet w.log w.text) written → Answers item r (quiet_mode quiet) v w before now written
+answers_command item r quiet v w before now written p h = answers_performed item r (quiet_mode quiet) v w before now written p
+    (subst (λ text. WritesAll before now text written) (told_event quiet (event_of item r w.log v w) w.text) h)
+
 -- to a line that is no command, whatever is told of it
 pub answers_refusal : {E : Type 0} (code : Code) (mode : OutputMode) (v : HostView) (before now : Option (List ℕ)) (written : Result (Unit {0}) E)
-    → v.valid → IsHost v → WritesAll before now (event_text mode (refusal code v.state)) written → Answers (NoCommand code) (reply.No code) mode v v before now written
+    → v.valid → IsHost v → WritesAll before now (event_text mode (refusal code v.state) (reply_line (reply.No code))) written → Answers (NoCommand code) (reply.No code) mode v v before now written
 answers_refusal code mode v before now written valid host h = record {
   log = [];
   valid = valid;
   hops = refl;
   step = no_command v.hops code v.state host.one;
   stops = no_command_stops code v.state v.moment v.left_since host.leaves_only;
-  bytes = λ tells. h;
+  text = reply_line (reply.No code);
+  text_is = λ told. refl;
+  bytes = h;
   images = images_kept v.inside v.images;
 }
 

@@ -1,6 +1,6 @@
 -- The reads and writes that the clause of a volume tells of a batch carry the bytes of each file that it leaves.
 use Rattle.std.proofs.Common.{◌≡◌, ◌∙◌, ◌<◌, ◌≤◌, ◌+◌, ◌++◌, ◌||◌, ℕ, Bool, true, false, if◌then◌else◌, List, [], ◌∷◌, length, Option, Some, None, inl, inr, refl, sym, ap, subst, arith}
-use Rattle.std.specs.Prelude.{All, Result, Ok, Err}
+use Rattle.std.specs.Prelude.{All, Result, Ok, Err, is_some}
 use Rattle.std.specs.List.{list_any}
 use Rattle.std.proofs.lemmas.List.Elements.{All-nil, All-cons, All-head, All-tail, All-filter}
 use Rattle.std.proofs.lemmas.List.Folds.{list_any-append}
@@ -27,10 +27,11 @@ use Rattle.lif_model.proofs.Outcomes.{target_slot}
 use Rattle.lif_model.proofs.Parts.{AreUnrefused, each_file, files_within}
 use Rattle.lif_model.proofs.Transfers.{carries-later}
 use Rattle.lif_model.proofs.Writing.{AreEntries}
+use Rattle.lif_redo.specs.Writing.{run_of, runs_filed}
 use Rattle.lif_plan.specs.Plans.{version_for}
 use Rattle.lif_plan.proofs.Planning.{version_is_redo}
 use Rattle.lif_volume.specs.Commands.{IsTold}
-use Rattle.lif_volume.specs.Changing.{commit_when, file_runs, file_when, run_of, runs_filed}
+use Rattle.lif_volume.specs.Changing.{commit_when, file_runs, file_when}
 use Rattle.lif_volume.specs.Did.{Alters}
 use Rattle.lif_volume.specs.Views.{VolumeView}
 use Rattle.lif_volume.specs.declared.fault.VolumeFault.{VolumeFault}
@@ -39,10 +40,10 @@ use Rattle.lif_volume.proofs.Batched.{LieApart, LiesApart, left_apart}
 use Rattle.il_host.specs.Standings.{volume_reply}
 use Rattle.il_script.specs.declared.reply.Reply.TheVariants as reply
 use Rattle.host_model.specs.HostStates.{HostState, volume_at}
-use Rattle.il_host.proofs.FileCarries.{EachRecord, IsOff, apart_off, each_commit, each_if_any, each_target, none_over, store_carried, told_still, volume_seen, written_carried_out}
-use Rattle.il_host.proofs.VolumeCarries.{CarriesAs, GoesOut, IsFormedAs, none_carried}
+use Rattle.il_host.proofs.FileCarries.{EachRecord, goes_parted, IsOff, apart_off, each_commit, each_if_any, each_target, none_over, store_carried, told_still, volume_seen, written_carried_out}
+use Rattle.il_host.proofs.VolumeCarries.{CarriesAs, GoesOut, IsFormedAs, none_carried, one_among, one_later, writes_records}
 use Rattle.il_host.proofs.VolumeReplied.{IsSeenAs}
-use Rattle.il_host.proofs.HostVolumes.{TellsNothing}
+use Rattle.il_host.proofs.KeptDirectories.{TellsNothing}
 
 -- ---- runs of files that lie apart
 
@@ -68,11 +69,13 @@ runs_kept f (g ∷ fs) apart = λ i. run_kept f g (All-head (LiesApart f) g fs a
 runs_carry : (fs : List NewFile) (more : List Transfer) → LieApart fs → All (IsKept more) fs → All (GoesOut (runs_filed fs ++ more)) fs
 runs_carry [] more apart kept = All-nil (GoesOut more)
 runs_carry (f ∷ fs) more apart kept =
-    All-cons (GoesOut (run_for f ∷ (runs_filed fs ++ more))) f fs
-    (written_carried_out [] (runs_filed fs ++ more) f.start (filled f.bytes)
-    (list_any-append (λ y. is_overwritten_by (run_for f) y) (runs_filed fs) more ∙ (λ i. runs_kept f fs apart.0 i || All-head (IsKept more) f fs kept i)))
+    All-cons (GoesOut (run_for f ∷ (runs_filed fs ++ more))) f fs (
+      written_carried_out [] (runs_filed fs ++ more) f.start (filled f.bytes)
+          (list_any-append (λ y. is_overwritten_by (run_for f) y) (runs_filed fs) more ∙ (λ i. runs_kept f fs apart.0 i || All-head (IsKept more) f fs kept i)),
+      one_among writes_records [] (runs_filed fs ++ more) (run_for f) refl,
+    )
     (each_file (GoesOut (runs_filed fs ++ more)) (GoesOut (run_for f ∷ (runs_filed fs ++ more))) fs
-    (λ g out. carries-later (λ (t : Transfer). t) (λ (t : Transfer). t.writes) (run_for f ∷ []) (runs_filed fs ++ more) g.start (filled g.bytes) out)
+    (λ g out. (carries-later (λ (t : Transfer). t) (λ (t : Transfer). t.writes) (run_for f ∷ []) (runs_filed fs ++ more) g.start (filled g.bytes) out.0, one_later writes_records (run_for f ∷ []) (runs_filed fs ++ more) g.start (filled g.bytes) out.1))
     (runs_carry fs more apart.1 (All-tail (IsKept more) f fs kept)))
 
 -- these writes are of records of no file
@@ -94,7 +97,7 @@ module _ {among : List Transfer → Changes} {single : List Transfer → Type 0}
         is.0 ++ (runs_filed fs ++ more),
         subst (λ (rs : List Transfer). new (is.0 ++ (rs ++ more))) are is.2,
         each_file (GoesOut (runs_filed fs ++ more)) (GoesOut (is.0 ++ (runs_filed fs ++ more))) fs
-            (λ f out. carries-later (λ (t : Transfer). t) (λ (t : Transfer). t.writes) is.0 (runs_filed fs ++ more) f.start (filled f.bytes) out)
+            (λ f out. (carries-later (λ (t : Transfer). t) (λ (t : Transfer). t.writes) is.0 (runs_filed fs ++ more) f.start (filled f.bytes) out.0, one_later writes_records is.0 (runs_filed fs ++ more) f.start (filled f.bytes) out.1))
             (runs_carry fs more apart kept),
       )
 
@@ -178,7 +181,8 @@ module _ {R S : Type 0} (view : R → RecordsView S) (old new : VolumeView R) (s
     stores : (list : List Transfer) × (view new.records).transferred list × All (GoesOut list) left
     stores =
         runs_carried (λ t ts. refl) (λ t ts one. one) (IsSettleWrite n (redo_of t)) (commit_when n command (volume_of t) (settled t)) left (file_runs n command (volume_of t))
-        (view old.records).transferred (view new.records).transferred (left_apart n parts v are) off (ap (file_runs n command) of_tape) (alters.transfers t told).goes_on begun
+        (view old.records).transferred (view new.records).transferred (left_apart n parts v are) off (ap (file_runs n command) of_tape)
+        (goes_parted (IsSettleWrite n (redo_of t)) (is_some old.kept) n command (volume_of t) (settled t) (view old.records).transferred (view new.records).transferred (alters.transfers t told)) begun
 
   -- With ok, the reads and writes of a batch carry the bytes of each file that it leaves out to its place.
   batch_carried : CarriesAs (Batch parts) reply.Ok s.records (volume_at s) (view new.records).transferred

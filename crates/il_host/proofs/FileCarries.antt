@@ -10,7 +10,7 @@ use Rattle.il_ports.specs.Transfers.{WritesOnly}
 use Rattle.lif_model.specs.Apply.{Fetch, Store, VolumeCommand, refusal_of}
 use Rattle.lif_model.specs.declared.refusal.Refusal.{Refusal}
 use Rattle.lif_model.specs.Commit.{IsSettleWrite, IsTarget, close_writes, commit_writes, content_writes, settle_writes}
-use Rattle.lif_model.specs.Directory.{slots_of, start_of}
+use Rattle.lif_model.specs.Directory.{length_of, slots_of, start_of}
 use Rattle.lif_model.specs.Fit.{At, Place, fit_in, redo_place}
 use Rattle.lif_model.specs.Gate.{gate_of, has_open_gate}
 use Rattle.lif_model.specs.Header.{capacity_of, directory_end, directory_start}
@@ -32,16 +32,17 @@ use Rattle.lif_model.proofs.Places.{place_below_redo}
 use Rattle.lif_model.proofs.Redo.{data_place, redo_places}
 use Rattle.lif_model.proofs.StoredFile.{IsStorable, storable}
 use Rattle.lif_model.proofs.Transfers.{carries-first, carries-later, carries-nothing}
+use Rattle.lif_redo.specs.Writing.{AreSingle, run_of, writes_among}
 use Rattle.lif_plan.specs.Plans.{version_for}
 use Rattle.lif_plan.proofs.Planning.{version_is_redo}
 use Rattle.lif_volume.specs.declared.volume.Fetched.{Fetched}
 use Rattle.lif_volume.specs.Commands.{EndsWithRead, FetchedFile, FetchesByRun, FetchesFile, IsTold, WritesBySettling}
-use Rattle.lif_volume.specs.Changing.{commit_when, file_runs, file_when, run_of, writes_if_any}
+use Rattle.lif_volume.specs.Changing.{AddsCommit, commit_when, file_runs, file_when, writes_if_any}
 use Rattle.lif_volume.specs.Did.{Alters}
 use Rattle.lif_volume.specs.Views.{VolumeView}
 use Rattle.il_script.specs.declared.reply.Reply.TheVariants as reply
 use Rattle.host_model.specs.HostStates.{HostState, volume_at}
-use Rattle.il_host.proofs.VolumeCarries.{CarriesAs, FetchesFrom, StoresTo}
+use Rattle.il_host.proofs.VolumeCarries.{CarriesAs, FetchesFrom, StoresTo, by_one, one_among, or_true, reads_records, writes_records}
 use Rattle.il_host.proofs.VolumeReplied.{IsSeenAs}
 
 -- ---- one transfer
@@ -83,11 +84,18 @@ module _ {R S : Type 0} (view : R → RecordsView S) (old new : VolumeView R) (s
       read_in : 0 < fetched.length → (list : List Transfer) × (view new.records).transferred list × FetchesFrom (slot_named there.volume.slots name) (get there.volume.files name) list
       read_in some =
           let here : slot_named (slots_of (settled t)) name ≡ Some there.slot = ap (λ (xs : List (List ℕ)). slot_named xs name) (sym slots_are) ∙ there.named in
-          let ends = subst (λ (o : Option (List ℕ)). IfSome o (λ slot. EndsWithRead (IsSettleWrite (view old.records).record_count (redo_of t)) (start_of slot) (take fetched.length into) (view old.records).transferred (view new.records).transferred)) here (run t told some) in
+          let ends = subst (λ (o : Option (List ℕ)). IfSome o (λ slot. EndsWithRead (IsSettleWrite (view old.records).record_count (redo_of t)) (is_some old.kept) (start_of slot) (take fetched.length into) (view old.records).transferred (view new.records).transferred)) here (run t told some) in
           let more = ends.goes_on [] begun in (
             more.0 ++ record { writes = false; first = start_of there.slot; bytes = take fetched.length into } ∷ [],
             more.1,
-            record { found = there.slot; told = take fetched.length into; slot_is = there.named; bytes_are = there.bytes; carried = last_carried_in more.0 (start_of there.slot) (take fetched.length into) },
+            record {
+              found = there.slot;
+              told = take fetched.length into;
+              slot_is = there.named;
+              bytes_are = there.bytes;
+              carried = last_carried_in more.0 (start_of there.slot) (take fetched.length into);
+              one = (λ i. (length_of there.slot == 0) || one_among reads_records more.0 [] (record { writes = false; first = start_of there.slot; bytes = take fetched.length into }) refl i) ∙ or_true (length_of there.slot == 0);
+            },
           )
 
       -- a file without records
@@ -102,6 +110,9 @@ module _ {R S : Type 0} (view : R → RecordsView S) (old new : VolumeView R) (s
               slot_is = there.named;
               bytes_are = there.bytes;
               carried = ap (λ (k : ℕ). are_carried_in more.0 (start_of there.slot) (take k into)) none ∙ carries-nothing (λ (t : Transfer). t) (λ (t : Transfer). not t.writes) more.0 (start_of there.slot);
+              one =
+                  let empty : length_of there.slot ≡ 0 = omega (arith, there.length, none) in
+                  ap (λ (k : ℕ). (k == 0) || by_one reads_records more.0 (start_of there.slot) (take fetched.length into)) empty;
             },
           )
 
@@ -251,10 +262,18 @@ module _ {among : List Transfer → Changes} {single : List Transfer → Type 0}
   -- The list goes on by some transfers, by the run, and by those whose writes are of other records: it carries the bytes out.
   run_carried : (P : ℕ → Type 0) (ws : Changes) (runs : List Transfer) (old new : List Transfer → Type 0) → EachRecord (IsOff start count) ws → runs ≡ run ∷ []
       → ((list : List Transfer) → old list → (first more : List Transfer) × new (list ++ (first ++ (runs ++ more))) × WritesOnly P first × (among more ≡ ws) × single more)
-      → old [] → (list : List Transfer) × new list × (are_carried_out list start bytes ≡ true)
+      → old [] → (list : List Transfer) × new list × (are_carried_out list start bytes ≡ true) × (by_one writes_records list start bytes ≡ true)
   run_carried P ws runs old new off one goes_on begun =
       let is = goes_on [] begun in
-      (is.0 ++ run ∷ is.1, subst (λ (rs : List Transfer). new (is.0 ++ (rs ++ is.1))) one is.2, written_carried_out is.0 is.1 start bytes (none_over is.1 is.5 (subst (EachRecord (IsOff start count)) (sym is.4) off)))
+      (is.0 ++ run ∷ is.1, subst (λ (rs : List Transfer). new (is.0 ++ (rs ++ is.1))) one is.2, written_carried_out is.0 is.1 start bytes (none_over is.1 is.5 (subst (EachRecord (IsOff start count)) (sym is.4) off)), one_among writes_records is.0 is.1 run refl)
+
+-- the transfers of a command in three parts: what comes first, its files and its commit
+pub goes_parted : (P : ℕ → Type 0) (kept : Bool) (n : ℕ) (command : VolumeCommand) (volume : Option Volume) (t : Tape) (old new : List Transfer → Type 0) → AddsCommit P kept n command volume t old new
+    → (list : List Transfer) → old list → (first more : List Transfer) × new (list ++ (first ++ (file_runs n command volume ++ more))) × WritesOnly P first
+    × (writes_among more ≡ commit_when n command volume t) × AreSingle more
+goes_parted P kept n command volume t old new adds list was =
+    let all = adds.goes_on list was in
+    (all.0, all.5.more, subst (λ (rest : List Transfer). new (list ++ (all.0 ++ rest))) all.5.are all.2, all.3, all.5.writes, all.5.single)
 
 pub told_still : (old new : Option Tape) (t : Tape) → is_some new ≡ is_some old → old ≡ Some t → (u : Tape) × (new ≡ Some u)
 told_still old (Some u) t same told = (u, refl)
@@ -296,8 +315,8 @@ module _ {R S : Type 0} (view : R → RecordsView S) (old new : VolumeView R) (s
     stores : (list : List Transfer) × (view new.records).transferred list × StoresTo (fit_in n v (file_length bytes)) bytes list
     stores =
         let carried = run_carried (λ t ts. refl) (λ t ts one. one) can.first (file_length bytes) (filled bytes) (length_filled bytes) (IsSettleWrite n (redo_of t)) (commit_when n command (volume_of t) (settled t))
-        (file_runs n command (volume_of t)) (view old.records).transferred (view new.records).transferred off runs_are (alters.transfers t told).goes_on begun in
-        (carried.0, carried.1, record { slot = can.slot; start = can.first; at = can.chosen; carried = carried.2 })
+        (file_runs n command (volume_of t)) (view old.records).transferred (view new.records).transferred off runs_are (goes_parted (IsSettleWrite n (redo_of t)) (is_some old.kept) n command (volume_of t) (settled t) (view old.records).transferred (view new.records).transferred (alters.transfers t told)) begun in
+        (carried.0, carried.1, record { slot = can.slot; start = can.first; at = can.chosen; carried = carried.2; one = carried.3 })
 
   -- With ok, the reads and writes of a store carry the bytes of its file out to its place.
   pub store_carried : CarriesAs (Store name kind implementation bytes) reply.Ok s.records (volume_at s) (view new.records).transferred

@@ -1,7 +1,6 @@
 -- The lines of a generated script, and a run over them.
 use Rattle.std.proofs.Common.{◌≡◌, ◌≢◌, ◌≤◌, ◌<◌, ◌+◌, ◌-◌, ◌%◌, ◌==◌, ◌++◌, ◌&&◌, ◌∙◌, ℕ, zero, suc, true, false, if◌then◌else◌, List, [], ◌∷◌, Option, Some, None, length, refl, sym, ap, subst, arith, add-one, append_assoc, append-nil, length-append}
 use Rattle.std.specs.Prelude.{Ok, map, is_some}
-use Rattle.std.specs.List.{flat_map}
 use Rattle.std.specs.Io.KnownBytes.{Appends}
 use Rattle.std.proofs.Math.Bool.{and-false}
 use Rattle.std.proofs.lemmas.Bool.{lt-ltb, le-ltb, eq-eqb, ne_eqb}
@@ -15,7 +14,7 @@ use Rattle.il_script.proofs.UpperDigits.{encode-append}
 use Rattle.host_model.specs.Requests.{item_of, lone_items}
 use Rattle.host_model.specs.Generated.{draw, drawn, stores, rising, store_line, purge_line, fetch_line, chosen_line, more_lines, generated_lines, items_generated}
 use Rattle.host_model.specs.Steps.{Event}
-use Rattle.host_model.specs.Runs.{Summary, Tally, with_reply, tally_of, replies, items_asked, all_ok, event_text, summary, tally_text, output}
+use Rattle.host_model.specs.Runs.{Summary, Tally, with_reply, tally_of, replies, items_asked, all_ok, event_texts, summary, tally_text, output}
 use Rattle.host_model.specs.Leaves.{AsksGenerated, IsOkAs, WritesAs, WritesFront}
 use Rattle.host_model.proofs.Generated.{first_is_item, chosen_is_item, items_generated-length}
 use Rattle.host_model.proofs.Growing.{tally_more}
@@ -130,7 +129,8 @@ line_is_item place x line is = ap (λ l. is_some (item_of (Some l))) is ∙ at_i
 pub record Generating (seed count place state : ℕ) (v w : HostView) (t : Tally) : Type 0 where
   pub lines : List (List ℕ)
   pub events : List Event
-  pub answered : Answered v w (lone_items (map Some lines)) events
+  pub texts : List (List ℕ)
+  pub answered : Answered v w (lone_items (map Some lines)) events texts
   pub whole : generated_lines seed count ≡ lines ++ lines_at place state (count - place)
   pub counted : tally_of (replies events) ≡ t
 
@@ -139,6 +139,7 @@ unfolding lines_at
 none_generated seed count v host = record {
   lines = [];
   events = [];
+  texts = [];
   answered = answered_none v host;
   whole = ap (generated_lines seed) (omega arith);
   counted = refl;
@@ -155,8 +156,9 @@ one_more_generated seed count place state state' v w x t t' line r s within line
     record {
       lines = s.lines ++ line ∷ [];
       events = s.events ++ e ∷ [];
-      answered = subst (λ items. Answered v x items (s.events ++ e ∷ [])) (sym more)
-          (answered_more v w x (lone_items (map Some s.lines)) s.events a.item r Summary None None (Ok tt) s.answered answers);
+      texts = s.texts ++ answers.text ∷ [];
+      answered = subst (λ items. Answered v x items (s.events ++ e ∷ []) (s.texts ++ answers.text ∷ [])) (sym more)
+          (answered_more v w x (lone_items (map Some s.lines)) s.events s.texts a.item r Summary None None (Ok tt) s.answered answers);
       whole = s.whole ∙ ap (λ n. s.lines ++ lines_at place state n) left ∙ ap (λ l. s.lines ++ l) (lines-more place state (count - (place + 1)))
           ∙ sym (append_assoc s.lines (line_at place state ∷ []) (lines_at (suc place) (state_at place state) (count - (place + 1))))
           ∙ (λ i. (s.lines ++ (sym line_is) i ∷ []) ++ lines_at ((sym (add-one place)) i) ((sym state_is) i) (count - (place + 1)));
@@ -166,9 +168,10 @@ one_more_generated seed count place state state' v w x t t' line r s within line
 -- ---- the summary
 
 -- nothing is written for one event
-silent : (events : List Event) → flat_map (event_text Summary) events ≡ []
-silent [] = refl
-silent (e ∷ events) = silent events
+silent : (events : List Event) (texts : List (List ℕ)) → event_texts Summary events texts ≡ []
+silent [] texts = refl
+silent (e ∷ events) [] = refl
+silent (e ∷ events) (text ∷ texts) = silent events texts
 
 counts_ok : (r : Reply) (t : Tally) → (is_ok r && is_all_ok t) ≡ is_all_ok (with_reply r t)
 counts_ok reply.Ok t = refl
@@ -204,18 +207,18 @@ module _ (seed count place state : ℕ) (v w : HostView) (t : Tally) (page clear
   summary_is : text ≡ summary s.events
   summary_is = text_is ∙ (λ i. tally_text ((sym size) i) ((sym s.counted) i))
 
-  output_is : text ≡ output Summary s.events
-  output_is = summary_is ∙ sym (ap (λ l. l ++ summary s.events) (silent s.events))
+  output_is : text ≡ output Summary s.events s.texts
+  output_is = summary_is ∙ sym (ap (λ l. l ++ summary s.events) (silent s.events s.texts))
 
   oks : all_ok s.events ≡ is_all_ok t
   oks = all_ok_is s.events ∙ ap is_all_ok s.counted
 
   -- so the run ends, by what was written
-  ends : (e : Ending) → AsksGenerated (end_of e) (seed, count) (items_asked s.events) → IsOkAs (end_of e) s.events → WritesAs (end_of e) Summary s.events before now
+  ends : (e : Ending) → AsksGenerated (end_of e) (seed, count) (items_asked s.events) → IsOkAs (end_of e) s.events → WritesAs (end_of e) Summary s.events s.texts before now
       → AnswersScript (Some (seed, count)) e Summary v w left left before now
-  ends e asked ok written = answers_script (Some (seed, count)) e Summary v w left left before now _ s.events s.answered (asked, refl) ok (λ tells. written)
+  ends e asked ok written = answers_script (Some (seed, count)) e Summary v w left left before now _ s.events s.texts s.answered (asked, refl) ok written
 
-  written_is : Appends before now text → Appends before now (output Summary s.events)
+  written_is : Appends before now text → Appends before now (output Summary s.events s.texts)
   written_is written = subst (λ l. Appends before now l) output_is written
 
   pub generated_ok : Appends before now text → is_all_ok t ≡ true → AnswersScript (Some (seed, count)) ending.AllOk Summary v w left left before now

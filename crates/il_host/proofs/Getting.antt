@@ -1,5 +1,5 @@
 -- A command that tells the lines of a text is a fetch with another reply.
-use Rattle.std.proofs.Common.{◌≡◌, ◌∙◌, ⊎_elim, inl, ◌++◌, ℕ, Bool, false, not, List, Option, Some, None, refl, sym, ap, subst}
+use Rattle.std.proofs.Common.{◌≡◌, ◌∙◌, ⊎_elim, inl, inr, ◌++◌, ℕ, Bool, false, not, List, Option, Some, None, refl, sym, ap, subst}
 use Rattle.std.specs.Prelude.{Err, true}
 use Rattle.lif_model.specs.Apply.{Fetch, apply, next_unless}
 use Rattle.lif_model.specs.Volume.{Volume}
@@ -22,7 +22,7 @@ use Rattle.host_model.specs.LoopStates.{LoopState, all_roles, device_count, ring
 use Rattle.host_model.specs.HostStates.{HostState, volume_at}
 use Rattle.host_model.specs.Next.{BoxedBecome, DeviceBehind, Next, StatusBehindVolume}
 use Rattle.host_model.specs.Replies.{got_as, if_text, lines_of_file, lines_text, refused_as, reply_text}
-use Rattle.host_model.specs.Steps.{EitherVolume, Event, Exchanged, HasReplyCause, HearsLog, IsCarried, IsStep, Replied, TellsReply, Travels, is_fault, is_frame_fault}
+use Rattle.host_model.specs.Steps.{EitherVolume, Event, Exchanged, HasReplyCause, HearsLog, IsCarried, Acts, IsStep, KeepsDirectory, Replied, TellsReply, Travels, is_fault, is_frame_fault}
 use Rattle.host_model.specs.Stops.{MayBeLeft}
 use Rattle.il_host.specs.HostView.{HostView, Performed}
 use Rattle.il_host.specs.Standings.{fault_of, volume_reply}
@@ -160,9 +160,9 @@ module _ (name : List ℕ) (log : List Entry) (s t : HostState) where
   travels_got : (r : Reply) (lines : Lines) → Travels (fetching name r log s t) → Travels (getting name (got r lines) log s t)
   travels_got r lines so = record { one_talker = so.one_talker; roles = so.roles; crossings = so.crossings; frames = so.frames; short = so.short }
 
-  step_got : (r : Reply) (lines : Lines) (hops : List ℕ) → (r ≡ reply.Ok → TellsReply (Asks (Get name)) s → lines ≡ lines_of_file name (volume_at s))
-      → IsStep hops (fetching name r log s t) → IsStep hops (getting name (got r lines) log s t)
-  step_got r lines hops same so = record {
+  acts_got : (r : Reply) (lines : Lines) (hops : List ℕ) → (r ≡ reply.Ok → TellsReply (Asks (Get name)) s → lines ≡ lines_of_file name (volume_at s))
+      → Acts hops (fetching name r log s t) → Acts hops (getting name (got r lines) log s t)
+  acts_got r lines hops same so = record {
     replied = replied_got r lines same so.replied;
     next = next_got r lines s.loop t.loop so.next;
     travels = travels_got r lines so.travels;
@@ -173,6 +173,17 @@ module _ (name : List ℕ) (log : List Entry) (s t : HostState) where
     unsound = λ other. cc;
     still = λ none. cc;
   }
+
+  kept_got : (r : Reply) (lines : Lines) → KeepsDirectory (fetching name r log s t) → KeepsDirectory (getting name (got r lines) log s t)
+  kept_got reply.Ok None so = record { kept = so.kept; log = λ on. inr (refl, so.log on) }
+  kept_got reply.Ok (Some lines) so = record { kept = so.kept; log = λ on. so.log on }
+  kept_got (reply.No code) lines so = record { kept = so.kept; log = λ on. inl (so.log on) }
+  kept_got reply.FaultFrame lines so = record { kept = so.kept; log = λ on. tt }
+  kept_got reply.FaultMedium lines so = record { kept = so.kept; log = λ on. tt }
+
+  step_got : (r : Reply) (lines : Lines) (hops : List ℕ) → (r ≡ reply.Ok → TellsReply (Asks (Get name)) s → lines ≡ lines_of_file name (volume_at s))
+      → IsStep hops (fetching name r log s t) → IsStep hops (getting name (got r lines) log s t)
+  step_got r lines hops same so = record { acts = acts_got r lines hops same so.acts; directory = kept_got r lines so.directory }
 
 -- ---- a host
 
@@ -188,7 +199,7 @@ module _ (name : List ℕ) (v w : HostView) where
     stops = λ tells own. weaker v.moment w.moment v.left_since w.left_since (MayBeLeft (Asks (Get name)) v.state) (MayBeLeft (Asks (OfVolume (Fetch name))) v.state) (so.stops tells own)
         (λ c left. (⊎_elim (λ before. before) (λ turned. turned ∙ fetch_leaves v.state.records name (volume_at v.state)) left.0, left.1));
     images = so.images;
-    calls = so.calls;
+    calls = λ is. let few = so.calls refl in record { all = few.all; on_tape = few.on_tape; from_kept = few.from_kept };
   }
 
   -- a fetch that was refused, or faulted

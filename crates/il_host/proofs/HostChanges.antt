@@ -1,6 +1,6 @@
 -- The commands that change the volume, as a host performs them.
 use Rattle.std.proofs.Common.{◌≡◌, ◌≤◌, ◌+◌, ℕ, List, Option, None, Some, refl, subst, arith}
-use Rattle.std.specs.Prelude.{Result, Ok, Err}
+use Rattle.std.specs.Prelude.{Result, Ok, Err, is_some}
 use Rattle.lif_model.specs.Parts.{Part}
 use Rattle.lif_model.specs.Apply.{Adopt, Dir, Fetch, Format, Label, Batch, Purge, Rename, Store, Upgrade, VolumeCommand}
 use Rattle.lif_model.specs.Header.{HeaderParts}
@@ -25,7 +25,8 @@ use Rattle.il_host.specs.Hosts.{IsUsable, host_in, loop_in, store_in, volume_in}
 use Rattle.il_host.specs.Standings.{HasDriveStatus, MakesSound, volume_reply}
 use Rattle.il_host.proofs.BatchCarries.{alters_carried}
 use Rattle.il_host.proofs.VolumeCarries.{IsFormedAs}
-use Rattle.il_host.proofs.HostVolumes.{TellsNothing, changed, most_calls, mounts_few, none_asked, seen_asked}
+use Rattle.il_host.proofs.KeptDirectories.{TellsNothing, minds_altered}
+use Rattle.il_host.proofs.HostVolumes.{changed, most_calls, mounts_few, none_asked, seen_asked}
 
 -- where the calls beside a directory are few, those with mounting are
 few_with_mounting : {R S T : Type 0} (view : R → RecordsView S) (old new : VolumeView R) (answer : Result T VolumeFault) → IsOpen view new → (view new.records).record_count ≡ (view old.records).record_count
@@ -101,18 +102,19 @@ changing_few {T = T} view old new command answer nothing is size = by command no
 module _ {M I : Type 0} {D : I → Type 0} (view : M → MediumView) (seen : Ring M I D → RingView M) (o b n : Volume (LoopRecords M I D)) (text_space file_space : ℕ)
     (usable : IsUsable view (store_in view seen) (volume_in o) (loop_in seen o.records) text_space file_space) (began : Begun (store_in view seen o.records) (store_in view seen b.records))
     (command : VolumeCommand) (opens : IsOpen (store_in view seen) (volume_in n)) (low : HasDriveStatus (loop_in seen n.records).control)
-    (m : Volume (LoopRecords M I D)) (u : Unit {0}) (makes : MakesSound view (loop_in seen b.records) (loop_in seen m.records) (Ok u)) (sounds : Continues {T = Unit {0}} 1 (store_in view seen b.records) (store_in view seen m.records) (Ok u)) where
+    (m : Volume (LoopRecords M I D)) (u : Unit {0}) (makes : MakesSound view (loop_in seen b.records) (loop_in seen m.records) (Ok u)) (sounds : Continues {T = Unit {0}} 1 (store_in view seen b.records) (store_in view seen m.records) (Ok u)) (same : is_some m.kept ≡ is_some o.kept) where
   -- a command that tells nothing, as the volume did it
-  pub altered : {T : Type 0} (answer : Result T VolumeFault) (before : List ℕ) → ((x : M) → IsMedium (view x)) → TellsNothing command → IsFormedAs command answer
+  pub altered : {T : Type 0} (answer : Result T VolumeFault) (before : List ℕ) → ((x : M) → IsMedium (view x)) → IsOpen (store_in view seen) (volume_in m) → TellsNothing command → IsFormedAs command answer
       → Alters command (store_in view seen) (volume_in m) (volume_in n) answer
       → Performed (Asks (OfVolume command)) (volume_reply answer) (host_in view seen o before text_space file_space) (host_in view seen n (reply_line (volume_reply answer)) text_space file_space)
-  altered answer before law nothing formed alters =
-      changed view seen o b n text_space file_space usable began command opens low m u makes sounds answer
+  altered answer before law was nothing formed alters =
+      changed view seen o b n text_space file_space usable began command opens low m u makes sounds same answer
       (changing (store_in view seen m.records).record_count command (volume_in m).kept (volume_in n).kept answer) before nothing
       (changing_few (store_in view seen) (volume_in m) (volume_in n) command answer nothing opens alters.goes_on.continues.size)
       alters.goes_on alters.stops alters.answers
       (alters_carried (store_in view seen) (volume_in m) (volume_in n) (host_in view seen o before text_space file_space).state
-      (seen_asked view seen o b n text_space file_space usable began command opens low m u makes sounds before)
-      (none_asked view seen o b n text_space file_space usable began command opens low m u makes sounds)
+      (seen_asked view seen o b n text_space file_space usable began command opens low m u makes sounds same before)
+      (none_asked view seen o b n text_space file_space usable began command opens low m u makes sounds same)
       (is_store_at view seen (ring_in m.records.control) m.records.sound m.records.since m.records.resumes (loop_in seen m.records).control law)
       command nothing answer formed alters)
+      (minds_altered (store_in view seen) (volume_in m) (volume_in n) command answer nothing was alters (none_asked view seen o b n text_space file_space usable began command opens low m u makes sounds same))

@@ -1,6 +1,6 @@
 -- A command that asks the devices of the loop, as a host performs it.
 use Rattle.std.proofs.Common.{◌≡◌, ◌∙◌, ◌≤◌, ◌+◌, ◌*◌, ◌++◌, ◌-◌, ◌^◌, ◌/◌, ◌<◌, ℕ, suc, false, List, length, Option, None, Some, option_map, refl, sym, ap, subst, arith}
-use Rattle.std.specs.Prelude.{Result, Ok, Err, Bool, true, [], ◌∷◌, find, if◌then◌else◌}
+use Rattle.std.specs.Prelude.{Result, Ok, Err, Bool, true, [], ◌∷◌, find, if◌then◌else◌, is_some}
 use Rattle.std.specs.List.{All, position}
 use Rattle.std.proofs.lemmas.List.Elements.{All-head, All-tail}
 use Rattle.il_device.specs.State.{DeviceState}
@@ -24,7 +24,7 @@ use Rattle.il_record.specs.Called.{CallBroke, Called, LeavesStore}
 use Rattle.il_record.specs.Controls.{ring_in}
 use Rattle.il_record.specs.IsStore.{is_store_at}
 use Rattle.il_record.specs.LoopCalls.{AllNamed, LeftAlone, NotSaid, Said, id_asks}
-use Rattle.il_record.specs.LoopStores.{Addresses, AtIdle, AtLost, HasRing, LoopView, Nowhere, Standing, view_at, view_of}
+use Rattle.il_record.specs.LoopStores.{Addresses, AtIdle, AtLost, HasRing, LoopView, Nowhere, Standing, is_idle, view_at, view_of}
 use Rattle.il_record.specs.Polls.{HasPolled, PollBroke, poll_asks}
 use Rattle.il_record.specs.Runs.{NotPolled, Polled}
 use Rattle.il_record.proofs.StoreResumes.{agrees}
@@ -37,10 +37,12 @@ use Rattle.host_model.specs.Requests.{Asks, Devices, Item, Paper, Poll, Say, Sta
 use Rattle.host_model.specs.LoopStates.{paper_on, printer_at}
 use Rattle.host_model.specs.HostStates.{HostState}
 use Rattle.host_model.specs.Replies.{device_lines, if_printer, paper_line, poll_line, reply_text, status_line}
+use Rattle.host_model.specs.Steps.{KeepsDirectory}
 use Rattle.il_host.specs.HostView.{Performed}
 use Rattle.il_host.specs.Hosts.{IsUsable, host_in, loop_in, store_in, volume_in}
 use Rattle.il_host.specs.Standings.{HasDriveId, fault_of}
-use Rattle.il_host.proofs.HostVolumes.{begun_calls, fault_text, performed}
+use Rattle.il_host.proofs.KeptDirectories.{forgotten}
+use Rattle.il_host.proofs.HostVolumes.{begun_calls, event_kept, fault_text, performed}
 use Rattle.il_host.proofs.LoopEvents.{IsOfLoop, not_of_volume}
 use Rattle.il_host.proofs.LoopPerforms.{devices_broke, devices_performs, loop_unready, poll_broke, poll_performs, printer_told, say_broke, say_no_printer, say_performs, say_unnamed, status_broke, status_performs}
 use Rattle.il_host.proofs.PaperPerforms.{paper_performs}
@@ -127,24 +129,36 @@ module _ {M I : Type 0} {D : I → Type 0} (view : M → MediumView) (seen : Rin
   left_begun : 2763 ≤ (store_in view seen b.records).calls_left
   left_begun = let left = begun_calls view seen o b o text_space file_space usable began in let size = size_bounds (store_in view seen o.records).record_count usable.size in omega (arith, left, size.0, size.1)
 
+  -- the directory is forgotten
+  forgets : (n : Volume (LoopRecords M I D)) (item : Item) (answered : Reply) (opens : IsOpen (store_in view seen) (volume_in n)) → IsOfLoop item → is_some n.kept ≡ false
+      → KeepsDirectory (event_kept view seen o b n text_space file_space usable began opens item answered)
+  forgets n item answered opens of_loop off =
+      let is = forgotten item (is_some o.kept) answered (event_kept view seen o b n text_space file_space usable began opens item answered).before (event_kept view seen o b n text_space file_space usable began opens item answered).log of_loop in
+      record { kept = off ∙ sym is.0; log = λ on. is.1 }
+
   -- it replied a fault
-  faulted : (n : Volume (LoopRecords M I D)) (item : Item) (e : Trouble) → IsOfLoop item → IsOpen (store_in view seen) (volume_in n) → (store_in view seen n.records).record_count ≡ (store_in view seen o.records).record_count
+  faulted : (n : Volume (LoopRecords M I D)) (item : Item) (e : Trouble) → IsOfLoop item → IsOpen (store_in view seen) (volume_in n) → is_some n.kept ≡ false → (store_in view seen n.records).record_count ≡ (store_in view seen o.records).record_count
       → (e ≡ trouble.Frame) × Ran n.records item reply.FaultFrame → Behind n item (fault_of e) (reply_line (fault_of e))
-  faulted n item e of_loop opens size did =
+  faulted n item e of_loop opens off size did =
       performed view seen o b n text_space file_space usable began opens item (fault_of e) before (reply_line (fault_of e)) size
-      (subst (λ e. Ran n.records item (fault_of e)) (sym did.0) did.1)
+      (subst (λ e. Ran n.records item (fault_of e)) (sym did.0) did.1) (forgets n item (fault_of e) opens of_loop off)
       (λ told. sym (fault_text item (host_in view seen o before text_space file_space).state e)) (λ is. absurd (not_of_volume item of_loop is))
 
   -- the loop was not ready, and could not be addressed
   pub not_ready : (n : Volume (LoopRecords M I D)) (item : Item) (P : Type 0) (e : Trouble) → IsOpen (store_in view seen) (volume_in n) → IsOfLoop item
       → Addresses {T = Unit {0}} view (loop_in seen b.records).control (loop_in seen b.records) (loop_in seen n.records) (Err e)
-      → LeavesStore {T = Unit {0}} 1 P (store_in view seen b.records) (store_in view seen n.records) (Err e) → Behind n item (fault_of e) (reply_line (fault_of e))
-  not_ready n item P e opens of_loop addresses leaves =
+      → LeavesStore {T = Unit {0}} 1 P (store_in view seen b.records) (store_in view seen n.records) (Err e) → n.kept ≡ (if is_idle (loop_in seen b.records).control then b.kept else None) → Behind n item (fault_of e) (reply_line (fault_of e))
+  not_ready n item P e opens of_loop addresses leaves kept =
       let left : 1 ≤ (store_in view seen n.records).calls_left = let enough = left_begun in let used = leaves.left in omega (arith, enough, used) in
-      faulted n item e of_loop opens (leaves.size ∙ began.size)
+      faulted n item e of_loop opens (ap is_some (kept ∙ ap (λ idle. if idle then b.kept else None) (unready (loop_in seen b.records).control addresses))) (leaves.size ∙ began.size)
       (loop_unready view seen (ring_in o.records.control) (ring_in b.records.control) (loop_in seen o.records) (loop_in seen b.records)
       usable.volume_open.valid (agrees seen o.records.control) (agrees seen b.records.control) began (ring_in n.records.control) (loop_in seen n.records) store usable.log left
       (Unit {0}) item e of_loop addresses)
+    where
+      unready : (c : Standing M) → Addresses {T = Unit {0}} view c (loop_in seen b.records) (loop_in seen n.records) (Err e) → is_idle c ≡ false
+      unready (AtIdle r) addresses = absurd addresses
+      unready (AtLost r) addresses = refl
+      unready Nowhere addresses = absurd addresses
 
   -- the ring told of a printer's paper, if there is one
   module _ (found : Option (List ℕ × ℕ)) (ring : RingView M) (lends : LoopRecords M I D) (same : lends ≡ b.records) (at : HasRing (loop_in seen lends).control (λ r. ring ≡ r)) (is : found ≡ paper_of (ring.before ++ ring.after)) where
@@ -160,9 +174,10 @@ module _ {M I : Type 0} {D : I → Type 0} (view : M → MediumView) (seen : Rin
     pub paper_before : found ≡ paper_on (host_in view seen o before text_space file_space).state.loop
     paper_before = paper_ran.0
 
-    pub paper_told : IsOpen (store_in view seen) (volume_in b) → Behind b (Asks Paper) (if_printer found) (paper_line found ++ reply_line (if_printer found))
-    paper_told opens =
+    pub paper_told : IsOpen (store_in view seen) (volume_in b) → b.kept ≡ o.kept → Behind b (Asks Paper) (if_printer found) (paper_line found ++ reply_line (if_printer found))
+    paper_told opens kept =
         performed view seen o b b text_space file_space usable began opens (Asks Paper) (if_printer found) before (paper_line found ++ reply_line (if_printer found)) began.size paper_ran.1
+        (record { kept = ap is_some kept; log = λ on. tt })
         (λ told. paper_text found (host_in view seen o before text_space file_space).state paper_ran.0) (λ is. cc)
 
   -- the loop is ready, the volume is m, and its records are lent
@@ -186,11 +201,12 @@ module _ {M I : Type 0} {D : I → Type 0} (view : M → MediumView) (seen : Rin
       replied : {T : Type 0} (item : Item) (k : ℕ) (Q : Type 0) (answer : Result T Trouble) (lines : List ℕ) → LeavesStore k Q (store_in view seen lends) (store_in view seen l) answer → Ran l item reply.Ok → IsOfLoop item
           → reply_text item (host_in view seen o before text_space file_space).state reply.Ok ≡ lines ++ reply_line reply.Ok → Behind (lent m l) item reply.Ok (lines ++ reply_line reply.Ok)
       replied item k Q answer lines leaves ran of_loop text =
-          performed view seen o b (lent m l) text_space file_space usable began (lent_open view seen m lends l k Q answer opens same leaves) item reply.Ok before (lines ++ reply_line reply.Ok) (leaves.size ∙ ready.size ∙ began.size) ran (λ told. sym text) (λ is. absurd (not_of_volume item of_loop is))
+          performed view seen o b (lent m l) text_space file_space usable began (lent_open view seen m lends l k Q answer opens same leaves) item reply.Ok before (lines ++ reply_line reply.Ok) (leaves.size ∙ ready.size ∙ began.size) ran
+          (forgets (lent m l) item reply.Ok (lent_open view seen m lends l k Q answer opens same leaves) of_loop refl) (λ told. sym text) (λ is. absurd (not_of_volume item of_loop is))
 
       call_faulted : {T : Type 0} (item : Item) (k : ℕ) (Q : Type 0) (answer : Result T Trouble) (e : Trouble) → IsOfLoop item → LeavesStore k Q (store_in view seen lends) (store_in view seen l) answer → (e ≡ trouble.Frame) × Ran l item reply.FaultFrame
           → Behind (lent m l) item (fault_of e) (reply_line (fault_of e))
-      call_faulted item k Q answer e of_loop leaves did = faulted (lent m l) item e of_loop (lent_open view seen m lends l k Q answer opens same leaves) (leaves.size ∙ ready.size ∙ began.size) did
+      call_faulted item k Q answer e of_loop leaves did = faulted (lent m l) item e of_loop (lent_open view seen m lends l k Q answer opens same leaves) refl (leaves.size ∙ ready.size ∙ began.size) did
 
       left_called : {T : Type 0} (k : ℕ) (Q : Type 0) (answer : Result T Trouble) → k ≤ 2 → LeavesStore k Q (store_in view seen lends) (store_in view seen l) answer → 1 ≤ (store_in view seen l).calls_left
       left_called k Q answer few leaves = let enough = left_ready in let used = leaves.left in omega (arith, enough, used, few)
@@ -272,7 +288,8 @@ module _ {M I : Type 0} {D : I → Type 0} (view : M → MediumView) (seen : Rin
             let ran = say_no_printer view seen (ring_in o.records.control) (ring_in b.records.control) (loop_in seen o.records) (loop_in seen b.records)
             usable.volume_open.valid (agrees seen o.records.control) (agrees seen b.records.control) began x (loop_in seen lends) addressed (ring_in l.control) (loop_in seen l) store usable.log (left_called 2 (Unit {0}) (Ok u) (omega arith) named)
             on ids bytes has (sym none ∙ printer) did in
-            performed view seen o b (lent m l) text_space file_space usable began open_named (Asks (Say bytes)) (reply.No code.NoPrinter) before (reply_line (reply.No code.NoPrinter)) (named.size ∙ ready.size ∙ began.size) ran (λ told. refl) (λ is. cc)
+            performed view seen o b (lent m l) text_space file_space usable began open_named (Asks (Say bytes)) (reply.No code.NoPrinter) before (reply_line (reply.No code.NoPrinter)) (named.size ∙ ready.size ∙ began.size) ran
+            (forgets (lent m l) (Asks (Say bytes)) (reply.No code.NoPrinter) open_named tt refl) (λ told. refl) (λ is. cc)
 
         -- the records are lent again, and become q
         module _ (few : length bytes ≤ LONGEST_PAYLOAD) (address : ℕ) (at : found ≡ Some address) (again : LoopRecords M I D) (same_again : again ≡ l) where
@@ -304,12 +321,13 @@ module _ {M I : Type 0} {D : I → Type 0} (view : M → MediumView) (seen : Rin
                 let ran = say_performs view seen (ring_in o.records.control) (ring_in b.records.control) (loop_in seen o.records) (loop_in seen b.records)
                 usable.volume_open.valid (agrees seen o.records.control) (agrees seen b.records.control) began x (loop_in seen lends) addressed (ring_in q.control) (loop_in seen q) store usable.log (left_said (Ok w) leaves)
                 on ids (loop_in seen again) did_again has address (sym at ∙ printer) bytes more said in
-                performed view seen o b (lent m q) text_space file_space usable began (open_said (Ok w) leaves) (Asks (Say bytes)) reply.Ok before (reply_line reply.Ok) (size_said (Ok w) leaves) ran (λ told. refl) (λ is. cc)
+                performed view seen o b (lent m q) text_space file_space usable began (open_said (Ok w) leaves) (Asks (Say bytes)) reply.Ok before (reply_line reply.Ok) (size_said (Ok w) leaves) ran
+                (forgets (lent m q) (Asks (Say bytes)) reply.Ok (open_said (Ok w) leaves) tt refl) (λ told. refl) (λ is. cc)
 
             pub say_failed : (e : Trouble) (off : Since) → (e ≡ trouble.Frame) × CallBroke (λ r s. NotSaid view address bytes r s) off (loop_in seen again) (loop_in seen q)
                 → LeavesStore {T = Unit {0}} ((length bytes + 306) / 300) (Unit {0}) (store_in view seen again) (store_in view seen q) (Err e) → Behind (lent m q) (Asks (Say bytes)) (fault_of e) (reply_line (fault_of e))
             say_failed e off broke leaves =
-                faulted (lent m q) (Asks (Say bytes)) e tt (open_said {T = Unit {0}} (Err e) leaves) (size_said {T = Unit {0}} (Err e) leaves)
+                faulted (lent m q) (Asks (Say bytes)) e tt (open_said {T = Unit {0}} (Err e) leaves) refl (size_said {T = Unit {0}} (Err e) leaves)
                 (say_broke view seen (ring_in o.records.control) (ring_in b.records.control) (loop_in seen o.records) (loop_in seen b.records)
                 usable.volume_open.valid (agrees seen o.records.control) (agrees seen b.records.control) began x (loop_in seen lends) addressed (ring_in q.control) (loop_in seen q) store usable.log (left_said {T = Unit {0}} (Err e) leaves)
                 on ids (loop_in seen again) did_again has address (sym at ∙ printer) bytes off e broke)

@@ -1,6 +1,6 @@
 -- The commands that tell a label or the bytes of a file, as a host performs them.
 use Rattle.std.proofs.Common.{◌≡◌, ◌≤◌, ◌++◌, ◌∙◌, ℕ, List, map, take, Option, Some, None, refl, sym, ap, arith}
-use Rattle.std.specs.Prelude.{Result, Ok, Err, IfSome, length, option_map, unwrap_or}
+use Rattle.std.specs.Prelude.{Result, Ok, Err, IfSome, is_some, length, option_map, unwrap_or}
 use Rattle.std.specs.Global.{Vec}
 use Rattle.std.specs.List.{length_refill}
 use Rattle.std.specs.Vec.{with_items}
@@ -31,6 +31,7 @@ use Rattle.il_host.specs.Hosts.{IsUsable, host_in, loop_in, store_in, volume_in}
 use Rattle.il_host.specs.Standings.{HasDriveStatus, MakesSound, volume_reply}
 use Rattle.il_host.specs.Texts.{data_text, label_text}
 use Rattle.il_host.proofs.FileCarries.{fetch_carried}
+use Rattle.il_host.proofs.KeptDirectories.{minds_fetched, minds_label, minds_not_fetched}
 use Rattle.il_host.proofs.HostVolumes.{done, most_calls, mounting_few, none_asked, refused, seen_asked}
 use Rattle.il_host.proofs.Texts.{data_told, label_told, short_slot}
 use Rattle.il_host.proofs.VolumeReplied.{stays_turns}
@@ -70,14 +71,14 @@ fetching_few view old name answer is = by old.kept is.legal
 module _ {M I : Type 0} {D : I → Type 0} (view : M → MediumView) (seen : Ring M I D → RingView M) (o b n : Volume (LoopRecords M I D)) (text_space file_space : ℕ)
     (usable : IsUsable view (store_in view seen) (volume_in o) (loop_in seen o.records) text_space file_space) (began : Begun (store_in view seen o.records) (store_in view seen b.records))
     (opens : IsOpen (store_in view seen) (volume_in n)) (low : HasDriveStatus (loop_in seen n.records).control)
-    (m : Volume (LoopRecords M I D)) (u : Unit {0}) (makes : MakesSound view (loop_in seen b.records) (loop_in seen m.records) (Ok u)) (sounds : Continues {T = Unit {0}} 1 (store_in view seen b.records) (store_in view seen m.records) (Ok u)) where
+    (m : Volume (LoopRecords M I D)) (u : Unit {0}) (makes : MakesSound view (loop_in seen b.records) (loop_in seen m.records) (Ok u)) (sounds : Continues {T = Unit {0}} 1 (store_in view seen b.records) (store_in view seen m.records) (Ok u)) (same : is_some m.kept ≡ is_some o.kept) where
   pub labelled : (label before : List ℕ) → Mounts (store_in view seen) (volume_in m) (volume_in n) (Ok label) → AnswersTo Label (store_in view seen) (volume_in m) (volume_in n) (Ok label)
       → IsRefusedExactly (store_in view seen) (volume_in m) (Ok label) → Labels (store_in view seen) (volume_in m) label → KeepsVolume (store_in view seen) (volume_in m) (volume_in n)
       → Performed (Asks (OfVolume Label)) reply.Ok (host_in view seen o before text_space file_space) (host_in view seen n (label_text label ++ reply_line reply.Ok) text_space file_space)
   labelled label before consults answers exactly labels stays =
-      done view seen o b n text_space file_space usable began Label opens low m u makes sounds label _ before (label_text label)
+      done view seen o b n text_space file_space usable began Label opens low m u makes sounds same label _ before (label_text label)
       (mounting_few (store_in view seen) (volume_in m) (volume_in n) opens consults.goes_on.continues.size) consults.goes_on
-      (λ t told own. stays_turns _ _ _ _ t (stays t told own)) answers tt
+      (λ t told own. stays_turns _ _ _ _ t (stays t told own)) answers tt (minds_label (store_in view seen) (volume_in m) (volume_in n) (Ok label) consults)
       (λ t told. label_told (store_in view seen) (volume_in m) (volume_in n) t told label exactly labels)
 
   -- the bytes that are told are the file's
@@ -87,13 +88,14 @@ module _ {M I : Type 0} {D : I → Type 0} (view : M → MediumView) (seen : Rin
       → KeepsVolume (store_in view seen) (volume_in m) (volume_in n) → WritesBySettling (store_in view seen) (volume_in m) (volume_in n) (Ok file)
       → Performed (Asks (OfVolume (Fetch name))) reply.Ok (host_in view seen o before text_space file_space) (host_in view seen n (data_text file.kind file.implementation shown ++ reply_line reply.Ok) text_space file_space)
   fetched name file into shown before law was is reads answers fetches run stays settles =
-      done view seen o b n text_space file_space usable began (Fetch name) opens low m u makes sounds file _ before (data_text file.kind file.implementation shown)
+      done view seen o b n text_space file_space usable began (Fetch name) opens low m u makes sounds same file _ before (data_text file.kind file.implementation shown)
       (fetching_few (store_in view seen) (volume_in m) name (Ok file) was) reads.goes_on
       (λ t told own. stays_turns _ _ _ _ t (stays t told own)) answers
       (fetch_carried (store_in view seen) (volume_in m) (volume_in n) (host_in view seen o before text_space file_space).state
-      (seen_asked view seen o b n text_space file_space usable began (Fetch name) opens low m u makes sounds before)
-      (none_asked view seen o b n text_space file_space usable began (Fetch name) opens low m u makes sounds)
+      (seen_asked view seen o b n text_space file_space usable began (Fetch name) opens low m u makes sounds same before)
+      (none_asked view seen o b n text_space file_space usable began (Fetch name) opens low m u makes sounds same)
       name into file fetches run settles)
+      (minds_fetched (store_in view seen) (volume_in m) (volume_in n) name file into was reads fetches run (none_asked view seen o b n text_space file_space usable began (Fetch name) opens low m u makes sounds same))
       (λ t told. data_told (store_in view seen) (volume_in m) (volume_in n) t told name file into fetches ∙ ap (data_text file.kind file.implementation) (sym is))
 
   -- it was refused, or the store failed
@@ -102,6 +104,6 @@ module _ {M I : Type 0} {D : I → Type 0} (view : M → MediumView) (seen : Rin
       → KeepsVolume (store_in view seen) (volume_in m) (volume_in n)
       → Performed (Asks (OfVolume (Fetch name))) (volume_reply {T = Unit {0}} (Err fault)) (host_in view seen o before text_space file_space) (host_in view seen n (reply_line (volume_reply {T = Unit {0}} (Err fault))) text_space file_space)
   not_fetched name fault before was reads answers stays =
-      refused view seen o b n text_space file_space usable began (Fetch name) opens low m u makes sounds Fetched fault _ before
+      refused view seen o b n text_space file_space usable began (Fetch name) opens low m u makes sounds same Fetched fault _ before
       (fetching_few {T = Fetched} (store_in view seen) (volume_in m) name (Err fault) was) reads.goes_on
-      (λ t told own. stays_turns _ _ _ _ t (stays t told own)) answers
+      (λ t told own. stays_turns _ _ _ _ t (stays t told own)) answers (minds_not_fetched {T = Fetched} (store_in view seen) (volume_in m) (volume_in n) name fault was reads)

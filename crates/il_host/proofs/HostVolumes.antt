@@ -1,6 +1,6 @@
 -- A command of the volume, as a host performs it.
 use Rattle.std.proofs.Common.{◌≡◌, ◌∙◌, ◌≤◌, ◌+◌, ◌-◌, ◌*◌, ◌++◌, ℕ, true, List, length, [], Option, None, Some, refl, sym, ap, subst, arith}
-use Rattle.std.specs.Prelude.{◌≢◌, Result, Ok, Err, IfSome, map}
+use Rattle.std.specs.Prelude.{◌≢◌, if◌then◌else◌, Bool, false, Result, Ok, Err, IfSome, is_some, map}
 use Rattle.lif_dir.specs.declared.entries.Name.{Name}
 use Rattle.lif_dir.specs.Entries.{name_bytes, slot_bytes}
 use Rattle.lif_dir.specs.Names.{label_bytes, made_name}
@@ -8,6 +8,7 @@ use Rattle.lif_model.proofs.Legal.{legal_tells}
 use Rattle.lif_model.proofs.Slots.{readable_tells}
 use Rattle.lif_model.specs.Header.{HeaderParts}
 use Rattle.lif_model.specs.Tape.{Tape}
+use Rattle.lif_model.specs.Redo.{settled}
 use Rattle.lif_model.specs.Volume.{volume_of, Volume as LifVolume}
 use Rattle.lif_plan.specs.Directories.{IsLegalDirectory}
 use Rattle.lif_model.specs.Apply.{VolumeCommand, Dir, Label, Fetch, Store, Rename, Purge, Adopt, Upgrade, Batch, Format}
@@ -19,7 +20,7 @@ use Rattle.il_ports.specs.declared.records.Trouble.{Trouble}
 use Rattle.il_ports.specs.declared.records.Trouble.TheVariants as trouble
 use Rattle.lif_volume.specs.Views.{IsOpen, VolumeView}
 use Rattle.lif_volume.specs.Answers.{store_answer}
-use Rattle.lif_volume.specs.Commands.{AnswersTo, batch_calls_needed, calls_needed, mounting}
+use Rattle.lif_volume.specs.Commands.{AnswersTo, batch_calls_needed, calls_needed, directory_records, mounting}
 use Rattle.lif_volume.specs.Changing.{TurnsVolume}
 use Rattle.lif_volume.specs.declared.fault.VolumeFault.{VolumeFault}
 use Rattle.lif_volume.specs.declared.fault.VolumeFault.TheVariants.{Refused, Trouble as Troubled}
@@ -27,6 +28,8 @@ use Rattle.lif_volume.specs.declared.volume.Volume.{Volume}
 use Rattle.il_ring.specs.declared.ring.Ring.{Ring}
 use Rattle.il_ring.specs.Rings.{RingView}
 use Rattle.il_record.specs.declared.records.LoopRecords.{LoopRecords}
+use Rattle.loop_model.specs.Effect.{Transferred}
+use Rattle.il_record.specs.declared.records.Since.{Since}
 use Rattle.il_record.specs.LoopStores.{AtIdle, AtLost, LoopView, Nowhere, Standing, StandsSo, calls_in, view_of, view_at}
 use Rattle.il_record.specs.Controls.{ring_in}
 use Rattle.il_record.specs.IsStore.{is_store_at}
@@ -40,18 +43,22 @@ use Rattle.il_script.specs.Replies.{code_of, reply_line}
 use Rattle.host_model.specs.Requests.{Asks, Item, OfVolume, is_of_volume, request_of}
 use Rattle.host_model.specs.HostStates.{HostState, log_room, text_room, volume_at}
 use Rattle.host_model.specs.Replies.{reply_text, told_of}
-use Rattle.host_model.specs.Steps.{TellsReply}
-use Rattle.il_host.specs.HostView.{HostView, MakesFewCalls, Performed, calls_behind}
+use Rattle.host_model.specs.Directories.{kept_after_command}
+use Rattle.host_model.specs.Steps.{Event, KeepsDirectory, TellsReply}
+use Rattle.host_model.proofs.Steps.{ring_stays}
+use Rattle.il_host.specs.HostView.{HostView, Performed, TakesAtMost, calls_behind, most_beside, records_asked}
 use Rattle.il_host.specs.Hosts.{IsUsable, host_in, loop_in, store_in, volume_in}
 use Rattle.il_host.specs.PlainCommands.{ChangesVolume, IsOnVolume, OnVolume}
 use Rattle.il_host.specs.Shorts.{AllShort}
 use Rattle.il_host.proofs.Shorts.{all_short}
-use Rattle.il_host.specs.Standings.{Ends, HasDriveStatus, HasLogRoom, KeepsPage, MakesSound, fault_of, log_at, state_at, volume_reply}
+use Rattle.il_host.specs.Standings.{Ends, HasDriveStatus, HasLogRoom, KeepsPage, MakesSound, MakesSoundBy, event_at, fault_of, hops_at, log_at, state_at, volume_reply}
 use Rattle.il_host.proofs.Texts.{ok_text}
 use Rattle.il_host.proofs.VolumeCarries.{CarriesAs, IsFormedAs, none_carried, not_carried}
 use Rattle.il_host.proofs.VolumeCommands.{KeepsRing}
 use Rattle.il_host.proofs.VolumePerforms.{Performs, volume_asked, volume_failed, volume_not_asked}
-use Rattle.il_host.proofs.VolumeStarts.{stands_at}
+use Rattle.il_host.proofs.KeptDirectories.{Minds, TellsNothing, some_beside, sound_kept, still_kept, told_log}
+use Rattle.il_host.proofs.Sounding.{acts_keeping, keeping, stops_keeping}
+use Rattle.il_host.proofs.VolumeStarts.{Emptied, stands_at, volume_begun}
 use Rattle.il_host.proofs.VolumeAsked.{asked_seen, asked_transferred}
 use Rattle.il_host.proofs.VolumeReplied.{IsSeenAs, told_tape}
 
@@ -86,6 +93,12 @@ records_of {M} view seen p l = by l.control
     by (AtLost r) = refl
     by Nowhere = refl
 
+-- a state that stands is sound as its store
+sound_of : {M : Type 0} (view : M → MediumView) (c : Standing M) (sound : Bool) (log : Since) → StandsSo c sound log → (state_at view sound c).sound ≡ sound
+sound_of view (AtIdle r) sound log so = refl
+sound_of view (AtLost r) sound log so = refl
+sound_of view Nowhere sound log so = absurd so
+
 pub enough_calls : (n : ℕ) → IsSize n → 3 * n + 42 ≤ calls_in (log_room n)
 enough_calls n size = let bounds = size_bounds n size in omega (arith, bounds.0, bounds.1)
 
@@ -116,13 +129,6 @@ mounting_few view old new is same = omega (arith, mounts_few view old new is sam
 pub fault_text : (item : Item) (s : HostState) (e : Trouble) → reply_text item s (fault_of e) ≡ reply_line (fault_of e)
 fault_text item s trouble.Frame = refl
 fault_text item s trouble.Medium = refl
-
--- these commands tell nothing
-abbrev pub TellsNothing : VolumeCommand → Type 0
-TellsNothing Dir = ⊥
-TellsNothing Label = ⊥
-TellsNothing (Fetch name) = ⊥
-TellsNothing command = Unit {0}
 
 no_lines : (command : VolumeCommand) (volume : Option LifVolume) → TellsNothing command → told_of command volume ≡ []
 no_lines command None nothing = refl
@@ -246,6 +252,21 @@ module _ {M I : Type 0} {D : I → Type 0} (view : M → MediumView) (seen : Rin
   abbrev count : ℕ
   count = (store_in view seen o.records).record_count
 
+  -- where the store is made sound, a directory that was kept is kept
+  pub same_kept : (m : Volume (LoopRecords M I D)) → b.kept ≡ o.kept → m.kept ≡ (if b.records.sound then b.kept else None) → is_some m.kept ≡ is_some o.kept
+  same_kept m begun made = ap is_some made ∙ by b.records.sound refl
+    where
+      emptied : Emptied view (loop_in seen o.records) (loop_in seen b.records)
+      emptied = volume_begun view seen (ring_in o.records.control) (ring_in b.records.control) (loop_in seen o.records) (loop_in seen b.records) usable.volume_open.valid (agrees seen o.records.control) (agrees seen b.records.control) began
+
+      none : (kept : Bool) → is_some o.kept ≡ kept → b.records.sound ≡ false → false ≡ kept
+      none true is off = let clash : false ≡ true = sym off ∙ emptied.sound ∙ usable.kept is in cc
+      none false is off = refl
+
+      by : (sound : Bool) → b.records.sound ≡ sound → is_some (if sound then b.kept else None) ≡ is_some o.kept
+      by true is = ap is_some begun
+      by false is = none (is_some o.kept) refl is
+
   -- the log has room for so many calls
   pub begun_calls : calls_in (log_room count) ≤ (store_in view seen b.records).calls_left
   begun_calls = let room = room_of view seen (ring_in o.records.control) (loop_in seen o.records) usable.stands usable.log in omega (arith, began.enough, room)
@@ -275,57 +296,106 @@ module _ {M I : Type 0} {D : I → Type 0} (view : M → MediumView) (seen : Rin
 
   module _ (opens : IsOpen (store_in view seen) (volume_in n)) where
     -- it can be used again
-    usable_behind : (store_in view seen n.records).record_count ≡ count → KeepsRing view (loop_in seen o.records) (loop_in seen n.records) → AllShort (state_at view n.records.sound (loop_in seen n.records).control).loop → IsUsable view (store_in view seen) (volume_in n) (loop_in seen n.records) text_space file_space
-    usable_behind size keeps short = record {
+    usable_behind : (store_in view seen n.records).record_count ≡ count → KeepsRing view (loop_in seen o.records) (loop_in seen n.records) → AllShort (state_at view n.records.sound (loop_in seen n.records).control).loop
+        → (is_some n.kept ≡ true → n.records.sound ≡ true) → IsUsable view (store_in view seen) (volume_in n) (loop_in seen n.records) text_space file_space
+    usable_behind size keeps short kept = record {
       volume_open = opens;
       size = subst IsSize (sym size) usable.size;
       stands = stands_at view seen (ring_in n.records.control) (loop_in seen n.records) opens.valid;
+      kept = kept;
       log = keeps.room;
       short = short;
       text = usable.text ∙ ap text_room (sym size);
       file = usable.file ∙ ap (λ n. 256 * n) (sym size);
     }
 
+    -- the event of the item, with what is kept of the directory
+    abbrev pub event_kept : Item → Reply → Event
+    event_kept item answered = keeping (event_at view item answered (loop_in seen o.records) (loop_in seen n.records)) (is_some o.kept) (is_some n.kept)
+
+    -- so many records at most were read and written since the log was emptied
+    abbrev pub Took : ℕ → Type 0
+    Took most = (store_in view seen b.records).calls_left ≤ (store_in view seen n.records).calls_left + most
+
+    abbrev pub TookFew : Item → Type 0
+    TookFew item = Took (2 * count + 40)
+        × ((t : Tape) → (state_at view o.records.sound (loop_in seen o.records).control).tape ≡ Some t → Took (directory_records (settled t) + records_asked item (settled t) + 200))
+        × ((t : Tape) → (state_at view o.records.sound (loop_in seen o.records).control).tape ≡ Some t → is_some o.kept ≡ true → Took (records_asked item (settled t) + most_beside item))
+
     pub performed : (item : Item) (answered : Reply) (before after : List ℕ) → (store_in view seen n.records).record_count ≡ count
-        → Performs view seen (ring_in o.records.control) (ring_in n.records.control) item answered (loop_in seen o.records) (loop_in seen n.records)
+        → Performs view seen (ring_in o.records.control) (ring_in n.records.control) item answered (loop_in seen o.records) (loop_in seen n.records) → KeepsDirectory (event_kept item answered)
         → (TellsReply item (host_in view seen o before text_space file_space).state → after ≡ reply_text item (host_in view seen o before text_space file_space).state answered)
-        → (is_of_volume item ≡ true → (store_in view seen b.records).calls_left ≤ (store_in view seen n.records).calls_left + (2 * count + 40))
+        → (is_of_volume item ≡ true → TookFew item)
         → Performed item answered (host_in view seen o before text_space file_space) (host_in view seen n after text_space file_space)
-    performed item answered before after size did text few = record {
-      valid = usable_behind size did.keeps (all_short _ _ _ _ _ _ did.step.heard usable.short);
+    performed item answered before after size did directory text few = record {
+      valid = usable_behind size did.keeps (all_short _ _ _ _ _ _ did.step.heard usable.short) sound;
       hops = did.keeps.hops;
-      step = did.step;
+      step = record {
+        acts = acts_keeping (hops_at (loop_in seen o.records).control) (event_at view item answered (loop_in seen o.records) (loop_in seen n.records)) (is_some o.kept) (is_some n.kept)
+            (λ none. directory.kept ∙ still_kept item (is_some o.kept) answered none) did.step;
+        directory = directory;
+      };
       text = text;
-      stops = did.stops;
+      stops = stops_keeping (event_at view item answered (loop_in seen o.records) (loop_in seen n.records)) (is_some o.kept) (is_some n.kept) _ _ _ _ did.stops;
       images = did.keeps.images;
-      calls = subst (λ count. MakesFewCalls item count (log_at (loop_in seen n.records).control)) (sym (records_of view seen (ring_in o.records.control) (loop_in seen o.records)))
-          (λ is.
-          let left : (store_in view seen n.records).calls_left ≡ calls_behind count (log_at (loop_in seen n.records).control) =
-          left_of view seen (ring_in n.records.control) (loop_in seen n.records) (stands_at view seen (ring_in n.records.control) (loop_in seen n.records) opens.valid) did.keeps.room
-          ∙ ap (λ count. calls_behind count (log_at (loop_in seen n.records).control)) size in
-          omega (arith, begun_calls, few is, left));
+      calls = λ is. record {
+        all = subst (λ k. TakesAtMost k (2 * k + 40) (log_at (loop_in seen n.records).control)) (sym records) (takes (2 * count + 40) (few is).0);
+        on_tape = λ t told. subst (λ k. TakesAtMost k (directory_records (settled t) + records_asked item (settled t) + 200) (log_at (loop_in seen n.records).control)) (sym records) (takes _ ((few is).1 t told));
+        from_kept = λ t told on. subst (λ k. TakesAtMost k (records_asked item (settled t) + most_beside item) (log_at (loop_in seen n.records).control)) (sym records) (takes _ ((few is).2 t told on));
+      };
     }
+      where
+        records : (state_at view o.records.sound (loop_in seen o.records).control).records ≡ count
+        records = records_of view seen (ring_in o.records.control) (loop_in seen o.records)
+
+        stood : StandsSo (loop_in seen n.records).control n.records.sound n.records.since
+        stood = stands_at view seen (ring_in n.records.control) (loop_in seen n.records) opens.valid
+
+        left : (store_in view seen n.records).calls_left ≡ calls_behind count (log_at (loop_in seen n.records).control)
+        left = left_of view seen (ring_in n.records.control) (loop_in seen n.records) stood did.keeps.room ∙ ap (λ count. calls_behind count (log_at (loop_in seen n.records).control)) size
+
+        takes : (most : ℕ) → Took most → TakesAtMost count most (log_at (loop_in seen n.records).control)
+        takes most took = omega (arith, begun_calls, took, left)
+
+        sound : is_some n.kept ≡ true → n.records.sound ≡ true
+        sound on =
+            sym (sound_of view (loop_in seen n.records).control n.records.sound n.records.since stood)
+            ∙ sound_kept item answered (is_some o.kept) (state_at view o.records.sound (loop_in seen o.records).control).sound (state_at view n.records.sound (loop_in seen n.records).control).sound
+            did.step.sound (λ none. ap (λ (s : HostState). s.sound) (did.step.still none).1)
+            (λ was. sound_of view (loop_in seen o.records).control o.records.sound o.records.since usable.stands ∙ usable.kept was) (sym directory.kept ∙ on)
 
   module _ (command : VolumeCommand) (opens : IsOpen (store_in view seen) (volume_in n)) (low : HasDriveStatus (loop_in seen n.records).control) where
     -- the store could not be made sound
     pub not_asked : (e : Trouble) (before : List ℕ) → ((m : M) → IsMedium (view m)) → MakesSound {T = Unit {0}} view (loop_in seen b.records) (loop_in seen n.records) (Err e) → Continues {T = Unit {0}} 1 (store_in view seen b.records) (store_in view seen n.records) (Err e)
+        → n.kept ≡ (if b.records.sound then b.kept else None)
         → Performed (Asks (OfVolume command)) (fault_of e) (host_in view seen o before text_space file_space) (host_in view seen n (reply_line (fault_of e)) text_space file_space)
-    not_asked e before law makes goes =
+    not_asked e before law makes goes kept =
         let store = is_store_at view seen (ring_in o.records.control) o.records.sound o.records.since o.records.resumes (loop_in seen o.records).control law in
         let left : 1 ≤ (store_in view seen n.records).calls_left = let enough = begun_left in let used = goes.left in omega (arith, enough, used) in
         let did = volume_not_asked view seen (ring_in o.records.control) (ring_in b.records.control) (ring_in n.records.control) command (loop_in seen o.records) (loop_in seen b.records) (loop_in seen n.records)
         usable.volume_open.valid (agrees seen o.records.control) (agrees seen b.records.control) began usable.log low left (Unit {0}) e store makes in
         performed opens (Asks (OfVolume command)) (fault_of e) before (reply_line (fault_of e)) (goes.size ∙ began.size)
         (subst (λ e. Performs view seen (ring_in o.records.control) (ring_in n.records.control) (Asks (OfVolume command)) (fault_of e) (loop_in seen o.records) (loop_in seen n.records)) (sym did.0) did.1)
-        (λ told. sym (fault_text (Asks (OfVolume command)) (host_in view seen o before text_space file_space).state e)) (λ is. let used = goes.left in omega (arith, used))
+        (subst (λ e. KeepsDirectory (event_kept opens (Asks (OfVolume command)) (fault_of e))) (sym did.0)
+        (record { kept = ap is_some (kept ∙ ap (λ sound. if sound then b.kept else None) (unsound (loop_in seen n.records) makes)); log = λ on. tt }))
+        (λ told. sym (fault_text (Asks (OfVolume command)) (host_in view seen o before text_space file_space).state e))
+        (λ is. let used = goes.left in (omega (arith, used), λ t told. omega (arith, used), λ t told on. omega (arith, used, some_beside (Asks (OfVolume command)))))
+      where
+        unsound : (new : LoopView M) → MakesSound {T = Unit {0}} view (loop_in seen b.records) new (Err e) → b.records.sound ≡ false
+        unsound new makes = by b.records.sound makes
+          where
+            by : (sound : Bool) → MakesSoundBy {T = Unit {0}} view sound (loop_in seen b.records) new (Err e) → sound ≡ false
+            by true makes = absurd makes
+            by false makes = refl
 
     -- the store was made sound as m, and the volume was asked
-    module _ (m : Volume (LoopRecords M I D)) (u : Unit {0}) (makes : MakesSound view (loop_in seen b.records) (loop_in seen m.records) (Ok u)) (sounds : Continues {T = Unit {0}} 1 (store_in view seen b.records) (store_in view seen m.records) (Ok u)) where
+    module _ (m : Volume (LoopRecords M I D)) (u : Unit {0}) (makes : MakesSound view (loop_in seen b.records) (loop_in seen m.records) (Ok u)) (sounds : Continues {T = Unit {0}} 1 (store_in view seen b.records) (store_in view seen m.records) (Ok u)) (same : is_some m.kept ≡ is_some o.kept) where
       -- where the volume is asked, its store has the tape of the host, and nothing was read or written yet
       pub seen_asked : (before : List ℕ) → IsSeenAs (host_in view seen o before text_space file_space).state (store_in view seen m.records)
       seen_asked before =
-          asked_seen view seen (ring_in o.records.control) (ring_in b.records.control) (ring_in m.records.control) (loop_in seen o.records) (loop_in seen b.records) (loop_in seen m.records)
-          usable.volume_open.valid (agrees seen o.records.control) (agrees seen b.records.control) began u makes
+          let so = asked_seen view seen (ring_in o.records.control) (ring_in b.records.control) (ring_in m.records.control) (loop_in seen o.records) (loop_in seen b.records) (loop_in seen m.records)
+          usable.volume_open.valid (agrees seen o.records.control) (agrees seen b.records.control) began u makes in
+          record { tape = so.tape; records = so.records }
 
       pub none_asked : (store_in view seen m.records).transferred []
       none_asked =
@@ -343,10 +413,12 @@ module _ {M I : Type 0} {D : I → Type 0} (view : M → MediumView) (seen : Rin
           → GoesOn calls (store_in view seen m.records) (store_in view seen n.records) (store_answer answer)
           → TurnsVolume command (store_in view seen) (volume_in m) (volume_in n) → AnswersTo command (store_in view seen) (volume_in m) (volume_in n) answer
           → CarriesAs command (volume_reply answer) (host_in view seen o before text_space file_space).state.records (volume_at (host_in view seen o before text_space file_space).state) (store_in view seen n.records).transferred
+          → Minds (store_in view seen) (volume_in m) (volume_in n) command answer
           → (TellsReply (Asks (OfVolume command)) (host_in view seen o before text_space file_space).state → after ≡ reply_text (Asks (OfVolume command)) (host_in view seen o before text_space file_space).state (volume_reply answer))
           → Performed (Asks (OfVolume command)) (volume_reply answer) (host_in view seen o before text_space file_space) (host_in view seen n after text_space file_space)
-      asked {T} answer calls before after few goes turns answers carries text =
-          performed opens (Asks (OfVolume command)) (volume_reply answer) before after (goes.continues.size ∙ sounds.size ∙ began.size) (did answer goes answers carries) text (λ is. most)
+      asked {T} answer calls before after few goes turns answers carries minds text =
+          performed opens (Asks (OfVolume command)) (volume_reply answer) before after (goes.continues.size ∙ sounds.size ∙ began.size) ran (directory ran) text
+          (λ is. (most, λ t told. omega (arith, sounds.left, minds.on_tape t (at_asked t told)), λ t told on. omega (arith, sounds.left, minds.from_kept t (at_asked t told) (same ∙ on))))
         where
           most : (store_in view seen b.records).calls_left ≤ (store_in view seen n.records).calls_left + (2 * count + 40)
           most =
@@ -378,37 +450,68 @@ module _ {M I : Type 0} {D : I → Type 0} (view : M → MediumView) (seen : Rin
               volume_failed view seen (ring_in o.records.control) (ring_in b.records.control) (ring_in n.records.control) command (loop_in seen o.records) (loop_in seen b.records) (loop_in seen n.records)
               usable.volume_open.valid (agrees seen o.records.control) (agrees seen b.records.control) began usable.log low left u (ring_in m.records.control) calls (loop_in seen m.records) makes (agrees seen m.records.control) turns e goes
 
+          ran : Performs view seen (ring_in o.records.control) (ring_in n.records.control) (Asks (OfVolume command)) (volume_reply answer) (loop_in seen o.records) (loop_in seen n.records)
+          ran = did answer goes answers carries
+
+          at_asked : (t : Tape) → (state_at view o.records.sound (loop_in seen o.records).control).tape ≡ Some t → (store_in view seen m.records).tape ≡ Some t
+          at_asked t told = sym (seen_asked before).tape ∙ told
+
+          emptied : Emptied view (loop_in seen o.records) (loop_in seen b.records)
+          emptied = volume_begun view seen (ring_in o.records.control) (ring_in b.records.control) (loop_in seen o.records) (loop_in seen b.records) usable.volume_open.valid (agrees seen o.records.control) (agrees seen b.records.control) began
+
+          -- where the directory is kept the store was sound, and its log is empty
+          empty : is_some o.kept ≡ true → log_at (loop_in seen m.records).control ≡ []
+          empty on =
+              let still : loop_in seen m.records ≡ loop_in seen b.records = subst (λ sound. MakesSoundBy view sound (loop_in seen b.records) (loop_in seen m.records) (Ok u)) (emptied.sound ∙ usable.kept on) makes in
+              ap (λ (l : LoopView M). log_at l.control) still ∙ emptied.log
+
+          directory : Performs view seen (ring_in o.records.control) (ring_in n.records.control) (Asks (OfVolume command)) (volume_reply answer) (loop_in seen o.records) (loop_in seen n.records)
+              → KeepsDirectory (event_kept opens (Asks (OfVolume command)) (volume_reply answer))
+          directory ran = record {
+            kept = minds.kept ∙ ap (λ was. kept_after_command command was (volume_reply answer)) same;
+            log = λ on.
+                let ring = ring_stays _ (state_at view o.records.sound (loop_in seen o.records).control).loop (state_at view n.records.sound (loop_in seen n.records).control).loop ran.step.next.devices in
+                minds.log (same ∙ on) (host_in view seen o before text_space file_space).state (log_at (loop_in seen n.records).control) (seen_asked before).tape
+                (records_of view seen (ring_in o.records.control) (loop_in seen o.records) ∙ sym (sounds.size ∙ began.size))
+                (λ rests. ap (λ (r : LoopRecords M I D). log_at (loop_in seen r).control) rests ∙ empty on)
+                (λ list was. subst (λ l. Transferred l (log_at (loop_in seen n.records).control) list) ring (told_log view seen (ring_in n.records.control) (loop_in seen n.records) list was));
+          }
+
       -- it replied ok: what it tells of a told tape was written
       pub done : {T : Type 0} (x : T) (calls : ℕ) (before lines : List ℕ) → calls ≤ most_calls (store_in view seen m.records).record_count
           → GoesOn {T = Unit {0}} calls (store_in view seen m.records) (store_in view seen n.records) (Ok tt)
           → TurnsVolume command (store_in view seen) (volume_in m) (volume_in n) → AnswersTo command (store_in view seen) (volume_in m) (volume_in n) (Ok x)
           → CarriesAs command reply.Ok (host_in view seen o before text_space file_space).state.records (volume_at (host_in view seen o before text_space file_space).state) (store_in view seen n.records).transferred
+          → Minds (store_in view seen) (volume_in m) (volume_in n) command (Ok x)
           → ((t : Tape) → (store_in view seen m.records).tape ≡ Some t → told_of command (volume_of t) ≡ lines)
           → Performed (Asks (OfVolume command)) reply.Ok (host_in view seen o before text_space file_space) (host_in view seen n (lines ++ reply_line reply.Ok) text_space file_space)
-      done x calls before lines few goes turns answers carries text =
-          asked (Ok x) calls before (lines ++ reply_line reply.Ok) few goes turns answers carries
+      done x calls before lines few goes turns answers carries minds text =
+          asked (Ok x) calls before (lines ++ reply_line reply.Ok) few goes turns answers carries minds
           (λ told. let t = told_asked before told in sym (ok_text command (host_in view seen o before text_space file_space).state t.0 lines t.1 (text t.0 t.2)))
 
       -- it was refused, or the store failed
       pub refused : (T : Type 0) (fault : VolumeFault) (calls : ℕ) (before : List ℕ) → calls ≤ most_calls (store_in view seen m.records).record_count
           → GoesOn calls (store_in view seen m.records) (store_in view seen n.records) (store_answer {T = T} (Err fault))
           → TurnsVolume command (store_in view seen) (volume_in m) (volume_in n) → AnswersTo {T = T} command (store_in view seen) (volume_in m) (volume_in n) (Err fault)
+          → Minds {T = T} (store_in view seen) (volume_in m) (volume_in n) command (Err fault)
           → Performed (Asks (OfVolume command)) (volume_reply {T = Unit {0}} (Err fault)) (host_in view seen o before text_space file_space) (host_in view seen n (reply_line (volume_reply {T = Unit {0}} (Err fault))) text_space file_space)
-      refused T fault calls before few goes turns answers = by fault goes answers
+      refused T fault calls before few goes turns answers minds = by fault goes answers minds
         where
           by : (fault : VolumeFault) → GoesOn calls (store_in view seen m.records) (store_in view seen n.records) (store_answer {T = T} (Err fault)) → AnswersTo {T = T} command (store_in view seen) (volume_in m) (volume_in n) (Err fault)
+              → Minds {T = T} (store_in view seen) (volume_in m) (volume_in n) command (Err fault)
               → Performed (Asks (OfVolume command)) (volume_reply {T = Unit {0}} (Err fault)) (host_in view seen o before text_space file_space) (host_in view seen n (reply_line (volume_reply {T = Unit {0}} (Err fault))) text_space file_space)
-          by (Refused why) goes answers =
-              asked {T = T} (Err (Refused why)) calls before (reply_line (reply.No (code_of why))) few goes turns answers (not_carried command (reply.No (code_of why)) _ _ _ tt) (λ told. refl)
-          by (Troubled e) goes answers =
-              asked {T = T} (Err (Troubled e)) calls before (reply_line (fault_of e)) few goes turns answers (none_carried command e _ _ _) (λ told. sym (fault_text (Asks (OfVolume command)) (host_in view seen o before text_space file_space).state e))
+          by (Refused why) goes answers minds =
+              asked {T = T} (Err (Refused why)) calls before (reply_line (reply.No (code_of why))) few goes turns answers (not_carried command (reply.No (code_of why)) _ _ _ tt) minds (λ told. refl)
+          by (Troubled e) goes answers minds =
+              asked {T = T} (Err (Troubled e)) calls before (reply_line (fault_of e)) few goes turns answers (none_carried command e _ _ _) minds (λ told. sym (fault_text (Asks (OfVolume command)) (host_in view seen o before text_space file_space).state e))
 
       -- a command that tells nothing answered
       pub changed : {T : Type 0} (answer : Result T VolumeFault) (calls : ℕ) (before : List ℕ) → TellsNothing command → calls ≤ most_calls (store_in view seen m.records).record_count
           → GoesOn calls (store_in view seen m.records) (store_in view seen n.records) (store_answer answer)
           → TurnsVolume command (store_in view seen) (volume_in m) (volume_in n) → AnswersTo command (store_in view seen) (volume_in m) (volume_in n) answer
           → CarriesAs command (volume_reply answer) (host_in view seen o before text_space file_space).state.records (volume_at (host_in view seen o before text_space file_space).state) (store_in view seen n.records).transferred
+          → Minds (store_in view seen) (volume_in m) (volume_in n) command answer
           → Performed (Asks (OfVolume command)) (volume_reply answer) (host_in view seen o before text_space file_space) (host_in view seen n (reply_line (volume_reply answer)) text_space file_space)
-      changed answer calls before nothing few goes turns answers carries =
-          asked answer calls before (reply_line (volume_reply answer)) few goes turns answers carries
+      changed answer calls before nothing few goes turns answers carries minds =
+          asked answer calls before (reply_line (volume_reply answer)) few goes turns answers carries minds
           (λ told. sym (nothing_told command (volume_at (host_in view seen o before text_space file_space).state) (host_in view seen o before text_space file_space).state (volume_reply answer) refl nothing))

@@ -33,6 +33,7 @@ pub mod Images
 pub mod Answered
 pub mod Runs
 pub mod GeneratedRuns
+pub mod KeptDirectories
 pub mod HostVolumes
 pub mod FileCarries
 pub mod BatchCarries

@@ -31,7 +31,7 @@ use Rattle.host_model.specs.Requests.{Asks, Devices, Get, Item, NoCommand, OfVol
 use Rattle.host_model.specs.LoopStates.{LoopState, all_ids, poll_frame, printer_at, status_byte}
 use Rattle.host_model.specs.HostStates.{HostState, log_room}
 use Rattle.host_model.specs.RingStates.{loop_on, state_on}
-use Rattle.host_model.specs.Steps.{Event, IsStep}
+use Rattle.host_model.specs.Steps.{Event, Acts}
 use Rattle.host_model.specs.Stops.{MayBeLeft, StopsLeave}
 use Rattle.host_model.proofs.Growing.{left_at_first}
 use Rattle.il_host.specs.Standings.{HasDriveId, HasLogRoom, event_at, hops_at, log_at, state_at}
@@ -132,8 +132,8 @@ module _ {M S : Type 0} (view : M → MediumView) (seen : S → RingView M) (o a
     ran_performs : (item : Item) (answered : Reply) (is : Bool) (s : RingView M) → IsOfLoop item → new.control ≡ at_ring is s → new.sound ≡ (begun.sound && is) → Ran view item answered (is_idle begun.control) is stood.ring s
         → Performs view seen o q item answered old new
     ran_performs item answered is s of_loop at sound ran = record {
-      step = subst (λ hops. IsStep hops (event_at view item answered old new)) emptied.hops
-          (subst (λ (s : HostState). IsStep (hops_at begun.control) (event_from s)) emptied.state begun_step);
+      step = subst (λ hops. Acts hops (event_at view item answered old new)) emptied.hops
+          (subst (λ (s : HostState). Acts (hops_at begun.control) (event_from s)) emptied.state begun_step);
       stops = quiet_stops item answered (log_at new.control) (state_at view old.sound old.control) (state_at view new.sound new.control) (view_of view seen o old) (view_of view seen q new) (seen_as view seen o old) store
           (quiet_then (view_of view seen o old) (view_of view seen a begun) (view_of view seen q new) empties.quiet stays.quiet);
       keeps = keeps_emptied view old begun new emptied keeps;
@@ -154,7 +154,7 @@ module _ {M S : Type 0} (view : M → MediumView) (seen : S → RingView M) (o a
         short : length s.books.log ≤ log_room (view r.drive.medium).record_count
         short = subst (λ n. length s.books.log ≤ n) (ran.came.talked.adds.room ∙ room_at view was begun.control r stood.at (emptied.room room)) (short_at view seen q new is s at left)
 
-        step : IsStep (hops_of r.books.plan) (event_by view item answered was is begun.sound new.sound r s)
+        step : Acts (hops_of r.books.plan) (event_by view item answered was is begun.sound new.sound r s)
         step = record {
           replied = replied_sounding (event_on view item answered was is r s) begun.sound new.sound ran.replied;
           next = ran.next;
@@ -167,9 +167,9 @@ module _ {M S : Type 0} (view : M → MediumView) (seen : S → RingView M) (o a
           still = λ none. let clash : true ≡ false = sym (sends_frames item of_loop) ∙ none in cc;
         }
 
-        begun_step : IsStep (hops_at begun.control) (event_at view item answered begun new)
-        begun_step = subst (λ hops. IsStep hops (event_at view item answered begun new)) (sym (ap (λ (c : Standing M). hops_at c) stood.at ∙ hops_rings view was r))
-            (subst (λ (e : Event). IsStep (hops_of r.books.plan) e) (sym (event_rings view item answered begun new was is r s stood.at at)) step)
+        begun_step : Acts (hops_at begun.control) (event_at view item answered begun new)
+        begun_step = subst (λ hops. Acts hops (event_at view item answered begun new)) (sym (ap (λ (c : Standing M). hops_at c) stood.at ∙ hops_rings view was r))
+            (subst (λ (e : Event). Acts (hops_of r.books.plan) e) (sym (event_rings view item answered begun new was is r s stood.at at)) step)
 
         event_from : HostState → Event
         event_from s = record { item = item; reply = answered; log = log_at new.control; before = s; after = state_at view new.sound new.control }

@@ -15,7 +15,7 @@ use Rattle.host_model.specs.HostStates.{HostState}
 use Rattle.host_model.specs.Replies.{if_printer}
 use Rattle.host_model.specs.RingStates.{loop_on, state_on}
 use Rattle.host_model.specs.Next.{BoxedBecome, DeviceBehind}
-use Rattle.host_model.specs.Steps.{Event, Exchanged, HearsLog, IsStep, Replied, is_frame_fault}
+use Rattle.host_model.specs.Steps.{Event, Exchanged, HearsLog, Acts, Replied, is_frame_fault}
 use Rattle.host_model.proofs.Steps.{boxed_same}
 use Rattle.il_host.specs.Standings.{HasLogRoom, event_at, hops_at, log_at, state_at}
 use Rattle.il_host.proofs.CommandLogs.{SaysOf, exchanged_none, met_none}
@@ -59,7 +59,7 @@ module _ {M : Type 0} (view : M → MediumView) (found : Option (List ℕ × ℕ
       (boxed_same (HearsLog (device_count (loop_on r)) (all_roles (loop_on r)) [] whole)
       (λ party d. record { more = []; few = omega arith; none = λ is. refl; heard = record { heard = refl; heard_count = refl; room = refl; accessory = refl } }) (loop_on r))
 
-  pub paper_step : is_at_most_one (talkers (roles_of (devices_of r))) ≡ true → IsStep (hops_of r.books.plan) paper_event
+  pub paper_step : is_at_most_one (talkers (roles_of (devices_of r))) ≡ true → Acts (hops_of r.books.plan) paper_event
   paper_step one = record {
     replied = paper_replied;
     next = record {
@@ -84,8 +84,8 @@ pub paper_performs : {M S : Type 0} (view : M → MediumView) (seen : S → Ring
 paper_performs {M} {S} view seen o a old begun valid here there empties store room found told = (
   paper ∙ ap (λ (s : HostState). paper_on s.loop) state_is,
   record {
-    step = subst (λ hops. IsStep hops (event_at view (Asks Paper) (if_printer found) old begun)) emptied.hops
-        (subst (λ (s : HostState). IsStep (hops_at begun.control) (event_from s)) emptied.state begun_step);
+    step = subst (λ hops. Acts hops (event_at view (Asks Paper) (if_printer found) old begun)) emptied.hops
+        (subst (λ (s : HostState). Acts (hops_at begun.control) (event_from s)) emptied.state begun_step);
     stops = quiet_stops (Asks Paper) (if_printer found) (log_at begun.control) (state_at view old.sound old.control) (state_at view begun.sound begun.control) (view_of view seen o old) (view_of view seen a begun) (seen_as view seen o old) store empties.quiet;
     keeps = record { hops = emptied.hops; room = emptied.room room; images = emptied.images };
   },
@@ -113,9 +113,9 @@ paper_performs {M} {S} view seen o a old begun valid here there empties store ro
     paper : found ≡ paper_on (loop_on r)
     paper = paper_at was (subst (λ (c : Standing M). HasRing c (λ r. found ≡ paper_of (r.before ++ r.after))) stood.at told)
 
-    begun_step : IsStep (hops_at begun.control) (event_at view (Asks Paper) (if_printer found) begun begun)
-    begun_step = subst (λ hops. IsStep hops (event_at view (Asks Paper) (if_printer found) begun begun)) (sym (ap (λ (c : Standing M). hops_at c) stood.at ∙ hops_rings view was r))
-        (subst (λ (e : Event). IsStep (hops_of r.books.plan) e) (sym (event_rings view (Asks Paper) (if_printer found) begun begun was was r r stood.at stood.at))
+    begun_step : Acts (hops_at begun.control) (event_at view (Asks Paper) (if_printer found) begun begun)
+    begun_step = subst (λ hops. Acts hops (event_at view (Asks Paper) (if_printer found) begun begun)) (sym (ap (λ (c : Standing M). hops_at c) stood.at ∙ hops_rings view was r))
+        (subst (λ (e : Event). Acts (hops_of r.books.plan) e) (sym (event_rings view (Asks Paper) (if_printer found) begun begun was was r r stood.at stood.at))
         (paper_step view found was begun.sound r paper (stood.empty emptied.log) (one_talks begun.control begun.sound since.Unbroken r emptied.stands stood.stands)))
 
     event_from : HostState → Event

@@ -1,9 +1,9 @@
 -- A run over a script, line by line.
-use Rattle.std.proofs.Common.{◌≡◌, ℕ, ◌≤◌, ◌<◌, ◌⊎◌, inl, inr, ◌&&◌, Bool, true, false, List, [], ◌∷◌, ◌++◌, Option, Some, None, is_some, if◌then◌else◌, length, take, map, refl, sym, ap, subst, ◌∙◌, arith, append-nil, append_assoc, length-append}
+use Rattle.std.proofs.Common.{◌≡◌, ℕ, ◌≤◌, ◌<◌, ◌⊎◌, inl, inr, ◌&&◌, Bool, true, false, List, [], ◌∷◌, ◌++◌, Option, Some, None, if◌then◌else◌, length, take, map, refl, sym, ap, subst, ◌∙◌, arith, append-nil, append_assoc, length-append}
 use Rattle.std.proofs.lemmas.List.{take-append-le, take_all}
 use Rattle.std.proofs.lemmas.List.Elements.{filter_map-append}
 use Rattle.std.specs.Prelude.{Result, Ok, Err}
-use Rattle.std.specs.List.{cons_option, flat_map}
+use Rattle.std.specs.List.{cons_option}
 use Rattle.std.specs.Io.KnownBytes.{Appends, IsAtEnd}
 use Rattle.il_script.specs.declared.limits.TheConstants.{LONGEST_SCRIPT}
 use Rattle.il_script.specs.LineCut.{line_cut, line_told, lines_of}
@@ -14,13 +14,12 @@ use Rattle.il_script.specs.declared.lines.Line.TheVariants.{Text, TooLong, End, 
 use Rattle.il_script.specs.declared.reply.Reply.{Reply}
 use Rattle.il_script.proofs.Gives.{given-front}
 use Rattle.host_model.specs.Requests.{Item, Gathering, Outside, reads, gathering_by, gathered, item_by, item_of, items_from, items_in, items_of, left_open, lone_items}
-use Rattle.host_model.specs.HostStates.{HostState}
 use Rattle.host_model.specs.Steps.{Event}
-use Rattle.host_model.specs.Runs.{items_asked, all_ok, event_text, output}
-use Rattle.host_model.specs.Leaves.{AsksFirst, TellsTexts, WritesToLast, WritesPart}
+use Rattle.host_model.specs.Runs.{items_asked, all_ok, event_text, event_texts, output}
+use Rattle.host_model.specs.Leaves.{AsksFirst, WritesToLast, WritesPart}
 use Rattle.host_model.specs.Endings.{HasEndingCause}
 use Rattle.host_model.specs.Orders.{quiet_mode}
-use Rattle.host_model.proofs.Growing.{all_ok_more, texts_more, told_stays}
+use Rattle.host_model.proofs.Growing.{all_ok_more, texts_more}
 use Rattle.il_host.specs.HostView.{HostView, IsHost}
 use Rattle.il_host.specs.Run.{Answers, AnswersScript, end_of, event_of}
 use Rattle.il_host.specs.Writing.{WritesAll}
@@ -55,22 +54,14 @@ items_push given standing line o is makes = items_append Outside given (line ∷
 
 -- ---- texts
 
--- the texts of a run that is not generated are told by the tape
-pub tells_texts : (quiet : Bool) (start : HostState) → TellsTexts (quiet_mode quiet) start → is_some start.tape ≡ true
-tells_texts true start told = told
-tells_texts false start told = told
-
-abbrev pub texts : Bool → List Event → List ℕ
-texts quiet events = flat_map (event_text (quiet_mode quiet)) events
-
 -- nothing is written behind the last event
-output_is : (quiet : Bool) (events : List Event) → output (quiet_mode quiet) events ≡ texts quiet events
-output_is true events = append-nil (texts true events)
-output_is false events = append-nil (texts false events)
+output_is : (quiet : Bool) (events : List Event) (texts : List (List ℕ)) → output (quiet_mode quiet) events texts ≡ event_texts (quiet_mode quiet) events texts
+output_is true events texts = append-nil (event_texts (quiet_mode true) events texts)
+output_is false events texts = append-nil (event_texts (quiet_mode false) events texts)
 
-writes_part : (quiet : Bool) (events : List Event) (before now : Option (List ℕ)) → WritesToLast (quiet_mode quiet) events before now → WritesPart (quiet_mode quiet) events before now
-writes_part true events before now h = h
-writes_part false events before now h = h
+writes_part : (quiet : Bool) (events : List Event) (texts : List (List ℕ)) (before now : Option (List ℕ)) → WritesToLast (quiet_mode quiet) events texts before now → WritesPart (quiet_mode quiet) events texts before now
+writes_part true events texts before now h = h
+writes_part false events texts before now h = h
 
 -- ---- what was given, and answered
 
@@ -96,9 +87,10 @@ pub record Sofar (quiet : Bool) (progress : Progress) (standing : Gathering) (v 
   pub given : List (Option (List ℕ))
   pub opens : gathered Outside given ≡ standing
   pub events : List Event
-  pub answered : Answered v w (items_in given) events
+  pub texts : List (List ℕ)
+  pub answered : Answered v w (items_in given) events texts
   pub stands : (script : List ℕ) → left_before ≡ Some script → Given script progress left given
-  pub written : is_some v.state.tape ≡ true → Appends before now (texts quiet events)
+  pub written : Appends before now (event_texts (quiet_mode quiet) events texts)
   pub replies : all_ok events ≡ ok
 
 pub sofar-start : (quiet : Bool) (progress : Progress) (v : HostView) (left now : Option (List ℕ)) → progress ≡ fresh → IsHost v → Sofar quiet progress Outside v v left left now now true
@@ -106,9 +98,10 @@ sofar-start quiet progress v left now e host = record {
   given = [];
   opens = refl;
   events = [];
+  texts = [];
   answered = answered_none v host;
   stands = λ script told. subst (λ (p : Progress). Given script p left []) (sym e) (given-fresh script left told);
-  written = λ told. appends-none now;
+  written = appends-none now;
   replies = refl;
 }
 
@@ -145,7 +138,8 @@ sofar-skips quiet old new standing after v w left_before left left' before now o
   given = s.given ++ line ∷ [];
   opens = opens_more s.given line standing after s.opens goes;
   events = s.events;
-  answered = subst (λ items. Answered v w items s.events) (sym (items_push s.given standing line None s.opens n ∙ append-nil (items_in s.given))) s.answered;
+  texts = s.texts;
+  answered = subst (λ items. Answered v w items s.events s.texts) (sym (items_push s.given standing line None s.opens n ∙ append-nil (items_in s.given))) s.answered;
   stands = g;
   written = s.written;
   replies = s.replies;
@@ -159,18 +153,15 @@ module _ {E : Type 0} (quiet : Bool) (old : Progress) (standing : Gathering) (v 
   abbrev e : Event
   e = event_of item r a.log w x
 
-  answered_all : (items : List Item) → items ≡ items_in s.given ++ item ∷ [] → Answered v x items (s.events ++ e ∷ [])
-  answered_all items is = subst (λ items. Answered v x items (s.events ++ e ∷ [])) (sym is) (answered_more v w x (items_in s.given) s.events item r (quiet_mode quiet) now now' written s.answered a)
-
-  told_now : is_some v.state.tape ≡ true → is_some w.state.tape ≡ true
-  told_now told = told_stays v.hops v.state s.events w.state s.answered.chain ∙ told
+  answered_all : (items : List Item) → items ≡ items_in s.given ++ item ∷ [] → Answered v x items (s.events ++ e ∷ []) (s.texts ++ a.text ∷ [])
+  answered_all items is = subst (λ items. Answered v x items (s.events ++ e ∷ []) (s.texts ++ a.text ∷ [])) (sym is) (answered_more v w x (items_in s.given) s.events s.texts item r (quiet_mode quiet) now now' written s.answered a)
 
   -- its text was written
-  written_all : (u : Unit {0}) → written ≡ Ok u → is_some v.state.tape ≡ true → Appends before now' (texts quiet (s.events ++ e ∷ []))
-  written_all u is told =
-      let here = subst (λ (r : Result (Unit {0}) E). WritesAll now now' (event_text (quiet_mode quiet) e) r) is (a.bytes (λ h. told_now told)) in
-      subst (λ l. Appends before now' l) (sym (texts_more (quiet_mode quiet) s.events e))
-      (appends-trans before now now' (texts quiet s.events) (event_text (quiet_mode quiet) e) (s.written told) here)
+  written_all : (u : Unit {0}) → written ≡ Ok u → Appends before now' (event_texts (quiet_mode quiet) (s.events ++ e ∷ []) (s.texts ++ a.text ∷ []))
+  written_all u is =
+      let here = subst (λ (r : Result (Unit {0}) E). WritesAll now now' (event_text (quiet_mode quiet) e a.text) r) is a.bytes in
+      subst (λ l. Appends before now' l) (sym (texts_more (quiet_mode quiet) s.events s.texts e a.text s.answered.texts_are))
+      (appends-trans before now now' (event_texts (quiet_mode quiet) s.events s.texts) (event_text (quiet_mode quiet) e a.text) s.written here)
 
   replies_all : (all : Bool) → all ≡ (ok && is_ok r) → all_ok (s.events ++ e ∷ []) ≡ all
   replies_all all o = all_ok_more s.events e ∙ ap (λ b. b && is_ok r) s.replies ∙ sym o
@@ -180,20 +171,21 @@ module _ {E : Type 0} (quiet : Bool) (old : Progress) (standing : Gathering) (v 
       → AnswersScript None ending.SinkFailed (quiet_mode quiet) v x left_before left' before now'
   failed_at failed is items items_are first left' =
       let answered = answered_all items items_are in
-      answers_script None ending.SinkFailed (quiet_mode quiet) v x left_before left' before now' _ (s.events ++ e ∷ []) answered
+      answers_script None ending.SinkFailed (quiet_mode quiet) v x left_before left' before now' _ (s.events ++ e ∷ []) (s.texts ++ a.text ∷ []) answered
       (λ script told. let asks = first script told in record { more = asks.more; are = asks.are ∙ ap (λ l. l ++ asks.more) (sym answered.asked) })
       tt
-      (λ tells.
-      let told = tells_texts quiet v.state tells in
-      let here = subst (λ (r : Result (Unit {0}) E). WritesAll now now' (event_text (quiet_mode quiet) e) r) is (a.bytes (λ h. told_now told)) in
-      let done = subst (λ l. Appends before now l) (sym (output_is quiet s.events)) (s.written told) in
-      writes_part quiet (s.events ++ e ∷ []) before now' (record {
+      (let here = subst (λ (r : Result (Unit {0}) E). WritesAll now now' (event_text (quiet_mode quiet) e a.text) r) is a.bytes in
+      let done = subst (λ l. Appends before now l) (sym (output_is quiet s.events s.texts)) s.written in
+      writes_part quiet (s.events ++ e ∷ []) (s.texts ++ a.text ∷ []) before now' (record {
         done = s.events;
         last = e;
         are = refl;
+        said = s.texts;
+        text = a.text;
+        texts_are = refl;
         size = here.0;
         front = here.1;
-        written = appends-trans before now now' (output (quiet_mode quiet) s.events) (take here.0 (event_text (quiet_mode quiet) e)) done here.2;
+        written = appends-trans before now now' (output (quiet_mode quiet) s.events s.texts) (take here.0 (event_text (quiet_mode quiet) e a.text)) done here.2;
       }))
 
 -- of a line
@@ -209,6 +201,7 @@ module _ {E : Type 0} (quiet : Bool) (old new : Progress) (standing after : Gath
     given = s.given ++ line ∷ [];
     opens = opens_more s.given line standing after s.opens goes;
     events = s.events ++ event_of item r a.log w x ∷ [];
+    texts = s.texts ++ a.text ∷ [];
     answered = answered_all quiet old standing v w x left_before left before now now' ok item r written s a (items_in (s.given ++ line ∷ [])) items_now;
     stands = g;
     written = written_all quiet old standing v w x left_before left before now now' ok item r written s a u is;
@@ -239,8 +232,8 @@ held-whole behind new given e (inr w) = absurd (omega (arith, ap length w.held))
 
 -- the turn that gave no line
 module _ (quiet : Bool) (old new : Progress) (standing : Gathering) (v w : HostView) (left_before left left' before now : Option (List ℕ)) (ok : Bool) (s : Sofar quiet old standing v w left_before left before now ok) where
-  whole : TellsTexts (quiet_mode quiet) v.state → Appends before now (output (quiet_mode quiet) s.events)
-  whole tells = subst (λ l. Appends before now l) (sym (output_is quiet s.events)) (s.written (tells_texts quiet v.state tells))
+  whole : Appends before now (output (quiet_mode quiet) s.events s.texts)
+  whole = subst (λ l. Appends before now l) (sym (output_is quiet s.events s.texts)) s.written
 
   -- the script was read to its end, where this is left open
   ended : (script : List ℕ) → GivesLine old left new left' End → left_before ≡ Some script → (items_of script ≡ items_in s.given ++ left_open standing) × IsAtEnd left' × (length script ≤ LONGEST_SCRIPT)
@@ -258,15 +251,15 @@ module _ (quiet : Bool) (old new : Progress) (standing : Gathering) (v w : HostV
           (s.answered.asked ∙ sym (e.0 ∙ ap (λ items. items_in s.given ++ items) none ∙ append-nil (items_in s.given)), e.1, e.2)
 
       by : (b : Bool) → all_ok s.events ≡ b → AnswersScript None (if b then ending.AllOk else ending.SomeNotOk) (quiet_mode quiet) v w left_before left' before now
-      by true good = answers_script None ending.AllOk (quiet_mode quiet) v w left_before left' before now _ s.events s.answered asks good whole
-      by false bad = answers_script None ending.SomeNotOk (quiet_mode quiet) v w left_before left' before now _ s.events s.answered asks bad whole
+      by true good = answers_script None ending.AllOk (quiet_mode quiet) v w left_before left' before now _ s.events s.texts s.answered asks good whole
+      by false bad = answers_script None ending.SomeNotOk (quiet_mode quiet) v w left_before left' before now _ s.events s.texts s.answered asks bad whole
 
   -- a batch is left open, and that was answered
   module _ {E : Type 0} (x : HostView) (now' : Option (List ℕ)) (item : Item) (r : Reply) (written : Result (Unit {0}) E) (a : Answers item r (quiet_mode quiet) w x now now' written) (leaves : left_open standing ≡ item ∷ []) (gives : GivesLine old left new left' End) where
     pub ends-open : (u : Unit {0}) → written ≡ Ok u → (end : Ending) → end ≡ (if ok && is_ok r then ending.AllOk else ending.SomeNotOk) → AnswersScript None end (quiet_mode quiet) v x left_before left' before now'
     ends-open u is end end_is = subst (λ (d : Ending). AnswersScript None d (quiet_mode quiet) v x left_before left' before now') (sym end_is) (by (ok && is_ok r) (replies_all quiet old standing v w x left_before left before now now' ok item r written s a (ok && is_ok r) refl))
       where
-        answered : Answered v x (items_in s.given ++ item ∷ []) (s.events ++ event_of item r a.log w x ∷ [])
+        answered : Answered v x (items_in s.given ++ item ∷ []) (s.events ++ event_of item r a.log w x ∷ []) (s.texts ++ a.text ∷ [])
         answered = answered_all quiet old standing v w x left_before left before now now' ok item r written s a (items_in s.given ++ item ∷ []) refl
 
         asks : (script : List ℕ) → left_before ≡ Some script → (items_asked (s.events ++ event_of item r a.log w x ∷ []) ≡ items_of script) × IsAtEnd left' × (length script ≤ LONGEST_SCRIPT)
@@ -274,13 +267,13 @@ module _ (quiet : Bool) (old new : Progress) (standing : Gathering) (v w : HostV
             let e = ended script gives told in
             (answered.asked ∙ sym (e.0 ∙ ap (λ items. items_in s.given ++ items) leaves), e.1, e.2)
 
-        all_written : TellsTexts (quiet_mode quiet) v.state → Appends before now' (output (quiet_mode quiet) (s.events ++ event_of item r a.log w x ∷ []))
-        all_written tells = subst (λ l. Appends before now' l) (sym (output_is quiet (s.events ++ event_of item r a.log w x ∷ [])))
-            (written_all quiet old standing v w x left_before left before now now' ok item r written s a u is (tells_texts quiet v.state tells))
+        all_written : Appends before now' (output (quiet_mode quiet) (s.events ++ event_of item r a.log w x ∷ []) (s.texts ++ a.text ∷ []))
+        all_written = subst (λ l. Appends before now' l) (sym (output_is quiet (s.events ++ event_of item r a.log w x ∷ []) (s.texts ++ a.text ∷ [])))
+            (written_all quiet old standing v w x left_before left before now now' ok item r written s a u is)
 
         by : (b : Bool) → all_ok (s.events ++ event_of item r a.log w x ∷ []) ≡ b → AnswersScript None (if b then ending.AllOk else ending.SomeNotOk) (quiet_mode quiet) v x left_before left' before now'
-        by true good = answers_script None ending.AllOk (quiet_mode quiet) v x left_before left' before now' _ (s.events ++ event_of item r a.log w x ∷ []) answered asks good all_written
-        by false bad = answers_script None ending.SomeNotOk (quiet_mode quiet) v x left_before left' before now' _ (s.events ++ event_of item r a.log w x ∷ []) answered asks bad all_written
+        by true good = answers_script None ending.AllOk (quiet_mode quiet) v x left_before left' before now' _ (s.events ++ event_of item r a.log w x ∷ []) (s.texts ++ a.text ∷ []) answered asks good all_written
+        by false bad = answers_script None ending.SomeNotOk (quiet_mode quiet) v x left_before left' before now' _ (s.events ++ event_of item r a.log w x ∷ []) (s.texts ++ a.text ∷ []) answered asks bad all_written
 
     pub ends-open-front : (failed : E) → written ≡ Err failed → AnswersScript None ending.SinkFailed (quiet_mode quiet) v x left_before left' before now'
     ends-open-front failed is = failed_at quiet old standing v w x left_before left before now now' ok item r written s a failed is (items_in s.given ++ item ∷ []) refl
@@ -288,7 +281,7 @@ module _ (quiet : Bool) (old new : Progress) (standing : Gathering) (v w : HostV
 
   -- the source failed
   pub ends-taken : GivesLine old left new left' Fault → (new.ended ≡ false) × (new.held ≡ []) → AnswersScript None ending.SourceFailed (quiet_mode quiet) v w left_before left' before now
-  ends-taken gives e = answers_script None ending.SourceFailed (quiet_mode quiet) v w left_before left' before now _ s.events s.answered
+  ends-taken gives e = answers_script None ending.SourceFailed (quiet_mode quiet) v w left_before left' before now _ s.events s.texts s.answered
       (λ script told.
       let t = gives script s.given (s.stands script told) in
       record {
@@ -302,7 +295,7 @@ module _ (quiet : Bool) (old new : Progress) (standing : Gathering) (v w : HostV
 
   -- the script is too long
   pub ends-longest : GivesLine old left new left' Over → (new.taken ≡ LONGEST_SCRIPT) × (0 < length new.held) → AnswersScript None ending.ScriptTooLong (quiet_mode quiet) v w left_before left' before now
-  ends-longest gives e = answers_script None ending.ScriptTooLong (quiet_mode quiet) v w left_before left' before now _ s.events s.answered
+  ends-longest gives e = answers_script None ending.ScriptTooLong (quiet_mode quiet) v w left_before left' before now _ s.events s.texts s.answered
       (λ script told.
       let t = gives script s.given (s.stands script told) in
       let size : length t.behind ≡ LONGEST_SCRIPT = sym t.count ∙ e.0 in

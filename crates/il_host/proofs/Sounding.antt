@@ -1,63 +1,76 @@
--- What is said of an event holds whether the store counts as sound before and behind it, or not, but for where it is said of that.
-use Rattle.std.proofs.Common.{◌≡◌, ◌∙◌, ⊎_elim, inl, inr, ℕ, Bool, true, false, not, List, refl, sym}
+-- What is said of an event holds whether the store counts as sound before and behind it, or not, and whether the directory is kept, but
+-- for where it is said of that.
+use Rattle.std.proofs.Common.{◌≡◌, ◌∙◌, ⊎_elim, inl, inr, ℕ, Bool, true, false, not, List, refl, sym, subst}
+use Rattle.lif_model.specs.Stops.{LeavesOnly}
+use Rattle.lif_model.specs.Tape.{Tape}
 use Rattle.il_script.specs.declared.reply.Reply.{Reply}
 use Rattle.il_script.specs.declared.reply.Reply.TheVariants as reply
-use Rattle.host_model.specs.Requests.{Asks, Devices, Get, Item, NoCommand, OfVolume, Paper, Poll, Say, Status, is_of_volume}
+use Rattle.host_model.specs.Requests.{Asks, Devices, Get, Item, NoCommand, OfVolume, Paper, Poll, Say, Status, is_of_volume, uses_frames}
 use Rattle.host_model.specs.LoopStates.{all_roles, device_count}
 use Rattle.host_model.specs.HostStates.{HostState}
+use Rattle.host_model.specs.Courses.{begins_with, cleared_first}
 use Rattle.host_model.specs.Replies.{reply_of, volume_behind}
 use Rattle.host_model.specs.Next.{BoxedBecome}
-use Rattle.host_model.specs.Steps.{CountsWhole, EitherVolume, Event, Exchanged, HearsLog, Replied, Travels, is_frame_fault}
+use Rattle.host_model.specs.Stops.{MayBeLeft, StopsLeave}
+use Rattle.host_model.specs.Steps.{Acts, CountsWhole, EitherVolume, Event, Exchanged, HearsLog, Replied, Travels, is_frame_fault}
 
--- a state, of a store that is sound or not
-abbrev pub state_sounding : Bool → HostState → HostState
-state_sounding sound s = record s { sound = sound }
+-- a state, of a store that is sound or not, with a directory that is kept or not
+abbrev pub state_standing : (sound kept : Bool) → HostState → HostState
+state_standing sound kept s = record s { sound = sound; kept = kept }
 
--- an event, of a store that was sound or not, and is
+-- an event, by what was and is
+abbrev pub standing : Event → (was was_kept is is_kept : Bool) → Event
+standing e was was_kept is is_kept = record e { before = state_standing was was_kept e.before; after = state_standing is is_kept e.after }
+
+-- of a store that was sound or not, and is
 abbrev pub sounding : Event → (was is : Bool) → Event
-sounding e was is = record e { before = state_sounding was e.before; after = state_sounding is e.after }
+sounding e was is = standing e was e.before.kept is e.after.kept
+
+-- of a directory that was kept or not, and is
+abbrev pub keeping : Event → (was is : Bool) → Event
+keeping e was is = standing e e.before.sound was e.after.sound is
 
 -- ---- reply and volume
 
-same_reply : (item : Item) (sound : Bool) (s : HostState) → reply_of item (state_sounding sound s) ≡ reply_of item s
-same_reply (Asks (OfVolume command)) sound s = refl
-same_reply (Asks (Get name)) sound s = refl
-same_reply (Asks Devices) sound s = refl
-same_reply (Asks Status) sound s = refl
-same_reply (Asks Poll) sound s = refl
-same_reply (Asks (Say bytes)) sound s = refl
-same_reply (Asks Paper) sound s = refl
-same_reply (NoCommand code) sound s = refl
+pub same_reply : (item : Item) (sound kept : Bool) (s : HostState) → reply_of item (state_standing sound kept s) ≡ reply_of item s
+same_reply (Asks (OfVolume command)) sound kept s = refl
+same_reply (Asks (Get name)) sound kept s = refl
+same_reply (Asks Devices) sound kept s = refl
+same_reply (Asks Status) sound kept s = refl
+same_reply (Asks Poll) sound kept s = refl
+same_reply (Asks (Say bytes)) sound kept s = refl
+same_reply (Asks Paper) sound kept s = refl
+same_reply (NoCommand code) sound kept s = refl
 
-same_behind : (item : Item) (sound : Bool) (s : HostState) → volume_behind item (state_sounding sound s) ≡ volume_behind item s
-same_behind (Asks (OfVolume command)) sound s = refl
-same_behind (Asks (Get name)) sound s = refl
-same_behind (Asks Devices) sound s = refl
-same_behind (Asks Status) sound s = refl
-same_behind (Asks Poll) sound s = refl
-same_behind (Asks (Say bytes)) sound s = refl
-same_behind (Asks Paper) sound s = refl
-same_behind (NoCommand code) sound s = refl
+same_behind : (item : Item) (sound kept : Bool) (s : HostState) → volume_behind item (state_standing sound kept s) ≡ volume_behind item s
+same_behind (Asks (OfVolume command)) sound kept s = refl
+same_behind (Asks (Get name)) sound kept s = refl
+same_behind (Asks Devices) sound kept s = refl
+same_behind (Asks Status) sound kept s = refl
+same_behind (Asks Poll) sound kept s = refl
+same_behind (Asks (Say bytes)) sound kept s = refl
+same_behind (Asks Paper) sound kept s = refl
+same_behind (NoCommand code) sound kept s = refl
 
-either_sounding : (item : Item) (was is : Bool) (s t : HostState) → EitherVolume item s t → EitherVolume item (state_sounding was s) (state_sounding is t)
-either_sounding item was is s t either = ⊎_elim (λ same. inl same) (λ turned. inr (turned ∙ sym (same_behind item was s))) either
+either_standing : (item : Item) (was was_kept is is_kept : Bool) (s t : HostState) → EitherVolume item s t → EitherVolume item (state_standing was was_kept s) (state_standing is is_kept t)
+either_standing item was was_kept is is_kept s t either = ⊎_elim (λ same. inl same) (λ turned. inr (turned ∙ sym (same_behind item was was_kept s))) either
 
-counts_sounding : (item : Item) (r : Reply) (was is : Bool) (s t : HostState) → CountsWhole item r s t → CountsWhole item r (state_sounding was s) (state_sounding is t)
-counts_sounding item reply.FaultFrame was is s t counts = λ own. either_sounding item was is s t (counts own)
-counts_sounding item reply.FaultMedium was is s t counts = λ own. either_sounding item was is s t (counts own)
-counts_sounding item reply.Ok was is s t counts = (counts.0 ∙ sym (same_reply item was s), counts.1 ∙ sym (same_behind item was s))
-counts_sounding item (reply.No code) was is s t counts = (counts.0 ∙ sym (same_reply item was s), counts.1 ∙ sym (same_behind item was s))
+counts_standing : (item : Item) (r : Reply) (was was_kept is is_kept : Bool) (s t : HostState) → CountsWhole item r s t → CountsWhole item r (state_standing was was_kept s) (state_standing is is_kept t)
+counts_standing item reply.FaultFrame was was_kept is is_kept s t counts = λ own. either_standing item was was_kept is is_kept s t (counts own)
+counts_standing item reply.FaultMedium was was_kept is is_kept s t counts = λ own. either_standing item was was_kept is is_kept s t (counts own)
+counts_standing item reply.Ok was was_kept is is_kept s t counts = (counts.0 ∙ sym (same_reply item was was_kept s), counts.1 ∙ sym (same_behind item was was_kept s))
+counts_standing item (reply.No code) was was_kept is is_kept s t counts = (counts.0 ∙ sym (same_reply item was was_kept s), counts.1 ∙ sym (same_behind item was was_kept s))
 
 -- the devices of an event heard what its log brought them
 abbrev pub HeardOf : Event → Type 0
 HeardOf e = BoxedBecome (HearsLog (device_count e.before.loop) (all_roles e.before.loop) e.log (not (is_frame_fault e.reply))) e.before.loop e.after.loop
 
-module _ (e : Event) (was is : Bool) where
+module _ (e : Event) (was was_kept is is_kept : Bool) where
   -- the reply
-  pub replied_sounding : Replied e → Replied (sounding e was is)
-  replied_sounding so = record {
+  replied_standing : Replied e → Replied (standing e was was_kept is is_kept)
+  replied_standing so = record {
     may = so.may;
-    whole = λ tells. counts_sounding e.item e.reply was is e.before e.after (so.whole tells);
+    whole = λ tells. counts_standing e.item e.reply was was_kept is is_kept e.before e.after (so.whole tells);
     stays = so.stays;
     told = so.told;
     size = so.size;
@@ -65,18 +78,63 @@ module _ (e : Event) (was is : Bool) where
   }
 
   -- what the frames did
-  pub travels_sounding : Travels e → Travels (sounding e was is)
-  travels_sounding so = record { one_talker = so.one_talker; roles = so.roles; crossings = so.crossings; frames = so.frames; short = so.short }
+  travels_standing : Travels e → Travels (standing e was was_kept is is_kept)
+  travels_standing so = record { one_talker = so.one_talker; roles = so.roles; crossings = so.crossings; frames = so.frames; short = so.short }
 
-  -- the exchanges of an item that is not of the volume
-  pub exchanged_sounding : (hops : List ℕ) → is_of_volume e.item ≡ false → Exchanged hops e → Exchanged hops (sounding e was is)
-  exchanged_sounding hops other so = record {
+  -- the exchanges, but for those with which a command of the volume begins
+  exchanged_standing : (hops : List ℕ) (so : Exchanged hops e)
+      → (is_of_volume e.item ≡ true → begins_with (cleared_first e.before.loop e.before.ready was) so.reading.pieces ≡ true)
+      → Exchanged hops (standing e was was_kept is is_kept)
+  exchanged_standing hops so begins = record {
     reading = so.reading;
     ends = so.ends;
     course = so.course;
-    begins = λ of. let clash : true ≡ false = sym of ∙ other in cc;
+    begins = begins;
     outside = so.outside;
     cause = so.cause;
     effect = so.effect;
     carried = so.carried;
   }
+
+-- ---- of a store that was sound or not, and is
+
+module _ (e : Event) (was is : Bool) where
+  pub replied_sounding : Replied e → Replied (sounding e was is)
+  replied_sounding = replied_standing e was e.before.kept is e.after.kept
+
+  pub travels_sounding : Travels e → Travels (sounding e was is)
+  travels_sounding = travels_standing e was e.before.kept is e.after.kept
+
+  -- of an item that is not of the volume
+  pub exchanged_sounding : (hops : List ℕ) → is_of_volume e.item ≡ false → Exchanged hops e → Exchanged hops (sounding e was is)
+  exchanged_sounding hops other so = exchanged_standing e was e.before.kept is e.after.kept hops so (λ of. let clash : true ≡ false = sym of ∙ other in cc)
+
+-- ---- of a directory that was kept or not, and is
+
+-- an item that sends no frame leaves that as it is
+pub acts_keeping : (hops : List ℕ) (e : Event) (was is : Bool) → (uses_frames e.item ≡ false → is ≡ was) → Acts hops e → Acts hops (keeping e was is)
+acts_keeping hops e was is stays so = record {
+  replied = replied_standing e e.before.sound was e.after.sound is so.replied;
+  next = so.next;
+  travels = travels_standing e e.before.sound was e.after.sound is so.travels;
+  heard = so.heard;
+  exchanged = exchanged_standing e e.before.sound was e.after.sound is hops so.exchanged so.exchanged.begins;
+  ready = so.ready;
+  sound = so.sound;
+  unsound = so.unsound;
+  still = λ none. let left = so.still none in (left.0, λ i. record (left.1 i) { kept = stays none i });
+}
+
+-- the tapes that a stop may leave tell nothing of it
+left_keeping : (item : Item) (s : HostState) (kept : Bool) (x : Tape) → MayBeLeft item (record s { kept = kept }) x ≡ MayBeLeft item s x
+left_keeping (Asks (OfVolume command)) s kept x = refl
+left_keeping (Asks (Get name)) s kept x = refl
+left_keeping (Asks Devices) s kept x = refl
+left_keeping (Asks Status) s kept x = refl
+left_keeping (Asks Poll) s kept x = refl
+left_keeping (Asks (Say bytes)) s kept x = refl
+left_keeping (Asks Paper) s kept x = refl
+left_keeping (NoCommand code) s kept x = refl
+
+pub stops_keeping : (e : Event) (was is : Bool) (before now : ℕ) (past since : ℕ → Tape → Type 0) → StopsLeave e before now past since → StopsLeave (keeping e was is) before now past since
+stops_keeping e was is before now past since so = λ told own. subst (λ (P : Tape → Type 0). LeavesOnly before now past since P) (λ i x. sym (left_keeping e.item e.before was x) i) (so told own)

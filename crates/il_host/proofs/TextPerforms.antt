@@ -1,6 +1,6 @@
 -- The commands that make and tell texts, as a host performs them.
 use Rattle.std.proofs.Common.{◌≡◌, ◌∙◌, ◌++◌, ℕ, true, List, take, Option, sym, ap, subst, refl}
-use Rattle.std.specs.Prelude.{Ok, option_and_then, replicate}
+use Rattle.std.specs.Prelude.{Ok, is_some, option_and_then, replicate}
 use Rattle.il_frames.specs.declared.entry.Entry.{Entry}
 use Rattle.il_ports.specs.Media.{IsMedium, MediumView}
 use Rattle.il_ports.specs.Stores.{Begun, Continues, IsStore, RecordsView}
@@ -28,7 +28,7 @@ use Rattle.host_model.specs.Requests.{Asks, Get, NoCommand, OfVolume, text_type}
 use Rattle.host_model.specs.LoopStates.{all_roles}
 use Rattle.host_model.specs.HostStates.{HostState}
 use Rattle.host_model.specs.Replies.{if_text, lines_of_file, lines_of_found, lines_of_type, lines_text}
-use Rattle.host_model.specs.Steps.{Event, IsStep}
+use Rattle.host_model.specs.Steps.{Event, Acts}
 use Rattle.host_model.proofs.NoCommands.{no_command}
 use Rattle.il_host.specs.HostView.{HostView, Performed}
 use Rattle.il_host.specs.Hosts.{IsUsable, host_in, loop_in, store_in, volume_in}
@@ -50,8 +50,8 @@ no_command_performs : {M S : Type 0} (view : M → MediumView) (seen : S → Rin
     → Begun (view_of view seen o old) (view_of view seen a begun) → IsStore (view_of view seen o old) → HasLogRoom view old.control
     → (code : Code) → is_at_most_one (talkers (all_roles (state_at view old.sound old.control).loop)) ≡ true → Performs view seen o a (NoCommand code) (reply.No code) old begun
 no_command_performs view seen o a old begun valid here there empties store room code one = record {
-  step = subst (λ (s : HostState). IsStep (hops_at old.control) (event_to (log_at begun.control) s)) (sym emptied.state)
-      (subst (λ (log : List Entry). IsStep (hops_at old.control) (event_to log (state_at view old.sound old.control))) (sym emptied.log) (no_command (hops_at old.control) code (state_at view old.sound old.control) one));
+  step = subst (λ (s : HostState). Acts (hops_at old.control) (event_to (log_at begun.control) s)) (sym emptied.state)
+      (subst (λ (log : List Entry). Acts (hops_at old.control) (event_to log (state_at view old.sound old.control))) (sym emptied.log) (no_command (hops_at old.control) code (state_at view old.sound old.control) one).acts);
   stops = quiet_stops (NoCommand code) (reply.No code) (log_at begun.control) (state_at view old.sound old.control) (state_at view begun.sound begun.control) (view_of view seen o old) (view_of view seen a begun) (seen_as view seen o old) store empties.quiet;
   keeps = record { hops = emptied.hops; room = emptied.room room; images = emptied.images };
 }
@@ -64,15 +64,15 @@ no_command_performs view seen o a old begun valid here there empties store room 
 
 module _ {M I : Type 0} {D : I → Type 0} (view : M → MediumView) (seen : Ring M I D → RingView M) (o b : Volume (LoopRecords M I D)) (text_space file_space : ℕ)
     (usable : IsUsable view (store_in view seen) (volume_in o) (loop_in seen o.records) text_space file_space) (began : Begun (store_in view seen o.records) (store_in view seen b.records)) where
-  pub nothing_done : (before : List ℕ) (code : Code) → ((m : M) → IsMedium (view m)) → IsOpen (store_in view seen) (volume_in b)
+  pub nothing_done : (before : List ℕ) (code : Code) → ((m : M) → IsMedium (view m)) → IsOpen (store_in view seen) (volume_in b) → b.kept ≡ o.kept
       → Performed (NoCommand code) (reply.No code) (host_in view seen o before text_space file_space) (host_in view seen b (reply_line (reply.No code)) text_space file_space)
-  nothing_done before code law opens =
+  nothing_done before code law opens kept =
       performed view seen o b b text_space file_space usable began opens (NoCommand code) (reply.No code) before (reply_line (reply.No code)) began.size
       (no_command_performs view seen (ring_in o.records.control) (ring_in b.records.control) (loop_in seen o.records) (loop_in seen b.records)
       usable.volume_open.valid (agrees seen o.records.control) (agrees seen b.records.control) began
       (is_store_at view seen (ring_in o.records.control) o.records.sound o.records.since o.records.resumes (loop_in seen o.records).control law) usable.log code
       (is_host_at view seen o before text_space file_space law usable).one)
-      (λ told. refl) (λ is. cc)
+      (record { kept = ap is_some kept; log = λ on. tt }) (λ told. refl) (λ is. cc)
 
 -- ---- a text that is stored
 
@@ -104,7 +104,7 @@ lines_told view old t told name file into fetches = by (fetches t told)
 module _ {M I : Type 0} {D : I → Type 0} (view : M → MediumView) (seen : Ring M I D → RingView M) (o b n : Volume (LoopRecords M I D)) (text_space file_space : ℕ)
     (usable : IsUsable view (store_in view seen) (volume_in o) (loop_in seen o.records) text_space file_space) (began : Begun (store_in view seen o.records) (store_in view seen b.records))
     (opens : IsOpen (store_in view seen) (volume_in n)) (low : HasDriveStatus (loop_in seen n.records).control)
-    (m : Volume (LoopRecords M I D)) (u : Unit {0}) (makes : MakesSound view (loop_in seen b.records) (loop_in seen m.records) (Ok u)) (sounds : Continues {T = Unit {0}} 1 (store_in view seen b.records) (store_in view seen m.records) (Ok u)) where
+    (m : Volume (LoopRecords M I D)) (u : Unit {0}) (makes : MakesSound view (loop_in seen b.records) (loop_in seen m.records) (Ok u)) (sounds : Continues {T = Unit {0}} 1 (store_in view seen b.records) (store_in view seen m.records) (Ok u)) (same : is_some m.kept ≡ is_some o.kept) where
   -- the lines that are told are those of the file
   pub lines_got : (name : List ℕ) (file : Fetched) (into shown before : List ℕ) → ((x : M) → IsMedium (view x)) → IsOpen (store_in view seen) (volume_in m) → shown ≡ take file.length into
       → MountsAndReads name (store_in view seen) (volume_in m) (volume_in n) (Ok file) → AnswersTo (Fetch name) (store_in view seen) (volume_in m) (volume_in n) (Ok file)
@@ -115,6 +115,6 @@ module _ {M I : Type 0} {D : I → Type 0} (view : M → MediumView) (seen : Rin
   lines_got name file into shown before law was is reads answers fetches run stays settles =
       got_lines name (host_in view seen o before text_space file_space) (host_in view seen n (data_text file.kind file.implementation shown ++ reply_line reply.Ok) text_space file_space) (lines_of_type file.kind shown)
       (λ tells.
-      let t = told_asked view seen o b n text_space file_space usable began (Fetch name) opens low m u makes sounds before tells in
+      let t = told_asked view seen o b n text_space file_space usable began (Fetch name) opens low m u makes sounds same before tells in
       ap (lines_of_type file.kind) is ∙ sym (lines_told (store_in view seen) (volume_in m) t.0 t.2 name file into fetches) ∙ ap (λ (tape : Option Tape). lines_of_file name (option_and_then volume_of tape)) (sym t.1))
-      (fetched view seen o b n text_space file_space usable began opens low m u makes sounds name file into shown before law was is reads answers fetches run stays settles)
+      (fetched view seen o b n text_space file_space usable began opens low m u makes sounds same name file into shown before law was is reads answers fetches run stays settles)

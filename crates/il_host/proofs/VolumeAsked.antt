@@ -8,7 +8,8 @@ use Rattle.il_ring.specs.Rings.{RingView}
 use Rattle.il_control.specs.Calls.{loop_of}
 use Rattle.il_record.specs.declared.records.Since.{Since}
 use Rattle.il_record.specs.declared.records.Since.TheVariants as since
-use Rattle.il_record.specs.LoopStores.{LoopView, Standing, Transferred, is_idle, view_at, view_of}
+use Rattle.loop_model.specs.Effect.{Transferred}
+use Rattle.il_record.specs.LoopStores.{LoopView, Standing, is_idle, view_at, view_of}
 use Rattle.il_record.proofs.StoreCalls.{transferred_then}
 use Rattle.il_record.proofs.StoreResumes.{Agrees}
 use Rattle.host_model.specs.HostStates.{HostState}

@@ -1,35 +1,92 @@
 -- The bytes that a store, a batch or a fetch carries, by the list of transfers that the volume tells.
-use Rattle.std.proofs.Common.{◌≡◌, ◌∙◌, ℕ, Bool, true, false, List, length, Option, Some, None, refl, sym, subst}
+use Rattle.std.proofs.lemmas.Bool.Decides.{nat_tests}
+use Rattle.std.proofs.Common.{◌≡◌, ◌∙◌, ◌==◌, ◌&&◌, ◌||◌, ◌++◌, ◌∷◌, [], ℕ, Bool, true, false, not, List, length, map, Option, Some, None, refl, sym, ap, subst, arith}
+use Rattle.std.specs.List.{list_any}
+use Rattle.std.specs.Str.{bytes_eq}
+use Rattle.std.proofs.lemmas.Bool.{and_parts}
+use Rattle.std.proofs.lemmas.Slice.Eq.{bytes_eq-Decides}
 use Rattle.std.specs.Prelude.{All, OnOk, Result}
 use Rattle.std.specs.FinMap.{get}
 use Rattle.il_ports.specs.Media.{MediumView}
 use Rattle.il_ports.specs.declared.records.Trouble.{Trouble}
 use Rattle.il_ports.specs.declared.records.Trouble.TheVariants as trouble
 use Rattle.lif_model.specs.Apply.{VolumeCommand, Adopt, Dir, Fetch, Format, Label, Purge, Rename, Store, Upgrade, Batch, IsWellFormed}
-use Rattle.lif_model.specs.Directory.{start_of}
+use Rattle.lif_model.specs.Directory.{start_of, length_of}
 use Rattle.lif_model.specs.Fit.{Place, At, fit_in}
 use Rattle.lif_model.specs.Legal.{slot_named}
 use Rattle.lif_model.specs.Made.{file_length, filled}
 use Rattle.lif_model.specs.Parts.{Part}
-use Rattle.lif_model.specs.Transfers.{Transfer, are_carried_in, are_carried_out, carries}
+use Rattle.lif_model.specs.Transfers.{Transfer, are_carried_in, are_carried_out}
 use Rattle.lif_model.specs.Volume.{Volume}
 use Rattle.lif_model.specs.Writing.{NewFile, files_left}
 use Rattle.lif_model.proofs.Parts.{each_file}
-use Rattle.loop_model.specs.Effect.{is_out, transfer_of}
+use Rattle.loop_model.specs.Effect.{all_good, is_good, is_in, is_out, transfer_of, Transferred}
 use Rattle.lif_volume.specs.declared.fault.VolumeFault.{VolumeFault}
-use Rattle.loop_model.specs.Units.{units_of}
+use Rattle.loop_model.specs.Exchanges.{IsWhole}
+use Rattle.loop_model.specs.Units.{RecordUnit, units_of}
 use Rattle.il_ring.specs.Rings.{RingView, devices_of, drive_party}
 use Rattle.il_control.specs.Calls.{loop_of}
-use Rattle.il_record.specs.LoopStores.{Transferred}
 use Rattle.il_script.specs.declared.reply.Reply.{Reply}
 use Rattle.il_script.specs.declared.reply.Reply.TheVariants as reply
 use Rattle.host_model.specs.Requests.{Asks, OfVolume}
 use Rattle.host_model.specs.HostStates.{volume_at}
 use Rattle.host_model.specs.RingStates.{state_on}
-use Rattle.host_model.specs.Steps.{IsCarried, IsFetchedFrom, IsStoredAt}
+use Rattle.host_model.specs.Steps.{IsCarried, IsFetchedFrom, IsStoredAt, WentOut, in_one}
 use Rattle.il_host.specs.Standings.{fault_of}
 use Rattle.il_host.proofs.VolumeExchanges.{CarriesBy}
-use Rattle.il_host.proofs.WholeReadings.{carries_in_whole, carries_out_whole}
+use Rattle.il_host.proofs.WholeReadings.{carries_in_whole, carries_out_whole, same_transfers}
+
+-- one of the transfers that pass the test begins at record n and has by itself all these bytes
+abbrev pub by_one : (Transfer → Bool) → List Transfer → ℕ → List ℕ → Bool
+by_one test list n bytes = list_any (λ t. test t && ((t.first == n) && bytes_eq t.bytes bytes)) list
+
+abbrev pub writes_records : Transfer → Bool
+writes_records t = t.writes
+
+abbrev pub reads_records : Transfer → Bool
+reads_records t = not t.writes
+
+pub or_true : (b : Bool) → (b || true) ≡ true
+or_true true = refl
+or_true false = refl
+
+and_true : (b : Bool) → (b && true) ≡ b
+and_true true = refl
+and_true false = refl
+
+or_parts : (a b c : Bool) → (a || b) ≡ true → (a ≡ true → c ≡ true) → (b ≡ true → c ≡ true) → c ≡ true
+or_parts true b c is first next = first refl
+or_parts false b c is first next = next is
+
+same_number : (n : ℕ) → (n == n) ≡ true
+same_number n = grind (arith, nat_tests)
+
+-- such a one among others
+pub one_among : (test : Transfer → Bool) (before after : List Transfer) (t : Transfer) → test t ≡ true → by_one test (before ++ t ∷ after) t.first t.bytes ≡ true
+one_among test [] after t is = λ i. (is i && (same_number t.first i && (bytes_eq-Decides t.bytes t.bytes).1 refl i)) || by_one test after t.first t.bytes
+one_among test (x ∷ xs) after t is = (λ i. (test x && ((x.first == t.first) && bytes_eq x.bytes t.bytes)) || one_among test xs after t is i) ∙ or_true (test x && ((x.first == t.first) && bytes_eq x.bytes t.bytes))
+
+-- among more transfers too
+pub one_later : (test : Transfer → Bool) (before list : List Transfer) (n : ℕ) (bytes : List ℕ) → by_one test list n bytes ≡ true → by_one test (before ++ list) n bytes ≡ true
+one_later test [] list n bytes is = is
+one_later test (x ∷ xs) list n bytes is = (λ i. (test x && ((x.first == n) && bytes_eq x.bytes bytes)) || one_later test xs list n bytes is i) ∙ or_true (test x && ((x.first == n) && bytes_eq x.bytes bytes))
+
+-- units that all have status 0 have one where their transfers have one
+one_out : (units : List RecordUnit) (n : ℕ) (bytes : List ℕ) → all_good units ≡ true → by_one writes_records (map transfer_of units) n bytes ≡ true → in_one is_out units n bytes ≡ true
+one_out [] n bytes good is = is
+one_out (w ∷ ws) n bytes good is =
+    let both = and_parts (is_good w.status) (all_good ws) good in
+    or_parts (w.writes && ((w.first == n) && bytes_eq w.bytes bytes)) (by_one writes_records (map transfer_of ws) n bytes) (in_one is_out (w ∷ ws) n bytes) is
+    (λ here. (λ i. ((w.writes && both.0 i) && ((w.first == n) && bytes_eq w.bytes bytes)) || in_one is_out ws n bytes) ∙ (λ i. (and_true w.writes i && ((w.first == n) && bytes_eq w.bytes bytes)) || in_one is_out ws n bytes) ∙ (λ i. here i || in_one is_out ws n bytes))
+    (λ later. (λ i. (is_out w && ((w.first == n) && bytes_eq w.bytes bytes)) || one_out ws n bytes both.1 later i) ∙ or_true (is_out w && ((w.first == n) && bytes_eq w.bytes bytes)))
+
+one_in : (units : List RecordUnit) (n : ℕ) (bytes : List ℕ) → all_good units ≡ true → by_one reads_records (map transfer_of units) n bytes ≡ true → in_one is_in units n bytes ≡ true
+one_in [] n bytes good is = is
+one_in (w ∷ ws) n bytes good is =
+    let both = and_parts (is_good w.status) (all_good ws) good in
+    or_parts (not w.writes && ((w.first == n) && bytes_eq w.bytes bytes)) (by_one reads_records (map transfer_of ws) n bytes) (in_one is_in (w ∷ ws) n bytes) is
+    (λ here. (λ i. ((not w.writes && both.0 i) && ((w.first == n) && bytes_eq w.bytes bytes)) || in_one is_in ws n bytes) ∙ (λ i. (and_true (not w.writes) i && ((w.first == n) && bytes_eq w.bytes bytes)) || in_one is_in ws n bytes) ∙ (λ i. here i || in_one is_in ws n bytes))
+    (λ later. (λ i. (is_in w && ((w.first == n) && bytes_eq w.bytes bytes)) || one_in ws n bytes both.1 later i) ∙ or_true (is_in w && ((w.first == n) && bytes_eq w.bytes bytes)))
 
 -- these transfers put the bytes of a file, filled up to whole records, to its place
 pub record StoresTo (place : Place) (bytes : List ℕ) (list : List Transfer) : Type 0 where
@@ -37,6 +94,7 @@ pub record StoresTo (place : Place) (bytes : List ℕ) (list : List Transfer) : 
   pub start : ℕ
   pub at : place ≡ At slot start
   pub carried : are_carried_out list start (filled bytes) ≡ true
+  pub one : by_one writes_records list start (filled bytes) ≡ true
 
 -- these brought the bytes of a file in from its records
 pub record FetchesFrom (slot bytes : Option (List ℕ)) (list : List Transfer) : Type 0 where
@@ -45,14 +103,30 @@ pub record FetchesFrom (slot bytes : Option (List ℕ)) (list : List Transfer) :
   pub slot_is : slot ≡ Some found
   pub bytes_are : bytes ≡ Some told
   pub carried : are_carried_in list (start_of found) told ≡ true
+  pub one : ((length_of found == 0) || by_one reads_records list (start_of found) told) ≡ true
 
 -- the bytes of a file go out to its place, filled up to whole records
 abbrev pub GoesOut : List Transfer → NewFile → Type 0
-GoesOut list f = are_carried_out list f.start (filled f.bytes) ≡ true
+GoesOut list f = (are_carried_out list f.start (filled f.bytes) ≡ true) × (by_one writes_records list f.start (filled f.bytes) ≡ true)
 
 module _ {M : Type 0} (view : M → MediumView) (was : Bool) (r s : RingView M) (same : loop_of s ≡ loop_of r) (list : List Transfer) (told : Transferred (loop_of s) s.books.log list) where
   told_before : Transferred (loop_of r) s.books.log list
   told_before = subst (λ l. Transferred l s.books.log list) same told
+
+  same_list : (a : IsWhole (loop_of r) s.books.log) → map transfer_of (units_of (loop_of r) a.reading.pieces) ≡ list
+  same_list a = same_transfers (length (devices_of r)) (drive_party r) s.books.log list a told_before
+
+  went_out : (n : ℕ) (bytes : List ℕ) (a : IsWhole (loop_of r) s.books.log) → all_good (units_of (loop_of r) a.reading.pieces) ≡ true → are_carried_out list n bytes ≡ true → by_one writes_records list n bytes ≡ true
+      → WentOut (units_of (loop_of r) a.reading.pieces) n bytes
+  went_out n bytes a good carried one = (
+    carries_out_whole (length (devices_of r)) (drive_party r) s.books.log list n bytes a good told_before carried,
+    one_out (units_of (loop_of r) a.reading.pieces) n bytes good (ap (λ (ts : List Transfer). by_one writes_records ts n bytes) (same_list a) ∙ one),
+  )
+
+  read_in_one : (none : Bool) (n : ℕ) (bytes : List ℕ) (a : IsWhole (loop_of r) s.books.log) → all_good (units_of (loop_of r) a.reading.pieces) ≡ true → (none || by_one reads_records list n bytes) ≡ true
+      → (none || in_one is_in (units_of (loop_of r) a.reading.pieces) n bytes) ≡ true
+  read_in_one true n bytes a good one = refl
+  read_in_one false n bytes a good one = one_in (units_of (loop_of r) a.reading.pieces) n bytes good (ap (λ (ts : List Transfer). by_one reads_records ts n bytes) (same_list a) ∙ one)
 
   -- a store
   pub store_carries : (name : List ℕ) (kind : ℕ) (implementation bytes : List ℕ)
@@ -65,7 +139,7 @@ module _ {M : Type 0} (view : M → MediumView) (was : Bool) (r s : RingView M) 
       by (Some v) is =
           let so = stores v is in
           subst (λ place. IsStoredAt place bytes (units_of (loop_of r) a.reading.pieces)) (sym so.at)
-          (carries_out_whole (length (devices_of r)) (drive_party r) s.books.log list so.start (filled bytes) a good told_before so.carried)
+          (went_out so.start (filled bytes) a good so.carried so.one)
 
   -- a batch
   pub batch_carries : (parts : List Part) → ((v : Volume) → volume_at (state_on view was false r) ≡ Some v → All (GoesOut list) (files_left (view r.drive.medium).record_count parts v))
@@ -74,8 +148,8 @@ module _ {M : Type 0} (view : M → MediumView) (was : Bool) (r s : RingView M) 
     where
       by : (found : Option Volume) → volume_at (state_on view was false r) ≡ found → IsCarried (Asks (OfVolume (Batch parts))) reply.Ok (view r.drive.medium).record_count found (units_of (loop_of r) a.reading.pieces)
       by None is = tt
-      by (Some v) is = each_file (GoesOut list) (λ f. carries transfer_of is_out (units_of (loop_of r) a.reading.pieces) f.start (filled f.bytes) ≡ true) (files_left (view r.drive.medium).record_count parts v)
-          (λ f out. carries_out_whole (length (devices_of r)) (drive_party r) s.books.log list f.start (filled f.bytes) a good told_before out) (goes v is)
+      by (Some v) is = each_file (GoesOut list) (λ f. WentOut (units_of (loop_of r) a.reading.pieces) f.start (filled f.bytes)) (files_left (view r.drive.medium).record_count parts v)
+          (λ f out. went_out f.start (filled f.bytes) a good out.0 out.1) (goes v is)
 
   -- a fetch
   pub fetch_carries : (name : List ℕ) → ((v : Volume) → volume_at (state_on view was false r) ≡ Some v → FetchesFrom (slot_named v.slots name) (get v.files name) list)
@@ -87,8 +161,10 @@ module _ {M : Type 0} (view : M → MediumView) (was : Bool) (r s : RingView M) 
       by (Some v) is =
           let so = fetches v is in
           subst (λ slot. IsFetchedFrom slot (get v.files name) (units_of (loop_of r) a.reading.pieces)) (sym so.slot_is)
-          (subst (λ bytes. IsFetchedFrom (Some so.found) bytes (units_of (loop_of r) a.reading.pieces)) (sym so.bytes_are)
-          (carries_in_whole (length (devices_of r)) (drive_party r) s.books.log list (start_of so.found) so.told a good told_before so.carried))
+          (subst (λ bytes. IsFetchedFrom (Some so.found) bytes (units_of (loop_of r) a.reading.pieces)) (sym so.bytes_are) (
+            carries_in_whole (length (devices_of r)) (drive_party r) s.books.log list (start_of so.found) so.told a good told_before so.carried,
+            read_in_one (length_of so.found == 0) (start_of so.found) so.told a good so.one,
+          ))
 
 -- ---- by every command
 

@@ -14,7 +14,8 @@ use Rattle.il_ring.specs.Rings.{RingView, devices_of, drive_party, roles_of}
 use Rattle.il_control.specs.Calls.{loop_of}
 use Rattle.il_record.specs.declared.records.Since.TheVariants as since
 use Rattle.il_record.specs.Came.{OnlyHeard}
-use Rattle.il_record.specs.LoopStores.{LoopView, Standing, StandsSo, Transferred, is_idle, view_at, view_of}
+use Rattle.loop_model.specs.Effect.{Transferred}
+use Rattle.il_record.specs.LoopStores.{LoopView, Standing, StandsSo, is_idle, view_at, view_of}
 use Rattle.il_record.proofs.HeardLogs.{heard_then}
 use Rattle.il_record.proofs.StoreResumes.{Agrees}
 use Rattle.il_script.specs.declared.reply.Reply.{Reply}

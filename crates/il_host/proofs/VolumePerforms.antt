@@ -18,7 +18,7 @@ use Rattle.lif_volume.specs.Changing.{VolumeTurns}
 use Rattle.host_model.specs.Requests.{Asks, Item, OfVolume}
 use Rattle.host_model.specs.HostStates.{HostState, volume_at}
 use Rattle.host_model.specs.Replies.{refused_as}
-use Rattle.host_model.specs.Steps.{Event, IsStep}
+use Rattle.host_model.specs.Steps.{Event, Acts}
 use Rattle.host_model.specs.Stops.{StopsLeave}
 use Rattle.il_host.specs.Standings.{HasDriveStatus, HasLogRoom, MakesSound, event_at, fault_of, hops_at, log_at, state_at}
 use Rattle.il_host.proofs.VolumeCarries.{CarriesAs, none_carried}
@@ -29,7 +29,7 @@ use Rattle.il_host.proofs.VolumeSteps.{volume_step}
 
 -- The command is a step, a power stop during it leaves what it may leave, and plan, room and images stay.
 pub record Performs {M S : Type 0} (view : M → MediumView) (seen : S → RingView M) (o q : Option S) (item : Item) (answered : Reply) (old new : LoopView M) : Type 0 where
-  pub step : IsStep (hops_at old.control) (event_at view item answered old new)
+  pub step : Acts (hops_at old.control) (event_at view item answered old new)
   pub stops : StopsLeave (event_at view item answered old new) (view_of view seen o old).moment (view_of view seen q new).moment (view_of view seen o old).left_since (view_of view seen q new).left_since
   pub keeps : KeepsRing view old new
 
@@ -41,12 +41,12 @@ module _ {M S : Type 0} (view : M → MediumView) (seen : S → RingView M) (o a
   emptied = volume_begun view seen o a old begun valid here there empties
 
   -- the event, from before the emptying on
-  performs : (answered : Reply) → IsStep (hops_at begun.control) (event_at view (Asks (OfVolume command)) answered begun new)
+  performs : (answered : Reply) → Acts (hops_at begun.control) (event_at view (Asks (OfVolume command)) answered begun new)
       → StopsLeave (event_at view (Asks (OfVolume command)) answered begun new) (view_of view seen o old).moment (view_of view seen q new).moment (view_of view seen o old).left_since (view_of view seen q new).left_since
       → KeepsRing view begun new → Performs view seen o q (Asks (OfVolume command)) answered old new
   performs answered step stops keeps = record {
-    step = subst (λ hops. IsStep hops (event_at view (Asks (OfVolume command)) answered old new)) emptied.hops
-        (subst (λ (s : HostState). IsStep (hops_at begun.control) (event_from s)) emptied.state step);
+    step = subst (λ hops. Acts hops (event_at view (Asks (OfVolume command)) answered old new)) emptied.hops
+        (subst (λ (s : HostState). Acts (hops_at begun.control) (event_from s)) emptied.state step);
     stops = subst (λ (s : HostState). StopsLeave (event_from s) (view_of view seen o old).moment (view_of view seen q new).moment (view_of view seen o old).left_since (view_of view seen q new).left_since) emptied.state stops;
     keeps = keeps_emptied view old begun new emptied keeps;
   }

@@ -21,7 +21,7 @@ use Rattle.il_script.specs.declared.reply.Reply.{Reply}
 use Rattle.host_model.specs.Requests.{Asks, Item, OfVolume, is_of_volume, uses_frames}
 use Rattle.host_model.specs.RingStates.{state_on}
 use Rattle.host_model.specs.Next.{Next}
-use Rattle.host_model.specs.Steps.{Event, Exchanged, IsStep, Replied, Travels, is_fault, is_frame_fault}
+use Rattle.host_model.specs.Steps.{Event, Exchanged, Acts, Replied, Travels, is_fault, is_frame_fault}
 use Rattle.il_host.specs.Standings.{event_at, hops_at, log_at, state_at}
 use Rattle.il_host.proofs.CommandTravels.{event_by}
 use Rattle.il_host.proofs.LoopReady.{StandsAt}
@@ -40,7 +40,7 @@ pub record TellsLoop (hops : List ℕ) (e : Event) : Type 0 where
   pub sound : e.after.sound ≡ not (is_fault e.reply)
 
 -- with its reply it is a step
-pub volume_step : (hops : List ℕ) (e : Event) (command : VolumeCommand) → e.item ≡ Asks (OfVolume command) → Replied e → TellsLoop hops e → IsStep hops e
+pub volume_step : (hops : List ℕ) (e : Event) (command : VolumeCommand) → e.item ≡ Asks (OfVolume command) → Replied e → TellsLoop hops e → Acts hops e
 volume_step hops e command is replied loop = record {
   replied = replied;
   next = loop.next;

@@ -6,14 +6,13 @@ use Rattle.std.proofs.lemmas.Bool.{and_parts, and_right}
 use Rattle.std.proofs.lemmas.List.Folds.{list_all-append}
 use Rattle.il_frames.specs.declared.entry.Entry.{Entry}
 use Rattle.lif_model.specs.Transfers.{Transfer, are_carried_out, are_carried_in, carries}
-use Rattle.loop_model.specs.Effect.{is_out, is_in, transfer_of, all_good}
+use Rattle.loop_model.specs.Effect.{is_out, is_in, transfer_of, all_good, Transferred}
 use Rattle.loop_model.proofs.EffectLaws.{carries-out, carries-in}
 use Rattle.loop_model.specs.Exchanges.{Break, FrameLost, HostAltered, TalkerAltered, Piece, Whole, Cut, Reading, IsWhole, are_whole, break_entries, can_cut, cut_at, entries_of, is_altered, is_break, is_end, is_exchange, is_piece, piece_entries}
 use Rattle.loop_model.proofs.ExchangeLaws.{stands, whole_stands}
 use Rattle.loop_model.proofs.ReadingLaws.{units_of-whole}
 use Rattle.loop_model.specs.Loops.{Loop, host_loop}
 use Rattle.loop_model.specs.Units.{units_of}
-use Rattle.il_record.specs.LoopStores.{Transferred}
 
 module _ (l : Loop) where
   break_falls : (due : Entry) (b : Break) → is_break l.controller due b ≡ true → list_all stands (break_entries due b) ≡ false

@@ -60,6 +60,8 @@ answers_over view order medium closed before after before_now after_now v w e le
       tells = run_tells order.hops v.state a.events w.state chain host.one (omega (arith, none));
       asks = a.asks;
       ok = a.ok;
+      texts = a.texts;
+      texts_are = a.texts_are;
       writes = a.writes;
       back = record {
         tape = tape_is_in (view closed) (subst IsSize (sym same) size) ∙ closes.tape;
@@ -131,6 +133,8 @@ module _ (order : Order) (made : New) (v m : MediumView) (makes : order.made ≡
     tells = a.tells;
     asks = a.asks;
     ok = a.ok;
+    texts = a.texts;
+    texts_are = a.texts_are;
     writes = a.writes;
     back = a.back;
     stops = λ told gate x left.

@@ -1,14 +1,20 @@
 -- What contracts see of a host, and what a command does to it.
 use Rattle.std.specs.Prelude.{◌≡◌, ◌≤◌, ◌+◌, ◌-◌, ◌*◌, ℕ, true, List, [], length, Option, Some}
+use Rattle.lif_model.specs.Apply.{Store, Fetch, Batch}
+use Rattle.lif_model.specs.Made.{file_length}
+use Rattle.lif_model.specs.Redo.{settled}
 use Rattle.lif_model.specs.Shelf.{Shelf}
 use Rattle.lif_model.specs.Tape.{Tape, IsTape}
+use Rattle.lif_model.specs.Directory.{slots_of}
 use Rattle.il_ports.specs.Inserting.{OthersAreKept}
+use Rattle.lif_volume.specs.Changing.{records_stored}
+use Rattle.lif_volume.specs.Commands.{directory_records, records_named}
 use Rattle.il_frames.specs.declared.entry.Entry.{Entry}
 use Rattle.loop_model.specs.Roles.{is_at_most_one, talkers}
 use Rattle.il_ring.specs.declared.plan.Planned.{Planned}
 use Rattle.il_record.specs.LoopStores.{calls_in}
 use Rattle.il_script.specs.declared.reply.Reply.{Reply}
-use Rattle.host_model.specs.Requests.{Item, is_of_volume}
+use Rattle.host_model.specs.Requests.{OfVolume, Get, Item, Asks, is_of_volume}
 use Rattle.host_model.specs.LoopStates.{all_roles}
 use Rattle.host_model.specs.HostStates.{HostState, log_room}
 use Rattle.host_model.specs.Replies.{reply_text}
@@ -43,6 +49,8 @@ pub record KeepsImages (inside inside_now : Option (List ℕ)) (old now : Option
 pub record IsHost (v : HostView) : Type 0 where
   -- at most one device talks
   pub one : is_at_most_one (talkers (all_roles v.state.loop)) ≡ true
+  -- where the directory is kept, the store is sound
+  pub kept : v.state.kept ≡ true → v.state.sound ≡ true
   -- a tape that is told has its number of records
   pub is_tape : (t : Tape) → v.state.tape ≡ Some t → IsTape v.state.records t
   -- a stop now leaves the tape as it reads, and since now there is no other
@@ -57,10 +65,31 @@ event_between item reply v w = record { item = item; reply = reply; log = w.log;
 abbrev pub calls_behind : ℕ → List Entry → ℕ
 calls_behind n log = calls_in (log_room n - length log)
 
+-- the records of the files that an item stores or reads of a settled tape
+abbrev pub records_asked : Item → Tape → ℕ
+records_asked (Asks (OfVolume (Store name kind implementation bytes))) t = file_length bytes
+records_asked (Asks (OfVolume (Batch parts))) t = records_stored parts
+records_asked (Asks (OfVolume (Fetch name))) t = records_named (slots_of t) name
+records_asked (Asks (Get name)) t = records_named (slots_of t) name
+records_asked item t = 0
+
+-- those that an item reads and writes beside these where the directory is kept
+abbrev pub most_beside : Item → ℕ
+most_beside (Asks (OfVolume (Batch parts))) = 80
+most_beside item = 12
+
+-- the log takes at most the room of so many records
+abbrev pub TakesAtMost : ℕ → ℕ → List Entry → Type 0
+TakesAtMost n most log = calls_behind n [] ≤ calls_behind n log + most
+
 -- The log of a command of a volume on a medium of n records takes at most the room of 2 n + 40 records, at 300 entries each: so many
--- calls of the store, as it counts them by its log. To make it sound counts as one.
-abbrev pub MakesFewCalls : Item → ℕ → List Entry → Type 0
-MakesFewCalls item n log = is_of_volume item ≡ true → calls_behind n [] ≤ calls_behind n log + (2 * n + 40)
+-- calls of the store, as it counts them by its log. To make it sound counts as one. On a tape that is told it takes that of its
+-- directory's records, of the records of the files that it stores or reads, and of 200 more; and where the directory is kept, that of
+-- the files alone and of a commit.
+pub record MakesFewCalls (item : Item) (s : HostState) (log : List Entry) : Type 0 where
+  pub all : TakesAtMost s.records (2 * s.records + 40) log
+  pub on_tape : (t : Tape) → s.tape ≡ Some t → TakesAtMost s.records (directory_records (settled t) + records_asked item (settled t) + 200) log
+  pub from_kept : (t : Tape) → s.tape ≡ Some t → s.kept ≡ true → TakesAtMost s.records (records_asked item (settled t) + most_beside item) log
 
 -- The host performed a command and replied so: that is a step of a run. The text is that of the reply, where what it depends on is
 -- told. A power stop during the command leaves what it may leave, and no other image changes.
@@ -71,4 +100,4 @@ pub record Performed (item : Item) (reply : Reply) (v w : HostView) : Type 0 whe
   pub text : TellsReply item v.state → w.text ≡ reply_text item v.state reply
   pub stops : StopsLeave (event_between item reply v w) v.moment w.moment v.left_since w.left_since
   pub images : KeepsImages v.inside w.inside v.images w.images
-  pub calls : MakesFewCalls item v.state.records w.log
+  pub calls : is_of_volume item ≡ true → MakesFewCalls item v.state w.log

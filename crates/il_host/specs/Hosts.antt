@@ -1,5 +1,5 @@
 -- What holds of a host between its commands, and how contracts see it.
-use Rattle.std.specs.Prelude.{◌≡◌, ◌*◌, ℕ, List, [], Option}
+use Rattle.std.specs.Prelude.{◌≡◌, ◌*◌, ℕ, Bool, true, List, [], Option, is_some}
 use Rattle.lif_model.specs.Shelf.{IsSize}
 use Rattle.lif_model.specs.Stops.{StandsStill}
 use Rattle.il_device.specs.State.{DeviceState}
@@ -20,22 +20,23 @@ use Rattle.il_host.specs.HostView.{HostView}
 use Rattle.il_host.specs.Shorts.{AllShort}
 use Rattle.il_host.specs.Standings.{HasLogRoom, state_at, log_at, hops_at, plan_at, images_at, inside_at}
 
--- The volume can be used, and the loop stands. There is room for every log, for the text of every reply, and for the records of every
+-- The volume can be used, and the loop stands; where the directory is kept, the store is sound. There is room for every log, for the text of every reply, and for the records of every
 -- file; and no device keeps more than there is room for.
 pub record IsUsable {M R S : Type 0} (view : M → MediumView) (records : R → RecordsView S) (volume : VolumeView R) (loop : LoopView M) (text_space file_space : ℕ) : Type 0 where
   pub volume_open : IsOpen records volume
   pub size : IsSize (records volume.records).record_count
   pub stands : StandsSo loop.control loop.sound loop.since
+  pub kept : is_some volume.kept ≡ true → loop.sound ≡ true
   pub log : HasLogRoom view loop.control
   pub short : AllShort (state_at view loop.sound loop.control).loop
   pub text : text_space ≡ text_room (records volume.records).record_count
   pub file : file_space ≡ 256 * (records volume.records).record_count
 
--- by its store
-abbrev pub host_view : {M S : Type 0} → (M → MediumView) → Type 0 → RecordsView S → LoopView M → List ℕ → HostView
-host_view view valid store loop text = record {
+-- by its store, and by whether the directory is kept
+abbrev pub host_view : {M S : Type 0} → (M → MediumView) → Type 0 → RecordsView S → LoopView M → Bool → List ℕ → HostView
+host_view view valid store loop kept text = record {
   valid = valid;
-  state = state_at view loop.sound loop.control;
+  state = record (state_at view loop.sound loop.control) { kept = kept };
   plan = plan_at loop.control;
   hops = hops_at loop.control;
   log = log_at loop.control;
@@ -62,7 +63,8 @@ volume_in v = volume.seen v
 -- all of it
 abbrev pub host_in : {M I : Type 0} {D : I → Type 0} → (M → MediumView) → (Ring M I D → RingView M) → Volume (LoopRecords M I D) → List ℕ → (text_space file_space : ℕ) → HostView
 host_in view seen v text text_space file_space =
-    host_view view (IsUsable view (store_in view seen) (volume_in v) (loop_in seen v.records) text_space file_space) (store_in view seen v.records) (loop_in seen v.records) text
+    host_view view (IsUsable view (store_in view seen) (volume_in v) (loop_in seen v.records) text_space file_space) (store_in view seen v.records) (loop_in seen v.records)
+    (is_some (volume_in v).kept) text
 
 -- ---- opening and closing
 

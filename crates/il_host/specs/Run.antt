@@ -7,12 +7,12 @@ use Rattle.lif_model.specs.Parts.{Part}
 use Rattle.lif_model.specs.Apply.{Batch}
 use Rattle.host_model.specs.Requests.{Item, Asks, OfVolume, NoCommand, item_for}
 use Rattle.host_model.specs.HostStates.{HasOwnGate}
-use Rattle.host_model.specs.Steps.{Event, IsStep, TellsReply}
+use Rattle.host_model.specs.Steps.{Event, IsStep}
 use Rattle.host_model.specs.Stops.{StopsLeave, LeftWithin}
-use Rattle.host_model.specs.Runs.{Chained, OutputMode, items_asked, event_text}
+use Rattle.host_model.specs.Runs.{AreTextsOf, Chained, IsTextOf, OutputMode, items_asked, event_text}
 use Rattle.host_model.specs.Endings.{RunEnd}
 use Rattle.host_model.specs.Endings as end
-use Rattle.host_model.specs.Leaves.{AsksAs, IsOkAs, TellsTexts, WritesAs}
+use Rattle.host_model.specs.Leaves.{AsksAs, IsOkAs, WritesAs}
 use Rattle.il_host.specs.HostView.{HostView, KeepsImages}
 use Rattle.il_host.specs.Writing.{WritesAll}
 use Rattle.il_host.specs.declared.ending.Ending.{Ending}
@@ -46,7 +46,7 @@ item_asked (asked.NoCommand code) bytes parts = NoCommand code
 abbrev pub event_of : Item → Reply → List Entry → HostView → HostView → Event
 event_of item reply log v w = record { item = item; reply = reply; log = log; before = v.state; after = w.state }
 
--- The item was answered so, and what is told of it was written as far as the result says: that is a step of a run, a power stop
+-- The item was answered so, and its log and a text that is that of its reply were written as far as the result says: that is a step of a run, a power stop
 -- during it leaves what it may leave, and no other image changes.
 pub record Answers {E : Type 0} (item : Item) (reply : Reply) (mode : OutputMode) (v w : HostView) (before now : Option (List ℕ)) (written : Result (Unit {0}) E) : Type 0 where
   pub log : List Entry
@@ -54,7 +54,9 @@ pub record Answers {E : Type 0} (item : Item) (reply : Reply) (mode : OutputMode
   pub hops : w.hops ≡ v.hops
   pub step : IsStep v.hops (event_of item reply log v w)
   pub stops : StopsLeave (event_of item reply log v w) v.moment w.moment v.left_since w.left_since
-  pub bytes : TellsReply item v.state → WritesAll before now (event_text mode (event_of item reply log v w)) written
+  pub text : List ℕ
+  pub text_is : IsTextOf (event_of item reply log v w) text
+  pub bytes : WritesAll before now (event_text mode (event_of item reply log v w) text) written
   pub images : KeepsImages v.inside w.inside v.images w.images
 
 -- ---- the script
@@ -67,6 +69,8 @@ pub record AnswersScript (generated : Option (ℕ × ℕ)) (ending : Ending) (mo
   pub chain : Chained v.hops v.state events w.state
   pub asks : AsksAs generated (end_of ending) left_before left_now (items_asked events)
   pub ok : IsOkAs (end_of ending) events
-  pub writes : TellsTexts mode v.state → WritesAs (end_of ending) mode events written_before written_now
+  pub texts : List (List ℕ)
+  pub texts_are : AreTextsOf events texts
+  pub writes : WritesAs (end_of ending) mode events texts written_before written_now
   pub stops : is_some v.state.tape ≡ true → HasOwnGate v.state → LeavesOnly v.moment w.moment v.left_since w.left_since (LeftWithin events w.state)
   pub images : KeepsImages v.inside w.inside v.images w.images

@@ -8,11 +8,11 @@ use Rattle.il_ports.specs.Media.{MediumView}
 use Rattle.host_model.specs.HostStates.{HostState, HasOwnGate, fresh_host}
 use Rattle.host_model.specs.Steps.{Event}
 use Rattle.host_model.specs.Stops.{LeftWithin}
-use Rattle.host_model.specs.Runs.{Chained, items_asked}
+use Rattle.host_model.specs.Runs.{AreTextsOf, Chained, items_asked}
 use Rattle.host_model.specs.Histories.{RunTells}
 use Rattle.host_model.specs.Endings.{RunEnd, HasNoTape, HasEndingCause, IsEarly, exit_status}
 use Rattle.host_model.specs.Orders.{Order, Outside, HandsBack, mode_of}
-use Rattle.host_model.specs.Leaves.{AsksAs, IsOkAs, TellsTexts, WritesAs, LeavesBy}
+use Rattle.host_model.specs.Leaves.{AsksAs, IsOkAs, WritesAs, LeavesBy}
 use Rattle.il_host.specs.HostView.{KeepsImages}
 use Rattle.il_host.specs.Words.{order_in}
 
@@ -51,7 +51,9 @@ pub record AnswersOver (order : Order) (end : RunEnd) (v w : MediumView) (old no
   pub tells : RunTells order.hops start events finish
   pub asks : AsksAs order.generated end old.left now.left (items_asked events)
   pub ok : IsOkAs end events
-  pub writes : TellsTexts (mode_of order) start → WritesAs end (mode_of order) events old.written now.written
+  pub texts : List (List ℕ)
+  pub texts_are : AreTextsOf events texts
+  pub writes : WritesAs end (mode_of order) events texts old.written now.written
   pub back : HandsBack finish now
   pub stops : is_some start.tape ≡ true → HasOwnGate start → LeavesOnly v.moment w.moment v.left_since w.left_since (LeftWithin events finish)
   pub size : IsSize w.record_count

@@ -1,4 +1,4 @@
-ghost use Rattle.std.specs.Prelude.{◌≡◌, ◌≤◌, ◌+◌, length};
+ghost use Rattle.std.specs.Prelude.{◌≡◌, ◌≤◌, ◌+◌, if◌then◌else◌, true, length, None};
 ghost use Rattle.il_ports.specs.Stores.{Continues};
 ghost use Rattle.lif_volume.specs.Views.{IsOpen};
 ghost use Rattle.il_host.specs.Hosts.{volume_in};
@@ -84,6 +84,10 @@ impl<M: Medium + Drop> Host<M> {
         ensures opens { IsOpen ⟦<LoopRecords<M> as Records>⟧.view (volume_in self.new.volume) }
         ensures rests { KeepsPage self.old.page (length self.old.file.items) self.new.page (length self.new.file.items) }
         ensures text { self.new.text ≡ self.old.text }
+        // A directory that is kept of a sound store stays, and any other is forgotten.
+        ensures kept { (volume_in self.new.volume).kept ≡ (if (⟦<LoopRecords<M> as Looped<M>>⟧.looped self.old.volume.records).sound
+            then (volume_in self.old.volume).kept else None) }
+        ensures still { (⟦<LoopRecords<M> as Looped<M>>⟧.looped self.old.volume.records).sound ≡ true → self.new.volume ≡ self.old.volume }
     {
         if self.volume.records().is_sound() {
             return Ok(());

@@ -1,9 +1,9 @@
-ghost use Rattle.std.specs.Prelude.{◌≡◌, ◌≤◌, suc, [], length, None, option_map};
+ghost use Rattle.std.specs.Prelude.{◌≡◌, ◌≤◌, if◌then◌else◌, suc, [], length, None, option_map};
 ghost use Rattle.std.specs.List.{position};
 ghost use Rattle.il_ring.specs.Rings.{has_id, printer_id};
 ghost use Rattle.il_script.specs.declared.limits.TheConstants.{LONGEST_PAYLOAD};
 ghost use Rattle.il_record.specs.Called.{LeavesStore};
-ghost use Rattle.il_record.specs.LoopStores.{Addresses};
+ghost use Rattle.il_record.specs.LoopStores.{Addresses, is_idle};
 ghost use Rattle.lif_volume.specs.Views.{IsOpen};
 ghost use Rattle.host_model.specs.Requests.{Asks, Devices, Paper, Poll, Say, Status};
 ghost use Rattle.il_host.specs.HostView.{Performed};
@@ -125,6 +125,8 @@ impl<M: Medium + Drop> Host<M> {
         ensures leaves { LeavesStore 1 ((⟦<LoopRecords<M> as Records>⟧.view self.old.volume.records).failed None) (⟦<LoopRecords<M> as Records>⟧.view self.old.volume.records) (⟦<LoopRecords<M> as Records>⟧.view self.new.volume.records) result }
         ensures opens { IsOpen ⟦<LoopRecords<M> as Records>⟧.view (volume_in self.new.volume) }
         ensures rests { KeepsPage self.old.page (length self.old.file.items) self.new.page (length self.new.file.items) }
+        ensures kept { (volume_in self.new.volume).kept ≡ (if is_idle (⟦<LoopRecords<M> as Looped<M>>⟧.looped self.old.volume.records).control
+            then (volume_in self.old.volume).kept else None) }
     {
         if self.volume.records().is_ready() {
             return Ok(());

@@ -17,7 +17,8 @@ use Rattle.il_record.specs.Asks.{Ask, up_to}
 use Rattle.il_record.specs.Called.{Called, CallBroke, LeavesStore}
 use Rattle.il_record.specs.Came.{CameUnits}
 use Rattle.il_record.specs.LoopCalls.{AllNamed, LeftAlone, NotSaid, Said, id_asks}
-use Rattle.il_record.specs.LoopStores.{LoopView, Standing, Addresses, AtIdle, AtLost, HasRing, Nowhere, StandsSo, Stood, Transferred, FailedAtLost, calls_in, is_broken, since_frame, since_more, since_said, view_at, view_of}
+use Rattle.loop_model.specs.Effect.{Transferred}
+use Rattle.il_record.specs.LoopStores.{LoopView, Standing, Addresses, AtIdle, AtLost, HasRing, Nowhere, StandsSo, Stood, FailedAtLost, calls_in, is_broken, since_frame, since_more, since_said, view_at, view_of}
 use Rattle.il_record.specs.Polls.{HasPolled, MayPoll, PlacesKept, PollBroke, poll_asks}
 use Rattle.il_record.specs.Runs.{NotPolled, Polled}
 use Rattle.il_record.proofs.HeardLogs.{heard_none}

@@ -9,7 +9,7 @@ use Rattle.lif_model.specs.Causes.{Rose}
 use Rattle.lif_model.specs.Transfers.{Transfer}
 use Rattle.il_ports.specs.Media.{MediumView}
 use Rattle.il_drive.specs.State.{status_of}
-use Rattle.loop_model.specs.Effect.{UnitsEffect, is_good, transfer_of, all_good}
+use Rattle.loop_model.specs.Effect.{UnitsEffect, is_good, transfer_of, all_good, Transferred}
 use Rattle.loop_model.specs.Exchanges.{Piece, is_piece, piece_entries}
 use Rattle.loop_model.specs.Reach.{met}
 use Rattle.loop_model.specs.Units.{RecordUnit, units_of, ends_within}
@@ -23,7 +23,7 @@ use Rattle.il_control.specs.Calls.{IsFree, loop_of}
 use Rattle.il_record.specs.declared.records.Since.{Since}
 use Rattle.il_record.specs.declared.records.Since.TheVariants as since
 use Rattle.il_record.specs.Came.{OnlyHeard, CameBy, CameUnits}
-use Rattle.il_record.specs.LoopStores.{CameBad, CameGood, Stood, StoodBy, Transferred, calls_in, crossed_hops, is_broken, since_frame, since_medium, since_said}
+use Rattle.il_record.specs.LoopStores.{CameBad, CameGood, Stood, StoodBy, calls_in, crossed_hops, is_broken, since_frame, since_medium, since_said}
 use Rattle.il_record.specs.Talks.{Talked, all_entries}
 use Rattle.il_record.proofs.HeardLogs.{heard_then}
 use Rattle.il_record.proofs.Talks.{talked_then, same_loop}

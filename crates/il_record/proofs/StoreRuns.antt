@@ -19,8 +19,8 @@ use Rattle.il_control.specs.Calls.{IsIdle, loop_of}
 use Rattle.il_record.specs.declared.records.Since.{Since}
 use Rattle.il_record.specs.declared.records.Since.TheVariants as since
 use Rattle.il_record.specs.Came.{OnlyHeard, CameBy, CameUnits}
-use Rattle.loop_model.specs.Effect.{all_good}
-use Rattle.il_record.specs.LoopStores.{AtIdle, AtLost, FailedAtIdle, FailedAtLost, FromStart, Transferred, calls_in, is_broken, since_frame, since_medium, view_at}
+use Rattle.loop_model.specs.Effect.{all_good, Transferred}
+use Rattle.il_record.specs.LoopStores.{AtIdle, AtLost, FailedAtIdle, FailedAtLost, FromStart, calls_in, is_broken, since_frame, since_medium, view_at}
 use Rattle.il_record.specs.Runs.{unit, ReadAs, ReadBroke, WroteAs, WriteBroke}
 use Rattle.il_record.proofs.StoreCalls.{stood_whole, stood_medium, stood_frame, transferred_then, frames_same, frames_rose, calls_less}
 

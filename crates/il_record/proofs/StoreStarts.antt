@@ -18,7 +18,8 @@ use Rattle.il_record.proofs.Used.{resumed_used, not_resumed_used}
 use Rattle.il_record.specs.declared.records.Since.{Since}
 use Rattle.il_record.specs.declared.records.Since.TheVariants as since
 use Rattle.il_record.specs.Came.{OnlyHeard, CameUnits}
-use Rattle.il_record.specs.LoopStores.{LoopView, Standing, Nowhere, Addresses, AtIdle, AtLost, Addressed, NotAddressed, since_more, since_frame, FromStart, IsEmptied, IsFresh, Stood, Transferred, FailedAtIdle, FailedAtLost, calls_in, is_broken, most_resumes, over_ring, view_at}
+use Rattle.loop_model.specs.Effect.{Transferred}
+use Rattle.il_record.specs.LoopStores.{LoopView, Standing, Nowhere, Addresses, AtIdle, AtLost, Addressed, NotAddressed, since_more, since_frame, FromStart, IsEmptied, IsFresh, Stood, FailedAtIdle, FailedAtLost, calls_in, is_broken, most_resumes, over_ring, view_at}
 use Rattle.il_record.proofs.HeardLogs.{heard_same}
 use Rattle.il_record.proofs.StoreCalls.{stood_whole, stood_frame, transferred_then, frames_same, frames_rose, calls_less}
 use Rattle.il_record.proofs.StoreRuns.{from_start}

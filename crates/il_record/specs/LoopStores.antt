@@ -1,16 +1,12 @@
 -- What contracts see of a store of records over the loop.
-use Rattle.std.specs.Prelude.{◌≡◌, ◌⊎◌, ◌≤◌, ◌+◌, ◌-◌, ◌/◌, ℕ, Bool, true, false, min, List, [], length, map, Option, Some, None, Result, Ok, Err}
-use Rattle.lif_model.specs.Transfers.{Transfer}
-use Rattle.il_frames.specs.declared.entry.Entry.{Entry}
+use Rattle.std.specs.Prelude.{◌≡◌, ◌⊎◌, ◌≤◌, ◌+◌, ◌-◌, ◌/◌, ℕ, Bool, true, false, min, List, [], length, Option, Some, None, Result, Ok, Err}
 use Rattle.il_ports.specs.Media.{MediumView}
 use Rattle.il_ports.specs.Stores.{RecordsView}
 use Rattle.il_drive.specs.State.{status_of}
 use Rattle.il_drive.specs.Resting.{IsFree}
-use Rattle.loop_model.specs.Effect.{transfer_of, all_good}
-use Rattle.loop_model.specs.Exchanges.{Reading}
-use Rattle.loop_model.specs.Loops.{Loop}
+use Rattle.loop_model.specs.Effect.{Transferred, all_good}
 use Rattle.loop_model.specs.Reach.{met}
-use Rattle.loop_model.specs.Units.{units_of, ends_within}
+use Rattle.loop_model.specs.Units.{units_of}
 use Rattle.il_ring.specs.Plans.{hops_of}
 use Rattle.il_ring.specs.Lists.{Each}
 use Rattle.il_ring.specs.Rings.{RingView, devices_of, drive_party, spare_of}
@@ -88,13 +84,6 @@ pub record Stood {M : Type 0} (view : M → MediumView) (log : Since) (r s : Rin
   pub free : IsFreeRing r
   pub unheard : has_said log ≡ false → OnlyHeard (drive_party r) r s
   pub by : StoodBy view log r s
-
--- The log reads as exchanges whose units all have status 0 and are, in order, these transfers.
-pub record Transferred (l : Loop) (log : List Entry) (list : List Transfer) : Type 0 where
-  pub reading : Reading l log
-  pub outside : ends_within l reading.pieces ≡ false
-  pub good : all_good (units_of l reading.pieces) ≡ true
-  pub are : map transfer_of (units_of l reading.pieces) ≡ list
 
 -- ---- counts
 

@@ -32,7 +32,7 @@ use Rattle.lif_model.proofs.NewFiles.{IsAsideFile, some_aside, next_aside, aside
 use Rattle.il_ports.specs.declared.records.Trouble.{Trouble}
 use Rattle.il_ports.specs.Stores.{RecordsView, IsStore, IsReady, StoredRun}
 use Rattle.il_ports.proofs.Stores.{goes_nowhere, goes_further, goes_within, quiet_run, quiet_nowhere}
-use Rattle.lif_redo.specs.Writing.{writes_among, AreSingle}
+use Rattle.lif_redo.specs.Writing.{writes_among, AreSingle, runs_filed}
 use Rattle.lif_redo.proofs.Told.{was_told}
 use Rattle.lif_dir.specs.declared.change.Change.{Change}
 use Rattle.lif_dir.specs.Entries.{slot_of, slot_from, slot_bytes}
@@ -49,7 +49,7 @@ use Rattle.lif_plan.proofs.Planning.{version_agrees}
 use Rattle.lif_volume.specs.declared.fault.VolumeFault.{VolumeFault}
 use Rattle.lif_volume.specs.declared.fault.VolumeFault.TheVariants.{Refused, Trouble as Troubled}
 use Rattle.lif_volume.specs.Views.{VolumeView, IsOpen, IsDirectoryOf}
-use Rattle.lif_volume.specs.Changing.{files_when, file_when, changes_when, changes_filed, IsChanged, runs_filed, file_runs, writes_if_any, beside, records_stored, carrying, committing_on, carrying_on, HasEitherVolume, VolumeTurns}
+use Rattle.lif_volume.specs.Changing.{files_when, file_when, changes_when, changes_filed, IsChanged, file_runs, writes_if_any, beside, records_stored, carrying, committing_on, carrying_on, HasEitherVolume, VolumeTurns}
 use Rattle.lif_volume.specs.Carrying.{HasFile, file_count, records_filed, IsPartlyFiled, some_stand, next_begun, WritesFiles, changes_made, PutsFile, Puts, CarriesOut}
 use Rattle.lif_volume.proofs.Mounting.{kept_is_of, volume_on}
 use Rattle.lif_volume.proofs.Fetching.{legal_of}
@@ -146,6 +146,8 @@ module _ {R S : Type 0} (view : R → RecordsView S) (x : VolumeView R) (header 
         → CarriesOut {T = Unit {0}} command view x x (Err (Refused why))
     refuses calls why ready plan = record {
       goes_on = goes_within 0 (carrying {T = Unit {0}} n command x.kept (Err (Refused why))) _ _ _ (omega arith) (goes_nowhere calls (view x.records) ready);
+      idle = λ none. refl;
+      idle_on = λ t told files changes. refl;
       kept = sym (ap (λ (b : Bool). if b then x.kept else None) plan.known);
       on_tape = λ t told. record {
         few = omega arith;
@@ -165,6 +167,8 @@ module _ {R S : Type 0} (view : R → RecordsView S) (x : VolumeView R) (header 
       pub changes_nothing : (calls : ℕ) → IsReady calls (view x.records) → CarriesOut {T = Unit {0}} command view x x (Ok tt)
       changes_nothing calls ready = record {
         goes_on = goes_within 0 (carrying {T = Unit {0}} n command x.kept (Ok tt)) _ _ _ (omega arith) (goes_nowhere calls (view x.records) ready);
+        idle = λ none. refl;
+        idle_on = λ t told files changes. refl;
         kept = refl;
         on_tape = λ t told.
             let is = plan t told in
@@ -180,10 +184,15 @@ module _ {R S : Type 0} (view : R → RecordsView S) (x : VolumeView R) (header 
                 goes_on = λ list was. (
                   [],
                   [],
-                  subst (λ (fs : List NewFile). (view x.records).transferred (list ++ (runs_filed fs ++ []))) (sym (files_not t told)) (subst (view x.records).transferred (sym (append-nil list)) was),
+                  subst (view x.records).transferred (sym (append-nil list)) was,
                   tt,
-                  sym (ap (writes_if_any (version_for n command (volume_of t)) n (has_open_gate (file_when n command (volume_of t) t))) none),
-                  tt,
+                  λ on. refl,
+                  record {
+                    more = [];
+                    are = ap (λ (fs : List NewFile). runs_filed fs ++ []) (sym (files_not t told));
+                    writes = sym (ap (writes_if_any (version_for n command (volume_of t)) n (has_open_gate (file_when n command (volume_of t) t))) none);
+                    single = tt;
+                  },
                 );
               };
             };
@@ -544,6 +553,13 @@ module _ {R S : Type 0} (view : R → RecordsView S) (x : VolumeView R) (header 
         few_is t told a few left =
             subst (λ (cs : Changes). (view x.records).calls_left ≤ (view y.records).calls_left + carrying_on n command t cs a) (sym (changes_is t told)) (omega (arith, left, few))
 
+        -- there are calls to make
+        some_calls : 0 < calls
+        some_calls = omega arith
+
+        some_on : (t : Tape) (told : (view x.records).tape ≡ Some t) → changes_filed n command (volume_of t) t ≡ [] → ⊥
+        some_on t told none = omega (arith, some_made t told, ap (λ (cs : Changes). length cs) (sym (changes_is t told) ∙ none))
+
         -- the store failed
         pub carry_fails : (e : Trouble) → Puts {T = Unit {0}} calls command p.version header.start p.slots (view x.records) (view y.records) (Err e) → y.kept ≡ None
             → CarriesOut {T = Unit {0}} command view x y (Err (Troubled e))
@@ -551,6 +567,8 @@ module _ {R S : Type 0} (view : R → RecordsView S) (x : VolumeView R) (header 
             let goes = goes_within (file_count command + calls) (carrying {T = Unit {0}} n command x.kept (Err (Troubled e))) _ _ _ (omega (arith, (bound command few_calls plan.fits).1 e, carrying_is {T = Unit {0}} (Err (Troubled e)))) put.goes_on in
             record {
               goes_on = goes;
+              idle = λ idle. absurd (omega (arith, idle, some_calls, (bound command few_calls plan.fits).1 e, carrying_is {T = Unit {0}} (Err (Troubled e))));
+              idle_on = λ t told files changes. absurd (some_on t told changes);
               kept = none;
               on_tape = λ t told. record { few = few_is t told (Err (Troubled e)) ((few_of t told command (commits_here t told) plan.fits).1 e) put.goes_on.continues.left; written = λ u now. tt; answers = λ u now. tt; stops = (put.on_tape t told).stops; added = tt };
             }
@@ -561,6 +579,8 @@ module _ {R S : Type 0} (view : R → RecordsView S) (x : VolumeView R) (header 
               let goes = goes_within (file_count command + calls) (carrying {T = Unit {0}} n command x.kept (Ok tt)) _ _ _ (omega (arith, (bound command few_calls plan.fits).0, carrying_is {T = Unit {0}} (Ok tt))) put.goes_on in
               record {
                 goes_on = goes;
+                idle = λ idle. absurd (omega (arith, idle, some_calls, (bound command few_calls plan.fits).0, carrying_is {T = Unit {0}} (Ok tt)));
+                idle_on = λ t told files changes. absurd (some_on t told changes);
                 kept = still;
                 on_tape = λ t told.
                     let did = put.on_tape t told in
@@ -580,11 +600,16 @@ module _ {R S : Type 0} (view : R → RecordsView S) (x : VolumeView R) (header 
                         goes_on = λ list was.
                             let more = did.added list was in (
                               [],
-                              more.0,
+                              file_runs n command (volume_of t) ++ more.0,
                               more.1,
                               tt,
-                              more.2 ∙ writes_some p.version n (has_open_gate f) (made t told) (some_made t told) ∙ sym ((λ i. writes_if_any (version_is t told i) n (has_open_gate f) (changes_is t told i))),
-                              more.3,
+                              λ on. refl,
+                              record {
+                                more = more.0;
+                                are = refl;
+                                writes = more.2 ∙ writes_some p.version n (has_open_gate f) (made t told) (some_made t told) ∙ sym ((λ i. writes_if_any (version_is t told i) n (has_open_gate f) (changes_is t told i)));
+                                single = more.3;
+                              },
                             );
                       };
                     };

@@ -11,13 +11,14 @@ use Rattle.lif_model.specs.declared.refusal.Refusal.TheVariants.{NoFile}
 use Rattle.lif_model.specs.Writing.{NewFile, with_files}
 use Rattle.lif_model.proofs.VolumeExamples.{a_name, b_name, numbered}
 use Rattle.il_ports.specs.declared.records.Trouble.TheVariants.{Medium}
+use Rattle.lif_redo.specs.Writing.{runs_filed}
 use Rattle.lif_dir.specs.declared.change.Change.{Change}
 use Rattle.lif_dir.specs.declared.entries.FileEntry.{FileEntry}
 use Rattle.lif_dir.specs.Entries.{slot_of}
 use Rattle.lif_plan.proofs.BatchPlans.{changes_some}
 use Rattle.lif_volume.specs.declared.fault.VolumeFault.TheVariants.{Refused, Trouble as Troubled}
 use Rattle.lif_volume.specs.Commands.{batch_calls_needed}
-use Rattle.lif_volume.specs.Changing.{records_stored, batch_filing, batching, batching_all, changing, runs_filed, keeps_behind_command, unless_refused, with_mounting}
+use Rattle.lif_volume.specs.Changing.{records_stored, batch_filing, batching, batching_all, changing, keeps_behind_command, unless_refused, with_mounting}
 use Rattle.lif_volume.specs.Carrying.{batch_room, ChangesByParts, records_filed, EndsWithin, IsPartlyFiled, some_stand, next_begun, slots_with_all, file_count}
 
 abbrev header : HeaderParts

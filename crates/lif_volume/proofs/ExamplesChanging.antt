@@ -21,8 +21,8 @@ use Rattle.lif_model.specs.declared.refusal.Refusal.TheVariants as refusal
 use Rattle.lif_volume.specs.declared.fault.VolumeFault.TheVariants.{Refused, Trouble as Troubled}
 use Rattle.il_ports.specs.declared.records.Trouble.TheVariants.{Medium}
 use Rattle.il_ports.specs.Transfers.{CoversOnly, WritesOnly}
-use Rattle.lif_redo.specs.Writing.{writes_among, AreSingle}
-use Rattle.lif_volume.specs.Changing.{file_when, changes_when, changes_filed, IsChanged, refused_tape, IsWrittenAs, keeps_behind_command, committing, committing_on, filing, carrying, carrying_on, changing, HasEitherVolume, writes_if_any, commit_when, run_of, file_runs, AddsCommit}
+use Rattle.lif_redo.specs.Writing.{writes_among, AreSingle, run_of}
+use Rattle.lif_volume.specs.Changing.{IsFilesAndCommit, file_when, changes_when, changes_filed, IsChanged, refused_tape, IsWrittenAs, keeps_behind_command, committing, committing_on, filing, carrying, carrying_on, changing, HasEitherVolume, writes_if_any, commit_when, file_runs, AddsCommit}
 use Rattle.lif_volume.specs.Carrying.{HasFile, file_count, carry_room}
 use Rattle.lif_volume.specs.Did.{IsOneOf, refusals_of}
 use Rattle.lif_plan.specs.Refusals.{IsAmong}
@@ -193,20 +193,19 @@ unfolding four_at two_at name_of with_type with_entry entry_at
 commits = (refl, refl)
 
 -- A name that is given anew changes nothing: the gate and record 0 are read, and no record is written.
-adds : AddsCommit (λ k. ⊥) 12 (Rename a_name a_name) volume old (only []) (only (read 8 (numbered 0) ∷ []))
+adds : AddsCommit (λ k. ⊥) false 12 (Rename a_name a_name) volume old (only []) (only (read 8 (numbered 0) ∷ []))
 unfolding four_at two_at name_of
 adds = record { goes_on = goes_on }
   where
-    goes_on : (list : List Transfer) → only [] list → (first more : List Transfer)
-        × only (read 8 (numbered 0) ∷ []) (list ++ (first ++ (file_runs 12 (Rename a_name a_name) volume ++ more)))
-        × WritesOnly (λ k. ⊥) first × (writes_among more ≡ commit_when 12 (Rename a_name a_name) volume old) × AreSingle more
-    goes_on [] is = ([], read 8 (numbered 0) ∷ [], refl, tt, refl, (refl, tt))
+    goes_on : (list : List Transfer) → only [] list → (first rest : List Transfer) × only (read 8 (numbered 0) ∷ []) (list ++ (first ++ rest))
+        × WritesOnly (λ k. ⊥) first × (false ≡ true → first ≡ []) × IsFilesAndCommit 12 (Rename a_name a_name) volume old rest
+    goes_on [] is = ([], read 8 (numbered 0) ∷ [], refl, tt, λ on. refl, record { more = read 8 (numbered 0) ∷ []; are = refl; writes = refl; single = (refl, tt) })
     goes_on (t ∷ ts) is = cc
 
 -- not where a record is written behind settling
-not_adds : AddsCommit (λ k. k ≡ 8) 12 (Rename a_name a_name) volume old (only []) (only (write 3 (numbered 7) ∷ [])) → ⊥
+not_adds : AddsCommit (λ k. k ≡ 8) false 12 (Rename a_name a_name) volume old (only []) (only (write 3 (numbered 7) ∷ [])) → ⊥
 unfolding four_at two_at name_of
-not_adds is = let more = is.goes_on [] refl in by more.0 more.1 more.2 more.3 more.4
+not_adds is = let all = is.goes_on [] refl in by all.0 all.1 all.2 all.3 (ap writes_among all.5.are ∙ all.5.writes)
   where
     by : (first later : List Transfer) → first ++ later ≡ write 3 (numbered 7) ∷ [] → WritesOnly (λ k. k ≡ 8) first → writes_among later ≡ [] → ⊥
     by [] later is writes none = let written : ◌≡◌ {A = Changes} ((3, numbered 7) ∷ []) [] = sym (ap writes_among is) ∙ none in cc
@@ -216,6 +215,14 @@ not_adds is = let more = is.goes_on [] refl in by more.0 more.1 more.2 more.3 mo
         let size : 256 ≡ 256 * covers.count = covers.whole in
         let eight : 3 ≡ 8 = covers.each 0 (omega (arith, size)) in
         absurd (omega (arith, eight))
+
+-- and where the directory is kept, not where two of its records are read by one run
+not_read_again : AddsCommit (λ k. ⊥) true 12 (Rename a_name a_name) volume old (only []) (only (read 2 (numbered 0 ++ numbered 0) ∷ [])) → ⊥
+unfolding four_at two_at name_of
+not_read_again is = let all = is.goes_on [] refl in by all.5.more (sym (ap (λ (first : List Transfer). first ++ all.1) (all.4 refl) ∙ all.5.are) ∙ all.2) all.5.single
+  where
+    by : (more : List Transfer) → more ≡ read 2 (numbered 0 ++ numbered 0) ∷ [] → AreSingle more → ⊥
+    by more is single = let size : 512 ≡ 256 = (subst AreSingle is single).0 in absurd (omega (arith, size))
 
 -- ---- the files and the counts of each command
 

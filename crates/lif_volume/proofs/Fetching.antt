@@ -1,6 +1,6 @@
 -- A file that is read behind mounting.
 use Rattle.std.proofs.Common.{◌≡◌, ◌<◌, ◌≤◌, ◌+◌, ◌*◌, ◌++◌, ℕ, suc, zero, List, [], ◌∷◌, Bool, true, false, if◌then◌else◌, not, length, map, take, get_or, inl, inr, refl, sym, ap, subst, ◌∙◌, arith, append_assoc}
-use Rattle.std.specs.Prelude.{◌-◌, ◌&&◌, nat_lt, Option, Some, None, Result, Ok, IfSome, option_map, unwrap_or}
+use Rattle.std.specs.Prelude.{◌-◌, ◌&&◌, nat_lt, Option, Some, None, Result, Ok, IfSome, is_some, option_map, unwrap_or}
 use Rattle.std.specs.List.{position_or_len}
 use Rattle.std.proofs.lemmas.Bool.{cases_Bool, and_from, ltb-false}
 use Rattle.lif_model.specs.Tape.{Tape, bytes_from}
@@ -29,7 +29,7 @@ use Rattle.lif_volume.specs.Views.{VolumeView, IsOpen}
 use Rattle.lif_plan.specs.Directories.{IsLegalDirectory}
 use Rattle.lif_volume.specs.Commands.{Consults, EndsWithRead, FetchedFile, mounting, mounting_on, reading, fetching, fetching_on, records_named}
 use Rattle.lif_plan.proofs.Found.{found, at, nowhere}
-use Rattle.lif_volume.proofs.Mounting.{volume_on}
+use Rattle.lif_volume.proofs.Mounting.{volume_on, first_by}
 
 same_some : {X : Type 0} (x y : X) → Some x ≡ Some y → x ≡ y
 same_some x y e = cc
@@ -121,6 +121,26 @@ module _ {R S : Type 0} (view : R → RecordsView S) (x y : VolumeView R) (heade
       whole (slots_of (settled t)) ∙ ap (λ (s : List (List ℕ)). records_named s name) (sym bytes) ∙ ap (λ (o : Option (List ℕ)). unwrap_or (option_map length_of o) 0) named in
       omega (arith, mounted.few t told, read.continues.left, all, same)
 
+  -- none only where the directory is kept and the file has no records
+  pub file_idle : {F : Type 0} (a : Result F VolumeFault) → ((s : List (List ℕ)) → reading s name a ≡ records_named s name) → ((h : HeaderParts) → x.kept ≡ Some h → map slot_bytes y.slots ≡ map slot_bytes x.slots)
+      → fetching (view x.records).record_count name x.kept (map slot_bytes x.slots) a ≡ 0 → (is_some x.kept ≡ true) × (count ≡ 0)
+  file_idle a whole still = go x.kept refl
+    where
+      n : ℕ
+      n = (view x.records).record_count
+
+      go : (k : Option HeaderParts) → x.kept ≡ k → fetching n name k (map slot_bytes x.slots) a ≡ 0 → (is_some k ≡ true) × (count ≡ 0)
+      go None e none = absurd (omega (arith, none))
+      go (Some h) e none =
+          let all : reading (map slot_bytes x.slots) name a ≡ length_of slot =
+          whole (map slot_bytes x.slots) ∙ ap (λ (s : List (List ℕ)). records_named s name) (sym (still h e)) ∙ ap (λ (o : Option (List ℕ)). unwrap_or (option_map length_of o) 0) named in
+          (refl, omega (arith, none, all, same))
+
+-- where a fetch makes no call, the directory is kept
+pub fetching_kept : {T : Type 0} (n : ℕ) (name : List ℕ) (old : Option HeaderParts) (slots : List (List ℕ)) (a : Result T VolumeFault) → fetching n name old slots a ≡ 0 → is_some old ≡ true
+fetching_kept n name None slots a none = absurd (omega (arith, none))
+fetching_kept n name (Some header) slots a none = refl
+
 -- ---- between the calls
 
 pub legal_of : {R S : Type 0} (view : R → RecordsView S) (y : VolumeView R) (header : HeaderParts) (n : ℕ) → IsOpen view y → y.kept ≡ Some header → (view y.records).record_count ≡ n
@@ -143,11 +163,12 @@ open_reading view y records is valid size tape = record {
 
 -- ---- the list of reads and writes
 
-pub ends_with_read : (P : ℕ → Type 0) (first : ℕ) (bytes : List ℕ) (old mid new : List Transfer → Type 0) → GoesOnBy P old mid → Added (record { writes = false; first = first; bytes = bytes }) mid new → EndsWithRead P first bytes old new
-ends_with_read P first bytes old mid new before added = record {
+pub ends_with_read : (P : ℕ → Type 0) (kept : Bool) (first : ℕ) (bytes : List ℕ) (old mid new : List Transfer → Type 0) → (kept ≡ true → mid ≡ old) → GoesOnBy P old mid
+    → Added (record { writes = false; first = first; bytes = bytes }) mid new → EndsWithRead P kept first bytes old new
+ends_with_read P kept first bytes old mid new same before added = record {
   goes_on = λ list was.
-      let a = before.goes_on list was in
-      (a.0, subst new (append_assoc list a.0 (record { writes = false; first = first; bytes = bytes } ∷ [])) (added.at_end (list ++ a.0) a.1), a.2);
+      let a = first_by P kept old mid same before list was in
+      (a.0, subst new (append_assoc list a.0 (record { writes = false; first = first; bytes = bytes } ∷ [])) (added.at_end (list ++ a.0) a.1), a.2, a.3);
 }
 
 -- a run, or nothing

@@ -13,7 +13,7 @@ use Rattle.lif_model.proofs.Recorded.{replaced_is, records_count}
 use Rattle.il_ports.specs.declared.records.Trouble.{Trouble}
 use Rattle.il_ports.specs.Stores.{RecordsView, IsStore, IsReady, GoesOn, RunLeaves, StoredRun}
 use Rattle.il_ports.proofs.Stores.{goes_nowhere, goes_further, goes_within, quiet_run, quiet_nowhere}
-use Rattle.lif_volume.specs.Changing.{runs_filed}
+use Rattle.lif_redo.specs.Writing.{runs_filed}
 use Rattle.lif_volume.specs.Carrying.{records_filed, IsPartlyFiled, some_stand, next_begun, WritesFiles}
 
 pub filed_more : (files more : List NewFile) → records_filed (files ++ more) ≡ records_filed files + records_filed more

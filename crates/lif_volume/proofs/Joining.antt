@@ -29,10 +29,10 @@ use Rattle.lif_volume.specs.declared.fault.VolumeFault.TheVariants.{Refused, Tro
 use Rattle.lif_volume.specs.Views.{VolumeView, IsOpen}
 use Rattle.lif_volume.specs.Answers.{store_answer, keeps, Answers, IsNotLif, IsLegalAs, IsSettledAs, HasVolumeOf}
 use Rattle.lif_volume.specs.Commands.{batch_calls_needed, fetching, Consults, mounting, mounting_on, AnswersTo, KeepsVolume}
-use Rattle.lif_volume.specs.Changing.{file_when, changes_filed, IsChanged, refused_tape, IsWrittenOn, IsWrittenAs, keeps_behind_command, committing, filing, with_mounting, storing, batching, batching_all, carrying, carrying_on, changing, HasEitherVolume, VolumeTurns, AddsAsAnswered, Writes, TurnsVolume, WritesByCommit}
+use Rattle.lif_volume.specs.Changing.{files_when, file_when, changes_filed, IsChanged, refused_tape, IsWrittenOn, IsWrittenAs, keeps_behind_command, committing, filing, with_mounting, storing, batching, batching_all, carrying, carrying_on, changing, HasEitherVolume, VolumeTurns, AddsAsAnswered, Writes, TurnsVolume, WritesByCommit}
 use Rattle.lif_volume.specs.Carrying.{CarriesOutOn, CarriesOut, carry_room, batch_room}
 use Rattle.lif_volume.specs.Did.{IsOneOf, refusals_of, Alters}
-use Rattle.lif_volume.proofs.Mounting.{behind, answers_fault}
+use Rattle.lif_volume.proofs.Mounting.{behind, answers_fault, nothing_mounted, mounted_as_kept, FirstBy, first_by}
 use Rattle.lif_volume.proofs.Fetching.{legal_of}
 use Rattle.lif_volume.proofs.Batched.{batch_refusals}
 
@@ -101,18 +101,42 @@ only_then : (P : ℕ → Type 0) (xs ys : List Transfer) → WritesOnly P xs →
 only_then P [] ys first next = none_only P ys next
 only_then P (x ∷ xs) ys first next = (first.0, only_then P xs ys first.1 next)
 
-pub added_from : {T : Type 0} (P : ℕ → Type 0) (n : ℕ) (command : VolumeCommand) (volume : Option Volume) (t : Tape) (old mid new : List Transfer → Type 0) (a : Result T VolumeFault)
-    → GoesOnBy P old mid → AddsAsAnswered (λ k. ⊥) n command volume t mid new a → AddsAsAnswered P n command volume t old new a
-added_from P n command volume t old mid new (Ok x) first is = record {
+added_from : {T : Type 0} (P : ℕ → Type 0) (kept : Bool) (n : ℕ) (command : VolumeCommand) (volume : Option Volume) (t : Tape) (old mid new : List Transfer → Type 0) (a : Result T VolumeFault)
+    → FirstBy P kept old mid → AddsAsAnswered (λ k. ⊥) true n command volume t mid new a → AddsAsAnswered P kept n command volume t old new a
+added_from P kept n command volume t old mid new (Ok x) first is = record {
   goes_on = λ list was.
-      let a = first.goes_on list was in
-      let b = is.goes_on (list ++ a.0) a.1 in
-      (a.0 ++ b.0, b.1, subst new (append_assoc list a.0 (b.0 ++ _) ∙ ap (λ (more : List Transfer). list ++ more) (sym (append_assoc a.0 b.0 _))) b.2, only_then P a.0 b.0 a.2 b.3, b.4, b.5);
+      let a = first list was in
+      let b = is.goes_on (list ++ a.0) a.1 in (
+        a.0 ++ b.0,
+        b.1,
+        subst new (append_assoc list a.0 (b.0 ++ b.1) ∙ ap (λ (more : List Transfer). list ++ more) (sym (append_assoc a.0 b.0 b.1))) b.2,
+        only_then P a.0 b.0 a.2 b.3,
+        λ on. (λ i. a.3 on i ++ b.4 refl i),
+        b.5,
+      );
 }
-added_from P n command volume t old mid new (Err (Refused why)) first is = then_more P old mid new first (wider (λ k. ⊥) P mid new (λ k no. absurd no) is)
-added_from P n command volume t old mid new (Err (Troubled trouble)) first is = tt
+added_from P kept n command volume t old mid new (Err (Refused why)) first is =
+    then_more P old mid new (record { goes_on = λ list was. let a = first list was in (a.0, a.1, a.2) }) (wider (λ k. ⊥) P mid new (λ k no. absurd no) is)
+added_from P kept n command volume t old mid new (Err (Troubled trouble)) first is = tt
 
 -- ---- how many records
+
+-- beside a directory no more than beside any
+carrying_beside : {T : Type 0} (n : ℕ) (command : VolumeCommand) (header : HeaderParts) (a : Result T VolumeFault) → carrying n command (Some header) a ≤ carrying n command None a
+carrying_beside n Dir header a = omega arith
+carrying_beside n Label header a = omega arith
+carrying_beside n (Fetch name) header a = omega arith
+carrying_beside n (Store name kind implementation bytes) header (Ok x) = omega arith
+carrying_beside n (Store name kind implementation bytes) header (Err (Refused why)) = omega arith
+carrying_beside n (Store name kind implementation bytes) header (Err (Troubled trouble)) = omega arith
+carrying_beside n (Rename old later) header a = omega arith
+carrying_beside n (Purge name) header a = omega arith
+carrying_beside n Adopt header a = omega arith
+carrying_beside n Upgrade header a = omega arith
+carrying_beside n (Batch parts) header (Ok x) = omega arith
+carrying_beside n (Batch parts) header (Err (Refused why)) = omega arith
+carrying_beside n (Batch parts) header (Err (Troubled trouble)) = omega arith
+carrying_beside n (Format label slots) header a = omega arith
 
 -- with what is kept behind the answer
 module _ {T : Type 0} (n : ℕ) (header : HeaderParts) (long : header.length + 5 ≤ n) (a : Result T VolumeFault) where
@@ -264,15 +288,21 @@ module _ {R S : Type 0} (view : R → RecordsView S) (x y z : VolumeView R) (com
   pub parts_stops : KeepsVolume view x y → TurnsVolume command view x z
   parts_stops = joined_turns view x y z command size settles (λ t told. (carried t told).stops)
 
-  pub parts_transfers : ((t : Tape) → (view x.records).tape ≡ Some t → GoesOnBy (IsSettleWrite (view x.records).record_count (redo_of t)) (view x.records).transferred (view y.records).transferred)
+  pub parts_transfers : (is_some x.kept ≡ true → y.records ≡ x.records)
+      → ((t : Tape) → (view x.records).tape ≡ Some t → GoesOnBy (IsSettleWrite (view x.records).record_count (redo_of t)) (view x.records).transferred (view y.records).transferred)
       → WritesByCommit command view x z a
-  parts_transfers first t told =
-      added_from (IsSettleWrite (view x.records).record_count (redo_of t)) (view x.records).record_count command (volume_of t) (settled t) _ _ _ a (first t told)
-      (subst (λ (v : Option Volume). AddsAsAnswered (λ k. ⊥) (view x.records).record_count command v (settled t) (view y.records).transferred (view z.records).transferred a) (settled_same t told) (carried_on t told).added)
+  parts_transfers still first t told =
+      added_from (IsSettleWrite (view x.records).record_count (redo_of t)) (is_some x.kept) (view x.records).record_count command (volume_of t) (settled t) _ _ _ a
+      (first_by (IsSettleWrite (view x.records).record_count (redo_of t)) (is_some x.kept) (view x.records).transferred (view y.records).transferred
+      (λ on. ap (λ (r : R). (view r).transferred) (still on)) (first t told))
+      (subst (λ (v : Option Volume). AddsAsAnswered (λ k. ⊥) true (view x.records).record_count command v (settled t) (view y.records).transferred (view z.records).transferred a) (settled_same t told) (carried_on t told).added)
 
 module _ {R S : Type 0} (view : R → RecordsView S) (x y z : VolumeView R) (header : HeaderParts) (command : VolumeCommand) (settled_first : (why : Refusal) (t : Tape) → refused_tape command why t ≡ settled t) (a : Result (Unit {0}) VolumeFault)
     (mounted : Consults {T = HeaderParts} (mounting (view x.records).record_count x.kept y.kept) (λ t. mounting_on t x.kept) view x y (Ok header)) (kept : y.kept ≡ Some header)
     (carries : GoesOn (carrying (view y.records).record_count command y.kept a) (view y.records) (view z.records) (store_answer a))
+    (rests : carrying (view y.records).record_count command y.kept a ≡ 0 → z.records ≡ y.records)
+    (rests_on : (t : Tape) → (view y.records).tape ≡ Some t → files_when (view y.records).record_count command (volume_of t) ≡ []
+    → changes_filed (view y.records).record_count command (volume_of t) t ≡ [] → z.records ≡ y.records)
     (carried : (t : Tape) → (view y.records).tape ≡ Some t → CarriesOutOn (view y.records).record_count command (view y.records) (view z.records) t a) where
   size : (view y.records).record_count ≡ (view x.records).record_count
   size = mounted.goes_on.continues.size
@@ -302,12 +332,21 @@ module _ {R S : Type 0} (view : R → RecordsView S) (x y z : VolumeView R) (hea
             (subst (λ (o : Option HeaderParts). GoesOn {T = Unit {0}} (mounting n x.kept o) (view x.records) (view y.records) (Ok tt)) kept mounted.goes_on) carries_on);
         few = λ t told.
             omega (arith, mounted.few t told, (on t told).few, ap (λ (v : Option Volume). carrying_on n command (settled t) (changes_filed n command v (settled t)) a) (same t told));
+        most = λ t told. omega (arith, mounted.few t told, carries_on.continues.left, carrying_beside n command header a);
+        idle = λ none.
+            let carried_none : carrying n command (Some header) a ≡ 0 = omega (arith, bound, none) in
+            let mounted_none : mounting n x.kept (Some header) ≡ 0 = omega (arith, bound, none) in
+            rests ((λ i. carrying (size i) command (kept i) a) ∙ carried_none) ∙ mounted.idle (ap (mounting n x.kept) kept ∙ mounted_none);
+        idle_on = λ t told none files changes.
+            rests_on (settled t) (mounted.settles t told) ((λ i. files_when (size i) command (same t told i)) ∙ files)
+            ((λ i. changes_filed (size i) command (same t told i) (settled t)) ∙ changes)
+            ∙ mounted.idle (nothing_mounted n x.kept y.kept (mounted_as_kept t x.kept none));
         kept = after;
         only = subst (λ (all : List Refusal). IfErr a (IsOneOf all)) (sym list) (among_more refusal.NotLif names a only);
         answers = parts_answers view x y z command a size mounted.settles carried;
         written = λ t u told now. written_from n command t u a (λ why is. settled_first why t) (same t told) ((on t told).written u now);
         stops = parts_stops view x y z command a size mounted.settles carried stays;
-        transfers = parts_transfers view x y z command a size mounted.settles carried first;
+        transfers = parts_transfers view x y z command a size mounted.settles carried (λ on. mounted.idle (nothing_mounted (view x.records).record_count x.kept y.kept on)) first;
       }
 
 module _ {R S : Type 0} (view : R → RecordsView S) (x y z : VolumeView R) (header : HeaderParts) (command : VolumeCommand) (mounts : Mounts command) (a : Result (Unit {0}) VolumeFault)
@@ -320,7 +359,7 @@ module _ {R S : Type 0} (view : R → RecordsView S) (x y z : VolumeView R) (hea
   pub altered : (names : List Refusal) → refusals_of command ≡ refusal.NotLif ∷ names → IfErr a (IsOneOf names) → KeepsVolume view x y
       → ((t : Tape) → (view x.records).tape ≡ Some t → GoesOnBy (IsSettleWrite (view x.records).record_count (redo_of t)) (view x.records).transferred (view y.records).transferred)
       → Alters command view x z a
-  altered = altered_as view x y z header command (λ why t. refused_is command why t mounts) a mounted kept carried.goes_on carried.on_tape
+  altered = altered_as view x y z header command (λ why t. refused_is command why t mounts) a mounted kept carried.goes_on carried.idle carried.idle_on carried.on_tape
       (changing_bound (view x.records).record_count header long a command x.kept z.kept mounts (carried.kept ∙ ap (λ (o : Option HeaderParts). if keeps a then o else None) kept))
       (is_kept (keeps a) refl ∙ sym (keeps_is command (is_some x.kept) a mounts))
 
@@ -367,7 +406,7 @@ module _ {R S : Type 0} (view : R → RecordsView S) (x y : VolumeView R) (comma
   fault_transfers first t told = by fault (first t told)
     where
       by : (f : VolumeFault) → AddsOnly (IsSettleWrite (view x.records).record_count (redo_of t)) (view x.records).transferred (view y.records).transferred (store_answer {T = HeaderParts} (Err f))
-          → AddsAsAnswered {T = Unit {0}} (IsSettleWrite (view x.records).record_count (redo_of t)) (view x.records).record_count command (volume_of t) (settled t) (view x.records).transferred (view y.records).transferred (Err f)
+          → AddsAsAnswered {T = Unit {0}} (IsSettleWrite (view x.records).record_count (redo_of t)) (is_some x.kept) (view x.records).record_count command (volume_of t) (settled t) (view x.records).transferred (view y.records).transferred (Err f)
       by (Refused why) adds = adds
       by (Troubled trouble) adds = tt
 
@@ -377,6 +416,9 @@ module _ {R S : Type 0} (view : R → RecordsView S) (x y : VolumeView R) (comma
   not_altered_as after names list stays first = record {
     goes_on = fault_goes_on fault mounted.goes_on;
     few = λ t told. omega (arith, mounted.few t told);
+    most = λ t told. omega (arith, mounted.few t told);
+    idle = λ none. mounted.idle (omega (arith, more (Err fault), none));
+    idle_on = λ t told none files changes. mounted.idle (nothing_mounted (view x.records).record_count x.kept y.kept (mounted_as_kept t x.kept none));
     kept = fault_kept fault mounted.kept ∙ sym after;
     only = subst (λ (all : List Refusal). IsOneOf all fault) (sym list) (not_lif_only names fault only);
     answers = fault_answers;
@@ -417,11 +459,11 @@ module _ {R S : Type 0} (view : R → RecordsView S) (x y : VolumeView R) (parts
       (long : header.length + 5 ≤ (view x.records).record_count) (stays : KeepsVolume view x y)
       (first : (t : Tape) → (view x.records).tape ≡ Some t → GoesOnBy (IsSettleWrite (view x.records).record_count (redo_of t)) (view x.records).transferred (view y.records).transferred) where
     -- it is refused, and the directory is read anew by the next command
-    pub batch_refused : (why : Refusal) → GoesOn {T = Unit {0}} 0 (view y.records) (view z.records) (Ok tt)
+    pub batch_refused : (why : Refusal) → GoesOn {T = Unit {0}} 0 (view y.records) (view z.records) (Ok tt) → z.records ≡ y.records
         → ((t : Tape) → (view y.records).tape ≡ Some t → CarriesOutOn {T = Unit {0}} (view y.records).record_count (Batch parts) (view y.records) (view z.records) t (Err (Refused why)))
         → z.kept ≡ None → IsAmong all_names why → Alters {T = Unit {0}} (Batch parts) view x z (Err (Refused why))
-    batch_refused why goes carried none among =
-        altered_as view x y z header (Batch parts) (λ w t. refl) (Err (Refused why)) mounted kept goes carried
+    batch_refused why goes same carried none among =
+        altered_as view x y z header (Batch parts) (λ w t. refl) (Err (Refused why)) mounted kept goes (λ idle. same) (λ t told files changes. same) carried
         (subst (λ (o : Option HeaderParts). mounting n x.kept (Some header) + 0 ≤ batching_all {T = Unit {0}} n x.kept o parts (Err (Refused why))) (sym none) (fewer x.kept))
         (ap is_some none) all_names refl among stays first
       where
@@ -435,7 +477,7 @@ module _ {R S : Type 0} (view : R → RecordsView S) (x y : VolumeView R) (parts
     -- it is carried out, or the store fails
     pub batch_altered : (a : Result (Unit {0}) VolumeFault) → CarriesOut (Batch parts) view y z a → IfErr a (IsOneOf []) → Alters (Batch parts) view x z a
     batch_altered a carried only =
-        altered_as view x y z header (Batch parts) (λ w t. refl) a mounted kept carried.goes_on carried.on_tape
+        altered_as view x y z header (Batch parts) (λ w t. refl) a mounted kept carried.goes_on carried.idle carried.idle_on carried.on_tape
         (batching_bound n header long a x.kept z.kept parts (carried.kept ∙ ap (λ (o : Option HeaderParts). if keeps a then o else None) kept))
         (after a carried.kept only) all_names refl (none_refused a only) stays first
       where

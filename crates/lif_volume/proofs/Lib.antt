@@ -1,6 +1,6 @@
 mod Mounting
 mod Fetching
-mod Making
+pub mod Making
 mod Filing
 mod Planned
 mod Carrying

@@ -1,5 +1,6 @@
 -- What settling and reading leave of a volume, and what a command answers then.
-use Rattle.std.proofs.Common.{◌≡◌, ℕ, List, [], ◌∷◌, Bool, true, false, refl, sym, ap, subst, ◌∙◌, arith}
+use Rattle.std.proofs.Common.{◌≡◌, ◌++◌, ℕ, List, [], ◌∷◌, Bool, true, false, refl, sym, ap, subst, ◌∙◌, arith}
+use Rattle.std.proofs.lemmas.List.{append-nil}
 use Rattle.std.specs.Prelude.{Option, Some, None, Ok, Err, IfSome, is_some}
 use Rattle.lif_model.specs.Tape.{Tape, record_at}
 use Rattle.lif_model.specs.Directory.{slots_of}
@@ -17,7 +18,7 @@ use Rattle.lif_model.proofs.Adopted.{settles_as_same}
 use Rattle.lif_model.proofs.Apply.{refused_stays}
 use Rattle.lif_model.specs.Header.{HeaderParts}
 use Rattle.il_ports.specs.Stores.{RecordsView, IsStore, IsReady, IsQuiet, GoesOn, RunLeaves}
-use Rattle.il_ports.specs.Transfers.{GoesOnBy, AddsOnly}
+use Rattle.il_ports.specs.Transfers.{WritesOnly, GoesOnBy, AddsOnly}
 use Rattle.il_ports.proofs.Stores.{quiet_run, quiet_nowhere, goes_nowhere}
 use Rattle.il_ports.proofs.Transfers.{wider, then_more}
 use Rattle.lif_volume.specs.declared.fault.VolumeFault.{VolumeFault}
@@ -70,6 +71,24 @@ adds_behind P old mid new (Troubled trouble) first next = tt
 
 -- ---- where the directory is kept
 
+-- none for mounting where the directory is kept, and nowhere else
+pub nothing_mounted : (n : ℕ) (old new : Option HeaderParts) → is_some old ≡ true → mounting n old new ≡ 0
+nothing_mounted n (Some header) new on = refl
+nothing_mounted n None new on = cc
+
+pub mounted_as_kept : (t : Tape) (old : Option HeaderParts) → mounting_on t old ≡ 0 → is_some old ≡ true
+mounted_as_kept t (Some header) none = refl
+mounted_as_kept t None none = absurd (omega (arith, none))
+
+-- by transfers that write only such records, and by none where the directory is kept
+abbrev pub FirstBy : (ℕ → Type 0) → Bool → (List Transfer → Type 0) → (List Transfer → Type 0) → Type 0
+FirstBy P kept old mid = (list : List Transfer) → old list → (more : List Transfer) × mid (list ++ more) × WritesOnly P more × (kept ≡ true → more ≡ [])
+
+pub first_by : (P : ℕ → Type 0) (kept : Bool) (old mid : List Transfer → Type 0) → (kept ≡ true → mid ≡ old) → GoesOnBy P old mid → FirstBy P kept old mid
+first_by P true old mid same goes = λ list was.
+    ([], subst (λ (told : List Transfer → Type 0). told (list ++ [])) (sym (same refl)) (subst old (sym (append-nil list)) was), tt, λ on. refl)
+first_by P false old mid same goes = λ list was. let a = goes.goes_on list was in (a.0, a.1, a.2, λ on. cc)
+
 pub kept_is_of : {R : Type 0} (x : VolumeView R) (header : HeaderParts) (t : Tape) → x.kept ≡ Some header → IfSome x.kept (λ h. IsDirectoryOf t h x.slots) → IsDirectoryOf t header x.slots
 kept_is_of x header t kept known = subst (λ (k : Option HeaderParts). IfSome k (λ h. IsDirectoryOf t h x.slots)) kept known
 
@@ -81,6 +100,7 @@ consults_nothing view x header n calls answer kept ready known =
     record {
       goes_on = subst (λ (k : ℕ). GoesOn {T = Unit {0}} k (view x.records) (view x.records) (Ok tt)) none (goes_nowhere calls (view x.records) ready);
       few = λ t told. omega arith;
+      idle = λ none. refl;
       settles = λ t told. told ∙ ap Some (sym ((kept_is_of x header t kept (known t told)).settled));
       kept = ap is_some kept;
     }

@@ -44,7 +44,7 @@ use Rattle.lif_volume.specs.Commands.{Consults, mounting, mounting_on, AnswersTo
 use Rattle.lif_volume.specs.Changing.{changes_when, changes_filed, IsChanged, refused_tape, IsWrittenAs, keeps_behind_command, committing, committing_on, carrying_on, HasEitherVolume, VolumeTurns, writes_if_any, AddsAsAnswered, TurnsVolume}
 use Rattle.lif_volume.specs.Formatting.{Clears, Renews}
 use Rattle.lif_volume.specs.Did.{IsOneOf, refusals_of, Alters}
-use Rattle.lif_volume.proofs.Mounting.{behind, volume_on, kept_is_of}
+use Rattle.lif_volume.proofs.Mounting.{behind, volume_on, kept_is_of, nothing_mounted, mounted_as_kept}
 use Rattle.lif_volume.proofs.Joining.{long_there, legal_there, carried_on, settled_same, written_from, parts_answers, parts_stops, parts_transfers}
 
 -- ---- what is tested
@@ -78,6 +78,9 @@ module _ {R S : Type 0} (view : R → RecordsView S) (x y : VolumeView R) (heade
   is_kept : is_some y.kept ≡ true
   is_kept = ap is_some kept
 
+  still : mounting (view x.records).record_count x.kept None ≡ 0 → y.records ≡ x.records
+  still none = mounted.idle (omega (arith, none, ap (mounting (view x.records).record_count x.kept) kept, mounting_any (view x.records).record_count x.kept header (long_there view x y header kept mounted opened)))
+
   -- live names are distinct
   pub names_there : all_pairs have_other_names (filter is_live (map slot_bytes y.slots)) ≡ true
   names_there =
@@ -105,6 +108,7 @@ module _ {R S : Type 0} (view : R → RecordsView S) (x y : VolumeView R) (heade
   clears_used size is tested = record {
     goes_on = goes;
     few = mounted.few;
+    idle = still;
     settles = mounted.settles;
     kept = is_kept;
     free = λ t told label slots fits. answer_is size is true tested t told label slots fits;
@@ -115,6 +119,7 @@ module _ {R S : Type 0} (view : R → RecordsView S) (x y : VolumeView R) (heade
   clears_free size is tested = record {
     goes_on = goes;
     few = mounted.few;
+    idle = still;
     settles = mounted.settles;
     kept = tt;
     free = λ t told label slots fits. answer_is size is false tested t told label slots fits;
@@ -237,8 +242,13 @@ module _ {R S : Type 0} (view : R → RecordsView S) (x : VolumeView R) (label :
                   more.0,
                   more.1,
                   tt,
-                  more.2 ∙ (λ i. commit_writes One n (writes.1 t told i) (is i)) ∙ sym (ap (writes_if_any One n (has_open_gate t)) (changes_is t told)),
-                  more.3,
+                  λ on. refl,
+                  record {
+                    more = more.0;
+                    are = refl;
+                    writes = more.2 ∙ (λ i. commit_writes One n (writes.1 t told i) (is i)) ∙ sym (ap (writes_if_any One n (has_open_gate t)) (changes_is t told));
+                    single = more.3;
+                  },
                 );
           };
         };
@@ -337,6 +347,16 @@ module _ {R S : Type 0} (view : R → RecordsView S) (x y z : VolumeView R) (lab
     one_of (Err (Refused why)) only = absurd only
     one_of (Err (Troubled trouble)) only = tt
 
+    -- its commit makes calls
+    commits_some : (a : Result (Unit {0}) VolumeFault) → IfErr a (IsOneOf []) → committing a ≡ 0 → ⊥
+    commits_some (Ok v) only none = cc
+    commits_some (Err (Refused why)) only none = absurd only
+    commits_some (Err (Troubled trouble)) only none = cc
+
+    changes_some : (volume : Option Volume) (t : Tape) → changes_filed (view x.records).record_count (Format label slots) volume t ≡ [] → ⊥
+    changes_some (Some v) t none = cc
+    changes_some None t none = cc
+
     settled_tape : (t : Tape) (a : Result (Unit {0}) VolumeFault) → IfErr a (IsOneOf []) → (why : Refusal) → a ≡ Err (Refused why) → refused_tape (Format label slots) why t ≡ settled t
     settled_tape t (Ok v) only why is = cc
     settled_tape t (Err (Refused other)) only why is = absurd only
@@ -353,6 +373,9 @@ module _ {R S : Type 0} (view : R → RecordsView S) (x y z : VolumeView R) (lab
               let on = carried_on view x y z (Format label slots) a size cleared.settles renews.on_tape t told in
               let same = settled_same view x y z (Format label slots) a size cleared.settles renews.on_tape t told in
               omega (arith, cleared.few t told, on.few, ap (λ (v : Option Volume). carrying_on n (Format label slots) (settled t) (changes_filed n (Format label slots) v (settled t)) a) same);
+          most = λ t told. omega (arith, cleared.few t told, renews.goes_on.continues.left);
+          idle = λ none. absurd (commits_some a only (omega (arith, none)));
+          idle_on = λ t told none files changes. absurd (changes_some (volume_of t) (settled t) changes);
           kept = renews.kept ∙ sym (as_kept a only);
           only = one_of a only;
           answers = parts_answers view x y z (Format label slots) a size cleared.settles renews.on_tape;
@@ -360,7 +383,7 @@ module _ {R S : Type 0} (view : R → RecordsView S) (x y z : VolumeView R) (lab
               written_from n (Format label slots) t u a (settled_tape t a only) (settled_same view x y z (Format label slots) a size cleared.settles renews.on_tape t told)
               ((carried_on view x y z (Format label slots) a size cleared.settles renews.on_tape t told).written u now);
           stops = parts_stops view x y z (Format label slots) a size cleared.settles renews.on_tape stays;
-          transfers = parts_transfers view x y z (Format label slots) a size cleared.settles renews.on_tape first;
+          transfers = parts_transfers view x y z (Format label slots) a size cleared.settles renews.on_tape (λ on. cleared.idle (nothing_mounted n x.kept None on)) first;
         }
 
 -- ---- refused, or the store failed before
@@ -397,6 +420,9 @@ module _ {R S : Type 0} (view : R → RecordsView S) (x y : VolumeView R) (label
   not_cleared fault cleared fits only stays first = record {
     goes_on = goes_within (mounting n x.kept None) (mounting n x.kept None + committing {T = Unit {0}} (Err fault)) _ _ _ (omega arith) cleared.goes_on;
     few = λ t told. omega (arith, cleared.few t told);
+    most = λ t told. omega (arith, cleared.few t told);
+    idle = λ none. cleared.idle (omega (arith, none));
+    idle_on = λ t told none files changes. cleared.idle (nothing_mounted n x.kept None (mounted_as_kept t x.kept none));
     kept = keeps_of fault only cleared.kept;
     only = one_of_both fault only;
     answers = refused_answers fault cleared fits;
@@ -415,7 +441,7 @@ module _ {R S : Type 0} (view : R → RecordsView S) (x y : VolumeView R) (label
       written_by (Troubled trouble) only t u told now settles = tt
 
       transfers_by : (fault : VolumeFault) (t : Tape) → AddsOnly (IsSettleWrite n (redo_of t)) (view x.records).transferred (view y.records).transferred (store_answer {T = Unit {0}} (Err fault))
-          → AddsAsAnswered {T = Unit {0}} (IsSettleWrite n (redo_of t)) n (Format label slots) (volume_of t) (settled t) (view x.records).transferred (view y.records).transferred (Err fault)
+          → AddsAsAnswered {T = Unit {0}} (IsSettleWrite n (redo_of t)) (is_some x.kept) n (Format label slots) (volume_of t) (settled t) (view x.records).transferred (view y.records).transferred (Err fault)
       transfers_by (Refused why) t adds = adds
       transfers_by (Troubled trouble) t adds = tt
 
@@ -435,6 +461,9 @@ module _ {R S : Type 0} (view : R → RecordsView S) (x : VolumeView R) (label :
   no_room = record {
     goes_on = goes_within 0 (mounting (view x.records).record_count x.kept None + committing {T = Unit {0}} (Err (Refused refusal.NoRoom))) _ _ _ (omega arith) (goes_nowhere calls (view x.records) ready);
     few = λ t told. omega arith;
+    most = λ t told. omega arith;
+    idle = λ none. refl;
+    idle_on = λ t told none files changes. refl;
     kept = refl;
     only = inl refl;
     answers = λ t u told now. refused_stays (view x.records).record_count (Format label slots) (volume_of t) refusal.NoRoom (no_room_is (volume_of t))

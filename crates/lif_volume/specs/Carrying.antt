@@ -1,5 +1,5 @@
 -- What it is to carry out what is planned for a command, on a volume whose directory is kept.
-use Rattle.std.specs.Prelude.{◌≡◌, ◌≤◌, ◌+◌, ◌++◌, if◌then◌else◌, ℕ, List, [], ◌∷◌, false, length, map, Option, Some, None, OnOk, Result}
+use Rattle.std.specs.Prelude.{◌≡◌, ◌≤◌, ◌+◌, ◌++◌, if◌then◌else◌, ℕ, List, [], ◌∷◌, true, false, length, map, Option, Some, None, OnOk, Result}
 use Rattle.lif_model.specs.Tape.{Tape}
 use Rattle.lif_model.specs.Gate.{has_open_gate}
 use Rattle.lif_model.specs.Header.{HeaderParts}
@@ -13,7 +13,7 @@ use Rattle.lif_model.specs.Transfers.{Transfer, PartlyReplaced}
 use Rattle.lif_model.specs.Writing.{SlotWrites, NewFile, with_files, changes_by}
 use Rattle.il_ports.specs.declared.records.Trouble.{Trouble}
 use Rattle.il_ports.specs.Stores.{RecordsView, GoesOn, RunLeaves}
-use Rattle.lif_redo.specs.Writing.{writes_among, AreSingle}
+use Rattle.lif_redo.specs.Writing.{writes_among, AreSingle, runs_filed}
 use Rattle.lif_commit.specs.Staged.{most_commit_calls, most_batch_calls}
 use Rattle.lif_dir.specs.declared.change.Change.{Change}
 use Rattle.lif_dir.specs.declared.entries.Slot.{Slot}
@@ -25,7 +25,7 @@ use Rattle.lif_dir.specs.Changes.{slots_with}
 use Rattle.lif_volume.specs.declared.fault.VolumeFault.{VolumeFault}
 use Rattle.lif_volume.specs.Views.{VolumeView}
 use Rattle.lif_volume.specs.Answers.{keeps, store_answer, Answers}
-use Rattle.lif_volume.specs.Changing.{beside, file_when, changes_filed, runs_filed, file_runs, records_stored, carrying, carrying_on, IsWrittenOn, VolumeTurns, AddsAsAnswered}
+use Rattle.lif_volume.specs.Changing.{beside, files_when, file_when, changes_filed, file_runs, records_stored, carrying, carrying_on, IsWrittenOn, VolumeTurns, AddsAsAnswered}
 
 -- as many records as a file beside a directory with this header and a commit may read and write
 abbrev pub carry_room : ℕ → HeaderParts → ℕ
@@ -132,11 +132,14 @@ pub record CarriesOutOn {S T : Type 0} (n : ℕ) (command : VolumeCommand) (v w 
   pub written : (u : Tape) → w.tape ≡ Some u → IsWrittenOn n command (volume_of t) t u answer
   pub answers : (u : Tape) → w.tape ≡ Some u → Answers n command t u answer
   pub stops : VolumeTurns n command v w t
-  pub added : AddsAsAnswered (λ k. ⊥) n command (volume_of t) t v.transferred w.transferred answer
+  pub added : AddsAsAnswered (λ k. ⊥) true n command (volume_of t) t v.transferred w.transferred answer
 
--- from a volume whose directory is kept
+-- from a volume whose directory is kept; where no call may be made, or there is neither a file nor a change, the store is as it was
 pub record CarriesOut {R S T : Type 0} (command : VolumeCommand) (view : R → RecordsView S) (old new : VolumeView R) (answer : Result T VolumeFault) : Type 0 where
   pub goes_on : GoesOn (carrying (view old.records).record_count command old.kept answer) (view old.records) (view new.records) (store_answer answer)
+  pub idle : carrying (view old.records).record_count command old.kept answer ≡ 0 → new.records ≡ old.records
+  pub idle_on : (t : Tape) → (view old.records).tape ≡ Some t → files_when (view old.records).record_count command (volume_of t) ≡ []
+      → changes_filed (view old.records).record_count command (volume_of t) t ≡ [] → new.records ≡ old.records
   pub kept : new.kept ≡ (if keeps answer then old.kept else None)
   pub on_tape : (t : Tape) → (view old.records).tape ≡ Some t
       → CarriesOutOn (view old.records).record_count command (view old.records) (view new.records) t answer

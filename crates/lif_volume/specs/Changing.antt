@@ -1,5 +1,5 @@
 -- What the commands that change a volume do: first the file of a store, and then slots of the directory by one commit.
-use Rattle.std.specs.Prelude.{◌≡◌, ◌⊎◌, ◌+◌, ◌-◌, ◌++◌, ℕ, Bool, List, [], ◌∷◌, true, false, length, map, min, Option, Some, None, Result, Ok, Err}
+use Rattle.std.specs.Prelude.{◌≡◌, ◌⊎◌, ◌+◌, ◌-◌, ◌++◌, ℕ, Bool, List, [], ◌∷◌, true, false, length, map, min, Option, Some, None, Result, Ok, Err, is_some}
 use Rattle.lif_model.specs.Tape.{Tape, record_at}
 use Rattle.lif_model.specs.Gate.{has_open_gate}
 use Rattle.lif_model.specs.Header.{HeaderParts, directory_start}
@@ -17,7 +17,7 @@ use Rattle.lif_model.specs.Writing.{format_changes, changes_of, NewFile, part_fi
 use Rattle.lif_model.specs.Transfers.{Transfer}
 use Rattle.il_ports.specs.Stores.{RecordsView, RunLeaves}
 use Rattle.il_ports.specs.Transfers.{WritesOnly, GoesOnBy}
-use Rattle.lif_redo.specs.Writing.{writes_among, AreSingle}
+use Rattle.lif_redo.specs.Writing.{writes_among, AreSingle, runs_filed}
 use Rattle.lif_redo.specs.Atomic.{commit_calls}
 use Rattle.lif_commit.specs.Staged.{past_end, most_commit_calls, most_batch_calls}
 use Rattle.lif_model.specs.declared.refusal.Refusal.{Refusal}
@@ -199,31 +199,30 @@ abbrev pub commit_when : ℕ → VolumeCommand → Option Volume → Tape → Ch
 commit_when n command volume t = writes_if_any (version_for n command volume) n
     (has_open_gate (file_when n command volume t)) (changes_filed n command volume t)
 
--- the whole file, written by one run
-abbrev pub run_of : ℕ → List ℕ → Transfer
-run_of first bytes = record { writes = true; first = first; bytes = filled bytes }
-
--- of each file one, from its start on
-abbrev pub runs_filed : List NewFile → List Transfer
-runs_filed files = map (λ file. run_of file.start file.bytes) files
-
 -- those that the command writes
 abbrev pub file_runs : ℕ → VolumeCommand → Option Volume → List Transfer
 file_runs n command volume = runs_filed (files_when n command volume)
 
--- The list goes on by transfers that write only records that have P, then by the file at its place, and then by reads
--- and writes of one record each, of which the writes are exactly those of the commit.
-pub record AddsCommit (P : ℕ → Type 0) (n : ℕ) (command : VolumeCommand) (volume : Option Volume) (t : Tape)
+-- the files at their places, and then reads and writes of one record each, of which the writes are exactly those of
+-- the commit
+pub record IsFilesAndCommit (n : ℕ) (command : VolumeCommand) (volume : Option Volume) (t : Tape) (list : List Transfer) : Type 0 where
+  pub more : List Transfer
+  pub are : list ≡ file_runs n command volume ++ more
+  pub writes : writes_among more ≡ commit_when n command volume t
+  pub single : AreSingle more
+
+-- The list goes on by transfers that write only records that have P, and by none where the directory is kept, and then
+-- by those of the files and the commit.
+pub record AddsCommit (P : ℕ → Type 0) (kept : Bool) (n : ℕ) (command : VolumeCommand) (volume : Option Volume) (t : Tape)
     (old new : List Transfer → Type 0) : Type 0 where
-  pub goes_on : (list : List Transfer) → old list → (first more : List Transfer)
-      × new (list ++ (first ++ (file_runs n command volume ++ more)))
-      × WritesOnly P first × (writes_among more ≡ commit_when n command volume t) × AreSingle more
+  pub goes_on : (list : List Transfer) → old list → (first rest : List Transfer) × new (list ++ (first ++ rest))
+      × WritesOnly P first × (kept ≡ true → first ≡ []) × IsFilesAndCommit n command volume t rest
 
 -- behind an Ok so; behind a refusal by transfers that write only records that have P
-abbrev pub AddsAsAnswered : {T : Type 0} → (ℕ → Type 0) → ℕ → VolumeCommand → Option Volume → Tape → (old new : List Transfer → Type 0) → Result T VolumeFault → Type 0
-AddsAsAnswered P n command volume t old new (Ok _) = AddsCommit P n command volume t old new
-AddsAsAnswered P n command volume t old new (Err (Refused why)) = GoesOnBy P old new
-AddsAsAnswered P n command volume t old new (Err (Troubled _)) = Unit {0}
+abbrev pub AddsAsAnswered : {T : Type 0} → (ℕ → Type 0) → Bool → ℕ → VolumeCommand → Option Volume → Tape → (old new : List Transfer → Type 0) → Result T VolumeFault → Type 0
+AddsAsAnswered P kept n command volume t old new (Ok _) = AddsCommit P kept n command volume t old new
+AddsAsAnswered P kept n command volume t old new (Err (Refused why)) = GoesOnBy P old new
+AddsAsAnswered P kept n command volume t old new (Err (Troubled _)) = Unit {0}
 
 -- ---- what is said of a command
 
@@ -240,5 +239,5 @@ TurnsVolume command view old new = (t : Tape) → IsTold view old t → is_forei
 -- the reads and writes go on by those of settling, by the file, and by those of one commit
 abbrev pub WritesByCommit : {R S T : Type 0} → VolumeCommand → (R → RecordsView S) → (old new : VolumeView R) → Result T VolumeFault → Type 0
 WritesByCommit command view old new answer = (t : Tape) → IsTold view old t
-    → AddsAsAnswered (IsSettleWrite (view old.records).record_count (redo_of t)) (view old.records).record_count command
-    (volume_of t) (settled t) (view old.records).transferred (view new.records).transferred answer
+    → AddsAsAnswered (IsSettleWrite (view old.records).record_count (redo_of t)) (is_some old.kept)
+    (view old.records).record_count command (volume_of t) (settled t) (view old.records).transferred (view new.records).transferred answer

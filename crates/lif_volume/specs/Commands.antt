@@ -1,5 +1,5 @@
 -- What the commands that read a volume do.
-use Rattle.std.specs.Prelude.{◌≡◌, ◌≤◌, ◌<◌, ◌+◌, ◌*◌, ◌++◌, if◌then◌else◌, ℕ, List, [], ◌∷◌, false, length, map, max, take, Option, option_map, Some, None, Result, Ok, Err, OnOk, IfSome, is_some, unwrap_or}
+use Rattle.std.specs.Prelude.{◌≡◌, ◌≤◌, ◌<◌, ◌+◌, ◌*◌, ◌++◌, if◌then◌else◌, ℕ, Bool, List, [], ◌∷◌, true, false, length, map, max, take, Option, option_map, Some, None, Result, Ok, Err, OnOk, IfSome, is_some, unwrap_or}
 use Rattle.std.specs.FinMap.{get}
 use Rattle.lif_model.specs.Tape.{Tape, record_at}
 use Rattle.lif_model.specs.Gate.{has_open_gate}
@@ -79,13 +79,14 @@ abbrev pub IsReadyForBatch : {R S : Type 0} → (R → RecordsView S) → Volume
 IsReadyForBatch view volume = IsReady (batch_calls_needed (view volume.records).record_count) (view volume.records)
 
 -- A command that changes no volume. It reads and writes so many records at most, and on a told tape
--- so many; where the store did not fail the tape is the settled one; and the directory is kept
--- behind all answers but a trouble and NotLif.
+-- so many, and where that is none the store is as it was; where the store did not fail the tape is
+-- the settled one; and the directory is kept behind all answers but a trouble and NotLif.
 pub record Consults {R S T : Type 0} (calls : ℕ) (calls_on : Tape → ℕ) (view : R → RecordsView S)
     (old new : VolumeView R) (answer : Result T VolumeFault) : Type 0 where
   pub goes_on : GoesOn calls (view old.records) (view new.records) (store_answer answer)
   pub few : (t : Tape) → (view old.records).tape ≡ Some t
       → (view old.records).calls_left ≤ (view new.records).calls_left + calls_on t
+  pub idle : calls ≡ 0 → new.records ≡ old.records
   pub settles : (t : Tape) → (view old.records).tape ≡ Some t
       → IsSettledAs t (view new.records).tape (store_answer answer)
   pub kept : is_some new.kept ≡ keeps answer
@@ -115,19 +116,19 @@ pub record FetchedFile (t : Tape) (name : List ℕ) (fetched : Fetched) (into : 
   pub length : fetched.length ≡ 256 * length_of slot
   pub bytes : get volume.files name ≡ Some (take fetched.length into)
 
--- The list of reads and writes goes on by writes of records that have P alone, and ends with a read
--- of all these bytes from that record on.
-pub record EndsWithRead (P : ℕ → Type 0) (first : ℕ) (bytes : List ℕ)
+-- The list of reads and writes goes on by writes of records that have P alone, and by nothing where the
+-- directory is kept, and ends with a read of all these bytes from that record on.
+pub record EndsWithRead (P : ℕ → Type 0) (kept : Bool) (first : ℕ) (bytes : List ℕ)
     (old new : List Transfer → Type 0) : Type 0 where
   pub goes_on : (list : List Transfer) → old list → (more : List Transfer)
       × new (list ++ (more ++ record { writes = false; first = first; bytes = bytes } ∷ []))
-      × WritesOnly P more
+      × WritesOnly P more × (kept ≡ true → more ≡ [])
 
 -- a file that has records is read by one run from its start
-abbrev pub ReadsFile : (t : Tape) → ℕ → List ℕ → Fetched → List ℕ → (old new : List Transfer → Type 0) → Type 0
-ReadsFile t n name fetched into old new =
+abbrev pub ReadsFile : (t : Tape) → ℕ → Bool → List ℕ → Fetched → List ℕ → (old new : List Transfer → Type 0) → Type 0
+ReadsFile t n kept name fetched into old new =
     0 < fetched.length → IfSome (slot_named (slots_of (settled t)) name) (λ slot.
-    EndsWithRead (IsSettleWrite n (redo_of t)) (start_of slot) (take fetched.length into) old new)
+    EndsWithRead (IsSettleWrite n (redo_of t)) kept (start_of slot) (take fetched.length into) old new)
 
 -- ---- what the clauses of a command say
 
@@ -186,5 +187,5 @@ FetchesFile name view old fetched into = (t : Tape) → IsTold view old t → Fe
 -- and it was read by one run
 abbrev pub FetchesByRun : {R S : Type 0} → List ℕ → (R → RecordsView S) → (old new : VolumeView R) → Fetched → List ℕ → Type 0
 FetchesByRun name view old new fetched into = (t : Tape) → IsTold view old t
-    → ReadsFile t (view old.records).record_count name fetched into
+    → ReadsFile t (view old.records).record_count (is_some old.kept) name fetched into
     (view old.records).transferred (view new.records).transferred

@@ -1,5 +1,5 @@
 -- What each command of a volume does: the one clause of its call.
-use Rattle.std.specs.Prelude.{◌≡◌, ◌≤◌, ◌+◌, ℕ, List, [], ◌∷◌, map, Option, IfErr, Result, is_some}
+use Rattle.std.specs.Prelude.{◌≡◌, ◌≤◌, ◌+◌, ℕ, List, [], ◌∷◌, map, Option, None, IfErr, Result, is_some}
 use Rattle.lif_model.specs.Tape.{Tape}
 use Rattle.lif_model.specs.Header.{HeaderParts}
 use Rattle.lif_model.specs.Redo.{settled}
@@ -15,7 +15,7 @@ use Rattle.lif_volume.specs.declared.fault.VolumeFault.TheVariants.{Refused, Tro
 use Rattle.lif_volume.specs.Views.{VolumeView}
 use Rattle.lif_volume.specs.Answers.{store_answer}
 use Rattle.lif_volume.specs.Commands.{IsTold, Consults, mounting, mounting_on, fetching, fetching_on, AnswersTo, KeepsVolume, WritesBySettling}
-use Rattle.lif_volume.specs.Changing.{changing, carrying_on, changes_filed, keeps_behind_command, Writes, TurnsVolume, WritesByCommit}
+use Rattle.lif_volume.specs.Changing.{changing, carrying, carrying_on, files_when, changes_filed, keeps_behind_command, Writes, TurnsVolume, WritesByCommit}
 
 -- ---- refusals
 
@@ -61,14 +61,20 @@ pub record Reads {R S T : Type 0} (command : VolumeCommand) (view : R → Record
 
 -- ---- a command that changes the volume
 
--- It settles the tape, writes the file of a store or those of a batch, and makes one commit at most. A stop at any moment leaves the volume
--- before or the one behind, where the tape is not foreign-gated, and so does a trouble.
+-- It settles the tape, writes the file of a store or those of a batch, and makes one commit at most. Where it may make no call, or has
+-- neither a file nor a change, the store is as it was. A stop at any moment leaves the volume before or the one behind, where the tape is not foreign-gated, and so does
+-- a trouble.
 pub record Alters {R S T : Type 0} (command : VolumeCommand) (view : R → RecordsView S) (old new : VolumeView R) (answer : Result T VolumeFault) : Type 0 where
   pub goes_on : GoesOn (changing (view old.records).record_count command old.kept new.kept answer)
       (view old.records) (view new.records) (store_answer answer)
   pub few : (t : Tape) → IsTold view old t → (view old.records).calls_left ≤ (view new.records).calls_left
       + (mounting_on t old.kept + carrying_on (view old.records).record_count command (settled t)
       (changes_filed (view old.records).record_count command (volume_of t) (settled t)) answer)
+  pub most : (t : Tape) → IsTold view old t → (view old.records).calls_left ≤ (view new.records).calls_left
+      + (mounting_on t old.kept + carrying (view old.records).record_count command None answer)
+  pub idle : changing (view old.records).record_count command old.kept new.kept answer ≡ 0 → new.records ≡ old.records
+  pub idle_on : (t : Tape) → IsTold view old t → mounting_on t old.kept ≡ 0 → files_when (view old.records).record_count command (volume_of t) ≡ []
+      → changes_filed (view old.records).record_count command (volume_of t) (settled t) ≡ [] → new.records ≡ old.records
   pub kept : is_some new.kept ≡ keeps_behind_command command (is_some old.kept) answer
   pub only : IfErr answer (IsOneOf (refusals_of command))
   pub answers : AnswersTo command view old new answer

@@ -29,6 +29,7 @@ IsKeptAs {T = T} new (Err fault) = is_some new.kept ≡ keeps {T = T} (Err fault
 pub record Clears {R S T : Type 0} (view : R → RecordsView S) (old new : VolumeView R) (answer : Result T VolumeFault) : Type 0 where
   pub goes_on : GoesOn (mounting (view old.records).record_count old.kept None) (view old.records) (view new.records) (store_answer answer)
   pub few : (t : Tape) → (view old.records).tape ≡ Some t → (view old.records).calls_left ≤ (view new.records).calls_left + mounting_on t old.kept
+  pub idle : mounting (view old.records).record_count old.kept None ≡ 0 → new.records ≡ old.records
   pub settles : (t : Tape) → (view old.records).tape ≡ Some t → IsSettledAs t (view new.records).tape (store_answer answer)
   pub kept : IsKeptAs new answer
   pub free : (t : Tape) → (view old.records).tape ≡ Some t → IsFreeAs (view old.records).record_count (volume_in (settled t)) answer

@@ -1,5 +1,5 @@
 -- What a log did to the tape in the drive, and which bytes it carried: this project's own.
-use Rattle.std.specs.Prelude.{◌≡◌, ℕ, ◌==◌, Bool, true, false, not, ◌&&◌, MatchBool, List, [], ◌∷◌, Option, Some, None}
+use Rattle.std.specs.Prelude.{◌≡◌, ℕ, ◌==◌, Bool, true, false, not, ◌&&◌, MatchBool, List, [], ◌∷◌, map, Option, Some, None}
 use Rattle.std.specs.List.{list_all}
 use Rattle.il_frames.specs.declared.entry.Entry.{Entry}
 use Rattle.lif_model.specs.Tape.{Tape}
@@ -75,3 +75,11 @@ pub record IsLogOf (l : Loop) (whole : Bool) (old : Tape) (log : List Entry) (ne
   pub ends : ends_as whole reading.pieces ≡ true
   pub outside : ends_within l reading.pieces ≡ false
   pub effect : UnitsEffect (units_of l reading.pieces) old new
+
+-- By one reading the log is exchanges that end outside a unit, and its units, which all have status 0, are in order these
+-- transfers.
+pub record Transferred (l : Loop) (log : List Entry) (list : List Transfer) : Type 0 where
+  pub reading : Reading l log
+  pub outside : ends_within l reading.pieces ≡ false
+  pub good : all_good (units_of l reading.pieces) ≡ true
+  pub are : map transfer_of (units_of l reading.pieces) ≡ list

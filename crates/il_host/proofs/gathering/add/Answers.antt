@@ -1,4 +1,4 @@
-use Rattle.std.proofs.Common.{◌≡◌, ◌≢◌, ◌++◌, ◌∷◌, [], ◌∙◌, ℕ, List, if◌then◌else◌, length, refl, sym, ap, subst}
+use Rattle.std.proofs.Common.{◌≢◌, [], ◌∙◌, ℕ, List, if◌then◌else◌, length, refl, sym, ap, subst}
 use Rattle.lif_model.specs.Parts.{Part}
 use Rattle.lif_model.specs.Parts as model
 use Rattle.lif_dir.specs.Batches.{BatchView, parts_of}
@@ -6,9 +6,7 @@ use Rattle.lif_dir.specs.Entries.{name_bytes}
 use Rattle.lif_dir.specs.Names.{made_name}
 use Rattle.lif_dir.specs.declared.batch.Part.TheVariants.{Store, Rename, Purge}
 use Rattle.il_script.specs.declared.command.Command.{Command}
-use Rattle.il_script.specs.declared.command.Command.TheVariants as command
 use Rattle.host_model.specs.Requests.{part_asked, with_part}
-use Rattle.il_host.specs.Gathering.{stands_open}
 use Rattle.il_host.specs.PlainCommands.{IsFormed}
 use Rattle.il_host.proofs.BatchParts.{added_gathered, added_stands, means_store, store_within, same_bytes}
 use Rattle.il_host.proofs.gathering.add.Goals as goal

@@ -1,4 +1,4 @@
-use Rattle.std.proofs.Common.{◌≡◌, sym, subst}
+use Rattle.std.proofs.Common.{sym, subst}
 use Rattle.il_host.specs.Gathering.{stands_open, read_with, Gathers}
 use Rattle.il_host.specs.declared.gathering.Gathering.{Gathering}
 use Rattle.il_host.proofs.gathering.gather.Goals as goal

@@ -1,5 +1,5 @@
-use Rattle.std.proofs.Common.{[], ◌≡◌, Bool, true, false, ◌∙◌, ap, is_some, sym, subst}
-use Rattle.std.specs.Prelude.{Some, Ok}
+use Rattle.std.proofs.Common.{[], ◌≡◌, true, false, ◌∙◌, ap, is_some, sym, subst}
+use Rattle.std.specs.Prelude.{Ok}
 use Rattle.std.specs.Option.{option_map}
 use Rattle.host_model.specs.Runs.{Summary}
 use Rattle.il_host.specs.Run.{Answers, item_asked}

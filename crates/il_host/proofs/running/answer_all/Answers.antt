@@ -1,7 +1,7 @@
-use Rattle.std.proofs.Common.{rules, arith, if◌then◌else◌, ◌≡◌, ◌∙◌, [], ◌&&◌, Bool, List, ℕ, length, sym, ap, refl, subst}
-use Rattle.std.specs.Prelude.{All, Option, Some, None}
+use Rattle.std.proofs.Common.{rules, arith, if◌then◌else◌, ◌≡◌, ◌∙◌, [], ◌&&◌, Bool, List, ℕ, sym, ap, refl, subst}
+use Rattle.std.specs.Prelude.{Option, Some}
 use Rattle.std.proofs.lemmas.List.Elements.{All-nil}
-use Rattle.lif_dir.specs.Batches.{BatchView, IsPartOf, parts_of}
+use Rattle.lif_dir.specs.Batches.{IsPartOf, parts_of}
 use Rattle.il_script.specs.Progress.{line_given}
 use Rattle.host_model.specs.Orders.{quiet_mode}
 use Rattle.host_model.specs.Requests.{reads, item_by, gathering_by, left_open}

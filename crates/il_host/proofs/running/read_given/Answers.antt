@@ -1,9 +1,8 @@
-use Rattle.std.proofs.Common.{◌≡◌, ◌∙◌, List, ℕ, Option, sym, ap, subst}
-use Rattle.std.specs.Prelude.{Result, Ok, Err}
-use Rattle.il_script.specs.Commands.{reading_of, command_read, bytes_read}
+use Rattle.std.proofs.Common.{◌∙◌, List, ℕ, Option, sym, ap}
+use Rattle.std.specs.Prelude.{Result, Err}
+use Rattle.il_script.specs.Commands.{reading_of, command_read}
 use Rattle.il_script.specs.declared.command.Command.{Command}
 use Rattle.il_script.specs.declared.command.LineFault.{LineFault}
-use Rattle.il_script.specs.declared.reply.Code.{Code}
 use Rattle.il_script.specs.declared.lines.Line.{Line}
 use Rattle.il_script.specs.Progress.{line_given}
 use Rattle.host_model.specs.Requests.{coded, reads}

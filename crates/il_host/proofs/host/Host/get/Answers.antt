@@ -6,7 +6,7 @@ use Rattle.lif_model.specs.Apply.{Fetch}
 use Rattle.host_model.specs.Replies.{lines_of_type, lines_text}
 use Rattle.il_host.proofs.Getting.{error_not_ok, fault_not_ok, not_got}
 use Rattle.il_host.proofs.HostReads.{not_fetched, same_length}
-use Rattle.il_host.proofs.HostVolumes.{ends_blank, ends_told, not_asked, ready_behind}
+use Rattle.il_host.proofs.HostVolumes.{ends_blank, ends_told, not_asked, ready_behind, same_kept}
 use Rattle.il_host.proofs.TextPerforms.{ends_as, lines_got}
 use Rattle.il_host.proofs.host.Host.get.Goals as goal
 
@@ -15,7 +15,7 @@ returns-in-Err g c =
     ends_blank c.make_sound.ensures.rests c.requires.blank c.faulted.ensures.ended
     (not_got (name_bytes c.args.name.now) _ _ _ (fault_not_ok c.in-Err.trouble)
     (not_asked _ _ c.args.self.now.volume c.begin.new.self c.make_sound.new.self.volume _ _ c.requires.valid c.begin.ensures.begun
-    (Fetch (name_bytes c.args.name.now)) c.in-Err.ensures.opens c.faulted.ensures.drive c.in-Err.trouble _ g.met.M.Medium.is_medium c.in-Err.ensures.makes c.in-Err.ensures.sounds))
+    (Fetch (name_bytes c.args.name.now)) c.in-Err.ensures.opens c.faulted.ensures.drive c.in-Err.trouble _ g.met.M.Medium.is_medium c.in-Err.ensures.makes c.in-Err.ensures.sounds c.make_sound.ensures.kept))
 
 pub fetch-requires-clause-ready : goal.fetch-requires-clause-ready
 fetch-requires-clause-ready g c = ready_behind _ _ c.args.self.now.volume c.begin.new.self c.make_sound.new.self.volume _ _ c.requires.valid c.begin.ensures.begun _ c.make_sound.new.self.volume c.in_default.ensures.sounds
@@ -29,6 +29,7 @@ returns-in-Ok g c =
     ends_told (lines_text (lines_of_type c.in-Ok.fetched.kind (take c.min-count.result c.deref.result.now))) (record { page = c.make_sound.ensures.rests.page; room = same_length c.make_sound.new.self.file into ∙ c.make_sound.ensures.rests.room }) c.requires.blank c.put_text-reply.ensures.text
     (ends_as c.put_text-reply.ensures.reply c.answered.ensures.ended)
     (lines_got _ _ c.args.self.now.volume c.begin.new.self c.fetch.new.self _ _ c.requires.valid c.begin.ensures.begun c.fetch.ensures.open c.answered.ensures.drive c.make_sound.new.self.volume c.in_default.field-0 c.in_default.ensures.makes c.in_default.ensures.sounds
+    (same_kept _ _ c.args.self.now.volume c.begin.new.self c.make_sound.new.self.volume _ _ c.requires.valid c.begin.ensures.begun c.make_sound.new.self.volume c.begin.ensures.kept c.make_sound.ensures.kept)
     (name_bytes c.args.name.now) c.in-Ok.fetched into _ _ g.met.M.Medium.is_medium c.in_default.ensures.opens shown
     c.in-Ok.ensures.did.consults c.in-Ok.ensures.did.answers c.in-Ok.ensures.fetched c.in-Ok.ensures.run c.in-Ok.ensures.did.stays c.in-Ok.ensures.did.transfers)
 
@@ -37,4 +38,5 @@ returns-in-Err-fetch g c =
     ends_blank (record { page = c.make_sound.ensures.rests.page; room = same_length c.make_sound.new.self.file c.fetch.new.into ∙ c.make_sound.ensures.rests.room }) c.requires.blank c.refused.ensures.ended
     (not_got (name_bytes c.args.name.now) _ _ _ (error_not_ok c.in-Err-fetch.fault)
     (not_fetched _ _ c.args.self.now.volume c.begin.new.self c.fetch.new.self _ _ c.requires.valid c.begin.ensures.begun c.fetch.ensures.open c.refused.ensures.drive c.make_sound.new.self.volume c.in_default.field-0 c.in_default.ensures.makes c.in_default.ensures.sounds
+    (same_kept _ _ c.args.self.now.volume c.begin.new.self c.make_sound.new.self.volume _ _ c.requires.valid c.begin.ensures.begun c.make_sound.new.self.volume c.begin.ensures.kept c.make_sound.ensures.kept)
     (name_bytes c.args.name.now) c.in-Err-fetch.fault _ c.in_default.ensures.opens c.in-Err-fetch.ensures.did.consults c.in-Err-fetch.ensures.did.answers c.in-Err-fetch.ensures.did.stays))

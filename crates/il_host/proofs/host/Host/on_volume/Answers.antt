@@ -9,7 +9,8 @@ use Rattle.il_host.specs.Hosts.{volume_in}
 use Rattle.il_host.specs.Texts.{data_text, label_text, listing_text}
 use Rattle.il_host.proofs.HostChanges.{altered}
 use Rattle.il_host.proofs.HostReads.{fetched, labelled, not_fetched, same_length}
-use Rattle.il_host.proofs.HostVolumes.{changes_volume, done, ends_blank, ends_told, mounting_few, not_asked, on_volume, ready_behind, refused, volume_request}
+use Rattle.il_host.proofs.KeptDirectories.{minds_dir, minds_label}
+use Rattle.il_host.proofs.HostVolumes.{changes_volume, done, ends_blank, ends_told, mounting_few, not_asked, on_volume, ready_behind, refused, same_kept, volume_request}
 use Rattle.il_host.proofs.Texts.{dir_told, listing_fits}
 use Rattle.il_host.proofs.VolumeReplied.{stays_turns}
 use Rattle.il_host.proofs.host.Host.on_volume.Goals as goal
@@ -18,7 +19,7 @@ pub returns-in-Err : goal.returns-in-Err
 returns-in-Err g c =
     let asks = volume_request c.args.command.now c.args.bytes.now c.requires.volume in
     rw asks.1 (ends_blank c.make_sound.ensures.rests c.requires.blank c.faulted.ensures.ended
-    (not_asked _ _ c.args.self.now.volume c.begin.new.self c.make_sound.new.self.volume _ _ c.requires.valid c.begin.ensures.begun asks.0 c.in-Err.ensures.opens c.faulted.ensures.drive c.in-Err.trouble _ g.met.M.Medium.is_medium c.in-Err.ensures.makes c.in-Err.ensures.sounds))
+    (not_asked _ _ c.args.self.now.volume c.begin.new.self c.make_sound.new.self.volume _ _ c.requires.valid c.begin.ensures.begun asks.0 c.in-Err.ensures.opens c.faulted.ensures.drive c.in-Err.trouble _ g.met.M.Medium.is_medium c.in-Err.ensures.makes c.in-Err.ensures.sounds c.make_sound.ensures.kept))
 
 pub dir-requires-clause-ready : goal.dir-requires-clause-ready
 dir-requires-clause-ready g c = ready_behind _ _ c.args.self.now.volume c.begin.new.self c.make_sound.new.self.volume _ _ c.requires.valid c.begin.ensures.begun _ c.make_sound.new.self.volume c.in_default.ensures.sounds
@@ -61,8 +62,9 @@ returns-in-Ok g c =
     rw c.in-Dir.is (
     ends_told (listing_text c.in-Ok.listing c.slots.result.now.slots) c.make_sound.ensures.rests c.requires.blank c.put_listing.ensures.text c.answered.ensures.ended
     (done _ _ c.args.self.now.volume c.begin.new.self c.dir.new.self _ _ c.requires.valid c.begin.ensures.begun Dir c.dir.ensures.open c.answered.ensures.drive c.make_sound.new.self.volume c.in_default.field-0 c.in_default.ensures.makes c.in_default.ensures.sounds
+    (same_kept _ _ c.args.self.now.volume c.begin.new.self c.make_sound.new.self.volume _ _ c.requires.valid c.begin.ensures.begun c.make_sound.new.self.volume c.begin.ensures.kept c.make_sound.ensures.kept)
     c.in-Ok.listing _ _ _ (mounting_few _ (volume_in c.make_sound.new.self.volume) (volume_in c.dir.new.self) c.dir.ensures.open c.in-Ok.ensures.did.consults.goes_on.continues.size) c.in-Ok.ensures.did.consults.goes_on
-    (λ t told own. stays_turns _ _ _ _ t (c.in-Ok.ensures.did.stays t told own)) c.in-Ok.ensures.did.answers tt
+    (λ t told own. stays_turns _ _ _ _ t (c.in-Ok.ensures.did.stays t told own)) c.in-Ok.ensures.did.answers tt (minds_dir _ (volume_in c.make_sound.new.self.volume) (volume_in c.dir.new.self) _ c.in-Ok.ensures.did.consults)
     (λ t told. dir_told _ (volume_in c.make_sound.new.self.volume) (volume_in c.dir.new.self) t told c.in-Ok.listing c.dir.ensures.open c.in-Ok.ensures.did.consults c.in-Ok.ensures.listed ∙ ap (listing_text c.in-Ok.listing) (sym c.slots.ensures))))
 
 pub returns-in-Err-dir : goal.returns-in-Err-dir
@@ -70,14 +72,16 @@ returns-in-Err-dir g c =
     rw c.in-Dir.is (
     ends_blank c.make_sound.ensures.rests c.requires.blank c.refused.ensures.ended
     (refused _ _ c.args.self.now.volume c.begin.new.self c.dir.new.self _ _ c.requires.valid c.begin.ensures.begun Dir c.dir.ensures.open c.refused.ensures.drive c.make_sound.new.self.volume c.in_default.field-0 c.in_default.ensures.makes c.in_default.ensures.sounds
+    (same_kept _ _ c.args.self.now.volume c.begin.new.self c.make_sound.new.self.volume _ _ c.requires.valid c.begin.ensures.begun c.make_sound.new.self.volume c.begin.ensures.kept c.make_sound.ensures.kept)
     Listing c.in-Err-dir.fault _ _ (mounting_few _ (volume_in c.make_sound.new.self.volume) (volume_in c.dir.new.self) c.dir.ensures.open c.in-Err-dir.ensures.did.consults.goes_on.continues.size) c.in-Err-dir.ensures.did.consults.goes_on
-    (λ t told own. stays_turns _ _ _ _ t (c.in-Err-dir.ensures.did.stays t told own)) c.in-Err-dir.ensures.did.answers))
+    (λ t told own. stays_turns _ _ _ _ t (c.in-Err-dir.ensures.did.stays t told own)) c.in-Err-dir.ensures.did.answers (minds_dir _ (volume_in c.make_sound.new.self.volume) (volume_in c.dir.new.self) _ c.in-Err-dir.ensures.did.consults)))
 
 pub returns-in-Ok-label : goal.returns-in-Ok-label
 returns-in-Ok-label g c =
     rw c.in-Label.is (
     ends_told (label_text c.in-Ok-label.label) c.make_sound.ensures.rests c.requires.blank c.put_label.ensures.text c.answered-in-Ok-label.ensures.ended
     (labelled _ _ c.args.self.now.volume c.begin.new.self c.label.new.self _ _ c.requires.valid c.begin.ensures.begun c.label.ensures.open c.answered-in-Ok-label.ensures.drive c.make_sound.new.self.volume c.in_default.field-0 c.in_default.ensures.makes c.in_default.ensures.sounds
+    (same_kept _ _ c.args.self.now.volume c.begin.new.self c.make_sound.new.self.volume _ _ c.requires.valid c.begin.ensures.begun c.make_sound.new.self.volume c.begin.ensures.kept c.make_sound.ensures.kept)
     c.in-Ok-label.label _ c.in-Ok-label.ensures.did.consults c.in-Ok-label.ensures.did.answers c.in-Ok-label.ensures.exactly c.in-Ok-label.ensures.label c.in-Ok-label.ensures.did.stays))
 
 pub returns-in-Err-label : goal.returns-in-Err-label
@@ -85,8 +89,9 @@ returns-in-Err-label g c =
     rw c.in-Label.is (
     ends_blank c.make_sound.ensures.rests c.requires.blank c.refused-in-Err-label.ensures.ended
     (refused _ _ c.args.self.now.volume c.begin.new.self c.label.new.self _ _ c.requires.valid c.begin.ensures.begun Label c.label.ensures.open c.refused-in-Err-label.ensures.drive c.make_sound.new.self.volume c.in_default.field-0 c.in_default.ensures.makes c.in_default.ensures.sounds
+    (same_kept _ _ c.args.self.now.volume c.begin.new.self c.make_sound.new.self.volume _ _ c.requires.valid c.begin.ensures.begun c.make_sound.new.self.volume c.begin.ensures.kept c.make_sound.ensures.kept)
     (List ℕ) c.in-Err-label.fault _ _ (mounting_few _ (volume_in c.make_sound.new.self.volume) (volume_in c.label.new.self) c.label.ensures.open c.in-Err-label.ensures.did.consults.goes_on.continues.size) c.in-Err-label.ensures.did.consults.goes_on
-    (λ t told own. stays_turns _ _ _ _ t (c.in-Err-label.ensures.did.stays t told own)) c.in-Err-label.ensures.did.answers))
+    (λ t told own. stays_turns _ _ _ _ t (c.in-Err-label.ensures.did.stays t told own)) c.in-Err-label.ensures.did.answers (minds_label _ (volume_in c.make_sound.new.self.volume) (volume_in c.label.new.self) _ c.in-Err-label.ensures.did.consults)))
 
 pub returns-in-Ok-fetch : goal.returns-in-Ok-fetch
 returns-in-Ok-fetch g c =
@@ -97,6 +102,7 @@ returns-in-Ok-fetch g c =
     rw c.in-Fetch.is (
     ends_told (data_text c.in-Ok-fetch.fetched.kind c.in-Ok-fetch.fetched.implementation (take c.min-count.result c.deref.result.now)) (record { page = c.make_sound.ensures.rests.page; room = same_length c.make_sound.new.self.file into ∙ c.make_sound.ensures.rests.room }) c.requires.blank c.put_data.ensures.text c.answered-in-Ok-fetch.ensures.ended
     (fetched _ _ c.args.self.now.volume c.begin.new.self c.fetch.new.self _ _ c.requires.valid c.begin.ensures.begun c.fetch.ensures.open c.answered-in-Ok-fetch.ensures.drive c.make_sound.new.self.volume c.in_default.field-0 c.in_default.ensures.makes c.in_default.ensures.sounds
+    (same_kept _ _ c.args.self.now.volume c.begin.new.self c.make_sound.new.self.volume _ _ c.requires.valid c.begin.ensures.begun c.make_sound.new.self.volume c.begin.ensures.kept c.make_sound.ensures.kept)
     (name_bytes c.in-Fetch.name) c.in-Ok-fetch.fetched into _ _ g.met.M.Medium.is_medium c.in_default.ensures.opens shown
     c.in-Ok-fetch.ensures.did.consults c.in-Ok-fetch.ensures.did.answers c.in-Ok-fetch.ensures.fetched c.in-Ok-fetch.ensures.run c.in-Ok-fetch.ensures.did.stays c.in-Ok-fetch.ensures.did.transfers))
 
@@ -105,6 +111,7 @@ returns-in-Err-fetch g c =
     rw c.in-Fetch.is (
     ends_blank (record { page = c.make_sound.ensures.rests.page; room = same_length c.make_sound.new.self.file c.fetch.new.into ∙ c.make_sound.ensures.rests.room }) c.requires.blank c.refused-in-Err-fetch.ensures.ended
     (not_fetched _ _ c.args.self.now.volume c.begin.new.self c.fetch.new.self _ _ c.requires.valid c.begin.ensures.begun c.fetch.ensures.open c.refused-in-Err-fetch.ensures.drive c.make_sound.new.self.volume c.in_default.field-0 c.in_default.ensures.makes c.in_default.ensures.sounds
+    (same_kept _ _ c.args.self.now.volume c.begin.new.self c.make_sound.new.self.volume _ _ c.requires.valid c.begin.ensures.begun c.make_sound.new.self.volume c.begin.ensures.kept c.make_sound.ensures.kept)
     (name_bytes c.in-Fetch.name) c.in-Err-fetch.fault _ c.in_default.ensures.opens c.in-Err-fetch.ensures.did.consults c.in-Err-fetch.ensures.did.answers c.in-Err-fetch.ensures.did.stays))
 
 pub returns-in_default-command : goal.returns-in_default-command
@@ -113,4 +120,5 @@ returns-in_default-command g c =
     (changes_volume c.args.command.now c.requires.volume c.in_default-command.not-Dir c.in_default-command.not-Label c.in_default-command.not-Fetch) c.alter-answer.ensures.did in
     rw did.1 (ends_blank c.make_sound.ensures.rests c.requires.blank c.ended.ensures.ended
     (altered _ _ c.args.self.now.volume c.begin.new.self c.alter-answer.new.volume _ _ c.requires.valid c.begin.ensures.begun did.0 c.alter-answer.ensures.open c.ended.ensures.drive c.make_sound.new.self.volume c.in_default.field-0 c.in_default.ensures.makes c.in_default.ensures.sounds
-    _ _ g.met.M.Medium.is_medium did.2 (did.3 _) did.4))
+    (same_kept _ _ c.args.self.now.volume c.begin.new.self c.make_sound.new.self.volume _ _ c.requires.valid c.begin.ensures.begun c.make_sound.new.self.volume c.begin.ensures.kept c.make_sound.ensures.kept)
+    _ _ g.met.M.Medium.is_medium c.in_default.ensures.opens did.2 (did.3 _) did.4))

@@ -1,4 +1,5 @@
-use Rattle.std.proofs.Common.{rules, ◌∙◌, refl, ap}
+use Rattle.std.proofs.Common.{◌≡◌, rules, ◌∙◌, false, true, refl, sym, ap}
+use Rattle.std.specs.Prelude.{is_some}
 use Rattle.il_host.specs.Hosts.{loop_in}
 use Rattle.il_host.proofs.NewRings.{new_ring_lost, new_ring_may_poll, new_ring_short}
 use Rattle.il_host.proofs.host.Host.open.Goals as goal
@@ -20,6 +21,7 @@ returns-in-Ok-open-clause-opened g c =
         volume_open = c.in-Ok-open.ensures.open;
         size = search rules;
         stands = search rules;
+        kept = λ on. let clash : false ≡ true = sym (ap is_some c.in-Ok-open.ensures.kept) ∙ on in cc;
         log = search rules;
         short = new_ring_short g.M.Medium.view _ _ _ _ c.args.rig.before.items c.args.rig.after.items (ap (loop_in _) c.in-Ok-open.ensures.records ∙ c.new-3.ensures.at) c.new-2.ensures made.before made.after c.requires.before c.requires.after;
         text = search rules;

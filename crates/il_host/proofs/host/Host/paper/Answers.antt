@@ -22,9 +22,9 @@ answered-requires-clause-room g c =
 pub returns-in-Some : goal.returns-in-Some
 returns-in-Some g c =
     ends_told (paper_line (Some (c.in-Some.kept.now, c.in-Some.count))) (page_kept c.args.self.now.page _) c.requires.blank c.put_paper.ensures.text c.answered.ensures.ended
-    (paper_told _ _ c.args.self.now.volume c.begin.new.self _ _ c.requires.valid c.begin.ensures.begun g.met.M.Medium.is_medium _ (Some (c.in-Some.kept.now, c.in-Some.count)) _ _ c.records.ensures c.ring.ensures c.in-Some.ensures c.begin.ensures.open)
+    (paper_told _ _ c.args.self.now.volume c.begin.new.self _ _ c.requires.valid c.begin.ensures.begun g.met.M.Medium.is_medium _ (Some (c.in-Some.kept.now, c.in-Some.count)) _ _ c.records.ensures c.ring.ensures c.in-Some.ensures c.begin.ensures.open c.begin.ensures.kept)
 
 pub returns-in-None : goal.returns-in-None
 returns-in-None g c =
     ends_blank (page_kept c.args.self.now.page _) c.requires.blank c.answered-in-None.ensures.ended
-    (paper_told _ _ c.args.self.now.volume c.begin.new.self _ _ c.requires.valid c.begin.ensures.begun g.met.M.Medium.is_medium _ None _ _ c.records.ensures c.ring.ensures c.in-None.ensures c.begin.ensures.open)
+    (paper_told _ _ c.args.self.now.volume c.begin.new.self _ _ c.requires.valid c.begin.ensures.begun g.met.M.Medium.is_medium _ None _ _ c.records.ensures c.ring.ensures c.in-None.ensures c.begin.ensures.open c.begin.ensures.kept)

@@ -7,7 +7,7 @@ use Rattle.il_host.proofs.HostLoops.{lent, not_ready, poll_failed, poll_told, ro
 pub returns-in-Err : goal.returns-in-Err
 returns-in-Err g c =
     ends_blank c.make_ready.ensures.rests c.requires.blank c.faulted.ensures.ended
-    (not_ready _ _ c.args.self.now.volume c.begin.new.self _ _ c.requires.valid c.begin.ensures.begun g.met.M.Medium.is_medium _ c.make_ready.new.self.volume (Asks Poll) _ c.in-Err.trouble c.in-Err.ensures.opens tt c.in-Err.ensures.addresses c.in-Err.ensures.leaves)
+    (not_ready _ _ c.args.self.now.volume c.begin.new.self _ _ c.requires.valid c.begin.ensures.begun g.met.M.Medium.is_medium _ c.make_ready.new.self.volume (Asks Poll) _ c.in-Err.trouble c.in-Err.ensures.opens tt c.in-Err.ensures.addresses c.in-Err.ensures.leaves c.make_ready.ensures.kept)
 
 pub parallel_poll-requires-clause-room : goal.parallel_poll-requires-clause-room
 parallel_poll-requires-clause-room g c =

@@ -7,7 +7,7 @@ use Rattle.il_host.proofs.HostLoops.{lent, no_printer, not_ready, room_named, ro
 pub returns-in-Err : goal.returns-in-Err
 returns-in-Err g c =
     ends_blank c.make_ready.ensures.rests c.requires.blank c.faulted.ensures.ended
-    (not_ready _ _ c.args.self.now.volume c.begin.new.self _ _ c.requires.valid c.begin.ensures.begun g.met.M.Medium.is_medium _ c.make_ready.new.self.volume (Asks (Say c.args.bytes.now)) _ c.in-Err.trouble c.in-Err.ensures.opens tt c.in-Err.ensures.addresses c.in-Err.ensures.leaves)
+    (not_ready _ _ c.args.self.now.volume c.begin.new.self _ _ c.requires.valid c.begin.ensures.begun g.met.M.Medium.is_medium _ c.make_ready.new.self.volume (Asks (Say c.args.bytes.now)) _ c.in-Err.trouble c.in-Err.ensures.opens tt c.in-Err.ensures.addresses c.in-Err.ensures.leaves c.make_ready.ensures.kept)
 
 pub accessories-requires-clause-room : goal.accessories-requires-clause-room
 accessories-requires-clause-room g c = room_ready _ _ c.args.self.now.volume c.begin.new.self _ _ c.requires.valid c.begin.ensures.begun g.met.M.Medium.is_medium c.args.self.now.page.text c.make_ready.new.self.volume c.in_default.field-0 _ c.in_default.ensures.addresses c.in_default.ensures.leaves c.in_default.ensures.opens _ c.records_mut.ensures.value

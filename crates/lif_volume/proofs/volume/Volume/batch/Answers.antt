@@ -1,4 +1,4 @@
-use Rattle.std.proofs.Common.{◌≡◌, ℕ, List, true, false, length, map, refl, sym, subst, rules}
+use Rattle.std.proofs.Common.{◌≡◌, ℕ, List, true, false, length, map, refl, sym, subst, arith, rules}
 use Rattle.std.specs.Prelude.{All, None, Result, Ok, Err, OnOk}
 use Rattle.lif_model.specs.Apply.{Batch, IsWellFormed}
 use Rattle.lif_dir.specs.Entries.{slot_bytes}
@@ -21,6 +21,11 @@ returns-in_err-header-clause-did g c =
     let is : c.from_residual.result ≡ Err c.in_err-header.field-0.0 = search rules in
     let e = c.in_err-header.ensures in
     rw is (batch_not_altered g.R.Records.view (seen c.args.self.now) (seen c.mount.new.self) (parts_of c.args.batch.now) c.in_err-header.field-0.0 e.consults e.only e.exactly e.stays e.transfers)
+
+pub batch-requires-clause-room : goal.batch-requires-clause-room
+batch-requires-clause-room g c =
+    let e = c.in_ok-header.ensures in
+    omega (arith, e.open.room, e.consults.goes_on.continues.size, long_there g.R.Records.view (seen c.args.self.now) (seen c.mount.new.self) c.in_ok-header.header e.kept e.consults e.open)
 
 pub carry_out_batch-requires-clause-ready : goal.carry_out_batch-requires-clause-ready
 carry_out_batch-requires-clause-ready g c =
@@ -70,7 +75,7 @@ returns-in-Err-clause-did g c =
     let plan : RefusesAs (g.R.Records.view c.mount.new.self.records).record_count (Batch (parts_of c.args.batch.now)) c.in_ok-header.header (map slot_bytes c.mount.new.self.directory.table.slots) why = subst (λ (n : ℕ). RefusesAs n (Batch (parts_of c.args.batch.now)) c.in_ok-header.header (map slot_bytes c.mount.new.self.directory.table.slots) why) c.size-size.ensures c.in-Err.ensures.plan.1 in
     let carried = refuses g.R.Records.view (seen c.mount.new.self) c.in_ok-header.header e.open e.kept (g.met.R.Records.is_store c.mount.new.self.records) (Batch (parts_of c.args.batch.now)) _ why (batch_ready_there g.R.Records.view (seen c.args.self.now) (seen c.mount.new.self) c.in_ok-header.header e.kept e.consults e.open c.requires.ready.left) plan in
     let z : VolumeView g.row.R.Denot = record { records = c.mount.new.self.records; kept = None; is_open = c.mount.new.self.is_open; last = c.mount.new.self.staged.last; slots = c.batch.new.self.table.slots; room = c.batch.new.self.table.room } in
-    batch_refused g.R.Records.view (seen c.args.self.now) (seen c.mount.new.self) (parts_of c.args.batch.now) z c.in_ok-header.header e.consults e.kept (long_there g.R.Records.view (seen c.args.self.now) (seen c.mount.new.self) c.in_ok-header.header e.kept e.consults e.open) e.stays e.transfers why carried.goes_on carried.on_tape refl
+    batch_refused g.R.Records.view (seen c.args.self.now) (seen c.mount.new.self) (parts_of c.args.batch.now) z c.in_ok-header.header e.consults e.kept (long_there g.R.Records.view (seen c.args.self.now) (seen c.mount.new.self) c.in_ok-header.header e.kept e.consults e.open) e.stays e.transfers why carried.goes_on refl carried.on_tape refl
     (refused_among (g.R.Records.view c.mount.new.self.records).record_count (parts_of c.args.batch.now) (some g.R.Records.view (seen c.mount.new.self) c.in_ok-header.header e.open e.kept (g.met.R.Records.is_store c.mount.new.self.records)) why (plan.refused (some g.R.Records.view (seen c.mount.new.self) c.in_ok-header.header e.open e.kept (g.met.R.Records.is_store c.mount.new.self.records)) (some_is g.R.Records.view (seen c.mount.new.self) c.in_ok-header.header e.open e.kept (g.met.R.Records.is_store c.mount.new.self.records))))
 
 pub returns-in-Ok-true-clause-formed : goal.returns-in-Ok-true-clause-formed

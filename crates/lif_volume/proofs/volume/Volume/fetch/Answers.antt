@@ -1,5 +1,5 @@
 use Rattle.std.proofs.Common.{◌≡◌, ◌<◌, ◌*◌, ◌^◌, inr, ℕ, List, [], ◌∷◌, length, map, refl, sym, ap, subst, ◌∙◌, arith, rules}
-use Rattle.std.specs.Prelude.{Option, Some, Result, Ok, Err, IfSome, take}
+use Rattle.std.specs.Prelude.{Bool, Option, Some, Result, Ok, Err, IfSome, is_some, take}
 use Rattle.lif_model.specs.Tape.{Tape}
 use Rattle.lif_model.specs.Header.{HeaderParts}
 use Rattle.lif_model.specs.Directory.{slots_of, start_of}
@@ -23,9 +23,19 @@ use Rattle.lif_volume.specs.Commands.{EndsWithRead, mounting, fetching}
 use Rattle.lif_model.specs.declared.refusal.Refusal.TheVariants as refusal
 use Rattle.lif_volume.proofs.Joining.{long_there, fetch_bound, not_lif_only}
 use Rattle.lif_volume.specs.Seen.{seen}
-use Rattle.lif_volume.proofs.Mounting.{behind, kept_is_of, stays_reading, answers_fault, answers_refused, answers_fetch}
-use Rattle.lif_volume.proofs.Fetching.{legal_of, file_ready, file_within, file_room, file_goes_on, file_few, open_reading, ends_with_read, run_behind, file_is_fetched}
+use Rattle.lif_volume.proofs.Mounting.{behind, kept_is_of, nothing_mounted, stays_reading, answers_fault, answers_refused, answers_fetch}
+use Rattle.lif_volume.proofs.Fetching.{legal_of, file_ready, file_within, file_room, file_goes_on, file_few, file_idle, fetching_kept, open_reading, ends_with_read, run_behind, file_is_fetched}
+use Rattle.lif_volume.proofs.Renewing.{names_there}
 use Rattle.lif_volume.proofs.volume.Volume.fetch.Goals as goal
+
+-- an error is no answer with Ok
+err_is_no_ok : (e : Trouble) → ◌≡◌ {A = Result (Unit {0}) Trouble} (Err e) (Ok tt) → ⊥
+err_is_no_ok e is = cc
+
+pub file_named-requires : goal.file_named-requires
+file_named-requires g c =
+    let e = c.in_ok-mount.ensures in
+    record { distinct = names_there g.R.Records.view (seen c.args.self.now) (seen c.mount.new.self) c.in_ok-mount.field-0 e.open e.kept e.consults }
 
 pub read_front-requires : goal.read_front-requires
 read_front-requires g c =
@@ -72,6 +82,7 @@ returns-in_err-file-clause-did g c = record {
             (fetch_bound n (name_bytes c.args.name.now) x.kept header (map slot_bytes x.slots) failed (long_there view x y header e.kept e.consults e.open))
             (subst (λ (o : Option HeaderParts). GoesOn {T = Unit {0}} (mounting n x.kept o) (view x.records) (view y.records) (Ok tt)) e.kept e.consults.goes_on);
         few = λ t told. omega (arith, e.consults.few t told);
+        idle = λ none. e.consults.idle (nothing_mounted n x.kept y.kept (fetching_kept n (name_bytes c.args.name.now) x.kept (map slot_bytes x.slots) failed none));
         settles = e.consults.settles;
         kept = e.consults.kept ∙ sym c.in_err-file.ensures.known;
       });
@@ -115,6 +126,11 @@ returns-in-Err-clause-did g c = record {
         goes_on = file_goes_on view x y header (name_bytes c.args.name.now) file.0 c.in_ok-file.file.count c.requires.open.size e.kept e.consults legal file.1 file.2.count c.read_front.new.records failed answer (λ s. refl) (λ h k. let both = subst (λ (o : Option HeaderParts). IfSome o (λ p. (◌≡◌ {A = Result HeaderParts VolumeFault} (Ok header) (Ok p)) × (c.mount.new.self ≡ c.args.self.now))) k e.still in
             ap (λ (v : Volume g.row.R.Denot). map slot_bytes v.directory.table.slots) both.1) c.in-Err.ensures.goes_on;
         few = λ t told. file_few view x y header (name_bytes c.args.name.now) file.0 c.in_ok-file.file.count c.requires.open.size e.kept e.consults legal file.1 file.2.count c.read_front.new.records failed answer (λ s. refl) t told (on t told).directory.bytes c.in-Err.ensures.goes_on;
+        idle = λ none.
+            let zero = (file_idle view x y header (name_bytes c.args.name.now) file.0 c.in_ok-file.file.count c.requires.open.size e.kept e.consults legal file.1 file.2.count answer (λ s. refl) (λ h k. let both = subst (λ (o : Option HeaderParts). IfSome o (λ p. (◌≡◌ {A = Result HeaderParts VolumeFault} (Ok header) (Ok p)) × (c.mount.new.self ≡ c.args.self.now))) k e.still in
+            ap (λ (v : Volume g.row.R.Denot). map slot_bytes v.directory.table.slots) both.1) none).1 in
+            let clash = (c.read_front.ensures.none zero).0 in
+            absurd (err_is_no_ok c.in-Err.trouble (sym (search rules) ∙ clash));
         settles = λ t told. tt;
         kept = refl;
       };
@@ -151,6 +167,10 @@ returns g c =
           goes_on = file_goes_on view x y header (name_bytes c.args.name.now) file.0 c.in_ok-file.file.count c.requires.open.size e.kept e.consults legal file.1 file.2.count c.read_front.new.records done answer (λ s. refl) (λ h k. let both = subst (λ (o : Option HeaderParts). IfSome o (λ p. (◌≡◌ {A = Result HeaderParts VolumeFault} (Ok header) (Ok p)) × (c.mount.new.self ≡ c.args.self.now))) k e.still in
               ap (λ (v : Volume g.row.R.Denot). map slot_bytes v.directory.table.slots) both.1) c.in_default.ensures.goes_on;
           few = λ t told. file_few view x y header (name_bytes c.args.name.now) file.0 c.in_ok-file.file.count c.requires.open.size e.kept e.consults legal file.1 file.2.count c.read_front.new.records done answer (λ s. refl) t told (on t told).directory.bytes c.in_default.ensures.goes_on;
+          idle = λ none.
+              let both = file_idle view x y header (name_bytes c.args.name.now) file.0 c.in_ok-file.file.count c.requires.open.size e.kept e.consults legal file.1 file.2.count answer (λ s. refl) (λ h k. let both = subst (λ (o : Option HeaderParts). IfSome o (λ p. (◌≡◌ {A = Result HeaderParts VolumeFault} (Ok header) (Ok p)) × (c.mount.new.self ≡ c.args.self.now))) k e.still in
+              ap (λ (v : Volume g.row.R.Denot). map slot_bytes v.directory.table.slots) both.1) none in
+              (c.in_default.ensures.none both.1).1 ∙ e.consults.idle (nothing_mounted n x.kept y.kept both.0);
           settles = λ t told. c.read_front.ensures.quiet.tape ∙ e.consults.settles t told;
           kept = e.consults.kept;
         };
@@ -171,7 +191,9 @@ returns g c =
       run = λ t told some.
           let here : slot_named (slots_of (settled t)) (name_bytes c.args.name.now) ≡ Some file.0 = ap (λ (s : List (List ℕ)). slot_named s (name_bytes c.args.name.now)) (sym (on t told).directory.bytes) ∙ file.1 in
           let bytes : List ℕ = take (256 * c.in_ok-file.file.count) c.read_front.new.into in
-          let read : EndsWithRead (P t) (start_of file.0) bytes old new = subst (λ (k : ℕ). EndsWithRead (P t) k bytes old new) file.2.first
-          (ends_with_read (P t) c.in_ok-file.file.first bytes old _ new (e.transfers t told) (c.in_default.ensures.run (omega (arith, some)))) in
-          subst (λ (o : Option (List ℕ)). IfSome o (λ slot. EndsWithRead (P t) (start_of slot) bytes old new)) (sym here) read;
+          let kept : Bool = is_some x.kept in
+          let read : EndsWithRead (P t) kept (start_of file.0) bytes old new = subst (λ (k : ℕ). EndsWithRead (P t) kept k bytes old new) file.2.first
+          (ends_with_read (P t) kept c.in_ok-file.file.first bytes old _ new (λ on. ap (λ (r : g.row.R.Denot). (view r).transferred) (e.consults.idle (nothing_mounted n x.kept y.kept on)))
+          (e.transfers t told) (c.in_default.ensures.run (omega (arith, some)))) in
+          subst (λ (o : Option (List ℕ)). IfSome o (λ slot. EndsWithRead (P t) kept (start_of slot) bytes old new)) (sym here) read;
     }

@@ -79,6 +79,7 @@ returns-clause-consults g c =
           (goes_within (70 + (1 + header.length)) (71 + header.length) _ _ _ (omega arith) (goes_further 70 (1 + header.length) _ _ _ c.in_ok-settle_gate.field-0 _ s.goes_on r.reads));
       few = λ t told. subst (λ (o : Option HeaderParts). (view c.args.self.now.records).calls_left ≤ (view c.read_directory.new.records).calls_left + mounting_on t o) (sym none)
           (omega (arith, s.goes_on.continues.left, r.few (settled t) (s.done t told)));
+      idle = λ idle. absurd (omega (arith, idle, ap (λ (o : Option HeaderParts). mounting n o (Some header)) none));
       settles = λ t told. r.quiet.tape ∙ s.done t told;
       kept = refl;
     }
