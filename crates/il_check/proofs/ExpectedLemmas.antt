@@ -23,16 +23,16 @@ Records = List (Option (List ℕ))
 -- ---- what may stand
 
 -- some bytes that may stand in a record
-filler : Option (List ℕ) → List ℕ
+pub filler : Option (List ℕ) → List ℕ
 filler None = replicate 256 0
 filler (Some bytes) = bytes
 
-filler_stands : (o : Option (List ℕ)) → IsAllowedAs o (filler o)
+pub filler_stands : (o : Option (List ℕ)) → IsAllowedAs o (filler o)
 unfolding filler
 filler_stands None = tt
 filler_stands (Some bytes) = refl
 
-filler_size : (o : Option (List ℕ)) → ((bytes : List ℕ) → o ≡ Some bytes → length bytes ≡ 256) →
+pub filler_size : (o : Option (List ℕ)) → ((bytes : List ℕ) → o ≡ Some bytes → length bytes ≡ 256) →
     length (filler o) ≡ 256
 unfolding filler
 filler_size None whole = refl
@@ -490,7 +490,7 @@ freed_size : (one : Bool) (first : ℕ) (r : Records) → length (if one then se
 freed_size true first r = length-set r first None
 freed_size false first r = refl
 
-size_after : (first : ℕ) (bytes : List ℕ) (good : Bool) (r : Records) → write_fault (length r) first bytes good ≡ None →
+pub size_after : (first : ℕ) (bytes : List ℕ) (good : Bool) (r : Records) → write_fault (length r) first bytes good ≡ None →
     length (known_after first bytes good r) ≡ length r
 size_after first bytes true r sound = (laid first bytes r sound).size
 size_after first bytes false r sound = freed_size (length (full_pieces bytes) == 1) first r

@@ -399,7 +399,7 @@ off_if : (b : Bool) → (b ≡ true → ⊥) → b ≡ false
 off_if true never = absurd (never refl)
 off_if false never = refl
 
-no_talk_byte : (byte : ℕ) → is_talk_address (message_at class.Cmd byte) ≡ false → is_within 0x40 0x5E byte ≡ false
+pub no_talk_byte : (byte : ℕ) → is_talk_address (message_at class.Cmd byte) ≡ false → is_within 0x40 0x5E byte ≡ false
 no_talk_byte byte silent = off_if _ (λ within. both_ways _ silent (talk_byte byte within))
 
 some_command : (k : ℕ) (t : Tail) (c : Class) (byte : ℕ) → same_class c class.Cmd ≡ true →

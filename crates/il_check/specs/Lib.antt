@@ -2,3 +2,6 @@ pub mod Talkers
 pub mod Places
 pub mod Exchanges
 pub mod Expected
+pub mod Effects
+pub mod Faults
+pub mod Verdicts

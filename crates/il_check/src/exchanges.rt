@@ -52,7 +52,7 @@ pub enum Place {
 
 /// How a frame ended.
 #[derive(Clone, Copy, PartialEq, Eq, Debug)]
-enum Fate {
+pub(crate) enum Fate {
     /// It came back, the same apart from the service bit.
     Returned,
     /// It came back as another.
@@ -65,7 +65,7 @@ enum Fate {
 
 impl Fate {
     /// How a frame ended, by its outcome.
-    fn of(frame: Frame, outcome: Outcome) -> Fate
+    pub(crate) fn of(frame: Frame, outcome: Outcome) -> Fate
         ensures { result ≡ spec.fate_of frame outcome }
     {
         match outcome {

@@ -91,6 +91,13 @@ impl Expected {
         })
     }
 
+    /// How many records there is room for.
+    pub(crate) fn room(&self) -> usize
+        ensures { result ≡ self.now.room }
+    {
+        self.room
+    }
+
     /// The next record of the tape before the log. There has to be room for it.
     pub fn push(&mut self, bytes: &Record)
         requires { length self.old.records < self.old.room }

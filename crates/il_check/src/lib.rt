@@ -2,13 +2,17 @@
 //! of them so far, and takes no memory that grows with them.
 #![tactic(auto)]
 
+mod effects;
 mod exchanges;
 mod expected;
 mod talkers;
+mod verdict;
 
+pub use effects::{Effects, Progress, Stage, Told};
 pub use exchanges::{Exchanges, Place, Tail};
 pub use expected::{Expected, UnitFault};
 pub use talkers::Talkers;
+pub use verdict::TraceFault;
 
 #[cfg(test)]
 mod tests;

@@ -1,3 +1,5 @@
+ghost use Rattle.std.specs.Prelude.{◌≡◌, length};
+
 use super::*;
 use il_frames::Entry;
 use std::test::Fail;
@@ -139,6 +141,120 @@ fn writes_of_sevens(rt: HostRuntime) -> Result<(), Fail> {
                 expected.allows(place, &[7; 256]),
             );
             assert!(rt; found == stands[place as usize], "{first} {count} {place}");
+        }
+    }
+    Ok(())
+}
+
+// A seek of record 1 of the drive, which is the first device, and what stands before the bytes of a unit.
+static SEEK: [&str; 14] = [
+    "~ 0 UNL = UNL",
+    "~ 0 RFC = RFC",
+    "~ 0 LAD 01 = LAD 01",
+    "~ 0 RFC = RFC",
+    "~ 0 DDL 04 = DDL 04",
+    "~ 0 RFC = RFC",
+    "~ 0 DAB 00 = DAB 00",
+    "~ 0 DAB 01 = DAB 01",
+    "~ 0 UNL = UNL",
+    "~ 0 RFC = RFC",
+    "~ 0 LAD 01 = LAD 01",
+    "~ 0 RFC = RFC",
+    "~ 0 DDL 02 = DDL 02",
+    "~ 0 RFC = RFC",
+];
+
+// What stands before the status of the drive, and after it.
+static POLL: [&str; 5] = [
+    "~ 0 UNL = UNL",
+    "~ 0 RFC = RFC",
+    "~ 0 TAD 01 = TAD 01",
+    "~ 0 RFC = RFC",
+    "~ 0 SST > 1",
+];
+
+static END: [&str; 3] = ["~ 1 ETO > 0", "~ 0 UNT = UNT", "~ 0 RFC = RFC"];
+
+// Units of sevens on a tape of three records of zeros: how many bytes came back as they were, whether the status
+// was told, what followed (the status), the fault, and what may stand in each record.
+static UNITS: [(usize, bool, &[&str], Option<UnitFault>, [(bool, bool); 3]); 11] = [
+    (256, true, &["~ 1 DAB 00 = DAB 00"], None, [OLD, NEW, OLD]),
+    (512, true, &["~ 1 DAB 00 = DAB 00"], None, [OLD, NEW, NEW]),
+    (
+        300,
+        true,
+        &["~ 1 DAB 00 = DAB 00"],
+        Some(UnitFault::BadUnit),
+        [OLD, OLD, OLD],
+    ),
+    (
+        768,
+        true,
+        &["~ 1 DAB 00 = DAB 00"],
+        Some(UnitFault::BadUnit),
+        [OLD, OLD, OLD],
+    ),
+    (256, true, &["~ 1 DAB 01 = DAB 01"], None, [OLD, ANY, OLD]),
+    (255, false, &["~ 0 UNL ! 1"], None, [OLD, OLD, OLD]),
+    (257, false, &["~ 0 UNL ! 1"], None, [OLD, ANY, OLD]),
+    (255, false, &["~ 0 DAB 07 = DAB 06"], None, [OLD, ANY, OLD]),
+    (
+        511,
+        false,
+        &["~ 0 DAB 07 ! 1"],
+        Some(UnitFault::Unclear),
+        [OLD, OLD, OLD],
+    ),
+    (
+        256,
+        false,
+        &["~ 0 UNL = UNL", "~ 0 RFC = RFC", "~ 0 TAD 01 ! 0"],
+        None,
+        [OLD, ANY, OLD],
+    ),
+    (
+        256,
+        false,
+        &["~ 0 UNL = UNL", "~ 0 RFC = RFC"],
+        None,
+        [OLD, OLD, OLD],
+    ),
+];
+
+/// Reads lines. The answer is the fault of the last of them that had one.
+fn read_lines(effects: &mut Effects, lines: &[&str]) -> Result<Option<UnitFault>, Fail>
+    ensures { length effects.new.expected.records ≡ length effects.old.expected.records }
+{
+    let mut fault = None;
+    for line in lines {
+        let entry = Entry::read_text(line.as_bytes()).ok_or(*line)?;
+        fault = effects.take(entry).err().or(fault);
+    }
+    Ok(fault)
+}
+
+#[test]
+fn units_of_sevens(rt: HostRuntime) -> Result<(), Fail> {
+    for (count, is_told, rest, fault, stands) in UNITS {
+        let mut effects = Effects::new(rt.alloc(), 1, 3)?;
+        effects.push(&[0; 256]);
+        effects.push(&[0; 256]);
+        effects.push(&[0; 256]);
+        let sevens = ["~ 0 DAB 07 = DAB 07"; 768];
+        let bytes = sevens.get(..count).ok_or("count")?;
+        assert!(rt; read_lines(&mut effects, &SEEK)?.is_none(), "{count}");
+        assert!(rt; read_lines(&mut effects, bytes)?.is_none(), "{count}");
+        let (front, end): (&[&str], &[&str]) = if is_told { (&POLL, &END) } else { (&[], &[]) };
+        assert!(rt; read_lines(&mut effects, front)?.is_none(), "{count}");
+        let found = read_lines(&mut effects, rest)?;
+        let found = read_lines(&mut effects, end)?.or(found);
+        assert!(rt; found == fault, "{count}");
+        for place in 0..3 {
+            let found = (
+                effects.allows(place, &[0; 256]),
+                effects.allows(place, &[7; 256]),
+            );
+            assert!(rt; found == stands[place as usize], "{count} {place}");
         }
     }
     Ok(())
