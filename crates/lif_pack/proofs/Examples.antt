@@ -1,0 +1,262 @@
+-- Worked examples of packing, computed by the checker. On the tape of forty records files stand in records 4 and 5, after
+-- a directory of two records, and the redo file of version 2 begins at record 6; on that of forty-four it begins at
+-- record 10.
+use Rattle.std.proofs.Common.{◌≡◌, ◌++◌, ℕ, List, [], ◌∷◌, Some, None, true, false, refl, replicate, codes}
+use Rattle.std.specs.FinMap.{empty, insert}
+use Rattle.lif_model.specs.Numbers.{two_at, four_at}
+use Rattle.lif_model.specs.Tape.{Tape}
+use Rattle.lif_model.specs.Gate.{is_open}
+use Rattle.lif_model.specs.Directory.{name_of, entry_at, entries_of}
+use Rattle.lif_model.specs.Made.{in_two, new_entry, with_type}
+use Rattle.lif_model.specs.declared.version.Version.TheVariants.{One, Two}
+use Rattle.lif_model.specs.Volume.{Volume, Files, redo_name, redo_type, redo_entry, volume_of}
+use Rattle.lif_model.specs.declared.refusal.Refusal.TheVariants.{NotLif, NoRedo, NeedsUpgrade, OutOfOrder}
+use Rattle.lif_model.specs.Writing.{with_entry}
+use Rattle.lif_model.proofs.Examples as base
+use Rattle.lif_model.proofs.VolumeExamples.{file, a_name, b_name, numbered}
+use Rattle.lif_model.proofs.VolumeExamples as slot
+use Rattle.lif_pack.specs.Packing.{rises, is_in_order, live_records, packed_start, are_packed, with_start, redo_slot, marked_slot, marked_count, unmarked, bears_mark, move_of, finished, finished_volume_of, without_start, files_shown, pack_refusal, packed, files_moved, records_free}
+
+abbrev c_name : List ℕ
+c_name = codes "C         "
+
+abbrev gone : List ℕ → List ℕ
+gone entry = slot.purged entry
+
+abbrev with : List (List ℕ) → Files → Volume
+with slots files = record { header = base.header; slots = slots; files = files }
+
+-- ---- order and places
+
+-- of two records the lower one rises to the higher one
+rising : (rises (file a_name 4 2) (file b_name 6 1) ≡ true) × (rises (file b_name 6 1) (file a_name 4 2) ≡ false)
+unfolding two_at four_at
+rising = (refl, refl)
+
+abbrev small_redo : List ℕ
+small_redo = redo_entry Two 40
+
+-- purged slots and files without records are in order wherever they stand
+in_order : (is_in_order (gone (file b_name 200 3) ∷ file a_name 4 1 ∷ file b_name 0 0 ∷ file c_name 5 1 ∷ small_redo ∷ []) ≡ true)
+    × (is_in_order (file a_name 4 1 ∷ small_redo ∷ gone (file c_name 5 1) ∷ []) ≡ true)
+unfolding two_at four_at name_of with_type new_entry
+in_order = (refl, refl)
+
+-- C begins before A; a file stands after the redo entry, with records or without
+out_of_order : (is_in_order (file a_name 5 1 ∷ file c_name 4 1 ∷ small_redo ∷ []) ≡ false)
+    × (is_in_order (file a_name 4 1 ∷ small_redo ∷ file c_name 9 1 ∷ []) ≡ false)
+    × (is_in_order (file a_name 4 1 ∷ small_redo ∷ file c_name 9 0 ∷ []) ≡ false)
+unfolding two_at four_at name_of with_type new_entry
+out_of_order = (refl, refl, refl)
+
+-- a purged slot takes no records
+places : (live_records (file a_name 4 2 ∷ gone (file b_name 6 9) ∷ file c_name 15 1 ∷ []) ≡ 3)
+    × (packed_start (with (file a_name 4 2 ∷ gone (file b_name 6 9) ∷ file c_name 15 1 ∷ []) empty) 2 ≡ 6)
+unfolding two_at four_at with_type
+places = (refl, refl)
+
+-- C has its place, and then not
+at_places : (are_packed 4 (gone (file b_name 9 9) ∷ file a_name 4 2 ∷ file b_name 0 0 ∷ file c_name 6 1 ∷ []) ≡ true)
+    × (are_packed 4 (file a_name 4 2 ∷ file c_name 7 1 ∷ []) ≡ false)
+unfolding two_at four_at with_type
+at_places = (refl, refl)
+
+moved_slot : with_start 4 (file c_name 5 1) ≡ file c_name 4 1
+unfolding with_start
+moved_slot = refl
+
+-- ---- packing
+
+abbrev small : List ℕ → List ℕ → List ℕ → Tape
+small directory fourth fifth =
+    base.header ∷ base.blank ∷ base.filled directory ∷ base.blank ∷ fourth ∷ fifth ∷ replicate 34 base.blank
+
+abbrev c_alone : Files
+c_alone = insert empty c_name (numbered 5)
+
+-- A is purged, and C after it
+abbrev before : Volume
+before = with (gone (file a_name 4 1) ∷ file c_name 5 1 ∷ small_redo ∷ []) c_alone
+
+on_tape : volume_of (small (gone (file a_name 4 1) ++ file c_name 5 1 ++ small_redo ++ base.end_entry) (numbered 4) (numbered 5))
+    ≡ Some before
+unfolding two_at four_at entries_of entry_at name_of is_open with_type new_entry
+on_tape = refl
+
+not_refused : pack_refusal 40 (Some before) ≡ None
+unfolding two_at four_at name_of with_type new_entry
+not_refused = refl
+
+-- C is moved by one record, the slot of A is dropped, and one record is free
+after : (packed 40 before ≡ with (file c_name 4 1 ∷ small_redo ∷ []) c_alone)
+    × (files_moved 40 before ≡ 1) × (records_free 40 before ≡ 1)
+unfolding two_at four_at name_of with_type new_entry with_start unmarked
+after = (refl, refl, refl)
+
+-- and then nothing is left to do
+again : (packed 40 (packed 40 before) ≡ packed 40 before) × (files_moved 40 (packed 40 before) ≡ 0)
+unfolding two_at four_at name_of with_type new_entry with_start unmarked
+again = (refl, refl)
+
+-- without files all records from the directory's end on are free
+no_files : (packed 40 (with (gone (file a_name 4 1) ∷ small_redo ∷ []) empty) ≡ with (small_redo ∷ []) empty)
+    × (records_free 40 (with (small_redo ∷ []) empty) ≡ 2)
+unfolding two_at four_at name_of with_type new_entry with_start unmarked
+no_files = (refl, refl)
+
+-- a file without records keeps its start, and does not count
+no_records : (packed 40 (with (file b_name 77 0 ∷ file c_name 5 1 ∷ small_redo ∷ []) empty)
+    ≡ with (file b_name 77 0 ∷ file c_name 4 1 ∷ small_redo ∷ []) empty)
+    × (files_moved 40 (with (file b_name 77 0 ∷ file c_name 5 1 ∷ small_redo ∷ []) empty) ≡ 1)
+unfolding two_at four_at name_of with_type new_entry with_start unmarked
+no_records = (refl, refl)
+
+-- ---- refusals, in their order
+
+refused : (pack_refusal 40 None ≡ Some NotLif)
+    × (pack_refusal 40 (Some (with (file a_name 5 1 ∷ file c_name 4 1 ∷ []) empty)) ≡ Some NoRedo)
+    × (pack_refusal 40 (Some (with (file a_name 5 1 ∷ file c_name 4 1 ∷ redo_entry One 40 ∷ []) empty)) ≡ Some NeedsUpgrade)
+    × (pack_refusal 40 (Some (with (file a_name 5 1 ∷ file c_name 4 1 ∷ small_redo ∷ []) empty)) ≡ Some OutOfOrder)
+    × (pack_refusal 40 (Some (with (file a_name 4 1 ∷ small_redo ∷ file c_name 9 0 ∷ []) empty)) ≡ Some OutOfOrder)
+unfolding two_at four_at name_of with_type new_entry
+refused = (refl, refl, refl, refl, refl)
+
+-- ---- what packing leaves as it was
+
+bare : without_start (file c_name 5 1) ≡ without_start (file c_name 4 1)
+unfolding without_start
+bare = refl
+
+-- the purged slot and the starts are not shown
+same_files : files_shown 40 (Some (packed 40 before)) ≡ files_shown 40 (Some before)
+unfolding two_at four_at name_of with_type new_entry with_start without_start unmarked
+same_files = refl
+
+-- but names are, and so are bytes
+abbrev shows : Volume → List (List ℕ) → Files → Type 0
+shows v slots files = files_shown 40 (Some v) ≡ Some (record { header = base.header; slots = slots; files = files })
+
+other_files : shows before (without_start (file c_name 4 1) ∷ []) c_alone
+    × shows (with (file b_name 5 1 ∷ small_redo ∷ []) empty) (without_start (file b_name 5 1) ∷ []) empty
+    × (files_shown 40 None ≡ None)
+unfolding two_at four_at name_of with_type new_entry without_start
+other_files = (refl, refl, refl)
+
+-- ---- the mark
+
+-- the redo entry on a tape of forty-four records, with a mark
+abbrev entry : ℕ → ℕ → List ℕ
+entry number count = new_entry redo_name redo_type 10 34 (in_two number ++ in_two count)
+
+plain_entry : entry 0 0 ≡ redo_entry Two 44
+unfolding new_entry
+plain_entry = refl
+
+mark : (marked_slot (entry 3 258) ≡ 3) × (marked_count (entry 3 258) ≡ 258) × (unmarked (entry 3 258) ≡ entry 0 0)
+unfolding two_at new_entry unmarked
+mark = (refl, refl, refl)
+
+-- A at its place, a purged slot, and C of three records, which may move down by one record
+abbrev three : List ℕ → List (List ℕ)
+three redo = file a_name 4 1 ∷ gone (file b_name 200 9) ∷ file c_name 6 3 ∷ redo ∷ []
+
+redo_found : redo_slot (with (three (entry 3 1)) empty) ≡ entry 3 1
+unfolding two_at name_of with_type new_entry
+redo_found = refl
+
+marked : (bears_mark 44 (with (three (entry 3 1)) empty) ≡ true) × (bears_mark 44 (with (three (entry 0 1)) empty) ≡ true)
+    × (bears_mark 44 (with (three (entry 3 0)) empty) ≡ true) × (bears_mark 44 (with (three (entry 0 0)) empty) ≡ false)
+    × (bears_mark 44 (with [] empty) ≡ false)
+unfolding two_at four_at name_of with_type new_entry
+marked = (refl, refl, refl, refl, refl)
+
+-- one or two of its records can stand at its place, and not all
+moves : (move_of (with (three (entry 3 1)) empty) ≡ Some (2, 1)) × (move_of (with (three (entry 3 2)) empty) ≡ Some (2, 2))
+    × (move_of (with (three (entry 3 3)) empty) ≡ None)
+unfolding two_at four_at name_of with_type new_entry
+moves = (refl, refl, refl)
+
+-- ---- finished
+
+abbrev on : List (List ℕ) → List (List ℕ) → Tape
+on (a ∷ b ∷ c ∷ d ∷ []) records = base.header ∷ base.blank ∷ base.filled (a ++ b ++ c ++ d ++ base.end_entry) ∷ base.blank
+    ∷ (records ++ replicate 34 base.blank)
+on slots records = base.header ∷ base.blank ∷ base.filled [] ∷ base.blank ∷ (records ++ replicate 34 base.blank)
+
+-- records 4 to 9, of which each byte is the number
+abbrev six : (a b c d e f : ℕ) → List (List ℕ)
+six a b c d e f = numbered a ∷ numbered b ∷ numbered c ∷ numbered d ∷ numbered e ∷ numbered f ∷ []
+
+abbrev c_at_five : List (List ℕ)
+c_at_five = file a_name 4 1 ∷ gone (file b_name 200 9) ∷ file c_name 5 3 ∷ entry 0 0 ∷ []
+
+-- one of its records stands at its place, and then two: the others follow
+one_moved : finished (on (three (entry 3 1)) (six 4 16 6 17 18 9)) ≡ on c_at_five (six 4 16 17 18 18 9)
+unfolding two_at four_at entries_of entry_at name_of is_open with_type new_entry with_entry with_start unmarked
+one_moved = refl
+
+two_moved : finished (on (three (entry 3 2)) (six 4 16 17 7 18 9)) ≡ on c_at_five (six 4 16 17 18 18 9)
+unfolding two_at four_at entries_of entry_at name_of is_open with_type new_entry with_entry with_start unmarked
+two_moved = refl
+
+-- C as a whole, whichever of its records have moved
+shown_moved : finished_volume_of (on (three (entry 3 2)) (six 4 16 17 7 18 9))
+    ≡ Some (with c_at_five (insert (insert empty c_name (numbered 16 ++ numbered 17 ++ numbered 18)) a_name (numbered 4)))
+unfolding two_at four_at entries_of entry_at name_of is_open with_type new_entry with_entry with_start unmarked
+shown_moved = refl
+
+-- ---- marks that are not good: the field becomes zero, and nothing else changes
+
+abbrev fades : (List ℕ → List (List ℕ)) → ℕ → ℕ → Type 0
+fades slots number count =
+    finished (on (slots (entry number count)) (six 4 5 6 7 8 9)) ≡ on (slots (entry 0 0)) (six 4 5 6 7 8 9)
+
+-- a count without a slot; the slot is purged; there is no slot of the number
+no_slot : fades three 0 1 × fades three 2 1 × fades three 9 1
+unfolding two_at four_at entries_of entry_at name_of is_open with_type new_entry with_entry with_start unmarked
+no_slot = (refl, refl, refl)
+
+-- none of the records has moved, or all of them, or more
+no_part : fades three 3 0 × fades three 3 3 × fades three 3 300
+unfolding two_at four_at entries_of entry_at name_of is_open with_type new_entry with_entry with_start unmarked
+no_part = (refl, refl, refl)
+
+-- the redo entry itself, which would have a place below its start, and a purged slot after it
+abbrev redo_third : List ℕ → List (List ℕ)
+redo_third redo = file a_name 4 1 ∷ file c_name 5 3 ∷ redo ∷ gone (file b_name 200 9) ∷ []
+
+not_before_redo : fades redo_third 3 1 × fades redo_third 4 1
+unfolding two_at four_at entries_of entry_at name_of is_open with_type new_entry with_entry with_start unmarked
+not_before_redo = (refl, refl)
+
+-- C stands at its place
+packed_already : fades redo_third 2 1
+unfolding two_at four_at entries_of entry_at name_of is_open with_type new_entry with_entry with_start unmarked
+packed_already = refl
+
+-- a file after C begins before it
+abbrev b_before_c : List ℕ → List (List ℕ)
+b_before_c redo = file a_name 4 1 ∷ file c_name 6 3 ∷ file b_name 5 1 ∷ redo ∷ []
+
+-- A does not stand at its place
+abbrev a_not_packed : List ℕ → List (List ℕ)
+a_not_packed redo = gone (file b_name 200 9) ∷ file a_name 5 1 ∷ file c_name 7 3 ∷ redo ∷ []
+
+not_in_order : fades b_before_c 2 1 × fades a_not_packed 3 1
+unfolding two_at four_at entries_of entry_at name_of is_open with_type new_entry with_entry with_start unmarked
+not_in_order = (refl, refl)
+
+-- ---- where nothing changes
+
+-- a field of zeros; a volume of version 1, whose field is not zero; and no volume
+abbrev stays : Tape → Type 0
+stays tape = finished tape ≡ tape
+
+abbrev of_version_one : List (List ℕ)
+of_version_one = file a_name 4 1 ∷ gone (file b_name 200 9) ∷ file c_name 6 3
+    ∷ new_entry redo_name redo_type 40 4 (in_two 3 ++ in_two 1) ∷ []
+
+unmarked_stays : stays (on (three (entry 0 0)) (six 4 5 6 7 8 9)) × stays (on of_version_one (six 4 5 6 7 8 9))
+    × stays (replicate 44 base.blank)
+unfolding two_at four_at entries_of entry_at name_of is_open with_type new_entry with_entry with_start unmarked
+unmarked_stays = (refl, refl, refl)

@@ -1,0 +1,37 @@
+use Rattle.std.proofs.Common.{◌≡◌, ◌∙◌, ap, map, sym, subst}
+use Rattle.std.specs.Prelude.{Some, Err}
+use Rattle.lif_model.specs.Tape.{IsTape}
+use Rattle.lif_model.specs.Redo.{settled}
+use Rattle.lif_dir.specs.Entries.{slot_bytes}
+use Rattle.lif_volume.specs.declared.fault.VolumeFault.{VolumeFault}
+use Rattle.lif_volume.specs.declared.volume.Listing.{Listing}
+use Rattle.lif_volume.specs.Views.{IsDirectoryOf}
+use Rattle.lif_volume.specs.Answers.{store_answer, IsSettledAs, IsLegalAs}
+use Rattle.lif_pack.proofs.Consulting.{some_of, in_each, left_from, nothing_left}
+use Rattle.lif_pack.proofs.finish.left_of.Goals as goal
+
+pub returns-in-Ok-clause-settled : goal.returns-in-Ok-clause-settled
+returns-in-Ok-clause-settled g c = in_each c.task_of.result (λ t is.
+    let kept = some_of c.dir.new.self.kept (λ header. IsDirectoryOf t header c.dir.new.self.directory.table.slots)
+    c.in-Ok.ensures.did.consults.kept (c.in-Ok.ensures.open.known t is) in
+    kept.1.settled)
+
+pub returns-in-Ok-clause-left : goal.returns-in-Ok-clause-left
+returns-in-Ok-clause-left g c t is =
+    let tape : IsTape c.args.size t = subst (λ m. IsTape m t) (sym c.requires.size) ((g.met.R.Records.is_store _).is_tape t is) in
+    let now : (g.R.Records.view c.dir.new.self.records).tape ≡ Some (settled t) = c.in-Ok.ensures.did.consults.settles t is in
+    let kept = some_of c.dir.new.self.kept (λ header. IsDirectoryOf (settled t) header c.dir.new.self.directory.table.slots)
+    c.in-Ok.ensures.did.consults.kept (c.in-Ok.ensures.open.known (settled t) now) in (
+      now,
+      left_from c.args.size t kept.0 c.dir.new.self.directory.table.slots c.in-Ok.listing c.task_of.result tape kept.1 (c.in-Ok.ensures.listed t is)
+          (λ v is_volume same start end. c.task_of.ensures.task v is_volume (same ∙ sym (ap (map slot_bytes) c.slots.ensures)) start end),
+    )
+
+pub returns-in-Err-Refused-clause-left : goal.returns-in-Err-Refused-clause-left
+returns-in-Err-Refused-clause-left g c t is =
+    let tape : IsTape c.args.size t = subst (λ m. IsTape m t) (sym c.requires.size) ((g.met.R.Records.is_store _).is_tape t is) in (
+      subst (λ (fault : VolumeFault). IsSettledAs t (g.R.Records.view c.dir.new.self.records).tape (store_answer {T = Listing} (Err fault))) c.in-Err-Refused.field-0-is
+          (c.in-Err-Refused.ensures.did.consults.settles t is),
+      nothing_left c.args.size t tape
+          (subst (λ (fault : VolumeFault). IsLegalAs {T = Listing} (settled t) (Err fault)) c.in-Err-Refused.field-0-is (c.in-Err-Refused.ensures.exactly t is)),
+    )

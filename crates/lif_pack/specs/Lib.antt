@@ -1,0 +1,5 @@
+pub mod Packing
+pub mod Packers
+pub mod Marks
+pub mod Moving
+pub mod Tasks

@@ -1,0 +1,7 @@
+-- What contracts see of a packer.
+use Rattle.std.specs.Prelude.{◌≡◌, ◌*◌, ◌-◌, ℕ}
+use Rattle.lif_pack.specs.declared.memory.Packer.{Packer}
+
+-- it has memory for every directory on a medium of n records
+pub record IsPackerFor (n : ℕ) (packer : Packer) : Type 0 where
+  pub room : packer.slots.room ≡ 8 * (n - 5)

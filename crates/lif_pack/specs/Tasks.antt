@@ -1,0 +1,62 @@
+-- What finishes a volume, and the tape that is finished.
+use Rattle.std.specs.Prelude.{◌≡◌, ◌<◌, ◌+◌, ◌-◌, ◌*◌, ℕ, [], ◌∷◌, true, false, length, Option, Some, None, IfSome}
+use Rattle.lif_model.specs.Tape.{Tape, record_at}
+use Rattle.lif_model.specs.Header.{directory_start}
+use Rattle.lif_model.specs.declared.version.Version.TheVariants.{Two}
+use Rattle.lif_model.specs.Redo.{redo_start, settled, IsSettled}
+use Rattle.lif_model.specs.Volume.{Volume, volume_of}
+use Rattle.lif_model.specs.Fit.{redo_place}
+use Rattle.lif_model.specs.Writing.{slot_record, entry_from, with_slots}
+use Rattle.lif_pack.specs.Packing.{unmarked, bears_mark, has_mark, finished, finished_volume_of}
+use Rattle.lif_pack.specs.declared.marks.Move.{Move}
+use Rattle.lif_pack.specs.declared.tasks.Task.{Task}
+use Rattle.lif_pack.specs.Marks.{IsMarked}
+use Rattle.lif_pack.specs.Moving.{MayMove}
+
+-- the place of a file that moves, or the first record of the redo file
+abbrev pub limit_of : ℕ → Option Move → ℕ
+limit_of n None = redo_start Two n
+limit_of n (Some move) = move.place
+
+-- the redo entry is before the redo file, and the file that is being moved may move
+pub record MayFinish (n : ℕ) (task : Task) : Type 0 where
+  pub redo : slot_record task.first task.redo < redo_start Two n
+  pub moving : IfSome task.moving (λ move. MayMove n task.first move.place task.redo move)
+
+-- it is that of this volume
+pub record IsTaskOf (n : ℕ) (v : Volume) (task : Task) : Type 0 where
+  pub marked : bears_mark n v ≡ true
+  pub first : task.first ≡ directory_start v.header
+  pub redo : task.redo ≡ redo_place v.slots
+  pub moving : IsMarked v task.moving
+
+-- there is one exactly where the volume has a mark
+abbrev pub IsTask : ℕ → Volume → Option Task → Type 0
+IsTask n v None = bears_mark n v ≡ false
+IsTask n v (Some task) = IsTaskOf n v task
+
+-- The tape u is settled, and has the volume that t is finished to. Where that of t has no mark it is the settled tape;
+-- and else the finished one in all records below the redo file, and so in record 0, in the directory and in each file.
+pub record IsFinished (t u : Tape) : Type 0 where
+  pub is_settled : IsSettled u
+  pub records : length u ≡ length t
+  pub plain : has_mark (length t) (volume_of t) ≡ false → u ≡ settled t
+  pub below : (k : ℕ) → k < redo_start Two (length t) → record_at u k ≡ record_at (finished t) k
+  pub volume : volume_of u ≡ finished_volume_of t
+
+-- how many records are read and written at most to carry it out
+abbrev pub calls_to_finish : Option Move → ℕ
+calls_to_finish None = 9
+calls_to_finish (Some move) = 4 * (move.length - move.moved) + 12
+
+-- the redo entry of a directory that begins at record `first` has lost its mark, and all else below the redo file is as
+-- before
+pub record IsCleared (first redo : ℕ) (t x : Tape) : Type 0 where
+  pub records : length x ≡ length t
+  pub below : (k : ℕ) → k < redo_start Two (length t)
+      → record_at x k ≡ record_at (with_slots first ((redo, unmarked (entry_from t first redo)) ∷ []) t) k
+
+-- the settled tape is finished, or this is left to do
+abbrev pub IsLeftToDo : ℕ → Tape → Option Task → Type 0
+IsLeftToDo n t None = IsFinished t (settled t)
+IsLeftToDo n t (Some task) = (v : Volume) × (volume_of (settled t) ≡ Some v) × IsTaskOf n v task

@@ -1,0 +1,136 @@
+//! A packing that was stopped is finished.
+ghost use Rattle.std.specs.Prelude.{◌≡◌, ◌<◌, ◌+◌, ◌*◌, ◌^◌, true, false, map, Some, Ok, OnOk, IfOk, IfSome};
+ghost use Rattle.lif_model.specs.Tape.{Tape};
+ghost use Rattle.lif_model.specs.declared.version.Version.TheVariants.{Two};
+ghost use Rattle.lif_model.specs.Redo.{redo_start, settled, IsSettled};
+ghost use Rattle.lif_model.specs.Volume.{Volume as VolumeModel, volume_of};
+ghost use Rattle.lif_model.specs.Writing.{slot_record};
+ghost use Rattle.il_ports.specs.Stores.{IsReady, GoesOn};
+ghost use Rattle.lif_dir.specs.Entries.{slot_bytes};
+ghost use Rattle.lif_volume.specs.Views.{IsOpen};
+ghost use Rattle.lif_volume.specs.Seen.{seen};
+ghost use Rattle.lif_volume.specs.Commands.{IsReadyFor, IsTold};
+ghost use Rattle.lif_pack.specs.Packing.{bears_mark};
+ghost use Rattle.lif_pack.specs.Tasks.{MayFinish, IsTaskOf, IsFinished, IsCleared, IsLeftToDo, calls_to_finish};
+
+use crate::marks::mark_of;
+use crate::memory::Packer;
+use crate::tasks::{Task, task_of};
+use il_ports::{Records, Trouble};
+use lif_model::Version;
+use lif_redo::commit;
+use lif_volume::{Volume, VolumeFault};
+
+impl Packer {
+    /// Finishes a packing of the volume that was stopped: a file that was being moved is moved to its place, and the
+    /// mark in the redo entry is taken off. Where there is no mark the tape is settled alone, and where the directory
+    /// is kept besides, no record is read or written. A tape that holds no volume is settled too. On a medium of N
+    /// records at most 15 N + 120 are read and written. An error comes where a call of the store failed.
+    pub fn finish<R: Records>(&mut self, volume: &mut Volume<R>) -> Result<(), Trouble>
+        requires open { IsOpen R.view (seen volume.old) }
+        requires ready { IsReady (15 * (R.view (seen volume.old).records).record_count + 120)
+            (R.view (seen volume.old).records) }
+        ensures open { IsOpen R.view (seen volume.new) }
+        ensures goes_on { GoesOn (15 * (R.view (seen volume.old).records).record_count + 120)
+            (R.view (seen volume.old).records) (R.view (seen volume.new).records) result }
+        ensures finished { OnOk result ((t : Tape) → IsTold R.view (seen volume.old) t
+            → (u : Tape) × IsTold R.view (seen volume.new) u × IsFinished t u) }
+        // Where the directory is kept and its redo entry has no mark, nothing is done.
+        ensures still { IfSome (seen volume.old).kept (λ _. (v : VolumeModel)
+            → v.slots ≡ map slot_bytes (seen volume.old).slots
+            → bears_mark (R.view (seen volume.old).records).record_count v ≡ false
+            → (volume.new ≡ volume.old) × (result ≡ Ok tt)) }
+    {
+        let size = volume.records().size();
+        if is_finished(volume, size) {
+            return Ok(());
+        }
+        self.finish_left(volume, size)
+    }
+
+    /// Settles the tape, and carries out what is left to do on it.
+    fn finish_left<R: Records>(&mut self, volume: &mut Volume<R>, size: u16) -> Result<(), Trouble>
+        requires open { IsOpen R.view (seen volume.old) }
+        requires ready { IsReady (15 * size + 120) (R.view (seen volume.old).records) }
+        requires size { size ≡ (R.view (seen volume.old).records).record_count }
+        ensures open { IsOpen R.view (seen volume.new) }
+        ensures goes_on { GoesOn (15 * size + 120) (R.view (seen volume.old).records)
+            (R.view (seen volume.new).records) result }
+        ensures finished { OnOk result ((t : Tape) → IsTold R.view (seen volume.old) t
+            → (u : Tape) × IsTold R.view (seen volume.new) u × IsFinished t u) }
+    {
+        match left_of(volume, size)? {
+            None => Ok(()),
+            Some(task) => self.carry_out(volume.records_mut(), &task),
+        }
+    }
+
+    /// Carries out what is left to do on a settled tape.
+    fn carry_out<R: Records>(&mut self, records: &mut R, task: &Task) -> Result<(), Trouble>
+        requires ready { IsReady (calls_to_finish task.now.moving) (R.view records.old) }
+        requires settled { (t : Tape) → (R.view records.old).tape ≡ Some t → IsSettled t }
+        requires medium { (R.view records.old).record_count < 2 ^ 16 }
+        requires may { MayFinish (R.view records.old).record_count task.now }
+        ensures goes_on { GoesOn (calls_to_finish task.now.moving) (R.view records.old) (R.view records.new) result }
+        ensures finishes { OnOk result ((t : Tape) (v : VolumeModel) → (R.view records.old).tape ≡ Some t
+            → volume_of t ≡ Some v → IsTaskOf (R.view records.old).record_count v task.now
+            → (x : Tape) × ((R.view records.new).tape ≡ Some x) × IsFinished t x) }
+    {
+        match &task.moving {
+            None => self.clear_mark(records, task.first, task.redo),
+            Some(file) => self.move_rest(records, task.first, task.redo, file),
+        }
+    }
+
+    /// Takes the mark off, and changes nothing else: by one commit.
+    fn clear_mark<R: Records>(
+        &mut self,
+        records: &mut R,
+        first: u16,
+        redo: usize,
+    ) -> Result<(), Trouble>
+        requires ready { IsReady 9 (R.view records.old) }
+        requires settled { (t : Tape) → (R.view records.old).tape ≡ Some t → IsSettled t }
+        requires medium { (R.view records.old).record_count < 2 ^ 16 }
+        requires below { slot_record first redo < redo_start Two (R.view records.old).record_count }
+        ensures goes_on { GoesOn 9 (R.view records.old) (R.view records.new) result }
+        ensures settled { OnOk result ((t : Tape) → (R.view records.new).tape ≡ Some t → IsSettled t) }
+        ensures clears { OnOk result ((t : Tape) → (R.view records.old).tape ≡ Some t
+            → (x : Tape) × ((R.view records.new).tape ≡ Some x) × IsCleared first redo t x) }
+    {
+        self.bring_mark(records, first, redo, [0; 4])?;
+        commit(records, Version::Two, &self.changes)
+    }
+}
+
+/// Whether the directory is kept and its redo entry has no mark.
+fn is_finished<R: Records>(volume: &Volume<R>, size: u16) -> bool
+    requires open { IsOpen R.view (seen volume.now) }
+    requires size { size ≡ (R.view (seen volume.now).records).record_count }
+    ensures unmarked { IfSome (seen volume.now).kept (λ _. (v : VolumeModel)
+        → v.slots ≡ map slot_bytes (seen volume.now).slots → bears_mark size v ≡ false → result ≡ true) }
+    ensures finished { result ≡ true → (t : Tape) → IsTold R.view (seen volume.now) t → IsFinished t t }
+{
+    volume.is_kept() && mark_of(volume.slots(), size).is_none()
+}
+
+/// Settles the tape and reads its directory, and tells what is left to do. `None` where the tape has no mark, or no
+/// volume.
+fn left_of<R: Records>(volume: &mut Volume<R>, size: u16) -> Result<Option<Task>, Trouble>
+    requires open { IsOpen R.view (seen volume.old) }
+    requires ready { IsReadyFor R.view (seen volume.old) }
+    requires size { size ≡ (R.view (seen volume.old).records).record_count }
+    ensures open { IsOpen R.view (seen volume.new) }
+    ensures goes_on { GoesOn (size + 66) (R.view (seen volume.old).records) (R.view (seen volume.new).records) result }
+    ensures may { IfOk result (λ task. IfSome task (MayFinish size)) }
+    ensures settled { IfOk result (λ task. IfSome task (λ _. (t : Tape) → IsTold R.view (seen volume.new) t
+        → IsSettled t)) }
+    ensures left { IfOk result (λ task. (t : Tape) → IsTold R.view (seen volume.old) t
+        → IsTold R.view (seen volume.new) (settled t) × IsLeftToDo size t task) }
+{
+    match volume.dir() {
+        Ok(listing) => Ok(task_of(volume.slots(), &listing, size)),
+        Err(VolumeFault::Refused(_)) => Ok(None),
+        Err(VolumeFault::Trouble(trouble)) => Err(trouble),
+    }
+}

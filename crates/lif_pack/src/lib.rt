@@ -1,0 +1,13 @@
+//! Packing of a LIF volume: files are moved down, onto their own old records too, until no gap is left. It can be
+//! stopped at any record.
+#![tactic(auto)]
+
+mod finish;
+mod marks;
+mod memory;
+mod moving;
+mod packer;
+mod placed;
+mod tasks;
+
+pub use memory::Packer;
