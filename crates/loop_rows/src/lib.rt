@@ -2,6 +2,8 @@
 #![tactic(auto)]
 
 #[cfg(test)]
+mod checked_rows;
+#[cfg(test)]
 mod control_rows;
 #[cfg(test)]
 mod drive_rows;

@@ -13,7 +13,7 @@ use std::process::Abort;
 use std::test::Fail;
 
 /// A store over a new ring of a printer, if one is wanted, and the drive.
-fn store(
+pub(crate) fn store(
     rt: &(impl Abort + AllocGlobal),
     medium: MemoryMedium,
     printer: bool,
@@ -31,7 +31,7 @@ fn store(
 }
 
 /// Makes the store sound, and says what it answered.
-fn resume<R: Records>(rt: &impl Abort, records: &mut R) -> Result<(), Trouble>
+pub(crate) fn resume<R: Records>(rt: &impl Abort, records: &mut R) -> Result<(), Trouble>
     requires { (R.view records.old).valid }
     ensures { (R.view records.new).valid }
 {
@@ -40,7 +40,7 @@ fn resume<R: Records>(rt: &impl Abort, records: &mut R) -> Result<(), Trouble>
 }
 
 /// Writes bytes from a record on, two records or as many as they fill, and says what it answered.
-fn write<R: Records>(
+pub(crate) fn write<R: Records>(
     rt: &impl Abort,
     records: &mut R,
     first: u16,
@@ -59,7 +59,7 @@ fn write<R: Records>(
 }
 
 /// Reads records, as many as fill `into`, and says what it answered.
-fn read<R: Records>(
+pub(crate) fn read<R: Records>(
     rt: &impl Abort,
     records: &mut R,
     first: u16,

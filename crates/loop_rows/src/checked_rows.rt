@@ -1,0 +1,288 @@
+// Logs of runs of records, handed to the readers of finished logs.
+ghost use Rattle.std.specs.Prelude.{◌≡◌, IfOk, length};
+
+use crate::store_rows::{read, resume, store, write};
+use crate::tools::tape;
+use il_check::{Effects, Exchanges, Talkers, UnitFault};
+use il_frames::{Entry, Frame, Outcome};
+use il_ports::{Medium, MemoryMedium, Records, Trouble};
+use il_record::LoopRecords;
+use il_ring::PlanFault::{Alter, Lose};
+use il_ring::{Planned, Ring};
+use il_same::same;
+use std::process::Abort;
+use std::test::Fail;
+
+/// The crossings of a whole run: three of each of the host's 575 frames that come back and of the drive's 259 bytes,
+/// two of each of the four start messages, and one of each ETO.
+const CROSSINGS: u64 = 3 * (575 + 259) + 2 * 4 + 4;
+
+/// The first crossing of the last byte of the first record: 280 frames go before it.
+const FIRST_SENT: u64 = 3 * 280 + 1;
+
+/// The first crossing of the last byte of the second record: 536 frames go before it.
+const BOTH_SENT: u64 = 3 * 536 + 1;
+
+/// The last crossing of the poll of the status after the bytes, which has 27.
+const TOLD: u64 = BOTH_SENT + 2 + 27;
+
+/// Writes two records of sixes on a tape of zeros, reads the first of them, and asks the drive for its status.
+fn write_and_read(rt: &impl Abort, records: &mut LoopRecords<MemoryMedium>) -> Result<(), Trouble>
+    requires { (⟦<LoopRecords<MemoryMedium> as Records>⟧.view records.old).valid }
+    ensures { (⟦<LoopRecords<MemoryMedium> as Records>⟧.view records.new).valid }
+{
+    resume(rt, records)?;
+    write(rt, records, 7, 2, &[6; 512])?;
+    read(rt, records, 7, &mut [0; 256])?;
+    assert!(rt; records.is_ready() && records.ring().spare() >= 1000);
+    records.drive_status()?;
+    Ok(())
+}
+
+/// The ring of a printer and the drive after that run, or where it broke off, and what it answered.
+fn run(
+    rt: &(impl Abort + AllocGlobal),
+    plan: &[Planned],
+) -> Result<(Ring<MemoryMedium>, Result<(), Trouble>), Fail> {
+    let mut records = store(rt, tape(rt, 0, 0)?, true, plan)?;
+    let answer = write_and_read(rt, &mut records);
+    Ok((records.into_ring(), answer))
+}
+
+/// The place of the first entry after which there were two talkers, or which was out of turn.
+fn out_of_turn(log: &[Entry]) -> Option<usize> {
+    let mut talkers = Talkers::new(2);
+    for (place, entry) in log.iter().enumerate() {
+        if !talkers.take(*entry) {
+            return Some(place);
+        }
+    }
+    None
+}
+
+/// The place of the first entry with which the log is no beginning of exchanges, or its end where it may not end.
+fn out_of_order(log: &[Entry]) -> Option<usize> {
+    let mut exchanges = Exchanges::new(2);
+    for (place, entry) in log.iter().enumerate() {
+        if !exchanges.take(*entry) {
+            return Some(place);
+        }
+    }
+    if exchanges.may_end() {
+        return None;
+    }
+    Some(log.len())
+}
+
+/// The reader of effects on a tape of zeros.
+fn on_zeros(rt: &impl AllocGlobal) -> Result<Effects, Fail>
+    ensures { IfOk result (λ effects. length effects.expected.records ≡ 512) }
+{
+    let mut effects = Effects::new(rt.alloc(), 2, 512)?;
+    for _count in 0..512_usize {
+        effects.push(&[0; 256]);
+    }
+    Ok(effects)
+}
+
+/// The first fault of the units of this log, and the place of its entry.
+fn first_fault(effects: &mut Effects, log: &[Entry]) -> Option<(usize, UnitFault)>
+    ensures { length effects.new.expected.records ≡ length effects.old.expected.records }
+{
+    for (place, entry) in log.iter().enumerate() {
+        if let Err(fault) = effects.take(*entry) {
+            return Some((place, fault));
+        }
+    }
+    None
+}
+
+/// Each record of the tape is allowed.
+fn compare_tape(rt: &impl Abort, medium: &mut MemoryMedium, effects: &Effects)
+    requires { length effects.now.expected.records ≡ 512 }
+{
+    let mut record = [0; 256];
+    for place in 0..512 {
+        assert!(rt; place < medium.size());
+        assert!(rt; same(medium.read(place, &mut record), Ok(())), "{place}");
+        assert!(rt; effects.allows(place, &record), "{place}");
+    }
+}
+
+/// The log of a run that broke off at this crossing, if at any, is exchanges with one talker. It ends by a unit that is
+/// unclear exactly where both records had been sent whole and the status had not come; else it allows the tape that the
+/// run left, and not every other.
+fn compare_run(
+    rt: &(impl Abort + AllocGlobal),
+    ring: Ring<MemoryMedium>,
+    crossing: u64,
+) -> Result<(), Fail> {
+    let log = ring.log();
+    assert!(rt; out_of_turn(log).is_none(), "{crossing}");
+    assert!(rt; out_of_order(log).is_none(), "{crossing}");
+    let mut effects = on_zeros(rt)?;
+    let fault = first_fault(&mut effects, log);
+    if BOTH_SENT <= crossing && crossing <= TOLD {
+        let last = log.len().saturating_sub(1);
+        assert!(rt; same(fault, Some((last, UnitFault::Unclear))), "{crossing}");
+        return Ok(());
+    }
+    assert!(rt; fault.is_none(), "{crossing}");
+    compare_tape(rt, &mut ring.into_rig().medium, &effects);
+    // The first record may hold anything from its last byte on until the status came, and the second holds zeros.
+    let rows = [
+        (7, 0, crossing <= TOLD),
+        (7, 6, crossing >= FIRST_SENT),
+        (8, 0, crossing <= TOLD),
+        (8, 6, crossing > TOLD),
+        (9, 6, false),
+    ];
+    for (place, byte, is_allowed) in rows {
+        let found = effects.allows(place, &[byte; 256]);
+        assert!(rt; found == is_allowed, "{crossing} {place} {byte}");
+    }
+    Ok(())
+}
+
+/// A loss and an alteration at this crossing break the run off, and the readers take its log.
+fn compare_broken_off(rt: &(impl Abort + AllocGlobal), hop: u64) -> Result<(), Fail> {
+    for fault in [Lose, Alter(4)] {
+        let (ring, answer) = run(rt, &[Planned { hop, fault }])?;
+        assert!(rt; same(answer, Err(Trouble::Frame)), "{hop}");
+        compare_run(rt, ring, hop)?;
+    }
+    Ok(())
+}
+
+#[test]
+fn runs_with_faults(rt: HostRuntime) -> Result<(), Fail> {
+    let (ring, answer) = run(&rt, &[])?;
+    assert!(rt; answer.is_ok() && same(ring.crossings(), CROSSINGS));
+    compare_run(&rt, ring, u64::MAX)?;
+    for count in 1..=CROSSINGS / 97 {
+        compare_broken_off(&rt, 97 * count)?;
+    }
+    // From just before a record was sent whole, and until just after the status came.
+    for hop in FIRST_SENT - 3..FIRST_SENT + 3 {
+        compare_broken_off(&rt, hop)?;
+    }
+    for hop in BOTH_SENT - 3..=TOLD + 3 {
+        compare_broken_off(&rt, hop)?;
+    }
+    Ok(())
+}
+
+/// What is done to one entry of a log.
+#[derive(Clone, Copy)]
+enum Change {
+    /// It is left out.
+    Missing,
+    /// It stands twice.
+    Twice,
+    /// It stands after its next.
+    Swapped,
+    /// It came back with another byte.
+    Altered,
+}
+
+/// The log with a change at this entry.
+fn changed(
+    rt: &(impl Abort + AllocGlobal),
+    log: &[Entry],
+    change: Change,
+    place: usize,
+) -> Result<Vec<Entry>, Fail> {
+    let mut entries = log.to_vec(rt.alloc())?;
+    assert!(rt; place < 1000 && place + 1 < entries.len());
+    let entry = entries[place];
+    match change {
+        Change::Missing => {
+            let _ = entries.remove(place);
+        }
+        Change::Twice => entries.insert(place, entry)?,
+        Change::Swapped => entries.swap(place, place + 1),
+        Change::Altered => {
+            let back = Frame::new(entry.frame.class(), entry.frame.byte() ^ 1);
+            entries[place].outcome = Outcome::Back(back);
+        }
+    }
+    Ok(entries)
+}
+
+// The log of the whole run has IFC RFC AAU RFC AAD; from entry 5 on UNL RFC LAD RFC SDC RFC; from 11 on the seek UNL
+// RFC LAD RFC DDL RFC DAB DAB; from 19 on the write UNL RFC LAD RFC DDL RFC and 512 bytes; from 537 on the poll UNL RFC
+// TAD RFC SST NRD DAB ETO UNT RFC; from 547 on a seek; from 555 on the read UNL RFC TAD RFC DDT RFC SDA, 255 bytes, NRD
+// DAB ETO UNT RFC; and from 822 on two polls.
+
+// Changes after which the log is no list of exchanges, and the entry that shows it.
+static OUT_OF_ORDER: [(Change, usize, usize); 24] = [
+    // RFC begins no exchange, nor goes on with data
+    (Change::Missing, 11, 11),
+    (Change::Missing, 537, 537),
+    (Change::Swapped, 11, 11),
+    (Change::Twice, 12, 13),
+    // a command comes where RFC is due
+    (Change::Missing, 12, 12),
+    (Change::Missing, 546, 546),
+    (Change::Twice, 11, 12),
+    (Change::Twice, 545, 546),
+    // NRD where a start message is due
+    (Change::Missing, 541, 541),
+    (Change::Swapped, 541, 541),
+    // a second SST or NRD while the drive is to talk
+    (Change::Twice, 541, 542),
+    (Change::Twice, 542, 543),
+    // ETO where the last byte after NRD is due
+    (Change::Missing, 543, 543),
+    (Change::Swapped, 543, 543),
+    (Change::Swapped, 542, 544),
+    // another byte where ETO is due
+    (Change::Twice, 543, 544),
+    (Change::Swapped, 816, 818),
+    // UNT where ETO is due, and the other way round
+    (Change::Missing, 544, 544),
+    (Change::Twice, 544, 545),
+    // RFC where UNT is due
+    (Change::Missing, 545, 545),
+    // AAD with the wrong count, and RFC that is another
+    (Change::Altered, 4, 4),
+    (Change::Altered, 12, 12),
+    // a byte that came back as another ends a send, and asks for ETE in a receive
+    (Change::Altered, 100, 101),
+    (Change::Altered, 600, 601),
+];
+
+// Changes after which it is such a list: the entry that is not the talker's, and the fault of the unit with its entry.
+static IN_ORDER: [(Change, usize, Option<usize>, Option<(usize, UnitFault)>); 7] = [
+    // without AAD no device has the address, so that none talks where the status comes
+    (Change::Missing, 4, Some(542), None),
+    (Change::Twice, 4, None, None),
+    // 511 and 513 bytes with status 0, which the last RFC of the poll completes
+    (Change::Missing, 100, None, Some((545, UnitFault::BadUnit))),
+    (Change::Twice, 100, None, Some((547, UnitFault::BadUnit))),
+    // a seek of record 1792
+    (Change::Swapped, 17, None, Some((546, UnitFault::BadUnit))),
+    // a talker may end without NRD, and a read may be of 257 bytes
+    (Change::Missing, 542, None, None),
+    (Change::Twice, 600, None, None),
+];
+
+#[test]
+fn changed_logs(rt: HostRuntime) -> Result<(), Fail> {
+    let (ring, _) = run(&rt, &[])?;
+    for (change, place, refused) in OUT_OF_ORDER {
+        let log = changed(&rt, ring.log(), change, place)?;
+        assert!(rt;
+            same(out_of_order(&log), Some(refused)),
+            "{place} {refused}"
+        );
+    }
+    for (change, place, turn, fault) in IN_ORDER {
+        let log = changed(&rt, ring.log(), change, place)?;
+        assert!(rt; out_of_order(&log).is_none(), "{place}");
+        assert!(rt; same(out_of_turn(&log), turn), "{place}");
+        let mut effects = on_zeros(&rt)?;
+        assert!(rt; same(first_fault(&mut effects, &log), fault), "{place}");
+    }
+    Ok(())
+}
