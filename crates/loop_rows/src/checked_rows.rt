@@ -1,9 +1,10 @@
 // Logs of runs of records, handed to the readers of finished logs.
-ghost use Rattle.std.specs.Prelude.{◌≡◌, IfOk, length};
+ghost use Rattle.std.specs.Prelude.{◌≡◌, ◌≤◌, IfOk, length};
 
 use crate::store_rows::{read, resume, store, write};
-use crate::tools::tape;
+use crate::tools::{self, tape};
 use il_check::{Effects, Exchanges, Talkers, UnitFault};
+use il_device::{Device, Quiet};
 use il_frames::{Entry, Frame, Outcome};
 use il_ports::{Medium, MemoryMedium, Records, Trouble};
 use il_record::LoopRecords;
@@ -49,9 +50,11 @@ fn run(
     Ok((records.into_ring(), answer))
 }
 
-/// The place of the first entry after which there were two talkers, or which was out of turn.
-fn out_of_turn(log: &[Entry]) -> Option<usize> {
-    let mut talkers = Talkers::new(2);
+/// The place of the first entry after which there were two talkers among so many devices, or which was out of turn.
+fn out_of_turn(devices: u8, log: &[Entry]) -> Option<usize>
+    requires { (1 ≤ devices) × (devices ≤ 30) }
+{
+    let mut talkers = Talkers::new(devices);
     for (place, entry) in log.iter().enumerate() {
         if !talkers.take(*entry) {
             return Some(place);
@@ -60,9 +63,12 @@ fn out_of_turn(log: &[Entry]) -> Option<usize> {
     None
 }
 
-/// The place of the first entry with which the log is no beginning of exchanges, or its end where it may not end.
-fn out_of_order(log: &[Entry]) -> Option<usize> {
-    let mut exchanges = Exchanges::new(2);
+/// The place of the first entry with which the log of so many devices is no beginning of exchanges, or its end where it
+/// may not end.
+fn out_of_order(devices: u8, log: &[Entry]) -> Option<usize>
+    requires { devices ≤ 30 }
+{
+    let mut exchanges = Exchanges::new(devices);
     for (place, entry) in log.iter().enumerate() {
         if !exchanges.take(*entry) {
             return Some(place);
@@ -74,11 +80,19 @@ fn out_of_order(log: &[Entry]) -> Option<usize> {
     Some(log.len())
 }
 
-/// The reader of effects on a tape of zeros.
-fn on_zeros(rt: &impl AllocGlobal) -> Result<Effects, Fail>
+/// The log of so many devices is exchanges with one talker.
+pub(crate) fn is_read(devices: u8, log: &[Entry]) -> bool
+    requires { (1 ≤ devices) × (devices ≤ 30) }
+{
+    out_of_turn(devices, log).is_none() && out_of_order(devices, log).is_none()
+}
+
+/// The reader of effects of a drive at this party on a tape of zeros.
+fn on_zeros(rt: &impl AllocGlobal, drive: u8) -> Result<Effects, Fail>
+    requires { drive ≤ 30 }
     ensures { IfOk result (λ effects. length effects.expected.records ≡ 512) }
 {
-    let mut effects = Effects::new(rt.alloc(), 2, 512)?;
+    let mut effects = Effects::new(rt.alloc(), drive, 512)?;
     for _count in 0..512_usize {
         effects.push(&[0; 256]);
     }
@@ -118,9 +132,9 @@ fn compare_run(
     crossing: u64,
 ) -> Result<(), Fail> {
     let log = ring.log();
-    assert!(rt; out_of_turn(log).is_none(), "{crossing}");
-    assert!(rt; out_of_order(log).is_none(), "{crossing}");
-    let mut effects = on_zeros(rt)?;
+    assert!(rt; out_of_turn(2, log).is_none(), "{crossing}");
+    assert!(rt; out_of_order(2, log).is_none(), "{crossing}");
+    let mut effects = on_zeros(rt, 2)?;
     let fault = first_fault(&mut effects, log);
     if BOTH_SENT <= crossing && crossing <= TOLD {
         let last = log.len().saturating_sub(1);
@@ -168,6 +182,47 @@ fn runs_with_faults(rt: HostRuntime) -> Result<(), Fail> {
     }
     for hop in BOTH_SENT - 3..=TOLD + 3 {
         compare_broken_off(&rt, hop)?;
+    }
+    // The end of the read, with its NRD, and two polls.
+    for hop in CROSSINGS - 100..=CROSSINGS {
+        compare_broken_off(&rt, hop)?;
+    }
+    Ok(())
+}
+
+/// Quiet devices.
+fn quiets(rt: &impl AllocGlobal, count: u8) -> Result<Vec<Box<dyn Device>>, Fail> {
+    let alloc = rt.alloc();
+    let mut devices = Vec::new(alloc);
+    for _number in 0..count {
+        let quiet: Box<dyn Device> = Box::new(alloc, Quiet::new())?;
+        devices.push(quiet)?;
+    }
+    Ok(devices)
+}
+
+/// The drive stands at this party among thirty devices.
+fn compare_party(rt: &(impl Abort + AllocGlobal), party: u8) -> Result<(), Fail>
+    requires { (1 ≤ party) × (party ≤ 30) }
+{
+    let (before, after) = (quiets(rt, party - 1)?, quiets(rt, 30 - party)?);
+    let mut records = tools::store(rt, tape(rt, 0, 0)?, before, after, &[])?;
+    assert!(rt; write_and_read(rt, &mut records).is_ok(), "{party}");
+    let ring = records.into_ring();
+    assert!(rt; is_read(30, ring.log()), "{party}");
+    let mut effects = on_zeros(rt, party)?;
+    assert!(rt; first_fault(&mut effects, ring.log()).is_none(), "{party}");
+    assert!(rt;
+        effects.allows(8, &[6; 256]) && !effects.allows(8, &[0; 256]),
+        "{party}"
+    );
+    Ok(())
+}
+
+#[test]
+fn drive_at_every_party(rt: HostRuntime) -> Result<(), Fail> {
+    for party in 1..=30 {
+        compare_party(&rt, party)?;
     }
     Ok(())
 }
@@ -273,15 +328,15 @@ fn changed_logs(rt: HostRuntime) -> Result<(), Fail> {
     for (change, place, refused) in OUT_OF_ORDER {
         let log = changed(&rt, ring.log(), change, place)?;
         assert!(rt;
-            same(out_of_order(&log), Some(refused)),
+            same(out_of_order(2, &log), Some(refused)),
             "{place} {refused}"
         );
     }
     for (change, place, turn, fault) in IN_ORDER {
         let log = changed(&rt, ring.log(), change, place)?;
-        assert!(rt; out_of_order(&log).is_none(), "{place}");
-        assert!(rt; same(out_of_turn(&log), turn), "{place}");
-        let mut effects = on_zeros(&rt)?;
+        assert!(rt; out_of_order(2, &log).is_none(), "{place}");
+        assert!(rt; same(out_of_turn(2, &log), turn), "{place}");
+        let mut effects = on_zeros(&rt, 2)?;
         assert!(rt; same(first_fault(&mut effects, &log), fault), "{place}");
     }
     Ok(())
