@@ -186,18 +186,12 @@ fn note(found: &mut [Option<u8>; ADDRESSES], told: Option<(u8, Option<u8>)>)
 fn is_ifc(frame: Frame) -> bool
     ensures { result ≡ control_back.is_ifc (message_of frame) }
 {
-    match frame.message() {
-        Message::Ifc => true,
-        _ => false,
-    }
+    matches!(frame.message(), Message::Ifc)
 }
 
 /// Whether the frame is take control.
 fn is_tct(frame: Frame) -> bool
     ensures { result ≡ takes.is_tct (message_of frame) }
 {
-    match frame.message() {
-        Message::Tct => true,
-        _ => false,
-    }
+    matches!(frame.message(), Message::Tct)
 }
