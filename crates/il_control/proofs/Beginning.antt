@@ -24,7 +24,6 @@ use Rattle.loop_model.proofs.RoleSteps.{roles_after-kept}
 use Rattle.il_ring.specs.declared.plan.Arrival.{Arrival}
 use Rattle.il_ring.specs.declared.plan.Arrival.TheVariants as arrival
 use Rattle.il_ring.specs.declared.flight.Flight.{Flight}
-use Rattle.il_ring.specs.Books.{IsHeld}
 use Rattle.il_ring.specs.Flights.{sourced}
 use Rattle.il_ring.specs.Lists.{Each, First, NoneSends}
 use Rattle.il_ring.specs.Rings.{RingView, IsRing, Round, devices_of, roles_of, drive_party}
@@ -32,7 +31,7 @@ use Rattle.il_ring.specs.Rounded.{Rounded, holding}
 use Rattle.il_ring.specs.Outcomes.{met_between, DriveTook, IsBrought, IsHeldNow, IsLostNow, LetsPass, StartReturned, StartGone, StartTaken, DriveSawStart, DriveDid}
 use Rattle.il_ring.specs.Journeys.{is_exact}
 use Rattle.il_ring.proofs.Passing.{Carries, Exactly}
-use Rattle.il_ring.proofs.Rings.{IsRing-round}
+use Rattle.il_ring.proofs.Rings.{IsRing-send}
 use Rattle.il_ring.proofs.RoundAdds.{answered_some, did_had, host_did, host_adds, host_came, none_new, held_new}
 use Rattle.il_ring.proofs.RoundCounts.{round_counts}
 use Rattle.il_ring.proofs.SendLaws.{kept_sent}
@@ -105,7 +104,7 @@ module _ {M : Type 0} (view : M → MediumView) (r s : RingView M) (held : Optio
   carries = Exactly (start_exact start) refl
 
   ring : IsRing s
-  ring = IsRing-round view r s held (sourced 0 f) answer round free.ring (subst IsHeld (sym none) tt)
+  ring = IsRing-send view r s held f answer round free.ring (inl none)
 
   unheard : Unheard r s
   unheard = deaf_unheard 1 (devices_of r) (devices_of s) (kept_sent view r s held (sourced 0 f) answer round) (calm_deaf 1 (devices_of r) calm)

@@ -15,7 +15,6 @@ use Rattle.loop_model.proofs.RoleSteps.{kept_entry, OneTalker-silent}
 use Rattle.il_ring.specs.declared.plan.Arrival.{Arrival}
 use Rattle.il_ring.specs.declared.plan.Arrival.TheVariants as arrival
 use Rattle.il_ring.specs.declared.flight.Flight.{Flight}
-use Rattle.il_ring.specs.Books.{IsHeld}
 use Rattle.il_ring.specs.Flights.{sourced}
 use Rattle.il_ring.specs.Lists.{AllSilent}
 use Rattle.il_ring.specs.Outcomes.{met_between, DriveTook, IsBrought, CameAltered, WasLost, DataReturned, DataBroken}
@@ -26,7 +25,7 @@ use Rattle.il_ring.proofs.DataPasses.{same_served}
 use Rattle.il_ring.proofs.PassKinds.{Silent}
 use Rattle.il_ring.proofs.Passing.{AsData}
 use Rattle.il_ring.proofs.RelayRounds.{wrong_echo}
-use Rattle.il_ring.proofs.Rings.{IsRing-round}
+use Rattle.il_ring.proofs.Rings.{IsRing-send}
 use Rattle.il_ring.proofs.RoundAdds.{DriveCame}
 use Rattle.il_ring.proofs.SendLaws.{data_sent}
 use Rattle.il_ring.proofs.Splits.{each_silent}
@@ -66,7 +65,7 @@ module _ {M : Type 0} (view : M → MediumView) (byte : ℕ) (r s : RingView M) 
   still o free adds =
       let same : roles_of (devices_of s) ≡ roles_of (devices_of r) = adds.roles ∙ kept_entry (roles_of (devices_of r)) (entry 0 (dab byte) o) refl in
       record {
-        free = record { ring = IsRing-round view r s held (sourced 0 (dab byte)) answer round idle.free.ring (subst IsHeld (sym none) tt); held = free };
+        free = record { ring = IsRing-send view r s held (dab byte) answer round idle.free.ring (inl none); held = free };
         silent = ap talkers same ∙ idle.silent;
         numbered = ap (are_numbered 1) same ∙ idle.numbered;
       }

@@ -21,7 +21,6 @@ use Rattle.il_ring.specs.declared.plan.Arrival.{Arrival}
 use Rattle.il_ring.specs.declared.plan.Arrival.TheVariants as arrival
 use Rattle.il_ring.specs.declared.flight.Flight.{Flight}
 use Rattle.il_ring.specs.Plans.{hops_of}
-use Rattle.il_ring.specs.Books.{IsHeld}
 use Rattle.il_ring.specs.Flights.{sourced}
 use Rattle.il_ring.specs.Rings.{RingView, IsRing, Round, devices_of, drive_party, spare_of}
 use Rattle.il_ring.specs.Outcomes.{met_between, DriveTook, HearsNothing}
@@ -41,7 +40,7 @@ use Rattle.il_ring.specs.Lists.{Each, First}
 use Rattle.il_device.specs.State.{DeviceState}
 use Rattle.il_drive.specs.State.{device_of}
 use Rattle.il_frames.specs.declared.entry.Outcome.{Outcome}
-use Rattle.il_ring.proofs.Rings.{IsRing-round}
+use Rattle.il_ring.proofs.Rings.{IsRing-send}
 use Rattle.il_ring.specs.Outcomes.{Obeys}
 use Rattle.il_control.specs.Brought.{ComesAs, Brought, CutBrought, is_from_here}
 use Rattle.il_control.specs.Calls.{Unheard, Whole, Broke, IsFree}
@@ -291,7 +290,7 @@ pass_call view Q P R passes hears r s held f answer round none free fit is carri
     let fit_before = each_front P 1 r.before (device_of r.drive.state ∷ r.after) fit in
     let passed = passed_round view Q P R passes r s held f answer free.ring.crossings fit is round in
     let took = passed_drive view Q P R passes r s held f answer free.ring.crossings fit_before is round in
-    let ring = IsRing-round view r s held (sourced 0 f) answer round free.ring (subst IsHeld (sym none) tt) in
+    let ring = IsRing-send view r s held f answer round free.ring (inl none) in
     let as_sent : (g : Frame) → Q (1 + length r.before) g → ComesAs (drive_party r) f g = λ g at. let here : 1 + length r.before ≡ drive_party r = omega arith in comes g (subst (λ k. Q k g) here at) in
     ⊎_elim
     (λ end.

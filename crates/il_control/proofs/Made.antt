@@ -18,7 +18,7 @@ use Rattle.loop_model.specs.Entries.{is_no_nrd}
 use Rattle.loop_model.specs.Exchanges.Piece.{Whole as WholeOne}
 use Rattle.loop_model.proofs.RoleLaws.{talkers-whole}
 use Rattle.loop_model.proofs.RoundLaws.{OneTalker-safe, OneTalker-cut, safe_exchange, keeps_addresses, are_numbered-piece}
-use Rattle.il_ring.specs.Rings.{RingView, devices_of, roles_of, drive_party}
+use Rattle.il_ring.specs.Rings.{RingView, ring_emptied, devices_of, roles_of, drive_party}
 use Rattle.il_ring.proofs.Rings.{IsRing-clear}
 use Rattle.il_control.specs.Calls.{Whole, Broke, IsIdle, IsLost, loop_of, is_command, Made, BrokenOff}
 use Rattle.il_control.proofs.HeldAtEnd.{quiet_ended, command_quiet}
@@ -108,8 +108,8 @@ command_broken view f r s idle is broke =
 -- ---- an emptied log
 
 -- leaves the state
-pub idle_cleared : {M : Type 0} (r : RingView M) → IsIdle r → IsIdle (record r { books = record r.books { log = [] } })
+pub idle_cleared : {M : Type 0} (r : RingView M) → IsIdle r → IsIdle (ring_emptied r)
 idle_cleared r idle = record { free = record { ring = IsRing-clear r idle.free.ring; held = idle.free.held }; silent = idle.silent; numbered = idle.numbered }
 
-pub lost_cleared : {M : Type 0} (r : RingView M) → IsLost r → IsLost (record r { books = record r.books { log = [] } })
+pub lost_cleared : {M : Type 0} (r : RingView M) → IsLost r → IsLost (ring_emptied r)
 lost_cleared r lost = record { free = record { ring = IsRing-clear r lost.free.ring; held = lost.free.held }; one = lost.one }

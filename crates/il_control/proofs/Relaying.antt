@@ -30,7 +30,7 @@ use Rattle.il_ring.proofs.DataPasses.{same_served}
 use Rattle.il_ring.proofs.Passing.{AsData}
 use Rattle.il_ring.proofs.RelayDrive.{relay_at_drive}
 use Rattle.il_ring.proofs.RelayRounds.{wrong_echo}
-use Rattle.il_ring.proofs.Rings.{IsRing-round}
+use Rattle.il_ring.proofs.Rings.{IsRing-relay}
 use Rattle.il_ring.proofs.RolesHome.{device_round}
 use Rattle.il_ring.proofs.RoundAdds.{DriveCame, answered_some, did_had, device_adds, device_came, device_did, none_new, held_new}
 use Rattle.il_ring.proofs.RoundCounts.{round_counts}
@@ -183,7 +183,7 @@ module _ {M : Type 0} (view : M → MediumView) (m s : RingView M) (h : IsHoldin
       place
 
   ring : IsRing s
-  ring = IsRing-round view m s None h.flight answer round h.ring tt
+  ring = IsRing-relay view m s h.flight answer round h.ring h.held
 
   unheard : Unheard m s
   unheard = deaf_unheard 1 (devices_of m) (devices_of s) (kept_sent view m s None h.flight answer round) h.deaf

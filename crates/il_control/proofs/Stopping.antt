@@ -21,7 +21,6 @@ use Rattle.loop_model.specs.Exchanges.{Echo, FrameLost, Stopped, echoed, returne
 use Rattle.il_ring.specs.declared.plan.Arrival.{Arrival}
 use Rattle.il_ring.specs.declared.plan.Arrival.TheVariants as arrival
 use Rattle.il_ring.specs.declared.flight.Flight.{Flight}
-use Rattle.il_ring.specs.Books.{IsHeld}
 use Rattle.il_ring.specs.Flights.{sourced}
 use Rattle.il_ring.specs.Lists.{First}
 use Rattle.il_ring.specs.Rings.{RingView, IsRing, Round, devices_of, drive_party}
@@ -34,7 +33,7 @@ use Rattle.il_ring.proofs.EndsHome.{any_each}
 use Rattle.il_ring.proofs.Passing.{Exactly}
 use Rattle.il_ring.proofs.PassKinds.{Is, Any, plain_passes}
 use Rattle.il_ring.proofs.PassRounds.{passed_round}
-use Rattle.il_ring.proofs.Rings.{IsRing-round}
+use Rattle.il_ring.proofs.Rings.{IsRing-send}
 use Rattle.il_ring.proofs.RoundAdds.{DriveCame, answered_some, did_had, host_did, host_adds, host_came, none_new, plain_new}
 use Rattle.il_ring.proofs.RoundCounts.{round_counts}
 use Rattle.il_ring.proofs.SendLaws.{kept_sent}
@@ -123,7 +122,7 @@ module _ {M : Type 0} (view : M → MediumView) (m n : RingView M) (h : IsHoldin
   held_one = sym is ∙ h.held
 
   ring : IsRing n
-  ring = IsRing-round view m n held (sourced 0 nrd) answer round h.ring (subst IsHeld is h.ring.held)
+  ring = IsRing-send view m n held nrd answer round h.ring (inr (sym is))
 
   took : DriveTook view (Is nrd (1 + length m.before)) m n
   took = passed_drive view (Is nrd) Any (Obeys msg.Nrd) (plain_passes nrd refl) m n held nrd answer h.ring.crossings (any_each 1 m.before) refl round

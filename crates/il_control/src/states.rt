@@ -1,7 +1,7 @@
 ghost use Rattle.std.specs.Prelude.{◌≡◌, ◌≤◌, ◌<◌, ◌+◌, [], true, length, IfSome, IfOk, IfErr, not, is_some};
 ghost use Rattle.il_frames.specs.Messages.{message_of};
 ghost use Rattle.loop_model.specs.Exchanges.Exchange.{Command, Identify, Send};
-ghost use Rattle.il_ring.specs.Rings.{spare_of, devices_of};
+ghost use Rattle.il_ring.specs.Rings.{spare_of, devices_of, ring_emptied};
 ghost use Rattle.il_ring.specs.Lists.{Each};
 ghost use Rattle.il_ring.specs.Polls.{identified_along};
 ghost use Rattle.il_control.specs.Calls.{idy, IsIdle, IsLost, is_command, Made, BrokenOff, Obeyed, ObeyedInPart, AllStay, Resumed, NotResumed, IsTold, Sent, NotSent};
@@ -91,7 +91,7 @@ impl<M: Medium> Sending<M> {
     /// Empties the log of the ring.
     pub fn clear_log(&mut self)
         requires idle { IsIdle (⟦<Sending<M> as Seen<M>>⟧.seen self.old) }
-        ensures { ⟦<Sending<M> as Seen<M>>⟧.seen self.new ≡ record (⟦<Sending<M> as Seen<M>>⟧.seen self.old) { books = record (⟦<Sending<M> as Seen<M>>⟧.seen self.old).books { log = [] } } }
+        ensures { ⟦<Sending<M> as Seen<M>>⟧.seen self.new ≡ ring_emptied (⟦<Sending<M> as Seen<M>>⟧.seen self.old) }
     {
         self.ring.clear_log();
     }
@@ -145,7 +145,7 @@ impl<M: Medium> Lost<M> {
     /// Empties the log of the ring.
     pub fn clear_log(&mut self)
         requires lost { IsLost (⟦<Lost<M> as Seen<M>>⟧.seen self.old) }
-        ensures { ⟦<Lost<M> as Seen<M>>⟧.seen self.new ≡ record (⟦<Lost<M> as Seen<M>>⟧.seen self.old) { books = record (⟦<Lost<M> as Seen<M>>⟧.seen self.old).books { log = [] } } }
+        ensures { ⟦<Lost<M> as Seen<M>>⟧.seen self.new ≡ ring_emptied (⟦<Lost<M> as Seen<M>>⟧.seen self.old) }
     {
         self.ring.clear_log();
     }
@@ -258,7 +258,7 @@ impl<M: Medium> Idle<M> {
     /// Empties the log of the ring.
     pub fn clear_log(&mut self)
         requires idle { IsIdle (⟦<Idle<M> as Seen<M>>⟧.seen self.old) }
-        ensures { ⟦<Idle<M> as Seen<M>>⟧.seen self.new ≡ record (⟦<Idle<M> as Seen<M>>⟧.seen self.old) { books = record (⟦<Idle<M> as Seen<M>>⟧.seen self.old).books { log = [] } } }
+        ensures { ⟦<Idle<M> as Seen<M>>⟧.seen self.new ≡ ring_emptied (⟦<Idle<M> as Seen<M>>⟧.seen self.old) }
     {
         self.ring.clear_log();
     }

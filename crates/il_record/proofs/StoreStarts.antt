@@ -7,7 +7,7 @@ use Rattle.il_ports.specs.Media.{MediumView}
 use Rattle.il_ports.specs.Stores.{RecordsView, Begun, Resumed}
 use Rattle.il_drive.specs.Steps.{IsStill}
 use Rattle.il_drive.specs.Resting.{IsFree}
-use Rattle.il_ring.specs.Rings.{RingView, IsRing, devices_of, drive_party, spare_of}
+use Rattle.il_ring.specs.Rings.{RingView, IsRing, ring_emptied, devices_of, drive_party, spare_of}
 use Rattle.il_ring.specs.Lists.{Each}
 use Rattle.il_ring.proofs.Rings.{IsRing-clear}
 use Rattle.il_control.specs.Calls.{AllStay, IsFree as IsFreeRing, IsLost, loop_of}
@@ -95,25 +95,22 @@ module _ {M S : Type 0} (view : M → MediumView) (seen : S → RingView M) (p q
 
 -- ---- the log is emptied
 
-abbrev pub cleared : {M : Type 0} → RingView M → RingView M
-cleared r = record r { books = record r.books { log = [] } }
-
 -- a start that is this ring
 abbrev pub IsStart : {M S : Type 0} → (S → RingView M) → Option S → RingView M → Type 0
 IsStart seen start r = FromStart seen start (λ s. s ≡ r)
 
-emptied_is : {M S : Type 0} (seen : S → RingView M) (p q : Option S) (r : RingView M) → IsStart seen p r → IsStart seen q (cleared r) → IsEmptied seen p q
+emptied_is : {M S : Type 0} (seen : S → RingView M) (p q : Option S) (r : RingView M) → IsStart seen p r → IsStart seen q (ring_emptied r) → IsEmptied seen p q
 emptied_is seen None q r one two = absurd one
 emptied_is seen (Some a) None r one two = absurd two
-emptied_is {M} seen (Some a) (Some b) r one two = subst (λ (r : RingView M). seen b ≡ cleared r) (sym one) two
+emptied_is {M} seen (Some a) (Some b) r one two = subst (λ (r : RingView M). seen b ≡ ring_emptied r) (sym one) two
 
 pub nothing_since : {M S : Type 0} (view : M → MediumView) (seen : S → RingView M) (q : Option S) (s : RingView M) → IsFreeRing s → IsStart seen q s → FromStart seen q (λ start. Stood view since.Unbroken start s)
 nothing_since view seen None s free is = absurd is
 nothing_since {M} view seen (Some b) s free is =
     subst (λ (start : RingView M). Stood view since.Unbroken start s) (sym is) (record { free = free; unheard = λ none. heard_same (drive_party s) s; by = inl refl })
 
-module _ {M S : Type 0} (view : M → MediumView) (seen : S → RingView M) (p q : Option S) (sound : Bool) (log : Since) (resumes : ℕ) (valid_old valid_new : Type 0) (failed_old failed_new : Option Trouble → Type 0) (ready : Bool) (none : failed_new None) (r : RingView M) (free : IsFreeRing r) (here : IsStart seen p r) (there : IsStart seen q (cleared r)) where
-  pub begun : valid_new → Begun (over_ring view seen p valid_old failed_old ready sound log resumes r) (over_ring view seen q valid_new failed_new ready sound since.Unbroken 0 (cleared r))
+module _ {M S : Type 0} (view : M → MediumView) (seen : S → RingView M) (p q : Option S) (sound : Bool) (log : Since) (resumes : ℕ) (valid_old valid_new : Type 0) (failed_old failed_new : Option Trouble → Type 0) (ready : Bool) (none : failed_new None) (r : RingView M) (free : IsFreeRing r) (here : IsStart seen p r) (there : IsStart seen q (ring_emptied r)) where
+  pub begun : valid_new → Begun (over_ring view seen p valid_old failed_old ready sound log resumes r) (over_ring view seen q valid_new failed_new ready sound since.Unbroken 0 (ring_emptied r))
   begun valid = record {
     valid = valid;
     quiet = record { tape = refl; moment = refl; since = record { nothing_else = λ m t left. left; keeps = λ m t left. left } };
@@ -126,13 +123,13 @@ module _ {M S : Type 0} (view : M → MediumView) (seen : S → RingView M) (p q
     enough = omega arith;
     room = refl;
     emptied = emptied_is seen p q r here there;
-    stood = nothing_since view seen q (cleared r) free_cleared there;
+    stood = nothing_since view seen q (ring_emptied r) free_cleared there;
     transferred = record { reading = record { pieces = []; legal = refl; entries = refl }; outside = refl; good = refl; are = refl };
     failed = none;
     resumed = refl;
   }
     where
-      free_cleared : IsFreeRing (cleared r)
+      free_cleared : IsFreeRing (ring_emptied r)
       free_cleared = record { ring = IsRing-clear r free.ring; held = free.held }
 
 -- a new store

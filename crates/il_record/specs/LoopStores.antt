@@ -9,7 +9,7 @@ use Rattle.loop_model.specs.Reach.{met}
 use Rattle.loop_model.specs.Units.{units_of}
 use Rattle.il_ring.specs.Plans.{hops_of}
 use Rattle.il_ring.specs.Lists.{Each}
-use Rattle.il_ring.specs.Rings.{RingView, devices_of, drive_party, spare_of}
+use Rattle.il_ring.specs.Rings.{RingView, ring_emptied, devices_of, drive_party, spare_of}
 use Rattle.il_control.specs.Calls.{IsFree as IsFreeRing, IsIdle, IsLost, loop_of}
 use Rattle.il_record.specs.declared.records.Since.{Since}
 use Rattle.il_record.specs.declared.records.Since.TheVariants as since
@@ -120,7 +120,7 @@ FromStart seen (Some s) P = P (seen s)
 
 -- the second start is the first with its log emptied
 abbrev pub IsEmptied : {M S : Type 0} → (S → RingView M) → Option S → Option S → Type 0
-IsEmptied seen a b = FromStart seen a (λ r. FromStart seen b (λ s. s ≡ record r { books = record r.books { log = [] } }))
+IsEmptied seen a b = FromStart seen a (λ r. FromStart seen b (λ s. s ≡ ring_emptied r))
 
 -- of a store whose ring is r
 abbrev pub over_ring : {M S : Type 0} → (M → MediumView) → (S → RingView M) → Option S → Type 0 → (Option Trouble → Type 0) → Bool → Bool → Since → ℕ → RingView M → RecordsView (Option S)
@@ -222,8 +222,8 @@ since_said _ = since.Mended
 
 -- with the log of its ring emptied
 abbrev pub with_empty_log : {M : Type 0} → Standing M → Standing M
-with_empty_log (AtIdle r) = AtIdle (record r { books = record r.books { log = [] } })
-with_empty_log (AtLost r) = AtLost (record r { books = record r.books { log = [] } })
+with_empty_log (AtIdle r) = AtIdle (ring_emptied r)
+with_empty_log (AtLost r) = AtLost (ring_emptied r)
 with_empty_log Nowhere = Nowhere
 
 abbrev pub log_emptied : {M : Type 0} → LoopView M → LoopView M

@@ -48,6 +48,7 @@ pub adds_nothing : {M : Type 0} (view : M → MediumView) (r : RingView M) (a : 
 adds_nothing view r a = record {
   log = sym (append-nil r.books.log);
   plan = refl;
+  begun = refl;
   room = refl;
   before = refl;
   size = refl;
@@ -80,6 +81,7 @@ adds_more view r m s a b c xs ys first more =
     record {
       log = more.log ∙ ap (λ log. log ++ ys) first.log ∙ append_assoc r.books.log xs ys;
       plan = more.plan ∙ first.plan;
+      begun = more.begun ∙ first.begun;
       room = more.room ∙ first.room;
       before = more.before ∙ first.before;
       size = more.size ∙ first.size;
@@ -109,6 +111,7 @@ pub adds_held : {M : Type 0} (view : M → MediumView) (r s : RingView M) (a : O
 adds_held view r s a xs adds = record {
   log = adds.log;
   plan = adds.plan;
+  begun = adds.begun;
   room = adds.room;
   before = adds.before;
   size = adds.size;

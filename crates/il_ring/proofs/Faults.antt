@@ -73,7 +73,7 @@ one_more plan n within =
 pub risen_within : (n : ℕ) → risen n ≤ last_crossing
 risen_within n = omega arith
 
-risen_later : (n : ℕ) → n ≤ last_crossing → n ≤ risen n
+pub risen_later : (n : ℕ) → n ≤ last_crossing → n ≤ risen n
 risen_later n within = omega (arith, within)
 
 pub risen_by_later : (m n : ℕ) → n ≤ last_crossing → n ≤ risen_by m n

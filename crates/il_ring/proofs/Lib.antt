@@ -33,6 +33,7 @@ pub mod StartDrive
 pub mod RelayDrive
 pub mod Identify
 pub mod Kept
+pub mod Fates
 pub mod Papers
 pub mod Rings
 pub mod Examples

@@ -1,5 +1,5 @@
 -- What holds of a ring at every moment.
-use Rattle.std.proofs.Common.{◌≡◌, ◌≢◌, ◌≤◌, ◌+◌, ◌==◌, ℕ, suc, Bool, true, false, List, [], ◌∷◌, ◌++◌, Option, Some, None, length, refl, sym, ap, subst, ◌∙◌, arith, length-append}
+use Rattle.std.proofs.Common.{◌≡◌, ◌≢◌, ◌≤◌, ◌+◌, ◌==◌, ◌⊎◌, inl, inr, ℕ, suc, Bool, true, false, List, [], ◌∷◌, ◌++◌, Option, Some, None, length, refl, sym, ap, subst, ◌∙◌, arith, length-append}
 use Rattle.std.proofs.lemmas.Bool.{eq-eqb}
 use Rattle.il_frames.specs.declared.frame.Frame.{Frame}
 use Rattle.il_frames.specs.declared.entry.Entry.{Entry}
@@ -9,16 +9,18 @@ use Rattle.il_device.specs.Takes.{Takes}
 use Rattle.il_device.specs.declared.device.Out.{Out}
 use Rattle.il_device.specs.declared.device.Out.TheVariants.{Pass, Source}
 use Rattle.il_ports.specs.Media.{MediumView}
-use Rattle.il_drive.specs.State.{DriveView, IsDrive}
+use Rattle.il_drive.specs.State.{DriveView, IsDrive, device_of}
 use Rattle.il_ring.specs.declared.plan.Planned.{Planned}
 use Rattle.il_ring.specs.declared.plan.Arrival.{Arrival}
 use Rattle.il_ring.specs.declared.flight.Flight.{Flight}
 use Rattle.il_ring.specs.Plans.{next_fault, last_crossing, IsPlan}
-use Rattle.il_ring.specs.Flights.{hit, lost_at, ended_at}
+use Rattle.il_ring.specs.Flights.{sourced, hit, lost_at, ended_at}
 use Rattle.il_ring.specs.Books.{BooksView, IsHeld}
+use Rattle.il_ring.specs.Fates.{GoesByPlan, HoldsByPlan, ShowsPlan}
 use Rattle.il_ring.specs.Journeys.{Trip, trip_of, answered, Meets, Reaches, Journey, DriveTakes}
-use Rattle.il_ring.specs.Rings.{RingView, IsRing, Round, devices_of, books_at, comes, home, over_last_link}
+use Rattle.il_ring.specs.Rings.{RingView, IsRing, Round, devices_of, books_at, ring_emptied, comes, home, over_last_link}
 use Rattle.il_ring.proofs.Faults.{risen_within}
+use Rattle.il_ring.proofs.Fates.{passes_so, sourced_way, told_cleared, journey_so, reaches_so, home_told, starts_so}
 use Rattle.il_ring.proofs.RoundCounts.{round_journey}
 
 -- ---- as many devices
@@ -83,31 +85,32 @@ home-books : (b : BooksView) (flight : Option Flight) → AreBooks b → AreBook
 home-books b None are = record { crossings = are.crossings; held = tt }
 home-books b (Some f) are = over-books (record b { crossings = risen b.crossings }) f (hit (next_fault b.plan b.crossings) f) (record { crossings = risen_within b.crossings; held = are.held })
 
--- ---- plan and room stay, and the log grows by one entry a party at most
+-- ---- plan, room and where the log begins stay, and the log grows by one entry a party at most
 
--- the books at home: plan and room are as before, and there is one entry more at most
+-- the books at home: plan, room and where the log begins are as before, and there is one entry more at most
 record KeepsPlace (b c : BooksView) : Type 0 where
   plan : c.plan ≡ b.plan
   room : c.room ≡ b.room
+  begun : c.begun ≡ b.begun
   grows : length c.log ≤ length b.log + 1
 
 one_entry : (log : List Entry) (e : Entry) → length (log ++ e ∷ []) ≤ length log + 1
 one_entry log e = let len = length-append log (e ∷ []) in omega (arith, len)
 
 comes-place : (b : BooksView) (f : Flight) (own data_frame : Bool) → KeepsPlace b (comes b f own data_frame)
-comes-place b f true data_frame = record { plan = refl; room = refl; grows = one_entry b.log (ended_at f 0) }
-comes-place b f false true = record { plan = refl; room = refl; grows = omega arith }
-comes-place b f false false = record { plan = refl; room = refl; grows = one_entry b.log (ended_at f 0) }
+comes-place b f true data_frame = record { plan = refl; room = refl; begun = refl; grows = one_entry b.log (ended_at f 0) }
+comes-place b f false true = record { plan = refl; room = refl; begun = refl; grows = omega arith }
+comes-place b f false false = record { plan = refl; room = refl; begun = refl; grows = one_entry b.log (ended_at f 0) }
 
 over-place : (b : BooksView) (f : Flight) (o : Option Flight) → KeepsPlace b (over_last_link b f o)
-over-place b f None = record { plan = refl; room = refl; grows = one_entry b.log (lost_at f 0) }
+over-place b f None = record { plan = refl; room = refl; begun = refl; grows = one_entry b.log (lost_at f 0) }
 over-place b f (Some g) = comes-place b g (g.source == 0) (is_data g.now)
 
 home-place : (b : BooksView) (flight : Option Flight) → KeepsPlace b (home b flight)
-home-place b None = record { plan = refl; room = refl; grows = omega arith }
+home-place b None = record { plan = refl; room = refl; begun = refl; grows = omega arith }
 home-place b (Some f) =
     let over = over-place (record b { crossings = risen b.crossings }) f (hit (next_fault b.plan b.crossings) f) in
-    record { plan = over.plan; room = over.room; grows = over.grows }
+    record { plan = over.plan; room = over.room; begun = over.begun; grows = over.grows }
 
 module _ {M : Type 0} (view : M → MediumView) (r s : RingView M) (held : Option Flight) (f : Flight) (answer : Arrival) (round : Round view r held f answer s) where
   at_home : KeepsPlace (books_at (record r.books { held = held }) round.behind) s.books
@@ -118,6 +121,9 @@ module _ {M : Type 0} (view : M → MediumView) (r s : RingView M) (held : Optio
 
   pub round-room : s.books.room ≡ r.books.room
   round-room = at_home.room
+
+  pub round-begun : s.books.begun ≡ r.books.begun
+  round-begun = at_home.begun
 
 -- ---- the drive keeps its law
 
@@ -131,9 +137,20 @@ Reaches-drive view plan k t u (Some f) d e is reaches = Meets-drive view k t u f
 
 -- ---- what keeps it
 
--- a round does
-pub IsRing-round : {M : Type 0} (view : M → MediumView) (r s : RingView M) (held : Option Flight) (f : Flight) (answer : Arrival) → Round view r held f answer s → IsRing r → IsHeld held → IsRing s
-IsRing-round view r s held f answer round is is_held =
+-- the log tells the faults of the round as they were planned
+round-told : {M : Type 0} (view : M → MediumView) (r s : RingView M) (held : Option Flight) (f : Flight) (answer : Arrival) → Round view r held f answer s → IsRing r
+    → HoldsByPlan r.books.plan r.books.begun r.books.crossings held → GoesByPlan r.books.plan r.books.begun r.books.crossings f → ShowsPlan s.books
+round-told view r s held f answer round is ways way =
+    let b = record r.books { held = held } in
+    let to_drive = journey_so b 1 (trip_of r.books (Some f)) round.at_drive r.before s.before (starts_so r.books held f is.crossings ways way is.told) round.to_drive in
+    let past = reaches_so b (DriveTakes view) (λ d e f h (takes : DriveTakes view d f (Pass h) e). passes_so (device_of d.state) (device_of e.state) f h takes.takes) (length r.before + 1) round.at_drive round.past_drive round.at_drive.flight r.drive s.drive to_drive to_drive.way round.at in
+    let home = journey_so b (length r.before + 2) round.past_drive round.behind r.after s.after past round.from_drive in
+    subst ShowsPlan (sym round.books) (home_told b round.behind home)
+
+-- a round does, of a frame that is under way as planned, with one held meanwhile that stands so
+pub IsRing-round : {M : Type 0} (view : M → MediumView) (r s : RingView M) (held : Option Flight) (f : Flight) (answer : Arrival) → Round view r held f answer s → IsRing r → IsHeld held
+    → HoldsByPlan r.books.plan r.books.begun r.books.crossings held → GoesByPlan r.books.plan r.books.begun r.books.crossings f → IsRing s
+IsRing-round view r s held f answer round is is_held ways way =
     let at_drive = Journey-crossings r.books.plan 1 (trip_of r.books (Some f)) round.at_drive r.before s.before is.crossings round.to_drive in
     let past_drive = Reaches-crossings (DriveTakes view) r.books.plan (length r.before + 1) round.at_drive round.past_drive round.at_drive.flight r.drive s.drive at_drive round.at in
     let behind = Journey-crossings r.books.plan (length r.before + 2) round.past_drive round.behind r.after s.after past_drive round.from_drive in
@@ -146,8 +163,20 @@ IsRing-round view r s held f answer round is is_held =
       crossings = books.crossings;
       held = books.held;
       drive = Reaches-drive view r.books.plan (length r.before + 1) round.at_drive round.past_drive round.at_drive.flight r.drive s.drive is.drive round.at;
+      told = round-told view r s held f answer round is ways way;
     }
 
+-- of a frame of the host, with none held meanwhile, or the one that is
+pub IsRing-send : {M : Type 0} (view : M → MediumView) (r s : RingView M) (held : Option Flight) (f : Frame) (answer : Arrival) → Round view r held (sourced 0 f) answer s → IsRing r → (held ≡ None) ⊎ (held ≡ r.books.held) → IsRing s
+IsRing-send view r s held f answer round is (inl none) =
+    IsRing-round view r s held (sourced 0 f) answer round is (subst IsHeld (sym none) tt) (subst (HoldsByPlan r.books.plan r.books.begun r.books.crossings) (sym none) tt) (sourced_way r.books.plan r.books.begun r.books.crossings 0 f)
+IsRing-send view r s held f answer round is (inr same) =
+    IsRing-round view r s held (sourced 0 f) answer round is (subst IsHeld (sym same) is.held) (subst (HoldsByPlan r.books.plan r.books.begun r.books.crossings) (sym same) is.told.held) (sourced_way r.books.plan r.books.begun r.books.crossings 0 f)
+
+-- of the held frame
+pub IsRing-relay : {M : Type 0} (view : M → MediumView) (r s : RingView M) (f : Flight) (answer : Arrival) → Round view r None f answer s → IsRing r → r.books.held ≡ Some f → IsRing s
+IsRing-relay view r s f answer round is held = IsRing-round view r s None f answer round is tt tt (subst (HoldsByPlan r.books.plan r.books.begun r.books.crossings) held is.told.held)
+
 -- and so does an emptying of the log
-pub IsRing-clear : {M : Type 0} (r : RingView M) → IsRing r → IsRing (record r { books = record r.books { log = [] } })
-IsRing-clear r is = record { few = is.few; plan = is.plan; crossings = is.crossings; held = is.held; drive = is.drive }
+pub IsRing-clear : {M : Type 0} (r : RingView M) → IsRing r → IsRing (ring_emptied r)
+IsRing-clear r is = record { few = is.few; plan = is.plan; crossings = is.crossings; held = is.held; drive = is.drive; told = told_cleared r.books is.told }

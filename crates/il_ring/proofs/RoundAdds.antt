@@ -26,7 +26,7 @@ use Rattle.il_ring.proofs.RoundPlaces.{IsUnpolled, first_no_poll, quiet_unpolled
 use Rattle.il_ring.proofs.RoundRoles.{IsQuiet}
 use Rattle.il_ring.proofs.RoundCounts.{round_counts}
 use Rattle.il_ring.proofs.RolesHome.{host_round, device_round, others_leave}
-use Rattle.il_ring.proofs.Rings.{before-length, devices-length, round-plan, round-room}
+use Rattle.il_ring.proofs.Rings.{before-length, devices-length, round-plan, round-begun, round-room}
 
 -- ---- the drive
 
@@ -56,6 +56,7 @@ round_adds view P r s held f answer entries to round counts log new roles unpoll
     record {
       log = log;
       plan = round-plan view r s held f answer round;
+      begun = round-begun view r s held f answer round;
       room = round-room view r s held f answer round;
       before = before-length view r s held f answer round;
       size = devices-length view r s held f answer round;

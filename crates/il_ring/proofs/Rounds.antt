@@ -31,7 +31,8 @@ from_walks view before before_then drive drive_then after after_then party i j k
       homed
       ∙ ap (λ plan. home (record b₃ { plan = plan }) three) (k₃.plan ∙ k₂.plan ∙ k₁.plan)
       ∙ ap (λ room. home (record b₃ { plan = b₀.plan; room = room }) three) (k₃.room ∙ k₂.room ∙ k₁.room)
-      ∙ ap (λ held. home (record b₃ { plan = b₀.plan; room = b₀.room; held = held }) three) (k₃.held ∙ k₂.held ∙ k₁.held);
+      ∙ ap (λ held. home (record b₃ { plan = b₀.plan; room = b₀.room; held = held }) three) (k₃.held ∙ k₂.held ∙ k₁.held)
+      ∙ ap (λ begun. home (record b₃ { plan = b₀.plan; room = b₀.room; held = b₀.held; begun = begun }) three) (k₃.begun ∙ k₂.begun ∙ k₁.begun);
   answer_is = answered ∙ ap (λ plan. arrived (arriving plan b₃.crossings three)) (k₃.plan ∙ k₂.plan ∙ k₁.plan);
 }
 

@@ -21,6 +21,7 @@ use Rattle.il_ring.specs.Polls.{is_no_poll, KeepsPlace}
 pub record Adds {M : Type 0} (view : M → MediumView) (r : RingView M) (from : Option ℕ) (entries : List Entry) (to : Option ℕ) (s : RingView M) : Type 0 where
   pub log : s.books.log ≡ r.books.log ++ entries
   pub plan : s.books.plan ≡ r.books.plan
+  pub begun : s.books.begun ≡ r.books.begun
   pub room : s.books.room ≡ r.books.room
   pub before : length s.before ≡ length r.before
   pub size : length (devices_of s) ≡ length (devices_of r)

@@ -1,16 +1,17 @@
 -- What a ring keeps beside its devices.
-use Rattle.std.specs.Prelude.{◌≡◌, ◌≢◌, ◌<◌, ◌≤◌, ◌+◌, ℕ, true, List, length, drop, Option, Some, None}
+use Rattle.std.specs.Prelude.{◌≡◌, ◌≢◌, ◌<◌, ◌≤◌, ◌+◌, ℕ, true, List, [], length, drop, Option, Some, None}
 use Rattle.il_frames.specs.declared.entry.Entry.{Entry}
 use Rattle.il_frames.specs.Frames.{is_data}
 use Rattle.il_ring.specs.declared.plan.Planned.{Planned}
 use Rattle.il_ring.specs.declared.flight.Flight.{Flight}
 use Rattle.il_ring.specs.Plans.{last_crossing, fault_at, rises_from}
 
--- the planned faults; how many crossings of links there were; the log, oldest entry first; how many entries it has room
--- for; and a data or end frame of a device that stands at the host
+-- the planned faults; how many crossings of links there were, and how many as the log was last emptied with no frame held;
+-- the log, oldest entry first; how many entries it has room for; and a data or end frame of a device that stands at the host
 pub record BooksView : Type 0 where
   pub plan : List Planned
   pub crossings : ℕ
+  pub begun : ℕ
   pub log : List Entry
   pub room : ℕ
   pub held : Option Flight
@@ -19,6 +20,15 @@ pub record BooksView : Type 0 where
 abbrev pub IsHeld : Option Flight → Type 0
 IsHeld None = Unit {0}
 IsHeld (Some f) = (f.source ≢ 0) × (is_data f.now ≡ true)
+
+-- where the log begins that is emptied after so many crossings: here, or where it began while a frame is held
+abbrev pub begun_anew : Option Flight → ℕ → ℕ → ℕ
+begun_anew None crossings begun = crossings
+begun_anew (Some f) crossings begun = begun
+
+-- the books with an empty log
+abbrev pub books_emptied : BooksView → BooksView
+books_emptied b = record b { log = []; begun = begun_anew b.held b.crossings b.begun }
 
 -- what holds of the books at every moment, with so many entries in memory for so many
 pub record IsBooks (count capacity : ℕ) (b : BooksView) : Type 0 where
@@ -33,9 +43,10 @@ pub record IsPassed (plan : List Planned) (crossings passed : ℕ) : Type 0 wher
   pub later : (n : ℕ) → crossings < n → fault_at plan n ≡ fault_at (drop passed plan) n
   pub coming : rises_from crossings (drop passed plan) ≡ true
 
--- a frame went past so many parties: plan, room and held frame are as before, and the log grew by so many entries at most
+-- a frame went past so many parties: plan, room, held frame and where the log begins are as before, and the log grew by so many entries at most
 pub record KeepsBooks (parties : ℕ) (old new : BooksView) : Type 0 where
   pub plan : new.plan ≡ old.plan
   pub room : new.room ≡ old.room
   pub held : new.held ≡ old.held
+  pub begun : new.begun ≡ old.begun
   pub grows : length new.log ≤ length old.log + parties

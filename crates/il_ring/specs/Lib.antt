@@ -1,6 +1,7 @@
 pub mod Plans
 pub mod Flights
 pub mod Books
+pub mod Fates
 pub mod Journeys
 pub mod Rings
 pub mod Lists

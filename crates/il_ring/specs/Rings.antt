@@ -11,7 +11,8 @@ use Rattle.il_ring.specs.declared.plan.Arrival.{Arrival}
 use Rattle.il_ring.specs.declared.plan.Arrival.TheVariants as arrival
 use Rattle.il_ring.specs.Plans.{next_fault, last_crossing, IsPlan}
 use Rattle.il_ring.specs.Flights.{hit, lost_at, ended_at}
-use Rattle.il_ring.specs.Books.{BooksView, IsHeld}
+use Rattle.il_ring.specs.Books.{BooksView, IsHeld, books_emptied}
+use Rattle.il_ring.specs.Fates.{ShowsPlan}
 use Rattle.il_ring.specs.Journeys.{Trip, trip_of, Passage, Journey, DriveTakes}
 
 -- the devices before the drive, the drive with its medium, the devices behind it, and the books
@@ -37,13 +38,15 @@ drive_party r = length r.before + 1
 abbrev pub spare_of : {M : Type 0} → RingView M → ℕ
 spare_of r = r.books.room - length r.books.log
 
--- what holds of a ring at every moment from its making on; its drive is one over a tape of some number of records
+-- what holds of a ring at every moment from its making on; its drive is one over a tape of some number of records, and its
+-- log tells the planned faults as they were planned
 pub record IsRing {M : Type 0} (r : RingView M) : Type 0 where
   pub few : length r.before + length r.after ≤ 29
   pub plan : IsPlan r.books.plan
   pub crossings : r.books.crossings ≤ last_crossing
   pub held : IsHeld r.books.held
   pub drive : (n : ℕ) × IsDrive n r.drive.state
+  pub told : ShowsPlan r.books
 
 -- ---- a new ring
 
@@ -57,7 +60,11 @@ MayStand d = IsIdle d × (d.accessory ≢ Some drive_id) × IsDevice d
 
 -- nothing has happened yet
 abbrev pub fresh_books : List Planned → ℕ → BooksView
-fresh_books plan room = record { plan = plan; crossings = 0; log = []; room = room; held = None }
+fresh_books plan room = record { plan = plan; crossings = 0; begun = 0; log = []; room = room; held = None }
+
+-- with an empty log
+abbrev pub ring_emptied : {M : Type 0} → RingView M → RingView M
+ring_emptied r = record r { books = books_emptied r.books }
 
 -- ---- the printer
 

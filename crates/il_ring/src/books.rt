@@ -2,7 +2,7 @@ ghost use Rattle.std.specs.Prelude.{◌≡◌, ◌+◌, ◌-◌, ◌<◌, ◌≤
 ghost use Rattle.il_device.specs.State.{risen};
 ghost use Rattle.il_ring.specs.Plans.{next_fault, IsPlan};
 ghost use Rattle.il_ring.specs.Flights.{hit, lost_at, ended_at};
-ghost use Rattle.il_ring.specs.Books.{IsHeld};
+ghost use Rattle.il_ring.specs.Books.{IsHeld, books_emptied};
 ghost use Rattle.il_frames.specs.Frames.{is_data};
 ghost use Rattle.il_ring.specs.Rings.{fresh_books, home, comes, arrived, arriving};
 
@@ -18,6 +18,8 @@ use std::marker::Model;
 pub(crate) struct Books {
     plan: Vec<Planned>,
     crossings: u64,
+    /// How many there were as the log was last emptied with no frame held.
+    begun: u64,
     /// How many of the planned faults lie at the crossings that were counted.
     passed: usize,
     log: Vec<Entry>,
@@ -31,9 +33,9 @@ impl Model for Books {
 
     ghost Value = { BooksView };
 
-    ghost view = { λ b. record { plan = b.plan.items; crossings = b.crossings; log = b.log.items; room = b.room; held = b.held } };
+    ghost view = { λ b. record { plan = b.plan.items; crossings = b.crossings; begun = b.begun; log = b.log.items; room = b.room; held = b.held } };
 
-    ghost invariant = { λ b. IsBooks (vec_len b.log) (vec_capacity b.log) (record { plan = b.plan.items; crossings = b.crossings; log = b.log.items; room = b.room; held = b.held })
+    ghost invariant = { λ b. IsBooks (vec_len b.log) (vec_capacity b.log) (record { plan = b.plan.items; crossings = b.crossings; begun = b.begun; log = b.log.items; room = b.room; held = b.held })
         × IsPassed b.plan.items b.crossings b.passed };
 }
 
@@ -47,6 +49,7 @@ impl Books {
         Ok(Books {
             plan: plan.to_vec(alloc)?,
             crossings: 0,
+            begun: 0,
             passed: 0,
             log: Vec::with_capacity(alloc, room)?,
             room,
@@ -68,11 +71,14 @@ impl Books {
         &self.log
     }
 
-    /// Empties the log.
+    /// Empties the log, which begins here where no frame is held.
     pub fn clear_log(&mut self)
-        ensures { self.new ≡ record self.old { log = [] } }
+        ensures { self.new ≡ books_emptied self.old }
     {
         self.log.clear();
+        if self.held.is_none() {
+            self.begun = self.crossings;
+        }
     }
 
     /// How many crossings of links there were.

@@ -9,7 +9,7 @@ ghost use Rattle.loop_model.specs.Roles.{talkers, is_at_most_one};
 ghost use Rattle.il_drive.specs.State.{fresh_drive, IsDrive};
 ghost use Rattle.il_ring.specs.Plans.{IsPlan};
 ghost use Rattle.il_ring.specs.Flights.{sourced};
-ghost use Rattle.il_ring.specs.Rings.{RingView, IsRing, Round, devices_of, roles_of, drive_party, spare_of, fresh_books, paper_of};
+ghost use Rattle.il_ring.specs.Rings.{RingView, IsRing, Round, devices_of, roles_of, drive_party, spare_of, fresh_books, ring_emptied, paper_of};
 ghost use Rattle.il_ring.specs.Lists.{AllSilent, NoneSends};
 ghost use Rattle.il_ring.specs.Rounded.{Rounded, IsReady};
 ghost use Rattle.il_ring.specs.Outcomes.{Returned, WasLost, DataReturned, DataBroken, StartReturned, StartGone, StartTaken, AllKeep, IsTalking, StoodSo, Relayed};
@@ -139,9 +139,9 @@ impl<M: Medium> Ring<M> {
         self.parts.books.log()
     }
 
-    /// Empties the log. The count of crossings and the held frame stay.
+    /// Empties the log. The count of crossings and the held frame stay. The log begins here, where no frame is held.
     pub fn clear_log(&mut self)
-        ensures { ⟦<Ring<M> as Seen<M>>⟧.seen self.new ≡ record (⟦<Ring<M> as Seen<M>>⟧.seen self.old) { books = record (⟦<Ring<M> as Seen<M>>⟧.seen self.old).books { log = [] } } }
+        ensures { ⟦<Ring<M> as Seen<M>>⟧.seen self.new ≡ ring_emptied (⟦<Ring<M> as Seen<M>>⟧.seen self.old) }
     {
         self.parts.books.clear_log();
     }
