@@ -1,5 +1,5 @@
 -- What a command makes of a volume whose directory is kept: first the file, where it has one, and then the commit.
-use Rattle.std.proofs.Common.{◌≡◌, ◌⊎◌, ◌<◌, ◌≤◌, ◌+◌, ◌-◌, ◌*◌, ◌/◌, ◌%◌, ◌++◌, ◌&&◌, not, ℕ, List, [], ◌∷◌, Bool, false, if◌then◌else◌, length, map, get_or, min, inl, inr, refl, sym, ap, subst, ◌∙◌, arith, append_assoc}
+use Rattle.std.proofs.Common.{◌≡◌, ◌⊎◌, ◌<◌, ◌≤◌, ◌+◌, ◌-◌, ◌*◌, ◌/◌, ◌%◌, ◌++◌, ◌&&◌, not, ⊎_elim, ℕ, List, [], ◌∷◌, Bool, true, false, if◌then◌else◌, length, map, get_or, min, inl, inr, refl, sym, ap, subst, ◌∙◌, arith, append_assoc}
 use Rattle.std.specs.Prelude.{All, Option, Some, None, Result, Ok, Err, OnOk, IfSome}
 use Rattle.std.specs.FinMap.{empty}
 use Rattle.std.proofs.lemmas.List.{append-nil, length-map}
@@ -53,6 +53,7 @@ use Rattle.lif_volume.specs.Changing.{files_when, file_when, changes_when, chang
 use Rattle.lif_volume.specs.Carrying.{HasFile, file_count, records_filed, IsPartlyFiled, some_stand, next_begun, WritesFiles, changes_made, PutsFile, Puts, CarriesOut}
 use Rattle.lif_volume.proofs.Mounting.{kept_is_of, volume_on}
 use Rattle.lif_volume.proofs.Fetching.{legal_of}
+use Rattle.lif_volume.proofs.Gated.{rests_held}
 use Rattle.lif_volume.proofs.Making.{files_are, files_spare, changes_are, header_stays, next_volume, ends_before, stops_leave, commit_makes, without_file}
 use Rattle.lif_volume.proofs.Filing.{files_none, files_one_more}
 use Rattle.lif_volume.proofs.Planned.{Planned, LiesBeside, LeavesTape, IsPlanned, most_calls, changed_some, writes_some, one_change, file_of_change, no_file, is_one_change}
@@ -148,6 +149,7 @@ module _ {R S : Type 0} (view : R → RecordsView S) (x : VolumeView R) (header 
       goes_on = goes_within 0 (carrying {T = Unit {0}} n command x.kept (Err (Refused why))) _ _ _ (omega arith) (goes_nowhere calls (view x.records) ready);
       idle = λ none. refl;
       idle_on = λ t told files changes. refl;
+      held = λ t told on. refl;
       kept = sym (ap (λ (b : Bool). if b then x.kept else None) plan.known);
       on_tape = λ t told. record {
         few = omega arith;
@@ -169,6 +171,7 @@ module _ {R S : Type 0} (view : R → RecordsView S) (x : VolumeView R) (header 
         goes_on = goes_within 0 (carrying {T = Unit {0}} n command x.kept (Ok tt)) _ _ _ (omega arith) (goes_nowhere calls (view x.records) ready);
         idle = λ none. refl;
         idle_on = λ t told files changes. refl;
+        held = λ t told on. refl;
         kept = refl;
         on_tape = λ t told.
             let is = plan t told in
@@ -560,6 +563,13 @@ module _ {R S : Type 0} (view : R → RecordsView S) (x : VolumeView R) (header 
         some_on : (t : Tape) (told : (view x.records).tape ≡ Some t) → changes_filed n command (volume_of t) t ≡ [] → ⊥
         some_on t told none = omega (arith, some_made t told, ap (λ (cs : Changes). length cs) (sym (changes_is t told) ∙ none))
 
+        -- and no file that is not ours holds the gate record
+        not_held : (t : Tape) (told : (view x.records).tape ≡ Some t) → is_gate_held t ≡ true → ⊥
+        not_held t told on = ⊎_elim
+            (λ refused. let no : Some refused.0 ≡ None = sym refused.1 ∙ free t told in cc)
+            (λ idle. some_on t told (ap (λ (v : Option Volume). changes_filed n command v t) (volume_is t told) ∙ idle.1))
+            (rests_held n t command (tape t told).records on)
+
         -- the store failed
         pub carry_fails : (e : Trouble) → Puts {T = Unit {0}} calls command p.version header.start p.slots (view x.records) (view y.records) (Err e) → y.kept ≡ None
             → CarriesOut {T = Unit {0}} command view x y (Err (Troubled e))
@@ -569,6 +579,7 @@ module _ {R S : Type 0} (view : R → RecordsView S) (x : VolumeView R) (header 
               goes_on = goes;
               idle = λ idle. absurd (omega (arith, idle, some_calls, (bound command few_calls plan.fits).1 e, carrying_is {T = Unit {0}} (Err (Troubled e))));
               idle_on = λ t told files changes. absurd (some_on t told changes);
+              held = λ t told on. absurd (not_held t told on);
               kept = none;
               on_tape = λ t told. record { few = few_is t told (Err (Troubled e)) ((few_of t told command (commits_here t told) plan.fits).1 e) put.goes_on.continues.left; written = λ u now. tt; answers = λ u now. tt; stops = (put.on_tape t told).stops; added = tt };
             }
@@ -581,6 +592,7 @@ module _ {R S : Type 0} (view : R → RecordsView S) (x : VolumeView R) (header 
                 goes_on = goes;
                 idle = λ idle. absurd (omega (arith, idle, some_calls, (bound command few_calls plan.fits).0, carrying_is {T = Unit {0}} (Ok tt)));
                 idle_on = λ t told files changes. absurd (some_on t told changes);
+                held = λ t told on. absurd (not_held t told on);
                 kept = still;
                 on_tape = λ t told.
                     let did = put.on_tape t told in

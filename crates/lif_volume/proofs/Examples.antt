@@ -1,13 +1,19 @@
 -- Worked examples, computed by the checker: slots by the LIF directory format, on a tape of twelve records.
-use Rattle.std.proofs.Common.{◌≡◌, ℕ, [], ◌∷◌, true, false, refl}
-use Rattle.std.specs.Prelude.{Some, None, Ok, Err, replicate}
+use Rattle.std.proofs.Common.{◌≡◌, ◌≢◌, ◌++◌, ℕ, List, [], ◌∷◌, true, false, get_or, set, refl, ap, get_or-set_other}
+use Rattle.std.specs.Prelude.{Some, None, Ok, Err, codes, replicate}
+use Rattle.lif_model.specs.Tape.{Tape}
 use Rattle.lif_model.specs.Numbers.{two_at, four_at}
 use Rattle.lif_model.specs.Header.{HeaderParts}
 use Rattle.lif_model.specs.Directory.{name_of, entry_at, entries_of}
 use Rattle.lif_model.specs.Gate.{is_open}
 use Rattle.lif_model.specs.Made.{with_type}
+use Rattle.lif_model.specs.Shelf.{piece}
+use Rattle.lif_model.specs.Redo.{zeros, is_valid, targets_record, settled}
+use Rattle.lif_model.specs.Commit.{SettlesAs}
+use Rattle.lif_model.specs.Volume.{is_foreign_gated}
 use Rattle.lif_model.proofs.Examples as base
-use Rattle.lif_model.proofs.VolumeExamples.{file, purged, a_name, b_name}
+use Rattle.lif_model.proofs.RedoExamples.{opened}
+use Rattle.lif_model.proofs.VolumeExamples.{file, purged, a_name, b_name, numbered}
 use Rattle.lif_model.specs.declared.refusal.Refusal.TheVariants as refusal
 use Rattle.lif_volume.specs.declared.fault.VolumeFault.TheVariants.{Refused}
 use Rattle.lif_volume.specs.Answers.{keeps}
@@ -37,3 +43,29 @@ counts = (refl, refl, refl, refl, refl, refl, refl, refl, refl, refl)
 -- behind which answers the directory is kept
 kept : (keeps {T = ℕ} (Err (Refused refusal.NotLif)) ≡ false) × (keeps {T = ℕ} (Err (Refused refusal.NoFile)) ≡ true) × (keeps {T = ℕ} (Ok 0) ≡ true)
 kept = (refl, refl, refl)
+
+-- ---- what is left of a tape whose open gate a file holds
+
+abbrev foreign : Tape
+foreign = base.header ∷ base.blank ∷ base.filled (file a_name 4 6 ++ base.end_entry) ∷ base.blank ∷ numbered 4 ∷ numbered 5 ∷ numbered 6 ∷ numbered 7 ∷ opened
+    ∷ base.filled (codes "LIFREDO1" ++ 0 ∷ 1 ∷ 0 ∷ 4 ∷ []) ∷ numbered 10 ∷ numbered 11 ∷ []
+
+is_foreign : is_foreign_gated foreign ≡ true
+unfolding four_at two_at entries_of entry_at name_of is_open is_valid targets_record piece zeros
+is_foreign = refl
+
+-- a stop while the gate record is closed, when the target stands
+stopped : SettlesAs (settled foreign) (set (settled foreign) 8 (numbered 3))
+unfolding four_at two_at entries_of entry_at name_of is_open is_valid targets_record piece zeros
+stopped = record { records = refl; same = λ k other. get_or-set_other (settled foreign) 8 k (numbered 3) [] other }
+
+not_eight : ◌≢◌ {A = ℕ} 0 8
+not_eight e = cc
+
+not_first : ◌≡◌ {A = ℕ} 0 128 → ⊥
+not_first e = cc
+
+-- but record 0 is not written over
+header_stays : SettlesAs (settled foreign) (set foreign 0 base.blank) → ⊥
+unfolding four_at two_at entries_of entry_at name_of is_open is_valid targets_record piece zeros
+header_stays settles = not_first (ap (λ (bytes : List ℕ). get_or bytes 0 0) (settles.same 0 not_eight))

@@ -6,7 +6,7 @@ use Rattle.lif_model.specs.Tape.{Tape}
 use Rattle.lif_model.specs.Header.{HeaderParts}
 use Rattle.lif_model.specs.Redo.{redo_of, settled}
 use Rattle.lif_model.specs.Commit.{IsSettleWrite}
-use Rattle.lif_model.specs.Volume.{Volume, volume_in, volume_of}
+use Rattle.lif_model.specs.Volume.{Volume, volume_in, volume_of, is_gate_held}
 use Rattle.lif_model.specs.Apply.{VolumeCommand, Dir, Label, Fetch, Store, Rename, Purge, Adopt, Upgrade, Batch, Format, refusal_of, apply}
 use Rattle.lif_model.specs.Transfers.{Transfer}
 use Rattle.lif_model.proofs.Moments.{follows, weaker}
@@ -28,12 +28,13 @@ use Rattle.lif_volume.specs.declared.fault.VolumeFault.{VolumeFault}
 use Rattle.lif_volume.specs.declared.fault.VolumeFault.TheVariants.{Refused, Trouble as Troubled}
 use Rattle.lif_volume.specs.Views.{VolumeView, IsOpen}
 use Rattle.lif_volume.specs.Answers.{store_answer, keeps, Answers, IsNotLif, IsLegalAs, IsSettledAs, HasVolumeOf}
-use Rattle.lif_volume.specs.Commands.{batch_calls_needed, fetching, Consults, mounting, mounting_on, AnswersTo, KeepsVolume}
+use Rattle.lif_volume.specs.Commands.{batch_calls_needed, fetching, Consults, mounting, mounting_on, AnswersTo, KeepsVolume, OnlySettles}
 use Rattle.lif_volume.specs.Changing.{files_when, file_when, changes_filed, IsChanged, refused_tape, IsWrittenOn, IsWrittenAs, keeps_behind_command, committing, filing, with_mounting, storing, batching, batching_all, carrying, carrying_on, changing, HasEitherVolume, VolumeTurns, AddsAsAnswered, Writes, TurnsVolume, WritesByCommit}
 use Rattle.lif_volume.specs.Carrying.{CarriesOutOn, CarriesOut, carry_room, batch_room}
 use Rattle.lif_volume.specs.Did.{IsOneOf, refusals_of, Alters}
 use Rattle.lif_volume.proofs.Mounting.{behind, answers_fault, nothing_mounted, mounted_as_kept, FirstBy, first_by}
 use Rattle.lif_volume.proofs.Fetching.{legal_of}
+use Rattle.lif_volume.proofs.Gated.{settles_foreign}
 use Rattle.lif_volume.proofs.Batched.{batch_refusals}
 
 -- ---- every command of one change mounts first, and is refused of a tape that is not legal; `format` is not
@@ -303,6 +304,7 @@ module _ {R S : Type 0} (view : R → RecordsView S) (x y z : VolumeView R) (hea
     (rests : carrying (view y.records).record_count command y.kept a ≡ 0 → z.records ≡ y.records)
     (rests_on : (t : Tape) → (view y.records).tape ≡ Some t → files_when (view y.records).record_count command (volume_of t) ≡ []
     → changes_filed (view y.records).record_count command (volume_of t) t ≡ [] → z.records ≡ y.records)
+    (held : (t : Tape) → (view y.records).tape ≡ Some t → is_gate_held t ≡ true → z.records ≡ y.records)
     (carried : (t : Tape) → (view y.records).tape ≡ Some t → CarriesOutOn (view y.records).record_count command (view y.records) (view z.records) t a) where
   size : (view y.records).record_count ≡ (view x.records).record_count
   size = mounted.goes_on.continues.size
@@ -321,10 +323,10 @@ module _ {R S : Type 0} (view : R → RecordsView S) (x y z : VolumeView R) (hea
   -- with what is kept then
   pub altered_as : mounting (view x.records).record_count x.kept (Some header) + carrying (view x.records).record_count command (Some header) a ≤ changing (view x.records).record_count command x.kept z.kept a
       → is_some z.kept ≡ keeps_behind_command command (is_some x.kept) a
-      → (names : List Refusal) → refusals_of command ≡ refusal.NotLif ∷ names → IfErr a (IsOneOf names) → KeepsVolume view x y
+      → (names : List Refusal) → refusals_of command ≡ refusal.NotLif ∷ names → IfErr a (IsOneOf names) → OnlySettles view x y → KeepsVolume view x y
       → ((t : Tape) → (view x.records).tape ≡ Some t → GoesOnBy (IsSettleWrite (view x.records).record_count (redo_of t)) (view x.records).transferred (view y.records).transferred)
       → Alters command view x z a
-  altered_as bound after names list only stays first =
+  altered_as bound after names list only settling stays first =
       let n = (view x.records).record_count in
       record {
         goes_on = goes_within (mounting n x.kept (Some header) + carrying n command (Some header) a) (changing n command x.kept z.kept a) (view x.records) (view z.records) (store_answer a) bound
@@ -346,6 +348,7 @@ module _ {R S : Type 0} (view : R → RecordsView S) (x y z : VolumeView R) (hea
         answers = parts_answers view x y z command a size mounted.settles carried;
         written = λ t u told now. written_from n command t u a (λ why is. settled_first why t) (same t told) ((on t told).written u now);
         stops = parts_stops view x y z command a size mounted.settles carried stays;
+        foreign = settles_foreign view x y z settling (λ t told. held (settled t) (mounted.settles t told));
         transfers = parts_transfers view x y z command a size mounted.settles carried (λ on. mounted.idle (nothing_mounted (view x.records).record_count x.kept y.kept on)) first;
       }
 
@@ -356,10 +359,10 @@ module _ {R S : Type 0} (view : R → RecordsView S) (x y z : VolumeView R) (hea
   is_kept true e = ap is_some (carried.kept ∙ ap (λ (b : Bool). if b then y.kept else None) e ∙ kept) ∙ sym e
   is_kept false e = ap is_some (carried.kept ∙ ap (λ (b : Bool). if b then y.kept else None) e) ∙ sym e
 
-  pub altered : (names : List Refusal) → refusals_of command ≡ refusal.NotLif ∷ names → IfErr a (IsOneOf names) → KeepsVolume view x y
+  pub altered : (names : List Refusal) → refusals_of command ≡ refusal.NotLif ∷ names → IfErr a (IsOneOf names) → OnlySettles view x y → KeepsVolume view x y
       → ((t : Tape) → (view x.records).tape ≡ Some t → GoesOnBy (IsSettleWrite (view x.records).record_count (redo_of t)) (view x.records).transferred (view y.records).transferred)
       → Alters command view x z a
-  altered = altered_as view x y z header command (λ why t. refused_is command why t mounts) a mounted kept carried.goes_on carried.idle carried.idle_on carried.on_tape
+  altered = altered_as view x y z header command (λ why t. refused_is command why t mounts) a mounted kept carried.goes_on carried.idle carried.idle_on carried.held carried.on_tape
       (changing_bound (view x.records).record_count header long a command x.kept z.kept mounts (carried.kept ∙ ap (λ (o : Option HeaderParts). if keeps a then o else None) kept))
       (is_kept (keeps a) refl ∙ sym (keeps_is command (is_some x.kept) a mounts))
 
@@ -410,10 +413,10 @@ module _ {R S : Type 0} (view : R → RecordsView S) (x y : VolumeView R) (comma
       by (Refused why) adds = adds
       by (Troubled trouble) adds = tt
 
-  pub not_altered_as : keeps_behind_command {T = Unit {0}} command (is_some x.kept) (Err fault) ≡ keeps {T = Unit {0}} (Err fault) → (names : List Refusal) → refusals_of command ≡ refusal.NotLif ∷ names → KeepsVolume view x y
+  pub not_altered_as : keeps_behind_command {T = Unit {0}} command (is_some x.kept) (Err fault) ≡ keeps {T = Unit {0}} (Err fault) → (names : List Refusal) → refusals_of command ≡ refusal.NotLif ∷ names → OnlySettles view x y → KeepsVolume view x y
       → ((t : Tape) → (view x.records).tape ≡ Some t → AddsOnly (IsSettleWrite (view x.records).record_count (redo_of t)) (view x.records).transferred (view y.records).transferred (store_answer {T = HeaderParts} (Err fault)))
       → Alters {T = Unit {0}} command view x y (Err fault)
-  not_altered_as after names list stays first = record {
+  not_altered_as after names list settling stays first = record {
     goes_on = fault_goes_on fault mounted.goes_on;
     few = λ t told. omega (arith, mounted.few t told);
     most = λ t told. omega (arith, mounted.few t told);
@@ -424,13 +427,14 @@ module _ {R S : Type 0} (view : R → RecordsView S) (x y : VolumeView R) (comma
     answers = fault_answers;
     written = fault_written;
     stops = fault_stops stays;
+    foreign = λ t told on. settling t told;
     transfers = fault_transfers first;
   }
 
 module _ {R S : Type 0} (view : R → RecordsView S) (x y : VolumeView R) (command : VolumeCommand) (mounts : Mounts command) (fault : VolumeFault)
     (mounted : Consults {T = HeaderParts} (mounting (view x.records).record_count x.kept y.kept) (λ t. mounting_on t x.kept) view x y (Err fault))
     (only : IsNotLif fault) (exactly : (t : Tape) → (view x.records).tape ≡ Some t → IsLegalAs {T = HeaderParts} (settled t) (Err fault)) where
-  pub not_altered : (names : List Refusal) → refusals_of command ≡ refusal.NotLif ∷ names → KeepsVolume view x y
+  pub not_altered : (names : List Refusal) → refusals_of command ≡ refusal.NotLif ∷ names → OnlySettles view x y → KeepsVolume view x y
       → ((t : Tape) → (view x.records).tape ≡ Some t → AddsOnly (IsSettleWrite (view x.records).record_count (redo_of t)) (view x.records).transferred (view y.records).transferred (store_answer {T = HeaderParts} (Err fault)))
       → Alters {T = Unit {0}} command view x y (Err fault)
   not_altered = not_altered_as view x y command (λ why t. refused_is command why t mounts) (not_lif (view x.records).record_count command mounts)
@@ -444,11 +448,11 @@ module _ {R S : Type 0} (view : R → RecordsView S) (x y : VolumeView R) (parts
 
   -- mounting is refused, or the store fails in it
   pub batch_not_altered : (fault : VolumeFault) → Consults {T = HeaderParts} (mounting (view x.records).record_count x.kept y.kept) (λ t. mounting_on t x.kept) view x y (Err fault) → IsNotLif fault
-      → ((t : Tape) → (view x.records).tape ≡ Some t → IsLegalAs {T = HeaderParts} (settled t) (Err fault)) → KeepsVolume view x y
+      → ((t : Tape) → (view x.records).tape ≡ Some t → IsLegalAs {T = HeaderParts} (settled t) (Err fault)) → OnlySettles view x y → KeepsVolume view x y
       → ((t : Tape) → (view x.records).tape ≡ Some t → AddsOnly (IsSettleWrite (view x.records).record_count (redo_of t)) (view x.records).transferred (view y.records).transferred (store_answer {T = HeaderParts} (Err fault)))
       → Alters {T = Unit {0}} (Batch parts) view x y (Err fault)
-  batch_not_altered fault mounted only exactly stays first =
-      not_altered_as view x y (Batch parts) (λ why t. refl) refl (λ a. batching_any (view x.records).record_count parts x.kept y.kept a) fault mounted only exactly (by fault only) all_names refl stays first
+  batch_not_altered fault mounted only exactly settling stays first =
+      not_altered_as view x y (Batch parts) (λ why t. refl) refl (λ a. batching_any (view x.records).record_count parts x.kept y.kept a) fault mounted only exactly (by fault only) all_names refl settling stays first
     where
       by : (f : VolumeFault) → IsNotLif f → keeps_behind_command {T = Unit {0}} (Batch parts) (is_some x.kept) (Err f) ≡ keeps {T = Unit {0}} (Err f)
       by (Refused why) is = sym (ap keeps_behind is)
@@ -456,16 +460,16 @@ module _ {R S : Type 0} (view : R → RecordsView S) (x y : VolumeView R) (parts
 
   module _ (z : VolumeView R) (header : HeaderParts)
       (mounted : Consults {T = HeaderParts} (mounting (view x.records).record_count x.kept y.kept) (λ t. mounting_on t x.kept) view x y (Ok header)) (kept : y.kept ≡ Some header)
-      (long : header.length + 5 ≤ (view x.records).record_count) (stays : KeepsVolume view x y)
+      (long : header.length + 5 ≤ (view x.records).record_count) (settling : OnlySettles view x y) (stays : KeepsVolume view x y)
       (first : (t : Tape) → (view x.records).tape ≡ Some t → GoesOnBy (IsSettleWrite (view x.records).record_count (redo_of t)) (view x.records).transferred (view y.records).transferred) where
     -- it is refused, and the directory is read anew by the next command
     pub batch_refused : (why : Refusal) → GoesOn {T = Unit {0}} 0 (view y.records) (view z.records) (Ok tt) → z.records ≡ y.records
         → ((t : Tape) → (view y.records).tape ≡ Some t → CarriesOutOn {T = Unit {0}} (view y.records).record_count (Batch parts) (view y.records) (view z.records) t (Err (Refused why)))
         → z.kept ≡ None → IsAmong all_names why → Alters {T = Unit {0}} (Batch parts) view x z (Err (Refused why))
     batch_refused why goes same carried none among =
-        altered_as view x y z header (Batch parts) (λ w t. refl) (Err (Refused why)) mounted kept goes (λ idle. same) (λ t told files changes. same) carried
+        altered_as view x y z header (Batch parts) (λ w t. refl) (Err (Refused why)) mounted kept goes (λ idle. same) (λ t told files changes. same) (λ t told on. same) carried
         (subst (λ (o : Option HeaderParts). mounting n x.kept (Some header) + 0 ≤ batching_all {T = Unit {0}} n x.kept o parts (Err (Refused why))) (sym none) (fewer x.kept))
-        (ap is_some none) all_names refl among stays first
+        (ap is_some none) all_names refl among settling stays first
       where
         n : ℕ
         n = (view x.records).record_count
@@ -477,9 +481,9 @@ module _ {R S : Type 0} (view : R → RecordsView S) (x y : VolumeView R) (parts
     -- it is carried out, or the store fails
     pub batch_altered : (a : Result (Unit {0}) VolumeFault) → CarriesOut (Batch parts) view y z a → IfErr a (IsOneOf []) → Alters (Batch parts) view x z a
     batch_altered a carried only =
-        altered_as view x y z header (Batch parts) (λ w t. refl) a mounted kept carried.goes_on carried.idle carried.idle_on carried.on_tape
+        altered_as view x y z header (Batch parts) (λ w t. refl) a mounted kept carried.goes_on carried.idle carried.idle_on carried.held carried.on_tape
         (batching_bound n header long a x.kept z.kept parts (carried.kept ∙ ap (λ (o : Option HeaderParts). if keeps a then o else None) kept))
-        (after a carried.kept only) all_names refl (none_refused a only) stays first
+        (after a carried.kept only) all_names refl (none_refused a only) settling stays first
       where
         n : ℕ
         n = (view x.records).record_count

@@ -1,4 +1,5 @@
 mod Mounting
+mod Gated
 mod Fetching
 pub mod Making
 mod Filing

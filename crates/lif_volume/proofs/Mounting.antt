@@ -13,7 +13,7 @@ use Rattle.lif_model.specs.declared.refusal.Refusal.{Refusal}
 use Rattle.lif_model.specs.declared.refusal.Refusal.TheVariants.{NotLif}
 use Rattle.lif_model.specs.Transfers.{Transfer}
 use Rattle.lif_model.proofs.Moments.{weaker, still}
-use Rattle.lif_model.proofs.Redo.{settled_twice}
+use Rattle.lif_model.proofs.Redo.{length_settled, settled_twice}
 use Rattle.lif_model.proofs.Adopted.{settles_as_same}
 use Rattle.lif_model.proofs.Apply.{refused_stays}
 use Rattle.lif_model.specs.Header.{HeaderParts}
@@ -25,7 +25,7 @@ use Rattle.lif_volume.specs.declared.fault.VolumeFault.{VolumeFault}
 use Rattle.lif_volume.specs.declared.fault.VolumeFault.TheVariants.{Refused, Trouble as Troubled}
 use Rattle.lif_volume.specs.Views.{VolumeView, IsDirectoryOf}
 use Rattle.lif_volume.specs.Answers.{HasVolumeOf, Answers, IsSettledAs, IsLegalAs, IsNotLif, store_answer}
-use Rattle.lif_volume.specs.Commands.{VolumeStays, Consults, mounting, mounting_on}
+use Rattle.lif_volume.specs.Commands.{VolumeStays, SettlesOnly, Consults, mounting, mounting_on}
 
 -- ---- at any moment
 
@@ -57,6 +57,23 @@ module _ {S : Type 0} (v : RecordsView S) (t : Tape) (off : is_foreign_gated t �
   stays_reading w u stays quiet = record {
     stops = still _ _ _ _ _ _ _ quiet.moment quiet.since stays.stops;
     after = (stays.after.0, quiet.tape ∙ stays.after.1, stays.after.2);
+  }
+
+-- the same of any tape, which settles to what it did
+module _ {S : Type 0} (v : RecordsView S) (t : Tape) where
+  as_itself : SettlesAs (settled t) t
+  as_itself = record { records = sym (length_settled t); same = λ k other. refl }
+
+  pub settles_here : IsStore v → v.tape ≡ Some t → SettlesOnly v v t
+  settles_here store told = record { stops = quiet_run v v (SettlesAs (settled t)) t store (quiet_nowhere v) told as_itself; after = (t, told, as_itself) }
+
+  pub settles_settling : (w : RecordsView S) → RunLeaves v w (SettlesAs (settled t)) → ((u : Tape) × (w.tape ≡ Some u) × SettlesAs (settled t) u) → SettlesOnly v w t
+  settles_settling w run after = record { stops = run; after = after }
+
+  pub settles_reading : (w u : RecordsView S) → SettlesOnly v w t → IsQuiet w u → SettlesOnly v u t
+  settles_reading w u settles quiet = record {
+    stops = still _ _ _ _ _ _ _ quiet.moment quiet.since settles.stops;
+    after = (settles.after.0, quiet.tape ∙ settles.after.1, settles.after.2);
   }
 
 -- reads alone come behind

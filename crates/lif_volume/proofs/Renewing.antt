@@ -1,5 +1,5 @@
 -- `format`: any tape becomes an empty volume.
-use Rattle.std.proofs.Common.{◌≡◌, ◌<◌, ◌≤◌, ◌+◌, ◌-◌, ◌*◌, ◌/◌, ◌&&◌, ℕ, List, [], ◌∷◌, Bool, true, false, if◌then◌else◌, length, length-set, get_or-set_same, set, map, inl, inr, refl, sym, ap, subst, ◌∙◌, arith}
+use Rattle.std.proofs.Common.{◌≡◌, ◌<◌, ◌≤◌, ◌+◌, ◌-◌, ◌*◌, ◌/◌, ◌&&◌, ℕ, List, [], ◌∷◌, Bool, true, false, if◌then◌else◌, length, length-set, get_or-set_same, set, map, inl, inr, ⊎_elim, refl, sym, ap, subst, ◌∙◌, arith}
 use Rattle.std.specs.Prelude.{Option, Some, None, Result, Ok, Err, IfErr, IfSome, is_some, filter, not}
 use Rattle.std.proofs.lemmas.List.{append-nil}
 use Rattle.lif_model.specs.Tape.{Tape, IsTape, record_at}
@@ -11,9 +11,9 @@ use Rattle.lif_model.specs.Redo.{Changes, redo_of, settled, IsSettled}
 use Rattle.lif_model.specs.Commit.{IsSettleWrite, IsOldOrNew, IsCommitted, commit_writes}
 use Rattle.lif_model.specs.Pairs.{all_pairs}
 use Rattle.std.specs.List.{list_all}
-use Rattle.lif_model.specs.Legal.{is_live, occupies, lies_between, are_apart, have_other_names}
+use Rattle.lif_model.specs.Legal.{is_legal, is_live, occupies, lies_between, are_apart, have_other_names}
 use Rattle.std.proofs.lemmas.Bool.{and_parts}
-use Rattle.lif_model.specs.Volume.{Volume, IsVolume, redo_entry, volume_in, volume_of}
+use Rattle.lif_model.specs.Volume.{Volume, IsVolume, redo_entry, volume_if, volume_in, volume_of, is_gate_held}
 use Rattle.lif_model.specs.Apply.{VolumeCommand, Format, is_too_long, lacks_redo, runs_past_gate, refusal_of, fresh_volume, next_unless, apply}
 use Rattle.lif_model.specs.declared.refusal.Refusal.{Refusal}
 use Rattle.lif_model.specs.Writing.{format_changes}
@@ -36,15 +36,17 @@ use Rattle.lif_redo.proofs.Told.{was_told}
 use Rattle.lif_dir.specs.Entries.{slot_from, slot_bytes}
 use Rattle.lif_model.specs.declared.refusal.Refusal.TheVariants as refusal
 use Rattle.lif_plan.specs.Directories.{IsLegalDirectory}
+use Rattle.lif_plan.specs.Refusals.{keeps_behind}
 use Rattle.lif_volume.specs.declared.fault.VolumeFault.{VolumeFault}
 use Rattle.lif_volume.specs.declared.fault.VolumeFault.TheVariants.{Refused, Trouble as Troubled}
 use Rattle.lif_volume.specs.Views.{VolumeView, IsOpen, IsDirectoryOf}
-use Rattle.lif_volume.specs.Answers.{store_answer, keeps, IsSettledAs, HasVolumeOf}
-use Rattle.lif_volume.specs.Commands.{Consults, mounting, mounting_on, AnswersTo, KeepsVolume}
+use Rattle.lif_volume.specs.Answers.{store_answer, keeps, IsNotLif, IsLegalAs, IsSettledAs, HasVolumeOf}
+use Rattle.lif_volume.specs.Commands.{Consults, mounting, mounting_on, AnswersTo, KeepsVolume, OnlySettles}
 use Rattle.lif_volume.specs.Changing.{changes_when, changes_filed, IsChanged, refused_tape, IsWrittenAs, keeps_behind_command, committing, committing_on, carrying_on, HasEitherVolume, VolumeTurns, writes_if_any, AddsAsAnswered, TurnsVolume}
 use Rattle.lif_volume.specs.Formatting.{Clears, Renews}
 use Rattle.lif_volume.specs.Did.{IsOneOf, refusals_of, Alters}
-use Rattle.lif_volume.proofs.Mounting.{behind, volume_on, kept_is_of, nothing_mounted, mounted_as_kept}
+use Rattle.lif_volume.proofs.Mounting.{settles_here, behind, volume_on, kept_is_of, nothing_mounted, mounted_as_kept}
+use Rattle.lif_volume.proofs.Gated.{rests_held, settles_foreign}
 use Rattle.lif_volume.proofs.Joining.{long_there, legal_there, carried_on, settled_same, written_from, parts_answers, parts_stops, parts_transfers}
 
 -- ---- what is tested
@@ -125,6 +127,36 @@ module _ {R S : Type 0} (view : R → RecordsView S) (x y : VolumeView R) (heade
     free = λ t told label slots fits. answer_is size is false tested t told label slots fits;
   }
 
+-- the tape has no volume
+module _ {R S : Type 0} (view : R → RecordsView S) (x y : VolumeView R) where
+  no_volume : (why : Refusal) → Consults {T = HeaderParts} (mounting (view x.records).record_count x.kept y.kept) (λ t. mounting_on t x.kept) view x y (Err (Refused why))
+      → why ≡ refusal.NotLif → ((t : Tape) → (view x.records).tape ≡ Some t → is_legal (settled t) ≡ false) → Clears {T = Unit {0}} view x y (Ok tt)
+  no_volume why mounted names off = record {
+    goes_on = subst (λ (k : Option HeaderParts). GoesOn {T = Unit {0}} (mounting (view x.records).record_count x.kept k) (view x.records) (view y.records) (Ok tt)) (none y.kept forgotten) mounted.goes_on;
+    few = mounted.few;
+    idle = λ idle. mounted.idle (ap (mounting (view x.records).record_count x.kept) (none y.kept forgotten) ∙ idle);
+    settles = mounted.settles;
+    kept = tt;
+    free = λ t told label slots fits.
+        ap (refusal_of (view x.records).record_count (Format label slots)) (ap (λ (b : Bool). volume_if b (settled t)) (off t told))
+        ∙ ap (λ (b : Bool). if b then Some refusal.NoRoom else None) fits;
+  }
+    where
+      forgotten : is_some y.kept ≡ false
+      forgotten = mounted.kept ∙ ap keeps_behind names
+
+      none : (o : Option HeaderParts) → is_some o ≡ false → o ≡ None
+      none None e = refl
+      none (Some h) e = cc
+
+  pub clears_none : (fault : VolumeFault) (why : Refusal) → fault ≡ Refused why
+      → Consults {T = HeaderParts} (mounting (view x.records).record_count x.kept y.kept) (λ t. mounting_on t x.kept) view x y (Err fault)
+      → IsNotLif fault → ((t : Tape) → (view x.records).tape ≡ Some t → IsLegalAs {T = HeaderParts} (settled t) (Err fault)) → Clears {T = Unit {0}} view x y (Ok tt)
+  clears_none fault why is mounted only exactly =
+      no_volume why
+      (subst (λ (f : VolumeFault). Consults {T = HeaderParts} (mounting (view x.records).record_count x.kept y.kept) (λ t. mounting_on t x.kept) view x y (Err f)) is mounted)
+      (subst (λ (f : VolumeFault). IsNotLif f) is only) (λ t told. subst (λ (f : VolumeFault). IsLegalAs {T = HeaderParts} (settled t) (Err f)) is (exactly t told))
+
 -- ---- from a settled tape that may be formatted
 
 same_tape : (t u : Tape) (tape : Option Tape) → tape ≡ Some t → tape ≡ Some u → u ≡ t
@@ -157,6 +189,14 @@ module _ {R S : Type 0} (view : R → RecordsView S) (x : VolumeView R) (label :
 
     applied : apply n command (volume_of t) ≡ (None, Some made)
     applied = λ i. (refusal_is i, next_unless n command (volume_of t) (refusal_is i))
+
+    -- no file that is not ours holds the gate record
+    not_held : is_gate_held t ≡ true → ⊥
+    not_held on =
+        let within : volume_in t ≡ Some (volume_on t) = volume_from t (and_parts (is_legal t) _ on).0 in
+        let unrefused : refusal_of n command (Some (volume_on t)) ≡ None = ap (refusal_of n command) (sym within) ∙ free t told in
+        ⊎_elim (λ refused. let no : Some refused.0 ≡ None = sym refused.1 ∙ unrefused in cc) (λ idle. let no : changes_filed n command (Some (volume_on t)) t ≡ [] = idle.1 in cc)
+        (rests_held n t command tape.records on)
 
     changes_is : changes_when n command (volume_of t) t ≡ changes
     changes_is = of (volume_of t)
@@ -204,6 +244,7 @@ module _ {R S : Type 0} (view : R → RecordsView S) (x : VolumeView R) (label :
         record {
           goes_on = within;
           kept = ap is_some none;
+          held = λ t told on. absurd (not_held t told on);
           on_tape = λ t told. record {
             few = subst (λ (ds : Changes). (view x.records).calls_left ≤ (view y.records).calls_left + committing_on {T = Unit {0}} (Format label slots) t ds (Err (Troubled trouble))) (sym (changes_is t told)) (omega (arith, goes.continues.left, calls_are t told));
             written = λ u now. tt;
@@ -230,6 +271,7 @@ module _ {R S : Type 0} (view : R → RecordsView S) (x : VolumeView R) (label :
       renewed writes = record {
         goes_on = within;
         kept = ap is_some kept;
+        held = λ t told on. absurd (not_held t told on);
         on_tape = λ t told. record {
           few = subst (λ (ds : Changes). (view x.records).calls_left ≤ (view y.records).calls_left + committing_on {T = Unit {0}} (Format label slots) t ds (Ok tt)) (sym (changes_is t told)) (omega (arith, goes.continues.left, calls_are t told));
           written = λ u now. subst (λ (ds : Changes). IsChanged One ds t u) (sym (changes_is t told)) (made_there t told u now);
@@ -362,9 +404,9 @@ module _ {R S : Type 0} (view : R → RecordsView S) (x y z : VolumeView R) (lab
     settled_tape t (Err (Refused other)) only why is = absurd only
     settled_tape t (Err (Troubled trouble)) only why is = cc
 
-    pub formatted : KeepsVolume view x y → ((t : Tape) → (view x.records).tape ≡ Some t → GoesOnBy (IsSettleWrite (view x.records).record_count (redo_of t)) (view x.records).transferred (view y.records).transferred)
+    pub formatted : OnlySettles view x y → KeepsVolume view x y → ((t : Tape) → (view x.records).tape ≡ Some t → GoesOnBy (IsSettleWrite (view x.records).record_count (redo_of t)) (view x.records).transferred (view y.records).transferred)
         → Alters (Format label slots) view x z a
-    formatted stays first =
+    formatted settling stays first =
         let n = (view x.records).record_count in
         let size = cleared.goes_on.continues.size in
         record {
@@ -383,6 +425,7 @@ module _ {R S : Type 0} (view : R → RecordsView S) (x y z : VolumeView R) (lab
               written_from n (Format label slots) t u a (settled_tape t a only) (settled_same view x y z (Format label slots) a size cleared.settles renews.on_tape t told)
               ((carried_on view x y z (Format label slots) a size cleared.settles renews.on_tape t told).written u now);
           stops = parts_stops view x y z (Format label slots) a size cleared.settles renews.on_tape stays;
+          foreign = settles_foreign view x y z settling (λ t told. renews.held (settled t) (cleared.settles t told));
           transfers = parts_transfers view x y z (Format label slots) a size cleared.settles renews.on_tape (λ on. cleared.idle (nothing_mounted n x.kept None on)) first;
         }
 
@@ -414,10 +457,10 @@ module _ {R S : Type 0} (view : R → RecordsView S) (x y : VolumeView R) (label
   one_of_both (Refused why) only = inr only
   one_of_both (Troubled trouble) only = tt
 
-  pub not_cleared : (fault : VolumeFault) → Clears {T = Unit {0}} view x y (Err fault) → is_too_long (view x.records).record_count slots ≡ false → IsOneOf (refusal.InUse ∷ []) fault → KeepsVolume view x y
+  pub not_cleared : (fault : VolumeFault) → Clears {T = Unit {0}} view x y (Err fault) → is_too_long (view x.records).record_count slots ≡ false → IsOneOf (refusal.InUse ∷ []) fault → OnlySettles view x y → KeepsVolume view x y
       → ((t : Tape) → (view x.records).tape ≡ Some t → AddsOnly (IsSettleWrite (view x.records).record_count (redo_of t)) (view x.records).transferred (view y.records).transferred (store_answer {T = Unit {0}} (Err fault)))
       → Alters {T = Unit {0}} (Format label slots) view x y (Err fault)
-  not_cleared fault cleared fits only stays first = record {
+  not_cleared fault cleared fits only settling stays first = record {
     goes_on = goes_within (mounting n x.kept None) (mounting n x.kept None + committing {T = Unit {0}} (Err fault)) _ _ _ (omega arith) cleared.goes_on;
     few = λ t told. omega (arith, cleared.few t told);
     most = λ t told. omega (arith, cleared.few t told);
@@ -428,6 +471,7 @@ module _ {R S : Type 0} (view : R → RecordsView S) (x y : VolumeView R) (label
     answers = refused_answers fault cleared fits;
     written = λ t u told now. written_by fault only t u told now (cleared.settles t told);
     stops = refused_stops stays;
+    foreign = λ t told on. settling t told;
     transfers = λ t told. transfers_by fault t (first t told);
   }
     where
@@ -470,6 +514,7 @@ module _ {R S : Type 0} (view : R → RecordsView S) (x : VolumeView R) (label :
         ∙ ap (λ (w : Tape). (Some refusal.NoRoom, volume_of w)) (sym (same_tape t u _ told now));
     written = λ t u told now. same_tape t u _ told now;
     stops = nothing_stops view x (Format label slots) store;
+    foreign = λ t told on. settles_here (view x.records) t store told;
     transfers = λ t told. record { goes_on = λ list was. ([], subst (view x.records).transferred (sym (append-nil list)) was, tt) };
   }
 

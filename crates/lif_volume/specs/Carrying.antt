@@ -7,7 +7,7 @@ use Rattle.lif_model.specs.Made.{file_length, file_records}
 use Rattle.lif_model.specs.declared.version.Version.{Version}
 use Rattle.lif_model.specs.Commit.{IsCommitted, commit_writes}
 use Rattle.lif_model.specs.Redo.{Changes}
-use Rattle.lif_model.specs.Volume.{volume_of}
+use Rattle.lif_model.specs.Volume.{volume_of, is_gate_held}
 use Rattle.lif_model.specs.Apply.{VolumeCommand, Dir, Label, Fetch, Store, Rename, Purge, Adopt, Upgrade, Batch, Format}
 use Rattle.lif_model.specs.Transfers.{Transfer, PartlyReplaced}
 use Rattle.lif_model.specs.Writing.{SlotWrites, NewFile, with_files, changes_by}
@@ -134,12 +134,14 @@ pub record CarriesOutOn {S T : Type 0} (n : ℕ) (command : VolumeCommand) (v w 
   pub stops : VolumeTurns n command v w t
   pub added : AddsAsAnswered (λ k. ⊥) true n command (volume_of t) t v.transferred w.transferred answer
 
--- from a volume whose directory is kept; where no call may be made, or there is neither a file nor a change, the store is as it was
+-- from a volume whose directory is kept; where no call may be made, or there is neither a file nor a change, or a file that is not ours
+-- holds the gate record, the store is as it was
 pub record CarriesOut {R S T : Type 0} (command : VolumeCommand) (view : R → RecordsView S) (old new : VolumeView R) (answer : Result T VolumeFault) : Type 0 where
   pub goes_on : GoesOn (carrying (view old.records).record_count command old.kept answer) (view old.records) (view new.records) (store_answer answer)
   pub idle : carrying (view old.records).record_count command old.kept answer ≡ 0 → new.records ≡ old.records
   pub idle_on : (t : Tape) → (view old.records).tape ≡ Some t → files_when (view old.records).record_count command (volume_of t) ≡ []
       → changes_filed (view old.records).record_count command (volume_of t) t ≡ [] → new.records ≡ old.records
+  pub held : (t : Tape) → (view old.records).tape ≡ Some t → is_gate_held t ≡ true → new.records ≡ old.records
   pub kept : new.kept ≡ (if keeps answer then old.kept else None)
   pub on_tape : (t : Tape) → (view old.records).tape ≡ Some t
       → CarriesOutOn (view old.records).record_count command (view old.records) (view new.records) t answer

@@ -27,7 +27,7 @@ use Rattle.lif_volume.specs.declared.fault.VolumeFault.{VolumeFault}
 use Rattle.lif_volume.specs.declared.fault.VolumeFault.TheVariants.{Refused, Trouble as Troubled}
 use Rattle.lif_volume.specs.Views.{VolumeView}
 use Rattle.lif_volume.specs.Answers.{keeps}
-use Rattle.lif_volume.specs.Commands.{IsTold, mounting}
+use Rattle.lif_volume.specs.Commands.{IsTold, SettlesOnly, mounting}
 
 -- ---- what is written of a settled tape, whose volume is that one or none
 
@@ -235,6 +235,11 @@ Writes command view old new answer = (t u : Tape) → IsTold view old t → IsTo
 abbrev pub TurnsVolume : {R S : Type 0} → VolumeCommand → (R → RecordsView S) → (old new : VolumeView R) → Type 0
 TurnsVolume command view old new = (t : Tape) → IsTold view old t → is_foreign_gated t ≡ false
     → VolumeTurns (view old.records).record_count command (view old.records) (view new.records) t
+
+-- of a foreign-gated tape: nothing is changed but by settling, at any moment and after the call
+abbrev pub SettlesForeign : {R S : Type 0} → (R → RecordsView S) → (old new : VolumeView R) → Type 0
+SettlesForeign view old new = (t : Tape) → IsTold view old t → is_foreign_gated t ≡ true
+    → SettlesOnly (view old.records) (view new.records) t
 
 -- the reads and writes go on by those of settling, by the file, and by those of one commit
 abbrev pub WritesByCommit : {R S T : Type 0} → VolumeCommand → (R → RecordsView S) → (old new : VolumeView R) → Result T VolumeFault → Type 0

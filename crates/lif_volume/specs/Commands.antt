@@ -6,7 +6,7 @@ use Rattle.lif_model.specs.Gate.{has_open_gate}
 use Rattle.lif_model.specs.Header.{is_readable, directory_length, label_of, HeaderParts, header_of}
 use Rattle.lif_model.specs.Directory.{type_of, start_of, length_of, implementation_of, slots_of}
 use Rattle.lif_model.specs.Redo.{redo_of, settled}
-use Rattle.lif_model.specs.Commit.{IsSettleWrite}
+use Rattle.lif_model.specs.Commit.{IsSettleWrite, SettlesAs}
 use Rattle.lif_model.specs.Legal.{slot_named}
 use Rattle.lif_model.specs.Volume.{Volume, volume_of, is_foreign_gated}
 use Rattle.lif_model.specs.Apply.{VolumeCommand}
@@ -96,6 +96,11 @@ pub record VolumeStays {S : Type 0} (v w : RecordsView S) (t : Tape) : Type 0 wh
   pub stops : RunLeaves v w (HasVolumeOf t)
   pub after : (u : Tape) × (w.tape ≡ Some u) × HasVolumeOf t u
 
+-- of any tape: it settles to what it settled to before, in all records but the gate, at any moment and after the call
+pub record SettlesOnly {S : Type 0} (v w : RecordsView S) (t : Tape) : Type 0 where
+  pub stops : RunLeaves v w (SettlesAs (settled t))
+  pub after : (u : Tape) × (w.tape ≡ Some u) × SettlesAs (settled t) u
+
 -- ---- each command
 
 -- the header's parts and the slots are those of the tape
@@ -161,6 +166,10 @@ IsRefusedExactly view old answer = (t : Tape) → IsTold view old t → IsLegalA
 abbrev pub KeepsVolume : {R S : Type 0} → (R → RecordsView S) → (old new : VolumeView R) → Type 0
 KeepsVolume view old new = (t : Tape) → IsTold view old t → is_foreign_gated t ≡ false
     → VolumeStays (view old.records) (view new.records) t
+
+-- nothing is changed but by settling, at any moment and after the call
+abbrev pub OnlySettles : {R S : Type 0} → (R → RecordsView S) → (old new : VolumeView R) → Type 0
+OnlySettles view old new = (t : Tape) → IsTold view old t → SettlesOnly (view old.records) (view new.records) t
 
 -- the reads and writes go on by writes of settling alone
 abbrev pub WritesBySettling : {R S T : Type 0} → (R → RecordsView S) → (old new : VolumeView R) → Result T VolumeFault → Type 0

@@ -14,8 +14,8 @@ use Rattle.lif_volume.specs.declared.fault.VolumeFault.{VolumeFault}
 use Rattle.lif_volume.specs.declared.fault.VolumeFault.TheVariants.{Refused, Trouble as Troubled}
 use Rattle.lif_volume.specs.Views.{VolumeView}
 use Rattle.lif_volume.specs.Answers.{store_answer}
-use Rattle.lif_volume.specs.Commands.{IsTold, Consults, mounting, mounting_on, fetching, fetching_on, AnswersTo, KeepsVolume, WritesBySettling}
-use Rattle.lif_volume.specs.Changing.{changing, carrying, carrying_on, files_when, changes_filed, keeps_behind_command, Writes, TurnsVolume, WritesByCommit}
+use Rattle.lif_volume.specs.Commands.{IsTold, Consults, mounting, mounting_on, fetching, fetching_on, AnswersTo, KeepsVolume, OnlySettles, WritesBySettling}
+use Rattle.lif_volume.specs.Changing.{changing, carrying, carrying_on, files_when, changes_filed, keeps_behind_command, Writes, TurnsVolume, SettlesForeign, WritesByCommit}
 
 -- ---- refusals
 
@@ -49,13 +49,14 @@ abbrev pub consulting_on : {T : Type 0} → VolumeCommand → Option HeaderParts
 consulting_on (Fetch name) old answer t = fetching_on t name old answer
 consulting_on command old answer t = mounting_on t old
 
--- It settles the tape. The volume of a tape that is not foreign-gated stays: a stop at any moment leaves it, and so
--- does a trouble.
+-- It settles the tape, and changes nothing else of any tape: a stop at any moment, and a trouble, leave one that settles
+-- to the same in all records but the gate. The volume of a tape that is not foreign-gated stays then too.
 pub record Reads {R S T : Type 0} (command : VolumeCommand) (view : R → RecordsView S) (old new : VolumeView R) (answer : Result T VolumeFault) : Type 0 where
   pub consults : Consults (consulting (view old.records).record_count command old.kept new.kept (map slot_bytes old.slots) answer)
       (consulting_on command old.kept answer) view old new answer
   pub only : IfErr answer (IsOneOf (refusals_of command))
   pub answers : AnswersTo command view old new answer
+  pub settling : OnlySettles view old new
   pub stays : KeepsVolume view old new
   pub transfers : WritesBySettling view old new answer
 
@@ -63,7 +64,7 @@ pub record Reads {R S T : Type 0} (command : VolumeCommand) (view : R → Record
 
 -- It settles the tape, writes the file of a store or those of a batch, and makes one commit at most. Where it may make no call, or has
 -- neither a file nor a change, the store is as it was. A stop at any moment leaves the volume before or the one behind, where the tape is not foreign-gated, and so does
--- a trouble.
+-- a trouble. Of a foreign-gated tape it changes nothing but by settling.
 pub record Alters {R S T : Type 0} (command : VolumeCommand) (view : R → RecordsView S) (old new : VolumeView R) (answer : Result T VolumeFault) : Type 0 where
   pub goes_on : GoesOn (changing (view old.records).record_count command old.kept new.kept answer)
       (view old.records) (view new.records) (store_answer answer)
@@ -80,6 +81,7 @@ pub record Alters {R S T : Type 0} (command : VolumeCommand) (view : R → Recor
   pub answers : AnswersTo command view old new answer
   pub written : Writes command view old new answer
   pub stops : TurnsVolume command view old new
+  pub foreign : SettlesForeign view old new
   pub transfers : WritesByCommit command view old new answer
 
 -- ---- every command

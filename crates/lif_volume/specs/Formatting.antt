@@ -1,8 +1,8 @@
 -- The two parts of `format`.
-use Rattle.std.specs.Prelude.{◌≡◌, ◌≤◌, ◌+◌, ℕ, List, false, Option, Some, None, Result, Ok, Err, is_some}
+use Rattle.std.specs.Prelude.{◌≡◌, ◌≤◌, ◌+◌, ℕ, List, false, true, Option, Some, None, Result, Ok, Err, is_some}
 use Rattle.lif_model.specs.Tape.{Tape}
 use Rattle.lif_model.specs.Redo.{settled}
-use Rattle.lif_model.specs.Volume.{Volume, volume_in}
+use Rattle.lif_model.specs.Volume.{Volume, volume_in, is_gate_held}
 use Rattle.lif_model.specs.Apply.{VolumeCommand, Format, is_too_long, refusal_of}
 use Rattle.il_ports.specs.Stores.{RecordsView, GoesOn}
 use Rattle.lif_volume.specs.declared.fault.VolumeFault.{VolumeFault}
@@ -38,5 +38,6 @@ pub record Clears {R S T : Type 0} (view : R → RecordsView S) (old new : Volum
 pub record Renews {R S T : Type 0} (command : VolumeCommand) (view : R → RecordsView S) (old new : VolumeView R) (answer : Result T VolumeFault) : Type 0 where
   pub goes_on : GoesOn (committing answer) (view old.records) (view new.records) (store_answer answer)
   pub kept : is_some new.kept ≡ keeps answer
+  pub held : (t : Tape) → (view old.records).tape ≡ Some t → is_gate_held t ≡ true → new.records ≡ old.records
   pub on_tape : (t : Tape) → (view old.records).tape ≡ Some t
       → CarriesOutOn (view old.records).record_count command (view old.records) (view new.records) t answer

@@ -10,7 +10,7 @@ ghost use Rattle.lif_model.specs.declared.refusal.Refusal.TheVariants as refusal
 ghost use Rattle.lif_volume.specs.Views.{IsOpen};
 ghost use Rattle.lif_volume.specs.Answers.{refused};
 ghost use Rattle.lif_volume.specs.Seen.{seen};
-ghost use Rattle.lif_volume.specs.Commands.{IsReadyFor, KeepsVolume, WritesBySettling, TellsGate};
+ghost use Rattle.lif_volume.specs.Commands.{IsReadyFor, KeepsVolume, OnlySettles, WritesBySettling, TellsGate};
 ghost use Rattle.lif_model.specs.Gate.{has_open_gate};
 ghost use Rattle.lif_commit.specs.Staged.{most_commit_calls};
 ghost use Rattle.lif_volume.specs.Formatting.{Clears, Renews};
@@ -61,6 +61,8 @@ impl<R: Records> Volume<R> {
         ensures clears { Clears R.view (seen self.old)
             (seen self.new) result }
         ensures only { IfErr result (IsOneOf (refusal.InUse ∷ [])) }
+        ensures settling { OnlySettles R.view (seen self.old)
+            (seen self.new) }
         ensures stays { KeepsVolume R.view (seen self.old)
             (seen self.new) }
         ensures transfers { WritesBySettling R.view (seen self.old)

@@ -59,7 +59,7 @@ impl<R: Records> Volume<R> {
     ghost use Rattle.lif_volume.specs.Seen.{seen};
     ghost use Rattle.lif_volume.specs.Lending.{LendsRecords};
     ghost use Rattle.lif_volume.specs.Answers.{IsNotLif};
-    ghost use Rattle.lif_volume.specs.Commands.{IsReadyFor, Mounts, IsRefusedExactly, KeepsVolume, WritesBySettling, TellsGate};
+    ghost use Rattle.lif_volume.specs.Commands.{IsReadyFor, Mounts, IsRefusedExactly, KeepsVolume, OnlySettles, WritesBySettling, TellsGate};
     ghost use Rattle.lif_volume.specs.Commands.{Lists, Labels, FetchesFile, FetchesByRun};
     ghost use Rattle.lif_volume.specs.Did.{Did};
 
@@ -160,8 +160,10 @@ impl<R: Records> Volume<R> {
         // It is refused exactly where the settled tape is not legal, and then with NotLif.
         ensures only { IfErr result IsNotLif }
         ensures exactly { IsRefusedExactly R.view (seen self.old) result }
-        // The volume of a tape that is not foreign-gated stays: a stop at any moment leaves it, and
-        // so does a trouble.
+        // Nothing is changed but by settling, and the volume of a tape that is not foreign-gated stays:
+        // at any moment, and also after a trouble.
+        ensures settling { OnlySettles R.view (seen self.old)
+            (seen self.new) }
         ensures stays { KeepsVolume R.view (seen self.old)
             (seen self.new) }
         ensures transfers { WritesBySettling R.view (seen self.old)

@@ -20,7 +20,7 @@ pub returns-in_err-header-clause-did : goal.returns-in_err-header-clause-did
 returns-in_err-header-clause-did g c =
     let is : c.from_residual.result ≡ Err c.in_err-header.field-0.0 = search rules in
     let e = c.in_err-header.ensures in
-    rw is (batch_not_altered g.R.Records.view (seen c.args.self.now) (seen c.mount.new.self) (parts_of c.args.batch.now) c.in_err-header.field-0.0 e.consults e.only e.exactly e.stays e.transfers)
+    rw is (batch_not_altered g.R.Records.view (seen c.args.self.now) (seen c.mount.new.self) (parts_of c.args.batch.now) c.in_err-header.field-0.0 e.consults e.only e.exactly e.settling e.stays e.transfers)
 
 pub batch-requires-clause-room : goal.batch-requires-clause-room
 batch-requires-clause-room g c =
@@ -49,7 +49,7 @@ returns-in-Ok-true-clause-did g c =
     _ (batch_ready_there g.R.Records.view (seen c.args.self.now) (seen c.mount.new.self) c.in_ok-header.header e.kept e.consults e.open c.requires.ready.left) in
     subst (λ (t : Table). Alters {T = Unit {0}} (Batch (parts_of c.args.batch.now)) g.R.Records.view (seen c.args.self.now) (record { records = c.mount.new.self.records; kept = c.mount.new.self.kept; is_open = c.mount.new.self.is_open; last = c.mount.new.self.staged.last; slots = t.slots; room = t.room }) (Ok tt))
     (sym c.batch.ensures.table)
-    (batch_altered g.R.Records.view (seen c.args.self.now) (seen c.mount.new.self) (parts_of c.args.batch.now) (seen c.mount.new.self) c.in_ok-header.header e.consults e.kept (long_there g.R.Records.view (seen c.args.self.now) (seen c.mount.new.self) c.in_ok-header.header e.kept e.consults e.open) e.stays e.transfers (Ok tt) carried tt)
+    (batch_altered g.R.Records.view (seen c.args.self.now) (seen c.mount.new.self) (parts_of c.args.batch.now) (seen c.mount.new.self) c.in_ok-header.header e.consults e.kept (long_there g.R.Records.view (seen c.args.self.now) (seen c.mount.new.self) c.in_ok-header.header e.kept e.consults e.open) e.settling e.stays e.transfers (Ok tt) carried tt)
 
 pub returns-in-Ok-false-clause-did : goal.returns-in-Ok-false-clause-did
 returns-in-Ok-false-clause-did g c =
@@ -66,7 +66,7 @@ returns-in-Ok-false-clause-did g c =
     let carried : CarriesOut (Batch (parts_of c.args.batch.now)) g.R.Records.view (seen c.mount.new.self) (seen c.carry_out_batch.new.self) c.carry_out_batch.result =
     subst (λ (t : Table). CarriesOut (Batch (parts_of c.args.batch.now)) g.R.Records.view (record { records = c.mount.new.self.records; kept = c.mount.new.self.kept; is_open = c.mount.new.self.is_open; last = c.mount.new.self.staged.last; slots = t.slots; room = t.room })
     (seen c.carry_out_batch.new.self) c.carry_out_batch.result) c.batch.ensures.table (c.carry_out_batch.ensures.carried (parts_of c.args.batch.now) plan) in
-    batch_altered g.R.Records.view (seen c.args.self.now) (seen c.mount.new.self) (parts_of c.args.batch.now) (seen c.carry_out_batch.new.self) c.in_ok-header.header e.consults e.kept (long_there g.R.Records.view (seen c.args.self.now) (seen c.mount.new.self) c.in_ok-header.header e.kept e.consults e.open) e.stays e.transfers c.carry_out_batch.result carried c.carry_out_batch.ensures.only
+    batch_altered g.R.Records.view (seen c.args.self.now) (seen c.mount.new.self) (parts_of c.args.batch.now) (seen c.carry_out_batch.new.self) c.in_ok-header.header e.consults e.kept (long_there g.R.Records.view (seen c.args.self.now) (seen c.mount.new.self) c.in_ok-header.header e.kept e.consults e.open) e.settling e.stays e.transfers c.carry_out_batch.result carried c.carry_out_batch.ensures.only
 
 pub returns-in-Err-clause-did : goal.returns-in-Err-clause-did
 returns-in-Err-clause-did g c =
@@ -75,7 +75,7 @@ returns-in-Err-clause-did g c =
     let plan : RefusesAs (g.R.Records.view c.mount.new.self.records).record_count (Batch (parts_of c.args.batch.now)) c.in_ok-header.header (map slot_bytes c.mount.new.self.directory.table.slots) why = subst (λ (n : ℕ). RefusesAs n (Batch (parts_of c.args.batch.now)) c.in_ok-header.header (map slot_bytes c.mount.new.self.directory.table.slots) why) c.size-size.ensures c.in-Err.ensures.plan.1 in
     let carried = refuses g.R.Records.view (seen c.mount.new.self) c.in_ok-header.header e.open e.kept (g.met.R.Records.is_store c.mount.new.self.records) (Batch (parts_of c.args.batch.now)) _ why (batch_ready_there g.R.Records.view (seen c.args.self.now) (seen c.mount.new.self) c.in_ok-header.header e.kept e.consults e.open c.requires.ready.left) plan in
     let z : VolumeView g.row.R.Denot = record { records = c.mount.new.self.records; kept = None; is_open = c.mount.new.self.is_open; last = c.mount.new.self.staged.last; slots = c.batch.new.self.table.slots; room = c.batch.new.self.table.room } in
-    batch_refused g.R.Records.view (seen c.args.self.now) (seen c.mount.new.self) (parts_of c.args.batch.now) z c.in_ok-header.header e.consults e.kept (long_there g.R.Records.view (seen c.args.self.now) (seen c.mount.new.self) c.in_ok-header.header e.kept e.consults e.open) e.stays e.transfers why carried.goes_on refl carried.on_tape refl
+    batch_refused g.R.Records.view (seen c.args.self.now) (seen c.mount.new.self) (parts_of c.args.batch.now) z c.in_ok-header.header e.consults e.kept (long_there g.R.Records.view (seen c.args.self.now) (seen c.mount.new.self) c.in_ok-header.header e.kept e.consults e.open) e.settling e.stays e.transfers why carried.goes_on refl carried.on_tape refl
     (refused_among (g.R.Records.view c.mount.new.self.records).record_count (parts_of c.args.batch.now) (some g.R.Records.view (seen c.mount.new.self) c.in_ok-header.header e.open e.kept (g.met.R.Records.is_store c.mount.new.self.records)) why (plan.refused (some g.R.Records.view (seen c.mount.new.self) c.in_ok-header.header e.open e.kept (g.met.R.Records.is_store c.mount.new.self.records)) (some_is g.R.Records.view (seen c.mount.new.self) c.in_ok-header.header e.open e.kept (g.met.R.Records.is_store c.mount.new.self.records))))
 
 pub returns-in-Ok-true-clause-formed : goal.returns-in-Ok-true-clause-formed

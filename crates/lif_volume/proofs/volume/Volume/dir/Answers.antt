@@ -14,6 +14,7 @@ returns-in_err-header-clause-did g c =
       consults = search rules;
       only = rw is (not_lif_only [] c.in_err-header.field-0.0 e.only);
       answers = λ t u told now. rw is (answers_fault (g.R.Records.view c.args.self.now.records).record_count t u _ Dir c.in_err-header.field-0.0 refl now e.only (e.exactly t told) (e.consults.settles t told));
+      settling = e.settling;
       stays = search rules;
       transfers = search rules;
     }
@@ -25,6 +26,7 @@ returns-clause-did g c =
       consults = search rules;
       only = tt;
       answers = λ t u told now. answers_dir (g.R.Records.view c.args.self.now.records).record_count t u (behind t u _ now (e.consults.settles t told)) (e.exactly t told);
+      settling = e.settling;
       stays = e.stays;
       transfers = e.transfers;
     }
@@ -37,3 +39,8 @@ returns-clause-listed g c = λ t told.
       header = (λ i. record { label = c.label.ensures i; start = c.start.ensures i; length = c.length.ensures i }) ∙ is.directory.header;
       slots = is.directory.slots;
     }
+
+pub returns-in_err-header-clause-exactly : goal.returns-in_err-header-clause-exactly
+returns-in_err-header-clause-exactly g c t told =
+    let is : c.from_residual.result ≡ Err c.in_err-header.field-0.0 = search rules in
+    rw is (c.in_err-header.ensures.exactly t told)

@@ -23,7 +23,7 @@ use Rattle.lif_volume.specs.Commands.{EndsWithRead, mounting, fetching}
 use Rattle.lif_model.specs.declared.refusal.Refusal.TheVariants as refusal
 use Rattle.lif_volume.proofs.Joining.{long_there, fetch_bound, not_lif_only}
 use Rattle.lif_volume.specs.Seen.{seen}
-use Rattle.lif_volume.proofs.Mounting.{behind, kept_is_of, nothing_mounted, stays_reading, answers_fault, answers_refused, answers_fetch}
+use Rattle.lif_volume.proofs.Mounting.{behind, kept_is_of, nothing_mounted, stays_reading, settles_reading, answers_fault, answers_refused, answers_fetch}
 use Rattle.lif_volume.proofs.Fetching.{legal_of, file_ready, file_within, file_room, file_goes_on, file_few, file_idle, fetching_kept, open_reading, ends_with_read, run_behind, file_is_fetched}
 use Rattle.lif_volume.proofs.Renewing.{names_there}
 use Rattle.lif_volume.proofs.volume.Volume.fetch.Goals as goal
@@ -62,6 +62,7 @@ returns-in_err-mount-clause-did g c = record {
       (let is : c.from_residual.result ≡ Err c.in_err-mount.field-0.0 = search rules in
       let e = c.in_err-mount.ensures in
       rw is (answers_fault (g.R.Records.view c.args.self.now.records).record_count t u _ (Fetch (name_bytes c.args.name.now)) c.in_err-mount.field-0.0 refl now e.only (e.exactly t told) (e.consults.settles t told)));
+  settling = search rules;
   stays = search rules;
   transfers = search rules;
 }
@@ -103,6 +104,7 @@ returns-in_err-file-clause-did g c = record {
       let size : c.size.result ≡ n = c.size.ensures ∙ e.consults.goes_on.continues.size in
       rw is (answers_refused n t u (behind t u _ now (e.consults.settles t told)) (Fetch (name_bytes c.args.name.now)) c.in_err-file.field-0.0 (e.exactly t told)
       (λ v same. ap (λ (m : ℕ). refusal_of m (Fetch (name_bytes c.args.name.now)) (Some v)) (sym size) ∙ c.in_err-file.ensures.refusal v (same ∙ sym on.directory.bytes)));
+  settling = search rules;
   stays = search rules;
   transfers = search rules;
 }
@@ -136,6 +138,9 @@ returns-in-Err-clause-did g c = record {
       };
   only = tt;
   answers = λ t u told now. tt;
+  settling =
+      let e = c.in_ok-mount.ensures in
+      λ t told. settles_reading _ t _ _ (e.settling t told) c.read_front.ensures.quiet;
   stays =
       let e = c.in_ok-mount.ensures in
       λ t told off. stays_reading _ t off _ _ (e.stays t told off) c.read_front.ensures.quiet;
@@ -178,6 +183,7 @@ returns g c =
         answers = λ t u told now.
             answers_fetch n t u (behind t u _ now (c.read_front.ensures.quiet.tape ∙ e.consults.settles t told)) (name_bytes c.args.name.now) (e.exactly t told)
             (λ v same. ap (λ (m : ℕ). refusal_of m (Fetch (name_bytes c.args.name.now)) (Some v)) (sym size) ∙ c.in_ok-file.ensures.refusal v (same ∙ sym (on t told).directory.bytes));
+        settling = λ t told. settles_reading _ t _ _ (e.settling t told) c.read_front.ensures.quiet;
         stays = λ t told off. stays_reading _ t off _ _ (e.stays t told off) c.read_front.ensures.quiet;
         transfers = λ t told.
             run_behind (P t) c.in_ok-file.file.first c.in_ok-file.file.count _ old _ (view c.read_front.new.records).transferred (e.transfers t told) c.in_default.ensures.run

@@ -15,7 +15,7 @@ returns-in_err-clear_for_format-clause-did g c =
     let is : c.from_residual.result ≡ Err c.in_err-clear_for_format.field-0.0 = search rules in
     let e = c.in_err-clear_for_format.ensures in
     rw is (not_cleared g.R.Records.view (seen c.args.self.now) (seen c.clear_for_format.new.self) (label_bytes c.args.label.now) c.args.slots c.in_err-clear_for_format.field-0.0
-    e.clears (room_is _ c.size.result c.args.slots c.fits.result c.size.ensures c.fits.ensures c.if-not-fits.false) e.only e.stays e.transfers)
+    e.clears (room_is _ c.size.result c.args.slots c.fits.result c.size.ensures c.fits.ensures c.if-not-fits.false) e.only e.settling e.stays e.transfers)
 
 pub renew-requires-clause-settled : goal.renew-requires-clause-settled
 renew-requires-clause-settled g c =
@@ -29,4 +29,4 @@ pub returns-clause-did : goal.returns-clause-did
 returns-clause-did g c =
     let e = c.in_ok-clear_for_format.ensures in
     formatted g.R.Records.view (seen c.args.self.now) (seen c.clear_for_format.new.self) (seen c.renew.new.self) (label_bytes c.args.label.now) c.args.slots e.clears
-    c.renew.result c.renew.ensures.renews c.renew.ensures.only e.stays e.transfers
+    c.renew.result c.renew.ensures.renews c.renew.ensures.only e.settling e.stays e.transfers

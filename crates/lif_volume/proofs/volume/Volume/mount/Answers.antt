@@ -10,7 +10,7 @@ use Rattle.lif_plan.specs.Directories.{IsLegalDirectory}
 use Rattle.lif_volume.specs.Commands.{mounting, mounting_on}
 use Rattle.lif_model.specs.Legal.{is_legal}
 use Rattle.lif_volume.specs.Seen.{seen}
-use Rattle.lif_volume.proofs.Mounting.{stays_here, stays_settling, stays_reading, reads_behind, adds_behind, consults_nothing, kept_is_of}
+use Rattle.lif_volume.proofs.Mounting.{stays_here, stays_settling, stays_reading, settles_here, settles_settling, settles_reading, reads_behind, adds_behind, consults_nothing, kept_is_of}
 use Rattle.lif_volume.proofs.volume.Volume.mount.Goals as goal
 
 pub returns-clause-exactly : goal.returns-clause-exactly
@@ -27,6 +27,24 @@ returns-in-Some-clause-exactly g c = λ t told.
 
 pub returns-in-Some-clause-stays : goal.returns-in-Some-clause-stays
 returns-in-Some-clause-stays g c = λ t told off. stays_here _ t off (g.met.R.Records.is_store c.args.self.now.records) told
+
+pub returns-in-Some-clause-settling : goal.returns-in-Some-clause-settling
+returns-in-Some-clause-settling g c = λ t told. settles_here _ t (g.met.R.Records.is_store c.args.self.now.records) told
+
+pub returns-in_err-settle_gate-clause-settling : goal.returns-in_err-settle_gate-clause-settling
+returns-in_err-settle_gate-clause-settling g c = λ t told.
+    let e = c.settle_gate.ensures.settles in
+    settles_settling _ t _ (e.any_moment t told) (e.after t told)
+
+pub returns-in_err-header-clause-settling : goal.returns-in_err-header-clause-settling
+returns-in_err-header-clause-settling g c = λ t told.
+    let e = c.settle_gate.ensures.settles in
+    settles_reading _ t _ _ (settles_settling _ t _ (e.any_moment t told) (e.after t told)) c.read_directory.ensures.quiet
+
+pub returns-clause-settling : goal.returns-clause-settling
+returns-clause-settling g c = λ t told.
+    let e = c.settle_gate.ensures.settles in
+    settles_reading _ t _ _ (settles_settling _ t _ (e.any_moment t told) (e.after t told)) c.read_directory.ensures.quiet
 
 pub returns-in_err-settle_gate-clause-stays : goal.returns-in_err-settle_gate-clause-stays
 returns-in_err-settle_gate-clause-stays g c = λ t told off.
