@@ -12,8 +12,9 @@ use Rattle.host_model.specs.Requests.{OfVolume, Item, Asks}
 use Rattle.host_model.specs.HostStates.{HostState}
 use Rattle.host_model.specs.Courses.{Due, begins_with, cleared_first, is_commanding}
 use Rattle.host_model.specs.Steps.{Acts, IsStep}
-use Rattle.host_model.proofs.Small.{a_host, false_is_not_true}
-use Rattle.host_model.proofs.StepExamples.{log_of, asking, lost_event, lost_host, hop_is_none, sixth}
+use Rattle.host_model.proofs.Steps.{alike_staying}
+use Rattle.host_model.proofs.Small.{a_host, empty_host, false_is_not_true}
+use Rattle.host_model.proofs.StepExamples.{log_of, asking, lost_event, lost_host, hop_is_none, sixth, sixth_lost}
 
 -- ---- exchanges that begin with clearing
 
@@ -53,7 +54,7 @@ asks_fetch = Asks (OfVolume (volume.Fetch a_name))
 -- a fetch of which the addressing is broken off
 lost_fetch_acts : Acts sixth (record lost_event { item = asks_fetch })
 lost_fetch_acts = record {
-  replied = record { may = refl; whole = λ h g. inl refl; stays = λ h. absurd (false_is_not_true (sym h)); told = refl; size = refl; gate = λ g. g };
+  replied = record { may = refl; whole = λ h g. inl refl; stays = λ h. absurd (false_is_not_true (sym h)); told = refl; size = refl; gate = λ g. g; foreign = alike_staying empty_host.tape };
   next = record {
     devices = record {
       before = tt;
@@ -73,6 +74,7 @@ lost_fetch_acts = record {
     effect = refl;
     carried = tt;
   };
+  by_plan = sixth_lost;
   ready = λ h. refl;
   sound = λ h. refl;
   unsound = λ h. absurd (false_is_not_true (sym h));

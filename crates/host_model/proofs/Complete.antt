@@ -14,7 +14,7 @@ use Rattle.host_model.specs.Leaves.{AsksAs, LeavesBy, RunsOver}
 -- The words plan no fault. The shelf is told, and has an image that is not too large, or none and one is to be made. The script is told,
 -- and not too long. No count of faults rose, and none stands at its last value.
 pub record IsPlainRun (order : Order) (old now : Outside) (source source_now sink sink_now : ℕ) : Type 0 where
-  pub planned : order.hops ≡ []
+  pub planned : order.plan ≡ []
   pub shelf : Shelf
   pub shelf_is : old.shelf ≡ Some shelf
   pub tape : Tape
@@ -33,7 +33,7 @@ pub record IsPlainRun (order : Order) (old now : Outside) (source source_now sin
 pub record AnswersAll (end : RunEnd) (order : Order) (old now : Outside) (stopped : Tape → Type 0) : Type 0 where
   pub status : (end ≡ AllOk) ⊎ (end ≡ SomeNotOk)
   pub run : RunsOver end order old now stopped
-  pub answered : AllAnswered run.events
+  pub answered : AllAnswered run.ran.events
 
 not_risen : (before now : ℕ) → now ≡ before → before < last_count → Rose before now → ⊥
 not_risen before now same low rose = let risen = rose.risen in absurd (omega (arith, same, low, risen))
@@ -80,8 +80,8 @@ module _ (order : Order) (old now : Outside) (stopped : Tape → Type 0) (source
   complete SourceFailed cause leaves = absurd (not_risen source source_now plain.source_same plain.source_low cause.source)
   complete SinkFailed cause leaves = absurd (not_risen sink sink_now plain.sink_same plain.sink_low cause.sink)
   complete InsertFailed cause leaves = absurd (not_risen old.faults now.faults plain.medium_same plain.medium_low cause.medium)
-  complete ScriptTooLong cause leaves = too_short order.generated leaves.asks
+  complete ScriptTooLong cause leaves = too_short order.generated leaves.ran.asks
     where
-      too_short : (generated : Option (ℕ × ℕ)) → AsksAs generated ScriptTooLong old.left now.left (items_asked leaves.events) → (ScriptTooLong ≡ OutOfMemory) ⊎ AnswersAll ScriptTooLong order old now stopped
+      too_short : (generated : Option (ℕ × ℕ)) → AsksAs generated ScriptTooLong old.left now.left (items_asked leaves.ran.events) → (ScriptTooLong ≡ OutOfMemory) ⊎ AnswersAll ScriptTooLong order old now stopped
       too_short None asks = let long = (asks plain.script plain.script_is).0 in let short = plain.short in absurd (omega (arith, long, short))
       too_short (Some script) asks = absurd asks.0

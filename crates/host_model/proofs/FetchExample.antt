@@ -14,6 +14,7 @@ use Rattle.il_script.specs.declared.reply.Reply.TheVariants as reply
 use Rattle.host_model.specs.Requests.{OfVolume, Asks}
 use Rattle.host_model.specs.HostStates.{HostState}
 use Rattle.host_model.specs.Steps.{Acts, Event, IsFetchedFrom, Travels, IsStep, Exchanged}
+use Rattle.host_model.proofs.Steps.{alike_staying, unfaulted}
 use Rattle.host_model.proofs.Small.{printer, a_host, a_tape, false_is_not_true}
 use Rattle.host_model.proofs.TextExamples.{a_bytes, a_found}
 use Rattle.host_model.proofs.StepExamples.{log_of, addressed}
@@ -62,7 +63,7 @@ fetch_exchanged = record {
 fetch_acts : Acts [] fetch_event
 unfolding two_at four_at name_of is_open entry_at entries_of
 fetch_acts = record {
-  replied = record { may = tt; whole = λ h. (refl, refl); stays = λ h. refl; told = refl; size = refl; gate = λ g. g };
+  replied = record { may = tt; whole = λ h. (refl, refl); stays = λ h. refl; told = refl; size = refl; gate = λ g. g; foreign = alike_staying (Some a_tape) };
   next = record {
     devices = record {
       before = tt;
@@ -73,6 +74,7 @@ fetch_acts = record {
   travels = fetch_travels;
   heard = record { before = tt; after = (record { more = []; few = omega arith; none = λ h. refl; heard = record { heard = refl; heard_count = refl; room = refl; accessory = refl } }, tt) };
   exchanged = fetch_exchanged;
+  by_plan = unfaulted [] 0 882 (log_of fetch_pieces) refl;
   ready = λ h. refl;
   sound = λ h. refl;
   unsound = λ h. absurd (false_is_not_true (sym h));

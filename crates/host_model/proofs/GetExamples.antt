@@ -16,7 +16,7 @@ use Rattle.il_script.specs.declared.reply.Reply.TheVariants as reply
 use Rattle.host_model.specs.Requests.{OfVolume, Get, Status, Asks, NoCommand, items_of, unless_long, is_of_volume, uses_frames}
 use Rattle.host_model.specs.Replies.{got_as, lines_of_file, lines_of_found, lines_of_type, lines_text, reply_of, reply_text}
 use Rattle.host_model.specs.Stops.{MayBeLeft}
-use Rattle.host_model.proofs.Small.{texts_differ, false_is_not_true, empty_host, a_host}
+use Rattle.host_model.proofs.Small.{texts_differ, false_is_not_true, not_foreign, empty_host, a_host}
 use Rattle.host_model.proofs.TextExamples.{a_found}
 
 -- ---- requests
@@ -79,8 +79,8 @@ no_text = refl
 
 get_left : MayBeLeft (Asks (Get a_name)) empty_host base.formatted
 unfolding two_at four_at name_of is_open entry_at entries_of
-get_left = (refl, refl)
+get_left = record { own = λ gate. (refl, refl); foreign = λ t was foreign. absurd (not_foreign base.formatted t refl was foreign) }
 
 get_left_blank : MayBeLeft (Asks (Get a_name)) empty_host (replicate 12 base.blank) → ⊥
 unfolding two_at four_at name_of is_open entry_at entries_of
-get_left_blank left = false_is_not_true (ap is_some left.0)
+get_left_blank left = false_is_not_true (ap is_some (left.own refl).0)

@@ -1,4 +1,5 @@
 pub mod Steps
+pub mod Traces
 pub mod RingStates
 pub mod Runs
 pub mod Growing
@@ -7,6 +8,7 @@ pub mod Generated
 mod Small
 mod TextExamples
 mod StepExamples
+mod FieldExamples
 mod LoopExamples
 mod RunExamples
 mod EndExamples

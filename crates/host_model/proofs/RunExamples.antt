@@ -24,8 +24,9 @@ use Rattle.host_model.specs.Histories.{RunTells}
 use Rattle.host_model.specs.Endings.{SourceFailed, SinkFailed, AllOk, SomeNotOk, exit_status}
 use Rattle.host_model.specs.Leaves.{AsksScript, WritesAs, IsOkAs}
 use Rattle.host_model.proofs.Runs.{run_tells}
-use Rattle.host_model.proofs.Small.{printer, empty_host, a_tape, texts_differ, numbers_differ, false_is_not_true}
-use Rattle.host_model.proofs.StepExamples.{status_event, status_pieces, asked_host, lost_event, lost_step, lost_host, addressed, sixth, lines}
+use Rattle.host_model.proofs.Steps.{alike_staying, unfaulted}
+use Rattle.host_model.proofs.Small.{printer, empty_host, a_tape, not_foreign, texts_differ, numbers_differ, false_is_not_true}
+use Rattle.host_model.proofs.StepExamples.{status_event, status_pieces, asked_host, log_of, lost_event, lost_step, lost_host, addressed, sixth, lines}
 
 -- ---- two events
 
@@ -38,7 +39,7 @@ late_event = record status_event { before = lost_host; after = late_host }
 
 late_acts : Acts sixth late_event
 late_acts = record {
-  replied = record { may = tt; whole = λ h. (refl, refl); stays = λ h. refl; told = refl; size = refl; gate = λ g. g };
+  replied = record { may = tt; whole = λ h. (refl, refl); stays = λ h. refl; told = refl; size = refl; gate = λ g. g; foreign = alike_staying lost_host.tape };
   next = record {
     devices = record {
       before = tt;
@@ -58,6 +59,7 @@ late_acts = record {
     effect = refl;
     carried = tt;
   };
+  by_plan = unfaulted sixth 6 48 (log_of status_pieces) refl;
   ready = λ h. refl;
   sound = λ h. absurd (false_is_not_true h);
   unsound = λ h g. refl;
@@ -71,7 +73,7 @@ abbrev pub events : List Event
 events = lost_event ∷ late_event ∷ []
 
 chained : Chained sixth empty_host events late_host
-chained = (refl, lost_step, (refl, late_step, refl))
+chained = (refl, lost_step base.formatted 12, (refl, late_step, refl))
 
 -- the same two events in the other order are no run
 turned : Chained sixth empty_host (late_event ∷ lost_event ∷ []) late_host → ⊥
@@ -208,16 +210,16 @@ asks_store = Asks (OfVolume (volume.Store a_name 1 (replicate 4 0) (codes "AB"))
 -- within a store a stop leaves the volume before, or the one with the file
 left_before : MayBeLeft asks_store empty_host base.formatted
 unfolding two_at four_at name_of is_open entry_at entries_of
-left_before = (inl refl, refl)
+left_before = record { own = λ gate. (inl refl, refl); foreign = λ t was foreign. absurd (not_foreign base.formatted t refl was foreign) }
 
 left_behind : MayBeLeft asks_store empty_host a_tape
 unfolding two_at four_at name_of is_open entry_at entries_of filled new_entry
-left_behind = (inr refl, refl)
+left_behind = record { own = λ gate. (inr refl, refl); foreign = λ t was foreign. absurd (not_foreign base.formatted t refl was foreign) }
 
 -- and no tape without a volume
 left_blank : MayBeLeft asks_store empty_host (replicate 12 base.blank) → ⊥
 unfolding two_at four_at name_of is_open entry_at entries_of filled new_entry
-left_blank left = elim (left.0) [
+left_blank left = elim ((left.own refl).0) [
   | inl h ↦ false_is_not_true (ap is_some h)
   | inr h ↦ false_is_not_true (ap is_some h)
 ]

@@ -18,6 +18,8 @@ use Rattle.loop_model.proofs.ReachLaws.{length-met}
 use Rattle.loop_model.proofs.RoleLaws.{roles_after-append, OneTalker-append}
 use Rattle.il_script.specs.declared.reply.Reply.{Reply}
 use Rattle.il_script.specs.declared.reply.Reply.TheVariants as reply
+use Rattle.il_ring.specs.declared.plan.Planned.{Planned}
+use Rattle.il_ring.specs.Plans.{hops_of}
 use Rattle.host_model.specs.Requests.{Item}
 use Rattle.host_model.specs.LoopStates.{all_roles, device_count, ring_of}
 use Rattle.host_model.specs.HostStates.{HostState}
@@ -87,39 +89,39 @@ answered_once (reply.No c) found units item s t cause none same low whole = whol
 
 -- ---- runs
 
-pub faults_of_run : (hops : List ℕ) (start : HostState) (events : List Event) (finish : HostState) → Chained hops start events finish → start.faults ≤ finish.faults
-faults_of_run hops start [] finish chain = let same = ap (λ s. s.faults) chain in omega (arith, same)
-faults_of_run hops start (e ∷ events) finish chain =
+pub faults_of_run : (plan : List Planned) (start : HostState) (events : List Event) (finish : HostState) → Chained plan start events finish → start.faults ≤ finish.faults
+faults_of_run plan start [] finish chain = let same = ap (λ s. s.faults) chain in omega (arith, same)
+faults_of_run plan start (e ∷ events) finish chain =
     let first = ap (λ s. s.faults) chain.0 in
     let here = faults_grow e.reply _ _ _ _ chain.1.acts.exchanged.cause in
-    let rest = faults_of_run hops e.after events finish chain.2 in
+    let rest = faults_of_run plan e.after events finish chain.2 in
     omega (arith, first, here, rest)
 
 -- ---- which reply is a fault of the loop
 
-crossed_more : (hops : List ℕ) (e : Event) (events : List Event) → IsStep hops e → crossed_behind e.after events ≡ crossed_behind e.before (e ∷ events)
-crossed_more hops e events s =
+crossed_more : (plan : List Planned) (e : Event) (events : List Event) → IsStep plan e → crossed_behind e.after events ≡ crossed_behind e.before (e ∷ events)
+crossed_more plan e events s =
     let k = device_count e.before.loop in
     ap (λ j. risen_by (all_links j events) e.after.crossings) (count_stays _ e.before.loop e.after.loop s.acts.next.devices)
     ∙ ap (risen_by (all_links k events)) s.acts.travels.crossings ∙ sym (risen_more (λ e. links k e.log) e events e.before.crossings)
 
 -- the reply of an event is a fault where a hop was met from here on up to there
-abbrev IsLostBetween : List ℕ → Event → ℕ → ℕ → Type 0
-IsLostBetween hops e from to = (e.reply ≡ reply.FaultFrame) ↔ (met hops from to ≢ [])
+abbrev IsLostBetween : List Planned → Event → ℕ → ℕ → Type 0
+IsLostBetween plan e from to = (e.reply ≡ reply.FaultFrame) ↔ (met (hops_of plan) from to ≢ [])
 
-pub lost_in_run : (hops : List ℕ) (start : HostState) (done : List Event) (e : Event) (more : List Event) (finish : HostState) → Chained hops start (done ++ e ∷ more) finish
-    → (e.reply ≡ reply.FaultFrame) ↔ (met hops (crossed_behind start done) (crossed_behind start (done ++ e ∷ [])) ≢ [])
-lost_in_run hops start [] e more finish chain =
-    let behind : e.after.crossings ≡ crossed_behind e.before (e ∷ []) = crossed_more hops e [] chain.1 in
-    let here : IsLostBetween hops e e.before.crossings (crossed_behind e.before (e ∷ [])) = subst (IsLostBetween hops e e.before.crossings) behind (lost_exactly hops e chain.1) in
-    subst (λ s. IsLostBetween hops e s.crossings (crossed_behind s (e ∷ []))) chain.0 here
-lost_in_run hops start (d ∷ done) e more finish chain =
-    let rest : IsLostBetween hops e (crossed_behind d.after done) (crossed_behind d.after (done ++ e ∷ [])) = lost_in_run hops d.after done e more finish chain.2 in
-    let first : IsLostBetween hops e (crossed_behind d.before (d ∷ done)) (crossed_behind d.after (done ++ e ∷ [])) =
-    subst (λ n. IsLostBetween hops e n (crossed_behind d.after (done ++ e ∷ []))) (crossed_more hops d done chain.1) rest in
-    let both : IsLostBetween hops e (crossed_behind d.before (d ∷ done)) (crossed_behind d.before (d ∷ (done ++ e ∷ []))) =
-    subst (IsLostBetween hops e (crossed_behind d.before (d ∷ done))) (crossed_more hops d (done ++ e ∷ []) chain.1) first in
-    subst (λ s. IsLostBetween hops e (crossed_behind s (d ∷ done)) (crossed_behind s (d ∷ (done ++ e ∷ [])))) chain.0 both
+pub lost_in_run : (plan : List Planned) (start : HostState) (done : List Event) (e : Event) (more : List Event) (finish : HostState) → Chained plan start (done ++ e ∷ more) finish
+    → (e.reply ≡ reply.FaultFrame) ↔ (met (hops_of plan) (crossed_behind start done) (crossed_behind start (done ++ e ∷ [])) ≢ [])
+lost_in_run plan start [] e more finish chain =
+    let behind : e.after.crossings ≡ crossed_behind e.before (e ∷ []) = crossed_more plan e [] chain.1 in
+    let here : IsLostBetween plan e e.before.crossings (crossed_behind e.before (e ∷ [])) = subst (IsLostBetween plan e e.before.crossings) behind (lost_exactly plan e chain.1) in
+    subst (λ s. IsLostBetween plan e s.crossings (crossed_behind s (e ∷ []))) chain.0 here
+lost_in_run plan start (d ∷ done) e more finish chain =
+    let rest : IsLostBetween plan e (crossed_behind d.after done) (crossed_behind d.after (done ++ e ∷ [])) = lost_in_run plan d.after done e more finish chain.2 in
+    let first : IsLostBetween plan e (crossed_behind d.before (d ∷ done)) (crossed_behind d.after (done ++ e ∷ [])) =
+    subst (λ n. IsLostBetween plan e n (crossed_behind d.after (done ++ e ∷ []))) (crossed_more plan d done chain.1) rest in
+    let both : IsLostBetween plan e (crossed_behind d.before (d ∷ done)) (crossed_behind d.before (d ∷ (done ++ e ∷ []))) =
+    subst (IsLostBetween plan e (crossed_behind d.before (d ∷ done))) (crossed_more plan d (done ++ e ∷ []) chain.1) first in
+    subst (λ s. IsLostBetween plan e (crossed_behind s (d ∷ done)) (crossed_behind s (d ∷ (done ++ e ∷ [])))) chain.0 both
 
 -- ---- all of it
 
@@ -128,8 +130,8 @@ no_event [] e more h = cc
 no_event (d ∷ done) e more h = cc
 
 -- nothing was answered yet
-pub tells_nothing : (hops : List ℕ) (start : HostState) → is_at_most_one (talkers (all_roles start.loop)) ≡ true → RunTells hops start [] start
-tells_nothing hops start alone = record {
+pub tells_nothing : (plan : List Planned) (start : HostState) → is_at_most_one (talkers (all_roles start.loop)) ≡ true → RunTells plan start [] start
+tells_nothing plan start alone = record {
   one_talker = alone;
   roles = refl;
   effect = nothing_done (ring_of start.loop) start.tape;
@@ -143,11 +145,11 @@ tells_nothing hops start alone = record {
 }
 
 -- one step before what is told of the others
-pub tells_more : (hops : List ℕ) (e : Event) (events : List Event) (finish : HostState) → IsStep hops e → e.before.crossings ≤ 18446744073709551615
-    → Chained hops e.after events finish → RunTells hops e.after events finish → RunTells hops e.before (e ∷ events) finish
-tells_more hops e events finish step low chain t =
+pub tells_more : (plan : List Planned) (e : Event) (events : List Event) (finish : HostState) → IsStep plan e → e.before.crossings ≤ 18446744073709551615
+    → Chained plan e.after events finish → RunTells plan e.after events finish → RunTells plan e.before (e ∷ events) finish
+tells_more plan e events finish step low chain t =
     let s = step.acts in
-    let grown = faults_of_run hops e.after events finish chain in
+    let grown = faults_of_run plan e.after events finish chain in
     let k = device_count e.before.loop in
     let count : device_count e.after.loop ≡ k = count_stays _ e.before.loop e.after.loop s.next.devices in
     let ring = ring_stays _ e.before.loop e.after.loop s.next.devices in
@@ -168,10 +170,10 @@ tells_more hops e events finish step low chain t =
           (λ party d f g first more. more ∙ ap (risen_by (all_passes k party events)) first ∙ sym (risen_more (λ e. passes k party e.log) e events d.frames))
           e.before.loop e.after.loop finish.loop s.travels.frames
           (subst (λ j. BoxedBecome (TookAll j events) e.after.loop finish.loop) count t.frames);
-      lost = λ done f more are. lost_in_run hops e.before done f more finish (subst (λ es. Chained hops e.before es finish) are (refl, step, chain));
+      lost = λ done f more are. lost_in_run plan e.before done f more finish (subst (λ es. Chained plan e.before es finish) are (refl, step, chain));
       few_lost =
           let once = lost_once e.reply _ _ _ _ cause in
-          let split = length-met hops e.before.crossings e.after.crossings finish.crossings here.0 behind in
+          let split = length-met (hops_of plan) e.before.crossings e.after.crossings finish.crossings here.0 behind in
           let sums = sum_first (λ e. cond (is_frame_fault e.reply) 1 0) e events in
           let rest = t.few_lost in
           omega (arith, once, split, sums, rest);
@@ -182,17 +184,17 @@ tells_more hops e events finish step low chain t =
           (failed_more e.before.faults (cond (is_medium_fault e.reply) 1 0) e.after.faults (failed_replies events) finish.faults once t.few_failed);
       complete = λ none same bound.
           let now = faults_grow e.reply _ _ _ _ cause in (
-            λ told. answered_once e.reply (met hops e.before.crossings e.after.crossings) _ e.item e.before e.after cause
-                (ap (λ hs. met hs e.before.crossings e.after.crossings) none) (omega (arith, grown, same)) bound (s.replied.whole told),
+            λ told. answered_once e.reply (met (hops_of plan) e.before.crossings e.after.crossings) _ e.item e.before e.after cause
+                (ap (λ p. met (hops_of p) e.before.crossings e.after.crossings) none) (omega (arith, grown, same)) bound (s.replied.whole told),
             t.complete none (omega (arith, now, same)) (omega (arith, grown, same, bound)),
           );
     }
 
 -- a run tells what it tells
-pub run_tells : (hops : List ℕ) (start : HostState) (events : List Event) (finish : HostState) → Chained hops start events finish
-    → is_at_most_one (talkers (all_roles start.loop)) ≡ true → start.crossings ≤ 18446744073709551615 → RunTells hops start events finish
-run_tells hops start [] finish chain alone low = subst (λ s. RunTells hops start [] s) (sym chain) (tells_nothing hops start alone)
-run_tells hops start (e ∷ events) finish chain alone low =
+pub run_tells : (plan : List Planned) (start : HostState) (events : List Event) (finish : HostState) → Chained plan start events finish
+    → is_at_most_one (talkers (all_roles start.loop)) ≡ true → start.crossings ≤ 18446744073709551615 → RunTells plan start events finish
+run_tells plan start [] finish chain alone low = subst (λ s. RunTells plan start [] s) (sym chain) (tells_nothing plan start alone)
+run_tells plan start (e ∷ events) finish chain alone low =
     let s = chain.1.acts in
     let first : e.before.crossings ≤ 18446744073709551615 = let same = ap (λ s. s.crossings) chain.0 in omega (arith, same, low) in
     let rose = s.travels.crossings in
@@ -200,5 +202,5 @@ run_tells hops start (e ∷ events) finish chain alone low =
     let next : e.after.crossings ≤ 18446744073709551615 = omega (arith, rose, range.1) in
     let one : is_at_most_one (talkers (all_roles e.after.loop)) ≡ true =
     subst (λ rs. is_at_most_one (talkers rs) ≡ true) (sym s.travels.roles) (still_one (all_roles e.before.loop) e.log s.travels.one_talker) in
-    let rest = run_tells hops e.after events finish chain.2 one next in
-    subst (λ s. RunTells hops s (e ∷ events) finish) chain.0 (tells_more hops e events finish chain.1 first chain.2 rest)
+    let rest = run_tells plan e.after events finish chain.2 one next in
+    subst (λ s. RunTells plan s (e ∷ events) finish) chain.0 (tells_more plan e events finish chain.1 first chain.2 rest)

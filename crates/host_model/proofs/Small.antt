@@ -3,7 +3,9 @@ use Rattle.std.proofs.Common.{◌≡◌, ◌++◌, ℕ, List, [], ◌∷◌, Som
 use Rattle.std.specs.Str.{bytes_eq}
 use Rattle.std.proofs.lemmas.Bool.Decides.{nat_tests}
 use Rattle.std.proofs.lemmas.Slice.Eq.{bytes_eq-Decides}
+use Rattle.std.specs.Prelude.{unwrap_or}
 use Rattle.lif_model.specs.Tape.{Tape}
+use Rattle.lif_model.specs.Volume.{is_foreign_gated}
 use Rattle.lif_model.proofs.Examples as base
 use Rattle.lif_model.proofs.VolumeExamples.{file, a_name}
 use Rattle.il_device.specs.State.{DeviceState, fresh}
@@ -24,11 +26,20 @@ quiet = fresh None 0
 abbrev pub host_with : Tape → List DeviceState → HostState
 host_with tape after = fresh_host (Some tape) 12 0 [] after
 
+-- with a printer, over a tape of so many records
+abbrev pub host_on : Tape → ℕ → HostState
+host_on tape n = fresh_host (Some tape) n 0 [] (printer ∷ [])
+
 abbrev pub empty_host : HostState
-empty_host = host_with base.formatted (printer ∷ [])
+empty_host = host_on base.formatted 12
 
 abbrev pub a_host : HostState
 a_host = host_with a_tape (printer ∷ [])
+
+-- a tape that is not foreign-gated is none that is
+pub not_foreign : (x t : Tape) → is_foreign_gated x ≡ false → Some x ≡ Some t → is_foreign_gated t ≡ true → ⊥
+not_foreign x t own same foreign =
+    let both : true ≡ false = sym foreign ∙ (ap (λ o. is_foreign_gated (unwrap_or o [])) (sym same) ∙ own) in cc
 
 -- two texts that compare as different are not equal
 pub texts_differ : (a b : List ℕ) → bytes_eq a b ≡ false → a ≡ b → ⊥

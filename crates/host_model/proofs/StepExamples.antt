@@ -1,8 +1,9 @@
 -- Worked examples of steps, computed by the checker: a drive, which is party 1, with a printer behind it, is asked for its status.
-use Rattle.std.proofs.Common.{◌≡◌, ◌++◌, ℕ, List, [], ◌∷◌, Some, None, false, inl, length, refl, sym, ap, ◌∙◌, arith, flat_map, codes, true}
+use Rattle.std.proofs.Common.{◌≡◌, ◌++◌, ℕ, All, List, [], ◌∷◌, Some, None, false, inl, length, refl, sym, ap, ◌∙◌, arith, flat_map, codes, true}
 use Rattle.std.specs.Prelude.{unwrap_or}
 use Rattle.std.specs.Fmt.{digits}
-use Rattle.lif_model.specs.Tape.{record_at}
+use Rattle.std.proofs.lemmas.List.Elements.{All-nil, All-cons}
+use Rattle.lif_model.specs.Tape.{Tape, record_at}
 use Rattle.lif_model.proofs.Examples as base
 use Rattle.il_frames.specs.declared.frame.Class.TheVariants as class
 use Rattle.il_frames.specs.declared.entry.Entry.{Entry}
@@ -11,16 +12,21 @@ use Rattle.il_frames.specs.Frames.{framed}
 use Rattle.il_device.specs.declared.roles.Roles.{Roles}
 use Rattle.il_device.specs.Roles.{no_roles}
 use Rattle.il_device.specs.State.{risen_by}
-use Rattle.loop_model.specs.Entries.{entry, ifc, aau, aad}
+use Rattle.loop_model.specs.Entries.{entry, ifc, aau, aad, rfc}
 use Rattle.loop_model.specs.Exchanges.{Echo, Exchange, Command, Address, Receive, Sst, Stopped, Piece, Whole, Cut, FrameLost, piece_entries}
 use Rattle.loop_model.specs.Hearing.{roles_at}
 use Rattle.il_script.specs.declared.reply.Code.TheVariants as code
 use Rattle.il_script.specs.declared.reply.Reply.TheVariants as reply
+use Rattle.il_ring.specs.declared.plan.Planned.{Planned}
+use Rattle.il_ring.specs.declared.plan.PlanFault.TheVariants.{Lose}
+use Rattle.il_ring.specs.Plans.{hops_of}
+use Rattle.il_ring.specs.Fates.{IsByPlan}
 use Rattle.host_model.specs.Requests.{Status, Asks}
 use Rattle.host_model.specs.HostStates.{HostState}
 use Rattle.host_model.specs.Replies.{trace_text}
-use Rattle.host_model.specs.Steps.{Acts, IsStep, Event}
-use Rattle.host_model.proofs.Small.{printer, empty_host, a_tape, texts_differ, numbers_differ, false_is_not_true}
+use Rattle.host_model.specs.Steps.{Acts, IsStep, Event, event}
+use Rattle.host_model.proofs.Steps.{alike_staying, unfaulted}
+use Rattle.host_model.proofs.Small.{printer, empty_host, host_on, a_tape, texts_differ, numbers_differ, false_is_not_true}
 
 -- ---- asking for the status after power on
 
@@ -55,19 +61,19 @@ abbrev pub addressed : ℕ → Roles
 addressed a = record { address = Some a; talks = false; listens = false }
 
 -- The devices have their addresses. The printer took the frame of every line but the one of SST.
-abbrev pub asked_host : HostState
-asked_host = record empty_host {
+abbrev pub asked_on : Tape → ℕ → HostState
+asked_on tape n = record (host_on tape n) {
   crossings = 42;
   ready = true;
   loop = record { before = []; status = 0; drive = addressed 1; after = record printer { roles = addressed 2; frames = 14 } ∷ [] };
 }
 
-abbrev pub status_event : Event
-status_event = record { item = Asks Status; reply = reply.Ok; log = log_of status_pieces; before = empty_host; after = asked_host }
+abbrev pub status_on : Tape → ℕ → Event
+status_on tape n = event (Asks Status) reply.Ok (log_of status_pieces) (host_on tape n) (asked_on tape n)
 
-status_acts : Acts [] status_event
-status_acts = record {
-  replied = record { may = tt; whole = λ h. (refl, refl); stays = λ h. refl; told = refl; size = refl; gate = λ g. g };
+status_acts : (tape : Tape) (n : ℕ) → Acts [] (status_on tape n)
+status_acts tape n = record {
+  replied = record { may = tt; whole = λ h. (refl, refl); stays = λ h. refl; told = refl; size = refl; gate = λ g. g; foreign = alike_staying (Some tape) };
   next = record {
     devices = record {
       before = tt;
@@ -87,21 +93,32 @@ status_acts = record {
     effect = refl;
     carried = tt;
   };
+  by_plan = unfaulted [] 0 42 (log_of status_pieces) refl;
   ready = λ h. refl;
   sound = λ h. absurd (false_is_not_true h);
   unsound = λ h g. refl;
   still = λ h. absurd (false_is_not_true (sym h));
 }
 
-pub status_step : IsStep [] status_event
-status_step = record { acts = status_acts; directory = record { kept = refl; log = λ on. absurd (false_is_not_true on) } }
+pub status_step : (tape : Tape) (n : ℕ) → IsStep [] (status_on tape n)
+status_step tape n = record { acts = status_acts tape n; directory = record { kept = refl; log = λ on. absurd (false_is_not_true on) } }
+
+abbrev pub asked_host : HostState
+asked_host = asked_on base.formatted 12
+
+abbrev pub status_event : Event
+status_event = status_on base.formatted 12
 
 -- ---- what is no step
 
-abbrev pub sixth : List ℕ
-sixth = 6 ∷ []
+-- a loss is planned at this crossing
+abbrev pub loss_at : ℕ → List Planned
+loss_at hop = record { hop = hop; fault = Lose } ∷ []
 
-pub hop_is_none : sixth ≡ [] → ⊥
+abbrev pub sixth : List Planned
+sixth = loss_at 6
+
+pub hop_is_none : hops_of sixth ≡ [] → ⊥
 hop_is_none h = cc
 
 -- one frame more at the printer
@@ -136,7 +153,7 @@ medium_at_status s = false_is_not_true s.acts.replied.may
 fault_without_a_plan : IsStep [] (record status_event { reply = reply.FaultFrame }) → ⊥
 fault_without_a_plan s = s.acts.exchanged.cause.0 refl
 
-ok_in_spite_of_a_hop : IsStep (6 ∷ []) status_event → ⊥
+ok_in_spite_of_a_hop : IsStep sixth status_event → ⊥
 ok_in_spite_of_a_hop s = hop_is_none s.acts.exchanged.cause.0
 
 -- another tape behind it
@@ -153,15 +170,22 @@ lost_trace : trace_text (log_of lost_pieces) ≡ lines (codes "~ 0 IFC = IFC" �
 unfolding digits
 lost_trace = refl
 
-abbrev pub lost_host : HostState
-lost_host = record empty_host { crossings = 6; loop = record empty_host.loop { after = record printer { frames = 2 } ∷ [] } }
+abbrev pub lost_on : Tape → ℕ → HostState
+lost_on tape n = record (host_on tape n) { crossings = 6; loop = record empty_host.loop { after = record printer { frames = 2 } ∷ [] } }
 
-abbrev pub lost_event : Event
-lost_event = record { item = Asks Status; reply = reply.FaultFrame; log = log_of lost_pieces; before = empty_host; after = lost_host }
+abbrev pub loss_on : Tape → ℕ → Event
+loss_on tape n = event (Asks Status) reply.FaultFrame (log_of lost_pieces) (host_on tape n) (lost_on tape n)
 
-lost_acts : Acts (6 ∷ []) lost_event
-lost_acts = record {
-  replied = record { may = refl; whole = λ h g. inl refl; stays = λ h. refl; told = refl; size = refl; gate = λ g. g };
+-- by the loss that is planned there
+pub sixth_lost : All (IsByPlan sixth 0 6) (log_of lost_pieces)
+sixth_lost =
+    let by = IsByPlan sixth 0 6 in
+    All-cons by (entry 0 ifc (outcome.Back ifc)) (entry 0 rfc (outcome.Lost 0) ∷ []) (λ is. absurd (false_is_not_true is))
+    (All-cons by (entry 0 rfc (outcome.Lost 0)) [] (inl (record { hop = 6; after = omega arith; up_to = omega arith; planned = refl })) (All-nil by))
+
+lost_acts : (tape : Tape) (n : ℕ) → Acts sixth (loss_on tape n)
+lost_acts tape n = record {
+  replied = record { may = refl; whole = λ h g. inl refl; stays = λ h. refl; told = refl; size = refl; gate = λ g. g; foreign = alike_staying (Some tape) };
   next = record {
     devices = record {
       before = tt;
@@ -181,15 +205,22 @@ lost_acts = record {
     effect = refl;
     carried = tt;
   };
+  by_plan = sixth_lost;
   ready = λ h. refl;
   sound = λ h. absurd (false_is_not_true h);
   unsound = λ h g. refl;
   still = λ h. absurd (false_is_not_true (sym h));
 }
 
-pub lost_step : IsStep (6 ∷ []) lost_event
-lost_step = record { acts = lost_acts; directory = record { kept = refl; log = λ on. absurd (false_is_not_true on) } }
+pub lost_step : (tape : Tape) (n : ℕ) → IsStep sixth (loss_on tape n)
+lost_step tape n = record { acts = lost_acts tape n; directory = record { kept = refl; log = λ on. absurd (false_is_not_true on) } }
+
+abbrev pub lost_host : HostState
+lost_host = lost_on base.formatted 12
+
+abbrev pub lost_event : Event
+lost_event = loss_on base.formatted 12
 
 -- with a plan of the seventh crossing the loss is no step
-lost_too_early : IsStep (7 ∷ []) lost_event → ⊥
+lost_too_early : IsStep (loss_at 7) lost_event → ⊥
 lost_too_early s = s.acts.exchanged.cause.0 refl

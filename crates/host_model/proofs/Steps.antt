@@ -1,5 +1,18 @@
 -- Laws of one step, for those who say a part of it by itself.
-use Rattle.std.proofs.Common.{◌≡◌, ◌≢◌, ◌≤◌, ◌+◌, ◌↔◌, ◌∙◌, ℕ, cond, List, [], ◌∷◌, length, refl, ap, subst, arith}
+use Rattle.std.proofs.Common.{◌≡◌, ◌≢◌, ◌≤◌, ◌+◌, ◌↔◌, ◌∙◌, ◌==◌, ◌||◌, ℕ, Bool, All, true, false, not, cond, List, [], ◌∷◌, Option, Some, None, length, inl, refl, sym, ap, subst, arith, eqb-true}
+use Rattle.std.specs.Prelude.{IfSome}
+use Rattle.std.specs.List.{list_all}
+use Rattle.std.proofs.lemmas.Bool.{and_parts}
+use Rattle.std.proofs.lemmas.List.Elements.{All-nil, All-cons}
+use Rattle.lif_model.specs.Tape.{Tape}
+use Rattle.lif_model.specs.Redo.{settled}
+use Rattle.lif_model.specs.Commit.{SettlesAs}
+use Rattle.lif_model.proofs.Commit.{settles_self}
+use Rattle.il_frames.specs.declared.frame.Frame.{Frame}
+use Rattle.il_frames.specs.declared.entry.Entry.{Entry}
+use Rattle.il_frames.specs.declared.entry.Outcome.{Outcome}
+use Rattle.il_frames.specs.declared.entry.Outcome.TheVariants as outcome
+use Rattle.il_frames.specs.Frames.{byte_of, is_data}
 use Rattle.il_device.specs.State.{DeviceState}
 use Rattle.loop_model.specs.Devices.{EachBecomes}
 use Rattle.loop_model.specs.Loops.{host_loop}
@@ -8,9 +21,13 @@ use Rattle.loop_model.specs.Units.{RecordUnit}
 use Rattle.loop_model.proofs.DeviceLaws.{each_length, each_same, each_then}
 use Rattle.il_script.specs.declared.reply.Reply.{Reply}
 use Rattle.il_script.specs.declared.reply.Reply.TheVariants as reply
+use Rattle.il_ring.specs.declared.plan.Planned.{Planned}
+use Rattle.il_ring.specs.Plans.{hops_of}
+use Rattle.il_ring.specs.Fates.{EndsSo, IsByPlan}
 use Rattle.host_model.specs.LoopStates.{LoopState, device_count, drive_at, ring_of}
+use Rattle.host_model.specs.HostStates.{HostState}
 use Rattle.host_model.specs.Next.{BoxedBecome}
-use Rattle.host_model.specs.Steps.{Event, IsStep, HasReplyCause, is_frame_fault}
+use Rattle.host_model.specs.Steps.{Event, IsStep, HasReplyCause, SettlesAlike, is_frame_fault}
 
 -- ---- devices one by one
 
@@ -62,11 +79,42 @@ faults_grow (reply.No c) hops before now units cause = omega (arith, cause.1)
 -- ---- exactly
 
 -- the reply is `fault frame` exactly where a planned hop was met
-pub lost_exactly : (hops : List ℕ) (e : Event) → IsStep hops e → (e.reply ≡ reply.FaultFrame) ↔ (met hops e.before.crossings e.after.crossings ≢ [])
-lost_exactly hops e s = by_reply e.reply (met hops e.before.crossings e.after.crossings) _ _ _ s.acts.exchanged.cause
+pub lost_exactly : (plan : List Planned) (e : Event) → IsStep plan e → (e.reply ≡ reply.FaultFrame) ↔ (met (hops_of plan) e.before.crossings e.after.crossings ≢ [])
+lost_exactly plan e s = by_reply e.reply (met (hops_of plan) e.before.crossings e.after.crossings) _ _ _ s.acts.exchanged.cause
   where
     by_reply : (r : Reply) (found : List ℕ) (before now : ℕ) (units : List RecordUnit) → HasReplyCause r found before now units → (r ≡ reply.FaultFrame) ↔ (found ≢ [])
     by_reply reply.FaultFrame found before now units cause = (λ h. cause.0, λ h. refl)
     by_reply reply.FaultMedium found before now units cause = (λ h. cc, λ h. absurd (h cause.0))
     by_reply reply.Ok found before now units cause = (λ h. cc, λ h. absurd (h cause.0))
     by_reply (reply.No c) found before now units cause = (λ h. cc, λ h. absurd (h cause.0))
+
+-- what settles to the same as the tape before
+pub alike : {before : Option Tape} (t x : Tape) → before ≡ Some t → SettlesAs (settled t) x → SettlesAlike before x
+alike t x is so u was foreign = subst (λ (o : Option Tape). IfSome o (λ u. SettlesAs (settled u) x)) (sym is ∙ was) so
+
+-- a tape that stays does
+pub alike_staying : (tape : Option Tape) → IfSome tape (SettlesAlike tape)
+alike_staying None = tt
+alike_staying (Some t) = alike t t refl (settles_self t)
+
+-- ---- logs without a fault
+
+-- a frame that was not lost, nor its byte altered
+abbrev pub went_well : Frame → Outcome → Bool
+went_well f (outcome.Back g) = not (is_data f) || (byte_of g == byte_of f)
+went_well f (outcome.Taken party) = true
+went_well f (outcome.Lost party) = false
+
+each_unfaulted : (plan : List Planned) (from to : ℕ) (f : Frame) (o : Outcome) → went_well f o ≡ true → EndsSo plan from to f o
+each_unfaulted plan from to f (outcome.Back g) well = λ is.
+    inl (eqb-true (byte_of g) (byte_of f) (ap (λ b. not b || (byte_of g == byte_of f)) (sym is) ∙ well))
+each_unfaulted plan from to f (outcome.Taken party) well = tt
+each_unfaulted plan from to f (outcome.Lost party) well = let clash : false ≡ true = well in cc
+
+-- any plan makes them
+pub unfaulted : (plan : List Planned) (from to : ℕ) (log : List Entry) → list_all (λ e. went_well e.frame e.outcome) log ≡ true
+    → All (IsByPlan plan from to) log
+unfaulted plan from to [] well = All-nil (IsByPlan plan from to)
+unfaulted plan from to (e ∷ log) well =
+    let parts = and_parts (went_well e.frame e.outcome) (list_all (λ e. went_well e.frame e.outcome) log) well in
+    All-cons (IsByPlan plan from to) e log (each_unfaulted plan from to e.frame e.outcome parts.0) (unfaulted plan from to log parts.1)

@@ -6,6 +6,8 @@ use Rattle.loop_model.specs.Reach.{links, passes, met}
 use Rattle.loop_model.specs.Roles.{OneTalker, roles_after}
 use Rattle.il_script.specs.declared.reply.Reply.{Reply}
 use Rattle.il_script.specs.declared.reply.Reply.TheVariants as reply
+use Rattle.il_ring.specs.declared.plan.Planned.{Planned}
+use Rattle.il_ring.specs.Plans.{hops_of}
 use Rattle.host_model.specs.LoopStates.{all_roles, device_count, ring_of}
 use Rattle.host_model.specs.HostStates.{HostState, HasOwnGate}
 use Rattle.host_model.specs.Replies.{reply_of}
@@ -48,7 +50,7 @@ abbrev pub AllAnswered : List Event → Type 0
 AllAnswered [] = Unit {0}
 AllAnswered (e ∷ events) = (TellsReply e.item e.before → e.reply ≡ reply_of e.item e.before) × AllAnswered events
 
-pub record RunTells (hops : List ℕ) (start : HostState) (events : List Event) (finish : HostState) : Type 0 where
+pub record RunTells (plan : List Planned) (start : HostState) (events : List Event) (finish : HostState) : Type 0 where
   -- in all logs joined at most one party talks at every moment, and they leave these roles
   pub one_talker : OneTalker (all_roles start.loop) (joined_log events)
   pub roles : all_roles finish.loop ≡ roles_after (all_roles start.loop) (joined_log events)
@@ -61,9 +63,9 @@ pub record RunTells (hops : List ℕ) (start : HostState) (events : List Event) 
   -- a reply is `fault frame` exactly where a planned hop lies behind the crossings of the logs before, and not behind those
   -- of its own
   pub lost : (done : List Event) (e : Event) (more : List Event) → events ≡ done ++ e ∷ more
-      → (e.reply ≡ reply.FaultFrame) ↔ (met hops (crossed_behind start done) (crossed_behind start (done ++ e ∷ [])) ≢ [])
+      → (e.reply ≡ reply.FaultFrame) ↔ (met (hops_of plan) (crossed_behind start done) (crossed_behind start (done ++ e ∷ [])) ≢ [])
   -- no more frame faults than planned hops were crossed, and no more medium faults than the medium failed
-  pub few_lost : lost_replies events ≤ length (met hops start.crossings finish.crossings)
+  pub few_lost : lost_replies events ≤ length (met (hops_of plan) start.crossings finish.crossings)
   pub few_failed : min (start.faults + failed_replies events) last_count ≤ finish.faults
   -- where nothing is planned and the medium does not fail, no command faults
-  pub complete : hops ≡ [] → finish.faults ≤ start.faults → start.faults < last_count → AllAnswered events
+  pub complete : plan ≡ [] → finish.faults ≤ start.faults → start.faults < last_count → AllAnswered events

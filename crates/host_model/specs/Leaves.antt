@@ -5,6 +5,7 @@ use Rattle.lif_model.specs.Shelf.{Shelf, OthersStay, bytes_of, image_of, largest
 use Rattle.lif_model.specs.Tape.{Tape}
 use Rattle.il_script.specs.declared.limits.TheConstants.{LONGEST_SCRIPT}
 use Rattle.il_script.specs.LineCut.{line_cut, line_told}
+use Rattle.il_ring.specs.declared.plan.Planned.{Planned}
 use Rattle.host_model.specs.Requests.{Item, items_in, items_of}
 use Rattle.host_model.specs.Generated.{items_generated}
 use Rattle.host_model.specs.HostStates.{HostState}
@@ -100,24 +101,30 @@ IsOkAs AllOk events = all_ok events ≡ true
 IsOkAs SomeNotOk events = all_ok events ≡ false
 IsOkAs _ events = Unit {0}
 
--- One list of events from the opened host on meets all that is said: each is a step, and begins where the one before it ends;
--- together they tell what a run tells; the items are those of the script; their logs and texts were written; the tape and the devices
--- handed back are those behind the last one; each tape that a stop since the run began may have left, `stopped`, is one of theirs;
--- and of the shelf no other image changed.
-pub record RunsOver (end : RunEnd) (order : Order) (old now : Outside) (stopped : Tape → Type 0) : Type 0 where
+-- The run so far. One list of events from `start` to `finish` meets all that is said of it: each is a step under the plan, and begins
+-- where the one before it ends; the items are those of the script, or of the one that is generated; whether all are ok is as the
+-- ending says; and their logs and texts were written.
+pub record RunSoFar (plan : List Planned) (generated : Option (ℕ × ℕ)) (mode : OutputMode) (end : RunEnd) (start finish : HostState)
+    (left left_now written written_now : Option (List ℕ)) : Type 0 where
   pub events : List Event
-  pub start : HostState
-  pub finish : HostState
-  pub opens : Opens order old start
-  pub chain : Chained order.hops start events finish
-  pub tells : RunTells order.hops start events finish
-  pub asks : AsksAs order.generated end old.left now.left (items_asked events)
+  pub chain : Chained plan start events finish
+  pub asks : AsksAs generated end left left_now (items_asked events)
   pub ok : IsOkAs end events
   pub texts : List (List ℕ)
   pub texts_are : AreTextsOf events texts
-  pub writes : WritesAs end (mode_of order) events texts old.written now.written
+  pub writes : WritesAs end mode events texts written written_now
+
+-- The events of one run go on from the opened host; together they tell what a run tells; the tape and the devices handed back are those
+-- after the last one; each tape that a stop since the run began may have left, `stopped`, is one of theirs; and of the shelf no
+-- other image changed.
+pub record RunsOver (end : RunEnd) (order : Order) (old now : Outside) (stopped : Tape → Type 0) : Type 0 where
+  pub start : HostState
+  pub finish : HostState
+  pub opens : Opens order old start
+  pub ran : RunSoFar order.plan order.generated (mode_of order) end start finish old.left now.left old.written now.written
+  pub tells : RunTells order.plan start ran.events finish
   pub back : HandsBack finish now
-  pub stops : LeavesWithin start events finish stopped
+  pub stops : LeavesWithin start ran.events finish stopped
   pub shelf : KeepsShelf order old now
 
 -- ---- endings before the first item

@@ -3,6 +3,7 @@ use Rattle.std.specs.Prelude.{◌≡◌, ℕ, Bool, true, false, List, Option, S
 use Rattle.lif_model.specs.Shelf.{Shelf, IsSize, image_of, inserted}
 use Rattle.lif_model.specs.Tape.{Tape, IsTape}
 use Rattle.il_device.specs.State.{DeviceState}
+use Rattle.il_ring.specs.declared.plan.Planned.{Planned}
 use Rattle.host_model.specs.HostStates.{HostState, fresh_host}
 use Rattle.host_model.specs.Runs.{OutputMode, WithTrace, Quiet, Summary}
 
@@ -10,8 +11,8 @@ pub record Order : Type 0 where
   -- the name of the image; and how many records it is to have where it is missing, if it is to be made then
   pub image : List ℕ
   pub made : Option ℕ
-  -- the crossings at which faults are planned
-  pub hops : List ℕ
+  -- the faults that are planned
+  pub plan : List Planned
   pub quiet : Bool
   -- the seed and the number of lines of a script that is generated
   pub generated : Option (ℕ × ℕ)

@@ -5,15 +5,16 @@ use Rattle.il_frames.specs.declared.entry.Entry.{Entry}
 use Rattle.il_script.specs.Replies.{text_line, next, is_ok}
 use Rattle.il_script.specs.declared.reply.Reply.{Reply}
 use Rattle.il_script.specs.declared.reply.Reply.TheVariants as reply
+use Rattle.il_ring.specs.declared.plan.Planned.{Planned}
 use Rattle.host_model.specs.Requests.{Item}
 use Rattle.host_model.specs.HostStates.{HostState}
 use Rattle.host_model.specs.Replies.{reply_text, trace_text}
 use Rattle.host_model.specs.Steps.{Event, IsStep, TellsReply}
 
 -- each event is a step, and begins where the one before it ends
-abbrev pub Chained : List ℕ → HostState → List Event → HostState → Type 0
-Chained hops start [] finish = finish ≡ start
-Chained hops start (e ∷ events) finish = (e.before ≡ start) × IsStep hops e × Chained hops e.after events finish
+abbrev pub Chained : List Planned → HostState → List Event → HostState → Type 0
+Chained plan start [] finish = finish ≡ start
+Chained plan start (e ∷ events) finish = (e.before ≡ start) × IsStep plan e × Chained plan e.after events finish
 
 -- ---- what the events tell
 

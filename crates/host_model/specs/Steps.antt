@@ -1,5 +1,5 @@
 -- One step of a run: an item, what was replied, the log, and what stands before and behind.
-use Rattle.std.specs.Prelude.{◌≡◌, ◌≢◌, ◌⊎◌, ◌≤◌, ◌++◌, ◌==◌, ◌&&◌, ◌||◌, ℕ, Bool, All, true, false, not, List, [], length, Option, Some, None, is_some}
+use Rattle.std.specs.Prelude.{◌≡◌, ◌≢◌, ◌⊎◌, ◌≤◌, ◌++◌, ◌==◌, ◌&&◌, ◌||◌, ℕ, Bool, All, true, false, not, List, [], length, Option, Some, None, is_some, IfSome}
 use Rattle.std.specs.List.{list_any}
 use Rattle.std.specs.Str.{bytes_eq}
 use Rattle.std.specs.FinMap.{get}
@@ -9,7 +9,9 @@ use Rattle.lif_model.specs.Directory.{start_of, length_of}
 use Rattle.lif_model.specs.Legal.{slot_named}
 use Rattle.lif_model.specs.Made.{file_length, filled}
 use Rattle.lif_model.specs.Fit.{Place, At, fit_in}
-use Rattle.lif_model.specs.Volume.{Volume}
+use Rattle.lif_model.specs.Redo.{settled}
+use Rattle.lif_model.specs.Commit.{SettlesAs}
+use Rattle.lif_model.specs.Volume.{Volume, is_foreign_gated}
 use Rattle.lif_model.specs.Apply.{Store, Fetch, Batch}
 use Rattle.lif_model.specs.Writing.{NewFile, files_left}
 use Rattle.lif_model.specs.Transfers.{carries}
@@ -25,6 +27,9 @@ use Rattle.loop_model.specs.Roles.{OneTalker, roles_after}
 use Rattle.loop_model.specs.Units.{RecordUnit, units_of, ends_within}
 use Rattle.il_script.specs.declared.reply.Reply.{Reply}
 use Rattle.il_script.specs.declared.reply.Reply.TheVariants as reply
+use Rattle.il_ring.specs.declared.plan.Planned.{Planned}
+use Rattle.il_ring.specs.Plans.{hops_of}
+use Rattle.il_ring.specs.Fates.{IsByPlan}
 use Rattle.host_model.specs.Requests.{OfVolume, Get, Item, Asks, is_of_volume, uses_frames}
 use Rattle.host_model.specs.LoopStates.{all_roles, device_count, ring_of}
 use Rattle.host_model.specs.HostStates.{HostState, volume_at, HasOwnGate, log_room}
@@ -40,6 +45,10 @@ pub record Event : Type 0 where
   pub before : HostState
   pub after : HostState
 
+-- the one way in which events are made
+abbrev pub event : Item → Reply → List Entry → (before after : HostState) → Event
+event item reply log before after = record { item = item; reply = reply; log = log; before = before; after = after }
+
 -- ---- reply and volume
 
 -- only a command that sends frames has the reply `fault frame`, and only one of the volume `fault medium`
@@ -52,12 +61,17 @@ MayReply item r = Unit {0}
 abbrev pub EitherVolume : Item → HostState → HostState → Type 0
 EitherVolume item s t = (volume_at t ≡ volume_at s) ⊎ (volume_at t ≡ volume_behind item s)
 
--- Without a fault, reply and volume are those of the item. Behind one, all of the command was done or nothing of it; of a tape
--- whose open redo would overwrite a file that is not ours this is not said.
+-- Without a fault, reply and volume are those of the item. After one, all of the command was done or nothing of it; of a tape whose
+-- open redo would overwrite a file that is not ours `foreign` says what is left.
 abbrev pub CountsWhole : Item → Reply → HostState → HostState → Type 0
 CountsWhole item reply.FaultFrame s t = HasOwnGate s → EitherVolume item s t
 CountsWhole item reply.FaultMedium s t = HasOwnGate s → EitherVolume item s t
 CountsWhole item r s t = (r ≡ reply_of item s) × (volume_at t ≡ volume_behind item s)
+
+-- where the open redo of the tape before would overwrite a file that is not ours, this one settles to the same, in all records but the
+-- gate
+abbrev pub SettlesAlike : Option Tape → Tape → Type 0
+SettlesAlike before x = (t : Tape) → before ≡ Some t → is_foreign_gated t ≡ true → SettlesAs (settled t) x
 
 -- what the reply depends on is told
 abbrev pub TellsReply : Item → HostState → Type 0
@@ -71,6 +85,7 @@ pub record Replied (e : Event) : Type 0 where
   pub told : is_some e.after.tape ≡ is_some e.before.tape
   pub size : e.after.records ≡ e.before.records
   pub gate : HasOwnGate e.before → HasOwnGate e.after
+  pub foreign : IfSome e.after.tape (SettlesAlike e.before.tape)
 
 -- ---- what the frames of the log did on the ring
 
@@ -158,13 +173,13 @@ IsCarried _ _ n volume units = Unit {0}
 -- By one reading the log is a list of exchanges, all whole, or the last one broken off exactly where the reply is `fault
 -- frame`: those that the command is to make, in their order. A command of the volume first clears the drive, where the store is
 -- not sound. The transfers of records, none left open, made the tape before into the one behind.
-pub record Exchanged (hops : List ℕ) (e : Event) : Type 0 where
+pub record Exchanged (plan : List Planned) (e : Event) : Type 0 where
   pub reading : Reading (ring_of e.before.loop) e.log
   pub ends : ends_as (not (is_frame_fault e.reply)) reading.pieces ≡ true
   pub course : keeps_course e.before.loop e.before.ready (course_of e.item e.before.loop) reading.pieces ≡ true
   pub begins : is_of_volume e.item ≡ true → begins_with (cleared_first e.before.loop e.before.ready e.before.sound) reading.pieces ≡ true
   pub outside : ends_within (ring_of e.before.loop) reading.pieces ≡ false
-  pub cause : HasReplyCause e.reply (met hops e.before.crossings e.after.crossings) e.before.faults e.after.faults
+  pub cause : HasReplyCause e.reply (met (hops_of plan) e.before.crossings e.after.crossings) e.before.faults e.after.faults
       (units_of (ring_of e.before.loop) reading.pieces)
   pub effect : OnTapes e.before.tape e.after.tape (UnitsEffect (units_of (ring_of e.before.loop) reading.pieces))
   pub carried : IsCarried e.item e.reply e.before.records (volume_at e.before) (units_of (ring_of e.before.loop) reading.pieces)
@@ -172,12 +187,14 @@ pub record Exchanged (hops : List ℕ) (e : Event) : Type 0 where
 -- ---- a step
 
 -- what an item did to the tape, the loop and its devices, and what its log tells of that, faults being planned at these crossings
-pub record Acts (hops : List ℕ) (e : Event) : Type 0 where
+pub record Acts (plan : List Planned) (e : Event) : Type 0 where
   pub replied : Replied e
   pub next : Next e.item e.reply e.before.loop e.after.loop
   pub travels : Travels e
   pub heard : BoxedBecome (HearsLog (device_count e.before.loop) (all_roles e.before.loop) e.log (not (is_frame_fault e.reply))) e.before.loop e.after.loop
-  pub exchanged : Exchanged hops e
+  pub exchanged : Exchanged plan e
+  -- each frame that was lost, and each byte that was altered, was so by a fault planned at a crossing of this log
+  pub by_plan : All (IsByPlan plan e.before.crossings e.after.crossings) e.log
   -- behind a command that sends frames the loop is ready, unless an exchange broke off
   pub ready : uses_frames e.item ≡ true → e.after.ready ≡ not (is_frame_fault e.reply)
   -- Behind a command of the volume the store is sound, unless it replied a fault. Another command that sends frames leaves it as it
@@ -193,6 +210,6 @@ pub record KeepsDirectory (e : Event) : Type 0 where
   pub log : e.before.kept ≡ true → LogOfKept e.item e.reply e.before e.log
 
 -- what holds of each event
-pub record IsStep (hops : List ℕ) (e : Event) : Type 0 where
-  pub acts : Acts hops e
+pub record IsStep (plan : List Planned) (e : Event) : Type 0 where
+  pub acts : Acts plan e
   pub directory : KeepsDirectory e

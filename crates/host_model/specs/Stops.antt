@@ -1,27 +1,33 @@
 -- What a power stop leaves within one command, and within a run.
-use Rattle.std.specs.Prelude.{◌≡◌, ◌⊎◌, ℕ, true, false, List, [], ◌∷◌, Some, is_some}
+use Rattle.std.specs.Prelude.{◌≡◌, ◌⊎◌, ℕ, true, false, List, [], ◌∷◌, Option, Some, is_some, IfSome}
 use Rattle.lif_model.specs.Stops.{LeavesOnly}
 use Rattle.lif_model.specs.Tape.{Tape}
 use Rattle.lif_model.specs.Volume.{volume_of, is_foreign_gated}
 use Rattle.host_model.specs.Requests.{OfVolume, Get, Item, Asks}
-use Rattle.host_model.specs.HostStates.{HostState, volume_at, HasOwnGate}
+use Rattle.host_model.specs.HostStates.{HostState, volume_at}
 use Rattle.host_model.specs.Replies.{volume_behind}
-use Rattle.host_model.specs.Steps.{Event}
+use Rattle.host_model.specs.Steps.{Event, SettlesAlike}
 
--- Within a command of the volume a stop leaves a tape that has the volume before it or the one that it makes, and no gate that
--- is not ours; a get makes none. Within any other item a stop leaves the tape as it is.
+-- Where no open redo of the tape before would overwrite a file that is not ours, a stop within a command leaves one of which this holds,
+-- and that is so as well. Where one would, it leaves a tape that settles to the same, in all records but the gate.
+pub record IsLeft (before : Option Tape) (x : Tape) (By : Type 0) : Type 0 where
+  pub own : IfSome before (λ t. is_foreign_gated t ≡ false) → By × (is_foreign_gated x ≡ false)
+  pub foreign : SettlesAlike before x
+
+-- A stop within a command of the volume leaves the volume before it or the one that it makes; a get makes none. Within any other
+-- item a stop leaves the tape as it is.
 abbrev pub MayBeLeft : Item → HostState → Tape → Type 0
 MayBeLeft (Asks (OfVolume command)) s x =
-    ((volume_of x ≡ volume_at s) ⊎ (volume_of x ≡ volume_behind (Asks (OfVolume command)) s)) × (is_foreign_gated x ≡ false)
-MayBeLeft (Asks (Get name)) s x = (volume_of x ≡ volume_at s) × (is_foreign_gated x ≡ false)
+    IsLeft s.tape x ((volume_of x ≡ volume_at s) ⊎ (volume_of x ≡ volume_behind (Asks (OfVolume command)) s))
+MayBeLeft (Asks (Get name)) s x = IsLeft s.tape x (volume_of x ≡ volume_at s)
 MayBeLeft _ s x = s.tape ≡ Some x
 
 -- the same of all stops since the moment `before` at which the item began; earlier ones are told by `past`
 abbrev pub StopsLeave : Event → ℕ → ℕ → (past since : ℕ → Tape → Type 0) → Type 0
 StopsLeave e before now past since =
-    is_some e.before.tape ≡ true → HasOwnGate e.before → LeavesOnly before now past since (MayBeLeft e.item e.before)
+    is_some e.before.tape ≡ true → LeavesOnly before now past since (MayBeLeft e.item e.before)
 
--- what a stop leaves within a run of these items, or behind the last of them
+-- what a stop leaves within a run of these items, or after the last of them
 abbrev pub LeftWithin : List Event → HostState → Tape → Type 0
 LeftWithin [] finish x = finish.tape ≡ Some x
 LeftWithin (e ∷ events) finish x = MayBeLeft e.item e.before x ⊎ LeftWithin events finish x
@@ -29,4 +35,4 @@ LeftWithin (e ∷ events) finish x = MayBeLeft e.item e.before x ⊎ LeftWithin 
 -- each tape that a stop since the run began may have left
 abbrev pub LeavesWithin : HostState → List Event → HostState → (Tape → Type 0) → Type 0
 LeavesWithin start events finish left =
-    is_some start.tape ≡ true → HasOwnGate start → (x : Tape) → left x → LeftWithin events finish x
+    is_some start.tape ≡ true → (x : Tape) → left x → LeftWithin events finish x

@@ -4,13 +4,12 @@ use Rattle.std.specs.Prelude.{Result}
 use Rattle.lif_model.specs.Stops.{LeavesOnly}
 use Rattle.il_script.specs.declared.reply.Reply.{Reply}
 use Rattle.host_model.specs.Requests.{Item}
-use Rattle.host_model.specs.HostStates.{HasOwnGate}
 use Rattle.host_model.specs.Steps.{Event, IsStep}
 use Rattle.host_model.specs.Stops.{LeftWithin}
 use Rattle.host_model.specs.Runs.{AreTextsOf, Chained, OutputMode, items_asked}
 use Rattle.host_model.specs.Leaves.{AsksAs, IsOkAs, WritesAs}
 use Rattle.host_model.proofs.Steps.{faults_grow}
-use Rattle.host_model.proofs.Growing.{chained_more, items_more, told_stays, gate_stays, texts_push, leaves_more, leaves_first}
+use Rattle.host_model.proofs.Growing.{chained_more, items_more, told_stays, texts_push, leaves_more, leaves_first}
 use Rattle.il_host.specs.HostView.{HostView, IsHost, KeepsImages}
 use Rattle.il_host.specs.Run.{Answers, AnswersScript, end_of, event_of}
 use Rattle.il_host.specs.declared.ending.Ending.{Ending}
@@ -18,21 +17,21 @@ use Rattle.il_host.proofs.Images.{images_kept, images_then}
 
 -- these items were answered from v to w, each by its event
 pub record Answered (v w : HostView) (items : List Item) (events : List Event) (texts : List (List ℕ)) : Type 0 where
-  pub hops : w.hops ≡ v.hops
-  pub chain : Chained v.hops v.state events w.state
+  pub plan : w.plan ≡ v.plan
+  pub chain : Chained v.plan v.state events w.state
   pub asked : items_asked events ≡ items
   pub texts_are : AreTextsOf events texts
-  pub stops : is_some v.state.tape ≡ true → HasOwnGate v.state → LeavesOnly v.moment w.moment v.left_since w.left_since (LeftWithin events w.state)
+  pub stops : is_some v.state.tape ≡ true → LeavesOnly v.moment w.moment v.left_since w.left_since (LeftWithin events w.state)
   pub images : KeepsImages v.inside w.inside v.images w.images
 
 -- none were
 pub answered_none : (v : HostView) → IsHost v → Answered v v [] [] []
 answered_none v host = record {
-  hops = refl;
+  plan = refl;
   chain = refl;
   asked = refl;
   texts_are = tt;
-  stops = λ told gate. leaves_first v.state v.moment v.left_since host.leaves_only told;
+  stops = λ told. leaves_first v.state v.moment v.left_since host.leaves_only told;
   images = images_kept v.inside v.images;
 }
 
@@ -42,14 +41,13 @@ pub answered_more : {E : Type 0} (v w x : HostView) (items : List Item) (events 
 answered_more v w x items events texts item r mode before now written s a =
     let e : Event = event_of item r a.log w x in
     record {
-      hops = a.hops ∙ s.hops;
-      chain = chained_more v.hops v.state events e s.chain (subst (λ hops. IsStep hops e) s.hops a.step);
+      plan = a.plan ∙ s.plan;
+      chain = chained_more v.plan v.state events e s.chain (subst (λ plan. IsStep plan e) s.plan a.step);
       asked = items_more events e ∙ ap (λ l. l ++ item ∷ []) s.asked;
       texts_are = texts_push events texts e a.text s.texts_are a.text_is;
-      stops = λ told gate.
-          let told_now : is_some w.state.tape ≡ true = told_stays v.hops v.state events w.state s.chain ∙ told in
-          let gate_now : HasOwnGate w.state = gate_stays v.hops v.state events w.state s.chain gate in
-          leaves_more events e v.moment w.moment x.moment v.left_since w.left_since x.left_since gate_now (s.stops told gate) (a.stops told_now gate_now);
+      stops = λ told.
+          let told_now : is_some w.state.tape ≡ true = told_stays v.plan v.state events w.state s.chain ∙ told in
+          leaves_more events e v.moment w.moment x.moment v.left_since w.left_since x.left_since (s.stops told) (a.stops told_now);
       images = images_then v.inside w.inside x.inside v.images w.images x.images s.images a.images;
     }
 
@@ -63,13 +61,15 @@ pub answers_script : (generated : Option (ℕ × ℕ)) (ending : Ending) (mode :
     → Answered v w items events texts → AsksAs generated (end_of ending) left left_now (items_asked events) → IsOkAs (end_of ending) events
     → WritesAs (end_of ending) mode events texts before now → AnswersScript generated ending mode v w left left_now before now
 answers_script generated ending mode v w left left_now before now items events texts s asks ok writes = record {
-  events = events;
-  chain = s.chain;
-  asks = asks;
-  ok = ok;
-  texts = texts;
-  texts_are = s.texts_are;
-  writes = writes;
+  ran = record {
+    events = events;
+    chain = s.chain;
+    asks = asks;
+    ok = ok;
+    texts = texts;
+    texts_are = s.texts_are;
+    writes = writes;
+  };
   stops = s.stops;
   images = s.images;
 }

@@ -85,7 +85,7 @@ pub answers_performed : {E : Type 0} (item : Item) (r : Reply) (mode : OutputMod
 answers_performed item r mode v w before now written p h = record {
   log = w.log;
   valid = p.valid;
-  hops = p.hops;
+  plan = p.plan;
   step = p.step;
   stops = p.stops;
   text = w.text;
@@ -106,8 +106,8 @@ pub answers_refusal : {E : Type 0} (code : Code) (mode : OutputMode) (v : HostVi
 answers_refusal code mode v before now written valid host h = record {
   log = [];
   valid = valid;
-  hops = refl;
-  step = no_command v.hops code v.state host.one;
+  plan = refl;
+  step = no_command v.plan code v.state host.one;
   stops = no_command_stops code v.state v.moment v.left_since host.leaves_only;
   text = reply_line (reply.No code);
   text_is = λ told. refl;

@@ -9,7 +9,6 @@ use Rattle.loop_model.specs.Reach.{met}
 use Rattle.loop_model.specs.Units.{units_of, ends_within}
 use Rattle.loop_model.proofs.ReachLaws.{length-met}
 use Rattle.il_ring.specs.Outcomes.{met_between}
-use Rattle.il_ring.specs.Plans.{hops_of}
 use Rattle.il_ring.specs.Rings.{RingView}
 use Rattle.il_control.specs.Calls.{loop_of}
 use Rattle.il_record.specs.Came.{CameBy}
@@ -46,7 +45,7 @@ pub record SaysOf {M : Type 0} (view : M → MediumView) (item : Item) (reply : 
 -- a command by exchanges, whole or broken off
 pub exchanged_came : {M : Type 0} (view : M → MediumView) (item : Item) (reply : Reply) (was is sound sound_now whole : Bool) (r s : RingView M) → r.books.log ≡ []
     → (came : CameBy view whole r s) → not (is_frame_fault reply) ≡ whole → SaysOf view item reply was sound r s came.pieces
-    → Exchanged (hops_of r.books.plan) (event_by view item reply was is sound sound_now r s)
+    → Exchanged (r.books.plan) (event_by view item reply was is sound sound_now r s)
 exchanged_came {M} view item reply was is sound sound_now whole r s empty came ends says =
     let pieces = came.pieces in
     let units : units_of (ring_of (loop_on r)) pieces ≡ units_of (loop_of r) pieces = ap (λ l. units_of l pieces) (ring_on r) in
@@ -65,7 +64,7 @@ exchanged_came {M} view item reply was is sound sound_now whole r s empty came e
 
 -- a command that sent no frame
 pub exchanged_none : {M : Type 0} (view : M → MediumView) (item : Item) (reply : Reply) (was is sound sound_now : Bool) (r s : RingView M) → r.books.log ≡ []
-    → s ≡ r → is_frame_fault reply ≡ false → SaysOf view item reply was sound r s [] → Exchanged (hops_of r.books.plan) (event_by view item reply was is sound sound_now r s)
+    → s ≡ r → is_frame_fault reply ≡ false → SaysOf view item reply was sound r s [] → Exchanged (r.books.plan) (event_by view item reply was is sound sound_now r s)
 exchanged_none {M} view item reply was is sound sound_now r s empty same ends says = record {
   reading = record { pieces = []; legal = refl; entries = ap (λ (s : RingView M). s.books.log) same ∙ empty };
   ends = ap (λ b. ends_as (not b) []) ends;

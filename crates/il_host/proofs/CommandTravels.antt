@@ -11,7 +11,7 @@ use Rattle.host_model.specs.Requests.{Item}
 use Rattle.host_model.specs.LoopStates.{device_count}
 use Rattle.host_model.specs.HostStates.{log_room}
 use Rattle.host_model.specs.RingStates.{loop_on, state_on}
-use Rattle.host_model.specs.Steps.{Event, Travels, TookFrames}
+use Rattle.host_model.specs.Steps.{Event, Travels, TookFrames, event}
 use Rattle.host_model.proofs.RingStates.{travels_on, roles_on}
 use Rattle.host_model.proofs.Steps.{boxed_same}
 
@@ -19,7 +19,7 @@ use Rattle.host_model.proofs.Steps.{boxed_same}
 -- behind it; and so the store was sound
 abbrev pub event_by : {M : Type 0} → (M → MediumView) → Item → Reply → (was is sound sound_now : Bool) → (r s : RingView M) → Event
 event_by view item reply was is sound sound_now r s =
-    record { item = item; reply = reply; log = s.books.log; before = state_on view was sound r; after = state_on view is sound_now s }
+    event item reply s.books.log (state_on view was sound r) (state_on view is sound_now s)
 
 -- of a store that was not sound and is not
 abbrev pub event_on : {M : Type 0} → (M → MediumView) → Item → Reply → (was is : Bool) → (r s : RingView M) → Event
@@ -28,7 +28,7 @@ event_on view item reply was is r s = event_by view item reply was is false fals
 -- the same with a log that is told otherwise
 abbrev event_with : {M : Type 0} → (M → MediumView) → Item → Reply → (was is : Bool) → List Entry → (r s : RingView M) → Event
 event_with view item reply was is log r s =
-    record { item = item; reply = reply; log = log; before = state_on view was false r; after = state_on view is false s }
+    event item reply log (state_on view was false r) (state_on view is false s)
 
 -- behind an empty log the log is that of the exchanges
 pub log_came : {M : Type 0} (view : M → MediumView) (whole : Bool) (r s : RingView M) → r.books.log ≡ [] → (came : CameBy view whole r s)

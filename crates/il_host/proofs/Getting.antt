@@ -17,12 +17,13 @@ use Rattle.lif_volume.specs.declared.fault.VolumeFault.TheVariants.{Refused, Tro
 use Rattle.loop_model.proofs.DeviceLaws.{each_weaker}
 use Rattle.loop_model.specs.Effect.{ends_as}
 use Rattle.loop_model.specs.Units.{RecordUnit, units_of}
+use Rattle.il_ring.specs.declared.plan.Planned.{Planned}
 use Rattle.host_model.specs.Requests.{Asks, Get, OfVolume}
 use Rattle.host_model.specs.LoopStates.{LoopState, all_roles, device_count, ring_of}
 use Rattle.host_model.specs.HostStates.{HostState, volume_at}
 use Rattle.host_model.specs.Next.{BoxedBecome, DeviceBehind, Next, StatusBehindVolume}
 use Rattle.host_model.specs.Replies.{got_as, if_text, lines_of_file, lines_text, refused_as, reply_text}
-use Rattle.host_model.specs.Steps.{EitherVolume, Event, Exchanged, HasReplyCause, HearsLog, IsCarried, Acts, IsStep, KeepsDirectory, Replied, TellsReply, Travels, is_fault, is_frame_fault}
+use Rattle.host_model.specs.Steps.{EitherVolume, Event, Exchanged, HasReplyCause, HearsLog, IsCarried, Acts, IsStep, KeepsDirectory, Replied, TellsReply, Travels, is_fault, is_frame_fault, event}
 use Rattle.host_model.specs.Stops.{MayBeLeft}
 use Rattle.il_host.specs.HostView.{HostView, Performed}
 use Rattle.il_host.specs.Standings.{fault_of, volume_reply}
@@ -67,10 +68,10 @@ fetch_leaves n name v = by v (apply n (Fetch name) v).0
 -- ---- a step
 
 abbrev fetching : List ℕ → Reply → List Entry → HostState → HostState → Event
-fetching name r log s t = record { item = Asks (OfVolume (Fetch name)); reply = r; log = log; before = s; after = t }
+fetching name r log s t = event (Asks (OfVolume (Fetch name))) r log s t
 
 abbrev getting : List ℕ → Reply → List Entry → HostState → HostState → Event
-getting name r log s t = record { item = Asks (Get name); reply = r; log = log; before = s; after = t }
+getting name r log s t = event (Asks (Get name)) r log s t
 
 module _ (name : List ℕ) (log : List Entry) (s t : HostState) where
   either_got : EitherVolume (Asks (OfVolume (Fetch name))) s t → EitherVolume (Asks (Get name)) s t
@@ -78,8 +79,8 @@ module _ (name : List ℕ) (log : List Entry) (s t : HostState) where
 
   replied_got : (r : Reply) (lines : Lines) → (r ≡ reply.Ok → TellsReply (Asks (Get name)) s → lines ≡ lines_of_file name (volume_at s))
       → Replied (fetching name r log s t) → Replied (getting name (got r lines) log s t)
-  replied_got reply.FaultFrame lines same so = record { may = refl; whole = λ tells own. either_got (so.whole tells own); stays = λ other. cc; told = so.told; size = so.size; gate = so.gate }
-  replied_got reply.FaultMedium lines same so = record { may = refl; whole = λ tells own. either_got (so.whole tells own); stays = λ other. cc; told = so.told; size = so.size; gate = so.gate }
+  replied_got reply.FaultFrame lines same so = record { may = refl; whole = λ tells own. either_got (so.whole tells own); stays = λ other. cc; told = so.told; size = so.size; gate = so.gate; foreign = so.foreign }
+  replied_got reply.FaultMedium lines same so = record { may = refl; whole = λ tells own. either_got (so.whole tells own); stays = λ other. cc; told = so.told; size = so.size; gate = so.gate; foreign = so.foreign }
   replied_got (reply.No code) lines same so = record {
     may = tt;
     whole = λ tells.
@@ -89,6 +90,7 @@ module _ (name : List ℕ) (log : List Entry) (s t : HostState) where
     told = so.told;
     size = so.size;
     gate = so.gate;
+    foreign = so.foreign;
   }
   replied_got reply.Ok None same so = record {
     may = tt;
@@ -99,6 +101,7 @@ module _ (name : List ℕ) (log : List Entry) (s t : HostState) where
     told = so.told;
     size = so.size;
     gate = so.gate;
+    foreign = so.foreign;
   }
   replied_got reply.Ok (Some lines) same so = record {
     may = tt;
@@ -109,6 +112,7 @@ module _ (name : List ℕ) (log : List Entry) (s t : HostState) where
     told = so.told;
     size = so.size;
     gate = so.gate;
+    foreign = so.foreign;
   }
 
   status_got : (r : Reply) (lines : Lines) (now : ℕ) → StatusBehindVolume r now → StatusBehindVolume (got r lines) now
@@ -145,8 +149,8 @@ module _ (name : List ℕ) (log : List Entry) (s t : HostState) where
   carried_got reply.FaultFrame lines n v units so = tt
   carried_got reply.FaultMedium lines n v units so = tt
 
-  exchanged_got : (r : Reply) (lines : Lines) (hops : List ℕ) → Exchanged hops (fetching name r log s t) → Exchanged hops (getting name (got r lines) log s t)
-  exchanged_got r lines hops so = record {
+  exchanged_got : (r : Reply) (lines : Lines) (plan : List Planned) → Exchanged plan (fetching name r log s t) → Exchanged plan (getting name (got r lines) log s t)
+  exchanged_got r lines plan so = record {
     reading = so.reading;
     ends = subst (λ (b : Bool). ends_as (not b) so.reading.pieces ≡ true) (sym (frame_same r lines)) so.ends;
     course = refl;
@@ -160,14 +164,15 @@ module _ (name : List ℕ) (log : List Entry) (s t : HostState) where
   travels_got : (r : Reply) (lines : Lines) → Travels (fetching name r log s t) → Travels (getting name (got r lines) log s t)
   travels_got r lines so = record { one_talker = so.one_talker; roles = so.roles; crossings = so.crossings; frames = so.frames; short = so.short }
 
-  acts_got : (r : Reply) (lines : Lines) (hops : List ℕ) → (r ≡ reply.Ok → TellsReply (Asks (Get name)) s → lines ≡ lines_of_file name (volume_at s))
-      → Acts hops (fetching name r log s t) → Acts hops (getting name (got r lines) log s t)
-  acts_got r lines hops same so = record {
+  acts_got : (r : Reply) (lines : Lines) (plan : List Planned) → (r ≡ reply.Ok → TellsReply (Asks (Get name)) s → lines ≡ lines_of_file name (volume_at s))
+      → Acts plan (fetching name r log s t) → Acts plan (getting name (got r lines) log s t)
+  acts_got r lines plan same so = record {
     replied = replied_got r lines same so.replied;
     next = next_got r lines s.loop t.loop so.next;
     travels = travels_got r lines so.travels;
     heard = subst (λ (b : Bool). BoxedBecome (HearsLog (device_count s.loop) (all_roles s.loop) log (not b)) s.loop t.loop) (sym (frame_same r lines)) so.heard;
-    exchanged = exchanged_got r lines hops so.exchanged;
+    exchanged = exchanged_got r lines plan so.exchanged;
+    by_plan = so.by_plan;
     ready = λ frames. so.ready refl ∙ sym (ap not (frame_same r lines));
     sound = λ of. so.sound refl ∙ sym (ap not (fault_same r lines));
     unsound = λ other. cc;
@@ -181,9 +186,9 @@ module _ (name : List ℕ) (log : List Entry) (s t : HostState) where
   kept_got reply.FaultFrame lines so = record { kept = so.kept; log = λ on. tt }
   kept_got reply.FaultMedium lines so = record { kept = so.kept; log = λ on. tt }
 
-  step_got : (r : Reply) (lines : Lines) (hops : List ℕ) → (r ≡ reply.Ok → TellsReply (Asks (Get name)) s → lines ≡ lines_of_file name (volume_at s))
-      → IsStep hops (fetching name r log s t) → IsStep hops (getting name (got r lines) log s t)
-  step_got r lines hops same so = record { acts = acts_got r lines hops same so.acts; directory = kept_got r lines so.directory }
+  step_got : (r : Reply) (lines : Lines) (plan : List Planned) → (r ≡ reply.Ok → TellsReply (Asks (Get name)) s → lines ≡ lines_of_file name (volume_at s))
+      → IsStep plan (fetching name r log s t) → IsStep plan (getting name (got r lines) log s t)
+  step_got r lines plan same so = record { acts = acts_got r lines plan same so.acts; directory = kept_got r lines so.directory }
 
 -- ---- a host
 
@@ -193,11 +198,14 @@ module _ (name : List ℕ) (v w : HostView) where
       → Performed (Asks (OfVolume (Fetch name))) r v w → Performed (Asks (Get name)) (got r lines) v (record w { text = text })
   behind_got r lines text same told so = record {
     valid = so.valid;
-    hops = so.hops;
-    step = step_got name w.log v.state w.state r lines v.hops same so.step;
+    plan = so.plan;
+    step = step_got name w.log v.state w.state r lines v.plan same so.step;
     text = told;
-    stops = λ tells own. weaker v.moment w.moment v.left_since w.left_since (MayBeLeft (Asks (Get name)) v.state) (MayBeLeft (Asks (OfVolume (Fetch name))) v.state) (so.stops tells own)
-        (λ c left. (⊎_elim (λ before. before) (λ turned. turned ∙ fetch_leaves v.state.records name (volume_at v.state)) left.0, left.1));
+    stops = λ tells. weaker v.moment w.moment v.left_since w.left_since (MayBeLeft (Asks (Get name)) v.state) (MayBeLeft (Asks (OfVolume (Fetch name))) v.state) (so.stops tells)
+        (λ c left. record {
+          own = λ gate. let so = left.own gate in (⊎_elim (λ before. before) (λ turned. turned ∙ fetch_leaves v.state.records name (volume_at v.state)) so.0, so.1);
+          foreign = left.foreign;
+        });
     images = so.images;
     calls = λ is. let few = so.calls refl in record { all = few.all; on_tape = few.on_tape; from_kept = few.from_kept };
   }

@@ -111,7 +111,7 @@ module _ {M I : Type 0} {D : I → Type 0} (view : M → MediumView) (seen : Rin
       changed view seen o b n text_space file_space usable began command opens low m u makes sounds same answer
       (changing (store_in view seen m.records).record_count command (volume_in m).kept (volume_in n).kept answer) before nothing
       (changing_few (store_in view seen) (volume_in m) (volume_in n) command answer nothing opens alters.goes_on.continues.size)
-      alters.goes_on alters.stops alters.answers
+      alters.goes_on (alters.stops, alters.foreign) alters.answers
       (alters_carried (store_in view seen) (volume_in m) (volume_in n) (host_in view seen o before text_space file_space).state
       (seen_asked view seen o b n text_space file_space usable began command opens low m u makes sounds same before)
       (none_asked view seen o b n text_space file_space usable began command opens low m u makes sounds same)

@@ -14,7 +14,7 @@ use Rattle.lif_model.proofs.Legal.{legal_tells}
 use Rattle.lif_plan.specs.Directories.{IsLegalDirectory}
 use Rattle.il_ports.specs.Media.{IsMedium, MediumView}
 use Rattle.il_ports.specs.Stores.{Begun, Continues, RecordsView}
-use Rattle.lif_volume.specs.Commands.{AnswersTo, FetchesByRun, FetchesFile, IsRefusedExactly, KeepsVolume, Labels, Mounts, MountsAndReads, WritesBySettling, fetching, reading, records_named}
+use Rattle.lif_volume.specs.Commands.{AnswersTo, FetchesByRun, FetchesFile, IsRefusedExactly, Labels, Mounts, MountsAndReads, WritesBySettling, fetching, reading, records_named}
 use Rattle.lif_volume.specs.Views.{IsOpen, VolumeView}
 use Rattle.lif_volume.specs.declared.fault.VolumeFault.{VolumeFault}
 use Rattle.lif_volume.specs.declared.fault.VolumeFault.TheVariants.{Refused, Trouble as Troubled}
@@ -34,7 +34,7 @@ use Rattle.il_host.proofs.FileCarries.{fetch_carried}
 use Rattle.il_host.proofs.KeptDirectories.{minds_fetched, minds_label, minds_not_fetched}
 use Rattle.il_host.proofs.HostVolumes.{done, most_calls, mounting_few, none_asked, refused, seen_asked}
 use Rattle.il_host.proofs.Texts.{data_told, label_told, short_slot}
-use Rattle.il_host.proofs.VolumeReplied.{stays_turns}
+use Rattle.il_host.proofs.VolumeReplied.{TurnsSo}
 
 -- ---- the buffer for files
 
@@ -73,24 +73,24 @@ module _ {M I : Type 0} {D : I → Type 0} (view : M → MediumView) (seen : Rin
     (opens : IsOpen (store_in view seen) (volume_in n)) (low : HasDriveStatus (loop_in seen n.records).control)
     (m : Volume (LoopRecords M I D)) (u : Unit {0}) (makes : MakesSound view (loop_in seen b.records) (loop_in seen m.records) (Ok u)) (sounds : Continues {T = Unit {0}} 1 (store_in view seen b.records) (store_in view seen m.records) (Ok u)) (same : is_some m.kept ≡ is_some o.kept) where
   pub labelled : (label before : List ℕ) → Mounts (store_in view seen) (volume_in m) (volume_in n) (Ok label) → AnswersTo Label (store_in view seen) (volume_in m) (volume_in n) (Ok label)
-      → IsRefusedExactly (store_in view seen) (volume_in m) (Ok label) → Labels (store_in view seen) (volume_in m) label → KeepsVolume (store_in view seen) (volume_in m) (volume_in n)
+      → IsRefusedExactly (store_in view seen) (volume_in m) (Ok label) → Labels (store_in view seen) (volume_in m) label → TurnsSo Label (store_in view seen) (volume_in m) (volume_in n)
       → Performed (Asks (OfVolume Label)) reply.Ok (host_in view seen o before text_space file_space) (host_in view seen n (label_text label ++ reply_line reply.Ok) text_space file_space)
   labelled label before consults answers exactly labels stays =
       done view seen o b n text_space file_space usable began Label opens low m u makes sounds same label _ before (label_text label)
       (mounting_few (store_in view seen) (volume_in m) (volume_in n) opens consults.goes_on.continues.size) consults.goes_on
-      (λ t told own. stays_turns _ _ _ _ t (stays t told own)) answers tt (minds_label (store_in view seen) (volume_in m) (volume_in n) (Ok label) consults)
+      stays answers tt (minds_label (store_in view seen) (volume_in m) (volume_in n) (Ok label) consults)
       (λ t told. label_told (store_in view seen) (volume_in m) (volume_in n) t told label exactly labels)
 
   -- the bytes that are told are the file's
   pub fetched : (name : List ℕ) (file : Fetched) (into shown before : List ℕ) → ((x : M) → IsMedium (view x)) → IsOpen (store_in view seen) (volume_in m) → shown ≡ take file.length into
       → MountsAndReads name (store_in view seen) (volume_in m) (volume_in n) (Ok file) → AnswersTo (Fetch name) (store_in view seen) (volume_in m) (volume_in n) (Ok file)
       → FetchesFile name (store_in view seen) (volume_in m) file into → FetchesByRun name (store_in view seen) (volume_in m) (volume_in n) file into
-      → KeepsVolume (store_in view seen) (volume_in m) (volume_in n) → WritesBySettling (store_in view seen) (volume_in m) (volume_in n) (Ok file)
+      → TurnsSo (Fetch name) (store_in view seen) (volume_in m) (volume_in n) → WritesBySettling (store_in view seen) (volume_in m) (volume_in n) (Ok file)
       → Performed (Asks (OfVolume (Fetch name))) reply.Ok (host_in view seen o before text_space file_space) (host_in view seen n (data_text file.kind file.implementation shown ++ reply_line reply.Ok) text_space file_space)
   fetched name file into shown before law was is reads answers fetches run stays settles =
       done view seen o b n text_space file_space usable began (Fetch name) opens low m u makes sounds same file _ before (data_text file.kind file.implementation shown)
       (fetching_few (store_in view seen) (volume_in m) name (Ok file) was) reads.goes_on
-      (λ t told own. stays_turns _ _ _ _ t (stays t told own)) answers
+      stays answers
       (fetch_carried (store_in view seen) (volume_in m) (volume_in n) (host_in view seen o before text_space file_space).state
       (seen_asked view seen o b n text_space file_space usable began (Fetch name) opens low m u makes sounds same before)
       (none_asked view seen o b n text_space file_space usable began (Fetch name) opens low m u makes sounds same)
@@ -101,9 +101,9 @@ module _ {M I : Type 0} {D : I → Type 0} (view : M → MediumView) (seen : Rin
   -- it was refused, or the store failed
   pub not_fetched : (name : List ℕ) (fault : VolumeFault) (before : List ℕ) → IsOpen (store_in view seen) (volume_in m)
       → MountsAndReads {T = Fetched} name (store_in view seen) (volume_in m) (volume_in n) (Err fault) → AnswersTo {T = Fetched} (Fetch name) (store_in view seen) (volume_in m) (volume_in n) (Err fault)
-      → KeepsVolume (store_in view seen) (volume_in m) (volume_in n)
+      → TurnsSo (Fetch name) (store_in view seen) (volume_in m) (volume_in n)
       → Performed (Asks (OfVolume (Fetch name))) (volume_reply {T = Unit {0}} (Err fault)) (host_in view seen o before text_space file_space) (host_in view seen n (reply_line (volume_reply {T = Unit {0}} (Err fault))) text_space file_space)
   not_fetched name fault before was reads answers stays =
       refused view seen o b n text_space file_space usable began (Fetch name) opens low m u makes sounds same Fetched fault _ before
       (fetching_few {T = Fetched} (store_in view seen) (volume_in m) name (Err fault) was) reads.goes_on
-      (λ t told own. stays_turns _ _ _ _ t (stays t told own)) answers (minds_not_fetched {T = Fetched} (store_in view seen) (volume_in m) (volume_in n) name fault was reads)
+      stays answers (minds_not_fetched {T = Fetched} (store_in view seen) (volume_in m) (volume_in n) name fault was reads)

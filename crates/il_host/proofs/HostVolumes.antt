@@ -21,7 +21,6 @@ use Rattle.il_ports.specs.declared.records.Trouble.TheVariants as trouble
 use Rattle.lif_volume.specs.Views.{IsOpen, VolumeView}
 use Rattle.lif_volume.specs.Answers.{store_answer}
 use Rattle.lif_volume.specs.Commands.{AnswersTo, batch_calls_needed, calls_needed, directory_records, mounting}
-use Rattle.lif_volume.specs.Changing.{TurnsVolume}
 use Rattle.lif_volume.specs.declared.fault.VolumeFault.{VolumeFault}
 use Rattle.lif_volume.specs.declared.fault.VolumeFault.TheVariants.{Refused, Trouble as Troubled}
 use Rattle.lif_volume.specs.declared.volume.Volume.{Volume}
@@ -51,7 +50,7 @@ use Rattle.il_host.specs.Hosts.{IsUsable, host_in, loop_in, store_in, volume_in}
 use Rattle.il_host.specs.PlainCommands.{ChangesVolume, IsOnVolume, OnVolume}
 use Rattle.il_host.specs.Shorts.{AllShort}
 use Rattle.il_host.proofs.Shorts.{all_short}
-use Rattle.il_host.specs.Standings.{Ends, HasDriveStatus, HasLogRoom, KeepsPage, MakesSound, MakesSoundBy, event_at, fault_of, hops_at, log_at, state_at, volume_reply}
+use Rattle.il_host.specs.Standings.{Ends, HasDriveStatus, HasLogRoom, KeepsPage, MakesSound, MakesSoundBy, event_at, fault_of, plan_at, log_at, state_at, volume_reply}
 use Rattle.il_host.proofs.Texts.{ok_text}
 use Rattle.il_host.proofs.VolumeCarries.{CarriesAs, IsFormedAs, none_carried, not_carried}
 use Rattle.il_host.proofs.VolumeCommands.{KeepsRing}
@@ -60,7 +59,7 @@ use Rattle.il_host.proofs.KeptDirectories.{Minds, TellsNothing, some_beside, sou
 use Rattle.il_host.proofs.Sounding.{acts_keeping, keeping, stops_keeping}
 use Rattle.il_host.proofs.VolumeStarts.{Emptied, stands_at, volume_begun}
 use Rattle.il_host.proofs.VolumeAsked.{asked_seen, asked_transferred}
-use Rattle.il_host.proofs.VolumeReplied.{IsSeenAs, told_tape}
+use Rattle.il_host.proofs.VolumeReplied.{IsSeenAs, told_tape, TurnsSo}
 
 -- ---- room
 
@@ -329,9 +328,9 @@ module _ {M I : Type 0} {D : I → Type 0} (view : M → MediumView) (seen : Rin
         → Performed item answered (host_in view seen o before text_space file_space) (host_in view seen n after text_space file_space)
     performed item answered before after size did directory text few = record {
       valid = usable_behind size did.keeps (all_short _ _ _ _ _ _ did.step.heard usable.short) sound;
-      hops = did.keeps.hops;
+      plan = did.keeps.plan;
       step = record {
-        acts = acts_keeping (hops_at (loop_in seen o.records).control) (event_at view item answered (loop_in seen o.records) (loop_in seen n.records)) (is_some o.kept) (is_some n.kept)
+        acts = acts_keeping (plan_at (loop_in seen o.records).control) (event_at view item answered (loop_in seen o.records) (loop_in seen n.records)) (is_some o.kept) (is_some n.kept)
             (λ none. directory.kept ∙ still_kept item (is_some o.kept) answered none) did.step;
         directory = directory;
       };
@@ -411,7 +410,7 @@ module _ {M I : Type 0} {D : I → Type 0} (view : M → MediumView) (seen : Rin
 
       pub asked : {T : Type 0} (answer : Result T VolumeFault) (calls : ℕ) (before after : List ℕ) → calls ≤ most_calls (store_in view seen m.records).record_count
           → GoesOn calls (store_in view seen m.records) (store_in view seen n.records) (store_answer answer)
-          → TurnsVolume command (store_in view seen) (volume_in m) (volume_in n) → AnswersTo command (store_in view seen) (volume_in m) (volume_in n) answer
+          → TurnsSo command (store_in view seen) (volume_in m) (volume_in n) → AnswersTo command (store_in view seen) (volume_in m) (volume_in n) answer
           → CarriesAs command (volume_reply answer) (host_in view seen o before text_space file_space).state.records (volume_at (host_in view seen o before text_space file_space).state) (store_in view seen n.records).transferred
           → Minds (store_in view seen) (volume_in m) (volume_in n) command answer
           → (TellsReply (Asks (OfVolume command)) (host_in view seen o before text_space file_space).state → after ≡ reply_text (Asks (OfVolume command)) (host_in view seen o before text_space file_space).state (volume_reply answer))
@@ -442,13 +441,13 @@ module _ {M I : Type 0} {D : I → Type 0} (view : M → MediumView) (seen : Rin
               → Performs view seen (ring_in o.records.control) (ring_in n.records.control) (Asks (OfVolume command)) (volume_reply answer) (loop_in seen o.records) (loop_in seen n.records)
           did (Ok x) goes answers carries =
               volume_asked view seen (ring_in o.records.control) (ring_in b.records.control) (ring_in n.records.control) command (loop_in seen o.records) (loop_in seen b.records) (loop_in seen n.records)
-              usable.volume_open.valid (agrees seen o.records.control) (agrees seen b.records.control) began usable.log low left u (ring_in m.records.control) calls (loop_in seen m.records) makes (agrees seen m.records.control) turns None goes answers carries
+              usable.volume_open.valid (agrees seen o.records.control) (agrees seen b.records.control) began usable.log low left u (ring_in m.records.control) calls (loop_in seen m.records) makes (agrees seen m.records.control) turns.0 turns.1 None goes answers carries
           did (Err (Refused why)) goes answers carries =
               volume_asked view seen (ring_in o.records.control) (ring_in b.records.control) (ring_in n.records.control) command (loop_in seen o.records) (loop_in seen b.records) (loop_in seen n.records)
-              usable.volume_open.valid (agrees seen o.records.control) (agrees seen b.records.control) began usable.log low left u (ring_in m.records.control) calls (loop_in seen m.records) makes (agrees seen m.records.control) turns (Some why) goes answers carries
+              usable.volume_open.valid (agrees seen o.records.control) (agrees seen b.records.control) began usable.log low left u (ring_in m.records.control) calls (loop_in seen m.records) makes (agrees seen m.records.control) turns.0 turns.1 (Some why) goes answers carries
           did (Err (Troubled e)) goes answers carries =
               volume_failed view seen (ring_in o.records.control) (ring_in b.records.control) (ring_in n.records.control) command (loop_in seen o.records) (loop_in seen b.records) (loop_in seen n.records)
-              usable.volume_open.valid (agrees seen o.records.control) (agrees seen b.records.control) began usable.log low left u (ring_in m.records.control) calls (loop_in seen m.records) makes (agrees seen m.records.control) turns e goes
+              usable.volume_open.valid (agrees seen o.records.control) (agrees seen b.records.control) began usable.log low left u (ring_in m.records.control) calls (loop_in seen m.records) makes (agrees seen m.records.control) turns.0 turns.1 e goes
 
           ran : Performs view seen (ring_in o.records.control) (ring_in n.records.control) (Asks (OfVolume command)) (volume_reply answer) (loop_in seen o.records) (loop_in seen n.records)
           ran = did answer goes answers carries
@@ -480,7 +479,7 @@ module _ {M I : Type 0} {D : I → Type 0} (view : M → MediumView) (seen : Rin
       -- it replied ok: what it tells of a told tape was written
       pub done : {T : Type 0} (x : T) (calls : ℕ) (before lines : List ℕ) → calls ≤ most_calls (store_in view seen m.records).record_count
           → GoesOn {T = Unit {0}} calls (store_in view seen m.records) (store_in view seen n.records) (Ok tt)
-          → TurnsVolume command (store_in view seen) (volume_in m) (volume_in n) → AnswersTo command (store_in view seen) (volume_in m) (volume_in n) (Ok x)
+          → TurnsSo command (store_in view seen) (volume_in m) (volume_in n) → AnswersTo command (store_in view seen) (volume_in m) (volume_in n) (Ok x)
           → CarriesAs command reply.Ok (host_in view seen o before text_space file_space).state.records (volume_at (host_in view seen o before text_space file_space).state) (store_in view seen n.records).transferred
           → Minds (store_in view seen) (volume_in m) (volume_in n) command (Ok x)
           → ((t : Tape) → (store_in view seen m.records).tape ≡ Some t → told_of command (volume_of t) ≡ lines)
@@ -492,7 +491,7 @@ module _ {M I : Type 0} {D : I → Type 0} (view : M → MediumView) (seen : Rin
       -- it was refused, or the store failed
       pub refused : (T : Type 0) (fault : VolumeFault) (calls : ℕ) (before : List ℕ) → calls ≤ most_calls (store_in view seen m.records).record_count
           → GoesOn calls (store_in view seen m.records) (store_in view seen n.records) (store_answer {T = T} (Err fault))
-          → TurnsVolume command (store_in view seen) (volume_in m) (volume_in n) → AnswersTo {T = T} command (store_in view seen) (volume_in m) (volume_in n) (Err fault)
+          → TurnsSo command (store_in view seen) (volume_in m) (volume_in n) → AnswersTo {T = T} command (store_in view seen) (volume_in m) (volume_in n) (Err fault)
           → Minds {T = T} (store_in view seen) (volume_in m) (volume_in n) command (Err fault)
           → Performed (Asks (OfVolume command)) (volume_reply {T = Unit {0}} (Err fault)) (host_in view seen o before text_space file_space) (host_in view seen n (reply_line (volume_reply {T = Unit {0}} (Err fault))) text_space file_space)
       refused T fault calls before few goes turns answers minds = by fault goes answers minds
@@ -508,7 +507,7 @@ module _ {M I : Type 0} {D : I → Type 0} (view : M → MediumView) (seen : Rin
       -- a command that tells nothing answered
       pub changed : {T : Type 0} (answer : Result T VolumeFault) (calls : ℕ) (before : List ℕ) → TellsNothing command → calls ≤ most_calls (store_in view seen m.records).record_count
           → GoesOn calls (store_in view seen m.records) (store_in view seen n.records) (store_answer answer)
-          → TurnsVolume command (store_in view seen) (volume_in m) (volume_in n) → AnswersTo command (store_in view seen) (volume_in m) (volume_in n) answer
+          → TurnsSo command (store_in view seen) (volume_in m) (volume_in n) → AnswersTo command (store_in view seen) (volume_in m) (volume_in n) answer
           → CarriesAs command (volume_reply answer) (host_in view seen o before text_space file_space).state.records (volume_at (host_in view seen o before text_space file_space).state) (store_in view seen n.records).transferred
           → Minds (store_in view seen) (volume_in m) (volume_in n) command answer
           → Performed (Asks (OfVolume command)) (volume_reply answer) (host_in view seen o before text_space file_space) (host_in view seen n (reply_line (volume_reply answer)) text_space file_space)

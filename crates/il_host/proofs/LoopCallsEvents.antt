@@ -6,7 +6,6 @@ use Rattle.il_device.specs.State.{DeviceState}
 use Rattle.il_ports.specs.Media.{MediumView}
 use Rattle.il_drive.specs.State.{drive_id}
 use Rattle.il_ring.specs.Lists.{First}
-use Rattle.il_ring.specs.Plans.{hops_of}
 use Rattle.il_ring.specs.Rings.{RingView, devices_of, drive_party}
 use Rattle.il_control.specs.Calls.{IsFree, Stays, idy, loop_of}
 use Rattle.il_record.specs.Asks.{CameAsked, up_to}
@@ -73,7 +72,7 @@ module _ {M : Type 0} (view : M → MediumView) (was : Bool) (r m : RingView M) 
 
 module _ {M : Type 0} (view : M → MediumView) (item : Item) (of_loop : IsOfLoop item) (course : List Due) (is : Bool) (r s : RingView M) (empty : r.books.log ≡ []) where
   -- the addressing was broken off
-  pub loop_interrupted : course_of item (loop_on r) ≡ Some course → Interrupted view address_asks (drive_party r) r s → Exchanged (hops_of r.books.plan) (event_on view item reply.FaultFrame false is r s)
+  pub loop_interrupted : course_of item (loop_on r) ≡ Some course → Interrupted view address_asks (drive_party r) r s → Exchanged (r.books.plan) (event_on view item reply.FaultFrame false is r s)
   loop_interrupted due broke = loop_broken view item of_loop course false is r s empty due (keeps_interrupted view course r s broke) broke.drive.count
 
 -- ---- accessory IDs
@@ -95,14 +94,14 @@ module _ {M : Type 0} (view : M → MediumView) (was is : Bool) (r m s : RingVie
 
   -- each device told its accessory ID
   pub devices_exchanged : (ids : List (Option ℕ)) → r.drive.state.interface.accessory ≡ Some drive_id → (named : AllNamed view ids m s)
-      → Exchanged (hops_of r.books.plan) (event_on view (Asks Devices) reply.Ok was is r s)
+      → Exchanged (r.books.plan) (event_on view (Asks Devices) reply.Ok was is r s)
   devices_exchanged ids drive named =
       loop_done view (Asks Devices) tt (ids_due 1 (all_ids (loop_on r))) was is r s empty refl
       (keeps_ready view was true (ids_due 1 (all_ids (loop_on r))) r m s ready (ids_kept true drive named.left)) (same_faults named.left.drive)
 
   -- that was broken off
   pub devices_broken : r.drive.state.interface.accessory ≡ Some drive_id → (left : LeftAlone view false (up_to (id_asks (devices_of m)) (length (devices_of m))) m s)
-      → Exchanged (hops_of r.books.plan) (event_on view (Asks Devices) reply.FaultFrame was is r s)
+      → Exchanged (r.books.plan) (event_on view (Asks Devices) reply.FaultFrame was is r s)
   devices_broken drive left =
       loop_broken view (Asks Devices) tt (ids_due 1 (all_ids (loop_on r))) was is r s empty refl
       (keeps_ready view was false (ids_due 1 (all_ids (loop_on r))) r m s ready (ids_kept false drive left)) (less_faults left.drive)
@@ -126,14 +125,14 @@ module _ {M : Type 0} (view : M → MediumView) (was is : Bool) (r m s : RingVie
 
   -- the devices answered, by this frame
   pub poll_exchanged : (f : Frame) → (polled : HasPolled view f m s)
-      → Exchanged (hops_of r.books.plan) (event_on view (Asks Poll) reply.Ok was is r s)
+      → Exchanged (r.books.plan) (event_on view (Asks Poll) reply.Ok was is r s)
   poll_exchanged f polled =
       loop_done view (Asks Poll) tt (poll_due (poll_frame (loop_on r)) (min 8 (device_count (loop_on r)))) was is r s empty refl
       (keeps_ready view was true (poll_due (poll_frame (loop_on r)) (min 8 (device_count (loop_on r)))) r m s ready (poll_kept true (subst (λ f. CameAsked view true (poll_asks (length (devices_of m)) f) m s) polled.frame polled.came))) (same_faults polled.drive)
 
   -- that was broken off
   pub poll_broken : (n : ℕ) → (broke : PollBroke view n (poll_asks (length (devices_of m)) (polled_along 1 (devices_of m) idy)) m s)
-      → Exchanged (hops_of r.books.plan) (event_on view (Asks Poll) reply.FaultFrame was is r s)
+      → Exchanged (r.books.plan) (event_on view (Asks Poll) reply.FaultFrame was is r s)
   poll_broken n broke =
       loop_broken view (Asks Poll) tt (poll_due (poll_frame (loop_on r)) (min 8 (device_count (loop_on r)))) was is r s empty refl
       (keeps_ready view was false (poll_due (poll_frame (loop_on r)) (min 8 (device_count (loop_on r)))) r m s ready (poll_kept false broke.came)) (less_faults broke.drive)
@@ -145,14 +144,14 @@ module _ {M : Type 0} (view : M → MediumView) (was is : Bool) (r m s : RingVie
 
   -- no printer is on the loop
   pub say_refused : (bytes : List ℕ) (code : Code) (ids : List (Option ℕ)) → r.drive.state.interface.accessory ≡ Some drive_id → printer_at (loop_on r) ≡ None → (named : AllNamed view ids m s)
-      → Exchanged (hops_of r.books.plan) (event_on view (Asks (Say bytes)) (reply.No code) was is r s)
+      → Exchanged (r.books.plan) (event_on view (Asks (Say bytes)) (reply.No code) was is r s)
   say_refused bytes code ids drive printer named =
       loop_refused view (Asks (Say bytes)) tt (say_due bytes None) was is r s empty (ap (λ printer. Some (say_due bytes printer)) printer) code
       (keeps_ready view was true (say_due bytes None) r m s ready (subst (λ dues. Keeps view true dues m s) (sym (append-nil (ids_due 1 (all_ids (loop_on r))))) (ids_kept true drive named.left))) (same_faults named.left.drive)
 
   -- a device was asked for its ID, and that was broken off
   pub say_unnamed : (bytes : List ℕ) → r.drive.state.interface.accessory ≡ Some drive_id → (left : LeftAlone view false (up_to (id_asks (devices_of m)) (length (devices_of m))) m s)
-      → Exchanged (hops_of r.books.plan) (event_on view (Asks (Say bytes)) reply.FaultFrame was is r s)
+      → Exchanged (r.books.plan) (event_on view (Asks (Say bytes)) reply.FaultFrame was is r s)
   say_unnamed bytes drive left =
       loop_broken view (Asks (Say bytes)) tt (say_due bytes (printer_at (loop_on r))) was is r s empty refl
       (keeps_ready view was false (say_due bytes (printer_at (loop_on r))) r m s ready (keeps_broken view (ids_due 1 (all_ids (loop_on r))) (bytes_due (printer_at (loop_on r)) bytes) m s (ids_kept false drive left))) (less_faults left.drive)
@@ -173,14 +172,14 @@ module _ {M : Type 0} (view : M → MediumView) (was is : Bool) (r m n s : RingV
   said_faults leaves = ap (λ medium. (view medium).faults) leaves.medium ∙ same_faults view was is r m n empty ready named.left.drive
 
   -- the printer heard the bytes
-  pub say_exchanged : Said view a bytes n s → Exchanged (hops_of r.books.plan) (event_on view (Asks (Say bytes)) reply.Ok was is r s)
+  pub say_exchanged : Said view a bytes n s → Exchanged (r.books.plan) (event_on view (Asks (Say bytes)) reply.Ok was is r s)
   say_exchanged said =
       loop_done view (Asks (Say bytes)) tt due_said was is r s empty (ap (λ printer. Some (ids_due 1 (all_ids (loop_on r)) ++ bytes_due printer bytes)) printer)
       (said_kept true (keeps_asked view true (say_asks a bytes) (bytes_due (Some a) bytes) n s said.came (meets_say (loop_of n) a bytes)))
       (said_faults said.drive)
 
   -- that was broken off
-  pub say_broken : NotSaid view a bytes n s → Exchanged (hops_of r.books.plan) (event_on view (Asks (Say bytes)) reply.FaultFrame was is r s)
+  pub say_broken : NotSaid view a bytes n s → Exchanged (r.books.plan) (event_on view (Asks (Say bytes)) reply.FaultFrame was is r s)
   say_broken said =
       loop_broken view (Asks (Say bytes)) tt due_said was is r s empty (ap (λ printer. Some (ids_due 1 (all_ids (loop_on r)) ++ bytes_due printer bytes)) printer)
       (said_kept false (keeps_asked view false (say_asks a bytes) (bytes_due (Some a) bytes) n s said.came (meets_say (loop_of n) a bytes)))

@@ -6,7 +6,6 @@ use Rattle.loop_model.specs.Entries.{ifc, aau}
 use Rattle.loop_model.specs.Exchanges.{Piece}
 use Rattle.loop_model.specs.Units.{RecordUnit, units_of}
 use Rattle.loop_model.specs.Effect.{all_good}
-use Rattle.il_ring.specs.Plans.{hops_of}
 use Rattle.il_ring.specs.Rings.{RingView, drive_party}
 use Rattle.il_control.specs.Calls.{IsFree, IsIdle, loop_of}
 use Rattle.il_record.specs.Asks.{AskAddresses}
@@ -86,7 +85,7 @@ course_kept r was due course pieces is keeps = subst (λ due. keeps_course (loop
 module _ {M : Type 0} (view : M → MediumView) (item : Item) (of_loop : IsOfLoop item) (course : List Due) (was is : Bool) (r s : RingView M) (empty : r.books.log ≡ []) (due : course_of item (loop_on r) ≡ Some course) where
   -- it was done
   pub loop_done : Keeps view true (addressed_first (loop_on r) was course) r s → (view s.drive.medium).faults ≡ (view r.drive.medium).faults
-      → Exchanged (hops_of r.books.plan) (event_on view item reply.Ok was is r s)
+      → Exchanged (r.books.plan) (event_on view item reply.Ok was is r s)
   loop_done kept count =
       let good : all_good (units_of (loop_of r) kept.came.came.pieces) ≡ true = ap all_good kept.came.are in
       exchanged_came view item reply.Ok was is false false true r s empty kept.came.came refl
@@ -94,7 +93,7 @@ module _ {M : Type 0} (view : M → MediumView) (item : Item) (of_loop : IsOfLoo
 
   -- it was refused behind whole exchanges
   pub loop_refused : (code : Code) → Keeps view true (addressed_first (loop_on r) was course) r s → (view s.drive.medium).faults ≡ (view r.drive.medium).faults
-      → Exchanged (hops_of r.books.plan) (event_on view item (reply.No code) was is r s)
+      → Exchanged (r.books.plan) (event_on view item (reply.No code) was is r s)
   loop_refused code kept count =
       let good : all_good (units_of (loop_of r) kept.came.came.pieces) ≡ true = ap all_good kept.came.are in
       exchanged_came view item (reply.No code) was is false false true r s empty kept.came.came refl
@@ -102,7 +101,7 @@ module _ {M : Type 0} (view : M → MediumView) (item : Item) (of_loop : IsOfLoo
 
   -- an exchange of it was broken off
   pub loop_broken : Keeps view false (addressed_first (loop_on r) was course) r s → (view r.drive.medium).faults ≤ (view s.drive.medium).faults
-      → Exchanged (hops_of r.books.plan) (event_on view item reply.FaultFrame was is r s)
+      → Exchanged (r.books.plan) (event_on view item reply.FaultFrame was is r s)
   loop_broken kept count =
       exchanged_came view item reply.FaultFrame was is false false false r s empty kept.came.came refl
       (record { course = course_kept r was (course_of item (loop_on r)) course kept.came.came.pieces due kept.keeps; begins = λ of. absurd (not_of_volume item of_loop of); cause = (kept.came.came.talked.met, count); carried = carries_none item reply.FaultFrame _ _ _ of_loop })

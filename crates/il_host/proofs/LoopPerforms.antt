@@ -12,7 +12,6 @@ use Rattle.il_ports.specs.declared.records.Trouble.{Trouble}
 use Rattle.il_ports.specs.declared.records.Trouble.TheVariants as trouble
 use Rattle.il_drive.specs.State.{drive_id}
 use Rattle.loop_model.specs.Polls.{polled_along}
-use Rattle.il_ring.specs.Plans.{hops_of}
 use Rattle.il_ring.specs.Rings.{RingView, devices_of, drive_party, has_id, printer_id}
 use Rattle.il_control.specs.Calls.{idy}
 use Rattle.il_record.specs.declared.records.Since.{Since}
@@ -31,10 +30,10 @@ use Rattle.host_model.specs.Requests.{Asks, Devices, Get, Item, NoCommand, OfVol
 use Rattle.host_model.specs.LoopStates.{LoopState, all_ids, poll_frame, printer_at, status_byte}
 use Rattle.host_model.specs.HostStates.{HostState, log_room}
 use Rattle.host_model.specs.RingStates.{loop_on, state_on}
-use Rattle.host_model.specs.Steps.{Event, Acts}
+use Rattle.host_model.specs.Steps.{Event, Acts, event}
 use Rattle.host_model.specs.Stops.{MayBeLeft, StopsLeave}
 use Rattle.host_model.proofs.Growing.{left_at_first}
-use Rattle.il_host.specs.Standings.{HasDriveId, HasLogRoom, event_at, hops_at, log_at, state_at}
+use Rattle.il_host.specs.Standings.{HasDriveId, HasLogRoom, event_at, plan_at, log_at, state_at}
 use Rattle.il_host.proofs.CommandTravels.{event_by, event_on, travels_came}
 use Rattle.il_host.proofs.LoopCallsEvents.{ready_frame, ready_ids}
 use Rattle.il_host.proofs.LoopEvents.{IsOfLoop, Readies, not_of_volume}
@@ -44,11 +43,12 @@ use Rattle.il_host.proofs.LoopRuns.{Ran, ran_devices, ran_devices_broken, ran_no
 use Rattle.il_host.proofs.SayRuns.{ran_not_said, ran_said}
 use Rattle.il_host.proofs.Sounding.{exchanged_sounding, replied_sounding, travels_sounding}
 use Rattle.il_host.proofs.StatusEvents.{ready_leaves}
-use Rattle.il_host.proofs.VolumeCommands.{KeepsRing, keeps_emptied, keeps_rings, room_at, short_at}
+use Rattle.il_host.proofs.VolumeCommands.{KeepsRing, keeps_emptied, keeps_rings, room_at, short_at, begins_at}
 use Rattle.il_host.proofs.VolumePerforms.{Performs}
 use Rattle.il_host.proofs.VolumeReplied.{IsSeenAs, StaysQuiet, quiet_rings, quiet_then, seen_as, told_tape}
 use Rattle.il_host.proofs.VolumeStarts.{Emptied, emptied_ring, volume_begun}
-use Rattle.il_host.proofs.VolumeSteps.{Here, at_ring, event_rings, here_at, hops_rings, state_rings}
+use Rattle.il_host.proofs.VolumeSteps.{Here, at_ring, event_rings, here_at, plan_rings, state_rings}
+use Rattle.il_host.proofs.VolumeTravels.{ring_stands, went_by_plan}
 
 -- ---- the drive's accessory ID
 
@@ -98,11 +98,11 @@ not_volume (NoCommand code) of_loop = absurd of_loop
 
 -- Where no record changes and no time goes by, a stop leaves the tape as it was.
 pub quiet_stops : {S : Type 0} (item : Item) (answered : Reply) (log : List Entry) (s t : HostState) (v w : RecordsView S) → IsSeenAs s v → IsStore v → IsQuiet v w
-    → StopsLeave (record { item = item; reply = answered; log = log; before = s; after = t }) v.moment w.moment v.left_since w.left_since
-quiet_stops item answered log s t v w before store quiet told own =
+    → StopsLeave (event item answered log s t) v.moment w.moment v.left_since w.left_since
+quiet_stops item answered log s t v w before store quiet told =
     let tape = told_tape s.tape told in
     still v.moment v.moment w.moment v.left_since v.left_since w.left_since (MayBeLeft item s) quiet.moment quiet.since
-    (started v.moment v.left_since (MayBeLeft item s) tape.0 (λ c left. store.leaves_only tape.0 c (sym before.tape ∙ tape.1) left) (left_at_first item s tape.0 own tape.1))
+    (started v.moment v.left_since (MayBeLeft item s) tape.0 (λ c left. store.leaves_only tape.0 c (sym before.tape ∙ tape.1) left) (left_at_first item s tape.0 tape.1))
 
 -- ---- the laws
 
@@ -132,8 +132,8 @@ module _ {M S : Type 0} (view : M → MediumView) (seen : S → RingView M) (o a
     ran_performs : (item : Item) (answered : Reply) (is : Bool) (s : RingView M) → IsOfLoop item → new.control ≡ at_ring is s → new.sound ≡ (begun.sound && is) → Ran view item answered (is_idle begun.control) is stood.ring s
         → Performs view seen o q item answered old new
     ran_performs item answered is s of_loop at sound ran = record {
-      step = subst (λ hops. Acts hops (event_at view item answered old new)) emptied.hops
-          (subst (λ (s : HostState). Acts (hops_at begun.control) (event_from s)) emptied.state begun_step);
+      step = subst (λ plan. Acts plan (event_at view item answered old new)) emptied.plan
+          (subst (λ (s : HostState). Acts (plan_at begun.control) (event_from s)) emptied.state begun_step);
       stops = quiet_stops item answered (log_at new.control) (state_at view old.sound old.control) (state_at view new.sound new.control) (view_of view seen o old) (view_of view seen q new) (seen_as view seen o old) store
           (quiet_then (view_of view seen o old) (view_of view seen a begun) (view_of view seen q new) empties.quiet stays.quiet);
       keeps = keeps_emptied view old begun new emptied keeps;
@@ -154,25 +154,27 @@ module _ {M S : Type 0} (view : M → MediumView) (seen : S → RingView M) (o a
         short : length s.books.log ≤ log_room (view r.drive.medium).record_count
         short = subst (λ n. length s.books.log ≤ n) (ran.came.talked.adds.room ∙ room_at view was begun.control r stood.at (emptied.room room)) (short_at view seen q new is s at left)
 
-        step : Acts (hops_of r.books.plan) (event_by view item answered was is begun.sound new.sound r s)
+        step : Acts (r.books.plan) (event_by view item answered was is begun.sound new.sound r s)
         step = record {
           replied = replied_sounding (event_on view item answered was is r s) begun.sound new.sound ran.replied;
           next = ran.next;
           travels = travels_sounding (event_on view item answered was is r s) begun.sound new.sound (travels_came view item answered was is is r s ran.empty ran.came short);
           heard = ran.heard;
-          exchanged = exchanged_sounding (event_on view item answered was is r s) begun.sound new.sound (hops_of r.books.plan) (not_volume item of_loop) ran.exchanged;
+          exchanged = exchanged_sounding (event_on view item answered was is r s) begun.sound new.sound (r.books.plan) (not_volume item of_loop) ran.exchanged;
+          by_plan = went_by_plan view r s (inr (is, ran.came)) (ring_stands begun.control begun.sound since.Unbroken r emptied.stands stood.stands)
+              (begins_at view was begun.control r stood.at emptied.begins);
           ready = λ frames. ran.ends;
           sound = λ of. absurd (not_of_volume item of_loop of);
           unsound = λ other frames. sound ∙ ap (λ b. begun.sound && b) ran.ends;
           still = λ none. let clash : true ≡ false = sym (sends_frames item of_loop) ∙ none in cc;
         }
 
-        begun_step : Acts (hops_at begun.control) (event_at view item answered begun new)
-        begun_step = subst (λ hops. Acts hops (event_at view item answered begun new)) (sym (ap (λ (c : Standing M). hops_at c) stood.at ∙ hops_rings view was r))
-            (subst (λ (e : Event). Acts (hops_of r.books.plan) e) (sym (event_rings view item answered begun new was is r s stood.at at)) step)
+        begun_step : Acts (plan_at begun.control) (event_at view item answered begun new)
+        begun_step = subst (λ plan. Acts plan (event_at view item answered begun new)) (sym (ap (λ (c : Standing M). plan_at c) stood.at ∙ plan_rings view was r))
+            (subst (λ (e : Event). Acts (r.books.plan) e) (sym (event_rings view item answered begun new was is r s stood.at at)) step)
 
         event_from : HostState → Event
-        event_from s = record { item = item; reply = answered; log = log_at new.control; before = s; after = state_at view new.sound new.control }
+        event_from s = event item answered (log_at new.control) s (state_at view new.sound new.control)
 
     -- by a controller that is lost
     lost : (T : Type 0) (e : Trouble) (c : Standing M) → Addresses {T = T} view c begun new (Err e) → (e ≡ trouble.Frame) × (s : RingView M) × (new.control ≡ AtLost s) × (new.sound ≡ false)

@@ -10,7 +10,8 @@ use Rattle.host_model.specs.Requests.{Asks, Devices, Get, Item, NoCommand, OfVol
 use Rattle.host_model.specs.HostStates.{HasOwnGate, HostState, volume_at}
 use Rattle.host_model.specs.Replies.{reply_of, volume_behind}
 use Rattle.host_model.specs.RingStates.{state_on}
-use Rattle.host_model.specs.Steps.{Replied}
+use Rattle.host_model.specs.Steps.{Replied, SettlesAlike}
+use Rattle.host_model.proofs.Steps.{alike_staying}
 use Rattle.il_host.proofs.CommandTravels.{event_on}
 use Rattle.il_host.proofs.LoopEvents.{IsOfLoop}
 
@@ -46,6 +47,9 @@ module _ {M : Type 0} (view : M → MediumView) (item : Item) (of_loop : IsOfLoo
   gate_stays : HasOwnGate (state_on view was false r) → HasOwnGate (state_on view is false s)
   gate_stays own = subst (λ tape. IfSome tape (λ t. is_foreign_gated t ≡ false)) (sym leaves.tape) own
 
+  foreign_stays : IfSome (state_on view is false s).tape (SettlesAlike (state_on view was false r).tape)
+  foreign_stays = subst (λ tape. IfSome tape (SettlesAlike (view r.drive.medium).tape)) (sym leaves.tape) (alike_staying (view r.drive.medium).tape)
+
   -- it was done
   pub loop_replied : reply.Ok ≡ reply_of item (state_on view was false r) → Replied (event_on view item reply.Ok was is r s)
   loop_replied right = record {
@@ -55,6 +59,7 @@ module _ {M : Type 0} (view : M → MediumView) (item : Item) (of_loop : IsOfLoo
     told = ap (λ tape. is_some tape) leaves.tape;
     size = leaves.size;
     gate = gate_stays;
+    foreign = foreign_stays;
   }
 
   -- it was refused
@@ -66,6 +71,7 @@ module _ {M : Type 0} (view : M → MediumView) (item : Item) (of_loop : IsOfLoo
     told = ap (λ tape. is_some tape) leaves.tape;
     size = leaves.size;
     gate = gate_stays;
+    foreign = foreign_stays;
   }
 
   -- an exchange of it was broken off
@@ -77,4 +83,5 @@ module _ {M : Type 0} (view : M → MediumView) (item : Item) (of_loop : IsOfLoo
     told = ap (λ tape. is_some tape) leaves.tape;
     size = leaves.size;
     gate = gate_stays;
+    foreign = foreign_stays;
   }

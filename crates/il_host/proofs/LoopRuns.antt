@@ -6,7 +6,6 @@ use Rattle.il_drive.specs.Steps.{IsStill}
 use Rattle.loop_model.specs.Exchanges.{Stopped, Receive, Sst}
 use Rattle.loop_model.specs.Polls.{polled_along}
 use Rattle.il_frames.specs.declared.frame.Frame.{Frame}
-use Rattle.il_ring.specs.Plans.{hops_of}
 use Rattle.il_ring.specs.Rings.{RingView, devices_of, drive_party}
 use Rattle.il_control.specs.Calls.{idy}
 use Rattle.il_record.specs.Asks.{up_to}
@@ -49,7 +48,7 @@ pub record Ran {M : Type 0} (view : M → MediumView) (item : Item) (answered : 
   pub replied : Replied (event_on view item answered was is r s)
   pub next : Next item answered (loop_on r) (loop_on s)
   pub heard : HeardOf (event_on view item answered was is r s)
-  pub exchanged : Exchanged (hops_of r.books.plan) (event_on view item answered was is r s)
+  pub exchanged : Exchanged (r.books.plan) (event_on view item answered was is r s)
 
 -- ---- the addressing was broken off
 
@@ -96,7 +95,7 @@ module _ {M : Type 0} (view : M → MediumView) (was : Bool) (r m s : RingView M
 
   -- by such a call, whole or broken off
   ran_call : (item : Item) (answered : Reply) (is : Bool) → is ≡ not (is_frame_fault answered) → s.drive.medium ≡ m.drive.medium → NoneHeard m s → CameBy view is m s
-      → (LeavesTape view r s → Replied (event_on view item answered was is r s)) → Next item answered (loop_on r) (loop_on s) → Exchanged (hops_of r.books.plan) (event_on view item answered was is r s)
+      → (LeavesTape view r s → Replied (event_on view item answered was is r s)) → Next item answered (loop_on r) (loop_on s) → Exchanged (r.books.plan) (event_on view item answered was is r s)
       → Ran view item answered was is r s
   ran_call item answered is ends same none came replied next exchanged = record {
     empty = empty;

@@ -1,11 +1,14 @@
 -- The command that tells the printer's paper sends no frame: it is a step that leaves everything.
 use Rattle.std.proofs.Common.{◌≡◌, ◌++◌, ◌∙◌, ℕ, Bool, true, false, List, [], Option, Some, None, refl, sym, ap, subst, arith}
+use Rattle.std.specs.List.{All}
+use Rattle.std.proofs.lemmas.List.Elements.{All-nil}
 use Rattle.il_frames.specs.declared.entry.Entry.{Entry}
 use Rattle.il_ports.specs.Media.{MediumView}
 use Rattle.il_ports.specs.Stores.{Begun, IsStore}
 use Rattle.loop_model.specs.Roles.{is_at_most_one, talkers}
 use Rattle.il_ring.specs.Plans.{hops_of}
 use Rattle.il_ring.specs.Rings.{RingView, devices_of, paper_of, roles_of}
+use Rattle.il_ring.specs.Fates.{IsByPlan}
 use Rattle.il_record.specs.declared.records.Since.TheVariants as since
 use Rattle.il_record.specs.LoopStores.{HasRing, LoopView, Standing, is_idle, view_of}
 use Rattle.il_record.proofs.StoreResumes.{Agrees}
@@ -15,9 +18,9 @@ use Rattle.host_model.specs.HostStates.{HostState}
 use Rattle.host_model.specs.Replies.{if_printer}
 use Rattle.host_model.specs.RingStates.{loop_on, state_on}
 use Rattle.host_model.specs.Next.{BoxedBecome, DeviceBehind}
-use Rattle.host_model.specs.Steps.{Event, Exchanged, HearsLog, Acts, Replied, is_frame_fault}
-use Rattle.host_model.proofs.Steps.{boxed_same}
-use Rattle.il_host.specs.Standings.{HasLogRoom, event_at, hops_at, log_at, state_at}
+use Rattle.host_model.specs.Steps.{Event, Exchanged, HearsLog, Acts, Replied, is_frame_fault, event}
+use Rattle.host_model.proofs.Steps.{boxed_same, alike_staying}
+use Rattle.il_host.specs.Standings.{HasLogRoom, event_at, plan_at, log_at, state_at}
 use Rattle.il_host.proofs.CommandLogs.{SaysOf, exchanged_none, met_none}
 use Rattle.il_host.proofs.CommandTravels.{event_by, event_on, travels_none}
 use Rattle.il_host.proofs.LoopPerforms.{quiet_stops}
@@ -25,7 +28,7 @@ use Rattle.il_host.proofs.Sounding.{travels_sounding}
 use Rattle.il_host.proofs.VolumePerforms.{Performs}
 use Rattle.il_host.proofs.VolumeReplied.{seen_as}
 use Rattle.il_host.proofs.VolumeStarts.{Emptied, volume_begun}
-use Rattle.il_host.proofs.VolumeSteps.{Here, at_ring, event_rings, here_at, hops_rings, state_rings}
+use Rattle.il_host.proofs.VolumeSteps.{Here, at_ring, event_rings, here_at, plan_rings, state_rings}
 use Rattle.il_host.proofs.VolumeTravels.{one_talks}
 
 module _ {M : Type 0} (view : M → MediumView) (found : Option (List ℕ × ℕ)) (was sound : Bool) (r : RingView M) (paper : found ≡ paper_on (loop_on r)) (empty : r.books.log ≡ []) where
@@ -37,15 +40,15 @@ module _ {M : Type 0} (view : M → MediumView) (found : Option (List ℕ × ℕ
   paper_replied = by found paper
     where
       by : (told : Option (List ℕ × ℕ)) → told ≡ paper_on (loop_on r) → Replied (event_by view (Asks Paper) (if_printer told) was was sound sound r r)
-      by None is = record { may = tt; whole = λ tells. (ap if_printer is, refl); stays = λ other. refl; told = refl; size = refl; gate = λ own. own }
-      by (Some found) is = record { may = tt; whole = λ tells. (ap if_printer is, refl); stays = λ other. refl; told = refl; size = refl; gate = λ own. own }
+      by None is = record { may = tt; whole = λ tells. (ap if_printer is, refl); stays = λ other. refl; told = refl; size = refl; gate = λ own. own; foreign = alike_staying (view r.drive.medium).tape }
+      by (Some found) is = record { may = tt; whole = λ tells. (ap if_printer is, refl); stays = λ other. refl; told = refl; size = refl; gate = λ own. own; foreign = alike_staying (view r.drive.medium).tape }
 
   no_fault : (told : Option (List ℕ × ℕ)) → is_frame_fault (if_printer told) ≡ false
   no_fault None = refl
   no_fault (Some found) = refl
 
   -- no frame
-  paper_exchanged : Exchanged (hops_of r.books.plan) paper_event
+  paper_exchanged : Exchanged (r.books.plan) paper_event
   paper_exchanged = exchanged_none view (Asks Paper) (if_printer found) was was sound sound r r empty refl (no_fault found) (by found)
     where
       by : (told : Option (List ℕ × ℕ)) → SaysOf view (Asks Paper) (if_printer told) was sound r r []
@@ -59,7 +62,7 @@ module _ {M : Type 0} (view : M → MediumView) (found : Option (List ℕ × ℕ
       (boxed_same (HearsLog (device_count (loop_on r)) (all_roles (loop_on r)) [] whole)
       (λ party d. record { more = []; few = omega arith; none = λ is. refl; heard = record { heard = refl; heard_count = refl; room = refl; accessory = refl } }) (loop_on r))
 
-  pub paper_step : is_at_most_one (talkers (roles_of (devices_of r))) ≡ true → Acts (hops_of r.books.plan) paper_event
+  pub paper_step : is_at_most_one (talkers (roles_of (devices_of r))) ≡ true → Acts (r.books.plan) paper_event
   paper_step one = record {
     replied = paper_replied;
     next = record {
@@ -70,6 +73,7 @@ module _ {M : Type 0} (view : M → MediumView) (found : Option (List ℕ × ℕ
     travels = travels_sounding (event_on view (Asks Paper) (if_printer found) was was r r) sound sound (travels_none view (Asks Paper) (if_printer found) was was r r empty one refl);
     heard = paper_heard _;
     exchanged = paper_exchanged;
+    by_plan = subst (λ log. All (IsByPlan r.books.plan r.books.crossings r.books.crossings) log) (sym empty) (All-nil (IsByPlan r.books.plan r.books.crossings r.books.crossings));
     ready = λ frames. cc;
     sound = λ of. cc;
     unsound = λ other frames. cc;
@@ -84,10 +88,10 @@ pub paper_performs : {M S : Type 0} (view : M → MediumView) (seen : S → Ring
 paper_performs {M} {S} view seen o a old begun valid here there empties store room found told = (
   paper ∙ ap (λ (s : HostState). paper_on s.loop) state_is,
   record {
-    step = subst (λ hops. Acts hops (event_at view (Asks Paper) (if_printer found) old begun)) emptied.hops
-        (subst (λ (s : HostState). Acts (hops_at begun.control) (event_from s)) emptied.state begun_step);
+    step = subst (λ plan. Acts plan (event_at view (Asks Paper) (if_printer found) old begun)) emptied.plan
+        (subst (λ (s : HostState). Acts (plan_at begun.control) (event_from s)) emptied.state begun_step);
     stops = quiet_stops (Asks Paper) (if_printer found) (log_at begun.control) (state_at view old.sound old.control) (state_at view begun.sound begun.control) (view_of view seen o old) (view_of view seen a begun) (seen_as view seen o old) store empties.quiet;
-    keeps = record { hops = emptied.hops; room = emptied.room room; images = emptied.images };
+    keeps = record { plan = emptied.plan; room = emptied.room room; images = emptied.images };
   },
 )
   where
@@ -113,10 +117,10 @@ paper_performs {M} {S} view seen o a old begun valid here there empties store ro
     paper : found ≡ paper_on (loop_on r)
     paper = paper_at was (subst (λ (c : Standing M). HasRing c (λ r. found ≡ paper_of (r.before ++ r.after))) stood.at told)
 
-    begun_step : Acts (hops_at begun.control) (event_at view (Asks Paper) (if_printer found) begun begun)
-    begun_step = subst (λ hops. Acts hops (event_at view (Asks Paper) (if_printer found) begun begun)) (sym (ap (λ (c : Standing M). hops_at c) stood.at ∙ hops_rings view was r))
-        (subst (λ (e : Event). Acts (hops_of r.books.plan) e) (sym (event_rings view (Asks Paper) (if_printer found) begun begun was was r r stood.at stood.at))
+    begun_step : Acts (plan_at begun.control) (event_at view (Asks Paper) (if_printer found) begun begun)
+    begun_step = subst (λ plan. Acts plan (event_at view (Asks Paper) (if_printer found) begun begun)) (sym (ap (λ (c : Standing M). plan_at c) stood.at ∙ plan_rings view was r))
+        (subst (λ (e : Event). Acts (r.books.plan) e) (sym (event_rings view (Asks Paper) (if_printer found) begun begun was was r r stood.at stood.at))
         (paper_step view found was begun.sound r paper (stood.empty emptied.log) (one_talks begun.control begun.sound since.Unbroken r emptied.stands stood.stands)))
 
     event_from : HostState → Event
-    event_from s = record { item = Asks Paper; reply = if_printer found; log = log_at begun.control; before = s; after = state_at view begun.sound begun.control }
+    event_from s = event (Asks Paper) (if_printer found) (log_at begun.control) s (state_at view begun.sound begun.control)

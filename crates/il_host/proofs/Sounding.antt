@@ -5,6 +5,7 @@ use Rattle.lif_model.specs.Stops.{LeavesOnly}
 use Rattle.lif_model.specs.Tape.{Tape}
 use Rattle.il_script.specs.declared.reply.Reply.{Reply}
 use Rattle.il_script.specs.declared.reply.Reply.TheVariants as reply
+use Rattle.il_ring.specs.declared.plan.Planned.{Planned}
 use Rattle.host_model.specs.Requests.{Asks, Devices, Get, Item, NoCommand, OfVolume, Paper, Poll, Say, Status, is_of_volume, uses_frames}
 use Rattle.host_model.specs.LoopStates.{all_roles, device_count}
 use Rattle.host_model.specs.HostStates.{HostState}
@@ -75,6 +76,7 @@ module _ (e : Event) (was was_kept is is_kept : Bool) where
     told = so.told;
     size = so.size;
     gate = so.gate;
+    foreign = so.foreign;
   }
 
   -- what the frames did
@@ -82,10 +84,10 @@ module _ (e : Event) (was was_kept is is_kept : Bool) where
   travels_standing so = record { one_talker = so.one_talker; roles = so.roles; crossings = so.crossings; frames = so.frames; short = so.short }
 
   -- the exchanges, but for those with which a command of the volume begins
-  exchanged_standing : (hops : List ℕ) (so : Exchanged hops e)
+  exchanged_standing : (plan : List Planned) (so : Exchanged plan e)
       → (is_of_volume e.item ≡ true → begins_with (cleared_first e.before.loop e.before.ready was) so.reading.pieces ≡ true)
-      → Exchanged hops (standing e was was_kept is is_kept)
-  exchanged_standing hops so begins = record {
+      → Exchanged plan (standing e was was_kept is is_kept)
+  exchanged_standing plan so begins = record {
     reading = so.reading;
     ends = so.ends;
     course = so.course;
@@ -106,19 +108,20 @@ module _ (e : Event) (was is : Bool) where
   travels_sounding = travels_standing e was e.before.kept is e.after.kept
 
   -- of an item that is not of the volume
-  pub exchanged_sounding : (hops : List ℕ) → is_of_volume e.item ≡ false → Exchanged hops e → Exchanged hops (sounding e was is)
-  exchanged_sounding hops other so = exchanged_standing e was e.before.kept is e.after.kept hops so (λ of. let clash : true ≡ false = sym of ∙ other in cc)
+  pub exchanged_sounding : (plan : List Planned) → is_of_volume e.item ≡ false → Exchanged plan e → Exchanged plan (sounding e was is)
+  exchanged_sounding plan other so = exchanged_standing e was e.before.kept is e.after.kept plan so (λ of. let clash : true ≡ false = sym of ∙ other in cc)
 
 -- ---- of a directory that was kept or not, and is
 
 -- an item that sends no frame leaves that as it is
-pub acts_keeping : (hops : List ℕ) (e : Event) (was is : Bool) → (uses_frames e.item ≡ false → is ≡ was) → Acts hops e → Acts hops (keeping e was is)
-acts_keeping hops e was is stays so = record {
+pub acts_keeping : (plan : List Planned) (e : Event) (was is : Bool) → (uses_frames e.item ≡ false → is ≡ was) → Acts plan e → Acts plan (keeping e was is)
+acts_keeping plan e was is stays so = record {
   replied = replied_standing e e.before.sound was e.after.sound is so.replied;
   next = so.next;
   travels = travels_standing e e.before.sound was e.after.sound is so.travels;
   heard = so.heard;
-  exchanged = exchanged_standing e e.before.sound was e.after.sound is hops so.exchanged so.exchanged.begins;
+  exchanged = exchanged_standing e e.before.sound was e.after.sound is plan so.exchanged so.exchanged.begins;
+  by_plan = so.by_plan;
   ready = so.ready;
   sound = so.sound;
   unsound = so.unsound;
@@ -137,4 +140,4 @@ left_keeping (Asks Paper) s kept x = refl
 left_keeping (NoCommand code) s kept x = refl
 
 pub stops_keeping : (e : Event) (was is : Bool) (before now : ℕ) (past since : ℕ → Tape → Type 0) → StopsLeave e before now past since → StopsLeave (keeping e was is) before now past since
-stops_keeping e was is before now past since so = λ told own. subst (λ (P : Tape → Type 0). LeavesOnly before now past since P) (λ i x. sym (left_keeping e.item e.before was x) i) (so told own)
+stops_keeping e was is before now past since so = λ told. subst (λ (P : Tape → Type 0). LeavesOnly before now past since P) (λ i x. sym (left_keeping e.item e.before was x) i) (so told)

@@ -6,7 +6,6 @@ use Rattle.il_poll.specs.Service.{status_byte_of}
 use Rattle.il_ports.specs.Media.{MediumView}
 use Rattle.il_drive.specs.State.{status_of}
 use Rattle.loop_model.specs.Exchanges.{Stopped, Receive, Sst}
-use Rattle.il_ring.specs.Plans.{hops_of}
 use Rattle.il_ring.specs.Rings.{RingView, drive_party}
 use Rattle.il_record.specs.Runs.{NotPolled, Polled}
 use Rattle.il_record.proofs.CameLaws.{broken_came, made_came, tape_same}
@@ -72,7 +71,7 @@ module _ {M : Type 0} (view : M → MediumView) where
 module _ {M : Type 0} (view : M → MediumView) (was is : Bool) (r s : RingView M) (empty : r.books.log ≡ []) where
   -- the drive told its status
   pub status_exchanged : (byte : ℕ) (m : RingView M) → Readies view was r m → Polled view (drive_party m) byte m s
-      → Exchanged (hops_of r.books.plan) (event_on view (Asks Status) reply.Ok was is r s)
+      → Exchanged (r.books.plan) (event_on view (Asks Status) reply.Ok was is r s)
   status_exchanged byte m ready told =
       let leaves = ready_leaves view was r m ready in
       loop_done view (Asks Status) tt (status_course r) was is r s empty refl
@@ -80,7 +79,7 @@ module _ {M : Type 0} (view : M → MediumView) (was is : Bool) (r s : RingView 
       (ap (λ medium. (view medium).faults) (told.drive.medium ∙ leaves.medium))
 
   -- that was broken off
-  pub status_broken : (m : RingView M) → Readies view was r m → NotPolled view (drive_party m) m s → Exchanged (hops_of r.books.plan) (event_on view (Asks Status) reply.FaultFrame was is r s)
+  pub status_broken : (m : RingView M) → Readies view was r m → NotPolled view (drive_party m) m s → Exchanged (r.books.plan) (event_on view (Asks Status) reply.FaultFrame was is r s)
   status_broken m ready not =
       let leaves = ready_leaves view was r m ready in
       loop_broken view (Asks Status) tt (status_course r) was is r s empty refl

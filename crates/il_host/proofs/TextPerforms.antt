@@ -19,7 +19,7 @@ use Rattle.il_script.specs.Replies.{reply_line}
 use Rattle.lif_model.specs.Apply.{Fetch, Store}
 use Rattle.lif_model.specs.Tape.{Tape}
 use Rattle.lif_model.specs.Volume.{volume_of}
-use Rattle.lif_volume.specs.Commands.{AnswersTo, FetchedFile, FetchesByRun, FetchesFile, IsTold, KeepsVolume, MountsAndReads, WritesBySettling}
+use Rattle.lif_volume.specs.Commands.{AnswersTo, FetchedFile, FetchesByRun, FetchesFile, IsTold, MountsAndReads, WritesBySettling}
 use Rattle.lif_volume.specs.Views.{IsOpen, VolumeView}
 use Rattle.lif_volume.specs.declared.volume.Fetched.{Fetched}
 use Rattle.lif_volume.specs.declared.volume.Volume.{Volume}
@@ -28,19 +28,19 @@ use Rattle.host_model.specs.Requests.{Asks, Get, NoCommand, OfVolume, text_type}
 use Rattle.host_model.specs.LoopStates.{all_roles}
 use Rattle.host_model.specs.HostStates.{HostState}
 use Rattle.host_model.specs.Replies.{if_text, lines_of_file, lines_of_found, lines_of_type, lines_text}
-use Rattle.host_model.specs.Steps.{Event, Acts}
+use Rattle.host_model.specs.Steps.{Event, Acts, event}
 use Rattle.host_model.proofs.NoCommands.{no_command}
 use Rattle.il_host.specs.HostView.{HostView, Performed}
 use Rattle.il_host.specs.Hosts.{IsUsable, host_in, loop_in, store_in, volume_in}
 use Rattle.il_host.specs.IsHosts.{is_host_at}
 use Rattle.il_host.specs.Texts.{data_text}
-use Rattle.il_host.specs.Standings.{Ends, HasDriveStatus, HasLogRoom, MakesSound, hops_at, log_at, state_at}
+use Rattle.il_host.specs.Standings.{Ends, HasDriveStatus, HasLogRoom, MakesSound, plan_at, log_at, state_at}
 use Rattle.il_host.proofs.Getting.{got_lines}
 use Rattle.il_host.proofs.HostReads.{fetched}
 use Rattle.il_host.proofs.HostVolumes.{performed, told_asked}
 use Rattle.il_host.proofs.LoopPerforms.{quiet_stops}
 use Rattle.il_host.proofs.VolumePerforms.{Performs}
-use Rattle.il_host.proofs.VolumeReplied.{seen_as}
+use Rattle.il_host.proofs.VolumeReplied.{seen_as, TurnsSo}
 use Rattle.il_host.proofs.VolumeStarts.{Emptied, volume_begun}
 
 -- ---- nothing is done
@@ -50,17 +50,17 @@ no_command_performs : {M S : Type 0} (view : M → MediumView) (seen : S → Rin
     → Begun (view_of view seen o old) (view_of view seen a begun) → IsStore (view_of view seen o old) → HasLogRoom view old.control
     → (code : Code) → is_at_most_one (talkers (all_roles (state_at view old.sound old.control).loop)) ≡ true → Performs view seen o a (NoCommand code) (reply.No code) old begun
 no_command_performs view seen o a old begun valid here there empties store room code one = record {
-  step = subst (λ (s : HostState). Acts (hops_at old.control) (event_to (log_at begun.control) s)) (sym emptied.state)
-      (subst (λ (log : List Entry). Acts (hops_at old.control) (event_to log (state_at view old.sound old.control))) (sym emptied.log) (no_command (hops_at old.control) code (state_at view old.sound old.control) one).acts);
+  step = subst (λ (s : HostState). Acts (plan_at old.control) (event_to (log_at begun.control) s)) (sym emptied.state)
+      (subst (λ (log : List Entry). Acts (plan_at old.control) (event_to log (state_at view old.sound old.control))) (sym emptied.log) (no_command (plan_at old.control) code (state_at view old.sound old.control) one).acts);
   stops = quiet_stops (NoCommand code) (reply.No code) (log_at begun.control) (state_at view old.sound old.control) (state_at view begun.sound begun.control) (view_of view seen o old) (view_of view seen a begun) (seen_as view seen o old) store empties.quiet;
-  keeps = record { hops = emptied.hops; room = emptied.room room; images = emptied.images };
+  keeps = record { plan = emptied.plan; room = emptied.room room; images = emptied.images };
 }
   where
     emptied : Emptied view old begun
     emptied = volume_begun view seen o a old begun valid here there empties
 
     event_to : List Entry → HostState → Event
-    event_to log s = record { item = NoCommand code; reply = reply.No code; log = log; before = state_at view old.sound old.control; after = s }
+    event_to log s = event (NoCommand code) (reply.No code) log (state_at view old.sound old.control) s
 
 module _ {M I : Type 0} {D : I → Type 0} (view : M → MediumView) (seen : Ring M I D → RingView M) (o b : Volume (LoopRecords M I D)) (text_space file_space : ℕ)
     (usable : IsUsable view (store_in view seen) (volume_in o) (loop_in seen o.records) text_space file_space) (began : Begun (store_in view seen o.records) (store_in view seen b.records)) where
@@ -109,7 +109,7 @@ module _ {M I : Type 0} {D : I → Type 0} (view : M → MediumView) (seen : Rin
   pub lines_got : (name : List ℕ) (file : Fetched) (into shown before : List ℕ) → ((x : M) → IsMedium (view x)) → IsOpen (store_in view seen) (volume_in m) → shown ≡ take file.length into
       → MountsAndReads name (store_in view seen) (volume_in m) (volume_in n) (Ok file) → AnswersTo (Fetch name) (store_in view seen) (volume_in m) (volume_in n) (Ok file)
       → FetchesFile name (store_in view seen) (volume_in m) file into → FetchesByRun name (store_in view seen) (volume_in m) (volume_in n) file into
-      → KeepsVolume (store_in view seen) (volume_in m) (volume_in n) → WritesBySettling (store_in view seen) (volume_in m) (volume_in n) (Ok file)
+      → TurnsSo (Fetch name) (store_in view seen) (volume_in m) (volume_in n) → WritesBySettling (store_in view seen) (volume_in m) (volume_in n) (Ok file)
       → Performed (Asks (Get name)) (if_text (lines_of_type file.kind shown)) (host_in view seen o before text_space file_space)
       (host_in view seen n (lines_text (lines_of_type file.kind shown) ++ reply_line (if_text (lines_of_type file.kind shown))) text_space file_space)
   lines_got name file into shown before law was is reads answers fetches run stays settles =

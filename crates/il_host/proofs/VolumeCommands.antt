@@ -9,13 +9,12 @@ use Rattle.il_ports.specs.Trouble.{answers_ok}
 use Rattle.il_ports.specs.declared.records.Trouble.{Trouble}
 use Rattle.il_ports.specs.declared.records.Trouble.TheVariants as trouble
 use Rattle.loop_model.specs.Roles.{is_at_most_one, talkers}
-use Rattle.il_ring.specs.Plans.{hops_of}
-use Rattle.il_ring.specs.Rings.{RingView, devices_of, drive_party, roles_of}
+use Rattle.il_ring.specs.Rings.{RingView, devices_of, drive_party, roles_of, IsRing}
 use Rattle.il_control.specs.Calls.{loop_of}
 use Rattle.il_record.specs.declared.records.Since.TheVariants as since
 use Rattle.il_record.specs.Came.{OnlyHeard}
 use Rattle.loop_model.specs.Effect.{Transferred}
-use Rattle.il_record.specs.LoopStores.{LoopView, Standing, StandsSo, is_idle, view_at, view_of}
+use Rattle.il_record.specs.LoopStores.{LoopView, Standing, StandsSo, is_idle, view_at, view_of, HasRing}
 use Rattle.il_record.proofs.HeardLogs.{heard_then}
 use Rattle.il_record.proofs.StoreResumes.{Agrees}
 use Rattle.il_script.specs.declared.reply.Reply.{Reply}
@@ -25,21 +24,21 @@ use Rattle.host_model.specs.HostStates.{HostState, log_room, volume_at}
 use Rattle.host_model.specs.RingStates.{state_on}
 use Rattle.host_model.specs.Next.{StatusBehindVolume}
 use Rattle.host_model.specs.Steps.{Exchanged, is_fault, is_frame_fault}
-use Rattle.il_host.specs.Standings.{HasDriveStatus, FitsAnswer, HasLogRoom, MakesSound, event_at, hops_at, log_at, state_at}
+use Rattle.il_host.specs.Standings.{HasDriveStatus, FitsAnswer, HasLogRoom, MakesSound, event_at, plan_at, log_at, state_at}
 use Rattle.il_host.proofs.CommandTravels.{event_by}
 use Rattle.il_host.proofs.Images.{KeepsAt, KeepsMedium, images_then}
 use Rattle.il_host.proofs.VolumeCarries.{CarriesAs, carries_by}
 use Rattle.il_host.proofs.VolumeExchanges.{CarriesBy, Started, frame_joined, joined_broken, volume_exchanged}
 use Rattle.il_host.proofs.VolumeNext.{volume_heard, volume_next}
 use Rattle.il_host.proofs.VolumeStarts.{Emptied, MadeSound, StartBroke, made_sound, start_broke}
-use Rattle.il_host.proofs.VolumeSteps.{Behind, Here, StatusAs, TellsLoop, at_ring, behind, here_at, hops_rings, ready_behind, state_rings, tells_rings, within_room}
-use Rattle.il_host.proofs.VolumeTravels.{WentBy, one_talks, volume_went, went_images, went_loop, went_place, went_plan, went_room, went_travels}
+use Rattle.il_host.proofs.VolumeSteps.{Behind, Here, StatusAs, TellsLoop, at_ring, behind, here_at, plan_rings, ready_behind, state_rings, tells_rings, within_room}
+use Rattle.il_host.proofs.VolumeTravels.{WentBy, one_talks, volume_went, went_images, went_loop, went_place, went_plan, went_room, went_travels, ring_stands, went_by_plan}
 
 -- ---- what a command keeps
 
 -- The plan of faults stays, and so does the room of the log. No image changes but the one in the drive.
 pub record KeepsRing {M : Type 0} (view : M → MediumView) (old new : LoopView M) : Type 0 where
-  pub hops : hops_at new.control ≡ hops_at old.control
+  pub plan : plan_at new.control ≡ plan_at old.control
   pub room : HasLogRoom view new.control
   pub images : KeepsAt view old.control new.control
 
@@ -50,6 +49,13 @@ module _ {M : Type 0} (view : M → MediumView) where
       by : (is : Bool) → HasLogRoom view (at_ring is r) → r.books.room ≡ log_room (view r.drive.medium).record_count
       by true room = room
       by false room = room
+
+  pub begins_at : (is : Bool) (c : Standing M) (r : RingView M) → c ≡ at_ring is r → HasRing c (λ r. r.books.begun ≡ r.books.crossings) → r.books.begun ≡ r.books.crossings
+  begins_at is c r at begins = by is (subst (λ (c : Standing M). HasRing c (λ r. r.books.begun ≡ r.books.crossings)) at begins)
+    where
+      by : (is : Bool) → HasRing (at_ring is r) (λ r. r.books.begun ≡ r.books.crossings) → r.books.begun ≡ r.books.crossings
+      by true begins = begins
+      by false begins = begins
 
   room_on : (is : Bool) (c : Standing M) (r : RingView M) → c ≡ at_ring is r → r.books.room ≡ log_room (view r.drive.medium).record_count → HasLogRoom view c
   room_on is c r at room = subst (λ (c : Standing M). HasLogRoom view c) (sym at) (by is)
@@ -93,14 +99,14 @@ module _ {M : Type 0} (view : M → MediumView) where
   pub keeps_rings : (old new : LoopView M) (was is : Bool) (r s : RingView M) → old.control ≡ at_ring was r → new.control ≡ at_ring is s → WentBy view r s → (view s.drive.medium).record_count ≡ (view r.drive.medium).record_count → HasLogRoom view old.control
       → KeepsRing view old new
   keeps_rings old new was is r s one two went size room = record {
-    hops = ap (λ (c : Standing M). hops_at c) two ∙ hops_rings view is s ∙ ap hops_of (went_plan view r s went) ∙ sym (hops_rings view was r) ∙ ap (λ (c : Standing M). hops_at c) (sym one);
+    plan = ap (λ (c : Standing M). plan_at c) two ∙ plan_rings view is s ∙ went_plan view r s went ∙ sym (plan_rings view was r) ∙ ap (λ (c : Standing M). plan_at c) (sym one);
     room = room_on is new.control s two (went_room view r s went ∙ room_at was old.control r one room ∙ ap log_room (sym size));
     images = images_on was is old.control new.control r s one two (went_images view r s went);
   }
 
   -- What is kept from the emptying of the log on, is kept from before it.
   pub keeps_emptied : (old begun new : LoopView M) → Emptied view old begun → KeepsRing view begun new → KeepsRing view old new
-  keeps_emptied old begun new emptied keeps = record { hops = keeps.hops ∙ emptied.hops; room = keeps.room; images = images_then _ _ _ _ _ _ emptied.images keeps.images }
+  keeps_emptied old begun new emptied keeps = record { plan = keeps.plan ∙ emptied.plan; room = keeps.room; images = images_then _ _ _ _ _ _ emptied.images keeps.images }
 
 -- ---- the reply
 
@@ -126,16 +132,22 @@ fits_status (Err trouble.Medium) answered status fits so low = subst (λ a. Stat
 
 -- ---- the laws
 
-module _ {M : Type 0} (view : M → MediumView) (command : VolumeCommand) (begun new : LoopView M) (stands : StandsSo begun.control begun.sound since.Unbroken) (empty : log_at begun.control ≡ []) (room : HasLogRoom view begun.control) (low : HasDriveStatus new.control) where
+module _ {M : Type 0} (view : M → MediumView) (command : VolumeCommand) (begun new : LoopView M) (stands : StandsSo begun.control begun.sound since.Unbroken) (empty : log_at begun.control ≡ []) (begins : HasRing begun.control (λ r. r.books.begun ≡ r.books.crossings)) (room : HasLogRoom view begun.control) (low : HasDriveStatus new.control) where
   here : Here begun.control
   here = here_at begun.control begun.sound since.Unbroken stands
 
   one_here : is_at_most_one (talkers (roles_of (devices_of here.ring))) ≡ true
   one_here = one_talks begun.control begun.sound since.Unbroken here.ring stands here.stands
 
+  ring_here : IsRing here.ring
+  ring_here = ring_stands begun.control begun.sound since.Unbroken here.ring stands here.stands
+
+  begins_there : here.ring.books.begun ≡ here.ring.books.crossings
+  begins_there = begins_at view (is_idle begun.control) begun.control here.ring here.at begins
+
   -- The store could not be made sound: a frame was lost or altered as the loop was addressed or the drive cleared.
   pub volume_broke : {S : Type 0} (T : Type 0) (seen : S → RingView M) (q : Option S) (e : Trouble) → 1 ≤ (view_of view seen q new).calls_left → MakesSound {T = T} view begun new (Err e)
-      → (e ≡ trouble.Frame) × TellsLoop (hops_at begun.control) (event_at view (Asks (OfVolume command)) reply.FaultFrame begun new) × KeepsRing view begun new
+      → (e ≡ trouble.Frame) × TellsLoop (plan_at begun.control) (event_at view (Asks (OfVolume command)) reply.FaultFrame begun new) × KeepsRing view begun new
   unfolding here
   volume_broke T seen q e left makes = (so.1, tells_rings view (Asks (OfVolume command)) reply.FaultFrame begun new was false r s here.at broke.at tells, keeps_rings view begun new was false r s here.at broke.at went size room)
     where
@@ -163,13 +175,14 @@ module _ {M : Type 0} (view : M → MediumView) (command : VolumeCommand) (begun
       short : length s.books.log ≤ log_room (view r.drive.medium).record_count
       short = subst (λ n. length s.books.log ≤ n) (went_room view r s went ∙ room_at view was begun.control r here.at room) (short_at view seen q new false s broke.at left)
 
-      tells : TellsLoop (hops_of r.books.plan) (event_by view (Asks (OfVolume command)) reply.FaultFrame was false begun.sound new.sound r s)
+      tells : TellsLoop (r.books.plan) (event_by view (Asks (OfVolume command)) reply.FaultFrame was false begun.sound new.sound r s)
       tells = record {
         next = volume_next r s (went_place view r s went) broke.unheard command reply.FaultFrame (status_at view false new.control s broke.at low);
         travels = went_travels view r s went (Asks (OfVolume command)) reply.FaultFrame was false begun.sound new.sound (here.empty empty) one_here short;
         heard = volume_heard r s (went_place view r s went) (here.empty empty) broke.unheard false;
-        exchanged = subst (λ sound. Exchanged (hops_of r.books.plan) (event_by view (Asks (OfVolume command)) reply.FaultFrame was false sound new.sound r s)) (sym so.0)
+        exchanged = subst (λ sound. Exchanged (r.books.plan) (event_by view (Asks (OfVolume command)) reply.FaultFrame was false sound new.sound r s)) (sym so.0)
             (frame_joined view command was false false new.sound r s (here.empty empty) [] (joined_broken view was r s broke.keeps) broke.drive.count);
+        by_plan = went_by_plan view r s went ring_here begins_there;
         ready = refl;
         sound = broke.unsound;
       }
@@ -180,7 +193,7 @@ module _ {M : Type 0} (view : M → MediumView) (command : VolumeCommand) (begun
       → Agrees seen p mid.control → GoesOn calls (view_of view seen p mid) (view_of view seen q new) answer → FitsAnswer answer answered
       → CarriesAs command answered (state_at view begun.sound begun.control).records (volume_at (state_at view begun.sound begun.control)) (view_of view seen q new).transferred
       → 1 ≤ (view_of view seen q new).calls_left
-      → TellsLoop (hops_at begun.control) (event_at view (Asks (OfVolume command)) answered begun new) × KeepsRing view begun new
+      → TellsLoop (plan_at begun.control) (event_at view (Asks (OfVolume command)) answered begun new) × KeepsRing view begun new
   unfolding here
   volume_done {S} {T} x seen p q calls mid answer answered unbroken makes agrees goes fits carries left =
       (tells_rings view (Asks (OfVolume command)) answered begun new was is r s here.at so.at tells, keeps_rings view begun new was is r s here.at so.at went size room)
@@ -236,12 +249,13 @@ module _ {M : Type 0} (view : M → MediumView) (command : VolumeCommand) (begun
       frame : FrameAs answer answered
       frame = fits_ready answer answered fits
 
-      tells : TellsLoop (hops_of r.books.plan) (event_by view (Asks (OfVolume command)) answered was is begun.sound new.sound r s)
+      tells : TellsLoop (r.books.plan) (event_by view (Asks (OfVolume command)) answered was is begun.sound new.sound r s)
       tells = record {
         next = volume_next r s (went_place view r s went) unheard command answered (fits_status answer answered (status_of s.drive.state) fits so.status (status_at view is new.control s so.at low));
         travels = went_travels view r s went (Asks (OfVolume command)) answered was is begun.sound new.sound (here.empty empty) one_here short;
         heard = volume_heard r s (went_place view r s went) (here.empty empty) unheard (not (is_frame_fault answered));
         exchanged = volume_exchanged view command was is begun.sound new.sound r m s answer answered (here.empty empty) start so.ends fits carried;
+        by_plan = went_by_plan view r s went ring_here begins_there;
         ready = frame.0;
         sound = so.sound ∙ frame.1;
       }

@@ -123,7 +123,7 @@ module _ {M : Type 0} (view : M → MediumView) (command : VolumeCommand) (was i
   faults_at q = (view q.drive.medium).faults
 
   abbrev Goal : Reply → Type 0
-  Goal answer = Exchanged (hops_of r.books.plan) (event_by view (Asks (OfVolume command)) answer was is sound sound_now r s)
+  Goal answer = Exchanged (r.books.plan) (event_by view (Asks (OfVolume command)) answer was is sound sound_now r s)
 
   -- such exchanges
   by_joined : (whole : Bool) (units : List RecordUnit) (answer : Reply) → (so : Joined view whole was sound units r s) → not (is_frame_fault answer) ≡ whole
@@ -176,22 +176,22 @@ module _ {M : Type 0} (view : M → MediumView) (command : VolumeCommand) (was i
 
 -- what the exchanges of a command came to, whose store answered so
 pub volume_exchanged : {M T : Type 0} (view : M → MediumView) (command : VolumeCommand) (was is sound sound_now : Bool) (r m s : RingView M) (answer : Result T Trouble) (answered : Reply) → r.books.log ≡ [] → Started view was sound r m → EndsBy view answer m s → FitsAnswer answer answered
-    → CarriesBy view command answered was r s → Exchanged (hops_of r.books.plan) (event_by view (Asks (OfVolume command)) answered was is sound sound_now r s)
+    → CarriesBy view command answered was r s → Exchanged (r.books.plan) (event_by view (Asks (OfVolume command)) answered was is sound sound_now r s)
 volume_exchanged {M} {T} view command was is sound sound_now r m s answer answered empty start ends fits carries = by answer ends fits
   where
     faults_same : (view m.drive.medium).faults ≡ (view r.drive.medium).faults
     faults_same = ap (λ medium. (view medium).faults) start.medium
 
     -- nothing came behind it
-    ok_alone : (sound : Bool) → Started view was sound r m → s ≡ m → CarriesBy view command reply.Ok was r s → Exchanged (hops_of r.books.plan) (event_by view (Asks (OfVolume command)) reply.Ok was is sound sound_now r s)
+    ok_alone : (sound : Bool) → Started view was sound r m → s ≡ m → CarriesBy view command reply.Ok was r s → Exchanged (r.books.plan) (event_by view (Asks (OfVolume command)) reply.Ok was is sound sound_now r s)
     ok_alone true start same carries = ok_none view command was is true sound_now r s empty (same ∙ start.by) refl carries
     ok_alone false start same carries = ok_joined view command was is false sound_now r s empty [] (joined_alone view was r m s start.by same) refl (ap (λ (s : RingView M). (view s.drive.medium).faults) same ∙ faults_same) carries
 
-    no_alone : (sound : Bool) (code : Code) → Started view was sound r m → s ≡ m → Exchanged (hops_of r.books.plan) (event_by view (Asks (OfVolume command)) (reply.No code) was is sound sound_now r s)
+    no_alone : (sound : Bool) (code : Code) → Started view was sound r m → s ≡ m → Exchanged (r.books.plan) (event_by view (Asks (OfVolume command)) (reply.No code) was is sound sound_now r s)
     no_alone true code start same = no_none view command was is true sound_now r s empty code (same ∙ start.by) refl
     no_alone false code start same = no_joined view command was is false sound_now r s empty code [] (joined_alone view was r m s start.by same) refl (ap (λ (s : RingView M). (view s.drive.medium).faults) same ∙ faults_same)
 
-    by_ok : (a : Reply) → FitsAnswer {T = Unit {0}} (Ok tt) a → (s ≡ m) ⊎ CameGood view m s → CarriesBy view command a was r s → Exchanged (hops_of r.books.plan) (event_by view (Asks (OfVolume command)) a was is sound sound_now r s)
+    by_ok : (a : Reply) → FitsAnswer {T = Unit {0}} (Ok tt) a → (s ≡ m) ⊎ CameGood view m s → CarriesBy view command a was r s → Exchanged (r.books.plan) (event_by view (Asks (OfVolume command)) a was is sound sound_now r s)
     by_ok reply.FaultFrame fits so carries = cc
     by_ok reply.FaultMedium fits so carries = cc
     by_ok reply.Ok fits so carries = ⊎_elim
@@ -203,11 +203,11 @@ volume_exchanged {M} {T} view command was is sound sound_now r m s answer answer
         (λ good. no_joined view command was is sound sound_now r s empty code _ (joined view was r true sound m s start good.came) good.good (good.count ∙ faults_same))
         so
 
-    by : (answer : Result T Trouble) → EndsBy view answer m s → FitsAnswer answer answered → Exchanged (hops_of r.books.plan) (event_by view (Asks (OfVolume command)) answered was is sound sound_now r s)
+    by : (answer : Result T Trouble) → EndsBy view answer m s → FitsAnswer answer answered → Exchanged (r.books.plan) (event_by view (Asks (OfVolume command)) answered was is sound sound_now r s)
     by (Ok x) so fits = by_ok answered fits so carries
     by (Err trouble.Frame) so fits =
-        subst (λ a. Exchanged (hops_of r.books.plan) (event_by view (Asks (OfVolume command)) a was is sound sound_now r s)) (sym fits)
+        subst (λ a. Exchanged (r.books.plan) (event_by view (Asks (OfVolume command)) a was is sound sound_now r s)) (sym fits)
         (frame_joined view command was is sound sound_now r s empty _ (joined view was r false sound m s start so.0) (subst (λ n. n ≤ (view s.drive.medium).faults) faults_same so.1))
     by (Err trouble.Medium) so fits =
-        subst (λ a. Exchanged (hops_of r.books.plan) (event_by view (Asks (OfVolume command)) a was is sound sound_now r s)) (sym fits)
+        subst (λ a. Exchanged (r.books.plan) (event_by view (Asks (OfVolume command)) a was is sound sound_now r s)) (sym fits)
         (medium_joined view command was is sound sound_now r s empty _ (joined view was r true sound m s start so.0.came) so.0.bad (subst (λ n. Rose n (view s.drive.medium).faults) faults_same so.1))

@@ -1,11 +1,14 @@
 -- What a command of the volume replies, and what a power stop leaves within it, by what the volume says of its store.
 use Rattle.std.proofs.Common.{◌≡◌, ◌∙◌, ⊎_elim, inl, inr, ℕ, Bool, true, false, List, Option, Some, None, is_some, refl, sym, ap, ap₂, subst}
-use Rattle.std.specs.Prelude.{Ok, Err, option_and_then, IfSome}
+use Rattle.std.specs.Prelude.{Ok, Err, option_and_then, IfSome, Result}
 use Rattle.lif_model.specs.Tape.{Tape}
 use Rattle.lif_model.specs.Volume.{is_foreign_gated, volume_of}
 use Rattle.lif_model.specs.Apply.{VolumeCommand, apply}
 use Rattle.lif_model.specs.declared.refusal.Refusal.{Refusal}
 use Rattle.lif_model.proofs.Moments.{after_still, started, still, weaker}
+use Rattle.lif_model.specs.Commit.{SettlesAs}
+use Rattle.lif_model.specs.Redo.{settled}
+use Rattle.lif_model.specs.Stops.{LeavesOnly}
 use Rattle.il_frames.specs.declared.entry.Entry.{Entry}
 use Rattle.il_ports.specs.Media.{MediumView}
 use Rattle.il_ports.specs.Stores.{IsQuiet, IsStore, RecordsView}
@@ -19,14 +22,18 @@ use Rattle.il_record.proofs.StoreResumes.{still_of}
 use Rattle.il_script.specs.declared.reply.Reply.{Reply}
 use Rattle.il_script.specs.declared.reply.Reply.TheVariants as reply
 use Rattle.lif_volume.specs.Answers.{HasVolumeOf}
-use Rattle.lif_volume.specs.Changing.{HasEitherVolume, VolumeTurns}
-use Rattle.lif_volume.specs.Commands.{VolumeStays}
+use Rattle.lif_volume.specs.Changing.{HasEitherVolume, VolumeTurns, SettlesForeign, TurnsVolume}
+use Rattle.lif_volume.specs.Commands.{VolumeStays, SettlesOnly}
+use Rattle.lif_volume.specs.Views.{VolumeView}
+use Rattle.lif_volume.specs.Did.{Reads}
+use Rattle.lif_volume.specs.declared.fault.VolumeFault.{VolumeFault}
 use Rattle.host_model.specs.Requests.{Asks, OfVolume}
 use Rattle.host_model.specs.HostStates.{HasOwnGate, HostState, volume_at}
 use Rattle.host_model.specs.Replies.{refused_as, reply_of, volume_behind}
-use Rattle.host_model.specs.Steps.{EitherVolume, Event, Replied}
+use Rattle.host_model.specs.Steps.{EitherVolume, Event, Replied, event, SettlesAlike}
 use Rattle.host_model.specs.Stops.{MayBeLeft, StopsLeave}
 use Rattle.host_model.proofs.Growing.{left_at_first}
+use Rattle.host_model.proofs.Steps.{alike, alike_staying}
 use Rattle.il_host.specs.Standings.{FitsAnswer, MakesSound, fault_of, state_at}
 use Rattle.il_host.proofs.VolumeSteps.{at_ring, here_at}
 use Rattle.il_host.proofs.VolumeStarts.{made_sound, start_broke}
@@ -96,16 +103,16 @@ module _ {M S : Type 0} (view : M → MediumView) (seen : S → RingView M) (p q
 
 -- ---- the store could not be made sound
 
--- an item with its reply
-abbrev event : VolumeCommand → Reply → List Entry → HostState → HostState → Event
-event command answered log s t = record { item = Asks (OfVolume command); reply = answered; log = log; before = s; after = t }
+-- a command of the volume with its reply
+abbrev volume_event : VolumeCommand → Reply → List Entry → HostState → HostState → Event
+volume_event command answered log s t = event (Asks (OfVolume command)) answered log s t
 
 module _ {S : Type 0} (command : VolumeCommand) (v w : RecordsView S) (s t : HostState) (log : List Entry) (before : IsSeenAs s v) (after : IsSeenAs t w) (still_so : StaysQuiet v w) where
   tape_still : t.tape ≡ s.tape
   tape_still = after.tape ∙ still_so.quiet.tape ∙ sym before.tape
 
   -- the tape is as it was
-  pub broke_replied : Replied (event command reply.FaultFrame log s t)
+  pub broke_replied : Replied (volume_event command reply.FaultFrame log s t)
   broke_replied = record {
     may = refl;
     whole = λ tells own. inl (ap (λ tape. option_and_then volume_of tape) tape_still);
@@ -113,6 +120,7 @@ module _ {S : Type 0} (command : VolumeCommand) (v w : RecordsView S) (s t : Hos
     told = ap (λ tape. is_some tape) tape_still;
     size = after.records ∙ still_so.size ∙ sym before.records;
     gate = λ own. subst (λ tape. IfSome tape (λ x. is_foreign_gated x ≡ false)) (sym tape_still) own;
+    foreign = subst (λ tape. IfSome tape (SettlesAlike s.tape)) (sym tape_still) (alike_staying s.tape);
   }
 
 -- ---- stops
@@ -124,11 +132,11 @@ told_tape (Some x) told = (x, refl)
 
 -- a stop leaves the tape as it was
 pub broke_stops : {S : Type 0} (command : VolumeCommand) (answered : Reply) (v w : RecordsView S) (s t : HostState) (log : List Entry) → IsSeenAs s v → IsStore v → IsQuiet v w
-    → StopsLeave (event command answered log s t) v.moment w.moment v.left_since w.left_since
-broke_stops command answered v w s t log before store quiet told own =
+    → StopsLeave (volume_event command answered log s t) v.moment w.moment v.left_since w.left_since
+broke_stops command answered v w s t log before store quiet told =
     let tape = told_tape s.tape told in
     still v.moment v.moment w.moment v.left_since v.left_since w.left_since (MayBeLeft (Asks (OfVolume command)) s) quiet.moment quiet.since
-    (started v.moment v.left_since (MayBeLeft (Asks (OfVolume command)) s) tape.0 (λ c left. store.leaves_only tape.0 c (sym before.tape ∙ tape.1) left) (left_at_first (Asks (OfVolume command)) s tape.0 own tape.1))
+    (started v.moment v.left_since (MayBeLeft (Asks (OfVolume command)) s) tape.0 (λ c left. store.leaves_only tape.0 c (sym before.tape ∙ tape.1) left) (left_at_first (Asks (OfVolume command)) s tape.0 tape.1))
 
 -- ---- the volume was asked
 
@@ -138,6 +146,17 @@ stays_turns n command v w x so = record {
   stops = weaker v.moment w.moment v.left_since w.left_since (HasEitherVolume n command x) (HasVolumeOf x) so.stops (λ c has. record { volume = inl has.volume; own_gate = has.own_gate });
   after = (so.after.0, so.after.1, record { volume = inl so.after.2.volume; own_gate = so.after.2.own_gate });
 }
+
+-- what a command leaves of the volume's store: of a tape whose open redo is ours, and of one whose redo is not
+abbrev pub TurnsSo : {R S : Type 0} → VolumeCommand → (R → RecordsView S) → (old new : VolumeView R) → Type 0
+TurnsSo command view old new = TurnsVolume command view old new × SettlesForeign view old new
+
+pub reads_so : {R S T : Type 0} (command : VolumeCommand) (view : R → RecordsView S) (old new : VolumeView R) (answer : Result T VolumeFault) → Reads command view old new answer
+    → TurnsSo command view old new
+reads_so command view old new answer did = (
+  λ t told own. stays_turns (view old.records).record_count command (view old.records) (view new.records) t (did.stays t told own),
+  λ t told held. did.settling t told,
+)
 
 -- ok or a refusal fits a store that did not fail, and a fault the trouble that the store had
 pub fits_refused : {T : Type 0} (x : T) (refusal : Option Refusal) → FitsAnswer (Ok x) (refused_as refusal)
@@ -149,7 +168,8 @@ fits_fault T trouble.Frame = refl
 fits_fault T trouble.Medium = refl
 
 module _ {S : Type 0} (command : VolumeCommand) (v w : RecordsView S) (s t : HostState) (log : List Entry) (before : IsSeenAs s v) (after : IsSeenAs t w)
-    (turns : (x : Tape) → v.tape ≡ Some x → is_foreign_gated x ≡ false → VolumeTurns v.record_count command v w x) where
+    (turns : (x : Tape) → v.tape ≡ Some x → is_foreign_gated x ≡ false → VolumeTurns v.record_count command v w x)
+    (foreign : (x : Tape) → v.tape ≡ Some x → is_foreign_gated x ≡ true → SettlesOnly v w x) where
   own_gate : (x : Tape) → s.tape ≡ Some x → HasOwnGate s → is_foreign_gated x ≡ false
   own_gate x is own = subst (λ tape. IfSome tape (λ x. is_foreign_gated x ≡ false)) is own
 
@@ -163,13 +183,46 @@ module _ {S : Type 0} (command : VolumeCommand) (v w : RecordsView S) (s t : Hos
   volume_is : (x : Tape) → s.tape ≡ Some x → volume_of x ≡ volume_at s
   volume_is x is = ap (λ tape. option_and_then volume_of tape) (sym is)
 
+  -- what a stop leaves, by the tape before
+  turned_left : (x c : Tape) → s.tape ≡ Some x → HasEitherVolume v.record_count command x c → is_foreign_gated x ≡ false → MayBeLeft (Asks (OfVolume command)) s c
+  turned_left x c is has own = record {
+    own = λ gate. (⊎_elim (λ same. inl (same ∙ volume_is x is)) (λ other. inr (other ∙ behind_is x is)) has.volume, has.own_gate);
+    foreign = λ t was held.
+        let clash : true ≡ false = sym held ∙ subst (λ tape. IfSome tape (λ t. is_foreign_gated t ≡ false)) (sym is ∙ was) own in
+        cc;
+  }
+
+  settled_left : (x c : Tape) → s.tape ≡ Some x → SettlesAs (settled x) c → is_foreign_gated x ≡ true → MayBeLeft (Asks (OfVolume command)) s c
+  settled_left x c is so held = record {
+    own = λ gate. let clash : true ≡ false = sym held ∙ subst (λ tape. IfSome tape (λ t. is_foreign_gated t ≡ false)) is gate in cc;
+    foreign = alike x c is so;
+  }
+
+  leaves : (x : Tape) → s.tape ≡ Some x → LeavesOnly v.moment w.moment v.left_since w.left_since (MayBeLeft (Asks (OfVolume command)) s)
+  leaves x is = by (is_foreign_gated x) refl
+    where
+      by : (held : Bool) → is_foreign_gated x ≡ held → LeavesOnly v.moment w.moment v.left_since w.left_since (MayBeLeft (Asks (OfVolume command)) s)
+      by false own = weaker v.moment w.moment v.left_since w.left_since (MayBeLeft (Asks (OfVolume command)) s) (HasEitherVolume v.record_count command x)
+          (turns x (sym before.tape ∙ is) own).stops (λ c has. turned_left x c is has own)
+      by true held = weaker v.moment w.moment v.left_since w.left_since (MayBeLeft (Asks (OfVolume command)) s) (SettlesAs (settled x))
+          (foreign x (sym before.tape ∙ is) held).stops (λ c so. settled_left x c is so held)
+
+  -- where an open redo would overwrite a file that is not ours, the tape settles as before
+  foreign_now : IfSome t.tape (SettlesAlike s.tape)
+  foreign_now = by t.tape refl
+    where
+      by : (tape : Option Tape) → t.tape ≡ tape → IfSome tape (SettlesAlike s.tape)
+      by None is = tt
+      by (Some y) is = λ x was held.
+          let so = (foreign x (sym before.tape ∙ was) held).after in
+          subst (λ tape. IfSome tape (SettlesAs (settled x))) (sym (sym is ∙ after.tape ∙ so.1)) so.2
+
   -- A stop leaves the volume before the command or the one behind it. No time went by from the moment at which the store stood as u.
-  pub volume_stops : (answered : Reply) (u : RecordsView S) → IsQuiet u v → StopsLeave (event command answered log s t) u.moment w.moment u.left_since w.left_since
-  volume_stops answered u quiet told own =
+  pub volume_stops : (answered : Reply) (u : RecordsView S) → IsQuiet u v → StopsLeave (volume_event command answered log s t) u.moment w.moment u.left_since w.left_since
+  volume_stops answered u quiet told =
       let tape = told_tape s.tape told in
       after_still u.moment v.moment w.moment u.left_since v.left_since w.left_since (MayBeLeft (Asks (OfVolume command)) s) quiet.moment quiet.since
-      (weaker v.moment w.moment v.left_since w.left_since (MayBeLeft (Asks (OfVolume command)) s) (HasEitherVolume v.record_count command tape.0) (turned tape.0 tape.1 own).stops
-      (λ c has. (⊎_elim (λ same. inl (same ∙ volume_is tape.0 tape.1)) (λ other. inr (other ∙ behind_is tape.0 tape.1)) has.volume, has.own_gate)))
+      (leaves tape.0 tape.1)
 
   -- the volume is the one before or the one behind
   either : HasOwnGate s → is_some s.tape ≡ true → EitherVolume (Asks (OfVolume command)) s t
@@ -208,7 +261,7 @@ module _ {S : Type 0} (command : VolumeCommand) (v w : RecordsView S) (s t : Hos
         (sym (ap (λ p. refused_as p.0) applied), sym (ap (λ p. p.1) applied))
 
     -- The store did not fail: it is ok, or a refusal of the command, as the definitions have it.
-    pub volume_answered : (refusal : Option Refusal) → ((x y : Tape) → v.tape ≡ Some x → w.tape ≡ Some y → apply v.record_count command (volume_of x) ≡ (refusal, volume_of y)) → Replied (event command (refused_as refusal) log s t)
+    pub volume_answered : (refusal : Option Refusal) → ((x y : Tape) → v.tape ≡ Some x → w.tape ≡ Some y → apply v.record_count command (volume_of x) ≡ (refusal, volume_of y)) → Replied (volume_event command (refused_as refusal) log s t)
     volume_answered None answers = record {
       may = tt;
       whole = λ tells. counted None answers (tells refl);
@@ -216,6 +269,7 @@ module _ {S : Type 0} (command : VolumeCommand) (v w : RecordsView S) (s t : Hos
       told = told_now;
       size = after.records ∙ size ∙ sym before.records;
       gate = gate_now;
+      foreign = foreign_now;
     }
     volume_answered (Some why) answers = record {
       may = tt;
@@ -224,10 +278,11 @@ module _ {S : Type 0} (command : VolumeCommand) (v w : RecordsView S) (s t : Hos
       told = told_now;
       size = after.records ∙ size ∙ sym before.records;
       gate = gate_now;
+      foreign = foreign_now;
     }
 
     -- It failed.
-    pub volume_troubled : (e : Trouble) → Replied (event command (fault_of e) log s t)
+    pub volume_troubled : (e : Trouble) → Replied (volume_event command (fault_of e) log s t)
     volume_troubled trouble.Frame = record {
       may = refl;
       whole = λ tells own. either own (tells refl);
@@ -235,6 +290,7 @@ module _ {S : Type 0} (command : VolumeCommand) (v w : RecordsView S) (s t : Hos
       told = told_now;
       size = after.records ∙ size ∙ sym before.records;
       gate = gate_now;
+      foreign = foreign_now;
     }
     volume_troubled trouble.Medium = record {
       may = refl;
@@ -243,4 +299,5 @@ module _ {S : Type 0} (command : VolumeCommand) (v w : RecordsView S) (s t : Hos
       told = told_now;
       size = after.records ∙ size ∙ sym before.records;
       gate = gate_now;
+      foreign = foreign_now;
     }

@@ -7,20 +7,21 @@ use Rattle.il_ports.specs.Stores.{Begun}
 use Rattle.il_ports.specs.declared.records.Trouble.{Trouble}
 use Rattle.il_ports.specs.declared.records.Trouble.TheVariants as trouble
 use Rattle.loop_model.specs.Entries.{lad, unl}
-use Rattle.il_ring.specs.Rings.{RingView, drive_party}
+use Rattle.il_ring.specs.Rings.{RingView, drive_party, ring_emptied}
+use Rattle.il_ring.specs.Books.{begun_anew}
 use Rattle.il_control.specs.Calls.{IsFree, IsIdle, loop_of}
 use Rattle.il_record.specs.declared.records.Since.TheVariants as since
 use Rattle.il_record.specs.Asks.{AskCommand}
 use Rattle.il_record.specs.Came.{OnlyHeard}
-use Rattle.il_record.specs.LoopStores.{Addresses, AtIdle, AtLost, IsEmptied, LoopView, Mended, NotMended, Nowhere, Standing, StandsSo, counted_resume, is_idle, view_at, view_of}
+use Rattle.il_record.specs.LoopStores.{Addresses, AtIdle, AtLost, IsEmptied, LoopView, Mended, NotMended, Nowhere, Standing, StandsSo, counted_resume, is_idle, view_at, view_of, HasRing}
 use Rattle.il_record.specs.Runs.{Cleared, LeavesRecords, clear_asks}
 use Rattle.il_record.proofs.HeardLogs.{heard_same, heard_then}
 use Rattle.il_record.proofs.ReadRuns.{leaves_then}
 use Rattle.il_record.proofs.StoreResumes.{Agrees, count_of, more_same, still_of}
-use Rattle.il_record.proofs.StoreStarts.{IsStart, cleared, unfailed_idle, unfailed_lost}
+use Rattle.il_record.proofs.StoreStarts.{IsStart, unfailed_idle, unfailed_lost}
 use Rattle.host_model.specs.RingStates.{loop_on, state_on}
 use Rattle.host_model.specs.Courses.{addressed_first, clears_due, is_commanding}
-use Rattle.il_host.specs.Standings.{HasLogRoom, MakesSoundBy, hops_at, log_at, state_at}
+use Rattle.il_host.specs.Standings.{HasLogRoom, MakesSoundBy, plan_at, log_at, state_at}
 use Rattle.il_host.proofs.Images.{KeepsAt, same_images}
 use Rattle.il_host.proofs.Keeping.{Keeps, Meets, MeetsOne, keeps_asked, meets_command}
 use Rattle.il_host.proofs.LoopEvents.{Readies, keeps_interrupted, keeps_ready}
@@ -43,7 +44,8 @@ stands_at {M} view seen p l valid = by l.control valid
 pub record Emptied {M : Type 0} (view : M → MediumView) (old begun : LoopView M) : Type 0 where
   pub state : state_at view begun.sound begun.control ≡ state_at view old.sound old.control
   pub log : log_at begun.control ≡ []
-  pub hops : hops_at begun.control ≡ hops_at old.control
+  pub begins : HasRing begun.control (λ r. r.books.begun ≡ r.books.crossings)
+  pub plan : plan_at begun.control ≡ plan_at old.control
   pub room : HasLogRoom view old.control → HasLogRoom view begun.control
   pub images : KeepsAt view old.control begun.control
   pub ready : is_idle begun.control ≡ is_idle old.control
@@ -52,10 +54,16 @@ pub record Emptied {M : Type 0} (view : M → MediumView) (old begun : LoopView 
   pub stands : StandsSo begun.control begun.sound since.Unbroken
 
 -- the second ring is the first with its log emptied
-pub emptied_ring : {M S : Type 0} (seen : S → RingView M) (p q : Option S) (r s : RingView M) → IsEmptied seen p q → IsStart seen p r → IsStart seen q s → s ≡ cleared r
+pub emptied_ring : {M S : Type 0} (seen : S → RingView M) (p q : Option S) (r s : RingView M) → IsEmptied seen p q → IsStart seen p r → IsStart seen q s → s ≡ ring_emptied r
 emptied_ring seen None q r s emptied here there = absurd here
 emptied_ring seen (Some a) None r s emptied here there = absurd there
-emptied_ring seen (Some a) (Some b) r s emptied here there = sym there ∙ emptied ∙ ap cleared here
+emptied_ring seen (Some a) (Some b) r s emptied here there = sym there ∙ emptied ∙ ap ring_emptied here
+
+-- a log that is emptied while no frame is held begins there
+begins_here : {M : Type 0} (r s : RingView M) → s ≡ ring_emptied r → r.books.held ≡ None → s.books.begun ≡ s.books.crossings
+begins_here r s ring none =
+    ap (λ (s : RingView _). s.books.begun) ring ∙ ap (λ held. begun_anew held r.books.crossings r.books.begun) none
+    ∙ sym (ap (λ (s : RingView _). s.books.crossings) ring)
 
 pub volume_begun : {M S : Type 0} (view : M → MediumView) (seen : S → RingView M) (p q : Option S) (old begun : LoopView M) → (view_of view seen p old).valid → Agrees seen p old.control → Agrees seen q begun.control
     → Begun (view_of view seen p old) (view_of view seen q begun) → Emptied view old begun
@@ -63,11 +71,12 @@ volume_begun {M} {S} view seen p q old begun valid here there so = by_rings old.
   where
     -- by the rings
     as_emptied : (c d : Standing M) → old.control ≡ c → begun.control ≡ d → begun.sound ≡ old.sound → begun.since ≡ since.Unbroken
-        → state_at view old.sound d ≡ state_at view old.sound c → log_at d ≡ [] → hops_at d ≡ hops_at c → (HasLogRoom view c → HasLogRoom view d) → KeepsAt view c d → is_idle d ≡ is_idle c → Emptied view old begun
-    as_emptied c d one two sound log state empty hops room images ready = record {
+        → state_at view old.sound d ≡ state_at view old.sound c → log_at d ≡ [] → HasRing d (λ r. r.books.begun ≡ r.books.crossings) → plan_at d ≡ plan_at c → (HasLogRoom view c → HasLogRoom view d) → KeepsAt view c d → is_idle d ≡ is_idle c → Emptied view old begun
+    as_emptied c d one two sound log state empty begins plan room images ready = record {
       state = ap₂ (λ b d. state_at view b d) sound two ∙ state ∙ ap (λ c. state_at view old.sound c) (sym one);
       log = ap (λ (d : Standing M). log_at d) two ∙ empty;
-      hops = ap (λ (d : Standing M). hops_at d) two ∙ hops ∙ ap (λ (c : Standing M). hops_at c) (sym one);
+      begins = subst (λ (d : Standing M). HasRing d (λ r. r.books.begun ≡ r.books.crossings)) (sym two) begins;
+      plan = ap (λ (d : Standing M). plan_at d) two ∙ plan ∙ ap (λ (c : Standing M). plan_at c) (sym one);
       room = λ was. subst (λ (d : Standing M). HasLogRoom view d) (sym two) (room (subst (λ (c : Standing M). HasLogRoom view c) one was));
       images = subst (λ (d : Standing M). KeepsAt view old.control d) (sym two) (subst (λ (c : Standing M). KeepsAt view c d) (sym one) images);
       ready = ap (λ (d : Standing M). is_idle d) two ∙ ready ∙ ap (λ (c : Standing M). is_idle c) (sym one);
@@ -80,11 +89,11 @@ volume_begun {M} {S} view seen p q old begun valid here there so = by_rings old.
         → Begun (view_at view seen p old.sound old.since old.resumes c) (view_at view seen q begun.sound begun.since begun.resumes d) → Emptied view old begun
     by_rings (AtIdle r) (AtIdle s) one two valid here there so =
         let ring = emptied_ring seen p q r s so.emptied here there in
-        as_emptied (AtIdle r) (AtIdle s) one two so.sound (unfailed_idle begun.since so.failed) (ap (λ (s : RingView M). state_on view true old.sound s) ring) (ap (λ (s : RingView M). s.books.log) ring) (ap (λ (s : RingView M). hops_at (AtIdle s)) ring) (λ room. subst (λ (s : RingView M). HasLogRoom view (AtIdle s)) (sym ring) room)
+        as_emptied (AtIdle r) (AtIdle s) one two so.sound (unfailed_idle begun.since so.failed) (ap (λ (s : RingView M). state_on view true old.sound s) ring) (ap (λ (s : RingView M). s.books.log) ring) (begins_here r s ring valid.0.free.held) (ap (λ (s : RingView M). plan_at (AtIdle s)) ring) (λ room. subst (λ (s : RingView M). HasLogRoom view (AtIdle s)) (sym ring) room)
         (same_images view r.drive.medium s.drive.medium (ap (λ (s : RingView M). s.drive.medium) ring)) refl
     by_rings (AtLost r) (AtLost s) one two valid here there so =
         let ring = emptied_ring seen p q r s so.emptied here there in
-        as_emptied (AtLost r) (AtLost s) one two so.sound (unfailed_lost begun.since so.failed) (ap (λ (s : RingView M). state_on view false old.sound s) ring) (ap (λ (s : RingView M). s.books.log) ring) (ap (λ (s : RingView M). hops_at (AtLost s)) ring) (λ room. subst (λ (s : RingView M). HasLogRoom view (AtLost s)) (sym ring) room)
+        as_emptied (AtLost r) (AtLost s) one two so.sound (unfailed_lost begun.since so.failed) (ap (λ (s : RingView M). state_on view false old.sound s) ring) (ap (λ (s : RingView M). s.books.log) ring) (begins_here r s ring valid.0.free.held) (ap (λ (s : RingView M). plan_at (AtLost s)) ring) (λ room. subst (λ (s : RingView M). HasLogRoom view (AtLost s)) (sym ring) room)
         (same_images view r.drive.medium s.drive.medium (ap (λ (s : RingView M). s.drive.medium) ring)) refl
     by_rings (AtIdle r) (AtLost s) one two valid here there so = let clash : false ≡ true = so.ready in cc
     by_rings (AtLost r) (AtIdle s) one two valid here there so = let clash : true ≡ false = so.ready in cc

@@ -1,6 +1,7 @@
 -- A command of the volume, as a step of a run: all that is said of it but its reply.
 use Rattle.std.proofs.Common.{◌≡◌, ◌∙◌, ◌≤◌, ◌-◌, ℕ, Bool, true, false, not, List, [], Option, Some, None, refl, sym, ap, ap₂, subst, arith}
 use Rattle.std.specs.Prelude.{Result, Ok, Err}
+use Rattle.std.specs.List.{All}
 use Rattle.lif_model.specs.Apply.{VolumeCommand}
 use Rattle.il_drive.specs.State.{status_of}
 use Rattle.il_ports.specs.Media.{MediumView}
@@ -8,8 +9,9 @@ use Rattle.il_ports.specs.Stores.{GoesOn}
 use Rattle.il_ports.specs.Trouble.{HasTroubleCause, answers_ok, failure_of}
 use Rattle.il_ports.specs.declared.records.Trouble.{Trouble}
 use Rattle.il_ports.specs.declared.records.Trouble.TheVariants as trouble
-use Rattle.il_ring.specs.Plans.{hops_of}
 use Rattle.il_ring.specs.Rings.{RingView, drive_party}
+use Rattle.il_ring.specs.declared.plan.Planned.{Planned}
+use Rattle.il_ring.specs.Fates.{IsByPlan}
 use Rattle.il_control.specs.Calls.{IsIdle}
 use Rattle.il_record.specs.declared.records.Since.{Since}
 use Rattle.il_record.specs.declared.records.Since.TheVariants as since
@@ -22,7 +24,7 @@ use Rattle.host_model.specs.Requests.{Asks, Item, OfVolume, is_of_volume, uses_f
 use Rattle.host_model.specs.RingStates.{state_on}
 use Rattle.host_model.specs.Next.{Next}
 use Rattle.host_model.specs.Steps.{Event, Exchanged, Acts, Replied, Travels, is_fault, is_frame_fault}
-use Rattle.il_host.specs.Standings.{event_at, hops_at, log_at, state_at}
+use Rattle.il_host.specs.Standings.{event_at, plan_at, log_at, state_at}
 use Rattle.il_host.proofs.CommandTravels.{event_by}
 use Rattle.il_host.proofs.LoopReady.{StandsAt}
 use Rattle.il_host.proofs.Sounding.{HeardOf}
@@ -31,22 +33,24 @@ use Rattle.il_host.proofs.VolumeExchanges.{EndsBy}
 -- ---- the parts of a step
 
 -- what a step says of the loop, where it is one of a command of the volume
-pub record TellsLoop (hops : List ℕ) (e : Event) : Type 0 where
+pub record TellsLoop (plan : List Planned) (e : Event) : Type 0 where
   pub next : Next e.item e.reply e.before.loop e.after.loop
   pub travels : Travels e
   pub heard : HeardOf e
-  pub exchanged : Exchanged hops e
+  pub exchanged : Exchanged plan e
+  pub by_plan : All (IsByPlan plan e.before.crossings e.after.crossings) e.log
   pub ready : e.after.ready ≡ not (is_frame_fault e.reply)
   pub sound : e.after.sound ≡ not (is_fault e.reply)
 
 -- with its reply it is a step
-pub volume_step : (hops : List ℕ) (e : Event) (command : VolumeCommand) → e.item ≡ Asks (OfVolume command) → Replied e → TellsLoop hops e → Acts hops e
-volume_step hops e command is replied loop = record {
+pub volume_step : (plan : List Planned) (e : Event) (command : VolumeCommand) → e.item ≡ Asks (OfVolume command) → Replied e → TellsLoop plan e → Acts plan e
+volume_step plan e command is replied loop = record {
   replied = replied;
   next = loop.next;
   travels = loop.travels;
   heard = loop.heard;
   exchanged = loop.exchanged;
+  by_plan = loop.by_plan;
   ready = λ frames. loop.ready;
   sound = λ of. loop.sound;
   unsound = λ other. let clash : true ≡ false = sym (ap is_of_volume is) ∙ other in cc;
@@ -77,9 +81,9 @@ module _ {M : Type 0} (view : M → MediumView) where
   state_rings sound true r = refl
   state_rings sound false r = refl
 
-  pub hops_rings : (is : Bool) (r : RingView M) → hops_at (at_ring is r) ≡ hops_of r.books.plan
-  hops_rings true r = refl
-  hops_rings false r = refl
+  pub plan_rings : (is : Bool) (r : RingView M) → plan_at (at_ring is r) ≡ r.books.plan
+  plan_rings true r = refl
+  plan_rings false r = refl
 
   -- an event by its rings
   pub event_rings : (item : Item) (answer : Reply) (begun new : LoopView M) (was is : Bool) (r s : RingView M) → begun.control ≡ at_ring was r → new.control ≡ at_ring is s
@@ -95,10 +99,10 @@ module _ {M : Type 0} (view : M → MediumView) where
 
   -- what is told of the event by its rings
   pub tells_rings : (item : Item) (answer : Reply) (begun new : LoopView M) (was is : Bool) (r s : RingView M) → begun.control ≡ at_ring was r → new.control ≡ at_ring is s
-      → TellsLoop (hops_of r.books.plan) (event_by view item answer was is begun.sound new.sound r s) → TellsLoop (hops_at begun.control) (event_at view item answer begun new)
+      → TellsLoop (r.books.plan) (event_by view item answer was is begun.sound new.sound r s) → TellsLoop (plan_at begun.control) (event_at view item answer begun new)
   tells_rings item answer begun new was is r s one two tells =
-      subst (λ hops. TellsLoop hops (event_at view item answer begun new)) (sym (ap (λ (c : Standing M). hops_at c) one ∙ hops_rings was r))
-      (subst (λ e. TellsLoop (hops_of r.books.plan) e) (sym (event_rings item answer begun new was is r s one two)) tells)
+      subst (λ plan. TellsLoop plan (event_at view item answer begun new)) (sym (ap (λ (c : Standing M). plan_at c) one ∙ plan_rings was r))
+      (subst (λ e. TellsLoop (r.books.plan) e) (sym (event_rings item answer begun new was is r s one two)) tells)
 
 -- ---- the room of the log
 

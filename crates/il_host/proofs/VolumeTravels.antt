@@ -1,12 +1,14 @@
 -- What the frames of a command of the volume did on the ring.
 use Rattle.std.proofs.Common.{◌≡◌, ◌⊎◌, ◌≤◌, ◌∙◌, ⊎_elim, inl, inr, Bool, true, false, [], length, sym, ap, subst}
-use Rattle.std.specs.Prelude.{Result, Ok, Err}
+use Rattle.std.specs.Prelude.{Result, Ok, Err, MatchBool}
+use Rattle.std.specs.List.{All}
 use Rattle.il_ports.specs.Media.{MediumView}
 use Rattle.il_ports.specs.declared.records.Trouble.{Trouble}
 use Rattle.il_ports.specs.declared.records.Trouble.TheVariants as trouble
 use Rattle.loop_model.specs.Roles.{is_at_most_one, talkers}
-use Rattle.il_ring.specs.Rings.{RingView, devices_of, roles_of}
-use Rattle.il_control.specs.Calls.{loop_of}
+use Rattle.il_ring.specs.Rings.{RingView, devices_of, roles_of, IsRing}
+use Rattle.il_ring.specs.Fates.{IsByPlan}
+use Rattle.il_control.specs.Calls.{loop_of, IsIdle, IsLost}
 use Rattle.il_record.specs.declared.records.Since.{Since}
 use Rattle.il_record.specs.Came.{CameBy}
 use Rattle.il_record.specs.LoopStores.{AtIdle, AtLost, Nowhere, Standing, StandsSo}
@@ -27,6 +29,11 @@ one_talks {M} (AtIdle q) sound log r so here = subst (λ (q : RingView M). is_at
 one_talks {M} (AtLost q) sound log r so here = subst (λ (q : RingView M). is_at_most_one (talkers (roles_of (devices_of q))) ≡ true) here so.0.one
 one_talks Nowhere sound log r so here = absurd here
 
+pub ring_stands : {M : Type 0} (c : Standing M) (sound : Bool) (log : Since) (r : RingView M) → StandsSo c sound log → StandsAt c r → IsRing r
+ring_stands (AtIdle q) sound log r so here = subst IsRing here so.0.free.ring
+ring_stands (AtLost q) sound log r so here = subst IsRing here so.0.free.ring
+ring_stands Nowhere sound log r so here = absurd here
+
 -- ---- exchanges, or none
 
 -- the ring stayed as it was, or exchanges came
@@ -45,6 +52,22 @@ module _ {M : Type 0} (view : M → MediumView) (r s : RingView M) (went : WentB
   -- and so do the plan of faults and the room of the log
   pub went_plan : s.books.plan ≡ r.books.plan
   went_plan = ⊎_elim (λ same. ap (λ (s : RingView M). s.books.plan) same) (λ so. so.1.talked.adds.plan) went
+
+  pub went_begun : s.books.begun ≡ r.books.begun
+  went_begun = ⊎_elim (λ same. ap (λ (s : RingView M). s.books.begun) same) (λ so. so.1.talked.adds.begun) went
+
+  went_ring : IsRing r → IsRing s
+  went_ring ring = ⊎_elim (λ same. subst IsRing (sym same) ring) (λ so. by so.0 so.1.talked.state) went
+    where
+      by : (whole : Bool) → MatchBool whole (IsIdle s) (IsLost s) → IsRing s
+      by true idle = idle.free.ring
+      by false lost = lost.free.ring
+
+  -- and each entry ended as it was planned, where the log began with them
+  pub went_by_plan : IsRing r → r.books.begun ≡ r.books.crossings → All (IsByPlan r.books.plan r.books.crossings s.books.crossings) s.books.log
+  went_by_plan ring begins =
+      subst (λ n. All (IsByPlan r.books.plan n s.books.crossings) s.books.log) (went_begun ∙ begins)
+      (subst (λ plan. All (IsByPlan plan s.books.begun s.books.crossings) s.books.log) went_plan (went_ring ring).told.entries)
 
   pub went_room : s.books.room ≡ r.books.room
   went_room = ⊎_elim (λ same. ap (λ (s : RingView M). s.books.room) same) (λ so. so.1.talked.adds.room) went

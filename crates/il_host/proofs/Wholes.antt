@@ -1,7 +1,7 @@
 -- How the parts of a run make the whole.
-use Rattle.std.proofs.Common.{◌≡◌, ◌≢◌, ◌==◌, ◌∙◌, ⊎_elim, inl, inr, ℕ, true, List, Option, Some, None, if◌then◌else◌, is_some, refl, sym, ap, subst, arith}
+use Rattle.std.proofs.Common.{◌≡◌, ◌≢◌, ◌==◌, ◌∙◌, ⊎_elim, inl, inr, ℕ, List, Option, Some, None, if◌then◌else◌, refl, sym, ap, subst, arith}
 use Rattle.std.specs.Prelude.{Ok}
-use Rattle.lif_model.specs.Shelf.{Shelf, IsSize, image_of, inserted as insert_of}
+use Rattle.lif_model.specs.Shelf.{IsSize, image_of, inserted as insert_of}
 use Rattle.lif_model.specs.Tape.{Tape}
 use Rattle.lif_model.proofs.Moments.{after_still, still}
 use Rattle.lif_model.proofs.Sizes.{sizes_are}
@@ -11,7 +11,6 @@ use Rattle.il_ports.specs.declared.medium.Inserted.TheVariants as answers
 use Rattle.il_ports.specs.Inserting.{records_made}
 use Rattle.il_ports.specs.declared.medium.New.{New}
 use Rattle.il_ring.specs.declared.plan.Planned.{Planned}
-use Rattle.il_ring.specs.Plans.{hops_of}
 use Rattle.host_model.specs.HostStates.{HostState, fresh_host}
 use Rattle.host_model.specs.Stops.{LeftWithin}
 use Rattle.host_model.specs.Runs.{Chained}
@@ -44,34 +43,38 @@ tape_is_in m size = tape_by m.record_count m.tape size
 
 -- a host was opened, answered the script and was closed
 pub answers_over : {M : Type 0} (view : M → MediumView) (order : Order) (medium closed : M) (before after before_now after_now : List DeviceState) (v w : HostView) (e : Ending) (left left_now written written_now : Option (List ℕ)) (plan : List Planned)
-    → hops_of plan ≡ order.hops → IsOpened view medium before after plan v → IsHost v → IsSize (view medium).record_count → AnswersScript order.generated e (mode_of order) v w left left_now written written_now
+    → plan ≡ order.plan → IsOpened view medium before after plan v → IsHost v → IsSize (view medium).record_count → AnswersScript order.generated e (mode_of order) v w left left_now written written_now
     → IsClosed view w closed before_now after_now → (view closed).record_count ≡ w.state.records
     → AnswersOver order (end_of e) (view medium) (view closed) (outside (view medium) left written before after) (outside (view closed) left_now written_now before_now after_now)
 answers_over view order medium closed before after before_now after_now v w e left left_now written written_now plan planned opens host size a closes count =
-    let chain : Chained order.hops v.state a.events w.state = subst (λ hops. Chained hops v.state a.events w.state) (opens.hops_are ∙ planned) a.chain in
-    let same : (view closed).record_count ≡ (view medium).record_count = count ∙ size_stays order.hops v.state a.events w.state chain ∙ ap (λ (s : HostState). s.records) opens.state in
+    let plan_is : v.plan ≡ order.plan = opens.plan_is ∙ planned in
+    let ran = a.ran in
+    let chain : Chained order.plan v.state ran.events w.state = subst (λ plan. Chained plan v.state ran.events w.state) plan_is ran.chain in
+    let same : (view closed).record_count ≡ (view medium).record_count = count ∙ size_stays order.plan v.state ran.events w.state chain ∙ ap (λ (s : HostState). s.records) opens.state in
     let none : v.state.crossings ≡ 0 = ap (λ (s : HostState). s.crossings) opens.state in
     record {
-      events = a.events;
       start = v.state;
       finish = w.state;
       fresh = opens.state;
-      chain = chain;
-      tells = run_tells order.hops v.state a.events w.state chain host.one (omega (arith, none));
-      asks = a.asks;
-      ok = a.ok;
-      texts = a.texts;
-      texts_are = a.texts_are;
-      writes = a.writes;
+      ran = record {
+        events = ran.events;
+        chain = chain;
+        asks = ran.asks;
+        ok = ran.ok;
+        texts = ran.texts;
+        texts_are = ran.texts_are;
+        writes = ran.writes;
+      };
+      tells = run_tells order.plan v.state ran.events w.state chain host.one (omega (arith, none));
       back = record {
         tape = tape_is_in (view closed) (subst IsSize (sym same) size) ∙ closes.tape;
         faults = closes.faults;
         before = closes.devices_before;
         after = closes.devices_after;
       };
-      stops = λ told gate.
-          still (view medium).moment w.moment (view closed).moment (view medium).left_since w.left_since (view closed).left_since (LeftWithin a.events w.state) closes.moment closes.since
-          (after_still (view medium).moment v.moment w.moment (view medium).left_since v.left_since w.left_since (LeftWithin a.events w.state) opens.moment opens.since (a.stops told gate));
+      stops = λ told.
+          still (view medium).moment w.moment (view closed).moment (view medium).left_since w.left_since (view closed).left_since (LeftWithin ran.events w.state) closes.moment closes.since
+          (after_still (view medium).moment v.moment w.moment (view medium).left_since v.left_since w.left_since (LeftWithin ran.events w.state) opens.moment opens.since (a.stops told));
       size = subst IsSize (sym same) size;
       images = record {
         same = closes.inside ∙ a.images.same ∙ opens.inside;
@@ -92,12 +95,8 @@ module _ (order : Order) (made : New) (v m : MediumView) (makes : order.made ≡
   }
 
   -- a stop before the insert leaves no tape
-  left_in : (x : Tape) → is_some v.shelf ≡ true → m.left_since v.moment x → m.tape ≡ Some x
-  left_in x told left = ⊎_elim (λ was. absurd (nowhere v.shelf refl told was)) (λ is. is) (did.since v.moment x left)
-    where
-      nowhere : (o : Option Shelf) → v.shelf ≡ o → is_some o ≡ true → v.left_since v.moment x → ⊥
-      nowhere (Some s) is told was = law.leaves_none s x is empty was
-      nowhere None is told was = cc
+  left_in : (x : Tape) → (v.left_since v.moment x → ⊥) → m.left_since v.moment x → m.tape ≡ Some x
+  left_in x never left = ⊎_elim (λ was. absurd (never was)) (λ is. is) (did.since v.moment x left)
 
   -- behind the insert the image has the tape's bytes, and every other one is as before
   keeps_shelf : (w : MediumView) → IsMedium w → IsSize w.record_count → KeepsImages m.inside w.inside m.shelf w.shelf
@@ -118,7 +117,6 @@ module _ (order : Order) (made : New) (v m : MediumView) (makes : order.made ≡
       → AnswersOver order e m w (outside m left written before after) (outside w left_now written_now before_now after_now)
       → RunsOver e order (outside v left written before after) (outside w left_now written_now before_now after_now) (MayHaveLeft v w)
   runs_over e w left left_now written written_now before after before_now after_now law_then a = record {
-    events = a.events;
     start = a.start;
     finish = a.finish;
     opens = record {
@@ -129,18 +127,13 @@ module _ (order : Order) (made : New) (v m : MediumView) (makes : order.made ≡
       is_tape = law_now.is_tape;
       fresh = a.fresh ∙ ap (λ n. fresh_host m.tape m.record_count n before after) did.goes_on.cause;
     };
-    chain = a.chain;
+    ran = a.ran;
     tells = a.tells;
-    asks = a.asks;
-    ok = a.ok;
-    texts = a.texts;
-    texts_are = a.texts_are;
-    writes = a.writes;
     back = a.back;
-    stops = λ told gate x left.
-        let ran = a.stops told gate in
+    stops = λ told x left.
+        let ran = a.stops told in
         ⊎_elim
-        (λ was. left_before order.hops a.start a.events a.finish x a.chain gate (ap (λ (s : HostState). s.tape) a.fresh ∙ left_in x left.0 was))
+        (λ was. left_before order.plan a.start a.ran.events a.finish x a.ran.chain (ap (λ (s : HostState). s.tape) a.fresh ∙ left_in x left.0 was))
         (λ now. now)
         (ran.earlier v.moment x did.goes_on.later left.1);
     shelf = keeps_shelf w law_then a.size a.images left left_now written written_now before after before_now after_now;

@@ -18,7 +18,7 @@ use Rattle.host_model.specs.Requests.{OfVolume, Get, Item, Asks, is_of_volume}
 use Rattle.host_model.specs.LoopStates.{all_roles}
 use Rattle.host_model.specs.HostStates.{HostState, log_room}
 use Rattle.host_model.specs.Replies.{reply_text}
-use Rattle.host_model.specs.Steps.{Event, IsStep, TellsReply}
+use Rattle.host_model.specs.Steps.{Event, IsStep, TellsReply, event}
 use Rattle.host_model.specs.Stops.{StopsLeave}
 
 pub record HostView : Type 1 where
@@ -26,9 +26,8 @@ pub record HostView : Type 1 where
   pub valid : Type 0
   -- what stands between them
   pub state : HostState
-  -- the faults that are planned, and their crossings
+  -- the faults that are planned
   pub plan : List Planned
-  pub hops : List ℕ
   -- the log of the last command, and the text of its reply
   pub log : List Entry
   pub text : List ℕ
@@ -59,7 +58,7 @@ pub record IsHost (v : HostView) : Type 0 where
 
 -- a command, as an event of a run
 abbrev pub event_between : Item → Reply → HostView → HostView → Event
-event_between item reply v w = record { item = item; reply = reply; log = w.log; before = v.state; after = w.state }
+event_between item reply v w = event item reply w.log v.state w.state
 
 -- how many records the room behind this log is enough for, at 300 entries each, on a loop with a medium of n records
 abbrev pub calls_behind : ℕ → List Entry → ℕ
@@ -95,8 +94,8 @@ pub record MakesFewCalls (item : Item) (s : HostState) (log : List Entry) : Type
 -- told. A power stop during the command leaves what it may leave, and no other image changes.
 pub record Performed (item : Item) (reply : Reply) (v w : HostView) : Type 0 where
   pub valid : w.valid
-  pub hops : w.hops ≡ v.hops
-  pub step : IsStep v.hops (event_between item reply v w)
+  pub plan : w.plan ≡ v.plan
+  pub step : IsStep v.plan (event_between item reply v w)
   pub text : TellsReply item v.state → w.text ≡ reply_text item v.state reply
   pub stops : StopsLeave (event_between item reply v w) v.moment w.moment v.left_since w.left_since
   pub images : KeepsImages v.inside w.inside v.images w.images

@@ -9,7 +9,6 @@ use Rattle.lif_volume.specs.Seen as volume
 use Rattle.lif_volume.specs.Views.{VolumeView, IsOpen}
 use Rattle.lif_volume.specs.declared.volume.Volume.{Volume}
 use Rattle.il_ring.specs.declared.plan.Planned.{Planned}
-use Rattle.il_ring.specs.Plans.{hops_of}
 use Rattle.il_ring.specs.declared.ring.Ring.{Ring}
 use Rattle.il_ring.specs.Rings.{RingView}
 use Rattle.il_record.specs.declared.records.LoopRecords.{LoopRecords}
@@ -18,7 +17,7 @@ use Rattle.il_record.specs.LoopStores.{LoopView, StandsSo, view_of}
 use Rattle.host_model.specs.HostStates.{fresh_host, text_room}
 use Rattle.il_host.specs.HostView.{HostView}
 use Rattle.il_host.specs.Shorts.{AllShort}
-use Rattle.il_host.specs.Standings.{HasLogRoom, state_at, log_at, hops_at, plan_at, images_at, inside_at}
+use Rattle.il_host.specs.Standings.{HasLogRoom, state_at, log_at, plan_at, images_at, inside_at}
 
 -- The volume can be used, and the loop stands; where the directory is kept, the store is sound. There is room for every log, for the text of every reply, and for the records of every
 -- file; and no device keeps more than there is room for.
@@ -38,7 +37,6 @@ host_view view valid store loop kept text = record {
   valid = valid;
   state = record (state_at view loop.sound loop.control) { kept = kept };
   plan = plan_at loop.control;
-  hops = hops_at loop.control;
   log = log_at loop.control;
   text = text;
   images = images_at view loop.control;
@@ -73,7 +71,6 @@ pub record IsOpened {M : Type 0} (view : M → MediumView) (medium : M) (before 
   pub valid : v.valid
   pub state : v.state ≡ fresh_host (view medium).tape (view medium).record_count (view medium).faults before after
   pub plan_is : v.plan ≡ plan
-  pub hops_are : v.hops ≡ hops_of plan
   -- no command was performed yet
   pub log : v.log ≡ []
   pub text : v.text ≡ []

@@ -6,13 +6,12 @@ use Rattle.il_script.specs.declared.reply.Reply.{Reply}
 use Rattle.lif_model.specs.Parts.{Part}
 use Rattle.lif_model.specs.Apply.{Batch}
 use Rattle.host_model.specs.Requests.{Item, Asks, OfVolume, NoCommand, item_for}
-use Rattle.host_model.specs.HostStates.{HasOwnGate}
-use Rattle.host_model.specs.Steps.{Event, IsStep}
+use Rattle.host_model.specs.Steps.{Event, IsStep, event}
 use Rattle.host_model.specs.Stops.{StopsLeave, LeftWithin}
-use Rattle.host_model.specs.Runs.{AreTextsOf, Chained, IsTextOf, OutputMode, items_asked, event_text}
+use Rattle.host_model.specs.Runs.{IsTextOf, OutputMode, event_text}
 use Rattle.host_model.specs.Endings.{RunEnd}
 use Rattle.host_model.specs.Endings as end
-use Rattle.host_model.specs.Leaves.{AsksAs, IsOkAs, WritesAs}
+use Rattle.host_model.specs.Leaves.{RunSoFar}
 use Rattle.il_host.specs.HostView.{HostView, KeepsImages}
 use Rattle.il_host.specs.Writing.{WritesAll}
 use Rattle.il_host.specs.declared.ending.Ending.{Ending}
@@ -44,15 +43,15 @@ item_asked (asked.NoCommand code) bytes parts = NoCommand code
 
 -- an item that was answered, with this log
 abbrev pub event_of : Item → Reply → List Entry → HostView → HostView → Event
-event_of item reply log v w = record { item = item; reply = reply; log = log; before = v.state; after = w.state }
+event_of item reply log v w = event item reply log v.state w.state
 
 -- The item was answered so, and its log and a text that is that of its reply were written as far as the result says: that is a step of a run, a power stop
 -- during it leaves what it may leave, and no other image changes.
 pub record Answers {E : Type 0} (item : Item) (reply : Reply) (mode : OutputMode) (v w : HostView) (before now : Option (List ℕ)) (written : Result (Unit {0}) E) : Type 0 where
   pub log : List Entry
   pub valid : w.valid
-  pub hops : w.hops ≡ v.hops
-  pub step : IsStep v.hops (event_of item reply log v w)
+  pub plan : w.plan ≡ v.plan
+  pub step : IsStep v.plan (event_of item reply log v w)
   pub stops : StopsLeave (event_of item reply log v w) v.moment w.moment v.left_since w.left_since
   pub text : List ℕ
   pub text_is : IsTextOf (event_of item reply log v w) text
@@ -61,16 +60,9 @@ pub record Answers {E : Type 0} (item : Item) (reply : Reply) (mode : OutputMode
 
 -- ---- the script
 
--- One list of events from the host's state before on meets all that is said of the loop: each is a step, and begins where the one
--- before it ends; the items are those of the script, or of the one that is generated; their texts were written; each tape that a stop
--- since the loop began may have left is one of theirs; and no other image changed.
+-- The run over the script so far; each tape that a stop since the loop began may have left is one of its events'; and no other image
+-- changed.
 pub record AnswersScript (generated : Option (ℕ × ℕ)) (ending : Ending) (mode : OutputMode) (v w : HostView) (left_before left_now written_before written_now : Option (List ℕ)) : Type 0 where
-  pub events : List Event
-  pub chain : Chained v.hops v.state events w.state
-  pub asks : AsksAs generated (end_of ending) left_before left_now (items_asked events)
-  pub ok : IsOkAs (end_of ending) events
-  pub texts : List (List ℕ)
-  pub texts_are : AreTextsOf events texts
-  pub writes : WritesAs (end_of ending) mode events texts written_before written_now
-  pub stops : is_some v.state.tape ≡ true → HasOwnGate v.state → LeavesOnly v.moment w.moment v.left_since w.left_since (LeftWithin events w.state)
+  pub ran : RunSoFar v.plan generated mode (end_of ending) v.state w.state left_before left_now written_before written_now
+  pub stops : is_some v.state.tape ≡ true → LeavesOnly v.moment w.moment v.left_since w.left_since (LeftWithin ran.events w.state)
   pub images : KeepsImages v.inside w.inside v.images w.images

@@ -7,7 +7,6 @@ use Rattle.il_ports.specs.declared.records.Trouble.{Trouble}
 use Rattle.il_ports.specs.declared.records.Trouble.TheVariants as trouble
 use Rattle.il_drive.specs.State.{drive_id, status_of}
 use Rattle.il_ring.specs.declared.plan.Planned.{Planned}
-use Rattle.il_ring.specs.Plans.{hops_of}
 use Rattle.il_record.specs.LoopStores.{AtIdle, AtLost, HasRing, LoopView, Nowhere, Resumes, Standing, counted_resume}
 use Rattle.lif_volume.specs.declared.fault.VolumeFault.{VolumeFault}
 use Rattle.lif_volume.specs.declared.fault.VolumeFault.TheVariants.{Refused, Trouble as Troubled}
@@ -18,7 +17,7 @@ use Rattle.il_script.specs.Sheet.{Sheet}
 use Rattle.host_model.specs.Requests.{Item}
 use Rattle.host_model.specs.HostStates.{HostState, fresh_host, log_room}
 use Rattle.host_model.specs.RingStates.{state_on}
-use Rattle.host_model.specs.Steps.{Event, is_fault}
+use Rattle.host_model.specs.Steps.{Event, event, is_fault}
 
 -- ---- by the controller
 
@@ -51,12 +50,6 @@ plan_at (AtIdle r) = r.books.plan
 plan_at (AtLost r) = r.books.plan
 plan_at Nowhere = []
 
--- and their crossings
-abbrev pub hops_at : {M : Type 0} → Standing M → List ℕ
-hops_at (AtIdle r) = hops_of r.books.plan
-hops_at (AtLost r) = hops_of r.books.plan
-hops_at Nowhere = []
-
 -- the log has the room that a medium of so many records is to have
 abbrev pub HasLogRoom : {M : Type 0} → (M → MediumView) → Standing M → Type 0
 HasLogRoom view c = HasRing c (λ r. r.books.room ≡ log_room (view r.drive.medium).record_count)
@@ -71,13 +64,8 @@ HasDriveId c = HasRing c (λ r. r.drive.state.interface.accessory ≡ Some drive
 
 -- an item with its reply, from the moment at which the log was emptied
 abbrev pub event_at : {M : Type 0} → (M → MediumView) → Item → Reply → (old new : LoopView M) → Event
-event_at view item reply old new = record {
-  item = item;
-  reply = reply;
-  log = log_at new.control;
-  before = state_at view old.sound old.control;
-  after = state_at view new.sound new.control;
-}
+event_at view item reply old new =
+    event item reply (log_at new.control) (state_at view old.sound old.control) (state_at view new.sound new.control)
 
 -- ---- within a command
 

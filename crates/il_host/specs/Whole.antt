@@ -1,18 +1,21 @@
 -- What a whole run leaves, by how it ends.
-use Rattle.std.specs.Prelude.{◌≡◌, ◌==◌, ℕ, true, List, Option, None, if◌then◌else◌, is_some}
+use Rattle.std.specs.Prelude.{◌≡◌, ◌≤◌, ◌+◌, ◌==◌, ℕ, true, List, length, map, Option, None, if◌then◌else◌, is_some}
+use Rattle.std.specs.List.{All}
+use Rattle.std.specs.declared.dyn_box.DynBox.{DynBox}
+use Rattle.std.specs.Global.{Global}
 use Rattle.lif_model.specs.Shelf.{IsSize}
 use Rattle.lif_model.specs.Stops.{LeavesOnly}
 use Rattle.lif_model.specs.Tape.{Tape}
 use Rattle.il_device.specs.State.{DeviceState}
 use Rattle.il_ports.specs.Media.{MediumView}
-use Rattle.host_model.specs.HostStates.{HostState, HasOwnGate, fresh_host}
-use Rattle.host_model.specs.Steps.{Event}
+use Rattle.il_ring.specs.declared.rig.Rig.{Rig}
+use Rattle.il_ring.specs.Rings.{MayStand}
+use Rattle.host_model.specs.HostStates.{HostState, fresh_host}
 use Rattle.host_model.specs.Stops.{LeftWithin}
-use Rattle.host_model.specs.Runs.{AreTextsOf, Chained, items_asked}
 use Rattle.host_model.specs.Histories.{RunTells}
 use Rattle.host_model.specs.Endings.{RunEnd, HasNoTape, HasEndingCause, IsEarly, exit_status}
 use Rattle.host_model.specs.Orders.{Order, Outside, HandsBack, mode_of}
-use Rattle.host_model.specs.Leaves.{AsksAs, IsOkAs, WritesAs, LeavesBy}
+use Rattle.host_model.specs.Leaves.{RunSoFar, LeavesBy}
 use Rattle.il_host.specs.HostView.{KeepsImages}
 use Rattle.il_host.specs.Words.{order_in}
 
@@ -34,28 +37,33 @@ outside m left written before after = record {
   after = after;
 }
 
--- A stop since the run began may have left this tape. Of a medium that does not tell its shelf nothing is said.
+-- the same of a rig, by what contracts see of its medium, of the script, of the output and of a device
+abbrev pub outside_of : {M S K I : Type 0} {D : I → Type 0} → (M → MediumView) → (S → Option (List ℕ)) → (K → Option (List ℕ)) → (DynBox I Global D → DeviceState)
+    → S → K → Rig M I D → Outside
+outside_of view left written state script out rig =
+    outside (view rig.medium) (left script) (written out) (map state rig.before.items) (map state rig.after.items)
+
+-- what a run asks of the devices: at most 29, each of which may stand beside the drive
+abbrev pub MayStandBeside : {X : Type 0} → (X → DeviceState) → (before after : List X) → Type 0
+MayStandBeside state before after =
+    (length before + length after ≤ 29) × All (λ b. MayStand (state b)) before × All (λ b. MayStand (state b)) after
+
+-- A stop since the run began may have left this tape, and none before it.
 abbrev pub MayHaveLeft : MediumView → MediumView → Tape → Type 0
-MayHaveLeft v w x = (is_some v.shelf ≡ true) × w.left_since v.moment x
+MayHaveLeft v w x = (v.left_since v.moment x → ⊥) × w.left_since v.moment x
 
 -- ---- the script
 
 -- A host with the faults planned that the words ask for was opened on the medium v and the devices of `old`, answered the script that
 -- they ask for, and handed back w and the devices of `now`.
 pub record AnswersOver (order : Order) (end : RunEnd) (v w : MediumView) (old now : Outside) : Type 0 where
-  pub events : List Event
   pub start : HostState
   pub finish : HostState
   pub fresh : start ≡ fresh_host v.tape v.record_count v.faults old.before old.after
-  pub chain : Chained order.hops start events finish
-  pub tells : RunTells order.hops start events finish
-  pub asks : AsksAs order.generated end old.left now.left (items_asked events)
-  pub ok : IsOkAs end events
-  pub texts : List (List ℕ)
-  pub texts_are : AreTextsOf events texts
-  pub writes : WritesAs end (mode_of order) events texts old.written now.written
+  pub ran : RunSoFar order.plan order.generated (mode_of order) end start finish old.left now.left old.written now.written
+  pub tells : RunTells order.plan start ran.events finish
   pub back : HandsBack finish now
-  pub stops : is_some start.tape ≡ true → HasOwnGate start → LeavesOnly v.moment w.moment v.left_since w.left_since (LeftWithin events finish)
+  pub stops : is_some start.tape ≡ true → LeavesOnly v.moment w.moment v.left_since w.left_since (LeftWithin ran.events finish)
   pub size : IsSize w.record_count
   pub images : KeepsImages v.inside w.inside v.shelf w.shelf
 

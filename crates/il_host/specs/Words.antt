@@ -1,7 +1,6 @@
 -- What a run makes of the words of the program.
 use Rattle.std.specs.Prelude.{ℕ, List, Option, option_map}
 use Rattle.il_words.specs.declared.generate.Generated.{Generated}
-use Rattle.il_ring.specs.Plans.{hops_of}
 use Rattle.il_words.specs.Asked.{Asked, words_in}
 use Rattle.host_model.specs.Orders.{Order}
 
@@ -10,7 +9,7 @@ abbrev pub script_of : Generated → ℕ × ℕ
 script_of generated = (generated.seed, generated.count)
 
 abbrev pub order_of : Asked → Order
-order_of asked = record { image = asked.image; made = asked.made; hops = hops_of asked.plan; quiet = asked.quiet; generated = asked.generated }
+order_of asked = record { image = asked.image; made = asked.made; plan = asked.plan; quiet = asked.quiet; generated = asked.generated }
 
 -- None where the words are not those of the program
 abbrev pub order_in : List (List ℕ) → Option Order

@@ -245,7 +245,7 @@ pub fn answer_generated<P: Performer, K: Sink>(
     requires seed { seed < 2147483648 }
     requires valid { (P.view host.old).valid }
     ensures valid { (P.view host.new).valid }
-    ensures hops { (P.view host.new).hops ≡ (P.view host.old).hops }
+    ensures plan { (P.view host.new).plan ≡ (P.view host.old).plan }
     ensures answers { (left : Option (List ℕ)) → AnswersScript (Some (seed, count)) result Summary (P.view host.old) (P.view host.new)
         left left (K.written out.old) (K.written out.new) }
     ensures cause { (n : ℕ) → HasEndingCause (end_of result) n n

@@ -2,9 +2,9 @@ ghost use Rattle.std.specs.Prelude.{◌≡◌, ◌≤◌, ◌+◌, ◌*◌, [], 
 ghost use Rattle.std.specs.List.{All};
 ghost use Rattle.lif_model.specs.Shelf.{IsSize};
 ghost use Rattle.il_ring.specs.Plans.{IsPlan};
-ghost use Rattle.il_ring.specs.Rings.{MayStand};
 ghost use Rattle.host_model.specs.HostStates.{log_room, text_room};
 ghost use Rattle.il_host.specs.Hosts.{IsOpened, IsClosed};
+ghost use Rattle.il_host.specs.Whole.{MayStandBeside};
 
 use crate::host::Host;
 use crate::made_text::MadeText;
@@ -41,9 +41,7 @@ impl<M: Medium + Drop> Host<M> {
     /// the loop. The log of a command has room for 1,600 entries for each record of the medium and 10,000 more. All
     /// memory of the host is taken here; where there is none the rig is handed back, and no frame was sent.
     pub fn open(alloc: Global, rig: Rig<M>, plan: &[Planned]) -> Result<Host<M>, Refused<M>>
-        requires few { length rig.before.items + length rig.after.items ≤ 29 }
-        requires before { All (λ b. MayStand (state b)) rig.before.items }
-        requires after { All (λ b. MayStand (state b)) rig.after.items }
+        requires devices { MayStandBeside (λ b. state b) rig.before.items rig.after.items }
         requires size { IsSize (M.view rig.medium).record_count }
         requires plan { IsPlan plan.now }
         ensures opened { IfOk result (λ host. IsOpened M.view rig.medium (map (λ b. state b) rig.before.items) (map (λ b. state b) rig.after.items) plan.now (⟦<Host<M> as Performer>⟧.view host)) }

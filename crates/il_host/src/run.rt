@@ -5,7 +5,7 @@ ghost use Rattle.il_ring.specs.Rings.{MayStand};
 ghost use Rattle.host_model.specs.Endings.{HasEndingCause, HasNoTape, IsEarly};
 ghost use Rattle.host_model.specs.Leaves.{LeavesBy};
 ghost use Rattle.il_host.specs.Run.{end_of};
-ghost use Rattle.il_host.specs.Whole.{AnswersOver, MayHaveLeft, RunLeaves, outside};
+ghost use Rattle.il_host.specs.Whole.{AnswersOver, MayHaveLeft, MayStandBeside, RunLeaves, outside_of};
 ghost use Rattle.il_host.specs.Words.{order_in, order_of};
 ghost use Rattle.il_words.specs.Asked.{asked_by};
 ghost use Rattle.il_ring.specs.Plans.{IsPlan};
@@ -37,15 +37,13 @@ fn run_script<S: Source, K: Sink, M: Medium + Drop>(
     out: &mut K,
     rig: Rig<M>,
 ) -> (Ending, Rig<M>)
-    requires few { length rig.before.items + length rig.after.items ≤ 29 }
-    requires before { All (λ b. MayStand (⟦<Box<dyn Device> as Device>⟧.state b)) rig.before.items }
-    requires after { All (λ b. MayStand (⟦<Box<dyn Device> as Device>⟧.state b)) rig.after.items }
+    requires devices { MayStandBeside ⟦<Box<dyn Device> as Device>⟧.state rig.before.items rig.after.items }
     requires size { IsSize (M.view rig.medium).record_count }
     requires plan { IsPlan words.now.plan.items }
     requires seed { IfSome words.now.generated (λ g. g.seed < 2147483648) }
     ensures over { result.0 ≢ Ending.OutOfMemory → AnswersOver (order_of (asked_by words.now)) (end_of result.0) (M.view rig.medium) (M.view result.1.medium)
-        (outside (M.view rig.medium) (S.left script.old) (K.written out.old) (map ⟦<Box<dyn Device> as Device>⟧.state rig.before.items) (map ⟦<Box<dyn Device> as Device>⟧.state rig.after.items))
-        (outside (M.view result.1.medium) (S.left script.new) (K.written out.new) (map ⟦<Box<dyn Device> as Device>⟧.state result.1.before.items) (map ⟦<Box<dyn Device> as Device>⟧.state result.1.after.items)) }
+        (outside_of M.view S.left K.written ⟦<Box<dyn Device> as Device>⟧.state script.old out.old rig)
+        (outside_of M.view S.left K.written ⟦<Box<dyn Device> as Device>⟧.state script.new out.new result.1) }
     ensures kept { result.0 ≡ Ending.OutOfMemory → (result.1.medium ≡ rig.medium)
         × (map ⟦<Box<dyn Device> as Device>⟧.state result.1.before.items ≡ map ⟦<Box<dyn Device> as Device>⟧.state rig.before.items)
         × (map ⟦<Box<dyn Device> as Device>⟧.state result.1.after.items ≡ map ⟦<Box<dyn Device> as Device>⟧.state rig.after.items) }
@@ -82,12 +80,10 @@ fn run<S: Source, K: Sink, M: Medium + Drop>(
     mut rig: Rig<M>,
 ) -> (Ending, Rig<M>)
     requires empty { (M.view rig.medium).record_count ≡ 0 }
-    requires few { length rig.before.items + length rig.after.items ≤ 29 }
-    requires before { All (λ b. MayStand (⟦<Box<dyn Device> as Device>⟧.state b)) rig.before.items }
-    requires after { All (λ b. MayStand (⟦<Box<dyn Device> as Device>⟧.state b)) rig.after.items }
+    requires devices { MayStandBeside ⟦<Box<dyn Device> as Device>⟧.state rig.before.items rig.after.items }
     ensures leaves { LeavesBy (end_of result.0) (order_in (map string_bytes words.now))
-        (outside (M.view rig.medium) (S.left script.old) (K.written out.old) (map ⟦<Box<dyn Device> as Device>⟧.state rig.before.items) (map ⟦<Box<dyn Device> as Device>⟧.state rig.after.items))
-        (outside (M.view result.1.medium) (S.left script.new) (K.written out.new) (map ⟦<Box<dyn Device> as Device>⟧.state result.1.before.items) (map ⟦<Box<dyn Device> as Device>⟧.state result.1.after.items))
+        (outside_of M.view S.left K.written ⟦<Box<dyn Device> as Device>⟧.state script.old out.old rig)
+        (outside_of M.view S.left K.written ⟦<Box<dyn Device> as Device>⟧.state script.new out.new result.1)
         (MayHaveLeft (M.view rig.medium) (M.view result.1.medium)) }
     ensures cause { HasEndingCause (end_of result.0) (S.faults script.old) (S.faults script.new)
         (K.faults out.old) (K.faults out.new) (M.view rig.medium).faults (M.view result.1.medium).faults }
@@ -117,12 +113,10 @@ pub fn run_il<S: Source, K: Sink, M: Medium + Drop>(
     rig: Rig<M>,
 ) -> Ended<M>
     requires empty { (M.view rig.medium).record_count ≡ 0 }
-    requires few { length rig.before.items + length rig.after.items ≤ 29 }
-    requires before { All (λ b. MayStand (⟦<Box<dyn Device> as Device>⟧.state b)) rig.before.items }
-    requires after { All (λ b. MayStand (⟦<Box<dyn Device> as Device>⟧.state b)) rig.after.items }
+    requires devices { MayStandBeside ⟦<Box<dyn Device> as Device>⟧.state rig.before.items rig.after.items }
     ensures { RunLeaves result.status (map string_bytes words.now) (M.view rig.medium) (M.view result.rig.medium)
-        (outside (M.view rig.medium) (S.left script.old) (K.written out.old) (map ⟦<Box<dyn Device> as Device>⟧.state rig.before.items) (map ⟦<Box<dyn Device> as Device>⟧.state rig.after.items))
-        (outside (M.view result.rig.medium) (S.left script.new) (K.written out.new) (map ⟦<Box<dyn Device> as Device>⟧.state result.rig.before.items) (map ⟦<Box<dyn Device> as Device>⟧.state result.rig.after.items))
+        (outside_of M.view S.left K.written ⟦<Box<dyn Device> as Device>⟧.state script.old out.old rig)
+        (outside_of M.view S.left K.written ⟦<Box<dyn Device> as Device>⟧.state script.new out.new result.rig)
         (S.faults script.old) (S.faults script.new) (K.faults out.old) (K.faults out.new)
         ((script.new ≡ script.old) × (out.new ≡ out.old)) }
 {

@@ -130,7 +130,7 @@ pub fn answer_all<S: Source, P: Performer, K: Sink>(
     requires empty { batch ≡ record { parts = []; bytes = [] } }
     requires valid { (P.view host.old).valid }
     ensures valid { (P.view host.new).valid }
-    ensures hops { (P.view host.new).hops ≡ (P.view host.old).hops }
+    ensures plan { (P.view host.new).plan ≡ (P.view host.old).plan }
     ensures answers { AnswersScript None result (quiet_mode quiet) (P.view host.old) (P.view host.new)
         (S.left script.old) (S.left script.new) (K.written out.old) (K.written out.new) }
     ensures cause { HasEndingCause (end_of result) (S.faults script.old) (S.faults script.new)

@@ -53,7 +53,7 @@ pub fn answer_script<S: Source, P: Performer, K: Sink>(
     requires seed { IfSome generated (λ g. g.seed < 2147483648) }
     requires valid { (P.view host.old).valid }
     ensures valid { (P.view host.new).valid }
-    ensures hops { (P.view host.new).hops ≡ (P.view host.old).hops }
+    ensures plan { (P.view host.new).plan ≡ (P.view host.old).plan }
     ensures answers { AnswersScript (option_map script_of generated) result (mode_by (option_map script_of generated) quiet) (P.view host.old) (P.view host.new)
         (S.left script.old) (S.left script.new) (K.written out.old) (K.written out.new) }
     ensures cause { HasEndingCause (end_of result) (S.faults script.old) (S.faults script.new)

@@ -4,6 +4,7 @@ use Rattle.std.proofs.lemmas.List.{take_min, with_items_is}
 use Rattle.lif_dir.specs.Entries.{name_bytes}
 use Rattle.lif_model.specs.Apply.{Fetch}
 use Rattle.host_model.specs.Replies.{lines_of_type, lines_text}
+use Rattle.il_host.proofs.VolumeReplied.{reads_so}
 use Rattle.il_host.proofs.Getting.{error_not_ok, fault_not_ok, not_got}
 use Rattle.il_host.proofs.HostReads.{not_fetched, same_length}
 use Rattle.il_host.proofs.HostVolumes.{ends_blank, ends_told, not_asked, ready_behind, same_kept}
@@ -31,7 +32,7 @@ returns-in-Ok g c =
     (lines_got _ _ c.args.self.now.volume c.begin.new.self c.fetch.new.self _ _ c.requires.valid c.begin.ensures.begun c.fetch.ensures.open c.answered.ensures.drive c.make_sound.new.self.volume c.in_default.field-0 c.in_default.ensures.makes c.in_default.ensures.sounds
     (same_kept _ _ c.args.self.now.volume c.begin.new.self c.make_sound.new.self.volume _ _ c.requires.valid c.begin.ensures.begun c.make_sound.new.self.volume c.begin.ensures.kept c.make_sound.ensures.kept)
     (name_bytes c.args.name.now) c.in-Ok.fetched into _ _ g.met.M.Medium.is_medium c.in_default.ensures.opens shown
-    c.in-Ok.ensures.did.consults c.in-Ok.ensures.did.answers c.in-Ok.ensures.fetched c.in-Ok.ensures.run c.in-Ok.ensures.did.stays c.in-Ok.ensures.did.transfers)
+    c.in-Ok.ensures.did.consults c.in-Ok.ensures.did.answers c.in-Ok.ensures.fetched c.in-Ok.ensures.run (reads_so _ _ _ _ _ c.in-Ok.ensures.did) c.in-Ok.ensures.did.transfers)
 
 pub returns-in-Err-fetch : goal.returns-in-Err-fetch
 returns-in-Err-fetch g c =
@@ -39,4 +40,4 @@ returns-in-Err-fetch g c =
     (not_got (name_bytes c.args.name.now) _ _ _ (error_not_ok c.in-Err-fetch.fault)
     (not_fetched _ _ c.args.self.now.volume c.begin.new.self c.fetch.new.self _ _ c.requires.valid c.begin.ensures.begun c.fetch.ensures.open c.refused.ensures.drive c.make_sound.new.self.volume c.in_default.field-0 c.in_default.ensures.makes c.in_default.ensures.sounds
     (same_kept _ _ c.args.self.now.volume c.begin.new.self c.make_sound.new.self.volume _ _ c.requires.valid c.begin.ensures.begun c.make_sound.new.self.volume c.begin.ensures.kept c.make_sound.ensures.kept)
-    (name_bytes c.args.name.now) c.in-Err-fetch.fault _ c.in_default.ensures.opens c.in-Err-fetch.ensures.did.consults c.in-Err-fetch.ensures.did.answers c.in-Err-fetch.ensures.did.stays))
+    (name_bytes c.args.name.now) c.in-Err-fetch.fault _ c.in_default.ensures.opens c.in-Err-fetch.ensures.did.consults c.in-Err-fetch.ensures.did.answers (reads_so _ _ _ _ _ c.in-Err-fetch.ensures.did)))

@@ -12,7 +12,7 @@ use Rattle.il_host.proofs.HostReads.{fetched, labelled, not_fetched, same_length
 use Rattle.il_host.proofs.KeptDirectories.{minds_dir, minds_label}
 use Rattle.il_host.proofs.HostVolumes.{changes_volume, done, ends_blank, ends_told, mounting_few, not_asked, on_volume, ready_behind, refused, same_kept, volume_request}
 use Rattle.il_host.proofs.Texts.{dir_told, listing_fits}
-use Rattle.il_host.proofs.VolumeReplied.{stays_turns}
+use Rattle.il_host.proofs.VolumeReplied.{reads_so}
 use Rattle.il_host.proofs.host.Host.on_volume.Goals as goal
 
 pub returns-in-Err : goal.returns-in-Err
@@ -64,7 +64,7 @@ returns-in-Ok g c =
     (done _ _ c.args.self.now.volume c.begin.new.self c.dir.new.self _ _ c.requires.valid c.begin.ensures.begun Dir c.dir.ensures.open c.answered.ensures.drive c.make_sound.new.self.volume c.in_default.field-0 c.in_default.ensures.makes c.in_default.ensures.sounds
     (same_kept _ _ c.args.self.now.volume c.begin.new.self c.make_sound.new.self.volume _ _ c.requires.valid c.begin.ensures.begun c.make_sound.new.self.volume c.begin.ensures.kept c.make_sound.ensures.kept)
     c.in-Ok.listing _ _ _ (mounting_few _ (volume_in c.make_sound.new.self.volume) (volume_in c.dir.new.self) c.dir.ensures.open c.in-Ok.ensures.did.consults.goes_on.continues.size) c.in-Ok.ensures.did.consults.goes_on
-    (λ t told own. stays_turns _ _ _ _ t (c.in-Ok.ensures.did.stays t told own)) c.in-Ok.ensures.did.answers tt (minds_dir _ (volume_in c.make_sound.new.self.volume) (volume_in c.dir.new.self) _ c.in-Ok.ensures.did.consults)
+    (reads_so _ _ _ _ _ c.in-Ok.ensures.did) c.in-Ok.ensures.did.answers tt (minds_dir _ (volume_in c.make_sound.new.self.volume) (volume_in c.dir.new.self) _ c.in-Ok.ensures.did.consults)
     (λ t told. dir_told _ (volume_in c.make_sound.new.self.volume) (volume_in c.dir.new.self) t told c.in-Ok.listing c.dir.ensures.open c.in-Ok.ensures.did.consults c.in-Ok.ensures.listed ∙ ap (listing_text c.in-Ok.listing) (sym c.slots.ensures))))
 
 pub returns-in-Err-dir : goal.returns-in-Err-dir
@@ -74,7 +74,7 @@ returns-in-Err-dir g c =
     (refused _ _ c.args.self.now.volume c.begin.new.self c.dir.new.self _ _ c.requires.valid c.begin.ensures.begun Dir c.dir.ensures.open c.refused.ensures.drive c.make_sound.new.self.volume c.in_default.field-0 c.in_default.ensures.makes c.in_default.ensures.sounds
     (same_kept _ _ c.args.self.now.volume c.begin.new.self c.make_sound.new.self.volume _ _ c.requires.valid c.begin.ensures.begun c.make_sound.new.self.volume c.begin.ensures.kept c.make_sound.ensures.kept)
     Listing c.in-Err-dir.fault _ _ (mounting_few _ (volume_in c.make_sound.new.self.volume) (volume_in c.dir.new.self) c.dir.ensures.open c.in-Err-dir.ensures.did.consults.goes_on.continues.size) c.in-Err-dir.ensures.did.consults.goes_on
-    (λ t told own. stays_turns _ _ _ _ t (c.in-Err-dir.ensures.did.stays t told own)) c.in-Err-dir.ensures.did.answers (minds_dir _ (volume_in c.make_sound.new.self.volume) (volume_in c.dir.new.self) _ c.in-Err-dir.ensures.did.consults)))
+    (reads_so _ _ _ _ _ c.in-Err-dir.ensures.did) c.in-Err-dir.ensures.did.answers (minds_dir _ (volume_in c.make_sound.new.self.volume) (volume_in c.dir.new.self) _ c.in-Err-dir.ensures.did.consults)))
 
 pub returns-in-Ok-label : goal.returns-in-Ok-label
 returns-in-Ok-label g c =
@@ -82,7 +82,7 @@ returns-in-Ok-label g c =
     ends_told (label_text c.in-Ok-label.label) c.make_sound.ensures.rests c.requires.blank c.put_label.ensures.text c.answered-in-Ok-label.ensures.ended
     (labelled _ _ c.args.self.now.volume c.begin.new.self c.label.new.self _ _ c.requires.valid c.begin.ensures.begun c.label.ensures.open c.answered-in-Ok-label.ensures.drive c.make_sound.new.self.volume c.in_default.field-0 c.in_default.ensures.makes c.in_default.ensures.sounds
     (same_kept _ _ c.args.self.now.volume c.begin.new.self c.make_sound.new.self.volume _ _ c.requires.valid c.begin.ensures.begun c.make_sound.new.self.volume c.begin.ensures.kept c.make_sound.ensures.kept)
-    c.in-Ok-label.label _ c.in-Ok-label.ensures.did.consults c.in-Ok-label.ensures.did.answers c.in-Ok-label.ensures.exactly c.in-Ok-label.ensures.label c.in-Ok-label.ensures.did.stays))
+    c.in-Ok-label.label _ c.in-Ok-label.ensures.did.consults c.in-Ok-label.ensures.did.answers c.in-Ok-label.ensures.exactly c.in-Ok-label.ensures.label (reads_so _ _ _ _ _ c.in-Ok-label.ensures.did)))
 
 pub returns-in-Err-label : goal.returns-in-Err-label
 returns-in-Err-label g c =
@@ -91,7 +91,7 @@ returns-in-Err-label g c =
     (refused _ _ c.args.self.now.volume c.begin.new.self c.label.new.self _ _ c.requires.valid c.begin.ensures.begun Label c.label.ensures.open c.refused-in-Err-label.ensures.drive c.make_sound.new.self.volume c.in_default.field-0 c.in_default.ensures.makes c.in_default.ensures.sounds
     (same_kept _ _ c.args.self.now.volume c.begin.new.self c.make_sound.new.self.volume _ _ c.requires.valid c.begin.ensures.begun c.make_sound.new.self.volume c.begin.ensures.kept c.make_sound.ensures.kept)
     (List ℕ) c.in-Err-label.fault _ _ (mounting_few _ (volume_in c.make_sound.new.self.volume) (volume_in c.label.new.self) c.label.ensures.open c.in-Err-label.ensures.did.consults.goes_on.continues.size) c.in-Err-label.ensures.did.consults.goes_on
-    (λ t told own. stays_turns _ _ _ _ t (c.in-Err-label.ensures.did.stays t told own)) c.in-Err-label.ensures.did.answers (minds_label _ (volume_in c.make_sound.new.self.volume) (volume_in c.label.new.self) _ c.in-Err-label.ensures.did.consults)))
+    (reads_so _ _ _ _ _ c.in-Err-label.ensures.did) c.in-Err-label.ensures.did.answers (minds_label _ (volume_in c.make_sound.new.self.volume) (volume_in c.label.new.self) _ c.in-Err-label.ensures.did.consults)))
 
 pub returns-in-Ok-fetch : goal.returns-in-Ok-fetch
 returns-in-Ok-fetch g c =
@@ -104,7 +104,7 @@ returns-in-Ok-fetch g c =
     (fetched _ _ c.args.self.now.volume c.begin.new.self c.fetch.new.self _ _ c.requires.valid c.begin.ensures.begun c.fetch.ensures.open c.answered-in-Ok-fetch.ensures.drive c.make_sound.new.self.volume c.in_default.field-0 c.in_default.ensures.makes c.in_default.ensures.sounds
     (same_kept _ _ c.args.self.now.volume c.begin.new.self c.make_sound.new.self.volume _ _ c.requires.valid c.begin.ensures.begun c.make_sound.new.self.volume c.begin.ensures.kept c.make_sound.ensures.kept)
     (name_bytes c.in-Fetch.name) c.in-Ok-fetch.fetched into _ _ g.met.M.Medium.is_medium c.in_default.ensures.opens shown
-    c.in-Ok-fetch.ensures.did.consults c.in-Ok-fetch.ensures.did.answers c.in-Ok-fetch.ensures.fetched c.in-Ok-fetch.ensures.run c.in-Ok-fetch.ensures.did.stays c.in-Ok-fetch.ensures.did.transfers))
+    c.in-Ok-fetch.ensures.did.consults c.in-Ok-fetch.ensures.did.answers c.in-Ok-fetch.ensures.fetched c.in-Ok-fetch.ensures.run (reads_so _ _ _ _ _ c.in-Ok-fetch.ensures.did) c.in-Ok-fetch.ensures.did.transfers))
 
 pub returns-in-Err-fetch : goal.returns-in-Err-fetch
 returns-in-Err-fetch g c =
@@ -112,7 +112,7 @@ returns-in-Err-fetch g c =
     ends_blank (record { page = c.make_sound.ensures.rests.page; room = same_length c.make_sound.new.self.file c.fetch.new.into ∙ c.make_sound.ensures.rests.room }) c.requires.blank c.refused-in-Err-fetch.ensures.ended
     (not_fetched _ _ c.args.self.now.volume c.begin.new.self c.fetch.new.self _ _ c.requires.valid c.begin.ensures.begun c.fetch.ensures.open c.refused-in-Err-fetch.ensures.drive c.make_sound.new.self.volume c.in_default.field-0 c.in_default.ensures.makes c.in_default.ensures.sounds
     (same_kept _ _ c.args.self.now.volume c.begin.new.self c.make_sound.new.self.volume _ _ c.requires.valid c.begin.ensures.begun c.make_sound.new.self.volume c.begin.ensures.kept c.make_sound.ensures.kept)
-    (name_bytes c.in-Fetch.name) c.in-Err-fetch.fault _ c.in_default.ensures.opens c.in-Err-fetch.ensures.did.consults c.in-Err-fetch.ensures.did.answers c.in-Err-fetch.ensures.did.stays))
+    (name_bytes c.in-Fetch.name) c.in-Err-fetch.fault _ c.in_default.ensures.opens c.in-Err-fetch.ensures.did.consults c.in-Err-fetch.ensures.did.answers (reads_so _ _ _ _ _ c.in-Err-fetch.ensures.did)))
 
 pub returns-in_default-command : goal.returns-in_default-command
 returns-in_default-command g c =
