@@ -10,7 +10,7 @@ use Rattle.loop_model.specs.Exchanges.{Reading}
 use Rattle.loop_model.specs.Effect.{Effect}
 use Rattle.il_check.specs.declared.verdict.TraceFault.TheVariants as fault
 use Rattle.il_check.specs.Verdicts.{AreEntries, StopsWithin, HasNoFault, IsVerdict, IsLineAt}
-use Rattle.il_check.proofs.CourseLemmas.{effect_told}
+use Rattle.trace_readers.proofs.CourseLemmas.{effect_told}
 use Rattle.il_check.proofs.VerdictLaws.{same_log}
 
 -- a tape of one record of zeros, and one of a record that begins with another byte

@@ -1,7 +1,9 @@
-pub mod Talkers
-pub mod Places
-pub mod Exchanges
-pub mod Expected
-pub mod Effects
 pub mod Faults
 pub mod Verdicts
+pub mod Tracing
+pub mod Reading
+pub mod Orders
+pub mod Telling
+pub mod Endings
+pub mod Whole
+pub mod Tapes

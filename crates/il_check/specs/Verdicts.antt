@@ -8,13 +8,13 @@ use Rattle.loop_model.specs.Exchanges.{Reading}
 use Rattle.loop_model.specs.Effect.{Effect}
 use Rattle.loop_model.specs.Roles.{all_without_roles, has_one_talker}
 use Rattle.loop_model.specs.Units.{RecordUnit}
-use Rattle.il_check.specs.declared.expected.UnitFault.{UnitFault}
-use Rattle.il_check.specs.declared.expected.UnitFault.TheVariants as unit
+use Rattle.trace_readers.specs.declared.expected.UnitFault.{UnitFault}
+use Rattle.trace_readers.specs.declared.expected.UnitFault.TheVariants as unit
 use Rattle.il_check.specs.declared.verdict.TraceFault.{TraceFault}
 use Rattle.il_check.specs.declared.verdict.TraceFault.TheVariants as fault
-use Rattle.il_check.specs.Exchanges.{IsPrefix}
-use Rattle.il_check.specs.Expected.{unit_fault}
-use Rattle.il_check.specs.Effects.{EndsUnit}
+use Rattle.trace_readers.specs.Exchanges.{IsPrefix}
+use Rattle.trace_readers.specs.Expected.{unit_fault}
+use Rattle.trace_readers.specs.Effects.{EndsUnit}
 
 -- ---- the lines of a trace
 

@@ -1,18 +1,15 @@
-//! Readers of a finished log of the loop, one entry or one unit at a time: what each knows stands for all
-//! of them so far, and takes no memory that grows with them.
+//! What there is to be said of a trace of the loop, and of the tapes before it and after it.
 #![tactic(auto)]
 
-mod effects;
-mod exchanges;
-mod expected;
-mod talkers;
+mod ending;
+mod reading;
+mod run;
+mod tapes;
+mod telling;
+mod tracing;
 mod verdict;
+mod words;
 
-pub use effects::{Effects, Progress, Stage, Told};
-pub use exchanges::{Exchanges, Place, Tail};
-pub use expected::{Expected, UnitFault};
-pub use talkers::Talkers;
+pub use reading::LONGEST_TRACE;
+pub use run::run_check;
 pub use verdict::TraceFault;
-
-#[cfg(test)]
-mod tests;

@@ -1,6 +1,6 @@
 #![tactic(auto)]
 
-ghost use Rattle.std.specs.Prelude.{◌≡◌};
+ghost use Rattle.std.specs.Prelude.{◌≡◌, ◌≤◌, length};
 ghost use Rattle.il_check.specs.Faults.{fault_name, fault_number};
 
 /// Why a trace, the tape before it and the tape after it do not go together.
@@ -40,7 +40,8 @@ impl TraceFault {
 
     /// Its name, as the checker prints it.
     pub fn name(self) -> &'static [u8]
-        ensures { result.now ≡ fault_name self }
+        ensures name { result.now ≡ fault_name self }
+        ensures short { length result.now ≤ 11 }
     {
         match self {
             TraceFault::BadText => b"BadText",

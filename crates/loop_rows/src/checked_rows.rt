@@ -3,7 +3,6 @@ ghost use Rattle.std.specs.Prelude.{◌≡◌, ◌≤◌, IfOk, length};
 
 use crate::store_rows::{read, resume, store, write};
 use crate::tools::{self, tape};
-use il_check::{Effects, Exchanges, Talkers, UnitFault};
 use il_device::{Device, Quiet};
 use il_frames::{Entry, Frame, Outcome};
 use il_ports::{Medium, MemoryMedium, Records, Trouble};
@@ -13,6 +12,7 @@ use il_ring::{Planned, Ring};
 use il_same::same;
 use std::process::Abort;
 use std::test::Fail;
+use trace_readers::{Effects, Exchanges, Talkers, UnitFault};
 
 /// The crossings of a whole run: three of each of the host's 575 frames that come back and of the drive's 259 bytes,
 /// two of each of the four start messages, and one of each ETO.

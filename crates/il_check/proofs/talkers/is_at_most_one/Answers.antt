@@ -1,6 +1,0 @@
-use Rattle.std.proofs.Common.{◌∙◌, ap, ℕ, nat_le}
-use Rattle.il_check.proofs.TalkerLemmas.{at_most_one_count}
-use Rattle.il_check.proofs.talkers.is_at_most_one.Goals as goal
-
-pub returns : goal.returns
-returns c = ap (λ (n : ℕ). nat_le n 1) c.talker_count.ensures ∙ at_most_one_count c.args.devices.now
