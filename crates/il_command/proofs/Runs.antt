@@ -1,8 +1,9 @@
--- A run of the program, by what `run_il` leaves over what was made for it.
+-- A run of the program, by what `run_il` leaves over what was made for it; and a check, by what `run_check` does.
 use Rattle.std.proofs.Common.{◌≡◌, ℕ, List, Option, subst}
 use Rattle.il_device.specs.State.{DeviceState}
 use Rattle.il_ports.specs.Media.{MediumView}
 use Rattle.il_host.specs.Whole.{RunLeaves, outside}
+use Rattle.il_check.specs.Whole.{CheckLeaves}
 
 module _ {D : Type 0} (view : D → MediumView) (status : ℕ) (words : List (List ℕ)) (now : D) (left_now written_now : Option (List ℕ)) (after before_now after_now : List DeviceState) (source_faults sink_faults : ℕ) (untouched : Type 0) where
   -- over this drive, script, output and counts
@@ -22,3 +23,18 @@ module _ {D : Type 0} (view : D → MediumView) (status : ℕ) (words : List (Li
       (subst (λ (n : ℕ). Leaves old left_old written_old before_old n 0) source_is
       (subst (λ (n : ℕ). Leaves old left_old written_old before_old source n) sink_is ran)))))
       in record { end = told.end; status_is = told.status_is; cause = told.cause; leaves = told.leaves; empty = told.empty; early = λ early. stays (told.early early) }
+
+-- and a check
+module _ {D : Type 0} (view : D → MediumView) (status : ℕ) (words : List (List ℕ)) (now now' : D) (left_now written_now : Option (List ℕ)) (source_faults sink_faults : ℕ) where
+  abbrev ChecksOver : D → D → Option (List ℕ) → Option (List ℕ) → ℕ → ℕ → Type 0
+  ChecksOver d d' left written source sink = CheckLeaves status words (view d) (view now) (view d') (view now') left left_now written written_now source source_faults sink sink_faults
+
+  pub checked_by : (fresh old fresh' old' : D) (left left_old written written_old : Option (List ℕ)) (source sink : ℕ) → ChecksOver old old' left_old written_old source sink
+      → old ≡ fresh → old' ≡ fresh' → left_old ≡ left → written_old ≡ written → source ≡ 0 → sink ≡ 0 → ChecksOver fresh fresh' left written 0 0
+  checked_by fresh old fresh' old' left left_old written written_old source sink checked fresh_is fresh_is' left_is written_is source_is sink_is =
+      subst (λ (d : D). ChecksOver d fresh' left written 0 0) fresh_is
+      (subst (λ (d : D). ChecksOver old d left written 0 0) fresh_is'
+      (subst (λ (o : Option (List ℕ)). ChecksOver old old' o written 0 0) left_is
+      (subst (λ (o : Option (List ℕ)). ChecksOver old old' left_old o 0 0) written_is
+      (subst (λ (n : ℕ). ChecksOver old old' left_old written_old n 0) source_is
+      (subst (λ (n : ℕ). ChecksOver old old' left_old written_old source n) sink_is checked)))))

@@ -1,6 +1,8 @@
-//! The program `il`: answers the script on standard input over the image of a tape, by frames on a simulated loop.
+//! The program `il`: answers the script on standard input over the image of a tape, by frames on a simulated loop; or
+//! checks the trace of such a run against the tapes before it and after it.
 #![tactic(auto)]
 
+mod checking;
 mod messages;
 mod running;
 mod telling;
@@ -9,8 +11,10 @@ ghost use Rattle.std.specs.Prelude.{◌≡◌, ◌≢◌};
 ghost use Rattle.std.specs.IoError.{error_kind};
 ghost use Rattle.std.specs.declared.io.ErrorKind.TheVariants.{OutOfMemory};
 
+use checking::check_with;
 use il_device::{Device, Printer};
 use il_ports::SystemImages;
+use messages::Way;
 use running::run_with;
 use std::env;
 use std::io::{self, BufReader, ErrorKind};
@@ -41,11 +45,7 @@ fn words_of(rt: &HostRuntime) -> Result<Vec<String>, u8> {
 }
 
 /// Runs the script that comes on standard input, and gives the exit status.
-fn run(rt: &HostRuntime) -> u8 {
-    let words = match words_of(rt) {
-        Ok(words) => words,
-        Err(status) => return status,
-    };
+fn run(rt: &HostRuntime, words: &[String]) -> u8 {
     let Ok(reader) = BufReader::new(rt.alloc(), rt.reader()) else {
         return OUT_OF_MEMORY;
     };
@@ -61,19 +61,32 @@ fn run(rt: &HostRuntime) -> u8 {
         return OUT_OF_MEMORY;
     }
     let images = SystemImages::new(rt);
-    run_with(
-        rt.alloc(),
-        words.as_slice(),
-        reader,
-        io::writer(rt),
-        images,
-        after,
-    )
-    .close()
+    run_with(rt.alloc(), words, reader, io::writer(rt), images, after).close()
+}
+
+/// Checks the trace that comes on standard input, and gives the exit status.
+fn check(rt: &HostRuntime, words: &[String]) -> u8 {
+    let Ok(reader) = BufReader::new(rt.alloc(), rt.reader()) else {
+        return OUT_OF_MEMORY;
+    };
+    let images = (SystemImages::new(rt), SystemImages::new(rt));
+    check_with(rt.alloc(), words, reader, io::writer(rt), images).close()
+}
+
+/// What the words ask for, and the exit status.
+fn perform(rt: &HostRuntime) -> (Way, u8) {
+    let words = match words_of(rt) {
+        Ok(words) => words,
+        Err(status) => return (Way::Script, status),
+    };
+    match Way::of(&words) {
+        Way::Script => (Way::Script, run(rt, &words)),
+        Way::Check => (Way::Check, check(rt, &words)),
+    }
 }
 
 fn main(rt: HostRuntime) -> ExitCode {
-    let status = run(&rt);
-    let _ = told(&mut rt.stderr(), status);
+    let (way, status) = perform(&rt);
+    let _ = told(&mut rt.stderr(), way, status);
     ExitCode::from(status)
 }

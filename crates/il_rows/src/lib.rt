@@ -4,6 +4,8 @@
 #[cfg(test)]
 mod batches;
 #[cfg(test)]
+mod checks;
+#[cfg(test)]
 mod directories;
 #[cfg(test)]
 mod endings;

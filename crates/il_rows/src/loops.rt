@@ -12,7 +12,7 @@ const STATUS_TRACE: &[u8] =
     b"~ 0 IFC = IFC\n~ 0 RFC = RFC\n~ 0 AAU = AAU\n~ 0 RFC = RFC\n~ 0 AAD 01 = AAD 03\n~ 0 UNL = UNL\n~ 0 RFC = RFC\n~ 0 TAD 01 = TAD 01\n~ 0 RFC = RFC\n~ 0 SST > 1\n~ 0 NRD = NRD\n~ 1 DAB 00 = DAB 00\n~ 1 ETO > 0\n~ 0 UNT = UNT\n~ 0 RFC = RFC\nstatus 00\nok\n";
 
 /// The frames of the first `status` up to the byte of the drive's status.
-const ALTERED_TRACE: &[u8] =
+pub(crate) const ALTERED_TRACE: &[u8] =
     b"~ 0 IFC = IFC\n~ 0 RFC = RFC\n~ 0 AAU = AAU\n~ 0 RFC = RFC\n~ 0 AAD 01 = AAD 03\n~ 0 UNL = UNL\n~ 0 RFC = RFC\n~ 0 TAD 01 = TAD 01\n~ 0 RFC = RFC\n~ 0 SST > 1\n~ 0 NRD = NRD\n";
 
 #[test]
