@@ -21,7 +21,8 @@ use Rattle.lif_pack.specs.declared.marks.Mark.{Mark}
 use Rattle.lif_pack.specs.Marks.{IsMarkOf}
 use Rattle.lif_pack.specs.Tasks.{IsTask, IsLeftToDo, IsFinished}
 use Rattle.lif_pack.proofs.FinishedTape.{settled_is_finished}
-use Rattle.lif_pack.proofs.Tasking.{volume_with, directory_is_volume}
+use Rattle.lif_pack.specs.Steps.{volume_with}
+use Rattle.lif_pack.proofs.Tasking.{directory_is_volume}
 
 pub some_of : {X : Type 0} (o : Option X) (P : X → Type 0) → is_some o ≡ true → IfSome o P → (x : X) × P x
 some_of None P none is = cc

@@ -56,6 +56,16 @@ module _ (start : ℕ) (slot : List ℕ) (all : length slot ≡ 32) where
       ∙ drop-append-drop 16 slot (take 12 slot ++ in_four start) 16 (omega arith) (length-append (take 12 slot) (in_four start) ∙ omega (arith, front_size)) in
       λ i. front i ++ back i
 
+  -- the last start is the one that counts
+  pub started_again : (later : ℕ) → with_start later (with_start start slot) ≡ with_start later slot
+  unfolding with_start
+  started_again later =
+      let front : take 12 (take 12 slot ++ rest) ≡ take 12 slot = take_at (take 12 slot) rest 12 front_size in
+      let back : drop 16 (take 12 slot ++ rest) ≡ drop 16 slot =
+      ap (drop 16) (sym (append_assoc (take 12 slot) (in_four start) (drop 16 slot)))
+      ∙ drop-append-drop 16 slot (take 12 slot ++ in_four start) 16 (omega arith) (length-append (take 12 slot) (in_four start) ∙ omega (arith, front_size)) in
+      λ i. front i ++ (in_four later ++ back i)
+
 -- ---- another field
 
 module _ (entry : List ℕ) (all : length entry ≡ 32) where

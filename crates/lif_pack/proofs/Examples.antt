@@ -1,17 +1,20 @@
 -- Worked examples of packing, computed by the checker. On the tape of forty records files stand in records 4 and 5, after
 -- a directory of two records, and the redo file of version 2 begins at record 6; on that of forty-four it begins at
 -- record 10.
-use Rattle.std.proofs.Common.{◌≡◌, ◌++◌, ℕ, List, [], ◌∷◌, Some, None, true, false, refl, replicate, codes}
+use Rattle.std.proofs.Common.{◌≡◌, ◌++◌, ℕ, List, [], ◌∷◌, Option, Some, None, Bool, true, false, get_or, refl, sym, ap, arith, replicate, codes}
 use Rattle.std.specs.FinMap.{empty, insert}
 use Rattle.lif_model.specs.Numbers.{two_at, four_at}
 use Rattle.lif_model.specs.Tape.{Tape}
 use Rattle.lif_model.specs.Gate.{is_open}
-use Rattle.lif_model.specs.Directory.{name_of, entry_at, entries_of}
+use Rattle.lif_model.specs.Directory.{name_of, start_of, entry_at, entries_of}
 use Rattle.lif_model.specs.Made.{in_two, new_entry, with_type}
 use Rattle.lif_model.specs.declared.version.Version.TheVariants.{One, Two}
 use Rattle.lif_model.specs.Volume.{Volume, Files, redo_name, redo_type, redo_entry, volume_of}
 use Rattle.lif_model.specs.declared.refusal.Refusal.TheVariants.{NotLif, NoRedo, NeedsUpgrade, OutOfOrder}
 use Rattle.lif_model.specs.Writing.{with_entry}
+use Rattle.lif_model.specs.Legal.{is_live}
+use Rattle.lif_pack.specs.Tasks.{IsShownAs}
+use Rattle.lif_pack.specs.Steps.{ArePlaced, IsGap}
 use Rattle.lif_model.proofs.Examples as base
 use Rattle.lif_model.proofs.VolumeExamples.{file, a_name, b_name, numbered}
 use Rattle.lif_model.proofs.VolumeExamples as slot
@@ -205,6 +208,23 @@ shown_moved : finished_volume_of (on (three (entry 3 2)) (six 4 16 17 7 18 9))
 unfolding two_at four_at entries_of entry_at name_of is_open with_type new_entry with_entry with_start unmarked
 shown_moved = refl
 
+-- a stop between two commits of the move leaves what is shown as the tape before is
+midway_shown : IsShownAs (on (three (entry 3 1)) (six 4 16 6 17 18 9)) (on (three (entry 3 2)) (six 4 16 17 7 18 9))
+unfolding two_at four_at entries_of entry_at name_of is_open with_type new_entry with_entry with_start unmarked
+midway_shown = record { volume = refl; own_gate = refl }
+
+-- but a mark that is lost shows another start
+abbrev start_shown : Option Volume → ℕ
+start_shown None = 0
+start_shown (Some v) = start_of (get_or v.slots 2 [])
+
+not_five : ◌≡◌ {A = ℕ} 6 5 → ⊥
+not_five e = cc
+
+mark_lost : IsShownAs (on (three (entry 3 1)) (six 4 16 6 17 18 9)) (on (three (entry 0 0)) (six 4 16 6 17 18 9)) → ⊥
+unfolding two_at four_at entries_of entry_at name_of is_open with_type new_entry with_entry with_start unmarked
+mark_lost is = not_five (ap start_shown is.volume)
+
 -- ---- marks that are not good: the field becomes zero, and nothing else changes
 
 abbrev fades : (List ℕ → List (List ℕ)) → ℕ → ℕ → Type 0
@@ -260,3 +280,32 @@ unmarked_stays : stays (on (three (entry 0 0)) (six 4 5 6 7 8 9)) × stays (on o
     × stays (replicate 44 base.blank)
 unfolding two_at four_at entries_of entry_at name_of is_open with_type new_entry with_entry with_start unmarked
 unmarked_stays = (refl, refl, refl)
+
+-- ---- the steps of packing
+
+abbrev two_placed : List (List ℕ)
+two_placed = file a_name 4 2 ∷ gone (file b_name 200 9) ∷ file c_name 9 1 ∷ []
+
+-- A stands at its place, and the next place is record 6; C does not
+placed_to : ArePlaced 4 2 6 two_placed
+unfolding two_at four_at with_type
+placed_to = record { packed = refl; next = refl }
+
+not_true : ◌≡◌ {A = Bool} false true → ⊥
+not_true e = cc
+
+not_placed : ArePlaced 4 3 7 two_placed → ⊥
+unfolding two_at four_at with_type
+not_placed is = not_true is.packed
+
+-- slot 1 is purged, and slot 0 is not
+gap : IsGap 1 2 two_placed
+unfolding two_at four_at with_type
+gap = record {
+  order = omega arith;
+  purged = λ k le lt. let one : k ≡ 1 = omega (arith, le, lt) in ap (λ (m : ℕ). is_live (get_or two_placed m [])) one;
+}
+
+no_gap : IsGap 0 2 two_placed → ⊥
+unfolding two_at four_at with_type
+no_gap is = not_true (sym (is.purged 0 (omega arith) (omega arith)))

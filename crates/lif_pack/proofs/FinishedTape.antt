@@ -52,6 +52,90 @@ finished_from n t x v is some marked size quiet same =
       volume = settles.0;
     }
 
+-- ---- a file of a volume of version 2 was moved, of which so many records stood at its place
+
+module _ (n : ℕ) (t : Tape) (v : Volume) (is : IsTape n t) (some : volume_of t ≡ Some v) (quiet : IsSettled t) (up : is_upgraded n v ≡ true) where
+  inside : volume_in t ≡ Some v
+  inside = ap volume_in (sym quiet) ∙ some
+
+  abbrev on_tape : IsOn n t v
+  on_tape = is_on n t v is inside
+
+  abbrev first : ℕ
+  first = directory_start v.header
+
+  abbrev redo : ℕ
+  redo = redo_place v.slots
+
+  pub redo_stands : entry_from t (directory_start v.header) (redo_place v.slots) ≡ redo_slot v
+  redo_stands = slot_here n t v on_tape redo (redo_here n v on_tape.volume up)
+
+  module _ (i j : ℕ) (can : CanMove v i j) (move : Move) (at_file : IsMoveAt v i j move) where
+    redo_lies : redo < length v.slots
+    redo_lies = redo_here n v on_tape.volume up
+
+    abbrev to_place : ℕ
+    to_place = packed_start v i
+
+    abbrev of_slot : List ℕ
+    of_slot = get_or v.slots i []
+
+    file_stands : entry_from t first i ≡ of_slot
+    file_stands = slot_here n t v on_tape i (order.here n v i j on_tape.volume redo_lies can)
+
+    -- the writes of the directory, by what stands there
+    abbrev there : SlotWrites
+    there = (redo, unmarked (entry_from t first redo)) ∷ (move.slot, with_start move.place (entry_from t first move.slot)) ∷ []
+
+    pub same_writes : ◌≡◌ {A = SlotWrites} ((redo_place v.slots, unmarked (entry_from t (directory_start v.header) (redo_place v.slots)))
+        ∷ (move.slot, with_start move.place (entry_from t (directory_start v.header) move.slot)) ∷ []) (finishing_slots v (Some (i, j)))
+    same_writes = λ q. (redo, unmarked (redo_stands q)) ∷ (at_file.slot q, with_start (at_file.place q) ((ap (entry_from t first) at_file.slot ∙ file_stands) q)) ∷ []
+
+    abbrev moved_tape : Tape
+    moved_tape = with_moved v (Some (i, j)) t
+
+    pub low_place : directory_end v.header ≤ packed_start v i
+    low_place = above_directory n v i j on_tape.volume redo_lies can
+
+    -- below the redo file the tape is that with the file moved and the slots written
+    pub moved_below : (x : Tape) → HasMoved (directory_start v.header) move.place (redo_place v.slots) move t x → (k : ℕ) → k < redo_start Two n
+        → record_at x k ≡ record_at (finished_with v (Some (i, j)) t) k
+    moved_below x has k lt = elim (cases_lt k first) [
+      | inl under ↦
+          has.others k (omega (arith, lt, is.records)) (inl under) (inl (omega (arith, under, at_file.place, low_place)))
+          ∙ sym (moved.outside n t v is inside up i j can k (inl (omega (arith, under, low_place))))
+          ∙ sym (slots_elsewhere first (finishing_slots v (Some (i, j))) moved_tape k (untouched first (directory_length v.header) (finishing_slots v (Some (i, j))) k (moved.are_writes n t v is inside up i j can) (inl under)))
+      | inr over ↦ elim (cases_lt k to_place) [
+        | inl below ↦
+            let under : k < n = omega (arith, lt) in
+            has.directory k over (omega (arith, below, at_file.place))
+            ∙ ap (λ (ws : SlotWrites). record_at (with_slots first ws t) k) same_writes
+            ∙ slots_record first (finishing_slots v (Some (i, j))) t k (omega (arith, under, is.records))
+            ∙ ap (rewritten first (finishing_slots v (Some (i, j))) k) (sym (moved.outside n t v is inside up i j can k (inl (omega (arith, below)))))
+            ∙ sym (slots_record first (finishing_slots v (Some (i, j))) moved_tape k (omega (arith, under, moved.size0 n t v is inside up i j can)))
+        | inr above ↦
+            after k lt above
+            ∙ sym (slots_elsewhere first (finishing_slots v (Some (i, j))) moved_tape k (untouched first (directory_length v.header) (finishing_slots v (Some (i, j))) k (moved.are_writes n t v is inside up i j can) (inr (omega (arith, above, low_place)))))
+      ]
+    ]
+      where
+        after : (k : ℕ) → k < redo_start Two n → to_place ≤ k → record_at x k ≡ record_at moved_tape k
+        after k lt above = elim (cases_lt k (to_place + j)) [
+          | inl early ↦ has.others k (omega (arith, lt, is.records)) (inr (omega (arith, above, at_file.place))) (inl (omega (arith, early, at_file.place, at_file.moved)))
+              ∙ sym (moved.outside n t v is inside up i j can k (inl early))
+          | inr late ↦ elim (cases_lt k (to_place + length_of of_slot)) [
+            | inl inner ↦
+                let m : ℕ = k - (to_place + j) in
+                let to : k ≡ move.place + (j + m) = omega (arith, late, at_file.place) in
+                let from : move.start + (j + m) ≡ start_of of_slot + j + m = omega (arith, at_file.start) in
+                let there_k : to_place + j + m ≡ k = omega (arith, late) in
+                ap (record_at x) to ∙ has.moved (j + m) (omega (arith, at_file.moved)) (omega (arith, late, inner, at_file.long)) ∙ ap (record_at t) from
+                ∙ sym (moved.inside n t v is inside up i j can m (omega (arith, late, inner))) ∙ ap (record_at moved_tape) there_k
+            | inr outer ↦ has.others k (omega (arith, lt, is.records)) (inr (omega (arith, above, at_file.place))) (inr (omega (arith, outer, at_file.place, at_file.long)))
+                ∙ sym (moved.outside n t v is inside up i j can k (inr outer))
+          ]
+        ]
+
 -- ---- a settled tape with a mark
 
 module _ (n : ℕ) (t : Tape) (v : Volume) (is : IsTape n t) (some : volume_of t ≡ Some v) (quiet : IsSettled t) (marked : bears_mark n v ≡ true) where
@@ -101,64 +185,18 @@ module _ (n : ℕ) (t : Tape) (v : Volume) (is : IsTape n t) (some : volume_of t
     abbrev slot : List ℕ
     slot = get_or v.slots i []
 
-    file_there : entry_from t start i ≡ slot
-    file_there = slot_here n t v on i (order.here n v i j on.volume within can)
-
-    -- the writes of the directory, by what stands there
-    abbrev there : SlotWrites
-    there = (r, unmarked (entry_from t start r)) ∷ (move.slot, with_start move.place (entry_from t start move.slot)) ∷ []
-
-    same_there : there ≡ finishing_slots v (Some (i, j))
-    same_there = λ q. (r, unmarked (redo_there q)) ∷ (at_file.slot q, with_start (at_file.place q) ((ap (entry_from t start) at_file.slot ∙ file_there) q)) ∷ []
-
     abbrev x0 : Tape
     x0 = with_moved v (Some (i, j)) t
 
     low : directory_end v.header ≤ place
-    low = above_directory n v i j on.volume within can
+    low = low_place n t v is some quiet up i j can move at_file
 
     finished_here : finished t ≡ with_slots start (finishing_slots v (Some (i, j))) x0
     finished_here = finished_is ∙ ap (λ (m : Option (ℕ × ℕ)). finished_with v m t) named
 
     pub moved_is_finished : (x : Tape) → IsSettled x → HasMoved start move.place r move t x → IsFinished t x
-    moved_is_finished x settled_x has = finished_from n t x v is some marked (has.records ∙ is.records) settled_x (λ k lt. elim (cases_lt k start) [
-      | inl under ↦
-          has.others k (omega (arith, lt, is.records)) (inl under) (inl (omega (arith, under, at_file.place, low)))
-          ∙ sym (moved.outside n t v is some_in up i j can k (inl (omega (arith, under, low))))
-          ∙ sym (slots_elsewhere start (finishing_slots v (Some (i, j))) x0 k (untouched start (directory_length v.header) (finishing_slots v (Some (i, j))) k (moved.are_writes n t v is some_in up i j can) (inl under)))
-          ∙ sym (ap (λ (z : Tape). record_at z k) finished_here)
-      | inr over ↦ elim (cases_lt k place) [
-        | inl below ↦
-            let under : k < n = omega (arith, lt) in
-            has.directory k over (omega (arith, below, at_file.place))
-            ∙ ap (λ (ws : SlotWrites). record_at (with_slots start ws t) k) same_there
-            ∙ slots_record start (finishing_slots v (Some (i, j))) t k (omega (arith, under, is.records))
-            ∙ ap (rewritten start (finishing_slots v (Some (i, j))) k) (sym (moved.outside n t v is some_in up i j can k (inl (omega (arith, below)))))
-            ∙ sym (slots_record start (finishing_slots v (Some (i, j))) x0 k (omega (arith, under, moved.size0 n t v is some_in up i j can)))
-            ∙ sym (ap (λ (z : Tape). record_at z k) finished_here)
-        | inr above ↦
-            after k lt above
-            ∙ sym (slots_elsewhere start (finishing_slots v (Some (i, j))) x0 k (untouched start (directory_length v.header) (finishing_slots v (Some (i, j))) k (moved.are_writes n t v is some_in up i j can) (inr (omega (arith, above, low)))))
-            ∙ sym (ap (λ (z : Tape). record_at z k) finished_here)
-      ]
-    ])
-      where
-        after : (k : ℕ) → k < redo_start Two n → place ≤ k → record_at x k ≡ record_at x0 k
-        after k lt above = elim (cases_lt k (place + j)) [
-          | inl early ↦ has.others k (omega (arith, lt, is.records)) (inr (omega (arith, above, at_file.place))) (inl (omega (arith, early, at_file.place, at_file.moved)))
-              ∙ sym (moved.outside n t v is some_in up i j can k (inl early))
-          | inr late ↦ elim (cases_lt k (place + length_of slot)) [
-            | inl inner ↦
-                let m : ℕ = k - (place + j) in
-                let to : k ≡ move.place + (j + m) = omega (arith, late, at_file.place) in
-                let from : move.start + (j + m) ≡ start_of slot + j + m = omega (arith, at_file.start) in
-                let there_k : place + j + m ≡ k = omega (arith, late) in
-                ap (record_at x) to ∙ has.moved (j + m) (omega (arith, at_file.moved)) (omega (arith, late, inner, at_file.long)) ∙ ap (record_at t) from
-                ∙ sym (moved.inside n t v is some_in up i j can m (omega (arith, late, inner))) ∙ ap (record_at x0) there_k
-            | inr outer ↦ has.others k (omega (arith, lt, is.records)) (inr (omega (arith, above, at_file.place))) (inr (omega (arith, outer, at_file.place, at_file.long)))
-                ∙ sym (moved.outside n t v is some_in up i j can k (inr outer))
-          ]
-        ]
+    moved_is_finished x settled_x has = finished_from n t x v is some marked (has.records ∙ is.records) settled_x (λ k lt.
+        moved_below n t v is some quiet up i j can move at_file x has k lt ∙ sym (ap (λ (z : Tape). record_at z k) finished_here))
 
     -- the finished tape is one on which the file was moved
     pub finished_has_moved : HasMoved start move.place r move t (finished t)
@@ -176,7 +214,7 @@ module _ (n : ℕ) (t : Tape) (v : Volume) (is : IsTape n t) (some : volume_of t
           ∙ slots_record start (finishing_slots v (Some (i, j))) x0 k (omega (arith, under, moved.size0 n t v is some_in up i j can))
           ∙ ap (rewritten start (finishing_slots v (Some (i, j))) k) (moved.outside n t v is some_in up i j can k (inl (omega (arith, below, at_file.place))))
           ∙ sym (slots_record start (finishing_slots v (Some (i, j))) t k (omega (arith, under, is.records)))
-          ∙ sym (ap (λ (ws : SlotWrites). record_at (with_slots start ws t) k) same_there);
+          ∙ sym (ap (λ (ws : SlotWrites). record_at (with_slots start ws t) k) (same_writes n t v is some quiet up i j can move at_file));
       others = λ k lt out apart.
           let here : record_at (finished t) k ≡ record_at x0 k = elim out [
             | inl under ↦ ap (λ (z : Tape). record_at z k) finished_here

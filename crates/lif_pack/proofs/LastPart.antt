@@ -12,7 +12,7 @@ use Rattle.lif_model.proofs.Writing.{rewritten, slots_record, slots_elsewhere, l
 use Rattle.lif_pack.specs.Packing.{records_from, unmarked, with_start}
 use Rattle.lif_pack.specs.declared.marks.Move.{Move}
 use Rattle.lif_pack.specs.Moving.{IsMidwayOrMore, IsMidwayOrMoved, IsUnderWay, with_mark, with_target, with_start_in, numbers_from, numbered_from, MayMove, IsMovedTo, IsMidway, HasMoved}
-use Rattle.lif_pack.specs.Tasks.{IsCleared}
+use Rattle.lif_pack.specs.Tasks.{IsCleared, IsClearedOrOld}
 use Rattle.lif_pack.proofs.Carrying.{changed_append, changed_numbered, one_and_numbers, two_and_numbers, length_numbers}
 use Rattle.lif_pack.proofs.MovedParts.{midway_same, entry_twice, written_other, part_moves, at_within, whole_u, redo_record, redo_entry_is, changes_two}
 
@@ -149,6 +149,16 @@ pub part_clears : (first redo : ℕ) (t x : Tape)
     → IsCleared first redo t x
 unfolding with_mark unmarked
 part_clears first redo t x done = record { records = done.records; below = done.below }
+
+-- and what a stop within that commit leaves
+pub clear_stops : (first redo : ℕ) (t y : Tape)
+    → IsOldOrNew Two ((slot_record first redo, with_entry (record_at t (slot_record first redo)) (redo % 8) (with_mark (replicate 4 0) (entry_from t first redo))) ∷ []) t y
+    → IsClearedOrOld first redo t y
+unfolding with_mark unmarked
+clear_stops first redo t y (inl old) = inl old
+clear_stops first redo t y (inr new) =
+    let size : length (with_slots first ((redo, unmarked (entry_from t first redo)) ∷ []) t) ≡ length t = length_slots first ((redo, unmarked (entry_from t first redo)) ∷ []) t in
+    inr (record { records = length_settled y ∙ new.records ∙ size; below = λ k lt. new.same k (omega (arith, lt, size)) })
 
 -- ---- what a stop within any of them leaves
 

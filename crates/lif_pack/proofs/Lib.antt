@@ -18,4 +18,12 @@ pub mod Tasking
 pub mod FinishedTape
 pub mod Midway
 pub mod MidwayTape
+pub mod Agreeing
+pub mod Stopped
+pub mod MovedVolume
+pub mod Placing
+pub mod Refused
+pub mod ClosedVolume
+pub mod SamePacked
+pub mod Swapping
 pub mod Consulting

@@ -21,7 +21,7 @@ use Rattle.lif_pack.specs.declared.marks.Move.{Move}
 use Rattle.lif_pack.specs.Marks.{IsMoveAt}
 use Rattle.lif_pack.specs.Moving.{with_mark, MayMove, IsMidway, HasMoved}
 use Rattle.lif_pack.specs.Tasks.{IsFinished}
-use Rattle.lif_pack.proofs.Order.{CanMove, move_is, above_directory}
+use Rattle.lif_pack.proofs.Order.{CanMove, move_is, move_some, above_directory}
 use Rattle.lif_pack.proofs.Finishing.{redo_here}
 use Rattle.lif_pack.proofs.Tasking.{marked_is_upgraded}
 use Rattle.lif_pack.proofs.FinishedTape.{moved_is_finished, finished_has_moved}
@@ -50,6 +50,9 @@ module _ (n : ℕ) (t : Tape) (v : Volume) (is : IsTape n t) (some : volume_of t
 
     can : CanMove v i j0
     can = move_is v i j0 named
+
+    some_moved : 0 < j0
+    some_moved = move_some v i j0 named
 
     within : r < length v.slots
     within = redo_here n v on.volume up
@@ -88,7 +91,7 @@ module _ (n : ℕ) (t : Tape) (v : Volume) (is : IsTape n t) (some : volume_of t
         (remarked_is_volume n v on.volume up was.entry was.size rest).legal header_x slots_x refl
 
     moves : (bears_mark n w ≡ true) × (move_of w ≡ Some (i, j))
-    moves = remarked_moves n v on.volume up was.entry was.size rest i j j0 can (omega (arith, can.some, more)) (omega (arith, less, at_file.long)) (was.mark.0 ∙ ap suc at_file.slot) was.mark.1
+    moves = remarked_moves n v on.volume up was.entry was.size rest i j j0 can (omega (arith, some_moved, more)) (omega (arith, less, at_file.long)) ((was.mark (omega (arith, some_moved, more))).0 ∙ ap suc at_file.slot) (was.mark (omega (arith, some_moved, more))).1
 
     same_redo_place : redo_place later ≡ r
     same_redo_place = same_place n v on.volume up was.entry was.size rest
@@ -136,6 +139,10 @@ module _ (n : ℕ) (t : Tape) (v : Volume) (is : IsTape n t) (some : volume_of t
     pub midway_is_finished : IsFinished x (finished t)
     midway_is_finished = moved_is_finished n x w tape_x volume_x quiet_x moves.0 i j moves.1 part at_part (finished t) (finished_is_settled n t is)
         (subst (λ (q : ℕ). HasMoved start move.place q part x (finished t)) (sym same_redo_place) rest_has_moved)
+
+    -- its volume has a mark
+    pub midway_marked : (q : Volume) × (volume_of x ≡ Some q) × (bears_mark n q ≡ true)
+    midway_marked = (w, volume_x, moves.0)
 
     -- it is shown as the same volume
     pub midway_shows : finished_volume_of x ≡ finished_volume_of t

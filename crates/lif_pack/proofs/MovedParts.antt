@@ -72,7 +72,7 @@ module _ (n first end redo : ℕ) (u : Tape) (tape : IsTape n u) (within : slot_
     | inr off ↦ written_other (entry_from u first redo) k off
   ]
 
-  pub midway_first : (move : Move) → IsMarkedAs move.slot move.moved (entry_from u first redo) → IsMidway first end redo move move.moved u u
+  pub midway_first : (move : Move) → (0 < move.moved → IsMarkedAs move.slot move.moved (entry_from u first redo)) → IsMidway first end redo move move.moved u u
   midway_first move marked = record {
     entry = entry_from u first redo;
     size = entry_size (record_at u row) (redo % 8) whole column;
@@ -183,7 +183,7 @@ part_marks n first end redo move j count u t x mark tape_u tape_t may begun less
       entry = new;
       size = length-append (take 28 was.entry) mark ∙ omega (arith, front, four);
       rest = take_at (take 28 was.entry) mark 28 front ∙ was.rest;
-      mark = (
+      mark = λ some. (
         two_behind (take 28 was.entry) mark 28 0 front ∙ ap (λ (bs : List ℕ). two_at bs 0) is_mark ∙ two_first (move.slot + 1) (in_two (j + count)) ∙ omega arith,
         two_behind (take 28 was.entry) mark 28 2 front ∙ ap (λ (bs : List ℕ). two_at bs 2) is_mark
             ∙ two_behind (in_two (move.slot + 1)) (in_two (j + count)) 2 0 refl ∙ two_first (j + count) [],

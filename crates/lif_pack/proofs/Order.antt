@@ -61,17 +61,16 @@ packed_within place (slot ∷ slots) are (suc k) lt on =
 
 -- ---- a file that can be moved
 
--- Slot i holds a file of which j records, and not all, can stand at its place already.
+-- Slot i holds a file of which j records, and not all, can stand at its place already, or none.
 pub record CanMove (v : Volume) (i j : ℕ) : Type 0 where
   pub before_redo : i < redo_place v.slots
   pub live : is_live (get_or v.slots i []) ≡ true
-  pub some : 0 < j
   pub fewer : j < length_of (get_or v.slots i [])
   pub in_order : is_in_order v.slots ≡ true
   pub packed : are_packed (directory_end v.header) (take i v.slots) ≡ true
   pub down : packed_start v i < start_of (get_or v.slots i [])
 
-pub move_tells : (v : Volume) (i j : ℕ) → is_move v i j ≡ true → CanMove v i j
+pub move_tells : (v : Volume) (i j : ℕ) → is_move v i j ≡ true → CanMove v i j × (0 < j)
 move_tells v i j is =
     let slot : List ℕ = get_or v.slots i [] in
     let first = and_parts (nat_lt i (redo_place v.slots) && is_live slot) _ is in
@@ -79,33 +78,40 @@ move_tells v i j is =
     let second = and_parts (nat_lt 0 j && nat_lt j (length_of slot)) _ first.1 in
     let two = and_parts (nat_lt 0 j) (nat_lt j (length_of slot)) second.0 in
     let third = and_parts (is_in_order v.slots) _ second.1 in
-    let last = and_parts (are_packed (directory_end v.header) (take i v.slots)) _ third.1 in
-    record {
-      before_redo = ltb-true i (redo_place v.slots) one.0;
-      live = one.1;
-      some = ltb-true 0 j two.0;
-      fewer = ltb-true j (length_of slot) two.1;
-      in_order = third.0;
-      packed = last.0;
-      down = ltb-true (packed_start v i) (start_of slot) last.1;
-    }
+    let last = and_parts (are_packed (directory_end v.header) (take i v.slots)) _ third.1 in (
+      record {
+        before_redo = ltb-true i (redo_place v.slots) one.0;
+        live = one.1;
+        fewer = ltb-true j (length_of slot) two.1;
+        in_order = third.0;
+        packed = last.0;
+        down = ltb-true (packed_start v i) (start_of slot) last.1;
+      },
+      ltb-true 0 j two.0,
+    )
 
 -- the mark of a volume names a file that can be moved, or none
-pub move_is : (v : Volume) (i j : ℕ) → move_of v ≡ Some (i, j) → CanMove v i j
-move_is v i j is = go (moving_slot (marked_slot (redo_slot v))) is
+move_both : (v : Volume) (i j : ℕ) → move_of v ≡ Some (i, j) → CanMove v i j × (0 < j)
+move_both v i j is = go (moving_slot (marked_slot (redo_slot v))) is
   where
     marked : (k : ℕ) → Bool → Option (ℕ × ℕ)
     marked k b = if b then Some (k, marked_count (redo_slot v)) else None
 
-    by : (k : ℕ) (b : Bool) → is_move v k (marked_count (redo_slot v)) ≡ b → marked k b ≡ Some (i, j) → CanMove v i j
+    by : (k : ℕ) (b : Bool) → is_move v k (marked_count (redo_slot v)) ≡ b → marked k b ≡ Some (i, j) → CanMove v i j × (0 < j)
     by k false e none = cc
     by k true e same =
         let pair : (k, marked_count (redo_slot v)) ≡ (i, j) = ap (λ (o : Option (ℕ × ℕ)). unwrap_or o (i, j)) same in
-        subst (λ (p : ℕ × ℕ). CanMove v p.0 p.1) pair (move_tells v k (marked_count (redo_slot v)) e)
+        subst (λ (p : ℕ × ℕ). CanMove v p.0 p.1 × (0 < p.1)) pair (move_tells v k (marked_count (redo_slot v)) e)
 
-    go : (named : Option ℕ) → good_mark v named ≡ Some (i, j) → CanMove v i j
+    go : (named : Option ℕ) → good_mark v named ≡ Some (i, j) → CanMove v i j × (0 < j)
     go None none = cc
     go (Some k) same = by k (is_move v k (marked_count (redo_slot v))) refl same
+
+pub move_is : (v : Volume) (i j : ℕ) → move_of v ≡ Some (i, j) → CanMove v i j
+move_is v i j is = (move_both v i j is).0
+
+pub move_some : (v : Volume) (i j : ℕ) → move_of v ≡ Some (i, j) → 0 < j
+move_some v i j is = (move_both v i j is).1
 
 -- of a legal volume: what such a file's records, at the old and at the new place, leave free
 module _ (n : ℕ) (v : Volume) (i j : ℕ) (is : IsVolume n v) (within : redo_place v.slots < length v.slots) (can : CanMove v i j) where

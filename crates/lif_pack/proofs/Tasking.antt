@@ -1,7 +1,6 @@
 -- What finishes a volume, by a directory in memory.
 use Rattle.std.proofs.Common.{◌≡◌, ◌<◌, ◌≤◌, ◌+◌, ◌/◌, ℕ, List, [], true, Option, Some, None, length, get_or, ap, arith}
 use Rattle.std.specs.Prelude.{IfSome}
-use Rattle.std.specs.FinMap.{empty}
 use Rattle.std.proofs.lemmas.Bool.{and_parts, and_from, lt-ltb}
 use Rattle.lif_model.specs.Header.{HeaderParts, directory_start, directory_length, directory_end}
 use Rattle.lif_model.specs.Directory.{length_of}
@@ -18,15 +17,13 @@ use Rattle.lif_pack.specs.Packing.{bears_mark}
 use Rattle.lif_pack.specs.declared.marks.Move.{Move}
 use Rattle.lif_pack.specs.Marks.{MayBeMoved, IsMarked}
 use Rattle.lif_pack.specs.Tasks.{limit_of, MayFinish}
+use Rattle.lif_pack.specs.Steps.{volume_with}
 use Rattle.lif_pack.proofs.Finishing.{redo_here, other_is_file}
 
 pub marked_is_upgraded : (n : ℕ) (v : Volume) → bears_mark n v ≡ true → is_upgraded n v ≡ true
 marked_is_upgraded n v is = (and_parts (is_upgraded n v) _ is).0
 
 -- a legal directory in memory is that of some volume
-abbrev pub volume_with : List ℕ → List (List ℕ) → Volume
-volume_with header slots = record { header = header; slots = slots; files = empty }
-
 pub directory_is_volume : (n : ℕ) (header : HeaderParts) (slots : List (List ℕ)) (legal : IsLegalDirectory n header slots) → IsVolume n (volume_with legal.bytes slots)
 directory_is_volume n header slots legal =
     let long : header.length ≡ directory_length legal.bytes = ap (λ (h : HeaderParts). h.length) legal.told in

@@ -3,3 +3,4 @@ pub mod Packers
 pub mod Marks
 pub mod Moving
 pub mod Tasks
+pub mod Steps

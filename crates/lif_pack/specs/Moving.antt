@@ -67,12 +67,12 @@ pub record IsMovedTo (first end : ℕ) (move : Move) (j : ℕ) (ws : SlotWrites)
 abbrev pub IsMarkedAs : ℕ → ℕ → List ℕ → Type 0
 IsMarkedAs slot j entry = (marked_slot entry ≡ suc slot) × (marked_count entry ≡ j)
 
--- between two commits: the redo entry has the mark of what has moved
+-- between two commits: where some have moved, the redo entry has the mark of them
 pub record IsMidway (first end redo : ℕ) (move : Move) (j : ℕ) (u x : Tape) : Type 0 where
   pub entry : List ℕ
   pub size : length entry ≡ 32
   pub rest : take 28 entry ≡ take 28 (entry_from u first redo)
-  pub mark : IsMarkedAs move.slot j entry
+  pub mark : 0 < j → IsMarkedAs move.slot j entry
   pub tape : IsMovedTo first end move j ((redo, entry) ∷ []) u x
 
 -- what a stop within a commit of so many records leaves, once it is settled: the tape before or after the commit

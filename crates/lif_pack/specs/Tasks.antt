@@ -1,12 +1,16 @@
 -- What finishes a volume, and the tape that is finished.
-use Rattle.std.specs.Prelude.{◌≡◌, ◌<◌, ◌+◌, ◌-◌, ◌*◌, ℕ, [], ◌∷◌, true, false, length, Option, Some, None, IfSome}
+use Rattle.std.specs.Prelude.{◌≡◌, ◌⊎◌, ◌<◌, ◌+◌, ◌-◌, ◌*◌, ℕ, [], ◌∷◌, true, false, length, Option, Some, None, IfSome}
 use Rattle.lif_model.specs.Tape.{Tape, record_at}
 use Rattle.lif_model.specs.Header.{directory_start}
 use Rattle.lif_model.specs.declared.version.Version.TheVariants.{Two}
 use Rattle.lif_model.specs.Redo.{redo_start, settled, IsSettled}
-use Rattle.lif_model.specs.Volume.{Volume, volume_of}
+use Rattle.lif_model.specs.Commit.{SettlesBelow}
+use Rattle.lif_model.specs.Volume.{Volume, volume_of, is_foreign_gated}
 use Rattle.lif_model.specs.Fit.{redo_place}
 use Rattle.lif_model.specs.Writing.{slot_record, entry_from, with_slots}
+use Rattle.il_ports.specs.Stores.{RecordsView, RunLeaves}
+use Rattle.lif_volume.specs.Views.{VolumeView}
+use Rattle.lif_volume.specs.Commands.{IsTold}
 use Rattle.lif_pack.specs.Packing.{unmarked, bears_mark, has_mark, finished, finished_volume_of}
 use Rattle.lif_pack.specs.declared.marks.Move.{Move}
 use Rattle.lif_pack.specs.declared.tasks.Task.{Task}
@@ -47,7 +51,7 @@ pub record IsFinished (t u : Tape) : Type 0 where
 -- how many records are read and written at most to carry it out
 abbrev pub calls_to_finish : Option Move → ℕ
 calls_to_finish None = 9
-calls_to_finish (Some move) = 4 * (move.length - move.moved) + 12
+calls_to_finish (Some move) = 4 * (move.length - move.moved) + 11
 
 -- the redo entry of a directory that begins at record `first` has lost its mark, and all else below the redo file is as
 -- before
@@ -56,7 +60,27 @@ pub record IsCleared (first redo : ℕ) (t x : Tape) : Type 0 where
   pub below : (k : ℕ) → k < redo_start Two (length t)
       → record_at x k ≡ record_at (with_slots first ((redo, unmarked (entry_from t first redo)) ∷ []) t) k
 
+-- what a stop while the mark is taken off leaves: it settles to the old tape, or has lost its mark
+abbrev pub IsClearedOrOld : (first redo : ℕ) → (t y : Tape) → Type 0
+IsClearedOrOld first redo t y = SettlesBelow Two t y ⊎ IsCleared first redo t (settled y)
+
 -- the settled tape is finished, or this is left to do
 abbrev pub IsLeftToDo : ℕ → Tape → Option Task → Type 0
 IsLeftToDo n t None = IsFinished t (settled t)
 IsLeftToDo n t (Some task) = (v : Volume) × (volume_of (settled t) ≡ Some v) × IsTaskOf n v task
+
+-- ---- stops
+
+-- x is shown as the volume that t is shown as, and has no gate that is not ours
+pub record IsShownAs (t x : Tape) : Type 0 where
+  pub volume : finished_volume_of x ≡ finished_volume_of t
+  pub own_gate : is_foreign_gated x ≡ false
+
+-- at any moment, and after the call
+pub record StaysShown {S : Type 0} (v w : RecordsView S) (t : Tape) : Type 0 where
+  pub stops : RunLeaves v w (IsShownAs t)
+  pub after : (u : Tape) × (w.tape ≡ Some u) × IsShownAs t u
+
+-- of each tape that is not foreign-gated
+abbrev pub KeepsShown : {R S : Type 0} → (R → RecordsView S) → (old new : VolumeView R) → Type 0
+KeepsShown view old new = (t : Tape) → IsTold view old t → is_foreign_gated t ≡ false → StaysShown (view old.records) (view new.records) t

@@ -5,13 +5,15 @@ ghost use Rattle.lif_model.specs.declared.version.Version.TheVariants.{Two};
 ghost use Rattle.lif_model.specs.Redo.{redo_start, settled, IsSettled};
 ghost use Rattle.lif_model.specs.Volume.{Volume as VolumeModel, volume_of};
 ghost use Rattle.lif_model.specs.Writing.{slot_record};
-ghost use Rattle.il_ports.specs.Stores.{IsReady, GoesOn};
+ghost use Rattle.il_ports.specs.Stores.{IsReady, GoesOn, RunLeaves};
 ghost use Rattle.lif_dir.specs.Entries.{slot_bytes};
 ghost use Rattle.lif_volume.specs.Views.{IsOpen};
 ghost use Rattle.lif_volume.specs.Seen.{seen};
-ghost use Rattle.lif_volume.specs.Commands.{IsReadyFor, IsTold};
+ghost use Rattle.lif_volume.specs.Commands.{IsReadyFor, IsTold, OnlySettles};
+ghost use Rattle.lif_volume.specs.Changing.{SettlesForeign};
 ghost use Rattle.lif_pack.specs.Packing.{bears_mark};
-ghost use Rattle.lif_pack.specs.Tasks.{MayFinish, IsTaskOf, IsFinished, IsCleared, IsLeftToDo, calls_to_finish};
+ghost use Rattle.lif_pack.specs.Tasks.{MayFinish, IsTaskOf, IsFinished, IsCleared, IsClearedOrOld, IsLeftToDo, calls_to_finish};
+ghost use Rattle.lif_pack.specs.Tasks.{IsShownAs, KeepsShown};
 
 use crate::marks::mark_of;
 use crate::memory::Packer;
@@ -25,7 +27,8 @@ impl Packer {
     /// Finishes a packing of the volume that was stopped: a file that was being moved is moved to its place, and the
     /// mark in the redo entry is taken off. Where there is no mark the tape is settled alone, and where the directory
     /// is kept besides, no record is read or written. A tape that holds no volume is settled too. On a medium of N
-    /// records at most 15 N + 120 are read and written. An error comes where a call of the store failed.
+    /// records at most 15 N + 120 are read and written. An error comes where a call of the store failed. A power stop
+    /// at any moment, and an error, leave a tape that is finished to the same volume.
     pub fn finish<R: Records>(&mut self, volume: &mut Volume<R>) -> Result<(), Trouble>
         requires open { IsOpen R.view (seen volume.old) }
         requires ready { IsReady (15 * (R.view (seen volume.old).records).record_count + 120)
@@ -35,6 +38,10 @@ impl Packer {
             (R.view (seen volume.old).records) (R.view (seen volume.new).records) result }
         ensures finished { OnOk result ((t : Tape) → IsTold R.view (seen volume.old) t
             → (u : Tape) × IsTold R.view (seen volume.new) u × IsFinished t u) }
+        // What a stop leaves, and the tape after the call, is shown as the same volume; of a tape whose gate record a
+        // file holds that is not ours nothing is changed but by settling.
+        ensures shown { KeepsShown R.view (seen volume.old) (seen volume.new) }
+        ensures foreign { SettlesForeign R.view (seen volume.old) (seen volume.new) }
         // Where the directory is kept and its redo entry has no mark, nothing is done.
         ensures still { IfSome (seen volume.old).kept (λ _. (v : VolumeModel)
             → v.slots ≡ map slot_bytes (seen volume.old).slots
@@ -58,6 +65,8 @@ impl Packer {
             (R.view (seen volume.new).records) result }
         ensures finished { OnOk result ((t : Tape) → IsTold R.view (seen volume.old) t
             → (u : Tape) × IsTold R.view (seen volume.new) u × IsFinished t u) }
+        ensures shown { KeepsShown R.view (seen volume.old) (seen volume.new) }
+        ensures foreign { SettlesForeign R.view (seen volume.old) (seen volume.new) }
     {
         match left_of(volume, size)? {
             None => Ok(()),
@@ -75,6 +84,9 @@ impl Packer {
         ensures finishes { OnOk result ((t : Tape) (v : VolumeModel) → (R.view records.old).tape ≡ Some t
             → volume_of t ≡ Some v → IsTaskOf (R.view records.old).record_count v task.now
             → (x : Tape) × ((R.view records.new).tape ≡ Some x) × IsFinished t x) }
+        ensures stops { (t : Tape) (v : VolumeModel) → (R.view records.old).tape ≡ Some t → volume_of t ≡ Some v
+            → IsTaskOf (R.view records.old).record_count v task.now
+            → RunLeaves (R.view records.old) (R.view records.new) (IsShownAs t) }
     {
         match &task.moving {
             None => self.clear_mark(records, task.first, task.redo),
@@ -97,6 +109,8 @@ impl Packer {
         ensures settled { OnOk result ((t : Tape) → (R.view records.new).tape ≡ Some t → IsSettled t) }
         ensures clears { OnOk result ((t : Tape) → (R.view records.old).tape ≡ Some t
             → (x : Tape) × ((R.view records.new).tape ≡ Some x) × IsCleared first redo t x) }
+        ensures stops { (t : Tape) → (R.view records.old).tape ≡ Some t
+            → RunLeaves (R.view records.old) (R.view records.new) (IsClearedOrOld first redo t) }
     {
         self.bring_mark(records, first, redo, [0; 4])?;
         commit(records, Version::Two, &self.changes)
@@ -127,6 +141,8 @@ fn left_of<R: Records>(volume: &mut Volume<R>, size: u16) -> Result<Option<Task>
         → IsSettled t)) }
     ensures left { IfOk result (λ task. (t : Tape) → IsTold R.view (seen volume.old) t
         → IsTold R.view (seen volume.new) (settled t) × IsLeftToDo size t task) }
+    ensures settling { OnlySettles R.view (seen volume.old) (seen volume.new) }
+    ensures shown { KeepsShown R.view (seen volume.old) (seen volume.new) }
 {
     match volume.dir() {
         Ok(listing) => Ok(task_of(volume.slots(), &listing, size)),

@@ -2,12 +2,15 @@
 //! stopped at any record.
 #![tactic(auto)]
 
+mod closing;
 mod finish;
 mod marks;
 mod memory;
 mod moving;
 mod packer;
+mod packing;
 mod placed;
+mod refusing;
 mod tasks;
 
 pub use memory::Packer;

@@ -53,7 +53,7 @@ pub fn mark_of(slots: &SlotTable, size: u16) -> Option<Mark>
         return None;
     }
     let entry = *slots.entry(redo);
-    if !is_redo_entry(entry, size) {
+    if !is_redo_entry(entry, Version::Two, size) {
         return None;
     }
     let bytes = entry.bytes();
@@ -70,7 +70,7 @@ pub fn mark_of(slots: &SlotTable, size: u16) -> Option<Mark>
 }
 
 /// The place of the redo entry, or the number of slots where there is none.
-fn redo_place(slots: &SlotTable) -> usize
+pub fn redo_place(slots: &SlotTable) -> usize
     ensures value { result ≡ redo_place (map slot_bytes slots.now.slots) }
     ensures within { result ≤ length slots.now.slots }
     ensures bound { result < 2 ^ 32 }
@@ -83,14 +83,14 @@ fn redo_place(slots: &SlotTable) -> usize
     slots.len()
 }
 
-/// Whether the entry is that of a redo file of version 2.
-fn is_redo_entry(entry: FileEntry, size: u16) -> bool
-    ensures { result ≡ is_redo_entry size Two (entry_bytes entry) }
+/// Whether the entry is that of a redo file of this version.
+pub fn is_redo_entry(entry: FileEntry, version: Version, size: u16) -> bool
+    ensures { result ≡ is_redo_entry size version (entry_bytes entry) }
 {
     entry.name.bytes() == *REDO_NAME
         && entry.kind == REDO_KIND
-        && entry.start == u32::from(Version::Two.start(size))
-        && entry.length == u32::from(Version::Two.length())
+        && entry.start == u32::from(version.start(size))
+        && entry.length == u32::from(version.length())
 }
 
 /// The file of a mark, in a directory that ends before record `end`. `None` where the mark is not good.

@@ -31,6 +31,7 @@ impl Packer {
         requires medium { (R.view records.old).record_count < 2 ^ 16 }
         requires small { to + count < 2 ^ 16 }
         requires room { length self.old.changes.items + count ≤ 32 }
+        ensures still { self.new.slots ≡ self.old.slots }
         ensures goes_on { GoesOn count (R.view records.old) (R.view records.new) result }
         ensures quiet { IsQuiet (R.view records.old) (R.view records.new) }
         ensures targets { OnOk result (targets_in self.new.changes.items
@@ -58,6 +59,7 @@ impl Packer {
         requires ready { IsReady 1 (R.view records.old) }
         requires within { slot_record first slot < (R.view records.old).record_count }
         requires small { (R.view records.old).record_count < 2 ^ 16 }
+        ensures still { self.new.slots ≡ self.old.slots }
         ensures goes_on { GoesOn 1 (R.view records.old) (R.view records.new) result }
         ensures quiet { IsQuiet (R.view records.old) (R.view records.new) }
         ensures targets { OnOk result (targets_in self.new.changes.items ≡ slot_record first slot ∷ []) }
@@ -101,6 +103,7 @@ impl Packer {
         requires begun { file.now.moved ≤ moved }
         requires few { count ≤ 30 }
         requires more { moved + count < file.now.length }
+        ensures still { self.new.slots ≡ self.old.slots }
         ensures goes_on { GoesOn (3 * count + 9) (R.view records.old) (R.view records.new) result }
         ensures settled { OnOk result ((t : Tape) → (R.view records.new).tape ≡ Some t → IsSettled t) }
         ensures moves { OnOk result ((u t : Tape) → IsTape (R.view records.old).record_count u
@@ -141,6 +144,7 @@ impl Packer {
         requires begun { file.now.moved ≤ moved }
         requires part { moved < file.now.length }
         requires few { file.now.length ≤ moved + 30 }
+        ensures still { self.new.slots ≡ self.old.slots }
         ensures goes_on { GoesOn (3 * (file.now.length - moved) + 12) (R.view records.old) (R.view records.new) result }
         ensures settled { OnOk result ((t : Tape) → (R.view records.new).tape ≡ Some t → IsSettled t) }
         ensures moves { OnOk result ((u t : Tape) → IsTape (R.view records.old).record_count u
@@ -177,19 +181,20 @@ impl Packer {
         redo: usize,
         file: &Move,
     ) -> Result<(), Trouble>
-        requires ready { IsReady (4 * (file.now.length - file.now.moved) + 12) (R.view records.old) }
+        requires ready { IsReady (4 * (file.now.length - file.now.moved) + 11) (R.view records.old) }
         requires settled { (t : Tape) → (R.view records.old).tape ≡ Some t → IsSettled t }
         requires medium { (R.view records.old).record_count < 2 ^ 16 }
         requires may { MayMove (R.view records.old).record_count first file.now.place redo file.now }
-        ensures goes_on { GoesOn (4 * (file.now.length - file.now.moved) + 12) (R.view records.old)
+        ensures still { self.new.slots ≡ self.old.slots }
+        ensures goes_on { GoesOn (4 * (file.now.length - file.now.moved) + 11) (R.view records.old)
             (R.view records.new) result }
         ensures settled { OnOk result ((t : Tape) → (R.view records.new).tape ≡ Some t → IsSettled t) }
         ensures moves { OnOk result ((t : Tape) → (R.view records.old).tape ≡ Some t
-            → IsMarkedAs file.now.slot file.now.moved (entry_from t first redo)
+            → (0 < file.now.moved → IsMarkedAs file.now.slot file.now.moved (entry_from t first redo))
             → (x : Tape) × ((R.view records.new).tape ≡ Some x) × HasMoved first file.now.place redo file.now t x) }
         // A stop at any moment leaves a tape that settles to one between two of the commits, before or after them all.
         ensures stops { (t : Tape) → (R.view records.old).tape ≡ Some t
-            → IsMarkedAs file.now.slot file.now.moved (entry_from t first redo)
+            → (0 < file.now.moved → IsMarkedAs file.now.slot file.now.moved (entry_from t first redo))
             → RunLeaves (R.view records.old) (R.view records.new) (IsUnderWay first file.now.place redo file.now t) }
     {
         let moved = u32::from(file.moved);
@@ -218,6 +223,7 @@ impl Packer {
         requires within { slot_record first slot < (R.view records.old).record_count }
         requires small { (R.view records.old).record_count < 2 ^ 16 }
         requires one { length self.old.changes.items ≡ 1 }
+        ensures still { self.new.slots ≡ self.old.slots }
         ensures goes_on { GoesOn 1 (R.view records.old) (R.view records.new) result }
         ensures quiet { IsQuiet (R.view records.old) (R.view records.new) }
         ensures targets { OnOk result (targets_in self.new.changes.items
@@ -281,7 +287,7 @@ fn put_start(bytes: &mut Record, k: usize, start: u32)
 
 /// Puts an entry into place `k` of a record of the directory.
 #[tactic(auto, unfolding(lif_model::specs::Writing::with_entry))]
-fn put_entry(bytes: &mut Record, k: usize, entry: &[u8; ENTRY])
+pub fn put_entry(bytes: &mut Record, k: usize, entry: &[u8; ENTRY])
     requires { k < 8 }
     ensures { bytes.new ≡ with_entry bytes.old k entry.now }
 {

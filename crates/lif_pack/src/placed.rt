@@ -26,7 +26,7 @@ pub fn length_of(entry: FileEntry) -> u32
 }
 
 /// Whether the file is live and has records.
-fn occupies(entry: FileEntry) -> bool
+pub fn occupies(entry: FileEntry) -> bool
     ensures { result ≡ occupies (entry_bytes entry) }
 {
     entry.is_live() && entry.has_records()
@@ -40,7 +40,7 @@ fn stands_at(entry: FileEntry, place: u64) -> bool
 }
 
 /// How many records the file has, if it is live.
-fn live_length(entry: FileEntry) -> u32
+pub fn live_length(entry: FileEntry) -> u32
     ensures { result ≡ live_length (entry_bytes entry) }
 {
     if entry.is_live() { length_of(entry) } else { 0 }

@@ -8,6 +8,7 @@ use Rattle.lif_volume.specs.declared.volume.Listing.{Listing}
 use Rattle.lif_volume.specs.Views.{IsDirectoryOf}
 use Rattle.lif_volume.specs.Answers.{store_answer, IsSettledAs, IsLegalAs}
 use Rattle.lif_pack.proofs.Consulting.{some_of, in_each, left_from, nothing_left}
+use Rattle.lif_pack.proofs.Stopped.{shown_settling}
 use Rattle.lif_pack.proofs.finish.left_of.Goals as goal
 
 pub returns-in-Ok-clause-settled : goal.returns-in-Ok-clause-settled
@@ -35,3 +36,18 @@ returns-in-Err-Refused-clause-left g c t is =
       nothing_left c.args.size t tape
           (subst (λ (fault : VolumeFault). IsLegalAs {T = Listing} (settled t) (Err fault)) c.in-Err-Refused.field-0-is (c.in-Err-Refused.ensures.exactly t is)),
     )
+
+pub returns-in-Ok-clause-shown : goal.returns-in-Ok-clause-shown
+returns-in-Ok-clause-shown g c t is own =
+    let did = c.in-Ok.ensures.did in
+    shown_settling _ _ t (g.met.R.Records.is_store _) (g.met.R.Records.is_store _) is (did.settling t is) (did.stays t is own)
+
+pub returns-in-Err-Refused-clause-shown : goal.returns-in-Err-Refused-clause-shown
+returns-in-Err-Refused-clause-shown g c t is own =
+    let did = c.in-Err-Refused.ensures.did in
+    shown_settling _ _ t (g.met.R.Records.is_store _) (g.met.R.Records.is_store _) is (did.settling t is) (did.stays t is own)
+
+pub returns-in-Err-Trouble-clause-shown : goal.returns-in-Err-Trouble-clause-shown
+returns-in-Err-Trouble-clause-shown g c t is own =
+    let did = c.in-Err-Trouble.ensures.did in
+    shown_settling _ _ t (g.met.R.Records.is_store _) (g.met.R.Records.is_store _) is (did.settling t is) (did.stays t is own)

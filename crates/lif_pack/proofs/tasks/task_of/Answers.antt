@@ -4,7 +4,8 @@ use Rattle.lif_dir.specs.Entries.{slot_bytes}
 use Rattle.lif_pack.specs.Marks.{IsMarked}
 use Rattle.lif_pack.specs.Tasks.{MayFinish}
 use Rattle.lif_pack.proofs.Marking.{marked_from}
-use Rattle.lif_pack.proofs.Tasking.{marked_is_upgraded, volume_with, directory_is_volume, may_finish, within_limit}
+use Rattle.lif_pack.proofs.Tasking.{marked_is_upgraded, directory_is_volume, may_finish, within_limit}
+use Rattle.lif_pack.specs.Steps.{volume_with}
 use Rattle.lif_pack.proofs.tasks.task_of.Goals as goal
 
 pub returns-then-from-mark-clause-task : goal.returns-then-from-mark-clause-task

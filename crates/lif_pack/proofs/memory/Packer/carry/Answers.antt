@@ -23,6 +23,7 @@ loop-i-preserved g c =
     let inv = c.loop-i.invariant in
     let pushed : c.push.new.self.items ≡ c.loop-i.self.changes.items ++ (c.args.to + c.loop-i.i, c.read.new.into) ∷ [] = search rules in
     record {
+      still = inv.still;
       goes_on = goes_further _ 1 _ _ _ _ _ inv.goes_on c.in_ok-read.ensures.goes_on;
       quiet = quiet_longer _ _ _ inv.quiet c.read.ensures.quiet;
       targets = ap targets_in pushed ∙ targets_more (targets_in c.args.self.now.changes.items) c.loop-i.self.changes.items c.args.to c.loop-i.i c.read.new.into inv.targets;

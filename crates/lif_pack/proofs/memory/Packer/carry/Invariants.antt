@@ -9,6 +9,7 @@ use Rattle.lif_pack.proofs.memory.Packer.carry.Given as goal
 
 abbrev pub invariant-loop-i : goal.invariant-loop-i
 invariant-loop-i g l = record {
+  still : l.self.slots ≡ l.initial.self.slots;
   goes_on : GoesOn {T = Unit {0}} l.i (g.R.Records.view l.initial.records) (g.R.Records.view l.records) (Ok tt);
   quiet : IsQuiet (g.R.Records.view l.initial.records) (g.R.Records.view l.records);
   targets : targets_in l.self.changes.items ≡ targets_in l.initial.self.changes.items ++ numbers_from l.fn.to l.i;

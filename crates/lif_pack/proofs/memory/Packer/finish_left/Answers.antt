@@ -1,9 +1,14 @@
-use Rattle.std.proofs.Common.{◌≡◌, ◌∙◌, ℕ, ap, subst, sym}
-use Rattle.std.specs.Prelude.{Some}
+use Rattle.std.proofs.Common.{◌≡◌, ◌+◌, ◌*◌, ◌∙◌, ℕ, Option, ap, subst, sym, arith}
+use Rattle.std.specs.Prelude.{Some, IfSome, is_some}
 use Rattle.std.proofs.lemmas.Result.{on_ok_weaker}
-use Rattle.lif_model.specs.Redo.{settled}
-use Rattle.lif_pack.specs.Tasks.{IsLeftToDo, IsTaskOf}
+use Rattle.lif_model.specs.Tape.{Tape, IsTape}
+use Rattle.lif_model.specs.Redo.{settled, IsSettled}
+use Rattle.il_ports.specs.Stores.{GoesOn, RunLeaves}
+use Rattle.il_ports.proofs.Stores.{goes_further, goes_within}
+use Rattle.lif_pack.specs.declared.tasks.Task.{Task}
+use Rattle.lif_pack.specs.Tasks.{MayFinish, IsLeftToDo, IsTaskOf, IsShownAs, calls_to_finish}
 use Rattle.lif_pack.proofs.FinishedTape.{finished_after}
+use Rattle.lif_pack.proofs.Stopped.{shown_further, task_not_foreign, few_to_finish}
 use Rattle.lif_pack.proofs.memory.Packer.finish_left.Goals as goal
 
 pub returns-in-None-clause-finished : goal.returns-in-None-clause-finished
@@ -21,3 +26,36 @@ returns-in-Some-clause-finished g c = on_ok_weaker c.carry_out.result (λ finish
     ap (λ r. (g.R.Records.view r).tape) c.records_mut.ensures.value ∙ left.0 in
     let x = finishes (settled t) of.0 tape of.1 (subst (λ (n : ℕ). IsTaskOf n of.0 c.in-Some.task) size of.2) in
     (x.0, x.1, finished_after t x.0 x.2)) c.carry_out.ensures.finishes
+
+pub carry_out-requires-clause-settled : goal.carry_out-requires-clause-settled
+carry_out-requires-clause-settled g c t is =
+    subst (λ (o : Option Task). IfSome o (λ _. (t : Tape) → (g.R.Records.view c.left_of.new.volume.records).tape ≡ Some t → IsSettled t)) c.in-Some.is c.in_ok-left_of.ensures.settled t
+    (ap (λ r. (g.R.Records.view r).tape) (sym c.records_mut.ensures.value) ∙ is)
+
+pub returns-in-None-clause-foreign : goal.returns-in-None-clause-foreign
+returns-in-None-clause-foreign g c t is on = c.left_of.ensures.settling t is
+
+pub returns-in-Some-clause-goes_on : goal.returns-in-Some-clause-goes_on
+returns-in-Some-clause-goes_on g c =
+    let may : MayFinish c.args.size c.in-Some.task = subst (λ (o : Option Task). IfSome o (MayFinish c.args.size)) c.in-Some.is c.in_ok-left_of.ensures.may in
+    let few = few_to_finish c.args.size c.in-Some.task.first c.in-Some.task.redo c.in-Some.task.moving may.moving in
+    goes_within (c.args.size + 66 + calls_to_finish c.in-Some.task.moving) (15 * c.args.size + 120) _ _ _ (omega (arith, few))
+    (goes_further (c.args.size + 66) (calls_to_finish c.in-Some.task.moving) _ _ _ _ _ c.in_ok-left_of.ensures.goes_on
+    (subst (λ r. GoesOn (calls_to_finish c.in-Some.task.moving) (g.R.Records.view r) (g.R.Records.view c.carry_out.new.records) c.carry_out.result) c.records_mut.ensures.value c.carry_out.ensures.goes_on))
+
+pub returns-in-Some-clause-shown : goal.returns-in-Some-clause-shown
+returns-in-Some-clause-shown g c t is own =
+    let left = c.in_ok-left_of.ensures.left t is in
+    let of = subst (IsLeftToDo c.args.size t) c.in-Some.is left.1 in
+    let size : c.args.size ≡ (g.R.Records.view c.records_mut.result.now).record_count =
+    c.requires.size ∙ sym c.in_ok-left_of.ensures.goes_on.continues.size ∙ sym (ap (λ r. (g.R.Records.view r).record_count) c.records_mut.ensures.value) in
+    let tape : (g.R.Records.view c.records_mut.result.now).tape ≡ Some (settled t) =
+    ap (λ r. (g.R.Records.view r).tape) c.records_mut.ensures.value ∙ left.0 in
+    let next = c.carry_out.ensures.stops (settled t) of.0 tape of.1 (subst (λ (n : ℕ). IsTaskOf n of.0 c.in-Some.task) size of.2) in
+    shown_further _ _ _ t (g.met.R.Records.is_store _) (c.carry_out.ensures.goes_on.continues.told ∙ ap is_some tape) (c.in_ok-left_of.ensures.shown t is own)
+    (subst (λ r. RunLeaves (g.R.Records.view r) (g.R.Records.view c.carry_out.new.records) (IsShownAs (settled t))) c.records_mut.ensures.value next)
+
+pub returns-in-Some-clause-foreign : goal.returns-in-Some-clause-foreign
+returns-in-Some-clause-foreign g c t is on =
+    let tape : IsTape c.args.size t = subst (λ m. IsTape m t) (sym c.requires.size) ((g.met.R.Records.is_store _).is_tape t is) in
+    absurd (task_not_foreign c.args.size t c.in-Some.task tape (subst (IsLeftToDo c.args.size t) c.in-Some.is (c.in_ok-left_of.ensures.left t is).1) on)

@@ -1,4 +1,4 @@
-use Rattle.std.proofs.Common.{◌≡◌, ◌+◌, ◌-◌, ◌*◌, ◌/◌, ℕ, subst, sym, arith, inl}
+use Rattle.std.proofs.Common.{◌≡◌, ◌∙◌, ◌+◌, ◌-◌, ◌*◌, ◌/◌, ℕ, refl, subst, sym, arith, inl}
 use Rattle.std.proofs.lemmas.Result.{on_ok_weaker}
 use Rattle.lif_model.specs.Tape.{Tape, IsTape}
 use Rattle.lif_model.proofs.Moments.{follows}
@@ -10,6 +10,7 @@ use Rattle.lif_pack.proofs.memory.Packer.move_rest.Goals as goal
 
 pub loop-i-init : goal.loop-i-init
 loop-i-init g c = record {
+  still = refl;
   goes_on = goes_nowhere _ _ c.requires.ready;
   settled = c.requires.settled;
   moves = λ t is mark.
@@ -39,6 +40,7 @@ pub loop-i-preserved : goal.loop-i-preserved
 loop-i-preserved g c =
     let inv = c.loop-i.invariant in
     record {
+      still = c.move_part.ensures.still ∙ inv.still;
       goes_on = goes_within (99 * c.loop-i.i + (3 * 30 + 9)) (99 * (c.loop-i.i + 1)) _ _ _ (omega arith)
           (goes_further (99 * c.loop-i.i) (3 * 30 + 9) _ _ _ _ _ inv.goes_on c.in_ok-move_part.ensures.goes_on);
       settled = c.in_ok-move_part.ensures.settled;
@@ -97,3 +99,9 @@ returns-clause-stops g c t is mark =
     (c.move_last.ensures.stops t was.0 tape was.1 (subst (λ (m : ℕ). IsMidway c.args.first c.args.file.now.place c.args.redo c.args.file.now m t was.0) same was.2))
     (λ y stopped. moved_is_under_way c.args.first c.args.file.now.place c.args.redo c.args.file.now (c.from-moved.result + 30 * parts) t y
     (omega (arith, c.from-moved.ensures)) (omega (arith, c.from-moved.ensures, c.requires.may.part)) stopped)
+
+pub returns-in_err-move_part-clause-still : goal.returns-in_err-move_part-clause-still
+returns-in_err-move_part-clause-still g c = c.move_part.ensures.still ∙ c.loop-i.invariant.still
+
+pub returns-clause-still : goal.returns-clause-still
+returns-clause-still g c = c.move_last.ensures.still ∙ c.loop-i.invariant.still

@@ -1,0 +1,48 @@
+-- The steps of packing: slots in memory, whose files are moved to their places one after the other.
+use Rattle.std.specs.Prelude.{◌≡◌, ◌<◌, ◌≤◌, ◌+◌, ℕ, List, [], true, false, get_or, take, Some}
+use Rattle.std.specs.FinMap.{empty}
+use Rattle.lif_model.specs.Tape.{Tape}
+use Rattle.lif_model.specs.Header.{directory_start, directory_end}
+use Rattle.lif_model.specs.Legal.{is_live}
+use Rattle.lif_model.specs.Volume.{Volume, IsVolume, volume_of}
+use Rattle.lif_model.specs.Fit.{redo_place}
+use Rattle.lif_model.specs.Apply.{is_upgraded}
+use Rattle.lif_pack.specs.Packing.{is_in_order, live_records, are_packed, bears_mark, packed}
+
+-- some volume with this record 0 and these slots
+abbrev pub volume_with : List ℕ → List (List ℕ) → Volume
+volume_with header slots = record { header = header; slots = slots; files = empty }
+
+-- The slots are those of a legal directory of version 2, which begins at record `first` and ends before record `end`. They are
+-- in order and have no mark, and slot `redo` is the redo entry.
+pub record MayPack (n first end redo : ℕ) (slots : List (List ℕ)) : Type 0 where
+  pub header : List ℕ
+  pub volume : IsVolume n (volume_with header slots)
+  pub starts : directory_start header ≡ first
+  pub ends : directory_end header ≡ end
+  pub version : is_upgraded n (volume_with header slots) ≡ true
+  pub unmarked : bears_mark n (volume_with header slots) ≡ false
+  pub in_order : is_in_order slots ≡ true
+  pub redo_is : redo_place slots ≡ redo
+
+-- the files of so many slots stand at their places, the first of which is record `end`, and this is the next one
+pub record ArePlaced (end count place : ℕ) (slots : List (List ℕ)) : Type 0 where
+  pub packed : are_packed end (take count slots) ≡ true
+  pub next : place ≡ end + live_records (take count slots)
+
+-- The tape x has the volume of t with other slots: these in place of those. So the bytes of each file are as they were.
+abbrev pub HasSlotsOf : (first end : ℕ) → (old new : List (List ℕ)) → (t x : Tape) → Type 0
+HasSlotsOf first end old new t x = (v : Volume) → volume_of t ≡ Some v → v.slots ≡ old → directory_start v.header ≡ first
+    → directory_end v.header ≡ end → volume_of x ≡ Some (record v { slots = new })
+
+-- packing makes the same of a volume with either of these slots
+abbrev pub ArePackedAlike : (n end : ℕ) → (old new : List (List ℕ)) → Type 0
+ArePackedAlike n end old new = (v : Volume) → directory_end v.header ≡ end
+    → packed n (record v { slots = new }) ≡ packed n (record v { slots = old })
+
+-- ---- closing up
+
+-- the slots from slot `front` on, before slot `slot`, are purged
+pub record IsGap (front slot : ℕ) (slots : List (List ℕ)) : Type 0 where
+  pub order : front ≤ slot
+  pub purged : (k : ℕ) → front ≤ k → k < slot → is_live (get_or slots k []) ≡ false

@@ -1,0 +1,164 @@
+//! Slots of a directory change places, and no gap is left among the live ones.
+ghost use Rattle.std.specs.Prelude.{◌≡◌, ◌≢◌, ◌<◌, ◌≤◌, ◌+◌, ◌^◌, ◌++◌, ◌/◌, ℕ, [], ◌∷◌, length, get_or, set};
+ghost use Rattle.std.specs.Prelude.{Some, None, IfSome, IfOk, OnOk};
+ghost use Rattle.lif_model.specs.Tape.{Tape};
+ghost use Rattle.lif_model.specs.Writing.{SlotWrites, slot_record};
+ghost use Rattle.il_ports.specs.Stores.{IsReady, GoesOn, IsQuiet};
+ghost use Rattle.lif_commit.specs.Staged.{BroughtIn, IsStagedAs};
+ghost use Rattle.lif_pack.specs.Packers.{slots_held};
+
+use crate::memory::Packer;
+use crate::moving::put_entry;
+use il_ports::{Records, Trouble};
+use lif_model::{ENTRIES, ENTRY, RECORD};
+
+impl Packer {
+    ghost use Rattle.std.specs.Prelude.{filter};
+    ghost use Rattle.lif_model.specs.Legal.{is_live};
+    ghost use Rattle.lif_pack.specs.Packing.{slots_after};
+    ghost use Rattle.lif_pack.specs.Steps.{IsGap};
+
+    /// Brings slot `slot`, where it is live, forward to slot `front`, between which and it all are purged, and tells
+    /// where the next one is to stand: in memory and in the records of the directory that are set aside.
+    pub(crate) fn close_slot<R: Records>(
+        &mut self,
+        records: &mut R,
+        first: u16,
+        slot: usize,
+        front: usize,
+    ) -> Result<usize, Trouble>
+        requires ready { IsReady 2 (R.view records.old) }
+        requires gap { IsGap front slot (slots_held self.old) }
+        requires slot { slot < length (slots_held self.old) }
+        requires bound { slot < 2 ^ 32 }
+        requires within { slot_record first slot < (R.view records.old).record_count }
+        requires small { (R.view records.old).record_count < 2 ^ 16 }
+        requires room { length self.old.changes.items + 2 ≤ 32 }
+        ensures goes_on { GoesOn 2 (R.view records.old) (R.view records.new) result }
+        ensures quiet { IsQuiet (R.view records.old) (R.view records.new) }
+        ensures count { length self.new.changes.items ≤ length self.old.changes.items + 2 }
+        ensures gap { IfOk result (λ next. IsGap next (slot + 1) (slots_held self.new)) }
+        // The live slots stand in the same order.
+        ensures live { OnOk result (filter is_live (slots_held self.new) ≡ filter is_live (slots_held self.old)) }
+        // What was written makes these slots of those.
+        ensures staged { OnOk result ((writes : SlotWrites)
+            → IsStagedAs first (R.view records.old).tape (λ x. writes) self.old.changes.items → (more : SlotWrites)
+            × IsStagedAs first (R.view records.old).tape (λ x. writes ++ more) self.new.changes.items
+            × (slots_after more (slots_held self.old) ≡ slots_held self.new)) }
+    {
+        if !self.slots.entry(slot).is_live() {
+            return Ok(front);
+        }
+        if front == slot {
+            return Ok(front + 1);
+        }
+        self.swap(records, first, front, slot)?;
+        Ok(front + 1)
+    }
+}
+
+impl Packer {
+    /// Swaps two slots: in memory, and in the records of the directory that are set aside. The directory begins at
+    /// record `first`.
+    pub(crate) fn swap<R: Records>(
+        &mut self,
+        records: &mut R,
+        first: u16,
+        one: usize,
+        other: usize,
+    ) -> Result<(), Trouble>
+        requires ready { IsReady 2 (R.view records.old) }
+        requires one { one < length (slots_held self.old) }
+        requires other { other < length (slots_held self.old) }
+        requires within_one { slot_record first one < (R.view records.old).record_count }
+        requires within_other { slot_record first other < (R.view records.old).record_count }
+        requires small { (R.view records.old).record_count < 2 ^ 16 }
+        requires room { length self.old.changes.items + 2 ≤ 32 }
+        ensures goes_on { GoesOn 2 (R.view records.old) (R.view records.new) result }
+        ensures quiet { IsQuiet (R.view records.old) (R.view records.new) }
+        ensures count { length self.new.changes.items ≤ length self.old.changes.items + 2 }
+        ensures slots { OnOk result (slots_held self.new ≡ set (set (slots_held self.old) one
+            (get_or (slots_held self.old) other [])) other (get_or (slots_held self.old) one [])) }
+        ensures staged { OnOk result ((writes : Tape → SlotWrites)
+            → IsStagedAs first (R.view records.old).tape writes self.old.changes.items
+            → IsStagedAs first (R.view records.old).tape (λ x. (writes x ++ (one, get_or (slots_held self.old) other []) ∷ [])
+            ++ (other, get_or (slots_held self.old) one []) ∷ []) self.new.changes.items) }
+    {
+        let first_slot = *self.slots.get(one);
+        let second_slot = *self.slots.get(other);
+        let first_bytes = self.slots.entry(one).bytes();
+        let second_bytes = self.slots.entry(other).bytes();
+        self.write_slot(records, first, one, &second_bytes)?;
+        self.write_slot(records, first, other, &first_bytes)?;
+        self.slots.set(one, second_slot);
+        self.slots.set(other, first_slot);
+        Ok(())
+    }
+
+    /// Puts an entry into a slot of the directory, in the records that are set aside. Its record is read where it is
+    /// not among them.
+    fn write_slot<R: Records>(
+        &mut self,
+        records: &mut R,
+        first: u16,
+        slot: usize,
+        entry: &[u8; ENTRY],
+    ) -> Result<(), Trouble>
+        requires ready { IsReady 1 (R.view records.old) }
+        requires within { slot_record first slot < (R.view records.old).record_count }
+        requires small { (R.view records.old).record_count < 2 ^ 16 }
+        requires room { length self.old.changes.items < 32 }
+        ensures still { self.new.slots ≡ self.old.slots }
+        ensures goes_on { GoesOn 1 (R.view records.old) (R.view records.new) result }
+        ensures quiet { IsQuiet (R.view records.old) (R.view records.new) }
+        ensures count { length self.new.changes.items ≤ length self.old.changes.items + 1 }
+        ensures staged { OnOk result ((writes : Tape → SlotWrites)
+            → IsStagedAs first (R.view records.old).tape writes self.old.changes.items
+            → IsStagedAs first (R.view records.old).tape (λ x. writes x ++ (slot, entry.now) ∷ [])
+            self.new.changes.items) }
+    {
+        let place = self.bring_record(records, first, slot)?;
+        put_entry(&mut self.changes[place].1, slot % ENTRIES, entry);
+        Ok(())
+    }
+
+    /// The place of a slot's record among those that are set aside. Where it is not among them it is read, and comes
+    /// last.
+    fn bring_record<R: Records>(
+        &mut self,
+        records: &mut R,
+        first: u16,
+        slot: usize,
+    ) -> Result<usize, Trouble>
+        requires ready { IsReady 1 (R.view records.old) }
+        requires within { slot_record first slot < (R.view records.old).record_count }
+        requires small { (R.view records.old).record_count < 2 ^ 16 }
+        requires room { length self.old.changes.items < 32 }
+        ensures still { self.new.slots ≡ self.old.slots }
+        ensures goes_on { GoesOn 1 (R.view records.old) (R.view records.new) result }
+        ensures quiet { IsQuiet (R.view records.old) (R.view records.new) }
+        ensures count { length self.new.changes.items ≤ length self.old.changes.items + 1 }
+        ensures found { IfOk result (λ place. BroughtIn (slot_record first slot) place (R.view records.old).tape
+            self.old.changes.items self.new.changes.items) }
+        ensures within { IfOk result (λ place. place < length self.new.changes.items) }
+    {
+        let number = first + (slot / ENTRIES) as u16;
+        if let Some(place) = self.place_of(number) {
+            return Ok(place);
+        }
+        let mut bytes = [0; RECORD];
+        records.read(number, &mut bytes)?;
+        self.changes.push((number, bytes)).unwrap();
+        Ok(self.changes.len() - 1)
+    }
+
+    /// Where a record stands among those that are set aside.
+    fn place_of(&self, number: u16) -> Option<usize>
+        ensures there { IfSome result (λ place. (place < length self.now.changes.items)
+            × ((get_or self.now.changes.items place (0, [])).0 ≡ number)) }
+        ensures nowhere { result ≡ None → (p : ℕ) → p < length self.now.changes.items
+            → (get_or self.now.changes.items p (0, [])).0 ≢ number }
+    {
+        self.changes.iter().position(|change| change.0 == number)
+    }
+}
