@@ -10,3 +10,7 @@ nop = command 0x10
 -- send status
 abbrev pub sst : Frame
 sst = ready 0x61
+
+-- take control
+abbrev pub tct : Frame
+tct = ready 0x64

@@ -4,3 +4,4 @@ pub mod Steps
 pub mod State
 pub mod Takes
 pub mod Courses
+pub mod Lends
