@@ -1,10 +1,12 @@
 //! What is said of traces, and of the tapes before them and after them.
 
+ghost use Rattle.std.specs.Prelude.{◌≡◌, IfOk};
+
 use crate::images::formatted;
 use crate::loops::ALTERED_TRACE;
 use crate::runs::{shelf_of, words_of};
 use il_check::run_check;
-use il_ports::{MemoryMedium, MemorySink, MemorySource};
+use il_ports::{Medium, MemoryMedium, MemorySink, MemorySource};
 use il_same::{same, same_bytes};
 use std::alloc::{AllocError, Global};
 use std::process::Abort;
@@ -41,8 +43,10 @@ impl<'a> Given<'a> {
     }
 }
 
-/// A medium with this image, which fails as it is given.
-fn medium(alloc: Global, image: Option<&[u8]>, given: &Given) -> Result<MemoryMedium, AllocError> {
+/// A medium with this image, which fails as it is given. No tape is in.
+fn medium(alloc: Global, image: Option<&[u8]>, given: &Given) -> Result<MemoryMedium, AllocError>
+    ensures { IfOk result (λ m. (⟦<MemoryMedium as Medium>⟧.view m).record_count ≡ 0) }
+{
     MemoryMedium::new(
         alloc,
         shelf_of(alloc, image)?,
