@@ -26,4 +26,5 @@ pub mod Refused
 pub mod ClosedVolume
 pub mod SamePacked
 pub mod Swapping
+pub mod Counted
 pub mod Consulting

@@ -146,10 +146,9 @@ module _ (n : ℕ) (v : Volume) (is : IsVolume n v) (up : is_upgraded n v ≡ tr
   are = packed_are low files sizes (λ k lt. (file_slot k lt).live)
 
   -- they have room before the redo file
-  room : low + live_records front ≤ redo_start Two n
-  room =
+  pub files_have_room : low + live_records files ≤ redo_start Two n
+  files_have_room =
       let before = ends_before_redo Two n v is up in
-      let enough : low + live_records files ≤ redo_start Two n =
       room_between n low (redo_start Two n) v.slots before.0
       (λ k lt file some.
       let tells = is_file_tells n (get_or v.slots k []) file in
@@ -161,8 +160,10 @@ module _ (n : ℕ) (v : Volume) (is : IsVolume n v) (up : is_upgraded n v ≡ tr
       elim (is.legal.apart i j lt long first second) [
         | inl le ↦ le
         | inr le ↦ absurd (omega (arith, le, rise v.slots in_order i j lt long first second))
-      ]) in
-      omega (arith, enough, are.1)
+      ])
+
+  room : low + live_records front ≤ redo_start Two n
+  room = omega (arith, files_have_room, are.1)
 
   -- ---- legal
 

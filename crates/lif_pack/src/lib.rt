@@ -3,6 +3,7 @@
 #![tactic(auto)]
 
 mod closing;
+mod counting;
 mod finish;
 mod marks;
 mod memory;

@@ -33,7 +33,7 @@ pub fn occupies(entry: FileEntry) -> bool
 }
 
 /// Whether the file, if it is live and has records, begins at this place.
-fn stands_at(entry: FileEntry, place: u64) -> bool
+pub fn stands_at(entry: FileEntry, place: u64) -> bool
     ensures { result ≡ stands_at place (entry_bytes entry) }
 {
     !occupies(entry) || u64::from(start_of(entry)) == place
