@@ -1,6 +1,8 @@
 -- A live slot that is swapped with the first of a run of purged ones before it: the live ones stand in the same order.
-use Rattle.std.proofs.Common.{◌≡◌, ◌<◌, ◌≤◌, ℕ, zero, suc, List, [], ◌∷◌, Bool, false, if◌then◌else◌, length, get_or, set, filter, sym, ◌∙◌, ap, arith}
+use Rattle.std.proofs.Common.{◌≡◌, ◌<◌, ◌≤◌, ◌++◌, ℕ, zero, suc, List, [], ◌∷◌, Bool, false, if◌then◌else◌, length, get_or, set, filter, refl, sym, ◌∙◌, ap, arith}
 use Rattle.lif_model.specs.Legal.{is_live}
+use Rattle.lif_model.specs.Writing.{SlotWrites}
+use Rattle.lif_pack.specs.Packing.{slots_after}
 
 swap_behind : (p : List ℕ) → is_live p ≡ false → (xs : List (List ℕ)) (s : ℕ) → s < length xs → ((k : ℕ) → k < s → is_live (get_or xs k []) ≡ false)
     → (if is_live (get_or xs s []) then get_or xs s [] ∷ filter is_live (set xs s p) else filter is_live (set xs s p)) ≡ filter is_live xs
@@ -26,3 +28,10 @@ swapped_live (x ∷ xs) zero (suc s) less lt purged =
 swapped_live (x ∷ xs) (suc front) (suc s) less lt purged =
     ap (λ (ys : List (List ℕ)). if is_live x then x ∷ ys else ys)
     (swapped_live xs front s (omega (arith, less)) (omega (arith, lt)) (λ k le under. purged (suc k) (omega (arith, le)) (omega (arith, under))))
+
+-- ---- slots that are written
+
+-- more of them
+pub slots_after_all : (ws more : SlotWrites) (slots : List (List ℕ)) → slots_after (ws ++ more) slots ≡ slots_after more (slots_after ws slots)
+slots_after_all [] more slots = refl
+slots_after_all (w ∷ ws) more slots = slots_after_all ws more (set slots w.0 w.1)

@@ -4,7 +4,7 @@ ghost use Rattle.std.specs.Prelude.{Some, None, IfSome, IfOk, OnOk};
 ghost use Rattle.lif_model.specs.Tape.{Tape};
 ghost use Rattle.lif_model.specs.Writing.{SlotWrites, slot_record};
 ghost use Rattle.il_ports.specs.Stores.{IsReady, GoesOn, IsQuiet};
-ghost use Rattle.lif_commit.specs.Staged.{BroughtIn, IsStagedAs};
+ghost use Rattle.lif_commit.specs.Staged.{BroughtIn, IsStagedAs, AreBefore};
 ghost use Rattle.lif_pack.specs.Packers.{slots_held};
 
 use crate::memory::Packer;
@@ -17,6 +17,46 @@ impl Packer {
     ghost use Rattle.lif_model.specs.Legal.{is_live};
     ghost use Rattle.lif_pack.specs.Packing.{slots_after};
     ghost use Rattle.lif_pack.specs.Steps.{IsGap};
+
+    /// Brings the live slots from slot `from` on, before slot `until`, eight at most, forward to slot `front`, between which
+    /// and slot `from` all are purged, and tells where the next one is to stand: in memory and in the records of the
+    /// directory, which are set aside anew.
+    fn close_slots<R: Records>(
+        &mut self,
+        records: &mut R,
+        first: u16,
+        from: usize,
+        until: usize,
+        front: usize,
+    ) -> Result<usize, Trouble>
+        requires ready { IsReady 16 (R.view records.old) }
+        requires gap { IsGap front from (slots_held self.old) }
+        requires order { from ≤ until }
+        requires few { until ≤ from + 8 }
+        requires until { until ≤ length (slots_held self.old) }
+        requires bound { until < 2 ^ 32 }
+        requires within { slot_record first until < (R.view records.old).record_count }
+        requires small { (R.view records.old).record_count < 2 ^ 16 }
+        ensures goes_on { GoesOn 16 (R.view records.old) (R.view records.new) result }
+        ensures quiet { IsQuiet (R.view records.old) (R.view records.new) }
+        ensures count { length self.new.changes.items ≤ 16 }
+        ensures long { length (slots_held self.new) ≡ length (slots_held self.old) }
+        ensures gap { IfOk result (λ next. IsGap next until (slots_held self.new)) }
+        // The live slots stand in the same order.
+        ensures live { OnOk result (filter is_live (slots_held self.new) ≡ filter is_live (slots_held self.old)) }
+        // What was written makes these slots of those.
+        ensures staged { OnOk result ((writes : SlotWrites)
+            × IsStagedAs first (R.view records.old).tape (λ x. writes) self.new.changes.items
+            × AreBefore (length (slots_held self.old)) until writes
+            × (slots_after writes (slots_held self.old) ≡ slots_held self.new)) }
+    {
+        self.changes.clear();
+        let mut next = front;
+        for slot in from..until {
+            next = self.close_slot(records, first, slot, next)?;
+        }
+        Ok(next)
+    }
 
     /// Brings slot `slot`, where it is live, forward to slot `front`, between which and it all are purged, and tells
     /// where the next one is to stand: in memory and in the records of the directory that are set aside.
@@ -37,6 +77,7 @@ impl Packer {
         ensures goes_on { GoesOn 2 (R.view records.old) (R.view records.new) result }
         ensures quiet { IsQuiet (R.view records.old) (R.view records.new) }
         ensures count { length self.new.changes.items ≤ length self.old.changes.items + 2 }
+        ensures long { length (slots_held self.new) ≡ length (slots_held self.old) }
         ensures gap { IfOk result (λ next. IsGap next (slot + 1) (slots_held self.new)) }
         // The live slots stand in the same order.
         ensures live { OnOk result (filter is_live (slots_held self.new) ≡ filter is_live (slots_held self.old)) }
@@ -44,6 +85,7 @@ impl Packer {
         ensures staged { OnOk result ((writes : SlotWrites)
             → IsStagedAs first (R.view records.old).tape (λ x. writes) self.old.changes.items → (more : SlotWrites)
             × IsStagedAs first (R.view records.old).tape (λ x. writes ++ more) self.new.changes.items
+            × AreBefore (length (slots_held self.old)) (slot + 1) more
             × (slots_after more (slots_held self.old) ≡ slots_held self.new)) }
     {
         if !self.slots.entry(slot).is_live() {
@@ -77,6 +119,9 @@ impl Packer {
         ensures goes_on { GoesOn 2 (R.view records.old) (R.view records.new) result }
         ensures quiet { IsQuiet (R.view records.old) (R.view records.new) }
         ensures count { length self.new.changes.items ≤ length self.old.changes.items + 2 }
+        ensures long { length (slots_held self.new) ≡ length (slots_held self.old) }
+        ensures entries { OnOk result ((length (get_or (slots_held self.old) one []) ≡ 32)
+            × (length (get_or (slots_held self.old) other []) ≡ 32)) }
         ensures slots { OnOk result (slots_held self.new ≡ set (set (slots_held self.old) one
             (get_or (slots_held self.old) other [])) other (get_or (slots_held self.old) one [])) }
         ensures staged { OnOk result ((writes : Tape → SlotWrites)

@@ -8,11 +8,11 @@ use Rattle.lif_pack.proofs.memory.Packer.close_slot.Goals as goal
 
 pub returns-then-not-is_live-clause-staged : goal.returns-then-not-is_live-clause-staged
 returns-then-not-is_live-clause-staged g c = λ writes staged.
-    ([], staged_as c.args.first _ _ (λ x. writes) (λ x. writes ++ []) c.args.self.now.changes.items refl (λ x. sym (append-nil writes)) staged, refl)
+    ([], staged_as c.args.first _ _ (λ x. writes) (λ x. writes ++ []) c.args.self.now.changes.items refl (λ x. sym (append-nil writes)) staged, tt, refl)
 
 pub returns-then-front-slot-clause-staged : goal.returns-then-front-slot-clause-staged
 returns-then-front-slot-clause-staged g c = λ writes staged.
-    ([], staged_as c.args.first _ _ (λ x. writes) (λ x. writes ++ []) c.args.self.now.changes.items refl (λ x. sym (append-nil writes)) staged, refl)
+    ([], staged_as c.args.first _ _ (λ x. writes) (λ x. writes ++ []) c.args.self.now.changes.items refl (λ x. sym (append-nil writes)) staged, tt, refl)
 
 pub returns-clause-live : goal.returns-clause-live
 returns-clause-live g c =
@@ -27,5 +27,6 @@ returns-clause-staged g c = λ writes staged.
       one ∷ other ∷ [],
       staged_as c.args.first _ _ (λ x. (writes ++ one ∷ []) ++ other ∷ []) (λ x. writes ++ (one ∷ other ∷ [])) c.swap.new.self.changes.items refl
           (λ x. append_assoc writes (one ∷ []) (other ∷ [])) (c.in_ok-swap.ensures.staged (λ x. writes) staged),
+      (omega (arith, c.requires.gap.order, c.requires.slot), omega (arith, c.requires.gap.order), c.in_ok-swap.ensures.entries.1, (c.requires.slot, omega arith, c.in_ok-swap.ensures.entries.0, tt)),
       sym c.in_ok-swap.ensures.slots,
     )
