@@ -7,9 +7,10 @@ use Rattle.lif_model.specs.Tape.{Tape, IsTape, record_at}
 use Rattle.lif_model.specs.Header.{directory_end, capacity_of, is_readable}
 use Rattle.lif_model.specs.Directory.{name_of, length_of, is_end, slots_of}
 use Rattle.lif_model.specs.Pairs.{all_pairs}
+use Rattle.lif_model.specs.declared.version.Version.{Version}
 use Rattle.lif_model.specs.declared.version.Version.TheVariants.{Two}
 use Rattle.lif_model.specs.Legal.{is_live, has_records, occupies, lies_between, are_apart, have_other_names}
-use Rattle.lif_model.specs.Volume.{Volume, IsVolume, is_redo_entry, is_redo_file, is_file, content_of, files_of, volume_in}
+use Rattle.lif_model.specs.Volume.{Volume, IsVolume, is_redo_entry, is_redo_file, is_adopted_with, is_file, content_of, files_of, volume_in}
 use Rattle.lif_model.specs.Apply.{is_upgraded}
 use Rattle.lif_model.proofs.Legal.{legal_tells, legal_from}
 use Rattle.lif_model.proofs.Volume.{content_agree}
@@ -71,11 +72,14 @@ module _ (n : ℕ) (u : Tape) (v : Volume) (on : IsOn n u v) (some : volume_in u
   }
 
   -- it has the redo file that it had
+  pub closed_is_adopted : (version : Version) → is_adopted_with n version later ≡ is_adopted_with n version v.slots
+  closed_is_adopted version =
+      let lives : (slot : List ℕ) → is_redo_entry n version slot ≡ true → is_live slot ≡ true = λ slot is.
+      (and_parts (is_live slot) (has_records slot) (redo_entry_tells n version slot is).1).0 in
+      sym (any_kept (is_redo_entry n version) is_live lives later) ∙ ap (list_any (is_redo_entry n version)) live ∙ any_kept (is_redo_entry n version) is_live lives v.slots
+
   pub closed_is_upgraded : is_upgraded n (record v { slots = later }) ≡ is_upgraded n v
-  closed_is_upgraded =
-      let lives : (slot : List ℕ) → is_redo_entry n Two slot ≡ true → is_live slot ≡ true = λ slot is.
-      (and_parts (is_live slot) (has_records slot) (redo_entry_tells n Two slot is).1).0 in
-      sym (any_kept (is_redo_entry n Two) is_live lives later) ∙ ap (list_any (is_redo_entry n Two)) live ∙ any_kept (is_redo_entry n Two) is_live lives v.slots
+  closed_is_upgraded = closed_is_adopted Two
 
   -- on a tape with these slots, whose other records are as they were
   pub closed_volume : (y : Tape) → IsTape n y → record_at y 0 ≡ v.header → slots_of y ≡ later → ((k : ℕ) → directory_end v.header ≤ k → k < n → record_at y k ≡ record_at u k)

@@ -15,6 +15,20 @@ module _ (p : List ℕ → Bool) where
       go true e rest (suc k) lt = let found = rest k (omega arith) in (suc found.0, omega (arith, found.1), found.2, found.3)
       go false e rest k lt = let found = rest k lt in (suc found.0, omega (arith, found.1), found.2, found.3)
 
+  -- one that passes is among them
+  pub filter_has : (xs : List (List ℕ)) (j : ℕ) → j < length xs → p (get_or xs j []) ≡ true
+      → (k : ℕ) × (k < length (filter p xs)) × (get_or (filter p xs) k [] ≡ get_or xs j [])
+  filter_has [] j lt on = absurd (omega (arith, lt))
+  filter_has (x ∷ xs) j lt on = go (p x) refl j lt on (λ m less passes. filter_has xs m less passes)
+    where
+      go : (b : Bool) → p x ≡ b → (j : ℕ) → j < length (x ∷ xs) → p (get_or (x ∷ xs) j []) ≡ true
+          → ((m : ℕ) → m < length xs → p (get_or xs m []) ≡ true → (k : ℕ) × (k < length (filter p xs)) × (get_or (filter p xs) k [] ≡ get_or xs m []))
+          → (k : ℕ) × (k < length (if b then x ∷ filter p xs else filter p xs)) × (get_or (if b then x ∷ filter p xs else filter p xs) k [] ≡ get_or (x ∷ xs) j [])
+      go true e zero lt on rest = (0, omega arith, refl)
+      go true e (suc j) lt on rest = let found = rest j (omega (arith, lt)) on in (suc found.0, omega (arith, found.1), found.2)
+      go false e zero lt on rest = let no : true ≡ false = sym on ∙ e in cc
+      go false e (suc j) lt on rest = rest j (omega (arith, lt)) on
+
   filter_few : (xs : List (List ℕ)) → length (filter p xs) ≤ length xs
   filter_few [] = omega arith
   filter_few (x ∷ xs) = go (p x) (filter_few xs)

@@ -24,6 +24,7 @@ pub mod MovedVolume
 pub mod Placing
 pub mod Refused
 pub mod ClosedVolume
+pub mod ClosedTape
 pub mod SamePacked
 pub mod Swapping
 pub mod Counted

@@ -1,10 +1,10 @@
 -- The steps of packing: slots in memory, whose files are moved to their places one after the other.
-use Rattle.std.specs.Prelude.{◌≡◌, ◌<◌, ◌≤◌, ◌+◌, ℕ, List, [], true, false, get_or, take, Some}
+use Rattle.std.specs.Prelude.{◌≡◌, ◌⊎◌, ◌<◌, ◌≤◌, ◌+◌, ℕ, List, [], true, false, get_or, take, Some}
 use Rattle.std.specs.FinMap.{empty}
 use Rattle.lif_model.specs.Tape.{Tape}
 use Rattle.lif_model.specs.Header.{directory_start, directory_end}
 use Rattle.lif_model.specs.Legal.{is_live}
-use Rattle.lif_model.specs.Volume.{Volume, IsVolume, volume_of}
+use Rattle.lif_model.specs.Volume.{Volume, IsVolume, volume_of, is_foreign_gated}
 use Rattle.lif_model.specs.Fit.{redo_place}
 use Rattle.lif_model.specs.Apply.{is_upgraded}
 use Rattle.lif_pack.specs.Packing.{is_in_order, live_records, are_packed, bears_mark, packed}
@@ -46,3 +46,8 @@ ArePackedAlike n end old new = (v : Volume) → directory_end v.header ≡ end
 pub record IsGap (front slot : ℕ) (slots : List (List ℕ)) : Type 0 where
   pub order : front ≤ slot
   pub purged : (k : ℕ) → front ≤ k → k < slot → is_live (get_or slots k []) ≡ false
+
+-- the tape has that volume, or it with these slots, and no gate that is not ours
+abbrev pub IsOldOrClosed : Volume → List (List ℕ) → Tape → Type 0
+IsOldOrClosed v new x =
+    ((volume_of x ≡ Some v) ⊎ (volume_of x ≡ Some (record v { slots = new }))) × (is_foreign_gated x ≡ false)

@@ -10,13 +10,61 @@ ghost use Rattle.lif_pack.specs.Packers.{slots_held};
 use crate::memory::Packer;
 use crate::moving::put_entry;
 use il_ports::{Records, Trouble};
-use lif_model::{ENTRIES, ENTRY, RECORD};
+use lif_model::{ENTRIES, ENTRY, RECORD, Version};
+use lif_redo::commit;
 
 impl Packer {
     ghost use Rattle.std.specs.Prelude.{filter};
     ghost use Rattle.lif_model.specs.Legal.{is_live};
     ghost use Rattle.lif_pack.specs.Packing.{slots_after};
-    ghost use Rattle.lif_pack.specs.Steps.{IsGap};
+    ghost use Rattle.lif_pack.specs.Steps.{IsGap, MayPack, HasSlotsOf, IsOldOrClosed};
+    ghost use Rattle.lif_model.specs.Header.{directory_start};
+    ghost use Rattle.lif_model.specs.Redo.{IsSettled};
+    ghost use Rattle.lif_model.specs.Volume.{Volume, volume_of};
+    ghost use Rattle.il_ports.specs.Stores.{RunLeaves};
+
+    /// Brings the live slots from slot `from` on, before slot `until`, eight at most, forward to slot `front`, between which
+    /// and slot `from` all are purged, and tells where the next one is to stand: in memory and in the directory, which
+    /// begins at record `first`, by one commit. Where no slot moves nothing is written.
+    pub(crate) fn close_record<R: Records>(
+        &mut self,
+        records: &mut R,
+        first: u16,
+        from: usize,
+        until: usize,
+        front: usize,
+    ) -> Result<usize, Trouble>
+        requires may { (end redo : ℕ) × MayPack (R.view records.old).record_count first end redo (slots_held self.old) }
+        requires gap { IsGap front from (slots_held self.old) }
+        requires order { from ≤ until }
+        requires few { until ≤ from + 8 }
+        requires until { until ≤ length (slots_held self.old) }
+        requires bound { until < 2 ^ 32 }
+        requires ready { IsReady 54 (R.view records.old) }
+        requires settled { (t : Tape) → (R.view records.old).tape ≡ Some t → IsSettled t }
+        requires medium { (R.view records.old).record_count < 2 ^ 16 }
+        ensures goes_on { GoesOn 54 (R.view records.old) (R.view records.new) result }
+        ensures settled { OnOk result ((t : Tape) → (R.view records.new).tape ≡ Some t → IsSettled t) }
+        ensures long { length (slots_held self.new) ≡ length (slots_held self.old) }
+        ensures gap { IfOk result (λ next. IsGap next until (slots_held self.new)) }
+        // The live slots stand in the same order.
+        ensures live { OnOk result (filter is_live (slots_held self.new) ≡ filter is_live (slots_held self.old)) }
+        // The volume has these slots then, and its files as before.
+        ensures closes { OnOk result ((end redo : ℕ) (t : Tape)
+            → MayPack (R.view records.old).record_count first end redo (slots_held self.old)
+            → (R.view records.old).tape ≡ Some t → (x : Tape) × ((R.view records.new).tape ≡ Some x)
+            × HasSlotsOf first end (slots_held self.old) (slots_held self.new) t x) }
+        // A stop at any moment leaves a tape that has the slots before or after the commit.
+        ensures stops { (t : Tape) (v : Volume) → (R.view records.old).tape ≡ Some t → volume_of t ≡ Some v
+            → v.slots ≡ slots_held self.old → directory_start v.header ≡ first
+            → RunLeaves (R.view records.old) (R.view records.new) (IsOldOrClosed v (slots_held self.new)) }
+    {
+        let next = self.close_slots(records, first, from, until, front)?;
+        if !self.changes.is_empty() {
+            commit(records, Version::Two, &self.changes)?;
+        }
+        Ok(next)
+    }
 
     /// Brings the live slots from slot `from` on, before slot `until`, eight at most, forward to slot `front`, between which
     /// and slot `from` all are purged, and tells where the next one is to stand: in memory and in the records of the
