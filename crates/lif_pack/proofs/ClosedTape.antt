@@ -4,12 +4,13 @@ use Rattle.std.proofs.lemmas.Bool.{cases_eq, cases_Bool, eq-eqb, ne_eqb, eqb-tru
 use Rattle.lif_model.specs.Tape.{Tape, IsTape}
 use Rattle.lif_model.specs.Header.{directory_start, directory_length, capacity_of}
 use Rattle.lif_model.specs.Directory.{type_of, is_end, slots_of}
+use Rattle.lif_model.specs.declared.version.Version.{Version}
 use Rattle.lif_model.specs.declared.version.Version.TheVariants.{Two}
 use Rattle.lif_model.specs.Redo.{changed, Changes, redo_start, are_targets, IsSettled}
 use Rattle.lif_model.specs.Commit.{AreChanges, IsCommitted, IsOldOrNew}
 use Rattle.lif_model.specs.Writing.{SlotWrites, slot_record, entry_from, with_slots, touched, changes_by}
-use Rattle.lif_model.specs.Legal.{is_live}
-use Rattle.lif_model.specs.Volume.{Volume, volume_in, volume_of, is_adopted_with}
+use Rattle.lif_model.specs.Legal.{is_live, occupies}
+use Rattle.lif_model.specs.Volume.{Volume, IsVolume, is_file, volume_in, volume_of, is_adopted_with}
 use Rattle.lif_model.proofs.Writing.{AreEntries, last_written, untouched, slots_elsewhere, slots_shape, slot_written, changes_write}
 use Rattle.lif_model.proofs.Slotted.{IsOn, is_on, slot_here, header_stays, slots_become, end_behind}
 use Rattle.lif_model.proofs.Written.{Makes}
@@ -21,7 +22,7 @@ use Rattle.lif_pack.specs.Packing.{slots_after}
 use Rattle.lif_pack.specs.Steps.{MayPack, IsOldOrClosed}
 use Rattle.lif_pack.proofs.Placing.{end_below}
 use Rattle.lif_pack.proofs.Filtering.{filter_at, filter_has}
-use Rattle.lif_pack.proofs.ClosedVolume.{closed_volume, closed_is_adopted}
+use Rattle.lif_pack.proofs.ClosedVolume.{same_occupying, same_file_slots, closed_is_volume, closed_is_adopted, closed_volume}
 
 -- ---- entries that are written
 
@@ -53,6 +54,46 @@ last_size room m k (w ∷ ws) old are size = last_size room m k ws (if w.0 == k 
     one true = are.2
     one false = size
 
+-- ---- the slots
+
+module _ (n : ℕ) (v : Volume) (is : IsVolume n v) (later : List (List ℕ)) (live : filter is_live later ≡ filter is_live v.slots)
+    (count : length later ≡ length v.slots) (ws : SlotWrites) (are : AreBefore (length v.slots) (length v.slots) ws) (becomes : slots_after ws v.slots ≡ later) where
+  room : length later ≤ capacity_of v.header
+  room = omega (arith, count, is.room)
+
+  written : (k : ℕ) → k < length later → last_written ws k (get_or v.slots k []) ≡ get_or later k []
+  written k lt = last_after ws v.slots k (omega (arith, lt, count)) ∙ ap (λ (xs : List (List ℕ)). get_or xs k []) becomes
+
+  sizes : (k : ℕ) → k < length later → length (get_or later k []) ≡ 32
+  sizes k lt = ap (λ (e : List ℕ). length e) (sym (written k lt)) ∙ last_size (length v.slots) (length v.slots) k ws (get_or v.slots k []) are (is.entries k (omega (arith, lt, count)))
+
+  kinds : (k : ℕ) → k < length later → is_end (get_or later k []) ≡ false
+  kinds k lt = elim (cases_Bool (is_live (get_or later k []))) [
+    | inl alive ↦
+        let kept = filter_has is_live later k lt alive in
+        let found = filter_at is_live v.slots kept.0 (subst (λ (xs : List (List ℕ)). kept.0 < length xs) live kept.1) in
+        let same : get_or later k [] ≡ get_or v.slots found.0 [] = sym kept.2 ∙ ap (λ (xs : List (List ℕ)). get_or xs kept.0 []) live ∙ found.3 in
+        ap is_end same ∙ is.kinds found.0 found.1
+    | inr dead ↦ ap (λ (m : ℕ). m == 0xFFFF) (eqb-true (type_of (get_or later k [])) 0 (by (type_of (get_or later k []) == 0) dead))
+  ]
+    where
+      by : (b : Bool) → not b ≡ false → b ≡ true
+      by true off = refl
+      by false off = sym off
+
+  -- it is a volume with its redo file
+  pub closed_is : IsVolume n (record v { slots = later })
+  closed_is = closed_is_volume n v is later live room sizes kinds
+
+  pub closed_with : (version : Version) → is_adopted_with n version later ≡ is_adopted_with n version v.slots
+  closed_with version = closed_is_adopted n v is later live room sizes kinds version
+
+  pub closed_occupying : filter occupies later ≡ filter occupies v.slots
+  closed_occupying = same_occupying n v is later live room sizes kinds
+
+  pub closed_files : filter (is_file n) later ≡ filter (is_file n) v.slots
+  closed_files = same_file_slots n v is later live room sizes kinds
+
 -- ---- the tape
 
 module _ (n : ℕ) (t : Tape) (v : Volume) (tape : IsTape n t) (inside : volume_in t ≡ Some v) (later : List (List ℕ)) (live : filter is_live later ≡ filter is_live v.slots)
@@ -66,36 +107,22 @@ module _ (n : ℕ) (t : Tape) (v : Volume) (tape : IsTape n t) (inside : volume_
   abbrev y : Tape
   y = with_slots start ws t
 
-  room : length later ≤ capacity_of v.header
-  room = omega (arith, count, on.volume.room)
-
   entries : AreEntries (capacity_of v.header) ws
   entries = entries_of (capacity_of v.header) (length v.slots) ws (before_wider (length v.slots) (capacity_of v.header) (length v.slots) ws on.volume.room are)
 
-  written : (k : ℕ) → k < length later → last_written ws k (get_or v.slots k []) ≡ get_or later k []
-  written k lt = last_after ws v.slots k (omega (arith, lt, count)) ∙ ap (λ (xs : List (List ℕ)). get_or xs k []) becomes
+  fits : length later ≤ capacity_of v.header
+  fits = room n v on.volume later live count ws are becomes
 
-  sizes : (k : ℕ) → k < length later → length (get_or later k []) ≡ 32
-  sizes k lt = ap (λ (e : List ℕ). length e) (sym (written k lt)) ∙ last_size (length v.slots) (length v.slots) k ws (get_or v.slots k []) are (on.volume.entries k (omega (arith, lt, count)))
+  each : (k : ℕ) → k < length later → length (get_or later k []) ≡ 32
+  each = sizes n v on.volume later live count ws are becomes
 
-  kinds : (k : ℕ) → k < length later → is_end (get_or later k []) ≡ false
-  kinds k lt = elim (cases_Bool (is_live (get_or later k []))) [
-    | inl alive ↦
-        let kept = filter_has is_live later k lt alive in
-        let found = filter_at is_live v.slots kept.0 (subst (λ (xs : List (List ℕ)). kept.0 < length xs) live kept.1) in
-        let same : get_or later k [] ≡ get_or v.slots found.0 [] = sym kept.2 ∙ ap (λ (xs : List (List ℕ)). get_or xs kept.0 []) live ∙ found.3 in
-        ap is_end same ∙ on.volume.kinds found.0 found.1
-    | inr dead ↦ ap (λ (m : ℕ). m == 0xFFFF) (eqb-true (type_of (get_or later k [])) 0 (by (type_of (get_or later k []) == 0) dead))
-  ]
-    where
-      by : (b : Bool) → not b ≡ false → b ≡ true
-      by true off = refl
-      by false off = sym off
+  ends_none : (k : ℕ) → k < length later → is_end (get_or later k []) ≡ false
+  ends_none = kinds n v on.volume later live count ws are becomes
 
   slots_here : slots_of y ≡ later
-  slots_here = slots_become n t v on ws later entries room
-      (λ k lt. ap (last_written ws k) (slot_here n t v on k (omega (arith, lt, count))) ∙ written k lt)
-      kinds
+  slots_here = slots_become n t v on ws later entries fits
+      (λ k lt. ap (last_written ws k) (slot_here n t v on k (omega (arith, lt, count))) ∙ written n v on.volume later live count ws are becomes k lt)
+      ends_none
       (λ less.
       let m : ℕ = length v.slots in
       let under : slot_record start m < n = omega (arith, less, count, on.ends) in
@@ -111,9 +138,9 @@ module _ (n : ℕ) (t : Tape) (v : Volume) (tape : IsTape n t) (inside : volume_
   closed_makes = subst (Makes n v (record v { slots = later }))
       (sym (changes_write start (directory_length v.header) ws entries n t t (omega (arith, on.ends)) tape.records tape.records (λ k low high. refl))) (record {
         tape = shape;
-        volume = closed_volume n t v on inside later live room sizes kinds y shape (header_stays n t v on ws entries ∙ sym on.header) slots_here
+        volume = closed_volume n t v on inside later live fits each ends_none y shape (header_stays n t v on ws entries ∙ sym on.header) slots_here
             (λ k low lt. slots_elsewhere start ws t k (untouched start (directory_length v.header) ws k entries (inr low)));
-        adopted = λ version adopted. closed_is_adopted n t v on inside later live room sizes kinds version ∙ adopted;
+        adopted = λ version adopted. closed_with n v on.volume later live count ws are becomes version ∙ adopted;
       })
 
 -- ---- the commit

@@ -50,22 +50,22 @@ any_kept p keep kept (x ∷ xs) = by (keep x) refl (any_kept p keep kept xs)
 abbrev each : Tape → List ℕ → List ℕ × List ℕ
 each tape slot = (name_of slot, content_of tape slot)
 
-module _ (n : ℕ) (u : Tape) (v : Volume) (on : IsOn n u v) (some : volume_in u ≡ Some v) (later : List (List ℕ)) (live : filter is_live later ≡ filter is_live v.slots)
+module _ (n : ℕ) (v : Volume) (is : IsVolume n v) (later : List (List ℕ)) (live : filter is_live later ≡ filter is_live v.slots)
     (room : length later ≤ capacity_of v.header) (entries : (i : ℕ) → i < length later → length (get_or later i []) ≡ 32) (kinds : (i : ℕ) → i < length later → is_end (get_or later i []) ≡ false) where
-  same_occupying : filter occupies later ≡ filter occupies v.slots
+  pub same_occupying : filter occupies later ≡ filter occupies v.slots
   same_occupying = filter_both is_live has_records later ∙ ap (filter has_records) live ∙ sym (filter_both is_live has_records v.slots)
 
-  same_file_slots : filter (is_file n) later ≡ filter (is_file n) v.slots
+  pub same_file_slots : filter (is_file n) later ≡ filter (is_file n) v.slots
   same_file_slots = filter_both is_live (λ slot. not (is_redo_file n slot)) later ∙ ap (filter (λ slot. not (is_redo_file n slot))) live
       ∙ sym (filter_both is_live (λ slot. not (is_redo_file n slot)) v.slots)
 
   pub closed_is_volume : IsVolume n (record v { slots = later })
   closed_is_volume = record {
-    header = on.volume.header;
+    header = is.header;
     legal = legal_tells n v.header later
         ((λ i. is_readable n v.header && (list_all (lies_between (directory_end v.header) n) (same_occupying i)
         && (all_pairs are_apart (same_occupying i) && all_pairs have_other_names (live i))))
-        ∙ legal_from n v.header v.slots on.volume.legal);
+        ∙ legal_from n v.header v.slots is.legal);
     room = room;
     entries = entries;
     kinds = kinds;
@@ -81,10 +81,12 @@ module _ (n : ℕ) (u : Tape) (v : Volume) (on : IsOn n u v) (some : volume_in u
   pub closed_is_upgraded : is_upgraded n (record v { slots = later }) ≡ is_upgraded n v
   closed_is_upgraded = closed_is_adopted Two
 
+module _ (n : ℕ) (u : Tape) (v : Volume) (on : IsOn n u v) (some : volume_in u ≡ Some v) (later : List (List ℕ)) (live : filter is_live later ≡ filter is_live v.slots)
+    (room : length later ≤ capacity_of v.header) (entries : (i : ℕ) → i < length later → length (get_or later i []) ≡ 32) (kinds : (i : ℕ) → i < length later → is_end (get_or later i []) ≡ false) where
   -- on a tape with these slots, whose other records are as they were
   pub closed_volume : (y : Tape) → IsTape n y → record_at y 0 ≡ v.header → slots_of y ≡ later → ((k : ℕ) → directory_end v.header ≤ k → k < n → record_at y k ≡ record_at u k)
       → volume_in y ≡ Some (record v { slots = later })
-  closed_volume y tape header slots after = volume_by_parts n y v.header later v.files (sym tape.records) closed_is_volume.legal header slots files
+  closed_volume y tape header slots after = volume_by_parts n y v.header later v.files (sym tape.records) (closed_is_volume n v on.volume later live room entries kinds).legal header slots files
     where
       pair : (name : List ℕ) {a b : List ℕ} → a ≡ b → ◌≡◌ {A = List ℕ × List ℕ} (name, a) (name, b)
       pair name same = λ i. (name, same i)
@@ -105,5 +107,5 @@ module _ (n : ℕ) (u : Tape) (v : Volume) (on : IsOn n u v) (some : volume_in u
       files =
           let tells = volume_tells u v some in
           (λ i. from_entries (map (each y) (filter (is_file (tape.records i)) later)))
-          ∙ ap (λ (xs : List (List ℕ)). from_entries (map (each y) xs)) same_file_slots ∙ ap (λ (xs : List (List ℕ × List ℕ)). from_entries xs) contents
+          ∙ ap (λ (xs : List (List ℕ)). from_entries (map (each y) xs)) (same_file_slots n v on.volume later live room entries kinds) ∙ ap (λ (xs : List (List ℕ × List ℕ)). from_entries xs) contents
           ∙ sym (λ i. from_entries (map (each u) (filter (is_file (on.tape.records i)) v.slots))) ∙ ap (files_of u) tells.2 ∙ sym tells.3

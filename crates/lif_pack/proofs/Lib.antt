@@ -25,6 +25,7 @@ pub mod Placing
 pub mod Refused
 pub mod ClosedVolume
 pub mod ClosedTape
+pub mod ClosedSlots
 pub mod SamePacked
 pub mod Swapping
 pub mod Counted

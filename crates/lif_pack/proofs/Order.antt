@@ -16,7 +16,7 @@ use Rattle.lif_pack.specs.Packing.{rises, is_in_order, live_length, live_records
 -- ---- in order
 
 module _ (slots : List (List ℕ)) (in_order : is_in_order slots ≡ true) where
-  parts : (all_pairs rises (filter occupies slots) ≡ true) × (list_all is_purged (drop (suc (redo_place slots)) slots) ≡ true)
+  pub parts : (all_pairs rises (filter occupies slots) ≡ true) × (list_all is_purged (drop (suc (redo_place slots)) slots) ≡ true)
   parts = and_parts (all_pairs rises (filter occupies slots)) (list_all is_purged (drop (suc (redo_place slots)) slots)) in_order
 
   -- of two slots with records the first one begins first

@@ -17,7 +17,7 @@ impl Packer {
     ghost use Rattle.std.specs.Prelude.{filter};
     ghost use Rattle.lif_model.specs.Legal.{is_live};
     ghost use Rattle.lif_pack.specs.Packing.{slots_after};
-    ghost use Rattle.lif_pack.specs.Steps.{IsGap, MayPack, HasSlotsOf, IsOldOrClosed};
+    ghost use Rattle.lif_pack.specs.Steps.{IsGap, MayPack, ArePackedAlike, HasSlotsOf, IsOldOrClosed};
     ghost use Rattle.lif_model.specs.Header.{directory_start};
     ghost use Rattle.lif_model.specs.Redo.{IsSettled};
     ghost use Rattle.lif_model.specs.Volume.{Volume, volume_of};
@@ -49,6 +49,11 @@ impl Packer {
         ensures gap { IfOk result (λ next. IsGap next until (slots_held self.new)) }
         // The live slots stand in the same order.
         ensures live { OnOk result (filter is_live (slots_held self.new) ≡ filter is_live (slots_held self.old)) }
+        // They may be packed as those before, and packing makes the same of them.
+        ensures may { OnOk result ((end redo : ℕ)
+            → MayPack (R.view records.old).record_count first end redo (slots_held self.old)
+            → (place : ℕ) × MayPack (R.view records.old).record_count first end place (slots_held self.new)
+            × ArePackedAlike (R.view records.old).record_count end (slots_held self.old) (slots_held self.new)) }
         // The volume has these slots then, and its files as before.
         ensures closes { OnOk result ((end redo : ℕ) (t : Tape)
             → MayPack (R.view records.old).record_count first end redo (slots_held self.old)
