@@ -303,9 +303,14 @@ gap : IsGap 1 2 two_placed
 unfolding two_at four_at with_type
 gap = record {
   order = omega arith;
+  closed = λ k lt. let first : k ≡ 0 = omega (arith, lt) in ap (λ (m : ℕ). is_live (get_or two_placed m [])) first;
   purged = λ k le lt. let one : k ≡ 1 = omega (arith, le, lt) in ap (λ (m : ℕ). is_live (get_or two_placed m [])) one;
 }
 
 no_gap : IsGap 0 2 two_placed → ⊥
 unfolding two_at four_at with_type
 no_gap is = not_true (sym (is.purged 0 (omega arith) (omega arith)))
+
+not_closed : IsGap 2 2 two_placed → ⊥
+unfolding two_at four_at with_type
+not_closed is = not_true (is.closed 1 (omega arith))

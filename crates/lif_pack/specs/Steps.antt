@@ -42,9 +42,10 @@ ArePackedAlike n end old new = (v : Volume) → directory_end v.header ≡ end
 
 -- ---- closing up
 
--- the slots from slot `front` on, before slot `slot`, are purged
+-- the slots before slot `front` are live, and those from it on, before slot `slot`, are purged
 pub record IsGap (front slot : ℕ) (slots : List (List ℕ)) : Type 0 where
   pub order : front ≤ slot
+  pub closed : (k : ℕ) → k < front → is_live (get_or slots k []) ≡ true
   pub purged : (k : ℕ) → front ≤ k → k < slot → is_live (get_or slots k []) ≡ false
 
 -- the tape has that volume, or it with these slots, and no gate that is not ours
