@@ -14,6 +14,48 @@ use lif_model::{ENTRIES, ENTRY, RECORD, Version};
 use lif_redo::commit;
 
 impl Packer {
+    ghost use Rattle.std.specs.Prelude.{◌*◌, filter};
+    ghost use Rattle.lif_model.specs.Legal.{is_live};
+    ghost use Rattle.lif_model.specs.Redo.{IsSettled};
+    ghost use Rattle.lif_pack.specs.Steps.{IsGap, MayPack, ArePackedAlike, HasSlotsOf};
+
+    /// Brings all live slots forward over the purged ones, in memory and in the directory, which begins at record
+    /// `first`, by a commit for each of its records in which a slot moves. Tells how many live slots there are: they
+    /// stand first, in the same order.
+    pub(crate) fn close_up<R: Records>(
+        &mut self,
+        records: &mut R,
+        first: u16,
+    ) -> Result<usize, Trouble>
+        requires may { (end redo : ℕ) × MayPack (R.view records.old).record_count first end redo (slots_held self.old) }
+        requires ready { IsReady (54 * (length (slots_held self.old) / 8 + 1)) (R.view records.old) }
+        requires settled { (t : Tape) → (R.view records.old).tape ≡ Some t → IsSettled t }
+        requires medium { (R.view records.old).record_count < 2 ^ 16 }
+        ensures goes_on { GoesOn (54 * (length (slots_held self.old) / 8 + 1)) (R.view records.old)
+            (R.view records.new) result }
+        ensures settled { OnOk result ((t : Tape) → (R.view records.new).tape ≡ Some t → IsSettled t) }
+        ensures long { OnOk result (length (slots_held self.new) ≡ length (slots_held self.old)) }
+        ensures gap { IfOk result (λ next. IsGap next (length (slots_held self.new)) (slots_held self.new)) }
+        ensures live { OnOk result (filter is_live (slots_held self.new) ≡ filter is_live (slots_held self.old)) }
+        ensures may { OnOk result ((end redo : ℕ)
+            → MayPack (R.view records.old).record_count first end redo (slots_held self.old)
+            → (place : ℕ) × MayPack (R.view records.old).record_count first end place (slots_held self.new)
+            × ArePackedAlike (R.view records.old).record_count end (slots_held self.old) (slots_held self.new)) }
+        ensures closes { OnOk result ((end redo : ℕ) (t : Tape)
+            → MayPack (R.view records.old).record_count first end redo (slots_held self.old)
+            → (R.view records.old).tape ≡ Some t → (x : Tape) × ((R.view records.new).tape ≡ Some x)
+            × HasSlotsOf first end (slots_held self.old) (slots_held self.new) t x) }
+    {
+        let count = self.slots.len();
+        let mut front = 0;
+        for i in 0..count / ENTRIES {
+            front = self.close_record(records, first, ENTRIES * i, ENTRIES * i + ENTRIES, front)?;
+        }
+        self.close_record(records, first, count / ENTRIES * ENTRIES, count, front)
+    }
+}
+
+impl Packer {
     ghost use Rattle.std.specs.Prelude.{filter};
     ghost use Rattle.lif_model.specs.Legal.{is_live};
     ghost use Rattle.lif_pack.specs.Packing.{slots_after};
