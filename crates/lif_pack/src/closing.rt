@@ -65,9 +65,9 @@ impl Packer {
     ghost use Rattle.lif_model.specs.Volume.{Volume, volume_of};
     ghost use Rattle.il_ports.specs.Stores.{RunLeaves};
 
-    /// Brings the live slots from slot `from` on, before slot `until`, eight at most, forward to slot `front`, between which
-    /// and slot `from` all are purged, and tells where the next one is to stand: in memory and in the directory, which
-    /// begins at record `first`, by one commit. Where no slot moves nothing is written.
+    /// Brings the live slots from slot `from` on, before slot `until`, eight at most, forward to slot `front`, between
+    /// which and slot `from` all are purged, and tells where the next one is to stand: in memory and in the directory,
+    /// which begins at record `first`, by one commit. Where no slot moves nothing is written.
     pub(crate) fn close_record<R: Records>(
         &mut self,
         records: &mut R,
@@ -113,9 +113,9 @@ impl Packer {
         Ok(next)
     }
 
-    /// Brings the live slots from slot `from` on, before slot `until`, eight at most, forward to slot `front`, between which
-    /// and slot `from` all are purged, and tells where the next one is to stand: in memory and in the records of the
-    /// directory, which are set aside anew.
+    /// Brings the live slots from slot `from` on, before slot `until`, eight at most, forward to slot `front`, between
+    /// which and slot `from` all are purged, and tells where the next one is to stand: in memory and in the records of
+    /// the directory, which are set aside anew.
     fn close_slots<R: Records>(
         &mut self,
         records: &mut R,
@@ -221,7 +221,8 @@ impl Packer {
             (get_or (slots_held self.old) other [])) other (get_or (slots_held self.old) one [])) }
         ensures staged { OnOk result ((writes : Tape → SlotWrites)
             → IsStagedAs first (R.view records.old).tape writes self.old.changes.items
-            → IsStagedAs first (R.view records.old).tape (λ x. (writes x ++ (one, get_or (slots_held self.old) other []) ∷ [])
+            → IsStagedAs first (R.view records.old).tape
+            (λ x. (writes x ++ (one, get_or (slots_held self.old) other []) ∷ [])
             ++ (other, get_or (slots_held self.old) one []) ∷ []) self.new.changes.items) }
     {
         let first_slot = *self.slots.get(one);
