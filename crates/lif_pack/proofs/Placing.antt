@@ -1,5 +1,5 @@
 -- One file more stands at its place: the slots in memory, and the tape.
-use Rattle.std.proofs.Common.{◌≡◌, ◌≢◌, ◌⊎◌, ◌<◌, ◌≤◌, ◌+◌, ◌++◌, ◌/◌, ◌&&◌, ◌==◌, nat_lt, not, ℕ, zero, suc, List, [], ◌∷◌, Bool, true, false, if◌then◌else◌, Some, length, get_or, set, take, filter, inl, inr, refl, sym, ◌∙◌, ap, subst, arith, length-set, get_or-set_same, get_or-set_other}
+use Rattle.std.proofs.Common.{◌≡◌, ◌≢◌, ◌⊎◌, ◌<◌, ◌≤◌, ◌+◌, ◌++◌, ◌/◌, ◌&&◌, ◌==◌, nat_lt, not, ℕ, zero, suc, List, [], ◌∷◌, Bool, true, false, if◌then◌else◌, Some, Option, length, get_or, set, take, filter, inl, inr, refl, sym, ◌∙◌, ap, subst, arith, length-set, get_or-set_same, get_or-set_other}
 use Rattle.std.proofs.lemmas.Bool.{and_parts, and_from, cases_eq, cases_lt, cases_order, cases_Bool, ltb-true, lt-ltb, eq-eqb, not_from_false}
 use Rattle.std.proofs.lemmas.List.{take-set-le, get_or-take, length-take}
 use Rattle.lif_model.specs.Tape.{Tape, IsTape}
@@ -18,7 +18,7 @@ use Rattle.lif_pack.specs.Packing.{rises, is_in_order, live_length, live_records
 use Rattle.lif_pack.specs.declared.marks.Move.{Move}
 use Rattle.lif_pack.specs.Marks.{IsMoveAt}
 use Rattle.lif_pack.specs.Moving.{MayMove, HasMoved}
-use Rattle.lif_pack.specs.Steps.{volume_with, MayPack, ArePlaced, HasSlotsOf, ArePackedAlike}
+use Rattle.lif_pack.specs.Steps.{volume_with, MayPack, ArePlaced, HasSlotsOf, ArePackedAlike, MayStillPack, TapeHasSlots}
 use Rattle.lif_pack.proofs.Entries.{started_size, started_name, started_type, started_start, started_length, started_again}
 use Rattle.lif_pack.proofs.Order.{CanMove, standing, rise, live_before_redo, live_whole, others_clear}
 use Rattle.lif_pack.proofs.Walking.{live_more, packed_more, purged_all}
@@ -376,3 +376,16 @@ placed_none end slots = record { packed = refl; next = omega arith }
 
 pub packed_then : (n end : ℕ) (a b c : List (List ℕ)) → ArePackedAlike n end a b → ArePackedAlike n end b c → ArePackedAlike n end a c
 packed_then n end a b c one two v ends = two v ends ∙ one v ends
+
+pub still_then : (n first : ℕ) (a b c : List (List ℕ)) → MayStillPack n first a b → MayStillPack n first b c → MayStillPack n first a c
+still_then n first a b c one two end redo may =
+    let was = one end redo may in
+    let now = two end was.0 was.1 in
+    (now.0, now.1, packed_then n end a b c was.2 now.2)
+
+pub tape_then : (n first : ℕ) (a b c : List (List ℕ)) (x y z : Option Tape) → MayStillPack n first a b → TapeHasSlots n first a b x y → TapeHasSlots n first b c y z → TapeHasSlots n first a c x z
+tape_then n first a b c x y z still one two end redo t may is =
+    let mid = still end redo may in
+    let was = one end redo t may is in
+    let now = two end mid.0 was.0 mid.1 was.1 in
+    (now.0, now.1, slots_then first end a b c t was.0 now.0 was.2 now.2)

@@ -1,5 +1,5 @@
 -- The steps of packing: slots in memory, whose files are moved to their places one after the other.
-use Rattle.std.specs.Prelude.{◌≡◌, ◌⊎◌, ◌<◌, ◌≤◌, ◌+◌, ℕ, List, [], true, false, get_or, take, Some}
+use Rattle.std.specs.Prelude.{◌≡◌, ◌⊎◌, ◌<◌, ◌≤◌, ◌+◌, ℕ, List, [], true, false, get_or, take, Some, Option}
 use Rattle.std.specs.FinMap.{empty}
 use Rattle.lif_model.specs.Tape.{Tape}
 use Rattle.lif_model.specs.Header.{directory_start, directory_end}
@@ -39,6 +39,16 @@ HasSlotsOf first end old new t x = (v : Volume) → volume_of t ≡ Some v → v
 abbrev pub ArePackedAlike : (n end : ℕ) → (old new : List (List ℕ)) → Type 0
 ArePackedAlike n end old new = (v : Volume) → directory_end v.header ≡ end
     → packed n (record v { slots = new }) ≡ packed n (record v { slots = old })
+
+-- Slots that may be packed have become slots that may be packed too, and packing makes the same of them.
+abbrev pub MayStillPack : (n first : ℕ) → (old new : List (List ℕ)) → Type 0
+MayStillPack n first old new = (end redo : ℕ) → MayPack n first end redo old
+    → (place : ℕ) × MayPack n first end place new × ArePackedAlike n end old new
+
+-- Where the slots may be packed and the tape before is told, the tape after is too, and has the new ones in their place.
+abbrev pub TapeHasSlots : (n first : ℕ) → (old new : List (List ℕ)) → (before after : Option Tape) → Type 0
+TapeHasSlots n first old new before after = (end redo : ℕ) (t : Tape) → MayPack n first end redo old → before ≡ Some t
+    → (x : Tape) × (after ≡ Some x) × HasSlotsOf first end old new t x
 
 -- ---- closing up
 

@@ -17,7 +17,7 @@ impl Packer {
     ghost use Rattle.std.specs.Prelude.{◌*◌, filter};
     ghost use Rattle.lif_model.specs.Legal.{is_live};
     ghost use Rattle.lif_model.specs.Redo.{IsSettled};
-    ghost use Rattle.lif_pack.specs.Steps.{IsGap, MayPack, ArePackedAlike, HasSlotsOf};
+    ghost use Rattle.lif_pack.specs.Steps.{IsGap, MayPack, MayStillPack, TapeHasSlots};
 
     /// Brings all live slots forward over the purged ones, in memory and in the directory, which begins at record
     /// `first`, by a commit for each of its records in which a slot moves. Tells how many live slots there are: they
@@ -37,14 +37,10 @@ impl Packer {
         ensures long { OnOk result (length (slots_held self.new) ≡ length (slots_held self.old)) }
         ensures gap { IfOk result (λ next. IsGap next (length (slots_held self.new)) (slots_held self.new)) }
         ensures live { OnOk result (filter is_live (slots_held self.new) ≡ filter is_live (slots_held self.old)) }
-        ensures may { OnOk result ((end redo : ℕ)
-            → MayPack (R.view records.old).record_count first end redo (slots_held self.old)
-            → (place : ℕ) × MayPack (R.view records.old).record_count first end place (slots_held self.new)
-            × ArePackedAlike (R.view records.old).record_count end (slots_held self.old) (slots_held self.new)) }
-        ensures closes { OnOk result ((end redo : ℕ) (t : Tape)
-            → MayPack (R.view records.old).record_count first end redo (slots_held self.old)
-            → (R.view records.old).tape ≡ Some t → (x : Tape) × ((R.view records.new).tape ≡ Some x)
-            × HasSlotsOf first end (slots_held self.old) (slots_held self.new) t x) }
+        ensures may { OnOk result (MayStillPack (R.view records.old).record_count first (slots_held self.old)
+            (slots_held self.new)) }
+        ensures closes { OnOk result (TapeHasSlots (R.view records.old).record_count first (slots_held self.old)
+            (slots_held self.new) (R.view records.old).tape (R.view records.new).tape) }
     {
         let count = self.slots.len();
         let mut front = 0;
@@ -59,7 +55,7 @@ impl Packer {
     ghost use Rattle.std.specs.Prelude.{filter};
     ghost use Rattle.lif_model.specs.Legal.{is_live};
     ghost use Rattle.lif_pack.specs.Packing.{slots_after};
-    ghost use Rattle.lif_pack.specs.Steps.{IsGap, MayPack, ArePackedAlike, HasSlotsOf, IsOldOrClosed};
+    ghost use Rattle.lif_pack.specs.Steps.{IsGap, MayPack, MayStillPack, TapeHasSlots, IsOldOrClosed};
     ghost use Rattle.lif_model.specs.Header.{directory_start};
     ghost use Rattle.lif_model.specs.Redo.{IsSettled};
     ghost use Rattle.lif_model.specs.Volume.{Volume, volume_of};
@@ -92,15 +88,11 @@ impl Packer {
         // The live slots stand in the same order.
         ensures live { OnOk result (filter is_live (slots_held self.new) ≡ filter is_live (slots_held self.old)) }
         // They may be packed as those before, and packing makes the same of them.
-        ensures may { OnOk result ((end redo : ℕ)
-            → MayPack (R.view records.old).record_count first end redo (slots_held self.old)
-            → (place : ℕ) × MayPack (R.view records.old).record_count first end place (slots_held self.new)
-            × ArePackedAlike (R.view records.old).record_count end (slots_held self.old) (slots_held self.new)) }
+        ensures may { OnOk result (MayStillPack (R.view records.old).record_count first (slots_held self.old)
+            (slots_held self.new)) }
         // The volume has these slots then, and its files as before.
-        ensures closes { OnOk result ((end redo : ℕ) (t : Tape)
-            → MayPack (R.view records.old).record_count first end redo (slots_held self.old)
-            → (R.view records.old).tape ≡ Some t → (x : Tape) × ((R.view records.new).tape ≡ Some x)
-            × HasSlotsOf first end (slots_held self.old) (slots_held self.new) t x) }
+        ensures closes { OnOk result (TapeHasSlots (R.view records.old).record_count first (slots_held self.old)
+            (slots_held self.new) (R.view records.old).tape (R.view records.new).tape) }
         // A stop at any moment leaves a tape that has the slots before or after the commit.
         ensures stops { (t : Tape) (v : Volume) → (R.view records.old).tape ≡ Some t → volume_of t ≡ Some v
             → v.slots ≡ slots_held self.old → directory_start v.header ≡ first

@@ -11,8 +11,7 @@ use Rattle.lif_pack.specs.Packers.{slots_held}
 use Rattle.lif_pack.specs.Steps.{HasSlotsOf}
 use Rattle.lif_pack.proofs.Placing.{same_slots_of}
 use Rattle.lif_pack.proofs.ClosedTape.{closed_changes, closed_stands, closed_stops, closed_not_yet, closed_none}
-use Rattle.lif_model.specs.Fit.{redo_place}
-use Rattle.lif_pack.proofs.ClosedSlots.{closed_may, closed_alike}
+use Rattle.lif_pack.proofs.ClosedSlots.{closed_still}
 use Rattle.lif_pack.proofs.memory.Packer.close_record.Goals as goal
 
 pub returns-in_err-next-clause-stops : goal.returns-in_err-next-clause-stops
@@ -103,25 +102,13 @@ returns-else-not-is_empty-clause-stops g c t v is some same starts =
     (closed_not_yet n c.args.first p.0 p.1 (slots_held c.args.self.now) p.2 (slots_held c.close_slots.new.self) t ((g.met.R.Records.is_store _).is_tape t is) (c.requires.settled t is) v some same)
 
 pub returns-in_ok-commit-clause-may : goal.returns-in_ok-commit-clause-may
-returns-in_ok-commit-clause-may g c end redo may =
-    let n : ℕ = (g.R.Records.view c.args.records.now).record_count in
+returns-in_ok-commit-clause-may g c =
     let done = c.in_ok-next.ensures in
-    let old = slots_held c.args.self.now in
-    let later = slots_held c.close_slots.new.self in
-    let are = before_more (length old) c.args.until (length old) done.staged.0 c.requires.until done.staged.2 in (
-      redo_place later,
-      closed_may n c.args.first end redo old may later done.live done.long done.staged.0 are done.staged.3,
-      closed_alike n c.args.first end redo old may later done.live done.long done.staged.0 are done.staged.3,
-    )
+    closed_still (g.R.Records.view c.args.records.now).record_count c.args.first c.args.until (slots_held c.args.self.now) (slots_held c.close_slots.new.self)
+    done.live done.long c.requires.until done.staged.0 done.staged.2 done.staged.3
 
 pub returns-else-not-is_empty-clause-may : goal.returns-else-not-is_empty-clause-may
-returns-else-not-is_empty-clause-may g c end redo may =
-    let n : ℕ = (g.R.Records.view c.args.records.now).record_count in
+returns-else-not-is_empty-clause-may g c =
     let done = c.in_ok-next.ensures in
-    let old = slots_held c.args.self.now in
-    let later = slots_held c.close_slots.new.self in
-    let are = before_more (length old) c.args.until (length old) done.staged.0 c.requires.until done.staged.2 in (
-      redo_place later,
-      closed_may n c.args.first end redo old may later done.live done.long done.staged.0 are done.staged.3,
-      closed_alike n c.args.first end redo old may later done.live done.long done.staged.0 are done.staged.3,
-    )
+    closed_still (g.R.Records.view c.args.records.now).record_count c.args.first c.args.until (slots_held c.args.self.now) (slots_held c.close_slots.new.self)
+    done.live done.long c.requires.until done.staged.0 done.staged.2 done.staged.3

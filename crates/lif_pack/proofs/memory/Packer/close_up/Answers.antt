@@ -6,8 +6,8 @@ use Rattle.il_ports.proofs.Stores.{goes_further, goes_within}
 use Rattle.lif_commit.proofs.Staging.{goes_failed, goes_told}
 use Rattle.lif_dir.specs.Entries.{slot_bytes}
 use Rattle.lif_pack.specs.Packers.{slots_held}
-use Rattle.lif_pack.specs.Steps.{IsGap, MayPack, ArePackedAlike}
-use Rattle.lif_pack.proofs.Placing.{slots_then, packed_then}
+use Rattle.lif_pack.specs.Steps.{IsGap, MayPack, MayStillPack, TapeHasSlots}
+use Rattle.lif_pack.proofs.Placing.{still_then, tape_then}
 use Rattle.lif_pack.proofs.memory.Packer.close_up.Goals as goal
 
 pub close_record-requires-clause-may : goal.close_record-requires-clause-may
@@ -50,18 +50,9 @@ loop-i-preserved g c =
       long = done.long ∙ inv.long;
       gap = subst (λ (m : ℕ). IsGap c.in_ok-front.front m later) next done.gap;
       live = done.live ∙ inv.live;
-      may = λ end redo may.
-          let was = inv.may end redo may in
-          let step = done.may end was.0 (subst (λ (m : ℕ). MayPack m c.args.first end was.0 mid) (sym size) was.1) in (
-            step.0,
-            subst (λ (m : ℕ). MayPack m c.args.first end step.0 later) size step.1,
-            packed_then n end old mid later was.2 (subst (λ (m : ℕ). ArePackedAlike m end mid later) size step.2),
-          );
-      closes = λ end redo t may is.
-          let may_mid = inv.may end redo may in
-          let was = inv.closes end redo t may is in
-          let now = done.closes end may_mid.0 was.0 (subst (λ (m : ℕ). MayPack m c.args.first end may_mid.0 mid) (sym size) may_mid.1) was.1 in
-          (now.0, now.1, slots_then c.args.first end old mid later t was.0 now.0 was.2 now.2);
+      may = still_then n c.args.first old mid later inv.may (subst (λ (m : ℕ). MayStillPack m c.args.first mid later) size done.may);
+      closes = tape_then n c.args.first old mid later _ _ _ inv.may inv.closes
+          (subst (λ (m : ℕ). TapeHasSlots m c.args.first mid later (g.R.Records.view c.loop-i.records).tape (g.R.Records.view c.close_record.new.records).tape) size done.closes);
     }
 
 pub returns-clause-goes_on : goal.returns-clause-goes_on
@@ -78,29 +69,18 @@ returns-clause-gap g c =
     subst (λ (m : ℕ). IfOk c.close_record-2.result (λ next. IsGap next m later)) all c.close_record-2.ensures.gap
 
 pub returns-clause-may : goal.returns-clause-may
-returns-clause-may g c = on_ok_weaker c.close_record-2.result (λ done end redo may.
-    let n : ℕ = (g.R.Records.view c.args.records.now).record_count in
+returns-clause-may g c = on_ok_weaker c.close_record-2.result (λ done.
     let inv = c.loop-i.invariant in
-    let old = slots_held c.args.self.now in
     let mid = slots_held c.loop-i.self in
     let later = slots_held c.close_record-2.new.self in
-    let size : (g.R.Records.view c.loop-i.records).record_count ≡ n = inv.goes_on.continues.size in
-    let was = inv.may end redo may in
-    let step = done end was.0 (subst (λ (m : ℕ). MayPack m c.args.first end was.0 mid) (sym size) was.1) in (
-      step.0,
-      subst (λ (m : ℕ). MayPack m c.args.first end step.0 later) size step.1,
-      packed_then n end old mid later was.2 (subst (λ (m : ℕ). ArePackedAlike m end mid later) size step.2),
-    )) c.close_record-2.ensures.may
+    still_then (g.R.Records.view c.args.records.now).record_count c.args.first (slots_held c.args.self.now) mid later inv.may
+    (subst (λ (m : ℕ). MayStillPack m c.args.first mid later) inv.goes_on.continues.size done)) c.close_record-2.ensures.may
 
 pub returns-clause-closes : goal.returns-clause-closes
-returns-clause-closes g c = on_ok_weaker c.close_record-2.result (λ done end redo t may is.
-    let n : ℕ = (g.R.Records.view c.args.records.now).record_count in
+returns-clause-closes g c = on_ok_weaker c.close_record-2.result (λ done.
     let inv = c.loop-i.invariant in
-    let old = slots_held c.args.self.now in
     let mid = slots_held c.loop-i.self in
     let later = slots_held c.close_record-2.new.self in
-    let size : (g.R.Records.view c.loop-i.records).record_count ≡ n = inv.goes_on.continues.size in
-    let may_mid = inv.may end redo may in
-    let was = inv.closes end redo t may is in
-    let now = done end may_mid.0 was.0 (subst (λ (m : ℕ). MayPack m c.args.first end may_mid.0 mid) (sym size) may_mid.1) was.1 in
-    (now.0, now.1, slots_then c.args.first end old mid later t was.0 now.0 was.2 now.2)) c.close_record-2.ensures.closes
+    tape_then (g.R.Records.view c.args.records.now).record_count c.args.first (slots_held c.args.self.now) mid later _ _ _ inv.may inv.closes
+    (subst (λ (m : ℕ). TapeHasSlots m c.args.first mid later (g.R.Records.view c.loop-i.records).tape (g.R.Records.view c.close_record-2.new.records).tape)
+    inv.goes_on.continues.size done)) c.close_record-2.ensures.closes
