@@ -72,6 +72,7 @@ pub fn run_with<R: Read + Drop, W: Write + Drop, F: TapeFile + Drop, I: Images<F
         medium: FileMedium::new(images),
         before: Vec::new(alloc),
         after,
+        guest: None,
     };
     let Ended { status, rig } = run_il(alloc, words, &mut script, &mut out, rig);
     Finished {

@@ -16,7 +16,8 @@ use Rattle.il_device.specs.declared.roles.Roles.{Roles}
 use Rattle.il_device.specs.Roles.{is_start}
 use Rattle.il_device.proofs.Laws.{changes_roles}
 use Rattle.il_ports.specs.Media.{MediumView}
-use Rattle.loop_model.specs.Entries.{entry}
+use Rattle.il_guest.specs.Frames.{tct}
+use Rattle.loop_model.specs.Entries.{entry, is_frame}
 use Rattle.loop_model.specs.Exchanges.{Start, Sda, Sst, Sdi, Sai, start_frame, Echo, FrameLost, returned, echoed}
 use Rattle.loop_model.specs.Reach.{brings_to}
 use Rattle.loop_model.specs.Roles.{talkers, is_at_most_one, roles_after}
@@ -68,6 +69,12 @@ starts Sda = refl
 starts Sst = refl
 starts Sdi = refl
 starts Sai = refl
+
+pub start_hands : (s : Start) → is_frame (start_frame s) tct ≡ false
+start_hands Sda = refl
+start_hands Sst = refl
+start_hands Sdi = refl
+start_hands Sai = refl
 
 start_exact : (s : Start) → is_exact (message_of (start_frame s)) ≡ true
 start_exact Sda = refl

@@ -1,12 +1,12 @@
 -- Behind an exchange: the state, and that at most one party talked.
-use Rattle.std.proofs.Common.{◌≡◌, ◌∙◌, ◌<◌, ◌&&◌, ℕ, true, not, List, [], ◌∷◌, None, length, refl, sym, ap, append-nil}
+use Rattle.std.proofs.Common.{◌≡◌, ◌∙◌, ◌<◌, ◌&&◌, ℕ, true, false, not, List, [], ◌∷◌, None, length, refl, sym, ap, append-nil}
 use Rattle.std.specs.List.{list_all}
 use Rattle.std.proofs.lemmas.Bool.{and_parts, and_from, agree_below_at}
 use Rattle.il_frames.specs.declared.frame.Class.{Class}
 use Rattle.il_frames.specs.declared.frame.Class.TheVariants as class
 use Rattle.il_frames.specs.declared.frame.Frame.{Frame}
 use Rattle.il_frames.specs.declared.entry.Entry.{Entry}
-use Rattle.il_frames.specs.Frames.{byte_of, class_of, same_class}
+use Rattle.il_frames.specs.Frames.{byte_of, class_of, framed, same_class}
 use Rattle.il_frames.specs.Messages.{message_of, message_at}
 use Rattle.il_device.specs.declared.roles.Roles.{Roles}
 use Rattle.il_device.specs.Passing.{is_plain}
@@ -14,7 +14,8 @@ use Rattle.il_ports.specs.Media.{MediumView}
 use Rattle.loop_model.specs.Roles.{talkers, is_at_most_one, is_in_turn, has_one_talker, roles_after, roles_after_entry, OneTalker, are_numbered, is_aau}
 use Rattle.loop_model.specs.Exchanges.{Exchange, Command, commanded, entries_of, cut_at, is_exchange, is_talk_address, IsWhole, answers_as_asked}
 use Rattle.loop_model.specs.Reach.{held_at_end as held_after}
-use Rattle.loop_model.specs.Entries.{is_no_nrd}
+use Rattle.loop_model.specs.Entries.{is_frame, is_no_nrd}
+use Rattle.il_guest.specs.Frames.{tct}
 use Rattle.loop_model.specs.Exchanges.Piece.{Whole as WholeOne}
 use Rattle.loop_model.proofs.RoleLaws.{talkers-whole}
 use Rattle.loop_model.proofs.RoundLaws.{OneTalker-safe, OneTalker-cut, safe_exchange, keeps_addresses, are_numbered-piece}
@@ -88,6 +89,14 @@ quiet_broken_off view x r s idle legal asked quiet broke = broken_off view x r s
 plain_byte : (k : Class) (byte : ℕ) → byte < 256 → same_class k class.Cmd ≡ true → is_plain (message_at k byte) ≡ true
 plain_byte class.Cmd byte small is = agree_below_at (λ b. is_plain (message_at class.Cmd b)) (λ b. true) 256 byte refl small
 plain_byte _ byte small is = cc
+
+-- it does not hand control over, being of another class than TCT
+pub command_hands : (f : Frame) → is_command f ≡ true → is_frame f tct ≡ false
+command_hands f is = hands_class (class_of f) (byte_of f) (and_parts (same_class (class_of f) class.Cmd) (not (is_talk_address (message_of f)) && not (is_aau (message_of f))) is).0
+  where
+    hands_class : (k : Class) (byte : ℕ) → same_class k class.Cmd ≡ true → is_frame (framed k byte) tct ≡ false
+    hands_class class.Rdy byte is = cc
+    hands_class _ byte is = refl
 
 pub command_plain : (f : Frame) → byte_of f < 256 → is_command f ≡ true → is_plain (message_of f) ≡ true
 command_plain f small is = plain_byte (class_of f) (byte_of f) small (and_parts _ _ is).0

@@ -115,7 +115,7 @@ module _ {M : Type 0} (view : M → MediumView) (m s : RingView M) (h : IsHoldin
   ready = awaited p h.own h.flight (devices_of m) refl h.stood.data_frame h.talking
 
   quiet : IsQuiet h.flight
-  quiet = record { from_device = some; message = msg.Dab 0; keeps = refl; no_poll = refl; carries = AsData refl h.stood.data_frame }
+  quiet = record { from_device = some; message = msg.Dab 0; keeps = refl; no_poll = refl; no_control = refl; carries = AsData refl h.stood.data_frame }
 
   abbrev counts : Rounded m None h.flight answer s
   counts = round_counts view m s None h.flight answer ready round

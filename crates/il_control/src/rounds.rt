@@ -1,9 +1,10 @@
 // What the controller does on the ring, one round behind the other. Each answers whether it was done whole.
-ghost use Rattle.std.specs.Prelude.{◌≡◌, ◌≤◌, ◌<◌, [], ◌∷◌, ◌++◌, true, MatchBool, MatchOption, IfSome, not, is_some};
+ghost use Rattle.std.specs.Prelude.{◌≡◌, ◌≤◌, ◌<◌, [], ◌∷◌, ◌++◌, true, false, MatchBool, MatchOption, IfSome, not, is_some};
 ghost use Rattle.il_frames.specs.Messages.{message_of};
 ghost use Rattle.il_device.specs.Passing.{is_plain};
 ghost use Rattle.loop_model.specs.Exchanges.{Send, entries_of, numbered, returned, commanded};
-ghost use Rattle.loop_model.specs.Entries.{ifc, aau, lad, ddl};
+ghost use Rattle.loop_model.specs.Entries.{ifc, aau, lad, ddl, is_frame};
+ghost use Rattle.il_guest.specs.Frames.{tct};
 ghost use Rattle.il_ring.specs.Rings.{spare_of};
 ghost use Rattle.il_control.specs.Calls.{AllStay, Obeyed, ObeyedInPart, Whole, Broke, IsFree, IsIdle, IsLost, Resumed, NotResumed, Sent, NotSent};
 
@@ -12,11 +13,12 @@ use il_frames::Frame;
 use il_ports::Medium;
 use il_ring::{Arrival, Ring, Seen};
 
-/// Sends a command or ready frame that every device passes on.
+/// Sends a command or ready frame that every device passes on, and that does not hand control over.
 pub(crate) fn pass_round<M: Medium>(ring: &mut Ring<M>, frame: Frame) -> bool
     requires room { 32 ≤ spare_of (⟦<Ring<M> as Seen<M>>⟧.seen ring.old) }
     requires free { IsFree (⟦<Ring<M> as Seen<M>>⟧.seen ring.old) }
     requires plain { is_plain (message_of frame) ≡ true }
+    requires hands { is_frame frame tct ≡ false }
     ensures done { MatchBool result (Whole M.view (⟦<Ring<M> as Seen<M>>⟧.seen ring.old) (returned 0 frame ∷ []) (⟦<Ring<M> as Seen<M>>⟧.seen ring.new))
         (Broke M.view (⟦<Ring<M> as Seen<M>>⟧.seen ring.old) (returned 0 frame ∷ []) (⟦<Ring<M> as Seen<M>>⟧.seen ring.new)) }
     ensures obeyed { result ≡ true → Obeyed (message_of frame) (⟦<Ring<M> as Seen<M>>⟧.seen ring.old) (⟦<Ring<M> as Seen<M>>⟧.seen ring.new) }
@@ -33,6 +35,7 @@ pub(crate) fn command<M: Medium>(ring: &mut Ring<M>, frame: Frame) -> bool
     requires room { 33 ≤ spare_of (⟦<Ring<M> as Seen<M>>⟧.seen ring.old) }
     requires free { IsFree (⟦<Ring<M> as Seen<M>>⟧.seen ring.old) }
     requires plain { is_plain (message_of frame) ≡ true }
+    requires hands { is_frame frame tct ≡ false }
     ensures done { MatchBool result (Whole M.view (⟦<Ring<M> as Seen<M>>⟧.seen ring.old) (commanded 0 frame) (⟦<Ring<M> as Seen<M>>⟧.seen ring.new))
         (Broke M.view (⟦<Ring<M> as Seen<M>>⟧.seen ring.old) (commanded 0 frame) (⟦<Ring<M> as Seen<M>>⟧.seen ring.new)) }
     ensures obeyed { result ≡ true → Obeyed (message_of frame) (⟦<Ring<M> as Seen<M>>⟧.seen ring.old) (⟦<Ring<M> as Seen<M>>⟧.seen ring.new) }

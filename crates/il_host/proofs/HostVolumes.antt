@@ -50,7 +50,7 @@ use Rattle.il_host.specs.Hosts.{IsUsable, host_in, loop_in, store_in, volume_in}
 use Rattle.il_host.specs.PlainCommands.{ChangesVolume, IsOnVolume, OnVolume}
 use Rattle.il_host.specs.Shorts.{AllShort}
 use Rattle.il_host.proofs.Shorts.{all_short}
-use Rattle.il_host.specs.Standings.{Ends, HasDriveStatus, HasLogRoom, KeepsPage, MakesSound, MakesSoundBy, event_at, fault_of, plan_at, log_at, state_at, volume_reply}
+use Rattle.il_host.specs.Standings.{Ends, HasDriveStatus, IsHostRing, KeepsPage, MakesSound, MakesSoundBy, event_at, fault_of, plan_at, log_at, state_at, volume_reply}
 use Rattle.il_host.proofs.Texts.{ok_text}
 use Rattle.il_host.proofs.VolumeCarries.{CarriesAs, IsFormedAs, none_carried, not_carried}
 use Rattle.il_host.proofs.VolumeCommands.{KeepsRing}
@@ -64,23 +64,23 @@ use Rattle.il_host.proofs.VolumeReplied.{IsSeenAs, told_tape, TurnsSo}
 -- ---- room
 
 -- how many calls the log of a host is enough for
-room_of : {M S : Type 0} (view : M → MediumView) (seen : S → RingView M) (p : Option S) (l : LoopView M) → StandsSo l.control l.sound l.since → HasLogRoom view l.control
+room_of : {M S : Type 0} (view : M → MediumView) (seen : S → RingView M) (p : Option S) (l : LoopView M) → StandsSo l.control l.sound l.since → IsHostRing view l.control
     → (view_of view seen p l).room ≡ calls_in (log_room (view_of view seen p l).record_count)
 room_of {M} view seen p l stands room = by l.control stands room
   where
-    by : (c : Standing M) → StandsSo c l.sound l.since → HasLogRoom view c → (view_at view seen p l.sound l.since l.resumes c).room ≡ calls_in (log_room (view_at view seen p l.sound l.since l.resumes c).record_count)
-    by (AtIdle r) so room = ap calls_in room
-    by (AtLost r) so room = ap calls_in room
+    by : (c : Standing M) → StandsSo c l.sound l.since → IsHostRing view c → (view_at view seen p l.sound l.since l.resumes c).room ≡ calls_in (log_room (view_at view seen p l.sound l.since l.resumes c).record_count)
+    by (AtIdle r) so own = ap calls_in own.0
+    by (AtLost r) so own = ap calls_in own.0
     by Nowhere so room = absurd so
 
 -- how many calls are left behind a log
-left_of : {M S : Type 0} (view : M → MediumView) (seen : S → RingView M) (p : Option S) (l : LoopView M) → StandsSo l.control l.sound l.since → HasLogRoom view l.control
+left_of : {M S : Type 0} (view : M → MediumView) (seen : S → RingView M) (p : Option S) (l : LoopView M) → StandsSo l.control l.sound l.since → IsHostRing view l.control
     → (view_of view seen p l).calls_left ≡ calls_behind (view_of view seen p l).record_count (log_at l.control)
 left_of {M} view seen p l stands room = by l.control stands room
   where
-    by : (c : Standing M) → StandsSo c l.sound l.since → HasLogRoom view c → (view_at view seen p l.sound l.since l.resumes c).calls_left ≡ calls_behind (view_at view seen p l.sound l.since l.resumes c).record_count (log_at c)
-    by (AtIdle r) so room = ap (λ room. calls_in (room - length r.books.log)) room
-    by (AtLost r) so room = ap (λ room. calls_in (room - length r.books.log)) room
+    by : (c : Standing M) → StandsSo c l.sound l.since → IsHostRing view c → (view_at view seen p l.sound l.since l.resumes c).calls_left ≡ calls_behind (view_at view seen p l.sound l.since l.resumes c).record_count (log_at c)
+    by (AtIdle r) so own = ap (λ room. calls_in (room - length r.books.log)) own.0
+    by (AtLost r) so own = ap (λ room. calls_in (room - length r.books.log)) own.0
     by Nowhere so room = absurd so
 
 -- the records of the medium are those of the host

@@ -33,7 +33,7 @@ use Rattle.host_model.specs.RingStates.{loop_on, state_on}
 use Rattle.host_model.specs.Steps.{Event, Acts, event}
 use Rattle.host_model.specs.Stops.{MayBeLeft, StopsLeave}
 use Rattle.host_model.proofs.Growing.{left_at_first}
-use Rattle.il_host.specs.Standings.{HasDriveId, HasLogRoom, event_at, plan_at, log_at, state_at}
+use Rattle.il_host.specs.Standings.{HasDriveId, IsHostRing, event_at, plan_at, log_at, state_at}
 use Rattle.il_host.proofs.CommandTravels.{event_by, event_on, travels_came}
 use Rattle.il_host.proofs.LoopCallsEvents.{ready_frame, ready_ids}
 use Rattle.il_host.proofs.LoopEvents.{IsOfLoop, Readies, not_of_volume}
@@ -127,7 +127,7 @@ module _ {M S : Type 0} (view : M → MediumView) (seen : S → RingView M) (o a
   id_is has = id_at (is_idle begun.control) begun.control stood.ring stood.at (id_begun view seen o a old begun here there empties has)
 
   -- It is q in the end.
-  module _ (q : Option S) (new : LoopView M) (store : IsStore (view_of view seen o old)) (room : HasLogRoom view old.control) (left : 1 ≤ (view_of view seen q new).calls_left) where
+  module _ (q : Option S) (new : LoopView M) (store : IsStore (view_of view seen o old)) (room : IsHostRing view old.control) (left : 1 ≤ (view_of view seen q new).calls_left) where
     -- from what it did with the ring
     ran_performs : (item : Item) (answered : Reply) (is : Bool) (s : RingView M) → IsOfLoop item → new.control ≡ at_ring is s → new.sound ≡ (begun.sound && is) → Ran view item answered (is_idle begun.control) is stood.ring s
         → Performs view seen o q item answered old new
@@ -218,7 +218,7 @@ module _ {M S : Type 0} (view : M → MediumView) (seen : S → RingView M) (o a
     printer_told on ids named has did = ap (λ (ids : List (Option ℕ)). option_map suc (position (has_id printer_id) ids)) (ids_told on ids named has did)
 
     -- It is q in the end.
-    module _ (q : Option S) (new : LoopView M) (store : IsStore (view_of view seen o old)) (room : HasLogRoom view old.control) (left : 1 ≤ (view_of view seen q new).calls_left) where
+    module _ (q : Option S) (new : LoopView M) (store : IsStore (view_of view seen o old)) (room : IsHostRing view old.control) (left : 1 ≤ (view_of view seen q new).calls_left) where
       -- one call with ok
       called : (item : Item) (answered : Reply) (P : RingView M → RingView M → Type 0) (on : Since) → IsOfLoop item → (did : Called P on mid new) → Ran view item answered (is_idle begun.control) true stood.ring did.behind
           → Performs view seen o q item answered old new

@@ -20,7 +20,7 @@ use Rattle.host_model.specs.RingStates.{loop_on, state_on}
 use Rattle.host_model.specs.Next.{BoxedBecome, DeviceBehind}
 use Rattle.host_model.specs.Steps.{Event, Exchanged, HearsLog, Acts, Replied, is_frame_fault, event}
 use Rattle.host_model.proofs.Steps.{boxed_same, alike_staying}
-use Rattle.il_host.specs.Standings.{HasLogRoom, event_at, plan_at, log_at, state_at}
+use Rattle.il_host.specs.Standings.{IsHostRing, event_at, plan_at, log_at, state_at}
 use Rattle.il_host.proofs.CommandLogs.{SaysOf, exchanged_none, met_none}
 use Rattle.il_host.proofs.CommandTravels.{event_by, event_on, travels_none}
 use Rattle.il_host.proofs.LoopPerforms.{quiet_stops}
@@ -82,7 +82,7 @@ module _ {M : Type 0} (view : M → MediumView) (found : Option (List ℕ × ℕ
 
 -- The log was emptied, and then the ring told of a paper, if it has one.
 pub paper_performs : {M S : Type 0} (view : M → MediumView) (seen : S → RingView M) (o a : Option S) (old begun : LoopView M) → (view_of view seen o old).valid → Agrees seen o old.control → Agrees seen a begun.control
-    → Begun (view_of view seen o old) (view_of view seen a begun) → IsStore (view_of view seen o old) → HasLogRoom view old.control
+    → Begun (view_of view seen o old) (view_of view seen a begun) → IsStore (view_of view seen o old) → IsHostRing view old.control
     → (found : Option (List ℕ × ℕ)) → HasRing begun.control (λ r. found ≡ paper_of (r.before ++ r.after))
     → (found ≡ paper_on (state_at view old.sound old.control).loop) × Performs view seen o a (Asks Paper) (if_printer found) old begun
 paper_performs {M} {S} view seen o a old begun valid here there empties store room found told = (

@@ -34,7 +34,7 @@ use Rattle.il_host.specs.HostView.{HostView, Performed}
 use Rattle.il_host.specs.Hosts.{IsUsable, host_in, loop_in, store_in, volume_in}
 use Rattle.il_host.specs.IsHosts.{is_host_at}
 use Rattle.il_host.specs.Texts.{data_text}
-use Rattle.il_host.specs.Standings.{Ends, HasDriveStatus, HasLogRoom, MakesSound, plan_at, log_at, state_at}
+use Rattle.il_host.specs.Standings.{Ends, HasDriveStatus, IsHostRing, MakesSound, plan_at, log_at, state_at}
 use Rattle.il_host.proofs.Getting.{got_lines}
 use Rattle.il_host.proofs.HostReads.{fetched}
 use Rattle.il_host.proofs.HostVolumes.{performed, told_asked}
@@ -47,7 +47,7 @@ use Rattle.il_host.proofs.VolumeStarts.{Emptied, volume_begun}
 
 -- The log was emptied, and an item was refused that is no command.
 no_command_performs : {M S : Type 0} (view : M → MediumView) (seen : S → RingView M) (o a : Option S) (old begun : LoopView M) → (view_of view seen o old).valid → Agrees seen o old.control → Agrees seen a begun.control
-    → Begun (view_of view seen o old) (view_of view seen a begun) → IsStore (view_of view seen o old) → HasLogRoom view old.control
+    → Begun (view_of view seen o old) (view_of view seen a begun) → IsStore (view_of view seen o old) → IsHostRing view old.control
     → (code : Code) → is_at_most_one (talkers (all_roles (state_at view old.sound old.control).loop)) ≡ true → Performs view seen o a (NoCommand code) (reply.No code) old begun
 no_command_performs view seen o a old begun valid here there empties store room code one = record {
   step = subst (λ (s : HostState). Acts (plan_at old.control) (event_to (log_at begun.control) s)) (sym emptied.state)

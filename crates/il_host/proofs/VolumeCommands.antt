@@ -1,5 +1,5 @@
 -- What is said of the loop by a command of the volume: of one that could not make the store sound, and of one that asked the volume.
-use Rattle.std.proofs.Common.{◌≡◌, ◌∙◌, ◌≤◌, ◌+◌, inr, ℕ, Bool, true, false, not, [], length, Option, refl, sym, ap, subst}
+use Rattle.std.proofs.Common.{◌≡◌, ◌∙◌, ◌≤◌, ◌+◌, inr, ℕ, Bool, true, false, not, [], length, Option, None, refl, sym, ap, subst}
 use Rattle.std.specs.Prelude.{Result, Ok, Err}
 use Rattle.lif_model.specs.Apply.{VolumeCommand}
 use Rattle.il_drive.specs.State.{status_of}
@@ -24,7 +24,7 @@ use Rattle.host_model.specs.HostStates.{HostState, log_room, volume_at}
 use Rattle.host_model.specs.RingStates.{state_on}
 use Rattle.host_model.specs.Next.{StatusBehindVolume}
 use Rattle.host_model.specs.Steps.{Exchanged, is_fault, is_frame_fault}
-use Rattle.il_host.specs.Standings.{HasDriveStatus, FitsAnswer, HasLogRoom, MakesSound, event_at, plan_at, log_at, state_at}
+use Rattle.il_host.specs.Standings.{HasDriveStatus, FitsAnswer, IsHostRing, MakesSound, event_at, plan_at, log_at, state_at}
 use Rattle.il_host.proofs.CommandTravels.{event_by}
 use Rattle.il_host.proofs.Images.{KeepsAt, KeepsMedium, images_then}
 use Rattle.il_host.proofs.VolumeCarries.{CarriesAs, carries_by}
@@ -32,23 +32,26 @@ use Rattle.il_host.proofs.VolumeExchanges.{CarriesBy, Started, frame_joined, joi
 use Rattle.il_host.proofs.VolumeNext.{volume_heard, volume_next}
 use Rattle.il_host.proofs.VolumeStarts.{Emptied, MadeSound, StartBroke, made_sound, start_broke}
 use Rattle.il_host.proofs.VolumeSteps.{Behind, Here, StatusAs, TellsLoop, at_ring, behind, here_at, plan_rings, ready_behind, state_rings, tells_rings, within_room}
-use Rattle.il_host.proofs.VolumeTravels.{WentBy, one_talks, volume_went, went_images, went_loop, went_place, went_plan, went_room, went_travels, ring_stands, went_by_plan}
+use Rattle.il_host.proofs.VolumeTravels.{WentBy, one_talks, volume_went, went_images, went_loop, went_place, went_guest, went_plan, went_room, went_travels, ring_stands, went_by_plan}
 
 -- ---- what a command keeps
 
--- The plan of faults stays, and so does the room of the log. No image changes but the one in the drive.
+-- The plan of faults stays, and so does the room of the log, and no second controller comes. No image changes but the one in the drive.
 pub record KeepsRing {M : Type 0} (view : M → MediumView) (old new : LoopView M) : Type 0 where
   pub plan : plan_at new.control ≡ plan_at old.control
-  pub room : HasLogRoom view new.control
+  pub room : IsHostRing view new.control
   pub images : KeepsAt view old.control new.control
 
 module _ {M : Type 0} (view : M → MediumView) where
-  pub room_at : (is : Bool) (c : Standing M) (r : RingView M) → c ≡ at_ring is r → HasLogRoom view c → r.books.room ≡ log_room (view r.drive.medium).record_count
-  room_at is c r at room = by is (subst (λ (c : Standing M). HasLogRoom view c) at room)
+  ring_of : (is : Bool) (c : Standing M) (r : RingView M) → c ≡ at_ring is r → IsHostRing view c → (r.books.room ≡ log_room (view r.drive.medium).record_count) × (r.guest ≡ None)
+  ring_of is c r at own = by is (subst (λ (c : Standing M). IsHostRing view c) at own)
     where
-      by : (is : Bool) → HasLogRoom view (at_ring is r) → r.books.room ≡ log_room (view r.drive.medium).record_count
-      by true room = room
-      by false room = room
+      by : (is : Bool) → IsHostRing view (at_ring is r) → (r.books.room ≡ log_room (view r.drive.medium).record_count) × (r.guest ≡ None)
+      by true own = own
+      by false own = own
+
+  pub room_at : (is : Bool) (c : Standing M) (r : RingView M) → c ≡ at_ring is r → IsHostRing view c → r.books.room ≡ log_room (view r.drive.medium).record_count
+  room_at is c r at own = (ring_of is c r at own).0
 
   pub begins_at : (is : Bool) (c : Standing M) (r : RingView M) → c ≡ at_ring is r → HasRing c (λ r. r.books.begun ≡ r.books.crossings) → r.books.begun ≡ r.books.crossings
   begins_at is c r at begins = by is (subst (λ (c : Standing M). HasRing c (λ r. r.books.begun ≡ r.books.crossings)) at begins)
@@ -57,12 +60,12 @@ module _ {M : Type 0} (view : M → MediumView) where
       by true begins = begins
       by false begins = begins
 
-  room_on : (is : Bool) (c : Standing M) (r : RingView M) → c ≡ at_ring is r → r.books.room ≡ log_room (view r.drive.medium).record_count → HasLogRoom view c
-  room_on is c r at room = subst (λ (c : Standing M). HasLogRoom view c) (sym at) (by is)
+  ring_on : (is : Bool) (c : Standing M) (r : RingView M) → c ≡ at_ring is r → r.books.room ≡ log_room (view r.drive.medium).record_count → r.guest ≡ None → IsHostRing view c
+  ring_on is c r at room none = subst (λ (c : Standing M). IsHostRing view c) (sym at) (by is)
     where
-      by : (is : Bool) → HasLogRoom view (at_ring is r)
-      by true = room
-      by false = room
+      by : (is : Bool) → IsHostRing view (at_ring is r)
+      by true = (room, none)
+      by false = (room, none)
 
   status_at : (is : Bool) (c : Standing M) (r : RingView M) → c ≡ at_ring is r → HasDriveStatus c → status_of r.drive.state ≤ 3
   status_at is c r at has = by is (subst (λ (c : Standing M). HasDriveStatus c) at has)
@@ -96,11 +99,13 @@ module _ {M : Type 0} (view : M → MediumView) where
       by false true = kept
       by false false = kept
 
-  pub keeps_rings : (old new : LoopView M) (was is : Bool) (r s : RingView M) → old.control ≡ at_ring was r → new.control ≡ at_ring is s → WentBy view r s → (view s.drive.medium).record_count ≡ (view r.drive.medium).record_count → HasLogRoom view old.control
+  pub keeps_rings : (old new : LoopView M) (was is : Bool) (r s : RingView M) → old.control ≡ at_ring was r → new.control ≡ at_ring is s → WentBy view r s → (view s.drive.medium).record_count ≡ (view r.drive.medium).record_count → IsHostRing view old.control
       → KeepsRing view old new
   keeps_rings old new was is r s one two went size room = record {
     plan = ap (λ (c : Standing M). plan_at c) two ∙ plan_rings view is s ∙ went_plan view r s went ∙ sym (plan_rings view was r) ∙ ap (λ (c : Standing M). plan_at c) (sym one);
-    room = room_on is new.control s two (went_room view r s went ∙ room_at was old.control r one room ∙ ap log_room (sym size));
+    room =
+        let own = ring_of was old.control r one room in
+        ring_on is new.control s two (went_room view r s went ∙ own.0 ∙ ap log_room (sym size)) (went_guest view r s went ∙ own.1);
     images = images_on was is old.control new.control r s one two (went_images view r s went);
   }
 
@@ -132,7 +137,7 @@ fits_status (Err trouble.Medium) answered status fits so low = subst (λ a. Stat
 
 -- ---- the laws
 
-module _ {M : Type 0} (view : M → MediumView) (command : VolumeCommand) (begun new : LoopView M) (stands : StandsSo begun.control begun.sound since.Unbroken) (empty : log_at begun.control ≡ []) (begins : HasRing begun.control (λ r. r.books.begun ≡ r.books.crossings)) (room : HasLogRoom view begun.control) (low : HasDriveStatus new.control) where
+module _ {M : Type 0} (view : M → MediumView) (command : VolumeCommand) (begun new : LoopView M) (stands : StandsSo begun.control begun.sound since.Unbroken) (empty : log_at begun.control ≡ []) (begins : HasRing begun.control (λ r. r.books.begun ≡ r.books.crossings)) (room : IsHostRing view begun.control) (low : HasDriveStatus new.control) where
   here : Here begun.control
   here = here_at begun.control begun.sound since.Unbroken stands
 

@@ -21,7 +21,7 @@ use Rattle.host_model.specs.HostStates.{HostState, volume_at}
 use Rattle.host_model.specs.Replies.{refused_as}
 use Rattle.host_model.specs.Steps.{Event, Acts, event}
 use Rattle.host_model.specs.Stops.{StopsLeave}
-use Rattle.il_host.specs.Standings.{HasDriveStatus, HasLogRoom, MakesSound, event_at, fault_of, plan_at, log_at, state_at}
+use Rattle.il_host.specs.Standings.{HasDriveStatus, IsHostRing, MakesSound, event_at, fault_of, plan_at, log_at, state_at}
 use Rattle.il_host.proofs.VolumeCarries.{CarriesAs, none_carried}
 use Rattle.il_host.proofs.VolumeCommands.{KeepsRing, keeps_emptied, volume_broke, volume_done}
 use Rattle.il_host.proofs.VolumeReplied.{IsSeenAs, StaysQuiet, broke_quiet, broke_replied, broke_stops, fits_fault, fits_refused, made_quiet, quiet_then, seen_as, seen_still, volume_answered, volume_stops, volume_troubled}
@@ -37,7 +37,7 @@ pub record Performs {M S : Type 0} (view : M → MediumView) (seen : S → RingV
 -- The store was o, was emptied as a, and is q in the end.
 module _ {M S : Type 0} (view : M → MediumView) (seen : S → RingView M) (o a q : Option S) (command : VolumeCommand) (old begun new : LoopView M)
     (valid : (view_of view seen o old).valid) (here : Agrees seen o old.control) (there : Agrees seen a begun.control) (empties : Begun (view_of view seen o old) (view_of view seen a begun))
-    (room : HasLogRoom view old.control) (low : HasDriveStatus new.control) (left : 1 ≤ (view_of view seen q new).calls_left) where
+    (room : IsHostRing view old.control) (low : HasDriveStatus new.control) (left : 1 ≤ (view_of view seen q new).calls_left) where
   emptied : Emptied view old begun
   emptied = volume_begun view seen o a old begun valid here there empties
 

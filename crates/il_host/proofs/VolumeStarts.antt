@@ -21,7 +21,7 @@ use Rattle.il_record.proofs.StoreResumes.{Agrees, count_of, more_same, still_of}
 use Rattle.il_record.proofs.StoreStarts.{IsStart, unfailed_idle, unfailed_lost}
 use Rattle.host_model.specs.RingStates.{loop_on, state_on}
 use Rattle.host_model.specs.Courses.{addressed_first, clears_due, is_commanding}
-use Rattle.il_host.specs.Standings.{HasLogRoom, MakesSoundBy, plan_at, log_at, state_at}
+use Rattle.il_host.specs.Standings.{IsHostRing, MakesSoundBy, plan_at, log_at, state_at}
 use Rattle.il_host.proofs.Images.{KeepsAt, same_images}
 use Rattle.il_host.proofs.Keeping.{Keeps, Meets, MeetsOne, keeps_asked, meets_command}
 use Rattle.il_host.proofs.LoopEvents.{Readies, keeps_interrupted, keeps_ready}
@@ -46,7 +46,7 @@ pub record Emptied {M : Type 0} (view : M → MediumView) (old begun : LoopView 
   pub log : log_at begun.control ≡ []
   pub begins : HasRing begun.control (λ r. r.books.begun ≡ r.books.crossings)
   pub plan : plan_at begun.control ≡ plan_at old.control
-  pub room : HasLogRoom view old.control → HasLogRoom view begun.control
+  pub room : IsHostRing view old.control → IsHostRing view begun.control
   pub images : KeepsAt view old.control begun.control
   pub ready : is_idle begun.control ≡ is_idle old.control
   pub sound : begun.sound ≡ old.sound
@@ -71,13 +71,13 @@ volume_begun {M} {S} view seen p q old begun valid here there so = by_rings old.
   where
     -- by the rings
     as_emptied : (c d : Standing M) → old.control ≡ c → begun.control ≡ d → begun.sound ≡ old.sound → begun.since ≡ since.Unbroken
-        → state_at view old.sound d ≡ state_at view old.sound c → log_at d ≡ [] → HasRing d (λ r. r.books.begun ≡ r.books.crossings) → plan_at d ≡ plan_at c → (HasLogRoom view c → HasLogRoom view d) → KeepsAt view c d → is_idle d ≡ is_idle c → Emptied view old begun
+        → state_at view old.sound d ≡ state_at view old.sound c → log_at d ≡ [] → HasRing d (λ r. r.books.begun ≡ r.books.crossings) → plan_at d ≡ plan_at c → (IsHostRing view c → IsHostRing view d) → KeepsAt view c d → is_idle d ≡ is_idle c → Emptied view old begun
     as_emptied c d one two sound log state empty begins plan room images ready = record {
       state = ap₂ (λ b d. state_at view b d) sound two ∙ state ∙ ap (λ c. state_at view old.sound c) (sym one);
       log = ap (λ (d : Standing M). log_at d) two ∙ empty;
       begins = subst (λ (d : Standing M). HasRing d (λ r. r.books.begun ≡ r.books.crossings)) (sym two) begins;
       plan = ap (λ (d : Standing M). plan_at d) two ∙ plan ∙ ap (λ (c : Standing M). plan_at c) (sym one);
-      room = λ was. subst (λ (d : Standing M). HasLogRoom view d) (sym two) (room (subst (λ (c : Standing M). HasLogRoom view c) one was));
+      room = λ was. subst (λ (d : Standing M). IsHostRing view d) (sym two) (room (subst (λ (c : Standing M). IsHostRing view c) one was));
       images = subst (λ (d : Standing M). KeepsAt view old.control d) (sym two) (subst (λ (c : Standing M). KeepsAt view c d) (sym one) images);
       ready = ap (λ (d : Standing M). is_idle d) two ∙ ready ∙ ap (λ (c : Standing M). is_idle c) (sym one);
       sound = sound;
@@ -89,11 +89,11 @@ volume_begun {M} {S} view seen p q old begun valid here there so = by_rings old.
         → Begun (view_at view seen p old.sound old.since old.resumes c) (view_at view seen q begun.sound begun.since begun.resumes d) → Emptied view old begun
     by_rings (AtIdle r) (AtIdle s) one two valid here there so =
         let ring = emptied_ring seen p q r s so.emptied here there in
-        as_emptied (AtIdle r) (AtIdle s) one two so.sound (unfailed_idle begun.since so.failed) (ap (λ (s : RingView M). state_on view true old.sound s) ring) (ap (λ (s : RingView M). s.books.log) ring) (begins_here r s ring valid.0.free.held) (ap (λ (s : RingView M). plan_at (AtIdle s)) ring) (λ room. subst (λ (s : RingView M). HasLogRoom view (AtIdle s)) (sym ring) room)
+        as_emptied (AtIdle r) (AtIdle s) one two so.sound (unfailed_idle begun.since so.failed) (ap (λ (s : RingView M). state_on view true old.sound s) ring) (ap (λ (s : RingView M). s.books.log) ring) (begins_here r s ring valid.0.free.held) (ap (λ (s : RingView M). plan_at (AtIdle s)) ring) (λ room. subst (λ (s : RingView M). IsHostRing view (AtIdle s)) (sym ring) room)
         (same_images view r.drive.medium s.drive.medium (ap (λ (s : RingView M). s.drive.medium) ring)) refl
     by_rings (AtLost r) (AtLost s) one two valid here there so =
         let ring = emptied_ring seen p q r s so.emptied here there in
-        as_emptied (AtLost r) (AtLost s) one two so.sound (unfailed_lost begun.since so.failed) (ap (λ (s : RingView M). state_on view false old.sound s) ring) (ap (λ (s : RingView M). s.books.log) ring) (begins_here r s ring valid.0.free.held) (ap (λ (s : RingView M). plan_at (AtLost s)) ring) (λ room. subst (λ (s : RingView M). HasLogRoom view (AtLost s)) (sym ring) room)
+        as_emptied (AtLost r) (AtLost s) one two so.sound (unfailed_lost begun.since so.failed) (ap (λ (s : RingView M). state_on view false old.sound s) ring) (ap (λ (s : RingView M). s.books.log) ring) (begins_here r s ring valid.0.free.held) (ap (λ (s : RingView M). plan_at (AtLost s)) ring) (λ room. subst (λ (s : RingView M). IsHostRing view (AtLost s)) (sym ring) room)
         (same_images view r.drive.medium s.drive.medium (ap (λ (s : RingView M). s.drive.medium) ring)) refl
     by_rings (AtIdle r) (AtLost s) one two valid here there so = let clash : false ≡ true = so.ready in cc
     by_rings (AtLost r) (AtIdle s) one two valid here there so = let clash : true ≡ false = so.ready in cc

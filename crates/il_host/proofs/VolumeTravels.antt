@@ -72,6 +72,10 @@ module _ {M : Type 0} (view : M → MediumView) (r s : RingView M) (went : WentB
   pub went_room : s.books.room ≡ r.books.room
   went_room = ⊎_elim (λ same. ap (λ (s : RingView M). s.books.room) same) (λ so. so.1.talked.adds.room) went
 
+  -- no second controller comes or goes
+  pub went_guest : s.guest ≡ r.guest
+  went_guest = ⊎_elim (λ same. ap (λ (s : RingView M). s.guest) same) (λ so. so.1.talked.adds.guest) went
+
   -- and no image changes but the one in the drive
   pub went_images : KeepsMedium (view r.drive.medium) (view s.drive.medium)
   went_images = ⊎_elim (λ same. same_images view r.drive.medium s.drive.medium (ap (λ (s : RingView M). s.drive.medium) same)) (λ so. came_images view so.0 r s so.1) went

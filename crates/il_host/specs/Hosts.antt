@@ -17,7 +17,7 @@ use Rattle.il_record.specs.LoopStores.{LoopView, StandsSo, view_of}
 use Rattle.host_model.specs.HostStates.{fresh_host, text_room}
 use Rattle.il_host.specs.HostView.{HostView}
 use Rattle.il_host.specs.Shorts.{AllShort}
-use Rattle.il_host.specs.Standings.{HasLogRoom, state_at, log_at, plan_at, images_at, inside_at}
+use Rattle.il_host.specs.Standings.{IsHostRing, state_at, log_at, plan_at, images_at, inside_at}
 
 -- The volume can be used, and the loop stands; where the directory is kept, the store is sound. There is room for every log, for the text of every reply, and for the records of every
 -- file; and no device keeps more than there is room for.
@@ -26,7 +26,7 @@ pub record IsUsable {M R S : Type 0} (view : M → MediumView) (records : R → 
   pub size : IsSize (records volume.records).record_count
   pub stands : StandsSo loop.control loop.sound loop.since
   pub kept : is_some volume.kept ≡ true → loop.sound ≡ true
-  pub log : HasLogRoom view loop.control
+  pub log : IsHostRing view loop.control
   pub short : AllShort (state_at view loop.sound loop.control).loop
   pub text : text_space ≡ text_room (records volume.records).record_count
   pub file : file_space ≡ 256 * (records volume.records).record_count

@@ -50,9 +50,9 @@ plan_at (AtIdle r) = r.books.plan
 plan_at (AtLost r) = r.books.plan
 plan_at Nowhere = []
 
--- the log has the room that a medium of so many records is to have
-abbrev pub HasLogRoom : {M : Type 0} → (M → MediumView) → Standing M → Type 0
-HasLogRoom view c = HasRing c (λ r. r.books.room ≡ log_room (view r.drive.medium).record_count)
+-- the log has the room that a medium of so many records is to have, and no second controller is on the loop
+abbrev pub IsHostRing : {M : Type 0} → (M → MediumView) → Standing M → Type 0
+IsHostRing view c = HasRing c (λ r. (r.books.room ≡ log_room (view r.drive.medium).record_count) × (r.guest ≡ None))
 
 -- the drive of this controller has a status of a drive
 abbrev pub HasDriveStatus : {M : Type 0} → Standing M → Type 0

@@ -1,4 +1,4 @@
-ghost use Rattle.std.specs.Prelude.{◌≡◌, ◌≤◌, ◌+◌, ◌*◌, [], map, length, IfOk, IfErr};
+ghost use Rattle.std.specs.Prelude.{◌≡◌, ◌≤◌, ◌+◌, ◌*◌, [], map, length, None, IfOk, IfErr};
 ghost use Rattle.std.specs.List.{All};
 ghost use Rattle.lif_model.specs.Shelf.{IsSize};
 ghost use Rattle.il_ring.specs.Plans.{IsPlan};
@@ -39,9 +39,11 @@ fn reserve(alloc: Global, records: u16) -> Result<(Page, Vec<u8>, MadeText), All
 impl<M: Medium + Drop> Host<M> {
     /// A host for the tape that is in the drive, over the devices of the rig, with faults planned at these crossings of
     /// the loop. The log of a command has room for 1,600 entries for each record of the medium and 10,000 more. All
-    /// memory of the host is taken here; where there is none the rig is handed back, and no frame was sent.
+    /// memory of the host is taken here; where there is none the rig is handed back, and no frame was sent. No second
+    /// controller is in the rig.
     pub fn open(alloc: Global, rig: Rig<M>, plan: &[Planned]) -> Result<Host<M>, Refused<M>>
         requires devices { MayStandBeside (λ b. state b) rig.before.items rig.after.items }
+        requires alone { rig.guest ≡ None }
         requires size { IsSize (M.view rig.medium).record_count }
         requires plan { IsPlan plan.now }
         ensures opened { IfOk result (λ host. IsOpened M.view rig.medium (map (λ b. state b) rig.before.items) (map (λ b. state b) rig.after.items) plan.now (⟦<Host<M> as Performer>⟧.view host)) }

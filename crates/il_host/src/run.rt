@@ -1,4 +1,4 @@
-ghost use Rattle.std.specs.Prelude.{◌≡◌, ◌≢◌, ◌+◌, ◌<◌, ◌≤◌, map, length, string_bytes, IfSome};
+ghost use Rattle.std.specs.Prelude.{◌≡◌, ◌≢◌, ◌+◌, ◌<◌, ◌≤◌, map, length, string_bytes, None, IfSome};
 ghost use Rattle.std.specs.List.{All};
 ghost use Rattle.lif_model.specs.Shelf.{IsSize};
 ghost use Rattle.il_ring.specs.Rings.{MayStand};
@@ -38,6 +38,7 @@ fn run_script<S: Source, K: Sink, M: Medium + Drop>(
     rig: Rig<M>,
 ) -> (Ending, Rig<M>)
     requires devices { MayStandBeside ⟦<Box<dyn Device> as Device>⟧.state rig.before.items rig.after.items }
+    requires alone { rig.guest ≡ None }
     requires size { IsSize (M.view rig.medium).record_count }
     requires plan { IsPlan words.now.plan.items }
     requires seed { IfSome words.now.generated (λ g. g.seed < 2147483648) }
@@ -81,6 +82,7 @@ fn run<S: Source, K: Sink, M: Medium + Drop>(
 ) -> (Ending, Rig<M>)
     requires empty { (M.view rig.medium).record_count ≡ 0 }
     requires devices { MayStandBeside ⟦<Box<dyn Device> as Device>⟧.state rig.before.items rig.after.items }
+    requires alone { rig.guest ≡ None }
     ensures leaves { LeavesBy (end_of result.0) (order_in (map string_bytes words.now))
         (outside_of M.view S.left K.written ⟦<Box<dyn Device> as Device>⟧.state script.old out.old rig)
         (outside_of M.view S.left K.written ⟦<Box<dyn Device> as Device>⟧.state script.new out.new result.1)
@@ -104,25 +106,39 @@ fn run<S: Source, K: Sink, M: Medium + Drop>(
 }
 
 /// A run: reads the words, inserts the image that they name, opens a host on it, and answers the script line after
-/// line. No tape is in the drive yet, and the devices make a new ring, as `Rig::fits` says.
+/// line. No tape is in the drive yet, and the devices make a new ring, as `Rig::fits` says. A second controller is kept
+/// aside, off the loop, and handed back.
 pub fn run_il<S: Source, K: Sink, M: Medium + Drop>(
     alloc: Global,
     words: &[String],
     script: &mut S,
     out: &mut K,
-    rig: Rig<M>,
+    mut rig: Rig<M>,
 ) -> Ended<M>
     requires empty { (M.view rig.medium).record_count ≡ 0 }
     requires devices { MayStandBeside ⟦<Box<dyn Device> as Device>⟧.state rig.before.items rig.after.items }
-    ensures { RunLeaves result.status (map string_bytes words.now) (M.view rig.medium) (M.view result.rig.medium)
+    ensures leaves { RunLeaves result.status (map string_bytes words.now) (M.view rig.medium) (M.view result.rig.medium)
         (outside_of M.view S.left K.written ⟦<Box<dyn Device> as Device>⟧.state script.old out.old rig)
         (outside_of M.view S.left K.written ⟦<Box<dyn Device> as Device>⟧.state script.new out.new result.rig)
         (S.faults script.old) (S.faults script.new) (K.faults out.old) (K.faults out.new)
         ((script.new ≡ script.old) × (out.new ≡ out.old)) }
+    ensures guest { result.rig.guest ≡ rig.guest }
 {
+    let guest = rig.guest.take();
     let (ending, rig) = run(alloc, words, script, out, rig);
+    let Rig {
+        medium,
+        before,
+        after,
+        ..
+    } = rig;
     Ended {
         status: ending.status(),
-        rig,
+        rig: Rig {
+            medium,
+            before,
+            after,
+            guest,
+        },
     }
 }

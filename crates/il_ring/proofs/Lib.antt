@@ -10,6 +10,8 @@ pub mod RoundRoles
 pub mod HostRoles
 pub mod RolesHome
 pub mod RoundPlaces
+pub mod Handing
+pub mod Guests
 pub mod Faults
 pub mod Passed
 pub mod Passes

@@ -58,6 +58,7 @@ round_adds view P r s held f answer entries to round counts log new roles unpoll
       plan = round-plan view r s held f answer round;
       begun = round-begun view r s held f answer round;
       room = round-room view r s held f answer round;
+      guest = round.guest;
       before = before-length view r s held f answer round;
       size = devices-length view r s held f answer round;
       links = counts.links;

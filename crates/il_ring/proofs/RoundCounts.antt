@@ -38,7 +38,7 @@ met_drive : {M : Type 0} (view : M → MediumView) (k : ℕ) (t : Trip) (f : Fli
 met_drive view k t f None d e u met = (met.0, ap (λ d. device_of d.state) met.1)
 met_drive view k t f (Some g) d e u met = (met.0, met.1.takes, met.2)
 
-reached_drive : {M : Type 0} (view : M → MediumView) (plan : List Planned) (k : ℕ) (t : Trip) (o : Option Flight) (d e : DriveView M) (u : Trip) → Reaches (DriveTakes view) plan k t o d u e → Reaches Takes plan k t o (device_of d.state) u (device_of e.state)
+pub reached_drive : {M : Type 0} (view : M → MediumView) (plan : List Planned) (k : ℕ) (t : Trip) (o : Option Flight) (d e : DriveView M) (u : Trip) → Reaches (DriveTakes view) plan k t o d u e → Reaches Takes plan k t o (device_of d.state) u (device_of e.state)
 reached_drive view plan k t None d e u reached = (reached.0, ap (λ d. device_of d.state) reached.1)
 reached_drive view plan k t (Some f) d e u reached = met_drive view k t f (hit (next_fault plan t.crossings) f) d e u reached
 

@@ -22,6 +22,7 @@ use Rattle.il_device.specs.Roles.{no_roles}
 use Rattle.il_device.specs.State.{DeviceState, risen}
 use Rattle.il_device.specs.Takes.{Takes, Answers, AnswersEcho, GoesOn, eto, ete, turn_of}
 use Rattle.loop_model.proofs.RoleSteps.{changes_roles}
+use Rattle.il_guest.specs.Takes.{is_tct}
 use Rattle.il_ring.specs.declared.plan.Planned.{Planned}
 use Rattle.il_ring.specs.declared.plan.PlanFault.{PlanFault}
 use Rattle.il_ring.specs.declared.plan.PlanFault.TheVariants.{Lose, Alter}
@@ -71,12 +72,13 @@ hit_carries m (Some (Alter change)) f g carries is = altered_by_link m f g chang
 
 -- ---- a frame that a device sends
 
--- it is a device's, and changes neither a role nor a place in the poll
+-- it is a device's, changes neither a role nor a place in the poll, and does not hand control over
 pub record IsQuiet (f : Flight) : Type 0 where
   pub from_device : 1 ≤ f.source
   pub message : Message
   pub keeps : changes_roles message ≡ false
   pub no_poll : is_poll message ≡ false
+  pub no_control : is_tct message ≡ false
   pub carries : Carries message f.now
 
 -- none, or a quiet one
@@ -88,18 +90,18 @@ sent_frame : (g h : Frame) → Source g ≡ Source h → g ≡ h
 sent_frame g h e = ap (λ out. elim out [ Pass f ↦ f | Source f ↦ f ]) e
 
 sent_data : (party : ℕ) (h own : Frame) → 1 ≤ party → Source h ≡ Source own → is_data own ≡ true → IsQuiet (sourced party h)
-sent_data party h own some is data_frame = record { from_device = some; message = msg.Dab 0; keeps = refl; no_poll = refl; carries = AsData refl (ap is_data (sent_frame h own is) ∙ data_frame) }
+sent_data party h own some is data_frame = record { from_device = some; message = msg.Dab 0; keeps = refl; no_poll = refl; no_control = refl; carries = AsData refl (ap is_data (sent_frame h own is) ∙ data_frame) }
 
-sent_end : (party : ℕ) (h with_ : Frame) (m : Message) → 1 ≤ party → Source h ≡ Source with_ → message_of with_ ≡ m → is_exact m ≡ true → changes_roles m ≡ false → is_poll m ≡ false → IsQuiet (sourced party h)
-sent_end party h with_ m some is says exact keeps no_poll = record { from_device = some; message = m; keeps = keeps; no_poll = no_poll; carries = Exactly exact (ap message_of (sent_frame h with_ is) ∙ says) }
+sent_end : (party : ℕ) (h with_ : Frame) (m : Message) → 1 ≤ party → Source h ≡ Source with_ → message_of with_ ≡ m → is_exact m ≡ true → changes_roles m ≡ false → is_poll m ≡ false → is_tct m ≡ false → IsQuiet (sourced party h)
+sent_end party h with_ m some is says exact keeps no_poll no_control = record { from_device = some; message = m; keeps = keeps; no_poll = no_poll; no_control = no_control; carries = Exactly exact (ap message_of (sent_frame h with_ is) ∙ says) }
 
 sent_on_echo : (over : Bool) (party : ℕ) (h : Frame) (out : Out) (e : DeviceState) → 1 ≤ party → GoesOn over out e → out ≡ Source h → IsQuiet (sourced party h)
-sent_on_echo true party h out e some ends is = sent_end party h eto msg.Eto some (sym is ∙ ends.answer) refl refl refl refl
-sent_on_echo false party h out e some (inl ends) is = sent_end party h eto msg.Eto some (sym is ∙ ends.answer) refl refl refl refl
+sent_on_echo true party h out e some ends is = sent_end party h eto msg.Eto some (sym is ∙ ends.answer) refl refl refl refl refl
+sent_on_echo false party h out e some (inl ends) is = sent_end party h eto msg.Eto some (sym is ∙ ends.answer) refl refl refl refl refl
 sent_on_echo false party h out e some (inr sends) is = sent_data party h sends.0.frame some (sym is ∙ sends.1.answer) sends.1.is_data
 
 sent_echo : (right : Bool) (party : ℕ) (h : Frame) (out : Out) (e : DeviceState) (own : OwnFrame) → 1 ≤ party → AnswersEcho right own out e → out ≡ Source h → IsQuiet (sourced party h)
-sent_echo false party h out e own some ends is = sent_end party h ete msg.Ete some (sym is ∙ ends.answer) refl refl refl refl
+sent_echo false party h out e own some ends is = sent_end party h ete msg.Ete some (sym is ∙ ends.answer) refl refl refl refl refl
 sent_echo true party h out e own some on is = sent_on_echo _ party h out e some on is
 
 sent_as : (asked : Turn) (party : ℕ) (d e : DeviceState) (f h : Frame) (out : Out) → 1 ≤ party → Answers asked d f out e → out ≡ Source h → IsQuiet (sourced party h)
@@ -149,6 +151,7 @@ quiet_hit fault f g quiet is = record {
   message = quiet.message;
   keeps = quiet.keeps;
   no_poll = quiet.no_poll;
+  no_control = quiet.no_control;
   carries = hit_carries quiet.message fault f g quiet.carries is;
 }
 
@@ -163,6 +166,7 @@ quiet_answered k n log t g (Pass h) d e some same quiet takes = record {
     message = quiet.message;
     keeps = quiet.keeps;
     no_poll = quiet.no_poll;
+    no_control = quiet.no_control;
     carries = subst (λ m. Carries m h) (keeps_on quiet.message d.roles quiet.keeps) (carries_on quiet.message d e g.now h quiet.carries takes);
   };
 }

@@ -23,6 +23,7 @@ pub record Adds {M : Type 0} (view : M → MediumView) (r : RingView M) (from : 
   pub plan : s.books.plan ≡ r.books.plan
   pub begun : s.books.begun ≡ r.books.begun
   pub room : s.books.room ≡ r.books.room
+  pub guest : s.guest ≡ r.guest
   pub before : length s.before ≡ length r.before
   pub size : length (devices_of s) ≡ length (devices_of r)
   pub links : ℕ

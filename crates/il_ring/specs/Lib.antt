@@ -4,6 +4,7 @@ pub mod Books
 pub mod Fates
 pub mod Journeys
 pub mod Rings
+pub mod Guests
 pub mod Lists
 pub mod Ways
 pub mod Rounded

@@ -14,12 +14,15 @@ use Rattle.il_ring.specs.Flights.{hit, lost_at, ended_at}
 use Rattle.il_ring.specs.Books.{BooksView, IsHeld, books_emptied}
 use Rattle.il_ring.specs.Fates.{ShowsPlan}
 use Rattle.il_ring.specs.Journeys.{Trip, trip_of, Passage, Journey, DriveTakes}
+use Rattle.il_ring.specs.Guests.{GuestMind, IsUnderHost}
 
--- the devices before the drive, the drive with its medium, the devices behind it, and the books
+-- the devices before the drive, the drive with its medium, the devices behind it, a second controller's last among them, what
+-- such a one has in mind, and the books
 pub record RingView (M : Type 0) : Type 0 where
   pub before : List DeviceState
   pub drive : DriveView M
   pub after : List DeviceState
+  pub guest : Option GuestMind
   pub books : BooksView
 
 -- all devices in the order of the ring: the first is party 1
@@ -38,14 +41,15 @@ drive_party r = length r.before + 1
 abbrev pub spare_of : {M : Type 0} → RingView M → ℕ
 spare_of r = r.books.room - length r.books.log
 
--- what holds of a ring at every moment from its making on; its drive is one over a tape of some number of records, and its
--- log tells the planned faults as they were planned
+-- what holds of a ring at every moment from its making on; its drive is one over a tape of some number of records, the host
+-- controls it, and its log tells the planned faults as they were planned
 pub record IsRing {M : Type 0} (r : RingView M) : Type 0 where
   pub few : length r.before + length r.after ≤ 29
   pub plan : IsPlan r.books.plan
   pub crossings : r.books.crossings ≤ last_crossing
   pub held : IsHeld r.books.held
   pub drive : (n : ℕ) × IsDrive n r.drive.state
+  pub guest : IsUnderHost r.guest
   pub told : ShowsPlan r.books
 
 -- ---- a new ring
@@ -120,5 +124,6 @@ pub record Round {M : Type 0} (view : M → MediumView) (r : RingView M) (held :
   pub to_drive : Journey r.books.plan 1 (trip_of r.books (Some f)) r.before at_drive s.before
   pub at : Passage (DriveTakes view) r.books.plan (length r.before + 1) at_drive r.drive past_drive s.drive
   pub from_drive : Journey r.books.plan (length r.before + 2) past_drive r.after behind s.after
+  pub guest : s.guest ≡ r.guest
   pub books : s.books ≡ home (books_at (record r.books { held = held }) behind) behind.flight
   pub answer_is : answer ≡ arrived (arriving r.books.plan behind.crossings behind.flight)

@@ -99,6 +99,7 @@ impl Books {
     /// The frame that is held at the host, which is not held any more.
     pub fn take_held(&mut self) -> Option<Flight>
         ensures value { result ≡ self.old.held }
+        ensures held { IsHeld result }
         ensures released { self.new ≡ record self.old { held = None } }
     {
         self.held.take()

@@ -11,6 +11,7 @@
 
 mod books;
 mod flight;
+mod last;
 mod paper;
 mod plan;
 mod rig;

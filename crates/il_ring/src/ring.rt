@@ -1,21 +1,24 @@
-ghost use Rattle.std.specs.Prelude.{◌≡◌, ◌⊎◌, ◌+◌, ◌<◌, ◌≤◌, ◌++◌, [], map, length, true, Some, None, IsSome, IfSome, IfOk, IfErr, option_map};
+ghost use Rattle.std.specs.Prelude.{◌≡◌, ◌⊎◌, ◌+◌, ◌<◌, ◌≤◌, ◌++◌, [], map, length, true, false, Some, None, IsSome, IfSome, IfOk, IfErr, option_map};
 ghost use Rattle.il_frames.specs.Frames.{is_data};
 ghost use Rattle.il_frames.specs.Messages.{message_of};
 ghost use Rattle.il_device.specs.declared.interface.OwnFrame.{OwnFrame};
 ghost use Rattle.il_device.specs.Roles.{is_start};
 ghost use Rattle.il_device.specs.Passing.{is_plain};
-ghost use Rattle.loop_model.specs.Entries.{nrd};
+ghost use Rattle.loop_model.specs.Entries.{nrd, is_frame};
 ghost use Rattle.loop_model.specs.Roles.{talkers, is_at_most_one};
 ghost use Rattle.il_drive.specs.State.{fresh_drive, IsDrive};
+ghost use Rattle.il_guest.specs.Frames.{tct};
 ghost use Rattle.il_ring.specs.Plans.{IsPlan};
 ghost use Rattle.il_ring.specs.Flights.{sourced};
 ghost use Rattle.il_ring.specs.Rings.{RingView, IsRing, Round, devices_of, roles_of, drive_party, spare_of, fresh_books, ring_emptied, paper_of};
+ghost use Rattle.il_ring.specs.Guests.{guest_devices, guest_mind, mind_of, MayBeGuest, HandsNothing};
 ghost use Rattle.il_ring.specs.Lists.{AllSilent, NoneSends};
 ghost use Rattle.il_ring.specs.Rounded.{Rounded, IsReady};
 ghost use Rattle.il_ring.specs.Outcomes.{Returned, WasLost, DataReturned, DataBroken, StartReturned, StartGone, StartTaken, AllKeep, IsTalking, StoodSo, Relayed};
 
 use crate::books::Books;
 use crate::flight::Flight;
+use crate::last::Last;
 use crate::paper::paper_in;
 use crate::plan::{Arrival, Planned};
 use crate::rig::{Refused, Rig};
@@ -23,6 +26,7 @@ use crate::walk::{pass_drive, walk_past};
 use il_device::Device;
 use il_drive::Drive;
 use il_frames::{Entry, Frame};
+use il_guest::Guest;
 use il_ports::Medium;
 use std::alloc::Global;
 
@@ -36,7 +40,8 @@ pub trait Seen<M> {
 pub(crate) struct Boxes {
     pub before: Vec<Box<dyn Device>>,
     pub after: Vec<Box<dyn Device>>,
-    ghost few: { length before.items + length after.items ≤ 29 },
+    pub last: Last,
+    ghost few: { length before.items + length after.items + length (guest_devices last) ≤ 29 },
 }
 
 /// What a ring consists of.
@@ -50,13 +55,14 @@ pub(crate) struct Parts<M: Medium> {
 impl<M: Medium> Parts<M> {
     /// The devices and the medium, in their order.
     fn into_rig(self) -> Rig<M>
-        ensures { result ≡ record { medium = self.drive.medium; before = self.boxes.before; after = self.boxes.after } }
+        ensures { result ≡ record { medium = self.drive.medium; before = self.boxes.before; after = self.boxes.after; guest = self.boxes.last } }
     {
         let Parts { boxes, drive, .. } = self;
         Rig {
             medium: drive.into_medium(),
             before: boxes.before,
             after: boxes.after,
+            guest: boxes.last.into_guest(),
         }
     }
 }
@@ -77,7 +83,8 @@ impl<M: Medium> Seen<M> for Ring<M> {
 impl<M: Medium> Ring<M> {
     /// A ring of these devices, with room for `room` entries in its log. The drive is new; the
     /// others are as they come, and nothing has come to them where `Rig::fits` says so. A tape is
-    /// in, at most 29 devices stand beside the drive, and `is_plan` holds of the plan.
+    /// in, at most 29 devices stand beside the drive, a second controller among them, which does not
+    /// control the loop, and `is_plan` holds of the plan.
     ///
     /// The only error is want of memory, and it hands the rig back.
     pub fn new(
@@ -86,13 +93,15 @@ impl<M: Medium> Ring<M> {
         plan: &[Planned],
         room: usize,
     ) -> Result<Ring<M>, Refused<M>>
-        requires few { length rig.before.items + length rig.after.items ≤ 29 }
+        requires few { length rig.before.items + length rig.after.items + length (guest_devices rig.guest) ≤ 29 }
+        requires guest { MayBeGuest rig.guest }
         requires tape { 0 < (M.view rig.medium).record_count }
         requires plan { IsPlan plan.now }
         ensures books { IfOk result (λ ring. (⟦<Ring<M> as Seen<M>>⟧.seen ring).books ≡ fresh_books plan.now room) }
         ensures drive { IfOk result (λ ring. (⟦<Ring<M> as Seen<M>>⟧.seen ring).drive ≡ record { state = fresh_drive; medium = rig.medium }) }
         ensures before { IfOk result (λ ring. (⟦<Ring<M> as Seen<M>>⟧.seen ring).before ≡ map (λ b. state b) rig.before.items) }
-        ensures after { IfOk result (λ ring. (⟦<Ring<M> as Seen<M>>⟧.seen ring).after ≡ map (λ b. state b) rig.after.items) }
+        ensures after { IfOk result (λ ring. (⟦<Ring<M> as Seen<M>>⟧.seen ring).after ≡ map (λ b. state b) rig.after.items ++ guest_devices rig.guest) }
+        ensures guest { IfOk result (λ ring. (⟦<Ring<M> as Seen<M>>⟧.seen ring).guest ≡ guest_mind rig.guest) }
         ensures ring { IfOk result (λ ring. IsRing (⟦<Ring<M> as Seen<M>>⟧.seen ring)) }
         ensures refused { IfErr result (λ refused. refused.rig ≡ rig) }
     {
@@ -103,9 +112,15 @@ impl<M: Medium> Ring<M> {
             medium,
             before,
             after,
+            guest,
         } = rig;
+        let last = Last::new(guest);
         let parts = Parts {
-            boxes: Boxes { before, after },
+            boxes: Boxes {
+                before,
+                after,
+                last,
+            },
             drive: Drive::new(medium),
             books,
         };
@@ -176,7 +191,7 @@ impl<M: Medium> Ring<M> {
         ensures count { result ≡ length (devices_of (⟦<Ring<M> as Seen<M>>⟧.seen self.now)) }
         ensures range { result ≤ 30 }
     {
-        self.party() + self.parts.boxes.after.len() as u8
+        self.party() + self.parts.boxes.after.len() as u8 + self.parts.boxes.last.count()
     }
 
     /// The paper of the first printer, counted from the host's output: the first bytes that it
@@ -185,14 +200,25 @@ impl<M: Medium> Ring<M> {
     pub fn paper(&self) -> Option<(&[u8], u64)>
         ensures { option_map (λ p. (p.0.now, p.1)) result ≡ paper_of ((⟦<Ring<M> as Seen<M>>⟧.seen self.now).before ++ (⟦<Ring<M> as Seen<M>>⟧.seen self.now).after) }
     {
-        paper_in(&self.parts.boxes.before).or(paper_in(&self.parts.boxes.after))
+        let boxes = &self.parts.boxes;
+        paper_in(&boxes.before)
+            .or(paper_in(&boxes.after))
+            .or(boxes.last.paper())
+    }
+
+    /// The second controller, which stands last on the loop.
+    pub fn guest(&self) -> Option<&Guest>
+        ensures { option_map (λ g. mind_of g.now) result ≡ (⟦<Ring<M> as Seen<M>>⟧.seen self.now).guest }
+    {
+        self.parts.boxes.last.guest()
     }
 
     /// The devices and the medium as the ring leaves them, in their order.
     pub fn into_rig(self) -> Rig<M>
         ensures medium { result.medium ≡ (⟦<Ring<M> as Seen<M>>⟧.seen self).drive.medium }
         ensures before { map (λ b. state b) result.before.items ≡ (⟦<Ring<M> as Seen<M>>⟧.seen self).before }
-        ensures after { map (λ b. state b) result.after.items ≡ (⟦<Ring<M> as Seen<M>>⟧.seen self).after }
+        ensures after { map (λ b. state b) result.after.items ++ guest_devices result.guest ≡ (⟦<Ring<M> as Seen<M>>⟧.seen self).after }
+        ensures guest { guest_mind result.guest ≡ (⟦<Ring<M> as Seen<M>>⟧.seen self).guest }
     {
         Box::into_inner(self.parts).into_rig()
     }
@@ -203,10 +229,11 @@ impl<M: Medium> Ring<M> {
     /// held before is held on where the frame came back, and else dropped.
     ///
     /// The log has room for 32 more entries, and no frame is held, or the frame is NRD, which goes
-    /// ahead of the held one.
+    /// ahead of the held one. The frame is not TCT, which hands control over.
     pub fn send(&mut self, frame: Frame) -> Arrival
         requires room { 32 ≤ spare_of (⟦<Ring<M> as Seen<M>>⟧.seen self.old) }
         requires free { ((⟦<Ring<M> as Seen<M>>⟧.seen self.old).books.held ≡ None) ⊎ (frame ≡ nrd) }
+        requires hands { is_frame frame tct ≡ false }
         ensures round { Round M.view (⟦<Ring<M> as Seen<M>>⟧.seen self.old) (⟦<Ring<M> as Seen<M>>⟧.seen self.old).books.held (sourced 0 frame) result (⟦<Ring<M> as Seen<M>>⟧.seen self.new) }
         // The entries tell how many links were crossed, and how many frames came to each device.
         ensures counts { Rounded (⟦<Ring<M> as Seen<M>>⟧.seen self.old) (⟦<Ring<M> as Seen<M>>⟧.seen self.old).books.held (sourced 0 frame) result (⟦<Ring<M> as Seen<M>>⟧.seen self.new) }
@@ -258,7 +285,8 @@ impl<M: Medium> Ring<M> {
 
     /// A frame goes round, with the held frame at the host meanwhile.
     fn round(&mut self, flight: Flight) -> Arrival
-        requires { 32 ≤ spare_of (⟦<Ring<M> as Seen<M>>⟧.seen self.old) }
+        requires room { 32 ≤ spare_of (⟦<Ring<M> as Seen<M>>⟧.seen self.old) }
+        requires hands { HandsNothing (Some flight) }
         ensures { Round M.view (⟦<Ring<M> as Seen<M>>⟧.seen self.old) (⟦<Ring<M> as Seen<M>>⟧.seen self.old).books.held flight result (⟦<Ring<M> as Seen<M>>⟧.seen self.new) }
     {
         let party = self.party();
@@ -270,6 +298,9 @@ impl<M: Medium> Ring<M> {
         let on = walk_past(&mut boxes.before, 1, books, Some(flight));
         let on = pass_drive(drive, party, books, on);
         let on = walk_past(&mut boxes.after, party + 1, books, on);
+        let on = boxes
+            .last
+            .pass(party + 1 + boxes.after.len() as u8, books, on);
         books.home(on)
     }
 }

@@ -42,7 +42,7 @@ pub(crate) fn pass_drive<M: Medium>(
 }
 
 /// What goes on behind a party that has answered.
-fn go_on(books: &mut Books, flight: Flight, party: u8, out: Out) -> Flight
+pub(crate) fn go_on(books: &mut Books, flight: Flight, party: u8, out: Out) -> Flight
     requires { length books.old.log < books.old.room }
     ensures trip { trip_of books.new (Some result) ≡ answered books.old.crossings books.old.log party flight out }
     ensures books { KeepsBooks 1 books.old books.new }

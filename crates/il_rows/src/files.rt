@@ -38,6 +38,7 @@ fn run_over(
         medium: FileMedium::new(MemoryImages::new(alloc, shelf, most, Vec::new(alloc), fails)),
         before: Vec::new(alloc),
         after: devices_of(alloc, Behind::Printer)?,
+        guest: None,
     };
     let Ended { status, rig } = run_il(alloc, words.as_slice(), &mut source, &mut out, rig);
     let mut kept = Vec::new(alloc);

@@ -197,6 +197,7 @@ pub(crate) fn run(alloc: Global, given: &Given) -> Result<Left, AllocError> {
         medium,
         before: Vec::new(alloc),
         after: devices_of(alloc, given.behind)?,
+        guest: None,
     };
     let Ended { status, rig } = run_il(alloc, words.as_slice(), &mut script, &mut out, rig);
     let image = match rig.medium.image("TAPE") {

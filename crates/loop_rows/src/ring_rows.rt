@@ -5,6 +5,7 @@ use crate::tools::{compare_log, frame_of, has_paper, tape};
 use PlanFault::{Alter, Lose};
 use il_device::{Device, Printer, Quiet};
 use il_frames::{Class, Frame};
+use il_guest::Guest;
 use il_ports::{Medium, MemoryMedium};
 use il_ring::{Arrival, PlanFault, Planned, Rig, Ring, is_plan};
 use il_same::{same, same_bytes};
@@ -328,6 +329,118 @@ static DAYS: [Day; 18] = [
     },
 ];
 
+/// Days of the drive, a printer and a second controller behind it, four links a round.
+static GUEST_DAYS: [Day; 6] = [
+    Day {
+        name: "a command is lost before the second controller, and behind it",
+        plan: &[(3, Lose), (7, Lose)],
+        rounds: &[("IFC", "lost"), ("IFC", "lost"), ("IFC", "IFC")],
+        log: &["~ 0 IFC ! 3", "~ 0 IFC ! 0", "~ 0 IFC = IFC"],
+        crossings: 11,
+        held: None,
+        paper: b"",
+    },
+    Day {
+        name: "a second controller talks, and answers no start message",
+        plan: &[],
+        rounds: &[
+            ("AAD 01", "AAD 04"),
+            ("TAD 03", "TAD 03"),
+            ("SDA", "SDA"),
+            ("SST", "SST"),
+            ("SAI", "SAI"),
+            ("IDY 00", "IDY 00"),
+        ],
+        log: &[
+            "~ 0 AAD 01 = AAD 04",
+            "~ 0 TAD 03 = TAD 03",
+            "~ 0 SDA = SDA",
+            "~ 0 SST = SST",
+            "~ 0 SAI = SAI",
+            "~ 0 IDY 00 = IDY 00",
+        ],
+        crossings: 24,
+        held: None,
+        paper: b"",
+    },
+    Day {
+        name: "a byte altered before and behind the second controller is lost",
+        plan: &[(11, Alter(3)), (12, Alter(3))],
+        rounds: &[
+            ("AAD 01", "AAD 04"),
+            ("LAD 02", "LAD 02"),
+            ("DAB 41", "lost"),
+        ],
+        log: &[
+            "~ 0 AAD 01 = AAD 04",
+            "~ 0 LAD 02 = LAD 02",
+            "~ 0 DAB 41 ! 0",
+        ],
+        crossings: 12,
+        held: None,
+        paper: b"A",
+    },
+    Day {
+        name: "the drive's status, altered before the second controller",
+        plan: &[(11, Alter(1))],
+        rounds: &[
+            ("AAD 01", "AAD 04"),
+            ("TAD 01", "TAD 01"),
+            ("SST", "DAB 01"),
+            ("NRD", "NRD"),
+            ("relay", "ETE"),
+        ],
+        log: &[
+            "~ 0 AAD 01 = AAD 04",
+            "~ 0 TAD 01 = TAD 01",
+            "~ 0 SST > 1",
+            "~ 0 NRD = NRD",
+            "~ 1 DAB 00 = DAB 01",
+            "~ 1 ETE > 0",
+        ],
+        crossings: 20,
+        held: None,
+        paper: b"",
+    },
+    Day {
+        name: "the end of a transmission is lost before the second controller",
+        plan: &[(15, Lose)],
+        rounds: &[
+            ("AAD 01", "AAD 04"),
+            ("TAD 01", "TAD 01"),
+            ("SST", "DAB 00"),
+            ("relay", "lost"),
+        ],
+        log: &[
+            "~ 0 AAD 01 = AAD 04",
+            "~ 0 TAD 01 = TAD 01",
+            "~ 0 SST > 1",
+            "~ 1 DAB 00 = DAB 00",
+            "~ 1 ETO ! 3",
+        ],
+        crossings: 15,
+        held: None,
+        paper: b"",
+    },
+    Day {
+        name: "a second controller listens, and nothing of it is told",
+        plan: &[],
+        rounds: &[
+            ("AAD 01", "AAD 04"),
+            ("LAD 03", "LAD 03"),
+            ("END 41", "END 41"),
+        ],
+        log: &[
+            "~ 0 AAD 01 = AAD 04",
+            "~ 0 LAD 03 = LAD 03",
+            "~ 0 END 41 = END 41",
+        ],
+        crossings: 12,
+        held: None,
+        paper: b"",
+    },
+];
+
 /// A ring of the rig, with room for 100 entries.
 fn ring_of(
     rt: &(impl Abort + AllocGlobal),
@@ -351,6 +464,7 @@ fn go_round(rt: &impl Abort, ring: &mut Ring<MemoryMedium>, frame: &str, arrives
     } else {
         let frame = frame_of(rt, frame);
         assert!(rt; ring.held().is_none() || frame == Frame::new(Class::Rdy, 0x42));
+        assert!(rt; frame != Frame::new(Class::Rdy, 0x64));
         ring.send(frame)
     };
     let want = if arrives == "lost" {
@@ -375,31 +489,93 @@ fn compare_day(rt: &impl Abort, ring: &Ring<MemoryMedium>, day: &Day) {
     assert!(rt; has_paper(ring, day.paper), "{name}");
 }
 
+/// The ring behind the day, of the drive, a printer and this second controller, or none.
+fn live_through(
+    rt: &(impl Abort + AllocGlobal),
+    guest: Option<Guest>,
+    day: &Day,
+) -> Result<Ring<MemoryMedium>, Fail> {
+    let alloc = rt.alloc();
+    let printer: Box<dyn Device> = Box::new(alloc, Printer::new(alloc)?)?;
+    let rig = Rig {
+        medium: tape(rt, 0, 0)?,
+        before: Vec::new(alloc),
+        after: Vec::from_array(alloc, [printer])?,
+        guest,
+    };
+    let mut plan = Vec::new(alloc);
+    for (hop, fault) in day.plan {
+        plan.push(Planned {
+            hop: *hop,
+            fault: *fault,
+        })?;
+    }
+    let mut ring = ring_of(rt, rig, &plan);
+    for (frame, arrives) in day.rounds {
+        go_round(rt, &mut ring, frame, arrives);
+    }
+    compare_day(rt, &ring, day);
+    Ok(ring)
+}
+
 #[test]
 fn days(rt: HostRuntime) -> Result<(), Fail> {
-    let alloc = rt.alloc();
     for day in &DAYS {
-        let printer: Box<dyn Device> = Box::new(alloc, Printer::new(alloc)?)?;
-        let mut after = Vec::new(alloc);
-        after.push(printer)?;
-        let rig = Rig {
-            medium: tape(&rt, 0, 0)?,
-            before: Vec::new(alloc),
-            after,
-        };
-        let mut plan = Vec::new(alloc);
-        for (hop, fault) in day.plan {
-            plan.push(Planned {
-                hop: *hop,
-                fault: *fault,
-            })?;
-        }
-        let mut ring = ring_of(&rt, rig, &plan);
-        for (frame, arrives) in day.rounds {
-            go_round(&rt, &mut ring, frame, arrives);
-        }
-        compare_day(&rt, &ring, day);
+        let ring = live_through(&rt, None, day)?;
+        assert!(rt; ring.guest().is_none() && same(ring.devices(), 2));
     }
+    for day in &GUEST_DAYS {
+        let ring = live_through(&rt, Some(Guest::new(2)), day)?;
+        assert!(rt; same(ring.devices(), 3), "{}", day.name);
+        assert!(rt; is_still(ring.guest()), "{}", day.name);
+        assert!(rt; is_still(ring.into_rig().guest.as_ref()), "{}", day.name);
+    }
+    Ok(())
+}
+
+/// There is a second controller that asks up to address 2, and it has not controlled the loop.
+fn is_still(guest: Option<&Guest>) -> bool {
+    match guest {
+        None => false,
+        Some(guest) => {
+            same(guest.last(), 2)
+                && !guest.in_control()
+                && guest.found().iter().all(|status| status.is_none())
+        }
+    }
+}
+
+/// A loop as long as it may be with a second controller: 28 boxed devices.
+#[test]
+fn guest_of_thirty(rt: HostRuntime) -> Result<(), Fail> {
+    let alloc = rt.alloc();
+    let mut after = Vec::new(alloc);
+    for _ in 0..29 {
+        let quiet: Box<dyn Device> = Box::new(alloc, Quiet::new())?;
+        after.push(quiet)?;
+    }
+    let mut rig = Rig {
+        medium: tape(&rt, 0, 0)?,
+        before: Vec::new(alloc),
+        after,
+        guest: Some(Guest::new(2)),
+    };
+    assert!(rt; !rig.fits());
+    let _ = rig.after.pop();
+    let mut ring = ring_of(&rt, rig, &[]);
+    assert!(rt; same(ring.devices(), 30) && ring.paper().is_none(), "thirty");
+    for (frame, arrives) in [("AAD 01", "IAA"), ("TAD 1E", "TAD 1E"), ("SAI", "SAI")] {
+        go_round(&rt, &mut ring, frame, arrives);
+    }
+    let log = ["~ 0 AAD 01 = IAA", "~ 0 TAD 1E = TAD 1E", "~ 0 SAI = SAI"];
+    compare_log(&rt, ring.log(), &log, "a guest of thirty");
+    assert!(rt; same(ring.crossings(), 3 * 31), "crossings");
+    let mut rig = ring.into_rig();
+    // It has an address and talks; and in control it makes no new ring either.
+    rig.after.clear();
+    assert!(rt; !rig.fits());
+    rig.guest = Some(Guest::new(2));
+    assert!(rt; rig.fits());
     Ok(())
 }
 
@@ -420,6 +596,7 @@ fn thirty_devices(rt: HostRuntime) -> Result<(), Fail> {
         medium: tape(&rt, 0, 0)?,
         before,
         after,
+        guest: None,
     };
     assert!(rt; !rig.fits());
     let _ = rig.after.pop();
@@ -481,6 +658,7 @@ fn printer_first(rt: HostRuntime) -> Result<(), Fail> {
         medium: tape(&rt, 0, 0)?,
         before,
         after,
+        guest: None,
     };
     assert!(rt; !rig.fits());
     let _ = rig.after.pop();

@@ -74,6 +74,7 @@ pub(crate) fn controller(
         medium,
         before,
         after,
+        guest: None,
     };
     assert!(rt; is_plan(plan));
     assert!(rt; rig.medium.size() > 0);

@@ -1,6 +1,12 @@
-use Rattle.std.proofs.Common.{refl}
-use Rattle.il_control.proofs.Beginning.{start_call, passed_begins, taken_begins, lost_begins, none_held, some_held}
+use Rattle.std.proofs.Common.{◌≡◌, ◌∙◌, ap, false, refl}
+use Rattle.il_guest.specs.Frames.{tct}
+use Rattle.loop_model.specs.Entries.{is_frame}
+use Rattle.il_control.specs.Receives.{start_of}
+use Rattle.il_control.proofs.Beginning.{start_hands, start_call, passed_begins, taken_begins, lost_begins, none_held, some_held}
 use Rattle.il_control.proofs.receiving.begin.Goals as goal
+
+pub send-requires-clause-hands : goal.send-requires-clause-hands
+send-requires-clause-hands g c = ap (λ f. is_frame f tct) c.frame.ensures ∙ start_hands (start_of c.args.start)
 
 pub returns-in-Lost : goal.returns-in-Lost
 returns-in-Lost g c = lost_begins g.M.Medium.view _ _ _ _ (start_call g.M.Medium.view _ _ _ _ _ _ c.in-Lost.ensures.round c.frame.ensures c.requires.free.held c.requires.free c.requires.one c.requires.calm) refl

@@ -1,9 +1,12 @@
 use Rattle.std.proofs.Common.{refl}
-use Rattle.il_control.proofs.Made.{command_plain, command_made, command_broken}
+use Rattle.il_control.proofs.Made.{command_hands, command_plain, command_made, command_broken}
 use Rattle.il_control.proofs.states.Idle.command.Goals as goal
 
 pub command-requires-clause-plain : goal.command-requires-clause-plain
 command-requires-clause-plain g c = command_plain c.args.frame (search) c.requires.command
+
+pub command-requires-clause-hands : goal.command-requires-clause-hands
+command-requires-clause-hands g c = command_hands c.args.frame c.requires.command
 
 pub returns-then-command-clause-made : goal.returns-then-command-clause-made
 returns-then-command-clause-made g c = command_made g.M.Medium.view _ _ _ c.requires.idle c.requires.command c.if-command.ensures.done

@@ -1,17 +1,18 @@
 use Rattle.std.proofs.Common.{◌≡◌, rules, ◌∙◌, false, true, refl, sym, ap}
 use Rattle.std.specs.Prelude.{is_some}
+use Rattle.il_ring.proofs.Guests.{alone}
 use Rattle.il_host.specs.Hosts.{loop_in}
 use Rattle.il_host.proofs.NewRings.{new_ring_lost, new_ring_may_poll, new_ring_short}
 use Rattle.il_host.proofs.host.Host.open.Goals as goal
 
 pub new-requires-2 : goal.new-requires-2
-new-requires-2 g c = let made = c.in-Ok-new.ensures in new_ring_lost _ _ _ _ _ _ _ _ refl made.ring made.books made.drive made.before made.after c.requires.devices.1 c.requires.devices.2
+new-requires-2 g c = let made = c.in-Ok-new.ensures in new_ring_lost _ _ _ _ _ _ _ _ refl made.ring made.books made.drive made.before (alone _ _ _ c.requires.alone made.after) c.requires.devices.1 c.requires.devices.2
 
 pub new-requires-3-clause-lost : goal.new-requires-3-clause-lost
-new-requires-3-clause-lost g c = let made = c.in-Ok-new.ensures in new_ring_lost _ _ _ _ _ _ _ _ c.new-2.ensures made.ring made.books made.drive made.before made.after c.requires.devices.1 c.requires.devices.2
+new-requires-3-clause-lost g c = let made = c.in-Ok-new.ensures in new_ring_lost _ _ _ _ _ _ _ _ c.new-2.ensures made.ring made.books made.drive made.before (alone _ _ _ c.requires.alone made.after) c.requires.devices.1 c.requires.devices.2
 
 pub new-requires-3-clause-places : goal.new-requires-3-clause-places
-new-requires-3-clause-places g c = let made = c.in-Ok-new.ensures in new_ring_may_poll _ _ _ _ _ _ _ _ c.new-2.ensures made.ring made.books made.drive made.before made.after c.requires.devices.1 c.requires.devices.2
+new-requires-3-clause-places g c = let made = c.in-Ok-new.ensures in new_ring_may_poll _ _ _ _ _ _ _ _ c.new-2.ensures made.ring made.books made.drive made.before (alone _ _ _ c.requires.alone made.after) c.requires.devices.1 c.requires.devices.2
 
 pub returns-in-Ok-open-clause-opened : goal.returns-in-Ok-open-clause-opened
 returns-in-Ok-open-clause-opened g c =
@@ -23,7 +24,7 @@ returns-in-Ok-open-clause-opened g c =
         stands = search rules;
         kept = λ on. let clash : false ≡ true = sym (ap is_some c.in-Ok-open.ensures.kept) ∙ on in cc;
         log = search rules;
-        short = new_ring_short g.M.Medium.view _ _ _ _ c.args.rig.before.items c.args.rig.after.items (ap (loop_in _) c.in-Ok-open.ensures.records ∙ c.new-3.ensures.at) c.new-2.ensures made.before made.after c.requires.devices.1 c.requires.devices.2;
+        short = new_ring_short g.M.Medium.view _ _ _ _ c.args.rig.before.items c.args.rig.after.items (ap (loop_in _) c.in-Ok-open.ensures.records ∙ c.new-3.ensures.at) c.new-2.ensures made.before (alone _ _ _ c.requires.alone made.after) c.requires.devices.1 c.requires.devices.2;
         text = search rules;
         file = search rules;
       };
