@@ -563,7 +563,10 @@ fn guest_of_thirty(rt: HostRuntime) -> Result<(), Fail> {
     assert!(rt; !rig.fits());
     let _ = rig.after.pop();
     let mut ring = ring_of(&rt, rig, &[]);
-    assert!(rt; same(ring.devices(), 30) && ring.paper().is_none(), "thirty");
+    assert!(rt;
+        same(ring.devices(), 30) && ring.paper().is_none(),
+        "thirty"
+    );
     for (frame, arrives) in [("AAD 01", "IAA"), ("TAD 1E", "TAD 1E"), ("SAI", "SAI")] {
         go_round(&rt, &mut ring, frame, arrives);
     }
