@@ -1,22 +1,20 @@
 -- A second controller as the last device of a ring.
-use Rattle.std.proofs.Common.{◌≡◌, ◌≢◌, ◌∙◌, ℕ, false, List, [], ◌∷◌, ◌++◌, Option, Some, None, length, refl, sym, ap, subst, append-nil}
+use Rattle.std.proofs.Common.{◌≡◌, ◌∙◌, false, List, [], ◌++◌, Option, Some, None, refl, sym, ap, subst, append-nil}
 use Rattle.std.specs.List.{All}
 use Rattle.std.proofs.lemmas.List.Elements.{All-nil, All-cons}
 use Rattle.il_frames.specs.declared.frame.Frame.{Frame}
 use Rattle.il_frames.specs.Messages.{message_of}
-use Rattle.il_device.specs.declared.device.Out.{Out}
 use Rattle.il_device.specs.declared.device.Out.TheVariants as device
 use Rattle.il_device.specs.State.{DeviceState}
 use Rattle.il_device.specs.Takes.{Takes}
-use Rattle.il_drive.specs.State.{drive_id}
 use Rattle.il_guest.specs.declared.control.Control.TheVariants as control
 use Rattle.il_guest.specs.declared.guest.GuestOut.{GuestOut}
 use Rattle.il_guest.specs.declared.guest.GuestOut.TheVariants.{Pass}
-use Rattle.il_guest.specs.State.{GuestState, IsGuest}
+use Rattle.il_guest.specs.State.{GuestState}
 use Rattle.il_guest.specs.Takes.{GuestTakes, is_tct, passed_by, takes_control}
 use Rattle.il_guest.proofs.GuestLaws.{passes-host}
-use Rattle.il_ring.specs.Guests.{GuestMind, IsIdleGuest, IsUnderHost, MayBeGuest, guest_devices, guest_mind, mind_of}
-use Rattle.il_ring.specs.Rings.{MayStand, has_id, printer_id, paper_of}
+use Rattle.il_ring.specs.Guests.{IsIdleGuest, IsUnderHost, MayBeGuest, guest_devices, guest_mind}
+use Rattle.il_ring.specs.Rings.{MayStand, paper_of}
 
 -- ---- one frame
 

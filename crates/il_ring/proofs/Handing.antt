@@ -1,6 +1,6 @@
 -- No device hands control over: behind each, a frame that does not do so is one that does not.
 use Rattle.std.proofs.Common.{◌≡◌, ◌≤◌, ◌+◌, ◌==◌, ℕ, suc, Bool, true, false, List, [], ◌∷◌, Option, Some, None, refl, sym, ap, subst, ◌∙◌, arith}
-use Rattle.std.specs.Prelude.{◌-◌, if◌then◌else◌, IsSome, IfSome}
+use Rattle.std.specs.Prelude.{◌-◌, if◌then◌else◌}
 use Rattle.il_frames.specs.declared.entry.Entry.{Entry}
 use Rattle.il_frames.specs.declared.frame.Class.{Class}
 use Rattle.il_frames.specs.declared.frame.Class.TheVariants as class
@@ -28,7 +28,7 @@ use Rattle.il_ring.specs.Plans.{next_fault}
 use Rattle.il_ring.specs.Flights.{sourced, hit}
 use Rattle.il_ring.specs.Books.{IsHeld}
 use Rattle.il_ring.specs.Guests.{HandsNothing}
-use Rattle.il_ring.specs.Journeys.{Trip, trip_of, answered, Meets, Reaches, Passage, Journey, DriveTakes, is_exact, is_identify_class}
+use Rattle.il_ring.specs.Journeys.{Trip, answered, Meets, Reaches, Passage, Journey, DriveTakes, is_exact, is_identify_class}
 use Rattle.il_ring.proofs.Passing.{Carries, Exactly, AsData, AsIdentify, carries_on}
 use Rattle.il_ring.proofs.RoundRoles.{hit_carries, sent_quiet}
 use Rattle.il_ring.proofs.RoundCounts.{reached_drive}

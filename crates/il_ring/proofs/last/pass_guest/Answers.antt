@@ -1,4 +1,4 @@
-use Rattle.std.proofs.Common.{◌∙◌, subst, sym, ap}
+use Rattle.std.proofs.Common.{subst, sym}
 use Rattle.il_ring.specs.Guests.{HandsNothing}
 use Rattle.il_ring.proofs.Handing.{hands_behind}
 use Rattle.il_ring.proofs.last.pass_guest.Goals as goal

@@ -1,5 +1,4 @@
 use Rattle.std.proofs.Common.{ap, ◌∙◌, sym}
-use Rattle.il_guest.specs.State.{GuestState}
 use Rattle.il_ring.specs.Guests.{guest_devices}
 use Rattle.il_ring.specs.Rings.{paper_of}
 use Rattle.il_ring.proofs.Guests.{guest_paper}
