@@ -45,7 +45,6 @@ pub mod LoopPerforms
 pub mod PaperPerforms
 pub mod PlainCommands
 pub mod NewRings
-pub mod Closing
 pub mod Wholes
 pub mod HostChanges
 pub mod HostReads

@@ -13,7 +13,7 @@ use Rattle.il_guest.specs.declared.guest.GuestOut.TheVariants.{Pass}
 use Rattle.il_guest.specs.State.{GuestState}
 use Rattle.il_guest.specs.Takes.{GuestTakes, is_tct, passed_by, takes_control}
 use Rattle.il_guest.proofs.GuestLaws.{passes-host}
-use Rattle.il_ring.specs.Guests.{IsIdleGuest, IsUnderHost, MayBeGuest, guest_devices, guest_mind}
+use Rattle.il_ring.specs.Guests.{IsIdleGuest, MayBeGuest, guest_devices}
 use Rattle.il_ring.specs.Rings.{MayStand, paper_of}
 
 -- ---- one frame
@@ -37,10 +37,6 @@ guest_stands None idle may = All-nil MayStand
 guest_stands (Some g) idle may =
     All-cons MayStand g.device [] (idle.0, (λ id. let clash = sym may.0.accessory ∙ id in cc), may.0.device) (All-nil MayStand)
 
-pub may_under_host : (guest : Option GuestState) → MayBeGuest guest → IsUnderHost (guest_mind guest)
-may_under_host None may = tt
-may_under_host (Some g) may = may.1
-
 -- ---- it is no printer
 
 pub guest_paper : (guest : Option GuestState) → MayBeGuest guest → paper_of (guest_devices guest) ≡ None
@@ -48,10 +44,6 @@ guest_paper None may = refl
 guest_paper (Some g) may = rw may.0.accessory refl
 
 -- ---- where there is none
-
-pub no_guest : (guest : Option GuestState) → guest_mind guest ≡ None → guest ≡ None
-no_guest None is = refl
-no_guest (Some g) is = cc
 
 pub alone : (ds es : List DeviceState) (guest : Option GuestState) → guest ≡ None → es ≡ ds ++ guest_devices guest → es ≡ ds
 alone ds es guest none is = is ∙ ap (λ guest. ds ++ guest_devices guest) none ∙ append-nil ds

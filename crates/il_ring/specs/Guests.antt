@@ -1,5 +1,5 @@
 -- A second controller on a ring. It stands last, and its device is one of the ring's devices; what else it has in mind stands beside them.
-use Rattle.std.specs.Prelude.{◌≡◌, ℕ, false, List, [], ◌∷◌, Option, Some, None, option_map}
+use Rattle.std.specs.Prelude.{◌≡◌, ℕ, false, List, [], ◌∷◌, ◌++◌, Option, Some, None, option_map}
 use Rattle.il_frames.specs.Messages.{message_of}
 use Rattle.il_device.specs.State.{DeviceState, IsIdle}
 use Rattle.il_guest.specs.declared.control.Control.{Control}
@@ -25,6 +25,10 @@ guest_mind guest = option_map mind_of guest
 abbrev pub guest_devices : Option GuestState → List DeviceState
 guest_devices None = []
 guest_devices (Some g) = g.device ∷ []
+
+-- its device is the last of these, where there is one
+abbrev pub StandsLast : Option GuestState → List DeviceState → Type 0
+StandsLast guest after = (boxed : List DeviceState) × (after ≡ boxed ++ guest_devices guest)
 
 -- the host controls the loop
 abbrev pub IsUnderHost : Option GuestMind → Type 0

@@ -11,7 +11,7 @@ ghost use Rattle.il_guest.specs.Frames.{tct};
 ghost use Rattle.il_ring.specs.Plans.{IsPlan};
 ghost use Rattle.il_ring.specs.Flights.{sourced};
 ghost use Rattle.il_ring.specs.Rings.{RingView, IsRing, Round, devices_of, roles_of, drive_party, spare_of, fresh_books, ring_emptied, paper_of};
-ghost use Rattle.il_ring.specs.Guests.{guest_devices, guest_mind, mind_of, MayBeGuest, HandsNothing};
+ghost use Rattle.il_ring.specs.Guests.{guest_devices, guest_mind, MayBeGuest, HandsNothing, StandsLast};
 ghost use Rattle.il_ring.specs.Lists.{AllSilent, NoneSends};
 ghost use Rattle.il_ring.specs.Rounded.{Rounded, IsReady};
 ghost use Rattle.il_ring.specs.Outcomes.{Returned, WasLost, DataReturned, DataBroken, StartReturned, StartGone, StartTaken, AllKeep, IsTalking, StoodSo, Relayed};
@@ -208,7 +208,8 @@ impl<M: Medium> Ring<M> {
 
     /// The second controller, which stands last on the loop.
     pub fn guest(&self) -> Option<&Guest>
-        ensures { option_map (λ g. mind_of g.now) result ≡ (⟦<Ring<M> as Seen<M>>⟧.seen self.now).guest }
+        ensures mind { guest_mind (option_map (λ g. g.now) result) ≡ (⟦<Ring<M> as Seen<M>>⟧.seen self.now).guest }
+        ensures device { StandsLast (option_map (λ g. g.now) result) (⟦<Ring<M> as Seen<M>>⟧.seen self.now).after }
     {
         self.parts.boxes.last.guest()
     }
