@@ -1,4 +1,5 @@
-ghost use Rattle.std.specs.Prelude.{◌≡◌, ◌≤◌, ◌*◌, [], length, IfOk, if◌then◌else◌, false, Some, None, IfSome, option_map, take};
+ghost use Rattle.std.specs.Prelude.{◌≡◌, ◌≤◌, ◌*◌, [], length, vec_len, IfOk, if◌then◌else◌, false, Some, None};
+ghost use Rattle.std.specs.Vec.{vec_capacity};
 ghost use Rattle.il_script.specs.Digits.{payload_of};
 
 use crate::limits::LONGEST_PAYLOAD;
@@ -8,20 +9,20 @@ use std::marker::Model;
 /// The bytes that a command carries. All memory is taken by `new`.
 #[derive(Drop)]
 pub struct Payload {
-    /// As long as a payload may be; the bytes come first.
-    room: Vec<u8>,
-    count: usize,
+    /// With room for the longest payload.
+    bytes: Vec<u8>,
 }
 
 impl Model for Payload {
-    ghost use Rattle.std.specs.Prelude.{ℕ, List, ◌≡◌, ◌≤◌, take, vec_len};
+    ghost use Rattle.std.specs.Prelude.{ℕ, List, ◌≡◌, ◌≤◌, vec_len};
+    ghost use Rattle.std.specs.Vec.{vec_capacity};
     ghost use Rattle.il_script.specs.declared.limits.TheConstants.{LONGEST_PAYLOAD};
 
     ghost Value = { List ℕ };
 
-    ghost view = { λ p. take p.count p.room.items };
+    ghost view = { λ p. p.bytes.items };
 
-    ghost invariant = { λ p. (p.count ≤ LONGEST_PAYLOAD) × (vec_len p.room ≡ LONGEST_PAYLOAD) };
+    ghost invariant = { λ p. (vec_len p.bytes ≤ LONGEST_PAYLOAD) × (LONGEST_PAYLOAD ≤ vec_capacity p.bytes) };
 }
 
 impl Payload {
@@ -30,8 +31,7 @@ impl Payload {
         ensures { IfOk result (λ p. p ≡ []) }
     {
         Ok(Payload {
-            room: vec![in alloc; 0; LONGEST_PAYLOAD]?,
-            count: 0,
+            bytes: Vec::with_capacity(alloc, LONGEST_PAYLOAD)?,
         })
     }
 
@@ -40,14 +40,14 @@ impl Payload {
         ensures bytes { result.now ≡ self.now }
         ensures size { length result.now ≤ LONGEST_PAYLOAD }
     {
-        &self.room[..self.count]
+        self.bytes.as_slice()
     }
 
     /// Drops the bytes.
     pub fn clear(&mut self)
         ensures { self.new ≡ [] }
     {
-        self.count = 0;
+        self.bytes.clear();
     }
 
     /// Takes the bytes that a text spells, and says whether it spells any. Where it does not, there are no bytes.
@@ -56,34 +56,25 @@ impl Payload {
         ensures read { payload_of text.now ≡ (if result then Some self.new else None) }
         ensures refused { result ≡ false → self.new ≡ [] }
     {
-        match read_payload(text, &mut self.room) {
-            Some(count) => {
-                self.count = count;
-                true
-            }
-            None => {
-                self.clear();
-                false
-            }
+        let spelt = read_payload(text, &mut self.bytes);
+        if !spelt {
+            self.clear();
         }
+        spelt
     }
 }
 
-/// Decodes the bytes that a text spells to the front of the room, and says how many.
-fn read_payload(text: &[u8], room: &mut [u8]) -> Option<usize>
-    requires { length text.now ≤ 2 * length room.old }
-    ensures bytes { option_map (λ count. take count room.new) result ≡ payload_of text.now }
-    ensures count { IfSome result (λ count. count ≤ length room.new) }
+/// Decodes the bytes that a text spells, and says whether it spells any. They have room: no memory is taken.
+fn read_payload(text: &[u8], bytes: &mut Vec<u8>) -> bool
+    requires { length text.now ≤ 2 * vec_capacity bytes.old }
+    ensures bytes { payload_of text.now ≡ (if result then Some bytes.new.items else None) }
+    ensures count { 2 * vec_len bytes.new ≤ length text.now }
+    ensures room { vec_capacity bytes.old ≤ vec_capacity bytes.new }
 {
     if text == b"-".as_slice() {
-        return Some(0);
+        bytes.clear();
+        return true;
     }
-    if text.is_empty() {
-        return None;
-    }
-    let count = text.len() / 2;
-    match hex::decode_to_slice(text, &mut room[..count]) {
-        Ok(()) => Some(count),
-        Err(_) => None,
-    }
+    bytes.resize(text.len() / 2, 0).unwrap();
+    !text.is_empty() && hex::decode_to_slice(text, bytes.as_mut_slice()).is_ok()
 }
