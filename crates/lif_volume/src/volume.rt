@@ -188,6 +188,8 @@ impl<R: Records> Volume<R> {
         // It is refused exactly where the settled tape is not legal.
         ensures exactly { IsRefusedExactly R.view (seen self.old) result }
         ensures listed { IfOk result (Lists R.view (seen self.old) (seen self.new)) }
+        ensures kept { IfOk result (λ listing. (seen self.new).kept
+            ≡ Some (record { label = listing.label; start = listing.start; length = listing.length })) }
     {
         let header = self.mount()?;
         Ok(Listing {
