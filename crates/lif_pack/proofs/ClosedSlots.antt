@@ -1,5 +1,5 @@
 -- Slots that changed places, the live ones standing in the same order: they may be packed as those before.
-use Rattle.std.proofs.Common.{◌≡◌, ◌∷◌, ◌++◌, ◌<◌, ◌≤◌, not, ℕ, suc, List, [], Bool, true, false, length, get_or, filter, inl, inr, refl, sym, ◌∙◌, ap, subst, arith}
+use Rattle.std.proofs.Common.{◌≡◌, ◌∷◌, ◌++◌, ◌<◌, not, ℕ, suc, List, [], Bool, true, false, length, get_or, filter, inl, inr, refl, sym, ◌∙◌, ap, subst, arith}
 use Rattle.std.proofs.lemmas.Bool.{and_from, cases_Bool, not_from_false, not-true}
 use Rattle.lif_model.specs.Header.{directory_end}
 use Rattle.lif_model.specs.Directory.{is_purged}
@@ -11,11 +11,11 @@ use Rattle.lif_model.specs.Volume.{Volume, IsVolume, redo_name, is_redo_entry}
 use Rattle.lif_model.specs.Fit.{redo_place}
 use Rattle.lif_model.specs.Apply.{is_upgraded}
 use Rattle.lif_model.proofs.Lists.{filter_pairs_tell}
+use Rattle.lif_model.proofs.Slots.{occupies_tells}
 use Rattle.lif_model.proofs.Adopted.{redo_is_alone, redo_file_is_named, redo_file_is_live, redo_entry_tells}
 use Rattle.lif_commit.specs.Staged.{AreBefore}
-use Rattle.lif_commit.proofs.Staging.{before_more}
 use Rattle.lif_pack.specs.Packing.{rises, is_in_order, slots_after, redo_slot, marked_slot, marked_count, bears_mark, unmarked, packed_from}
-use Rattle.lif_pack.specs.Steps.{volume_with, MayPack, ArePackedAlike, MayStillPack}
+use Rattle.lif_pack.specs.Steps.{volume_with, HasPlainStart, MayPack, ArePackedAlike, MayStillPack}
 use Rattle.lif_pack.proofs.Order.{parts, live_before_redo}
 use Rattle.lif_pack.proofs.Walking.{purged_all}
 use Rattle.lif_pack.proofs.Finishing.{upgraded_is_adopted, redo_here, redo_is_two, clear_of}
@@ -101,6 +101,11 @@ module _ (n first end redo : ℕ) (old : List (List ℕ)) (may : MayPack n first
     unmarked = both.1;
     in_order = in_order';
     redo_is = refl;
+    plain = λ k lt on.
+        let kept = filter_has is_live later k lt (occupies_tells (get_or later k []) on).0 in
+        let found = filter_at is_live old kept.0 (subst (λ (xs : List (List ℕ)). kept.0 < length xs) live kept.1) in
+        let same : get_or old found.0 [] ≡ get_or later k [] = sym found.3 ∙ ap (λ (xs : List (List ℕ)). get_or xs kept.0 []) (sym live) ∙ kept.2 in
+        subst HasPlainStart same (may.plain found.0 found.1 (ap occupies same ∙ on));
   }
 
   -- packing makes the same of them
@@ -110,8 +115,7 @@ module _ (n first end redo : ℕ) (old : List (List ℕ)) (may : MayPack n first
       let redo_same : redo_slot (record v { slots = later }) ≡ redo_slot (record v { slots = old }) = ap (λ (k : ℕ). get_or later k []) (sym redo_later) ∙ here in
       λ q. record v { slots = packed_from (directory_end v.header) (files q) ++ unmarked (redo_same q) ∷ [] }
 
-pub closed_still : (n first until : ℕ) (old later : List (List ℕ)) → filter is_live later ≡ filter is_live old → length later ≡ length old → until ≤ length old
-    → (ws : SlotWrites) → AreBefore (length old) until ws → slots_after ws old ≡ later → MayStillPack n first old later
-closed_still n first until old later live count le ws are becomes end redo may =
-    let all = before_more (length old) until (length old) ws le are in
-    (redo_place later, closed_may n first end redo old may later live count ws all becomes, closed_alike n first end redo old may later live count ws all becomes)
+pub closed_still : (n first : ℕ) (old later : List (List ℕ)) → filter is_live later ≡ filter is_live old → length later ≡ length old → (ws : SlotWrites)
+    → AreBefore (length old) (length old) ws → slots_after ws old ≡ later → MayStillPack n first old later
+closed_still n first old later live count ws are becomes end redo may =
+    (redo_place later, closed_may n first end redo old may later live count ws are becomes, closed_alike n first end redo old may later live count ws are becomes)

@@ -27,16 +27,16 @@ use Rattle.lif_pack.proofs.ClosedVolume.{same_occupying, same_file_slots, closed
 -- ---- entries that are written
 
 -- in a directory with more room
-before_wider : (room more k : ℕ) (ws : SlotWrites) → room ≤ more → AreBefore room k ws → AreBefore more k ws
+pub before_wider : (room more k : ℕ) (ws : SlotWrites) → room ≤ more → AreBefore room k ws → AreBefore more k ws
 before_wider room more k [] le are = tt
 before_wider room more k (w ∷ ws) le are = (omega (arith, are.0, le), are.1, are.2, before_wider room more k ws le are.3)
 
-entries_of : (room k : ℕ) (ws : SlotWrites) → AreBefore room k ws → AreEntries room ws
+pub entries_of : (room k : ℕ) (ws : SlotWrites) → AreBefore room k ws → AreEntries room ws
 entries_of room k [] are = tt
 entries_of room k (w ∷ ws) are = (are.0, are.2, entries_of room k ws are.3)
 
 -- each slot is what was last written of it
-last_after : (ws : SlotWrites) (slots : List (List ℕ)) (k : ℕ) → k < length slots → last_written ws k (get_or slots k []) ≡ get_or (slots_after ws slots) k []
+pub last_after : (ws : SlotWrites) (slots : List (List ℕ)) (k : ℕ) → k < length slots → last_written ws k (get_or slots k []) ≡ get_or (slots_after ws slots) k []
 last_after [] slots k lt = refl
 last_after (w ∷ ws) slots k lt =
     ap (last_written ws k) (one (cases_eq w.0 k)) ∙ last_after ws (set slots w.0 w.1) k (omega (arith, lt, length-set slots w.0 w.1))

@@ -44,6 +44,11 @@ any_kept p keep kept (x ∷ xs) = by (keep x) refl (any_kept p keep kept xs)
         ] in
         rest ∙ sym (ap (λ (b : Bool). b || list_any p xs) none)
 
+-- the files are live
+pub live_files : (n : ℕ) (xs ys : List (List ℕ)) → filter is_live xs ≡ filter is_live ys → filter (is_file n) xs ≡ filter (is_file n) ys
+live_files n xs ys live = filter_both is_live (λ slot. not (is_redo_file n slot)) xs ∙ ap (filter (λ slot. not (is_redo_file n slot))) live
+    ∙ sym (filter_both is_live (λ slot. not (is_redo_file n slot)) ys)
+
 -- ---- the volume
 
 -- a file's name and bytes
@@ -56,8 +61,7 @@ module _ (n : ℕ) (v : Volume) (is : IsVolume n v) (later : List (List ℕ)) (l
   same_occupying = filter_both is_live has_records later ∙ ap (filter has_records) live ∙ sym (filter_both is_live has_records v.slots)
 
   pub same_file_slots : filter (is_file n) later ≡ filter (is_file n) v.slots
-  same_file_slots = filter_both is_live (λ slot. not (is_redo_file n slot)) later ∙ ap (filter (λ slot. not (is_redo_file n slot))) live
-      ∙ sym (filter_both is_live (λ slot. not (is_redo_file n slot)) v.slots)
+  same_file_slots = live_files n later v.slots live
 
   pub closed_is_volume : IsVolume n (record v { slots = later })
   closed_is_volume = record {

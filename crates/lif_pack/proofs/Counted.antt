@@ -18,7 +18,7 @@ use Rattle.lif_pack.proofs.Packs.{files_have_room}
 -- ---- lists
 
 -- two tests agree up to a place, and nothing passes the first one from there on
-filter_front : (p q : List ℕ → Bool) (xs : List (List ℕ)) (r : ℕ) → ((k : ℕ) → k < length xs → k < r → p (get_or xs k []) ≡ q (get_or xs k []))
+pub filter_front : (p q : List ℕ → Bool) (xs : List (List ℕ)) (r : ℕ) → ((k : ℕ) → k < length xs → k < r → p (get_or xs k []) ≡ q (get_or xs k []))
     → ((k : ℕ) → k < length xs → r ≤ k → p (get_or xs k []) ≡ false) → filter p xs ≡ filter q (take r xs)
 filter_front p q [] zero same none = refl
 filter_front p q [] (suc r) same none = refl

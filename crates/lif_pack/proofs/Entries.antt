@@ -1,5 +1,5 @@
 -- What the entries that packing writes have in common with those before: all but the start, or all but the mark.
-use Rattle.std.proofs.Common.{◌≡◌, ◌<◌, ◌≤◌, ◌+◌, ◌-◌, ◌++◌, ℕ, List, length, get_or, take, drop, replicate, refl, sym, ◌∙◌, ap, arith, length-append, length-drop, length-take, get_or-drop, append_assoc, bytes_eq, ◌&&◌, ◌==◌}
+use Rattle.std.proofs.Common.{◌≡◌, ◌<◌, ◌≤◌, ◌+◌, ◌-◌, ◌++◌, ℕ, List, Bool, true, false, if◌then◌else◌, length, get_or, take, drop, replicate, refl, sym, ◌∙◌, ap, arith, length-append, length-drop, length-take, get_or-drop, append_assoc, bytes_eq, ◌&&◌, ◌==◌}
 use Rattle.std.proofs.lemmas.List.{get_or-append_right, take_at, take-append-drop, take-append-le, take-take}
 use Rattle.std.proofs.lemmas.Slice.{drop-append-drop}
 use Rattle.lif_model.specs.Numbers.{two_at, four_at}
@@ -9,12 +9,15 @@ use Rattle.lif_model.specs.declared.version.Version.{Version}
 use Rattle.lif_model.specs.Redo.{redo_start, redo_length}
 use Rattle.lif_model.specs.Volume.{redo_name, redo_type, is_redo_entry}
 use Rattle.lif_model.proofs.Made.{two_front, four_front, two_behind, four_behind, four_first, four_same}
+use Rattle.lif_dir.specs.Entries.{is_entry}
+use Rattle.lif_dir.specs.declared.entries.FileEntry.{FileEntry}
+use Rattle.lif_dir.specs.declared.entries.Slot.TheVariants.{Live, Purged, End}
 use Rattle.lif_pack.specs.Packing.{with_start, unmarked, marked_slot, marked_count, without_start}
 
 -- ---- another start
 
 module _ (start : ℕ) (slot : List ℕ) (all : length slot ≡ 32) where
-  front_size : length (take 12 slot) ≡ 12
+  pub front_size : length (take 12 slot) ≡ 12
   front_size = omega (arith, length-take 12 slot, all)
 
   abbrev rest : List ℕ
@@ -69,7 +72,7 @@ module _ (start : ℕ) (slot : List ℕ) (all : length slot ≡ 32) where
 -- ---- another field
 
 module _ (entry : List ℕ) (all : length entry ≡ 32) where
-  kept_size : length (take 28 entry) ≡ 28
+  pub kept_size : length (take 28 entry) ≡ 28
   kept_size = omega (arith, length-take 28 entry, all)
 
   pub unmarked_size : length (unmarked entry) ≡ 32
@@ -107,3 +110,11 @@ module _ (entry : List ℕ) (all : length entry ≡ 32) where
   pub unmarked_redo : (n : ℕ) (version : Version) → is_redo_entry n version (unmarked entry) ≡ is_redo_entry n version entry
   unmarked_redo n version = λ i. bytes_eq (unmarked_name i) redo_name && (unmarked_type i == redo_type
       && (unmarked_start i == redo_start version n && unmarked_length i == redo_length version))
+
+-- ---- in memory
+
+-- an entry that is no end is a slot
+pub is_slot : (b p : Bool) (entry : FileEntry) → b ≡ false → is_entry (if b then End else if p then Purged entry else Live entry) ≡ true
+is_slot true p entry off = cc
+is_slot false true entry off = refl
+is_slot false false entry off = refl

@@ -136,6 +136,42 @@ module _ (n : ℕ) (t : Tape) (v : Volume) (is : IsTape n t) (some : volume_of t
           ]
         ]
 
+    -- and that is one on which the file was moved
+    pub with_has_moved : HasMoved (directory_start v.header) move.place (redo_place v.slots) move t (finished_with v (Some (i, j)) t)
+    with_has_moved = record {
+      records = (moved.moves_file n t v is inside up i j can).shape.records ∙ sym is.records;
+      moved = λ q le lt.
+          let m : ℕ = q - j in
+          let to : move.place + q ≡ to_place + j + m = omega (arith, le, at_file.moved, at_file.place) in
+          let from : start_of of_slot + j + m ≡ move.start + q = omega (arith, le, at_file.moved, at_file.start) in
+          ap (record_at (finished_with v (Some (i, j)) t)) to ∙ past (to_place + j + m) (omega arith)
+          ∙ moved.inside n t v is inside up i j can m (omega (arith, le, lt, at_file.moved, at_file.long)) ∙ ap (record_at t) from;
+      directory = λ k over below.
+          let under : k < n = omega (arith, below, at_file.place, place_below) in
+          slots_record first (finishing_slots v (Some (i, j))) moved_tape k (omega (arith, under, moved.size0 n t v is inside up i j can))
+          ∙ ap (rewritten first (finishing_slots v (Some (i, j))) k) (moved.outside n t v is inside up i j can k (inl (omega (arith, below, at_file.place))))
+          ∙ sym (slots_record first (finishing_slots v (Some (i, j))) t k (omega (arith, under, is.records)))
+          ∙ sym (ap (λ (ws : SlotWrites). record_at (with_slots first ws t) k) same_writes);
+      others = λ k lt out apart.
+          let here : record_at (finished_with v (Some (i, j)) t) k ≡ record_at moved_tape k = elim out [
+            | inl under ↦ slots_elsewhere first (finishing_slots v (Some (i, j))) moved_tape k
+                (untouched first (directory_length v.header) (finishing_slots v (Some (i, j))) k (moved.are_writes n t v is inside up i j can) (inl under))
+            | inr over ↦ past k (omega (arith, over, at_file.place))
+          ] in
+          here ∙ elim apart [
+            | inl early ↦ moved.outside n t v is inside up i j can k (inl (omega (arith, early, at_file.place, at_file.moved)))
+            | inr late ↦ moved.outside n t v is inside up i j can k (inr (omega (arith, late, at_file.place, at_file.long)))
+          ];
+    }
+      where
+        -- after the directory
+        past : (k : ℕ) → to_place ≤ k → record_at (finished_with v (Some (i, j)) t) k ≡ record_at moved_tape k
+        past k above = slots_elsewhere first (finishing_slots v (Some (i, j))) moved_tape k
+            (untouched first (directory_length v.header) (finishing_slots v (Some (i, j))) k (moved.are_writes n t v is inside up i j can) (inr (omega (arith, above, low_place))))
+
+        place_below : to_place ≤ n
+        place_below = omega (arith, can.down, (on_tape.volume.legal.within i (order.here n v i j on_tape.volume redo_lies can) (order.takes n v i j on_tape.volume redo_lies can)).1)
+
 -- ---- a settled tape with a mark
 
 module _ (n : ℕ) (t : Tape) (v : Volume) (is : IsTape n t) (some : volume_of t ≡ Some v) (quiet : IsSettled t) (marked : bears_mark n v ≡ true) where
@@ -176,22 +212,7 @@ module _ (n : ℕ) (t : Tape) (v : Volume) (is : IsTape n t) (some : volume_of t
     can : CanMove v i j
     can = move_is v i j named
 
-    within : r < length v.slots
-    within = redo_here n v on.volume up
-
-    abbrev place : ℕ
-    place = packed_start v i
-
-    abbrev slot : List ℕ
-    slot = get_or v.slots i []
-
-    abbrev x0 : Tape
-    x0 = with_moved v (Some (i, j)) t
-
-    low : directory_end v.header ≤ place
-    low = low_place n t v is some quiet up i j can move at_file
-
-    finished_here : finished t ≡ with_slots start (finishing_slots v (Some (i, j))) x0
+    finished_here : finished t ≡ finished_with v (Some (i, j)) t
     finished_here = finished_is ∙ ap (λ (m : Option (ℕ × ℕ)). finished_with v m t) named
 
     pub moved_is_finished : (x : Tape) → IsSettled x → HasMoved start move.place r move t x → IsFinished t x
@@ -200,40 +221,7 @@ module _ (n : ℕ) (t : Tape) (v : Volume) (is : IsTape n t) (some : volume_of t
 
     -- the finished tape is one on which the file was moved
     pub finished_has_moved : HasMoved start move.place r move t (finished t)
-    finished_has_moved = record {
-      records = (finishes n t v is some).shape.records ∙ sym is.records;
-      moved = λ q le lt.
-          let m : ℕ = q - j in
-          let to : move.place + q ≡ place + j + m = omega (arith, le, at_file.moved, at_file.place) in
-          let from : start_of slot + j + m ≡ move.start + q = omega (arith, le, at_file.moved, at_file.start) in
-          ap (record_at (finished t)) to ∙ past (place + j + m) (omega arith)
-          ∙ moved.inside n t v is some_in up i j can m (omega (arith, le, lt, at_file.moved, at_file.long)) ∙ ap (record_at t) from;
-      directory = λ k over below.
-          let under : k < n = omega (arith, below, at_file.place, place_below) in
-          ap (λ (z : Tape). record_at z k) finished_here
-          ∙ slots_record start (finishing_slots v (Some (i, j))) x0 k (omega (arith, under, moved.size0 n t v is some_in up i j can))
-          ∙ ap (rewritten start (finishing_slots v (Some (i, j))) k) (moved.outside n t v is some_in up i j can k (inl (omega (arith, below, at_file.place))))
-          ∙ sym (slots_record start (finishing_slots v (Some (i, j))) t k (omega (arith, under, is.records)))
-          ∙ sym (ap (λ (ws : SlotWrites). record_at (with_slots start ws t) k) (same_writes n t v is some quiet up i j can move at_file));
-      others = λ k lt out apart.
-          let here : record_at (finished t) k ≡ record_at x0 k = elim out [
-            | inl under ↦ ap (λ (z : Tape). record_at z k) finished_here
-                ∙ slots_elsewhere start (finishing_slots v (Some (i, j))) x0 k (untouched start (directory_length v.header) (finishing_slots v (Some (i, j))) k (moved.are_writes n t v is some_in up i j can) (inl under))
-            | inr over ↦ past k (omega (arith, over, at_file.place))
-          ] in
-          here ∙ elim apart [
-            | inl early ↦ moved.outside n t v is some_in up i j can k (inl (omega (arith, early, at_file.place, at_file.moved)))
-            | inr late ↦ moved.outside n t v is some_in up i j can k (inr (omega (arith, late, at_file.place, at_file.long)))
-          ];
-    }
-      where
-        -- after the directory
-        past : (k : ℕ) → place ≤ k → record_at (finished t) k ≡ record_at x0 k
-        past k above = ap (λ (z : Tape). record_at z k) finished_here
-            ∙ slots_elsewhere start (finishing_slots v (Some (i, j))) x0 k (untouched start (directory_length v.header) (finishing_slots v (Some (i, j))) k (moved.are_writes n t v is some_in up i j can) (inr (omega (arith, above, low))))
-
-        place_below : place ≤ n
-        place_below = omega (arith, can.down, (on.volume.legal.within i (order.here n v i j on.volume within can) (order.takes n v i j on.volume within can)).1)
+    finished_has_moved = subst (HasMoved start move.place r move t) (sym finished_here) (with_has_moved n t v is some quiet up i j can move at_file)
 
 -- ---- a task that was carried out
 

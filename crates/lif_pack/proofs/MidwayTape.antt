@@ -1,9 +1,8 @@
--- What a stop between two commits of a move leaves is finished to what the tape before the move is finished to.
+-- What a stop between two commits of a move leaves is finished to a tape on which the whole file was moved.
 use Rattle.std.proofs.Common.{◌≡◌, ◌≢◌, ◌<◌, ◌≤◌, ◌+◌, ◌-◌, ◌∙◌, ℕ, suc, List, [], ◌∷◌, true, Some, length, get_or, set, take, inl, inr, refl, sym, ap, subst, arith}
 use Rattle.std.proofs.lemmas.Bool.{cases_lt}
 use Rattle.std.proofs.lemmas.List.{take-set-le}
 use Rattle.std.proofs.Common.{get_or-set_other}
-use Rattle.lif_pack.proofs.Finishes.{finished_is_settled, volume_of_finished}
 use Rattle.lif_model.specs.Tape.{Tape, IsTape, record_at}
 use Rattle.lif_model.specs.Header.{directory_start, directory_end}
 use Rattle.lif_model.specs.Directory.{start_of, length_of, slots_of}
@@ -14,23 +13,23 @@ use Rattle.lif_model.specs.Apply.{is_upgraded}
 use Rattle.lif_pack.proofs.Slotting.{MayStand}
 use Rattle.lif_model.specs.Writing.{with_slots}
 use Rattle.lif_model.proofs.Volume.{slots_agree}
-use Rattle.lif_model.proofs.Slotted.{IsOn, header_stays, slot_set}
+use Rattle.lif_model.proofs.Slotted.{IsOn, is_on, header_stays, slot_set}
 use Rattle.lif_model.proofs.Written.{volume_by_parts}
-use Rattle.lif_pack.specs.Packing.{unmarked, live_records, finished_volume_of, redo_slot, bears_mark, move_of, finished}
+use Rattle.lif_pack.specs.Packing.{unmarked, live_records, finished_volume_of, redo_slot, bears_mark, move_of}
 use Rattle.lif_pack.specs.declared.marks.Move.{Move}
 use Rattle.lif_pack.specs.Marks.{IsMoveAt}
 use Rattle.lif_pack.specs.Moving.{with_mark, MayMove, IsMidway, HasMoved}
 use Rattle.lif_pack.specs.Tasks.{IsFinished}
-use Rattle.lif_pack.proofs.Order.{CanMove, move_is, move_some, above_directory}
+use Rattle.lif_pack.proofs.Order.{CanMove, above_directory}
 use Rattle.lif_pack.proofs.Finishing.{redo_here}
-use Rattle.lif_pack.proofs.Tasking.{marked_is_upgraded}
-use Rattle.lif_pack.proofs.FinishedTape.{moved_is_finished, finished_has_moved}
-use Rattle.lif_pack.proofs.FinishedTape as ended
+use Rattle.lif_pack.proofs.FinishedTape.{redo_stands, moved_is_finished}
 use Rattle.lif_pack.proofs.LastPart.{written_over}
 use Rattle.lif_pack.proofs.Midway.{same_place, remarked_may_stand, remarked_is_volume, remarked_moves}
 
-module _ (n : ℕ) (t : Tape) (v : Volume) (is : IsTape n t) (some : volume_of t ≡ Some v) (quiet : IsSettled t) (marked : bears_mark n v ≡ true)
-    (i j0 j : ℕ) (named : move_of v ≡ Some (i, j0)) (move : Move) (at_file : IsMoveAt v i j0 move) where
+-- The tape f is one on which the whole file was moved.
+module _ (n : ℕ) (t : Tape) (v : Volume) (is : IsTape n t) (some : volume_of t ≡ Some v) (quiet : IsSettled t) (up : is_upgraded n v ≡ true)
+    (i j0 j : ℕ) (can : CanMove v i j0) (move : Move) (at_file : IsMoveAt v i j0 move)
+    (f : Tape) (quiet_f : IsSettled f) (there : HasMoved (directory_start v.header) move.place (redo_place v.slots) move t f) where
   abbrev start : ℕ
   start = directory_start v.header
 
@@ -41,18 +40,9 @@ module _ (n : ℕ) (t : Tape) (v : Volume) (is : IsTape n t) (some : volume_of t
   part = record move { moved = j }
 
   module _ (x : Tape) (tape_x : IsTape n x) (quiet_x : IsSettled x) (may : MayMove n start move.place r move) (was : IsMidway start move.place r move j t x)
-      (more : j0 ≤ j) (less : j < move.length) where
+      (more : j0 ≤ j) (some_moved : 0 < j) (less : j < move.length) where
     abbrev on : IsOn n t v
-    on = ended.on n t v is some quiet marked
-
-    up : is_upgraded n v ≡ true
-    up = marked_is_upgraded n v marked
-
-    can : CanMove v i j0
-    can = move_is v i j0 named
-
-    some_moved : 0 < j0
-    some_moved = move_some v i j0 named
+    on = is_on n t v is (ap volume_in (sym quiet) ∙ some)
 
     within : r < length v.slots
     within = redo_here n v on.volume up
@@ -61,7 +51,7 @@ module _ (n : ℕ) (t : Tape) (v : Volume) (is : IsTape n t) (some : volume_of t
     low = omega (arith, above_directory n v i j0 on.volume within can, at_file.place)
 
     rest : take 28 was.entry ≡ take 28 (redo_slot v)
-    rest = was.rest ∙ ap (take 28) (ended.redo_there n t v is some quiet marked)
+    rest = was.rest ∙ ap (take 28) (redo_stands n t v is some quiet up)
 
     abbrev later : List (List ℕ)
     later = set v.slots r was.entry
@@ -91,16 +81,13 @@ module _ (n : ℕ) (t : Tape) (v : Volume) (is : IsTape n t) (some : volume_of t
         (remarked_is_volume n v on.volume up was.entry was.size rest).legal header_x slots_x refl
 
     moves : (bears_mark n w ≡ true) × (move_of w ≡ Some (i, j))
-    moves = remarked_moves n v on.volume up was.entry was.size rest i j j0 can (omega (arith, some_moved, more)) (omega (arith, less, at_file.long)) ((was.mark (omega (arith, some_moved, more))).0 ∙ ap suc at_file.slot) (was.mark (omega (arith, some_moved, more))).1
+    moves = remarked_moves n v on.volume up was.entry was.size rest i j j0 can some_moved (omega (arith, less, at_file.long)) ((was.mark some_moved).0 ∙ ap suc at_file.slot) (was.mark some_moved).1
 
     same_redo_place : redo_place later ≡ r
     same_redo_place = same_place n v on.volume up was.entry was.size rest
 
-    there : HasMoved start move.place r move t (finished t)
-    there = finished_has_moved n t v is some quiet marked i j0 named move at_file
-
-    -- the tape before is finished to one on which the rest was moved
-    rest_has_moved : HasMoved start move.place r part x (finished t)
+    -- and so one on which the rest was moved
+    rest_has_moved : HasMoved start move.place r part x f
     unfolding with_mark unmarked
     rest_has_moved = record {
       records = there.records ∙ sym was.tape.records;
@@ -115,7 +102,7 @@ module _ (n : ℕ) (t : Tape) (v : Volume) (is : IsTape n t) (some : volume_of t
           | inr next ↦
               let q : ℕ = k - move.place in
               let to : k ≡ move.place + q = omega (arith, next) in
-              ap (record_at (finished t)) to ∙ there.moved q (omega (arith, next, at_file.moved)) (omega (arith, early, less))
+              ap (record_at f) to ∙ there.moved q (omega (arith, next, at_file.moved)) (omega (arith, early, less))
               ∙ sym (was.tape.moved q (omega (arith, next, at_file.moved)) (omega (arith, early, next))) ∙ sym (ap (record_at x) to)
         ]
         | inr late ↦ there.others k (omega (arith, lt, was.tape.records)) out (inr late)
@@ -136,14 +123,14 @@ module _ (n : ℕ) (t : Tape) (v : Volume) (is : IsTape n t) (some : volume_of t
           long = at_file.long ∙ sym (ap length_of slot);
         }
 
-    pub midway_is_finished : IsFinished x (finished t)
-    midway_is_finished = moved_is_finished n x w tape_x volume_x quiet_x moves.0 i j moves.1 part at_part (finished t) (finished_is_settled n t is)
-        (subst (λ (q : ℕ). HasMoved start move.place q part x (finished t)) (sym same_redo_place) rest_has_moved)
+    midway_is_finished : IsFinished x f
+    midway_is_finished = moved_is_finished n x w tape_x volume_x quiet_x moves.0 i j moves.1 part at_part f quiet_f
+        (subst (λ (q : ℕ). HasMoved start move.place q part x f) (sym same_redo_place) rest_has_moved)
 
     -- its volume has a mark
     pub midway_marked : (q : Volume) × (volume_of x ≡ Some q) × (bears_mark n q ≡ true)
     midway_marked = (w, volume_x, moves.0)
 
-    -- it is shown as the same volume
-    pub midway_shows : finished_volume_of x ≡ finished_volume_of t
-    midway_shows = sym midway_is_finished.volume ∙ volume_of_finished n t is
+    -- it is shown as the volume that the file is moved in
+    pub midway_shows : finished_volume_of x ≡ volume_of f
+    midway_shows = sym midway_is_finished.volume

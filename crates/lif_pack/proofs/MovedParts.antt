@@ -11,7 +11,7 @@ use Rattle.lif_model.specs.Directory.{entry_at}
 use Rattle.lif_model.specs.declared.version.Version.TheVariants.{Two}
 use Rattle.lif_model.specs.Redo.{Changes, redo_start, changed, settled}
 use Rattle.lif_model.proofs.Redo.{length_settled, length_changed}
-use Rattle.lif_model.specs.Commit.{IsOldOrNew}
+use Rattle.lif_model.specs.Commit.{SettlesBelow, IsOldOrNew}
 use Rattle.lif_model.specs.Writing.{SlotWrites, with_entry, slot_record, entry_from, with_slots, with_records}
 use Rattle.lif_model.proofs.Directory.{entry_size}
 use Rattle.lif_model.proofs.Writing.{entry_here, entry_other}
@@ -77,6 +77,7 @@ module _ (n first end redo : ℕ) (u : Tape) (tape : IsTape n u) (within : slot_
     entry = entry_from u first redo;
     size = entry_size (record_at u row) (redo % 8) whole column;
     rest = refl;
+    before = λ none. refl;
     mark = marked;
     tape = record {
       records = refl;
@@ -161,12 +162,12 @@ module _ (n first end redo : ℕ) (move : Move) (j : ℕ) (u t : Tape) (tape_u :
 
 -- with another mark
 pub part_marks : (n first end redo : ℕ) (move : Move) (j count : ℕ) (u t x : Tape) (mark : List ℕ) → IsTape n u → IsTape n t → MayMove n first end redo move
-    → move.moved ≤ j → j + count ≤ move.length → mark ≡ in_two (move.slot + 1) ++ in_two (j + count) → IsMidway first end redo move j u t
+    → move.moved ≤ j → 0 < count → j + count ≤ move.length → mark ≡ in_two (move.slot + 1) ++ in_two (j + count) → IsMidway first end redo move j u t
     → length x ≡ length t → ((k : ℕ) → k < redo_start Two (length t) → record_at x k ≡ record_at (changed ((slot_record first redo, with_entry (record_at t (slot_record first redo)) (redo % 8) (with_mark mark (entry_from t first redo)))
     ∷ numbered_from (move.place + j) (records_from t (move.start + j) count)) t) k)
     → IsMidway first end redo move (j + count) u x
 unfolding with_mark
-part_marks n first end redo move j count u t x mark tape_u tape_t may begun less is_mark was size_x below =
+part_marks n first end redo move j count u t x mark tape_u tape_t may begun some less is_mark was size_x below =
     let at : ℕ = slot_record first redo in
     let column : redo % 8 < 8 = omega arith in
     let within : at < n = at_within n first end redo move j u t tape_u may was in
@@ -183,7 +184,8 @@ part_marks n first end redo move j count u t x mark tape_u tape_t may begun less
       entry = new;
       size = length-append (take 28 was.entry) mark ∙ omega (arith, front, four);
       rest = take_at (take 28 was.entry) mark 28 front ∙ was.rest;
-      mark = λ some. (
+      before = λ none. absurd (omega (arith, none, begun, some));
+      mark = λ marked. (
         two_behind (take 28 was.entry) mark 28 0 front ∙ ap (λ (bs : List ℕ). two_at bs 0) is_mark ∙ two_first (move.slot + 1) (in_two (j + count)) ∙ omega arith,
         two_behind (take 28 was.entry) mark 28 2 front ∙ ap (λ (bs : List ℕ). two_at bs 2) is_mark
             ∙ two_behind (in_two (move.slot + 1)) (in_two (j + count)) 2 0 refl ∙ two_first (j + count) [],
@@ -209,6 +211,7 @@ midway_same n first end redo move j u t x tape_u may less was size same =
       entry = was.entry;
       size = was.size;
       rest = was.rest;
+      before = was.before;
       mark = was.mark;
       tape = record {
         records = size ∙ was.tape.records;
@@ -218,18 +221,38 @@ midway_same n first end redo move j u t x tape_u may less was size same =
       };
     }
 
+-- before the first commit the tape settles to what it was
+pub midway_none : (n first end redo : ℕ) (move : Move) (j : ℕ) (u y : Tape) → IsTape n u → MayMove n first end redo move → j ≡ move.moved → IsMidway first end redo move j u (settled y)
+    → SettlesBelow Two u y
+midway_none n first end redo move j u y tape_u may none was = record {
+  records = sym (length_settled y) ∙ was.tape.records;
+  same = λ k lt. elim (cases_lt k first) [
+    | inl under ↦ was.tape.others k lt (inl under) (inl (omega (arith, under, may.redo_slot, may.above)))
+    | inr over ↦ elim (cases_lt k end) [
+      | inl below ↦
+          was.tape.directory k over below
+          ∙ ap (λ (e : List ℕ). record_at (with_slots first ((redo, e) ∷ []) u) k) (was.before none)
+          ∙ written_same n first end redo u tape_u (omega (arith, may.redo_slot, may.above, may.down, may.part, may.below)) k
+      | inr out ↦ was.tape.others k lt (inr out) (elim (cases_lt k (move.place + move.moved)) [
+        | inl early ↦ inl early
+        | inr late ↦ inr (omega (arith, late, none))
+      ])
+    ]
+  ];
+}
+
 -- what a stop within the commit leaves
 pub part_stops : (n first end redo : ℕ) (move : Move) (j count : ℕ) (u t : Tape) (mark : List ℕ) → IsTape n u → IsTape n t → MayMove n first end redo move
-    → move.moved ≤ j → j + count ≤ move.length → mark ≡ in_two (move.slot + 1) ++ in_two (j + count) → IsMidway first end redo move j u t
+    → move.moved ≤ j → 0 < count → j + count ≤ move.length → mark ≡ in_two (move.slot + 1) ++ in_two (j + count) → IsMidway first end redo move j u t
     → (y : Tape) → IsOldOrNew Two ((slot_record first redo, with_entry (record_at t (slot_record first redo)) (redo % 8) (with_mark mark (entry_from t first redo)))
     ∷ numbered_from (move.place + j) (records_from t (move.start + j) count)) t y
     → IsMidwayOrMore first end redo move j count u y
-part_stops n first end redo move j count u t mark tape_u tape_t may begun less is_mark was y (inl old) =
+part_stops n first end redo move j count u t mark tape_u tape_t may begun some less is_mark was y (inl old) =
     inl (midway_same n first end redo move j u t (settled y) tape_u may (omega (arith, less)) was (length_settled y ∙ old.records) old.same)
-part_stops n first end redo move j count u t mark tape_u tape_t may begun less is_mark was y (inr new) =
+part_stops n first end redo move j count u t mark tape_u tape_t may begun some less is_mark was y (inr new) =
     let size = length_changed ((slot_record first redo, with_entry (record_at t (slot_record first redo)) (redo % 8) (with_mark mark (entry_from t first redo)))
     ∷ numbered_from (move.place + j) (records_from t (move.start + j) count)) t in
-    inr (part_marks n first end redo move j count u t (settled y) mark tape_u tape_t may begun less is_mark was (length_settled y ∙ new.records ∙ size)
+    inr (part_marks n first end redo move j count u t (settled y) mark tape_u tape_t may begun some less is_mark was (length_settled y ∙ new.records ∙ size)
     (λ k lt. new.same k (omega (arith, lt, size))))
 
 -- ---- the last of them

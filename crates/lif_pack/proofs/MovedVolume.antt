@@ -1,5 +1,5 @@
 -- A file of a packed volume that is moved as a whole: its slot has the new start, and all else of the volume stays.
-use Rattle.std.proofs.Common.{◌≡◌, ◌<◌, ◌≤◌, ◌+◌, ◌-◌, ◌*◌, ◌++◌, ◌&&◌, ◌==◌, not, ℕ, List, [], Bool, true, false, if◌then◌else◌, Some, length, get_or, set, take, replicate, inl, inr, refl, sym, ◌∙◌, ap, arith, bytes_eq}
+use Rattle.std.proofs.Common.{◌≡◌, ◌<◌, ◌≤◌, ◌+◌, ◌-◌, ◌*◌, ◌++◌, ◌&&◌, ◌==◌, not, ℕ, List, [], Bool, true, false, if◌then◌else◌, Some, length, get_or, set, take, replicate, inl, inr, refl, sym, ◌∙◌, ap, subst, arith, bytes_eq}
 use Rattle.std.specs.Prelude.{option_map, slice_index}
 use Rattle.std.specs.FinMap.{get, insert}
 use Rattle.std.proofs.lemmas.Bool.{and_parts, and_from, cases_eq, cases_lt, eqb-true}
@@ -10,22 +10,27 @@ use Rattle.lif_model.specs.Tape.{Tape, IsTape, record_at, bytes_from}
 use Rattle.lif_model.specs.Header.{directory_start}
 use Rattle.lif_model.specs.Directory.{name_of, start_of, length_of, slots_of}
 use Rattle.lif_model.specs.declared.version.Version.TheVariants.{Two}
-use Rattle.lif_model.specs.Redo.{IsSettled}
-use Rattle.lif_model.specs.Volume.{Volume, Files, is_adopted_with, is_file, content_of, files_of, volume_in, volume_of}
+use Rattle.lif_model.specs.Gate.{gate_of}
+use Rattle.lif_model.specs.Redo.{targets_place, settled, IsSettled}
+use Rattle.lif_model.specs.Volume.{Volume, Files, is_adopted_with, is_file, content_of, files_of, volume_in, volume_of, is_foreign_gated}
 use Rattle.lif_model.specs.Fit.{redo_place}
 use Rattle.lif_model.specs.Apply.{is_upgraded}
+use Rattle.lif_model.proofs.Redo.{settled_none, length_settled, redo_places}
+use Rattle.lif_model.proofs.Volume.{quiet_agree}
 use Rattle.lif_model.proofs.Files.{same_files, get_file, get_stored}
 use Rattle.lif_model.proofs.Adopted.{settles_below_adopted}
 use Rattle.lif_model.proofs.Named.{Names, equal, other, names_of, named_at_place}
 use Rattle.lif_model.proofs.Directory.{volume_tells}
 use Rattle.lif_model.proofs.Slotted.{IsOn, is_on}
-use Rattle.lif_pack.specs.Packing.{packed_start, with_start, redo_slot, marked_slot, marked_count, unmarked, bears_mark, finished_with}
+use Rattle.lif_pack.specs.Packing.{packed_start, with_start, redo_slot, marked_slot, marked_count, unmarked, bears_mark, has_mark, finished_with, files_shown}
 use Rattle.lif_pack.specs.declared.marks.Move.{Move}
 use Rattle.lif_pack.specs.Marks.{IsMoveAt}
 use Rattle.lif_pack.specs.Moving.{HasMoved}
+use Rattle.lif_pack.specs.Tasks.{KeepsFiles}
 use Rattle.lif_pack.proofs.Order.{CanMove}
 use Rattle.lif_pack.proofs.Order as order
 use Rattle.lif_pack.proofs.Finishing.{redo_here, other_is_file}
+use Rattle.lif_pack.proofs.Finishes.{unmarked_volume}
 use Rattle.lif_pack.proofs.FinishedTape.{moved_below}
 use Rattle.lif_pack.proofs.FinishedVolume as moved
 
@@ -81,8 +86,7 @@ no_mark_is_zero n v up clear =
 -- ---- the file is moved
 
 module _ (n : ℕ) (u : Tape) (v : Volume) (is : IsTape n u) (some : volume_of u ≡ Some v) (quiet : IsSettled u) (up : is_upgraded n v ≡ true) (clear : bears_mark n v ≡ false)
-    (i : ℕ) (can : CanMove v i 0) (move : Move) (at_file : IsMoveAt v i 0 move) (x : Tape) (quiet_x : IsSettled x)
-    (has : HasMoved (directory_start v.header) move.place (redo_place v.slots) move u x) where
+    (i : ℕ) (can : CanMove v i 0) where
   inside : volume_in u ≡ Some v
   inside = ap volume_in (sym quiet) ∙ some
 
@@ -110,15 +114,19 @@ module _ (n : ℕ) (u : Tape) (v : Volume) (is : IsTape n u) (some : volume_of u
   abbrev written : List (List ℕ)
   written = set (set v.slots r (unmarked (redo_slot v))) i (with_start place slot)
 
-  volume_x : volume_of x ≡ Some (record { header = v.header; slots = written; files = insert v.files (name_of slot) bytes })
-  volume_x =
-      let ends = moved.moves_file n u v is inside up i 0 can in
-      let tells = volume_tells y _ ends.volume in
-      let adopted : is_adopted_with (length y) Two (slots_of y) ≡ true = (λ q. is_adopted_with (ends.shape.records q) Two (sym tells.2 q)) ∙ ends.upgraded in
-      (settles_below_adopted Two y x tells.0 adopted (record {
-        records = has.records ∙ is.records ∙ sym ends.shape.records;
-        same = λ k lt. ap (λ (q : Tape). record_at q k) quiet_x ∙ moved_below n u v is some quiet up i 0 can move at_file x has k (omega (arith, lt, ends.shape.records));
-      })).0 ∙ ends.volume
+  abbrev w : Volume
+  w = record { header = v.header; slots = written; files = insert v.files (name_of slot) bytes }
+
+  ends : moved.Ends n u v is inside up y w
+  ends = moved.moves_file n u v is inside up i 0 can
+
+  -- the tape on which it is moved at once
+  pub moved_is_settled : IsSettled (finished_with v (Some (i, 0)) u)
+  moved_is_settled =
+      let places = redo_places Two n in
+      settled_none y (quiet_agree u y quiet (ends.shape.records ∙ sym is.records)
+      (subst (λ (m : ℕ). record_at y (gate_of m) ≡ record_at u (gate_of m)) (sym is.records) (ends.above (gate_of n) places.0))
+      (subst (λ (m : ℕ). record_at y (targets_place m) ≡ record_at u (targets_place m)) (sym is.records) (ends.above (targets_place n) places.1)))
 
   redo_stays : set v.slots r (unmarked (redo_slot v)) ≡ v.slots
   redo_stays =
@@ -146,5 +154,34 @@ module _ (n : ℕ) (u : Tape) (v : Volume) (is : IsTape n u) (some : volume_of u
       by q (equal same e) = ap (λ (b : Bool). if b then Some bytes else get v.files q) e ∙ sym (ap (get v.files) same ∙ content)
       by q (other off e) = ap (λ (b : Bool). if b then Some bytes else get v.files q) e
 
-  pub moved_volume : volume_of x ≡ Some (record v { slots = set v.slots i (with_start (packed_start v i) (get_or v.slots i [])) })
-  moved_volume = volume_x ∙ (λ q. Some (record { header = v.header; slots = set (redo_stays q) i (with_start place slot); files = files_stay q }))
+  w_is : Some w ≡ Some (record v { slots = set v.slots i (with_start (packed_start v i) (get_or v.slots i [])) })
+  w_is = λ q. Some (record { header = v.header; slots = set (redo_stays q) i (with_start place slot); files = files_stay q })
+
+  -- with the new start the same files are shown
+  pub moved_shows : files_shown n (Some (record v { slots = set v.slots i (with_start (packed_start v i) (get_or v.slots i [])) })) ≡ files_shown n (Some v)
+  moved_shows = sym (ap (files_shown n) w_is) ∙ (λ q. Some (record { header = v.header; slots = ends.bare q; files = files_stay q }))
+
+  -- the file is moved on the tape x
+  module _ (move : Move) (at_file : IsMoveAt v i 0 move) (x : Tape) (quiet_x : IsSettled x) (has : HasMoved (directory_start v.header) move.place (redo_place v.slots) move u x) where
+    -- what settles to it has that volume, and no gate that is not ours
+    settles_to : (c : Tape) → settled c ≡ x → (volume_of c ≡ Some w) × (is_foreign_gated c ≡ false)
+    settles_to c to =
+        let tells = volume_tells y w ends.volume in
+        let adopted : is_adopted_with (length y) Two (slots_of y) ≡ true = (λ q. is_adopted_with (ends.shape.records q) Two (sym tells.2 q)) ∙ ends.upgraded in
+        let both = settles_below_adopted Two y c tells.0 adopted (record {
+          records = sym (length_settled c) ∙ ap (λ (q : Tape). length q) to ∙ has.records ∙ is.records ∙ sym ends.shape.records;
+          same = λ k lt. ap (λ (q : Tape). record_at q k) to ∙ moved_below n u v is some quiet up i 0 can move at_file x has k (omega (arith, lt, ends.shape.records));
+        }) in
+        (both.0 ∙ ends.volume, both.1)
+
+    pub moved_volume : volume_of x ≡ Some (record v { slots = set v.slots i (with_start (packed_start v i) (get_or v.slots i [])) })
+    moved_volume = (settles_to x quiet_x).0 ∙ w_is
+
+    -- and is shown with the same files
+    pub moved_keeps : (c : Tape) → settled c ≡ x → KeepsFiles n u c
+    moved_keeps c to =
+        let both = settles_to c to in
+        let size : length c ≡ n = sym (length_settled c) ∙ ap (λ (q : Tape). length q) to ∙ has.records ∙ is.records in
+        let after = unmarked_volume c ((λ q. has_mark (size q) (both.0 q)) ∙ ends.clear) ∙ both.0 ∙ w_is in
+        let before = unmarked_volume u ((λ q. has_mark (is.records q) (some q)) ∙ clear) ∙ some in
+        record { files = ap (files_shown n) after ∙ moved_shows ∙ sym (ap (files_shown n) before); own_gate = both.1 }

@@ -1,5 +1,5 @@
 -- Volumes in order, and the places of their files.
-use Rattle.std.proofs.Common.{filter, ◌≡◌, ◌⊎◌, ◌<◌, ◌≤◌, ◌+◌, ◌-◌, ◌&&◌, ◌==◌, ℕ, zero, suc, List, [], ◌∷◌, Bool, true, false, if◌then◌else◌, length, get_or, take, drop, inl, inr, refl, sym, ◌∙◌, ap, subst, arith, get_or-take, Option, Some, None, get_or-drop, length-drop, length-take, nat_lt}
+use Rattle.std.proofs.Common.{filter, ◌≡◌, ◌⊎◌, ◌<◌, ◌≤◌, ◌+◌, ◌-◌, ◌&&◌, ◌==◌, not, ℕ, zero, suc, List, [], ◌∷◌, Bool, true, false, if◌then◌else◌, length, get_or, take, drop, inl, inr, refl, sym, ◌∙◌, ap, subst, arith, get_or-take, Option, Some, None, get_or-drop, length-drop, length-take, nat_lt}
 use Rattle.std.specs.Prelude.{unwrap_or}
 use Rattle.std.specs.List.{list_all}
 use Rattle.lif_model.specs.Pairs.{all_pairs}
@@ -9,7 +9,7 @@ use Rattle.lif_model.specs.Directory.{start_of, length_of, is_purged}
 use Rattle.lif_model.specs.Legal.{is_live, occupies, end_of}
 use Rattle.lif_model.specs.Volume.{Volume, IsVolume}
 use Rattle.lif_model.specs.Fit.{redo_place}
-use Rattle.lif_model.proofs.Lists.{all_at, filter_pairs_tell}
+use Rattle.lif_model.proofs.Lists.{all_at, all_from, filter_pairs_tell}
 use Rattle.lif_model.proofs.Slots.{occupies_tells}
 use Rattle.lif_pack.specs.Packing.{rises, is_in_order, live_length, live_records, stands_at, packed_start, are_packed, redo_slot, marked_count, is_move, moving_slot, marked_slot, good_mark, move_of}
 
@@ -35,6 +35,22 @@ module _ (slots : List (List ℕ)) (in_order : is_in_order slots ≡ true) where
         let no : true ≡ false = sym here ∙ ap is_purged same ∙ not-true _ live in
         cc
   ]
+
+-- slots that begin where others do, and are live where those are: they are in order where those are
+pub order_on : (xs ys : List (List ℕ)) → length ys ≡ length xs → redo_place ys ≡ redo_place xs → ((k : ℕ) → is_live (get_or ys k []) ≡ is_live (get_or xs k []))
+    → ((k : ℕ) → occupies (get_or ys k []) ≡ occupies (get_or xs k [])) → ((k : ℕ) → start_of (get_or ys k []) ≡ start_of (get_or xs k [])) → is_in_order xs ≡ true → is_in_order ys ≡ true
+order_on xs ys size place live takes start in_order = and_from (all_pairs rises (filter occupies ys)) _
+    ((filter_pairs_tell [] occupies rises ys).1 (λ a b less long on_a on_b.
+    lt-ltb _ _ (omega (arith, start a, start b, rise xs in_order a b less (omega (arith, long, size)) (sym (takes a) ∙ on_a) (sym (takes b) ∙ on_b)))))
+    (all_from [] is_purged (drop (suc (redo_place ys)) ys) (λ i lt.
+    let from : ℕ = suc (redo_place ys) in
+    let under : from + i < length ys = omega (arith, lt, length-drop from ys) in
+    ap is_purged (get_or-drop from ys i []) ∙ not_from_true (is_purged (get_or ys (from + i) [])) (λ alive.
+    absurd (omega (arith, place, live_before_redo xs in_order (from + i) (omega (arith, under, size)) (sym (live (from + i)) ∙ alive))))))
+  where
+    not_from_true : (b : Bool) → (not b ≡ true → ⊥) → b ≡ true
+    not_from_true true off = refl
+    not_from_true false off = absurd (off refl)
 
 -- ---- at their places
 

@@ -17,8 +17,9 @@ use Rattle.lif_model.proofs.Adopted.{is_file_tells, ends_before_redo, redo_is_al
 use Rattle.lif_pack.specs.Packing.{rises, is_in_order, live_length, live_records, stands_at, are_packed, packed_start, with_start, redo_slot, unmarked, marked_slot, marked_count, bears_mark, packed_from}
 use Rattle.lif_pack.specs.declared.marks.Move.{Move}
 use Rattle.lif_pack.specs.Marks.{IsMoveAt}
-use Rattle.lif_pack.specs.Moving.{MayMove, HasMoved}
-use Rattle.lif_pack.specs.Steps.{volume_with, MayPack, ArePlaced, HasSlotsOf, ArePackedAlike, MayStillPack, TapeHasSlots}
+use Rattle.lif_pack.specs.Moving.{MayMove, HasMoved, IsUnderWay}
+use Rattle.lif_pack.specs.Tasks.{KeepsFiles}
+use Rattle.lif_pack.specs.Steps.{volume_with, HasPlainStart, MayPack, ArePlaced, OfSlots, HasSlotsOf, ArePackedAlike, MayStillPack, TapeHasSlots}
 use Rattle.lif_pack.proofs.Entries.{started_size, started_name, started_type, started_start, started_length, started_again}
 use Rattle.lif_pack.proofs.Order.{CanMove, standing, rise, live_before_redo, live_whole, others_clear}
 use Rattle.lif_pack.proofs.Walking.{live_more, packed_more, purged_all}
@@ -26,6 +27,8 @@ use Rattle.lif_pack.proofs.Slotting.{MayStand, set_is_volume}
 use Rattle.lif_pack.proofs.Finishing.{redo_here, redo_is_two, other_is_file, clear_of, upgraded_is_adopted}
 use Rattle.lif_pack.proofs.SamePacked.{packed_same}
 use Rattle.lif_pack.proofs.MovedVolume.{no_mark_is_zero, moved_volume}
+use Rattle.lif_pack.proofs.Plain.{plain_started}
+use Rattle.lif_pack.proofs.Keeping.{keeps_itself, way_keeps}
 
 module _ (n first end redo : ℕ) (slots : List (List ℕ)) (may : MayPack n first end redo slots) where
   abbrev w : Volume
@@ -209,6 +212,10 @@ module _ (n first end redo : ℕ) (slots : List (List ℕ)) (may : MayPack n fir
       unmarked = both.1;
       in_order = in_order';
       redo_is = redo_later;
+      plain = λ k lt on. elim (cases_eq k i) [
+        | inl e ↦ subst HasPlainStart (sym (ap (λ (m : ℕ). get_or later m []) e ∙ there)) (plain_started place slot size)
+        | inr off ↦ subst HasPlainStart (sym (other k off)) (may.plain k (omega (arith, lt, count)) (sym (occupies_stays k) ∙ on))
+      ];
     }
 
     pub placed_on : ArePlaced end (i + 1) (place + length_of (get_or slots i [])) (set slots i (with_start place (get_or slots i [])))
@@ -258,25 +265,48 @@ module _ (n first end redo : ℕ) (slots : List (List ℕ)) (may : MayPack n fir
 
     -- ---- the tape
 
+    -- a volume with these slots, and the move of the file
+    module _ (v : Volume) (same : v.slots ≡ slots) (ends : directory_end v.header ≡ end)
+        (move : Move) (slot_is : move.slot ≡ i) (place_is : move.place ≡ place) (start_is : move.start ≡ start_of slot) (long_is : move.length ≡ length_of slot) (none : move.moved ≡ 0) where
+      abbrev v0 : Volume
+      v0 = record v { slots = slots }
+
+      start0 : packed_start v0 i ≡ place
+      start0 = omega (arith, placed.next, ends)
+
+      can0 : CanMove v0 i 0
+      can0 = record {
+        before_redo = can.before_redo;
+        live = live;
+        fewer = some_records;
+        in_order = may.in_order;
+        packed = ap (λ (e : ℕ). are_packed e (take i slots)) ends ∙ placed.packed;
+        down = omega (arith, start0, down);
+      }
+
+      at_file : IsMoveAt v0 i 0 move
+      at_file = record { slot = slot_is; moved = none; place = place_is ∙ sym start0; start = start_is; long = long_is }
+
     pub moved_slots : (t x : Tape) (move : Move) → IsTape n t → IsSettled t → IsSettled x → move.slot ≡ i → move.place ≡ place → move.start ≡ start_of slot → move.length ≡ length_of slot
         → move.moved ≡ 0 → HasMoved first move.place redo move t x → HasSlotsOf first end slots (set slots i (with_start place (get_or slots i []))) t x
     moved_slots t x move is quiet quiet_x slot_is place_is start_is long_is none has v some same starts ends =
-        let v0 : Volume = record v { slots = slots } in
-        let some0 : volume_of t ≡ Some v0 = some ∙ (λ q. Some (record v { slots = same q })) in
-        let start0 : packed_start v0 i ≡ place = omega (arith, placed.next, ends) in
-        let can0 : CanMove v0 i 0 = record {
-          before_redo = can.before_redo;
-          live = live;
-          fewer = some_records;
-          in_order = may.in_order;
-          packed = ap (λ (e : ℕ). are_packed e (take i slots)) ends ∙ placed.packed;
-          down = omega (arith, start0, down);
-        } in
-        let at_file : IsMoveAt v0 i 0 move = record { slot = slot_is; moved = none; place = place_is ∙ sym start0; start = start_is; long = long_is } in
-        let has0 : HasMoved (directory_start v0.header) move.place (redo_place slots) move t x =
-        (subst (λ (r : ℕ). HasMoved (directory_start v0.header) move.place r move t x) (sym may.redo_is) (subst (λ (d : ℕ). HasMoved d move.place redo move t x) (sym starts) has)) in
-        moved_volume n t v0 is some0 quiet may.version may.unmarked i can0 move at_file x quiet_x has0
-        ∙ ap (λ (p : ℕ). Some (record v { slots = set slots i (with_start p slot) })) start0
+        let some0 : volume_of t ≡ Some (v0 v same ends move slot_is place_is start_is long_is none) = some ∙ (λ q. Some (record v { slots = same q })) in
+        moved_volume n t _ is some0 quiet may.version may.unmarked i (can0 v same ends move slot_is place_is start_is long_is none) move
+        (at_file v same ends move slot_is place_is start_is long_is none) x quiet_x
+        (subst (λ (r : ℕ). HasMoved (directory_start v.header) move.place r move t x) (sym may.redo_is) (subst (λ (d : ℕ). HasMoved d move.place redo move t x) (sym starts) has))
+        ∙ ap (λ (p : ℕ). Some (record v { slots = set slots i (with_start p slot) })) (start0 v same ends move slot_is place_is start_is long_is none)
+
+    -- a stop leaves the files as they were
+    pub move_keeps : (t y : Tape) (move : Move) → IsTape n t → IsSettled t → move.slot ≡ i → move.place ≡ place → move.start ≡ start_of slot → move.length ≡ length_of slot
+        → move.moved ≡ 0 → i < 65535 → IsUnderWay first move.place redo move t y → OfSlots first end slots t (λ v. KeepsFiles n t y)
+    move_keeps t y move is quiet slot_is place_is start_is long_is none number way v some same starts ends =
+        let some0 : volume_of t ≡ Some (v0 v same ends move slot_is place_is start_is long_is none) = some ∙ (λ q. Some (record v { slots = same q })) in
+        way_keeps n t _ is some0 quiet may.version may.unmarked i (can0 v same ends move slot_is place_is start_is long_is none) move
+        (at_file v same ends move slot_is place_is start_is long_is none)
+        (subst (λ (r : ℕ). MayMove n (directory_start v.header) move.place r move) (sym may.redo_is)
+        (subst (λ (d : ℕ). MayMove n d move.place redo move) (sym starts) (may_move move slot_is place_is start_is long_is none number)))
+        y
+        (subst (λ (r : ℕ). IsUnderWay (directory_start v.header) move.place r move t y) (sym may.redo_is) (subst (λ (d : ℕ). IsUnderWay d move.place redo move t y) (sym starts) way))
 
 -- ---- a file that stands there already, or none
 
@@ -365,11 +395,32 @@ module _ (n first end redo : ℕ) (slots : List (List ℕ)) (may : MayPack n fir
 pub same_slots_of : (first end : ℕ) (slots : List (List ℕ)) (t : Tape) → HasSlotsOf first end slots slots t t
 same_slots_of first end slots t v some same starts ends = some ∙ (λ q. Some (record v { slots = same q }))
 
+pub slots_keep : (n first end redo : ℕ) (slots : List (List ℕ)) (t : Tape) → MayPack n first end redo slots → IsTape n t → IsSettled t → OfSlots first end slots t (λ v. KeepsFiles n t t)
+slots_keep n first end redo slots t may is quiet v some same starts ends =
+    keeps_itself n t (record v { slots = slots }) is (some ∙ (λ q. Some (record v { slots = same q }))) quiet may.version
+
 pub slots_then : (first end : ℕ) (a b c : List (List ℕ)) (t x y : Tape) → HasSlotsOf first end a b t x → HasSlotsOf first end b c x y → HasSlotsOf first end a c t y
 slots_then first end a b c t x y one two v some same starts ends = two (record v { slots = b }) (one v some same starts ends) refl starts ends
 
 pub end_below : (n first end redo : ℕ) (slots : List (List ℕ)) → MayPack n first end redo slots → end ≤ redo_start Two n
 end_below n first end redo slots may = omega (arith, (ends_before_redo Two n (volume_with may.header slots) may.volume may.version).0, may.ends)
+
+-- where the files before a slot stand at their places, the next place is not past the redo file
+pub placed_below : (n first end redo : ℕ) (slots : List (List ℕ)) → MayPack n first end redo slots → (i place : ℕ) → ArePlaced end i place slots → i ≤ redo
+    → place ≤ redo_start Two n
+placed_below n first end redo slots may i place placed le = elim (packed_last end (take i slots) placed.packed) [
+  | inl none ↦ omega (arith, none, placed.next, end_below n first end redo slots may)
+  | inr found ↦
+      let k : ℕ = found.0 in
+      let slot : List ℕ = get_or slots k [] in
+      let less : k < i = omega (arith, found.1, length-take i slots) in
+      let same : get_or (take i slots) k [] ≡ slot = get_or-take i slots k [] less in
+      let takes : occupies slot ≡ true = sym (ap occupies same) ∙ found.2 in
+      let here : k < length slots = omega (arith, less, le, redo_lies n first end redo slots may) in
+      let w : Volume = volume_with may.header slots in
+      let file = other_is_file n w may.volume may.version k here (λ e. absurd (omega (arith, e, less, le, may.redo_is))) (and_parts (is_live slot) (has_records slot) takes).0 in
+      omega (arith, found.3, ap end_of same, placed.next, (ends_before_redo Two n w may.volume may.version).1 k here takes (is_file_tells n slot file).1)
+]
 
 pub placed_none : (end : ℕ) (slots : List (List ℕ)) → ArePlaced end 0 end slots
 placed_none end slots = record { packed = refl; next = omega arith }

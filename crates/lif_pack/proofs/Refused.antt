@@ -64,3 +64,23 @@ module _ (n : ℕ) (v : Volume) (is : IsVolume n v) where
       by true true false on up = refl
       by true false o on up = cc
       by false u o on up = cc
+
+-- nothing refuses it
+pub refused_by_none : (n : ℕ) (v : Volume) → pack_refusal n (Some v) ≡ None → (is_upgraded n v ≡ true) × (is_in_order v.slots ≡ true)
+refused_by_none n v none = by (is_adopted n v.slots) (is_upgraded n v) (is_in_order v.slots) none
+  where
+    by : (a u o : Bool) → first_met ((not a, NoRedo) ∷ (not u, NeedsUpgrade) ∷ (not o, OutOfOrder) ∷ []) ≡ None → (u ≡ true) × (o ≡ true)
+    by true true true none = (refl, refl)
+    by true true false none = cc
+    by true false o none = cc
+    by false u o none = cc
+
+-- ---- a mark that is taken off, and a file that is finished, change nothing of it
+
+pub refused_alike : (n : ℕ) (v w : Volume) → is_adopted n v.slots ≡ true → is_adopted n w.slots ≡ true → is_upgraded n w ≡ is_upgraded n v → is_in_order w.slots ≡ is_in_order v.slots
+    → pack_refusal n (Some w) ≡ pack_refusal n (Some v)
+refused_alike n v w adopted adopted_w up order =
+    λ i. first_met ((not ((adopted_w ∙ sym adopted) i), NoRedo) ∷ (not (up i), NeedsUpgrade) ∷ (not (order i), OutOfOrder) ∷ [])
+
+pub refused_never : (n : ℕ) (v : Volume) → is_adopted n v.slots ≡ true → is_upgraded n v ≡ true → is_in_order v.slots ≡ true → pack_refusal n (Some v) ≡ None
+refused_never n v adopted up order = λ i. first_met ((not (adopted i), NoRedo) ∷ (not (up i), NeedsUpgrade) ∷ (not (order i), OutOfOrder) ∷ [])

@@ -25,16 +25,17 @@ use Rattle.il_ports.specs.Stores.{RecordsView, IsStore, RunLeaves}
 use Rattle.il_ports.proofs.Stores.{quiet_run, quiet_nowhere}
 use Rattle.lif_volume.specs.Answers.{HasVolumeOf}
 use Rattle.lif_volume.specs.Commands.{VolumeStays, SettlesOnly}
-use Rattle.lif_pack.specs.Packing.{bears_mark, has_mark, move_of, finished, finished_volume_of}
+use Rattle.lif_pack.specs.Packing.{bears_mark, has_mark, finished, finished_volume_of}
 use Rattle.lif_pack.specs.declared.marks.Move.{Move}
 use Rattle.lif_pack.specs.declared.tasks.Task.{Task}
 use Rattle.lif_pack.specs.Marks.{IsMoveAt, IsMarked}
-use Rattle.lif_pack.specs.Moving.{MayMove, IsMidway, IsUnderWay}
+use Rattle.lif_pack.specs.Moving.{MayMove, IsMidway, HasMoved, IsUnderWay}
 use Rattle.lif_pack.specs.Tasks.{IsTaskOf, IsFinished, IsClearedOrOld, IsLeftToDo, IsShownAs, StaysShown, calls_to_finish}
 use Rattle.lif_pack.proofs.MovedParts.{midway_same}
 use Rattle.lif_pack.proofs.MidwayTape.{midway_shows, midway_marked}
 use Rattle.lif_pack.proofs.Tasking.{marked_is_upgraded}
-use Rattle.lif_pack.proofs.FinishedTape.{task_clears, task_moves}
+use Rattle.lif_pack.proofs.Order.{CanMove, move_is, move_some}
+use Rattle.lif_pack.proofs.FinishedTape.{finished_has_moved, task_clears, task_moves}
 use Rattle.lif_pack.proofs.Finishes.{finishes, finished_shape, finished_is_settled, volume_of_finished, finished_twice, unmarked_volume}
 use Rattle.lif_pack.proofs.Agreeing.{settles_shown, settles_finished}
 
@@ -76,8 +77,10 @@ module _ (n low : ℕ) (x u : Tape) (size : length x ≡ n) (tape_u : IsTape n u
 
 -- ---- between two commits of a move
 
-module _ (n : ℕ) (t : Tape) (v : Volume) (is : IsTape n t) (some : volume_of t ≡ Some v) (quiet : IsSettled t) (marked : bears_mark n v ≡ true)
-    (i j0 j : ℕ) (named : move_of v ≡ Some (i, j0)) (move : Move) (at_file : IsMoveAt v i j0 move) where
+-- The tape f is one on which the whole file was moved.
+module _ (n : ℕ) (t : Tape) (v : Volume) (is : IsTape n t) (some : volume_of t ≡ Some v) (quiet : IsSettled t) (up : is_upgraded n v ≡ true)
+    (i j0 j : ℕ) (can : CanMove v i j0) (move : Move) (at_file : IsMoveAt v i j0 move)
+    (f : Tape) (quiet_f : IsSettled f) (there : HasMoved (directory_start v.header) move.place (redo_place v.slots) move t f) where
   abbrev start : ℕ
   start = directory_start v.header
 
@@ -88,7 +91,7 @@ module _ (n : ℕ) (t : Tape) (v : Volume) (is : IsTape n t) (some : volume_of t
   low = redo_start Two n
 
   module _ (y : Tape) (may : MayMove n start move.place r move) (was : IsMidway start move.place r move j t (settled y))
-      (more : j0 ≤ j) (less : j < move.length) where
+      (more : j0 ≤ j) (some_moved : 0 < j) (less : j < move.length) where
     size_x : length (settled y) ≡ n
     size_x = was.tape.records ∙ is.records
 
@@ -150,17 +153,14 @@ module _ (n : ℕ) (t : Tape) (v : Volume) (is : IsTape n t) (some : volume_of t
     was_z : IsMidway start move.place r move j t z
     was_z = midway_same n start move.place r move j t (settled y) z is may (omega (arith, less)) was (size_z ∙ sym size_x) (λ k lt. below k (omega (arith, lt, size_x)))
 
-    pub midway_shown : IsShownAs t y
+    pub midway_shown : (finished_volume_of y ≡ volume_of f) × (is_foreign_gated y ≡ false)
     midway_shown =
-        let mark = midway_marked n t v is some quiet marked i j0 j named move at_file z tape_z quiet_z may was_z more less in
+        let mark = midway_marked n t v is some quiet up i j0 j can move at_file f quiet_f there z tape_z quiet_z may was_z more some_moved less in
         let shown = settles_shown n z mark.0 tape_z mark.1 quiet_z (marked_is_upgraded n mark.0 mark.2) y (record {
           records = sym (length_settled y) ∙ size_x ∙ sym size_z;
           same = λ k lt. sym (below k (omega (arith, lt, size_z)));
         }) in
-        record {
-          volume = shown.volume ∙ midway_shows n t v is some quiet marked i j0 j named move at_file z tape_z quiet_z may was_z more less;
-          own_gate = shown.own_gate;
-        }
+        (shown.volume ∙ midway_shows n t v is some quiet up i j0 j can move at_file f quiet_f there z tape_z quiet_z may was_z more some_moved less, shown.own_gate)
 
 -- ---- while a task is carried out
 
@@ -176,10 +176,12 @@ module _ (n : ℕ) (t : Tape) (v : Volume) (task : Task) (is : IsTape n t) (some
   move_shown move named may y (inr has) = finished_shown n t v is some up y (task_moves n t v task (settled y) move is some quiet of named has (settled_twice y))
   move_shown move named may y (inl way) =
       let at : IsMarked v (Some move) = subst (IsMarked v) named of.moving in
-      midway_shown n t v is some quiet of.marked at.0 at.1 way.0 at.2 move at.3 y
+      let shown = midway_shown n t v is some quiet up at.0 at.1 way.0 (move_is v at.0 at.1 at.2) move at.3 (finished t) (finished_is_settled n t is)
+      (finished_has_moved n t v is some quiet of.marked at.0 at.1 at.2 move at.3) y
       (subst (λ (r : ℕ). MayMove n (directory_start v.header) move.place r move) of.redo (subst (λ (d : ℕ). MayMove n d move.place task.redo move) of.first may))
       (subst (λ (r : ℕ). IsMidway (directory_start v.header) move.place r move way.0 t (settled y)) of.redo (subst (λ (d : ℕ). IsMidway d move.place task.redo move way.0 t (settled y)) of.first way.3))
-      (omega (arith, way.1, at.3.moved)) way.2
+      (omega (arith, way.1, at.3.moved)) (omega (arith, way.1, at.3.moved, move_some v at.0 at.1 at.2)) way.2 in
+      record { volume = shown.0 ∙ volume_of_finished n t is; own_gate = shown.1 }
 
 -- ---- while the tape is settled
 

@@ -4,3 +4,4 @@ pub mod Marks
 pub mod Moving
 pub mod Tasks
 pub mod Steps
+pub mod Packs

@@ -1,5 +1,6 @@
 -- A file whose records are moved down, commit by commit.
-use Rattle.std.specs.Prelude.{◌≡◌, ◌≢◌, ◌⊎◌, ◌<◌, ◌≤◌, ◌+◌, ◌%◌, ◌++◌, ◌==◌, if◌then◌else◌, ℕ, zero, suc, List, [], ◌∷◌, length, take}
+use Rattle.std.specs.Prelude.{◌≡◌, ◌≢◌, ◌⊎◌, ◌<◌, ◌≤◌, ◌+◌, ◌%◌, ◌++◌, ◌==◌, if◌then◌else◌, ℕ, zero, suc}
+use Rattle.std.specs.Prelude.{List, [], ◌∷◌, length, take}
 use Rattle.lif_model.specs.Tape.{Tape, record_at}
 use Rattle.lif_model.specs.Directory.{entry_at}
 use Rattle.lif_model.specs.declared.version.Version.TheVariants.{Two}
@@ -67,11 +68,12 @@ pub record IsMovedTo (first end : ℕ) (move : Move) (j : ℕ) (ws : SlotWrites)
 abbrev pub IsMarkedAs : ℕ → ℕ → List ℕ → Type 0
 IsMarkedAs slot j entry = (marked_slot entry ≡ suc slot) × (marked_count entry ≡ j)
 
--- between two commits: where some have moved, the redo entry has the mark of them
+-- between two commits: where some have moved, the redo entry has the mark of them, and before the first it is as on u
 pub record IsMidway (first end redo : ℕ) (move : Move) (j : ℕ) (u x : Tape) : Type 0 where
   pub entry : List ℕ
   pub size : length entry ≡ 32
   pub rest : take 28 entry ≡ take 28 (entry_from u first redo)
+  pub before : j ≡ move.moved → entry ≡ entry_from u first redo
   pub mark : 0 < j → IsMarkedAs move.slot j entry
   pub tape : IsMovedTo first end move j ((redo, entry) ∷ []) u x
 
@@ -83,7 +85,8 @@ IsMidwayOrMore first end redo move j count u y =
 -- after the last one: it has none, and the file begins at its place
 abbrev pub HasMoved : (first end redo : ℕ) → Move → (u x : Tape) → Type 0
 HasMoved first end redo move u x = IsMovedTo first end move move.length
-    ((redo, unmarked (entry_from u first redo)) ∷ (move.slot, with_start move.place (entry_from u first move.slot)) ∷ []) u x
+    ((redo, unmarked (entry_from u first redo))
+    ∷ (move.slot, with_start move.place (entry_from u first move.slot)) ∷ []) u x
 
 -- what a stop within the last commit leaves, once it is settled
 abbrev pub IsMidwayOrMoved : (first end redo : ℕ) → Move → (j : ℕ) → (u y : Tape) → Type 0

@@ -1,7 +1,9 @@
 -- Packing: files that stand without gaps, in slot order, from the directory's end on; the mark of a file that is being
 -- moved; and the tape that a stopped packing is finished to. The mark stands in the implementation field of the redo
 -- entry, and that is this project's own.
-use Rattle.std.specs.Prelude.{◌+◌, ◌-◌, ◌++◌, ◌&&◌, ◌==◌, if◌then◌else◌, nat_lt, not, ℕ, zero, suc, Bool, true, false, List, [], ◌∷◌, length, take, drop, get_or, set, map, filter, replicate, Option, Some, None}
+use Rattle.std.specs.Prelude.{◌+◌, ◌-◌, ◌++◌, ◌&&◌, ◌==◌, if◌then◌else◌, nat_lt, not, ℕ, zero, suc}
+use Rattle.std.specs.Prelude.{Bool, true, false, List, [], ◌∷◌, length, take, drop, get_or, set, map, filter}
+use Rattle.std.specs.Prelude.{replicate, Option, Some, None}
 use Rattle.std.specs.List.{list_all}
 use Rattle.std.specs.FinMap.{insert}
 use Rattle.lif_model.specs.Numbers.{two_at}

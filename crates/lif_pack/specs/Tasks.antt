@@ -11,7 +11,7 @@ use Rattle.lif_model.specs.Writing.{slot_record, entry_from, with_slots}
 use Rattle.il_ports.specs.Stores.{RecordsView, RunLeaves}
 use Rattle.lif_volume.specs.Views.{VolumeView}
 use Rattle.lif_volume.specs.Commands.{IsTold}
-use Rattle.lif_pack.specs.Packing.{unmarked, bears_mark, has_mark, finished, finished_volume_of}
+use Rattle.lif_pack.specs.Packing.{unmarked, bears_mark, has_mark, finished, finished_volume_of, files_shown}
 use Rattle.lif_pack.specs.declared.marks.Move.{Move}
 use Rattle.lif_pack.specs.declared.tasks.Task.{Task}
 use Rattle.lif_pack.specs.Marks.{IsMarked}
@@ -76,6 +76,11 @@ pub record IsShownAs (t x : Tape) : Type 0 where
   pub volume : finished_volume_of x ≡ finished_volume_of t
   pub own_gate : is_foreign_gated x ≡ false
 
+-- on a medium of n records x is shown with the files that t is shown with, and has no gate that is not ours
+pub record KeepsFiles (n : ℕ) (t x : Tape) : Type 0 where
+  pub files : files_shown n (finished_volume_of x) ≡ files_shown n (finished_volume_of t)
+  pub own_gate : is_foreign_gated x ≡ false
+
 -- at any moment, and after the call
 pub record StaysShown {S : Type 0} (v w : RecordsView S) (t : Tape) : Type 0 where
   pub stops : RunLeaves v w (IsShownAs t)
@@ -83,4 +88,5 @@ pub record StaysShown {S : Type 0} (v w : RecordsView S) (t : Tape) : Type 0 whe
 
 -- of each tape that is not foreign-gated
 abbrev pub KeepsShown : {R S : Type 0} → (R → RecordsView S) → (old new : VolumeView R) → Type 0
-KeepsShown view old new = (t : Tape) → IsTold view old t → is_foreign_gated t ≡ false → StaysShown (view old.records) (view new.records) t
+KeepsShown view old new = (t : Tape) → IsTold view old t → is_foreign_gated t ≡ false
+    → StaysShown (view old.records) (view new.records) t

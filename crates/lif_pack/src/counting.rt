@@ -14,10 +14,11 @@ use lif_model::Version;
 /// `redo`, and the directory ends before record `end`.
 pub fn files_moved(slots: &SlotTable, redo: usize, end: u32) -> usize
     requires within { redo ≤ length slots.now.slots }
-    requires few { redo < 2 ^ 32 }
+    requires within_word { redo < 2 ^ 32 }
     requires small { end < 2 ^ 17 }
-    ensures { (n first : ℕ) → MayPack n first end redo (map slot_bytes slots.now.slots) → (v : Volume)
+    ensures count { (n first : ℕ) → MayPack n first end redo (map slot_bytes slots.now.slots) → (v : Volume)
         → v.slots ≡ map slot_bytes slots.now.slots → directory_end v.header ≡ end → result ≡ files_moved n v }
+    ensures few { result ≤ redo }
 {
     let mut place = u64::from(end);
     let mut moved = 0;

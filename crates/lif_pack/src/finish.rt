@@ -1,5 +1,5 @@
 //! A packing that was stopped is finished.
-ghost use Rattle.std.specs.Prelude.{◌≡◌, ◌<◌, ◌+◌, ◌*◌, ◌^◌, true, false, map, Some, Ok, OnOk, IfOk, IfSome};
+ghost use Rattle.std.specs.Prelude.{◌≡◌, ◌<◌, ◌+◌, ◌*◌, ◌^◌, ℕ, true, false, map, Some, Ok, OnOk, IfOk, IfSome};
 ghost use Rattle.lif_model.specs.Tape.{Tape};
 ghost use Rattle.lif_model.specs.declared.version.Version.TheVariants.{Two};
 ghost use Rattle.lif_model.specs.Redo.{redo_start, settled, IsSettled};
@@ -12,7 +12,9 @@ ghost use Rattle.lif_volume.specs.Seen.{seen};
 ghost use Rattle.lif_volume.specs.Commands.{IsReadyFor, IsTold, OnlySettles};
 ghost use Rattle.lif_volume.specs.Changing.{SettlesForeign};
 ghost use Rattle.lif_pack.specs.Packing.{bears_mark};
-ghost use Rattle.lif_pack.specs.Tasks.{MayFinish, IsTaskOf, IsFinished, IsCleared, IsClearedOrOld, IsLeftToDo, calls_to_finish};
+ghost use Rattle.lif_pack.specs.Packers.{IsPackerFor};
+ghost use Rattle.lif_pack.specs.Tasks.{MayFinish, IsTaskOf, IsFinished, IsCleared, IsClearedOrOld, IsLeftToDo};
+ghost use Rattle.lif_pack.specs.Tasks.{calls_to_finish};
 ghost use Rattle.lif_pack.specs.Tasks.{IsShownAs, KeepsShown};
 
 use crate::marks::mark_of;
@@ -34,6 +36,7 @@ impl Packer {
         requires ready { IsReady (15 * (R.view (seen volume.old).records).record_count + 120)
             (R.view (seen volume.old).records) }
         ensures open { IsOpen R.view (seen volume.new) }
+        ensures memory { (n : ℕ) → IsPackerFor n self.old → IsPackerFor n self.new }
         ensures goes_on { GoesOn (15 * (R.view (seen volume.old).records).record_count + 120)
             (R.view (seen volume.old).records) (R.view (seen volume.new).records) result }
         ensures finished { OnOk result ((t : Tape) → IsTold R.view (seen volume.old) t
@@ -61,6 +64,7 @@ impl Packer {
         requires ready { IsReady (15 * size + 120) (R.view (seen volume.old).records) }
         requires size { size ≡ (R.view (seen volume.old).records).record_count }
         ensures open { IsOpen R.view (seen volume.new) }
+        ensures memory { (n : ℕ) → IsPackerFor n self.old → IsPackerFor n self.new }
         ensures goes_on { GoesOn (15 * size + 120) (R.view (seen volume.old).records)
             (R.view (seen volume.new).records) result }
         ensures finished { OnOk result ((t : Tape) → IsTold R.view (seen volume.old) t
@@ -75,12 +79,18 @@ impl Packer {
     }
 
     /// Carries out what is left to do on a settled tape.
-    fn carry_out<R: Records>(&mut self, records: &mut R, task: &Task) -> Result<(), Trouble>
+    pub(crate) fn carry_out<R: Records>(
+        &mut self,
+        records: &mut R,
+        task: &Task,
+    ) -> Result<(), Trouble>
         requires ready { IsReady (calls_to_finish task.now.moving) (R.view records.old) }
         requires settled { (t : Tape) → (R.view records.old).tape ≡ Some t → IsSettled t }
         requires medium { (R.view records.old).record_count < 2 ^ 16 }
         requires may { MayFinish (R.view records.old).record_count task.now }
+        ensures still { self.new.slots ≡ self.old.slots }
         ensures goes_on { GoesOn (calls_to_finish task.now.moving) (R.view records.old) (R.view records.new) result }
+        ensures settled { OnOk result ((t : Tape) → (R.view records.new).tape ≡ Some t → IsSettled t) }
         ensures finishes { OnOk result ((t : Tape) (v : VolumeModel) → (R.view records.old).tape ≡ Some t
             → volume_of t ≡ Some v → IsTaskOf (R.view records.old).record_count v task.now
             → (x : Tape) × ((R.view records.new).tape ≡ Some x) × IsFinished t x) }
@@ -105,6 +115,7 @@ impl Packer {
         requires settled { (t : Tape) → (R.view records.old).tape ≡ Some t → IsSettled t }
         requires medium { (R.view records.old).record_count < 2 ^ 16 }
         requires below { slot_record first redo < redo_start Two (R.view records.old).record_count }
+        ensures still { self.new.slots ≡ self.old.slots }
         ensures goes_on { GoesOn 9 (R.view records.old) (R.view records.new) result }
         ensures settled { OnOk result ((t : Tape) → (R.view records.new).tape ≡ Some t → IsSettled t) }
         ensures clears { OnOk result ((t : Tape) → (R.view records.old).tape ≡ Some t

@@ -4,14 +4,19 @@
 
 mod closing;
 mod counting;
+mod ending;
 mod finish;
+mod holding;
 mod marks;
 mod memory;
 mod moving;
+mod pack;
 mod packer;
 mod packing;
 mod placed;
+mod reading;
 mod refusing;
 mod tasks;
 
 pub use memory::Packer;
+pub use pack::Packed;

@@ -1,5 +1,5 @@
 //! The memory of packing.
-ghost use Rattle.std.specs.Prelude.{◌≤◌, ◌*◌, vec_capacity};
+ghost use Rattle.std.specs.Prelude.{◌≤◌, vec_capacity};
 ghost use Rattle.lif_model.specs.Redo.{most_targets};
 ghost use Rattle.lif_model.specs.declared.version.Version.TheVariants.{Two};
 
@@ -11,10 +11,7 @@ use lif_model::Record;
 pub struct Packer {
     /// The slots of the directory, as they stand between two commits.
     pub(crate) slots: SlotTable,
-    /// The records of the directory, as they stand.
-    pub(crate) directory: Vec<Record>,
     /// What one commit changes: records of the directory, and the records of a file that are moved, 30 at most.
     pub(crate) changes: Vec<(u16, Record)>,
     ghost memory: { most_targets Two ≤ vec_capacity changes },
-    ghost records: { slots.room ≤ 8 * vec_capacity directory },
 }

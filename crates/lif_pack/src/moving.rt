@@ -101,6 +101,7 @@ impl Packer {
         requires medium { (R.view records.old).record_count < 2 ^ 16 }
         requires may { MayMove (R.view records.old).record_count first file.now.place redo file.now }
         requires begun { file.now.moved ≤ moved }
+        requires some { 0 < count }
         requires few { count ≤ 30 }
         requires more { moved + count < file.now.length }
         ensures still { self.new.slots ≡ self.old.slots }
@@ -267,7 +268,7 @@ fn put_mark(bytes: &mut Record, k: usize, mark: [u8; 4])
 }
 
 /// Writes `part` into an entry, from place `at` on.
-fn put_part(entry: &mut [u8; ENTRY], at: usize, part: &[u8])
+pub fn put_part(entry: &mut [u8; ENTRY], at: usize, part: &[u8])
     requires { at + length part.now ≤ 32 }
     ensures { take (at + length part.now) entry.new ≡ take at entry.old ++ part.now }
 {

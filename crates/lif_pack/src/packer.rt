@@ -12,10 +12,8 @@ impl Packer {
         requires { 37 < size }
         ensures { IfOk result (IsPackerFor size) }
     {
-        let records = usize::from(size) - BESIDE;
         Ok(Packer {
-            slots: SlotTable::new(alloc, ENTRIES * records)?,
-            directory: Vec::with_capacity(alloc, records)?,
+            slots: SlotTable::new(alloc, ENTRIES * (usize::from(size) - BESIDE))?,
             changes: Vec::with_capacity(alloc, Version::Two.most_targets())?,
         })
     }

@@ -1,25 +1,28 @@
 //! The files of a volume are moved to their places, in slot order.
-ghost use Rattle.std.specs.Prelude.{◌≡◌, ◌<◌, ◌≤◌, ◌+◌, ◌*◌, ◌^◌, ◌&&◌, nat_lt, ℕ, [], true, false, get_or, set, length, Some, OnOk};
+ghost use Rattle.std.specs.Prelude.{◌≡◌, ◌<◌, ◌≤◌, ◌+◌, ◌*◌, ◌^◌, ◌&&◌, nat_lt, ℕ, [], true, false, Some, OnOk};
+ghost use Rattle.std.specs.Prelude.{get_or, set, length};
 ghost use Rattle.lif_model.specs.Tape.{Tape};
 ghost use Rattle.lif_model.specs.Directory.{start_of, length_of, is_end};
 ghost use Rattle.lif_model.specs.Redo.{IsSettled};
 ghost use Rattle.lif_model.specs.Legal.{occupies};
-ghost use Rattle.il_ports.specs.Stores.{IsReady, GoesOn};
+ghost use Rattle.il_ports.specs.Stores.{IsReady, GoesOn, RunLeaves};
 ghost use Rattle.lif_dir.specs.Entries.{entry_bytes, slot_bytes, is_entry};
 ghost use Rattle.lif_pack.specs.Packing.{with_start};
 ghost use Rattle.lif_pack.specs.Packers.{slots_held};
-ghost use Rattle.lif_pack.specs.Steps.{MayPack, ArePlaced, HasSlotsOf, ArePackedAlike};
+ghost use Rattle.lif_pack.specs.Steps.{MayPack, ArePlaced, OfSlots, HasSlotsOf, ArePackedAlike};
+ghost use Rattle.lif_pack.specs.Tasks.{KeepsFiles};
 
 use crate::marks::Move;
 use crate::memory::Packer;
 use crate::placed::{length_of, live_length, occupies, start_of};
+use crate::reading::Readable;
 use il_ports::{Records, Trouble};
 use lif_dir::{FileEntry, Slot};
 use lif_model::ENTRY;
 
 impl Packer {
-    /// Moves the file of a slot down to its place, which it does not stand at yet. The slot in memory begins there then,
-    /// as that of the directory does.
+    /// Moves the file of a slot down to its place, which it does not stand at yet. The slot in memory begins there
+    /// then, as that of the directory does.
     fn move_file<R: Records>(
         &mut self,
         records: &mut R,
@@ -37,6 +40,7 @@ impl Packer {
         requires ready { IsReady (4 * length_of (get_or (slots_held self.old) slot []) + 11) (R.view records.old) }
         requires settled { (t : Tape) → (R.view records.old).tape ≡ Some t → IsSettled t }
         requires medium { (R.view records.old).record_count < 2 ^ 16 }
+        ensures room { self.new.slots.room ≡ self.old.slots.room }
         ensures goes_on { GoesOn (4 * length_of (get_or (slots_held self.old) slot []) + 11) (R.view records.old)
             (R.view records.new) result }
         ensures settled { OnOk result ((t : Tape) → (R.view records.new).tape ≡ Some t → IsSettled t) }
@@ -47,6 +51,12 @@ impl Packer {
             → ArePlaced end slot place (slots_held self.old) → (R.view records.old).tape ≡ Some t
             → (x : Tape) × ((R.view records.new).tape ≡ Some x) × HasSlotsOf first end (slots_held self.old)
             (set (slots_held self.old) slot (with_start place (get_or (slots_held self.old) slot []))) t x) }
+        // A stop at any moment leaves a tape with the same files.
+        ensures stops { (end : ℕ) (t : Tape)
+            → MayPack (R.view records.old).record_count first end redo (slots_held self.old)
+            → ArePlaced end slot place (slots_held self.old) → (R.view records.old).tape ≡ Some t
+            → OfSlots first end (slots_held self.old) t (λ v.
+            RunLeaves (R.view records.old) (R.view records.new) (KeepsFiles (R.view records.old).record_count t)) }
     {
         let entry = *self.slots.entry(slot);
         let file = Move {
@@ -68,35 +78,46 @@ impl Packer {
     ghost use Rattle.lif_model.specs.Redo.{redo_start};
     ghost use Rattle.lif_pack.specs.Packing.{live_length, are_packed};
 
-    /// Moves the files before the redo entry, which is slot `redo`, to their places, in slot order. The directory begins
-    /// at record `first` and ends before record `end`. Of each record of a file at most 15 are read and written.
+    /// Moves the files of this directory from slot `from` on, before the redo entry, to their places, in slot order.
+    /// Those before slot `from` stand there, and `place` is the next one. Of each record of a file at most 15 are read
+    /// and written.
     pub(crate) fn move_files<R: Records>(
         &mut self,
         records: &mut R,
-        first: u16,
-        end: u32,
-        redo: usize,
+        found: &Readable,
+        from: usize,
+        place: u32,
     ) -> Result<(), Trouble>
-        requires may { MayPack (R.view records.old).record_count first end redo (slots_held self.old) }
-        requires number { redo < 65536 }
-        requires ready { IsReady (15 * (redo_start Two (R.view records.old).record_count - end)) (R.view records.old) }
+        requires may { MayPack (R.view records.old).record_count found.now.first found.now.end
+            found.now.redo (slots_held self.old) }
+        requires placed { ArePlaced found.now.end from place (slots_held self.old) }
+        requires before { from ≤ found.now.redo }
+        requires number { found.now.redo < 65536 }
+        requires ready { IsReady (15 * (redo_start Two (R.view records.old).record_count - place))
+            (R.view records.old) }
         requires settled { (t : Tape) → (R.view records.old).tape ≡ Some t → IsSettled t }
         requires medium { (R.view records.old).record_count < 2 ^ 16 }
-        ensures goes_on { GoesOn (15 * (redo_start Two (R.view records.old).record_count - end)) (R.view records.old)
+        ensures room { self.new.slots.room ≡ self.old.slots.room }
+        ensures goes_on { GoesOn (15 * (redo_start Two (R.view records.old).record_count - place)) (R.view records.old)
             (R.view records.new) result }
         ensures settled { OnOk result ((t : Tape) → (R.view records.new).tape ≡ Some t → IsSettled t) }
-        ensures may { OnOk result (MayPack (R.view records.old).record_count first end redo (slots_held self.new)) }
-        ensures packed { OnOk result (are_packed end (take redo (slots_held self.new)) ≡ true) }
+        ensures may { OnOk result (MayPack (R.view records.old).record_count found.now.first found.now.end
+            found.now.redo (slots_held self.new)) }
+        ensures packed { OnOk result (are_packed found.now.end (take found.now.redo (slots_held self.new)) ≡ true) }
         // Packing makes of them what it made of the slots before.
-        ensures alike { OnOk result (ArePackedAlike (R.view records.old).record_count end (slots_held self.old)
-            (slots_held self.new)) }
+        ensures alike { OnOk result (ArePackedAlike (R.view records.old).record_count found.now.end
+            (slots_held self.old) (slots_held self.new)) }
         ensures moves { OnOk result ((t : Tape) → (R.view records.old).tape ≡ Some t
             → (x : Tape) × ((R.view records.new).tape ≡ Some x)
-            × HasSlotsOf first end (slots_held self.old) (slots_held self.new) t x) }
+            × HasSlotsOf found.now.first found.now.end (slots_held self.old) (slots_held self.new) t x) }
+        // A stop at any moment leaves a tape with the same files.
+        ensures stops { (t : Tape) → (R.view records.old).tape ≡ Some t
+            → OfSlots found.now.first found.now.end (slots_held self.old) t (λ v.
+            RunLeaves (R.view records.old) (R.view records.new) (KeepsFiles (R.view records.old).record_count t)) }
     {
-        let mut place = end;
-        for slot in 0..redo {
-            place = self.place_file(records, first, redo, slot, place)?;
+        let mut next = place;
+        for slot in from..found.redo {
+            next = self.place_file(records, found.first, found.redo, slot, next)?;
         }
         Ok(())
     }
@@ -119,6 +140,7 @@ impl Packer {
         requires ready { IsReady (15 * live_length (get_or (slots_held self.old) slot [])) (R.view records.old) }
         requires settled { (t : Tape) → (R.view records.old).tape ≡ Some t → IsSettled t }
         requires medium { (R.view records.old).record_count < 2 ^ 16 }
+        ensures room { self.new.slots.room ≡ self.old.slots.room }
         ensures goes_on { GoesOn (15 * live_length (get_or (slots_held self.old) slot [])) (R.view records.old)
             (R.view records.new) result }
         ensures settled { OnOk result ((t : Tape) → (R.view records.new).tape ≡ Some t → IsSettled t) }
@@ -134,6 +156,12 @@ impl Packer {
             → ArePlaced end slot place (slots_held self.old) → (R.view records.old).tape ≡ Some t
             → (x : Tape) × ((R.view records.new).tape ≡ Some x)
             × HasSlotsOf first end (slots_held self.old) (slots_held self.new) t x) }
+        // A stop at any moment leaves a tape with the same files.
+        ensures stops { (end : ℕ) (t : Tape)
+            → MayPack (R.view records.old).record_count first end redo (slots_held self.old)
+            → ArePlaced end slot place (slots_held self.old) → (R.view records.old).tape ≡ Some t
+            → OfSlots first end (slots_held self.old) t (λ v.
+            RunLeaves (R.view records.old) (R.view records.new) (KeepsFiles (R.view records.old).record_count t)) }
     {
         let entry = *self.slots.entry(slot);
         let next = place + live_length(entry);
@@ -153,7 +181,7 @@ fn begins_above(entry: FileEntry, place: u32) -> bool
 }
 
 /// The slot of the entry with another first record. The entry ends no directory.
-fn started(entry: FileEntry, start: u32) -> Slot
+pub fn started(entry: FileEntry, start: u32) -> Slot
     requires { is_end (entry_bytes entry) ≡ false }
     ensures bytes { slot_bytes result ≡ with_start start (entry_bytes entry) }
     ensures entry { is_entry result ≡ true }

@@ -1,6 +1,6 @@
 //! Whether the files of a directory stand in order, and at their places.
-ghost use Rattle.std.specs.Prelude.{◌≡◌, ◌<◌, ◌≤◌, ◌+◌, ◌^◌, true, false, None, IfSome};
-ghost use Rattle.std.specs.Prelude.{length, map, filter, take, drop};
+ghost use Rattle.std.specs.Prelude.{◌≡◌, ◌<◌, ◌≤◌, ◌+◌, ◌^◌, ℕ, [], true, false, None, IfSome};
+ghost use Rattle.std.specs.Prelude.{length, map, filter, take, drop, get_or};
 ghost use Rattle.std.specs.List.{list_all};
 ghost use Rattle.lif_model.specs.Pairs.{all_pairs};
 ghost use Rattle.lif_model.specs.Directory.{start_of, length_of, is_purged};
@@ -8,6 +8,7 @@ ghost use Rattle.lif_model.specs.Legal.{occupies};
 ghost use Rattle.lif_model.specs.Fit.{redo_place};
 ghost use Rattle.lif_dir.specs.Entries.{entry_bytes, slot_bytes};
 ghost use Rattle.lif_pack.specs.Packing.{rises, is_in_order, live_length, live_records, stands_at, are_packed};
+ghost use Rattle.lif_pack.specs.Steps.{HasPlainStart, MayPack, ArePlaced};
 
 use lif_dir::{FileEntry, SlotTable};
 
@@ -27,7 +28,8 @@ pub fn length_of(entry: FileEntry) -> u32
 
 /// Whether the file is live and has records.
 pub fn occupies(entry: FileEntry) -> bool
-    ensures { result ≡ occupies (entry_bytes entry) }
+    ensures value { result ≡ occupies (entry_bytes entry) }
+    ensures plain { HasPlainStart (entry_bytes entry) }
 {
     entry.is_live() && entry.has_records()
 }
@@ -52,14 +54,18 @@ pub fn is_in_order(slots: &SlotTable, redo: usize) -> bool
     requires place { redo ≡ redo_place (map slot_bytes slots.now.slots) }
     requires within { redo < length slots.now.slots }
     requires bound { redo < 2 ^ 32 }
-    ensures { result ≡ is_in_order (map slot_bytes slots.now.slots) }
+    ensures order { result ≡ is_in_order (map slot_bytes slots.now.slots) }
+    ensures plain { result ≡ true → (k : ℕ) → k < length slots.now.slots
+        → HasPlainStart (get_or (map slot_bytes slots.now.slots) k []) }
 {
     do_rise(slots) && are_purged(slots, redo + 1)
 }
 
 /// Whether the files that have records rise in slot order.
 fn do_rise(slots: &SlotTable) -> bool
-    ensures { result ≡ all_pairs rises (filter occupies (map slot_bytes slots.now.slots)) }
+    ensures rise { result ≡ all_pairs rises (filter occupies (map slot_bytes slots.now.slots)) }
+    ensures plain { result ≡ true → (k : ℕ) → k < length slots.now.slots
+        → HasPlainStart (get_or (map slot_bytes slots.now.slots) k []) }
 {
     let mut bound = 0;
     for k in 0..slots.len() {
@@ -107,4 +113,24 @@ pub fn packed_end(slots: &SlotTable, count: usize, first: u64) -> Option<u64>
         place += u64::from(live_length(entry));
     }
     Some(place)
+}
+
+/// The first slot before the redo entry whose file does not stand at its place, or the redo entry where each does, and
+/// the place there. The redo entry is slot `redo`, and the directory ends before record `end`.
+pub fn placed_front(slots: &SlotTable, redo: usize, end: u32) -> (usize, u32)
+    requires may { (n first : ℕ) × (n < 2 ^ 16) × MayPack n first end redo (map slot_bytes slots.now.slots) }
+    ensures placed { ArePlaced end result.0 result.1 (map slot_bytes slots.now.slots) }
+    ensures within { result.0 ≤ redo }
+    ensures longest { (count : ℕ) → count ≤ redo
+        → are_packed end (take count (map slot_bytes slots.now.slots)) ≡ true → count ≤ result.0 }
+{
+    let mut place = end;
+    for k in 0..redo {
+        let entry = *slots.entry(k);
+        if !stands_at(entry, u64::from(place)) {
+            return (k, place);
+        }
+        place += live_length(entry);
+    }
+    (redo, place)
 }

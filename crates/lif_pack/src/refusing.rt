@@ -1,10 +1,11 @@
 //! Why a volume is not packed.
-ghost use Rattle.std.specs.Prelude.{◌≡◌, if◌then◌else◌, Some, map};
+ghost use Rattle.std.specs.Prelude.{◌≡◌, ◌<◌, if◌then◌else◌, ℕ, [], length, get_or, Some, None, map};
 ghost use Rattle.lif_model.specs.declared.version.Version.TheVariants.{One};
 ghost use Rattle.lif_model.specs.declared.refusal.Refusal.TheVariants as refusal;
 ghost use Rattle.lif_model.specs.Volume.{Volume, IsVolume, is_redo_entry};
 ghost use Rattle.lif_dir.specs.Entries.{entry_bytes, slot_bytes};
 ghost use Rattle.lif_pack.specs.Packing.{pack_refusal};
+ghost use Rattle.lif_pack.specs.Steps.{HasPlainStart};
 
 use crate::marks::{is_redo_entry, redo_place};
 use crate::placed::is_in_order;
@@ -13,8 +14,10 @@ use lif_model::{Refusal, Version};
 
 /// Why the volume with these slots is not packed, on a medium of `size` records. `None` where it may be.
 pub fn refusal_of(slots: &SlotTable, size: u16) -> Option<Refusal>
-    ensures { (v : Volume) → IsVolume size v → v.slots ≡ map slot_bytes slots.now.slots
+    ensures refusal { (v : Volume) → IsVolume size v → v.slots ≡ map slot_bytes slots.now.slots
         → result ≡ pack_refusal size (Some v) }
+    ensures plain { result ≡ None → (k : ℕ) → k < length slots.now.slots
+        → HasPlainStart (get_or (map slot_bytes slots.now.slots) k []) }
 {
     let redo = redo_place(slots);
     if redo == slots.len() {

@@ -37,8 +37,8 @@ loop-k-preserved c =
       few = both.1;
     }
 
-pub returns : goal.returns
-returns c n first may v same ends =
+pub returns-clause-count : goal.returns-clause-count
+returns-clause-count c n first may v same ends =
     let slots = map slot_bytes c.args.slots.now.slots in
     let k : c.loop-k.k ≡ c.args.redo = omega arith in
     c.loop-k.invariant.moved ∙ ap (λ m. count_moved c.args.end (filter is_live (take m slots))) k

@@ -1,7 +1,11 @@
-use Rattle.std.proofs.Common.{◌≡◌, ◌∙◌, ap, map, sym, subst}
-use Rattle.std.specs.Prelude.{Some, Err}
+use Rattle.std.proofs.Common.{◌≡◌, ◌+◌, ◌∙◌, ℕ, ap, map, sym, subst, arith}
+use Rattle.std.specs.Prelude.{Some, Err, IfSome}
 use Rattle.lif_model.specs.Tape.{IsTape}
 use Rattle.lif_model.specs.Redo.{settled}
+use Rattle.il_ports.proofs.Stores.{goes_within}
+use Rattle.lif_commit.proofs.Staging.{goes_told}
+use Rattle.lif_plan.specs.Directories.{IsLegalDirectory}
+use Rattle.lif_volume.specs.Commands.{mounting}
 use Rattle.lif_dir.specs.Entries.{slot_bytes}
 use Rattle.lif_volume.specs.declared.fault.VolumeFault.{VolumeFault}
 use Rattle.lif_volume.specs.declared.volume.Listing.{Listing}
@@ -9,7 +13,16 @@ use Rattle.lif_volume.specs.Views.{IsDirectoryOf}
 use Rattle.lif_volume.specs.Answers.{store_answer, IsSettledAs, IsLegalAs}
 use Rattle.lif_pack.proofs.Consulting.{some_of, in_each, left_from, nothing_left}
 use Rattle.lif_pack.proofs.Stopped.{shown_settling}
+use Rattle.lif_pack.proofs.Answered.{mounts_within}
 use Rattle.lif_pack.proofs.finish.left_of.Goals as goal
+
+pub returns-in-Ok-clause-goes_on : goal.returns-in-Ok-clause-goes_on
+returns-in-Ok-clause-goes_on g c =
+    let did = c.in-Ok.ensures.did in
+    let n : ℕ = (g.R.Records.view c.args.volume.now.records).record_count in
+    let few = mounts_within n c.args.volume.now.kept c.dir.new.self.kept (map slot_bytes c.dir.new.self.directory.table.slots) (omega (arith, c.requires.open.size))
+    (subst (λ (m : ℕ). IfSome c.dir.new.self.kept (λ header. IsLegalDirectory m header (map slot_bytes c.dir.new.self.directory.table.slots))) did.consults.goes_on.continues.size c.in-Ok.ensures.open.legal) in
+    goes_within (mounting n c.args.volume.now.kept c.dir.new.self.kept) (c.args.size + 66) _ _ _ (omega (arith, few, c.requires.size)) (goes_told _ _ _ _ _ did.consults.goes_on)
 
 pub returns-in-Ok-clause-settled : goal.returns-in-Ok-clause-settled
 returns-in-Ok-clause-settled g c = in_each c.task_of.result (λ t is.

@@ -1,34 +1,26 @@
-use Rattle.std.proofs.Common.{◌+◌, ◌-◌, ◌*◌, ◌++◌, ◌∙◌, ℕ, length, refl, sym, ap, subst, arith}
-use Rattle.il_ports.proofs.Stores.{goes_further, goes_within, quiet_longer}
-use Rattle.lif_commit.proofs.Staging.{staged_as, before_more, before_append, goes_told}
-use Rattle.lif_commit.specs.Staged.{AreBefore}
-use Rattle.lif_pack.specs.Packing.{slots_after}
+use Rattle.std.proofs.Common.{◌∙◌, ℕ, inl, inr, arith}
 use Rattle.lif_pack.specs.Packers.{slots_held}
-use Rattle.lif_pack.proofs.Swapping.{slots_after_all}
+use Rattle.lif_pack.proofs.Swapping.{stay_longer}
 use Rattle.lif_pack.proofs.memory.Packer.close_slots.Goals as goal
 
 pub loop-slot-preserved : goal.loop-slot-preserved
-loop-slot-preserved g c =
+loop-slot-preserved c =
     let inv = c.loop-slot.invariant in
-    let done = c.in_ok-next.ensures in
+    let done = c.close_slot-closed.ensures in
     let k : ℕ = c.loop-slot.slot in
-    let slots = slots_held c.args.self.now in
-    let mid = slots_held c.loop-slot.self in
-    let was = inv.staged in
-    let step = done.staged was.0 (staged_as c.args.first _ _ (λ x. was.0) (λ x. was.0) c.loop-slot.self.changes.items inv.quiet.tape (λ x. refl) was.1) in
     record {
-      goes_on = goes_within (2 * (k - c.args.from) + 2) (2 * (k + 1 - c.args.from)) _ _ _ (omega (arith, c.loop-slot.auto.slot))
-          (goes_further (2 * (k - c.args.from)) 2 _ _ _ _ _ inv.goes_on (goes_told 2 _ _ _ _ done.goes_on));
-      quiet = quiet_longer _ _ _ inv.quiet done.quiet;
-      count = omega (arith, inv.count, done.count, c.loop-slot.auto.slot);
+      room = done.room ∙ inv.room;
       long = done.long ∙ inv.long;
       gap = done.gap;
+      begins = omega (arith, inv.begins, done.begins);
+      few = omega (arith, inv.few, done.few);
+      moved = λ on. elim (done.moved on) [
+        | inl was ↦ omega (arith, inv.moved was, done.begins)
+        | inr less ↦ omega (arith, inv.begins, less)
+      ];
+      still = λ off. done.still off ∙ inv.still (done.before off);
+      changes = done.changes ∙ inv.changes;
       live = done.live ∙ inv.live;
-      staged = (
-        was.0 ++ step.0,
-        staged_as c.args.first _ _ (λ x. was.0 ++ step.0) (λ x. was.0 ++ step.0) c.close_slot.new.self.changes.items (sym inv.quiet.tape) (λ x. refl) step.1,
-        before_append (length slots) (k + 1) was.0 step.0 (before_more (length slots) k (k + 1) was.0 (omega arith) was.2)
-            (subst (λ (m : ℕ). AreBefore m (k + 1) step.0) inv.long step.2),
-        slots_after_all was.0 step.0 slots ∙ ap (slots_after step.0) was.3 ∙ step.3,
-      );
+      others = stay_longer c.args.front c.loop-slot.closed.next c.close_slot-closed.result.next c.args.from k (slots_held c.args.self.now) (slots_held c.loop-slot.self)
+          (slots_held c.close_slot-closed.new.self) inv.begins done.begins c.loop-slot.auto.slot inv.others done.others;
     }

@@ -6,7 +6,8 @@ use Rattle.lif_dir.specs.Entries.{slot_bytes}
 use Rattle.lif_dir.specs.Tables.{Table}
 use Rattle.lif_pack.specs.Packing.{with_start}
 use Rattle.lif_pack.specs.Packers.{slots_held}
-use Rattle.lif_pack.proofs.Placing.{redo_lies, may_move, moved_slots}
+use Rattle.lif_model.proofs.Moments.{weaker}
+use Rattle.lif_pack.proofs.Placing.{redo_lies, may_move, moved_slots, move_keeps}
 use Rattle.lif_pack.proofs.memory.Packer.move_file.Goals as goal
 
 pub entry-entry-requires : goal.entry-entry-requires
@@ -57,3 +58,21 @@ returns-clause-moves g c = λ end t may placed is.
           ((g.met.R.Records.is_store _).is_tape t is) (c.requires.settled t is) (now.settled m.0 m.1) refl refl
           (c.start_of.ensures ∙ ap start_of c.entry-entry.ensures) (c.length_of.ensures ∙ ap length_of c.entry-entry.ensures) refl m.2,
     )
+
+pub returns-in_err-move_rest-clause-stops : goal.returns-in_err-move_rest-clause-stops
+returns-in_err-move_rest-clause-stops g c = λ end t may placed is v some same starts ends.
+    let n : ℕ = (g.R.Records.view c.args.records.now).record_count in
+    weaker _ _ _ _ _ _ (c.move_rest.ensures.stops t is (λ begun. absurd (omega (arith, begun)))) (λ y way.
+    move_keeps n c.args.first end c.args.redo (slots_held c.args.self.now) may c.args.slot c.args.place placed c.requires.before c.requires.takes c.requires.down t y
+    (record { slot = c.args.slot; place = c.args.place; start = c.start_of.result; length = c.length_of.result; moved = 0 })
+    ((g.met.R.Records.is_store _).is_tape t is) (c.requires.settled t is) refl refl
+    (c.start_of.ensures ∙ ap start_of c.entry-entry.ensures) (c.length_of.ensures ∙ ap length_of c.entry-entry.ensures) refl c.requires.number way v some same starts ends)
+
+pub returns-clause-stops : goal.returns-clause-stops
+returns-clause-stops g c = λ end t may placed is v some same starts ends.
+    let n : ℕ = (g.R.Records.view c.args.records.now).record_count in
+    weaker _ _ _ _ _ _ (c.in_ok-move_rest.ensures.stops t is (λ begun. absurd (omega (arith, begun)))) (λ y way.
+    move_keeps n c.args.first end c.args.redo (slots_held c.args.self.now) may c.args.slot c.args.place placed c.requires.before c.requires.takes c.requires.down t y
+    (record { slot = c.args.slot; place = c.args.place; start = c.start_of.result; length = c.length_of.result; moved = 0 })
+    ((g.met.R.Records.is_store _).is_tape t is) (c.requires.settled t is) refl refl
+    (c.start_of.ensures ∙ ap start_of c.entry-entry.ensures) (c.length_of.ensures ∙ ap length_of c.entry-entry.ensures) refl c.requires.number way v some same starts ends)

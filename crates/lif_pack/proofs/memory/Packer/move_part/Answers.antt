@@ -59,7 +59,7 @@ returns-clause-moves g c = on_ok_weaker c.commit.result (λ done u t tape_u is m
       stands.0,
       stands.1,
       part_marks n c.args.first c.args.file.now.place c.args.redo c.args.file.now c.args.moved c.args.count u t stands.0 c.mark_of-mark.result tape_u tape_t c.requires.may
-          c.requires.begun (omega (arith, c.requires.more)) (c.mark_of-mark.ensures
+          c.requires.begun c.requires.some (omega (arith, c.requires.more)) (c.mark_of-mark.ensures
           ∙ ap (λ (k : ℕ). in_two (c.args.file.now.slot + 1) ++ in_two (c.args.moved + k)) c.from.ensures) midway committed.records committed.below,
     )) c.commit.ensures.done
 
@@ -100,4 +100,4 @@ returns-clause-stops g c u t tape_u is midway =
     let mark = c.mark_of-mark.ensures ∙ ap (λ (k : ℕ). in_two (c.args.file.now.slot + 1) ++ in_two (c.args.moved + k)) c.from.ensures in
     after_still _ _ _ _ _ _ _ quiet.moment quiet.since (weaker _ _ _ _ _ _ (c.commit.ensures.any_moment t carried) (λ y stopped.
     part_stops n c.args.first c.args.file.now.place c.args.redo c.args.file.now c.args.moved c.args.count u t c.mark_of-mark.result tape_u tape_t c.requires.may
-    c.requires.begun (omega (arith, c.requires.more)) mark midway y (subst (λ (cs : Changes). IsOldOrNew Two cs t y) changes stopped)))
+    c.requires.begun c.requires.some (omega (arith, c.requires.more)) mark midway y (subst (λ (cs : Changes). IsOldOrNew Two cs t y) changes stopped)))

@@ -4,14 +4,14 @@ use Rattle.std.proofs.lemmas.List.{length-map}
 use Rattle.std.proofs.lemmas.Bool.{and_parts, and_from, ltb-true, lt-ltb}
 use Rattle.lif_model.specs.Directory.{start_of, length_of}
 use Rattle.lif_model.specs.Legal.{is_live, has_records, occupies}
-use Rattle.il_ports.proofs.Stores.{goes_within}
+use Rattle.il_ports.proofs.Stores.{goes_within, quiet_run, quiet_nowhere}
 use Rattle.lif_commit.proofs.Staging.{goes_failed, goes_told}
 use Rattle.lif_dir.specs.Entries.{slot_bytes}
 use Rattle.lif_pack.specs.Packing.{live_length, with_start}
 use Rattle.lif_pack.specs.Packers.{slots_held}
 use Rattle.lif_pack.specs.Steps.{MayPack, ArePlaced, HasSlotsOf, ArePackedAlike}
 use Rattle.lif_pack.proofs.Order.{live_whole}
-use Rattle.lif_pack.proofs.Placing.{redo_lies, may_pack_on, placed_on, packed_alike, stays_placed, next_below, stands_there}
+use Rattle.lif_pack.proofs.Placing.{redo_lies, may_pack_on, placed_on, packed_alike, stays_placed, next_below, slots_keep, stands_there}
 use Rattle.lif_pack.proofs.memory.Packer.place_file.Goals as goal
 
 pub entry-entry-requires : goal.entry-entry-requires
@@ -112,3 +112,9 @@ returns-clause-moves g c = λ end t may placed is.
       m.1,
       subst (λ (xs : List (List ℕ)). HasSlotsOf c.args.first end (slots_held c.args.self.now) xs t m.0) (sym c.in_ok-move_file.ensures.slots) m.2,
     )
+
+pub returns-then-not-begins_above-clause-stops : goal.returns-then-not-begins_above-clause-stops
+returns-then-not-begins_above-clause-stops g c = λ end t may placed is v some same starts ends.
+    let n : ℕ = (g.R.Records.view c.args.records.now).record_count in
+    quiet_run _ _ _ t (g.met.R.Records.is_store _) (quiet_nowhere _) is
+    (slots_keep n c.args.first end c.args.redo (slots_held c.args.self.now) t may ((g.met.R.Records.is_store _).is_tape t is) (c.requires.settled t is) v some same starts ends)

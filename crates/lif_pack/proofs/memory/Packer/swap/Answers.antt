@@ -13,11 +13,11 @@ bytes_there (y ∷ xs) zero x is = sym (ap (λ (o : Option Slot). slot_bytes (un
 bytes_there (y ∷ xs) (suc k) x is = bytes_there xs k x is
 
 pub returns-clause-slots : goal.returns-clause-slots
-returns-clause-slots g c =
-    let same = c.write_slot-2.ensures.still ∙ c.write_slot.ensures.still in
-    let one = bytes_there c.args.self.now.slots.slots c.args.one c.get-first_slot.result.now c.get-first_slot.ensures.slot in
-    let other = bytes_there c.args.self.now.slots.slots c.args.other c.get-second_slot.result.now c.get-second_slot.ensures.slot in
-    ap (λ (t : Table). map slot_bytes t.slots) c.set-2.ensures ∙ map-set slot_bytes c.set.new.self.slots c.args.other c.get-first_slot.result.now
-    ∙ ap (λ (xs : List (List ℕ)). set xs c.args.other (slot_bytes c.get-first_slot.result.now))
-    (ap (λ (t : Table). map slot_bytes t.slots) c.set.ensures ∙ map-set slot_bytes c.write_slot-2.new.self.slots.slots c.args.one c.get-second_slot.result.now)
-    ∙ (λ i. set (set (map slot_bytes (same i).slots) c.args.one (other i)) c.args.other (one i))
+returns-clause-slots c =
+    let slots = c.args.self.now.slots.slots in
+    let one = bytes_there slots c.args.one c.get-first.result.now c.get-first.ensures.slot in
+    let other = bytes_there slots c.args.other c.get-second.result.now c.get-second.ensures.slot in
+    ap (λ (t : Table). map slot_bytes t.slots) c.set-2.ensures ∙ map-set slot_bytes c.set.new.self.slots c.args.other c.get-first.result.now
+    ∙ ap (λ (xs : List (List ℕ)). set xs c.args.other (slot_bytes c.get-first.result.now))
+    (ap (λ (t : Table). map slot_bytes t.slots) c.set.ensures ∙ map-set slot_bytes slots c.args.one c.get-second.result.now)
+    ∙ (λ i. set (set (map slot_bytes slots) c.args.one (other i)) c.args.other (one i))
