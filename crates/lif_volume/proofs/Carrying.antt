@@ -54,7 +54,7 @@ use Rattle.lif_volume.specs.Carrying.{HasFile, file_count, records_filed, IsPart
 use Rattle.lif_volume.proofs.Mounting.{kept_is_of, volume_on}
 use Rattle.lif_volume.proofs.Fetching.{legal_of}
 use Rattle.lif_volume.proofs.Gated.{rests_held}
-use Rattle.lif_volume.proofs.Making.{files_are, files_spare, changes_are, header_stays, next_volume, ends_before, stops_leave, commit_makes, without_file}
+use Rattle.lif_volume.proofs.Making.{files_are, files_spare, changes_are, header_stays, next_volume, ends_before, stops_leave, commit_makes, without_file, old_or_new_length}
 use Rattle.lif_volume.proofs.Filing.{files_none, files_one_more}
 use Rattle.lif_volume.proofs.Planned.{Planned, LiesBeside, LeavesTape, IsPlanned, most_calls, changed_some, writes_some, one_change, file_of_change, no_file, is_one_change}
 
@@ -133,7 +133,7 @@ module _ {R S : Type 0} (view : R → RecordsView S) (x : VolumeView R) (header 
   module _ (command : VolumeCommand) where
     module _ (t : Tape) (told : (view x.records).tape ≡ Some t) where
       here : HasEitherVolume (view x.records).record_count command t t
-      here = record { volume = inl refl; own_gate = own_gate t told }
+      here = record { records = refl; volume = inl refl; own_gate = own_gate t told }
 
       pub rests : VolumeTurns (view x.records).record_count command (view x.records) (view x.records) t
       rests = record { stops = quiet_run (view x.records) (view x.records) _ t store (quiet_nowhere (view x.records)) told here; after = (t, told, here) }
@@ -397,9 +397,10 @@ module _ {R S : Type 0} (view : R → RecordsView S) (x : VolumeView R) (header 
             let both = stops_leave n p.version filed v holds.0 holds.1 c command plan.formed commits_here free
             (subst (λ (f : Tape). IsOldOrNew p.version (changes_of n command v filed) f c) (sym again) (subst (λ (cs : Changes). IsOldOrNew p.version cs filed c) (sym of_volume) left)) in
             record {
+              records = old_or_new_length p.version made filed c left ∙ (holds.0.records ∙ sym (tape t told).records);
               volume = elim both.0 [
                 | inl e ↦ inl (e ∙ sym (volume_is t told))
-                | inr e ↦ inr (e ∙ sym (ap (λ (p : Option Refusal × Option Volume). p.1) (applied t told free)))
+                | inr e ↦ inr (plan.formed, e ∙ sym (ap (λ (p : Option Refusal × Option Volume). p.1) (applied t told free)))
               ];
               own_gate = both.1;
             }
@@ -413,7 +414,7 @@ module _ {R S : Type 0} (view : R → RecordsView S) (x : VolumeView R) (header 
         partly c left = by left
           where
             of : IsAside t c → HasEitherVolume n command t c
-            of is = let tells = aside t c settled_here is in record { volume = inl tells.1; own_gate = tells.2 }
+            of is = let tells = aside t c settled_here is in record { records = is.records; volume = inl tells.1; own_gate = tells.2 }
 
             by : IsPartlyFiled p.files t c → HasEitherVolume n command t c
             by (some_stand done rest same is) = of (subst (IsAside t) (sym is) (some_aside p.version t done rest (subst (All (IsAsideFile p.version t)) same spare)))

@@ -258,16 +258,16 @@ adopting = tape (a_file ++ base.end_entry) (base.filled (codes "LIFREDO1 OPEN   
 
 either_old : HasEitherVolume 12 Adopt foreign foreign
 unfolding four_at two_at entries_of entry_at name_of is_open is_valid targets_record piece zeros
-either_old = record { volume = inl refl; own_gate = refl }
+either_old = record { records = refl; volume = inl refl; own_gate = refl }
 
 either_new : HasEitherVolume 12 Adopt foreign adopting
 unfolding four_at two_at entries_of entry_at name_of is_open is_valid targets_record piece zeros new_entry
-either_new = record { volume = inr refl; own_gate = refl }
+either_new = record { records = refl; volume = inr (tt, refl); own_gate = refl }
 
 -- A with another type is neither
 neither : HasEitherVolume 12 Adopt foreign (tape (a_name ++ 0 ∷ 2 ∷ 0 ∷ 0 ∷ 0 ∷ 4 ∷ 0 ∷ 0 ∷ 0 ∷ 1 ∷ replicate 12 0 ++ redo ++ base.end_entry) base.blank base.blank base.blank) → ⊥
 unfolding four_at two_at entries_of entry_at name_of is_open is_valid targets_record piece zeros new_entry
 neither has = elim has.volume [
   | inl is ↦ (let kind : 2 ≡ 1 = ap kind_of_first is in absurd (omega (arith, kind)))
-  | inr is ↦ (let kind : 2 ≡ 1 = ap kind_of_first is in absurd (omega (arith, kind)))
+  | inr is ↦ (let kind : 2 ≡ 1 = ap kind_of_first is.1 in absurd (omega (arith, kind)))
 ]

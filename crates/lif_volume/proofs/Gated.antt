@@ -3,9 +3,8 @@ use Rattle.std.proofs.Common.{◌≡◌, ◌⊎◌, ◌&&◌, inl, inr, ⊎_elim
 use Rattle.std.specs.Prelude.{Option, Some, not}
 use Rattle.std.proofs.lemmas.Bool.{and_parts, cases_Bool}
 use Rattle.lif_model.specs.Tape.{Tape}
-use Rattle.lif_model.specs.Directory.{slots_of}
 use Rattle.lif_model.specs.Redo.{redo_of, is_none, settled}
-use Rattle.lif_model.specs.Volume.{Volume, is_adopted, is_gate_held, is_foreign_gated}
+use Rattle.lif_model.specs.Volume.{Volume, is_gate_held, is_foreign_gated}
 use Rattle.lif_model.specs.Apply.{VolumeCommand, Dir, Label, Fetch, Store, Rename, Purge, Adopt, Upgrade, Batch, Format, first_met, lacks_redo, runs_past_gate, checks_of, refusal_of}
 use Rattle.lif_model.specs.declared.refusal.Refusal.{Refusal}
 use Rattle.lif_model.specs.declared.refusal.Refusal.TheVariants.{NoRedo, Exists, NoSlot, NoRoom, InUse}
@@ -66,12 +65,12 @@ rests_held n t command size held = subst (λ (k : ℕ). Rests k command (Some (v
 
 -- ---- what a whole command does then
 
--- the settled tape's gate record is held
+-- of a foreign-gated tape the settled one's gate record is held
 pub held_settled : (t : Tape) → is_foreign_gated t ≡ true → is_gate_held (settled t) ≡ true
 held_settled t foreign = (and_parts (not (is_none (redo_of t))) _ foreign).1
 
 -- its first part settles the tape, and the second leaves a store whose tape is held
 pub settles_foreign : {R S : Type 0} (view : R → RecordsView S) (x y z : VolumeView R) → OnlySettles view x y
     → ((t : Tape) → (view x.records).tape ≡ Some t → is_gate_held (settled t) ≡ true → z.records ≡ y.records) → SettlesForeign view x z
-settles_foreign {R = R} view x y z first rests t told foreign =
-    subst (λ (r : R). SettlesOnly (view x.records) (view r) t) (sym (rests t told (held_settled t foreign))) (first t told)
+settles_foreign {R = R} view x y z first rests t told held =
+    subst (λ (r : R). SettlesOnly (view x.records) (view r) t) (sym (rests t told held)) (first t told)

@@ -7,10 +7,10 @@ use Rattle.lif_model.specs.Header.{HeaderParts}
 use Rattle.lif_model.specs.Redo.{redo_of, settled}
 use Rattle.lif_model.specs.Commit.{IsSettleWrite}
 use Rattle.lif_model.specs.Volume.{Volume, volume_in, volume_of, is_gate_held}
-use Rattle.lif_model.specs.Apply.{VolumeCommand, Dir, Label, Fetch, Store, Rename, Purge, Adopt, Upgrade, Batch, Format, refusal_of, apply}
+use Rattle.lif_model.specs.Apply.{VolumeCommand, Dir, Label, Fetch, Store, Rename, Purge, Adopt, Upgrade, Batch, Format, IsWellFormed, refusal_of, apply}
 use Rattle.lif_model.specs.Transfers.{Transfer}
 use Rattle.lif_model.proofs.Moments.{follows, weaker}
-use Rattle.lif_model.proofs.Redo.{settled_twice}
+use Rattle.lif_model.proofs.Redo.{length_settled, settled_twice}
 use Rattle.lif_model.proofs.Legal.{legal_tells}
 use Rattle.lif_model.proofs.Slots.{readable_tells}
 use Rattle.il_ports.specs.Stores.{RecordsView, IsReady, GoesOn}
@@ -258,7 +258,7 @@ joined_turns view x y z command size settles turns stays t told own =
     let first = stays t told own in
     let next = subst (λ (n : ℕ). VolumeTurns n command (view y.records) (view z.records) (settled t)) size (turns (settled t) (settles t told)) in
     record {
-      stops = follows _ _ _ _ _ _ (HasEitherVolume n command t) (HasEitherVolume n command (settled t)) (weaker _ _ _ _ (HasEitherVolume n command t) (HasVolumeOf t) first.stops (λ c is. record { volume = inl is.volume; own_gate = is.own_gate }))
+      stops = follows _ _ _ _ _ _ (HasEitherVolume n command t) (HasEitherVolume n command (settled t)) (weaker _ _ _ _ (HasEitherVolume n command t) (HasVolumeOf t) first.stops (λ c is. record { records = is.records; volume = inl is.volume; own_gate = is.own_gate }))
           next.stops (λ c is. again c is);
       after = (next.after.0, next.after.1, again next.after.0 next.after.2);
     }
@@ -268,7 +268,8 @@ joined_turns view x y z command size settles turns stays t told own =
 
     again : (c : Tape) → HasEitherVolume (view x.records).record_count command (settled t) c → HasEitherVolume (view x.records).record_count command t c
     again c is = record {
-      volume = subst (λ (v : Option Volume). (volume_of c ≡ v) ⊎ (volume_of c ≡ (apply (view x.records).record_count command v).1)) (ap volume_in (settled_twice t)) is.volume;
+      records = is.records ∙ length_settled t;
+      volume = subst (λ (v : Option Volume). (volume_of c ≡ v) ⊎ (IsWellFormed command × (volume_of c ≡ (apply (view x.records).record_count command v).1))) (ap volume_in (settled_twice t)) is.volume;
       own_gate = is.own_gate;
     }
 
@@ -400,8 +401,8 @@ module _ {R S : Type 0} (view : R → RecordsView S) (x y : VolumeView R) (comma
   fault_stops stays t told own =
       let first = stays t told own in
       record {
-        stops = weaker _ _ _ _ (HasEitherVolume (view x.records).record_count command t) (HasVolumeOf t) first.stops (λ c is. record { volume = inl is.volume; own_gate = is.own_gate });
-        after = (first.after.0, first.after.1, record { volume = inl first.after.2.volume; own_gate = first.after.2.own_gate });
+        stops = weaker _ _ _ _ (HasEitherVolume (view x.records).record_count command t) (HasVolumeOf t) first.stops (λ c is. record { records = is.records; volume = inl is.volume; own_gate = is.own_gate });
+        after = (first.after.0, first.after.1, record { records = first.after.2.records; volume = inl first.after.2.volume; own_gate = first.after.2.own_gate });
       }
 
   fault_transfers : ((t : Tape) → (view x.records).tape ≡ Some t → AddsOnly (IsSettleWrite (view x.records).record_count (redo_of t)) (view x.records).transferred (view y.records).transferred (store_answer {T = HeaderParts} (Err fault)))

@@ -1,5 +1,5 @@
 mod Mounting
-mod Gated
+pub mod Gated
 mod Fetching
 pub mod Making
 mod Filing

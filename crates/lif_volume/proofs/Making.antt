@@ -1,5 +1,5 @@
 -- What the commands that change slots make of a volume, whatever it is kept in.
-use Rattle.std.proofs.Common.{◌≡◌, ◌⊎◌, ◌≤◌, ℕ, List, [], ◌∷◌, Bool, true, false, if◌then◌else◌, refl, sym, subst, ◌∙◌}
+use Rattle.std.proofs.Common.{◌≡◌, ◌⊎◌, ◌≤◌, ℕ, List, [], ◌∷◌, length, inl, inr, Bool, true, false, if◌then◌else◌, refl, sym, subst, ◌∙◌}
 use Rattle.std.specs.Prelude.{All, Option, Some, None}
 use Rattle.std.proofs.lemmas.List.Elements.{All-nil}
 use Rattle.std.specs.Str.{bytes_eq}
@@ -7,7 +7,7 @@ use Rattle.lif_model.specs.Tape.{Tape, IsTape}
 use Rattle.lif_model.specs.Header.{directory_start, directory_end}
 use Rattle.lif_model.specs.declared.version.Version.{Version}
 use Rattle.lif_model.specs.declared.version.Version.TheVariants.{One}
-use Rattle.lif_model.specs.Redo.{redo_start}
+use Rattle.lif_model.specs.Redo.{Changes, redo_start}
 use Rattle.lif_model.specs.Commit.{IsOldOrNew, IsCommitted}
 use Rattle.lif_model.specs.Volume.{Volume, IsVolume, volume_in, volume_of, is_foreign_gated}
 use Rattle.lif_model.specs.Fit.{Place, At, NoSlot, NoRoom}
@@ -15,6 +15,7 @@ use Rattle.lif_model.specs.Apply.{VolumeCommand, Dir, Label, Fetch, Store, Renam
 use Rattle.lif_model.specs.Parts.{Part}
 use Rattle.lif_model.specs.Parts as part
 use Rattle.lif_model.specs.Writing.{slot_writes, changes_by, changes_of, chosen_place, files_written, with_file}
+use Rattle.lif_model.proofs.Redo.{length_changed}
 use Rattle.lif_model.proofs.NewFiles.{IsAsideFile}
 use Rattle.lif_model.proofs.Slots.{readable_tells}
 use Rattle.lif_model.proofs.Adopted.{adopted_some, ends_before_redo}
@@ -23,6 +24,11 @@ use Rattle.lif_model.proofs.Commands.{command_files, command_stops, command_comm
 use Rattle.lif_plan.specs.Plans.{CommitsWith}
 use Rattle.lif_volume.specs.Changing.{files_when}
 use Rattle.lif_volume.specs.Carrying.{HasFile}
+
+-- a commit that is stopped leaves as many records
+pub old_or_new_length : (version : Version) (changes : Changes) (t x : Tape) → IsOldOrNew version changes t x → length x ≡ length t
+old_or_new_length version changes t x (inl old) = old.records
+old_or_new_length version changes t x (inr new) = new.records ∙ length_changed changes t
 
 -- ---- the commands that change slots
 

@@ -1,5 +1,5 @@
 -- What settling and reading leave of a volume, and what a command answers then.
-use Rattle.std.proofs.Common.{◌≡◌, ◌++◌, ℕ, List, [], ◌∷◌, Bool, true, false, refl, sym, ap, subst, ◌∙◌, arith}
+use Rattle.std.proofs.Common.{length, ◌≡◌, ◌++◌, ℕ, List, [], ◌∷◌, Bool, true, false, refl, sym, ap, subst, ◌∙◌, arith}
 use Rattle.std.proofs.lemmas.List.{append-nil}
 use Rattle.std.specs.Prelude.{Option, Some, None, Ok, Err, IfSome, is_some}
 use Rattle.lif_model.specs.Tape.{Tape, record_at}
@@ -31,7 +31,7 @@ use Rattle.lif_volume.specs.Commands.{VolumeStays, SettlesOnly, Consults, mounti
 
 module _ {S : Type 0} (v : RecordsView S) (t : Tape) (off : is_foreign_gated t ≡ false) where
   own : HasVolumeOf t t
-  own = record { volume = refl; own_gate = off }
+  own = record { records = refl; volume = refl; own_gate = off }
 
   -- nothing is done
   pub stays_here : IsStore v → v.tape ≡ Some t → VolumeStays v v t
@@ -43,13 +43,13 @@ module _ {S : Type 0} (v : RecordsView S) (t : Tape) (off : is_foreign_gated t �
   stays_settling w run after idle = go (redo_of t) refl
     where
       same : (x : Tape) → x ≡ t → HasVolumeOf t x
-      same x e = record { volume = ap volume_of e; own_gate = ap is_foreign_gated e ∙ off }
+      same x e = record { records = ap length e; volume = ap volume_of e; own_gate = ap is_foreign_gated e ∙ off }
 
       go : (cs : Changes) → redo_of t ≡ cs → VolumeStays v w t
       go [] none = let quiet = idle none in record { stops = weaker _ _ _ _ _ _ quiet.1 same; after = (t, quiet.0, own) }
       go (c ∷ cs) is =
           let each : (x : Tape) → SettlesAs (settled t) x → HasVolumeOf t x = λ x settles.
-          let both = settles_as_same t x c cs is off settles in record { volume = both.0; own_gate = both.1 } in
+          let both = settles_as_same t x c cs is off settles in record { records = settles.records ∙ length_settled t; volume = both.0; own_gate = both.1 } in
           record { stops = weaker _ _ _ _ _ _ run each; after = (after.0, after.1, each after.0 after.2) }
 
   -- calls that write nothing come behind

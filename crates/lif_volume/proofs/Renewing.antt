@@ -46,6 +46,7 @@ use Rattle.lif_volume.specs.Changing.{changes_when, changes_filed, IsChanged, re
 use Rattle.lif_volume.specs.Formatting.{Clears, Renews}
 use Rattle.lif_volume.specs.Did.{IsOneOf, refusals_of, Alters}
 use Rattle.lif_volume.proofs.Mounting.{settles_here, behind, volume_on, kept_is_of, nothing_mounted, mounted_as_kept}
+use Rattle.lif_volume.proofs.Making.{old_or_new_length}
 use Rattle.lif_volume.proofs.Gated.{rests_held, settles_foreign}
 use Rattle.lif_volume.proofs.Joining.{long_there, legal_there, carried_on, settled_same, written_from, parts_answers, parts_stops, parts_transfers}
 
@@ -209,9 +210,10 @@ module _ {R S : Type 0} (view : R → RecordsView S) (x : VolumeView R) (label :
     either c left =
         let both = format_stops n t label slots tape (six, some) (free t told) c left in
         record {
+          records = old_or_new_length One changes t c left;
           volume = elim both.0 [
             | inl e ↦ inl (e ∙ sym volume_is)
-            | inr e ↦ inr (e ∙ sym (ap (λ (p : Option Refusal × Option Volume). p.1) applied))
+            | inr e ↦ inr ((six, some), e ∙ sym (ap (λ (p : Option Refusal × Option Volume). p.1) applied))
           ];
           own_gate = both.1;
         }
@@ -444,8 +446,8 @@ module _ {R S : Type 0} (view : R → RecordsView S) (x y : VolumeView R) (label
   refused_stops stays t told own =
       let first = stays t told own in
       record {
-        stops = weaker _ _ _ _ (HasEitherVolume (view x.records).record_count (Format label slots) t) (HasVolumeOf t) first.stops (λ c is. record { volume = inl is.volume; own_gate = is.own_gate });
-        after = (first.after.0, first.after.1, record { volume = inl first.after.2.volume; own_gate = first.after.2.own_gate });
+        stops = weaker _ _ _ _ (HasEitherVolume (view x.records).record_count (Format label slots) t) (HasVolumeOf t) first.stops (λ c is. record { records = is.records; volume = inl is.volume; own_gate = is.own_gate });
+        after = (first.after.0, first.after.1, record { records = first.after.2.records; volume = inl first.after.2.volume; own_gate = first.after.2.own_gate });
       }
 
   keeps_of : (fault : VolumeFault) → IsOneOf (refusal.InUse ∷ []) fault → is_some y.kept ≡ keeps {T = Unit {0}} (Err fault) → is_some y.kept ≡ keeps_behind_command {T = Unit {0}} (Format label slots) (is_some x.kept) (Err fault)
@@ -492,7 +494,7 @@ module _ {R S : Type 0} (view : R → RecordsView S) (x y : VolumeView R) (label
 -- nothing is done
 nothing_stops : {R S : Type 0} (view : R → RecordsView S) (x : VolumeView R) (command : VolumeCommand) → IsStore (view x.records) → TurnsVolume command view x x
 nothing_stops view x command store t told own =
-    let here : HasEitherVolume (view x.records).record_count command t t = record { volume = inl refl; own_gate = own } in
+    let here : HasEitherVolume (view x.records).record_count command t t = record { records = refl; volume = inl refl; own_gate = own } in
     record { stops = quiet_run (view x.records) (view x.records) _ t store (quiet_nowhere (view x.records)) told here; after = (t, told, here) }
 
 -- the medium has no room for the directory

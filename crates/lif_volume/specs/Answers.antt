@@ -1,5 +1,5 @@
 -- What the commands of a volume answer.
-use Rattle.std.specs.Prelude.{◌≡◌, ℕ, Bool, true, false, Option, Some, None, Result, Ok, Err}
+use Rattle.std.specs.Prelude.{◌≡◌, ℕ, Bool, true, false, length, Option, Some, None, Result, Ok, Err}
 use Rattle.lif_model.specs.Tape.{Tape}
 use Rattle.lif_model.specs.Redo.{settled}
 use Rattle.lif_model.specs.Legal.{is_legal}
@@ -51,6 +51,7 @@ IsNotLif (Troubled _) = Unit {0}
 
 -- x has the volume of t, and no gate that is not ours
 pub record HasVolumeOf (t x : Tape) : Type 0 where
+  pub records : length x ≡ length t
   pub volume : volume_of x ≡ volume_of t
   pub own_gate : is_foreign_gated x ≡ false
 

@@ -1,17 +1,17 @@
 -- What the commands that change a volume do: first the file of a store, and then slots of the directory by one commit.
-use Rattle.std.specs.Prelude.{◌≡◌, ◌⊎◌, ◌+◌, ◌-◌, ◌++◌, ℕ, Bool, List, [], ◌∷◌, true, false, length, map, min, Option, Some, None, Result, Ok, Err, is_some}
+use Rattle.std.specs.Prelude.{◌≡◌, ◌⊎◌, ◌+◌, ◌-◌, ◌++◌, ℕ, Bool, List, [], ◌∷◌, true, false, length, min, Option, Some, None, Result, Ok, Err, is_some}
 use Rattle.lif_model.specs.Tape.{Tape, record_at}
 use Rattle.lif_model.specs.Gate.{has_open_gate}
 use Rattle.lif_model.specs.Header.{HeaderParts, directory_start}
 use Rattle.lif_model.specs.Directory.{slots_of}
-use Rattle.lif_model.specs.Made.{file_length, filled}
+use Rattle.lif_model.specs.Made.{file_length}
 use Rattle.lif_model.specs.declared.version.Version.{Version}
 use Rattle.lif_model.specs.Redo.{Changes, targets_in, redo_of, settled}
 use Rattle.lif_model.specs.Commit.{IsSettleWrite, IsCommitted, commit_writes}
-use Rattle.lif_model.specs.Volume.{Volume, volume_of, is_foreign_gated}
+use Rattle.lif_model.specs.Volume.{Volume, volume_of, is_gate_held, is_foreign_gated}
 use Rattle.lif_model.specs.Parts.{Part}
 use Rattle.lif_model.specs.Parts as part
-use Rattle.lif_model.specs.Apply.{VolumeCommand, Store, Batch, Format, apply}
+use Rattle.lif_model.specs.Apply.{VolumeCommand, Store, Batch, Format, IsWellFormed, apply}
 use Rattle.lif_model.specs.Fit.{Place, NoSlot, fit_in}
 use Rattle.lif_model.specs.Writing.{format_changes, changes_of, NewFile, part_files, files_left, with_files}
 use Rattle.lif_model.specs.Transfers.{Transfer}
@@ -177,9 +177,10 @@ changing n command old new answer = mounting n old new + committing answer
 
 -- ---- stops
 
--- the tape has the volume before the command or the one behind it, and no gate that is not ours
+-- the tape has the volume before the command, or the one behind it, which is well formed then, and no gate that is not ours
 pub record HasEitherVolume (n : ℕ) (command : VolumeCommand) (t x : Tape) : Type 0 where
-  pub volume : (volume_of x ≡ volume_of t) ⊎ (volume_of x ≡ (apply n command (volume_of t)).1)
+  pub records : length x ≡ length t
+  pub volume : (volume_of x ≡ volume_of t) ⊎ (IsWellFormed command × (volume_of x ≡ (apply n command (volume_of t)).1))
   pub own_gate : is_foreign_gated x ≡ false
 
 -- at any moment, and behind the call
@@ -236,9 +237,10 @@ abbrev pub TurnsVolume : {R S : Type 0} → VolumeCommand → (R → RecordsView
 TurnsVolume command view old new = (t : Tape) → IsTold view old t → is_foreign_gated t ≡ false
     → VolumeTurns (view old.records).record_count command (view old.records) (view new.records) t
 
--- of a foreign-gated tape: nothing is changed but by settling, at any moment and after the call
+-- of a tape whose gate record, once it is settled, a file holds that is not ours: nothing is changed but by settling, at
+-- any moment and after the call
 abbrev pub SettlesForeign : {R S : Type 0} → (R → RecordsView S) → (old new : VolumeView R) → Type 0
-SettlesForeign view old new = (t : Tape) → IsTold view old t → is_foreign_gated t ≡ true
+SettlesForeign view old new = (t : Tape) → IsTold view old t → is_gate_held (settled t) ≡ true
     → SettlesOnly (view old.records) (view new.records) t
 
 -- the reads and writes go on by those of settling, by the file, and by those of one commit
