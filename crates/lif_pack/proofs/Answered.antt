@@ -1,19 +1,19 @@
 -- Answers that are passed on, and what is known of a directory that was not read.
 use Rattle.std.proofs.Common.{◌≡◌, ◌≤◌, ◌+◌, ℕ, List, [], ◌∷◌, Bool, true, false, not, Option, Some, None, Result, Ok, Err, inl, inr, refl, sym, ◌∙◌, ap, arith}
-use Rattle.std.specs.Prelude.{IfSome, unwrap_or}
+use Rattle.std.specs.Prelude.{IfSome, is_some, unwrap_or}
 use Rattle.std.specs.Result.{IsErr, IsErrAnd}
 use Rattle.lif_model.specs.Tape.{Tape, IsTape}
 use Rattle.lif_model.specs.Header.{HeaderParts}
-use Rattle.lif_model.specs.Redo.{redo_of, is_none, settled}
+use Rattle.lif_model.specs.Redo.{settled}
 use Rattle.lif_model.proofs.Redo.{settled_twice, length_settled}
-use Rattle.lif_model.specs.Volume.{Volume, is_adopted, is_gate_held, is_foreign_gated, volume_if, volume_in, volume_of}
+use Rattle.lif_model.specs.Volume.{Volume, is_adopted, is_gate_held, volume_if, volume_in, volume_of}
 use Rattle.lif_model.specs.Apply.{is_upgraded, first_met}
 use Rattle.lif_model.specs.declared.refusal.Refusal.{Refusal}
 use Rattle.lif_model.specs.declared.refusal.Refusal.TheVariants.{NotLif, NoRedo, NeedsUpgrade, OutOfOrder}
 use Rattle.lif_model.proofs.Legal.{legal_tells}
 use Rattle.lif_model.proofs.Slots.{readable_tells}
 use Rattle.lif_plan.specs.Directories.{IsLegalDirectory}
-use Rattle.lif_plan.specs.Refusals.{IsAmong, keeps_behind}
+use Rattle.lif_plan.specs.Refusals.{IsAmong}
 use Rattle.lif_volume.specs.declared.fault.VolumeFault.{VolumeFault}
 use Rattle.lif_volume.specs.declared.fault.VolumeFault.TheVariants.{Refused, Trouble as Troubled}
 use Rattle.lif_volume.specs.declared.volume.Listing.{Listing}
@@ -23,9 +23,7 @@ use Rattle.lif_volume.specs.Did.{IsOneOf}
 use Rattle.lif_pack.specs.declared.reading.Readable.{Readable}
 use Rattle.lif_pack.specs.Packing.{is_in_order, has_mark, finished_volume_of, pack_refusal}
 use Rattle.lif_pack.specs.declared.pack.Packed.{Packed}
-use Rattle.lif_pack.specs.Packs.{IsRefusedTo, keeps_read, keeps_packed}
-use Rattle.il_ports.specs.Stores.{RecordsView, GoesOn}
-use Rattle.std.proofs.lemmas.Bool.{and_parts}
+use Rattle.lif_pack.specs.Packs.{IsRefusedTo}
 use Rattle.lif_pack.proofs.Stopped.{upgraded_not_held}
 use Rattle.lif_pack.proofs.Finishes.{unmarked_volume}
 
@@ -54,6 +52,11 @@ pub mounts_read : (n : ℕ) (old : Option HeaderParts) (header : HeaderParts) �
 mounts_read n None header = omega arith
 mounts_read n (Some was) header = omega arith
 
+-- where it is kept nothing is read
+pub mounts_kept : (n : ℕ) (old new : Option HeaderParts) → is_some old ≡ true → mounting n old new ≡ 0
+mounts_kept n None new none = cc
+mounts_kept n (Some header) new is = refl
+
 -- ---- no directory
 
 -- a tape that is not legal is not packed
@@ -80,29 +83,14 @@ refused_among n v why is = by (is_adopted n v.slots) (is_upgraded n v) (is_in_or
     by true true false same = inr (inr (inl (from OutOfOrder same)))
     by true true true same = cc
 
-pub kept_among : (why : Refusal) → IsAmong (NoRedo ∷ NeedsUpgrade ∷ OutOfOrder ∷ []) why → keeps_behind why ≡ true
-kept_among why (inl e) = ap keeps_behind e
-kept_among why (inr (inl e)) = ap keeps_behind e
-kept_among why (inr (inr (inl e))) = ap keeps_behind e
-kept_among why (inr (inr (inr none))) = absurd none
-
 -- ---- a packing that is refused while it reads
 
 pub refused_packing : (n : ℕ) (t u : Tape) (fault : VolumeFault) → IsRefusedTo {T = Readable} n t u (Err fault) → IsRefusedTo {T = Packed} n t u (Err fault)
 refused_packing n t u (Refused why) is = is
 refused_packing n t u (Troubled trouble) is = tt
 
-pub kept_packing : (fault : VolumeFault) → keeps_read (Err fault) ≡ keeps_packed (Err fault)
-kept_packing (Refused why) = refl
-kept_packing (Troubled trouble) = refl
-
-pub goes_packing : {S : Type 0} (calls : ℕ) (v w : RecordsView S) (fault : VolumeFault) → GoesOn calls v w (store_answer {T = Readable} (Err fault)) → GoesOn calls v w (store_answer {T = Packed} (Err fault))
-goes_packing calls v w (Refused why) goes = goes
-goes_packing calls v w (Troubled trouble) goes = goes
-
--- a tape with a volume that may be packed has no gate that is not ours
-pub packable_own : (n : ℕ) (t : Tape) (v : Volume) → IsTape n t → volume_of (settled t) ≡ Some v → is_upgraded n v ≡ true → is_foreign_gated t ≡ true → ⊥
-packable_own n t v is some up foreign =
-    let held : is_gate_held (settled t) ≡ true = (and_parts (not (is_none (redo_of t))) _ foreign).1 in
+-- no file that is not ours holds the gate record of a tape with a volume that may be packed
+pub packable_own : (n : ℕ) (t : Tape) (v : Volume) → IsTape n t → volume_of (settled t) ≡ Some v → is_upgraded n v ≡ true → is_gate_held (settled t) ≡ true → ⊥
+packable_own n t v is some up held =
     let clear = upgraded_not_held n (settled t) v (length_settled t ∙ is.records) (sym (ap volume_in (settled_twice t)) ∙ some) up in
     let no : true ≡ false = sym held ∙ clear in cc

@@ -22,7 +22,7 @@ use Rattle.lif_pack.proofs.Pointwise.{kept_same}
 
 -- ---- lists
 
-filter_both : (p q : List ℕ → Bool) (xs : List (List ℕ)) → filter (λ x. p x && q x) xs ≡ filter q (filter p xs)
+pub filter_both : (p q : List ℕ → Bool) (xs : List (List ℕ)) → filter (λ x. p x && q x) xs ≡ filter q (filter p xs)
 filter_both p q [] = refl
 filter_both p q (x ∷ xs) = by (p x) (filter_both p q xs)
   where
@@ -31,7 +31,7 @@ filter_both p q (x ∷ xs) = by (p x) (filter_both p q xs)
     by true rest = ap (λ (ys : List (List ℕ)). if q x then x ∷ ys else ys) rest
     by false rest = rest
 
-any_kept : (p keep : List ℕ → Bool) → ((x : List ℕ) → p x ≡ true → keep x ≡ true) → (xs : List (List ℕ)) → list_any p (filter keep xs) ≡ list_any p xs
+pub any_kept : (p keep : List ℕ → Bool) → ((x : List ℕ) → p x ≡ true → keep x ≡ true) → (xs : List (List ℕ)) → list_any p (filter keep xs) ≡ list_any p xs
 any_kept p keep kept [] = refl
 any_kept p keep kept (x ∷ xs) = by (keep x) refl (any_kept p keep kept xs)
   where

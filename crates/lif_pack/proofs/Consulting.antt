@@ -6,7 +6,7 @@ use Rattle.lif_model.specs.Header.{HeaderParts, directory_start, directory_end}
 use Rattle.lif_model.specs.Directory.{slots_of}
 use Rattle.lif_model.specs.Redo.{settled}
 use Rattle.lif_model.specs.Legal.{is_legal}
-use Rattle.lif_model.specs.Volume.{Volume, IsVolume, files_of, volume_if, volume_in}
+use Rattle.lif_model.specs.Volume.{Volume, IsVolume, files_of, volume_if, volume_in, volume_of}
 use Rattle.lif_model.proofs.Redo.{settled_twice}
 use Rattle.lif_model.proofs.Directory.{volume_from, volume_in_is, settled_shape}
 use Rattle.lif_dir.specs.Entries.{slot_bytes}
@@ -27,6 +27,11 @@ use Rattle.lif_pack.proofs.Tasking.{directory_is_volume}
 pub some_of : {X : Type 0} (o : Option X) (P : X → Type 0) → is_some o ≡ true → IfSome o P → (x : X) × P x
 some_of None P none is = cc
 some_of (Some x) P some is = (x, is)
+
+-- nothing is kept
+pub none_from : {X : Type 0} (o : Option X) → is_some o ≡ false → o ≡ None
+none_from None off = refl
+none_from (Some x) off = cc
 
 pub in_each : {X A : Type 0} (o : Option X) → A → IfSome o (λ _. A)
 in_each None a = tt
@@ -56,6 +61,16 @@ left_from n t header found listing task is kept listed of =
 -- of one that is not legal
 pub nothing_left : (n : ℕ) (t : Tape) → IsTape n t → is_legal (settled t) ≡ false → IsFinished t (settled t)
 nothing_left n t is off = settled_is_finished n t is (ap (has_mark n) (ap (λ (b : Bool). volume_if b (settled t)) off))
+
+-- and that is a tape without a volume
+pub not_refused : (t : Tape) (v : Volume) → volume_of t ≡ Some v → is_legal (settled t) ≡ false → ⊥
+not_refused t v some off = let none : ◌≡◌ {A = Option Volume} None (Some v) = sym (ap (λ (b : Bool). volume_if b (settled t)) off) ∙ some in cc
+
+-- something is left to do of a tape whose volume has a mark alone
+pub task_is_marked : (n : ℕ) (t : Tape) (v : Volume) (task : Task) → IsLeftToDo n t (Some task) → volume_of t ≡ Some v → bears_mark n v ≡ false → ⊥
+task_is_marked n t v task left some off =
+    let same : Some left.0 ≡ Some v = sym left.1 ∙ ap volume_in (settled_twice t) ∙ some in
+    let no : true ≡ false = sym left.2.marked ∙ ap (has_mark n) same ∙ off in cc
 
 -- a settled tape whose kept directory has no mark is finished
 pub kept_is_finished : (n : ℕ) (t : Tape) (header : HeaderParts) (found : List Slot) → IsTape n t → IsDirectoryOf t header found

@@ -1,7 +1,7 @@
 -- Worked examples of packing, computed by the checker. On the tape of forty records files stand in records 4 and 5, after
 -- a directory of two records, and the redo file of version 2 begins at record 6; on that of forty-four it begins at
 -- record 10.
-use Rattle.std.proofs.Common.{◌≡◌, ◌++◌, ℕ, List, [], ◌∷◌, Option, Some, None, Bool, true, false, get_or, refl, sym, ap, arith, replicate, codes}
+use Rattle.std.proofs.Common.{◌≡◌, ◌++◌, ℕ, List, [], ◌∷◌, Option, Some, None, Bool, true, false, get_or, Ok, refl, sym, ap, arith, replicate, codes}
 use Rattle.std.specs.FinMap.{empty, insert}
 use Rattle.lif_model.specs.Numbers.{two_at, four_at}
 use Rattle.lif_model.specs.Tape.{Tape}
@@ -10,15 +10,20 @@ use Rattle.lif_model.specs.Directory.{name_of, start_of, entry_at, entries_of}
 use Rattle.lif_model.specs.Made.{in_two, new_entry, with_type}
 use Rattle.lif_model.specs.declared.version.Version.TheVariants.{One, Two}
 use Rattle.lif_model.specs.Volume.{Volume, Files, redo_name, redo_type, redo_entry, volume_of}
+use Rattle.lif_model.specs.declared.refusal.Refusal.{Refusal}
 use Rattle.lif_model.specs.declared.refusal.Refusal.TheVariants.{NotLif, NoRedo, NeedsUpgrade, OutOfOrder}
 use Rattle.lif_model.specs.Writing.{with_entry}
 use Rattle.lif_model.specs.Legal.{is_live}
-use Rattle.lif_pack.specs.Tasks.{IsShownAs}
+use Rattle.lif_model.specs.Header.{HeaderParts}
+use Rattle.il_ports.specs.Stores.{RecordsView}
+use Rattle.lif_volume.specs.Views.{VolumeView}
+use Rattle.lif_volume.specs.Commands.{mounting_on}
+use Rattle.lif_pack.specs.Tasks.{MountsAlone, IsShownAs}
 use Rattle.lif_pack.specs.Steps.{ArePlaced, IsGap}
 use Rattle.lif_model.proofs.Examples as base
 use Rattle.lif_model.proofs.VolumeExamples.{file, a_name, b_name, numbered}
 use Rattle.lif_model.proofs.VolumeExamples as slot
-use Rattle.lif_pack.specs.Packing.{rises, is_in_order, live_records, packed_start, are_packed, with_start, redo_slot, marked_slot, marked_count, unmarked, bears_mark, move_of, finished, finished_volume_of, without_start, files_shown, pack_refusal, packed, files_moved, records_free}
+use Rattle.lif_pack.specs.Packing.{rises, is_in_order, live_records, packed_start, are_packed, with_start, redo_slot, marked_slot, marked_count, unmarked, bears_mark, move_of, finished, finished_volume_of, without_start, files_shown, pack_refusal, packed, repacked, files_moved, records_free}
 
 abbrev c_name : List ℕ
 c_name = codes "C         "
@@ -100,6 +105,19 @@ after = (refl, refl, refl)
 again : (packed 40 (packed 40 before) ≡ packed 40 before) × (files_moved 40 (packed 40 before) ≡ 0)
 unfolding two_at four_at name_of with_type new_entry with_start unmarked
 again = (refl, refl)
+
+-- purged slots are packed away, and a file out of order is refused
+abbrev packs_to : List (List ℕ) → Option Refusal × Option Volume → Type 0
+packs_to slots answer = repacked 40 (Some (with slots c_alone)) ≡ answer
+
+packs_alike : packs_to (gone (file a_name 4 1) ∷ file c_name 5 1 ∷ small_redo ∷ []) (None, Some (with (file c_name 4 1 ∷ small_redo ∷ []) c_alone))
+    × packs_to (file c_name 4 1 ∷ gone (file a_name 5 1) ∷ small_redo ∷ []) (None, Some (with (file c_name 4 1 ∷ small_redo ∷ []) c_alone))
+unfolding two_at four_at name_of with_type new_entry with_start unmarked
+packs_alike = (refl, refl)
+
+packs_never : packs_to (file c_name 4 1 ∷ small_redo ∷ []) (Some OutOfOrder, Some (with (file c_name 4 1 ∷ small_redo ∷ []) c_alone)) → ⊥
+unfolding two_at four_at name_of with_type new_entry with_start unmarked
+packs_never is = let no : ◌≡◌ {A = Option Refusal} None (Some OutOfOrder) = ap (λ (a : Option Refusal × Option Volume). a.0) is in cc
 
 -- without files all records from the directory's end on are free
 no_files : (packed 40 (with (gone (file a_name 4 1) ∷ small_redo ∷ []) empty) ≡ with (small_redo ∷ []) empty)
@@ -281,6 +299,60 @@ unmarked_stays : stays (on (three (entry 0 0)) (six 4 5 6 7 8 9)) × stays (on o
 unfolding two_at four_at entries_of entry_at name_of is_open with_type new_entry with_entry with_start unmarked
 unmarked_stays = (refl, refl, refl)
 
+-- ---- a tape without a mark
+
+abbrev plain : Tape
+plain = on (three (entry 0 0)) (six 4 5 6 7 8 9)
+
+-- a volume on it, from whose store so many records may still be read and written
+abbrev store : ℕ → RecordsView ℕ
+store left = record {
+  valid = Unit {0};
+  tape = Some plain;
+  record_count = 44;
+  ready = true;
+  sound = true;
+  calls_left = left;
+  room = 100;
+  frame_faults = 0;
+  medium_faults = 0;
+  moment = 0;
+  left_since = λ m c. c ≡ plain;
+  transferred = λ list. list ≡ [];
+  present = left;
+  emptied = λ s u. Unit {0};
+  stood = λ s. Unit {0};
+  failed = λ trouble. Unit {0};
+  resumed = λ k. Unit {0};
+}
+
+abbrev over : ℕ → Option HeaderParts → VolumeView ℕ
+over left kept = record { records = left; kept = kept; is_open = false; last = []; slots = []; room = 0 }
+
+abbrev its_header : Option HeaderParts
+its_header = Some (record { label = codes "HPTAPE"; start = 2; length = 2 })
+
+abbrev mounted : ℕ → Option HeaderParts → Type 0
+mounted left kept = MountsAlone {T = Unit {0}} {E = Unit {0}} store (over 100 None) (over left kept) plain (Ok tt)
+
+takes : mounting_on plain None ≡ 73
+unfolding two_at four_at is_open with_type new_entry
+takes = refl
+
+not_true : ◌≡◌ {A = Bool} false true → ⊥
+not_true e = cc
+
+-- 73 records are read and written, and not one more
+mounts : mounted 27 its_header
+mounts = record { few = omega (arith, takes); keeps = refl }
+
+no_more : mounted 26 its_header → ⊥
+no_more is = absurd (omega (arith, is.few, takes))
+
+-- and the directory is kept
+not_kept : mounted 27 None → ⊥
+not_kept is = not_true is.keeps
+
 -- ---- the steps of packing
 
 abbrev two_placed : List (List ℕ)
@@ -290,9 +362,6 @@ two_placed = file a_name 4 2 ∷ gone (file b_name 200 9) ∷ file c_name 9 1 �
 placed_to : ArePlaced 4 2 6 two_placed
 unfolding two_at four_at with_type
 placed_to = record { packed = refl; next = refl }
-
-not_true : ◌≡◌ {A = Bool} false true → ⊥
-not_true e = cc
 
 not_placed : ArePlaced 4 3 7 two_placed → ⊥
 unfolding two_at four_at with_type

@@ -50,6 +50,7 @@ finished_from n t x v is some marked size quiet same =
       plain = λ none. let no : true ≡ false = sym marked ∙ sym (λ i. has_mark (is.records i) (some i)) ∙ none in cc;
       below = λ k lt. same k (omega (arith, lt, is.records));
       volume = settles.0;
+      clear = (λ i. has_mark (size i) ((settles.0 ∙ done.volume) i)) ∙ done.clear;
     }
 
 -- ---- a file of a volume of version 2 was moved, of which so many records stood at its place
@@ -260,6 +261,7 @@ settled_is_finished n t is none =
       plain = λ off. refl;
       below = λ k lt. sym (ap (λ (z : Tape). record_at z k) (finished_unmarked t off));
       volume = ap volume_in (settled_twice t) ∙ sym (unmarked_volume t off);
+      clear = (λ i. has_mark (length_settled t i) (volume_in (settled_twice t i))) ∙ off;
     }
 
 -- what is finished once the tape is settled is finished
@@ -272,6 +274,7 @@ finished_after t x is =
       plain = λ none. is.plain ((λ i. has_mark (length_settled t i) (volume_in (settled_twice t i))) ∙ none) ∙ settled_twice t;
       below = λ k lt. is.below k (omega (arith, lt, length_settled t)) ∙ ap (λ (z : Tape). record_at z k) same;
       volume = is.volume ∙ ap volume_in same;
+      clear = is.clear;
     }
 
 -- ---- answers

@@ -1,5 +1,5 @@
 -- A stop while a file is moved leaves a tape that is shown with the same files.
-use Rattle.std.proofs.Common.{◌≡◌, ℕ, true, false, Some, inl, inr, sym, ◌∙◌, ap, refl, arith}
+use Rattle.std.proofs.Common.{◌≡◌, ℕ, [], true, false, Some, get_or, set, inl, inr, sym, ◌∙◌, ap, refl, arith}
 use Rattle.std.specs.Prelude.{is_some}
 use Rattle.std.proofs.lemmas.Bool.{cases_eq}
 use Rattle.lif_model.specs.Tape.{Tape, IsTape, record_at}
@@ -11,7 +11,7 @@ use Rattle.lif_model.specs.Apply.{is_upgraded}
 use Rattle.lif_model.proofs.Moments.{follows, reads_too, weaker}
 use Rattle.lif_model.proofs.Redo.{settled_twice}
 use Rattle.il_ports.specs.Stores.{RecordsView, IsStore, RunLeaves}
-use Rattle.lif_pack.specs.Packing.{bears_mark, has_mark, finished_with, finished_volume_of, files_shown}
+use Rattle.lif_pack.specs.Packing.{packed_start, with_start, bears_mark, has_mark, finished_with, finished_volume_of, files_shown, repacked}
 use Rattle.lif_pack.specs.declared.marks.Move.{Move}
 use Rattle.lif_pack.specs.Marks.{IsMoveAt}
 use Rattle.lif_pack.specs.Moving.{MayMove, HasMoved, IsUnderWay}
@@ -26,11 +26,11 @@ use Rattle.lif_pack.proofs.Agreeing.{settles_shown, settles_finished}
 use Rattle.lif_pack.proofs.Stopped.{stays_after, midway_shown}
 
 pub shown_keeps : (n : ℕ) (t x : Tape) → IsShownAs t x → KeepsFiles n t x
-shown_keeps n t x is = record { files = ap (files_shown n) is.volume; own_gate = is.own_gate }
+shown_keeps n t x is = record { files = ap (files_shown n) is.volume; again = ap (repacked n) is.volume; own_gate = is.own_gate }
 
 -- of a tape t that is kept by x, what keeps x keeps t
 pub keeps_then : (n : ℕ) (t x y : Tape) → KeepsFiles n t x → KeepsFiles n x y → KeepsFiles n t y
-keeps_then n t x y one two = record { files = two.files ∙ one.files; own_gate = two.own_gate }
+keeps_then n t x y one two = record { files = two.files ∙ one.files; again = two.again ∙ one.again; own_gate = two.own_gate }
 
 -- a run after a run
 pub kept_further : {S : Type 0} (v w u : RecordsView S) (n : ℕ) (t x : Tape) → IsStore w → w.tape ≡ Some x → RunLeaves v w (KeepsFiles n t) → RunLeaves w u (KeepsFiles n x)
@@ -45,9 +45,10 @@ module _ (n : ℕ) (t : Tape) (v : Volume) (is : IsTape n t) (some : volume_of t
 
   -- the volume has no mark, and a file is moved as a whole
   module _ (clear : bears_mark n v ≡ false) (i : ℕ) (can : CanMove v i 0) (move : Move) (at_file : IsMoveAt v i 0 move)
-      (may : MayMove n (directory_start v.header) move.place (redo_place v.slots) move) where
+      (may : MayMove n (directory_start v.header) move.place (redo_place v.slots) move)
+      (alike : repacked n (Some (record v { slots = set v.slots i (with_start (packed_start v i) (get_or v.slots i [])) })) ≡ repacked n (Some v)) where
     pub way_keeps : (y : Tape) → IsUnderWay (directory_start v.header) move.place (redo_place v.slots) move t y → KeepsFiles n t y
-    way_keeps y (inr has) = moved_keeps n t v is some quiet up clear i can move at_file (settled y) (settled_twice y) has y refl
+    way_keeps y (inr has) = moved_keeps n t v is some quiet up clear i can move at_file (settled y) (settled_twice y) has alike y refl
     way_keeps y (inl way) = elim (cases_eq way.0 0) [
       | inl none ↦
           shown_keeps n t y (settles_shown n t v is some quiet up y
@@ -61,6 +62,7 @@ module _ (n : ℕ) (t : Tape) (v : Volume) (is : IsTape n t) (some : volume_of t
           record {
             files = ap (files_shown n) (shown.0 ∙ moved_volume n t v is some quiet up clear i can move at_file f quiet_f there)
                 ∙ moved_shows n t v is some quiet up clear i can ∙ sym (ap (files_shown n) before);
+            again = ap (repacked n) (shown.0 ∙ moved_volume n t v is some quiet up clear i can move at_file f quiet_f there) ∙ alike ∙ sym (ap (repacked n) before);
             own_gate = shown.1;
           }
     ]
@@ -79,5 +81,9 @@ pub filed_further : {S : Type 0} (v w u : RecordsView S) (t : Tape) → IsStore 
 filed_further v w u t store told first next =
     let n : ℕ = v.record_count in
     let run : RunLeaves v u (KeepsFiles n t) = follows _ _ _ _ _ _ (KeepsFiles n t) (KeepsFiles n (settled t)) (filed_by_shown v w t first).stops next
-    (λ y is. record { files = is.files ∙ ap (λ (x : Tape). files_shown n (volume_in x)) (settles_finished t); own_gate = is.own_gate }) in
+    (λ y is. record {
+      files = is.files ∙ ap (λ (x : Tape). files_shown n (volume_in x)) (settles_finished t);
+      again = is.again ∙ ap (λ (x : Tape). repacked n (volume_in x)) (settles_finished t);
+      own_gate = is.own_gate;
+    }) in
     record { stops = run; after = stays_after v u (KeepsFiles n t) store run told }

@@ -25,6 +25,7 @@ pub mod Keeping
 pub mod Placing
 pub mod Refused
 pub mod ClosedVolume
+pub mod LivePacked
 pub mod ClosedTape
 pub mod ClosedSlots
 pub mod ClosedShown
@@ -43,3 +44,4 @@ pub mod RefusedFinished
 pub mod PackedTape
 pub mod Packable
 pub mod Answered
+pub mod Unmarked

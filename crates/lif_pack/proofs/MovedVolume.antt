@@ -22,7 +22,7 @@ use Rattle.lif_model.proofs.Adopted.{settles_below_adopted}
 use Rattle.lif_model.proofs.Named.{Names, equal, other, names_of, named_at_place}
 use Rattle.lif_model.proofs.Directory.{volume_tells}
 use Rattle.lif_model.proofs.Slotted.{IsOn, is_on}
-use Rattle.lif_pack.specs.Packing.{packed_start, with_start, redo_slot, marked_slot, marked_count, unmarked, bears_mark, has_mark, finished_with, files_shown}
+use Rattle.lif_pack.specs.Packing.{packed_start, with_start, redo_slot, marked_slot, marked_count, unmarked, bears_mark, has_mark, finished_with, files_shown, repacked}
 use Rattle.lif_pack.specs.declared.marks.Move.{Move}
 use Rattle.lif_pack.specs.Marks.{IsMoveAt}
 use Rattle.lif_pack.specs.Moving.{HasMoved}
@@ -178,10 +178,15 @@ module _ (n : ℕ) (u : Tape) (v : Volume) (is : IsTape n u) (some : volume_of u
     moved_volume = (settles_to x quiet_x).0 ∙ w_is
 
     -- and is shown with the same files
-    pub moved_keeps : (c : Tape) → settled c ≡ x → KeepsFiles n u c
-    moved_keeps c to =
+    pub moved_keeps : repacked n (Some (record v { slots = set v.slots i (with_start (packed_start v i) (get_or v.slots i [])) })) ≡ repacked n (Some v)
+        → (c : Tape) → settled c ≡ x → KeepsFiles n u c
+    moved_keeps alike c to =
         let both = settles_to c to in
         let size : length c ≡ n = sym (length_settled c) ∙ ap (λ (q : Tape). length q) to ∙ has.records ∙ is.records in
         let after = unmarked_volume c ((λ q. has_mark (size q) (both.0 q)) ∙ ends.clear) ∙ both.0 ∙ w_is in
         let before = unmarked_volume u ((λ q. has_mark (is.records q) (some q)) ∙ clear) ∙ some in
-        record { files = ap (files_shown n) after ∙ moved_shows ∙ sym (ap (files_shown n) before); own_gate = both.1 }
+        record {
+          files = ap (files_shown n) after ∙ moved_shows ∙ sym (ap (files_shown n) before);
+          again = ap (repacked n) after ∙ alike ∙ sym (ap (repacked n) before);
+          own_gate = both.1;
+        }

@@ -1,18 +1,21 @@
 -- The steps of a packing, one after the other: the tape has what packing makes of the volume.
-use Rattle.std.proofs.Common.{filter, ◌≡◌, ℕ, List, true, Some, None, take, refl, sym, ◌∙◌, ap}
-use Rattle.lif_model.specs.Tape.{Tape}
+use Rattle.std.proofs.Common.{filter, ◌≡◌, ℕ, List, true, Some, None, length, take, refl, sym, ◌∙◌, ap}
+use Rattle.lif_model.specs.Tape.{Tape, IsTape}
 use Rattle.lif_model.specs.declared.version.Version.TheVariants.{Two}
 use Rattle.lif_model.specs.Redo.{settled}
 use Rattle.lif_model.specs.Legal.{is_live}
-use Rattle.lif_model.specs.Volume.{Volume, volume_in, volume_of}
-use Rattle.lif_model.proofs.Adopted.{adopted_some}
-use Rattle.lif_pack.specs.Packing.{are_packed, pack_refusal, packed}
-use Rattle.lif_pack.specs.Steps.{volume_with, MayPack, HasSlotsOf, ArePackedAlike}
+use Rattle.lif_model.specs.Volume.{Volume, is_adopted_with, volume_in, volume_of}
+use Rattle.lif_model.specs.Apply.{is_upgraded}
+use Rattle.lif_model.proofs.Directory.{volume_is}
+use Rattle.lif_pack.specs.Packing.{is_in_order, are_packed, has_mark, finished_volume_of, pack_refusal, packed}
+use Rattle.lif_pack.specs.Steps.{MayPack, HasSlotsOf, ArePackedAlike}
 use Rattle.lif_pack.specs.declared.pack.Packed.{Packed}
 use Rattle.lif_pack.specs.Packs.{IsPacking, IsFinishedTo}
 use Rattle.lif_pack.proofs.Agreeing.{settles_finished}
+use Rattle.lif_pack.proofs.Finishes.{unmarked_volume}
+use Rattle.lif_pack.proofs.Packs.{packed_is_upgraded}
 use Rattle.lif_pack.proofs.PackedLive.{packed_is_live}
-use Rattle.lif_pack.proofs.Refused.{refused_never}
+use Rattle.lif_pack.proofs.Refused.{may_never}
 
 module _ (n first end redo : ℕ) (held slots : List (List ℕ)) (t x : Tape) (finished : IsFinishedTo first end held t x) where
   abbrev w : Volume
@@ -32,7 +35,16 @@ module _ (n first end redo : ℕ) (held slots : List (List ℕ)) (t x : Tape) (f
   pub packed_may : MayPack n first end redo held → pack_refusal n (Some finished.volume) ≡ None
   packed_may may =
       ap (λ (xs : List (List ℕ)). pack_refusal n (Some (record w { slots = xs }))) finished.slots_are
-      ∙ refused_never n (volume_with may.header held) (adopted_some n Two held may.version) may.version may.in_order
+      ∙ may_never n first end redo held may w
+
+  -- what it makes has no mark
+  pub packed_shown : IsTape n x → MayPack n first end redo held → (u : Tape) → length u ≡ n → volume_of u ≡ Some (packed n finished.volume)
+      → finished_volume_of u ≡ Some (packed n finished.volume)
+  packed_shown is may u size after =
+      let up : is_upgraded n w ≡ true = ap (is_adopted_with n Two) finished.slots_are ∙ may.version in
+      let in_order : is_in_order w.slots ≡ true = ap is_in_order finished.slots_are ∙ may.in_order in
+      let clear = (packed_is_upgraded n w (volume_is n x w is finished.stands) up in_order).1 in
+      unmarked_volume u ((λ i. has_mark (size i) (after i)) ∙ clear) ∙ after
 
 -- a packing of the settled tape is one of the tape
 pub packing_of : (n : ℕ) (t u : Tape) (answer : Packed) → IsPacking n (settled t) u answer → IsPacking n t u answer
@@ -41,6 +53,7 @@ packing_of n t u answer is = record {
   shown = sym (ap volume_in (settles_finished t)) ∙ is.shown;
   may = is.may;
   after = is.after;
+  shown_after = is.shown_after;
   is_settled = is.is_settled;
   files = is.files;
   free = is.free;

@@ -14,7 +14,7 @@ use Rattle.lif_model.specs.Fit.{redo_place}
 use Rattle.lif_model.specs.Apply.{is_upgraded}
 use Rattle.lif_model.proofs.Lists.{filter_pairs_tell}
 use Rattle.lif_model.proofs.Adopted.{is_file_tells, ends_before_redo, redo_is_alone, redo_file_is_named, redo_entry_tells}
-use Rattle.lif_pack.specs.Packing.{rises, is_in_order, live_length, live_records, stands_at, are_packed, packed_start, with_start, redo_slot, unmarked, marked_slot, marked_count, bears_mark, packed_from}
+use Rattle.lif_pack.specs.Packing.{rises, is_in_order, live_length, live_records, stands_at, are_packed, packed_start, with_start, redo_slot, unmarked, marked_slot, marked_count, bears_mark, packed_from, repacked}
 use Rattle.lif_pack.specs.declared.marks.Move.{Move}
 use Rattle.lif_pack.specs.Marks.{IsMoveAt}
 use Rattle.lif_pack.specs.Moving.{MayMove, HasMoved, IsUnderWay}
@@ -25,6 +25,7 @@ use Rattle.lif_pack.proofs.Order.{CanMove, standing, rise, live_before_redo, liv
 use Rattle.lif_pack.proofs.Walking.{live_more, packed_more, purged_all}
 use Rattle.lif_pack.proofs.Slotting.{MayStand, set_is_volume}
 use Rattle.lif_pack.proofs.Finishing.{redo_here, redo_is_two, other_is_file, clear_of, upgraded_is_adopted}
+use Rattle.lif_pack.proofs.Refused.{may_never}
 use Rattle.lif_pack.proofs.SamePacked.{packed_same}
 use Rattle.lif_pack.proofs.MovedVolume.{no_mark_is_zero, moved_volume}
 use Rattle.lif_pack.proofs.Plain.{plain_started}
@@ -305,6 +306,8 @@ module _ (n first end redo : ℕ) (slots : List (List ℕ)) (may : MayPack n fir
         (at_file v same ends move slot_is place_is start_is long_is none)
         (subst (λ (r : ℕ). MayMove n (directory_start v.header) move.place r move) (sym may.redo_is)
         (subst (λ (d : ℕ). MayMove n d move.place redo move) (sym starts) (may_move move slot_is place_is start_is long_is none number)))
+        (ap (λ (p : ℕ). repacked n (Some (record v { slots = set slots i (with_start p slot) }))) (start0 v same ends move slot_is place_is start_is long_is none)
+        ∙ (λ q. ((may_never n first end redo later may_pack_on v ∙ sym (may_never n first end redo slots may v)) q, Some (packed_alike v ends q))))
         y
         (subst (λ (r : ℕ). IsUnderWay (directory_start v.header) move.place r move t y) (sym may.redo_is) (subst (λ (d : ℕ). IsUnderWay d move.place redo move t y) (sym starts) way))
 

@@ -1,5 +1,5 @@
 -- What refuses a packing, by the redo entry of a volume.
-use Rattle.std.proofs.Common.{◌≡◌, ◌<◌, ◌≤◌, ◌||◌, not, ℕ, [], ◌∷◌, Bool, true, false, if◌then◌else◌, Some, None, length, inl, inr, refl, sym, ◌∙◌, ap, arith}
+use Rattle.std.proofs.Common.{◌≡◌, ◌<◌, ◌≤◌, ◌||◌, not, ℕ, List, [], ◌∷◌, Bool, true, false, if◌then◌else◌, Some, None, length, inl, inr, refl, sym, ◌∙◌, ap, arith}
 use Rattle.std.proofs.lemmas.Bool.{cases_Bool}
 use Rattle.lif_model.specs.declared.version.Version.TheVariants.{One, Two}
 use Rattle.lif_model.specs.declared.refusal.Refusal.TheVariants.{NoRedo, NeedsUpgrade, OutOfOrder}
@@ -7,8 +7,9 @@ use Rattle.lif_model.specs.Volume.{Volume, IsVolume, is_redo_entry, is_redo_file
 use Rattle.lif_model.specs.Fit.{redo_place}
 use Rattle.lif_model.specs.Apply.{is_upgraded, first_met}
 use Rattle.lif_model.proofs.Lists.{any_from}
-use Rattle.lif_model.proofs.Adopted.{redo_place_is, redo_entry_tells}
+use Rattle.lif_model.proofs.Adopted.{redo_place_is, redo_entry_tells, adopted_some}
 use Rattle.lif_pack.specs.Packing.{is_in_order, redo_slot, pack_refusal}
+use Rattle.lif_pack.specs.Steps.{volume_with, MayPack}
 use Rattle.lif_pack.proofs.Finishing.{redo_is_two}
 
 module _ (n : ℕ) (v : Volume) (is : IsVolume n v) where
@@ -84,3 +85,6 @@ refused_alike n v w adopted adopted_w up order =
 
 pub refused_never : (n : ℕ) (v : Volume) → is_adopted n v.slots ≡ true → is_upgraded n v ≡ true → is_in_order v.slots ≡ true → pack_refusal n (Some v) ≡ None
 refused_never n v adopted up order = λ i. first_met ((not (adopted i), NoRedo) ∷ (not (up i), NeedsUpgrade) ∷ (not (order i), OutOfOrder) ∷ [])
+
+pub may_never : (n first end redo : ℕ) (slots : List (List ℕ)) → MayPack n first end redo slots → (v : Volume) → pack_refusal n (Some (record v { slots = slots })) ≡ None
+may_never n first end redo slots may v = refused_never n (volume_with may.header slots) (adopted_some n Two slots may.version) may.version may.in_order

@@ -1,14 +1,14 @@
 -- What a stop within finishing leaves is shown as what the tape before is shown as.
-use Rattle.std.proofs.Common.{⊎_elim, ◌≡◌, ◌<◌, ◌≤◌, ◌+◌, ◌-◌, ◌*◌, ◌/◌, ◌++◌, ◌&&◌, ℕ, List, [], ◌∷◌, Bool, true, false, Option, Some, None, length, take, drop, not, inl, inr, refl, sym, ◌∙◌, ap, subst, arith}
+use Rattle.std.proofs.Common.{⊎_elim, ◌≡◌, ◌<◌, ◌≤◌, ◌+◌, ◌-◌, ◌*◌, ◌/◌, ◌++◌, ◌&&◌, ℕ, List, [], ◌∷◌, Bool, true, false, Option, Some, None, length, take, drop, inl, inr, refl, sym, ◌∙◌, ap, subst, arith}
 use Rattle.std.specs.Prelude.{IfSome, is_some}
-use Rattle.std.proofs.lemmas.Bool.{cases_lt, and_parts, and_left, not_from_true}
+use Rattle.std.proofs.lemmas.Bool.{cases_lt, and_left, not_from_true}
 use Rattle.std.proofs.lemmas.List.{length-append, length-take, length-drop, get_or_append_left, get_or-append-add, get_or-take, get_or-drop}
 use Rattle.lif_model.specs.Tape.{Tape, IsTape, record_at}
 use Rattle.lif_model.specs.Gate.{gate_of}
 use Rattle.lif_model.specs.Header.{directory_start}
 use Rattle.lif_model.specs.Directory.{slots_of}
 use Rattle.lif_model.specs.declared.version.Version.TheVariants.{Two}
-use Rattle.lif_model.specs.Redo.{redo_start, targets_place, redo_of, is_none, settled, IsSettled}
+use Rattle.lif_model.specs.Redo.{redo_start, targets_place, settled, IsSettled}
 use Rattle.lif_model.specs.Commit.{SettlesAs, SettlesBelow}
 use Rattle.lif_model.specs.Legal.{is_legal}
 use Rattle.lif_model.specs.Volume.{Volume, is_adopted, volume_in, volume_of, is_gate_held, is_foreign_gated}
@@ -265,10 +265,9 @@ shown_further v w u t store told first next =
     (λ c is. record { volume = is.volume ∙ ap volume_in (settles_finished t); own_gate = is.own_gate }) in
     record { stops = run; after = stays_after v u (IsShownAs t) store run told }
 
--- a tape with something left to do is not foreign-gated
-pub task_not_foreign : (n : ℕ) (t : Tape) (task : Task) → IsTape n t → IsLeftToDo n t (Some task) → is_foreign_gated t ≡ true → ⊥
-task_not_foreign n t task is left foreign =
-    let held : is_gate_held (settled t) ≡ true = (and_parts (not (is_none (redo_of t))) _ foreign).1 in
+-- no file that is not ours holds the gate record of a tape with something left to do
+pub task_not_held : (n : ℕ) (t : Tape) (task : Task) → IsTape n t → IsLeftToDo n t (Some task) → is_gate_held (settled t) ≡ true → ⊥
+task_not_held n t task is left held =
     let clear = upgraded_not_held n (settled t) left.0 (length_settled t ∙ is.records) (sym (ap volume_in (settled_twice t)) ∙ left.1) (marked_is_upgraded n left.0 left.2.marked) in
     let no : true ≡ false = sym held ∙ clear in cc
 

@@ -3,7 +3,7 @@
 -- entry, and that is this project's own.
 use Rattle.std.specs.Prelude.{◌+◌, ◌-◌, ◌++◌, ◌&&◌, ◌==◌, if◌then◌else◌, nat_lt, not, ℕ, zero, suc}
 use Rattle.std.specs.Prelude.{Bool, true, false, List, [], ◌∷◌, length, take, drop, get_or, set, map, filter}
-use Rattle.std.specs.Prelude.{replicate, Option, Some, None}
+use Rattle.std.specs.Prelude.{replicate, Option, Some, None, option_map}
 use Rattle.std.specs.List.{list_all}
 use Rattle.std.specs.FinMap.{insert}
 use Rattle.lif_model.specs.Numbers.{two_at}
@@ -216,6 +216,10 @@ packed_slots n v =
 
 abbrev pub packed : ℕ → Volume → Volume
 packed n v = record v { slots = packed_slots n v }
+
+-- what packing answers and makes of a volume that is finished, or of none
+abbrev pub repacked : ℕ → Option Volume → Option Refusal × Option Volume
+repacked n volume = (pack_refusal n volume, option_map (packed n) volume)
 
 -- how many of these files are not at their place
 abbrev pub count_moved : ℕ → List (List ℕ) → ℕ

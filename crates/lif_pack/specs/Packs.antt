@@ -1,5 +1,5 @@
 -- What packing a volume does: its answer, the tape after it, and what a stop leaves.
-use Rattle.std.specs.Prelude.{◌≡◌, ◌<◌, ◌+◌, ◌-◌, ℕ, Bool, true, false, List, [], ◌∷◌, set, get_or}
+use Rattle.std.specs.Prelude.{◌≡◌, ◌<◌, ◌+◌, ◌-◌, ℕ, true, false, List, [], ◌∷◌, set, get_or}
 use Rattle.std.specs.Prelude.{Option, Some, None, Result, Ok, Err, IfSome}
 use Rattle.lif_model.specs.Tape.{Tape}
 use Rattle.lif_model.specs.Header.{HeaderParts, directory_start, directory_end}
@@ -12,7 +12,6 @@ use Rattle.lif_model.specs.Apply.{is_upgraded}
 use Rattle.lif_model.specs.declared.refusal.Refusal.{Refusal}
 use Rattle.lif_model.specs.declared.refusal.Refusal.TheVariants.{NotLif, NoRedo, NeedsUpgrade, OutOfOrder}
 use Rattle.il_ports.specs.Stores.{RecordsView, RunLeaves}
-use Rattle.lif_plan.specs.Refusals.{keeps_behind}
 use Rattle.lif_volume.specs.declared.fault.VolumeFault.{VolumeFault}
 use Rattle.lif_volume.specs.declared.fault.VolumeFault.TheVariants.{Refused, Trouble as Troubled}
 use Rattle.lif_volume.specs.declared.volume.Listing.{Listing}
@@ -36,6 +35,7 @@ pub record IsPacking (n : ℕ) (t u : Tape) (answer : Packed) : Type 0 where
   pub shown : finished_volume_of t ≡ Some volume
   pub may : pack_refusal n (Some volume) ≡ None
   pub after : volume_of u ≡ Some (packed n volume)
+  pub shown_after : finished_volume_of u ≡ Some (packed n volume)
   pub is_settled : IsSettled u
   pub files : answer.files ≡ files_moved n volume
   pub free : answer.free ≡ records_free n volume
@@ -59,23 +59,11 @@ AnswersPack view old new answer = (t u : Tape) → IsTold view old t → IsTold 
 abbrev pub pack_refusals : List Refusal
 pack_refusals = NotLif ∷ NoRedo ∷ NeedsUpgrade ∷ OutOfOrder ∷ []
 
--- whether the directory is kept then: after a refusal that does not say that there is none
-abbrev pub keeps_packed : Result Packed VolumeFault → Bool
-keeps_packed (Ok _) = false
-keeps_packed (Err (Refused why)) = keeps_behind why
-keeps_packed (Err (Troubled _)) = false
-
 -- ---- what is read before
 
 -- what record 0 says
 abbrev pub header_in : Listing → HeaderParts
 header_in listing = record { label = listing.label; start = listing.start; length = listing.length }
-
--- whether the directory is kept after it
-abbrev pub keeps_read : Result Readable VolumeFault → Bool
-keeps_read (Ok _) = true
-keeps_read (Err (Refused why)) = keeps_behind why
-keeps_read (Err (Troubled _)) = false
 
 -- how many records are read and written at most on a medium of n records
 abbrev pub calls_to_read : ℕ → Result Readable VolumeFault → ℕ

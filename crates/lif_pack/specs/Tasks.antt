@@ -1,5 +1,6 @@
 -- What finishes a volume, and the tape that is finished.
-use Rattle.std.specs.Prelude.{◌≡◌, ◌⊎◌, ◌<◌, ◌+◌, ◌-◌, ◌*◌, ℕ, [], ◌∷◌, true, false, length, Option, Some, None, IfSome}
+use Rattle.std.specs.Prelude.{◌≡◌, ◌⊎◌, ◌<◌, ◌≤◌, ◌+◌, ◌-◌, ◌*◌, ℕ, [], ◌∷◌, true, false, length}
+use Rattle.std.specs.Prelude.{Option, Some, None, IfSome, is_some, Result, OnOk}
 use Rattle.lif_model.specs.Tape.{Tape, record_at}
 use Rattle.lif_model.specs.Header.{directory_start}
 use Rattle.lif_model.specs.declared.version.Version.TheVariants.{Two}
@@ -10,8 +11,8 @@ use Rattle.lif_model.specs.Fit.{redo_place}
 use Rattle.lif_model.specs.Writing.{slot_record, entry_from, with_slots}
 use Rattle.il_ports.specs.Stores.{RecordsView, RunLeaves}
 use Rattle.lif_volume.specs.Views.{VolumeView}
-use Rattle.lif_volume.specs.Commands.{IsTold}
-use Rattle.lif_pack.specs.Packing.{unmarked, bears_mark, has_mark, finished, finished_volume_of, files_shown}
+use Rattle.lif_volume.specs.Commands.{IsTold, mounting_on}
+use Rattle.lif_pack.specs.Packing.{unmarked, bears_mark, has_mark, finished, finished_volume_of, files_shown, repacked}
 use Rattle.lif_pack.specs.declared.marks.Move.{Move}
 use Rattle.lif_pack.specs.declared.tasks.Task.{Task}
 use Rattle.lif_pack.specs.Marks.{IsMarked}
@@ -47,6 +48,19 @@ pub record IsFinished (t u : Tape) : Type 0 where
   pub plain : has_mark (length t) (volume_of t) ≡ false → u ≡ settled t
   pub below : (k : ℕ) → k < redo_start Two (length t) → record_at u k ≡ record_at (finished t) k
   pub volume : volume_of u ≡ finished_volume_of t
+  pub clear : has_mark (length u) (volume_of u) ≡ false
+
+-- The tape t is mounted, and no record more is read or written than a command takes for that. After an Ok the directory
+-- is kept.
+pub record MountsAlone {R S T E : Type 0} (view : R → RecordsView S) (old new : VolumeView R) (t : Tape)
+    (result : Result T E) : Type 0 where
+  pub few : (view old.records).calls_left ≤ (view new.records).calls_left + mounting_on t old.kept
+  pub keeps : OnOk result (is_some new.kept ≡ true)
+
+-- so is each tape whose volume has no mark
+abbrev pub MountsUnmarked : {R S T E : Type 0} → (R → RecordsView S) → (old new : VolumeView R) → Result T E → Type 0
+MountsUnmarked view old new result = (t : Tape) (v : Volume) → IsTold view old t → volume_of t ≡ Some v
+    → bears_mark (view old.records).record_count v ≡ false → MountsAlone view old new t result
 
 -- how many records are read and written at most to carry it out
 abbrev pub calls_to_finish : Option Move → ℕ
@@ -76,9 +90,11 @@ pub record IsShownAs (t x : Tape) : Type 0 where
   pub volume : finished_volume_of x ≡ finished_volume_of t
   pub own_gate : is_foreign_gated x ≡ false
 
--- on a medium of n records x is shown with the files that t is shown with, and has no gate that is not ours
+-- On a medium of n records x is shown with the files that t is shown with, is packed to the same, and has no gate that
+-- is not ours.
 pub record KeepsFiles (n : ℕ) (t x : Tape) : Type 0 where
   pub files : files_shown n (finished_volume_of x) ≡ files_shown n (finished_volume_of t)
+  pub again : repacked n (finished_volume_of x) ≡ repacked n (finished_volume_of t)
   pub own_gate : is_foreign_gated x ≡ false
 
 -- at any moment, and after the call

@@ -1,5 +1,6 @@
 //! A packing that was stopped is finished.
-ghost use Rattle.std.specs.Prelude.{◌≡◌, ◌<◌, ◌+◌, ◌*◌, ◌^◌, ℕ, true, false, map, Some, Ok, OnOk, IfOk, IfSome};
+ghost use Rattle.std.specs.Prelude.{◌≡◌, ◌<◌, ◌+◌, ◌*◌, ◌^◌, ℕ, true, false, map};
+ghost use Rattle.std.specs.Prelude.{Some, None, is_some, IfSome, Ok, OnOk, IfOk, IfErr};
 ghost use Rattle.lif_model.specs.Tape.{Tape};
 ghost use Rattle.lif_model.specs.declared.version.Version.TheVariants.{Two};
 ghost use Rattle.lif_model.specs.Redo.{redo_start, settled, IsSettled};
@@ -14,7 +15,7 @@ ghost use Rattle.lif_volume.specs.Changing.{SettlesForeign};
 ghost use Rattle.lif_pack.specs.Packing.{bears_mark};
 ghost use Rattle.lif_pack.specs.Packers.{IsPackerFor};
 ghost use Rattle.lif_pack.specs.Tasks.{MayFinish, IsTaskOf, IsFinished, IsCleared, IsClearedOrOld, IsLeftToDo};
-ghost use Rattle.lif_pack.specs.Tasks.{calls_to_finish};
+ghost use Rattle.lif_pack.specs.Tasks.{MountsAlone, MountsUnmarked, calls_to_finish};
 ghost use Rattle.lif_pack.specs.Tasks.{IsShownAs, KeepsShown};
 
 use crate::marks::mark_of;
@@ -45,6 +46,9 @@ impl Packer {
         // file holds that is not ours nothing is changed but by settling.
         ensures shown { KeepsShown R.view (seen volume.old) (seen volume.new) }
         ensures foreign { SettlesForeign R.view (seen volume.old) (seen volume.new) }
+        // A tape without a mark is mounted, and nothing more is read or written. After an error no directory is kept.
+        ensures mounts { MountsUnmarked R.view (seen volume.old) (seen volume.new) result }
+        ensures forgets { IfErr result (λ _. (seen volume.new).kept ≡ None) }
         // Where the directory is kept and its redo entry has no mark, nothing is done.
         ensures still { IfSome (seen volume.old).kept (λ _. (v : VolumeModel)
             → v.slots ≡ map slot_bytes (seen volume.old).slots
@@ -71,6 +75,8 @@ impl Packer {
             → (u : Tape) × IsTold R.view (seen volume.new) u × IsFinished t u) }
         ensures shown { KeepsShown R.view (seen volume.old) (seen volume.new) }
         ensures foreign { SettlesForeign R.view (seen volume.old) (seen volume.new) }
+        ensures mounts { MountsUnmarked R.view (seen volume.old) (seen volume.new) result }
+        ensures forgets { IfErr result (λ _. (seen volume.new).kept ≡ None) }
     {
         match left_of(volume, size)? {
             None => Ok(()),
@@ -134,6 +140,7 @@ fn is_finished<R: Records>(volume: &Volume<R>, size: u16) -> bool
     requires size { size ≡ (R.view (seen volume.now).records).record_count }
     ensures unmarked { IfSome (seen volume.now).kept (λ _. (v : VolumeModel)
         → v.slots ≡ map slot_bytes (seen volume.now).slots → bears_mark size v ≡ false → result ≡ true) }
+    ensures kept { result ≡ true → is_some (seen volume.now).kept ≡ true }
     ensures finished { result ≡ true → (t : Tape) → IsTold R.view (seen volume.now) t → IsFinished t t }
 {
     volume.is_kept() && mark_of(volume.slots(), size).is_none()
@@ -154,6 +161,9 @@ fn left_of<R: Records>(volume: &mut Volume<R>, size: u16) -> Result<Option<Task>
         → IsTold R.view (seen volume.new) (settled t) × IsLeftToDo size t task) }
     ensures settling { OnlySettles R.view (seen volume.old) (seen volume.new) }
     ensures shown { KeepsShown R.view (seen volume.old) (seen volume.new) }
+    ensures mounts { (t : Tape) (v : VolumeModel) → IsTold R.view (seen volume.old) t → volume_of t ≡ Some v
+        → MountsAlone R.view (seen volume.old) (seen volume.new) t result }
+    ensures forgets { IfErr result (λ _. (seen volume.new).kept ≡ None) }
 {
     match volume.dir() {
         Ok(listing) => Ok(task_of(volume.slots(), &listing, size)),

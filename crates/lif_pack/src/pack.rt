@@ -1,20 +1,21 @@
 //! A volume is packed.
 ghost use Rattle.std.specs.Prelude.{◌≡◌, ◌≤◌, ◌<◌, ◌+◌, ◌-◌, ◌*◌, ◌/◌, ◌^◌, ℕ, is_some, length, filter};
-ghost use Rattle.std.specs.Prelude.{Some, OnOk, IfOk, IfErr};
+ghost use Rattle.std.specs.Prelude.{true, Some, None, Err, OnOk, IfOk, IfErr};
 ghost use Rattle.lif_model.specs.Tape.{Tape};
 ghost use Rattle.lif_model.specs.Redo.{IsSettled};
 ghost use Rattle.lif_model.specs.Legal.{is_live};
 ghost use Rattle.lif_model.specs.Volume.{Volume as VolumeModel, volume_of};
+ghost use Rattle.lif_model.specs.declared.refusal.Refusal.{Refusal};
 ghost use Rattle.il_ports.specs.Stores.{IsReady, GoesOn, RunLeaves};
 ghost use Rattle.lif_volume.specs.Views.{IsOpen};
-ghost use Rattle.lif_volume.specs.Answers.{store_answer};
+ghost use Rattle.lif_volume.specs.Answers.{store_answer, refused};
 ghost use Rattle.lif_volume.specs.Changing.{SettlesForeign};
 ghost use Rattle.lif_volume.specs.Did.{IsOneOf};
 ghost use Rattle.lif_volume.specs.Seen.{seen};
 ghost use Rattle.lif_pack.specs.Packers.{IsPackerFor, slots_held};
 ghost use Rattle.lif_pack.specs.Steps.{MayPack, TapeHasSlots, OfSlots};
 ghost use Rattle.lif_pack.specs.Tasks.{KeepsFiles};
-ghost use Rattle.lif_pack.specs.Packs.{IsPacking, AnswersPack, KeepsFiled, pack_refusals, keeps_packed};
+ghost use Rattle.lif_pack.specs.Packs.{IsPacking, AnswersPack, KeepsFiled, pack_refusals};
 ghost use Rattle.lif_pack.specs.Packs.{IsTaskWith, AreThoseOf};
 
 use crate::counting::{files_moved, records_free};
@@ -36,7 +37,8 @@ pub struct Packed {
 impl Packer {
     /// Packs the volume: its files are moved down, in slot order, until each begins where the one before it ends, and
     /// the first after the directory; the slots of purged files are dropped, and the redo entry is the last one. The
-    /// files keep their bytes, and all of their entries but the start. The next command reads the directory anew.
+    /// files keep their bytes, and all of their entries but the start. The next command reads the directory anew, also
+    /// after a refusal or an error.
     ///
     /// It is refused with NotLif, NoRedo or NeedsUpgrade where the volume is none with a redo file of version 2, and
     /// with OutOfOrder where files that have records do not rise in slot order, or a live slot stands after the redo
@@ -55,16 +57,22 @@ impl Packer {
         ensures memory { IsPackerFor (R.view (seen volume.old).records).record_count self.new }
         ensures goes_on { GoesOn (15 * (R.view (seen volume.old).records).record_count + 120)
             (R.view (seen volume.old).records) (R.view (seen volume.new).records) (store_answer result) }
-        ensures kept { is_some (seen volume.new).kept ≡ keeps_packed result }
+        ensures kept { (seen volume.new).kept ≡ None }
+        // A refusal of a directory that is kept reads and writes nothing.
+        ensures idle { (why : Refusal) → result ≡ Err (refused why) → is_some (seen volume.old).kept ≡ true
+            → (seen volume.new).records ≡ (seen volume.old).records }
         ensures only { IfErr result (IsOneOf pack_refusals) }
         ensures answers { AnswersPack R.view (seen volume.old) (seen volume.new) result }
-        // What a stop leaves, and the tape after the call, is shown with the same files; of a tape whose gate record a
-        // file holds that is not ours nothing is changed but by settling.
+        // What a stop leaves, and the tape after the call, is shown with the same files, and packed to the same; of a
+        // tape whose gate record a file holds that is not ours nothing is changed but by settling.
         ensures files { KeepsFiled R.view (seen volume.old) (seen volume.new) }
         ensures foreign { SettlesForeign R.view (seen volume.old) (seen volume.new) }
     {
-        let found = self.read(volume)?;
-        let packed = self.pack_held(volume.records_mut(), &found)?;
+        let read = self.read(volume);
+        // The directory is forgotten, also where it is refused: it may have a mark.
+        let records = volume.records_mut();
+        let found = read?;
+        let packed = self.pack_held(records, &found)?;
         Ok(packed)
     }
 }

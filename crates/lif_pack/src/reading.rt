@@ -1,5 +1,5 @@
 //! What a packing reads before it begins.
-ghost use Rattle.std.specs.Prelude.{◌≡◌, ◌≤◌, ◌<◌, ◌+◌, [], ◌∷◌, map, Some, is_some, IfOk, IfErr};
+ghost use Rattle.std.specs.Prelude.{◌≡◌, ◌≤◌, ◌<◌, ◌+◌, [], ◌∷◌, true, map, Some, is_some, IfOk, IfErr};
 ghost use Rattle.lif_model.specs.Tape.{Tape};
 ghost use Rattle.lif_model.specs.Header.{directory_start, directory_end};
 ghost use Rattle.lif_model.specs.Redo.{settled, IsSettled};
@@ -18,7 +18,7 @@ ghost use Rattle.lif_pack.specs.Packing.{pack_refusal};
 ghost use Rattle.lif_pack.specs.Packers.{IsPackerFor, slots_held};
 ghost use Rattle.lif_pack.specs.Steps.{MayPack};
 ghost use Rattle.lif_pack.specs.Tasks.{KeepsShown};
-ghost use Rattle.lif_pack.specs.Packs.{IsRefusedTo, IsTaskWith, AreThoseOf, header_in, calls_to_read, keeps_read};
+ghost use Rattle.lif_pack.specs.Packs.{IsRefusedTo, IsTaskWith, AreThoseOf, header_in, calls_to_read};
 ghost use Rattle.lif_pack.specs.Packs.{pack_refusals};
 
 use crate::marks::redo_place;
@@ -58,7 +58,7 @@ impl Packer {
         ensures memory { IsPackerFor (R.view (seen volume.old).records).record_count self.new }
         ensures goes_on { GoesOn (calls_to_read (R.view (seen volume.old).records).record_count result)
             (R.view (seen volume.old).records) (R.view (seen volume.new).records) (store_answer result) }
-        ensures kept { is_some (seen volume.new).kept ≡ keeps_read result }
+        ensures idle { is_some (seen volume.old).kept ≡ true → (seen volume.new).records ≡ (seen volume.old).records }
         ensures only { IfErr result (IsOneOf pack_refusals) }
         ensures refused { (t u : Tape) → IsTold R.view (seen volume.old) t → IsTold R.view (seen volume.new) u
             → IsRefusedTo (R.view (seen volume.old).records).record_count t u result }

@@ -24,3 +24,6 @@ returns-then-is_kept-clause-finished g c none t is =
     let tape : IsTape c.args.size t = subst (λ m. IsTape m t) (sym c.requires.size) ((g.met.R.Records.is_store _).is_tape t is) in
     finished_where_none c.args.size t c.args.volume.now.kept found c.mark_of.result tape (sym c.if-is_kept.ensures) (c.requires.open.known t is)
     (λ w is same. c.mark_of.ensures.mark w is (same ∙ sym (ap (map slot_bytes) c.slots.ensures))) (here ∙ none)
+
+pub returns-then-is_kept-clause-kept : goal.returns-then-is_kept-clause-kept
+returns-then-is_kept-clause-kept g c none = sym c.if-is_kept.ensures

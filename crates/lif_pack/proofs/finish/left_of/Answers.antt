@@ -10,8 +10,8 @@ use Rattle.lif_dir.specs.Entries.{slot_bytes}
 use Rattle.lif_volume.specs.declared.fault.VolumeFault.{VolumeFault}
 use Rattle.lif_volume.specs.declared.volume.Listing.{Listing}
 use Rattle.lif_volume.specs.Views.{IsDirectoryOf}
-use Rattle.lif_volume.specs.Answers.{store_answer, IsSettledAs, IsLegalAs}
-use Rattle.lif_pack.proofs.Consulting.{some_of, in_each, left_from, nothing_left}
+use Rattle.lif_volume.specs.Answers.{store_answer, keeps, IsSettledAs, IsLegalAs}
+use Rattle.lif_pack.proofs.Consulting.{none_from, not_refused, some_of, in_each, left_from, nothing_left}
 use Rattle.lif_pack.proofs.Stopped.{shown_settling}
 use Rattle.lif_pack.proofs.Answered.{mounts_within}
 use Rattle.lif_pack.proofs.finish.left_of.Goals as goal
@@ -64,3 +64,17 @@ pub returns-in-Err-Trouble-clause-shown : goal.returns-in-Err-Trouble-clause-sho
 returns-in-Err-Trouble-clause-shown g c t is own =
     let did = c.in-Err-Trouble.ensures.did in
     shown_settling _ _ t (g.met.R.Records.is_store _) (g.met.R.Records.is_store _) is (did.settling t is) (did.stays t is own)
+
+pub returns-in-Ok-clause-mounts : goal.returns-in-Ok-clause-mounts
+returns-in-Ok-clause-mounts g c t v is some = let consults = c.in-Ok.ensures.did.consults in record { few = consults.few t is; keeps = consults.kept }
+
+pub returns-in-Err-Refused-clause-mounts : goal.returns-in-Err-Refused-clause-mounts
+returns-in-Err-Refused-clause-mounts g c t v is some =
+    absurd (not_refused t v some (subst (λ (fault : VolumeFault). IsLegalAs {T = Listing} (settled t) (Err fault)) c.in-Err-Refused.field-0-is (c.in-Err-Refused.ensures.exactly t is)))
+
+pub returns-in-Err-Trouble-clause-mounts : goal.returns-in-Err-Trouble-clause-mounts
+returns-in-Err-Trouble-clause-mounts g c t v is some = record { few = c.in-Err-Trouble.ensures.did.consults.few t is; keeps = tt }
+
+pub returns-in-Err-Trouble-clause-forgets : goal.returns-in-Err-Trouble-clause-forgets
+returns-in-Err-Trouble-clause-forgets g c =
+    none_from c.dir.new.self.kept (c.in-Err-Trouble.ensures.did.consults.kept ∙ ap (λ (fault : VolumeFault). keeps {T = Listing} (Err fault)) c.in-Err-Trouble.field-0-is)

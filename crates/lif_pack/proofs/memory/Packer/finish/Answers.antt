@@ -1,4 +1,4 @@
-use Rattle.std.proofs.Common.{◌≡◌, ◌∙◌, ℕ, true, false, Ok, map, ap, subst}
+use Rattle.std.proofs.Common.{◌≡◌, ◌∙◌, ℕ, true, false, Ok, map, ap, subst, arith}
 use Rattle.std.specs.Prelude.{IfSome}
 use Rattle.lif_model.specs.Volume.{Volume as VolumeModel}
 use Rattle.lif_dir.specs.Entries.{slot_bytes}
@@ -20,3 +20,6 @@ returns-clause-still g c =
     never c.args.volume.now.kept (λ (v : VolumeModel). v.slots ≡ map slot_bytes found) (λ (v : VolumeModel). bears_mark n v ≡ false) c.is_finished.result
     ((c.finish_left.new.volume ≡ c.args.volume.now) × (c.finish_left.result ≡ Ok tt)) c.if-is_finished.false
     (subst (λ (m : ℕ). IfSome c.args.volume.now.kept (λ _. (v : VolumeModel) → v.slots ≡ map slot_bytes found → bears_mark m v ≡ false → c.is_finished.result ≡ true)) size c.is_finished.ensures.unmarked)
+
+pub returns-then-is_finished-clause-mounts : goal.returns-then-is_finished-clause-mounts
+returns-then-is_finished-clause-mounts g c t v is some off = record { few = omega arith; keeps = c.is_finished.ensures.kept c.if-is_finished.true }

@@ -1,5 +1,5 @@
-use Rattle.std.proofs.Common.{◌≡◌, ◌+◌, ◌*◌, ◌∙◌, ℕ, Option, ap, subst, sym, arith}
-use Rattle.std.specs.Prelude.{Some, IfSome, is_some}
+use Rattle.std.proofs.Common.{◌≡◌, ◌+◌, ◌*◌, ◌∙◌, ℕ, Option, ap, subst, sym, arith, rules}
+use Rattle.std.specs.Prelude.{Some, Err, IfSome, is_some}
 use Rattle.std.proofs.lemmas.Result.{on_ok_weaker}
 use Rattle.lif_model.specs.Tape.{Tape, IsTape}
 use Rattle.lif_model.specs.Redo.{settled, IsSettled}
@@ -7,8 +7,10 @@ use Rattle.il_ports.specs.Stores.{GoesOn, RunLeaves}
 use Rattle.il_ports.proofs.Stores.{goes_further, goes_within}
 use Rattle.lif_pack.specs.declared.tasks.Task.{Task}
 use Rattle.lif_pack.specs.Tasks.{MayFinish, IsLeftToDo, IsTaskOf, IsShownAs, calls_to_finish}
+use Rattle.lif_pack.specs.Packing.{bears_mark}
+use Rattle.lif_pack.proofs.Consulting.{task_is_marked}
 use Rattle.lif_pack.proofs.FinishedTape.{finished_after}
-use Rattle.lif_pack.proofs.Stopped.{shown_further, task_not_foreign, few_to_finish}
+use Rattle.lif_pack.proofs.Stopped.{shown_further, task_not_held, few_to_finish}
 use Rattle.lif_pack.proofs.memory.Packer.finish_left.Goals as goal
 
 pub returns-in-None-clause-finished : goal.returns-in-None-clause-finished
@@ -58,4 +60,17 @@ returns-in-Some-clause-shown g c t is own =
 pub returns-in-Some-clause-foreign : goal.returns-in-Some-clause-foreign
 returns-in-Some-clause-foreign g c t is on =
     let tape : IsTape c.args.size t = subst (λ m. IsTape m t) (sym c.requires.size) ((g.met.R.Records.is_store _).is_tape t is) in
-    absurd (task_not_foreign c.args.size t c.in-Some.task tape (subst (IsLeftToDo c.args.size t) c.in-Some.is (c.in_ok-left_of.ensures.left t is).1) on)
+    absurd (task_not_held c.args.size t c.in-Some.task tape (subst (IsLeftToDo c.args.size t) c.in-Some.is (c.in_ok-left_of.ensures.left t is).1) on)
+
+pub returns-in_err-left_of-clause-mounts : goal.returns-in_err-left_of-clause-mounts
+returns-in_err-left_of-clause-mounts g c t v is some off =
+    let passed : c.from_residual.result ≡ Err c.in_err-left_of.field-0.0 = search rules in
+    record { few = (c.in_err-left_of.ensures.mounts t v is some).few; keeps = rw passed tt }
+
+pub returns-in-None-clause-mounts : goal.returns-in-None-clause-mounts
+returns-in-None-clause-mounts g c t v is some off = let alone = c.in_ok-left_of.ensures.mounts t v is some in record { few = alone.few; keeps = alone.keeps }
+
+pub returns-in-Some-clause-mounts : goal.returns-in-Some-clause-mounts
+returns-in-Some-clause-mounts g c t v is some off =
+    absurd (task_is_marked c.args.size t v c.in-Some.task (subst (IsLeftToDo c.args.size t) c.in-Some.is (c.in_ok-left_of.ensures.left t is).1) some
+    (ap (λ (m : ℕ). bears_mark m v) c.requires.size ∙ off))

@@ -1,6 +1,7 @@
 use Rattle.std.proofs.Common.{◌≡◌, ◌+◌, ◌-◌, ◌*◌, ◌/◌, ◌∙◌, ℕ, length, filter, refl, sym, ap, subst, arith, rules}
 use Rattle.std.specs.Prelude.{Err}
 use Rattle.std.proofs.lemmas.List.{length-map}
+use Rattle.lif_model.specs.Tape.{IsTape}
 use Rattle.lif_model.specs.declared.version.Version.TheVariants.{Two}
 use Rattle.lif_model.specs.Redo.{redo_start}
 use Rattle.lif_model.specs.Legal.{is_live}
@@ -16,7 +17,7 @@ use Rattle.lif_pack.specs.Packs.{calls_left_to}
 use Rattle.lif_pack.proofs.Placing.{redo_lies, end_below}
 use Rattle.lif_pack.proofs.Keeping.{kept_further}
 use Rattle.lif_pack.proofs.Held.{left_few, packing_few}
-use Rattle.lif_pack.proofs.PackedTape.{packed_after, packed_may}
+use Rattle.lif_pack.proofs.PackedTape.{packed_after, packed_may, packed_shown}
 use Rattle.lif_pack.proofs.memory.Packer.pack_held.Goals as goal
 
 pub returns-in_err-finish_held-clause-goes_on : goal.returns-in_err-finish_held-clause-goes_on
@@ -191,14 +192,18 @@ returns-clause-packs g c t v is some those =
     let alike : ArePackedAlike n c.args.found.now.end slots1 slots2 = subst (λ (m : ℕ). ArePackedAlike m c.args.found.now.end slots1 slots2) size1 mv.alike in
     let closes = subst (λ (m : ℕ). TapeHasSlots m c.args.found.now.first slots2 (filter is_live slots2) (g.R.Records.view c.move_files.new.records).tape (g.R.Records.view c.close_directory.new.records).tape) size2
     c.in_ok-close_directory.ensures.closes in
-    let u = closes c.args.found.now.end c.args.found.now.redo y.0 may2 y.1 in (
+    let u = closes c.args.found.now.end c.args.found.now.redo y.0 may2 y.1 in
+    let after = packed_after n c.args.found.now.first c.args.found.now.end c.args.found.now.redo slots1 slots2 t x.0 x.2 may2 mv.packed alike y.0 u.0 y.2 u.2 in
+    let size_u : length u.0 ≡ n = ((g.met.R.Records.is_store _).is_tape u.0 u.1).records ∙ c.in_ok-close_directory.ensures.goes_on.continues.size ∙ size2 in
+    let tape_x : IsTape n x.0 = subst (λ (m : ℕ). IsTape m x.0) size1 ((g.met.R.Records.is_store _).is_tape x.0 x.1) in (
       u.0,
       u.1,
       record {
         volume = x.2.volume;
         shown = x.2.shown;
         may = packed_may n c.args.found.now.first c.args.found.now.end c.args.found.now.redo slots1 slots2 t x.0 x.2 may1.0;
-        after = packed_after n c.args.found.now.first c.args.found.now.end c.args.found.now.redo slots1 slots2 t x.0 x.2 may2 mv.packed alike y.0 u.0 y.2 u.2;
+        after = after;
+        shown_after = packed_shown n c.args.found.now.first c.args.found.now.end c.args.found.now.redo slots1 slots2 t x.0 x.2 tape_x may1.0 u.0 size_u after;
         is_settled = c.in_ok-close_directory.ensures.settled u.0 u.1;
         files = c.files_moved.ensures.count n c.args.found.now.first may1.0 x.2.volume x.2.slots_are x.2.ends;
         free = c.from.ensures ∙ c.records_free.ensures x.2.volume x.2.slots_are x.2.ends ∙ ap (λ (m : ℕ). records_free m x.2.volume) (c.size-size.ensures ∙ size1);

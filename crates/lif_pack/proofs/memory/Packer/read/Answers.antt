@@ -13,11 +13,11 @@ use Rattle.lif_volume.specs.Commands.{mounting}
 use Rattle.lif_pack.specs.Packing.{pack_refusal}
 use Rattle.lif_pack.specs.Packers.{slots_held, IsPackerFor}
 use Rattle.lif_pack.specs.Steps.{MayPack}
-use Rattle.lif_pack.specs.Packs.{IsRefusedTo, IsTaskWith, AreThoseOf, header_in, keeps_read}
+use Rattle.lif_pack.specs.Packs.{IsRefusedTo, IsTaskWith, AreThoseOf, header_in}
 use Rattle.lif_pack.proofs.Stopped.{shown_settling}
 use Rattle.lif_pack.proofs.RefusedFinished.{refused_finished}
 use Rattle.lif_pack.proofs.Packable.{kept_volume}
-use Rattle.lif_pack.proofs.Answered.{passed_on, same_tape, mounts_within, mounts_read, refused_by_dir, kept_among}
+use Rattle.lif_pack.proofs.Answered.{passed_on, same_tape, mounts_within, mounts_read, mounts_kept, refused_by_dir}
 use Rattle.lif_pack.proofs.memory.Packer.read.Goals as goal
 
 -- ---- there is no directory
@@ -34,6 +34,9 @@ pub returns-in_err-listing-clause-shown : goal.returns-in_err-listing-clause-sho
 returns-in_err-listing-clause-shown g c t is own =
     let did = c.in_err-listing.ensures.did in
     shown_settling _ _ t (g.met.R.Records.is_store _) (g.met.R.Records.is_store _) is (did.settling t is) (did.stays t is own)
+
+pub returns-in_err-listing-clause-idle : goal.returns-in_err-listing-clause-idle
+returns-in_err-listing-clause-idle g c on = c.in_err-listing.ensures.did.consults.idle (mounts_kept _ _ _ on)
 
 -- ---- it is told
 
@@ -91,11 +94,8 @@ returns-in_err-found-clause-only g c =
     let passed : c.from_residual-in_err-found.result ≡ Err why = passed_on c.from_residual-in_err-found.result why c.from_residual-in_err-found.ensures.0 c.from_residual-in_err-found.ensures.1 in
     rw passed (inr c.in_err-found.ensures.among)
 
-pub returns-in_err-found-clause-kept : goal.returns-in_err-found-clause-kept
-returns-in_err-found-clause-kept g c =
-    let why = refused c.in_err-found.field-0.0 in
-    let passed : c.from_residual-in_err-found.result ≡ Err why = passed_on c.from_residual-in_err-found.result why c.from_residual-in_err-found.ensures.0 c.from_residual-in_err-found.ensures.1 in
-    c.in_ok-listing.ensures.did.consults.kept ∙ sym (kept_among c.in_err-found.field-0.0 c.in_err-found.ensures.among) ∙ sym (ap keeps_read passed)
+pub returns-in_err-found-clause-idle : goal.returns-in_err-found-clause-idle
+returns-in_err-found-clause-idle g c on = c.in_ok-listing.ensures.did.consults.idle (mounts_kept _ _ _ on)
 
 pub returns-in_err-found-clause-refused : goal.returns-in_err-found-clause-refused
 returns-in_err-found-clause-refused g c t u is now =
@@ -123,6 +123,9 @@ returns-in_err-found-clause-shown g c t is own =
     shown_settling _ _ t (g.met.R.Records.is_store _) (g.met.R.Records.is_store _) is (did.settling t is) (did.stays t is own)
 
 -- ---- it may be packed
+
+pub returns-clause-idle : goal.returns-clause-idle
+returns-clause-idle g c on = c.in_ok-listing.ensures.did.consults.idle (mounts_kept _ _ _ on)
 
 pub returns-clause-memory : goal.returns-clause-memory
 returns-clause-memory g c =
