@@ -122,23 +122,23 @@ abbrev status : Flight
 status = sourced 1 (letter 0)
 
 abbrev books : List Planned → ℕ → Option Flight → BooksView
-books plan n held = record { plan = plan; crossings = n; begun = 0; log = []; room = 100; held = held }
+books plan n held = record { plan = plan; crossings = n; begun = 0; log = []; room = 100; held = held; lent = None; kept = None }
 
 nothing_yet : fresh_books plan 100 ≡ books plan 0 None
 nothing_yet = refl
 
 -- NRD comes back, and the byte stays held; ETO is taken; another byte is held in its place
-nrd_back : home (books [] 2 (Some status)) (Some (sourced 0 nrd)) ≡ record { plan = []; crossings = 3; begun = 0; log = entry 0 nrd (outcome.Back nrd) ∷ []; room = 100; held = Some status }
+nrd_back : home (books [] 2 (Some status)) (Some (sourced 0 nrd)) ≡ record { plan = []; crossings = 3; begun = 0; log = entry 0 nrd (outcome.Back nrd) ∷ []; room = 100; held = Some status; lent = None; kept = None }
 nrd_back = refl
 
-eto_taken : home (books [] 2 (Some status)) (Some (sourced 1 eto)) ≡ record { plan = []; crossings = 3; begun = 0; log = entry 1 eto (outcome.Taken 0) ∷ []; room = 100; held = None }
+eto_taken : home (books [] 2 (Some status)) (Some (sourced 1 eto)) ≡ record { plan = []; crossings = 3; begun = 0; log = entry 1 eto (outcome.Taken 0) ∷ []; room = 100; held = None; lent = None; kept = None }
 eto_taken = refl
 
 byte_held : home (books [] 2 None) (Some status) ≡ books [] 3 (Some status)
 byte_held = refl
 
 -- a lost NRD drops the byte, which has no entry: lost on the last link, and lost before
-nrd_lost : home (books (record { hop = 3; fault = Lose } ∷ []) 2 (Some status)) (Some (sourced 0 nrd)) ≡ record { plan = record { hop = 3; fault = Lose } ∷ []; crossings = 3; begun = 0; log = entry 0 nrd (outcome.Lost 0) ∷ []; room = 100; held = None }
+nrd_lost : home (books (record { hop = 3; fault = Lose } ∷ []) 2 (Some status)) (Some (sourced 0 nrd)) ≡ record { plan = record { hop = 3; fault = Lose } ∷ []; crossings = 3; begun = 0; log = entry 0 nrd (outcome.Lost 0) ∷ []; room = 100; held = None; lent = None; kept = None }
 nrd_lost = refl
 
 nrd_lost_before : home (books [] 2 (Some status)) None ≡ books [] 2 None
@@ -226,10 +226,10 @@ abbrev lost_byte : Entry
 lost_byte = entry 0 (letter 0x41) (outcome.Lost 2)
 
 abbrev lost_books : List Planned → BooksView
-lost_books plan = record { plan = plan; crossings = 6; begun = 3; log = lost_byte ∷ []; room = 100; held = None }
+lost_books plan = record { plan = plan; crossings = 6; begun = 3; log = lost_byte ∷ []; room = 100; held = None; lent = None; kept = None }
 
 shows_loss : ShowsPlan (lost_books (alone 5 Lose))
-shows_loss = record { begun = omega arith; entries = All-cons (IsByPlan (alone 5 Lose) 3 6) lost_byte [] lost_entry (All-nil (IsByPlan (alone 5 Lose) 3 6)); held = tt }
+shows_loss = record { begun = omega arith; entries = All-cons (IsByPlan (alone 5 Lose) 3 6) lost_byte [] lost_entry (All-nil (IsByPlan (alone 5 Lose) 3 6)); held = tt; lent = tt; kept = tt }
 
 shows_no_loss : ShowsPlan (lost_books []) → ⊥
 shows_no_loss shows = by (All-head (IsByPlan [] 3 6) lost_byte [] shows.entries)
@@ -240,7 +240,7 @@ shows_no_loss shows = by (All-head (IsByPlan [] 3 6) lost_byte [] shows.entries)
     by (inr (inr met)) = let clash = met.3.planned in cc
 
 -- a log that is emptied begins here, and where a byte is held as it began
-begins_here : books_emptied (books [] 2 None) ≡ record { plan = []; crossings = 2; begun = 2; log = []; room = 100; held = None }
+begins_here : books_emptied (books [] 2 None) ≡ record { plan = []; crossings = 2; begun = 2; log = []; room = 100; held = None; lent = None; kept = None }
 begins_here = refl
 
 begins_before : books_emptied (books [] 2 (Some status)) ≡ books [] 2 (Some status)

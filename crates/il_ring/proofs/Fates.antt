@@ -1,7 +1,6 @@
 -- The log of a ring tells the planned faults as they were planned.
 use Rattle.std.proofs.Common.{◌≡◌, ◌≤◌, ◌+◌, ◌++◌, ◌==◌, ◌&&◌, inl, inr, ℕ, Bool, true, false, not, List, [], ◌∷◌, Option, Some, None, MatchBool, refl, sym, ap, subst, ◌∙◌, arith, nat_lt}
 use Rattle.std.specs.Prelude.{if◌then◌else◌, bit_xor}
-use Rattle.std.specs.List.{All}
 use Rattle.std.proofs.lemmas.List.Elements.{All-nil, All-push, All-weaker}
 use Rattle.std.proofs.lemmas.Bool.{and_parts, ltb-true, not-true}
 use Rattle.il_frames.specs.declared.frame.Frame.{Frame}
@@ -28,9 +27,9 @@ use Rattle.il_ring.specs.declared.plan.PlanFault.TheVariants.{Lose, Alter}
 use Rattle.il_ring.specs.declared.flight.Flight.{Flight}
 use Rattle.il_ring.specs.Plans.{fault_at, next_fault, last_crossing}
 use Rattle.il_ring.specs.Flights.{sourced, altered_by, hit, lost_at, ended_at}
-use Rattle.il_ring.specs.Books.{BooksView, begun_anew, books_emptied}
-use Rattle.il_ring.specs.Fates.{IsMet, IsAltered, IsMetTwice, CameSo, LostSo, EndsSo, IsByPlan, GoesByPlan, HoldsByPlan, ShowsPlan}
-use Rattle.il_ring.specs.Journeys.{Trip, trip, trip_of, answered, missed, Meets, Reaches, Journey}
+use Rattle.il_ring.specs.Books.{BooksView, books_emptied}
+use Rattle.il_ring.specs.Fates.{IsMet, IsAltered, CameSo, LostSo, EndsSo, IsByPlan, GoesByPlan, HoldsByPlan, ShowsPlan}
+use Rattle.il_ring.specs.Journeys.{Trip, trip, trip_of, answered, Meets, Reaches, Journey}
 use Rattle.il_ring.specs.Rings.{books_at, comes, home, over_last_link}
 use Rattle.il_ring.proofs.Faults.{risen_within, risen_later}
 use Rattle.il_ring.proofs.Takings.{served_data}
@@ -114,7 +113,7 @@ module _ (plan : List Planned) (from : ℕ) where
   ways_on to later None le way = tt
   ways_on to later (Some f) le way = way_on to later f le way
 
-  way_passed : (to : ℕ) (f : Flight) (h : Frame) → PassesSo f.now h → GoesByPlan plan from to f → GoesByPlan plan from to (record f { now = h })
+  pub way_passed : (to : ℕ) (f : Flight) (h : Frame) → PassesSo f.now h → GoesByPlan plan from to f → GoesByPlan plan from to (record f { now = h })
   way_passed to f h passes way = record { kind = passes.kind ∙ way.kind; byte = λ is. byte_on f.altered to to f.sent f.now h (omega arith) (passes.byte (way.kind ∙ is)) (way.byte is) }
 
   -- one that was just sent
@@ -122,7 +121,7 @@ module _ (plan : List Planned) (from : ℕ) where
   sourced_way to party f = record { kind = refl; byte = λ is. refl }
 
   -- the entry of one that ended at a party
-  ended_so : (to party : ℕ) (f : Flight) → GoesByPlan plan from to f → IsByPlan plan from to (ended_at f party)
+  pub ended_so : (to party : ℕ) (f : Flight) → GoesByPlan plan from to f → IsByPlan plan from to (ended_at f party)
   ended_so to party f way = by_test (f.source == party)
     where
       by_test : (test : Bool) → EndsSo plan from to f.sent (if test then outcome.Back f.now else outcome.Taken party)
@@ -176,7 +175,7 @@ module _ (plan : List Planned) (from : ℕ) where
           }
       by_test false test = by_kind (is_data f.now) refl test
 
-  hit_so : (n : ℕ) (f : Flight) (fault : Option PlanFault) → from ≤ n → n ≤ last_crossing → next_fault plan n ≡ fault → GoesByPlan plan from n f → GoesSo (risen n) f (hit fault f)
+  pub hit_so : (n : ℕ) (f : Flight) (fault : Option PlanFault) → from ≤ n → n ≤ last_crossing → next_fault plan n ≡ fault → GoesByPlan plan from n f → GoesSo (risen n) f (hit fault f)
   hit_so n f None le within planned way = way_on n (risen n) f (risen_later n within) way
   hit_so n f (Some Lose) le within planned way = inl (next_since n Lose le planned)
   hit_so n f (Some (Alter change)) le within planned way = altered_so n change f le within planned way
@@ -184,28 +183,32 @@ module _ (plan : List Planned) (from : ℕ) where
 -- ---- books
 
 -- later on
-told_on : (b : BooksView) (n : ℕ) → b.crossings ≤ n → ShowsPlan b → ShowsPlan (record b { crossings = n })
+pub told_on : (b : BooksView) (n : ℕ) → b.crossings ≤ n → ShowsPlan b → ShowsPlan (record b { crossings = n })
 told_on b n le told = record {
   begun = omega (arith, le, told.begun);
   entries = All-weaker (IsByPlan b.plan b.begun b.crossings) (IsByPlan b.plan b.begun n) (λ e ends. ends_on b.plan b.begun b.crossings n e.frame e.outcome le ends) b.log told.entries;
   held = ways_on b.plan b.begun b.crossings n b.held le told.held;
+  lent = ways_on b.plan b.begun b.crossings n b.lent le told.lent;
+  kept = ways_on b.plan b.begun b.crossings n b.kept le told.kept;
 }
 
 -- with one entry more
-told_noted : (b : BooksView) (e : Entry) → IsByPlan b.plan b.begun b.crossings e → ShowsPlan b → ShowsPlan (record b { log = b.log ++ e ∷ [] })
-told_noted b e ends told = record { begun = told.begun; entries = All-push (IsByPlan b.plan b.begun b.crossings) b.log e told.entries ends; held = told.held }
+pub told_noted : (b : BooksView) (e : Entry) → IsByPlan b.plan b.begun b.crossings e → ShowsPlan b → ShowsPlan (record b { log = b.log ++ e ∷ [] })
+told_noted b e ends told = record { begun = told.begun; entries = All-push (IsByPlan b.plan b.begun b.crossings) b.log e told.entries ends; held = told.held; lent = told.lent; kept = told.kept }
 
 -- with another frame held, or none
 told_holding : (b : BooksView) (held : Option Flight) → HoldsByPlan b.plan b.begun b.crossings held → ShowsPlan b → ShowsPlan (record b { held = held })
-told_holding b held ways told = record { begun = told.begun; entries = told.entries; held = ways }
+told_holding b held ways told = record { begun = told.begun; entries = told.entries; held = ways; lent = told.lent; kept = told.kept }
 
 -- with an empty log
 pub told_cleared : (b : BooksView) → ShowsPlan b → ShowsPlan (books_emptied b)
-told_cleared b told = by b.held told.held
+told_cleared b told = by b.held b.lent b.kept told.held told.lent told.kept
   where
-    by : (held : Option Flight) → HoldsByPlan b.plan b.begun b.crossings held → ShowsPlan (books_emptied (record b { held = held }))
-    by None way = record { begun = omega arith; entries = All-nil (IsByPlan b.plan b.crossings b.crossings); held = tt }
-    by (Some f) way = record { begun = told.begun; entries = All-nil (IsByPlan b.plan b.begun b.crossings); held = way }
+    by : (held lent kept : Option Flight) → HoldsByPlan b.plan b.begun b.crossings held → HoldsByPlan b.plan b.begun b.crossings lent → HoldsByPlan b.plan b.begun b.crossings kept → ShowsPlan (books_emptied (record b { held = held; lent = lent; kept = kept }))
+    by None None None held lent kept = record { begun = omega arith; entries = All-nil (IsByPlan b.plan b.crossings b.crossings); held = tt; lent = tt; kept = tt }
+    by None None (Some f) held lent kept = record { begun = told.begun; entries = All-nil (IsByPlan b.plan b.begun b.crossings); held = tt; lent = tt; kept = kept }
+    by None (Some f) kept_is held lent kept = record { begun = told.begun; entries = All-nil (IsByPlan b.plan b.begun b.crossings); held = tt; lent = lent; kept = kept }
+    by (Some f) lent_is kept_is held lent kept = record { begun = told.begun; entries = All-nil (IsByPlan b.plan b.begun b.crossings); held = held; lent = lent; kept = kept }
 
 -- ---- a trip
 
@@ -257,7 +260,7 @@ over_so : (b : BooksView) (f : Flight) (o : Option Flight) → GoesSo b.plan b.b
 over_so b f None lost told = told_holding (record b { log = b.log ++ lost_at f 0 ∷ [] }) None tt (told_noted b (lost_at f 0) lost told)
 over_so b f (Some g) way told = comes_so b g (g.source == 0) (is_data g.now) way told
 
-home_so : (b : BooksView) (flight : Option Flight) → b.crossings ≤ last_crossing → HoldsByPlan b.plan b.begun b.crossings flight → ShowsPlan b → ShowsPlan (home b flight)
+pub home_so : (b : BooksView) (flight : Option Flight) → b.crossings ≤ last_crossing → HoldsByPlan b.plan b.begun b.crossings flight → ShowsPlan b → ShowsPlan (home b flight)
 home_so b None within way told = told_holding b None tt told
 home_so b (Some f) within way told =
     let later : ShowsPlan (record b { crossings = risen b.crossings }) = told_on b (risen b.crossings) (risen_later b.crossings within) told in

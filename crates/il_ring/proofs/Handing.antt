@@ -15,56 +15,20 @@ use Rattle.il_device.specs.declared.roles.Roles.{Roles}
 use Rattle.il_device.specs.Roles.{takes_address}
 use Rattle.il_device.specs.State.{DeviceState, risen}
 use Rattle.il_device.specs.Takes.{Takes}
-use Rattle.il_ports.specs.Media.{MediumView}
-use Rattle.il_drive.specs.State.{DriveView, device_of}
 use Rattle.il_guest.specs.Frames.{tct}
 use Rattle.il_guest.specs.Takes.{is_tct}
 use Rattle.loop_model.specs.Entries.{is_frame}
+use Rattle.loop_model.specs.Leading.{is_ifc}
 use Rattle.loop_model.specs.Roles.{passed_on}
+use Rattle.loop_model.proofs.RoleSteps.{changes_roles}
 use Rattle.il_ring.specs.declared.plan.Planned.{Planned}
 use Rattle.il_ring.specs.declared.plan.PlanFault.{PlanFault}
 use Rattle.il_ring.specs.declared.flight.Flight.{Flight}
 use Rattle.il_ring.specs.Plans.{next_fault}
 use Rattle.il_ring.specs.Flights.{sourced, hit}
-use Rattle.il_ring.specs.Books.{IsHeld}
-use Rattle.il_ring.specs.Guests.{HandsNothing}
-use Rattle.il_ring.specs.Journeys.{Trip, answered, Meets, Reaches, Passage, Journey, DriveTakes, is_exact, is_identify_class}
+use Rattle.il_ring.specs.Journeys.{Trip, answered, Meets, Reaches, Journey, is_exact, is_identify_class}
 use Rattle.il_ring.proofs.Passing.{Carries, Exactly, AsData, AsIdentify, carries_on}
-use Rattle.il_ring.proofs.RoundRoles.{hit_carries, sent_quiet}
-use Rattle.il_ring.proofs.RoundCounts.{reached_drive}
-
--- ---- messages
-
--- data and identify frames hand nothing over
-data_class_hands : (k : Class) (byte : ℕ) → is_data_class k ≡ true → is_tct (message_at k byte) ≡ false
-data_class_hands class.Dab byte is = refl
-data_class_hands class.Dsr byte is = refl
-data_class_hands class.End byte is = refl
-data_class_hands class.Esr byte is = refl
-data_class_hands _ byte is = cc
-
-identify_class_hands : (k : Class) (byte : ℕ) → is_identify_class k ≡ true → is_tct (message_at k byte) ≡ false
-identify_class_hands class.Idy byte is = refl
-identify_class_hands class.Isr byte is = refl
-identify_class_hands _ byte is = cc
-
-pub data_hands : (f : Frame) → is_data f ≡ true → is_tct (message_of f) ≡ false
-data_hands f is = data_class_hands (class_of f) (byte_of f) is
-
--- and so is a message behind a device
-passed_hands : (m : Message) (r : Roles) → is_tct m ≡ false → is_tct (passed_on m r) ≡ false
-passed_hands (msg.Aad a) r none = by_test (takes_address r.address a) (a == 30)
-  where
-    by_test : (takes last : Bool) → is_tct (if takes then (if last then msg.Iaa else msg.Aad (suc a)) else msg.Aad a) ≡ false
-    by_test true true = refl
-    by_test true false = refl
-    by_test false last = refl
-passed_hands m r none = none
-
-carried_hands : (m : Message) (f : Frame) → Carries m f → is_tct m ≡ false → is_tct (message_of f) ≡ false
-carried_hands m f (Exactly exact is) none = ap is_tct is ∙ none
-carried_hands m f (AsData keeps is) none = data_hands f is
-carried_hands m f (AsIdentify keeps is) none = identify_class_hands (class_of f) (byte_of f) is
+use Rattle.il_ring.proofs.RoundRoles.{IsQuiet, hit_carries, sent_quiet}
 
 -- ---- each frame carries its own message
 
@@ -103,6 +67,111 @@ carries_class class.Isr byte = AsIdentify refl refl
 carries_own : (f : Frame) → Carries (message_of f) f
 carries_own f = carries_class (class_of f) (byte_of f)
 
+-- ---- a frame that carries no such message
+
+-- it is no message of a data or identify frame, and no device sends it, or makes it of another
+pub record NeverMade (bad : Message → Bool) : Type 0 where
+  pub no_data : (k : Class) (byte : ℕ) → is_data_class k ≡ true → bad (message_at k byte) ≡ false
+  pub no_identify : (k : Class) (byte : ℕ) → is_identify_class k ≡ true → bad (message_at k byte) ≡ false
+  pub passed : (m : Message) (r : Roles) → bad m ≡ false → bad (passed_on m r) ≡ false
+  pub sent : (f : Flight) (quiet : IsQuiet f) → bad quiet.message ≡ false
+
+-- so holds of the frame that is on its way, if any
+abbrev pub OnWay : (Frame → Type 0) → Option Flight → Type 0
+OnWay P None = Unit {0}
+OnWay P (Some f) = P f.now
+
+module _ (bad : Message → Bool) (never : NeverMade bad) where
+  abbrev Lacks : Frame → Type 0
+  Lacks f = bad (message_of f) ≡ false
+
+  carried_lacks : (m : Message) (f : Frame) → Carries m f → bad m ≡ false → Lacks f
+  carried_lacks m f (Exactly exact is) none = ap bad is ∙ none
+  carried_lacks m f (AsData keeps is) none = never.no_data (class_of f) (byte_of f) is
+  carried_lacks m f (AsIdentify keeps is) none = never.no_identify (class_of f) (byte_of f) is
+
+  pub hit_lacks : (fault : Option PlanFault) (f : Flight) (o : Option Flight) → Lacks f.now → hit fault f ≡ o → OnWay Lacks o
+  hit_lacks fault f None none is = tt
+  hit_lacks fault f (Some g) none is = carried_lacks (message_of f.now) g.now (hit_carries (message_of f.now) fault f g (carries_own f.now) is) none
+
+  answered_lacks : (k n : ℕ) (log : List Entry) (g : Flight) (out : Out) (d e : DeviceState) → 1 ≤ k → Lacks g.now → Takes d g.now out e → OnWay Lacks (answered n log k g out).flight
+  answered_lacks k n log g (Pass h) d e some none takes =
+      carried_lacks (passed_on (message_of g.now) d.roles) h (carries_on (message_of g.now) d e g.now h (carries_own g.now) takes) (never.passed (message_of g.now) d.roles none)
+  answered_lacks k n log g (Source h) d e some none takes =
+      let quiet = sent_quiet k d e g.now h some takes in
+      carried_lacks quiet.message h quiet.carries (never.sent (sourced k h) quiet)
+
+  met_lacks : (k : ℕ) (t : Trip) (f : Flight) (o : Option Flight) (d e : DeviceState) (u : Trip) → 1 ≤ k → OnWay Lacks o → Meets Takes k t f o d u e → OnWay Lacks u.flight
+  met_lacks k t f None d e u some none met = subst (OnWay Lacks) (ap (λ (u : Trip). u.flight) (sym met.0)) tt
+  met_lacks k t f (Some g) d e u some none met = subst (OnWay Lacks) (ap (λ (u : Trip). u.flight) (sym met.2)) (answered_lacks k (risen t.crossings) t.log g met.0 d e some none met.1)
+
+  reached_lacks : (plan : List Planned) (k : ℕ) (t : Trip) (o : Option Flight) (d e : DeviceState) (u : Trip) → 1 ≤ k → t.flight ≡ o → OnWay Lacks o → Reaches Takes plan k t o d u e → OnWay Lacks u.flight
+  reached_lacks plan k t None d e u some is none reached = subst (OnWay Lacks) (sym is ∙ ap (λ (u : Trip). u.flight) (sym reached.0)) tt
+  reached_lacks plan k t (Some f) d e u some is none reached =
+      met_lacks k t f (hit (next_fault plan t.crossings) f) d e u some (hit_lacks (next_fault plan t.crossings) f (hit (next_fault plan t.crossings) f) none refl) reached
+
+  -- past devices
+  pub journey_lacks : (plan : List Planned) (k : ℕ) (t u : Trip) (ds es : List DeviceState) → 1 ≤ k → OnWay Lacks t.flight → Journey plan k t ds u es → OnWay Lacks u.flight
+  journey_lacks plan k t u [] [] some none journey = subst (OnWay Lacks) (ap (λ (u : Trip). u.flight) (sym journey)) none
+  journey_lacks plan k t u (d ∷ ds) (e ∷ es) some none journey =
+      journey_lacks plan (k + 1) journey.0 u ds es (omega arith) (reached_lacks plan k t t.flight d e journey.0 some refl none journey.1) journey.2
+  journey_lacks plan k t u [] (e ∷ es) some none journey = absurd journey
+  journey_lacks plan k t u (d ∷ ds) [] some none journey = absurd journey
+
+-- ---- TCT and IFC are such
+
+tct_no_data : (k : Class) (byte : ℕ) → is_data_class k ≡ true → is_tct (message_at k byte) ≡ false
+tct_no_data class.Dab byte is = refl
+tct_no_data class.Dsr byte is = refl
+tct_no_data class.End byte is = refl
+tct_no_data class.Esr byte is = refl
+tct_no_data _ byte is = cc
+
+tct_no_identify : (k : Class) (byte : ℕ) → is_identify_class k ≡ true → is_tct (message_at k byte) ≡ false
+tct_no_identify class.Idy byte is = refl
+tct_no_identify class.Isr byte is = refl
+tct_no_identify _ byte is = cc
+
+tct_passed : (m : Message) (r : Roles) → is_tct m ≡ false → is_tct (passed_on m r) ≡ false
+tct_passed (msg.Aad a) r none = by_test (takes_address r.address a) (a == 30)
+  where
+    by_test : (takes last : Bool) → is_tct (if takes then (if last then msg.Iaa else msg.Aad (suc a)) else msg.Aad a) ≡ false
+    by_test true true = refl
+    by_test true false = refl
+    by_test false last = refl
+tct_passed m r none = none
+
+pub tct_never : NeverMade is_tct
+tct_never = record { no_data = tct_no_data; no_identify = tct_no_identify; passed = tct_passed; sent = λ f quiet. quiet.no_control }
+
+ifc_no_data : (k : Class) (byte : ℕ) → is_data_class k ≡ true → is_ifc (message_at k byte) ≡ false
+ifc_no_data class.Dab byte is = refl
+ifc_no_data class.Dsr byte is = refl
+ifc_no_data class.End byte is = refl
+ifc_no_data class.Esr byte is = refl
+ifc_no_data _ byte is = cc
+
+ifc_no_identify : (k : Class) (byte : ℕ) → is_identify_class k ≡ true → is_ifc (message_at k byte) ≡ false
+ifc_no_identify class.Idy byte is = refl
+ifc_no_identify class.Isr byte is = refl
+ifc_no_identify _ byte is = cc
+
+ifc_passed : (m : Message) (r : Roles) → is_ifc m ≡ false → is_ifc (passed_on m r) ≡ false
+ifc_passed (msg.Aad a) r none = by_test (takes_address r.address a) (a == 30)
+  where
+    by_test : (takes last : Bool) → is_ifc (if takes then (if last then msg.Iaa else msg.Aad (suc a)) else msg.Aad a) ≡ false
+    by_test true true = refl
+    by_test true false = refl
+    by_test false last = refl
+ifc_passed m r none = none
+
+ifc_changes : (m : Message) → changes_roles m ≡ false → is_ifc m ≡ false
+ifc_changes msg.Ifc keeps = cc
+ifc_changes m keeps = refl
+
+pub ifc_never : NeverMade is_ifc
+ifc_never = record { no_data = ifc_no_data; no_identify = ifc_no_identify; passed = ifc_passed; sent = λ f quiet. ifc_changes quiet.message quiet.keeps }
+
 -- ---- TCT alone hands control over
 
 -- where the byte is that of a row, its message does not
@@ -135,51 +204,15 @@ other_class_hands _ byte other = refl
 other_hands : (f : Frame) → is_frame f tct ≡ false → is_tct (message_of f) ≡ false
 other_hands f other = other_class_hands (class_of f) (byte_of f) other
 
--- ---- journeys
-
-hands_hit : (fault : Option PlanFault) (f : Flight) (o : Option Flight) → HandsNothing (Some f) → hit fault f ≡ o → HandsNothing o
-hands_hit fault f None none is = tt
-hands_hit fault f (Some g) none is = carried_hands (message_of f.now) g.now (hit_carries (message_of f.now) fault f g (carries_own f.now) is) none
-
-hands_answered : (k n : ℕ) (log : List Entry) (g : Flight) (out : Out) (d e : DeviceState) → 1 ≤ k → HandsNothing (Some g) → Takes d g.now out e → HandsNothing (answered n log k g out).flight
-hands_answered k n log g (Pass h) d e some none takes =
-    carried_hands (passed_on (message_of g.now) d.roles) h (carries_on (message_of g.now) d e g.now h (carries_own g.now) takes) (passed_hands (message_of g.now) d.roles none)
-hands_answered k n log g (Source h) d e some none takes =
-    let quiet = sent_quiet k d e g.now h some takes in
-    carried_hands quiet.message h quiet.carries quiet.no_control
-
-hands_met : (k : ℕ) (t : Trip) (f : Flight) (o : Option Flight) (d e : DeviceState) (u : Trip) → 1 ≤ k → HandsNothing o → Meets Takes k t f o d u e → HandsNothing u.flight
-hands_met k t f None d e u some none met = subst HandsNothing (ap (λ (u : Trip). u.flight) (sym met.0)) tt
-hands_met k t f (Some g) d e u some none met = subst HandsNothing (ap (λ (u : Trip). u.flight) (sym met.2)) (hands_answered k (risen t.crossings) t.log g met.0 d e some none met.1)
-
-hands_reached : (plan : List Planned) (k : ℕ) (t : Trip) (o : Option Flight) (d e : DeviceState) (u : Trip) → 1 ≤ k → t.flight ≡ o → HandsNothing o → Reaches Takes plan k t o d u e → HandsNothing u.flight
-hands_reached plan k t None d e u some is none reached = subst HandsNothing (sym is ∙ ap (λ (u : Trip). u.flight) (sym reached.0)) tt
-hands_reached plan k t (Some f) d e u some is none reached =
-    hands_met k t f (hit (next_fault plan t.crossings) f) d e u some (hands_hit (next_fault plan t.crossings) f (hit (next_fault plan t.crossings) f) none refl) reached
-
--- past devices
-pub hands_journey : (plan : List Planned) (k : ℕ) (t u : Trip) (ds es : List DeviceState) → 1 ≤ k → HandsNothing t.flight → Journey plan k t ds u es → HandsNothing u.flight
-hands_journey plan k t u [] [] some none journey = subst HandsNothing (ap (λ (u : Trip). u.flight) (sym journey)) none
-hands_journey plan k t u (d ∷ ds) (e ∷ es) some none journey =
-    hands_journey plan (k + 1) journey.0 u ds es (omega arith) (hands_reached plan k t t.flight d e journey.0 some refl none journey.1) journey.2
-hands_journey plan k t u [] (e ∷ es) some none journey = absurd journey
-hands_journey plan k t u (d ∷ ds) [] some none journey = absurd journey
-
--- past the drive
-pub hands_drive : {M : Type 0} (view : M → MediumView) (plan : List Planned) (k : ℕ) (t u : Trip) (d e : DriveView M) → 1 ≤ k → HandsNothing t.flight → Passage (DriveTakes view) plan k t d u e → HandsNothing u.flight
-hands_drive view plan k t u d e some none passage = hands_reached plan k t t.flight (device_of d.state) (device_of e.state) u some refl none (reached_drive view plan k t t.flight d e u passage)
-
--- ---- frames that go round
-
--- behind a link
-pub hands_behind : (fault : Option PlanFault) (f g : Flight) → HandsNothing (Some f) → hit fault f ≡ Some g → is_tct (message_of g.now) ≡ false
-hands_behind fault f g none is = hands_hit fault f (Some g) none is
+-- ---- frames that set out
 
 -- of the host
-pub hands_sent : (f : Frame) (flight : Flight) → flight ≡ sourced 0 f → is_frame f tct ≡ false → HandsNothing (Some flight)
-hands_sent f flight is other = subst (λ flight. HandsNothing (Some flight)) (sym is) (other_hands f other)
+pub hands_sent : (f : Frame) (flight : Flight) → flight ≡ sourced 0 f → is_frame f tct ≡ false → is_tct (message_of flight.now) ≡ false
+hands_sent f flight is other = ap (λ flight. is_tct (message_of flight.now)) is ∙ other_hands f other
 
--- that was held
-pub hands_held : (held : Option Flight) → IsHeld held → HandsNothing held
-hands_held None is = tt
-hands_held (Some f) is = data_hands f.now is.1
+-- data and end frames
+pub data_hands : (f : Frame) → is_data f ≡ true → is_tct (message_of f) ≡ false
+data_hands f is = tct_no_data (class_of f) (byte_of f) is
+
+pub data_no_ifc : (f : Frame) → is_data f ≡ true → is_ifc (message_of f) ≡ false
+data_no_ifc f is = ifc_no_data (class_of f) (byte_of f) is

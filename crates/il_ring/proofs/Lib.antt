@@ -1,5 +1,4 @@
 pub mod Journeys
-pub mod Rounds
 pub mod Ways
 pub mod Counts
 pub mod Takings
@@ -12,6 +11,14 @@ pub mod RolesHome
 pub mod RoundPlaces
 pub mod Handing
 pub mod Guests
+pub mod Lendings
+pub mod LedRounds
+pub mod LedWalks
+pub mod BeforeLast
+pub mod LedFates
+pub mod LedSteps
+pub mod LedRings
+pub mod LedSends
 pub mod Faults
 pub mod Passed
 pub mod Passes
@@ -39,6 +46,7 @@ pub mod Fates
 pub mod Papers
 pub mod Rings
 pub mod Examples
+pub mod LendingExamples
 pub mod SendLaws
 pub mod Adding
 pub mod RoundAdds

@@ -52,11 +52,11 @@ Meets-crossings : {D : Type 0} (takes : D → Frame → Out → D → Type 0) (k
 Meets-crossings takes k t u f None d e meets = let at = ap (λ (t : Trip). t.crossings) meets.0 in omega (arith, at)
 Meets-crossings takes k t u f (Some g) d e meets = let at = answered-crossings (risen t.crossings) k g t u meets.0 meets.2 in omega (arith, at)
 
-Reaches-crossings : {D : Type 0} (takes : D → Frame → Out → D → Type 0) (plan : List Planned) (k : ℕ) (t u : Trip) (o : Option Flight) (d e : D) → t.crossings ≤ last_crossing → Reaches takes plan k t o d u e → u.crossings ≤ last_crossing
+pub Reaches-crossings : {D : Type 0} (takes : D → Frame → Out → D → Type 0) (plan : List Planned) (k : ℕ) (t u : Trip) (o : Option Flight) (d e : D) → t.crossings ≤ last_crossing → Reaches takes plan k t o d u e → u.crossings ≤ last_crossing
 Reaches-crossings takes plan k t u None d e within reaches = let at = ap (λ (t : Trip). t.crossings) reaches.0 in omega (arith, at, within)
 Reaches-crossings takes plan k t u (Some f) d e within reaches = Meets-crossings takes k t u f (hit (next_fault plan t.crossings) f) d e reaches
 
-Journey-crossings : (plan : List Planned) (k : ℕ) (t u : Trip) (ds es : List DeviceState) → t.crossings ≤ last_crossing → Journey plan k t ds u es → u.crossings ≤ last_crossing
+pub Journey-crossings : (plan : List Planned) (k : ℕ) (t u : Trip) (ds es : List DeviceState) → t.crossings ≤ last_crossing → Journey plan k t ds u es → u.crossings ≤ last_crossing
 Journey-crossings plan k t u [] [] within journey = let at = ap (λ (t : Trip). t.crossings) journey in omega (arith, at, within)
 Journey-crossings plan k t u (d ∷ ds) (e ∷ es) within journey =
     Journey-crossings plan (k + 1) journey.0 u ds es (Reaches-crossings Takes plan k t journey.0 t.flight d e within journey.1) journey.2
@@ -93,25 +93,27 @@ record KeepsPlace (b c : BooksView) : Type 0 where
   plan : c.plan ≡ b.plan
   room : c.room ≡ b.room
   begun : c.begun ≡ b.begun
+  lent : c.lent ≡ b.lent
+  kept : c.kept ≡ b.kept
   grows : length c.log ≤ length b.log + 1
 
 one_entry : (log : List Entry) (e : Entry) → length (log ++ e ∷ []) ≤ length log + 1
 one_entry log e = let len = length-append log (e ∷ []) in omega (arith, len)
 
 comes-place : (b : BooksView) (f : Flight) (own data_frame : Bool) → KeepsPlace b (comes b f own data_frame)
-comes-place b f true data_frame = record { plan = refl; room = refl; begun = refl; grows = one_entry b.log (ended_at f 0) }
-comes-place b f false true = record { plan = refl; room = refl; begun = refl; grows = omega arith }
-comes-place b f false false = record { plan = refl; room = refl; begun = refl; grows = one_entry b.log (ended_at f 0) }
+comes-place b f true data_frame = record { plan = refl; room = refl; begun = refl; lent = refl; kept = refl; grows = one_entry b.log (ended_at f 0) }
+comes-place b f false true = record { plan = refl; room = refl; begun = refl; lent = refl; kept = refl; grows = omega arith }
+comes-place b f false false = record { plan = refl; room = refl; begun = refl; lent = refl; kept = refl; grows = one_entry b.log (ended_at f 0) }
 
 over-place : (b : BooksView) (f : Flight) (o : Option Flight) → KeepsPlace b (over_last_link b f o)
-over-place b f None = record { plan = refl; room = refl; begun = refl; grows = one_entry b.log (lost_at f 0) }
+over-place b f None = record { plan = refl; room = refl; begun = refl; lent = refl; kept = refl; grows = one_entry b.log (lost_at f 0) }
 over-place b f (Some g) = comes-place b g (g.source == 0) (is_data g.now)
 
 home-place : (b : BooksView) (flight : Option Flight) → KeepsPlace b (home b flight)
-home-place b None = record { plan = refl; room = refl; begun = refl; grows = omega arith }
+home-place b None = record { plan = refl; room = refl; begun = refl; lent = refl; kept = refl; grows = omega arith }
 home-place b (Some f) =
     let over = over-place (record b { crossings = risen b.crossings }) f (hit (next_fault b.plan b.crossings) f) in
-    record { plan = over.plan; room = over.room; begun = over.begun; grows = over.grows }
+    record { plan = over.plan; room = over.room; begun = over.begun; lent = over.lent; kept = over.kept; grows = over.grows }
 
 module _ {M : Type 0} (view : M → MediumView) (r s : RingView M) (held : Option Flight) (f : Flight) (answer : Arrival) (round : Round view r held f answer s) where
   at_home : KeepsPlace (books_at (record r.books { held = held }) round.behind) s.books
@@ -126,13 +128,19 @@ module _ {M : Type 0} (view : M → MediumView) (r s : RingView M) (held : Optio
   pub round-begun : s.books.begun ≡ r.books.begun
   round-begun = at_home.begun
 
+  round-lent : s.books.lent ≡ r.books.lent
+  round-lent = at_home.lent
+
+  round-kept : s.books.kept ≡ r.books.kept
+  round-kept = at_home.kept
+
 -- ---- the drive keeps its law
 
 Meets-drive : {M : Type 0} (view : M → MediumView) (k : ℕ) (t u : Trip) (f : Flight) (o : Option Flight) (d e : DriveView M) → (n : ℕ) × IsDrive n d.state → Meets (DriveTakes view) k t f o d u e → (n : ℕ) × IsDrive n e.state
 Meets-drive view k t u f None d e is meets = subst (λ (d : DriveView _). (n : ℕ) × IsDrive n d.state) (sym meets.1) is
 Meets-drive view k t u f (Some g) d e is meets = ((view e.medium).record_count, meets.1.law)
 
-Reaches-drive : {M : Type 0} (view : M → MediumView) (plan : List Planned) (k : ℕ) (t u : Trip) (o : Option Flight) (d e : DriveView M) → (n : ℕ) × IsDrive n d.state → Reaches (DriveTakes view) plan k t o d u e → (n : ℕ) × IsDrive n e.state
+pub Reaches-drive : {M : Type 0} (view : M → MediumView) (plan : List Planned) (k : ℕ) (t u : Trip) (o : Option Flight) (d e : DriveView M) → (n : ℕ) × IsDrive n d.state → Reaches (DriveTakes view) plan k t o d u e → (n : ℕ) × IsDrive n e.state
 Reaches-drive view plan k t u None d e is reaches = subst (λ (d : DriveView _). (n : ℕ) × IsDrive n d.state) (sym reaches.1) is
 Reaches-drive view plan k t u (Some f) d e is reaches = Meets-drive view k t u f (hit (next_fault plan t.crossings) f) d e is reaches
 
@@ -165,6 +173,8 @@ IsRing-round view r s held f answer round is is_held ways way =
       held = books.held;
       drive = Reaches-drive view r.books.plan (length r.before + 1) round.at_drive round.past_drive round.at_drive.flight r.drive s.drive is.drive round.at;
       guest = subst IsUnderHost (sym round.guest) is.guest;
+      lent = round-lent view r s held f answer round ∙ is.lent;
+      kept = round-kept view r s held f answer round ∙ is.kept;
       told = round-told view r s held f answer round is ways way;
     }
 
@@ -181,4 +191,4 @@ IsRing-relay view r s f answer round is held = IsRing-round view r s None f answ
 
 -- and so does an emptying of the log
 pub IsRing-clear : {M : Type 0} (r : RingView M) → IsRing r → IsRing (ring_emptied r)
-IsRing-clear r is = record { few = is.few; plan = is.plan; crossings = is.crossings; held = is.held; drive = is.drive; guest = is.guest; told = told_cleared r.books is.told }
+IsRing-clear r is = record { few = is.few; plan = is.plan; crossings = is.crossings; held = is.held; drive = is.drive; guest = is.guest; lent = is.lent; kept = is.kept; told = told_cleared r.books is.told }

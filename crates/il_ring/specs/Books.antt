@@ -7,7 +7,8 @@ use Rattle.il_ring.specs.declared.flight.Flight.{Flight}
 use Rattle.il_ring.specs.Plans.{last_crossing, fault_at, rises_from}
 
 -- the planned faults; how many crossings of links there were, and how many as the log was last emptied with no frame held;
--- the log, oldest entry first; how many entries it has room for; and a data or end frame of a device that stands at the host
+-- the log, oldest entry first; how many entries it has room for; a data or end frame of a device that stands at the host; and,
+-- while the ring is lent to a second controller, the frame that stands at the host, and a data or end frame that that one keeps
 pub record BooksView : Type 0 where
   pub plan : List Planned
   pub crossings : ℕ
@@ -15,20 +16,25 @@ pub record BooksView : Type 0 where
   pub log : List Entry
   pub room : ℕ
   pub held : Option Flight
+  pub lent : Option Flight
+  pub kept : Option Flight
 
 -- only data and end frames of devices are held
 abbrev pub IsHeld : Option Flight → Type 0
 IsHeld None = Unit {0}
 IsHeld (Some f) = (f.source ≢ 0) × (is_data f.now ≡ true)
 
--- where the log begins that is emptied after so many crossings: here, or where it began while a frame is held
+-- where the log begins that is emptied after so many crossings: here, or where it began while this frame stands somewhere
 abbrev pub begun_anew : Option Flight → ℕ → ℕ → ℕ
 begun_anew None crossings begun = crossings
 begun_anew (Some f) crossings begun = begun
 
 -- the books with an empty log
 abbrev pub books_emptied : BooksView → BooksView
-books_emptied b = record b { log = []; begun = begun_anew b.held b.crossings b.begun }
+books_emptied b = record b {
+  log = [];
+  begun = begun_anew b.held (begun_anew b.lent (begun_anew b.kept b.crossings b.begun) b.begun) b.begun;
+}
 
 -- what holds of the books at every moment, with so many entries in memory for so many
 pub record IsBooks (count capacity : ℕ) (b : BooksView) : Type 0 where
@@ -43,10 +49,13 @@ pub record IsPassed (plan : List Planned) (crossings passed : ℕ) : Type 0 wher
   pub later : (n : ℕ) → crossings < n → fault_at plan n ≡ fault_at (drop passed plan) n
   pub coming : rises_from crossings (drop passed plan) ≡ true
 
--- a frame went past so many parties: plan, room, held frame and where the log begins are as before, and the log grew by so many entries at most
+-- a frame went past so many parties: plan, room, the frames that stand and where the log begins are as before, and the log grew by so many
+-- entries at most
 pub record KeepsBooks (parties : ℕ) (old new : BooksView) : Type 0 where
   pub plan : new.plan ≡ old.plan
   pub room : new.room ≡ old.room
   pub held : new.held ≡ old.held
+  pub lent : new.lent ≡ old.lent
+  pub kept : new.kept ≡ old.kept
   pub begun : new.begun ≡ old.begun
   pub grows : length new.log ≤ length old.log + parties

@@ -56,8 +56,10 @@ abbrev pub HoldsByPlan : List Planned → ℕ → ℕ → Option Flight → Type
 HoldsByPlan plan from to None = Unit {0}
 HoldsByPlan plan from to (Some f) = GoesByPlan plan from to f
 
--- the log that began after so many crossings tells each fate as it was planned, and so does the frame that is held
+-- the log that began after so many crossings tells each fate as it was planned, and so do the frames that stand somewhere
 pub record ShowsPlan (b : BooksView) : Type 0 where
   pub begun : b.begun ≤ b.crossings
   pub entries : All (IsByPlan b.plan b.begun b.crossings) b.log
   pub held : HoldsByPlan b.plan b.begun b.crossings b.held
+  pub lent : HoldsByPlan b.plan b.begun b.crossings b.lent
+  pub kept : HoldsByPlan b.plan b.begun b.crossings b.kept

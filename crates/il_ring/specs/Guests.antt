@@ -1,12 +1,9 @@
 -- A second controller on a ring. It stands last, and its device is one of the ring's devices; what else it has in mind stands beside them.
-use Rattle.std.specs.Prelude.{◌≡◌, ℕ, false, List, [], ◌∷◌, ◌++◌, Option, Some, None, option_map}
-use Rattle.il_frames.specs.Messages.{message_of}
+use Rattle.std.specs.Prelude.{◌≡◌, ℕ, List, [], ◌∷◌, ◌++◌, Option, Some, None, option_map}
 use Rattle.il_device.specs.State.{DeviceState, IsIdle}
 use Rattle.il_guest.specs.declared.control.Control.{Control}
 use Rattle.il_guest.specs.declared.control.Control.TheVariants as control
 use Rattle.il_guest.specs.State.{GuestState, IsGuest}
-use Rattle.il_guest.specs.Takes.{is_tct}
-use Rattle.il_ring.specs.declared.flight.Flight.{Flight}
 
 -- the last address that it asks; who controls the loop, and where it stands in its rounds; and by address the last status
 -- that was told since it took control
@@ -35,6 +32,11 @@ abbrev pub IsUnderHost : Option GuestMind → Type 0
 IsUnderHost None = Unit {0}
 IsUnderHost (Some mind) = mind.control ≡ control.Host
 
+-- where there is one, it keeps its rules
+abbrev pub IsLast : Option GuestState → Type 0
+IsLast None = Unit {0}
+IsLast (Some g) = IsGuest g
+
 -- where there is one, it keeps its rules, and the host controls the loop
 abbrev pub MayBeGuest : Option GuestState → Type 0
 MayBeGuest None = Unit {0}
@@ -45,8 +47,3 @@ MayBeGuest (Some g) = IsGuest g × (g.control ≡ control.Host)
 abbrev pub IsIdleGuest : Option GuestState → Type 0
 IsIdleGuest None = Unit {0}
 IsIdleGuest (Some g) = IsIdle g.device × (g.control ≡ control.Host)
-
--- no frame is on its way that hands control over
-abbrev pub HandsNothing : Option Flight → Type 0
-HandsNothing None = Unit {0}
-HandsNothing (Some f) = is_tct (message_of f.now) ≡ false

@@ -12,3 +12,4 @@ pub mod Outcomes
 pub mod Adds
 pub mod Polls
 pub mod Seen
+pub mod Lending

@@ -41,8 +41,8 @@ drive_party r = length r.before + 1
 abbrev pub spare_of : {M : Type 0} → RingView M → ℕ
 spare_of r = r.books.room - length r.books.log
 
--- what holds of a ring at every moment from its making on; its drive is one over a tape of some number of records, the host
--- controls it, and its log tells the planned faults as they were planned
+-- what holds of a ring at every moment at which the host controls it; its drive is one over a tape of some number of records, no
+-- frame stands as on a lent ring, and its log tells the planned faults as they were planned
 pub record IsRing {M : Type 0} (r : RingView M) : Type 0 where
   pub few : length r.before + length r.after ≤ 29
   pub plan : IsPlan r.books.plan
@@ -50,6 +50,8 @@ pub record IsRing {M : Type 0} (r : RingView M) : Type 0 where
   pub held : IsHeld r.books.held
   pub drive : (n : ℕ) × IsDrive n r.drive.state
   pub guest : IsUnderHost r.guest
+  pub lent : r.books.lent ≡ None
+  pub kept : r.books.kept ≡ None
   pub told : ShowsPlan r.books
 
 -- ---- a new ring
@@ -64,7 +66,7 @@ MayStand d = IsIdle d × (d.accessory ≢ Some drive_id) × IsDevice d
 
 -- nothing has happened yet
 abbrev pub fresh_books : List Planned → ℕ → BooksView
-fresh_books plan room = record { plan = plan; crossings = 0; begun = 0; log = []; room = room; held = None }
+fresh_books plan room = record { plan = plan; crossings = 0; begun = 0; log = []; room = room; held = None; lent = None; kept = None }
 
 -- with an empty log
 abbrev pub ring_emptied : {M : Type 0} → RingView M → RingView M

@@ -1,10 +1,11 @@
-ghost use Rattle.std.specs.Prelude.{◌≡◌, ◌+◌, ◌-◌, ◌<◌, ◌≤◌, [], ◌∷◌, ◌++◌, ◌==◌, IfOk, OnSome, IfNone, IfSome, Some, None, length, vec_len, vec_capacity};
+ghost use Rattle.std.specs.Prelude.{◌≡◌, ℕ, ◌+◌, ◌-◌, ◌<◌, ◌≤◌, [], ◌∷◌, ◌++◌, ◌==◌, IfOk, OnSome, IfNone, IfSome, Some, None, length, vec_len, vec_capacity};
 ghost use Rattle.il_device.specs.State.{risen};
 ghost use Rattle.il_ring.specs.Plans.{next_fault, IsPlan};
 ghost use Rattle.il_ring.specs.Flights.{hit, lost_at, ended_at};
 ghost use Rattle.il_ring.specs.Books.{IsHeld, books_emptied};
 ghost use Rattle.il_frames.specs.Frames.{is_data};
 ghost use Rattle.il_ring.specs.Rings.{fresh_books, home, comes, arrived, arriving};
+ghost use Rattle.il_ring.specs.Lending.{before_last, lent_home, lent_lost, lending_ended};
 
 use crate::flight::Flight;
 use crate::plan::{Arrival, PlanFault, Planned};
@@ -25,6 +26,10 @@ pub(crate) struct Books {
     log: Vec<Entry>,
     room: usize,
     held: Option<Flight>,
+    /// The frame that stands at the host while the ring is lent.
+    lent: Option<Flight>,
+    /// The data or end frame that the second controller keeps while its NRD is on its way.
+    kept: Option<Flight>,
 }
 
 impl Model for Books {
@@ -33,9 +38,9 @@ impl Model for Books {
 
     ghost Value = { BooksView };
 
-    ghost view = { λ b. record { plan = b.plan.items; crossings = b.crossings; begun = b.begun; log = b.log.items; room = b.room; held = b.held } };
+    ghost view = { λ b. record { plan = b.plan.items; crossings = b.crossings; begun = b.begun; log = b.log.items; room = b.room; held = b.held; lent = b.lent; kept = b.kept } };
 
-    ghost invariant = { λ b. IsBooks (vec_len b.log) (vec_capacity b.log) (record { plan = b.plan.items; crossings = b.crossings; begun = b.begun; log = b.log.items; room = b.room; held = b.held })
+    ghost invariant = { λ b. IsBooks (vec_len b.log) (vec_capacity b.log) (record { plan = b.plan.items; crossings = b.crossings; begun = b.begun; log = b.log.items; room = b.room; held = b.held; lent = b.lent; kept = b.kept })
         × IsPassed b.plan.items b.crossings b.passed };
 }
 
@@ -54,6 +59,8 @@ impl Books {
             log: Vec::with_capacity(alloc, room)?,
             room,
             held: None,
+            lent: None,
+            kept: None,
         })
     }
 
@@ -71,12 +78,12 @@ impl Books {
         &self.log
     }
 
-    /// Empties the log, which begins here where no frame is held.
+    /// Empties the log, which begins here where no frame stands anywhere.
     pub fn clear_log(&mut self)
         ensures { self.new ≡ books_emptied self.old }
     {
         self.log.clear();
-        if self.held.is_none() {
+        if self.held.is_none() && self.lent.is_none() && self.kept.is_none() {
             self.begun = self.crossings;
         }
     }
@@ -153,11 +160,15 @@ impl Books {
     /// What comes to the host over the last link. `None` where the frame was lost before or is lost
     /// there.
     fn cross_last(&mut self, flight: Option<Flight>) -> Option<Flight>
-        requires { length self.old.log < self.old.room }
+        requires { IfSome flight (λ f. length self.old.log < self.old.room) }
         ensures arriving { result ≡ arriving self.old.plan self.old.crossings flight }
         ensures arrived { IfSome result (λ f. home self.old flight ≡ comes self.new f (f.source == 0) (is_data f.now)) }
         ensures lost { IfNone result (home self.old flight ≡ record self.new { held = None }) }
+        ensures lent { IfSome result (λ f. (k : ℕ) → lent_home k self.old flight
+            ≡ record self.new { held = None; lent = Some f }) }
+        ensures lent_lost { IfNone result ((k : ℕ) → lent_home k self.old flight ≡ lent_lost k self.new) }
         ensures room { OnSome result ((self.new.room ≡ self.old.room) × (self.new.log ≡ self.old.log)) }
+        ensures grows { (self.new.room ≡ self.old.room) × (length self.new.log ≤ length self.old.log + 1) }
     {
         self.cross(flight?, 0)
     }
@@ -166,7 +177,7 @@ impl Books {
     /// frame of a device is held there, and any other frame of a device is taken. Where it is lost
     /// nothing is held any more.
     pub fn home(&mut self, flight: Option<Flight>) -> Arrival
-        requires { length self.old.log < self.old.room }
+        requires { IfSome flight (λ f. length self.old.log < self.old.room) }
         ensures books { self.new ≡ home self.old flight }
         ensures answer { result ≡ arrived (arriving self.old.plan self.old.crossings flight) }
     {
@@ -183,6 +194,93 @@ impl Books {
             self.held = None;
         }
         Arrival::Frame(flight.now)
+    }
+
+    /// The frame that stands at the host while the ring is lent.
+    pub fn lent(&self) -> Option<Flight>
+        ensures { result ≡ self.now.lent }
+    {
+        self.lent
+    }
+
+    /// The same, which stands there no more.
+    pub fn take_lent(&mut self) -> Option<Flight>
+        ensures value { result ≡ self.old.lent }
+        ensures gone { self.new ≡ record self.old { lent = None } }
+    {
+        self.lent.take()
+    }
+
+    /// The second controller keeps a data or end frame.
+    pub fn keep(&mut self, flight: Flight)
+        ensures { self.new ≡ record self.old { kept = Some flight } }
+    {
+        self.kept = Some(flight);
+    }
+
+    /// The frame that the second controller keeps, which it lets go.
+    pub fn take_kept(&mut self) -> Option<Flight>
+        ensures value { result ≡ self.old.kept }
+        ensures gone { self.new ≡ record self.old { kept = None } }
+    {
+        self.kept.take()
+    }
+
+    /// The ring is lent no more: the frame that stands at the host ends there, and before it the one
+    /// that the second controller, this party, keeps.
+    pub fn end_lending(&mut self, party: u8)
+        requires { length self.old.log + 1 < self.old.room }
+        ensures { self.new ≡ lending_ended party self.old }
+    {
+        if let Some(kept) = self.kept.take() {
+            self.finish(kept, party);
+        }
+        if let Some(lent) = self.lent.take() {
+            self.finish(lent, 0);
+        }
+    }
+
+    /// The same as `home` while a second controller, this party, controls: what comes to the host
+    /// stands there. Where it is lost the ring is lent no more.
+    pub fn lent_home(&mut self, flight: Option<Flight>, party: u8) -> Arrival
+        requires { length self.old.log + 1 < self.old.room }
+        ensures books { self.new ≡ lent_home party self.old flight }
+        ensures answer { result ≡ arrived (arriving self.old.plan self.old.crossings flight) }
+    {
+        let Some(flight) = self.cross_last(flight) else {
+            self.lose_lent(party);
+            return Arrival::Lost;
+        };
+        self.held = None;
+        self.lent = Some(flight);
+        Arrival::Frame(flight.now)
+    }
+
+    /// Nothing came home: what the second controller keeps was taken there before the last frame
+    /// ended.
+    fn lose_lent(&mut self, party: u8)
+        requires { length self.old.log < self.old.room }
+        ensures { self.new ≡ lent_lost party self.old }
+    {
+        self.held = None;
+        self.lent = None;
+        if let Some(kept) = self.kept.take() {
+            self.note_before_last(kept.ended_at(party));
+        }
+    }
+
+    /// Puts an entry directly before the last one.
+    fn note_before_last(&mut self, entry: Entry)
+        requires { length self.old.log < self.old.room }
+        ensures { self.new ≡ record self.old { log = before_last entry self.old.log } }
+    {
+        let len = self.log.len();
+        if len == 0 {
+            return self.note(entry);
+        }
+        let last = self.log[len - 1];
+        self.log[len - 1] = entry;
+        self.note(last);
     }
 }
 

@@ -1,24 +1,17 @@
-ghost use Rattle.std.specs.Prelude.{◌≡◌, ◌<◌, ◌≤◌, ◌+◌, false, Some, None, length, option_map};
-ghost use Rattle.il_frames.specs.Messages.{message_of};
-ghost use Rattle.il_device.specs.Takes.{Takes};
-ghost use Rattle.il_device.specs.declared.device.Out.TheVariants as out;
+ghost use Rattle.std.specs.Prelude.{◌≡◌, ◌<◌, ◌≤◌, ◌+◌, length, option_map};
 ghost use Rattle.il_guest.specs.State.{IsGuest};
-ghost use Rattle.il_guest.specs.Takes.{is_tct};
-ghost use Rattle.il_guest.specs.declared.control.Control.TheVariants as control;
 ghost use Rattle.il_ring.specs.Books.{KeepsBooks};
-ghost use Rattle.il_ring.specs.Guests.{mind_of, guest_mind, guest_devices, MayBeGuest, HandsNothing};
-ghost use Rattle.il_ring.specs.Journeys.{Passage, Journey, trip_of};
+ghost use Rattle.il_ring.specs.Guests.{guest_mind, guest_devices, MayBeGuest};
+ghost use Rattle.il_ring.specs.Journeys.{trip_of};
+ghost use Rattle.il_ring.specs.Lending.{LastPassage, GuestReaches, leads, led, led_answers};
 ghost use Rattle.il_ring.specs.Rings.{paper_of};
 
 use crate::books::Books;
 use crate::flight::Flight;
-use crate::walk::go_on;
-use il_device::Out;
-use il_frames::Frame;
 use il_guest::{Guest, GuestOut};
 use std::marker::Model;
 
-/// The last party of a ring, where a second controller stands there. The host controls the loop.
+/// The last party of a ring, where a second controller stands there.
 #[derive(Drop)]
 pub(crate) struct Last {
     guest: Option<Guest>,
@@ -27,13 +20,13 @@ pub(crate) struct Last {
 impl Model for Last {
     ghost use Rattle.std.specs.Prelude.{Option};
     ghost use Rattle.il_guest.specs.State.{GuestState};
-    ghost use Rattle.il_ring.specs.Guests.{MayBeGuest};
+    ghost use Rattle.il_ring.specs.Guests.{IsLast};
 
     ghost Value = { Option GuestState };
 
     ghost view = { λ l. l.guest };
 
-    ghost invariant = { λ l. MayBeGuest l.guest };
+    ghost invariant = { λ l. IsLast l.guest };
 }
 
 impl Last {
@@ -50,6 +43,16 @@ impl Last {
         ensures { option_map (λ g. g.now) result ≡ self.now }
     {
         self.guest.as_ref()
+    }
+
+    /// Whether a second controller controls the loop.
+    pub fn leads(&self) -> bool
+        ensures { result ≡ leads (guest_mind self.now) }
+    {
+        match &self.guest {
+            None => false,
+            Some(guest) => guest.in_control(),
+        }
     }
 
     /// How many devices it is: one or none.
@@ -78,14 +81,13 @@ impl Last {
         self.guest
     }
 
-    /// A frame that does not hand control over goes past it.
+    /// A frame goes past it.
     pub fn pass(&mut self, party: u8, books: &mut Books, flight: Option<Flight>) -> Option<Flight>
-        requires room { length books.old.log < books.old.room }
-        requires hands { HandsNothing flight }
-        ensures journey { Journey books.old.plan party (trip_of books.old flight) (guest_devices self.old) (trip_of books.new result) (guest_devices self.new) }
-        ensures mind { guest_mind self.new ≡ guest_mind self.old }
+        requires { length books.old.log < books.old.room }
+        ensures passage { LastPassage books.old.plan party (trip_of books.old flight) books.old.kept self.old
+            (led (trip_of books.new result) books.new.kept) self.new }
         ensures count { length (guest_devices self.new) ≡ length (guest_devices self.old) }
-        ensures books { KeepsBooks 1 books.old books.new }
+        ensures books { KeepsBooks 1 (record books.old { kept = books.new.kept }) books.new }
     {
         match &mut self.guest {
             None => flight,
@@ -102,30 +104,44 @@ fn pass_guest(
     flight: Option<Flight>,
 ) -> Option<Flight>
     requires room { length books.old.log < books.old.room }
-    requires hands { HandsNothing flight }
     requires guest { IsGuest guest.old }
-    requires host { guest.old.control ≡ control.Host }
-    ensures passage { Passage Takes books.old.plan party (trip_of books.old flight) guest.old.device (trip_of books.new result) guest.new.device }
-    ensures mind { mind_of guest.new ≡ mind_of guest.old }
+    ensures passage { GuestReaches books.old.plan party (trip_of books.old flight) books.old.kept flight guest.old
+        (led (trip_of books.new result) books.new.kept) guest.new }
     ensures guest { IsGuest guest.new }
-    ensures books { KeepsBooks 1 books.old books.new }
+    ensures books { KeepsBooks 1 (record books.old { kept = books.new.kept }) books.new }
 {
     let flight = books.cross(flight?, party)?;
-    let out = take_under_host(guest, flight.now);
-    Some(go_on(books, flight, party, out))
+    let out = guest.take(flight.now);
+    go_on_led(books, flight, party, out)
 }
 
-/// While the host controls, a second controller passes each frame that does not hand control over as
-/// every device does.
-fn take_under_host(guest: &mut Guest, frame: Frame) -> Out
-    requires host { guest.old.control ≡ control.Host }
-    requires hands { is_tct (message_of frame) ≡ false }
-    ensures takes { Takes guest.old.device frame result guest.new.device }
-    ensures mind { mind_of guest.new ≡ mind_of guest.old }
-    ensures guest { IsGuest guest.new }
+/// What goes on behind a second controller that has answered.
+fn go_on_led(books: &mut Books, flight: Flight, party: u8, out: GuestOut) -> Option<Flight>
+    requires { length books.old.log < books.old.room }
+    ensures trip { led (trip_of books.new result) books.new.kept
+        ≡ led_answers books.old.crossings books.old.log party flight books.old.kept out }
+    ensures books { KeepsBooks 1 (record books.old { kept = books.new.kept }) books.new }
 {
-    match guest.take(frame) {
-        GuestOut::Pass(frame) => Out::Pass(frame),
-        GuestOut::Source(_) | GuestOut::Relay(_) | GuestOut::Stop => unreachable!(),
+    match out {
+        GuestOut::Pass(frame) => Some(Flight {
+            now: frame,
+            ..flight
+        }),
+        GuestOut::Source(frame) => {
+            if flight.now.is_data() {
+                books.keep(flight);
+            } else {
+                books.finish(flight, party);
+            }
+            Some(Flight::sourced(party, frame))
+        }
+        GuestOut::Relay(_) => {
+            books.finish(flight, party);
+            books.take_kept()
+        }
+        GuestOut::Stop => {
+            books.finish(flight, party);
+            None
+        }
     }
 }

@@ -1,17 +1,19 @@
-ghost use Rattle.std.specs.Prelude.{◌≡◌, ◌⊎◌, ◌+◌, ◌<◌, ◌≤◌, ◌++◌, [], map, length, true, false, Some, None, IsSome, IfSome, IfOk, IfErr, option_map};
+ghost use Rattle.std.specs.Prelude.{◌≡◌, ◌⊎◌, ◌+◌, ◌<◌, ◌≤◌, ◌++◌, [], map, length, true, false, Some, None, IsSome, IfSome, IfOk, IfErr, option_map, is_some};
 ghost use Rattle.il_frames.specs.Frames.{is_data};
 ghost use Rattle.il_frames.specs.Messages.{message_of};
 ghost use Rattle.il_device.specs.declared.interface.OwnFrame.{OwnFrame};
 ghost use Rattle.il_device.specs.Roles.{is_start};
 ghost use Rattle.il_device.specs.Passing.{is_plain};
-ghost use Rattle.loop_model.specs.Entries.{nrd, is_frame};
+ghost use Rattle.loop_model.specs.Entries.{ifc, nrd};
 ghost use Rattle.loop_model.specs.Roles.{talkers, is_at_most_one};
 ghost use Rattle.il_drive.specs.State.{fresh_drive, IsDrive};
-ghost use Rattle.il_guest.specs.Frames.{tct};
+ghost use Rattle.il_ring.specs.declared.plan.Arrival.TheVariants as arrival;
 ghost use Rattle.il_ring.specs.Plans.{IsPlan};
 ghost use Rattle.il_ring.specs.Flights.{sourced};
 ghost use Rattle.il_ring.specs.Rings.{RingView, IsRing, Round, devices_of, roles_of, drive_party, spare_of, fresh_books, ring_emptied, paper_of};
-ghost use Rattle.il_ring.specs.Guests.{guest_devices, guest_mind, MayBeGuest, HandsNothing, StandsLast};
+ghost use Rattle.il_ring.specs.Guests.{guest_devices, guest_mind, MayBeGuest, StandsLast, IsUnderHost};
+ghost use Rattle.il_ring.specs.Lending.{HostKeeps, IsLed, LedRound, StandsNow, TakenBack};
+ghost use Rattle.il_ring.specs.Lending.{going_on, hands_over, leads, sending};
 ghost use Rattle.il_ring.specs.Lists.{AllSilent, NoneSends};
 ghost use Rattle.il_ring.specs.Rounded.{Rounded, IsReady};
 ghost use Rattle.il_ring.specs.Outcomes.{Returned, WasLost, DataReturned, DataBroken, StartReturned, StartGone, StartTaken, AllKeep, IsTalking, StoodSo, Relayed};
@@ -230,33 +232,95 @@ impl<M: Medium> Ring<M> {
     /// held before is held on where the frame came back, and else dropped.
     ///
     /// The log has room for 32 more entries, and no frame is held, or the frame is NRD, which goes
-    /// ahead of the held one. The frame is not TCT, which hands control over.
+    /// ahead of the held one.
+    ///
+    /// Where a second controller talks, TCT lends the ring to it: what then arrives is the frame that
+    /// it sends, or `Lost`. While it controls, also where it fell silent and the ring is lent no more,
+    /// the host sends nothing but IFC. What stands at the host then ends there, and the ring is lent
+    /// no more.
     pub fn send(&mut self, frame: Frame) -> Arrival
         requires room { 32 ≤ spare_of (⟦<Ring<M> as Seen<M>>⟧.seen self.old) }
         requires free { ((⟦<Ring<M> as Seen<M>>⟧.seen self.old).books.held ≡ None) ⊎ (frame ≡ nrd) }
-        requires hands { is_frame frame tct ≡ false }
-        ensures round { Round M.view (⟦<Ring<M> as Seen<M>>⟧.seen self.old) (⟦<Ring<M> as Seen<M>>⟧.seen self.old).books.held (sourced 0 frame) result (⟦<Ring<M> as Seen<M>>⟧.seen self.new) }
+        requires leads { IsUnderHost (⟦<Ring<M> as Seen<M>>⟧.seen self.old).guest ⊎ (frame ≡ ifc) }
+        ensures round { HostKeeps (⟦<Ring<M> as Seen<M>>⟧.seen self.old) frame →
+            Round M.view (⟦<Ring<M> as Seen<M>>⟧.seen self.old) (⟦<Ring<M> as Seen<M>>⟧.seen self.old).books.held (sourced 0 frame) result (⟦<Ring<M> as Seen<M>>⟧.seen self.new) }
         // The entries tell how many links were crossed, and how many frames came to each device.
-        ensures counts { Rounded (⟦<Ring<M> as Seen<M>>⟧.seen self.old) (⟦<Ring<M> as Seen<M>>⟧.seen self.old).books.held (sourced 0 frame) result (⟦<Ring<M> as Seen<M>>⟧.seen self.new) }
+        ensures counts { HostKeeps (⟦<Ring<M> as Seen<M>>⟧.seen self.old) frame →
+            Rounded (⟦<Ring<M> as Seen<M>>⟧.seen self.old) (⟦<Ring<M> as Seen<M>>⟧.seen self.old).books.held (sourced 0 frame) result (⟦<Ring<M> as Seen<M>>⟧.seen self.new) }
         // A command or ready message comes back as it was, or is lost exactly at a planned hop.
-        ensures plain { IsRing (⟦<Ring<M> as Seen<M>>⟧.seen self.old) → is_plain (message_of frame) ≡ true →
+        ensures plain { HostKeeps (⟦<Ring<M> as Seen<M>>⟧.seen self.old) frame →
+            IsRing (⟦<Ring<M> as Seen<M>>⟧.seen self.old) → is_plain (message_of frame) ≡ true →
             Returned (⟦<Ring<M> as Seen<M>>⟧.seen self.old) (⟦<Ring<M> as Seen<M>>⟧.seen self.old).books.held frame frame result (⟦<Ring<M> as Seen<M>>⟧.seen self.new)
             ⊎ WasLost (⟦<Ring<M> as Seen<M>>⟧.seen self.old) 0 frame result (⟦<Ring<M> as Seen<M>>⟧.seen self.new) }
         // Where no device talks, a data or end frame comes back the same apart from the service bit
         // exactly where no planned hop is met; each listener hears its byte.
-        ensures data { IsRing (⟦<Ring<M> as Seen<M>>⟧.seen self.old) → is_data frame ≡ true → AllSilent (devices_of (⟦<Ring<M> as Seen<M>>⟧.seen self.old)) →
+        ensures data { HostKeeps (⟦<Ring<M> as Seen<M>>⟧.seen self.old) frame →
+            IsRing (⟦<Ring<M> as Seen<M>>⟧.seen self.old) → is_data frame ≡ true → AllSilent (devices_of (⟦<Ring<M> as Seen<M>>⟧.seen self.old)) →
             DataReturned (⟦<Ring<M> as Seen<M>>⟧.seen self.old) (⟦<Ring<M> as Seen<M>>⟧.seen self.old).books.held frame result (⟦<Ring<M> as Seen<M>>⟧.seen self.new)
             ⊎ DataBroken (⟦<Ring<M> as Seen<M>>⟧.seen self.old) (⟦<Ring<M> as Seen<M>>⟧.seen self.old).books.held frame result (⟦<Ring<M> as Seen<M>>⟧.seen self.new) }
         // A start message is passed by all, lost, or taken by the one device that talks.
-        ensures start { IsRing (⟦<Ring<M> as Seen<M>>⟧.seen self.old) → is_start (message_of frame) ≡ true → NoneSends (devices_of (⟦<Ring<M> as Seen<M>>⟧.seen self.old))
+        ensures start { HostKeeps (⟦<Ring<M> as Seen<M>>⟧.seen self.old) frame →
+            IsRing (⟦<Ring<M> as Seen<M>>⟧.seen self.old) → is_start (message_of frame) ≡ true → NoneSends (devices_of (⟦<Ring<M> as Seen<M>>⟧.seen self.old))
             → is_at_most_one (talkers (roles_of (devices_of (⟦<Ring<M> as Seen<M>>⟧.seen self.old)))) ≡ true →
             StartReturned (⟦<Ring<M> as Seen<M>>⟧.seen self.old) (⟦<Ring<M> as Seen<M>>⟧.seen self.old).books.held frame result (⟦<Ring<M> as Seen<M>>⟧.seen self.new)
             ⊎ (StartGone (⟦<Ring<M> as Seen<M>>⟧.seen self.old) frame result (⟦<Ring<M> as Seen<M>>⟧.seen self.new)
             ⊎ StartTaken (⟦<Ring<M> as Seen<M>>⟧.seen self.old) frame result (⟦<Ring<M> as Seen<M>>⟧.seen self.new)) }
         // No device hears anything that does not listen.
-        ensures kept { AllKeep (devices_of (⟦<Ring<M> as Seen<M>>⟧.seen self.old)) (devices_of (⟦<Ring<M> as Seen<M>>⟧.seen self.new)) }
+        ensures kept { HostKeeps (⟦<Ring<M> as Seen<M>>⟧.seen self.old) frame →
+            AllKeep (devices_of (⟦<Ring<M> as Seen<M>>⟧.seen self.old)) (devices_of (⟦<Ring<M> as Seen<M>>⟧.seen self.new)) }
+        // TCT lends the ring where it comes to a second controller that talks.
+        ensures handed { IsUnderHost (⟦<Ring<M> as Seen<M>>⟧.seen self.old).guest →
+            hands_over (⟦<Ring<M> as Seen<M>>⟧.seen self.old) frame ≡ true
+            → LedRound M.view (⟦<Ring<M> as Seen<M>>⟧.seen self.old) (sourced 0 frame) result (⟦<Ring<M> as Seen<M>>⟧.seen self.new) }
+        ensures lent { IsRing (⟦<Ring<M> as Seen<M>>⟧.seen self.old) →
+            hands_over (⟦<Ring<M> as Seen<M>>⟧.seen self.old) frame ≡ true → IsRing (⟦<Ring<M> as Seen<M>>⟧.seen self.new)
+            ⊎ (IsLed (⟦<Ring<M> as Seen<M>>⟧.seen self.new) × StandsNow result (⟦<Ring<M> as Seen<M>>⟧.seen self.new).books.lent) }
+        // IFC takes control back from a second controller.
+        ensures taken_back { leads (⟦<Ring<M> as Seen<M>>⟧.seen self.old).guest ≡ true →
+            TakenBack M.view (⟦<Ring<M> as Seen<M>>⟧.seen self.old) frame result (⟦<Ring<M> as Seen<M>>⟧.seen self.new) }
+        ensures back { IsLed (⟦<Ring<M> as Seen<M>>⟧.seen self.old) → IsRing (⟦<Ring<M> as Seen<M>>⟧.seen self.new)
+            ⊎ (IsLed (⟦<Ring<M> as Seen<M>>⟧.seen self.new) × (result ≡ arrival.Lost) × ((⟦<Ring<M> as Seen<M>>⟧.seen self.new).books.lent ≡ None)) }
     {
+        self.end_lending();
         self.round(Flight::sourced(0, frame))
+    }
+
+    /// Where a second controller controls, what was lent ends.
+    fn end_lending(&mut self)
+        requires { 2 ≤ spare_of (⟦<Ring<M> as Seen<M>>⟧.seen self.old) }
+        ensures { ⟦<Ring<M> as Seen<M>>⟧.seen self.new ≡ sending (⟦<Ring<M> as Seen<M>>⟧.seen self.old) }
+    {
+        if self.parts.boxes.last.leads() {
+            let party = self.devices();
+            self.parts.books.end_lending(party);
+        }
+    }
+
+    /// Whether the ring is lent to the second controller: a frame stands at the host, which `pass`
+    /// sends on.
+    pub fn is_lent(&self) -> bool
+        ensures { result ≡ is_some (⟦<Ring<M> as Seen<M>>⟧.seen self.now).books.lent }
+    {
+        self.parts.books.lent().is_some()
+    }
+
+    /// While the ring is lent, the frame that stands at the host goes on round the loop. What arrives
+    /// at the host, and stands there then: what the second controller sends; or `Lost`, exactly where
+    /// a planned fault lost the frame that was on its way or the second controller fell silent. The
+    /// ring is then lent no more.
+    ///
+    /// The ring is lent, and the log has room for 32 more entries.
+    pub fn pass(&mut self) -> Arrival
+        requires lent { IsSome (⟦<Ring<M> as Seen<M>>⟧.seen self.old).books.lent }
+        requires room { 32 ≤ spare_of (⟦<Ring<M> as Seen<M>>⟧.seen self.old) }
+        // Where the second controller stands in its rounds tells which frame stands at the host.
+        ensures led { IsLed (⟦<Ring<M> as Seen<M>>⟧.seen self.old) →
+            IsLed (⟦<Ring<M> as Seen<M>>⟧.seen self.new) × StandsNow result (⟦<Ring<M> as Seen<M>>⟧.seen self.new).books.lent }
+        ensures round { IfSome (⟦<Ring<M> as Seen<M>>⟧.seen self.old).books.lent (λ f.
+            LedRound M.view (going_on (⟦<Ring<M> as Seen<M>>⟧.seen self.old)) f result (⟦<Ring<M> as Seen<M>>⟧.seen self.new)) }
+    {
+        let flight = self.parts.books.take_lent().unwrap();
+        self.round(flight)
     }
 
     /// The held frame goes on from the host to its source. What arrives at the host: what the
@@ -267,7 +331,8 @@ impl<M: Medium> Ring<M> {
     pub fn relay(&mut self) -> Arrival
         requires held { IsSome (⟦<Ring<M> as Seen<M>>⟧.seen self.old).books.held }
         requires room { 32 ≤ spare_of (⟦<Ring<M> as Seen<M>>⟧.seen self.old) }
-        ensures round { IfSome (⟦<Ring<M> as Seen<M>>⟧.seen self.old).books.held (λ f. Round M.view (⟦<Ring<M> as Seen<M>>⟧.seen self.old) None f result (⟦<Ring<M> as Seen<M>>⟧.seen self.new)) }
+        ensures round { IsUnderHost (⟦<Ring<M> as Seen<M>>⟧.seen self.old).guest →
+            IfSome (⟦<Ring<M> as Seen<M>>⟧.seen self.old).books.held (λ f. Round M.view (⟦<Ring<M> as Seen<M>>⟧.seen self.old) None f result (⟦<Ring<M> as Seen<M>>⟧.seen self.new)) }
         // Where its source is the one device that talks and has it on the loop, it comes back to it,
         // which sends a further data frame, ETO or ETE; or it is lost at a planned hop.
         ensures relayed { IsRing (⟦<Ring<M> as Seen<M>>⟧.seen self.old) → IfSome (⟦<Ring<M> as Seen<M>>⟧.seen self.old).books.held
@@ -275,20 +340,23 @@ impl<M: Medium> Ring<M> {
             → Relayed (⟦<Ring<M> as Seen<M>>⟧.seen self.old) f own result (⟦<Ring<M> as Seen<M>>⟧.seen self.new)) }
         // Where its source has an own frame on the loop, the entries tell how many links were crossed, and how many frames
         // came to each device.
-        ensures counts { IfSome (⟦<Ring<M> as Seen<M>>⟧.seen self.old).books.held (λ f. IsReady f (devices_of (⟦<Ring<M> as Seen<M>>⟧.seen self.old))
+        ensures counts { IsUnderHost (⟦<Ring<M> as Seen<M>>⟧.seen self.old).guest →
+            IfSome (⟦<Ring<M> as Seen<M>>⟧.seen self.old).books.held (λ f. IsReady f (devices_of (⟦<Ring<M> as Seen<M>>⟧.seen self.old))
             → Rounded (⟦<Ring<M> as Seen<M>>⟧.seen self.old) None f result (⟦<Ring<M> as Seen<M>>⟧.seen self.new)) }
         // No device hears anything that does not listen.
-        ensures kept { AllKeep (devices_of (⟦<Ring<M> as Seen<M>>⟧.seen self.old)) (devices_of (⟦<Ring<M> as Seen<M>>⟧.seen self.new)) }
+        ensures kept { IsUnderHost (⟦<Ring<M> as Seen<M>>⟧.seen self.old).guest →
+            AllKeep (devices_of (⟦<Ring<M> as Seen<M>>⟧.seen self.old)) (devices_of (⟦<Ring<M> as Seen<M>>⟧.seen self.new)) }
     {
         let flight = self.parts.books.take_held().unwrap();
         self.round(flight)
     }
 
-    /// A frame goes round, with the held frame at the host meanwhile.
+    /// A frame goes round. Behind the two entries of a lending that ended this is IFC, which takes no
+    /// more than one.
     fn round(&mut self, flight: Flight) -> Arrival
-        requires room { 32 ≤ spare_of (⟦<Ring<M> as Seen<M>>⟧.seen self.old) }
-        requires hands { HandsNothing (Some flight) }
-        ensures { Round M.view (⟦<Ring<M> as Seen<M>>⟧.seen self.old) (⟦<Ring<M> as Seen<M>>⟧.seen self.old).books.held flight result (⟦<Ring<M> as Seen<M>>⟧.seen self.new) }
+        requires room { (32 ≤ spare_of (⟦<Ring<M> as Seen<M>>⟧.seen self.old))
+            ⊎ ((30 ≤ spare_of (⟦<Ring<M> as Seen<M>>⟧.seen self.old)) × (flight ≡ sourced 0 ifc)) }
+        ensures { LedRound M.view (⟦<Ring<M> as Seen<M>>⟧.seen self.old) flight result (⟦<Ring<M> as Seen<M>>⟧.seen self.new) }
     {
         let party = self.party();
         let Parts {
@@ -299,9 +367,12 @@ impl<M: Medium> Ring<M> {
         let on = walk_past(&mut boxes.before, 1, books, Some(flight));
         let on = pass_drive(drive, party, books, on);
         let on = walk_past(&mut boxes.after, party + 1, books, on);
-        let on = boxes
-            .last
-            .pass(party + 1 + boxes.after.len() as u8, books, on);
-        books.home(on)
+        let last = party + 1 + boxes.after.len() as u8;
+        let on = boxes.last.pass(last, books, on);
+        if boxes.last.leads() {
+            books.lent_home(on, last)
+        } else {
+            books.home(on)
+        }
     }
 }

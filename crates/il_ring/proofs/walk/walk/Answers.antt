@@ -10,6 +10,6 @@ loop-device-preserved g c =
       Journey-more g.D.Device.state c.args.books.now.plan c.loop-device.books.plan c.args.first c.loop-device.party c.loop-device.device-index _ (trip_of c.loop-device.books c.loop-device.on) (trip_of c.pass-on.new.books c.pass-on.result)
           c.args.devices.now c.loop-device.devices c.device-item.result c.pass-on.new.device inv.2.plan (omega arith) (omega arith) (omega arith) inv.1 inv.0 c.pass-on.ensures.passage,
       rest_more c.loop-device.device-index c.args.devices.now c.loop-device.devices c.pass-on.new.device inv.1,
-      record { plan = kept.plan ∙ inv.2.plan; room = kept.room ∙ inv.2.room; held = kept.held ∙ inv.2.held; begun = kept.begun ∙ inv.2.begun; grows = omega (arith, kept.grows, inv.2.grows) },
+      record { plan = kept.plan ∙ inv.2.plan; room = kept.room ∙ inv.2.room; held = kept.held ∙ inv.2.held; lent = kept.lent ∙ inv.2.lent; kept = kept.kept ∙ inv.2.kept; begun = kept.begun ∙ inv.2.begun; grows = omega (arith, kept.grows, inv.2.grows) },
       omega arith,
     )
