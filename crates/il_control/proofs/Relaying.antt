@@ -22,6 +22,7 @@ use Rattle.il_ring.specs.declared.plan.Arrival.{Arrival}
 use Rattle.il_ring.specs.declared.plan.Arrival.TheVariants as arrival
 use Rattle.il_ring.specs.declared.flight.Flight.{Flight}
 use Rattle.il_ring.specs.Lists.{Each, First}
+use Rattle.il_ring.specs.Guests.{IsUnderHost}
 use Rattle.il_ring.specs.Rings.{RingView, IsRing, Round, devices_of, roles_of, drive_party}
 use Rattle.il_ring.specs.Rounded.{Rounded, IsReady, own_at, holding, device_sending}
 use Rattle.il_ring.specs.Outcomes.{met_between, DriveTook, DriveHad, CameAs, IsBrought, HearsNothing, AllKeep, IsTalking, IsHeldNow, IsLostNow, CameBack, SendsMore, EndsSending, back_entry, DriveDid}
@@ -366,11 +367,11 @@ frame_in f arrival.Lost = f
 same_frame : (f g : Frame) (answer : Arrival) → answer ≡ arrival.Frame f → answer ≡ arrival.Frame g → f ≡ g
 same_frame f g answer first second = ap (frame_in f) (sym first ∙ second)
 
-pub relay_done : {M : Type 0} (view : M → MediumView) (m s : RingView M) (held : Option Flight) (answer : Arrival) (how : Onward) → IfSome held (λ f. Round view m None f answer s) → m.books.held ≡ held → IsOnward answer how → WentAs view m how s
+pub relay_done : {M : Type 0} (view : M → MediumView) (m s : RingView M) (held : Option Flight) (answer : Arrival) (how : Onward) → (IsUnderHost m.guest → IfSome held (λ f. Round view m None f answer s)) → m.books.held ≡ held → IsOnward answer how → WentAs view m how s
 relay_done view m s held answer how round is told = by how told
   where
     end : (h : IsHolding m) → RelayEnd view m h answer s
-    end h = relay_end view m s h answer (subst (λ held. IfSome held (λ f. Round view m None f answer s)) (sym is ∙ h.held) round)
+    end h = relay_end view m s h answer (subst (λ held. IfSome held (λ f. Round view m None f answer s)) (sym is ∙ h.held) (round h.ring.guest))
 
     by : (how : Onward) → IsOnward answer how → WentAs view m how s
     by onward.More told = λ h. elim (end h) [

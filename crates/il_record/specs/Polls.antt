@@ -1,5 +1,5 @@
 -- A parallel poll of the first eight devices, and what its answer is (HP-IL Interface Specification, parallel poll).
-use Rattle.std.specs.Prelude.{◌≡◌, ◌≤◌, ◌⊎◌, ◌+◌, ◌++◌, ℕ, true, false, if◌then◌else◌, min, List, [], ◌∷◌, length, None}
+use Rattle.std.specs.Prelude.{◌≡◌, ◌≤◌, ◌⊎◌, ◌+◌, ◌++◌, ℕ, true, false, min, List, [], ◌∷◌, length, None}
 use Rattle.il_frames.specs.declared.frame.Frame.{Frame}
 use Rattle.il_device.specs.State.{DeviceState}
 use Rattle.il_ports.specs.Media.{MediumView}
