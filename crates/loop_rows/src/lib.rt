@@ -8,6 +8,8 @@ mod control_rows;
 #[cfg(test)]
 mod drive_rows;
 #[cfg(test)]
+mod lent_rows;
+#[cfg(test)]
 mod naming_rows;
 #[cfg(test)]
 mod plain;

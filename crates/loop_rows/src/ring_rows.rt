@@ -1,5 +1,9 @@
 // Rounds of the ring: what arrives, the log, the crossings, and what the printer heard.
 
+ghost use Rattle.std.specs.Prelude.{◌≡◌, ◌≤◌};
+ghost use Rattle.il_ring.specs.Rings.{spare_of};
+ghost use Rattle.il_ring.specs.Lending.{leads};
+
 use crate::plain::second_drive;
 use crate::tools::{compare_log, frame_of, has_paper, tape};
 use PlanFault::{Alter, Lose};
@@ -7,23 +11,23 @@ use il_device::{Device, Printer, Quiet};
 use il_frames::{Class, Frame};
 use il_guest::Guest;
 use il_ports::{Medium, MemoryMedium};
-use il_ring::{Arrival, PlanFault, Planned, Rig, Ring, is_plan};
+use il_ring::{Arrival, PlanFault, Planned, Rig, Ring, Seen, is_plan};
 use il_same::{same, same_bytes};
 use std::process::Abort;
 use std::test::Fail;
 
 /// A day of the drive and a printer behind it, three links a round.
-struct Day {
-    name: &'static str,
+pub(crate) struct Day {
+    pub name: &'static str,
     /// The crossings at which something is planned.
-    plan: &'static [(u64, PlanFault)],
-    /// The frame that the host sends, or `relay`, and the frame that arrives, or `lost`.
-    rounds: &'static [(&'static str, &'static str)],
-    log: &'static [&'static str],
-    crossings: u64,
-    held: Option<&'static str>,
+    pub plan: &'static [(u64, PlanFault)],
+    /// The frame that the host sends, or `relay` or `pass`, and the frame that arrives, or `lost`.
+    pub rounds: &'static [(&'static str, &'static str)],
+    pub log: &'static [&'static str],
+    pub crossings: u64,
+    pub held: Option<&'static str>,
     /// What the printer heard.
-    paper: &'static [u8],
+    pub paper: &'static [u8],
 }
 
 static DAYS: [Day; 18] = [
@@ -455,17 +459,37 @@ fn ring_of(
         .expect(rt, "memory for a ring")
 }
 
-/// One round: the frame that the host sends, or `relay`, and the frame that arrives, or `lost`.
+/// Whether a second controller controls the loop.
+fn is_led(ring: &Ring<MemoryMedium>) -> bool
+    ensures { result ≡ leads (⟦<Ring<MemoryMedium> as Seen<MemoryMedium>>⟧.seen ring.now).guest }
+{
+    match ring.guest() {
+        None => false,
+        Some(guest) => guest.in_control(),
+    }
+}
+
+/// The host sends a frame: any while it controls, and else IFC.
+fn send(rt: &impl Abort, ring: &mut Ring<MemoryMedium>, frame: Frame) -> Arrival
+    requires { 32 ≤ spare_of (⟦<Ring<MemoryMedium> as Seen<MemoryMedium>>⟧.seen ring.old) }
+{
+    assert!(rt; ring.held().is_none() || frame == Frame::new(Class::Rdy, 0x42));
+    assert!(rt; !is_led(ring) || frame == Frame::new(Class::Cmd, 0x90));
+    ring.send(frame)
+}
+
+/// One round: the frame that the host sends, or `relay` or `pass`, and the frame that arrives, or
+/// `lost`.
 fn go_round(rt: &impl Abort, ring: &mut Ring<MemoryMedium>, frame: &str, arrives: &str) {
     assert!(rt; ring.spare() >= 32);
     let arrival = if frame == "relay" {
         assert!(rt; ring.held().is_some());
         ring.relay()
+    } else if frame == "pass" {
+        assert!(rt; ring.is_lent());
+        ring.pass()
     } else {
-        let frame = frame_of(rt, frame);
-        assert!(rt; ring.held().is_none() || frame == Frame::new(Class::Rdy, 0x42));
-        assert!(rt; frame != Frame::new(Class::Rdy, 0x64));
-        ring.send(frame)
+        send(rt, ring, frame_of(rt, frame))
     };
     let want = if arrives == "lost" {
         Arrival::Lost
@@ -490,7 +514,7 @@ fn compare_day(rt: &impl Abort, ring: &Ring<MemoryMedium>, day: &Day) {
 }
 
 /// The ring behind the day, of the drive, a printer and this second controller, or none.
-fn live_through(
+pub(crate) fn live_through(
     rt: &(impl Abort + AllocGlobal),
     guest: Option<Guest>,
     day: &Day,
