@@ -13,7 +13,7 @@ use Rattle.il_script.specs.Commands.{spelt_as, reading_of, command_read, bytes_r
 use Rattle.il_script.specs.Replies.{text_line, reply_line}
 use Rattle.il_script.specs.declared.lines.Line.TheVariants.{Text, TooLong}
 use Rattle.il_script.specs.declared.limits.TheConstants.{LONGEST_LINE, LONGEST_PAYLOAD, LONGEST_SCRIPT, MOST_SLOTS}
-use Rattle.il_script.specs.declared.command.Command.TheVariants.{Dir, Label, Fetch, Store, Put, Get, Rename, Purge, Format, Adopt, Upgrade, Begin, Commit, Devices, Status, Poll, Say, Paper}
+use Rattle.il_script.specs.declared.command.Command.TheVariants.{Dir, Label, Fetch, Store, Put, Get, Rename, Purge, Format, Adopt, Upgrade, Pack, Begin, Commit, Devices, Status, Poll, Say, Paper}
 use Rattle.il_script.specs.declared.command.LineFault.TheVariants.{BadLine, BadName}
 use Rattle.il_script.specs.declared.reply.Code.TheVariants as code
 use Rattle.il_script.specs.declared.reply.Reply.TheVariants as reply

@@ -9,7 +9,7 @@ use Rattle.il_script.specs.Digits.{number_up_to, hex_bytes, payload_of, type_in}
 use Rattle.il_script.specs.Spelling.{spelt}
 use Rattle.il_script.specs.declared.limits.TheConstants.{MOST_SLOTS}
 use Rattle.il_script.specs.declared.command.Command.{Command}
-use Rattle.il_script.specs.declared.command.Command.TheVariants.{Dir, Label, Fetch, Store, Put, Get, Rename, Purge, Format, Adopt, Upgrade, Begin, Commit, Devices, Status, Poll, Say, Paper}
+use Rattle.il_script.specs.declared.command.Command.TheVariants.{Dir, Label, Fetch, Store, Put, Get, Rename, Purge, Format, Adopt, Upgrade, Pack, Begin, Commit, Devices, Status, Poll, Say, Paper}
 use Rattle.il_script.specs.declared.command.LineFault.{LineFault}
 use Rattle.il_script.specs.declared.command.LineFault.TheVariants.{BadLine, BadName}
 
@@ -93,6 +93,7 @@ word_command word =
     if bytes_eq word (codes "label") then Some Label else
     if bytes_eq word (codes "adopt") then Some Adopt else
     if bytes_eq word (codes "upgrade") then Some Upgrade else
+    if bytes_eq word (codes "pack") then Some Pack else
     if bytes_eq word (codes "begin") then Some Begin else
     if bytes_eq word (codes "commit") then Some Commit else
     if bytes_eq word (codes "devices") then Some Devices else

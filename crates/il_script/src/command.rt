@@ -44,6 +44,8 @@ pub enum Command {
     Adopt,
     /// Makes the redo file one of version 2.
     Upgrade,
+    /// Moves files together, so that no gap is left between them.
+    Pack,
     /// Begins a batch: the stores, renames and purges up to `Commit` are made as one.
     Begin,
     /// Ends a batch.

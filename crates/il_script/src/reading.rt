@@ -105,6 +105,9 @@ fn lone_command(word: &[u8]) -> Option<Command>
     if word == b"upgrade".as_slice() {
         return Some(Command::Upgrade);
     }
+    if word == b"pack".as_slice() {
+        return Some(Command::Pack);
+    }
     if word == b"begin".as_slice() {
         return Some(Command::Begin);
     }

@@ -188,11 +188,12 @@ fn each_form_and_what_comes_near_it(rt: HostRuntime) -> Result<(), Fail> {
 }
 
 /// Lines with commands of no parts.
-const LONE: [(&str, Command); 10] = [
+const LONE: [(&str, Command); 11] = [
     ("dir", Command::Dir),
     ("label", Command::Label),
     ("adopt", Command::Adopt),
     ("upgrade", Command::Upgrade),
+    ("pack", Command::Pack),
     ("begin", Command::Begin),
     ("commit", Command::Commit),
     ("devices", Command::Devices),
