@@ -15,10 +15,10 @@ use Rattle.loop_model.specs.Entries.{unl}
 use Rattle.loop_model.specs.Loops.{host_loop}
 use Rattle.il_script.specs.declared.reply.Code.TheVariants as code
 use Rattle.il_script.specs.declared.reply.Reply.TheVariants as reply
-use Rattle.host_model.specs.Requests.{OfVolume, Get, Devices, Paper, Asks, NoCommand}
+use Rattle.host_model.specs.Requests.{OfVolume, Get, Pack, Devices, Paper, Asks, NoCommand}
 use Rattle.host_model.specs.HostStates.{HostState}
 use Rattle.host_model.specs.Steps.{Event, KeepsDirectory}
-use Rattle.host_model.specs.Directories.{kept_after, HasTransfers, run_read, IsCommitOf, AreFilesAndCommit}
+use Rattle.host_model.specs.Directories.{IsKeptAfter, HasTransfers, run_read, IsCommitOf, AreFilesAndCommit}
 use Rattle.host_model.proofs.Small.{a_host, a_tape, false_is_not_true}
 use Rattle.host_model.proofs.StepExamples.{log_of}
 use Rattle.host_model.proofs.TextExamples.{a_bytes}
@@ -26,17 +26,28 @@ use Rattle.host_model.proofs.TextExamples.{a_bytes}
 -- ---- whether it is kept
 
 -- ok, a refusal and an item that sends no frame keep it
-kept : (kept_after (Asks (OfVolume volume.Dir)) false reply.Ok ≡ true) × (kept_after (Asks (OfVolume (volume.Purge a_name))) false (reply.No code.NoFile) ≡ true)
-    × (kept_after (Asks (Get a_name)) false (reply.No code.NotText) ≡ true) × (kept_after (NoCommand code.BadLine) true (reply.No code.BadLine) ≡ true)
-    × (kept_after (Asks Paper) true (reply.No code.NoPrinter) ≡ true) × (kept_after (Asks (OfVolume (volume.Format (codes "HPTAPE") 4000))) true (reply.No code.NoRoom) ≡ true)
-    × (kept_after (Asks (OfVolume (volume.Batch []))) false reply.Ok ≡ true)
-kept = (refl, refl, refl, refl, refl, refl, refl)
+kept : IsKeptAfter (Asks (OfVolume volume.Dir)) false reply.Ok true × IsKeptAfter (Asks (OfVolume (volume.Purge a_name))) false (reply.No code.NoFile) true
+    × IsKeptAfter (Asks (Get a_name)) false (reply.No code.NotText) true × IsKeptAfter (NoCommand code.BadLine) true (reply.No code.BadLine) true
+    × IsKeptAfter (Asks Paper) true (reply.No code.NoPrinter) true × IsKeptAfter (Asks (OfVolume (volume.Batch []))) false reply.Ok true
+kept = (refl, refl, refl, refl, refl, refl)
 
--- a fault forgets it, a tape without a volume has none, a batch that is refused and a command of the loop forget it
-forgotten : (kept_after (Asks (OfVolume volume.Dir)) true reply.FaultFrame ≡ false) × (kept_after (Asks (Get a_name)) true reply.FaultMedium ≡ false)
-    × (kept_after (Asks (OfVolume volume.Label)) true (reply.No code.NotLif) ≡ false) × (kept_after (Asks (OfVolume (volume.Batch []))) true (reply.No code.NoFile) ≡ false)
-    × (kept_after (Asks Devices) true reply.Ok ≡ false) × (kept_after (Asks (OfVolume (volume.Format (codes "HPTAPE") 4000))) false (reply.No code.NoRoom) ≡ false)
+-- a fault forgets it, a tape without a volume has none, and `pack`, a batch that is refused and a command of the loop forget it
+forgotten : IsKeptAfter (Asks (OfVolume volume.Dir)) true reply.FaultFrame false × IsKeptAfter (Asks (Get a_name)) true reply.FaultMedium false
+    × IsKeptAfter (Asks (OfVolume volume.Label)) true (reply.No code.NotLif) false × IsKeptAfter (Asks (OfVolume (volume.Batch []))) true (reply.No code.NoFile) false
+    × IsKeptAfter (Asks Devices) true reply.Ok false × IsKeptAfter (Asks Pack) true (reply.No code.OutOfOrder) false
 forgotten = (refl, refl, refl, refl, refl, refl)
+
+-- not both
+not_forgotten : IsKeptAfter (Asks (OfVolume volume.Dir)) true reply.Ok false → ⊥
+not_forgotten so = false_is_not_true so
+
+-- a format without room keeps one that was kept, and may read one that was not
+kept_without_room : IsKeptAfter (Asks (OfVolume (volume.Format (codes "HPTAPE") 4000))) true (reply.No code.NoRoom) true
+    × IsKeptAfter (Asks (OfVolume (volume.Format (codes "HPTAPE") 4000))) false (reply.No code.NoRoom) true
+kept_without_room = (λ on. refl, λ on. refl)
+
+not_kept_without_room : IsKeptAfter (Asks (OfVolume (volume.Format (codes "HPTAPE") 4000))) true (reply.No code.NoRoom) false → ⊥
+not_kept_without_room so = false_is_not_true (so refl)
 
 -- ---- runs and commits
 

@@ -1,8 +1,6 @@
 -- Worked examples of what is no step: each event is refused by one field of it.
-use Rattle.std.proofs.Common.{◌≡◌, ◌⊎◌, ◌==◌, ◌++◌, ◌∙◌, ◌≤◌, ◌<◌, ◌*◌, ◌+◌, ℕ, zero, suc, Bool, if◌then◌else◌, List, [], ◌∷◌, Option, Some, None, false, true, inl, inr, length, replicate, refl, sym, ap, subst, arith, flat_map, codes, set}
+use Rattle.std.proofs.Common.{◌≡◌, ◌==◌, ◌++◌, ◌∙◌, ◌≤◌, ◌<◌, ℕ, zero, suc, Bool, if◌then◌else◌, List, [], ◌∷◌, Some, None, false, true, inl, inr, length, replicate, refl, sym, ap, subst, arith, flat_map, codes, set}
 use Rattle.std.specs.Prelude.{get_or, unwrap_or}
-use Rattle.std.specs.List.{list_all}
-use Rattle.std.proofs.lemmas.Bool.{eqb-true}
 use Rattle.std.proofs.lemmas.List.{length-replicate}
 use Rattle.std.proofs.lemmas.List.Elements.{All-head}
 use Rattle.lif_model.specs.Numbers.{two_at, four_at}
@@ -24,16 +22,13 @@ use Rattle.loop_model.specs.Loops.{host_loop}
 use Rattle.loop_model.specs.Units.{units_of}
 use Rattle.loop_model.specs.Effect.{UnitsEffect}
 use Rattle.il_script.specs.declared.reply.Reply.TheVariants as reply
-use Rattle.il_ring.specs.declared.plan.Planned.{Planned}
-use Rattle.il_ring.specs.declared.plan.PlanFault.{PlanFault}
 use Rattle.il_ring.specs.declared.plan.PlanFault.TheVariants.{Lose, Alter}
-use Rattle.il_ring.specs.Plans.{fault_at}
 use Rattle.il_ring.specs.Fates.{CameSo, IsByPlan}
 use Rattle.host_model.specs.Requests.{Item, OfVolume, Devices, Paper, Asks}
-use Rattle.host_model.specs.HostStates.{HostState}
+use Rattle.host_model.specs.HostStates.{HostState, log_room}
 use Rattle.host_model.specs.Courses.{course_of, keeps_course}
 use Rattle.host_model.specs.Steps.{Event, IsStep, event}
-use Rattle.host_model.proofs.Small.{printer, empty_host, a_host, a_tape, host_on, texts_differ, numbers_differ, false_is_not_true}
+use Rattle.host_model.proofs.Small.{printer, empty_host, a_tape, host_on, texts_differ, numbers_differ, false_is_not_true}
 use Rattle.host_model.proofs.StepExamples.{asked_host, sixth, lost_event, status_event}
 
 -- ---- the tape
@@ -91,9 +86,9 @@ out_of_turn s = false_is_not_true s.acts.travels.one_talker
 abbrev pub long_log : ℕ → List Entry
 long_log size = replicate size (entry 0 ifc (outcome.Back ifc))
 
-too_long : (size : ℕ) → 1600 * 12 + 10000 < size → IsStep [] (record status_event { log = long_log size }) → ⊥
+too_long : (size : ℕ) → log_room 12 < size → IsStep [] (record status_event { log = long_log size }) → ⊥
 too_long size long s =
-    let fits : length (long_log size) ≤ 1600 * 12 + 10000 = s.acts.travels.short in
+    let fits : length (long_log size) ≤ log_room 12 = s.acts.travels.short in
     let is : length (long_log size) ≡ size = length-replicate size (entry 0 ifc (outcome.Back ifc)) in
     absurd (omega (arith, fits, is, long))
 

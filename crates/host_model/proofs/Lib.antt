@@ -18,3 +18,4 @@ mod GetExamples
 mod BatchExamples
 mod DirectoryExamples
 pub mod NoCommands
+mod PackExamples

@@ -25,7 +25,6 @@ use Rattle.il_ring.specs.declared.plan.Planned.{Planned}
 use Rattle.il_ring.specs.Plans.{hops_of}
 use Rattle.il_ring.specs.Fates.{EndsSo, IsByPlan}
 use Rattle.host_model.specs.LoopStates.{LoopState, device_count, drive_at, ring_of}
-use Rattle.host_model.specs.HostStates.{HostState}
 use Rattle.host_model.specs.Next.{BoxedBecome}
 use Rattle.host_model.specs.Steps.{Event, IsStep, HasReplyCause, SettlesAlike, is_frame_fault}
 

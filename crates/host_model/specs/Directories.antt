@@ -31,27 +31,31 @@ abbrev pub has_volume : Code → Bool
 has_volume code.NotLif = false
 has_volume c = true
 
--- a command of the volume that is refused so leaves it kept, where it was kept before or not: `format` that is refused for want of
--- room leaves that, and a batch that is refused forgets it
-abbrev pub kept_after_refusal : VolumeCommand → Bool → Code → Bool
-kept_after_refusal (volume.Format label slots) was code.NoRoom = was
-kept_after_refusal (volume.Batch parts) was c = false
-kept_after_refusal command was c = has_volume c
+-- a command of the volume that is refused so leaves it kept, and a batch that is refused forgets it
+abbrev pub kept_after_refusal : VolumeCommand → Code → Bool
+kept_after_refusal (volume.Batch parts) c = false
+kept_after_refusal command c = has_volume c
 
 -- and a fault forgets it
-abbrev pub kept_after_command : VolumeCommand → Bool → Reply → Bool
-kept_after_command command was reply.Ok = true
-kept_after_command command was (reply.No c) = kept_after_refusal command was c
-kept_after_command command was reply.FaultFrame = false
-kept_after_command command was reply.FaultMedium = false
+abbrev pub kept_after_command : VolumeCommand → Reply → Bool
+kept_after_command command reply.Ok = true
+kept_after_command command (reply.No c) = kept_after_refusal command c
+kept_after_command command reply.FaultFrame = false
+kept_after_command command reply.FaultMedium = false
 
--- the commands of the loop forget it, but for the one that sends no frame, and so does no other item
-abbrev pub kept_after : Item → Bool → Reply → Bool
-kept_after (Asks (OfVolume command)) was r = kept_after_command command was r
-kept_after (Asks (Get name)) was r = kept_after_command (volume.Fetch name) was r
-kept_after (Asks Paper) was r = was
-kept_after (Asks request) was r = false
-kept_after (NoCommand c) was r = was
+-- Where it was kept before or not. A medium that has no room for a new directory may have no legal volume either: `format` leaves a
+-- directory kept then.
+abbrev pub IsKeptBehind : VolumeCommand → Bool → Reply → Bool → Type 0
+IsKeptBehind (volume.Format label slots) was (reply.No code.NoRoom) now = was ≡ true → now ≡ true
+IsKeptBehind command was r now = now ≡ kept_after_command command r
+
+-- `pack` and the commands of the loop forget it, but for the one that sends no frame, and so does no other item
+abbrev pub IsKeptAfter : Item → Bool → Reply → Bool → Type 0
+IsKeptAfter (Asks (OfVolume command)) was r now = IsKeptBehind command was r now
+IsKeptAfter (Asks (Get name)) was r now = now ≡ kept_after_command (volume.Fetch name) r
+IsKeptAfter (Asks Paper) was r now = now ≡ was
+IsKeptAfter (Asks request) was r now = now ≡ false
+IsKeptAfter (NoCommand c) was r now = now ≡ was
 
 -- ---- the log of a command that finds it kept
 

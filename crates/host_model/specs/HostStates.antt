@@ -1,7 +1,8 @@
 -- What stands between two items of a run.
 use Rattle.std.specs.Prelude.{◌≡◌, ℕ, ◌+◌, ◌*◌, Bool, false, List, Option, option_and_then, IfSome}
 use Rattle.lif_model.specs.Tape.{Tape}
-use Rattle.lif_model.specs.Volume.{Volume, volume_of, is_foreign_gated}
+use Rattle.lif_model.specs.Volume.{Volume, is_foreign_gated}
+use Rattle.lif_pack.specs.Packing.{finished_volume_of}
 use Rattle.il_device.specs.State.{DeviceState}
 use Rattle.host_model.specs.LoopStates.{LoopState, fresh_loop}
 
@@ -26,9 +27,9 @@ abbrev pub fresh_host : Option Tape → ℕ → ℕ → List DeviceState → Lis
 fresh_host tape records faults before after =
     record { tape = tape; records = records; faults = faults; crossings = 0; ready = false; sound = false; kept = false; loop = fresh_loop before after }
 
--- the volume: none where the tape is not legal, or not told
+-- The volume: none where the tape is not legal, or not told. A file that a stopped packing was moving stands at its new place.
 abbrev pub volume_at : HostState → Option Volume
-volume_at s = option_and_then volume_of s.tape
+volume_at s = option_and_then finished_volume_of s.tape
 
 -- no redo is open over a tape where a file that is not ours holds the gate record
 abbrev pub HasOwnGate : HostState → Type 0
@@ -38,7 +39,7 @@ HasOwnGate s = IfSome s.tape (λ t. is_foreign_gated t ≡ false)
 
 -- how many entries the log of one command may have on a medium of so many records
 abbrev pub log_room : ℕ → ℕ
-log_room records = 1600 * records + 10000
+log_room records = 5500 * records + 60000
 
 -- How many bytes the text of one reply may have. An empty line of a text has two bytes on the tape and seven in a reply.
 abbrev pub text_room : ℕ → ℕ

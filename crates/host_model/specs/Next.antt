@@ -6,7 +6,7 @@ use Rattle.loop_model.specs.Listening.{HearsAll, HearsInPart}
 use Rattle.il_ring.specs.Outcomes.{HearsNothing}
 use Rattle.il_script.specs.declared.reply.Reply.{Reply}
 use Rattle.il_script.specs.declared.reply.Reply.TheVariants as reply
-use Rattle.host_model.specs.Requests.{OfVolume, Get, Status, Poll, Say, Paper, Item, Asks, NoCommand}
+use Rattle.host_model.specs.Requests.{OfVolume, Get, Pack, Status, Poll, Say, Paper, Item, Asks, NoCommand}
 use Rattle.host_model.specs.LoopStates.{LoopState, printer_at}
 
 -- ---- device by device
@@ -58,6 +58,7 @@ StatusBehindStatus r before now = now ≡ before
 abbrev pub StatusBehind : Item → Reply → ℕ → ℕ → Type 0
 StatusBehind (Asks (OfVolume command)) r before now = StatusBehindVolume r now
 StatusBehind (Asks (Get name)) r before now = StatusBehindVolume r now
+StatusBehind (Asks Pack) r before now = StatusBehindVolume r now
 StatusBehind (Asks Status) r before now = StatusBehindStatus r before now
 StatusBehind _ r before now = now ≡ before
 

@@ -1,5 +1,5 @@
 -- What a command replies where no fault comes in between, and the texts of replies and logs.
-use Rattle.std.specs.Prelude.{ℕ, ◌+◌, ◌==◌, List, [], ◌∷◌, ◌++◌, Option, Some, None, if◌then◌else◌, codes, decimal}
+use Rattle.std.specs.Prelude.{ℕ, ◌+◌, ◌==◌, List, [], ◌∷◌, ◌++◌, Option, Some, None, option_map, if◌then◌else◌, codes, decimal}
 use Rattle.std.specs.List.{flat_map}
 use Rattle.std.specs.FinMap.{get}
 use Rattle.hex.specs.Hex.{encode_upper}
@@ -12,6 +12,7 @@ use Rattle.lif_model.specs.Volume.{Volume}
 use Rattle.lif_model.specs.Apply.{VolumeCommand, apply}
 use Rattle.lif_model.specs.Apply as volume
 use Rattle.lif_model.specs.declared.refusal.Refusal.{Refusal}
+use Rattle.lif_pack.specs.Packing.{pack_refusal, packed, files_moved, records_free}
 use Rattle.il_frames.specs.declared.entry.Entry.{Entry}
 use Rattle.il_frames.specs.declared.frame.Frame.{Frame}
 use Rattle.il_frames.specs.Frames.{byte_of, has_service}
@@ -20,7 +21,7 @@ use Rattle.il_script.specs.Replies.{text_line, next, reply_line, code_of}
 use Rattle.il_script.specs.declared.reply.Code.TheVariants as code
 use Rattle.il_script.specs.declared.reply.Reply.{Reply}
 use Rattle.il_script.specs.declared.reply.Reply.TheVariants as reply
-use Rattle.host_model.specs.Requests.{OfVolume, Get, Devices, Status, Poll, Say, Paper, Item, Asks, NoCommand, text_type}
+use Rattle.host_model.specs.Requests.{OfVolume, Get, Pack, Devices, Status, Poll, Say, Paper, Item, Asks, NoCommand, text_type}
 use Rattle.host_model.specs.LoopStates.{all_ids, status_byte, poll_frame, printer_at, paper_on}
 use Rattle.host_model.specs.HostStates.{HostState, volume_at}
 use Rattle.host_model.specs.Listing.{type_text, listing}
@@ -65,14 +66,21 @@ got_as (Some refusal) lines = reply.No (code_of refusal)
 abbrev pub reply_of : Item → HostState → Reply
 reply_of (Asks (OfVolume command)) s = refused_as (apply s.records command (volume_at s)).0
 reply_of (Asks (Get name)) s = got_as (apply s.records (volume.Fetch name) (volume_at s)).0 (lines_of_file name (volume_at s))
+reply_of (Asks Pack) s = refused_as (pack_refusal s.records (volume_at s))
 reply_of (Asks (Say bytes)) s = if_printer (printer_at s.loop)
 reply_of (Asks Paper) s = if_printer (paper_on s.loop)
 reply_of (Asks _) s = reply.Ok
 reply_of (NoCommand c) s = reply.No c
 
+-- the packed volume, or the same one where it is refused
+abbrev pub packed_unless : ℕ → Option Refusal → Option Volume → Option Volume
+packed_unless n None volume = option_map (packed n) volume
+packed_unless n (Some refusal) volume = volume
+
 -- the volume behind an item, where no fault comes in between
 abbrev pub volume_behind : Item → HostState → Option Volume
 volume_behind (Asks (OfVolume command)) s = (apply s.records command (volume_at s)).1
+volume_behind (Asks Pack) s = packed_unless s.records (pack_refusal s.records (volume_at s)) (volume_at s)
 volume_behind _ s = volume_at s
 
 -- ---- the lines before the last one, of a reply with ok
@@ -114,6 +122,15 @@ abbrev pub told_of : VolumeCommand → Option Volume → List ℕ
 told_of command None = []
 told_of command (Some v) = told_of_volume command v
 
+-- `packed F R`: so many files were moved, and so many records are free after them
+unfoldable pub packed_text : ℕ → ℕ → List ℕ
+packed_text files free = text_line (codes "packed" ++ next (decimal files) ++ next (decimal free))
+
+-- those that begin elsewhere once the volume is packed, and the records before the redo file
+abbrev pub packed_line : ℕ → Option Volume → List ℕ
+packed_line n None = []
+packed_line n (Some v) = packed_text (files_moved n v) (records_free n v)
+
 -- two hex digits, or `--` for a device that has no accessory ID
 abbrev pub id_text : Option ℕ → List ℕ
 id_text None = codes "--"
@@ -141,6 +158,7 @@ paper_line (Some paper) = text_line (codes "paper" ++ next (bytes_text paper.0) 
 abbrev pub lines_before : Item → HostState → List ℕ
 lines_before (Asks (OfVolume command)) s = told_of command (volume_at s)
 lines_before (Asks (Get name)) s = lines_text (lines_of_file name (volume_at s))
+lines_before (Asks Pack) s = packed_line s.records (volume_at s)
 lines_before (Asks Devices) s = device_lines 1 (all_ids s.loop)
 lines_before (Asks Status) s = status_line (status_byte s.loop)
 lines_before (Asks Poll) s = poll_line (poll_frame s.loop)

@@ -20,11 +20,12 @@ use Rattle.il_script.specs.declared.reply.Code.TheVariants as code
 
 -- ---- requests
 
--- A command with all that it carries: one of the volume, or one of the loop. `Get` is a fetch that tells the lines of a text; `Say`
--- carries the bytes for the printer.
+-- A command with all that it carries: one of the volume, or one of the loop. `Get` is a fetch that tells the lines of a text; `Pack`
+-- moves the files of the volume together; `Say` carries the bytes for the printer.
 pub data Request : Type 0 where
   OfVolume : VolumeCommand → Request
   Get : (name : List ℕ) → Request
+  Pack : Request
   Devices : Request
   Status : Request
   Poll : Request
@@ -50,6 +51,7 @@ request_of (command.Purge name) bytes = OfVolume (volume.Purge (name_bytes name)
 request_of (command.Format label slots) bytes = OfVolume (volume.Format (label_bytes label) slots)
 request_of command.Adopt bytes = OfVolume volume.Adopt
 request_of command.Upgrade bytes = OfVolume volume.Upgrade
+request_of command.Pack bytes = Pack
 request_of command.Begin bytes = OfVolume (volume.Batch [])
 request_of command.Commit bytes = OfVolume (volume.Batch [])
 request_of command.Devices bytes = Devices
@@ -202,6 +204,7 @@ items_of script = items_in (map line_told (lines_of script)) ++ left_open (gathe
 abbrev pub is_of_volume : Item → Bool
 is_of_volume (Asks (OfVolume command)) = true
 is_of_volume (Asks (Get name)) = true
+is_of_volume (Asks Pack) = true
 is_of_volume _ = false
 
 -- every command but `paper` sends frames

@@ -15,6 +15,7 @@ use Rattle.lif_model.specs.Volume.{Volume, is_foreign_gated}
 use Rattle.lif_model.specs.Apply.{Store, Fetch, Batch}
 use Rattle.lif_model.specs.Writing.{NewFile, files_left}
 use Rattle.lif_model.specs.Transfers.{carries}
+use Rattle.lif_pack.specs.Packing.{files_shown}
 use Rattle.il_frames.specs.declared.entry.Entry.{Entry}
 use Rattle.il_device.specs.State.{DeviceState, risen_by}
 use Rattle.loop_model.specs.Effect.{UnitsEffect, is_out, is_in, transfer_of, ends_as, all_good}
@@ -30,13 +31,13 @@ use Rattle.il_script.specs.declared.reply.Reply.TheVariants as reply
 use Rattle.il_ring.specs.declared.plan.Planned.{Planned}
 use Rattle.il_ring.specs.Plans.{hops_of}
 use Rattle.il_ring.specs.Fates.{IsByPlan}
-use Rattle.host_model.specs.Requests.{OfVolume, Get, Item, Asks, is_of_volume, uses_frames}
+use Rattle.host_model.specs.Requests.{OfVolume, Get, Pack, Item, Asks, is_of_volume, uses_frames}
 use Rattle.host_model.specs.LoopStates.{all_roles, device_count, ring_of}
 use Rattle.host_model.specs.HostStates.{HostState, volume_at, HasOwnGate, log_room}
 use Rattle.host_model.specs.Replies.{reply_of, volume_behind}
 use Rattle.host_model.specs.Courses.{begins_with, cleared_first, course_of, keeps_course}
 use Rattle.host_model.specs.Next.{Next, BoxedBecome}
-use Rattle.host_model.specs.Directories.{kept_after, LogOfKept}
+use Rattle.host_model.specs.Directories.{IsKeptAfter, LogOfKept}
 
 pub record Event : Type 0 where
   pub item : Item
@@ -57,8 +58,9 @@ MayReply item reply.FaultFrame = uses_frames item ≡ true
 MayReply item reply.FaultMedium = is_of_volume item ≡ true
 MayReply item r = Unit {0}
 
--- the volume before the item, or the one that it makes
+-- the same files as before a packing, each with all of its slot but the start; or the volume before an item, or the one that it makes
 abbrev pub EitherVolume : Item → HostState → HostState → Type 0
+EitherVolume (Asks Pack) s t = files_shown s.records (volume_at t) ≡ files_shown s.records (volume_at s)
 EitherVolume item s t = (volume_at t ≡ volume_at s) ⊎ (volume_at t ≡ volume_behind item s)
 
 -- Without a fault, reply and volume are those of the item. After one, all of the command was done or nothing of it; of a tape whose
@@ -206,7 +208,7 @@ pub record Acts (plan : List Planned) (e : Event) : Type 0 where
 
 -- what became of the directory in memory, and what the log has where it was kept before
 pub record KeepsDirectory (e : Event) : Type 0 where
-  pub kept : e.after.kept ≡ kept_after e.item e.before.kept e.reply
+  pub kept : IsKeptAfter e.item e.before.kept e.reply e.after.kept
   pub log : e.before.kept ≡ true → LogOfKept e.item e.reply e.before e.log
 
 -- what holds of each event

@@ -2,8 +2,9 @@
 use Rattle.std.specs.Prelude.{◌≡◌, ◌⊎◌, ℕ, true, false, List, [], ◌∷◌, Option, Some, is_some, IfSome}
 use Rattle.lif_model.specs.Stops.{LeavesOnly}
 use Rattle.lif_model.specs.Tape.{Tape}
-use Rattle.lif_model.specs.Volume.{volume_of, is_foreign_gated}
-use Rattle.host_model.specs.Requests.{OfVolume, Get, Item, Asks}
+use Rattle.lif_model.specs.Volume.{is_foreign_gated}
+use Rattle.lif_pack.specs.Packing.{finished_volume_of, files_shown}
+use Rattle.host_model.specs.Requests.{OfVolume, Get, Pack, Item, Asks}
 use Rattle.host_model.specs.HostStates.{HostState, volume_at}
 use Rattle.host_model.specs.Replies.{volume_behind}
 use Rattle.host_model.specs.Steps.{Event, SettlesAlike}
@@ -14,12 +15,14 @@ pub record IsLeft (before : Option Tape) (x : Tape) (By : Type 0) : Type 0 where
   pub own : IfSome before (λ t. is_foreign_gated t ≡ false) → By × (is_foreign_gated x ≡ false)
   pub foreign : SettlesAlike before x
 
--- A stop within a command of the volume leaves the volume before it or the one that it makes; a get makes none. Within any other
--- item a stop leaves the tape as it is.
+-- A stop within a command of the volume leaves the volume before it or the one that it makes; a get makes none, and a packing leaves the
+-- same files. Within any other item a stop leaves the tape as it is.
 abbrev pub MayBeLeft : Item → HostState → Tape → Type 0
 MayBeLeft (Asks (OfVolume command)) s x =
-    IsLeft s.tape x ((volume_of x ≡ volume_at s) ⊎ (volume_of x ≡ volume_behind (Asks (OfVolume command)) s))
-MayBeLeft (Asks (Get name)) s x = IsLeft s.tape x (volume_of x ≡ volume_at s)
+    IsLeft s.tape x ((finished_volume_of x ≡ volume_at s) ⊎ (finished_volume_of x ≡ volume_behind (Asks (OfVolume command)) s))
+MayBeLeft (Asks (Get name)) s x = IsLeft s.tape x (finished_volume_of x ≡ volume_at s)
+MayBeLeft (Asks Pack) s x =
+    IsLeft s.tape x (files_shown s.records (finished_volume_of x) ≡ files_shown s.records (volume_at s))
 MayBeLeft _ s x = s.tape ≡ Some x
 
 -- the same of all stops since the moment `before` at which the item began; earlier ones are told by `past`
