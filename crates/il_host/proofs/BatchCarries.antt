@@ -1,5 +1,5 @@
 -- The reads and writes that the clause of a volume tells of a batch carry the bytes of each file that it leaves.
-use Rattle.std.proofs.Common.{◌≡◌, ◌∙◌, ◌<◌, ◌≤◌, ◌+◌, ◌++◌, ◌||◌, ℕ, Bool, true, false, if◌then◌else◌, List, [], ◌∷◌, length, Option, Some, None, inl, inr, refl, sym, ap, subst, arith}
+use Rattle.std.proofs.Common.{◌≡◌, ◌∙◌, ◌<◌, ◌≤◌, ◌+◌, ◌++◌, ◌||◌, ℕ, Bool, true, false, if◌then◌else◌, List, [], ◌∷◌, length, Option, Some, None, inl, inr, refl, sym, ap, subst, arith, append_assoc}
 use Rattle.std.specs.Prelude.{All, Result, Ok, Err, is_some}
 use Rattle.std.specs.List.{list_any}
 use Rattle.std.proofs.lemmas.List.Elements.{All-nil, All-cons, All-head, All-tail, All-filter}
@@ -40,9 +40,8 @@ use Rattle.lif_volume.proofs.Batched.{LieApart, LiesApart, left_apart}
 use Rattle.il_host.specs.Standings.{volume_reply}
 use Rattle.il_script.specs.declared.reply.Reply.TheVariants as reply
 use Rattle.host_model.specs.HostStates.{HostState, volume_at}
-use Rattle.il_host.proofs.FileCarries.{EachRecord, goes_parted, IsOff, apart_off, each_commit, each_if_any, each_target, none_over, store_carried, told_still, volume_seen, written_carried_out}
+use Rattle.il_host.proofs.FileCarries.{EachRecord, ShowsVolume, TellsSome, goes_parted, IsOff, apart_off, each_commit, each_if_any, each_target, none_over, store_carried, told_still, volume_seen, written_carried_out}
 use Rattle.il_host.proofs.VolumeCarries.{CarriesAs, GoesOut, IsFormedAs, none_carried, one_among, one_later, writes_records}
-use Rattle.il_host.proofs.VolumeReplied.{IsSeenAs}
 use Rattle.il_host.proofs.KeptDirectories.{TellsNothing}
 
 -- ---- runs of files that lie apart
@@ -88,16 +87,17 @@ module _ {among : List Transfer → Changes} {single : List Transfer → Type 0}
     (pieces : (t : Transfer) (ts : List Transfer) → single (t ∷ ts) → (length t.bytes ≡ 256) × single ts) where
   runs_carried : (P : ℕ → Type 0) (ws : Changes) (fs : List NewFile) (runs : List Transfer) (old new : List Transfer → Type 0) → LieApart fs → All (AreOff ws) fs → runs ≡ runs_filed fs
       → ((list : List Transfer) → old list → (first more : List Transfer) × new (list ++ (first ++ (runs ++ more))) × WritesOnly P first × (among more ≡ ws) × single more)
-      → old [] → (list : List Transfer) × new list × All (GoesOut list) fs
+      → TellsSome old → (list : List Transfer) × new list × All (GoesOut list) fs
   runs_carried P ws fs runs old new apart off are goes_on begun =
-      let is = goes_on [] begun in
+      let is = goes_on begun.0 begun.1 in
+      let first : List Transfer = begun.0 ++ is.0 in
       let more : List Transfer = is.1 in
       let kept : All (IsKept more) fs = each_file (AreOff ws) (IsKept more) fs
       (λ f each. none_over next pieces f.start (file_length f.bytes) (filled f.bytes) (length_filled f.bytes) more is.5 (subst (λ (ws : Changes). AreOff ws f) (sym is.4) each)) off in (
-        is.0 ++ (runs_filed fs ++ more),
-        subst (λ (rs : List Transfer). new (is.0 ++ (rs ++ more))) are is.2,
-        each_file (GoesOut (runs_filed fs ++ more)) (GoesOut (is.0 ++ (runs_filed fs ++ more))) fs
-            (λ f out. (carries-later (λ (t : Transfer). t) (λ (t : Transfer). t.writes) is.0 (runs_filed fs ++ more) f.start (filled f.bytes) out.0, one_later writes_records is.0 (runs_filed fs ++ more) f.start (filled f.bytes) out.1))
+        first ++ (runs_filed fs ++ more),
+        subst new (sym (append_assoc begun.0 is.0 (runs_filed fs ++ more))) (subst (λ (rs : List Transfer). new (begun.0 ++ (is.0 ++ (rs ++ more)))) are is.2),
+        each_file (GoesOut (runs_filed fs ++ more)) (GoesOut (first ++ (runs_filed fs ++ more))) fs
+            (λ f out. (carries-later (λ (t : Transfer). t) (λ (t : Transfer). t.writes) first (runs_filed fs ++ more) f.start (filled f.bytes) out.0, one_later writes_records first (runs_filed fs ++ more) f.start (filled f.bytes) out.1))
             (runs_carry fs more apart kept),
       )
 
@@ -135,7 +135,7 @@ batch_is_off n u v tape told parts is are version with was_open =
 
 -- ---- a batch
 
-module _ {R S : Type 0} (view : R → RecordsView S) (old new : VolumeView R) (s : HostState) (seen : IsSeenAs s (view old.records)) (begun : (view old.records).transferred []) (store : IsStore (view old.records))
+module _ {R S : Type 0} (view : R → RecordsView S) (old new : VolumeView R) (s : HostState) (seen : ShowsVolume s (view old.records)) (begun : TellsSome (view old.records).transferred) (store : IsStore (view old.records))
     (parts : List Part) {T : Type 0} (x : T) (formed : IsWellFormed (Batch parts)) (alters : Alters {T = T} (Batch parts) view old new (Ok x)) where
   abbrev n : ℕ
   n = (view old.records).record_count
@@ -199,7 +199,7 @@ module _ {R S : Type 0} (view : R → RecordsView S) (old new : VolumeView R) (s
 -- ---- every command
 
 -- of any answer, and of the commands that carry no bytes of a file
-pub alters_carried : {R S : Type 0} (view : R → RecordsView S) (old new : VolumeView R) (s : HostState) → IsSeenAs s (view old.records) → (view old.records).transferred [] → IsStore (view old.records)
+pub alters_carried : {R S : Type 0} (view : R → RecordsView S) (old new : VolumeView R) (s : HostState) → ShowsVolume s (view old.records) → TellsSome (view old.records).transferred → IsStore (view old.records)
     → (command : VolumeCommand) → TellsNothing command → {T : Type 0} (answer : Result T VolumeFault) → IsFormedAs command answer → Alters command view old new answer
     → CarriesAs command (volume_reply answer) s.records (volume_at s) (view new.records).transferred
 alters_carried view old new s seen begun store Dir nothing answer formed alters = tt

@@ -1,5 +1,5 @@
 -- The reads and writes that the clauses of a volume tell of a store and of a fetch carry the bytes of the file.
-use Rattle.std.proofs.Common.{◌≡◌, ◌⊎◌, ◌∙◌, ◌<◌, ◌≤◌, ◌+◌, ◌++◌, ◌*◌, ◌&&◌, ◌||◌, ◌==◌, ℕ, zero, suc, Bool, true, false, not, if◌then◌else◌, nat_eq, nat_lt, List, [], ◌∷◌, length, map, get_or, take, Option, Some, None, option_and_then, inl, inr, refl, sym, ap, subst, arith}
+use Rattle.std.proofs.Common.{◌≡◌, ◌⊎◌, ◌∙◌, ◌<◌, ◌≤◌, ◌+◌, ◌++◌, ◌*◌, ◌&&◌, ◌||◌, ◌==◌, ℕ, zero, suc, Bool, true, false, not, if◌then◌else◌, nat_eq, nat_lt, List, [], ◌∷◌, length, map, get_or, take, Option, Some, None, option_and_then, inl, inr, refl, sym, ap, subst, arith, append_assoc}
 use Rattle.std.specs.Prelude.{IfSome, Ok, is_some}
 use Rattle.std.specs.FinMap.{get}
 use Rattle.std.specs.List.{list_any}
@@ -43,7 +43,6 @@ use Rattle.lif_volume.specs.Views.{VolumeView}
 use Rattle.il_script.specs.declared.reply.Reply.TheVariants as reply
 use Rattle.host_model.specs.HostStates.{HostState, volume_at}
 use Rattle.il_host.proofs.VolumeCarries.{CarriesAs, FetchesFrom, StoresTo, by_one, one_among, or_true, reads_records, writes_records}
-use Rattle.il_host.proofs.VolumeReplied.{IsSeenAs}
 
 -- ---- one transfer
 
@@ -68,9 +67,18 @@ written_carried_out first more start bytes kept =
 
 -- ---- a fetch
 
-module _ {R S : Type 0} (view : R → RecordsView S) (old new : VolumeView R) (s : HostState) (seen : IsSeenAs s (view old.records)) (begun : (view old.records).transferred []) where
+-- the volume of the state is that of the store's tape
+pub record ShowsVolume {S : Type 0} (s : HostState) (v : RecordsView S) : Type 0 where
+  pub volume : volume_at s ≡ option_and_then volume_of v.tape
+  pub records : s.records ≡ v.record_count
+
+-- some reads and writes were told before
+abbrev pub TellsSome : (List Transfer → Type 0) → Type 0
+TellsSome transferred = (list : List Transfer) × transferred list
+
+module _ {R S : Type 0} (view : R → RecordsView S) (old new : VolumeView R) (s : HostState) (seen : ShowsVolume s (view old.records)) (begun : TellsSome (view old.records).transferred) where
   pub volume_seen : (tape : Option Tape) → (view old.records).tape ≡ tape → volume_at s ≡ option_and_then volume_of tape
-  volume_seen tape told = ap (option_and_then volume_of) (seen.tape ∙ told)
+  volume_seen tape told = seen.volume ∙ ap (option_and_then volume_of) told
 
   module _ (name into : List ℕ) (fetched : Fetched) (file : FetchesFile name view old fetched into) (run : FetchesByRun name view old new fetched into) (settles : WritesBySettling view old new (Ok fetched)) where
     module _ (t : Tape) (told : IsTold view old t) where
@@ -85,34 +93,37 @@ module _ {R S : Type 0} (view : R → RecordsView S) (old new : VolumeView R) (s
       read_in some =
           let here : slot_named (slots_of (settled t)) name ≡ Some there.slot = ap (λ (xs : List (List ℕ)). slot_named xs name) (sym slots_are) ∙ there.named in
           let ends = subst (λ (o : Option (List ℕ)). IfSome o (λ slot. EndsWithRead (IsSettleWrite (view old.records).record_count (redo_of t)) (is_some old.kept) (start_of slot) (take fetched.length into) (view old.records).transferred (view new.records).transferred)) here (run t told some) in
-          let more = ends.goes_on [] begun in (
-            more.0 ++ record { writes = false; first = start_of there.slot; bytes = take fetched.length into } ∷ [],
-            more.1,
+          let more = ends.goes_on begun.0 begun.1 in
+          let before : List Transfer = begun.0 ++ more.0 in
+          let last : List Transfer = record { writes = false; first = start_of there.slot; bytes = take fetched.length into } ∷ [] in (
+            before ++ last,
+            subst (view new.records).transferred (sym (append_assoc begun.0 more.0 last)) more.1,
             record {
               found = there.slot;
               told = take fetched.length into;
               slot_is = there.named;
               bytes_are = there.bytes;
-              carried = last_carried_in more.0 (start_of there.slot) (take fetched.length into);
-              one = (λ i. (length_of there.slot == 0) || one_among reads_records more.0 [] (record { writes = false; first = start_of there.slot; bytes = take fetched.length into }) refl i) ∙ or_true (length_of there.slot == 0);
+              carried = last_carried_in before (start_of there.slot) (take fetched.length into);
+              one = (λ i. (length_of there.slot == 0) || one_among reads_records before [] (record { writes = false; first = start_of there.slot; bytes = take fetched.length into }) refl i) ∙ or_true (length_of there.slot == 0);
             },
           )
 
       -- a file without records
       read_none : fetched.length ≡ 0 → (list : List Transfer) × (view new.records).transferred list × FetchesFrom (slot_named there.volume.slots name) (get there.volume.files name) list
       read_none none =
-          let more = (settles t told).goes_on [] begun in (
-            more.0,
+          let more = (settles t told).goes_on begun.0 begun.1 in
+          let all : List Transfer = begun.0 ++ more.0 in (
+            all,
             more.1,
             record {
               found = there.slot;
               told = take fetched.length into;
               slot_is = there.named;
               bytes_are = there.bytes;
-              carried = ap (λ (k : ℕ). are_carried_in more.0 (start_of there.slot) (take k into)) none ∙ carries-nothing (λ (t : Transfer). t) (λ (t : Transfer). not t.writes) more.0 (start_of there.slot);
+              carried = ap (λ (k : ℕ). are_carried_in all (start_of there.slot) (take k into)) none ∙ carries-nothing (λ (t : Transfer). t) (λ (t : Transfer). not t.writes) all (start_of there.slot);
               one =
                   let empty : length_of there.slot ≡ 0 = omega (arith, there.length, none) in
-                  ap (λ (k : ℕ). (k == 0) || by_one reads_records more.0 (start_of there.slot) (take fetched.length into)) empty;
+                  ap (λ (k : ℕ). (k == 0) || by_one reads_records all (start_of there.slot) (take fetched.length into)) empty;
             },
           )
 
@@ -262,10 +273,11 @@ module _ {among : List Transfer → Changes} {single : List Transfer → Type 0}
   -- The list goes on by some transfers, by the run, and by those whose writes are of other records: it carries the bytes out.
   run_carried : (P : ℕ → Type 0) (ws : Changes) (runs : List Transfer) (old new : List Transfer → Type 0) → EachRecord (IsOff start count) ws → runs ≡ run ∷ []
       → ((list : List Transfer) → old list → (first more : List Transfer) × new (list ++ (first ++ (runs ++ more))) × WritesOnly P first × (among more ≡ ws) × single more)
-      → old [] → (list : List Transfer) × new list × (are_carried_out list start bytes ≡ true) × (by_one writes_records list start bytes ≡ true)
+      → TellsSome old → (list : List Transfer) × new list × (are_carried_out list start bytes ≡ true) × (by_one writes_records list start bytes ≡ true)
   run_carried P ws runs old new off one goes_on begun =
-      let is = goes_on [] begun in
-      (is.0 ++ run ∷ is.1, subst (λ (rs : List Transfer). new (is.0 ++ (rs ++ is.1))) one is.2, written_carried_out is.0 is.1 start bytes (none_over is.1 is.5 (subst (EachRecord (IsOff start count)) (sym is.4) off)), one_among writes_records is.0 is.1 run refl)
+      let is = goes_on begun.0 begun.1 in
+      let first : List Transfer = begun.0 ++ is.0 in
+      (first ++ run ∷ is.1, subst new (sym (append_assoc begun.0 is.0 (run ∷ is.1))) (subst (λ (rs : List Transfer). new (begun.0 ++ (is.0 ++ (rs ++ is.1)))) one is.2), written_carried_out first is.1 start bytes (none_over is.1 is.5 (subst (EachRecord (IsOff start count)) (sym is.4) off)), one_among writes_records first is.1 run refl)
 
 -- the transfers of a command in three parts: what comes first, its files and its commit
 pub goes_parted : (P : ℕ → Type 0) (kept : Bool) (n : ℕ) (command : VolumeCommand) (volume : Option Volume) (t : Tape) (old new : List Transfer → Type 0) → AddsCommit P kept n command volume t old new
@@ -279,7 +291,7 @@ pub told_still : (old new : Option Tape) (t : Tape) → is_some new ≡ is_some 
 told_still old (Some u) t same told = (u, refl)
 told_still old None t same told = let both : false ≡ true = same ∙ ap is_some told in cc
 
-module _ {R S : Type 0} (view : R → RecordsView S) (old new : VolumeView R) (s : HostState) (seen : IsSeenAs s (view old.records)) (begun : (view old.records).transferred []) (store : IsStore (view old.records))
+module _ {R S : Type 0} (view : R → RecordsView S) (old new : VolumeView R) (s : HostState) (seen : ShowsVolume s (view old.records)) (begun : TellsSome (view old.records).transferred) (store : IsStore (view old.records))
     (name : List ℕ) (kind : ℕ) (implementation bytes : List ℕ) {T : Type 0} (x : T) (alters : Alters {T = T} (Store name kind implementation bytes) view old new (Ok x)) where
   abbrev n : ℕ
   n = (view old.records).record_count

@@ -1,11 +1,12 @@
 -- The commands that change the volume, as a host performs them.
 use Rattle.std.proofs.Common.{◌≡◌, ◌≤◌, ◌+◌, ℕ, List, Option, None, Some, refl, subst, arith}
-use Rattle.std.specs.Prelude.{Result, Ok, Err, is_some}
+use Rattle.std.specs.Prelude.{Result, Ok, Err}
 use Rattle.lif_model.specs.Parts.{Part}
 use Rattle.lif_model.specs.Apply.{Adopt, Dir, Fetch, Format, Label, Batch, Purge, Rename, Store, Upgrade, VolumeCommand}
 use Rattle.lif_model.specs.Header.{HeaderParts}
 use Rattle.il_ports.specs.Media.{MediumView, IsMedium}
-use Rattle.il_ports.specs.Stores.{Begun, Continues, RecordsView}
+use Rattle.il_ports.specs.Stores.{Begun, RecordsView}
+use Rattle.lif_volume.specs.Answers.{store_answer}
 use Rattle.lif_volume.specs.Changing.{batching, beside, changing, committing, filing, with_mounting}
 use Rattle.lif_volume.specs.Commands.{mounting}
 use Rattle.lif_volume.specs.Did.{Alters}
@@ -16,17 +17,16 @@ use Rattle.lif_volume.specs.declared.volume.Volume.{Volume}
 use Rattle.il_ring.specs.declared.ring.Ring.{Ring}
 use Rattle.il_ring.specs.Rings.{RingView}
 use Rattle.il_record.specs.declared.records.LoopRecords.{LoopRecords}
-use Rattle.il_record.specs.Controls.{ring_in}
-use Rattle.il_record.specs.IsStore.{is_store_at}
 use Rattle.il_script.specs.Replies.{reply_line}
 use Rattle.host_model.specs.Requests.{Asks, OfVolume}
-use Rattle.il_host.specs.HostView.{Performed}
-use Rattle.il_host.specs.Hosts.{IsUsable, host_in, loop_in, store_in, volume_in}
-use Rattle.il_host.specs.Standings.{HasDriveStatus, MakesSound, volume_reply}
+use Rattle.il_host.specs.HostView.{Performed, calls_to_pack}
+use Rattle.il_host.specs.Hosts.{Space, IsUsable, host_in, loop_in, store_in, volume_in}
+use Rattle.il_host.specs.Standings.{HasDriveStatus, volume_reply}
 use Rattle.il_host.proofs.BatchCarries.{alters_carried}
 use Rattle.il_host.proofs.VolumeCarries.{IsFormedAs}
 use Rattle.il_host.proofs.KeptDirectories.{TellsNothing, minds_altered}
-use Rattle.il_host.proofs.HostVolumes.{changed, most_calls, mounts_few, none_asked, seen_asked}
+use Rattle.il_host.proofs.HostVolumes.{changed, most_calls, mounts_few}
+use Rattle.il_host.proofs.Prepared.{IsPrepared, answers_prepared, few_prepared, goes_prepared, minds_prepared, shows_prepared, some_prepared, store_law, turns_prepared}
 
 -- where the calls beside a directory are few, those with mounting are
 few_with_mounting : {R S T : Type 0} (view : R → RecordsView S) (old new : VolumeView R) (answer : Result T VolumeFault) → IsOpen view new → (view new.records).record_count ≡ (view old.records).record_count
@@ -99,22 +99,27 @@ changing_few {T = T} view old new command answer nothing is size = by command no
         (omega (arith, batches_few count None parts answer)) (λ header long. omega (arith, batches_few count (Some header) parts answer, long))
     by (Format label slots) nothing = omega (arith, mounts_any (view old.records).record_count old.kept, commits_few answer)
 
-module _ {M I : Type 0} {D : I → Type 0} (view : M → MediumView) (seen : Ring M I D → RingView M) (o b n : Volume (LoopRecords M I D)) (text_space file_space : ℕ)
-    (usable : IsUsable view (store_in view seen) (volume_in o) (loop_in seen o.records) text_space file_space) (began : Begun (store_in view seen o.records) (store_in view seen b.records))
-    (command : VolumeCommand) (opens : IsOpen (store_in view seen) (volume_in n)) (low : HasDriveStatus (loop_in seen n.records).control)
-    (m : Volume (LoopRecords M I D)) (u : Unit {0}) (makes : MakesSound view (loop_in seen b.records) (loop_in seen m.records) (Ok u)) (sounds : Continues {T = Unit {0}} 1 (store_in view seen b.records) (store_in view seen m.records) (Ok u)) (same : is_some m.kept ≡ is_some o.kept) where
+module _ {M I : Type 0} {D : I → Type 0} (view : M → MediumView) (seen : Ring M I D → RingView M) (o b f n : Volume (LoopRecords M I D)) (text_space : ℕ) (space : Space)
+    (usable : IsUsable view (store_in view seen) (volume_in o) (loop_in seen o.records) text_space space) (began : Begun (store_in view seen o.records) (store_in view seen b.records))
+    (law : (x : M) → IsMedium (view x)) (p : IsPrepared view seen o b f) (opened : IsOpen (store_in view seen) (volume_in f))
+    (opens : IsOpen (store_in view seen) (volume_in n)) (low : HasDriveStatus (loop_in seen n.records).control) where
   -- a command that tells nothing, as the volume did it
-  pub altered : {T : Type 0} (answer : Result T VolumeFault) (before : List ℕ) → ((x : M) → IsMedium (view x)) → IsOpen (store_in view seen) (volume_in m) → TellsNothing command → IsFormedAs command answer
-      → Alters command (store_in view seen) (volume_in m) (volume_in n) answer
-      → Performed (Asks (OfVolume command)) (volume_reply answer) (host_in view seen o before text_space file_space) (host_in view seen n (reply_line (volume_reply answer)) text_space file_space)
-  altered answer before law was nothing formed alters =
-      changed view seen o b n text_space file_space usable began command opens low m u makes sounds same answer
-      (changing (store_in view seen m.records).record_count command (volume_in m).kept (volume_in n).kept answer) before nothing
-      (changing_few (store_in view seen) (volume_in m) (volume_in n) command answer nothing opens alters.goes_on.continues.size)
-      alters.goes_on (alters.stops, alters.foreign) alters.answers
-      (alters_carried (store_in view seen) (volume_in m) (volume_in n) (host_in view seen o before text_space file_space).state
-      (seen_asked view seen o b n text_space file_space usable began command opens low m u makes sounds same before)
-      (none_asked view seen o b n text_space file_space usable began command opens low m u makes sounds same)
-      (is_store_at view seen (ring_in m.records.control) m.records.sound m.records.since m.records.resumes (loop_in seen m.records).control law)
+  pub altered : {T : Type 0} (command : VolumeCommand) (answer : Result T VolumeFault) (before : List ℕ) → TellsNothing command → IsFormedAs command answer
+      → Alters command (store_in view seen) (volume_in f) (volume_in n) answer
+      → Performed (Asks (OfVolume command)) (volume_reply answer) (host_in view seen o before text_space space) (host_in view seen n (reply_line (volume_reply answer)) text_space space)
+  altered command answer before nothing formed alters =
+      let calls = changing (store_in view seen f.records).record_count command (volume_in f).kept (volume_in n).kept answer in
+      changed view seen o b n text_space space usable began command opens low p.m tt p.makes p.sounds p.same answer
+      (calls_to_pack (store_in view seen p.m.records).record_count + calls) before nothing
+      (few_prepared view seen o b f text_space space usable began law p n command opens low calls
+      (changing_few (store_in view seen) (volume_in f) (volume_in n) command answer nothing opens alters.goes_on.continues.size))
+      (goes_prepared view seen o b f text_space space usable began law p n command opens low calls (store_answer answer) alters.goes_on)
+      (turns_prepared view seen o b f text_space space usable began law p n command opens low alters.stops alters.foreign)
+      (answers_prepared view seen o b f text_space space usable began law p n command opens low answer alters.stops alters.answers)
+      (alters_carried (store_in view seen) (volume_in f) (volume_in n) (host_in view seen o before text_space space).state
+      (shows_prepared view seen o b f text_space space usable began law p n command opens low before)
+      (some_prepared view seen o b f text_space space usable began law p)
+      (store_law view seen o b f text_space space usable began law f.records)
       command nothing answer formed alters)
-      (minds_altered (store_in view seen) (volume_in m) (volume_in n) command answer nothing was alters (none_asked view seen o b n text_space file_space usable began command opens low m u makes sounds same))
+      (minds_prepared view seen o b f text_space space usable began law p n command opens low answer calls (store_answer answer) alters.stops alters.goes_on
+      (minds_altered (store_in view seen) (volume_in f) (volume_in n) command answer nothing opened alters))

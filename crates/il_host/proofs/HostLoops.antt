@@ -39,7 +39,7 @@ use Rattle.host_model.specs.HostStates.{HostState}
 use Rattle.host_model.specs.Replies.{device_lines, if_printer, paper_line, poll_line, reply_text, status_line}
 use Rattle.host_model.specs.Steps.{KeepsDirectory}
 use Rattle.il_host.specs.HostView.{Performed}
-use Rattle.il_host.specs.Hosts.{IsUsable, host_in, loop_in, store_in, volume_in}
+use Rattle.il_host.specs.Hosts.{Space, IsUsable, host_in, loop_in, store_in, volume_in}
 use Rattle.il_host.specs.Standings.{HasDriveId, fault_of}
 use Rattle.il_host.proofs.KeptDirectories.{forgotten}
 use Rattle.il_host.proofs.HostVolumes.{begun_calls, event_kept, fault_text, performed}
@@ -112,8 +112,8 @@ lent_open {M} {I} {T} {D} view seen v lends records k P answer opens same leaves
 
 -- ---- a host over a volume that was o before, and b behind the emptying of its log
 
-module _ {M I : Type 0} {D : I → Type 0} (view : M → MediumView) (seen : Ring M I D → RingView M) (o b : Volume (LoopRecords M I D)) (text_space file_space : ℕ)
-    (usable : IsUsable view (store_in view seen) (volume_in o) (loop_in seen o.records) text_space file_space) (began : Begun (store_in view seen o.records) (store_in view seen b.records))
+module _ {M I : Type 0} {D : I → Type 0} (view : M → MediumView) (seen : Ring M I D → RingView M) (o b : Volume (LoopRecords M I D)) (text_space : ℕ) (space : Space)
+    (usable : IsUsable view (store_in view seen) (volume_in o) (loop_in seen o.records) text_space space) (began : Begun (store_in view seen o.records) (store_in view seen b.records))
     (law : (m : M) → IsMedium (view m)) (before : List ℕ) where
   -- its records became these
   abbrev Ran : LoopRecords M I D → Item → Reply → Type 0
@@ -121,28 +121,29 @@ module _ {M I : Type 0} {D : I → Type 0} (view : M → MediumView) (seen : Rin
 
   -- the host with this volume and this text
   abbrev Behind : Volume (LoopRecords M I D) → Item → Reply → List ℕ → Type 0
-  Behind n item answered text = Performed item answered (host_in view seen o before text_space file_space) (host_in view seen n text text_space file_space)
+  Behind n item answered text = Performed item answered (host_in view seen o before text_space space) (host_in view seen n text text_space space)
 
   store : IsStore (store_in view seen o.records)
   store = is_store_at view seen (ring_in o.records.control) o.records.sound o.records.since o.records.resumes (loop_in seen o.records).control law
 
   left_begun : 2763 ≤ (store_in view seen b.records).calls_left
-  left_begun = let left = begun_calls view seen o b o text_space file_space usable began in let size = size_bounds (store_in view seen o.records).record_count usable.size in omega (arith, left, size.0, size.1)
+  left_begun = let left = begun_calls view seen o b o text_space space usable began in let size = size_bounds (store_in view seen o.records).record_count usable.size in omega (arith, left, size.0, size.1)
 
   -- the directory is forgotten
   forgets : (n : Volume (LoopRecords M I D)) (item : Item) (answered : Reply) (opens : IsOpen (store_in view seen) (volume_in n)) → IsOfLoop item → is_some n.kept ≡ false
-      → KeepsDirectory (event_kept view seen o b n text_space file_space usable began opens item answered)
+      → KeepsDirectory (event_kept view seen o b n text_space space usable began opens item answered)
   forgets n item answered opens of_loop off =
-      let is = forgotten item (is_some o.kept) answered (event_kept view seen o b n text_space file_space usable began opens item answered).before (event_kept view seen o b n text_space file_space usable began opens item answered).log of_loop in
-      record { kept = off ∙ sym is.0; log = λ on. is.1 }
+      let event = event_kept view seen o b n text_space space usable began opens item answered in
+      let is = forgotten item (is_some o.kept) answered event.before event.log (is_some n.kept) of_loop off in
+      record { kept = is.0; log = λ on. is.1 }
 
   -- it replied a fault
   faulted : (n : Volume (LoopRecords M I D)) (item : Item) (e : Trouble) → IsOfLoop item → IsOpen (store_in view seen) (volume_in n) → is_some n.kept ≡ false → (store_in view seen n.records).record_count ≡ (store_in view seen o.records).record_count
       → (e ≡ trouble.Frame) × Ran n.records item reply.FaultFrame → Behind n item (fault_of e) (reply_line (fault_of e))
   faulted n item e of_loop opens off size did =
-      performed view seen o b n text_space file_space usable began opens item (fault_of e) before (reply_line (fault_of e)) size
+      performed view seen o b n text_space space usable began opens item (fault_of e) before (reply_line (fault_of e)) size
       (subst (λ e. Ran n.records item (fault_of e)) (sym did.0) did.1) (forgets n item (fault_of e) opens of_loop off)
-      (λ told. sym (fault_text item (host_in view seen o before text_space file_space).state e)) (λ is. absurd (not_of_volume item of_loop is))
+      (λ told. sym (fault_text item (host_in view seen o before text_space space).state e)) (λ is. absurd (not_of_volume item of_loop is))
 
   -- the loop was not ready, and could not be addressed
   pub not_ready : (n : Volume (LoopRecords M I D)) (item : Item) (P : Type 0) (e : Trouble) → IsOpen (store_in view seen) (volume_in n) → IsOfLoop item
@@ -165,20 +166,20 @@ module _ {M I : Type 0} {D : I → Type 0} (view : M → MediumView) (seen : Rin
     paper_here : HasRing (loop_in seen b.records).control (λ r. found ≡ paper_of (r.before ++ r.after))
     paper_here = paper_at (loop_in seen b.records).control ring found (subst (λ (l : LoopRecords M I D). HasRing (loop_in seen l).control (λ r. ring ≡ r)) same at) is
 
-    paper_ran : (found ≡ paper_on (host_in view seen o before text_space file_space).state.loop) × Ran b.records (Asks Paper) (if_printer found)
+    paper_ran : (found ≡ paper_on (host_in view seen o before text_space space).state.loop) × Ran b.records (Asks Paper) (if_printer found)
     paper_ran =
         paper_performs view seen (ring_in o.records.control) (ring_in b.records.control) (loop_in seen o.records) (loop_in seen b.records)
         usable.volume_open.valid (agrees seen o.records.control) (agrees seen b.records.control) began store usable.log found paper_here
 
     -- it is that of the loop before
-    pub paper_before : found ≡ paper_on (host_in view seen o before text_space file_space).state.loop
+    pub paper_before : found ≡ paper_on (host_in view seen o before text_space space).state.loop
     paper_before = paper_ran.0
 
     pub paper_told : IsOpen (store_in view seen) (volume_in b) → b.kept ≡ o.kept → Behind b (Asks Paper) (if_printer found) (paper_line found ++ reply_line (if_printer found))
     paper_told opens kept =
-        performed view seen o b b text_space file_space usable began opens (Asks Paper) (if_printer found) before (paper_line found ++ reply_line (if_printer found)) began.size paper_ran.1
+        performed view seen o b b text_space space usable began opens (Asks Paper) (if_printer found) before (paper_line found ++ reply_line (if_printer found)) began.size paper_ran.1
         (record { kept = ap is_some kept; log = λ on. tt })
-        (λ told. paper_text found (host_in view seen o before text_space file_space).state paper_ran.0) (λ is. cc)
+        (λ told. paper_text found (host_in view seen o before text_space space).state paper_ran.0) (λ is. cc)
 
   -- the loop is ready, the volume is m, and its records are lent
   module _ (m : Volume (LoopRecords M I D)) (x : Unit {0}) (P : Type 0) (addresses : Addresses {T = Unit {0}} view (loop_in seen b.records).control (loop_in seen b.records) (loop_in seen m.records) (Ok x))
@@ -199,9 +200,9 @@ module _ {M I : Type 0} {D : I → Type 0} (view : M → MediumView) (seen : Rin
     -- one call: the records are l then
     module _ (l : LoopRecords M I D) where
       replied : {T : Type 0} (item : Item) (k : ℕ) (Q : Type 0) (answer : Result T Trouble) (lines : List ℕ) → LeavesStore k Q (store_in view seen lends) (store_in view seen l) answer → Ran l item reply.Ok → IsOfLoop item
-          → reply_text item (host_in view seen o before text_space file_space).state reply.Ok ≡ lines ++ reply_line reply.Ok → Behind (lent m l) item reply.Ok (lines ++ reply_line reply.Ok)
+          → reply_text item (host_in view seen o before text_space space).state reply.Ok ≡ lines ++ reply_line reply.Ok → Behind (lent m l) item reply.Ok (lines ++ reply_line reply.Ok)
       replied item k Q answer lines leaves ran of_loop text =
-          performed view seen o b (lent m l) text_space file_space usable began (lent_open view seen m lends l k Q answer opens same leaves) item reply.Ok before (lines ++ reply_line reply.Ok) (leaves.size ∙ ready.size ∙ began.size) ran
+          performed view seen o b (lent m l) text_space space usable began (lent_open view seen m lends l k Q answer opens same leaves) item reply.Ok before (lines ++ reply_line reply.Ok) (leaves.size ∙ ready.size ∙ began.size) ran
           (forgets (lent m l) item reply.Ok (lent_open view seen m lends l k Q answer opens same leaves) of_loop refl) (λ told. sym text) (λ is. absurd (not_of_volume item of_loop is))
 
       call_faulted : {T : Type 0} (item : Item) (k : ℕ) (Q : Type 0) (answer : Result T Trouble) (e : Trouble) → IsOfLoop item → LeavesStore k Q (store_in view seen lends) (store_in view seen l) answer → (e ≡ trouble.Frame) × Ran l item reply.FaultFrame
@@ -279,7 +280,7 @@ module _ {M I : Type 0} {D : I → Type 0} (view : M → MediumView) (seen : Rin
         open_named : IsOpen (store_in view seen) (volume_in (lent m l))
         open_named = lent_open view seen m lends l 2 (Unit {0}) (Ok u) opens same named
 
-        printer : found ≡ printer_at (host_in view seen o before text_space file_space).state.loop
+        printer : found ≡ printer_at (host_in view seen o before text_space space).state.loop
         printer = first ∙ printer_told view seen (ring_in o.records.control) (ring_in b.records.control) (loop_in seen o.records) (loop_in seen b.records)
             usable.volume_open.valid (agrees seen o.records.control) (agrees seen b.records.control) began x (loop_in seen lends) addressed on ids (loop_in seen l) has did
 
@@ -288,7 +289,7 @@ module _ {M I : Type 0} {D : I → Type 0} (view : M → MediumView) (seen : Rin
             let ran = say_no_printer view seen (ring_in o.records.control) (ring_in b.records.control) (loop_in seen o.records) (loop_in seen b.records)
             usable.volume_open.valid (agrees seen o.records.control) (agrees seen b.records.control) began x (loop_in seen lends) addressed (ring_in l.control) (loop_in seen l) store usable.log (left_called 2 (Unit {0}) (Ok u) (omega arith) named)
             on ids bytes has (sym none ∙ printer) did in
-            performed view seen o b (lent m l) text_space file_space usable began open_named (Asks (Say bytes)) (reply.No code.NoPrinter) before (reply_line (reply.No code.NoPrinter)) (named.size ∙ ready.size ∙ began.size) ran
+            performed view seen o b (lent m l) text_space space usable began open_named (Asks (Say bytes)) (reply.No code.NoPrinter) before (reply_line (reply.No code.NoPrinter)) (named.size ∙ ready.size ∙ began.size) ran
             (forgets (lent m l) (Asks (Say bytes)) (reply.No code.NoPrinter) open_named tt refl) (λ told. refl) (λ is. cc)
 
         -- the records are lent again, and become q
@@ -321,7 +322,7 @@ module _ {M I : Type 0} {D : I → Type 0} (view : M → MediumView) (seen : Rin
                 let ran = say_performs view seen (ring_in o.records.control) (ring_in b.records.control) (loop_in seen o.records) (loop_in seen b.records)
                 usable.volume_open.valid (agrees seen o.records.control) (agrees seen b.records.control) began x (loop_in seen lends) addressed (ring_in q.control) (loop_in seen q) store usable.log (left_said (Ok w) leaves)
                 on ids (loop_in seen again) did_again has address (sym at ∙ printer) bytes more said in
-                performed view seen o b (lent m q) text_space file_space usable began (open_said (Ok w) leaves) (Asks (Say bytes)) reply.Ok before (reply_line reply.Ok) (size_said (Ok w) leaves) ran
+                performed view seen o b (lent m q) text_space space usable began (open_said (Ok w) leaves) (Asks (Say bytes)) reply.Ok before (reply_line reply.Ok) (size_said (Ok w) leaves) ran
                 (forgets (lent m q) (Asks (Say bytes)) reply.Ok (open_said (Ok w) leaves) tt refl) (λ told. refl) (λ is. cc)
 
             pub say_failed : (e : Trouble) (off : Since) → (e ≡ trouble.Frame) × CallBroke (λ r s. NotSaid view address bytes r s) off (loop_in seen again) (loop_in seen q)

@@ -8,19 +8,19 @@ use Rattle.lif_model.proofs.Legal.{legal_tells}
 use Rattle.lif_model.proofs.Slots.{readable_tells}
 use Rattle.lif_model.specs.Header.{HeaderParts}
 use Rattle.lif_model.specs.Tape.{Tape}
-use Rattle.lif_model.specs.Redo.{settled}
 use Rattle.lif_model.specs.Volume.{volume_of, Volume as LifVolume}
+use Rattle.lif_pack.specs.Packing.{finished, finished_volume_of, has_mark}
 use Rattle.lif_plan.specs.Directories.{IsLegalDirectory}
 use Rattle.lif_model.specs.Apply.{VolumeCommand, Dir, Label, Fetch, Store, Rename, Purge, Adopt, Upgrade, Batch, Format}
 use Rattle.lif_model.specs.Shelf.{IsSize}
 use Rattle.lif_model.proofs.Sizes.{size_bounds}
 use Rattle.il_ports.specs.Media.{MediumView, IsMedium}
-use Rattle.il_ports.specs.Stores.{RecordsView, Begun, Continues, GoesOn, IsReady}
+use Rattle.il_ports.specs.Stores.{RecordsView, Begun, Continues, GoesOn}
 use Rattle.il_ports.specs.declared.records.Trouble.{Trouble}
 use Rattle.il_ports.specs.declared.records.Trouble.TheVariants as trouble
 use Rattle.lif_volume.specs.Views.{IsOpen, VolumeView}
 use Rattle.lif_volume.specs.Answers.{store_answer}
-use Rattle.lif_volume.specs.Commands.{AnswersTo, batch_calls_needed, calls_needed, directory_records, mounting}
+use Rattle.lif_volume.specs.Commands.{directory_records, mounting}
 use Rattle.lif_volume.specs.declared.fault.VolumeFault.{VolumeFault}
 use Rattle.lif_volume.specs.declared.fault.VolumeFault.TheVariants.{Refused, Trouble as Troubled}
 use Rattle.lif_volume.specs.declared.volume.Volume.{Volume}
@@ -42,11 +42,12 @@ use Rattle.il_script.specs.Replies.{code_of, reply_line}
 use Rattle.host_model.specs.Requests.{Asks, Item, OfVolume, is_of_volume, request_of}
 use Rattle.host_model.specs.HostStates.{HostState, log_room, text_room, volume_at}
 use Rattle.host_model.specs.Replies.{reply_text, told_of}
-use Rattle.host_model.specs.Directories.{kept_after_command}
+use Rattle.host_model.specs.Directories.{IsKeptBehind}
 use Rattle.host_model.specs.Steps.{Event, KeepsDirectory, TellsReply}
 use Rattle.host_model.proofs.Steps.{ring_stays}
-use Rattle.il_host.specs.HostView.{HostView, Performed, TakesAtMost, calls_behind, most_beside, records_asked}
-use Rattle.il_host.specs.Hosts.{IsUsable, host_in, loop_in, store_in, volume_in}
+use Rattle.il_host.specs.HostView.{HostView, Performed, TakesAtMost, calls_behind, calls_to_pack, calls_to_prepare, is_packing, most_beside, records_asked}
+use Rattle.il_host.specs.Hosts.{HasSpaceFor, Space, IsUnmarked, IsUsable, host_in, loop_in, store_in, volume_in}
+use Rattle.il_host.specs.Preparing.{StaysUnsound}
 use Rattle.il_host.specs.PlainCommands.{ChangesVolume, IsOnVolume, OnVolume}
 use Rattle.il_host.specs.Shorts.{AllShort}
 use Rattle.il_host.proofs.Shorts.{all_short}
@@ -55,11 +56,12 @@ use Rattle.il_host.proofs.Texts.{ok_text}
 use Rattle.il_host.proofs.VolumeCarries.{CarriesAs, IsFormedAs, none_carried, not_carried}
 use Rattle.il_host.proofs.VolumeCommands.{KeepsRing}
 use Rattle.il_host.proofs.VolumePerforms.{Performs, volume_asked, volume_failed, volume_not_asked}
-use Rattle.il_host.proofs.KeptDirectories.{Minds, TellsNothing, some_beside, sound_kept, still_kept, told_log}
+use Rattle.il_host.proofs.KeptDirectories.{TellsNothing, forgets_it, kept_before, some_beside, sound_kept, still_kept, told_log}
+use Rattle.il_host.proofs.FinishedFirst.{MindsFirst}
 use Rattle.il_host.proofs.Sounding.{acts_keeping, keeping, stops_keeping}
 use Rattle.il_host.proofs.VolumeStarts.{Emptied, stands_at, volume_begun}
 use Rattle.il_host.proofs.VolumeAsked.{asked_seen, asked_transferred}
-use Rattle.il_host.proofs.VolumeReplied.{IsSeenAs, told_tape, TurnsSo}
+use Rattle.il_host.proofs.VolumeReplied.{AnswersSo, IsSeenAs, seen_as, told_tape, TurnsSo}
 
 -- ---- room
 
@@ -98,7 +100,7 @@ sound_of view (AtIdle r) sound log so = refl
 sound_of view (AtLost r) sound log so = refl
 sound_of view Nowhere sound log so = absurd so
 
-pub enough_calls : (n : ℕ) → IsSize n → 3 * n + 42 ≤ calls_in (log_room n)
+pub enough_calls : (n : ℕ) → IsSize n → 18 * n + 199 ≤ calls_in (log_room n)
 enough_calls n size = let bounds = size_bounds n size in omega (arith, bounds.0, bounds.1)
 
 -- no command of a volume takes more on a tape of n records: to mount, to write its files, and to commit
@@ -163,6 +165,7 @@ volume_request command.Adopt bytes on = (Adopt, refl)
 volume_request command.Upgrade bytes on = (Upgrade, refl)
 volume_request (command.Put name) bytes on = absurd on
 volume_request (command.Get name) bytes on = absurd on
+volume_request command.Pack bytes on = absurd on
 volume_request command.Devices bytes on = absurd on
 volume_request command.Status bytes on = absurd on
 volume_request command.Poll bytes on = absurd on
@@ -184,6 +187,7 @@ changes_volume command.Adopt on no_dir no_label no_fetch = tt
 changes_volume command.Upgrade on no_dir no_label no_fetch = tt
 changes_volume (command.Put name) on no_dir no_label no_fetch = absurd on
 changes_volume (command.Get name) on no_dir no_label no_fetch = absurd on
+changes_volume command.Pack on no_dir no_label no_fetch = absurd on
 changes_volume command.Devices on no_dir no_label no_fetch = absurd on
 changes_volume command.Status on no_dir no_label no_fetch = absurd on
 changes_volume command.Poll on no_dir no_label no_fetch = absurd on
@@ -206,6 +210,7 @@ on_volume P command.Adopt bytes changes has = (Adopt, refl, tt, λ answer. tt, h
 on_volume P command.Upgrade bytes changes has = (Upgrade, refl, tt, λ answer. tt, has)
 on_volume P (command.Put name) bytes changes has = absurd changes
 on_volume P (command.Get name) bytes changes has = absurd changes
+on_volume P command.Pack bytes changes has = absurd changes
 on_volume P command.Devices bytes changes has = absurd changes
 on_volume P command.Status bytes changes has = absurd changes
 on_volume P command.Poll bytes changes has = absurd changes
@@ -216,11 +221,11 @@ on_volume P command.Commit bytes changes has = absurd changes
 
 -- ---- the page and the volume behind the last line
 
-pub page_kept : (page : Sheet) (room : ℕ) → KeepsPage page room page room
+pub page_kept : {X : Type 0} (page : Sheet) (room : X) → KeepsPage page room page room
 page_kept page room = record { page = refl; room = refl }
 
 -- the last line ended the text, behind these lines on a page that was blank
-ends_at : {M I : Type 0} {D : I → Type 0} (view : M → MediumView) (seen : Ring M I D → RingView M) (item : Item) (answered told : Reply) (v : HostView) (n m : Volume (LoopRecords M I D)) (first page last : Sheet) (f g h : ℕ) (lines : List ℕ)
+ends_at : {M I : Type 0} {D : I → Type 0} (view : M → MediumView) (seen : Ring M I D → RingView M) (item : Item) (answered told : Reply) (v : HostView) (n m : Volume (LoopRecords M I D)) (first page last : Sheet) (f g h : Space) (lines : List ℕ)
     → page ≡ record first { text = lines } → g ≡ f → Ends answered n page g told m last h
     → Performed item answered v (host_in view seen n (lines ++ reply_line answered) first.room f) → Performed item told v (host_in view seen m last.text last.room h)
 ends_at {M} {I} {D} view seen item answered told v n m first page last f g h lines begun same ends did =
@@ -228,9 +233,9 @@ ends_at {M} {I} {D} view seen item answered told v n m first page last f g h lin
     subst (λ told. Performed item told v (host_in view seen m last.text last.room h)) (sym ends.reply)
     (subst (λ (m : Volume (LoopRecords M I D)). Performed item answered v (host_in view seen m last.text last.room h)) (sym ends.volume)
     (subst (λ (p : Sheet). Performed item answered v (host_in view seen n p.text p.room h)) (sym end)
-    (subst (λ (room : ℕ). Performed item answered v (host_in view seen n (lines ++ reply_line answered) first.room room)) (sym (ends.room ∙ same)) did)))
+    (subst (λ (room : Space). Performed item answered v (host_in view seen n (lines ++ reply_line answered) first.room room)) (sym (ends.room ∙ same)) did)))
 
-module _ {M I : Type 0} {D : I → Type 0} {view : M → MediumView} {seen : Ring M I D → RingView M} {item : Item} {answered told : Reply} {v : HostView} {n m : Volume (LoopRecords M I D)} {first mid last : Sheet} {f g h : ℕ} where
+module _ {M I : Type 0} {D : I → Type 0} {view : M → MediumView} {seen : Ring M I D → RingView M} {item : Item} {answered told : Reply} {v : HostView} {n m : Volume (LoopRecords M I D)} {first mid last : Sheet} {f g h : Space} where
   -- nothing else was written
   pub ends_blank : KeepsPage first f mid g → first.text ≡ [] → Ends answered n mid g told m last h
       → Performed item answered v (host_in view seen n (reply_line answered) first.room f) → Performed item told v (host_in view seen m last.text last.room h)
@@ -246,8 +251,8 @@ module _ {M I : Type 0} {D : I → Type 0} {view : M → MediumView} {seen : Rin
 
 -- ---- a host over a volume that was o before, b behind the emptying of its log and n in the end
 
-module _ {M I : Type 0} {D : I → Type 0} (view : M → MediumView) (seen : Ring M I D → RingView M) (o b n : Volume (LoopRecords M I D)) (text_space file_space : ℕ)
-    (usable : IsUsable view (store_in view seen) (volume_in o) (loop_in seen o.records) text_space file_space) (began : Begun (store_in view seen o.records) (store_in view seen b.records)) where
+module _ {M I : Type 0} {D : I → Type 0} (view : M → MediumView) (seen : Ring M I D → RingView M) (o b n : Volume (LoopRecords M I D)) (text_space : ℕ) (space : Space)
+    (usable : IsUsable view (store_in view seen) (volume_in o) (loop_in seen o.records) text_space space) (began : Begun (store_in view seen o.records) (store_in view seen b.records)) where
   abbrev count : ℕ
   count = (store_in view seen o.records).record_count
 
@@ -270,34 +275,18 @@ module _ {M I : Type 0} {D : I → Type 0} (view : M → MediumView) (seen : Rin
   pub begun_calls : calls_in (log_room count) ≤ (store_in view seen b.records).calls_left
   begun_calls = let room = room_of view seen (ring_in o.records.control) (loop_in seen o.records) usable.stands usable.log in omega (arith, began.enough, room)
 
-  -- so for every command of the volume, and for one call more
-  pub begun_left : 3 * count + 42 ≤ (store_in view seen b.records).calls_left
+  -- so for every command of the volume, for a packing that is finished before it, and for one call more
+  pub begun_left : 18 * count + 199 ≤ (store_in view seen b.records).calls_left
   begun_left =
       let calls = begun_calls in
       let enough = enough_calls count usable.size in
       omega (arith, calls, enough)
 
-  -- it is ready for every command behind that call
-  pub ready_behind : {T : Type 0} (x : T) (m : Volume (LoopRecords M I D)) → Continues 1 (store_in view seen b.records) (store_in view seen m.records) (Ok x) → IsReady (calls_needed (store_in view seen m.records).record_count) (store_in view seen m.records)
-  ready_behind x m sounds =
-      let enough = begun_left in
-      let used = sounds.left in
-      let size = sounds.size ∙ began.size in
-      record { valid = sounds.valid; sound = sounds.sound; left = omega (arith, enough, used, size) }
-
-  -- and for a batch, on a medium of this size
-  pub batch_ready : {T : Type 0} (x : T) (m : Volume (LoopRecords M I D)) → Continues 1 (store_in view seen b.records) (store_in view seen m.records) (Ok x) → IsReady (batch_calls_needed (store_in view seen m.records).record_count) (store_in view seen m.records)
-  batch_ready x m sounds =
-      let ready = ready_behind x m sounds in
-      let size = sounds.size ∙ began.size in
-      let bounds = size_bounds count usable.size in
-      record { valid = ready.valid; sound = ready.sound; left = omega (arith, ready.left, size, bounds.0) }
-
   module _ (opens : IsOpen (store_in view seen) (volume_in n)) where
     -- it can be used again
     usable_behind : (store_in view seen n.records).record_count ≡ count → KeepsRing view (loop_in seen o.records) (loop_in seen n.records) → AllShort (state_at view n.records.sound (loop_in seen n.records).control).loop
-        → (is_some n.kept ≡ true → n.records.sound ≡ true) → IsUsable view (store_in view seen) (volume_in n) (loop_in seen n.records) text_space file_space
-    usable_behind size keeps short kept = record {
+        → (is_some n.kept ≡ true → n.records.sound ≡ true) → IsUnmarked (store_in view seen) (volume_in n) → IsUsable view (store_in view seen) (volume_in n) (loop_in seen n.records) text_space space
+    usable_behind size keeps short kept unmarked = record {
       volume_open = opens;
       size = subst IsSize (sym size) usable.size;
       stands = stands_at view seen (ring_in n.records.control) (loop_in seen n.records) opens.valid;
@@ -305,7 +294,8 @@ module _ {M I : Type 0} {D : I → Type 0} (view : M → MediumView) (seen : Rin
       log = keeps.room;
       short = short;
       text = usable.text ∙ ap text_room (sym size);
-      file = usable.file ∙ ap (λ n. 256 * n) (sym size);
+      space_is = subst (λ n. HasSpaceFor n space) (sym size) usable.space_is;
+      unmarked = unmarked;
     }
 
     -- the event of the item, with what is kept of the directory
@@ -317,31 +307,37 @@ module _ {M I : Type 0} {D : I → Type 0} (view : M → MediumView) (seen : Rin
     Took most = (store_in view seen b.records).calls_left ≤ (store_in view seen n.records).calls_left + most
 
     abbrev pub TookFew : Item → Type 0
-    TookFew item = Took (2 * count + 40)
-        × ((t : Tape) → (state_at view o.records.sound (loop_in seen o.records).control).tape ≡ Some t → Took (directory_records (settled t) + records_asked item (settled t) + 200))
-        × ((t : Tape) → (state_at view o.records.sound (loop_in seen o.records).control).tape ≡ Some t → is_some o.kept ≡ true → Took (records_asked item (settled t) + most_beside item))
+    TookFew item = Took (2 * count + 40 + calls_to_pack count)
+        × (is_packing item ≡ false → (t : Tape) → (state_at view o.records.sound (loop_in seen o.records).control).tape ≡ Some t
+        → Took (directory_records (finished t) + records_asked item (finished t) + 200 + calls_to_prepare count (volume_of t)))
+        × (is_packing item ≡ false → (t : Tape) → (state_at view o.records.sound (loop_in seen o.records).control).tape ≡ Some t → is_some o.kept ≡ true
+        → Took (records_asked item (finished t) + most_beside item))
 
     pub performed : (item : Item) (answered : Reply) (before after : List ℕ) → (store_in view seen n.records).record_count ≡ count
         → Performs view seen (ring_in o.records.control) (ring_in n.records.control) item answered (loop_in seen o.records) (loop_in seen n.records) → KeepsDirectory (event_kept item answered)
-        → (TellsReply item (host_in view seen o before text_space file_space).state → after ≡ reply_text item (host_in view seen o before text_space file_space).state answered)
-        → (is_of_volume item ≡ true → TookFew item)
-        → Performed item answered (host_in view seen o before text_space file_space) (host_in view seen n after text_space file_space)
+        → (TellsReply item (host_in view seen o before text_space space).state → after ≡ reply_text item (host_in view seen o before text_space space).state answered)
+        → (is_of_volume item ≡ true → TookFew item × IsUnmarked (store_in view seen) (volume_in n))
+        → Performed item answered (host_in view seen o before text_space space) (host_in view seen n after text_space space)
     performed item answered before after size did directory text few = record {
-      valid = usable_behind size did.keeps (all_short _ _ _ _ _ _ did.step.heard usable.short) sound;
+      valid = usable_behind size did.keeps (all_short _ _ _ _ _ _ did.step.heard usable.short) sound unmarked;
       plan = did.keeps.plan;
       step = record {
         acts = acts_keeping (plan_at (loop_in seen o.records).control) (event_at view item answered (loop_in seen o.records) (loop_in seen n.records)) (is_some o.kept) (is_some n.kept)
-            (λ none. directory.kept ∙ still_kept item (is_some o.kept) answered none) did.step;
+            (λ none. still_kept item (is_some o.kept) answered (is_some n.kept) none directory.kept) did.step;
         directory = directory;
       };
       text = text;
       stops = stops_keeping (event_at view item answered (loop_in seen o.records) (loop_in seen n.records)) (is_some o.kept) (is_some n.kept) _ _ _ _ did.stops;
       images = did.keeps.images;
-      calls = λ is. record {
-        all = subst (λ k. TakesAtMost k (2 * k + 40) (log_at (loop_in seen n.records).control)) (sym records) (takes (2 * count + 40) (few is).0);
-        on_tape = λ t told. subst (λ k. TakesAtMost k (directory_records (settled t) + records_asked item (settled t) + 200) (log_at (loop_in seen n.records).control)) (sym records) (takes _ ((few is).1 t told));
-        from_kept = λ t told on. subst (λ k. TakesAtMost k (records_asked item (settled t) + most_beside item) (log_at (loop_in seen n.records).control)) (sym records) (takes _ ((few is).2 t told on));
-      };
+      calls = λ is.
+          let most = (few is).0 in
+          record {
+            all = subst (λ k. TakesAtMost k (2 * k + 40 + calls_to_pack k) (log_at (loop_in seen n.records).control)) (sym records) (takes (2 * count + 40 + calls_to_pack count) most.0);
+            on_tape = λ other t told.
+                subst (λ k. TakesAtMost k (directory_records (finished t) + records_asked item (finished t) + 200 + calls_to_prepare k (volume_of t)) (log_at (loop_in seen n.records).control)) (sym records)
+                (takes _ (most.1 other t told));
+            from_kept = λ other t told on. subst (λ k. TakesAtMost k (records_asked item (finished t) + most_beside item) (log_at (loop_in seen n.records).control)) (sym records) (takes _ (most.2 other t told on));
+          };
     }
       where
         records : (state_at view o.records.sound (loop_in seen o.records).control).records ≡ count
@@ -359,38 +355,59 @@ module _ {M I : Type 0} {D : I → Type 0} (view : M → MediumView) (seen : Rin
         sound : is_some n.kept ≡ true → n.records.sound ≡ true
         sound on =
             sym (sound_of view (loop_in seen n.records).control n.records.sound n.records.since stood)
-            ∙ sound_kept item answered (is_some o.kept) (state_at view o.records.sound (loop_in seen o.records).control).sound (state_at view n.records.sound (loop_in seen n.records).control).sound
+            ∙ sound_kept item answered (is_some o.kept) (is_some n.kept) (state_at view o.records.sound (loop_in seen o.records).control).sound (state_at view n.records.sound (loop_in seen n.records).control).sound
             did.step.sound (λ none. ap (λ (s : HostState). s.sound) (did.step.still none).1)
-            (λ was. sound_of view (loop_in seen o.records).control o.records.sound o.records.since usable.stands ∙ usable.kept was) (sym directory.kept ∙ on)
+            (λ was. sound_of view (loop_in seen o.records).control o.records.sound o.records.since usable.stands ∙ usable.kept was) directory.kept on
+
+        -- an item that is not of the volume leaves the tape
+        unmarked : IsUnmarked (store_in view seen) (volume_in n)
+        unmarked = by (is_of_volume item) refl
+          where
+            by : (of : Bool) → is_of_volume item ≡ of → IsUnmarked (store_in view seen) (volume_in n)
+            by true is = (few is).1
+            by false other = λ t told on.
+                let before = seen_as view seen (ring_in o.records.control) (loop_in seen o.records) in
+                let after = seen_as view seen (ring_in n.records.control) (loop_in seen n.records) in
+                let here : (store_in view seen o.records).tape ≡ Some t = sym before.tape ∙ sym (did.step.replied.stays other) ∙ after.tape ∙ told in
+                ap (λ (k : ℕ). has_mark k (volume_of t)) size ∙ usable.unmarked t here (kept_before item (is_some o.kept) answered (is_some n.kept) other directory.kept on)
+
+  -- the store could not be made sound: it was not sound
+  pub unsound : (e : Trouble) (new : LoopView M) → MakesSound {T = Unit {0}} view (loop_in seen b.records) new (Err e) → b.records.sound ≡ false
+  unsound e new makes = by b.records.sound makes
+    where
+      by : (sound : Bool) → MakesSoundBy {T = Unit {0}} view sound (loop_in seen b.records) new (Err e) → sound ≡ false
+      by true makes = absurd makes
+      by false makes = refl
+
+  -- then no directory is kept
+  pub forgotten_unsound : (e : Trouble) → StaysUnsound view seen b n e → is_some n.kept ≡ false
+  forgotten_unsound e stays = ap is_some (stays.kept ∙ ap (λ sound. if sound then b.kept else None) (unsound e (loop_in seen n.records) stays.makes))
 
   module _ (command : VolumeCommand) (opens : IsOpen (store_in view seen) (volume_in n)) (low : HasDriveStatus (loop_in seen n.records).control) where
-    -- the store could not be made sound
-    pub not_asked : (e : Trouble) (before : List ℕ) → ((m : M) → IsMedium (view m)) → MakesSound {T = Unit {0}} view (loop_in seen b.records) (loop_in seen n.records) (Err e) → Continues {T = Unit {0}} 1 (store_in view seen b.records) (store_in view seen n.records) (Err e)
-        → n.kept ≡ (if b.records.sound then b.kept else None)
-        → Performed (Asks (OfVolume command)) (fault_of e) (host_in view seen o before text_space file_space) (host_in view seen n (reply_line (fault_of e)) text_space file_space)
-    not_asked e before law makes goes kept =
+    -- and the volume was not asked
+    pub not_asked : (e : Trouble) (before : List ℕ) → ((m : M) → IsMedium (view m)) → StaysUnsound view seen b n e
+        → Performed (Asks (OfVolume command)) (fault_of e) (host_in view seen o before text_space space) (host_in view seen n (reply_line (fault_of e)) text_space space)
+    not_asked e before law stays =
         let store = is_store_at view seen (ring_in o.records.control) o.records.sound o.records.since o.records.resumes (loop_in seen o.records).control law in
-        let left : 1 ≤ (store_in view seen n.records).calls_left = let enough = begun_left in let used = goes.left in omega (arith, enough, used) in
+        let used = stays.sounds.left in
+        let left : 1 ≤ (store_in view seen n.records).calls_left = let enough = begun_left in omega (arith, enough, used) in
+        let off = forgotten_unsound e stays in
         let did = volume_not_asked view seen (ring_in o.records.control) (ring_in b.records.control) (ring_in n.records.control) command (loop_in seen o.records) (loop_in seen b.records) (loop_in seen n.records)
-        usable.volume_open.valid (agrees seen o.records.control) (agrees seen b.records.control) began usable.log low left (Unit {0}) e store makes in
-        performed opens (Asks (OfVolume command)) (fault_of e) before (reply_line (fault_of e)) (goes.size ∙ began.size)
+        usable.volume_open.valid (agrees seen o.records.control) (agrees seen b.records.control) began usable.log low left (Unit {0}) e store stays.makes in
+        performed opens (Asks (OfVolume command)) (fault_of e) before (reply_line (fault_of e)) (stays.sounds.size ∙ began.size)
         (subst (λ e. Performs view seen (ring_in o.records.control) (ring_in n.records.control) (Asks (OfVolume command)) (fault_of e) (loop_in seen o.records) (loop_in seen n.records)) (sym did.0) did.1)
         (subst (λ e. KeepsDirectory (event_kept opens (Asks (OfVolume command)) (fault_of e))) (sym did.0)
-        (record { kept = ap is_some (kept ∙ ap (λ sound. if sound then b.kept else None) (unsound (loop_in seen n.records) makes)); log = λ on. tt }))
-        (λ told. sym (fault_text (Asks (OfVolume command)) (host_in view seen o before text_space file_space).state e))
-        (λ is. let used = goes.left in (omega (arith, used), λ t told. omega (arith, used), λ t told on. omega (arith, used, some_beside (Asks (OfVolume command)))))
-      where
-        unsound : (new : LoopView M) → MakesSound {T = Unit {0}} view (loop_in seen b.records) new (Err e) → b.records.sound ≡ false
-        unsound new makes = by b.records.sound makes
-          where
-            by : (sound : Bool) → MakesSoundBy {T = Unit {0}} view sound (loop_in seen b.records) new (Err e) → sound ≡ false
-            by true makes = absurd makes
-            by false makes = refl
+        (record { kept = subst (IsKeptBehind command (is_some o.kept) reply.FaultFrame) (sym off) (forgets_it command (is_some o.kept) trouble.Frame); log = λ on. tt }))
+        (λ told. sym (fault_text (Asks (OfVolume command)) (host_in view seen o before text_space space).state e))
+        (λ is. (
+          (omega (arith, used), λ other t told. omega (arith, used), λ other t told on. omega (arith, used, some_beside (Asks (OfVolume command)))),
+          λ t told on. let clash : true ≡ false = sym on ∙ off in cc,
+        ))
 
     -- the store was made sound as m, and the volume was asked
     module _ (m : Volume (LoopRecords M I D)) (u : Unit {0}) (makes : MakesSound view (loop_in seen b.records) (loop_in seen m.records) (Ok u)) (sounds : Continues {T = Unit {0}} 1 (store_in view seen b.records) (store_in view seen m.records) (Ok u)) (same : is_some m.kept ≡ is_some o.kept) where
       -- where the volume is asked, its store has the tape of the host, and nothing was read or written yet
-      pub seen_asked : (before : List ℕ) → IsSeenAs (host_in view seen o before text_space file_space).state (store_in view seen m.records)
+      pub seen_asked : (before : List ℕ) → IsSeenAs (host_in view seen o before text_space space).state (store_in view seen m.records)
       seen_asked before =
           let so = asked_seen view seen (ring_in o.records.control) (ring_in b.records.control) (ring_in m.records.control) (loop_in seen o.records) (loop_in seen b.records) (loop_in seen m.records)
           usable.volume_open.valid (agrees seen o.records.control) (agrees seen b.records.control) began u makes in
@@ -402,24 +419,34 @@ module _ {M I : Type 0} {D : I → Type 0} (view : M → MediumView) (seen : Rin
           usable.volume_open.valid (agrees seen o.records.control) (agrees seen b.records.control) began u makes
 
       -- the tape that is told
-      pub told_asked : (before : List ℕ) → TellsReply (Asks (OfVolume command)) (host_in view seen o before text_space file_space).state
-          → (t : Tape) × ((host_in view seen o before text_space file_space).state.tape ≡ Some t) × ((store_in view seen m.records).tape ≡ Some t)
+      pub told_asked : (before : List ℕ) → TellsReply (Asks (OfVolume command)) (host_in view seen o before text_space space).state
+          → (t : Tape) × ((host_in view seen o before text_space space).state.tape ≡ Some t) × ((store_in view seen m.records).tape ≡ Some t)
       told_asked before told =
-          let t = told_tape (host_in view seen o before text_space file_space).state.tape (told refl) in
+          let t = told_tape (host_in view seen o before text_space space).state.tape (told refl) in
           (t.0, t.1, sym (seen_asked before).tape ∙ t.1)
 
-      pub asked : {T : Type 0} (answer : Result T VolumeFault) (calls : ℕ) (before after : List ℕ) → calls ≤ most_calls (store_in view seen m.records).record_count
+      pub asked : {T : Type 0} (answer : Result T VolumeFault) (calls : ℕ) (before after : List ℕ) → calls ≤ calls_to_pack (store_in view seen m.records).record_count + most_calls (store_in view seen m.records).record_count
           → GoesOn calls (store_in view seen m.records) (store_in view seen n.records) (store_answer answer)
-          → TurnsSo command (store_in view seen) (volume_in m) (volume_in n) → AnswersTo command (store_in view seen) (volume_in m) (volume_in n) answer
-          → CarriesAs command (volume_reply answer) (host_in view seen o before text_space file_space).state.records (volume_at (host_in view seen o before text_space file_space).state) (store_in view seen n.records).transferred
-          → Minds (store_in view seen) (volume_in m) (volume_in n) command answer
-          → (TellsReply (Asks (OfVolume command)) (host_in view seen o before text_space file_space).state → after ≡ reply_text (Asks (OfVolume command)) (host_in view seen o before text_space file_space).state (volume_reply answer))
-          → Performed (Asks (OfVolume command)) (volume_reply answer) (host_in view seen o before text_space file_space) (host_in view seen n after text_space file_space)
+          → TurnsSo command (store_in view seen) (volume_in m) (volume_in n) → AnswersSo command (store_in view seen) (volume_in m) (volume_in n) answer
+          → CarriesAs command (volume_reply answer) (host_in view seen o before text_space space).state.records (volume_at (host_in view seen o before text_space space).state) (store_in view seen n.records).transferred
+          → MindsFirst (store_in view seen) (volume_in m) (volume_in n) command answer
+          → (TellsReply (Asks (OfVolume command)) (host_in view seen o before text_space space).state → after ≡ reply_text (Asks (OfVolume command)) (host_in view seen o before text_space space).state (volume_reply answer))
+          → Performed (Asks (OfVolume command)) (volume_reply answer) (host_in view seen o before text_space space) (host_in view seen n after text_space space)
       asked {T} answer calls before after few goes turns answers carries minds text =
           performed opens (Asks (OfVolume command)) (volume_reply answer) before after (goes.continues.size ∙ sounds.size ∙ began.size) ran (directory ran) text
-          (λ is. (most, λ t told. omega (arith, sounds.left, minds.on_tape t (at_asked t told)), λ t told on. omega (arith, sounds.left, minds.from_kept t (at_asked t told) (same ∙ on))))
+          (λ is. (
+            (
+              most,
+              λ other t told. omega (arith, sounds.left, minds.on_tape t (at_asked t told), prepares t),
+              λ other t told on. omega (arith, sounds.left, minds.from_kept t (at_asked t told) (same ∙ on)),
+            ),
+            minds.unmarked,
+          ))
         where
-          most : (store_in view seen b.records).calls_left ≤ (store_in view seen n.records).calls_left + (2 * count + 40)
+          prepares : (t : Tape) → calls_to_prepare (store_in view seen m.records).record_count (volume_of t) ≡ calls_to_prepare count (volume_of t)
+          prepares t = ap (λ k. calls_to_prepare k (volume_of t)) (sounds.size ∙ began.size)
+
+          most : (store_in view seen b.records).calls_left ≤ (store_in view seen n.records).calls_left + (2 * count + 40 + calls_to_pack count)
           most =
               let used = sounds.left in
               let more = goes.continues.left in
@@ -436,8 +463,8 @@ module _ {M I : Type 0} {D : I → Type 0} (view : M → MediumView) (seen : Rin
               let bounds = size_bounds count usable.size in
               omega (arith, enough, used, more, few, size, bounds.0)
 
-          did : (answer : Result T VolumeFault) → GoesOn calls (store_in view seen m.records) (store_in view seen n.records) (store_answer answer) → AnswersTo command (store_in view seen) (volume_in m) (volume_in n) answer
-              → CarriesAs command (volume_reply answer) (host_in view seen o before text_space file_space).state.records (volume_at (host_in view seen o before text_space file_space).state) (store_in view seen n.records).transferred
+          did : (answer : Result T VolumeFault) → GoesOn calls (store_in view seen m.records) (store_in view seen n.records) (store_answer answer) → AnswersSo command (store_in view seen) (volume_in m) (volume_in n) answer
+              → CarriesAs command (volume_reply answer) (host_in view seen o before text_space space).state.records (volume_at (host_in view seen o before text_space space).state) (store_in view seen n.records).transferred
               → Performs view seen (ring_in o.records.control) (ring_in n.records.control) (Asks (OfVolume command)) (volume_reply answer) (loop_in seen o.records) (loop_in seen n.records)
           did (Ok x) goes answers carries =
               volume_asked view seen (ring_in o.records.control) (ring_in b.records.control) (ring_in n.records.control) command (loop_in seen o.records) (loop_in seen b.records) (loop_in seen n.records)
@@ -467,50 +494,50 @@ module _ {M I : Type 0} {D : I → Type 0} (view : M → MediumView) (seen : Rin
           directory : Performs view seen (ring_in o.records.control) (ring_in n.records.control) (Asks (OfVolume command)) (volume_reply answer) (loop_in seen o.records) (loop_in seen n.records)
               → KeepsDirectory (event_kept opens (Asks (OfVolume command)) (volume_reply answer))
           directory ran = record {
-            kept = minds.kept ∙ ap (λ was. kept_after_command command was (volume_reply answer)) same;
+            kept = subst (λ was. IsKeptBehind command was (volume_reply answer) (is_some n.kept)) same minds.kept;
             log = λ on.
                 let ring = ring_stays _ (state_at view o.records.sound (loop_in seen o.records).control).loop (state_at view n.records.sound (loop_in seen n.records).control).loop ran.step.next.devices in
-                minds.log (same ∙ on) (host_in view seen o before text_space file_space).state (log_at (loop_in seen n.records).control) (seen_asked before).tape
+                minds.log (same ∙ on) (host_in view seen o before text_space space).state (log_at (loop_in seen n.records).control) (seen_asked before).tape
                 (records_of view seen (ring_in o.records.control) (loop_in seen o.records) ∙ sym (sounds.size ∙ began.size))
                 (λ rests. ap (λ (r : LoopRecords M I D). log_at (loop_in seen r).control) rests ∙ empty on)
                 (λ list was. subst (λ l. Transferred l (log_at (loop_in seen n.records).control) list) ring (told_log view seen (ring_in n.records.control) (loop_in seen n.records) list was));
           }
 
       -- it replied ok: what it tells of a told tape was written
-      pub done : {T : Type 0} (x : T) (calls : ℕ) (before lines : List ℕ) → calls ≤ most_calls (store_in view seen m.records).record_count
+      pub done : {T : Type 0} (x : T) (calls : ℕ) (before lines : List ℕ) → calls ≤ calls_to_pack (store_in view seen m.records).record_count + most_calls (store_in view seen m.records).record_count
           → GoesOn {T = Unit {0}} calls (store_in view seen m.records) (store_in view seen n.records) (Ok tt)
-          → TurnsSo command (store_in view seen) (volume_in m) (volume_in n) → AnswersTo command (store_in view seen) (volume_in m) (volume_in n) (Ok x)
-          → CarriesAs command reply.Ok (host_in view seen o before text_space file_space).state.records (volume_at (host_in view seen o before text_space file_space).state) (store_in view seen n.records).transferred
-          → Minds (store_in view seen) (volume_in m) (volume_in n) command (Ok x)
-          → ((t : Tape) → (store_in view seen m.records).tape ≡ Some t → told_of command (volume_of t) ≡ lines)
-          → Performed (Asks (OfVolume command)) reply.Ok (host_in view seen o before text_space file_space) (host_in view seen n (lines ++ reply_line reply.Ok) text_space file_space)
+          → TurnsSo command (store_in view seen) (volume_in m) (volume_in n) → AnswersSo command (store_in view seen) (volume_in m) (volume_in n) (Ok x)
+          → CarriesAs command reply.Ok (host_in view seen o before text_space space).state.records (volume_at (host_in view seen o before text_space space).state) (store_in view seen n.records).transferred
+          → MindsFirst (store_in view seen) (volume_in m) (volume_in n) command (Ok x)
+          → ((t : Tape) → (store_in view seen m.records).tape ≡ Some t → told_of command (finished_volume_of t) ≡ lines)
+          → Performed (Asks (OfVolume command)) reply.Ok (host_in view seen o before text_space space) (host_in view seen n (lines ++ reply_line reply.Ok) text_space space)
       done x calls before lines few goes turns answers carries minds text =
           asked (Ok x) calls before (lines ++ reply_line reply.Ok) few goes turns answers carries minds
-          (λ told. let t = told_asked before told in sym (ok_text command (host_in view seen o before text_space file_space).state t.0 lines t.1 (text t.0 t.2)))
+          (λ told. let t = told_asked before told in sym (ok_text command (host_in view seen o before text_space space).state t.0 lines t.1 (text t.0 t.2)))
 
       -- it was refused, or the store failed
-      pub refused : (T : Type 0) (fault : VolumeFault) (calls : ℕ) (before : List ℕ) → calls ≤ most_calls (store_in view seen m.records).record_count
+      pub refused : (T : Type 0) (fault : VolumeFault) (calls : ℕ) (before : List ℕ) → calls ≤ calls_to_pack (store_in view seen m.records).record_count + most_calls (store_in view seen m.records).record_count
           → GoesOn calls (store_in view seen m.records) (store_in view seen n.records) (store_answer {T = T} (Err fault))
-          → TurnsSo command (store_in view seen) (volume_in m) (volume_in n) → AnswersTo {T = T} command (store_in view seen) (volume_in m) (volume_in n) (Err fault)
-          → Minds {T = T} (store_in view seen) (volume_in m) (volume_in n) command (Err fault)
-          → Performed (Asks (OfVolume command)) (volume_reply {T = Unit {0}} (Err fault)) (host_in view seen o before text_space file_space) (host_in view seen n (reply_line (volume_reply {T = Unit {0}} (Err fault))) text_space file_space)
+          → TurnsSo command (store_in view seen) (volume_in m) (volume_in n) → AnswersSo {T = T} command (store_in view seen) (volume_in m) (volume_in n) (Err fault)
+          → MindsFirst {T = T} (store_in view seen) (volume_in m) (volume_in n) command (Err fault)
+          → Performed (Asks (OfVolume command)) (volume_reply {T = Unit {0}} (Err fault)) (host_in view seen o before text_space space) (host_in view seen n (reply_line (volume_reply {T = Unit {0}} (Err fault))) text_space space)
       refused T fault calls before few goes turns answers minds = by fault goes answers minds
         where
-          by : (fault : VolumeFault) → GoesOn calls (store_in view seen m.records) (store_in view seen n.records) (store_answer {T = T} (Err fault)) → AnswersTo {T = T} command (store_in view seen) (volume_in m) (volume_in n) (Err fault)
-              → Minds {T = T} (store_in view seen) (volume_in m) (volume_in n) command (Err fault)
-              → Performed (Asks (OfVolume command)) (volume_reply {T = Unit {0}} (Err fault)) (host_in view seen o before text_space file_space) (host_in view seen n (reply_line (volume_reply {T = Unit {0}} (Err fault))) text_space file_space)
+          by : (fault : VolumeFault) → GoesOn calls (store_in view seen m.records) (store_in view seen n.records) (store_answer {T = T} (Err fault)) → AnswersSo {T = T} command (store_in view seen) (volume_in m) (volume_in n) (Err fault)
+              → MindsFirst {T = T} (store_in view seen) (volume_in m) (volume_in n) command (Err fault)
+              → Performed (Asks (OfVolume command)) (volume_reply {T = Unit {0}} (Err fault)) (host_in view seen o before text_space space) (host_in view seen n (reply_line (volume_reply {T = Unit {0}} (Err fault))) text_space space)
           by (Refused why) goes answers minds =
               asked {T = T} (Err (Refused why)) calls before (reply_line (reply.No (code_of why))) few goes turns answers (not_carried command (reply.No (code_of why)) _ _ _ tt) minds (λ told. refl)
           by (Troubled e) goes answers minds =
-              asked {T = T} (Err (Troubled e)) calls before (reply_line (fault_of e)) few goes turns answers (none_carried command e _ _ _) minds (λ told. sym (fault_text (Asks (OfVolume command)) (host_in view seen o before text_space file_space).state e))
+              asked {T = T} (Err (Troubled e)) calls before (reply_line (fault_of e)) few goes turns answers (none_carried command e _ _ _) minds (λ told. sym (fault_text (Asks (OfVolume command)) (host_in view seen o before text_space space).state e))
 
       -- a command that tells nothing answered
-      pub changed : {T : Type 0} (answer : Result T VolumeFault) (calls : ℕ) (before : List ℕ) → TellsNothing command → calls ≤ most_calls (store_in view seen m.records).record_count
+      pub changed : {T : Type 0} (answer : Result T VolumeFault) (calls : ℕ) (before : List ℕ) → TellsNothing command → calls ≤ calls_to_pack (store_in view seen m.records).record_count + most_calls (store_in view seen m.records).record_count
           → GoesOn calls (store_in view seen m.records) (store_in view seen n.records) (store_answer answer)
-          → TurnsSo command (store_in view seen) (volume_in m) (volume_in n) → AnswersTo command (store_in view seen) (volume_in m) (volume_in n) answer
-          → CarriesAs command (volume_reply answer) (host_in view seen o before text_space file_space).state.records (volume_at (host_in view seen o before text_space file_space).state) (store_in view seen n.records).transferred
-          → Minds (store_in view seen) (volume_in m) (volume_in n) command answer
-          → Performed (Asks (OfVolume command)) (volume_reply answer) (host_in view seen o before text_space file_space) (host_in view seen n (reply_line (volume_reply answer)) text_space file_space)
+          → TurnsSo command (store_in view seen) (volume_in m) (volume_in n) → AnswersSo command (store_in view seen) (volume_in m) (volume_in n) answer
+          → CarriesAs command (volume_reply answer) (host_in view seen o before text_space space).state.records (volume_at (host_in view seen o before text_space space).state) (store_in view seen n.records).transferred
+          → MindsFirst (store_in view seen) (volume_in m) (volume_in n) command answer
+          → Performed (Asks (OfVolume command)) (volume_reply answer) (host_in view seen o before text_space space) (host_in view seen n (reply_line (volume_reply answer)) text_space space)
       changed answer calls before nothing few goes turns answers carries minds =
           asked answer calls before (reply_line (volume_reply answer)) few goes turns answers carries minds
-          (λ told. sym (nothing_told command (volume_at (host_in view seen o before text_space file_space).state) (host_in view seen o before text_space file_space).state (volume_reply answer) refl nothing))
+          (λ told. sym (nothing_told command (volume_at (host_in view seen o before text_space space).state) (host_in view seen o before text_space space).state (volume_reply answer) refl nothing))

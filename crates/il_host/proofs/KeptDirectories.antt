@@ -38,18 +38,20 @@ use Rattle.lif_volume.specs.declared.fault.VolumeFault.{VolumeFault}
 use Rattle.lif_volume.specs.declared.fault.VolumeFault.TheVariants.{Refused, Trouble as Troubled}
 use Rattle.lif_volume.specs.declared.volume.Fetched.{Fetched}
 use Rattle.lif_volume.proofs.Making.{files_are}
+use Rattle.il_script.specs.declared.reply.Code.{Code}
+use Rattle.il_script.specs.declared.reply.Code.TheVariants as code
 use Rattle.il_script.specs.declared.reply.Reply.{Reply}
 use Rattle.il_script.specs.declared.reply.Reply.TheVariants as reply
 use Rattle.il_script.specs.Replies.{code_of}
-use Rattle.host_model.specs.Requests.{Asks, Devices, Get, Item, NoCommand, OfVolume, Paper, Poll, Say, Status, is_of_volume, uses_frames}
+use Rattle.host_model.specs.Requests.{Asks, Devices, Get, Pack, Item, NoCommand, OfVolume, Paper, Poll, Say, Status, is_of_volume, uses_frames}
 use Rattle.host_model.specs.LoopStates.{ring_of}
 use Rattle.host_model.specs.HostStates.{HostState}
 use Rattle.host_model.specs.Steps.{is_fault}
-use Rattle.host_model.specs.Directories.{AsksLittle, HasFilesAndCommit, HasOnly, HasTransfers, AreFilesAndCommit, IsCommitOf, LogOfKept, has_volume, kept_after, kept_after_command, kept_after_refusal, run_read}
+use Rattle.host_model.specs.Directories.{AsksLittle, HasFilesAndCommit, HasOnly, HasTransfers, AreFilesAndCommit, IsCommitOf, IsKeptAfter, IsKeptBehind, LogOfKept, has_volume, run_read}
 use Rattle.host_model.proofs.RingStates.{ring_on}
 use Rattle.il_host.specs.HostView.{most_beside, records_asked}
 use Rattle.il_host.proofs.LoopEvents.{IsOfLoop}
-use Rattle.il_host.specs.Standings.{log_at, state_at, volume_reply}
+use Rattle.il_host.specs.Standings.{fault_of, log_at, state_at, volume_reply}
 
 -- ---- whether it is kept
 
@@ -65,97 +67,198 @@ code_kept refusal.Protected = refl
 code_kept refusal.NeedsUpgrade = refl
 code_kept refusal.OutOfOrder = refl
 
-refused_kept : (T : Type 0) (command : VolumeCommand) (was : Bool) (why : Refusal) → keeps_behind_command {T = T} command was (Err (Refused why)) ≡ kept_after_refusal command was (code_of why)
-refused_kept T Dir was why = code_kept why
-refused_kept T Label was why = code_kept why
-refused_kept T (Fetch name) was why = code_kept why
-refused_kept T (Store name kind implementation bytes) was why = code_kept why
-refused_kept T (Rename old new) was why = code_kept why
-refused_kept T (Purge name) was why = code_kept why
-refused_kept T Adopt was why = code_kept why
-refused_kept T Upgrade was why = code_kept why
-refused_kept T (Batch parts) was why = refl
-refused_kept T (Format label slots) was refusal.NotLif = refl
-refused_kept T (Format label slots) was refusal.NoFile = refl
-refused_kept T (Format label slots) was refusal.Exists = refl
-refused_kept T (Format label slots) was refusal.NoSlot = refl
-refused_kept T (Format label slots) was refusal.NoRoom = refl
-refused_kept T (Format label slots) was refusal.NoRedo = refl
-refused_kept T (Format label slots) was refusal.InUse = refl
-refused_kept T (Format label slots) was refusal.Protected = refl
-refused_kept T (Format label slots) was refusal.NeedsUpgrade = refl
-refused_kept T (Format label slots) was refusal.OutOfOrder = refl
+-- every command but `format` and a batch, and those two
+refused_kept : (T : Type 0) (command : VolumeCommand) (was : Bool) (why : Refusal) (now : Bool) → now ≡ keeps_behind_command {T = T} command was (Err (Refused why))
+    → IsKeptBehind command was (reply.No (code_of why)) now
+refused_kept T Dir was why now is = is ∙ code_kept why
+refused_kept T Label was why now is = is ∙ code_kept why
+refused_kept T (Fetch name) was why now is = is ∙ code_kept why
+refused_kept T (Store name kind implementation bytes) was why now is = is ∙ code_kept why
+refused_kept T (Rename old new) was why now is = is ∙ code_kept why
+refused_kept T (Purge name) was why now is = is ∙ code_kept why
+refused_kept T Adopt was why now is = is ∙ code_kept why
+refused_kept T Upgrade was why now is = is ∙ code_kept why
+refused_kept T (Batch parts) was why now is = is
+refused_kept T (Format label slots) was refusal.NotLif now is = is
+refused_kept T (Format label slots) was refusal.NoFile now is = is
+refused_kept T (Format label slots) was refusal.Exists now is = is
+refused_kept T (Format label slots) was refusal.NoSlot now is = is
+refused_kept T (Format label slots) was refusal.NoRoom now is = λ on. is ∙ on
+refused_kept T (Format label slots) was refusal.NoRedo now is = is
+refused_kept T (Format label slots) was refusal.InUse now is = is
+refused_kept T (Format label slots) was refusal.Protected now is = is
+refused_kept T (Format label slots) was refusal.NeedsUpgrade now is = is
+refused_kept T (Format label slots) was refusal.OutOfOrder now is = is
 
 -- whatever the command is, ok and a fault decide
-ok_kept : {T : Type 0} (x : T) (command : VolumeCommand) (was : Bool) → keeps_behind_command command was (Ok x) ≡ true
-ok_kept x Dir was = refl
-ok_kept x Label was = refl
-ok_kept x (Fetch name) was = refl
-ok_kept x (Store name kind implementation bytes) was = refl
-ok_kept x (Rename old new) was = refl
-ok_kept x (Purge name) was = refl
-ok_kept x Adopt was = refl
-ok_kept x Upgrade was = refl
-ok_kept x (Batch parts) was = refl
-ok_kept x (Format label slots) was = refl
+ok_kept : {T : Type 0} (x : T) (command : VolumeCommand) (was now : Bool) → now ≡ keeps_behind_command command was (Ok x) → IsKeptBehind command was reply.Ok now
+ok_kept x Dir was now is = is
+ok_kept x Label was now is = is
+ok_kept x (Fetch name) was now is = is
+ok_kept x (Store name kind implementation bytes) was now is = is
+ok_kept x (Rename old new) was now is = is
+ok_kept x (Purge name) was now is = is
+ok_kept x Adopt was now is = is
+ok_kept x Upgrade was now is = is
+ok_kept x (Batch parts) was now is = is
+ok_kept x (Format label slots) was now is = is
 
-fault_kept : (T : Type 0) (e : Trouble) (command : VolumeCommand) (was : Bool) → keeps_behind_command {T = T} command was (Err (Troubled e)) ≡ false
-fault_kept T e Dir was = refl
-fault_kept T e Label was = refl
-fault_kept T e (Fetch name) was = refl
-fault_kept T e (Store name kind implementation bytes) was = refl
-fault_kept T e (Rename old new) was = refl
-fault_kept T e (Purge name) was = refl
-fault_kept T e Adopt was = refl
-fault_kept T e Upgrade was = refl
-fault_kept T e (Batch parts) was = refl
-fault_kept T e (Format label slots) was = refl
+-- a fault forgets it
+pub forgets_it : (command : VolumeCommand) (was : Bool) (e : Trouble) → IsKeptBehind command was (fault_of e) false
+forgets_it Dir was trouble.Frame = refl
+forgets_it Dir was trouble.Medium = refl
+forgets_it Label was trouble.Frame = refl
+forgets_it Label was trouble.Medium = refl
+forgets_it (Fetch name) was trouble.Frame = refl
+forgets_it (Fetch name) was trouble.Medium = refl
+forgets_it (Store name kind implementation bytes) was trouble.Frame = refl
+forgets_it (Store name kind implementation bytes) was trouble.Medium = refl
+forgets_it (Rename old new) was trouble.Frame = refl
+forgets_it (Rename old new) was trouble.Medium = refl
+forgets_it (Purge name) was trouble.Frame = refl
+forgets_it (Purge name) was trouble.Medium = refl
+forgets_it Adopt was trouble.Frame = refl
+forgets_it Adopt was trouble.Medium = refl
+forgets_it Upgrade was trouble.Frame = refl
+forgets_it Upgrade was trouble.Medium = refl
+forgets_it (Batch parts) was trouble.Frame = refl
+forgets_it (Batch parts) was trouble.Medium = refl
+forgets_it (Format label slots) was trouble.Frame = refl
+forgets_it (Format label slots) was trouble.Medium = refl
 
-pub kept_as : {T : Type 0} (command : VolumeCommand) (was : Bool) (answer : Result T VolumeFault) → keeps_behind_command command was answer ≡ kept_after_command command was (volume_reply answer)
-kept_as command was (Ok x) = ok_kept x command was
-kept_as {T} command was (Err (Refused why)) = refused_kept T command was why
-kept_as {T} command was (Err (Troubled trouble.Frame)) = fault_kept T trouble.Frame command was
-kept_as {T} command was (Err (Troubled trouble.Medium)) = fault_kept T trouble.Medium command was
+fault_forgets : (T : Type 0) (e : Trouble) (command : VolumeCommand) (was : Bool) → keeps_behind_command {T = T} command was (Err (Troubled e)) ≡ false
+fault_forgets T e Dir was = refl
+fault_forgets T e Label was = refl
+fault_forgets T e (Fetch name) was = refl
+fault_forgets T e (Store name kind implementation bytes) was = refl
+fault_forgets T e (Rename old new) was = refl
+fault_forgets T e (Purge name) was = refl
+fault_forgets T e Adopt was = refl
+fault_forgets T e Upgrade was = refl
+fault_forgets T e (Batch parts) was = refl
+fault_forgets T e (Format label slots) was = refl
+
+pub kept_as : {T : Type 0} (command : VolumeCommand) (was : Bool) (answer : Result T VolumeFault) (now : Bool) → now ≡ keeps_behind_command command was answer
+    → IsKeptBehind command was (volume_reply answer) now
+kept_as command was (Ok x) now is = ok_kept x command was now is
+kept_as {T} command was (Err (Refused why)) now is = refused_kept T command was why now is
+kept_as {T} command was (Err (Troubled e)) now is = subst (IsKeptBehind command was (fault_of e)) (sym (is ∙ fault_forgets T e command was)) (forgets_it command was e)
+
+-- a directory that was kept, or not, behind one that is kept too wherever the first was
+pub kept_longer : (command : VolumeCommand) (was mid : Bool) (r : Reply) (now : Bool) → (was ≡ true → mid ≡ true) → IsKeptBehind command mid r now → IsKeptBehind command was r now
+kept_longer Dir was mid r now more is = is
+kept_longer Label was mid r now more is = is
+kept_longer (Fetch name) was mid r now more is = is
+kept_longer (Store name kind implementation bytes) was mid r now more is = is
+kept_longer (Rename old new) was mid r now more is = is
+kept_longer (Purge name) was mid r now more is = is
+kept_longer Adopt was mid r now more is = is
+kept_longer Upgrade was mid r now more is = is
+kept_longer (Batch parts) was mid r now more is = is
+kept_longer (Format label slots) was mid reply.Ok now more is = is
+kept_longer (Format label slots) was mid reply.FaultFrame now more is = is
+kept_longer (Format label slots) was mid reply.FaultMedium now more is = is
+kept_longer (Format label slots) was mid (reply.No c) now more is = by c is
+  where
+    by : (c : Code) → IsKeptBehind (Format label slots) mid (reply.No c) now → IsKeptBehind (Format label slots) was (reply.No c) now
+    by code.NoRoom is = λ on. is (more on)
+    by code.BadLine is = is
+    by code.BadName is = is
+    by code.NotLif is = is
+    by code.NoFile is = is
+    by code.Exists is = is
+    by code.NoSlot is = is
+    by code.NoRedo is = is
+    by code.InUse is = is
+    by code.Protected is = is
+    by code.NoPrinter is = is
+    by code.LineTooLong is = is
+    by code.BatchTooLarge is = is
+    by code.NeedsUpgrade is = is
+    by code.OutOfOrder is = is
+    by code.NotText is = is
+    by code.NoTaker is = is
 
 -- an item that sends no frame leaves that
-pub still_kept : (item : Item) (was : Bool) (r : Reply) → uses_frames item ≡ false → kept_after item was r ≡ was
-still_kept (Asks (OfVolume command)) was r none = cc
-still_kept (Asks (Get name)) was r none = cc
-still_kept (Asks Devices) was r none = cc
-still_kept (Asks Status) was r none = cc
-still_kept (Asks Poll) was r none = cc
-still_kept (Asks (Say bytes)) was r none = cc
-still_kept (Asks Paper) was r none = refl
-still_kept (NoCommand code) was r none = refl
+pub still_kept : (item : Item) (was : Bool) (r : Reply) (now : Bool) → uses_frames item ≡ false → IsKeptAfter item was r now → now ≡ was
+still_kept (Asks (OfVolume command)) was r now none is = cc
+still_kept (Asks (Get name)) was r now none is = cc
+still_kept (Asks Pack) was r now none is = cc
+still_kept (Asks Devices) was r now none is = cc
+still_kept (Asks Status) was r now none is = cc
+still_kept (Asks Poll) was r now none is = cc
+still_kept (Asks (Say bytes)) was r now none is = cc
+still_kept (Asks Paper) was r now none is = is
+still_kept (NoCommand code) was r now none is = is
+
+-- and an item that is not of the volume keeps none that was not kept
+pub kept_before : (item : Item) (was : Bool) (r : Reply) (now : Bool) → is_of_volume item ≡ false → IsKeptAfter item was r now → now ≡ true → was ≡ true
+kept_before (Asks (OfVolume command)) was r now other is on = cc
+kept_before (Asks (Get name)) was r now other is on = cc
+kept_before (Asks Pack) was r now other is on = cc
+kept_before (Asks Devices) was r now other is on = let clash : true ≡ false = sym on ∙ is in cc
+kept_before (Asks Status) was r now other is on = let clash : true ≡ false = sym on ∙ is in cc
+kept_before (Asks Poll) was r now other is on = let clash : true ≡ false = sym on ∙ is in cc
+kept_before (Asks (Say bytes)) was r now other is on = let clash : true ≡ false = sym on ∙ is in cc
+kept_before (Asks Paper) was r now other is on = sym is ∙ on
+kept_before (NoCommand code) was r now other is on = sym is ∙ on
 
 -- and where it is kept the store is sound
-command_sound : (command : VolumeCommand) (r : Reply) (was : Bool) → kept_after_command command was r ≡ true → is_fault r ≡ false
-command_sound command reply.Ok was on = refl
-command_sound command (reply.No code) was on = refl
-command_sound command reply.FaultFrame was on = cc
-command_sound command reply.FaultMedium was on = cc
+command_sound : (command : VolumeCommand) (was : Bool) (r : Reply) (now : Bool) → IsKeptBehind command was r now → now ≡ true → is_fault r ≡ false
+command_sound command was reply.Ok now is on = refl
+command_sound command was (reply.No code) now is on = refl
+command_sound command was reply.FaultFrame now is on =
+    let off : now ≡ false = off_behind command is in let clash : true ≡ false = sym on ∙ off in cc
+  where
+    off_behind : (command : VolumeCommand) → IsKeptBehind command was reply.FaultFrame now → now ≡ false
+    off_behind Dir is = is
+    off_behind Label is = is
+    off_behind (Fetch name) is = is
+    off_behind (Store name kind implementation bytes) is = is
+    off_behind (Rename old new) is = is
+    off_behind (Purge name) is = is
+    off_behind Adopt is = is
+    off_behind Upgrade is = is
+    off_behind (Batch parts) is = is
+    off_behind (Format label slots) is = is
+command_sound command was reply.FaultMedium now is on =
+    let off : now ≡ false = off_behind command is in let clash : true ≡ false = sym on ∙ off in cc
+  where
+    off_behind : (command : VolumeCommand) → IsKeptBehind command was reply.FaultMedium now → now ≡ false
+    off_behind Dir is = is
+    off_behind Label is = is
+    off_behind (Fetch name) is = is
+    off_behind (Store name kind implementation bytes) is = is
+    off_behind (Rename old new) is = is
+    off_behind (Purge name) is = is
+    off_behind Adopt is = is
+    off_behind Upgrade is = is
+    off_behind (Batch parts) is = is
+    off_behind (Format label slots) is = is
 
-pub sound_kept : (item : Item) (r : Reply) (was before after : Bool) → (is_of_volume item ≡ true → after ≡ not (is_fault r)) → (uses_frames item ≡ false → after ≡ before) → (was ≡ true → before ≡ true)
-    → kept_after item was r ≡ true → after ≡ true
-sound_kept (Asks (OfVolume command)) r was before after sound still kept on = sound refl ∙ ap not (command_sound command r was on)
-sound_kept (Asks (Get name)) r was before after sound still kept on = sound refl ∙ ap not (command_sound (Fetch name) r was on)
-sound_kept (Asks Devices) r was before after sound still kept on = cc
-sound_kept (Asks Status) r was before after sound still kept on = cc
-sound_kept (Asks Poll) r was before after sound still kept on = cc
-sound_kept (Asks (Say bytes)) r was before after sound still kept on = cc
-sound_kept (Asks Paper) r was before after sound still kept on = still refl ∙ kept on
-sound_kept (NoCommand code) r was before after sound still kept on = still refl ∙ kept on
+pub sound_kept : (item : Item) (r : Reply) (was now before after : Bool) → (is_of_volume item ≡ true → after ≡ not (is_fault r)) → (uses_frames item ≡ false → after ≡ before) → (was ≡ true → before ≡ true)
+    → IsKeptAfter item was r now → now ≡ true → after ≡ true
+sound_kept (Asks (OfVolume command)) r was now before after sound still kept is on = sound refl ∙ ap not (command_sound command was r now is on)
+sound_kept (Asks (Get name)) r was now before after sound still kept is on = sound refl ∙ ap not (command_sound (Fetch name) was r now is on)
+sound_kept (Asks Pack) r was now before after sound still kept is on = let clash : true ≡ false = sym on ∙ is in cc
+sound_kept (Asks Devices) r was now before after sound still kept is on = let clash : true ≡ false = sym on ∙ is in cc
+sound_kept (Asks Status) r was now before after sound still kept is on = let clash : true ≡ false = sym on ∙ is in cc
+sound_kept (Asks Poll) r was now before after sound still kept is on = let clash : true ≡ false = sym on ∙ is in cc
+sound_kept (Asks (Say bytes)) r was now before after sound still kept is on = let clash : true ≡ false = sym on ∙ is in cc
+sound_kept (Asks Paper) r was now before after sound still kept is on = still refl ∙ kept (sym is ∙ on)
+sound_kept (NoCommand code) r was now before after sound still kept is on = still refl ∙ kept (sym is ∙ on)
 
 -- a command of the loop that sends frames forgets it
-pub forgotten : (item : Item) (was : Bool) (r : Reply) (s : HostState) (log : List Entry) → IsOfLoop item → (kept_after item was r ≡ false) × LogOfKept item r s log
-forgotten (Asks (OfVolume command)) was r s log of_loop = absurd of_loop
-forgotten (Asks (Get name)) was r s log of_loop = absurd of_loop
-forgotten (Asks Devices) was r s log of_loop = (refl, tt)
-forgotten (Asks Status) was r s log of_loop = (refl, tt)
-forgotten (Asks Poll) was r s log of_loop = (refl, tt)
-forgotten (Asks (Say bytes)) was r s log of_loop = (refl, tt)
-forgotten (Asks Paper) was r s log of_loop = absurd of_loop
-forgotten (NoCommand code) was r s log of_loop = absurd of_loop
+pub forgotten : (item : Item) (was : Bool) (r : Reply) (s : HostState) (log : List Entry) (now : Bool) → IsOfLoop item → now ≡ false → IsKeptAfter item was r now × LogOfKept item r s log
+forgotten (Asks (OfVolume command)) was r s log now of_loop off = absurd of_loop
+forgotten (Asks (Get name)) was r s log now of_loop off = absurd of_loop
+forgotten (Asks Pack) was r s log now of_loop off = absurd of_loop
+forgotten (Asks Devices) was r s log now of_loop off = (off, tt)
+forgotten (Asks Status) was r s log now of_loop off = (off, tt)
+forgotten (Asks Poll) was r s log now of_loop off = (off, tt)
+forgotten (Asks (Say bytes)) was r s log now of_loop off = (off, tt)
+forgotten (Asks Paper) was r s log now of_loop off = absurd of_loop
+forgotten (NoCommand code) was r s log now of_loop off = absurd of_loop
 
 -- ---- the log of a store
 
@@ -172,9 +275,9 @@ told_log {M} view seen p l list = by l.control
 -- ---- what is said of a command of the volume
 
 pub record Minds {R S T : Type 0} (view : R → RecordsView S) (x y : VolumeView R) (command : VolumeCommand) (answer : Result T VolumeFault) : Type 0 where
-  pub kept : is_some y.kept ≡ kept_after_command command (is_some x.kept) (volume_reply answer)
-  -- by a log that has the list of the store, and is empty where the store is as it was
-  pub log : is_some x.kept ≡ true → (s : HostState) (log : List Entry) → s.tape ≡ (view x.records).tape → s.records ≡ (view x.records).record_count → (y.records ≡ x.records → log ≡ [])
+  pub kept : IsKeptBehind command (is_some x.kept) (volume_reply answer) (is_some y.kept)
+  -- by a log that has the list of the store since it was emptied, and is empty where the store is as it was
+  pub log : is_some x.kept ≡ true → (view x.records).transferred [] → (s : HostState) (log : List Entry) → s.tape ≡ (view x.records).tape → s.records ≡ (view x.records).record_count → (y.records ≡ x.records → log ≡ [])
       → ((list : List Transfer) → (view y.records).transferred list → Transferred (ring_of s.loop) log list) → AsksLittle command (volume_reply answer) s log
   pub on_tape : (t : Tape) → (view x.records).tape ≡ Some t → (view x.records).calls_left ≤ (view y.records).calls_left + (directory_records (settled t) + records_asked (Asks (OfVolume command)) (settled t) + 143)
   pub from_kept : (t : Tape) → (view x.records).tape ≡ Some t → is_some x.kept ≡ true → (view x.records).calls_left + 1 ≤ (view y.records).calls_left + (records_asked (Asks (OfVolume command)) (settled t) + most_beside (Asks (OfVolume command)))
@@ -191,6 +294,7 @@ some_beside (Asks (OfVolume Upgrade)) = omega arith
 some_beside (Asks (OfVolume (Batch parts))) = omega arith
 some_beside (Asks (OfVolume (Format label slots))) = omega arith
 some_beside (Asks (Get name)) = omega arith
+some_beside (Asks Pack) = omega arith
 some_beside (Asks Devices) = omega arith
 some_beside (Asks Status) = omega arith
 some_beside (Asks Poll) = omega arith
@@ -198,13 +302,25 @@ some_beside (Asks (Say bytes)) = omega arith
 some_beside (Asks Paper) = omega arith
 some_beside (NoCommand code) = omega arith
 
+pub few_beside : (command : VolumeCommand) → most_beside (Asks (OfVolume command)) ≤ 80
+few_beside Dir = omega arith
+few_beside Label = omega arith
+few_beside (Fetch name) = omega arith
+few_beside (Store name kind implementation bytes) = omega arith
+few_beside (Rename before later) = omega arith
+few_beside (Purge name) = omega arith
+few_beside Adopt = omega arith
+few_beside Upgrade = omega arith
+few_beside (Batch parts) = omega arith
+few_beside (Format label slots) = omega arith
+
 -- a refusal leaves an empty log, and of a fault nothing is said
 by_fault : (T : Type 0) (command : VolumeCommand) (fault : VolumeFault) (s : HostState) (log : List Entry) → ((why : Refusal) → fault ≡ Refused why → log ≡ []) → AsksLittle command (volume_reply {T = T} (Err fault)) s log
 by_fault T command (Refused why) s log none = none why refl
 by_fault T command (Troubled trouble.Frame) s log none = tt
 by_fault T command (Troubled trouble.Medium) s log none = tt
 
-few_mounted : (t : Tape) (old : Option HeaderParts) → mounting_on t old ≤ 71 + directory_records (settled t)
+pub few_mounted : (t : Tape) (old : Option HeaderParts) → mounting_on t old ≤ 71 + directory_records (settled t)
 few_mounted t (Some header) = omega arith
 few_mounted t None = omega arith
 
@@ -230,14 +346,14 @@ module _ {R S T : Type 0} (view : R → RecordsView S) (x y : VolumeView R) (ans
   few_on t told = omega (arith, consults.few t told, few_mounted t x.kept)
 
   pub minds_dir : Minds view x y Dir answer
-  minds_dir = record { kept = consults.kept ∙ kept_as Dir (is_some x.kept) answer; log = λ on s log tape size none told. by answer s log (none (still on)); on_tape = few_on; from_kept = few_kept }
+  minds_dir = record { kept = kept_as Dir (is_some x.kept) answer (is_some y.kept) consults.kept; log = λ on first s log tape size none told. by answer s log (none (still on)); on_tape = few_on; from_kept = few_kept }
     where
       by : (answer : Result T VolumeFault) (s : HostState) (log : List Entry) → log ≡ [] → AsksLittle Dir (volume_reply answer) s log
       by (Ok a) s log none = λ t v told of. none
       by (Err fault) s log none = by_fault T Dir fault s log (λ why is. none)
 
   pub minds_label : Minds view x y Label answer
-  minds_label = record { kept = consults.kept ∙ kept_as Label (is_some x.kept) answer; log = λ on s log tape size none told. by answer s log (none (still on)); on_tape = few_on; from_kept = few_kept }
+  minds_label = record { kept = kept_as Label (is_some x.kept) answer (is_some y.kept) consults.kept; log = λ on first s log tape size none told. by answer s log (none (still on)); on_tape = few_on; from_kept = few_kept }
     where
       by : (answer : Result T VolumeFault) (s : HostState) (log : List Entry) → log ≡ [] → AsksLittle Label (volume_reply answer) s log
       by (Ok a) s log none = λ t v told of. none
@@ -281,11 +397,11 @@ module _ {R S T : Type 0} (view : R → RecordsView S) (x y : VolumeView R) (nam
       by (Some header) is on known = (header, is, known)
       by None is on known = cc
 
-  minds_fetch_by : (is_some x.kept ≡ true → (s : HostState) (log : List Entry) → s.tape ≡ (view x.records).tape → (y.records ≡ x.records → log ≡ [])
+  minds_fetch_by : (is_some x.kept ≡ true → (view x.records).transferred [] → (s : HostState) (log : List Entry) → s.tape ≡ (view x.records).tape → (y.records ≡ x.records → log ≡ [])
       → ((list : List Transfer) → (view y.records).transferred list → Transferred (ring_of s.loop) log list) → AsksLittle (Fetch name) (volume_reply answer) s log) → Minds view x y (Fetch name) answer
   minds_fetch_by log = record {
-    kept = consults.kept ∙ kept_as (Fetch name) (is_some x.kept) answer;
-    log = λ on s entries tape size none told. log on s entries tape none told;
+    kept = kept_as (Fetch name) (is_some x.kept) answer (is_some y.kept) consults.kept;
+    log = λ on first s entries tape size none told. log on first s entries tape none told;
     on_tape = fetch_few_on;
     from_kept = fetch_few_kept;
   }
@@ -294,7 +410,7 @@ module _ {R S T : Type 0} (view : R → RecordsView S) (x y : VolumeView R) (nam
 pub minds_not_fetched : {R S T : Type 0} (view : R → RecordsView S) (x y : VolumeView R) (name : List ℕ) (fault : VolumeFault) → IsOpen view x
     → Consults {T = T} (fetching {T = T} (view x.records).record_count name x.kept (map slot_bytes x.slots) (Err fault)) (λ t. fetching_on {T = T} t name x.kept (Err fault)) view x y (Err fault) → Minds {T = T} view x y (Fetch name) (Err fault)
 minds_not_fetched {T = T} view x y name fault opens consults =
-    minds_fetch_by view x y name (Err fault) opens consults (λ on s log tape none told. by_fault T (Fetch name) fault s log (λ why is. none (consults.idle (calls why is x.kept on))))
+    minds_fetch_by view x y name (Err fault) opens consults (λ on first s log tape none told. by_fault T (Fetch name) fault s log (λ why is. none (consults.idle (calls why is x.kept on))))
   where
     calls : (why : Refusal) → fault ≡ Refused why → (old : Option HeaderParts) → is_some old ≡ true → fetching {T = T} (view x.records).record_count name old (map slot_bytes x.slots) (Err fault) ≡ 0
     calls why is (Some header) on = ap (λ (f : VolumeFault). reading {T = T} (map slot_bytes x.slots) name (Err f)) is
@@ -303,13 +419,13 @@ minds_not_fetched {T = T} view x y name fault opens consults =
 -- ok
 pub minds_fetched : {R S : Type 0} (view : R → RecordsView S) (x y : VolumeView R) (name : List ℕ) (fetched : Fetched) (into : List ℕ) → IsOpen view x
     → Consults (fetching (view x.records).record_count name x.kept (map slot_bytes x.slots) (Ok fetched)) (λ t. fetching_on t name x.kept (Ok fetched)) view x y (Ok fetched)
-    → FetchesFile name view x fetched into → FetchesByRun name view x y fetched into → (view x.records).transferred [] → Minds view x y (Fetch name) (Ok fetched)
-minds_fetched view x y name fetched into opens consults file run first =
-    minds_fetch_by view x y name (Ok fetched) opens consults (λ on s log tape none told t v here of. only on s log none told t v (sym tape ∙ here) of)
+    → FetchesFile name view x fetched into → FetchesByRun name view x y fetched into → Minds view x y (Fetch name) (Ok fetched)
+minds_fetched view x y name fetched into opens consults file run =
+    minds_fetch_by view x y name (Ok fetched) opens consults (λ on first s log tape none told t v here of. only on first s log none told t v (sym tape ∙ here) of)
   where
-    only : is_some x.kept ≡ true → (s : HostState) (log : List Entry) → (y.records ≡ x.records → log ≡ []) → ((list : List Transfer) → (view y.records).transferred list → Transferred (ring_of s.loop) log list)
+    only : is_some x.kept ≡ true → (view x.records).transferred [] → (s : HostState) (log : List Entry) → (y.records ≡ x.records → log ≡ []) → ((list : List Transfer) → (view y.records).transferred list → Transferred (ring_of s.loop) log list)
         → (t : Tape) (v : Volume) → (view x.records).tape ≡ Some t → volume_of t ≡ Some v → HasTransfers (ring_of s.loop) log (run_read (slot_named v.slots name) (get v.files name))
-    only on s log none told t v here of =
+    only on first s log none told t v here of =
         let is = file t here in
         let same : is.volume ≡ v = same_volume is.volume v (volume_of t) is.of_tape of in
         let named : slot_named v.slots name ≡ Some is.slot = ap (λ (w : Volume). slot_named w.slots name) (sym same) ∙ is.named in
@@ -411,11 +527,11 @@ has_only Upgrade n l log v t nothing has = has
 has_only (Batch parts) n l log v t nothing has = has
 has_only (Format label slots) n l log v t nothing has = has
 
-pub minds_altered : {R S T : Type 0} (view : R → RecordsView S) (x y : VolumeView R) (command : VolumeCommand) (answer : Result T VolumeFault) → TellsNothing command → IsOpen view x → Alters command view x y answer → (view x.records).transferred []
+pub minds_altered : {R S T : Type 0} (view : R → RecordsView S) (x y : VolumeView R) (command : VolumeCommand) (answer : Result T VolumeFault) → TellsNothing command → IsOpen view x → Alters command view x y answer
     → Minds view x y command answer
-minds_altered {T = T} view x y command answer nothing opens alters first = record {
-  kept = alters.kept ∙ kept_as command (is_some x.kept) answer;
-  log = λ on s log tape size none told. by answer alters on s log tape size none told;
+minds_altered {T = T} view x y command answer nothing opens alters = record {
+  kept = kept_as command (is_some x.kept) answer (is_some y.kept) alters.kept;
+  log = λ on first s log tape size none told. by answer alters on first s log tape size none told;
   on_tape = λ t told. omega (arith, alters.most t told, few_mounted t x.kept, (carrying_few (view x.records).record_count command (settled t) answer nothing).0);
   from_kept = λ t told on. omega (arith, alters.most t told, none_mounted t x.kept on, (carrying_few (view x.records).record_count command (settled t) answer nothing).1);
 }
@@ -424,12 +540,12 @@ minds_altered {T = T} view x y command answer nothing opens alters first = recor
     settled_kept t (Some header) on known = known.settled
     settled_kept t None on known = cc
 
-    by : (answer : Result T VolumeFault) → Alters command view x y answer → is_some x.kept ≡ true → (s : HostState) (log : List Entry) → s.tape ≡ (view x.records).tape → s.records ≡ (view x.records).record_count → (y.records ≡ x.records → log ≡ [])
+    by : (answer : Result T VolumeFault) → Alters command view x y answer → is_some x.kept ≡ true → (view x.records).transferred [] → (s : HostState) (log : List Entry) → s.tape ≡ (view x.records).tape → s.records ≡ (view x.records).record_count → (y.records ≡ x.records → log ≡ [])
         → ((list : List Transfer) → (view y.records).transferred list → Transferred (ring_of s.loop) log list) → AsksLittle command (volume_reply answer) s log
-    by (Err (Refused why)) alters on s log tape size none told = none (alters.idle (refused_calls T (view x.records).record_count command x.kept y.kept why nothing on))
-    by (Err (Troubled trouble.Frame)) alters on s log tape size none told = tt
-    by (Err (Troubled trouble.Medium)) alters on s log tape size none told = tt
-    by (Ok a) alters on s log tape size none told = λ t v here of.
+    by (Err (Refused why)) alters on first s log tape size none told = none (alters.idle (refused_calls T (view x.records).record_count command x.kept y.kept why nothing on))
+    by (Err (Troubled trouble.Frame)) alters on first s log tape size none told = tt
+    by (Err (Troubled trouble.Medium)) alters on first s log tape size none told = tt
+    by (Ok a) alters on first s log tape size none told = λ t v here of.
         let n : ℕ = (view x.records).record_count in
         let at : (view x.records).tape ≡ Some t = sym tape ∙ here in
         let rests : settled t ≡ t = settled_kept t x.kept on (opens.known t at) in

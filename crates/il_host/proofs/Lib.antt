@@ -22,6 +22,8 @@ pub mod VolumeSteps
 pub mod VolumeCommands
 pub mod VolumeReplied
 pub mod VolumePerforms
+pub mod Cleared
+pub mod Closing
 mod Rows
 pub mod Texts
 mod Examples
@@ -34,7 +36,10 @@ pub mod Answered
 pub mod Runs
 pub mod GeneratedRuns
 pub mod KeptDirectories
+pub mod FinishedFirst
 pub mod HostVolumes
+pub mod Prepared
+pub mod PackPerforms
 pub mod FileCarries
 pub mod BatchCarries
 pub mod VolumeAsked

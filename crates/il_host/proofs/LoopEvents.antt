@@ -13,7 +13,7 @@ use Rattle.il_record.specs.Runs.{Readied, Interrupted, address_asks}
 use Rattle.il_script.specs.declared.reply.Reply.{Reply}
 use Rattle.il_script.specs.declared.reply.Reply.TheVariants as reply
 use Rattle.il_script.specs.declared.reply.Code.{Code}
-use Rattle.host_model.specs.Requests.{Item, Asks, NoCommand, OfVolume, Get, Devices, Status, Poll, Say, Paper, is_of_volume}
+use Rattle.host_model.specs.Requests.{Item, Asks, NoCommand, OfVolume, Get, Pack, Devices, Status, Poll, Say, Paper, is_of_volume}
 use Rattle.host_model.specs.RingStates.{loop_on}
 use Rattle.host_model.specs.Courses.{Due, addressed_first, addresses_due, course_of, keeps_course, is_numbering}
 use Rattle.host_model.specs.Steps.{Exchanged, IsCarried}
@@ -52,6 +52,7 @@ module _ {M : Type 0} (view : M → MediumView) where
 abbrev pub IsOfLoop : Item → Type 0
 IsOfLoop (Asks (OfVolume command)) = ⊥
 IsOfLoop (Asks (Get name)) = ⊥
+IsOfLoop (Asks Pack) = ⊥
 IsOfLoop (Asks Paper) = ⊥
 IsOfLoop (Asks request) = Unit {0}
 IsOfLoop (NoCommand code) = ⊥
@@ -60,6 +61,7 @@ IsOfLoop (NoCommand code) = ⊥
 carries_none : (item : Item) (answer : Reply) (n : ℕ) (v : Option Volume) (units : List RecordUnit) → IsOfLoop item → IsCarried item answer n v units
 carries_none (Asks (OfVolume command)) answer n v units of_loop = absurd of_loop
 carries_none (Asks (Get name)) answer n v units of_loop = absurd of_loop
+carries_none (Asks Pack) answer n v units of_loop = absurd of_loop
 carries_none (Asks Devices) answer n v units of_loop = tt
 carries_none (Asks Status) answer n v units of_loop = tt
 carries_none (Asks Poll) answer n v units of_loop = tt
@@ -71,6 +73,7 @@ carries_none (NoCommand code) answer n v units of_loop = absurd of_loop
 pub not_of_volume : (item : Item) → IsOfLoop item → is_of_volume item ≡ true → ⊥
 not_of_volume (Asks (OfVolume command)) of_loop is = absurd of_loop
 not_of_volume (Asks (Get name)) of_loop is = absurd of_loop
+not_of_volume (Asks Pack) of_loop is = absurd of_loop
 not_of_volume (Asks Devices) of_loop is = cc
 not_of_volume (Asks Status) of_loop is = cc
 not_of_volume (Asks Poll) of_loop is = cc

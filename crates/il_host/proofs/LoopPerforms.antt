@@ -26,7 +26,7 @@ use Rattle.il_record.proofs.StoreResumes.{Agrees}
 use Rattle.il_script.specs.declared.reply.Reply.{Reply}
 use Rattle.il_script.specs.declared.reply.Reply.TheVariants as reply
 use Rattle.il_script.specs.declared.reply.Code.TheVariants as code
-use Rattle.host_model.specs.Requests.{Asks, Devices, Get, Item, NoCommand, OfVolume, Paper, Poll, Say, Status, is_of_volume}
+use Rattle.host_model.specs.Requests.{Asks, Devices, Get, Pack, Item, NoCommand, OfVolume, Paper, Poll, Say, Status, is_of_volume}
 use Rattle.host_model.specs.LoopStates.{LoopState, all_ids, poll_frame, printer_at, status_byte}
 use Rattle.host_model.specs.HostStates.{HostState, log_room}
 use Rattle.host_model.specs.RingStates.{loop_on, state_on}
@@ -89,6 +89,7 @@ and_false false = refl
 not_volume : (item : Item) → IsOfLoop item → is_of_volume item ≡ false
 not_volume (Asks (OfVolume command)) of_loop = absurd of_loop
 not_volume (Asks (Get name)) of_loop = absurd of_loop
+not_volume (Asks Pack) of_loop = absurd of_loop
 not_volume (Asks Devices) of_loop = refl
 not_volume (Asks Status) of_loop = refl
 not_volume (Asks Poll) of_loop = refl

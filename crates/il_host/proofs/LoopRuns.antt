@@ -19,7 +19,7 @@ use Rattle.il_record.proofs.StoreResumes.{still_of}
 use Rattle.il_script.specs.declared.reply.Reply.{Reply}
 use Rattle.il_script.specs.declared.reply.Reply.TheVariants as reply
 use Rattle.il_script.specs.declared.reply.Code.TheVariants as code
-use Rattle.host_model.specs.Requests.{Asks, Devices, Get, Item, NoCommand, OfVolume, Paper, Poll, Say, Status}
+use Rattle.host_model.specs.Requests.{Asks, Devices, Get, Pack, Item, NoCommand, OfVolume, Paper, Poll, Say, Status}
 use Rattle.host_model.specs.LoopStates.{LoopState, all_roles, device_count, printer_at}
 use Rattle.host_model.specs.Replies.{if_printer}
 use Rattle.host_model.specs.RingStates.{loop_on}
@@ -56,6 +56,7 @@ pub record Ran {M : Type 0} (view : M → MediumView) (item : Item) (answered : 
 course_there : (item : Item) (z : LoopState) → IsOfLoop item → (course : List Due) × (course_of item z ≡ Some course)
 course_there (Asks (OfVolume command)) z of_loop = absurd of_loop
 course_there (Asks (Get name)) z of_loop = absurd of_loop
+course_there (Asks Pack) z of_loop = absurd of_loop
 course_there (Asks Paper) z of_loop = absurd of_loop
 course_there (NoCommand code) z of_loop = absurd of_loop
 course_there (Asks Devices) z of_loop = (_, refl)

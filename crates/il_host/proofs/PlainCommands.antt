@@ -13,7 +13,7 @@ use Rattle.il_script.specs.Digits.{file_type, hex_bytes, is_number, number_up_to
 use Rattle.il_script.specs.Commands.{Asked, asked_of, command_of, command_read, format_of, in_form, is_comment, put_of, lone_of, name_of_part, naming, new_name_of_bytes, not_skipped, reading_of, reading_of_words, rename_of, say_of, spelt_as, store_of, with_name, without_bytes, word_command}
 use Rattle.il_script.specs.declared.limits.TheConstants.{MOST_SLOTS}
 use Rattle.il_script.specs.declared.command.Command.{Command}
-use Rattle.il_script.specs.declared.command.Command.TheVariants.{Dir, Label, Fetch, Store, Put, Get, Rename, Purge, Format, Adopt, Upgrade, Begin, Commit, Devices, Status, Poll, Paper}
+use Rattle.il_script.specs.declared.command.Command.TheVariants.{Dir, Label, Fetch, Store, Put, Get, Rename, Purge, Format, Adopt, Upgrade, Pack, Begin, Commit, Devices, Status, Poll, Paper}
 use Rattle.il_script.specs.declared.command.LineFault.{LineFault}
 use Rattle.il_host.specs.PlainCommands.{IsFormed, IsFormedRead}
 
@@ -102,7 +102,7 @@ plain_rename parts =
 
 plain_word : (word : List ℕ) (command : Command) → word_command word ≡ Some command → IsFormed command
 plain_word word command is =
-    by_words (bytes_eq word (codes "dir")) (bytes_eq word (codes "label")) (bytes_eq word (codes "adopt")) (bytes_eq word (codes "upgrade")) (bytes_eq word (codes "begin")) (bytes_eq word (codes "commit")) (bytes_eq word (codes "devices")) (bytes_eq word (codes "status")) (bytes_eq word (codes "poll")) (bytes_eq word (codes "paper")) is
+    by_words (bytes_eq word (codes "dir")) (bytes_eq word (codes "label")) (bytes_eq word (codes "adopt")) (bytes_eq word (codes "upgrade")) (bytes_eq word (codes "pack")) (bytes_eq word (codes "begin")) (bytes_eq word (codes "commit")) (bytes_eq word (codes "devices")) (bytes_eq word (codes "status")) (bytes_eq word (codes "poll")) (bytes_eq word (codes "paper")) is
   where
     plain_if : (b : Bool) (c : Command) (o : Option Command) → IsFormed c → (o ≡ Some command → IsFormed command) → (if b then Some c else o) ≡ Some command → IsFormed command
     plain_if true c o plain more is = let same : c ≡ command = cc in subst IsFormed same plain
@@ -111,9 +111,9 @@ plain_word word command is =
     none : None ≡ Some command → IsFormed command
     none is = cc
 
-    by_words : (a b d k m n e f g h : Bool) → (if a then Some Dir else if b then Some Label else if d then Some Adopt else if k then Some Upgrade else if m then Some Begin else if n then Some Commit else if e then Some Devices else if f then Some Status else if g then Some Poll else if h then Some Paper else None) ≡ Some command → IsFormed command
-    by_words a b d k m n e f g h =
-        plain_if a Dir _ tt (plain_if b Label _ tt (plain_if d Adopt _ tt (plain_if k Upgrade _ tt (plain_if m Begin _ tt (plain_if n Commit _ tt (plain_if e Devices _ tt (plain_if f Status _ tt (plain_if g Poll _ tt (plain_if h Paper _ tt none)))))))))
+    by_words : (a b d k p m n e f g h : Bool) → (if a then Some Dir else if b then Some Label else if d then Some Adopt else if k then Some Upgrade else if p then Some Pack else if m then Some Begin else if n then Some Commit else if e then Some Devices else if f then Some Status else if g then Some Poll else if h then Some Paper else None) ≡ Some command → IsFormed command
+    by_words a b d k p m n e f g h =
+        plain_if a Dir _ tt (plain_if b Label _ tt (plain_if d Adopt _ tt (plain_if k Upgrade _ tt (plain_if p Pack _ tt (plain_if m Begin _ tt (plain_if n Commit _ tt (plain_if e Devices _ tt (plain_if f Status _ tt (plain_if g Poll _ tt (plain_if h Paper _ tt none))))))))))
 
 plain_lone : (word : List ℕ) (parts : List (List ℕ)) → Plain (lone_of word parts)
 plain_lone word parts = formed Plain (word_command word) _ (λ fault. tt) (λ command is. either Plain (is_none parts) (Ok command) _ (plain_word word command is) tt)

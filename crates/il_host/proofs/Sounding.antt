@@ -1,12 +1,12 @@
 -- What is said of an event holds whether the store counts as sound before and behind it, or not, and whether the directory is kept, but
 -- for where it is said of that.
-use Rattle.std.proofs.Common.{◌≡◌, ◌∙◌, ⊎_elim, inl, inr, ℕ, Bool, true, false, not, List, refl, sym, subst}
+use Rattle.std.proofs.Common.{◌≡◌, ◌∙◌, ℕ, Bool, true, false, not, List, refl, sym, subst}
 use Rattle.lif_model.specs.Stops.{LeavesOnly}
 use Rattle.lif_model.specs.Tape.{Tape}
 use Rattle.il_script.specs.declared.reply.Reply.{Reply}
 use Rattle.il_script.specs.declared.reply.Reply.TheVariants as reply
 use Rattle.il_ring.specs.declared.plan.Planned.{Planned}
-use Rattle.host_model.specs.Requests.{Asks, Devices, Get, Item, NoCommand, OfVolume, Paper, Poll, Say, Status, is_of_volume, uses_frames}
+use Rattle.host_model.specs.Requests.{Asks, Devices, Get, Pack, Item, NoCommand, OfVolume, Paper, Poll, Say, Status, is_of_volume, uses_frames}
 use Rattle.host_model.specs.LoopStates.{all_roles, device_count}
 use Rattle.host_model.specs.HostStates.{HostState}
 use Rattle.host_model.specs.Courses.{begins_with, cleared_first}
@@ -36,6 +36,7 @@ keeping e was is = standing e e.before.sound was e.after.sound is
 pub same_reply : (item : Item) (sound kept : Bool) (s : HostState) → reply_of item (state_standing sound kept s) ≡ reply_of item s
 same_reply (Asks (OfVolume command)) sound kept s = refl
 same_reply (Asks (Get name)) sound kept s = refl
+same_reply (Asks Pack) sound kept s = refl
 same_reply (Asks Devices) sound kept s = refl
 same_reply (Asks Status) sound kept s = refl
 same_reply (Asks Poll) sound kept s = refl
@@ -46,6 +47,7 @@ same_reply (NoCommand code) sound kept s = refl
 same_behind : (item : Item) (sound kept : Bool) (s : HostState) → volume_behind item (state_standing sound kept s) ≡ volume_behind item s
 same_behind (Asks (OfVolume command)) sound kept s = refl
 same_behind (Asks (Get name)) sound kept s = refl
+same_behind (Asks Pack) sound kept s = refl
 same_behind (Asks Devices) sound kept s = refl
 same_behind (Asks Status) sound kept s = refl
 same_behind (Asks Poll) sound kept s = refl
@@ -54,7 +56,15 @@ same_behind (Asks Paper) sound kept s = refl
 same_behind (NoCommand code) sound kept s = refl
 
 either_standing : (item : Item) (was was_kept is is_kept : Bool) (s t : HostState) → EitherVolume item s t → EitherVolume item (state_standing was was_kept s) (state_standing is is_kept t)
-either_standing item was was_kept is is_kept s t either = ⊎_elim (λ same. inl same) (λ turned. inr (turned ∙ sym (same_behind item was was_kept s))) either
+either_standing (Asks (OfVolume command)) was was_kept is is_kept s t either = either
+either_standing (Asks (Get name)) was was_kept is is_kept s t either = either
+either_standing (Asks Pack) was was_kept is is_kept s t either = either
+either_standing (Asks Devices) was was_kept is is_kept s t either = either
+either_standing (Asks Status) was was_kept is is_kept s t either = either
+either_standing (Asks Poll) was was_kept is is_kept s t either = either
+either_standing (Asks (Say bytes)) was was_kept is is_kept s t either = either
+either_standing (Asks Paper) was was_kept is is_kept s t either = either
+either_standing (NoCommand code) was was_kept is is_kept s t either = either
 
 counts_standing : (item : Item) (r : Reply) (was was_kept is is_kept : Bool) (s t : HostState) → CountsWhole item r s t → CountsWhole item r (state_standing was was_kept s) (state_standing is is_kept t)
 counts_standing item reply.FaultFrame was was_kept is is_kept s t counts = λ own. either_standing item was was_kept is is_kept s t (counts own)
@@ -132,6 +142,7 @@ acts_keeping plan e was is stays so = record {
 left_keeping : (item : Item) (s : HostState) (kept : Bool) (x : Tape) → MayBeLeft item (record s { kept = kept }) x ≡ MayBeLeft item s x
 left_keeping (Asks (OfVolume command)) s kept x = refl
 left_keeping (Asks (Get name)) s kept x = refl
+left_keeping (Asks Pack) s kept x = refl
 left_keeping (Asks Devices) s kept x = refl
 left_keeping (Asks Status) s kept x = refl
 left_keeping (Asks Poll) s kept x = refl

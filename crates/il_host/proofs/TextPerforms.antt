@@ -3,7 +3,7 @@ use Rattle.std.proofs.Common.{◌≡◌, ◌∙◌, ◌++◌, ℕ, true, List, t
 use Rattle.std.specs.Prelude.{Ok, is_some, option_and_then, replicate}
 use Rattle.il_frames.specs.declared.entry.Entry.{Entry}
 use Rattle.il_ports.specs.Media.{IsMedium, MediumView}
-use Rattle.il_ports.specs.Stores.{Begun, Continues, IsStore, RecordsView}
+use Rattle.il_ports.specs.Stores.{Begun, IsStore, RecordsView}
 use Rattle.il_ring.specs.declared.ring.Ring.{Ring}
 use Rattle.il_ring.specs.Rings.{RingView}
 use Rattle.il_record.specs.declared.records.LoopRecords.{LoopRecords}
@@ -19,7 +19,9 @@ use Rattle.il_script.specs.Replies.{reply_line}
 use Rattle.lif_model.specs.Apply.{Fetch, Store}
 use Rattle.lif_model.specs.Tape.{Tape}
 use Rattle.lif_model.specs.Volume.{volume_of}
-use Rattle.lif_volume.specs.Commands.{AnswersTo, FetchedFile, FetchesByRun, FetchesFile, IsTold, MountsAndReads, WritesBySettling}
+use Rattle.lif_pack.specs.Packing.{finished_volume_of}
+use Rattle.lif_volume.specs.Commands.{FetchedFile, FetchesByRun, FetchesFile, IsTold}
+use Rattle.lif_volume.specs.Did.{Reads}
 use Rattle.lif_volume.specs.Views.{IsOpen, VolumeView}
 use Rattle.lif_volume.specs.declared.volume.Fetched.{Fetched}
 use Rattle.lif_volume.specs.declared.volume.Volume.{Volume}
@@ -31,16 +33,17 @@ use Rattle.host_model.specs.Replies.{if_text, lines_of_file, lines_of_found, lin
 use Rattle.host_model.specs.Steps.{Event, Acts, event}
 use Rattle.host_model.proofs.NoCommands.{no_command}
 use Rattle.il_host.specs.HostView.{HostView, Performed}
-use Rattle.il_host.specs.Hosts.{IsUsable, host_in, loop_in, store_in, volume_in}
+use Rattle.il_host.specs.Hosts.{Space, IsUsable, host_in, loop_in, store_in, volume_in}
 use Rattle.il_host.specs.IsHosts.{is_host_at}
 use Rattle.il_host.specs.Texts.{data_text}
-use Rattle.il_host.specs.Standings.{Ends, HasDriveStatus, IsHostRing, MakesSound, plan_at, log_at, state_at}
+use Rattle.il_host.specs.Standings.{Ends, HasDriveStatus, IsHostRing, plan_at, log_at, state_at}
 use Rattle.il_host.proofs.Getting.{got_lines}
 use Rattle.il_host.proofs.HostReads.{fetched}
 use Rattle.il_host.proofs.HostVolumes.{performed, told_asked}
 use Rattle.il_host.proofs.LoopPerforms.{quiet_stops}
 use Rattle.il_host.proofs.VolumePerforms.{Performs}
-use Rattle.il_host.proofs.VolumeReplied.{seen_as, TurnsSo}
+use Rattle.il_host.proofs.Prepared.{IsPrepared, behind_prepared}
+use Rattle.il_host.proofs.VolumeReplied.{seen_as}
 use Rattle.il_host.proofs.VolumeStarts.{Emptied, volume_begun}
 
 -- ---- nothing is done
@@ -62,16 +65,16 @@ no_command_performs view seen o a old begun valid here there empties store room 
     event_to : List Entry → HostState → Event
     event_to log s = event (NoCommand code) (reply.No code) log (state_at view old.sound old.control) s
 
-module _ {M I : Type 0} {D : I → Type 0} (view : M → MediumView) (seen : Ring M I D → RingView M) (o b : Volume (LoopRecords M I D)) (text_space file_space : ℕ)
-    (usable : IsUsable view (store_in view seen) (volume_in o) (loop_in seen o.records) text_space file_space) (began : Begun (store_in view seen o.records) (store_in view seen b.records)) where
+module _ {M I : Type 0} {D : I → Type 0} (view : M → MediumView) (seen : Ring M I D → RingView M) (o b : Volume (LoopRecords M I D)) (text_space : ℕ) (space : Space)
+    (usable : IsUsable view (store_in view seen) (volume_in o) (loop_in seen o.records) text_space space) (began : Begun (store_in view seen o.records) (store_in view seen b.records)) where
   pub nothing_done : (before : List ℕ) (code : Code) → ((m : M) → IsMedium (view m)) → IsOpen (store_in view seen) (volume_in b) → b.kept ≡ o.kept
-      → Performed (NoCommand code) (reply.No code) (host_in view seen o before text_space file_space) (host_in view seen b (reply_line (reply.No code)) text_space file_space)
+      → Performed (NoCommand code) (reply.No code) (host_in view seen o before text_space space) (host_in view seen b (reply_line (reply.No code)) text_space space)
   nothing_done before code law opens kept =
-      performed view seen o b b text_space file_space usable began opens (NoCommand code) (reply.No code) before (reply_line (reply.No code)) began.size
+      performed view seen o b b text_space space usable began opens (NoCommand code) (reply.No code) before (reply_line (reply.No code)) began.size
       (no_command_performs view seen (ring_in o.records.control) (ring_in b.records.control) (loop_in seen o.records) (loop_in seen b.records)
       usable.volume_open.valid (agrees seen o.records.control) (agrees seen b.records.control) began
       (is_store_at view seen (ring_in o.records.control) o.records.sound o.records.since o.records.resumes (loop_in seen o.records).control law) usable.log code
-      (is_host_at view seen o before text_space file_space law usable).one)
+      (is_host_at view seen o before text_space space law usable).one)
       (record { kept = ap is_some kept; log = λ on. tt }) (λ told. refl) (λ is. cc)
 
 -- ---- a text that is stored
@@ -83,7 +86,7 @@ module _ {name text made : List ℕ} {answered : Reply} {v w : HostView} where
 
 -- ---- the last line
 
-module _ {V : Type 0} {a b given : Reply} {n m : V} {page last : Sheet} {f g : ℕ} where
+module _ {V : Type 0} {a b given : Reply} {n m : V} {page last : Sheet} {f g : Space} where
   -- the reply is this one
   pub ends_as : a ≡ b → Ends a n page f given m last g → Ends b n page f given m last g
   ends_as same ends = subst (λ (r : Reply). Ends r n page f given m last g) same ends
@@ -101,20 +104,20 @@ lines_told view old t told name file into fetches = by (fetches t told)
         ∙ (λ i. lines_of_found (found.named i) (found.bytes i))
         ∙ ap (λ (kind : ℕ). lines_of_type kind (take file.length into)) (sym found.kind)
 
-module _ {M I : Type 0} {D : I → Type 0} (view : M → MediumView) (seen : Ring M I D → RingView M) (o b n : Volume (LoopRecords M I D)) (text_space file_space : ℕ)
-    (usable : IsUsable view (store_in view seen) (volume_in o) (loop_in seen o.records) text_space file_space) (began : Begun (store_in view seen o.records) (store_in view seen b.records))
-    (opens : IsOpen (store_in view seen) (volume_in n)) (low : HasDriveStatus (loop_in seen n.records).control)
-    (m : Volume (LoopRecords M I D)) (u : Unit {0}) (makes : MakesSound view (loop_in seen b.records) (loop_in seen m.records) (Ok u)) (sounds : Continues {T = Unit {0}} 1 (store_in view seen b.records) (store_in view seen m.records) (Ok u)) (same : is_some m.kept ≡ is_some o.kept) where
+module _ {M I : Type 0} {D : I → Type 0} (view : M → MediumView) (seen : Ring M I D → RingView M) (o b f n : Volume (LoopRecords M I D)) (text_space : ℕ) (space : Space)
+    (usable : IsUsable view (store_in view seen) (volume_in o) (loop_in seen o.records) text_space space) (began : Begun (store_in view seen o.records) (store_in view seen b.records))
+    (law : (x : M) → IsMedium (view x)) (p : IsPrepared view seen o b f) (opened : IsOpen (store_in view seen) (volume_in f))
+    (opens : IsOpen (store_in view seen) (volume_in n)) (low : HasDriveStatus (loop_in seen n.records).control) where
   -- the lines that are told are those of the file
-  pub lines_got : (name : List ℕ) (file : Fetched) (into shown before : List ℕ) → ((x : M) → IsMedium (view x)) → IsOpen (store_in view seen) (volume_in m) → shown ≡ take file.length into
-      → MountsAndReads name (store_in view seen) (volume_in m) (volume_in n) (Ok file) → AnswersTo (Fetch name) (store_in view seen) (volume_in m) (volume_in n) (Ok file)
-      → FetchesFile name (store_in view seen) (volume_in m) file into → FetchesByRun name (store_in view seen) (volume_in m) (volume_in n) file into
-      → TurnsSo (Fetch name) (store_in view seen) (volume_in m) (volume_in n) → WritesBySettling (store_in view seen) (volume_in m) (volume_in n) (Ok file)
-      → Performed (Asks (Get name)) (if_text (lines_of_type file.kind shown)) (host_in view seen o before text_space file_space)
-      (host_in view seen n (lines_text (lines_of_type file.kind shown) ++ reply_line (if_text (lines_of_type file.kind shown))) text_space file_space)
-  lines_got name file into shown before law was is reads answers fetches run stays settles =
-      got_lines name (host_in view seen o before text_space file_space) (host_in view seen n (data_text file.kind file.implementation shown ++ reply_line reply.Ok) text_space file_space) (lines_of_type file.kind shown)
+  pub lines_got : (name : List ℕ) (file : Fetched) (into shown before : List ℕ) → shown ≡ take file.length into
+      → Reads (Fetch name) (store_in view seen) (volume_in f) (volume_in n) (Ok file) → FetchesFile name (store_in view seen) (volume_in f) file into → FetchesByRun name (store_in view seen) (volume_in f) (volume_in n) file into
+      → Performed (Asks (Get name)) (if_text (lines_of_type file.kind shown)) (host_in view seen o before text_space space)
+      (host_in view seen n (lines_text (lines_of_type file.kind shown) ++ reply_line (if_text (lines_of_type file.kind shown))) text_space space)
+  lines_got name file into shown before is did fetches run =
+      got_lines name (host_in view seen o before text_space space) (host_in view seen n (data_text file.kind file.implementation shown ++ reply_line reply.Ok) text_space space) (lines_of_type file.kind shown)
       (λ tells.
-      let t = told_asked view seen o b n text_space file_space usable began (Fetch name) opens low m u makes sounds same before tells in
-      ap (lines_of_type file.kind) is ∙ sym (lines_told (store_in view seen) (volume_in m) t.0 t.2 name file into fetches) ∙ ap (λ (tape : Option Tape). lines_of_file name (option_and_then volume_of tape)) (sym t.1))
-      (fetched view seen o b n text_space file_space usable began opens low m u makes sounds same name file into shown before law was is reads answers fetches run stays settles)
+      let t = told_asked view seen o b n text_space space usable began (Fetch name) opens low p.m tt p.makes p.sounds p.same before tells in
+      let so = behind_prepared view seen o b f text_space space usable began law p n (Fetch name) t.0 t.2 in
+      ap (lines_of_type file.kind) is ∙ sym (lines_told (store_in view seen) (volume_in f) so.tape so.told name file into fetches)
+      ∙ ap (lines_of_file name) so.finished.volume ∙ ap (λ (tape : Option Tape). lines_of_file name (option_and_then finished_volume_of tape)) (sym t.1))
+      (fetched view seen o b f n text_space space usable began law p opened opens low name file into shown before is did fetches run)

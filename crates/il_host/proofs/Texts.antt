@@ -10,6 +10,7 @@ use Rattle.lif_model.specs.Directory.{slots_of, length_of}
 use Rattle.lif_model.specs.Redo.{settled}
 use Rattle.lif_model.specs.Legal.{is_legal, is_live, is_live_named, has_file, slot_named, IsLegal}
 use Rattle.lif_model.specs.Volume.{Volume, files_of, volume_of}
+use Rattle.lif_pack.specs.Packing.{finished_volume_of}
 use Rattle.lif_model.specs.Apply.{VolumeCommand, Dir, Label, Fetch}
 use Rattle.lif_model.proofs.Legal.{legal_tells}
 use Rattle.lif_model.proofs.Slots.{readable_tells, live_named_tells}
@@ -33,9 +34,9 @@ use Rattle.il_host.specs.Texts.{parts_of, listing_text, label_text, data_text}
 -- ---- the text of a reply
 
 -- by the tape that is told
-pub ok_text : (command : VolumeCommand) (s : HostState) (t : Tape) (lines : List ℕ) → s.tape ≡ Some t → told_of command (volume_of t) ≡ lines
+pub ok_text : (command : VolumeCommand) (s : HostState) (t : Tape) (lines : List ℕ) → s.tape ≡ Some t → told_of command (finished_volume_of t) ≡ lines
     → reply_text (Asks (OfVolume command)) s reply.Ok ≡ lines ++ reply_line reply.Ok
-ok_text command s t lines told is = ap (λ (tape : Option Tape). told_of command (option_and_then volume_of tape) ++ reply_line reply.Ok) told ∙ ap (λ l. l ++ reply_line reply.Ok) is
+ok_text command s t lines told is = ap (λ (tape : Option Tape). told_of command (option_and_then finished_volume_of tape) ++ reply_line reply.Ok) told ∙ ap (λ l. l ++ reply_line reply.Ok) is
 
 -- ---- dir
 

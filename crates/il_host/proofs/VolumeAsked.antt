@@ -1,23 +1,24 @@
 -- What stands where the volume is asked: the state before the command is that of its store, and nothing was read or written since.
-use Rattle.std.proofs.Common.{ℕ, Bool, true, false, List, [], Option, refl, sym, subst}
+use Rattle.std.proofs.Common.{ℕ, Bool, true, false, List, [], map, Option, inl, inr, refl, sym, subst}
 use Rattle.std.specs.Prelude.{Ok}
 use Rattle.lif_model.specs.Transfers.{Transfer}
 use Rattle.il_ports.specs.Media.{MediumView}
-use Rattle.il_ports.specs.Stores.{Begun}
+use Rattle.il_ports.specs.Stores.{Begun, GoesOn}
 use Rattle.il_ring.specs.Rings.{RingView}
 use Rattle.il_control.specs.Calls.{loop_of}
 use Rattle.il_record.specs.declared.records.Since.{Since}
 use Rattle.il_record.specs.declared.records.Since.TheVariants as since
-use Rattle.loop_model.specs.Effect.{Transferred}
+use Rattle.loop_model.specs.Effect.{Transferred, transfer_of}
+use Rattle.loop_model.specs.Units.{units_of}
 use Rattle.il_record.specs.LoopStores.{LoopView, Standing, is_idle, view_at, view_of}
 use Rattle.il_record.proofs.StoreCalls.{transferred_then}
 use Rattle.il_record.proofs.StoreResumes.{Agrees}
 use Rattle.host_model.specs.HostStates.{HostState}
 use Rattle.il_host.specs.Standings.{MakesSound, state_at}
-use Rattle.il_host.proofs.VolumeExchanges.{StartsBy}
+use Rattle.il_host.proofs.VolumeExchanges.{EndsBy, StartsBy}
 use Rattle.il_host.proofs.VolumeReplied.{IsSeenAs, made_quiet, seen_as, seen_still}
 use Rattle.il_host.proofs.VolumeStarts.{Emptied, made_sound, volume_begun}
-use Rattle.il_host.proofs.VolumeSteps.{at_ring, here_at}
+use Rattle.il_host.proofs.VolumeSteps.{at_ring, behind, here_at}
 
 -- the list of a store is that of its ring
 ring_transferred : {M S : Type 0} (view : M → MediumView) (seen : S → RingView M) (p : Option S) (sound : Bool) (log : Since) (resumes : ℕ) (is : Bool) (r : RingView M) (list : List Transfer)
@@ -50,3 +51,20 @@ module _ {M S : Type 0} (view : M → MediumView) (seen : S → RingView M) (o a
       (subst (λ (c : Standing M). (view_at view seen a begun.sound begun.since begun.resumes c).transferred []) at.at empties.transferred) in
       subst (λ (c : Standing M). (view_at view seen p mid.sound mid.since mid.resumes c).transferred []) (sym made.at)
       (start_transferred view (is_idle begun.control) begun.sound at.ring made.ring made.started.by first)
+
+  -- behind calls that did not fail some are told
+  pub asked_lists : {U : Type 0} {y : U} (q : Option S) (calls : ℕ) (new : LoopView M) → Agrees seen p mid.control → GoesOn calls (view_of view seen p mid) (view_of view seen q new) (Ok y)
+      → (list : List Transfer) × (view_of view seen q new).transferred list
+  asked_lists {y = y} q calls new agrees goes =
+      let at = here_at begun.control begun.sound since.Unbroken emptied.stands in
+      let made = made_sound view begun mid at.ring emptied.unbroken x begun.control begun.sound refl refl emptied.stands at.stands makes in
+      let so = behind view seen p q calls mid new made.ring (Ok y) made.at made.since made.idle agrees goes in
+      let none = ring_transferred view seen p mid.sound mid.since mid.resumes true made.ring [] (subst (λ (c : Standing M). (view_at view seen p mid.sound mid.since mid.resumes c).transferred []) made.at asked_transferred) in
+      let found = by y made.ring so.ring none so.ends in
+      (found.0, subst (λ (c : Standing M). (view_at view seen q new.sound new.since new.resumes c).transferred found.0) (sym so.at) found.1)
+    where
+      by : {U : Type 0} (y : U) (m s : RingView M) → Transferred (loop_of m) m.books.log [] → EndsBy view (Ok y) m s → (list : List Transfer) × Transferred (loop_of s) s.books.log list
+      by y m s none (inl same) = ([], subst (λ (r : RingView M). Transferred (loop_of r) r.books.log []) (sym same) none)
+      by y m s none (inr good) =
+          let units = units_of (loop_of m) good.came.pieces in
+          (map transfer_of units, transferred_then view true units m s [] (record { came = good.came; are = refl }) good.good none)

@@ -4,7 +4,8 @@ use Rattle.std.specs.Prelude.{Ok, Err}
 use Rattle.lif_model.specs.Apply.{VolumeCommand, apply}
 use Rattle.lif_model.specs.declared.refusal.Refusal.{Refusal}
 use Rattle.lif_model.specs.Tape.{Tape}
-use Rattle.lif_model.specs.Volume.{is_foreign_gated, volume_of}
+use Rattle.lif_model.specs.Volume.{is_foreign_gated}
+use Rattle.lif_pack.specs.Packing.{finished_volume_of}
 use Rattle.il_ports.specs.Media.{MediumView}
 use Rattle.il_ports.specs.Stores.{Begun, GoesOn, IsStore}
 use Rattle.il_ports.specs.declared.records.Trouble.{Trouble}
@@ -14,7 +15,6 @@ use Rattle.il_record.specs.LoopStores.{LoopView, view_of}
 use Rattle.il_record.proofs.StoreResumes.{Agrees}
 use Rattle.il_script.specs.declared.reply.Reply.{Reply}
 use Rattle.il_script.specs.declared.reply.Reply.TheVariants as reply
-use Rattle.lif_volume.specs.Changing.{VolumeTurns}
 use Rattle.lif_volume.specs.Commands.{SettlesOnly}
 use Rattle.host_model.specs.Requests.{Asks, Item, OfVolume}
 use Rattle.host_model.specs.HostStates.{HostState, volume_at}
@@ -24,7 +24,7 @@ use Rattle.host_model.specs.Stops.{StopsLeave}
 use Rattle.il_host.specs.Standings.{HasDriveStatus, IsHostRing, MakesSound, event_at, fault_of, plan_at, log_at, state_at}
 use Rattle.il_host.proofs.VolumeCarries.{CarriesAs, none_carried}
 use Rattle.il_host.proofs.VolumeCommands.{KeepsRing, keeps_emptied, volume_broke, volume_done}
-use Rattle.il_host.proofs.VolumeReplied.{IsSeenAs, StaysQuiet, broke_quiet, broke_replied, broke_stops, fits_fault, fits_refused, made_quiet, quiet_then, seen_as, seen_still, volume_answered, volume_stops, volume_troubled}
+use Rattle.il_host.proofs.VolumeReplied.{IsSeenAs, ShownTurns, StaysQuiet, broke_quiet, broke_replied, broke_stops, fits_fault, fits_refused, made_quiet, quiet_then, seen_as, seen_still, volume_answered, volume_stops, volume_troubled}
 use Rattle.il_host.proofs.VolumeStarts.{Emptied, volume_begun}
 use Rattle.il_host.proofs.VolumeSteps.{volume_step}
 
@@ -35,25 +35,31 @@ pub record Performs {M S : Type 0} (view : M → MediumView) (seen : S → RingV
   pub keeps : KeepsRing view old new
 
 -- The store was o, was emptied as a, and is q in the end.
-module _ {M S : Type 0} (view : M → MediumView) (seen : S → RingView M) (o a q : Option S) (command : VolumeCommand) (old begun new : LoopView M)
-    (valid : (view_of view seen o old).valid) (here : Agrees seen o old.control) (there : Agrees seen a begun.control) (empties : Begun (view_of view seen o old) (view_of view seen a begun))
-    (room : IsHostRing view old.control) (low : HasDriveStatus new.control) (left : 1 ≤ (view_of view seen q new).calls_left) where
-  emptied : Emptied view old begun
-  emptied = volume_begun view seen o a old begun valid here there empties
-
+module _ {M S : Type 0} (view : M → MediumView) (seen : S → RingView M) (o a q : Option S) (item : Item) (old begun new : LoopView M) (emptied : Emptied view old begun) where
   -- the event, from before the emptying on
-  performs : (answered : Reply) → Acts (plan_at begun.control) (event_at view (Asks (OfVolume command)) answered begun new)
-      → StopsLeave (event_at view (Asks (OfVolume command)) answered begun new) (view_of view seen o old).moment (view_of view seen q new).moment (view_of view seen o old).left_since (view_of view seen q new).left_since
-      → KeepsRing view begun new → Performs view seen o q (Asks (OfVolume command)) answered old new
-  performs answered step stops keeps = record {
-    step = subst (λ plan. Acts plan (event_at view (Asks (OfVolume command)) answered old new)) emptied.plan
+  pub performs_of : (answered : Reply) → Acts (plan_at begun.control) (event_at view item answered begun new)
+      → StopsLeave (event_at view item answered begun new) (view_of view seen o old).moment (view_of view seen q new).moment (view_of view seen o old).left_since (view_of view seen q new).left_since
+      → KeepsRing view begun new → Performs view seen o q item answered old new
+  performs_of answered step stops keeps = record {
+    step = subst (λ plan. Acts plan (event_at view item answered old new)) emptied.plan
         (subst (λ (s : HostState). Acts (plan_at begun.control) (event_from s)) emptied.state step);
     stops = subst (λ (s : HostState). StopsLeave (event_from s) (view_of view seen o old).moment (view_of view seen q new).moment (view_of view seen o old).left_since (view_of view seen q new).left_since) emptied.state stops;
     keeps = keeps_emptied view old begun new emptied keeps;
   }
     where
       event_from : HostState → Event
-      event_from s = event (Asks (OfVolume command)) answered (log_at new.control) s (state_at view new.sound new.control)
+      event_from s = event item answered (log_at new.control) s (state_at view new.sound new.control)
+
+module _ {M S : Type 0} (view : M → MediumView) (seen : S → RingView M) (o a q : Option S) (command : VolumeCommand) (old begun new : LoopView M)
+    (valid : (view_of view seen o old).valid) (here : Agrees seen o old.control) (there : Agrees seen a begun.control) (empties : Begun (view_of view seen o old) (view_of view seen a begun))
+    (room : IsHostRing view old.control) (low : HasDriveStatus new.control) (left : 1 ≤ (view_of view seen q new).calls_left) where
+  emptied : Emptied view old begun
+  emptied = volume_begun view seen o a old begun valid here there empties
+
+  performs : (answered : Reply) → Acts (plan_at begun.control) (event_at view (Asks (OfVolume command)) answered begun new)
+      → StopsLeave (event_at view (Asks (OfVolume command)) answered begun new) (view_of view seen o old).moment (view_of view seen q new).moment (view_of view seen o old).left_since (view_of view seen q new).left_since
+      → KeepsRing view begun new → Performs view seen o q (Asks (OfVolume command)) answered old new
+  performs = performs_of view seen o a q (Asks (OfVolume command)) old begun new emptied
 
   -- The store could not be made sound, and the volume was not asked.
   pub volume_not_asked : (T : Type 0) (e : Trouble) → IsStore (view_of view seen o old) → MakesSound {T = T} view begun new (Err e) → (e ≡ trouble.Frame) × Performs view seen o q (Asks (OfVolume command)) reply.FaultFrame old new
@@ -64,13 +70,13 @@ module _ {M S : Type 0} (view : M → MediumView) (seen : S → RingView M) (o a
       let after = seen_as view seen q new in
       let replied = broke_replied command (view_of view seen a begun) (view_of view seen q new) (state_at view begun.sound begun.control) (state_at view new.sound new.control) (log_at new.control) before after still in
       let first = subst (λ (s : HostState). IsSeenAs s (view_of view seen o old)) (sym emptied.state) (seen_as view seen o old) in
-      let stops = broke_stops command reply.FaultFrame (view_of view seen o old) (view_of view seen q new) (state_at view begun.sound begun.control) (state_at view new.sound new.control) (log_at new.control) first store
+      let stops = broke_stops (Asks (OfVolume command)) reply.FaultFrame (view_of view seen o old) (view_of view seen q new) (state_at view begun.sound begun.control) (state_at view new.sound new.control) (log_at new.control) first store
       (quiet_then (view_of view seen o old) (view_of view seen a begun) (view_of view seen q new) empties.quiet still.quiet) in
       (loop.0, performs reply.FaultFrame (volume_step (plan_at begun.control) (event_at view (Asks (OfVolume command)) reply.FaultFrame begun new) command refl replied loop.1) stops loop.2)
 
   -- The store was made sound as p, and the volume was asked.
   module _ {T : Type 0} (x : T) (p : Option S) (calls : ℕ) (mid : LoopView M) (makes : MakesSound view begun mid (Ok x)) (agrees : Agrees seen p mid.control)
-      (turns : (t : Tape) → (view_of view seen p mid).tape ≡ Some t → is_foreign_gated t ≡ false → VolumeTurns (view_of view seen p mid).record_count command (view_of view seen p mid) (view_of view seen q new) t)
+      (turns : (t : Tape) → (view_of view seen p mid).tape ≡ Some t → is_foreign_gated t ≡ false → ShownTurns (view_of view seen p mid).record_count command (view_of view seen p mid) (view_of view seen q new) t)
       (foreign : (t : Tape) → (view_of view seen p mid).tape ≡ Some t → is_foreign_gated t ≡ true → SettlesOnly (view_of view seen p mid) (view_of view seen q new) t) where
     quiet_mid : StaysQuiet (view_of view seen a begun) (view_of view seen p mid)
     quiet_mid = made_quiet view seen a p begun mid emptied.unbroken emptied.stands x makes
@@ -85,7 +91,7 @@ module _ {M S : Type 0} (view : M → MediumView) (seen : S → RingView M) (o a
 
     -- The store did not fail: ok, or a refusal.
     pub volume_asked : (refusal : Option Refusal) → GoesOn {T = Unit {0}} calls (view_of view seen p mid) (view_of view seen q new) (Ok tt)
-        → ((t u : Tape) → (view_of view seen p mid).tape ≡ Some t → (view_of view seen q new).tape ≡ Some u → apply (view_of view seen p mid).record_count command (volume_of t) ≡ (refusal, volume_of u))
+        → ((t u : Tape) → (view_of view seen p mid).tape ≡ Some t → (view_of view seen q new).tape ≡ Some u → apply (view_of view seen p mid).record_count command (finished_volume_of t) ≡ (refusal, finished_volume_of u))
         → CarriesAs command (refused_as refusal) (state_at view old.sound old.control).records (volume_at (state_at view old.sound old.control)) (view_of view seen q new).transferred
         → Performs view seen o q (Asks (OfVolume command)) (refused_as refusal) old new
     volume_asked refusal goes answers carries =

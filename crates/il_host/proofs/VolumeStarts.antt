@@ -59,10 +59,13 @@ emptied_ring seen None q r s emptied here there = absurd here
 emptied_ring seen (Some a) None r s emptied here there = absurd there
 emptied_ring seen (Some a) (Some b) r s emptied here there = sym there ∙ emptied ∙ ap ring_emptied here
 
--- a log that is emptied while no frame is held begins there
-begins_here : {M : Type 0} (r s : RingView M) → s ≡ ring_emptied r → r.books.held ≡ None → s.books.begun ≡ s.books.crossings
-begins_here r s ring none =
-    ap (λ (s : RingView _). s.books.begun) ring ∙ ap (λ held. begun_anew held r.books.crossings r.books.begun) none
+-- a log that is emptied while no frame stands on the ring begins there
+begins_here : {M : Type 0} (r s : RingView M) → s ≡ ring_emptied r → IsFree r → s.books.begun ≡ s.books.crossings
+begins_here r s ring free =
+    ap (λ (s : RingView _). s.books.begun) ring
+    ∙ ap (λ held. begun_anew held (begun_anew r.books.lent (begun_anew r.books.kept r.books.crossings r.books.begun) r.books.begun) r.books.begun) free.held
+    ∙ ap (λ lent. begun_anew lent (begun_anew r.books.kept r.books.crossings r.books.begun) r.books.begun) free.ring.lent
+    ∙ ap (λ kept. begun_anew kept r.books.crossings r.books.begun) free.ring.kept
     ∙ sym (ap (λ (s : RingView _). s.books.crossings) ring)
 
 pub volume_begun : {M S : Type 0} (view : M → MediumView) (seen : S → RingView M) (p q : Option S) (old begun : LoopView M) → (view_of view seen p old).valid → Agrees seen p old.control → Agrees seen q begun.control
@@ -89,11 +92,11 @@ volume_begun {M} {S} view seen p q old begun valid here there so = by_rings old.
         → Begun (view_at view seen p old.sound old.since old.resumes c) (view_at view seen q begun.sound begun.since begun.resumes d) → Emptied view old begun
     by_rings (AtIdle r) (AtIdle s) one two valid here there so =
         let ring = emptied_ring seen p q r s so.emptied here there in
-        as_emptied (AtIdle r) (AtIdle s) one two so.sound (unfailed_idle begun.since so.failed) (ap (λ (s : RingView M). state_on view true old.sound s) ring) (ap (λ (s : RingView M). s.books.log) ring) (begins_here r s ring valid.0.free.held) (ap (λ (s : RingView M). plan_at (AtIdle s)) ring) (λ room. subst (λ (s : RingView M). IsHostRing view (AtIdle s)) (sym ring) room)
+        as_emptied (AtIdle r) (AtIdle s) one two so.sound (unfailed_idle begun.since so.failed) (ap (λ (s : RingView M). state_on view true old.sound s) ring) (ap (λ (s : RingView M). s.books.log) ring) (begins_here r s ring valid.0.free) (ap (λ (s : RingView M). plan_at (AtIdle s)) ring) (λ room. subst (λ (s : RingView M). IsHostRing view (AtIdle s)) (sym ring) room)
         (same_images view r.drive.medium s.drive.medium (ap (λ (s : RingView M). s.drive.medium) ring)) refl
     by_rings (AtLost r) (AtLost s) one two valid here there so =
         let ring = emptied_ring seen p q r s so.emptied here there in
-        as_emptied (AtLost r) (AtLost s) one two so.sound (unfailed_lost begun.since so.failed) (ap (λ (s : RingView M). state_on view false old.sound s) ring) (ap (λ (s : RingView M). s.books.log) ring) (begins_here r s ring valid.0.free.held) (ap (λ (s : RingView M). plan_at (AtLost s)) ring) (λ room. subst (λ (s : RingView M). IsHostRing view (AtLost s)) (sym ring) room)
+        as_emptied (AtLost r) (AtLost s) one two so.sound (unfailed_lost begun.since so.failed) (ap (λ (s : RingView M). state_on view false old.sound s) ring) (ap (λ (s : RingView M). s.books.log) ring) (begins_here r s ring valid.0.free) (ap (λ (s : RingView M). plan_at (AtLost s)) ring) (λ room. subst (λ (s : RingView M). IsHostRing view (AtLost s)) (sym ring) room)
         (same_images view r.drive.medium s.drive.medium (ap (λ (s : RingView M). s.drive.medium) ring)) refl
     by_rings (AtIdle r) (AtLost s) one two valid here there so = let clash : false ≡ true = so.ready in cc
     by_rings (AtLost r) (AtIdle s) one two valid here there so = let clash : true ≡ false = so.ready in cc

@@ -1,11 +1,12 @@
 -- What contracts see of a host, and what a command does to it.
-use Rattle.std.specs.Prelude.{◌≡◌, ◌≤◌, ◌+◌, ◌-◌, ◌*◌, ℕ, true, List, [], length, Option, Some}
+use Rattle.std.specs.Prelude.{◌≡◌, ◌≤◌, ◌+◌, ◌-◌, ◌*◌, if◌then◌else◌, ℕ, Bool, true, false, List, [], length, Option, Some, None}
 use Rattle.lif_model.specs.Apply.{Store, Fetch, Batch}
 use Rattle.lif_model.specs.Made.{file_length}
-use Rattle.lif_model.specs.Redo.{settled}
 use Rattle.lif_model.specs.Shelf.{Shelf}
 use Rattle.lif_model.specs.Tape.{Tape, IsTape}
 use Rattle.lif_model.specs.Directory.{slots_of}
+use Rattle.lif_model.specs.Volume.{Volume, volume_of}
+use Rattle.lif_pack.specs.Packing.{bears_mark, finished}
 use Rattle.il_ports.specs.Inserting.{OthersAreKept}
 use Rattle.lif_volume.specs.Changing.{records_stored}
 use Rattle.lif_volume.specs.Commands.{directory_records, records_named}
@@ -14,7 +15,7 @@ use Rattle.loop_model.specs.Roles.{is_at_most_one, talkers}
 use Rattle.il_ring.specs.declared.plan.Planned.{Planned}
 use Rattle.il_record.specs.LoopStores.{calls_in}
 use Rattle.il_script.specs.declared.reply.Reply.{Reply}
-use Rattle.host_model.specs.Requests.{OfVolume, Get, Item, Asks, is_of_volume}
+use Rattle.host_model.specs.Requests.{OfVolume, Get, Pack, Item, Asks, is_of_volume}
 use Rattle.host_model.specs.LoopStates.{all_roles}
 use Rattle.host_model.specs.HostStates.{HostState, log_room}
 use Rattle.host_model.specs.Replies.{reply_text}
@@ -64,7 +65,12 @@ event_between item reply v w = event item reply w.log v.state w.state
 abbrev pub calls_behind : ℕ → List Entry → ℕ
 calls_behind n log = calls_in (log_room n - length log)
 
--- the records of the files that an item stores or reads of a settled tape
+-- it packs the volume
+abbrev pub is_packing : Item → Bool
+is_packing (Asks Pack) = true
+is_packing item = false
+
+-- the records of the files that an item stores or reads of a finished tape
 abbrev pub records_asked : Item → Tape → ℕ
 records_asked (Asks (OfVolume (Store name kind implementation bytes))) t = file_length bytes
 records_asked (Asks (OfVolume (Batch parts))) t = records_stored parts
@@ -81,14 +87,25 @@ most_beside item = 12
 abbrev pub TakesAtMost : ℕ → ℕ → List Entry → Type 0
 TakesAtMost n most log = calls_behind n [] ≤ calls_behind n log + most
 
--- The log of a command of a volume on a medium of n records takes at most the room of 2 n + 40 records, at 300 entries each: so many
+-- how many records a packing reads and writes at most on a medium of n records, and so many one that was stopped before it is finished
+abbrev pub calls_to_pack : ℕ → ℕ
+calls_to_pack n = 15 * n + 120
+
+-- where a tape has a volume without a mark, no packing is to be finished
+abbrev pub calls_to_prepare : ℕ → Option Volume → ℕ
+calls_to_prepare n None = calls_to_pack n
+calls_to_prepare n (Some v) = if bears_mark n v then calls_to_pack n else 0
+
+-- The log of a command of a volume on a medium of n records takes at most the room of 17 n + 160 records, at 300 entries each: so many
 -- calls of the store, as it counts them by its log. To make it sound counts as one. On a tape that is told it takes that of its
--- directory's records, of the records of the files that it stores or reads, and of 200 more; and where the directory is kept, that of
--- the files alone and of a commit.
+-- directory's records, of the records of the files that it stores or reads, and of 200 more, beside a packing that is finished before;
+-- and where the directory is kept, that of the files alone and of a commit. The two are not said of `pack`.
 pub record MakesFewCalls (item : Item) (s : HostState) (log : List Entry) : Type 0 where
-  pub all : TakesAtMost s.records (2 * s.records + 40) log
-  pub on_tape : (t : Tape) → s.tape ≡ Some t → TakesAtMost s.records (directory_records (settled t) + records_asked item (settled t) + 200) log
-  pub from_kept : (t : Tape) → s.tape ≡ Some t → s.kept ≡ true → TakesAtMost s.records (records_asked item (settled t) + most_beside item) log
+  pub all : TakesAtMost s.records (2 * s.records + 40 + calls_to_pack s.records) log
+  pub on_tape : is_packing item ≡ false → (t : Tape) → s.tape ≡ Some t
+      → TakesAtMost s.records (directory_records (finished t) + records_asked item (finished t) + 200 + calls_to_prepare s.records (volume_of t)) log
+  pub from_kept : is_packing item ≡ false → (t : Tape) → s.tape ≡ Some t → s.kept ≡ true
+      → TakesAtMost s.records (records_asked item (finished t) + most_beside item) log
 
 -- The host performed a command and replied so: that is a step of a run. The text is that of the reply, where what it depends on is
 -- told. A power stop during the command leaves what it may leave, and no other image changes.

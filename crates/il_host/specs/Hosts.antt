@@ -1,5 +1,8 @@
 -- What holds of a host between its commands, and how contracts see it.
-use Rattle.std.specs.Prelude.{◌≡◌, ◌*◌, ℕ, Bool, true, List, [], Option, is_some}
+use Rattle.std.specs.Prelude.{◌≡◌, ◌*◌, ◌-◌, ℕ, Bool, true, false, List, [], length, Option, is_some}
+use Rattle.std.specs.Global.{Vec}
+use Rattle.lif_model.specs.Tape.{Tape}
+use Rattle.lif_model.specs.Volume.{volume_of}
 use Rattle.lif_model.specs.Shelf.{IsSize}
 use Rattle.lif_model.specs.Stops.{StandsStill}
 use Rattle.il_device.specs.State.{DeviceState}
@@ -7,6 +10,9 @@ use Rattle.il_ports.specs.Media.{MediumView}
 use Rattle.il_ports.specs.Stores.{RecordsView}
 use Rattle.lif_volume.specs.Seen as volume
 use Rattle.lif_volume.specs.Views.{VolumeView, IsOpen}
+use Rattle.lif_volume.specs.Commands.{IsTold}
+use Rattle.lif_pack.specs.Packing.{has_mark}
+use Rattle.lif_pack.specs.declared.memory.Packer.{Packer}
 use Rattle.lif_volume.specs.declared.volume.Volume.{Volume}
 use Rattle.il_ring.specs.declared.plan.Planned.{Planned}
 use Rattle.il_ring.specs.declared.ring.Ring.{Ring}
@@ -19,9 +25,29 @@ use Rattle.il_host.specs.HostView.{HostView}
 use Rattle.il_host.specs.Shorts.{AllShort}
 use Rattle.il_host.specs.Standings.{IsHostRing, state_at, log_at, plan_at, images_at, inside_at}
 
--- The volume can be used, and the loop stands; where the directory is kept, the store is sound. There is room for every log, for the text of every reply, and for the records of every
--- file; and no device keeps more than there is room for.
-pub record IsUsable {M R S : Type 0} (view : M → MediumView) (records : R → RecordsView S) (volume : VolumeView R) (loop : LoopView M) (text_space file_space : ℕ) : Type 0 where
+-- how many bytes of a file there is memory for, and how many slots of a directory that is packed
+pub record Space : Type 0 where
+  pub file : ℕ
+  pub slots : ℕ
+
+abbrev pub space_of : Vec ℕ → Packer → Space
+space_of file packer = record { file = length file.items; slots = packer.slots.room }
+
+-- enough for every file and every directory on a medium of n records
+pub record HasSpaceFor (n : ℕ) (space : Space) : Type 0 where
+  pub file : space.file ≡ 256 * n
+  pub slots : space.slots ≡ 8 * (n - 5)
+
+-- where the directory of a told tape is kept, no packing is to be finished
+abbrev pub IsUnmarked : {R S : Type 0} → (R → RecordsView S) → VolumeView R → Type 0
+IsUnmarked view volume = (t : Tape) → IsTold view volume t → is_some volume.kept ≡ true
+    → has_mark (view volume.records).record_count (volume_of t) ≡ false
+
+-- The volume can be used, and the loop stands; where the directory is kept, the store is sound and no file is being moved. There is room for
+-- every log, for the text of every reply, for the records of every file and for the slots of every directory; and no device keeps more
+-- than there is room for.
+pub record IsUsable {M R S : Type 0} (view : M → MediumView) (records : R → RecordsView S) (volume : VolumeView R) (loop : LoopView M)
+    (text_space : ℕ) (space : Space) : Type 0 where
   pub volume_open : IsOpen records volume
   pub size : IsSize (records volume.records).record_count
   pub stands : StandsSo loop.control loop.sound loop.since
@@ -29,7 +55,8 @@ pub record IsUsable {M R S : Type 0} (view : M → MediumView) (records : R → 
   pub log : IsHostRing view loop.control
   pub short : AllShort (state_at view loop.sound loop.control).loop
   pub text : text_space ≡ text_room (records volume.records).record_count
-  pub file : file_space ≡ 256 * (records volume.records).record_count
+  pub space_is : HasSpaceFor (records volume.records).record_count space
+  pub unmarked : IsUnmarked records volume
 
 -- by its store, and by whether the directory is kept
 abbrev pub host_view : {M S : Type 0} → (M → MediumView) → Type 0 → RecordsView S → LoopView M → Bool → List ℕ → HostView
@@ -59,9 +86,9 @@ abbrev pub volume_in : {R : Type 0} → Volume R → VolumeView R
 volume_in v = volume.seen v
 
 -- all of it
-abbrev pub host_in : {M I : Type 0} {D : I → Type 0} → (M → MediumView) → (Ring M I D → RingView M) → Volume (LoopRecords M I D) → List ℕ → (text_space file_space : ℕ) → HostView
-host_in view seen v text text_space file_space =
-    host_view view (IsUsable view (store_in view seen) (volume_in v) (loop_in seen v.records) text_space file_space) (store_in view seen v.records) (loop_in seen v.records)
+abbrev pub host_in : {M I : Type 0} {D : I → Type 0} → (M → MediumView) → (Ring M I D → RingView M) → Volume (LoopRecords M I D) → List ℕ → (text_space : ℕ) → Space → HostView
+host_in view seen v text text_space space =
+    host_view view (IsUsable view (store_in view seen) (volume_in v) (loop_in seen v.records) text_space space) (store_in view seen v.records) (loop_in seen v.records)
     (is_some (volume_in v).kept) text
 
 -- ---- opening and closing

@@ -2,6 +2,7 @@ pub mod HostView
 pub mod Standings
 pub mod Shorts
 pub mod Hosts
+pub mod Preparing
 pub mod Run
 pub mod Writing
 pub mod Texts

@@ -2,7 +2,7 @@
 use Rattle.std.specs.Prelude.{◌≢◌, ◌<◌, Option, Some, Result, Ok}
 use Rattle.il_script.specs.declared.reply.Code.{Code}
 use Rattle.il_script.specs.declared.command.Command.{Command}
-use Rattle.il_script.specs.declared.command.Command.TheVariants.{Store, Put, Get, Rename, Purge, Format, Adopt, Upgrade, Begin, Commit, Devices, Status, Poll, Say, Paper}
+use Rattle.il_script.specs.declared.command.Command.TheVariants.{Store, Put, Get, Rename, Purge, Format, Adopt, Upgrade, Pack, Begin, Commit, Devices, Status, Poll, Say, Paper}
 use Rattle.lif_model.specs.Apply.{VolumeCommand}
 use Rattle.host_model.specs.Requests.{Request, OfVolume}
 use Rattle.il_host.specs.declared.running.Asked.{Asked}
@@ -42,6 +42,7 @@ IsAlone asked = Unit {0}
 abbrev pub IsOnVolume : Command → Type 0
 IsOnVolume (Put name) = ⊥
 IsOnVolume (Get name) = ⊥
+IsOnVolume Pack = ⊥
 IsOnVolume Devices = ⊥
 IsOnVolume Status = ⊥
 IsOnVolume Poll = ⊥

@@ -69,13 +69,14 @@ event_at view item reply old new =
 
 -- ---- within a command
 
--- the page, and the room of the buffer for files, are as before
-pub record KeepsPage (old : Sheet) (old_room : ℕ) (new : Sheet) (new_room : ℕ) : Type 0 where
+-- the page, and the room for files and slots, are as before
+pub record KeepsPage {X : Type 0} (old : Sheet) (old_room : X) (new : Sheet) (new_room : X) : Type 0 where
   pub page : new ≡ old
   pub room : new_room ≡ old_room
 
--- This is replied: the last line of the reply was written, and the volume and the room of the buffer for files are as before.
-pub record Ends {V : Type 0} (answer : Reply) (old_volume : V) (old : Sheet) (old_room : ℕ) (given : Reply) (new_volume : V) (new : Sheet) (new_room : ℕ) : Type 0 where
+-- This is replied: the last line of the reply was written, and the volume and the room for files and slots are as before.
+pub record Ends {V X : Type 0} (answer : Reply) (old_volume : V) (old : Sheet) (old_room : X) (given : Reply) (new_volume : V) (new : Sheet)
+    (new_room : X) : Type 0 where
   pub reply : given ≡ answer
   pub volume : new_volume ≡ old_volume
   pub page : new ≡ record old { text = old.text ++ reply_line answer }

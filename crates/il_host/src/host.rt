@@ -1,7 +1,10 @@
-ghost use Rattle.std.specs.Prelude.{◌≡◌, ◌≤◌, ◌+◌, if◌then◌else◌, true, length, None};
+ghost use Rattle.std.specs.Prelude.{◌≡◌, ◌≤◌, ◌+◌, ◌*◌, if◌then◌else◌, true, length, None};
 ghost use Rattle.il_ports.specs.Stores.{Continues};
 ghost use Rattle.lif_volume.specs.Views.{IsOpen};
-ghost use Rattle.il_host.specs.Hosts.{volume_in};
+ghost use Rattle.lif_pack.specs.Packers.{IsPackerFor};
+ghost use Rattle.il_ring.specs.Seen.{ring_seen};
+ghost use Rattle.il_host.specs.Hosts.{volume_in, space_of};
+ghost use Rattle.il_host.specs.Preparing.{Prepares};
 ghost use Rattle.il_host.specs.Standings.{Ends, HasDriveStatus, KeepsPage, MakesSound, fault_of};
 
 use crate::made_text::MadeText;
@@ -12,6 +15,7 @@ use il_ports::{Medium, Records, Trouble};
 use il_record::{LoopRecords, Looped};
 use il_script::{Command, Page, Reply};
 use lif_dir::Batch;
+use lif_pack::Packer;
 use lif_volume::Volume;
 use std::marker::PhantomData;
 
@@ -22,6 +26,7 @@ pub struct Host<M: Medium> {
     pub(crate) page: Page,
     pub(crate) file: Vec<u8>,
     pub(crate) text: MadeText,
+    pub(crate) packer: Packer,
     pub(crate) devices: PhantomData<Box<dyn Device>>,
 }
 
@@ -32,9 +37,9 @@ impl<M: Medium + Drop> Performer for Host<M> {
     ghost use Rattle.il_host.specs.IsHosts.{is_host_at};
 
     ghost view = { λ h. host_in M.view (ring_seen (λ b. (Device-box b).state b.value))
-        h.volume h.page.text h.page.room (length h.file.items) };
+        h.volume h.page.text h.page.room (space_of h.file h.packer) };
 
-    ghost is_host = { λ h valid. is_host_at M.view _ h.volume h.page.text h.page.room (length h.file.items) M.is_medium valid };
+    ghost is_host = { λ h valid. is_host_at M.view _ h.volume h.page.text h.page.room (space_of h.file h.packer) M.is_medium valid };
 
     fn perform(&mut self, command: &Command, bytes: &[u8]) -> Reply {
         self.page.clear();
@@ -46,6 +51,7 @@ impl<M: Medium + Drop> Performer for Host<M> {
             Command::Paper => self.paper(),
             Command::Put(name) => self.put(name, bytes),
             Command::Get(name) => self.get(name),
+            Command::Pack => self.pack(),
             Command::Dir
             | Command::Label
             | Command::Fetch(_)
@@ -82,7 +88,7 @@ impl<M: Medium + Drop> Host<M> {
         ensures makes { MakesSound M.view (⟦<LoopRecords<M> as Looped<M>>⟧.looped self.old.volume.records) (⟦<LoopRecords<M> as Looped<M>>⟧.looped self.new.volume.records) result }
         ensures sounds { Continues 1 (⟦<LoopRecords<M> as Records>⟧.view self.old.volume.records) (⟦<LoopRecords<M> as Records>⟧.view self.new.volume.records) result }
         ensures opens { IsOpen ⟦<LoopRecords<M> as Records>⟧.view (volume_in self.new.volume) }
-        ensures rests { KeepsPage self.old.page (length self.old.file.items) self.new.page (length self.new.file.items) }
+        ensures rests { KeepsPage self.old.page (space_of self.old.file self.old.packer) self.new.page (space_of self.new.file self.new.packer) }
         ensures text { self.new.text ≡ self.old.text }
         // A directory that is kept of a sound store stays, and any other is forgotten.
         ensures kept { (volume_in self.new.volume).kept ≡ (if (⟦<LoopRecords<M> as Looped<M>>⟧.looped self.old.volume.records).sound
@@ -95,11 +101,29 @@ impl<M: Medium + Drop> Host<M> {
         self.volume.records_mut().resume()
     }
 
+    /// Makes the store sound, and finishes a packing that was stopped. Where the directory is kept there is none.
+    pub(crate) fn prepare(&mut self) -> Result<(), Trouble>
+        requires volume_open { IsOpen ⟦<LoopRecords<M> as Records>⟧.view (volume_in self.old.volume) }
+        requires left { 15 * (⟦<LoopRecords<M> as Records>⟧.view self.old.volume.records).record_count + 121
+            ≤ (⟦<LoopRecords<M> as Records>⟧.view self.old.volume.records).calls_left }
+        requires memory { IsPackerFor (⟦<LoopRecords<M> as Records>⟧.view self.old.volume.records).record_count self.old.packer }
+        ensures prepares { Prepares M.view (ring_seen (λ b. (Device-box b).state b.value)) self.old.volume self.new.volume result }
+        ensures opens { IsOpen ⟦<LoopRecords<M> as Records>⟧.view (volume_in self.new.volume) }
+        ensures rests { KeepsPage self.old.page (space_of self.old.file self.old.packer) self.new.page (space_of self.new.file self.new.packer) }
+        ensures text { self.new.text ≡ self.old.text }
+    {
+        self.make_sound()?;
+        if self.volume.is_kept() {
+            return Ok(());
+        }
+        self.packer.finish(&mut self.volume)
+    }
+
     /// Ends the text of a reply.
     pub(crate) fn answered(&mut self, reply: Reply) -> Reply
         requires volume_open { IsOpen ⟦<LoopRecords<M> as Records>⟧.view (volume_in self.old.volume) }
         requires room { length self.old.page.text + 23 ≤ self.old.page.room }
-        ensures ended { Ends reply self.old.volume self.old.page (length self.old.file.items) result self.new.volume self.new.page (length self.new.file.items) }
+        ensures ended { Ends reply self.old.volume self.old.page (space_of self.old.file self.old.packer) result self.new.volume self.new.page (space_of self.new.file self.new.packer) }
         ensures drive { HasDriveStatus (⟦<LoopRecords<M> as Looped<M>>⟧.looped self.old.volume.records).control }
     {
         self.page.put(reply.last_line());
@@ -110,7 +134,7 @@ impl<M: Medium + Drop> Host<M> {
     pub(crate) fn faulted(&mut self, trouble: Trouble) -> Reply
         requires volume_open { IsOpen ⟦<LoopRecords<M> as Records>⟧.view (volume_in self.old.volume) }
         requires room { length self.old.page.text + 23 ≤ self.old.page.room }
-        ensures ended { Ends (fault_of trouble) self.old.volume self.old.page (length self.old.file.items) result self.new.volume self.new.page (length self.new.file.items) }
+        ensures ended { Ends (fault_of trouble) self.old.volume self.old.page (space_of self.old.file self.old.packer) result self.new.volume self.new.page (space_of self.new.file self.new.packer) }
         ensures drive { HasDriveStatus (⟦<LoopRecords<M> as Looped<M>>⟧.looped self.old.volume.records).control }
     {
         match trouble {

@@ -3,13 +3,14 @@ ghost use Rattle.std.specs.Prelude.{◌≡◌, ◌+◌, ◌*◌, ◌≤◌, ◌+
 ghost use Rattle.lif_text.specs.Pieces.{lines_in};
 ghost use Rattle.lif_dir.specs.Entries.{entry_bytes};
 ghost use Rattle.host_model.specs.Listing.{volume_line, slot_lines};
-ghost use Rattle.host_model.specs.Replies.{line_text, lines_of_type, lines_text, if_text};
+ghost use Rattle.host_model.specs.Replies.{packed_text, line_text, lines_of_type, lines_text, if_text};
 ghost use Rattle.il_host.specs.Texts.{parts_of, listing_text, entry_line, label_text, data_text};
 
 use crate::parts::{put_next_bytes, put_next_hex, put_next_name, put_next_number};
 use crate::text_commands::TEXT_TYPE;
 use il_script::{Code, Page, Reply};
 use lif_dir::{FileEntry, SlotTable};
+use lif_pack::Packed;
 use lif_text::{Piece, next};
 use lif_volume::{Fetched, Listing};
 
@@ -42,6 +43,19 @@ fn put_file_line(page: &mut Page, entry: &FileEntry)
     put_next_number(page, entry.start);
     put_next_number(page, entry.length);
     put_next_hex(page, &entry.implementation);
+    page.put(b"\n");
+}
+
+/// The line of a packing: how many files were moved, and how many records are free after them.
+#[tactic(auto, unfolding(host_model::specs::Replies::packed_text))]
+pub(crate) fn put_packed(page: &mut Page, packed: &Packed)
+    requires { length page.old.text + 40 ≤ page.old.room }
+    ensures text { page.new ≡ record page.old { text = page.old.text ++ packed_text packed.now.files packed.now.free } }
+    ensures size { length page.new.text ≤ length page.old.text + 40 }
+{
+    page.put(b"packed");
+    put_next_number(page, packed.files);
+    put_next_number(page, packed.free);
     page.put(b"\n");
 }
 

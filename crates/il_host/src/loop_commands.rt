@@ -7,7 +7,7 @@ ghost use Rattle.il_record.specs.LoopStores.{Addresses, is_idle};
 ghost use Rattle.lif_volume.specs.Views.{IsOpen};
 ghost use Rattle.host_model.specs.Requests.{Asks, Devices, Paper, Poll, Say, Status};
 ghost use Rattle.il_host.specs.HostView.{Performed};
-ghost use Rattle.il_host.specs.Hosts.{volume_in};
+ghost use Rattle.il_host.specs.Hosts.{volume_in, space_of};
 ghost use Rattle.il_host.specs.Standings.{KeepsPage};
 
 use crate::host::Host;
@@ -124,7 +124,7 @@ impl<M: Medium + Drop> Host<M> {
         ensures addresses { Addresses M.view (⟦<LoopRecords<M> as Looped<M>>⟧.looped self.old.volume.records).control (⟦<LoopRecords<M> as Looped<M>>⟧.looped self.old.volume.records) (⟦<LoopRecords<M> as Looped<M>>⟧.looped self.new.volume.records) result }
         ensures leaves { LeavesStore 1 ((⟦<LoopRecords<M> as Records>⟧.view self.old.volume.records).failed None) (⟦<LoopRecords<M> as Records>⟧.view self.old.volume.records) (⟦<LoopRecords<M> as Records>⟧.view self.new.volume.records) result }
         ensures opens { IsOpen ⟦<LoopRecords<M> as Records>⟧.view (volume_in self.new.volume) }
-        ensures rests { KeepsPage self.old.page (length self.old.file.items) self.new.page (length self.new.file.items) }
+        ensures rests { KeepsPage self.old.page (space_of self.old.file self.old.packer) self.new.page (space_of self.new.file self.new.packer) }
         ensures kept { (volume_in self.new.volume).kept ≡ (if is_idle (⟦<LoopRecords<M> as Looped<M>>⟧.looped self.old.volume.records).control
             then (volume_in self.old.volume).kept else None) }
     {

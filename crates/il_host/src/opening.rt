@@ -1,9 +1,9 @@
-ghost use Rattle.std.specs.Prelude.{◌≡◌, ◌≤◌, ◌+◌, ◌*◌, [], map, length, None, IfOk, IfErr};
+ghost use Rattle.std.specs.Prelude.{◌≡◌, ◌<◌, ◌≤◌, ◌+◌, [], map, length, None, IfOk, IfErr};
 ghost use Rattle.std.specs.List.{All};
 ghost use Rattle.lif_model.specs.Shelf.{IsSize};
 ghost use Rattle.il_ring.specs.Plans.{IsPlan};
 ghost use Rattle.host_model.specs.HostStates.{log_room, text_room};
-ghost use Rattle.il_host.specs.Hosts.{IsOpened, IsClosed};
+ghost use Rattle.il_host.specs.Hosts.{IsOpened, IsClosed, space_of, HasSpaceFor};
 ghost use Rattle.il_host.specs.Whole.{MayStandBeside};
 
 use crate::host::Host;
@@ -14,6 +14,7 @@ use il_ports::Medium;
 use il_record::LoopRecords;
 use il_ring::{Planned, Refused, Rig, Ring};
 use il_script::Page;
+use lif_pack::Packer;
 use lif_volume::Volume;
 use std::alloc::{AllocError, Global};
 use std::marker::PhantomData;
@@ -22,23 +23,41 @@ use std::marker::PhantomData;
 fn log_room(records: u16) -> usize
     ensures { result ≡ log_room records }
 {
-    1600 * usize::from(records) + 10_000
+    5500 * usize::from(records) + 60_000
 }
 
-/// Memory for the text of every reply, for the bytes of every file, on a medium of so many records, and for the text of
-/// every payload.
-fn reserve(alloc: Global, records: u16) -> Result<(Page, Vec<u8>, MadeText), AllocError>
-    ensures page { IfOk result (λ r. r.0 ≡ record { text = []; room = text_room records }) }
-    ensures file { IfOk result (λ r. length r.1.items ≡ 256 * records) }
-{
-    let page = Page::new(alloc, 1000 * usize::from(records) + 20_000)?;
-    let file = vec![in alloc; 0; 256 * usize::from(records)]?;
-    Ok((page, file, MadeText::new(alloc)?))
+/// What a host takes memory for, on a medium of so many records.
+#[derive(Drop)]
+struct Memory {
+    /// The text of every reply.
+    page: Page,
+    /// The bytes of every file.
+    file: Vec<u8>,
+    /// The text of every payload.
+    text: MadeText,
+    /// The slots of every directory.
+    packer: Packer,
+}
+
+impl Memory {
+    /// All of it.
+    fn new(alloc: Global, records: u16) -> Result<Memory, AllocError>
+        requires { 37 < records }
+        ensures page { IfOk result (λ m. m.page ≡ record { text = []; room = text_room records }) }
+        ensures space { IfOk result (λ m. HasSpaceFor records (space_of m.file m.packer)) }
+    {
+        Ok(Memory {
+            page: Page::new(alloc, 1000 * usize::from(records) + 20_000)?,
+            file: vec![in alloc; 0; 256 * usize::from(records)]?,
+            text: MadeText::new(alloc)?,
+            packer: Packer::new(alloc, records)?,
+        })
+    }
 }
 
 impl<M: Medium + Drop> Host<M> {
     /// A host for the tape that is in the drive, over the devices of the rig, with faults planned at these crossings of
-    /// the loop. The log of a command has room for 1,600 entries for each record of the medium and 10,000 more. All
+    /// the loop. The log of a command has room for 5,500 entries for each record of the medium and 60,000 more. All
     /// memory of the host is taken here; where there is none the rig is handed back, and no frame was sent. No second
     /// controller is in the rig.
     pub fn open(alloc: Global, rig: Rig<M>, plan: &[Planned]) -> Result<Host<M>, Refused<M>>
@@ -53,7 +72,7 @@ impl<M: Medium + Drop> Host<M> {
         ensures after { IfErr result (λ refused. map (λ b. state b) refused.rig.after.items ≡ map (λ b. state b) rig.after.items) }
     {
         let records = rig.medium.size();
-        let Ok((page, file, text)) = reserve(alloc, records) else {
+        let Ok(memory) = Memory::new(alloc, records) else {
             return Err(Refused { rig });
         };
         let ring = match Ring::new(alloc, rig, plan, log_room(records)) {
@@ -63,9 +82,10 @@ impl<M: Medium + Drop> Host<M> {
         match Volume::open(alloc, LoopRecords::new(Lost::new(ring))) {
             Ok(volume) => Ok(Host {
                 volume,
-                page,
-                file,
-                text,
+                page: memory.page,
+                file: memory.file,
+                text: memory.text,
+                packer: memory.packer,
                 devices: PhantomData,
             }),
             Err(kept) => Err(Refused {

@@ -39,7 +39,7 @@ impl<M: Medium + Drop> Host<M> {
         ensures { Performed (Asks (OfVolume (Store (name_bytes (made_name name.now)) text_type (replicate 4 0) self.old.text))) result (⟦<Host<M> as Performer>⟧.view self.old) (⟦<Host<M> as Performer>⟧.view self.new) }
     {
         self.volume.begin();
-        if let Err(trouble) = self.make_sound() {
+        if let Err(trouble) = self.prepare() {
             return self.faulted(trouble);
         }
         let answer = self
@@ -65,7 +65,7 @@ impl<M: Medium + Drop> Host<M> {
         ensures { Performed (Asks (Get (name_bytes name.now))) result (⟦<Host<M> as Performer>⟧.view self.old) (⟦<Host<M> as Performer>⟧.view self.new) }
     {
         self.volume.begin();
-        if let Err(trouble) = self.make_sound() {
+        if let Err(trouble) = self.prepare() {
             return self.faulted(trouble);
         }
         match self.volume.fetch(name, &mut self.file) {

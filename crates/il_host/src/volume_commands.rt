@@ -4,14 +4,14 @@ ghost use Rattle.lif_volume.specs.Commands.{IsReadyFor};
 ghost use Rattle.lif_volume.specs.Did.{Alters};
 ghost use Rattle.lif_model.specs.Apply as command;
 ghost use Rattle.lif_dir.specs.Batches.{parts_of};
-ghost use Rattle.host_model.specs.Requests.{Asks, OfVolume, request_of};
+ghost use Rattle.host_model.specs.Requests.{Asks, OfVolume, Pack, request_of};
 ghost use Rattle.il_host.specs.HostView.{Performed};
-ghost use Rattle.il_host.specs.Hosts.{volume_in};
+ghost use Rattle.il_host.specs.Hosts.{volume_in, space_of};
 ghost use Rattle.il_host.specs.PlainCommands.{ChangesVolume, IsOnVolume, IsPlain, OnVolume};
 ghost use Rattle.il_host.specs.Standings.{Ends, HasDriveStatus, volume_reply};
 
 use crate::host::Host;
-use crate::listing::{put_data, put_label, put_listing};
+use crate::listing::{put_data, put_label, put_listing, put_packed};
 use crate::performer::Performer;
 use il_ports::{Medium, Records};
 use il_record::{LoopRecords, Looped};
@@ -29,7 +29,7 @@ impl<M: Medium + Drop> Host<M> {
         ensures { Performed (Asks (request_of command.now bytes.now)) result (⟦<Host<M> as Performer>⟧.view self.old) (⟦<Host<M> as Performer>⟧.view self.new) }
     {
         self.volume.begin();
-        if let Err(trouble) = self.make_sound() {
+        if let Err(trouble) = self.prepare() {
             return self.faulted(trouble);
         }
         match command {
@@ -69,18 +69,37 @@ impl<M: Medium + Drop> Host<M> {
         ensures { Performed (Asks (OfVolume (command.Batch (parts_of batch.now)))) result (⟦<Host<M> as Performer>⟧.view self.old) (⟦<Host<M> as Performer>⟧.view self.new) }
     {
         self.volume.begin();
-        if let Err(trouble) = self.make_sound() {
+        if let Err(trouble) = self.prepare() {
             return self.faulted(trouble);
         }
         let answer = self.volume.batch(batch);
         self.ended(answer)
     }
 
+    /// Moves the files of the volume together.
+    pub(crate) fn pack(&mut self) -> Reply
+        requires valid { (⟦<Host<M> as Performer>⟧.view self.old).valid }
+        requires blank { (⟦<Host<M> as Performer>⟧.view self.old).text ≡ [] }
+        ensures { Performed (Asks Pack) result (⟦<Host<M> as Performer>⟧.view self.old) (⟦<Host<M> as Performer>⟧.view self.new) }
+    {
+        self.volume.begin();
+        if let Err(trouble) = self.make_sound() {
+            return self.faulted(trouble);
+        }
+        match self.packer.pack(&mut self.volume) {
+            Ok(packed) => {
+                put_packed(&mut self.page, &packed);
+                self.answered(Reply::Ok)
+            }
+            Err(fault) => self.refused(fault),
+        }
+    }
+
     /// The reply to a command that tells nothing, by the volume's answer.
     pub(crate) fn ended(&mut self, answer: Result<(), VolumeFault>) -> Reply
         requires volume_open { IsOpen ⟦<LoopRecords<M> as Records>⟧.view (volume_in self.old.volume) }
         requires room { length self.old.page.text + 23 ≤ self.old.page.room }
-        ensures ended { Ends (volume_reply answer) self.old.volume self.old.page (length self.old.file.items) result self.new.volume self.new.page (length self.new.file.items) }
+        ensures ended { Ends (volume_reply answer) self.old.volume self.old.page (space_of self.old.file self.old.packer) result self.new.volume self.new.page (space_of self.new.file self.new.packer) }
         ensures drive { HasDriveStatus (⟦<LoopRecords<M> as Looped<M>>⟧.looped self.old.volume.records).control }
     {
         match answer {
@@ -93,7 +112,7 @@ impl<M: Medium + Drop> Host<M> {
     pub(crate) fn refused(&mut self, fault: VolumeFault) -> Reply
         requires volume_open { IsOpen ⟦<LoopRecords<M> as Records>⟧.view (volume_in self.old.volume) }
         requires room { length self.old.page.text + 23 ≤ self.old.page.room }
-        ensures ended { Ends (volume_reply {T = Unit {0}} (Err fault)) self.old.volume self.old.page (length self.old.file.items) result self.new.volume self.new.page (length self.new.file.items) }
+        ensures ended { Ends (volume_reply {T = Unit {0}} (Err fault)) self.old.volume self.old.page (space_of self.old.file self.old.packer) result self.new.volume self.new.page (space_of self.new.file self.new.packer) }
         ensures drive { HasDriveStatus (⟦<LoopRecords<M> as Looped<M>>⟧.looped self.old.volume.records).control }
     {
         match fault {

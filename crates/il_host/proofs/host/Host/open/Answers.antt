@@ -5,14 +5,14 @@ use Rattle.il_host.specs.Hosts.{loop_in}
 use Rattle.il_host.proofs.NewRings.{new_ring_lost, new_ring_may_poll, new_ring_short}
 use Rattle.il_host.proofs.host.Host.open.Goals as goal
 
-pub new-requires-2 : goal.new-requires-2
-new-requires-2 g c = let made = c.in-Ok-new.ensures in new_ring_lost _ _ _ _ _ _ _ _ refl made.ring made.books made.drive made.before (alone _ _ _ c.requires.alone made.after) c.requires.devices.1 c.requires.devices.2
+pub new-requires-3 : goal.new-requires-3
+new-requires-3 g c = let made = c.in-Ok-new.ensures in new_ring_lost _ _ _ _ _ _ _ _ refl made.ring made.books made.drive made.before (alone _ _ _ c.requires.alone made.after) c.requires.devices.1 c.requires.devices.2
 
-pub new-requires-3-clause-lost : goal.new-requires-3-clause-lost
-new-requires-3-clause-lost g c = let made = c.in-Ok-new.ensures in new_ring_lost _ _ _ _ _ _ _ _ c.new-2.ensures made.ring made.books made.drive made.before (alone _ _ _ c.requires.alone made.after) c.requires.devices.1 c.requires.devices.2
+pub new-requires-4-clause-lost : goal.new-requires-4-clause-lost
+new-requires-4-clause-lost g c = let made = c.in-Ok-new.ensures in new_ring_lost _ _ _ _ _ _ _ _ c.new-3.ensures made.ring made.books made.drive made.before (alone _ _ _ c.requires.alone made.after) c.requires.devices.1 c.requires.devices.2
 
-pub new-requires-3-clause-places : goal.new-requires-3-clause-places
-new-requires-3-clause-places g c = let made = c.in-Ok-new.ensures in new_ring_may_poll _ _ _ _ _ _ _ _ c.new-2.ensures made.ring made.books made.drive made.before (alone _ _ _ c.requires.alone made.after) c.requires.devices.1 c.requires.devices.2
+pub new-requires-4-clause-places : goal.new-requires-4-clause-places
+new-requires-4-clause-places g c = let made = c.in-Ok-new.ensures in new_ring_may_poll _ _ _ _ _ _ _ _ c.new-3.ensures made.ring made.books made.drive made.before (alone _ _ _ c.requires.alone made.after) c.requires.devices.1 c.requires.devices.2
 
 pub returns-in-Ok-open-clause-opened : goal.returns-in-Ok-open-clause-opened
 returns-in-Ok-open-clause-opened g c =
@@ -24,9 +24,10 @@ returns-in-Ok-open-clause-opened g c =
         stands = search rules;
         kept = λ on. let clash : false ≡ true = sym (ap is_some c.in-Ok-open.ensures.kept) ∙ on in cc;
         log = search rules;
-        short = new_ring_short g.M.Medium.view _ _ _ _ c.args.rig.before.items c.args.rig.after.items (ap (loop_in _) c.in-Ok-open.ensures.records ∙ c.new-3.ensures.at) c.new-2.ensures made.before (alone _ _ _ c.requires.alone made.after) c.requires.devices.1 c.requires.devices.2;
+        short = new_ring_short g.M.Medium.view _ _ _ _ c.args.rig.before.items c.args.rig.after.items (ap (loop_in _) c.in-Ok-open.ensures.records ∙ c.new-4.ensures.at) c.new-3.ensures made.before (alone _ _ _ c.requires.alone made.after) c.requires.devices.1 c.requires.devices.2;
         text = search rules;
-        file = search rules;
+        space_is = search rules;
+        unmarked = λ t told on. let clash : false ≡ true = sym (ap is_some c.in-Ok-open.ensures.kept) ∙ on in cc;
       };
       state = search rules;
       plan_is = search rules;
