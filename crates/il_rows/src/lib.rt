@@ -22,6 +22,8 @@ mod images;
 #[cfg(test)]
 mod loops;
 #[cfg(test)]
+mod packing;
+#[cfg(test)]
 mod printing;
 #[cfg(test)]
 mod runs;
