@@ -135,12 +135,11 @@ fn the_next_command_finishes_a_packing(rt: HostRuntime) -> Result<(), Fail> {
     let alloc = rt.alloc();
     let tape = with_gap(alloc, 40)?;
     let made = run(alloc, &Given::script(&tape, b"pack\n"))?;
-    // Thirty records of B have moved: they and the mark are one commit.
-    let (writes, last) = (made.writes.get(..65), made.writes.get(64));
-    let (Some(writes), Some((_, bytes))) = (writes, last) else {
-        return Err("sixty-five writes")?;
+    // Thirty records of B and the mark have become one commit, in sixty-five writes; the stop is within the next one.
+    let Some(writes) = made.writes.get(..66) else {
+        return Err("sixty-six writes")?;
     };
-    let marked = stopped_at(alloc, &tape, writes, bytes)?;
+    let marked = stopped_at(alloc, &tape, writes, &[0; 256])?;
     for (script, output) in [
         (
             b"dir\n".as_slice(),
