@@ -4,7 +4,7 @@ use Rattle.lif_model.specs.Apply as volume
 use Rattle.lif_model.proofs.VolumeExamples.{a_name}
 use Rattle.il_frames.specs.declared.frame.Frame.{Frame}
 use Rattle.il_drive.specs.Resting.{sdc}
-use Rattle.loop_model.specs.Entries.{ifc, aau, unl, lad}
+use Rattle.il_frames.specs.NamedFrames.{ifc, aau, unl, lad}
 use Rattle.loop_model.specs.Exchanges.{Command, Address, Send, Receive, Identify, FrameLost, HostAltered, TalkerAltered, Piece, Whole, Cut}
 use Rattle.il_script.specs.declared.reply.Code.TheVariants as code
 use Rattle.il_script.specs.declared.reply.Reply.TheVariants as reply

@@ -11,7 +11,7 @@ use Rattle.lif_model.proofs.VolumeExamples.{file, a_name}
 use Rattle.lif_redo.specs.Writing.{AreSingle}
 use Rattle.il_frames.specs.declared.entry.Entry.{Entry}
 use Rattle.loop_model.specs.Exchanges.{Command, Whole}
-use Rattle.loop_model.specs.Entries.{unl}
+use Rattle.il_frames.specs.NamedFrames.{unl}
 use Rattle.loop_model.specs.Loops.{host_loop}
 use Rattle.il_script.specs.declared.reply.Code.TheVariants as code
 use Rattle.il_script.specs.declared.reply.Reply.TheVariants as reply

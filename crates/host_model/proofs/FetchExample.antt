@@ -8,7 +8,7 @@ use Rattle.lif_model.proofs.VolumeExamples.{file, a_name}
 use Rattle.loop_model.specs.Loops.{host_loop}
 use Rattle.loop_model.specs.Units.{RecordUnit, units_of}
 use Rattle.il_drive.specs.Resting.{sdc}
-use Rattle.loop_model.specs.Entries.{ifc, aau, unl, lad}
+use Rattle.il_frames.specs.NamedFrames.{ifc, aau, unl, lad}
 use Rattle.loop_model.specs.Exchanges.{Echo, Command, Address, Send, Receive, Sda, Sst, Stopped, Piece, Whole}
 use Rattle.il_script.specs.declared.reply.Reply.TheVariants as reply
 use Rattle.host_model.specs.Requests.{OfVolume, Asks}

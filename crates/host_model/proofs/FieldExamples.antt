@@ -16,7 +16,7 @@ use Rattle.il_frames.specs.declared.frame.Class.TheVariants as class
 use Rattle.il_frames.specs.declared.entry.Entry.{Entry}
 use Rattle.il_frames.specs.declared.entry.Outcome.TheVariants as outcome
 use Rattle.il_frames.specs.Frames.{framed}
-use Rattle.loop_model.specs.Entries.{entry, ifc, rfc}
+use Rattle.il_frames.specs.NamedFrames.{entry, ifc, rfc}
 use Rattle.loop_model.specs.Exchanges as loops
 use Rattle.loop_model.specs.Loops.{host_loop}
 use Rattle.loop_model.specs.Units.{units_of}

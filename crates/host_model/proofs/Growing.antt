@@ -7,7 +7,7 @@ use Rattle.lif_model.specs.Stops.{LeavesOnly}
 use Rattle.lif_model.specs.Tape.{Tape}
 use Rattle.lif_model.proofs.Commit.{settles_self}
 use Rattle.lif_model.specs.Volume.{is_foreign_gated}
-use Rattle.lif_pack.specs.Packing.{finished_volume_of, files_shown}
+use Rattle.lif_model.specs.Packing.{finished_volume_of, files_shown}
 use Rattle.lif_model.proofs.Moments.{started, follows, weaker}
 use Rattle.il_script.specs.Replies.{is_ok}
 use Rattle.il_script.specs.declared.reply.Reply.{Reply}

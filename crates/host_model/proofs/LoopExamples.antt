@@ -11,7 +11,7 @@ use Rattle.lif_model.proofs.VolumeExamples.{a_name}
 use Rattle.il_frames.specs.declared.frame.Class.TheVariants as class
 use Rattle.il_frames.specs.Frames.{framed}
 use Rattle.il_frames.specs.declared.frame.Frame.{Frame}
-use Rattle.loop_model.specs.Entries.{unl, lad}
+use Rattle.il_frames.specs.NamedFrames.{unl, lad}
 use Rattle.loop_model.specs.Exchanges.{Command, Identify, Echo, Send, Receive, Sst, Sai, Stopped, Piece, Whole}
 use Rattle.loop_model.specs.Polls.{poll_enable, poll_unconfigure}
 use Rattle.loop_model.specs.Units.{RecordUnit}

@@ -13,7 +13,7 @@ use Rattle.lif_model.specs.Volume.{Volume, redo_name, redo_type, redo_entry, vol
 use Rattle.lif_model.proofs.Examples as base
 use Rattle.lif_model.proofs.VolumeExamples.{file, a_name, b_name, numbered}
 use Rattle.lif_model.proofs.VolumeExamples as slot
-use Rattle.lif_pack.specs.Packing.{Shown, unmarked, with_start, without_start}
+use Rattle.lif_model.specs.Packing.{Shown, unmarked, with_start, without_start}
 use Rattle.lif_model.specs.Writing.{with_entry}
 use Rattle.il_script.specs.declared.reply.Code.TheVariants as code
 use Rattle.il_script.specs.declared.reply.Reply.TheVariants as reply

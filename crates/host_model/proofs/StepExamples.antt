@@ -12,7 +12,7 @@ use Rattle.il_frames.specs.Frames.{framed}
 use Rattle.il_device.specs.declared.roles.Roles.{Roles}
 use Rattle.il_device.specs.Roles.{no_roles}
 use Rattle.il_device.specs.State.{risen_by}
-use Rattle.loop_model.specs.Entries.{entry, ifc, aau, aad, rfc}
+use Rattle.il_frames.specs.NamedFrames.{entry, ifc, aau, aad, rfc}
 use Rattle.loop_model.specs.Exchanges.{Echo, Exchange, Command, Address, Receive, Sst, Stopped, Piece, Whole, Cut, FrameLost, piece_entries}
 use Rattle.loop_model.specs.Hearing.{roles_at}
 use Rattle.il_script.specs.declared.reply.Code.TheVariants as code

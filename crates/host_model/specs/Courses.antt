@@ -6,7 +6,7 @@ use Rattle.std.specs.Str.{bytes_eq}
 use Rattle.il_frames.specs.declared.frame.Frame.{Frame}
 use Rattle.il_frames.specs.Frames.{byte_of}
 use Rattle.il_drive.specs.Resting.{sdc}
-use Rattle.loop_model.specs.Entries.{ifc, aau, unl, lad, is_frame}
+use Rattle.il_frames.specs.NamedFrames.{ifc, aau, unl, lad, is_frame}
 use Rattle.loop_model.specs.Exchanges.{Exchange, Command, Address, Send, Receive, Identify, Answer, NotTaken, Stopped, Sst, Sai, Piece, Whole, Cut}
 use Rattle.loop_model.specs.Polls.{poll_enable, poll_unconfigure}
 use Rattle.host_model.specs.Requests.{Devices, Status, Poll, Say, Item, Asks}

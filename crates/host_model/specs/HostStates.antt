@@ -2,7 +2,7 @@
 use Rattle.std.specs.Prelude.{◌≡◌, ℕ, ◌+◌, ◌*◌, Bool, false, List, Option, option_and_then, IfSome}
 use Rattle.lif_model.specs.Tape.{Tape}
 use Rattle.lif_model.specs.Volume.{Volume, is_foreign_gated}
-use Rattle.lif_pack.specs.Packing.{finished_volume_of}
+use Rattle.lif_model.specs.Packing.{finished_volume_of}
 use Rattle.il_device.specs.State.{DeviceState}
 use Rattle.host_model.specs.LoopStates.{LoopState, fresh_loop}
 

@@ -12,7 +12,7 @@ use Rattle.lif_model.specs.Volume.{Volume}
 use Rattle.lif_model.specs.Apply.{VolumeCommand, apply}
 use Rattle.lif_model.specs.Apply as volume
 use Rattle.lif_model.specs.declared.refusal.Refusal.{Refusal}
-use Rattle.lif_pack.specs.Packing.{pack_refusal, packed, files_moved, records_free}
+use Rattle.lif_model.specs.Packing.{pack_refusal, packed, files_moved, records_free}
 use Rattle.il_frames.specs.declared.entry.Entry.{Entry}
 use Rattle.il_frames.specs.declared.frame.Frame.{Frame}
 use Rattle.il_frames.specs.Frames.{byte_of, has_service}

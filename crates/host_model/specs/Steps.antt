@@ -15,7 +15,7 @@ use Rattle.lif_model.specs.Volume.{Volume, is_foreign_gated}
 use Rattle.lif_model.specs.Apply.{Store, Fetch, Batch}
 use Rattle.lif_model.specs.Writing.{NewFile, files_left}
 use Rattle.lif_model.specs.Transfers.{carries}
-use Rattle.lif_pack.specs.Packing.{files_shown}
+use Rattle.lif_model.specs.Packing.{files_shown}
 use Rattle.il_frames.specs.declared.entry.Entry.{Entry}
 use Rattle.il_device.specs.State.{DeviceState, risen_by}
 use Rattle.loop_model.specs.Effect.{UnitsEffect, is_out, is_in, transfer_of, ends_as, all_good}

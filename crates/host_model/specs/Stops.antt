@@ -3,7 +3,7 @@ use Rattle.std.specs.Prelude.{◌≡◌, ◌⊎◌, ℕ, true, false, List, [], 
 use Rattle.lif_model.specs.Stops.{LeavesOnly}
 use Rattle.lif_model.specs.Tape.{Tape}
 use Rattle.lif_model.specs.Volume.{is_foreign_gated}
-use Rattle.lif_pack.specs.Packing.{finished_volume_of, files_shown}
+use Rattle.lif_model.specs.Packing.{finished_volume_of, files_shown}
 use Rattle.host_model.specs.Requests.{OfVolume, Get, Pack, Item, Asks}
 use Rattle.host_model.specs.HostStates.{HostState, volume_at}
 use Rattle.host_model.specs.Replies.{volume_behind}

@@ -3,3 +3,4 @@ pub mod Messages
 pub mod Texts
 pub mod Names
 pub mod Entries
+pub mod NamedFrames

@@ -12,7 +12,7 @@ use Rattle.il_guest.specs.declared.control.Place.TheVariants as place
 use Rattle.il_guest.specs.declared.control.Control.{Control}
 use Rattle.il_guest.specs.declared.control.Control.TheVariants as control
 use Rattle.il_guest.specs.declared.guest.GuestOut.TheVariants.{Relay}
-use Rattle.loop_model.specs.Entries.{tad, unt, rfc, nrd, is_frame}
+use Rattle.il_frames.specs.NamedFrames.{tad, unt, rfc, nrd, is_frame}
 use Rattle.il_guest.specs.Frames.{sst}
 use Rattle.il_guest.specs.Rounds.{Move, own_returned, command_moves, asked, addresses_from, addresses, first_of, after_first, all_polled, rounds}
 use Rattle.il_guest.specs.Steps.{command_frame, out_at, passed_over, asking, command_then, expecting, start_then, control_after}

@@ -8,7 +8,7 @@ use Rattle.il_device.specs.Takes.{eto, ete}
 use Rattle.il_guest.specs.declared.control.Place.TheVariants as place
 use Rattle.il_guest.specs.declared.control.Control.TheVariants as control
 use Rattle.il_guest.specs.declared.guest.GuestOut.TheVariants.{Source, Relay}
-use Rattle.loop_model.specs.Entries.{unl, tad, unt, rfc, nrd}
+use Rattle.il_frames.specs.NamedFrames.{unl, tad, unt, rfc, nrd}
 use Rattle.il_guest.specs.Frames.{nop, sst}
 use Rattle.il_guest.specs.Rounds.{addresses, round, all_told, is_status_answer}
 use Rattle.il_guest.specs.State.{none_found}

@@ -23,7 +23,7 @@ use Rattle.il_guest.specs.declared.guest.GuestOut.TheVariants.{Pass, Source, Sto
 use Rattle.il_guest.specs.Frames.{nop}
 use Rattle.il_guest.specs.Steps.{IsControl, out_of, control_after, told_at, noted}
 use Rattle.il_guest.specs.State.{GuestState, IsGuest, is_leading, none_found, roles_in_lead}
-use Rattle.loop_model.specs.Leading.{is_ifc}
+use Rattle.il_frames.specs.NamedFrames.{is_ifc}
 use Rattle.il_guest.specs.Takes.{device_after, device_led, passed_by, under_host, taking_control, leading, takes_control, guest_under, guest_after, answer_under, GuestTakes}
 use Rattle.il_guest.specs.Courses.{first_control, control_next, told_by_control}
 use Rattle.il_guest.proofs.StepLemmas.{DoesPass, passes-under, not-host, address-led}

@@ -4,6 +4,4 @@ pub mod RoundLaws
 pub mod CourseLaws
 pub mod GuestLaws
 pub mod RunLaws
-pub mod LendLaws
 mod Examples
-mod LendExamples

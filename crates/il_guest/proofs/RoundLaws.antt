@@ -14,7 +14,7 @@ use Rattle.il_guest.specs.declared.control.Command.TheVariants as command
 use Rattle.il_guest.specs.declared.control.Place.TheVariants as place
 use Rattle.il_guest.specs.declared.control.Control.{Control}
 use Rattle.il_guest.specs.declared.control.Control.TheVariants as control
-use Rattle.loop_model.specs.Entries.{unl, tad, unt, is_frame}
+use Rattle.il_frames.specs.NamedFrames.{unl, tad, unt, is_frame}
 use Rattle.il_guest.specs.Frames.{nop, sst}
 use Rattle.il_guest.specs.Rounds.{Move, command_moves, asked, poll_moves, addresses_from, addresses, first_of, after_first, all_polled, round, rounds, is_status_answer, status_told, all_told, rounds_told}
 use Rattle.il_guest.specs.Steps.{command_frame, out_of, passed_over, asking, command_then, noted}

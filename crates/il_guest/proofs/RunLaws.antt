@@ -16,12 +16,12 @@ use Rattle.il_guest.specs.declared.control.Control.{Control}
 use Rattle.il_guest.specs.declared.control.Control.TheVariants as control
 use Rattle.il_guest.specs.declared.guest.GuestOut.{GuestOut}
 use Rattle.il_guest.specs.declared.guest.GuestOut.TheVariants.{Source}
-use Rattle.loop_model.specs.Entries.{rfc, nrd, is_frame}
+use Rattle.il_frames.specs.NamedFrames.{rfc, nrd, is_frame}
 use Rattle.il_guest.specs.Frames.{nop, sst}
 use Rattle.il_guest.specs.Rounds.{Move, rounds, is_status_answer, rounds_told}
 use Rattle.il_guest.specs.Steps.{IsControl, IsRoundPlace, command_frame, out_of, out_at, command_then, expecting, start_then, control_after}
 use Rattle.il_guest.specs.State.{GuestState, is_leading}
-use Rattle.loop_model.specs.Leading.{is_ifc}
+use Rattle.il_frames.specs.NamedFrames.{is_ifc}
 use Rattle.il_guest.specs.Courses.{first_control, control_next, control_after_all, found_after_all, moves, Runs, is_no_ifc}
 use Rattle.il_guest.proofs.SentLemmas.{command_says, message_of-command}
 use Rattle.il_guest.proofs.RoundLaws.{is_same-true, moves-rounds}

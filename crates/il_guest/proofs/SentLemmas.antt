@@ -14,7 +14,7 @@ use Rattle.il_guest.specs.declared.control.Command.{Command}
 use Rattle.il_guest.specs.declared.control.Command.TheVariants as command
 use Rattle.il_guest.specs.declared.control.Place.{Place}
 use Rattle.il_guest.specs.declared.control.Place.TheVariants as place
-use Rattle.loop_model.specs.Entries.{tad}
+use Rattle.il_frames.specs.NamedFrames.{tad}
 use Rattle.il_guest.specs.Steps.{command_frame, sent_at, IsAsked, IsRoundPlace}
 
 -- ---- the messages

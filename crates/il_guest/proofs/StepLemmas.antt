@@ -23,13 +23,13 @@ use Rattle.il_guest.specs.declared.control.Control.{Control}
 use Rattle.il_guest.specs.declared.control.Control.TheVariants as control
 use Rattle.il_device.specs.Takes.{eto}
 use Rattle.il_frames.specs.Frames.{is_data}
-use Rattle.loop_model.specs.Entries.{rfc, nrd, is_frame}
+use Rattle.il_frames.specs.NamedFrames.{rfc, nrd, is_frame}
 use Rattle.il_guest.specs.Frames.{sst}
 use Rattle.il_guest.specs.Steps.{sent_at, command_frame, out_of, IsRoundPlace, IsControl, expecting, command_then, start_then, control_after, told_at, noted}
 use Rattle.il_guest.specs.State.{GuestState, IsGuest, roles_in_lead, guest_device}
 use Rattle.il_guest.specs.declared.guest.GuestOut.{GuestOut}
 use Rattle.il_guest.specs.declared.guest.GuestOut.TheVariants.{Pass}
-use Rattle.loop_model.specs.Leading.{is_ifc}
+use Rattle.il_frames.specs.NamedFrames.{is_ifc}
 use Rattle.il_guest.specs.Takes.{is_tct, device_after, passed_by, device_led, under_host, leading, takes_control, guest_under, guest_after, answer_under, guest_answer, GuestTakes}
 use Rattle.il_guest.proofs.SentLemmas.{said_at, message_of-sent, address-said, own-said, assignment-said, count-said}
 

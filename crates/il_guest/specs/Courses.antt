@@ -10,7 +10,7 @@ use Rattle.il_guest.specs.declared.guest.GuestOut.{GuestOut}
 use Rattle.il_guest.specs.Rounds.{Move}
 use Rattle.il_guest.specs.Steps.{out_of, control_after, told_at, noted}
 use Rattle.il_guest.specs.State.{GuestState}
-use Rattle.loop_model.specs.Leading.{is_ifc}
+use Rattle.il_frames.specs.NamedFrames.{is_ifc}
 use Rattle.il_guest.specs.Takes.{GuestTakes}
 
 -- where it begins: it has sent its first frame

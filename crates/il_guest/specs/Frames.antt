@@ -1,7 +1,7 @@
 -- The frames of a controller that polls, by name, as far as logs of the host have none. Source: HP-IL
 -- Interface Specification, HP 82166-90017, the tables of command and ready messages.
 use Rattle.il_frames.specs.declared.frame.Frame.{Frame}
-use Rattle.loop_model.specs.Entries.{command, ready}
+use Rattle.il_frames.specs.NamedFrames.{command, ready}
 
 -- no operation
 abbrev pub nop : Frame

@@ -4,4 +4,3 @@ pub mod Steps
 pub mod State
 pub mod Takes
 pub mod Courses
-pub mod Lends

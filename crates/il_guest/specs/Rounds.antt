@@ -8,7 +8,7 @@ use Rattle.il_device.specs.Roles.{is_own}
 use Rattle.il_device.specs.Takes.{eto}
 use Rattle.il_guest.specs.declared.guest.GuestOut.{GuestOut}
 use Rattle.il_guest.specs.declared.guest.GuestOut.TheVariants.{Source, Relay}
-use Rattle.loop_model.specs.Entries.{unl, tad, unt, rfc, nrd}
+use Rattle.il_frames.specs.NamedFrames.{unl, tad, unt, rfc, nrd}
 use Rattle.il_guest.specs.Frames.{nop, sst}
 
 -- a frame that goes out, and the one that then comes

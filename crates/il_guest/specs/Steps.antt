@@ -12,7 +12,7 @@ use Rattle.il_guest.specs.declared.control.Control.{Control}
 use Rattle.il_guest.specs.declared.control.Control.TheVariants as control
 use Rattle.il_guest.specs.declared.guest.GuestOut.{GuestOut}
 use Rattle.il_guest.specs.declared.guest.GuestOut.TheVariants.{Source, Relay, Stop}
-use Rattle.loop_model.specs.Entries.{unl, tad, unt, rfc, nrd, is_frame}
+use Rattle.il_frames.specs.NamedFrames.{unl, tad, unt, rfc, nrd, is_frame}
 use Rattle.il_guest.specs.Frames.{nop, sst}
 
 -- ---- what it sent

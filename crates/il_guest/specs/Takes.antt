@@ -8,7 +8,7 @@ use Rattle.il_device.specs.Roles.{roles_after, own_after, assignment_after}
 use Rattle.il_device.specs.State.{DeviceState, risen}
 use Rattle.il_device.specs.Passing.{passed}
 use Rattle.il_device.specs.Takes.{turn_of, count_after}
-use Rattle.loop_model.specs.Leading.{is_ifc}
+use Rattle.il_frames.specs.NamedFrames.{is_ifc}
 use Rattle.il_guest.specs.declared.control.Command.TheVariants as command
 use Rattle.il_guest.specs.declared.control.Place.{Place}
 use Rattle.il_guest.specs.declared.control.Place.TheVariants as place

@@ -3,7 +3,7 @@
 ghost use Rattle.std.specs.Prelude.{◌≡◌, ◌≤◌};
 ghost use Rattle.il_frames.specs.declared.frame.Class.TheVariants as class;
 ghost use Rattle.il_frames.specs.Frames.{framed};
-ghost use Rattle.loop_model.specs.Entries.{is_frame};
+ghost use Rattle.il_frames.specs.NamedFrames.{is_frame};
 ghost use Rattle.il_guest.specs.Steps.{IsAsked, IsNumber, IsRoundPlace, IsControl, IsNoted, command_frame, sent_at, out_at, out_of};
 ghost use Rattle.il_guest.specs.Steps.{passed_over, command_then, control_after, told_at};
 ghost use Rattle.il_guest.specs.Steps as steps;

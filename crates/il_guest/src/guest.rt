@@ -3,7 +3,7 @@
 ghost use Rattle.std.specs.Prelude.{◌≡◌, ◌⊎◌, ◌↔◌, ◌≤◌, IsTrue, true};
 ghost use Rattle.il_frames.specs.Messages.{message_of};
 ghost use Rattle.il_device.specs.State.{IsDevice, IsIdle};
-ghost use Rattle.loop_model.specs.Leading as control_back;
+ghost use Rattle.il_frames.specs.NamedFrames as named;
 ghost use Rattle.il_guest.specs.State.{GuestState, IsGuest, fresh_guest, is_leading};
 ghost use Rattle.il_guest.specs.Frames.{nop};
 ghost use Rattle.il_guest.specs.Steps.{IsNoted, noted, out_of};
@@ -132,7 +132,7 @@ impl Guest {
 
     /// It passes the frame as every device does, and the host controls then.
     fn pass(&mut self, frame: Frame) -> GuestOut
-        requires passes { (self.old.control ≡ control.Host) ⊎ (control_back.is_ifc (message_of frame) ≡ true) }
+        requires passes { (self.old.control ≡ control.Host) ⊎ (named.is_ifc (message_of frame) ≡ true) }
         ensures answer { result ≡ Pass (passed_by self.old.device frame) }
         ensures state { self.new ≡ under_host self.old frame }
         ensures guest { IsGuest self.new }
@@ -184,7 +184,7 @@ fn note(found: &mut [Option<u8>; ADDRESSES], told: Option<(u8, Option<u8>)>)
 
 /// Whether the frame is interface clear.
 fn is_ifc(frame: Frame) -> bool
-    ensures { result ≡ control_back.is_ifc (message_of frame) }
+    ensures { result ≡ named.is_ifc (message_of frame) }
 {
     matches!(frame.message(), Message::Ifc)
 }

@@ -1,6 +1,5 @@
-//! The choice of a place for a new file on an adopted volume.
+//! Where a new file goes on an adopted volume: the first slot of a purged file with room between its neighbours, else
+//! the place before the redo file.
 #![tactic(auto)]
 
-mod choosing;
-
-pub use choosing::{Choice, choose, choose_beside};
+pub use lif_plan::{Choice, choose};

@@ -20,3 +20,4 @@ pub mod Writing
 pub mod Commit
 pub mod History
 pub mod Plain
+pub mod Packing

@@ -20,7 +20,7 @@ use Rattle.lif_model.proofs.Adopted.{is_file_tells, ends_before_redo, settles_be
 use Rattle.lif_model.proofs.Recorded.{length_records, records_before, records_behind, records_replaced}
 use Rattle.lif_model.proofs.Slotted.{IsOn, is_on}
 use Rattle.lif_model.proofs.Writing.{AreEntries, rewritten, untouched, length_slots, slots_record, slots_elsewhere}
-use Rattle.lif_pack.specs.Packing.{records_from, redo_slot, bears_mark, has_mark, move_of, packed_start, finishing_slots, with_moved, finished_with, finished_by, finished, finished_volume_of}
+use Rattle.lif_model.specs.Packing.{records_from, redo_slot, bears_mark, has_mark, move_of, packed_start, finishing_slots, with_moved, finished_with, finished_by, finished, finished_volume_of}
 use Rattle.lif_pack.specs.Tasks.{IsShownAs}
 use Rattle.lif_pack.proofs.Entries.{unmarked_size}
 use Rattle.lif_pack.proofs.Pointwise.{length_from}

@@ -21,7 +21,7 @@ use Rattle.lif_volume.specs.Answers.{store_answer, IsLegalAs, IsSettledAs}
 use Rattle.lif_volume.specs.Commands.{mounting}
 use Rattle.lif_volume.specs.Did.{IsOneOf}
 use Rattle.lif_pack.specs.declared.reading.Readable.{Readable}
-use Rattle.lif_pack.specs.Packing.{is_in_order, has_mark, finished_volume_of, pack_refusal}
+use Rattle.lif_model.specs.Packing.{is_in_order, has_mark, finished_volume_of, pack_refusal}
 use Rattle.lif_pack.specs.declared.pack.Packed.{Packed}
 use Rattle.lif_pack.specs.Packs.{IsRefusedTo}
 use Rattle.lif_pack.proofs.Stopped.{upgraded_not_held}

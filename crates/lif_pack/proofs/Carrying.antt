@@ -7,7 +7,7 @@ use Rattle.lif_model.specs.Pairs.{all_pairs}
 use Rattle.lif_model.specs.declared.version.Version.TheVariants.{Two}
 use Rattle.lif_model.specs.Redo.{Changes, targets_in, are_targets, redo_start, changed}
 use Rattle.lif_model.specs.Writing.{with_records}
-use Rattle.lif_pack.specs.Packing.{records_from}
+use Rattle.lif_model.specs.Packing.{records_from}
 use Rattle.lif_pack.specs.Moving.{numbers_from, numbered_from}
 use Rattle.lif_pack.proofs.Pointwise.{length_from}
 use Rattle.std.proofs.lemmas.Bool.{and_from, lt-ltb, le-leb, ne_eqb, not_from_false}

@@ -9,7 +9,7 @@ use Rattle.lif_model.specs.Volume.{IsVolume, Volume, is_redo_entry}
 use Rattle.lif_model.specs.Fit.{redo_place}
 use Rattle.lif_model.specs.Apply.{is_upgraded}
 use Rattle.lif_model.proofs.Adopted.{redo_is_alone, redo_file_is_named, redo_entry_tells}
-use Rattle.lif_pack.specs.Packing.{is_in_order, redo_slot, marked_slot, marked_count, unmarked, bears_mark}
+use Rattle.lif_model.specs.Packing.{is_in_order, redo_slot, marked_slot, marked_count, unmarked, bears_mark}
 use Rattle.lif_pack.specs.Steps.{volume_with, MayPack, HasPlainStart}
 use Rattle.lif_pack.proofs.Entries.{unmarked_slot, unmarked_count, unmarked_redo}
 use Rattle.lif_pack.proofs.Order.{order_on}

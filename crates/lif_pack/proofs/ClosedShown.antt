@@ -4,7 +4,7 @@ use Rattle.lif_model.specs.Tape.{Tape, IsTape}
 use Rattle.lif_model.specs.Redo.{IsSettled}
 use Rattle.lif_model.specs.Legal.{is_live}
 use Rattle.lif_model.specs.Volume.{Volume, is_file, volume_of, is_foreign_gated}
-use Rattle.lif_pack.specs.Packing.{redo_slot, marked_slot, marked_count, bears_mark, has_mark, without_start, finished_volume_of, files_shown, repacked}
+use Rattle.lif_model.specs.Packing.{redo_slot, marked_slot, marked_count, bears_mark, has_mark, without_start, finished_volume_of, files_shown, repacked}
 use Rattle.lif_pack.specs.Tasks.{KeepsFiles}
 use Rattle.lif_pack.specs.Steps.{volume_with, MayPack, IsOldOrClosed}
 use Rattle.lif_pack.proofs.Finishing.{marked_by}

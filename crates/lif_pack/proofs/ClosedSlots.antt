@@ -14,7 +14,7 @@ use Rattle.lif_model.proofs.Lists.{filter_pairs_tell}
 use Rattle.lif_model.proofs.Slots.{occupies_tells}
 use Rattle.lif_model.proofs.Adopted.{redo_is_alone, redo_file_is_named, redo_file_is_live, redo_entry_tells}
 use Rattle.lif_commit.specs.Staged.{AreBefore}
-use Rattle.lif_pack.specs.Packing.{rises, is_in_order, slots_after, redo_slot, marked_slot, marked_count, bears_mark, unmarked, packed_from}
+use Rattle.lif_model.specs.Packing.{rises, is_in_order, slots_after, redo_slot, marked_slot, marked_count, bears_mark, unmarked, packed_from}
 use Rattle.lif_pack.specs.Steps.{volume_with, HasPlainStart, MayPack, ArePackedAlike, MayStillPack}
 use Rattle.lif_pack.proofs.Order.{parts, live_before_redo}
 use Rattle.lif_pack.proofs.Walking.{purged_all}

@@ -18,7 +18,7 @@ use Rattle.lif_model.proofs.Outcomes.{settles_adopted, commit_leaves, stop_leave
 use Rattle.lif_model.proofs.Slots.{readable_tells}
 use Rattle.lif_commit.specs.Staged.{AreBefore, IsStagedAs}
 use Rattle.lif_commit.proofs.Staging.{AreWithin, before_leave, writes_taken, touched_is, settles_here}
-use Rattle.lif_pack.specs.Packing.{slots_after}
+use Rattle.lif_model.specs.Packing.{slots_after}
 use Rattle.lif_pack.specs.Steps.{MayPack, IsOldOrClosed}
 use Rattle.lif_pack.proofs.Placing.{end_below}
 use Rattle.lif_pack.proofs.Filtering.{filter_at, filter_has}

@@ -15,7 +15,7 @@ use Rattle.lif_plan.specs.Directories.{IsLegalDirectory}
 use Rattle.lif_volume.specs.Views.{IsDirectoryOf}
 use Rattle.lif_volume.specs.Commands.{Listed}
 use Rattle.lif_volume.specs.declared.volume.Listing.{Listing}
-use Rattle.lif_pack.specs.Packing.{bears_mark, has_mark}
+use Rattle.lif_model.specs.Packing.{bears_mark, has_mark}
 use Rattle.lif_pack.specs.declared.tasks.Task.{Task}
 use Rattle.lif_pack.specs.declared.marks.Mark.{Mark}
 use Rattle.lif_pack.specs.Marks.{IsMarkOf}

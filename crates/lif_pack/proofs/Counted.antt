@@ -9,7 +9,7 @@ use Rattle.lif_model.specs.Legal.{is_live, has_records}
 use Rattle.lif_model.specs.Volume.{Volume, is_redo_file, is_file}
 use Rattle.lif_model.specs.Fit.{redo_place}
 use Rattle.lif_model.proofs.Adopted.{is_file_tells, redo_entry_tells}
-use Rattle.lif_pack.specs.Packing.{live_length, live_records, stands_at, count_moved, redo_slot}
+use Rattle.lif_model.specs.Packing.{live_length, live_records, stands_at, count_moved, redo_slot}
 use Rattle.lif_pack.specs.Steps.{volume_with, MayPack}
 use Rattle.lif_pack.proofs.Order.{live_before_redo}
 use Rattle.lif_pack.proofs.Finishing.{redo_is_two, other_is_file}

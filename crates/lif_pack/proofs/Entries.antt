@@ -12,7 +12,7 @@ use Rattle.lif_model.proofs.Made.{two_front, four_front, two_behind, four_behind
 use Rattle.lif_dir.specs.Entries.{is_entry}
 use Rattle.lif_dir.specs.declared.entries.FileEntry.{FileEntry}
 use Rattle.lif_dir.specs.declared.entries.Slot.TheVariants.{Live, Purged, End}
-use Rattle.lif_pack.specs.Packing.{with_start, unmarked, marked_slot, marked_count, without_start}
+use Rattle.lif_model.specs.Packing.{with_start, unmarked, marked_slot, marked_count, without_start}
 
 -- ---- another start
 

@@ -23,7 +23,7 @@ use Rattle.lif_pack.specs.Steps.{ArePlaced, IsGap}
 use Rattle.lif_model.proofs.Examples as base
 use Rattle.lif_model.proofs.VolumeExamples.{file, a_name, b_name, numbered}
 use Rattle.lif_model.proofs.VolumeExamples as slot
-use Rattle.lif_pack.specs.Packing.{rises, is_in_order, live_records, packed_start, are_packed, with_start, redo_slot, marked_slot, marked_count, unmarked, bears_mark, move_of, finished, finished_volume_of, without_start, files_shown, pack_refusal, packed, repacked, files_moved, records_free}
+use Rattle.lif_model.specs.Packing.{rises, is_in_order, live_records, packed_start, are_packed, with_start, redo_slot, marked_slot, marked_count, unmarked, bears_mark, move_of, finished, finished_volume_of, without_start, files_shown, pack_refusal, packed, repacked, files_moved, records_free}
 
 abbrev c_name : List ℕ
 c_name = codes "C         "

@@ -16,7 +16,7 @@ use Rattle.lif_model.proofs.Adopted.{settles_below_adopted}
 use Rattle.lif_model.proofs.Directory.{volume_tells}
 use Rattle.lif_model.proofs.Writing.{untouched, rewritten, slots_record, slots_elsewhere}
 use Rattle.lif_model.proofs.Slotted.{IsOn, is_on, slot_here}
-use Rattle.lif_pack.specs.Packing.{has_mark, marked_slot, marked_count, packed_start, with_start, redo_slot, unmarked, bears_mark, move_of, finishing_slots, with_moved, finished_with, finished_by, finished, finished_volume}
+use Rattle.lif_model.specs.Packing.{has_mark, marked_slot, marked_count, packed_start, with_start, redo_slot, unmarked, bears_mark, move_of, finishing_slots, with_moved, finished_with, finished_by, finished, finished_volume}
 use Rattle.lif_pack.specs.declared.marks.Move.{Move}
 use Rattle.lif_pack.specs.declared.tasks.Task.{Task}
 use Rattle.lif_pack.specs.Marks.{IsMoveAt, IsMarked}

@@ -23,7 +23,7 @@ use Rattle.lif_model.proofs.Recorded.{length_records, records_before, records_be
 use Rattle.lif_model.proofs.Writing.{AreEntries, untouched, slots_elsewhere}
 use Rattle.lif_model.proofs.Slotted.{IsOn, is_on}
 use Rattle.lif_model.proofs.Written.{volume_by_parts}
-use Rattle.lif_pack.specs.Packing.{packed_start, with_start, redo_slot, marked_slot, marked_count, unmarked, bears_mark, move_of, records_from, finishing_slots, with_moved, finished_with, slots_after, finished_files, without_start}
+use Rattle.lif_model.specs.Packing.{packed_start, with_start, redo_slot, marked_slot, marked_count, unmarked, bears_mark, move_of, records_from, finishing_slots, with_moved, finished_with, slots_after, finished_files, without_start}
 use Rattle.lif_pack.proofs.Entries.{started_size, started_name, started_type, started_start, started_length, started_bare, unmarked_slot, unmarked_count, unmarked_redo}
 use Rattle.lif_pack.proofs.Order.{CanMove, move_is, takes, above_directory, others_clear}
 use Rattle.lif_pack.proofs.Order as order

@@ -10,7 +10,7 @@ use Rattle.lif_model.specs.Apply.{is_upgraded}
 use Rattle.lif_model.proofs.Redo.{settled_none, settled_is_quiet, settled_twice, length_settled, redo_places}
 use Rattle.lif_model.proofs.Directory.{settled_shape}
 use Rattle.lif_model.proofs.Volume.{quiet_agree}
-use Rattle.lif_pack.specs.Packing.{bears_mark, has_mark, move_of, finishing_slots, finished_with, finished_by, finished, finished_volume_of, slots_after, finished_files, finished_volume, without_start}
+use Rattle.lif_model.specs.Packing.{bears_mark, has_mark, move_of, finishing_slots, finished_with, finished_by, finished, finished_volume_of, slots_after, finished_files, finished_volume, without_start}
 use Rattle.lif_pack.proofs.FinishedVolume.{ends_by}
 
 -- ---- no mark

@@ -14,7 +14,7 @@ use Rattle.lif_model.proofs.Lists.{any_at, any_from}
 use Rattle.lif_model.proofs.Files.{get_file}
 use Rattle.lif_model.proofs.Adopted.{redo_file_is_named, redo_place_is, redo_is_alone, redo_entry_tells, adopted_some}
 use Rattle.lif_model.proofs.Named.{is_named, file_from, named_tells}
-use Rattle.lif_pack.specs.Packing.{redo_slot, marked_slot, marked_count, unmarked, bears_mark}
+use Rattle.lif_model.specs.Packing.{redo_slot, marked_slot, marked_count, unmarked, bears_mark}
 use Rattle.lif_pack.proofs.Entries.{unmarked_size, unmarked_name, unmarked_type, unmarked_start, unmarked_length, unmarked_redo}
 use Rattle.lif_pack.proofs.Pointwise.{found_same}
 use Rattle.lif_pack.proofs.Slotting.{MayStand, stands_as_before, set_is_volume}

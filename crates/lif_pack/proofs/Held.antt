@@ -9,7 +9,7 @@ use Rattle.lif_model.specs.Redo.{redo_start, settled}
 use Rattle.lif_model.specs.Volume.{Volume, volume_of}
 use Rattle.lif_model.specs.Fit.{redo_place}
 use Rattle.lif_model.proofs.Directory.{settled_shape}
-use Rattle.lif_pack.specs.Packing.{live_records, are_packed, with_start, redo_slot, unmarked, bears_mark, has_mark, move_of, finishing_slots, finished_volume_of, slots_after, finished_files, finished_volume}
+use Rattle.lif_model.specs.Packing.{live_records, are_packed, with_start, redo_slot, unmarked, bears_mark, has_mark, move_of, finishing_slots, finished_volume_of, slots_after, finished_files, finished_volume}
 use Rattle.lif_pack.specs.declared.marks.Move.{Move}
 use Rattle.lif_pack.specs.declared.tasks.Task.{Task}
 use Rattle.lif_pack.specs.Marks.{IsMarked}

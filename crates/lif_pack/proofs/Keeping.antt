@@ -11,7 +11,7 @@ use Rattle.lif_model.specs.Apply.{is_upgraded}
 use Rattle.lif_model.proofs.Moments.{follows, reads_too, weaker}
 use Rattle.lif_model.proofs.Redo.{settled_twice}
 use Rattle.il_ports.specs.Stores.{RecordsView, IsStore, RunLeaves}
-use Rattle.lif_pack.specs.Packing.{packed_start, with_start, bears_mark, has_mark, finished_with, finished_volume_of, files_shown, repacked}
+use Rattle.lif_model.specs.Packing.{packed_start, with_start, bears_mark, has_mark, finished_with, finished_volume_of, files_shown, repacked}
 use Rattle.lif_pack.specs.declared.marks.Move.{Move}
 use Rattle.lif_pack.specs.Marks.{IsMoveAt}
 use Rattle.lif_pack.specs.Moving.{MayMove, HasMoved, IsUnderWay}

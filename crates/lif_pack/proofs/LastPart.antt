@@ -9,7 +9,7 @@ use Rattle.lif_model.specs.Commit.{IsCommitted, IsOldOrNew}
 use Rattle.lif_model.proofs.Redo.{length_settled, length_changed}
 use Rattle.lif_model.specs.Writing.{SlotWrites, with_entry, slot_record, entry_from, with_slots, with_records}
 use Rattle.lif_model.proofs.Writing.{rewritten, slots_record, slots_elsewhere, length_slots, entry_other}
-use Rattle.lif_pack.specs.Packing.{records_from, unmarked, with_start}
+use Rattle.lif_model.specs.Packing.{records_from, unmarked, with_start}
 use Rattle.lif_pack.specs.declared.marks.Move.{Move}
 use Rattle.lif_pack.specs.Moving.{IsMidwayOrMore, IsMidwayOrMoved, IsUnderWay, with_mark, with_target, with_start_in, numbers_from, numbered_from, MayMove, IsMovedTo, IsMidway, HasMoved}
 use Rattle.lif_pack.specs.Tasks.{IsCleared, IsClearedOrOld}

@@ -13,7 +13,7 @@ use Rattle.lif_model.specs.Fit.{redo_place}
 use Rattle.lif_model.specs.Apply.{first_met}
 use Rattle.lif_model.specs.declared.refusal.Refusal.TheVariants.{NoRedo, NeedsUpgrade, OutOfOrder}
 use Rattle.lif_model.proofs.Adopted.{redo_file_is_live, redo_entry_tells}
-use Rattle.lif_pack.specs.Packing.{rises, is_in_order, redo_slot, unmarked, packed_from, pack_refusal, packed, repacked}
+use Rattle.lif_model.specs.Packing.{rises, is_in_order, redo_slot, unmarked, packed_from, pack_refusal, packed, repacked}
 use Rattle.lif_pack.proofs.ClosedVolume.{filter_both, any_kept, live_files}
 
 -- ---- lists

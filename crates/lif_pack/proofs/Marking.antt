@@ -7,7 +7,7 @@ use Rattle.lif_model.specs.Volume.{Volume, IsVolume, is_redo_entry}
 use Rattle.lif_model.specs.Fit.{redo_place}
 use Rattle.lif_model.specs.Apply.{is_upgraded}
 use Rattle.lif_model.proofs.Lists.{any_from}
-use Rattle.lif_pack.specs.Packing.{redo_slot, marked_slot, marked_count, bears_mark, is_move, moving_slot, good_mark, move_of}
+use Rattle.lif_model.specs.Packing.{redo_slot, marked_slot, marked_count, bears_mark, is_move, moving_slot, good_mark, move_of}
 use Rattle.lif_pack.specs.declared.marks.Move.{Move}
 use Rattle.lif_pack.specs.Marks.{IsMoving, IsMarked}
 use Rattle.lif_pack.proofs.Finishing.{redo_here, redo_is_two}

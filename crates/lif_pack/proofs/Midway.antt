@@ -12,7 +12,7 @@ use Rattle.lif_model.specs.Fit.{redo_place}
 use Rattle.lif_model.specs.Apply.{is_upgraded}
 use Rattle.lif_model.proofs.Lists.{any_from, filter_pairs_tell}
 use Rattle.lif_model.proofs.Adopted.{redo_is_alone, redo_file_is_named, redo_entry_tells}
-use Rattle.lif_pack.specs.Packing.{live_records, rises, is_in_order, are_packed, packed_start, redo_slot, marked_slot, marked_count, unmarked, bears_mark, is_move, moving_slot, good_mark, move_of}
+use Rattle.lif_model.specs.Packing.{live_records, rises, is_in_order, are_packed, packed_start, redo_slot, marked_slot, marked_count, unmarked, bears_mark, is_move, moving_slot, good_mark, move_of}
 use Rattle.lif_pack.proofs.Entries.{unmarked_name, unmarked_type, unmarked_start, unmarked_length, unmarked_redo}
 use Rattle.lif_pack.proofs.Order.{CanMove, rise, live_before_redo}
 use Rattle.lif_pack.proofs.Walking.{purged_all}

@@ -15,7 +15,7 @@ use Rattle.lif_model.specs.Writing.{with_slots}
 use Rattle.lif_model.proofs.Volume.{slots_agree}
 use Rattle.lif_model.proofs.Slotted.{IsOn, is_on, header_stays, slot_set}
 use Rattle.lif_model.proofs.Written.{volume_by_parts}
-use Rattle.lif_pack.specs.Packing.{unmarked, live_records, finished_volume_of, redo_slot, bears_mark, move_of}
+use Rattle.lif_model.specs.Packing.{unmarked, live_records, finished_volume_of, redo_slot, bears_mark, move_of}
 use Rattle.lif_pack.specs.declared.marks.Move.{Move}
 use Rattle.lif_pack.specs.Marks.{IsMoveAt}
 use Rattle.lif_pack.specs.Moving.{with_mark, MayMove, IsMidway, HasMoved}

@@ -16,7 +16,7 @@ use Rattle.lif_model.specs.Writing.{SlotWrites, with_entry, slot_record, entry_f
 use Rattle.lif_model.proofs.Directory.{entry_size}
 use Rattle.lif_model.proofs.Writing.{entry_here, entry_other}
 use Rattle.lif_model.proofs.Recorded.{records_before, records_behind, records_replaced}
-use Rattle.lif_pack.specs.Packing.{records_from, with_start}
+use Rattle.lif_model.specs.Packing.{records_from, with_start}
 use Rattle.lif_pack.specs.declared.marks.Move.{Move}
 use Rattle.lif_pack.specs.Moving.{IsMidwayOrMore, with_mark, with_start_in, numbered_from, MayMove, IsMarkedAs, IsMovedTo, IsMidway}
 use Rattle.lif_pack.proofs.Pointwise.{length_from, record_from}

@@ -22,7 +22,7 @@ use Rattle.lif_model.proofs.Adopted.{settles_below_adopted}
 use Rattle.lif_model.proofs.Named.{Names, equal, other, names_of, named_at_place}
 use Rattle.lif_model.proofs.Directory.{volume_tells}
 use Rattle.lif_model.proofs.Slotted.{IsOn, is_on}
-use Rattle.lif_pack.specs.Packing.{packed_start, with_start, redo_slot, marked_slot, marked_count, unmarked, bears_mark, has_mark, finished_with, files_shown, repacked}
+use Rattle.lif_model.specs.Packing.{packed_start, with_start, redo_slot, marked_slot, marked_count, unmarked, bears_mark, has_mark, finished_with, files_shown, repacked}
 use Rattle.lif_pack.specs.declared.marks.Move.{Move}
 use Rattle.lif_pack.specs.Marks.{IsMoveAt}
 use Rattle.lif_pack.specs.Moving.{HasMoved}

@@ -11,7 +11,7 @@ use Rattle.lif_model.specs.Volume.{Volume, IsVolume}
 use Rattle.lif_model.specs.Fit.{redo_place}
 use Rattle.lif_model.proofs.Lists.{all_at, all_from, filter_pairs_tell}
 use Rattle.lif_model.proofs.Slots.{occupies_tells}
-use Rattle.lif_pack.specs.Packing.{rises, is_in_order, live_length, live_records, stands_at, packed_start, are_packed, redo_slot, marked_count, is_move, moving_slot, marked_slot, good_mark, move_of}
+use Rattle.lif_model.specs.Packing.{rises, is_in_order, live_length, live_records, stands_at, packed_start, are_packed, redo_slot, marked_count, is_move, moving_slot, marked_slot, good_mark, move_of}
 
 -- ---- in order
 

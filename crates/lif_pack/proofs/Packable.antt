@@ -18,7 +18,7 @@ use Rattle.lif_dir.specs.Entries.{slot_bytes}
 use Rattle.lif_dir.specs.declared.entries.Slot.{Slot}
 use Rattle.lif_plan.specs.Directories.{IsLegalDirectory}
 use Rattle.lif_volume.specs.Views.{IsDirectoryOf}
-use Rattle.lif_pack.specs.Packing.{is_in_order, are_packed, live_records, redo_slot, unmarked, pack_refusal}
+use Rattle.lif_model.specs.Packing.{is_in_order, are_packed, live_records, redo_slot, unmarked, pack_refusal}
 use Rattle.lif_pack.specs.declared.marks.Move.{Move}
 use Rattle.lif_pack.specs.declared.tasks.Task.{Task}
 use Rattle.lif_pack.specs.Marks.{IsMarked}

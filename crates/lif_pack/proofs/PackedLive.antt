@@ -10,7 +10,7 @@ use Rattle.lif_model.specs.Legal.{is_live, has_records, occupies}
 use Rattle.lif_model.specs.Volume.{Volume, is_file}
 use Rattle.lif_model.specs.Fit.{redo_place}
 use Rattle.lif_model.proofs.Adopted.{redo_file_is_live, redo_entry_tells}
-use Rattle.lif_pack.specs.Packing.{live_length, stands_at, are_packed, with_start, redo_slot, marked_slot, marked_count, unmarked, packed_from, packed}
+use Rattle.lif_model.specs.Packing.{live_length, stands_at, are_packed, with_start, redo_slot, marked_slot, marked_count, unmarked, packed_from, packed}
 use Rattle.lif_pack.specs.Steps.{volume_with, MayPack, HasPlainStart}
 use Rattle.lif_pack.proofs.Order.{standing, live_whole, live_before_redo}
 use Rattle.lif_pack.proofs.Filtering.{filter_at}

@@ -7,7 +7,7 @@ use Rattle.lif_model.specs.Legal.{is_live}
 use Rattle.lif_model.specs.Volume.{Volume, is_adopted_with, volume_in, volume_of}
 use Rattle.lif_model.specs.Apply.{is_upgraded}
 use Rattle.lif_model.proofs.Directory.{volume_is}
-use Rattle.lif_pack.specs.Packing.{is_in_order, are_packed, has_mark, finished_volume_of, pack_refusal, packed}
+use Rattle.lif_model.specs.Packing.{is_in_order, are_packed, has_mark, finished_volume_of, pack_refusal, packed}
 use Rattle.lif_pack.specs.Steps.{MayPack, HasSlotsOf, ArePackedAlike}
 use Rattle.lif_pack.specs.declared.pack.Packed.{Packed}
 use Rattle.lif_pack.specs.Packs.{IsPacking, IsFinishedTo}

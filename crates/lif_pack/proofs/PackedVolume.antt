@@ -4,7 +4,7 @@ use Rattle.std.proofs.lemmas.Bool.{and_parts, and_from, eq-eqb}
 use Rattle.lif_model.specs.Directory.{name_of, type_of, start_of, length_of}
 use Rattle.lif_model.specs.Legal.{is_live, has_records, occupies, end_of}
 use Rattle.lif_model.proofs.Slots.{occupies_tells}
-use Rattle.lif_pack.specs.Packing.{with_start, live_length, live_records, stands_at, are_packed, without_start, packed_from}
+use Rattle.lif_model.specs.Packing.{with_start, live_length, live_records, stands_at, are_packed, without_start, packed_from}
 use Rattle.lif_pack.proofs.Entries.{started_size, started_name, started_type, started_start, started_length, started_bare}
 use Rattle.lif_pack.proofs.Order.{packed_within, standing, live_whole}
 use Rattle.lif_pack.proofs.Finishing.{live_alike}

@@ -19,7 +19,7 @@ use Rattle.lif_model.proofs.Legal.{names_tell, names_from}
 use Rattle.lif_model.proofs.Slots.{HasNew, push_new, legal_with_new, each_with_new, occupies_tells}
 use Rattle.lif_model.proofs.Adopted.{redo_is_alone, redo_file_tells, redo_file_is_named, redo_entry_tells, is_file_tells, ends_before_redo}
 use Rattle.lif_model.proofs.Named.{file_from}
-use Rattle.lif_pack.specs.Packing.{rises, is_in_order, live_records, are_packed, redo_slot, marked_slot, marked_count, unmarked, bears_mark, without_start, files_shown, packed_from, packed}
+use Rattle.lif_model.specs.Packing.{rises, is_in_order, live_records, are_packed, redo_slot, marked_slot, marked_count, unmarked, bears_mark, without_start, files_shown, packed_from, packed}
 use Rattle.lif_pack.proofs.Entries.{unmarked_size, unmarked_name, unmarked_type, unmarked_start, unmarked_length, unmarked_slot, unmarked_count, unmarked_redo}
 use Rattle.lif_pack.proofs.Order.{rise, packed_within}
 use Rattle.lif_pack.proofs.Finishing.{upgraded_is_adopted, redo_here, redo_is_two, clear_of, live_alike}

@@ -14,7 +14,7 @@ use Rattle.lif_model.specs.Fit.{redo_place}
 use Rattle.lif_model.specs.Apply.{is_upgraded}
 use Rattle.lif_model.proofs.Lists.{filter_pairs_tell}
 use Rattle.lif_model.proofs.Adopted.{is_file_tells, ends_before_redo, redo_is_alone, redo_file_is_named, redo_entry_tells}
-use Rattle.lif_pack.specs.Packing.{rises, is_in_order, live_length, live_records, stands_at, are_packed, packed_start, with_start, redo_slot, unmarked, marked_slot, marked_count, bears_mark, packed_from, repacked}
+use Rattle.lif_model.specs.Packing.{rises, is_in_order, live_length, live_records, stands_at, are_packed, packed_start, with_start, redo_slot, unmarked, marked_slot, marked_count, bears_mark, packed_from, repacked}
 use Rattle.lif_pack.specs.declared.marks.Move.{Move}
 use Rattle.lif_pack.specs.Marks.{IsMoveAt}
 use Rattle.lif_pack.specs.Moving.{MayMove, HasMoved, IsUnderWay}

@@ -7,7 +7,7 @@ use Rattle.lif_model.specs.Made.{in_four}
 use Rattle.lif_dir.specs.declared.entries.FileEntry.{FileEntry}
 use Rattle.lif_dir.specs.Entries.{entry_bytes}
 use Rattle.lif_dir.proofs.Bytes.{HasWidths, start_back}
-use Rattle.lif_pack.specs.Packing.{with_start, unmarked}
+use Rattle.lif_model.specs.Packing.{with_start, unmarked}
 use Rattle.lif_pack.specs.Steps.{HasPlainStart}
 use Rattle.lif_pack.proofs.Entries.{front_size, started_start, kept_size, unmarked_start}
 

@@ -2,7 +2,7 @@
 use Rattle.std.proofs.Common.{filter, map, find, ◌≡◌, ◌<◌, ◌+◌, ◌++◌, ℕ, zero, suc, List, [], ◌∷◌, Bool, true, false, if◌then◌else◌, Some, length, get_or, refl, sym, ◌∙◌, ap, arith, append_assoc}
 use Rattle.std.specs.Prelude.{option_map}
 use Rattle.lif_model.specs.Tape.{Tape, record_at, bytes_from}
-use Rattle.lif_pack.specs.Packing.{records_from}
+use Rattle.lif_model.specs.Packing.{records_from}
 
 module _ {Y : Type 0} (p : List ℕ → Bool) where
   abbrev pub Agree : (f g : List ℕ → Y) (xs ys : List (List ℕ)) → Type 0

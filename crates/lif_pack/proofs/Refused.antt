@@ -8,7 +8,7 @@ use Rattle.lif_model.specs.Fit.{redo_place}
 use Rattle.lif_model.specs.Apply.{is_upgraded, first_met}
 use Rattle.lif_model.proofs.Lists.{any_from}
 use Rattle.lif_model.proofs.Adopted.{redo_place_is, redo_entry_tells, adopted_some}
-use Rattle.lif_pack.specs.Packing.{is_in_order, redo_slot, pack_refusal}
+use Rattle.lif_model.specs.Packing.{is_in_order, redo_slot, pack_refusal}
 use Rattle.lif_pack.specs.Steps.{volume_with, MayPack}
 use Rattle.lif_pack.proofs.Finishing.{redo_is_two}
 

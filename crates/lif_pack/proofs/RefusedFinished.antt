@@ -8,7 +8,7 @@ use Rattle.lif_model.specs.Apply.{is_upgraded}
 use Rattle.lif_model.specs.declared.refusal.Refusal.{Refusal}
 use Rattle.lif_model.proofs.Adopted.{adopted_some}
 use Rattle.lif_model.proofs.Directory.{volume_in_is, settled_shape}
-use Rattle.lif_pack.specs.Packing.{is_in_order, bears_mark, has_mark, move_of, finishing_slots, finished_volume_of, slots_after, finished_files, finished_volume, pack_refusal}
+use Rattle.lif_model.specs.Packing.{is_in_order, bears_mark, has_mark, move_of, finishing_slots, finished_volume_of, slots_after, finished_files, finished_volume, pack_refusal}
 use Rattle.lif_pack.proofs.Finishes.{unmarked_volume, finishes}
 use Rattle.lif_pack.proofs.Order.{move_is}
 use Rattle.lif_pack.proofs.Tasking.{marked_is_upgraded}

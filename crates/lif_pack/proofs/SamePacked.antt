@@ -3,7 +3,7 @@ use Rattle.std.proofs.Common.{◌≡◌, ◌<◌, ◌+◌, nat_lt, ℕ, suc, Lis
 use Rattle.lif_model.specs.Directory.{length_of}
 use Rattle.lif_model.specs.Legal.{has_records}
 use Rattle.lif_model.specs.Volume.{is_file}
-use Rattle.lif_pack.specs.Packing.{with_start, packed_from}
+use Rattle.lif_model.specs.Packing.{with_start, packed_from}
 
 -- two slots that are the same once they are packed
 pub record IsPackedAlike (a b : List ℕ) : Type 0 where

@@ -11,7 +11,7 @@ use Rattle.lif_model.proofs.Directory.{entry_size}
 use Rattle.lif_model.proofs.Writing.{AreEntries, AreOther, Untouched, last_written, entry_byte, entry_other, slots_elsewhere, slots_shape, slot_written, others_untouched}
 use Rattle.lif_commit.specs.Staged.{IsStagedAs, AreBefore, HoldsSlots}
 use Rattle.lif_commit.proofs.Staging.{none_staged, before_leave, before_more, before_append}
-use Rattle.lif_pack.specs.Packing.{slots_after}
+use Rattle.lif_model.specs.Packing.{slots_after}
 use Rattle.lif_pack.specs.Steps.{StayBut, AreAmong, AreSetAside, HasRecord}
 use Rattle.lif_pack.proofs.Carrying.{targets_append}
 use Rattle.lif_pack.proofs.ClosedTape.{before_wider, entries_of, last_after}

@@ -25,7 +25,7 @@ use Rattle.il_ports.specs.Stores.{RecordsView, IsStore, RunLeaves}
 use Rattle.il_ports.proofs.Stores.{quiet_run, quiet_nowhere}
 use Rattle.lif_volume.specs.Answers.{HasVolumeOf}
 use Rattle.lif_volume.specs.Commands.{VolumeStays, SettlesOnly}
-use Rattle.lif_pack.specs.Packing.{bears_mark, has_mark, finished, finished_volume_of}
+use Rattle.lif_model.specs.Packing.{bears_mark, has_mark, finished, finished_volume_of}
 use Rattle.lif_pack.specs.declared.marks.Move.{Move}
 use Rattle.lif_pack.specs.declared.tasks.Task.{Task}
 use Rattle.lif_pack.specs.Marks.{IsMoveAt, IsMarked}

@@ -13,7 +13,7 @@ use Rattle.lif_model.specs.Apply.{is_upgraded}
 use Rattle.lif_model.proofs.Legal.{legal_tells}
 use Rattle.lif_model.proofs.Adopted.{is_file_tells, ends_before_redo}
 use Rattle.lif_plan.specs.Directories.{IsLegalDirectory}
-use Rattle.lif_pack.specs.Packing.{bears_mark}
+use Rattle.lif_model.specs.Packing.{bears_mark}
 use Rattle.lif_pack.specs.declared.marks.Move.{Move}
 use Rattle.lif_pack.specs.Marks.{MayBeMoved, IsMarked}
 use Rattle.lif_pack.specs.Tasks.{limit_of, MayFinish}

@@ -26,7 +26,7 @@ use Rattle.lif_model.proofs.Slots.{live_named_tells, push_new}
 use Rattle.lif_model.proofs.Adopted.{redo_file_is_named, redo_place_is, redo_is_alone}
 use Rattle.lif_model.proofs.Apply.{accepted, NoneMet, unmet_parts, none_met, made_redo_file, adopt_is_adopted, upgraded_at, upgrade_is_two, part_is_adopted}
 use Rattle.lif_model.proofs.Parts.{SetsSlot, InsertsSlot, PartDoes, nothing, renames, purges, fills, inserts, part_does}
-use Rattle.lif_pack.specs.Packing.{redo_slot, marked_slot, marked_count, bears_mark, has_mark}
+use Rattle.lif_model.specs.Packing.{redo_slot, marked_slot, marked_count, bears_mark, has_mark}
 use Rattle.lif_pack.proofs.Finishing.{marked_by, redo_is_two}
 
 -- ---- the redo entry of an adopted volume

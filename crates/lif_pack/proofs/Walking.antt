@@ -7,7 +7,7 @@ use Rattle.lif_model.specs.Pairs.{all_pairs}
 use Rattle.lif_model.specs.Directory.{start_of, is_purged}
 use Rattle.lif_model.specs.Legal.{is_live, occupies}
 use Rattle.lif_model.proofs.Lists.{all_at, all_from, filter_pairs_tell}
-use Rattle.lif_pack.specs.Packing.{rises, live_length, live_records, stands_at, are_packed}
+use Rattle.lif_model.specs.Packing.{rises, live_length, live_records, stands_at, are_packed}
 
 -- ---- places
 

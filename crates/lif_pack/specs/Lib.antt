@@ -1,4 +1,3 @@
-pub mod Packing
 pub mod Packers
 pub mod Marks
 pub mod Moving

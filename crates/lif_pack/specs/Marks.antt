@@ -4,8 +4,8 @@ use Rattle.lif_model.specs.Directory.{start_of, length_of}
 use Rattle.lif_model.specs.Legal.{is_live}
 use Rattle.lif_model.specs.Volume.{Volume}
 use Rattle.lif_model.specs.Fit.{redo_place}
-use Rattle.lif_pack.specs.Packing.{is_in_order, packed_start, redo_slot, marked_slot, marked_count}
-use Rattle.lif_pack.specs.Packing.{bears_mark, is_move, move_of}
+use Rattle.lif_model.specs.Packing.{is_in_order, packed_start, redo_slot, marked_slot, marked_count}
+use Rattle.lif_model.specs.Packing.{bears_mark, is_move, move_of}
 use Rattle.lif_pack.specs.declared.marks.Move.{Move}
 use Rattle.lif_pack.specs.declared.marks.Mark.{Mark}
 

@@ -6,7 +6,7 @@ use Rattle.lif_model.specs.Directory.{entry_at}
 use Rattle.lif_model.specs.declared.version.Version.TheVariants.{Two}
 use Rattle.lif_model.specs.Redo.{Changes, redo_start, settled}
 use Rattle.lif_model.specs.Writing.{SlotWrites, with_entry, slot_record, entry_from, with_slots}
-use Rattle.lif_pack.specs.Packing.{marked_slot, marked_count, unmarked, with_start}
+use Rattle.lif_model.specs.Packing.{marked_slot, marked_count, unmarked, with_start}
 use Rattle.lif_pack.specs.declared.marks.Move.{Move}
 
 -- the entry with this implementation field, bytes 28 to 31

@@ -17,8 +17,8 @@ use Rattle.lif_volume.specs.declared.fault.VolumeFault.TheVariants.{Refused, Tro
 use Rattle.lif_volume.specs.declared.volume.Listing.{Listing}
 use Rattle.lif_volume.specs.Views.{VolumeView}
 use Rattle.lif_volume.specs.Commands.{IsTold}
-use Rattle.lif_pack.specs.Packing.{with_start, redo_slot, unmarked, finished_volume_of}
-use Rattle.lif_pack.specs.Packing.{pack_refusal, packed, files_moved, records_free}
+use Rattle.lif_model.specs.Packing.{with_start, redo_slot, unmarked, finished_volume_of}
+use Rattle.lif_model.specs.Packing.{pack_refusal, packed, files_moved, records_free}
 use Rattle.lif_pack.specs.declared.marks.Move.{Move}
 use Rattle.lif_pack.specs.declared.tasks.Task.{Task}
 use Rattle.lif_pack.specs.declared.pack.Packed.{Packed}

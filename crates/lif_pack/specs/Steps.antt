@@ -13,7 +13,7 @@ use Rattle.lif_model.specs.Volume.{Volume, IsVolume, volume_of, is_foreign_gated
 use Rattle.lif_model.specs.Fit.{redo_place}
 use Rattle.lif_model.specs.Apply.{is_upgraded}
 use Rattle.lif_commit.specs.Staged.{IsStagedAs, AreBefore}
-use Rattle.lif_pack.specs.Packing.{is_in_order, live_records, are_packed, bears_mark, packed}
+use Rattle.lif_model.specs.Packing.{is_in_order, live_records, are_packed, bears_mark, packed}
 
 -- some volume with this record 0 and these slots
 abbrev pub volume_with : List ℕ → List (List ℕ) → Volume

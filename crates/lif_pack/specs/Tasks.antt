@@ -12,7 +12,7 @@ use Rattle.lif_model.specs.Writing.{slot_record, entry_from, with_slots}
 use Rattle.il_ports.specs.Stores.{RecordsView, RunLeaves}
 use Rattle.lif_volume.specs.Views.{VolumeView}
 use Rattle.lif_volume.specs.Commands.{IsTold, mounting_on}
-use Rattle.lif_pack.specs.Packing.{unmarked, bears_mark, has_mark, finished, finished_volume_of, files_shown, repacked}
+use Rattle.lif_model.specs.Packing.{unmarked, bears_mark, has_mark, finished, finished_volume_of, files_shown, repacked}
 use Rattle.lif_pack.specs.declared.marks.Move.{Move}
 use Rattle.lif_pack.specs.declared.tasks.Task.{Task}
 use Rattle.lif_pack.specs.Marks.{IsMarked}

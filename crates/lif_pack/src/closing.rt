@@ -78,7 +78,7 @@ impl Packer {
     ghost use Rattle.lif_model.specs.Volume.{Volume, volume_of};
     ghost use Rattle.il_ports.specs.Stores.{RunLeaves};
     ghost use Rattle.lif_commit.specs.Staged.{IsStagedAs, AreBefore};
-    ghost use Rattle.lif_pack.specs.Packing.{slots_after};
+    ghost use Rattle.lif_model.specs.Packing.{slots_after};
     ghost use Rattle.lif_pack.specs.Steps.{MayPack, MayStillPack, TapeHasSlots, IsOldOrClosed};
 
     /// Brings the live slots of record `i` of the directory forward to slot `front`, between which and them all are

@@ -3,7 +3,7 @@ ghost use Rattle.std.specs.Prelude.{◌≡◌, ◌<◌, ◌≤◌, ◌^◌, ℕ,
 ghost use Rattle.lif_model.specs.Header.{directory_end};
 ghost use Rattle.lif_model.specs.Volume.{Volume};
 ghost use Rattle.lif_dir.specs.Entries.{slot_bytes};
-ghost use Rattle.lif_pack.specs.Packing.{live_records, files_moved, records_free};
+ghost use Rattle.lif_model.specs.Packing.{live_records, files_moved, records_free};
 ghost use Rattle.lif_pack.specs.Steps.{MayPack};
 
 use crate::placed::{live_length, stands_at};

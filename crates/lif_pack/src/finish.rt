@@ -12,7 +12,7 @@ ghost use Rattle.lif_volume.specs.Views.{IsOpen};
 ghost use Rattle.lif_volume.specs.Seen.{seen};
 ghost use Rattle.lif_volume.specs.Commands.{IsReadyFor, IsTold, OnlySettles};
 ghost use Rattle.lif_volume.specs.Changing.{SettlesForeign};
-ghost use Rattle.lif_pack.specs.Packing.{bears_mark};
+ghost use Rattle.lif_model.specs.Packing.{bears_mark};
 ghost use Rattle.lif_pack.specs.Packers.{IsPackerFor};
 ghost use Rattle.lif_pack.specs.Tasks.{MayFinish, IsTaskOf, IsFinished, IsCleared, IsClearedOrOld, IsLeftToDo};
 ghost use Rattle.lif_pack.specs.Tasks.{MountsAlone, MountsUnmarked, calls_to_finish};

@@ -7,7 +7,7 @@ ghost use Rattle.lif_model.specs.Redo.{IsSettled};
 ghost use Rattle.lif_model.specs.Volume.{Volume as VolumeModel, volume_of};
 ghost use Rattle.il_ports.specs.Stores.{IsReady, GoesOn, RunLeaves};
 ghost use Rattle.lif_dir.specs.Entries.{entry_bytes, slot_bytes, is_entry};
-ghost use Rattle.lif_pack.specs.Packing.{unmarked};
+ghost use Rattle.lif_model.specs.Packing.{unmarked};
 ghost use Rattle.lif_pack.specs.Packers.{slots_held};
 ghost use Rattle.lif_pack.specs.Steps.{MayPack, ArePlaced};
 ghost use Rattle.lif_pack.specs.Tasks.{IsTaskOf, IsFinished, IsShownAs, KeepsFiles, calls_to_finish};
@@ -125,7 +125,7 @@ fn without_mark(entry: FileEntry) -> Slot
 }
 
 /// The bytes of the entry without a mark.
-#[tactic(auto, unfolding(crate::specs::Packing::unmarked))]
+#[tactic(auto, unfolding(lif_model::specs::Packing::unmarked))]
 fn unmarked_bytes(entry: FileEntry) -> [u8; ENTRY]
     ensures bytes { result ≡ unmarked (entry_bytes entry) }
     ensures size { length (entry_bytes entry) ≡ 32 }

@@ -7,7 +7,7 @@ ghost use Rattle.lif_model.specs.Made.{in_two};
 ghost use Rattle.lif_model.specs.Redo.{IsSettled, targets_in};
 ghost use Rattle.lif_model.specs.Writing.{with_entry, slot_record, entry_from};
 ghost use Rattle.il_ports.specs.Stores.{IsReady, GoesOn, IsQuiet, RunLeaves};
-ghost use Rattle.lif_pack.specs.Packing.{with_start, records_from};
+ghost use Rattle.lif_model.specs.Packing.{with_start, records_from};
 ghost use Rattle.lif_pack.specs.Moving.{with_mark, numbers_from, numbered_from, with_target, with_start_in};
 
 use crate::marks::Move;
@@ -276,7 +276,7 @@ pub fn put_part(entry: &mut [u8; ENTRY], at: usize, part: &[u8])
 }
 
 /// Gives the entry in place `k` of a record of the directory another first record.
-#[tactic(auto, unfolding(crate::specs::Packing::with_start, lif_model::specs::Directory::entry_at))]
+#[tactic(auto, unfolding(lif_model::specs::Packing::with_start, lif_model::specs::Directory::entry_at))]
 fn put_start(bytes: &mut Record, k: usize, start: u32)
     requires { k < 8 }
     ensures { bytes.new ≡ with_entry bytes.old k (with_start start (entry_at bytes.old k)) }

@@ -7,7 +7,7 @@ ghost use Rattle.lif_model.specs.Redo.{IsSettled};
 ghost use Rattle.lif_model.specs.Legal.{occupies};
 ghost use Rattle.il_ports.specs.Stores.{IsReady, GoesOn, RunLeaves};
 ghost use Rattle.lif_dir.specs.Entries.{entry_bytes, slot_bytes, is_entry};
-ghost use Rattle.lif_pack.specs.Packing.{with_start};
+ghost use Rattle.lif_model.specs.Packing.{with_start};
 ghost use Rattle.lif_pack.specs.Packers.{slots_held};
 ghost use Rattle.lif_pack.specs.Steps.{MayPack, ArePlaced, OfSlots, HasSlotsOf, ArePackedAlike};
 ghost use Rattle.lif_pack.specs.Tasks.{KeepsFiles};
@@ -76,7 +76,7 @@ impl Packer {
     ghost use Rattle.std.specs.Prelude.{◌-◌, take, IfOk};
     ghost use Rattle.lif_model.specs.declared.version.Version.TheVariants.{Two};
     ghost use Rattle.lif_model.specs.Redo.{redo_start};
-    ghost use Rattle.lif_pack.specs.Packing.{live_length, are_packed};
+    ghost use Rattle.lif_model.specs.Packing.{live_length, are_packed};
 
     /// Moves the files of this directory from slot `from` on, before the redo entry, to their places, in slot order.
     /// Those before slot `from` stand there, and `place` is the next one. Of each record of a file at most 15 are read
@@ -190,7 +190,7 @@ pub fn started(entry: FileEntry, start: u32) -> Slot
 }
 
 /// The bytes of the entry with another first record.
-#[tactic(auto, unfolding(crate::specs::Packing::with_start))]
+#[tactic(auto, unfolding(lif_model::specs::Packing::with_start))]
 fn started_bytes(entry: FileEntry, start: u32) -> [u8; ENTRY]
     ensures bytes { result ≡ with_start start (entry_bytes entry) }
     ensures size { length (entry_bytes entry) ≡ 32 }

@@ -7,7 +7,7 @@ ghost use Rattle.lif_model.specs.Directory.{start_of, length_of, is_purged};
 ghost use Rattle.lif_model.specs.Legal.{occupies};
 ghost use Rattle.lif_model.specs.Fit.{redo_place};
 ghost use Rattle.lif_dir.specs.Entries.{entry_bytes, slot_bytes};
-ghost use Rattle.lif_pack.specs.Packing.{rises, is_in_order, live_length, live_records, stands_at, are_packed};
+ghost use Rattle.lif_model.specs.Packing.{rises, is_in_order, live_length, live_records, stands_at, are_packed};
 ghost use Rattle.lif_pack.specs.Steps.{HasPlainStart, MayPack, ArePlaced};
 
 use lif_dir::{FileEntry, SlotTable};

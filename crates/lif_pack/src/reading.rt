@@ -14,7 +14,7 @@ ghost use Rattle.lif_volume.specs.Answers.{store_answer};
 ghost use Rattle.lif_volume.specs.Commands.{IsReadyFor, IsTold, OnlySettles};
 ghost use Rattle.lif_volume.specs.Did.{IsOneOf};
 ghost use Rattle.lif_volume.specs.Seen.{seen};
-ghost use Rattle.lif_pack.specs.Packing.{pack_refusal};
+ghost use Rattle.lif_model.specs.Packing.{pack_refusal};
 ghost use Rattle.lif_pack.specs.Packers.{IsPackerFor, slots_held};
 ghost use Rattle.lif_pack.specs.Steps.{MayPack};
 ghost use Rattle.lif_pack.specs.Tasks.{KeepsShown};

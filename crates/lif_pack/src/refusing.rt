@@ -4,7 +4,7 @@ ghost use Rattle.lif_model.specs.declared.version.Version.TheVariants.{One};
 ghost use Rattle.lif_model.specs.declared.refusal.Refusal.TheVariants as refusal;
 ghost use Rattle.lif_model.specs.Volume.{Volume, IsVolume, is_redo_entry};
 ghost use Rattle.lif_dir.specs.Entries.{entry_bytes, slot_bytes};
-ghost use Rattle.lif_pack.specs.Packing.{pack_refusal};
+ghost use Rattle.lif_model.specs.Packing.{pack_refusal};
 ghost use Rattle.lif_pack.specs.Steps.{HasPlainStart};
 
 use crate::marks::{is_redo_entry, redo_place};

@@ -1,3 +1,4 @@
+mod Walk
 mod LegalExtents
 pub mod Found
 pub mod Planning
@@ -9,3 +10,4 @@ mod Remembered
 mod Chosen
 mod Examples
 mod BatchExamples
+mod ChoiceExamples

@@ -1,3 +1,4 @@
+pub mod Choices
 pub mod Entries
 pub mod Directories
 pub mod Refusals

@@ -3,6 +3,7 @@
 #![tactic(auto)]
 
 mod batches;
+mod choosing;
 mod directory;
 mod extents;
 mod fresh;
@@ -10,6 +11,7 @@ mod placing;
 mod plans;
 
 pub use batches::{BatchPlan, PlannedFile};
+pub use choosing::{Choice, choose};
 pub use directory::{Directory, File};
 pub use fresh::FreshVolume;
 pub use lif_model::Refusal;

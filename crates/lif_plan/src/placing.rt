@@ -19,9 +19,9 @@ ghost use Rattle.lif_plan.specs.Parts.{IsPartPlan};
 ghost use Rattle.lif_model.specs.Parts as part;
 ghost use Rattle.lif_model.specs.declared.refusal.Refusal.TheVariants as refusal;
 
+use crate::choosing::{Choice, choose_beside};
 use crate::directory::Directory;
 use crate::plans::is_redo_name;
-use lif_alloc::{Choice, choose_beside};
 use lif_dir::{Change, FileEntry, Name, NewName};
 use lif_header::Header;
 use lif_model::{ENTRIES, RECORD, Refusal, Version};

@@ -10,7 +10,7 @@ use Rattle.il_frames.specs.Frames.{framed}
 use Rattle.il_frames.specs.Messages.{message_of}
 use Rattle.il_device.specs.Takes.{eto, ete}
 use Rattle.loop_model.specs.Loops.{Loop, host_loop}
-use Rattle.loop_model.specs.Entries.{entry, ifc, aau, unl, unt, lad, tad, ddl, ddt, rfc, nrd, aad, is_lost_nrd}
+use Rattle.il_frames.specs.NamedFrames.{entry, ifc, aau, unl, unt, lad, tad, ddl, ddt, rfc, nrd, aad, is_lost_nrd}
 use Rattle.loop_model.specs.Reach.{is_reached, distance, links_of, brings_to, held_at_end, links_so_far, passes_so_far, links, passes, met}
 use Rattle.il_device.specs.declared.roles.Roles.{Roles}
 use Rattle.il_device.specs.Roles.{no_roles}

@@ -12,7 +12,7 @@ use Rattle.il_frames.specs.declared.entry.Outcome.{Outcome}
 use Rattle.il_frames.specs.declared.entry.Outcome.TheVariants as outcome
 use Rattle.il_frames.specs.Frames.{framed, class_of, same_class, is_data, same_but_service}
 use Rattle.loop_model.specs.Loops.{Loop}
-use Rattle.loop_model.specs.Entries.{unt, ddl, ddt}
+use Rattle.il_frames.specs.NamedFrames.{unt, ddl, ddt}
 use Rattle.loop_model.specs.Exchanges.{Echo, Start, Sda, Sst, Sdi, Sai, Answer, NotTaken, ToItsEnd, Stopped, Exchange, Command, Address, Send, Receive, Identify, start_frame, returned, commanded, echoed, numbered, answer_entries, entries_of, is_echo, is_host_echo, is_some_data, is_number, is_answer, is_address, is_exchange, Break, FrameLost, HostAltered, TalkerAltered, break_entries, is_altered, is_end, is_break, cut_at, can_cut, Piece, Whole, Cut, piece_entries, is_piece, are_whole, breaks_off, Reading, IsWhole, IsBroken}
 
 -- ---- no log is both

@@ -6,7 +6,7 @@ use Rattle.il_frames.specs.declared.entry.Entry.{Entry}
 use Rattle.il_frames.specs.declared.entry.Outcome.TheVariants as outcome
 use Rattle.il_device.specs.Takes.{eto}
 use Rattle.il_device.specs.declared.roles.Roles.{Roles}
-use Rattle.loop_model.specs.Entries.{entry, command, ready, ifc, aau, unl, unt, tad, nrd, aad}
+use Rattle.il_frames.specs.NamedFrames.{entry, command, ready, ifc, aau, unl, unt, tad, nrd, aad}
 use Rattle.loop_model.specs.Roles.{all_without_roles, roles_after, talkers, has_one_talker}
 use Rattle.loop_model.specs.Exchanges.{Sst, start_frame, returned, commanded}
 use Rattle.loop_model.specs.Leading.{controller_after, roles_led, has_one_talker_led, OneTalkerLed, are_commands_led, has_no_lend}

@@ -13,10 +13,11 @@ use Rattle.il_frames.specs.Messages.{message_of}
 use Rattle.il_device.specs.declared.roles.Roles.{Roles}
 use Rattle.il_device.specs.Takes.{eto}
 use Rattle.loop_model.specs.Loops.{Loop}
-use Rattle.loop_model.specs.Entries.{entry, unt, ddl, ddt, nrd}
+use Rattle.il_frames.specs.NamedFrames.{entry, unt, ddl, ddt, nrd}
 use Rattle.loop_model.specs.Roles.{roles_along, roles_after_entry, roles_after, talkers, is_at_most_one, is_spoken, is_in_turn, has_one_talker, OneTalker}
 use Rattle.loop_model.specs.Exchanges.{Echo, Start, Sda, Sst, Sdi, Sai, Answer, NotTaken, ToItsEnd, Stopped, Exchange, Command, Address, Send, Receive, Identify, start_frame, answer_entries, returned, commanded, echoed, numbered, entries_of, Break, FrameLost, HostAltered, TalkerAltered, break_entries, cut_at, Piece, Whole, Cut, piece_entries, Reading}
-use Rattle.loop_model.specs.Leading.{is_ifc, handed_to, handed_or_back, controller_after_entry, controller_after, is_of_controller, roles_led_entry, roles_led, is_in_turn_led, has_one_talker_led, OneTalkerLed, are_commands_led, is_handing_over, is_no_lend, has_no_lend}
+use Rattle.il_frames.specs.NamedFrames.{is_ifc}
+use Rattle.loop_model.specs.Leading.{handed_to, handed_or_back, controller_after_entry, controller_after, is_of_controller, roles_led_entry, roles_led, is_in_turn_led, has_one_talker_led, OneTalkerLed, are_commands_led, is_handing_over, is_no_lend, has_no_lend}
 
 -- ---- appended logs
 

@@ -13,7 +13,7 @@ use Rattle.il_frames.specs.declared.entry.Outcome.TheVariants as outcome
 use Rattle.il_frames.specs.Frames.{framed, class_of, same_class}
 use Rattle.il_device.specs.Takes.{ete}
 use Rattle.loop_model.specs.Loops.{host_loop}
-use Rattle.loop_model.specs.Entries.{entry, unl, unt, lad, tad, ddl, ddt, nrd, is_frame, is_lost, is_lost_nrd, is_no_nrd}
+use Rattle.il_frames.specs.NamedFrames.{entry, unl, unt, lad, tad, ddl, ddt, nrd, is_frame, is_lost, is_lost_nrd, is_no_nrd}
 use Rattle.loop_model.specs.Reach.{links_of, brings_to, met, taken_by, sourcing_after, held_at_end, links_so_far, passes_so_far, TellsHeld}
 use Rattle.loop_model.specs.Exchanges.{Echo, Exchange, Command, Address, Send, Receive, Identify, Start, Sda, Sst, Sdi, Sai, Answer, NotTaken, ToItsEnd, Stopped, start_frame, answer_entries, commanded, echoed, numbered, entries_of, is_host_echo, is_echo, is_number, is_address, is_exchange, Break, FrameLost, HostAltered, TalkerAltered, break_entries, cut_at, Piece, Whole, Cut, piece_entries, is_piece, Reading, IsWhole}
 use Rattle.loop_model.proofs.ExchangeLaws.{stands, stands_as, exchange_stands, whole_stands}

@@ -14,7 +14,7 @@ use Rattle.il_frames.specs.Frames.{framed, class_of, same_class, is_data, is_dat
 use Rattle.il_frames.specs.Messages.{message_of}
 use Rattle.il_device.specs.Takes.{eto}
 use Rattle.loop_model.specs.Loops.{Loop, host_loop}
-use Rattle.loop_model.specs.Entries.{entry, unl, unt, lad, tad, ddl, ddt, nrd, aad}
+use Rattle.il_frames.specs.NamedFrames.{entry, unl, unt, lad, tad, ddl, ddt, nrd, aad}
 use Rattle.loop_model.specs.Exchanges.{Echo, Exchange, Command, Address, Send, Receive, Identify, Start, Sda, Sst, Sdi, Sai, Answer, NotTaken, ToItsEnd, Stopped, start_frame, answer_entries, returned, commanded, echoed, numbered, entries_of, is_host_echo, is_echo, is_number, is_address, is_answer, is_some_data, is_talk_address, is_exchange, Piece, Whole, Cut, piece_entries, is_piece, are_whole, IsWhole}
 use Rattle.loop_model.specs.Units.{RecordUnit, sent_bytes, is_transfer, told_status, sought, unit_of, unit_after_seek, units_of}
 use Rattle.loop_model.proofs.RoleLaws.{gives_no_talk, lad_no_talk, ddl_no_talk}

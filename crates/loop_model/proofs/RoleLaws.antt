@@ -13,7 +13,7 @@ use Rattle.il_frames.specs.declared.entry.Outcome.TheVariants as outcome
 use Rattle.il_frames.specs.Frames.{framed, class_of, same_class, is_data, is_data_class, same_but_service}
 use Rattle.il_frames.specs.Messages.{message_of, message_at}
 use Rattle.loop_model.specs.Loops.{host_loop}
-use Rattle.loop_model.specs.Entries.{unl, unt, lad, tad, ddl, ddt}
+use Rattle.il_frames.specs.NamedFrames.{unl, unt, lad, tad, ddl, ddt}
 use Rattle.loop_model.specs.Reach.{is_reached}
 use Rattle.il_device.specs.declared.roles.Roles.{Roles}
 use Rattle.il_device.specs.Roles.{is_own, takes_address}

@@ -9,7 +9,7 @@ use Rattle.il_frames.specs.declared.entry.Entry.{Entry}
 use Rattle.il_frames.specs.declared.entry.Outcome.{Outcome}
 use Rattle.il_frames.specs.declared.entry.Outcome.TheVariants as outcome
 use Rattle.il_frames.specs.Messages.{message_of}
-use Rattle.loop_model.specs.Entries.{aau, rfc, aad}
+use Rattle.il_frames.specs.NamedFrames.{aau, rfc, aad}
 use Rattle.loop_model.specs.Reach.{is_reached}
 use Rattle.il_device.specs.declared.roles.Roles.{Roles}
 use Rattle.il_device.specs.Roles.{no_roles, is_own}

@@ -18,7 +18,7 @@ use Rattle.il_frames.specs.Messages.{Row, One, Group, message_in, commands, mess
 use Rattle.il_device.specs.Takes.{eto, ete}
 use Rattle.il_device.specs.declared.roles.Roles.{Roles}
 use Rattle.loop_model.specs.Loops.{host_loop}
-use Rattle.loop_model.specs.Entries.{entry, unl, unt, lad, tad, ddl, ddt, rfc, nrd}
+use Rattle.il_frames.specs.NamedFrames.{entry, unl, unt, lad, tad, ddl, ddt, rfc, nrd}
 use Rattle.loop_model.specs.Roles.{roles_along, roles_after_entry, roles_after, talkers, is_at_most_one, is_end_of_talk, is_spoken, may_speak, is_in_turn, has_one_talker, OneTalker, are_numbered, is_aau}
 use Rattle.loop_model.specs.Exchanges.{Echo, Exchange, Command, Address, Send, Receive, Identify, Start, Sda, Sst, Sdi, Sai, Answer, NotTaken, ToItsEnd, Stopped, Break, FrameLost, HostAltered, TalkerAltered, Piece, Whole, Cut, start_frame, returned, commanded, echoed, numbered, answer_entries, entries_of, break_entries, cut_at, can_cut, is_break, is_altered, is_echo, is_host_echo, is_number, is_address, is_talk_address, is_answer, is_some_data, is_exchange, is_piece, piece_entries, is_end, is_asked_for, answers_as_asked}
 use Rattle.loop_model.proofs.RoleLaws.{gives_no_talk, quiet_log, no_talkers, all_quiet, lad_no_talk, ddl_no_talk, echoes_no_talk}

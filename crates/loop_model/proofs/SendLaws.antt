@@ -11,7 +11,7 @@ use Rattle.il_frames.specs.Frames.{byte_of, is_data, same_but_service}
 use Rattle.il_frames.specs.Messages.{message_of}
 use Rattle.il_device.specs.declared.roles.Roles.{Roles}
 use Rattle.il_device.specs.Roles.{no_roles, is_own}
-use Rattle.loop_model.specs.Entries.{lad, unl, ddl, rfc}
+use Rattle.il_frames.specs.NamedFrames.{lad, unl, ddl, rfc}
 use Rattle.loop_model.specs.Roles.{roles_by, roles_along, roles_after_entry, roles_after, are_numbered}
 use Rattle.loop_model.specs.Hearing.{roles_at, brings_byte, heard_by, has_no_data}
 use Rattle.loop_model.specs.Exchanges.{Echo, Send, echoed, returned, commanded, numbered, entries_of, is_echo, is_address, is_number, bytes_of}

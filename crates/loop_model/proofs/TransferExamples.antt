@@ -5,7 +5,7 @@ use Rattle.il_frames.specs.declared.entry.Entry.{Entry}
 use Rattle.il_frames.specs.Frames.{framed}
 use Rattle.lif_model.specs.Tape.{Tape, record_at}
 use Rattle.loop_model.specs.Loops.{Loop, host_loop}
-use Rattle.loop_model.specs.Entries.{ifc}
+use Rattle.il_frames.specs.NamedFrames.{ifc}
 use Rattle.loop_model.specs.Exchanges.{Echo, Sda, Sst, NotTaken, Stopped, Exchange, Command, Send, Receive, FrameLost, HostAltered, Piece, Whole, Cut, piece_entries}
 use Rattle.loop_model.specs.Units.{RecordUnit, number_of, units_of, ends_within}
 use Rattle.lif_model.specs.Stops.{Torn}

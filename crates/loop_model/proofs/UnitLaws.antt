@@ -11,7 +11,7 @@ use Rattle.il_frames.specs.declared.entry.Entry.{Entry}
 use Rattle.il_frames.specs.declared.entry.Outcome.TheVariants as outcome
 use Rattle.il_frames.specs.Frames.{byte_of, is_data, same_but_service}
 use Rattle.il_device.specs.Takes.{eto}
-use Rattle.loop_model.specs.Entries.{entry, unt, nrd}
+use Rattle.il_frames.specs.NamedFrames.{entry, unt, nrd}
 use Rattle.loop_model.specs.Reach.{distance}
 use Rattle.loop_model.specs.Exchanges.{Echo, Send, Receive, Start, Sda, Sst, Sdi, Sai, Answer, NotTaken, ToItsEnd, Stopped, Break, FrameLost, HostAltered, TalkerAltered, start_frame, returned, commanded, echoed, answer_entries, entries_of, cut_at, is_echo, receive_front, bytes_of}
 use Rattle.loop_model.specs.Units.{sent_bytes}

@@ -14,7 +14,7 @@ use Rattle.il_frames.specs.Frames.{framed, class_of, byte_of, same_class, is_dat
 use Rattle.il_frames.specs.Messages.{message_of}
 use Rattle.il_device.specs.Takes.{eto, ete}
 use Rattle.loop_model.specs.Loops.{Loop}
-use Rattle.loop_model.specs.Entries.{entry, ready, unl, unt, lad, tad, ddl, ddt, rfc, nrd, aad}
+use Rattle.il_frames.specs.NamedFrames.{entry, ready, unl, unt, lad, tad, ddl, ddt, rfc, nrd, aad}
 
 -- ---- values
 

@@ -9,15 +9,11 @@ use Rattle.il_frames.specs.declared.entry.Entry.{Entry}
 use Rattle.il_frames.specs.declared.entry.Outcome.{Outcome}
 use Rattle.il_frames.specs.declared.entry.Outcome.TheVariants as outcome
 use Rattle.il_frames.specs.Messages.{message_of}
+use Rattle.il_frames.specs.NamedFrames.{is_ifc}
 use Rattle.il_device.specs.declared.roles.Roles.{Roles}
 use Rattle.loop_model.specs.Roles.{roles_along, talkers, is_at_most_one, is_spoken, may_speak}
 
 -- ---- the controller
-
--- the message takes control back
-abbrev pub is_ifc : Message → Bool
-is_ifc msg.Ifc = true
-is_ifc m = false
 
 -- the controller after a message of the host that ended so: a TCT that was taken hands control over
 abbrev pub handed_to : ℕ → Outcome → Message → ℕ

@@ -1,5 +1,4 @@
 pub mod Loops
-pub mod Entries
 pub mod Reach
 pub mod Roles
 pub mod Leading

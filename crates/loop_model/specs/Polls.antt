@@ -6,7 +6,7 @@ use Rattle.il_frames.specs.declared.frame.Frame.{Frame}
 use Rattle.il_poll.specs.declared.service.Assignment.{Assignment}
 use Rattle.il_device.specs.Passing.{identified}
 use Rattle.il_device.specs.State.{DeviceState}
-use Rattle.loop_model.specs.Entries.{command}
+use Rattle.il_frames.specs.NamedFrames.{command}
 
 -- parallel poll enable n
 abbrev pub poll_enable : ℕ → Frame

@@ -5,7 +5,7 @@ use Rattle.std.specs.Prelude.{◌≡◌, ℕ, suc, ◌+◌, ◌-◌, ◌==◌, n
 use Rattle.il_frames.specs.declared.entry.Entry.{Entry}
 use Rattle.il_frames.specs.declared.entry.Outcome.{Outcome}
 use Rattle.il_frames.specs.declared.entry.Outcome.TheVariants as outcome
-use Rattle.loop_model.specs.Entries.{is_lost_nrd}
+use Rattle.il_frames.specs.NamedFrames.{is_lost_nrd}
 
 -- a controller's frame of this source that ended so reached this device: its source, and of the others
 -- those on its way. The way of a frame of the host ends at the host; that of a device's, which is the

@@ -14,7 +14,7 @@ use Rattle.lif_model.specs.Tape.{Tape}
 use Rattle.lif_model.specs.Transfers.{full_pieces}
 use Rattle.lif_model.proofs.Runs.{replaced_none, partly_replaced}
 use Rattle.loop_model.specs.Loops.{Loop, host_loop}
-use Rattle.loop_model.specs.Entries.{command}
+use Rattle.il_frames.specs.NamedFrames.{command}
 use Rattle.loop_model.specs.Exchanges.{Exchange, Command, Address, Send, Receive, Identify, is_address, is_talk_address, is_exchange, entries_of, Break, can_cut, Piece, Whole, Cut, piece_entries, is_piece, Reading}
 use Rattle.loop_model.specs.Units.{RecordUnit, sought, units_of}
 use Rattle.loop_model.specs.Effect.{UnitsEffect, Effect}

@@ -5,7 +5,7 @@ use Rattle.il_frames.specs.declared.entry.Entry.{Entry}
 use Rattle.il_frames.specs.declared.entry.Outcome.TheVariants as outcome
 use Rattle.il_frames.specs.Frames.{framed}
 use Rattle.loop_model.specs.Loops.{Loop, host_loop}
-use Rattle.loop_model.specs.Entries.{entry, unl, lad, tad, ddl, rfc, unt, ready}
+use Rattle.il_frames.specs.NamedFrames.{entry, unl, lad, tad, ddl, rfc, unt, ready}
 use Rattle.loop_model.specs.Exchanges.{Echo, Sda, Sst, NotTaken, ToItsEnd, Send, Receive, Command, returned, FrameLost, HostAltered, TalkerAltered, Piece, Whole, Cut, piece_entries}
 use Rattle.loop_model.specs.Units.{RecordUnit, units_of}
 use Rattle.trace_readers.specs.declared.expected.UnitFault.TheVariants as fault

@@ -8,7 +8,7 @@ use Rattle.il_device.specs.Roles.{no_roles}
 use Rattle.il_frames.specs.Frames.{framed}
 use Rattle.il_device.specs.Takes.{eto, ete}
 use Rattle.loop_model.specs.Loops.{host_loop}
-use Rattle.loop_model.specs.Entries.{entry, ready, aad, tad, ddl, ddt, unl, unt, rfc, nrd}
+use Rattle.il_frames.specs.NamedFrames.{entry, ready, aad, tad, ddl, ddt, unl, unt, rfc, nrd}
 use Rattle.loop_model.specs.Exchanges.{returned, commanded}
 use Rattle.trace_readers.specs.declared.exchanges.Fate.TheVariants as fate
 use Rattle.trace_readers.specs.declared.exchanges.Tail.TheVariants as tail

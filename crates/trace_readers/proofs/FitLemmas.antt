@@ -10,7 +10,7 @@ use Rattle.il_frames.specs.declared.entry.Outcome.{Outcome}
 use Rattle.il_frames.specs.declared.entry.Outcome.TheVariants as outcome
 use Rattle.il_frames.specs.Frames.{framed, class_of, byte_of, same_class, is_data, same_but_service, with_service, class_with_service}
 use Rattle.il_frames.proofs.ReadBack.{class_from_number}
-use Rattle.loop_model.specs.Entries.{entry, ready, is_frame}
+use Rattle.il_frames.specs.NamedFrames.{entry, ready, is_frame}
 use Rattle.loop_model.specs.Exchanges.{Start, Sda, Sst, Sdi, Sai, start_frame, returned}
 use Rattle.trace_readers.specs.declared.exchanges.Fate.TheVariants as fate
 use Rattle.trace_readers.specs.declared.exchanges.Place.{Place}

@@ -14,7 +14,7 @@ use Rattle.il_frames.specs.Frames.{framed, class_of, byte_of, same_class, is_dat
 use Rattle.il_frames.specs.Messages.{message_of, message_at}
 use Rattle.il_device.specs.Takes.{eto, ete}
 use Rattle.loop_model.specs.Loops.{host_loop}
-use Rattle.loop_model.specs.Entries.{entry, command, unl, unt, lad, tad, ddl, ddt, rfc, nrd, aad}
+use Rattle.il_frames.specs.NamedFrames.{entry, command, unl, unt, lad, tad, ddl, ddt, rfc, nrd, aad}
 use Rattle.loop_model.specs.Exchanges.{Echo, Start, Sda, Sst, Sdi, Sai, Answer, NotTaken, ToItsEnd, Stopped, Exchange, Command, Address, Send, Receive, Identify, start_frame, returned, commanded, echoed, numbered, receive_front, answer_entries, entries_of, is_echo, is_host_echo, is_some_data, is_number, is_answer, is_address, is_talk_address, is_exchange, Break, FrameLost, HostAltered, TalkerAltered, break_entries, is_altered, is_end, is_break, cut_at, can_cut, Piece, Whole, Cut, piece_entries, is_piece, Reading}
 use Rattle.trace_readers.specs.declared.exchanges.Fate.{Fate}
 use Rattle.trace_readers.specs.declared.exchanges.Tail.{Tail}

@@ -6,7 +6,7 @@ use Rattle.std.proofs.lemmas.Bool.Decides.{nat_tests}
 use Rattle.il_frames.specs.declared.entry.Entry.{Entry}
 use Rattle.il_frames.specs.Frames.{is_data}
 use Rattle.loop_model.specs.Loops.{Loop, host_loop}
-use Rattle.loop_model.specs.Entries.{command, unl, tad}
+use Rattle.il_frames.specs.NamedFrames.{command, unl, tad}
 use Rattle.loop_model.specs.Exchanges.{Sst, NotTaken, Exchange, Command, Receive, returned, commanded, entries_of, is_address, Break, FrameLost, HostAltered, TalkerAltered, is_break, cut_at, can_cut, Piece, Whole, Cut, piece_entries, is_piece}
 use Rattle.loop_model.specs.Units.{RecordUnit, sent_bytes, is_send, is_transfer, sought, told_status}
 use Rattle.trace_readers.specs.declared.exchanges.Fate.{Fate}

@@ -6,7 +6,7 @@ use Rattle.il_frames.specs.declared.entry.Outcome.TheVariants as outcome
 use Rattle.il_frames.specs.Frames.{framed}
 use Rattle.il_device.specs.Takes.{eto, ete}
 use Rattle.loop_model.specs.Loops.{host_loop}
-use Rattle.loop_model.specs.Entries.{entry, ready, unt, rfc, nrd, aad}
+use Rattle.il_frames.specs.NamedFrames.{entry, ready, unt, rfc, nrd, aad}
 use Rattle.loop_model.specs.Exchanges.{Reading}
 use Rattle.trace_readers.specs.declared.exchanges.Tail.{Tail}
 use Rattle.trace_readers.specs.declared.exchanges.Tail.TheVariants as tail

@@ -15,7 +15,7 @@ use Rattle.il_frames.specs.declared.entry.Outcome.TheVariants as outcome
 use Rattle.il_frames.specs.Frames.{framed, class_of, byte_of, same_class, is_data, is_data_class, same_but_service}
 use Rattle.il_device.specs.Takes.{eto, ete}
 use Rattle.loop_model.specs.Loops.{Loop, host_loop}
-use Rattle.loop_model.specs.Entries.{entry, command, ready, unl, unt, lad, tad, ddl, ddt, rfc, nrd, aad, is_frame}
+use Rattle.il_frames.specs.NamedFrames.{entry, command, ready, unl, unt, lad, tad, ddl, ddt, rfc, nrd, aad, is_frame}
 use Rattle.loop_model.specs.Exchanges.{Echo, Start, Sda, Answer, NotTaken, ToItsEnd, Stopped, Exchange, Command, Address, Send, Receive, Identify, start_frame, returned, commanded, echoed, numbered, receive_front, answer_entries, entries_of, is_echo, is_host_echo, is_some_data, is_number, is_answer, is_address, is_exchange, Break, FrameLost, HostAltered, TalkerAltered, break_entries, is_end, is_break, cut_at, can_cut, Piece, Whole, Cut, piece_entries, is_piece, Reading}
 use Rattle.loop_model.proofs.ExchangeLaws.{Reading-append}
 use Rattle.trace_readers.specs.declared.exchanges.Tail.{Tail}

@@ -10,7 +10,7 @@ use Rattle.il_frames.specs.declared.entry.Outcome.{Outcome}
 use Rattle.il_frames.specs.declared.entry.Outcome.TheVariants as outcome
 use Rattle.il_frames.specs.Frames.{class_of, byte_of, is_data, same_but_service}
 use Rattle.il_device.specs.Takes.{eto}
-use Rattle.loop_model.specs.Entries.{entry, unl, unt, tad, ddt, rfc, nrd}
+use Rattle.il_frames.specs.NamedFrames.{entry, unl, unt, tad, ddt, rfc, nrd}
 use Rattle.loop_model.specs.Exchanges.{Echo, Start, Sda, Sst, Sdi, Sai, Answer, NotTaken, ToItsEnd, Stopped, Exchange, Receive, start_frame, returned, commanded, echoed, entries_of, is_echo, is_some_data, is_address, is_number, is_answer, Break, FrameLost, HostAltered, TalkerAltered, is_break, break_entries, cut_at, can_cut, Whole, Cut}
 use Rattle.loop_model.specs.Units.{sent_bytes, only_byte, told_status}
 use Rattle.loop_model.proofs.UnitLaws.{sent_bytes-append}

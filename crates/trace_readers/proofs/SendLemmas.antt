@@ -7,7 +7,7 @@ use Rattle.il_frames.specs.declared.frame.Class.TheVariants as class
 use Rattle.il_frames.specs.declared.frame.Frame.{Frame}
 use Rattle.il_frames.specs.declared.entry.Outcome.TheVariants as outcome
 use Rattle.il_frames.specs.Frames.{framed, class_of, same_class}
-use Rattle.loop_model.specs.Entries.{entry, rfc, lad, ddl, aad}
+use Rattle.il_frames.specs.NamedFrames.{entry, rfc, lad, ddl, aad}
 use Rattle.loop_model.specs.Exchanges.{Echo, Exchange, Address, Send, Identify, returned, echoed, bytes_of, entries_of, is_echo, is_host_echo, is_address, is_number, Break, FrameLost, HostAltered, TalkerAltered, cut_at, can_cut, Whole, Cut}
 use Rattle.loop_model.specs.Units.{sent_bytes, is_send, is_transfer, number_of, sought}
 use Rattle.loop_model.proofs.UnitLaws.{sent_bytes-send}

@@ -12,7 +12,7 @@ use Rattle.il_frames.specs.declared.entry.Outcome.{Outcome}
 use Rattle.il_frames.specs.declared.entry.Outcome.TheVariants as outcome
 use Rattle.il_frames.specs.Frames.{class_of, byte_of, is_data, is_data_class, same_but_service}
 use Rattle.il_device.specs.Takes.{ete}
-use Rattle.loop_model.specs.Entries.{entry, rfc}
+use Rattle.il_frames.specs.NamedFrames.{entry, rfc}
 use Rattle.loop_model.specs.Exchanges.{Echo, is_echo, returned, echoed, bytes_of, is_address, is_number, Break, FrameLost, HostAltered, TalkerAltered, is_altered, is_end, cut_at, can_cut}
 use Rattle.loop_model.specs.Units.{RecordUnit, sent_bytes}
 use Rattle.loop_model.proofs.UnitLaws.{one_byte}

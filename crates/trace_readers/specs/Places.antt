@@ -8,7 +8,7 @@ use Rattle.il_frames.specs.declared.entry.Entry.{Entry}
 use Rattle.il_frames.specs.declared.entry.Outcome.{Outcome}
 use Rattle.il_frames.specs.declared.entry.Outcome.TheVariants as outcome
 use Rattle.il_frames.specs.Frames.{class_of, byte_of, same_class, is_data, same_but_service}
-use Rattle.loop_model.specs.Entries.{unt, rfc, nrd, aad, is_frame}
+use Rattle.il_frames.specs.NamedFrames.{unt, rfc, nrd, aad, is_frame}
 use Rattle.il_device.specs.Takes.{eto, ete}
 use Rattle.trace_readers.specs.declared.exchanges.Fate.{Fate}
 use Rattle.trace_readers.specs.declared.exchanges.Fate.TheVariants as fate

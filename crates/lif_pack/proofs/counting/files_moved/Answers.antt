@@ -3,7 +3,7 @@ use Rattle.std.proofs.lemmas.List.{length-map}
 use Rattle.lif_model.specs.Legal.{is_live}
 use Rattle.lif_model.specs.Volume.{is_file}
 use Rattle.lif_dir.specs.Entries.{slot_bytes}
-use Rattle.lif_pack.specs.Packing.{live_length, live_records, stands_at, count_moved}
+use Rattle.lif_model.specs.Packing.{live_length, live_records, stands_at, count_moved}
 use Rattle.lif_pack.proofs.Walking.{live_more}
 use Rattle.lif_pack.proofs.Counted.{missed, moved_more, files_before}
 use Rattle.lif_pack.proofs.counting.files_moved.Goals.{then-not-stands_at, else-not-stands_at}

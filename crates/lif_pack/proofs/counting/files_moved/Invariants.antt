@@ -1,7 +1,7 @@
 use Rattle.std.proofs.Common.{◌≡◌, ◌≤◌, ◌+◌, ◌*◌, ◌^◌, filter, map, take}
 use Rattle.lif_model.specs.Legal.{is_live}
 use Rattle.lif_dir.specs.Entries.{slot_bytes}
-use Rattle.lif_pack.specs.Packing.{live_records, count_moved}
+use Rattle.lif_model.specs.Packing.{live_records, count_moved}
 use Rattle.lif_pack.proofs.counting.files_moved.Given as goal
 
 abbrev pub invariant-loop-k : goal.invariant-loop-k

@@ -1,7 +1,7 @@
 use Rattle.std.proofs.Common.{length, ◌<◌, ◌≡◌, [], ap, arith, get_or, map, ◌∙◌}
 use Rattle.std.proofs.lemmas.List.{length-map}
 use Rattle.lif_dir.specs.Entries.{slot_bytes}
-use Rattle.lif_pack.specs.Packing.{live_length}
+use Rattle.lif_model.specs.Packing.{live_length}
 use Rattle.lif_pack.proofs.Walking.{live_more}
 use Rattle.lif_pack.proofs.counting.records_before.Goals as goal
 

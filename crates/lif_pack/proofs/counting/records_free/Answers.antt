@@ -2,7 +2,7 @@ use Rattle.std.proofs.Common.{◌≡◌, ap, arith, filter, map, take, ◌∙◌
 use Rattle.std.proofs.lemmas.List.{length-map}
 use Rattle.lif_model.specs.Volume.{is_file}
 use Rattle.lif_dir.specs.Entries.{slot_bytes}
-use Rattle.lif_pack.specs.Packing.{live_records}
+use Rattle.lif_model.specs.Packing.{live_records}
 use Rattle.lif_pack.proofs.Placing.{redo_lies}
 use Rattle.lif_pack.proofs.Counted.{files_before, records_of_live, room_for_files}
 use Rattle.lif_pack.proofs.counting.records_free.Goals as goal

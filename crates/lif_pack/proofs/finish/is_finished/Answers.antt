@@ -4,7 +4,7 @@ use Rattle.lif_model.specs.Tape.{IsTape}
 use Rattle.lif_model.specs.Volume.{Volume as VolumeModel}
 use Rattle.lif_dir.specs.Entries.{slot_bytes}
 use Rattle.lif_plan.specs.Directories.{IsLegalDirectory}
-use Rattle.lif_pack.specs.Packing.{bears_mark}
+use Rattle.lif_model.specs.Packing.{bears_mark}
 use Rattle.lif_pack.proofs.Consulting.{none_where_unmarked, finished_where_none}
 use Rattle.lif_pack.proofs.finish.is_finished.Goals as goal
 

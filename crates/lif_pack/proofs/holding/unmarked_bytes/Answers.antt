@@ -1,6 +1,6 @@
 use Rattle.std.proofs.Common.{◌≡◌, ◌++◌, ◌∙◌, ℕ, List, length, take, replicate, ap, sym, arith, rules}
 use Rattle.std.proofs.lemmas.List.{take_all}
-use Rattle.lif_pack.specs.Packing.{unmarked}
+use Rattle.lif_model.specs.Packing.{unmarked}
 use Rattle.lif_pack.proofs.holding.unmarked_bytes.Goals as goal
 
 pub returns-clause-bytes : goal.returns-clause-bytes

@@ -4,7 +4,7 @@ use Rattle.lif_model.specs.declared.version.Version.TheVariants.{Two}
 use Rattle.lif_model.specs.Volume.{is_redo_entry}
 use Rattle.lif_model.specs.Fit.{redo_place}
 use Rattle.lif_dir.specs.Entries.{entry_bytes, slot_bytes}
-use Rattle.lif_pack.specs.Packing.{redo_slot, marked_slot, marked_count}
+use Rattle.lif_model.specs.Packing.{redo_slot, marked_slot, marked_count}
 use Rattle.lif_pack.proofs.Marking.{not_marked, marked_some}
 use Rattle.lif_pack.proofs.marks.mark_of.Goals.{else-number-eq0-via-then-number-eq0+else-moved-eq0, else-number-eq0-via-else-number-eq0}
 use Rattle.lif_pack.proofs.marks.mark_of.Goals as goal

@@ -2,7 +2,7 @@ use Rattle.std.proofs.Common.{length, ◌<◌, ◌≡◌, ◌+◌, [], true, fal
 use Rattle.std.proofs.lemmas.Bool.{and_from}
 use Rattle.std.proofs.lemmas.List.{length-map}
 use Rattle.lif_dir.specs.Entries.{slot_bytes}
-use Rattle.lif_pack.specs.Packing.{live_length, live_records, stands_at, are_packed}
+use Rattle.lif_model.specs.Packing.{live_length, live_records, stands_at, are_packed}
 use Rattle.lif_pack.proofs.Walking.{live_more, packed_more, packed_not}
 use Rattle.lif_pack.proofs.placed.packed_end.Goals as goal
 

@@ -1,6 +1,6 @@
 use Rattle.std.proofs.Common.{◌≡◌, ◌≤◌, ◌+◌, ◌*◌, ◌^◌, true, map, take}
 use Rattle.lif_dir.specs.Entries.{slot_bytes}
-use Rattle.lif_pack.specs.Packing.{live_records, are_packed}
+use Rattle.lif_model.specs.Packing.{live_records, are_packed}
 use Rattle.lif_pack.proofs.placed.packed_end.Given as goal
 
 abbrev pub invariant-loop-k : goal.invariant-loop-k

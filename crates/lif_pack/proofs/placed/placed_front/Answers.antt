@@ -2,7 +2,7 @@ use Rattle.std.proofs.Common.{◌≡◌, ◌+◌, ◌∙◌, ℕ, [], inl, inr, 
 use Rattle.std.proofs.lemmas.Bool.{cases_lt}
 use Rattle.std.proofs.lemmas.List.{length-map}
 use Rattle.lif_dir.specs.Entries.{slot_bytes}
-use Rattle.lif_pack.specs.Packing.{live_length, live_records, stands_at}
+use Rattle.lif_model.specs.Packing.{live_length, live_records, stands_at}
 use Rattle.lif_pack.specs.Steps.{ArePlaced}
 use Rattle.lif_pack.proofs.Walking.{packed_not}
 use Rattle.lif_pack.proofs.Placing.{redo_lies, stays_placed, next_below, placed_below, placed_none}

@@ -6,7 +6,7 @@ use Rattle.lif_model.specs.declared.refusal.Refusal.TheVariants.{NoRedo, NeedsUp
 use Rattle.lif_model.specs.Volume.{is_redo_entry}
 use Rattle.lif_model.specs.Fit.{redo_place}
 use Rattle.lif_dir.specs.Entries.{entry_bytes, slot_bytes}
-use Rattle.lif_pack.specs.Packing.{is_in_order, redo_slot}
+use Rattle.lif_model.specs.Packing.{is_in_order, redo_slot}
 use Rattle.lif_pack.proofs.Refused.{refused_without, refused_old, refused_by_order}
 use Rattle.lif_pack.proofs.refusing.refusal_of.Goals as goal
 

@@ -6,7 +6,7 @@ use Rattle.il_device.specs.Interfaces.{InterfaceState, passed_on}
 use Rattle.il_device.specs.State.{DeviceState}
 use Rattle.il_device.specs.declared.roles.Roles.{Roles}
 use Rattle.il_guest.specs.State.{GuestState}
-use Rattle.loop_model.specs.Leading.{is_ifc}
+use Rattle.il_frames.specs.NamedFrames.{is_ifc}
 use Rattle.il_guest.specs.declared.guest.GuestOut.TheVariants.{Pass}
 use Rattle.il_guest.specs.declared.control.Control.TheVariants as control
 use Rattle.il_guest.proofs.StepLemmas.{device-passed, frame-passed}

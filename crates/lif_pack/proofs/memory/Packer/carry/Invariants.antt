@@ -3,7 +3,7 @@ use Rattle.std.specs.Prelude.{Some, Ok}
 use Rattle.lif_model.specs.Tape.{Tape}
 use Rattle.lif_model.specs.Redo.{targets_in}
 use Rattle.il_ports.specs.Stores.{GoesOn, IsQuiet}
-use Rattle.lif_pack.specs.Packing.{records_from}
+use Rattle.lif_model.specs.Packing.{records_from}
 use Rattle.lif_pack.specs.Moving.{numbers_from, numbered_from}
 use Rattle.lif_pack.proofs.memory.Packer.carry.Given as goal
 

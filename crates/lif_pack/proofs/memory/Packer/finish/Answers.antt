@@ -2,7 +2,7 @@ use Rattle.std.proofs.Common.{◌≡◌, ◌∙◌, ℕ, true, false, Ok, map, a
 use Rattle.std.specs.Prelude.{IfSome}
 use Rattle.lif_model.specs.Volume.{Volume as VolumeModel}
 use Rattle.lif_dir.specs.Entries.{slot_bytes}
-use Rattle.lif_pack.specs.Packing.{bears_mark}
+use Rattle.lif_model.specs.Packing.{bears_mark}
 use Rattle.lif_pack.proofs.Stopped.{never, shown_here, settles_here}
 use Rattle.lif_pack.proofs.memory.Packer.finish.Goals as goal
 

@@ -7,7 +7,7 @@ use Rattle.il_ports.specs.Stores.{GoesOn, RunLeaves}
 use Rattle.il_ports.proofs.Stores.{goes_further, goes_within}
 use Rattle.lif_pack.specs.declared.tasks.Task.{Task}
 use Rattle.lif_pack.specs.Tasks.{MayFinish, IsLeftToDo, IsTaskOf, IsShownAs, calls_to_finish}
-use Rattle.lif_pack.specs.Packing.{bears_mark}
+use Rattle.lif_model.specs.Packing.{bears_mark}
 use Rattle.lif_pack.proofs.Consulting.{task_is_marked}
 use Rattle.lif_pack.proofs.FinishedTape.{finished_after}
 use Rattle.lif_pack.proofs.Stopped.{shown_further, task_not_held, few_to_finish}

@@ -5,7 +5,7 @@ use Rattle.lif_model.specs.Directory.{is_end}
 use Rattle.lif_dir.specs.Entries.{entry_bytes, slot_bytes}
 use Rattle.lif_dir.specs.Tables.{Table}
 use Rattle.lif_pack.specs.declared.marks.Move.{Move}
-use Rattle.lif_pack.specs.Packing.{with_start}
+use Rattle.lif_model.specs.Packing.{with_start}
 use Rattle.lif_pack.specs.Packers.{slots_held}
 use Rattle.lif_pack.specs.Packs.{IsFileLeft, slots_finished}
 use Rattle.lif_pack.proofs.Placing.{redo_lies}

@@ -2,7 +2,7 @@ use Rattle.std.proofs.Common.{◌≡◌, ◌∙◌, List, ℕ, [], ap, get_or, m
 use Rattle.std.proofs.lemmas.List.{map-set}
 use Rattle.lif_dir.specs.Entries.{entry_bytes, slot_bytes}
 use Rattle.lif_dir.specs.Tables.{Table}
-use Rattle.lif_pack.specs.Packing.{unmarked}
+use Rattle.lif_model.specs.Packing.{unmarked}
 use Rattle.lif_pack.proofs.memory.Packer.hold.Goals as goal
 
 pub returns-clause-slots : goal.returns-clause-slots

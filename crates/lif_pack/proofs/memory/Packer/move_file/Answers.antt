@@ -4,7 +4,7 @@ use Rattle.lif_model.specs.Directory.{start_of, length_of, is_end}
 use Rattle.il_ports.proofs.Stores.{goes_within}
 use Rattle.lif_dir.specs.Entries.{slot_bytes}
 use Rattle.lif_dir.specs.Tables.{Table}
-use Rattle.lif_pack.specs.Packing.{with_start}
+use Rattle.lif_model.specs.Packing.{with_start}
 use Rattle.lif_pack.specs.Packers.{slots_held}
 use Rattle.lif_model.proofs.Moments.{weaker}
 use Rattle.lif_pack.proofs.Placing.{redo_lies, may_move, moved_slots, move_keeps}

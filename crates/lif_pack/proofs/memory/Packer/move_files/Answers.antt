@@ -5,7 +5,7 @@ use Rattle.lif_model.specs.Redo.{redo_start}
 use Rattle.il_ports.specs.Stores.{RunLeaves}
 use Rattle.il_ports.proofs.Stores.{quiet_run, quiet_nowhere, goes_nowhere, goes_further, goes_within}
 use Rattle.lif_commit.proofs.Staging.{goes_failed, goes_told}
-use Rattle.lif_pack.specs.Packing.{live_length, are_packed}
+use Rattle.lif_model.specs.Packing.{live_length, are_packed}
 use Rattle.lif_pack.specs.Packers.{slots_held}
 use Rattle.lif_pack.specs.Steps.{MayPack, ArePackedAlike}
 use Rattle.lif_pack.specs.Tasks.{KeepsFiles}

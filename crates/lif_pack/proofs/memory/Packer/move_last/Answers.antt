@@ -9,7 +9,7 @@ use Rattle.lif_model.specs.Commit.{IsCommitted, IsOldOrNew}
 use Rattle.lif_model.proofs.Moments.{after_still, weaker}
 use Rattle.lif_model.specs.Writing.{slot_record, with_entry, entry_from}
 use Rattle.il_ports.proofs.Stores.{goes_further, goes_within, quiet_run, quiet_longer}
-use Rattle.lif_pack.specs.Packing.{records_from}
+use Rattle.lif_model.specs.Packing.{records_from}
 use Rattle.lif_pack.specs.Moving.{numbers_from, numbered_from, with_mark, with_target, with_start_in, IsMidway}
 use Rattle.lif_pack.proofs.LastPart.{last_stops, part_ends, last_targets, few_targets}
 use Rattle.lif_pack.proofs.memory.Packer.move_last.Goals as goal

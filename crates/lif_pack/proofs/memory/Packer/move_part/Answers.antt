@@ -10,7 +10,7 @@ use Rattle.lif_model.specs.Commit.{IsCommitted, IsOldOrNew}
 use Rattle.lif_model.proofs.Moments.{after_still, weaker}
 use Rattle.lif_model.specs.Writing.{slot_record, with_entry, entry_from}
 use Rattle.il_ports.proofs.Stores.{goes_further, goes_within, quiet_run, quiet_longer}
-use Rattle.lif_pack.specs.Packing.{records_from}
+use Rattle.lif_model.specs.Packing.{records_from}
 use Rattle.lif_pack.specs.Moving.{numbers_from, numbered_from, with_mark, IsMidway}
 use Rattle.lif_pack.proofs.Carrying.{one_and_numbers, length_numbers}
 use Rattle.lif_pack.proofs.MovedParts.{part_marks, part_stops}

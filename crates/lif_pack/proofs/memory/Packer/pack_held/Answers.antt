@@ -9,7 +9,7 @@ use Rattle.il_ports.specs.Stores.{RunLeaves}
 use Rattle.il_ports.proofs.Stores.{goes_further, goes_within}
 use Rattle.lif_commit.proofs.Staging.{goes_failed, goes_told}
 use Rattle.lif_dir.specs.Entries.{slot_bytes}
-use Rattle.lif_pack.specs.Packing.{records_free}
+use Rattle.lif_model.specs.Packing.{records_free}
 use Rattle.lif_pack.specs.Packers.{slots_held}
 use Rattle.lif_pack.specs.Steps.{MayPack, ArePackedAlike, TapeHasSlots}
 use Rattle.lif_pack.specs.Tasks.{KeepsFiles}

@@ -7,7 +7,7 @@ use Rattle.lif_model.specs.Legal.{is_live, has_records, occupies}
 use Rattle.il_ports.proofs.Stores.{goes_within, quiet_run, quiet_nowhere}
 use Rattle.lif_commit.proofs.Staging.{goes_failed, goes_told}
 use Rattle.lif_dir.specs.Entries.{slot_bytes}
-use Rattle.lif_pack.specs.Packing.{live_length, with_start}
+use Rattle.lif_model.specs.Packing.{live_length, with_start}
 use Rattle.lif_pack.specs.Packers.{slots_held}
 use Rattle.lif_pack.specs.Steps.{MayPack, ArePlaced, HasSlotsOf, ArePackedAlike}
 use Rattle.lif_pack.proofs.Order.{live_whole}

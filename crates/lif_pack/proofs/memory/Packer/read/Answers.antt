@@ -10,7 +10,7 @@ use Rattle.lif_plan.specs.Directories.{IsLegalDirectory}
 use Rattle.lif_volume.specs.Views.{IsDirectoryOf}
 use Rattle.lif_volume.specs.Answers.{refused}
 use Rattle.lif_volume.specs.Commands.{mounting}
-use Rattle.lif_pack.specs.Packing.{pack_refusal}
+use Rattle.lif_model.specs.Packing.{pack_refusal}
 use Rattle.lif_pack.specs.Packers.{slots_held, IsPackerFor}
 use Rattle.lif_pack.specs.Steps.{MayPack}
 use Rattle.lif_pack.specs.Packs.{IsRefusedTo, IsTaskWith, AreThoseOf, header_in}

@@ -8,7 +8,7 @@ use Rattle.lif_model.specs.Fit.{redo_place}
 use Rattle.lif_model.proofs.Legal.{legal_tells}
 use Rattle.lif_model.proofs.Slots.{readable_tells}
 use Rattle.lif_dir.specs.Entries.{slot_bytes}
-use Rattle.lif_pack.specs.Packing.{unmarked, pack_refusal}
+use Rattle.lif_model.specs.Packing.{unmarked, pack_refusal}
 use Rattle.lif_pack.specs.Packers.{slots_held}
 use Rattle.lif_pack.specs.Tasks.{IsTask}
 use Rattle.lif_pack.specs.Steps.{volume_with, MayPack, HasPlainStart}

@@ -1,6 +1,8 @@
 -- Entries of a log, and the frames of controllers and talkers by name. Source: HP-IL Interface
 -- Specification, HP 82166-90017, the tables of command and ready messages.
 use Rattle.std.specs.Prelude.{ℕ, ◌+◌, ◌==◌, ◌&&◌, Bool, true, false, not}
+use Rattle.il_frames.specs.declared.message.Message.{Message}
+use Rattle.il_frames.specs.declared.message.Message.TheVariants as msg
 use Rattle.il_frames.specs.declared.frame.Class.TheVariants as class
 use Rattle.il_frames.specs.declared.frame.Frame.{Frame}
 use Rattle.il_frames.specs.declared.entry.Entry.{Entry}
@@ -81,3 +83,8 @@ is_lost_nrd e = (e.source == 0) && (is_frame e.frame nrd && is_lost e.outcome)
 -- the entry's frame is no NRD
 abbrev pub is_no_nrd : Entry → Bool
 is_no_nrd e = not (is_frame e.frame nrd)
+
+-- the message is an interface clear
+abbrev pub is_ifc : Message → Bool
+is_ifc msg.Ifc = true
+is_ifc m = false

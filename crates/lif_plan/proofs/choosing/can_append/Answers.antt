@@ -1,8 +1,8 @@
 use Rattle.std.proofs.Common.{map, arith}
 use Rattle.std.proofs.lemmas.List.{length-map}
 use Rattle.lif_dir.specs.Entries.{slot_bytes}
-use Rattle.lif_alloc.proofs.Walk.{append_is}
-use Rattle.lif_alloc.proofs.choosing.can_append.Goals as goal
+use Rattle.lif_plan.proofs.Walk.{append_is}
+use Rattle.lif_plan.proofs.choosing.can_append.Goals as goal
 
 pub returns-then-redo-count : goal.returns-then-redo-count
 returns-then-redo-count c =

@@ -2,8 +2,8 @@ use Rattle.std.proofs.Common.{◌≡◌, ◌<◌, ◌^◌, ◌++◌, [], ◌∷�
 use Rattle.lif_model.specs.Fit.{purged_from, can_append, low_of, fit_beside}
 use Rattle.lif_model.proofs.Plain.{fit_after}
 use Rattle.lif_dir.specs.Entries.{slot_bytes}
-use Rattle.lif_alloc.proofs.Walk.{may_take}
-use Rattle.lif_alloc.proofs.choosing.choose_beside.Given as goal
+use Rattle.lif_plan.proofs.Walk.{may_take}
+use Rattle.lif_plan.proofs.choosing.choose_beside.Given as goal
 
 abbrev pub invariant-loop-k : goal.invariant-loop-k
 invariant-loop-k l = record {

@@ -4,7 +4,7 @@ use Rattle.std.proofs.lemmas.List.Sums.{position_or_len_is}
 use Rattle.lif_model.specs.Legal.{is_live_named}
 use Rattle.lif_model.specs.Volume.{redo_name}
 use Rattle.lif_dir.specs.Entries.{slot_bytes}
-use Rattle.lif_alloc.proofs.choosing.redo_place.Goals as goal
+use Rattle.lif_plan.proofs.choosing.redo_place.Goals as goal
 
 pub returns-then-is_live_named-clause-value : goal.returns-then-is_live_named-clause-value
 returns-then-is_live_named-clause-value c =

@@ -3,7 +3,7 @@ ghost use Rattle.std.specs.List.{list_any};
 ghost use Rattle.lif_model.specs.Legal.{is_live, has_records, end_of};
 ghost use Rattle.lif_model.specs.Fit.{NoSlot, NoRoom, redo_place, can_append, least_start, fit, fit_beside};
 ghost use Rattle.lif_dir.specs.Entries.{entry_bytes, slot_bytes};
-ghost use Rattle.lif_alloc.specs.Choices.{place_of};
+ghost use Rattle.lif_plan.specs.Choices.{place_of};
 
 use lif_dir::{FileEntry, SlotTable};
 use lif_model::{GATE, REDO_NAME};

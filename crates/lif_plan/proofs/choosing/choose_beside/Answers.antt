@@ -6,9 +6,9 @@ use Rattle.lif_model.specs.Legal.{is_live, has_records, end_of}
 use Rattle.lif_model.specs.Fit.{At, redo_place, low_of}
 use Rattle.lif_model.proofs.Plain.{fit_goes_on, fit_found}
 use Rattle.lif_dir.specs.Entries.{slot_bytes, entry_bytes}
-use Rattle.lif_alloc.proofs.Walk.{may_take, not_taken, purged_is, room_before, starts_low, greatest_next}
-use Rattle.lif_alloc.proofs.choosing.choose_beside.Goals as goal
-use Rattle.lif_alloc.proofs.choosing.choose_beside.Goals.{then-may_take+else-is_free, else-may_take}
+use Rattle.lif_plan.proofs.Walk.{may_take, not_taken, purged_is, room_before, starts_low, greatest_next}
+use Rattle.lif_plan.proofs.choosing.choose_beside.Goals as goal
+use Rattle.lif_plan.proofs.choosing.choose_beside.Goals.{then-may_take+else-is_free, else-may_take}
 
 pub overflow_cast-result-then-is_free : goal.overflow_cast-result-then-is_free
 overflow_cast-result-then-is_free c =
