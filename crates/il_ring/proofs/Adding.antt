@@ -8,6 +8,7 @@ use Rattle.loop_model.specs.Reach.{held_links, links_so_far}
 use Rattle.loop_model.specs.Roles.{roles_after}
 use Rattle.loop_model.proofs.ReachLaws.{links_so_far-append, passes_so_far-append}
 use Rattle.loop_model.proofs.RoleLaws.{roles_after-append}
+use Rattle.il_ring.specs.Guests.{IsUnderHost}
 use Rattle.il_ring.specs.Rings.{RingView, devices_of, roles_of}
 use Rattle.il_ring.specs.Rounded.{AllTook}
 use Rattle.il_ring.specs.Adds.{Adds}
@@ -50,7 +51,7 @@ adds_nothing view r a = record {
   plan = refl;
   begun = refl;
   room = refl;
-  guest = refl;
+  guest = (refl, λ under. refl);
   before = refl;
   size = refl;
   links = 0;
@@ -84,7 +85,7 @@ adds_more view r m s a b c xs ys first more =
       plan = more.plan ∙ first.plan;
       begun = more.begun ∙ first.begun;
       room = more.room ∙ first.room;
-      guest = more.guest ∙ first.guest;
+      guest = (more.guest.0 ∙ first.guest.0, λ under. let same = first.guest.1 under in more.guest.1 (subst IsUnderHost (sym same) under) ∙ same);
       before = more.before ∙ first.before;
       size = more.size ∙ first.size;
       links = first.links + more.links;

@@ -6,7 +6,7 @@ use Rattle.il_frames.specs.declared.entry.Outcome.TheVariants as outcome
 use Rattle.il_frames.specs.Frames.{is_data}
 use Rattle.il_device.specs.State.{DeviceState, risen_by}
 use Rattle.il_ports.specs.Media.{MediumView}
-use Rattle.loop_model.specs.Entries.{entry}
+use Rattle.il_frames.specs.NamedFrames.{entry}
 use Rattle.loop_model.specs.Reach.{met}
 use Rattle.il_ring.specs.declared.plan.PlanFault.{PlanFault}
 use Rattle.il_ring.specs.declared.plan.Arrival.{Arrival}

@@ -11,7 +11,7 @@ use Rattle.il_frames.specs.declared.entry.Outcome.TheVariants as outcome
 use Rattle.il_frames.specs.Frames.{framed}
 use Rattle.il_device.specs.State.{DeviceState, fresh}
 use Rattle.il_device.specs.Takes.{eto}
-use Rattle.loop_model.specs.Entries.{entry, ifc, rfc, nrd}
+use Rattle.il_frames.specs.NamedFrames.{entry, ifc, rfc, nrd}
 use Rattle.il_ring.specs.declared.plan.Planned.{Planned}
 use Rattle.il_ring.specs.declared.plan.PlanFault.{PlanFault}
 use Rattle.il_ring.specs.declared.plan.PlanFault.TheVariants.{Lose, Alter}

@@ -17,8 +17,8 @@ use Rattle.il_device.specs.State.{DeviceState, risen}
 use Rattle.il_device.specs.Takes.{Takes}
 use Rattle.il_guest.specs.Frames.{tct}
 use Rattle.il_guest.specs.Takes.{is_tct}
-use Rattle.loop_model.specs.Entries.{is_frame}
-use Rattle.loop_model.specs.Leading.{is_ifc}
+use Rattle.il_frames.specs.NamedFrames.{is_frame}
+use Rattle.il_frames.specs.NamedFrames.{is_ifc}
 use Rattle.loop_model.specs.Roles.{passed_on}
 use Rattle.loop_model.proofs.RoleSteps.{changes_roles}
 use Rattle.il_ring.specs.declared.plan.Planned.{Planned}

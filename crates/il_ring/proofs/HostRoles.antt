@@ -14,7 +14,7 @@ use Rattle.il_device.specs.declared.device.Out.TheVariants.{Pass, Source}
 use Rattle.il_device.specs.declared.roles.Roles.{Roles}
 use Rattle.il_device.specs.State.{DeviceState, risen}
 use Rattle.il_device.specs.Takes.{Takes}
-use Rattle.loop_model.specs.Entries.{entry}
+use Rattle.il_frames.specs.NamedFrames.{entry}
 use Rattle.loop_model.specs.Reach.{is_reached}
 use Rattle.loop_model.specs.Roles.{roles_by, passed_on, roles_along}
 use Rattle.il_ring.specs.declared.plan.Planned.{Planned}

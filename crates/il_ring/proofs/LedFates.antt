@@ -17,7 +17,7 @@ use Rattle.il_guest.specs.declared.guest.GuestOut.TheVariants.{Pass, Source, Rel
 use Rattle.il_guest.specs.State.{GuestState, is_leading}
 use Rattle.il_guest.specs.Takes.{GuestTakes, answer_under, guest_answer, passed_by, takes_control}
 use Rattle.il_guest.proofs.GuestLaws.{PassesIt, leads_then, leads-until-ifc, passes-host, passes-ifc}
-use Rattle.loop_model.specs.Leading.{is_ifc}
+use Rattle.il_frames.specs.NamedFrames.{is_ifc}
 use Rattle.il_ring.specs.declared.plan.Planned.{Planned}
 use Rattle.il_ring.specs.declared.flight.Flight.{Flight}
 use Rattle.il_ring.specs.Plans.{next_fault, last_crossing}

@@ -10,7 +10,7 @@ use Rattle.il_frames.specs.Messages.{message_of}
 use Rattle.il_device.specs.State.{risen}
 use Rattle.il_ports.specs.Media.{MediumView}
 use Rattle.il_drive.specs.State.{IsDrive, device_of}
-use Rattle.loop_model.specs.Leading.{is_ifc}
+use Rattle.il_frames.specs.NamedFrames.{is_ifc}
 use Rattle.il_guest.specs.declared.control.Control.{Control}
 use Rattle.il_guest.specs.declared.control.Control.TheVariants as control
 use Rattle.il_guest.specs.declared.control.Place.{Place}
@@ -24,7 +24,7 @@ use Rattle.il_guest.specs.Takes.{GuestTakes, is_tct, takes_control}
 use Rattle.il_guest.proofs.GuestLaws.{goes-on, leads-until-ifc, takes-it}
 use Rattle.il_guest.specs.declared.control.Command.TheVariants as command
 use Rattle.il_device.specs.Passing.{is_plain}
-use Rattle.loop_model.specs.Entries.{ifc}
+use Rattle.il_frames.specs.NamedFrames.{ifc}
 use Rattle.il_ring.specs.declared.plan.Planned.{Planned}
 use Rattle.il_ring.specs.declared.plan.Arrival.{Arrival}
 use Rattle.il_ring.specs.declared.plan.Arrival.TheVariants as arrival
@@ -41,7 +41,7 @@ use Rattle.il_ring.proofs.Fates.{ended_so, journey_so, sourced_way, told_cleared
 use Rattle.il_ring.proofs.Faults.{risen_within}
 use Rattle.il_ring.proofs.Handing.{OnWay, data_hands, data_no_ifc, hit_lacks, ifc_never, journey_lacks}
 use Rattle.il_ring.proofs.LedFates.{TellsLed, last_told, leads_not, led_home_told, passes_under}
-use Rattle.il_ring.proofs.LedRounds.{led_host_round, led_to_last, on_way_any}
+use Rattle.il_ring.proofs.LedRounds.{led_host_round, led_to_last, led_under, on_way_any}
 use Rattle.il_ring.proofs.Lendings.{EndPasses}
 use Rattle.il_ring.proofs.LedSteps.{Stood, home_stands, own_goes, sent_no_ifc, stands_on}
 use Rattle.il_ring.proofs.Rings.{IsRing-send, Journey-length, Reaches-drive}
@@ -285,15 +285,15 @@ last_handed plan k t kept (Some g) u (Some h) none passage under lead b same =
     let stood = nop_reached k g h under lead plan t t.flight u (subst (λ kept. GuestReaches plan k t kept t.flight g u h) none passage) in
     home_stands k b u.trip.flight (mind_of h) (subst (λ kept. Stood k h.control u.trip.flight kept) (sym same) stood)
 
-pub IsLed-handed : {M : Type 0} (view : M → MediumView) (r s : RingView M) (f : Frame) (answer : Arrival) → LedRound view r (sourced 0 f) answer s → IsRing r → IsRing s ⊎ (IsLed s × StandsNow answer s.books.lent)
-IsLed-handed view r s f answer round ring = by_lead (leads s.guest) refl
+pub IsLed-handed : {M : Type 0} (view : M → MediumView) (r s : RingView M) (f : Frame) (answer : Arrival) → LedRound view r (sourced 0 f) answer s → IsRing r → IsUnderHost r.guest → (IsRing s × IsUnderHost s.guest) ⊎ (IsLed s × StandsNow answer s.books.lent)
+IsLed-handed view r s f answer round ring under = by_lead (leads s.guest) refl
   where
-    by_lead : (lead : Bool) → leads s.guest ≡ lead → IsRing s ⊎ (IsLed s × StandsNow answer s.books.lent)
-    by_lead false none = inl (IsRing-send view r s r.books.held f answer (not_taken view r s (sourced 0 f) answer round ring.guest none) ring (inr refl))
+    by_lead : (lead : Bool) → leads s.guest ≡ lead → (IsRing s × IsUnderHost s.guest) ⊎ (IsLed s × StandsNow answer s.books.lent)
+    by_lead false none = inl (IsRing-send view r s r.books.held f answer (not_taken view r s (sourced 0 f) answer round under none) ring (inr refl), led_under s.guest none)
     by_lead true lead =
         let k = length (devices_of r) in
         let home : s.books ≡ lent_home k (books_led r.books round.behind) round.behind.trip.flight = round.books ∙ ap (λ lead. led_home lead k (books_led r.books round.behind) round.behind.trip.flight) lead in
-        let at = last_handed r.books.plan k round.at_last r.books.kept round.guest round.behind round.guest_then ring.kept round.past_last (subst IsUnderHost round.mind ring.guest) (ap leads (sym round.mind_then) ∙ lead) (books_led r.books round.behind) refl in
+        let at = last_handed r.books.plan k round.at_last r.books.kept round.guest round.behind round.guest_then ring.kept round.past_last (subst IsUnderHost round.mind under) (ap leads (sym round.mind_then) ∙ lead) (books_led r.books round.behind) refl in
         let stands : StandsLent k s.guest s.books.lent s.books.kept =
         subst (λ (b : BooksView). StandsLent k s.guest b.lent b.kept) (sym home) (subst (λ mind. StandsLent k mind (lent_home k (books_led r.books round.behind) round.behind.trip.flight).lent (lent_home k (books_led r.books round.behind) round.behind.trip.flight).kept) (sym round.mind_then) at) in
         inr (led_stays view r s (sourced 0 f) answer round ring.crossings (sourced_way r.books.plan r.books.begun r.books.crossings 0 f) ring.told lead stands ring.few ring.plan ring.drive, stands_now view r s (sourced 0 f) answer round lead)
@@ -313,7 +313,7 @@ lending_told b k told = record {
   kept = tt;
 }
 
-host_under : (m : Option GuestMind) → IsUnderHost (option_map as_host m)
+pub host_under : (m : Option GuestMind) → IsUnderHost (option_map as_host m)
 host_under None = tt
 host_under (Some mind) = refl
 
@@ -324,13 +324,12 @@ ring_back r is = record {
   crossings = is.crossings;
   held = subst IsHeld (sym is.held) tt;
   drive = is.drive;
-  guest = host_under r.guest;
   lent = refl;
   kept = refl;
   told = lending_told r.books (length (devices_of r)) is.told;
 }
 
-pub IsLed-back : {M : Type 0} (view : M → MediumView) (r s : RingView M) (f : Frame) (answer : Arrival) → TakenBack view r f answer s → f ≡ ifc → IsLed r → IsRing s ⊎ (IsLed s × (answer ≡ arrival.Lost) × (s.books.lent ≡ None))
+pub IsLed-back : {M : Type 0} (view : M → MediumView) (r s : RingView M) (f : Frame) (answer : Arrival) → TakenBack view r f answer s → f ≡ ifc → IsLed r → (IsRing s × IsUnderHost s.guest) ⊎ (IsLed s × (answer ≡ arrival.Lost) × (s.books.lent ≡ None))
 IsLed-back view r s f answer back is_ifc_frame is = by_mind back.mind
   where
     ring : IsRing (host_leads (taken_back r))
@@ -343,8 +342,8 @@ IsLed-back view r s f answer back is_ifc_frame is = by_mind back.mind
     gone lost = ⊎_elim (λ came. let clash = sym lost ∙ came.answer_is in cc) (λ was. was.held_is)
         (plain_sent view (host_leads (taken_back r)) (host_leads s) r.books.held f (sourced 0 f) answer back.round refl ring (ap (λ f. is_plain (message_of f)) is_ifc_frame))
 
-    by_mind : (s ≡ host_leads s) ⊎ ((s.guest ≡ r.guest) × (answer ≡ arrival.Lost)) → IsRing s ⊎ (IsLed s × (answer ≡ arrival.Lost) × (s.books.lent ≡ None))
-    by_mind (inl same) = inl (subst IsRing (sym same) ring_then)
+    by_mind : (s ≡ host_leads s) ⊎ ((s.guest ≡ r.guest) × (answer ≡ arrival.Lost)) → (IsRing s × IsUnderHost s.guest) ⊎ (IsLed s × (answer ≡ arrival.Lost) × (s.books.lent ≡ None))
+    by_mind (inl same) = inl (subst (λ s. IsRing s × IsUnderHost s.guest) (sym same) (ring_then, host_under s.guest))
     by_mind (inr (same, lost)) = inr (
       record {
         few = ring_then.few;
@@ -359,6 +358,20 @@ IsLed-back view r s f answer back is_ifc_frame is = by_mind back.mind
       lost,
       ring_then.lent,
     )
+
+-- ---- where it is lent no more
+
+pub led_ring : {M : Type 0} (r : RingView M) → IsLed r → r.books.lent ≡ None → IsRing r
+led_ring r is none = record {
+  few = is.few;
+  plan = is.plan;
+  crossings = is.crossings;
+  held = subst IsHeld (sym is.held) tt;
+  drive = is.drive;
+  lent = none;
+  kept = subst (λ lent. StandsLent (length (devices_of r)) r.guest lent r.books.kept) none is.stands;
+  told = is.told;
+}
 
 -- ---- and an emptying of the log
 

@@ -9,7 +9,7 @@ use Rattle.il_device.specs.State.{DeviceState}
 use Rattle.il_device.specs.Takes.{Takes}
 use Rattle.il_ports.specs.Media.{MediumView}
 use Rattle.il_drive.specs.State.{DriveView, device_of}
-use Rattle.loop_model.specs.Entries.{ifc, is_frame}
+use Rattle.il_frames.specs.NamedFrames.{ifc, is_frame}
 use Rattle.il_guest.specs.Frames.{tct}
 use Rattle.il_guest.specs.declared.control.Control.{Control}
 use Rattle.il_guest.specs.declared.control.Control.TheVariants as control
@@ -27,7 +27,7 @@ use Rattle.il_ring.specs.Guests.{GuestMind, guest_mind, guest_devices, IsUnderHo
 use Rattle.il_ring.specs.Journeys.{Trip, trip, trip_of, Passage, Journey, DriveTakes}
 use Rattle.il_ring.specs.Outcomes.{Obeys}
 use Rattle.il_ring.specs.Lending.{LedRound, TakenBack, as_host, HostKeeps, books_led, last_talks, leads, led_home, lent_lost, taken_back, host_leads}
-use Rattle.il_ring.specs.Rings.{RingView, IsRing, Round, devices_of, home, books_at, arrived, arriving}
+use Rattle.il_ring.specs.Rings.{RingView, Round, devices_of, home, books_at, arrived, arriving}
 use Rattle.il_ring.proofs.EndsHome.{any_each}
 use Rattle.il_ring.proofs.Handing.{OnWay, hands_sent, hit_lacks, journey_lacks, tct_never}
 use Rattle.il_ring.proofs.Journeys.{Journey-append}
@@ -142,7 +142,7 @@ module _ {M : Type 0} (view : M → MediumView) (r s : RingView M) (f : Flight) 
   pub led_to_last : Journey r.books.plan 1 (trip_of r.books (Some f)) (r.before ++ device_of r.drive.state ∷ round.boxed) round.at_last (s.before ++ device_of s.drive.state ∷ round.boxed_then)
   led_to_last = to_last view r.books.plan (trip_of r.books (Some f)) round.at_drive round.past_drive round.at_last r.before s.before round.boxed round.boxed_then r.drive s.drive round.to_drive round.at round.from_drive
 
-  led_party : (g : GuestState) → round.guest ≡ Some g → length (devices_of r) ≡ length r.before + 2 + length round.boxed
+  pub led_party : (g : GuestState) → round.guest ≡ Some g → length (devices_of r) ≡ length r.before + 2 + length round.boxed
   led_party g is =
       let all = length-append r.before (device_of r.drive.state ∷ r.after) in
       let after = ap length round.after ∙ length-append round.boxed (guest_devices round.guest) in
@@ -241,12 +241,12 @@ module _ {M : Type 0} (view : M → MediumView) (r s : RingView M) (f : Flight) 
       led_host_round view r s f answer round (λ f. is_tct (message_of f) ≡ false) all at under
 
   pub led_kept : (frame : Frame) → f ≡ sourced 0 frame → HostKeeps r frame → Round view r r.books.held f answer s
-  led_kept frame is keeps = by_frame (is_frame frame tct) refl keeps.1
+  led_kept frame is keeps = by_frame (is_frame frame tct) refl keeps.hands
     where
       by_frame : (hands : Bool) → is_frame frame tct ≡ hands → (hands && (is_some r.guest && last_talks r.after)) ≡ false → Round view r r.books.held f answer s
-      by_frame false other none = led_hands (hands_sent frame f is other) keeps.0
+      by_frame false other none = led_hands (hands_sent frame f is other) keeps.host
       by_frame true other none =
-          led_host_round view r s f answer round (λ f. Unit {0}) (ends_silent r.guest round.guest round.guest_then round.boxed r.after round.mind keeps.0 round.after none) (on_way_any round.at_last.flight) keeps.0
+          led_host_round view r s f answer round (λ f. Unit {0}) (ends_silent r.guest round.guest round.guest_then round.boxed r.after round.mind keeps.host round.after none) (on_way_any round.at_last.flight) keeps.host
 
 -- ---- IFC, also while a second controller controls
 
@@ -297,6 +297,6 @@ pub taken_round : {M : Type 0} (view : M → MediumView) (r s : RingView M) (fra
 taken_round view r s frame flight answer sent is round =
     subst (λ f. TakenBack view r f answer s) (sym is) (back_taken view r s answer (subst (λ f. LedRound view (taken_back r) f answer s) (sent ∙ ap (sourced 0) is) round))
 
--- on every ring that the host controls a frame other than TCT hands control to nobody
-pub host_keeps : {M : Type 0} (r : RingView M) (f : Frame) → IsRing r → is_frame f tct ≡ false → HostKeeps r f
-host_keeps r f ring other = (ring.guest, ap (λ hands. hands && (is_some r.guest && last_talks r.after)) other)
+-- where the host controls a frame other than TCT hands control to nobody
+pub host_keeps : {M : Type 0} (r : RingView M) (f : Frame) → IsUnderHost r.guest → is_frame f tct ≡ false → HostKeeps r f
+host_keeps r f host other = record { host = host; hands = ap (λ hands. hands && (is_some r.guest && last_talks r.after)) other }

@@ -6,8 +6,8 @@ use Rattle.il_frames.specs.Frames.{is_data}
 use Rattle.il_frames.specs.Messages.{message_of}
 use Rattle.il_device.specs.State.{risen}
 use Rattle.il_device.specs.Takes.{eto}
-use Rattle.loop_model.specs.Entries.{is_frame, nrd, rfc}
-use Rattle.loop_model.specs.Leading.{is_ifc}
+use Rattle.il_frames.specs.NamedFrames.{is_frame, nrd, rfc}
+use Rattle.il_frames.specs.NamedFrames.{is_ifc}
 use Rattle.il_guest.specs.declared.control.Command.{Command}
 use Rattle.il_guest.specs.declared.control.Command.TheVariants as command
 use Rattle.il_guest.specs.declared.control.Place.{Place}

@@ -5,7 +5,7 @@ use Rattle.il_frames.specs.declared.entry.Entry.{Entry}
 use Rattle.il_device.specs.State.{DeviceState}
 use Rattle.il_ports.specs.Media.{MediumView}
 use Rattle.il_drive.specs.State.{DriveView, device_of}
-use Rattle.loop_model.specs.Entries.{ifc}
+use Rattle.il_frames.specs.NamedFrames.{ifc}
 use Rattle.il_guest.specs.State.{GuestState}
 use Rattle.il_ring.specs.declared.plan.Planned.{Planned}
 use Rattle.il_ring.specs.declared.plan.Arrival.{Arrival}

@@ -1,13 +1,17 @@
 -- Worked examples of a lent ring, by hand from the rules: a printer (party 1), the drive (party 2) and a second controller (party 3), which
 -- has the address 3. Four links make a round. The logs are those of il_guest's lends.
-use Rattle.std.proofs.Common.{◌≡◌, ◌≢◌, ◌++◌, ℕ, List, [], ◌∷◌, Option, Some, None, true, false, sum_by, refl, ap, arith}
+use Rattle.std.proofs.Common.{◌≡◌, ◌≢◌, ◌++◌, ℕ, List, [], ◌∷◌, Option, Some, None, true, false, sum_by, count_by, ◌+◌, refl, ap, arith}
 use Rattle.il_frames.specs.declared.entry.Entry.{Entry}
 use Rattle.il_frames.specs.declared.entry.Outcome.TheVariants as outcome
 use Rattle.il_frames.specs.declared.frame.Class.TheVariants as class
 use Rattle.il_frames.specs.Frames.{framed}
 use Rattle.il_device.specs.State.{fresh}
 use Rattle.il_device.specs.Takes.{ete}
-use Rattle.loop_model.specs.Entries.{entry, nrd, rfc, unl}
+use Rattle.il_frames.specs.NamedFrames.{entry, nrd, rfc, tad, unl}
+use Rattle.il_device.specs.declared.roles.Roles.{Roles}
+use Rattle.loop_model.specs.Leading.{roles_led}
+use Rattle.loop_model.specs.Reach.{brings_to, links_of}
+use Rattle.il_ring.specs.LedAdds.{TookSince, standing}
 use Rattle.il_guest.specs.declared.guest.GuestOut.TheVariants.{Pass, Source, Relay, Stop}
 use Rattle.il_guest.specs.Frames.{nop, sst, tct}
 use Rattle.il_ring.specs.declared.plan.Planned.{Planned}
@@ -119,3 +123,35 @@ last_of_three = refl
 
 other_talks : last_talks (record (fresh None 0) { roles = record { address = Some 1; talks = true; listens = false } } ∷ fresh None 0 ∷ []) ≡ false
 other_talks = refl
+
+-- ---- what stands counts as it would end
+
+-- NOP is back and RFC stands at the host: four links more, and one frame more for the second controller
+nop_passed : 4 + sum_by (links_of 3) (standing 3 (books [] 4 handed (Some (sourced 3 nop)) None))
+    ≡ sum_by (links_of 3) ((entry 3 nop (outcome.Back nop) ∷ []) ++ standing 3 (books [] 8 [] (Some (sourced 3 rfc)) None))
+nop_passed = refl
+
+nop_came : TookSince 3 (standing 3 (books [] 4 handed (Some (sourced 3 nop)) None)) ((entry 3 nop (outcome.Back nop) ∷ []) ++ standing 3 (books [] 8 [] (Some (sourced 3 rfc)) None)) 3 (fresh None 0) (record (fresh None 0) { frames = 1 })
+nop_came = (1, refl, refl)
+
+-- not two for the second controller, to which its own frame came once
+not_twice : (c : ℕ) → c + count_by (brings_to 3 3) (standing 3 (books [] 4 handed (Some (sourced 3 nop)) None)) ≡ count_by (brings_to 3 3) ((entry 3 nop (outcome.Back nop) ∷ []) ++ standing 3 (books [] 8 [] (Some (sourced 3 rfc)) None)) → c ≢ 2
+not_twice c same two = let no : ⊥ = omega (arith, same, two) in absurd no
+
+-- a byte that the second controller keeps has come to it, over one link
+byte_kept : sum_by (links_of 3) (standing 3 (books [] 8 asked (Some (sourced 3 nrd)) (Some byte))) ≡ 2
+byte_kept = refl
+
+-- TAD 1 of the second controller is on its way: its own roles are changed, the printer's are not yet
+abbrev no_roles_at : ℕ → Roles
+no_roles_at a = record { address = Some a; talks = false; listens = false }
+
+abbrev talking_last : List Roles
+talking_last = no_roles_at 1 ∷ no_roles_at 2 ∷ record { address = Some 3; talks = true; listens = false } ∷ []
+
+tad_stands : roles_led 3 talking_last (standing 3 (books [] 16 [] (Some (sourced 3 (tad 1))) None)) ≡ no_roles_at 1 ∷ no_roles_at 2 ∷ no_roles_at 3 ∷ []
+tad_stands = refl
+
+-- it is back: the printer talks
+tad_back : roles_led 3 talking_last (entry 3 (tad 1) (outcome.Back (tad 1)) ∷ []) ≡ record { address = Some 1; talks = true; listens = false } ∷ no_roles_at 2 ∷ no_roles_at 3 ∷ []
+tad_back = refl

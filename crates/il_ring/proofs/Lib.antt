@@ -50,3 +50,19 @@ pub mod LendingExamples
 pub mod SendLaws
 pub mod Adding
 pub mod RoundAdds
+pub mod Turnings
+pub mod TurnedCounts
+pub mod RoundEntries
+pub mod TurnedRounds
+pub mod PassSteps
+pub mod Remaining
+pub mod LendLaws
+pub mod LedTalkers
+pub mod LendTalkers
+mod LendExamples
+pub mod HandedOver
+pub mod LedDoes
+pub mod LedRoles
+pub mod RoundHomeward
+pub mod LedCounts
+pub mod LedSums

@@ -16,7 +16,7 @@ use Rattle.il_device.specs.Roles.{own_after, assignment_after, takes_address, is
 use Rattle.il_device.specs.State.{DeviceState}
 use Rattle.il_device.specs.Takes.{Takes, Answers, turn_of, turn_at, turn_at_start, asked_for_id, may_change_service, heard_after, count_after}
 use Rattle.il_device.proofs.Laws.{Takes-plain, own-silent, turn_at-plain, message_of-aad}
-use Rattle.loop_model.specs.Entries.{aad}
+use Rattle.il_frames.specs.NamedFrames.{aad}
 use Rattle.il_ring.specs.Outcomes.{HearsNothing, Obeys}
 use Rattle.il_ring.proofs.Passes.{PassesOn}
 

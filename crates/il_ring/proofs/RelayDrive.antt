@@ -16,7 +16,7 @@ use Rattle.il_device.specs.Takes.{Takes, eto, ete}
 use Rattle.il_device.specs.Passing.{is_plain}
 use Rattle.il_drive.specs.State.{device_of}
 use Rattle.il_ports.specs.Media.{MediumView}
-use Rattle.loop_model.specs.Entries.{entry}
+use Rattle.il_frames.specs.NamedFrames.{entry}
 use Rattle.il_ring.specs.declared.plan.Arrival.{Arrival}
 use Rattle.il_ring.specs.declared.flight.Flight.{Flight}
 use Rattle.il_ring.specs.Plans.{IsPlan, last_crossing}

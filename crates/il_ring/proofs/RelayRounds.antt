@@ -18,7 +18,7 @@ use Rattle.il_device.specs.Takes.{Takes, Answers, AnswersEcho, GoesOn, Ends, eto
 use Rattle.il_device.specs.Passing.{is_plain}
 use Rattle.il_device.proofs.Laws.{roles_after-data, turn_of-data}
 use Rattle.il_ports.specs.Media.{MediumView}
-use Rattle.loop_model.specs.Entries.{entry}
+use Rattle.il_frames.specs.NamedFrames.{entry}
 use Rattle.loop_model.specs.Reach.{met}
 use Rattle.il_ring.specs.declared.plan.Planned.{Planned}
 use Rattle.il_ring.specs.declared.plan.Arrival.{Arrival}
@@ -45,7 +45,7 @@ use Rattle.il_ring.proofs.RoundCounts.{round_journey}
 
 -- ---- right and wrong echoes
 
-test_false : (b : Bool) → (b ≡ true → ⊥) → b ≡ false
+pub test_false : (b : Bool) → (b ≡ true → ⊥) → b ≡ false
 test_false true never = absurd (never refl)
 test_false false never = refl
 

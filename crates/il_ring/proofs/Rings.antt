@@ -18,7 +18,6 @@ use Rattle.il_ring.specs.Flights.{sourced, hit, lost_at, ended_at}
 use Rattle.il_ring.specs.Books.{BooksView, IsHeld}
 use Rattle.il_ring.specs.Fates.{GoesByPlan, HoldsByPlan, ShowsPlan}
 use Rattle.il_ring.specs.Journeys.{Trip, trip_of, answered, Meets, Reaches, Journey, DriveTakes}
-use Rattle.il_ring.specs.Guests.{IsUnderHost}
 use Rattle.il_ring.specs.Rings.{RingView, IsRing, Round, devices_of, books_at, ring_emptied, comes, home, over_last_link}
 use Rattle.il_ring.proofs.Faults.{risen_within}
 use Rattle.il_ring.proofs.Fates.{passes_so, sourced_way, told_cleared, journey_so, reaches_so, home_told, starts_so}
@@ -172,7 +171,6 @@ IsRing-round view r s held f answer round is is_held ways way =
       crossings = books.crossings;
       held = books.held;
       drive = Reaches-drive view r.books.plan (length r.before + 1) round.at_drive round.past_drive round.at_drive.flight r.drive s.drive is.drive round.at;
-      guest = subst IsUnderHost (sym round.guest) is.guest;
       lent = round-lent view r s held f answer round ∙ is.lent;
       kept = round-kept view r s held f answer round ∙ is.kept;
       told = round-told view r s held f answer round is ways way;
@@ -191,4 +189,4 @@ IsRing-relay view r s f answer round is held = IsRing-round view r s None f answ
 
 -- and so does an emptying of the log
 pub IsRing-clear : {M : Type 0} (r : RingView M) → IsRing r → IsRing (ring_emptied r)
-IsRing-clear r is = record { few = is.few; plan = is.plan; crossings = is.crossings; held = is.held; drive = is.drive; guest = is.guest; lent = is.lent; kept = is.kept; told = told_cleared r.books is.told }
+IsRing-clear r is = record { few = is.few; plan = is.plan; crossings = is.crossings; held = is.held; drive = is.drive; lent = is.lent; kept = is.kept; told = told_cleared r.books is.told }

@@ -15,7 +15,7 @@ use Rattle.il_frames.specs.Messages.{message_of}
 use Rattle.il_device.specs.declared.roles.Roles.{Roles}
 use Rattle.il_device.specs.State.{risen}
 use Rattle.il_ports.specs.Media.{MediumView}
-use Rattle.loop_model.specs.Entries.{entry}
+use Rattle.il_frames.specs.NamedFrames.{entry}
 use Rattle.loop_model.specs.Reach.{is_reached}
 use Rattle.loop_model.specs.Roles.{roles_along, roles_after_entry, roles_after}
 use Rattle.il_ring.specs.declared.plan.Arrival.{Arrival}

@@ -8,13 +8,14 @@ use Rattle.il_frames.specs.Messages.{message_of}
 use Rattle.il_device.specs.declared.device.Out.{Out}
 use Rattle.il_ports.specs.Media.{MediumView}
 use Rattle.il_drive.specs.Runs.{Ran}
-use Rattle.loop_model.specs.Entries.{entry}
+use Rattle.il_frames.specs.NamedFrames.{entry}
 use Rattle.loop_model.specs.Reach.{links_so_far}
 use Rattle.loop_model.specs.Roles.{roles_after}
 use Rattle.il_ring.specs.declared.plan.Arrival.{Arrival}
 use Rattle.il_ring.specs.declared.plan.Arrival.TheVariants as arrival
 use Rattle.il_ring.specs.declared.flight.Flight.{Flight}
 use Rattle.il_ring.specs.Flights.{sourced}
+use Rattle.il_ring.specs.Guests.{last_asked}
 use Rattle.il_ring.specs.Rings.{RingView, Round, devices_of, roles_of}
 use Rattle.il_ring.specs.Rounded.{Rounded, IsReady, AllTook, device_sending, holding}
 use Rattle.il_ring.specs.Outcomes.{met_between, DriveHad, DriveDid, DriveTook}
@@ -58,7 +59,7 @@ round_adds view P r s held f answer entries to round counts log new roles unpoll
       plan = round-plan view r s held f answer round;
       begun = round-begun view r s held f answer round;
       room = round-room view r s held f answer round;
-      guest = round.guest;
+      guest = (ap last_asked round.guest, λ under. round.guest);
       before = before-length view r s held f answer round;
       size = devices-length view r s held f answer round;
       links = counts.links;

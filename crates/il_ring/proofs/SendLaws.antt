@@ -13,9 +13,9 @@ use Rattle.il_ring.specs.declared.plan.Arrival.{Arrival}
 use Rattle.il_ring.specs.declared.flight.Flight.{Flight}
 use Rattle.il_ring.specs.Flights.{sourced}
 use Rattle.il_ring.specs.Journeys.{trip_of}
-use Rattle.loop_model.specs.Entries.{ifc}
+use Rattle.il_frames.specs.NamedFrames.{ifc}
 use Rattle.il_ring.specs.Guests.{IsUnderHost}
-use Rattle.il_ring.specs.Lending.{HostKeeps, LedRound, TakenBack, entry_where, leads, going_on, sending, taken_back, taken_back_where}
+use Rattle.il_ring.specs.Lending.{HostKeeps, LedRound, TakenBack, entry_where, leads, going_on, about_to_send, taken_back, taken_back_where}
 use Rattle.il_ring.specs.Rings.{RingView, IsRing, Round, devices_of, roles_of, spare_of}
 use Rattle.il_ring.proofs.LedRounds.{led_hands, led_kept, not_led, taken_round}
 use Rattle.il_ring.proofs.Handing.{data_hands}
@@ -36,14 +36,14 @@ use Rattle.il_ring.proofs.RoundCounts.{round_journey, round_counts}
 -- ---- by who controls
 
 -- under the host the round is one like every other
-pub sent_round : {M : Type 0} (view : M → MediumView) (r t s : RingView M) (f : Frame) (flight : Flight) (answer : Arrival) → LedRound view t flight answer s → t ≡ sending r → flight ≡ sourced 0 f → HostKeeps r f → Round view r r.books.held (sourced 0 f) answer s
+pub sent_round : {M : Type 0} (view : M → MediumView) (r t s : RingView M) (f : Frame) (flight : Flight) (answer : Arrival) → LedRound view t flight answer s → t ≡ about_to_send r → flight ≡ sourced 0 f → HostKeeps r f → Round view r r.books.held (sourced 0 f) answer s
 sent_round view r t s f flight answer round at is keeps =
-    let same : sending r ≡ r = ap (λ lead. taken_back_where lead r) (not_led r.guest keeps.0) in
+    let same : about_to_send r ≡ r = ap (λ lead. taken_back_where lead r) (not_led r.guest keeps.host) in
     subst (λ flight. Round view r r.books.held flight answer s) is (led_kept view r s flight answer (subst (λ t. LedRound view t flight answer s) (at ∙ same) round) f is keeps)
 
-pub handed_sent : {M : Type 0} (view : M → MediumView) (r t s : RingView M) (f : Frame) (flight : Flight) (answer : Arrival) → LedRound view t flight answer s → t ≡ sending r → flight ≡ sourced 0 f → IsUnderHost r.guest → LedRound view r (sourced 0 f) answer s
+pub handed_sent : {M : Type 0} (view : M → MediumView) (r t s : RingView M) (f : Frame) (flight : Flight) (answer : Arrival) → LedRound view t flight answer s → t ≡ about_to_send r → flight ≡ sourced 0 f → IsUnderHost r.guest → LedRound view r (sourced 0 f) answer s
 handed_sent view r t s f flight answer round at is under =
-    let same : sending r ≡ r = ap (λ lead. taken_back_where lead r) (not_led r.guest under) in
+    let same : about_to_send r ≡ r = ap (λ lead. taken_back_where lead r) (not_led r.guest under) in
     subst (λ flight. LedRound view r flight answer s) is (subst (λ t. LedRound view t flight answer s) (at ∙ same) round)
 
 -- what the host sends while another controls
@@ -51,9 +51,9 @@ pub ifc_alone : {M : Type 0} (r : RingView M) (f : Frame) → IsUnderHost r.gues
 ifc_alone r f (inl under) lead = let clash = sym lead ∙ not_led r.guest under in cc
 ifc_alone r f (inr is) lead = is
 
-pub back_sent : {M : Type 0} (view : M → MediumView) (r t s : RingView M) (f : Frame) (flight : Flight) (answer : Arrival) → LedRound view t flight answer s → t ≡ sending r → flight ≡ sourced 0 f → IsUnderHost r.guest ⊎ (f ≡ ifc) → leads r.guest ≡ true → TakenBack view r f answer s
+pub back_sent : {M : Type 0} (view : M → MediumView) (r t s : RingView M) (f : Frame) (flight : Flight) (answer : Arrival) → LedRound view t flight answer s → t ≡ about_to_send r → flight ≡ sourced 0 f → IsUnderHost r.guest ⊎ (f ≡ ifc) → leads r.guest ≡ true → TakenBack view r f answer s
 back_sent view r t s f flight answer round at is alone lead =
-    let back : sending r ≡ taken_back r = ap (λ lead. taken_back_where lead r) lead in
+    let back : about_to_send r ≡ taken_back r = ap (λ lead. taken_back_where lead r) lead in
     taken_round view r s f flight answer is (ifc_alone r f alone lead) (subst (λ t. LedRound view t flight answer s) (at ∙ back) round)
 
 -- the room that is left behind a lending that ended
@@ -61,7 +61,7 @@ one_at_most : (k : ℕ) (o : Option Flight) → length (entry_where k o) ≤ 1
 one_at_most k None = omega arith
 one_at_most k (Some f) = omega arith
 
-pub room_sent : {M : Type 0} (r t : RingView M) (f : Frame) (flight : Flight) → t ≡ sending r → flight ≡ sourced 0 f → IsUnderHost r.guest ⊎ (f ≡ ifc) → 32 ≤ spare_of r → (32 ≤ spare_of t) ⊎ ((30 ≤ spare_of t) × (flight ≡ sourced 0 ifc))
+pub room_sent : {M : Type 0} (r t : RingView M) (f : Frame) (flight : Flight) → t ≡ about_to_send r → flight ≡ sourced 0 f → IsUnderHost r.guest ⊎ (f ≡ ifc) → 32 ≤ spare_of r → (32 ≤ spare_of t) ⊎ ((30 ≤ spare_of t) × (flight ≡ sourced 0 ifc))
 room_sent r t f flight at is alone room = by_lead (leads r.guest) refl
   where
     by_lead : (lead : Bool) → leads r.guest ≡ lead → (32 ≤ spare_of t) ⊎ ((30 ≤ spare_of t) × (flight ≡ sourced 0 ifc))
@@ -79,7 +79,7 @@ round_keeps : {M : Type 0} (view : M → MediumView) (r s : RingView M) (held : 
 round_keeps view r s held f answer round = journey_keeps r.books.plan 1 (trip_of r.books (Some f)) round.behind (devices_of r) (devices_of s) (round_journey view r s held f answer round)
 
 -- the held frame goes on, which is held no more
-round_released : {M : Type 0} (view : M → MediumView) (r s : RingView M) (f : Flight) (answer : Arrival) → Round view (record r { books = record r.books { held = None } }) None f answer s → Round view r None f answer s
+pub round_released : {M : Type 0} (view : M → MediumView) (r s : RingView M) (f : Flight) (answer : Arrival) → Round view (record r { books = record r.books { held = None } }) None f answer s → Round view r None f answer s
 round_released view r s f answer round = record {
   at_drive = round.at_drive;
   past_drive = round.past_drive;

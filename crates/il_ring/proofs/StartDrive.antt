@@ -15,7 +15,7 @@ use Rattle.il_device.specs.State.{DeviceState, risen_by}
 use Rattle.il_device.specs.Takes.{Takes}
 use Rattle.il_drive.specs.State.{device_of}
 use Rattle.il_ports.specs.Media.{MediumView}
-use Rattle.loop_model.specs.Entries.{entry}
+use Rattle.il_frames.specs.NamedFrames.{entry}
 use Rattle.loop_model.specs.Roles.{talkers, is_at_most_one}
 use Rattle.il_ring.specs.declared.plan.Arrival.{Arrival}
 use Rattle.il_ring.specs.declared.flight.Flight.{Flight}

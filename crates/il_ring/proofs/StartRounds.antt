@@ -10,7 +10,7 @@ use Rattle.il_frames.specs.Messages.{message_of}
 use Rattle.il_device.specs.State.{DeviceState, risen_by}
 use Rattle.il_device.specs.Roles.{is_start}
 use Rattle.il_ports.specs.Media.{MediumView}
-use Rattle.loop_model.specs.Entries.{entry}
+use Rattle.il_frames.specs.NamedFrames.{entry}
 use Rattle.loop_model.specs.Reach.{met}
 use Rattle.loop_model.specs.Roles.{talkers, is_at_most_one}
 use Rattle.il_ring.specs.declared.plan.Arrival.{Arrival}

@@ -9,6 +9,7 @@ use Rattle.il_ports.specs.Media.{MediumView}
 use Rattle.il_drive.specs.Runs.{Ran}
 use Rattle.loop_model.specs.Reach.{held_links, links_so_far}
 use Rattle.loop_model.specs.Roles.{roles_after}
+use Rattle.il_ring.specs.Guests.{KeepsGuest}
 use Rattle.il_ring.specs.Rings.{RingView, devices_of, roles_of}
 use Rattle.il_ring.specs.Rounded.{AllTook}
 use Rattle.il_ring.specs.Lists.{First}
@@ -23,7 +24,7 @@ pub record Adds {M : Type 0} (view : M → MediumView) (r : RingView M) (from : 
   pub plan : s.books.plan ≡ r.books.plan
   pub begun : s.books.begun ≡ r.books.begun
   pub room : s.books.room ≡ r.books.room
-  pub guest : s.guest ≡ r.guest
+  pub guest : KeepsGuest r.guest s.guest
   pub before : length s.before ≡ length r.before
   pub size : length (devices_of s) ≡ length (devices_of r)
   pub links : ℕ

@@ -32,6 +32,14 @@ abbrev pub IsUnderHost : Option GuestMind → Type 0
 IsUnderHost None = Unit {0}
 IsUnderHost (Some mind) = mind.control ≡ control.Host
 
+-- the last address that it asks
+abbrev pub last_asked : Option GuestMind → Option ℕ
+last_asked mind = option_map (λ m. m.last) mind
+
+-- It asks the same addresses as before, and where the host controlled the loop it has the same in mind.
+abbrev pub KeepsGuest : Option GuestMind → Option GuestMind → Type 0
+KeepsGuest before now = (last_asked now ≡ last_asked before) × (IsUnderHost before → now ≡ before)
+
 -- where there is one, it keeps its rules
 abbrev pub IsLast : Option GuestState → Type 0
 IsLast None = Unit {0}

@@ -10,7 +10,7 @@ use Rattle.il_frames.specs.Frames.{is_data}
 use Rattle.il_device.specs.State.{DeviceState, risen}
 use Rattle.il_ports.specs.Media.{MediumView}
 use Rattle.il_drive.specs.State.{IsDrive}
-use Rattle.loop_model.specs.Entries.{is_frame, nrd}
+use Rattle.il_frames.specs.NamedFrames.{is_frame, nrd}
 use Rattle.il_guest.specs.declared.control.Control.{Control}
 use Rattle.il_guest.specs.declared.control.Control.TheVariants as control
 use Rattle.il_guest.specs.declared.control.Place.{Place}
@@ -51,8 +51,9 @@ abbrev pub hands_over : {M : Type 0} → RingView M → Frame → Bool
 hands_over r f = is_frame f tct && (is_some r.guest && last_talks r.after)
 
 -- the host controls, and goes on to do so when it has sent this frame
-abbrev pub HostKeeps : {M : Type 0} → RingView M → Frame → Type 0
-HostKeeps r f = IsUnderHost r.guest × (hands_over r f ≡ false)
+pub record HostKeeps {M : Type 0} (r : RingView M) (f : Frame) : Type 0 where
+  pub host : IsUnderHost r.guest
+  pub hands : hands_over r f ≡ false
 
 -- ---- at the second controller
 
@@ -175,8 +176,8 @@ abbrev pub taken_back_where : {M : Type 0} → Bool → RingView M → RingView 
 taken_back_where true r = taken_back r
 taken_back_where false r = r
 
-abbrev pub sending : {M : Type 0} → RingView M → RingView M
-sending r = taken_back_where (leads r.guest) r
+abbrev pub about_to_send : {M : Type 0} → RingView M → RingView M
+about_to_send r = taken_back_where (leads r.guest) r
 
 -- as the host controls the loop
 abbrev pub as_host : GuestMind → GuestMind

@@ -12,4 +12,9 @@ pub mod Outcomes
 pub mod Adds
 pub mod Polls
 pub mod Seen
+pub mod LedAdds
 pub mod Lending
+pub mod Lends
+pub mod Turned
+pub mod Remaining
+pub mod HandedOver

@@ -13,7 +13,7 @@ use Rattle.il_device.specs.Roles.{roles_after, own_after, assignment_after}
 use Rattle.il_device.specs.State.{DeviceState, risen}
 use Rattle.il_device.specs.Takes.{eto, ete, identity, kept, may_change_service}
 use Rattle.il_ports.specs.Media.{MediumView}
-use Rattle.loop_model.specs.Entries.{entry}
+use Rattle.il_frames.specs.NamedFrames.{entry}
 use Rattle.loop_model.specs.Reach.{met}
 use Rattle.loop_model.specs.Roles as by_log
 use Rattle.il_ring.specs.declared.plan.Arrival.{Arrival}

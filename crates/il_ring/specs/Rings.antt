@@ -14,7 +14,7 @@ use Rattle.il_ring.specs.Flights.{hit, lost_at, ended_at}
 use Rattle.il_ring.specs.Books.{BooksView, IsHeld, books_emptied}
 use Rattle.il_ring.specs.Fates.{ShowsPlan}
 use Rattle.il_ring.specs.Journeys.{Trip, trip_of, Passage, Journey, DriveTakes}
-use Rattle.il_ring.specs.Guests.{GuestMind, IsUnderHost}
+use Rattle.il_ring.specs.Guests.{GuestMind}
 
 -- the devices before the drive, the drive with its medium, the devices behind it, a second controller's last among them, what
 -- such a one has in mind, and the books
@@ -41,7 +41,7 @@ drive_party r = length r.before + 1
 abbrev pub spare_of : {M : Type 0} → RingView M → ℕ
 spare_of r = r.books.room - length r.books.log
 
--- what holds of a ring at every moment at which the host controls it; its drive is one over a tape of some number of records, no
+-- what holds of a ring at every moment at which it is not lent; its drive is one over a tape of some number of records, no
 -- frame stands as on a lent ring, and its log tells the planned faults as they were planned
 pub record IsRing {M : Type 0} (r : RingView M) : Type 0 where
   pub few : length r.before + length r.after ≤ 29
@@ -49,7 +49,6 @@ pub record IsRing {M : Type 0} (r : RingView M) : Type 0 where
   pub crossings : r.books.crossings ≤ last_crossing
   pub held : IsHeld r.books.held
   pub drive : (n : ℕ) × IsDrive n r.drive.state
-  pub guest : IsUnderHost r.guest
   pub lent : r.books.lent ≡ None
   pub kept : r.books.kept ≡ None
   pub told : ShowsPlan r.books

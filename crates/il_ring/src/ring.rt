@@ -1,10 +1,10 @@
-ghost use Rattle.std.specs.Prelude.{◌≡◌, ◌⊎◌, ◌+◌, ◌<◌, ◌≤◌, ◌++◌, [], map, length, true, false, Some, None, IsSome, IfSome, IfOk, IfErr, option_map, is_some};
+ghost use Rattle.std.specs.Prelude.{◌≡◌, ◌⊎◌, ◌+◌, ◌<◌, ◌≤◌, ◌++◌, [], map, length, true, false, Some, None, IsSome, Option, IfSome, IfOk, IfErr, option_map, is_some};
 ghost use Rattle.il_frames.specs.Frames.{is_data};
 ghost use Rattle.il_frames.specs.Messages.{message_of};
 ghost use Rattle.il_device.specs.declared.interface.OwnFrame.{OwnFrame};
 ghost use Rattle.il_device.specs.Roles.{is_start};
 ghost use Rattle.il_device.specs.Passing.{is_plain};
-ghost use Rattle.loop_model.specs.Entries.{ifc, nrd};
+ghost use Rattle.il_frames.specs.NamedFrames.{ifc, nrd};
 ghost use Rattle.loop_model.specs.Roles.{talkers, is_at_most_one};
 ghost use Rattle.il_drive.specs.State.{fresh_drive, IsDrive};
 ghost use Rattle.il_ring.specs.declared.plan.Arrival.TheVariants as arrival;
@@ -13,8 +13,13 @@ ghost use Rattle.il_ring.specs.Flights.{sourced};
 ghost use Rattle.il_ring.specs.Rings.{RingView, IsRing, Round, devices_of, roles_of, drive_party, spare_of, fresh_books, ring_emptied, paper_of};
 ghost use Rattle.il_ring.specs.Guests.{guest_devices, guest_mind, MayBeGuest, StandsLast, IsUnderHost};
 ghost use Rattle.il_ring.specs.Lending.{HostKeeps, IsLed, LedRound, StandsNow, TakenBack};
-ghost use Rattle.il_ring.specs.Lending.{going_on, hands_over, leads, sending};
+ghost use Rattle.il_ring.specs.Lending.{going_on, hands_over, leads, about_to_send};
+ghost use Rattle.il_guest.specs.Frames.{tct};
+ghost use Rattle.il_ring.specs.HandedOver.{HandLost, HandedOver};
+ghost use Rattle.il_ring.specs.LedAdds.{IsUnderWay, LedAdds};
 ghost use Rattle.il_ring.specs.Lists.{AllSilent, NoneSends};
+ghost use Rattle.il_ring.specs.declared.flight.Flight.{Flight};
+ghost use Rattle.il_ring.specs.Turned.{Halves, turned_flight};
 ghost use Rattle.il_ring.specs.Rounded.{Rounded, IsReady};
 ghost use Rattle.il_ring.specs.Outcomes.{Returned, WasLost, DataReturned, DataBroken, StartReturned, StartGone, StartTaken, AllKeep, IsTalking, StoodSo, Relayed};
 
@@ -272,13 +277,21 @@ impl<M: Medium> Ring<M> {
         ensures handed { IsUnderHost (⟦<Ring<M> as Seen<M>>⟧.seen self.old).guest →
             hands_over (⟦<Ring<M> as Seen<M>>⟧.seen self.old) frame ≡ true
             → LedRound M.view (⟦<Ring<M> as Seen<M>>⟧.seen self.old) (sourced 0 frame) result (⟦<Ring<M> as Seen<M>>⟧.seen self.new) }
-        ensures lent { IsRing (⟦<Ring<M> as Seen<M>>⟧.seen self.old) →
-            hands_over (⟦<Ring<M> as Seen<M>>⟧.seen self.old) frame ≡ true → IsRing (⟦<Ring<M> as Seen<M>>⟧.seen self.new)
+        ensures lent { IsRing (⟦<Ring<M> as Seen<M>>⟧.seen self.old) → IsUnderHost (⟦<Ring<M> as Seen<M>>⟧.seen self.old).guest →
+            hands_over (⟦<Ring<M> as Seen<M>>⟧.seen self.old) frame ≡ true
+            → (IsRing (⟦<Ring<M> as Seen<M>>⟧.seen self.new) × IsUnderHost (⟦<Ring<M> as Seen<M>>⟧.seen self.new).guest)
             ⊎ (IsLed (⟦<Ring<M> as Seen<M>>⟧.seen self.new) × StandsNow result (⟦<Ring<M> as Seen<M>>⟧.seen self.new).books.lent) }
+        // It was lost before that one, and the host controls still; or that one took it, and the first frame of its rounds
+        // stands at the host, or was lost on the last link.
+        ensures over { IsRing (⟦<Ring<M> as Seen<M>>⟧.seen self.old) → IsUnderHost (⟦<Ring<M> as Seen<M>>⟧.seen self.old).guest →
+            frame ≡ tct → hands_over (⟦<Ring<M> as Seen<M>>⟧.seen self.old) tct ≡ true
+            → HandLost (⟦<Ring<M> as Seen<M>>⟧.seen self.old) result (⟦<Ring<M> as Seen<M>>⟧.seen self.new)
+            ⊎ HandedOver (⟦<Ring<M> as Seen<M>>⟧.seen self.old) result (⟦<Ring<M> as Seen<M>>⟧.seen self.new) }
         // IFC takes control back from a second controller.
         ensures taken_back { leads (⟦<Ring<M> as Seen<M>>⟧.seen self.old).guest ≡ true →
             TakenBack M.view (⟦<Ring<M> as Seen<M>>⟧.seen self.old) frame result (⟦<Ring<M> as Seen<M>>⟧.seen self.new) }
-        ensures back { IsLed (⟦<Ring<M> as Seen<M>>⟧.seen self.old) → IsRing (⟦<Ring<M> as Seen<M>>⟧.seen self.new)
+        ensures back { IsLed (⟦<Ring<M> as Seen<M>>⟧.seen self.old) →
+            (IsRing (⟦<Ring<M> as Seen<M>>⟧.seen self.new) × IsUnderHost (⟦<Ring<M> as Seen<M>>⟧.seen self.new).guest)
             ⊎ (IsLed (⟦<Ring<M> as Seen<M>>⟧.seen self.new) × (result ≡ arrival.Lost) × ((⟦<Ring<M> as Seen<M>>⟧.seen self.new).books.lent ≡ None)) }
     {
         self.end_lending();
@@ -288,7 +301,7 @@ impl<M: Medium> Ring<M> {
     /// Where a second controller controls, what was lent ends.
     fn end_lending(&mut self)
         requires { 2 ≤ spare_of (⟦<Ring<M> as Seen<M>>⟧.seen self.old) }
-        ensures { ⟦<Ring<M> as Seen<M>>⟧.seen self.new ≡ sending (⟦<Ring<M> as Seen<M>>⟧.seen self.old) }
+        ensures { ⟦<Ring<M> as Seen<M>>⟧.seen self.new ≡ about_to_send (⟦<Ring<M> as Seen<M>>⟧.seen self.old) }
     {
         if self.parts.boxes.last.leads() {
             let party = self.devices();
@@ -318,6 +331,16 @@ impl<M: Medium> Ring<M> {
             IsLed (⟦<Ring<M> as Seen<M>>⟧.seen self.new) × StandsNow result (⟦<Ring<M> as Seen<M>>⟧.seen self.new).books.lent }
         ensures round { IfSome (⟦<Ring<M> as Seen<M>>⟧.seen self.old).books.lent (λ f.
             LedRound M.view (going_on (⟦<Ring<M> as Seen<M>>⟧.seen self.old)) f result (⟦<Ring<M> as Seen<M>>⟧.seen self.new)) }
+        // As the second controller sees it, it is the host of the ring of the devices before it: so the frame goes
+        // round that ring, as one of the host's, and what it then sends comes to the host.
+        ensures halves { IsLed (⟦<Ring<M> as Seen<M>>⟧.seen self.old) → (held : Option Flight) → (f : Flight) →
+            (⟦<Ring<M> as Seen<M>>⟧.seen self.old).books.lent ≡ Some (turned_flight (length (devices_of (⟦<Ring<M> as Seen<M>>⟧.seen self.old))) f)
+            → f.source < length (devices_of (⟦<Ring<M> as Seen<M>>⟧.seen self.old))
+            → Halves M.view (going_on (⟦<Ring<M> as Seen<M>>⟧.seen self.old)) held f result (⟦<Ring<M> as Seen<M>>⟧.seen self.new) }
+        // Where the source of each data frame that is under way awaits it, the entries tell how many links were crossed, how
+        // many frames came to each device, and the roles; and each command is the second controller's.
+        ensures counts { IsLed (⟦<Ring<M> as Seen<M>>⟧.seen self.old) → (f : Flight) → IsUnderWay (⟦<Ring<M> as Seen<M>>⟧.seen self.old) f →
+            LedAdds (⟦<Ring<M> as Seen<M>>⟧.seen self.old) (⟦<Ring<M> as Seen<M>>⟧.seen self.new) }
     {
         let flight = self.parts.books.take_lent().unwrap();
         self.round(flight)
@@ -335,7 +358,8 @@ impl<M: Medium> Ring<M> {
             IfSome (⟦<Ring<M> as Seen<M>>⟧.seen self.old).books.held (λ f. Round M.view (⟦<Ring<M> as Seen<M>>⟧.seen self.old) None f result (⟦<Ring<M> as Seen<M>>⟧.seen self.new)) }
         // Where its source is the one device that talks and has it on the loop, it comes back to it,
         // which sends a further data frame, ETO or ETE; or it is lost at a planned hop.
-        ensures relayed { IsRing (⟦<Ring<M> as Seen<M>>⟧.seen self.old) → IfSome (⟦<Ring<M> as Seen<M>>⟧.seen self.old).books.held
+        ensures relayed { IsUnderHost (⟦<Ring<M> as Seen<M>>⟧.seen self.old).guest →
+            IsRing (⟦<Ring<M> as Seen<M>>⟧.seen self.old) → IfSome (⟦<Ring<M> as Seen<M>>⟧.seen self.old).books.held
             (λ f. (own : OwnFrame) → IsTalking f.source (Some own) (devices_of (⟦<Ring<M> as Seen<M>>⟧.seen self.old)) → own.frame ≡ f.sent → StoodSo f
             → Relayed (⟦<Ring<M> as Seen<M>>⟧.seen self.old) f own result (⟦<Ring<M> as Seen<M>>⟧.seen self.new)) }
         // Where its source has an own frame on the loop, the entries tell how many links were crossed, and how many frames

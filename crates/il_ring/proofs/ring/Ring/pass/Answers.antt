@@ -3,7 +3,8 @@ use Rattle.il_ring.specs.Lending.{going_on}
 use Rattle.il_ring.specs.Rings.{RingView}
 use Rattle.il_ring.specs.Seen.{parts_seen}
 use Rattle.il_ring.proofs.SendLaws.{pass_round}
-use Rattle.il_ring.proofs.LedSends.{pass_led}
+use Rattle.il_ring.proofs.LedSends.{pass_halves, pass_led}
+use Rattle.il_ring.proofs.LedSums.{pass_adds}
 use Rattle.il_ring.proofs.ring.Ring.pass.Goals as goal
 
 pub returns-clause-round : goal.returns-clause-round
@@ -17,3 +18,15 @@ returns-clause-led g c =
     let at = ap (λ books. record (parts_seen (λ b. (goal.Device-dyn g (b.vtable, b.value)).state b.value) c.deref_mut.result.now) { books = books }) c.take_lent.ensures.gone ∙ ap (λ (r : RingView _). going_on r) (ap (parts_seen (λ b. (goal.Device-dyn g (b.vtable, b.value)).state b.value)) c.deref_mut.ensures.value) in
     let lent = sym (ap (λ parts. parts.books.lent) c.deref_mut.ensures.value) ∙ sym c.take_lent.ensures.value ∙ c.unwrap-flight.ensures in
     λ led. pass_led g.M.Medium.view _ _ _ _ _ at lent c.round.ensures led
+
+pub returns-clause-halves : goal.returns-clause-halves
+returns-clause-halves g c =
+    let at = ap (λ books. record (parts_seen (λ b. (goal.Device-dyn g (b.vtable, b.value)).state b.value) c.deref_mut.result.now) { books = books }) c.take_lent.ensures.gone ∙ ap (λ (r : RingView _). going_on r) (ap (parts_seen (λ b. (goal.Device-dyn g (b.vtable, b.value)).state b.value)) c.deref_mut.ensures.value) in
+    let lent = sym (ap (λ parts. parts.books.lent) c.deref_mut.ensures.value) ∙ sym c.take_lent.ensures.value ∙ c.unwrap-flight.ensures in
+    λ led held f is within. pass_halves g.M.Medium.view _ _ _ _ _ at lent c.round.ensures led held f is within
+
+pub returns-clause-counts : goal.returns-clause-counts
+returns-clause-counts g c =
+    let at = ap (λ books. record (parts_seen (λ b. (goal.Device-dyn g (b.vtable, b.value)).state b.value) c.deref_mut.result.now) { books = books }) c.take_lent.ensures.gone ∙ ap (λ (r : RingView _). going_on r) (ap (parts_seen (λ b. (goal.Device-dyn g (b.vtable, b.value)).state b.value)) c.deref_mut.ensures.value) in
+    let lent = sym (ap (λ parts. parts.books.lent) c.deref_mut.ensures.value) ∙ sym c.take_lent.ensures.value ∙ c.unwrap-flight.ensures in
+    λ led f way. pass_adds g.M.Medium.view _ _ _ _ _ at lent c.round.ensures led f way

@@ -15,7 +15,7 @@ pub returns-clause-relayed : goal.returns-clause-relayed
 returns-clause-relayed g c =
     let at = ap (λ books. record (parts_seen (λ b. (goal.Device-dyn g (b.vtable, b.value)).state b.value) c.deref_mut.result.now) { books = books }) c.take_held.ensures.released ∙ ap (λ (r : RingView _). record r { books = record r.books { held = None } }) (ap (parts_seen (λ b. (goal.Device-dyn g (b.vtable, b.value)).state b.value)) c.deref_mut.ensures.value) in
     let held = sym (ap (λ parts. parts.books.held) c.deref_mut.ensures.value) ∙ sym c.take_held.ensures.value ∙ c.unwrap-flight.ensures in
-    λ ring. relay_told g.M.Medium.view _ _ _ _ (relayed_round g.M.Medium.view _ _ _ _ _ at held (subst IsHeld c.unwrap-flight.ensures c.take_held.ensures.held) c.round.ensures ring.guest) ring
+    λ under ring. relay_told g.M.Medium.view _ _ _ _ (relayed_round g.M.Medium.view _ _ _ _ _ at held (subst IsHeld c.unwrap-flight.ensures c.take_held.ensures.held) c.round.ensures under) ring
 
 pub returns-clause-counts : goal.returns-clause-counts
 returns-clause-counts g c =

@@ -1,7 +1,7 @@
 use Rattle.std.proofs.Common.{◌≡◌, ◌≤◌, ◌+◌, ◌⊎◌, ◌∙◌, ap, arith, length, subst, sym, true, false}
 use Rattle.std.specs.Prelude.{◌-◌}
 use Rattle.std.proofs.lemmas.List.{length-map}
-use Rattle.loop_model.specs.Entries.{ifc}
+use Rattle.il_frames.specs.NamedFrames.{ifc}
 use Rattle.il_ring.specs.Flights.{sourced}
 use Rattle.il_ring.specs.Rings.{RingView, drive_party}
 use Rattle.il_ring.specs.Seen.{parts_seen}
