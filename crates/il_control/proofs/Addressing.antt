@@ -9,7 +9,7 @@ use Rattle.il_device.specs.Roles.{no_roles}
 use Rattle.il_device.specs.State.{DeviceState}
 use Rattle.il_drive.specs.State.{device_of}
 use Rattle.il_ports.specs.Media.{MediumView}
-use Rattle.loop_model.specs.Entries.{entry, ifc, aau, aad}
+use Rattle.il_frames.specs.NamedFrames.{entry, ifc, aau, aad}
 use Rattle.loop_model.specs.Roles.{talkers, talkers_from, is_at_most_one, roles_after, are_numbered}
 use Rattle.loop_model.specs.Exchanges.{Address, commanded, entries_of}
 use Rattle.loop_model.proofs.RoleLaws.{roles_after-append}
@@ -21,6 +21,7 @@ use Rattle.il_ring.specs.declared.plan.Arrival.TheVariants as arrival
 use Rattle.il_ring.specs.declared.flight.Flight.{Flight}
 use Rattle.il_ring.specs.Flights.{sourced}
 use Rattle.il_ring.specs.Lists.{Each}
+use Rattle.il_ring.specs.Guests.{IsUnderHost}
 use Rattle.il_ring.specs.Rings.{RingView, IsRing, Round, devices_of, roles_of, drive_party}
 use Rattle.il_ring.proofs.PassKinds.{Unaddressed, OnlyPassed, aad_passes}
 use Rattle.il_ring.proofs.Passing.{Exactly}
@@ -71,14 +72,15 @@ module _ {M : Type 0} (view : M → MediumView) (r : RingView M) (lost : IsLost 
   safe devices = safe_mute rs (addressing devices) lost.one refl refl
 
   -- the entries, whole
-  resumed : (s : RingView M) → Whole view r (addressing (length (devices_of r))) s → Resumed view (length (devices_of r)) r s
-  resumed s whole = record {
+  resumed : (s : RingView M) → IsUnderHost s.guest → Whole view r (addressing (length (devices_of r))) s → Resumed view (length (devices_of r)) r s
+  resumed s host whole = record {
     count = refl;
     whole = whole;
     one = OneTalker-safe rs (addressing (length (devices_of r))) (safe (length (devices_of r)));
     addressed = each_addressed 1 (devices_of s) before are;
     idle = record {
       free = record { ring = whole.ring; held = whole.held };
+      host = host;
       silent = ap talkers are ∙ none_of_addressed 1 1 before;
       numbered = ap (are_numbered 1) are ∙ are_numbered-addressed 1 before;
     };
@@ -114,8 +116,8 @@ module _ {M : Type 0} (view : M → MediumView) (r : RingView M) (lost : IsLost 
       (first.adds.roles ∙ roles_after-append rs (commanded 0 ifc) (commanded 0 aau) ∙ roles_after-aau (roles_after rs (commanded 0 ifc)))
 
   -- AAD behind IFC and AAU
-  pub address_call : (m s : RingView M) (held : Option Flight) (f : Frame) (answer : Arrival) → Whole view r (commanded 0 ifc ++ commanded 0 aau) m → Round view m held (sourced 0 f) answer s → f ≡ aad 1 → held ≡ None → AddressEnd view r answer s
-  address_call m s held f answer first round is none =
+  pub address_call : (m s : RingView M) (held : Option Flight) (f : Frame) (answer : Arrival) → IsUnderHost m.guest → Whole view r (commanded 0 ifc ++ commanded 0 aau) m → Round view m held (sourced 0 f) answer s → f ≡ aad 1 → held ≡ None → AddressEnd view r answer s
+  address_call m s held f answer host first round is none =
       ⊎_elim
       (λ came.
       let k = length (devices_of r) in
@@ -123,7 +125,7 @@ module _ {M : Type 0} (view : M → MediumView) (r : RingView M) (lost : IsLost 
       let last : Whole view m (entries_of 0 (Address k)) s = subst (λ g. Whole view m (entry 0 (aad 1) (outcome.Back g) ∷ []) s) back came.3 in
       let whole = whole_then view r m s (commanded 0 ifc ++ commanded 0 aau) (entries_of 0 (Address k)) lost.free.ring first last in
       let count : byte_of came.0 - 0x81 ≡ k = ap (λ g. byte_of g - 0x81) back ∙ counted k in
-      subst (λ answer. AddressEnd view r answer s) (sym came.2) (subst (λ g. 0x81 ≤ byte_of g) (sym back) (at_least k), subst (λ n. Resumed view n r s) (sym count) (resumed s whole)))
+      subst (λ answer. AddressEnd view r answer s) (sym came.2) (subst (λ g. 0x81 ≤ byte_of g) (sym back) (at_least k), subst (λ n. Resumed view n r s) (sym count) (resumed s (subst IsUnderHost (sym round.guest) host) whole)))
       (λ lost_now. subst (λ answer. AddressEnd view r answer s) (sym lost_now.0) (not_resumed s (broke_behind view r m s (commanded 0 ifc ++ commanded 0 aau) (entries_of 0 (Address (length (devices_of r)))) lost.free.ring first (lost_now.1 (outcome.Back (aad (suc (length (devices_of r)))))))))
       (pass_call view (λ k g. g ≡ aad k) Unaddressed OnlyPassed aad_passes (λ d e passed. passed.0) m s held (aad 1) answer (subst (λ f. Round view m held (sourced 0 f) answer s) is round) none (record { ring = first.ring; held = first.held }) (unaddressed m first) refl (Exactly refl refl) (λ g at. address_comes (drive_party m) g at))
     where

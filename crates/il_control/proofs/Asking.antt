@@ -13,7 +13,7 @@ use Rattle.il_device.specs.Roles.{roles_after, own_after, is_own}
 use Rattle.il_device.specs.State.{DeviceState}
 use Rattle.il_device.specs.Passing.{is_plain}
 use Rattle.il_ports.specs.Media.{MediumView}
-use Rattle.loop_model.specs.Entries.{unl, tad, ddt, rfc}
+use Rattle.il_frames.specs.NamedFrames.{unl, tad, ddt, rfc}
 use Rattle.loop_model.specs.Exchanges.{returned, commanded, numbered, receive_front}
 use Rattle.loop_model.proofs.RoundLaws.{message_of-tad}
 use Rattle.il_ring.specs.declared.plan.Arrival.{Arrival}
@@ -25,9 +25,9 @@ use Rattle.il_ring.specs.Rings.{RingView, IsRing, Round, devices_of}
 use Rattle.il_ring.proofs.EndsHome.{any_each}
 use Rattle.il_ring.proofs.PassKinds.{Is, Any, plain_passes}
 use Rattle.il_ring.proofs.PassRounds.{passed_round}
-use Rattle.il_control.specs.Calls.{IsFree, Obeyed, ObeyedInPart, Whole, Broke}
+use Rattle.il_control.specs.Calls.{IsFree, Obeyed, ObeyedInPart, Whole, Broke, arrives}
 use Rattle.il_control.specs.Receives.{Asked, IsCalm, IsDeaf}
-use Rattle.il_control.proofs.Calls.{Done, arrives, hears_then, told_then, broke_before}
+use Rattle.il_control.proofs.Calls.{Done, hears_then, told_then, broke_before}
 
 -- a frame that came back was obeyed by every device
 pub plain_obeyed : {M : Type 0} (view : M → MediumView) (r s : RingView M) (held : Option Flight) (f : Frame) (answer : Arrival) → Round view r held (sourced 0 f) answer s → IsFree r → is_plain (message_of f) ≡ true → arrives answer ≡ true → Obeyed (message_of f) r s

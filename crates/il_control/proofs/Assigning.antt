@@ -11,7 +11,7 @@ use Rattle.il_poll.specs.Service.{assigned}
 use Rattle.il_device.specs.declared.roles.Roles.{Roles}
 use Rattle.il_device.specs.Roles.{is_own}
 use Rattle.il_device.specs.State.{DeviceState}
-use Rattle.loop_model.specs.Entries.{lad, unl}
+use Rattle.il_frames.specs.NamedFrames.{lad, unl}
 use Rattle.loop_model.specs.Roles.{are_numbered}
 use Rattle.loop_model.specs.Devices.{EachBecomes}
 use Rattle.loop_model.specs.Polls.{poll_enable}

@@ -17,7 +17,7 @@ use Rattle.il_device.specs.Roles.{is_start}
 use Rattle.il_device.proofs.Laws.{changes_roles}
 use Rattle.il_ports.specs.Media.{MediumView}
 use Rattle.il_guest.specs.Frames.{tct}
-use Rattle.loop_model.specs.Entries.{entry, is_frame}
+use Rattle.il_frames.specs.NamedFrames.{entry, is_frame}
 use Rattle.loop_model.specs.Exchanges.{Start, Sda, Sst, Sdi, Sai, start_frame, Echo, FrameLost, returned, echoed}
 use Rattle.loop_model.specs.Reach.{brings_to}
 use Rattle.loop_model.specs.Roles.{talkers, is_at_most_one, roles_after}
@@ -27,6 +27,7 @@ use Rattle.il_ring.specs.declared.plan.Arrival.TheVariants as arrival
 use Rattle.il_ring.specs.declared.flight.Flight.{Flight}
 use Rattle.il_ring.specs.Flights.{sourced}
 use Rattle.il_ring.specs.Lists.{Each, First, NoneSends}
+use Rattle.il_ring.specs.Guests.{IsUnderHost}
 use Rattle.il_ring.specs.Rings.{RingView, IsRing, Round, devices_of, roles_of, drive_party}
 use Rattle.il_ring.specs.Rounded.{Rounded, holding}
 use Rattle.il_ring.specs.Outcomes.{met_between, DriveTook, IsBrought, IsHeldNow, IsLostNow, LetsPass, StartReturned, StartGone, StartTaken, DriveSawStart, DriveDid}
@@ -99,7 +100,7 @@ pub data StartEnd {M : Type 0} (view : M → MediumView) (r : RingView M) (f : F
   ItBegan : (g : Frame) → answer ≡ arrival.Frame g → (flight : Flight) → s.books.held ≡ Some flight → Began view f r s → StartEnd view r f answer s
   ItFailed : answer ≡ arrival.Lost → NotBegun view f r s → StartEnd view r f answer s
 
-module _ {M : Type 0} (view : M → MediumView) (r s : RingView M) (held : Option Flight) (start : Start) (answer : Arrival) (round : Round view r held (sourced 0 (start_frame start)) answer s) (none : held ≡ None) (free : IsFree r)
+module _ {M : Type 0} (view : M → MediumView) (r s : RingView M) (held : Option Flight) (start : Start) (answer : Arrival) (round : Round view r held (sourced 0 (start_frame start)) answer s) (none : held ≡ None) (free : IsFree r) (host : IsUnderHost r.guest)
     (one : is_at_most_one (talkers (roles_of (devices_of r))) ≡ true) (calm : Each IsCalm 1 (devices_of r)) where
   abbrev f : Frame
   f = start_frame start
@@ -217,6 +218,7 @@ module _ {M : Type 0} (view : M → MediumView) (r s : RingView M) (held : Optio
       (record {
         now = record {
           ring = ring;
+          host = subst IsUnderHost (sym round.guest) host;
           flight = flight;
           held = now.held_is;
           data_frame = taken.data_frame;
@@ -304,5 +306,5 @@ lost_begins view r s f answer end lost = elim end [
 
 -- with the frame that was sent
 pub start_call : {M : Type 0} (view : M → MediumView) (r s : RingView M) (held : Option Flight) (start : Start) (g : Frame) (answer : Arrival) → Round view r held (sourced 0 g) answer s → g ≡ start_frame start → held ≡ None → IsFree r
-    → is_at_most_one (talkers (roles_of (devices_of r))) ≡ true → Each IsCalm 1 (devices_of r) → StartEnd view r (start_frame start) answer s
-start_call view r s held start g answer round is none free one calm = start_end view r s held start answer (subst (λ g. Round view r held (sourced 0 g) answer s) is round) none free one calm
+    → IsUnderHost r.guest → is_at_most_one (talkers (roles_of (devices_of r))) ≡ true → Each IsCalm 1 (devices_of r) → StartEnd view r (start_frame start) answer s
+start_call view r s held start g answer round is none free host one calm = start_end view r s held start answer (subst (λ g. Round view r held (sourced 0 g) answer s) is round) none free host one calm

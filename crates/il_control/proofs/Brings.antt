@@ -13,7 +13,7 @@ use Rattle.il_frames.specs.Frames.{byte_of, class_of, is_data, same_class, same_
 use Rattle.il_frames.specs.Messages.{Row, One, Group, commands, message_at, message_in, message_of}
 use Rattle.il_device.specs.Passing.{is_plain}
 use Rattle.il_ports.specs.Media.{MediumView}
-use Rattle.loop_model.specs.Entries.{unl, lad, ddl, rfc}
+use Rattle.il_frames.specs.NamedFrames.{unl, lad, ddl, rfc}
 use Rattle.loop_model.specs.Exchanges.{Echo, Command, Send, echoed, commanded, numbered, entries_of, is_address, is_echo, is_host_echo, is_number, is_talk_address}
 use Rattle.il_ring.specs.Rings.{RingView, devices_of, drive_party}
 use Rattle.il_control.specs.Brought.{AllCome, Brought, ComesAs, is_auto_address, is_from_here, numbered_frames}

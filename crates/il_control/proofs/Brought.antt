@@ -12,7 +12,7 @@ use Rattle.il_frames.specs.declared.entry.Outcome.TheVariants as outcome
 use Rattle.il_frames.specs.Frames.{byte_of, class_of, framed, is_data, with_service}
 use Rattle.il_frames.specs.Messages.{message_of, message_at}
 use Rattle.il_device.specs.Passing.{is_plain}
-use Rattle.loop_model.specs.Entries.{entry, aad}
+use Rattle.il_frames.specs.NamedFrames.{entry, aad}
 use Rattle.loop_model.specs.Exchanges.{Break, can_cut}
 use Rattle.loop_model.specs.Reach.{brings_to}
 use Rattle.il_ring.specs.Outcomes.{met_between}

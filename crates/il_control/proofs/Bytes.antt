@@ -8,7 +8,7 @@ use Rattle.il_frames.specs.declared.entry.Outcome.TheVariants as outcome
 use Rattle.il_frames.specs.Frames.{framed, same_but_service}
 use Rattle.il_drive.specs.State.{device_of}
 use Rattle.il_ports.specs.Media.{MediumView}
-use Rattle.loop_model.specs.Entries.{entry}
+use Rattle.il_frames.specs.NamedFrames.{entry}
 use Rattle.loop_model.specs.Roles.{talkers, is_at_most_one, are_numbered}
 use Rattle.loop_model.specs.Exchanges.{FrameLost, HostAltered, echoed}
 use Rattle.loop_model.proofs.RoleSteps.{kept_entry, OneTalker-silent}
@@ -32,6 +32,7 @@ use Rattle.il_ring.proofs.Splits.{each_silent}
 use Rattle.il_ring.proofs.Talkers.{none_talk}
 use Rattle.il_control.specs.Brought.{Brought, CutBrought}
 use Rattle.il_control.specs.Calls.{IsIdle, IsLost, sent_as, Sent, NotSent}
+use Rattle.il_control.proofs.Made.{host_still}
 use Rattle.il_control.proofs.Brought.{brought_one, cut_brought_one, data_comes, data_may_come}
 use Rattle.il_control.proofs.Calls.{each_front, host_added}
 
@@ -66,6 +67,7 @@ module _ {M : Type 0} (view : M → MediumView) (byte : ℕ) (r s : RingView M) 
       let same : roles_of (devices_of s) ≡ roles_of (devices_of r) = adds.roles ∙ kept_entry (roles_of (devices_of r)) (entry 0 (dab byte) o) refl in
       record {
         free = record { ring = IsRing-send view r s held (dab byte) answer round idle.free.ring (inl none); held = free };
+        host = host_still r s idle.host adds.guest;
         silent = ap talkers same ∙ idle.silent;
         numbered = ap (are_numbered 1) same ∙ idle.numbered;
       }

@@ -14,7 +14,7 @@ use Rattle.il_frames.specs.Messages.{message_of}
 use Rattle.il_device.specs.Passing.{is_plain}
 use Rattle.il_ports.specs.Media.{MediumView}
 use Rattle.loop_model.specs.Reach.{met}
-use Rattle.loop_model.specs.Entries.{entry, rfc}
+use Rattle.il_frames.specs.NamedFrames.{entry, rfc}
 use Rattle.loop_model.specs.Exchanges.{Break, FrameLost, returned, commanded, cut_at, can_cut}
 use Rattle.loop_model.proofs.ReachLaws.{met-split}
 use Rattle.il_ring.specs.declared.plan.Arrival.{Arrival}
@@ -43,7 +43,7 @@ use Rattle.il_frames.specs.declared.entry.Outcome.{Outcome}
 use Rattle.il_ring.proofs.Rings.{IsRing-send}
 use Rattle.il_ring.specs.Outcomes.{Obeys}
 use Rattle.il_control.specs.Brought.{ComesAs, Brought, CutBrought, is_from_here}
-use Rattle.il_control.specs.Calls.{Unheard, Whole, Broke, IsFree}
+use Rattle.il_control.specs.Calls.{Unheard, Whole, Broke, IsFree, arrives}
 use Rattle.il_control.proofs.HeldAtEnd.{cut_held, quiet_parts}
 use Rattle.loop_model.specs.Reach.{held_at_end as held_after}
 use Rattle.loop_model.proofs.ReachLaws.{sourcing}
@@ -263,11 +263,6 @@ plain_exact (msg.Idy b) e = cc
 plain_exact (msg.Isr b) e = cc
 plain_exact _ e = refl
 
--- whether a frame arrived
-abbrev pub arrives : Arrival → Bool
-arrives (arrival.Frame g) = true
-arrives arrival.Lost = false
-
 pub each_front : (P : ℕ → DeviceState → Type 0) (k : ℕ) (ds rest : List DeviceState) → Each P k (ds ++ rest) → Each P k ds
 each_front P k [] rest each = tt
 each_front P k (d ∷ ds) rest each = (each.0, each_front P (k + 1) ds rest each.1)
@@ -336,6 +331,10 @@ plain_call view r s held f answer round none free plain =
     (λ came. subst (λ answer. Done view r (returned 0 f ∷ []) (arrives answer) s) (sym came.2) (subst (λ g. Whole view r (entry 0 f (outcome.Back g) ∷ []) s) came.1 came.3))
     (λ lost. subst (λ answer. Done view r (returned 0 f ∷ []) (arrives answer) s) (sym lost.0) (lost.1 (outcome.Back f)))
     (pass_call view (Is f) Any (Obeys (message_of f)) (plain_passes f plain) (λ d e obeyed. obeyed.nothing) r s held f answer round none free (any_each 1 (devices_of r)) refl (Exactly (plain_exact (message_of f) plain) refl) (λ g same. plain_comes (drive_party r) f g plain same))
+
+-- told by an answer
+pub done_as : {M : Type 0} (view : M → MediumView) (r s : RingView M) (entries : List Entry) (whole told : Bool) → told ≡ whole → Done view r entries whole s → Done view r entries told s
+done_as view r s entries whole told same done = subst (λ whole. Done view r entries whole s) (sym same) done
 
 -- one call behind another that was done whole
 pub done_then : {M : Type 0} (view : M → MediumView) (r m s : RingView M) (xs ys : List Entry) (whole : Bool) → IsRing r → Whole view r xs m → Done view m ys whole s → Done view r (xs ++ ys) whole s

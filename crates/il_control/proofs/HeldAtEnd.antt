@@ -10,7 +10,7 @@ use Rattle.il_frames.specs.declared.entry.Entry.{Entry}
 use Rattle.il_frames.specs.declared.entry.Outcome.{Outcome}
 use Rattle.il_frames.specs.declared.entry.Outcome.TheVariants as outcome
 use Rattle.il_frames.specs.Frames.{class_of, framed, is_data, same_class}
-use Rattle.loop_model.specs.Entries.{entry, nrd, is_frame, is_lost, is_lost_nrd, is_no_nrd}
+use Rattle.il_frames.specs.NamedFrames.{entry, nrd, is_frame, is_lost, is_lost_nrd, is_no_nrd}
 use Rattle.loop_model.specs.Exchanges.{Echo, Start, Sda, Sst, Sdi, Sai, start_frame, Break, FrameLost, HostAltered, TalkerAltered, echoed, returned, commanded, entries_of, Send, break_entries, cut_at, can_cut, is_echo, is_host_echo, receive_front}
 use Rattle.il_ports.specs.Media.{MediumView}
 use Rattle.il_ring.specs.Rings.{RingView}

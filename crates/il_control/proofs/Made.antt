@@ -1,5 +1,5 @@
 -- Behind an exchange: the state, and that at most one party talked.
-use Rattle.std.proofs.Common.{◌≡◌, ◌∙◌, ◌<◌, ◌&&◌, ℕ, true, false, not, List, [], ◌∷◌, None, length, refl, sym, ap, append-nil}
+use Rattle.std.proofs.Common.{◌≡◌, ◌∙◌, ◌<◌, ◌&&◌, ℕ, true, false, not, List, [], ◌∷◌, None, length, refl, sym, ap, append-nil, subst}
 use Rattle.std.specs.List.{list_all}
 use Rattle.std.proofs.lemmas.Bool.{and_parts, and_from, agree_below_at}
 use Rattle.il_frames.specs.declared.frame.Class.{Class}
@@ -14,11 +14,12 @@ use Rattle.il_ports.specs.Media.{MediumView}
 use Rattle.loop_model.specs.Roles.{talkers, is_at_most_one, is_in_turn, has_one_talker, roles_after, roles_after_entry, OneTalker, are_numbered, is_aau}
 use Rattle.loop_model.specs.Exchanges.{Exchange, Command, commanded, entries_of, cut_at, is_exchange, is_talk_address, IsWhole, answers_as_asked}
 use Rattle.loop_model.specs.Reach.{held_at_end as held_after}
-use Rattle.loop_model.specs.Entries.{is_frame, is_no_nrd}
+use Rattle.il_frames.specs.NamedFrames.{is_frame, is_no_nrd}
 use Rattle.il_guest.specs.Frames.{tct}
 use Rattle.loop_model.specs.Exchanges.Piece.{Whole as WholeOne}
 use Rattle.loop_model.proofs.RoleLaws.{talkers-whole}
 use Rattle.loop_model.proofs.RoundLaws.{OneTalker-safe, OneTalker-cut, safe_exchange, keeps_addresses, are_numbered-piece}
+use Rattle.il_ring.specs.Guests.{IsUnderHost, KeepsGuest}
 use Rattle.il_ring.specs.Rings.{RingView, ring_emptied, devices_of, roles_of, drive_party}
 use Rattle.il_ring.proofs.Rings.{IsRing-clear}
 use Rattle.il_control.specs.Calls.{Whole, Broke, IsIdle, IsLost, loop_of, is_command, Made, BrokenOff}
@@ -30,6 +31,10 @@ one_at_end rs [] one = one
 one_at_end rs (e ∷ log) one =
     let parts = and_parts (is_at_most_one (talkers rs)) (is_in_turn (talkers rs) e && has_one_talker (roles_after_entry rs e) log) one in
     one_at_end (roles_after_entry rs e) log (and_parts (is_in_turn (talkers rs) e) _ parts.1).1
+
+-- the host controls still
+pub host_still : {M : Type 0} (r s : RingView M) → IsUnderHost r.guest → KeepsGuest r.guest s.guest → IsUnderHost s.guest
+host_still r s host keeps = subst IsUnderHost (sym (keeps.1 host)) host
 
 pub made : {M : Type 0} (view : M → MediumView) (x : Exchange) (r s : RingView M) → IsIdle r → is_exchange (loop_of r) x ≡ true → answers_as_asked (length (roles_of (devices_of r))) x ≡ true → keeps_addresses x ≡ true
     → Whole view r (entries_of 0 x) s → Made view x r s
@@ -46,6 +51,7 @@ made view x r s idle legal asked keeps whole =
       one = OneTalker-safe rs (entries_of 0 x) (safe_exchange size (drive_party r) rs x legal asked idle.numbered idle.silent);
       idle = record {
         free = record { ring = whole.ring; held = whole.held };
+        host = host_still r s idle.host whole.adds.guest;
         silent = ap talkers whole.adds.roles ∙ talkers-whole size (drive_party r) rs (entries_of 0 x) idle.silent one_log;
         numbered = ap (are_numbered 1) whole.adds.roles ∙ are_numbered-piece size (drive_party r) rs (WholeOne x) legal keeps idle.numbered;
       };
@@ -118,7 +124,7 @@ command_broken view f r s idle is broke =
 
 -- leaves the state
 pub idle_cleared : {M : Type 0} (r : RingView M) → IsIdle r → IsIdle (ring_emptied r)
-idle_cleared r idle = record { free = record { ring = IsRing-clear r idle.free.ring; held = idle.free.held }; silent = idle.silent; numbered = idle.numbered }
+idle_cleared r idle = record { free = record { ring = IsRing-clear r idle.free.ring; held = idle.free.held }; host = idle.host; silent = idle.silent; numbered = idle.numbered }
 
 pub lost_cleared : {M : Type 0} (r : RingView M) → IsLost r → IsLost (ring_emptied r)
 lost_cleared r lost = record { free = record { ring = IsRing-clear r lost.free.ring; held = lost.free.held }; one = lost.one }

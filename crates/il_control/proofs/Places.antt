@@ -14,7 +14,7 @@ use Rattle.il_frames.specs.Messages.{message_of}
 use Rattle.il_device.specs.State.{DeviceState}
 use Rattle.il_device.specs.Takes.{eto, may_change_service}
 use Rattle.il_ports.specs.Media.{MediumView}
-use Rattle.loop_model.specs.Entries.{entry, aad, aau, ifc, ddl, ddt, lad, nrd, tad, unt}
+use Rattle.il_frames.specs.NamedFrames.{entry, aad, aau, ifc, ddl, ddt, lad, nrd, tad, unt}
 use Rattle.loop_model.specs.Exchanges.{Answer, Break, Echo, FrameLost, HostAltered, NotTaken, Sai, Sda, Sdi, Sst, Start, Stopped, TalkerAltered, ToItsEnd, answer_entries, break_entries, commanded, cut_at, echoed, is_answer, is_echo, returned, start_frame, receive_front}
 use Rattle.loop_model.proofs.RoundLaws.{message_of-tad}
 use Rattle.loop_model.proofs.SendLaws.{message_of-lad}

@@ -20,7 +20,7 @@ use Rattle.il_device.specs.declared.interface.OwnFrame.{OwnFrame}
 use Rattle.il_ring.specs.Lists.{Each}
 use Rattle.il_device.specs.Takes.{eto}
 use Rattle.il_ports.specs.Media.{MediumView}
-use Rattle.loop_model.specs.Entries.{entry, nrd, unt, is_no_nrd}
+use Rattle.il_frames.specs.NamedFrames.{entry, nrd, unt, is_no_nrd}
 use Rattle.loop_model.specs.Exchanges.{Start, Sai, Answer, NotTaken, ToItsEnd, Stopped, Receive, Echo, start_frame, echoed, returned, commanded, answer_entries, cut_at, can_cut, is_address, is_answer, is_echo, is_exchange, is_number, Break, entries_of, answers_as_asked, bytes_of, receive_front}
 use Rattle.loop_model.specs.Hearing.{has_no_data}
 use Rattle.loop_model.proofs.UnitLaws.{entries_of-receive}

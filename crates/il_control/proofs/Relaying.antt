@@ -16,7 +16,7 @@ use Rattle.il_device.specs.declared.roles.Roles.{Roles}
 use Rattle.il_device.specs.State.{DeviceState}
 use Rattle.il_device.specs.Takes.{eto, ete}
 use Rattle.il_ports.specs.Media.{MediumView}
-use Rattle.loop_model.specs.Entries.{entry}
+use Rattle.il_frames.specs.NamedFrames.{entry}
 use Rattle.loop_model.specs.Exchanges.{Echo, FrameLost, TalkerAltered, echoed, is_altered, is_echo, is_end}
 use Rattle.il_ring.specs.declared.plan.Arrival.{Arrival}
 use Rattle.il_ring.specs.declared.plan.Arrival.TheVariants as arrival
@@ -243,6 +243,7 @@ module _ {M : Type 0} (view : M → MediumView) (m s : RingView M) (h : IsHoldin
         goes_on = more.goes_on;
         next = record {
           ring = ring;
+          host = subst IsUnderHost (sym round.guest) h.host;
           flight = flight;
           held = now.held_is;
           data_frame = more.data_frame;
@@ -371,7 +372,7 @@ pub relay_done : {M : Type 0} (view : M → MediumView) (m s : RingView M) (held
 relay_done view m s held answer how round is told = by how told
   where
     end : (h : IsHolding m) → RelayEnd view m h answer s
-    end h = relay_end view m s h answer (subst (λ held. IfSome held (λ f. Round view m None f answer s)) (sym is ∙ h.held) (round h.ring.guest))
+    end h = relay_end view m s h answer (subst (λ held. IfSome held (λ f. Round view m None f answer s)) (sym is ∙ h.held) (round h.host))
 
     by : (how : Onward) → IsOnward answer how → WentAs view m how s
     by onward.More told = λ h. elim (end h) [

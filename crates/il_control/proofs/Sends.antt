@@ -7,7 +7,7 @@ use Rattle.std.proofs.lemmas.List.Folds.{list_all-append}
 use Rattle.il_frames.specs.declared.frame.Class.TheVariants as class
 use Rattle.il_frames.specs.Frames.{framed}
 use Rattle.il_ports.specs.Media.{MediumView}
-use Rattle.loop_model.specs.Entries.{unl, lad, ddl}
+use Rattle.il_frames.specs.NamedFrames.{unl, lad, ddl}
 use Rattle.loop_model.specs.Exchanges.{Echo, Send, echoed, commanded, numbered, entries_of, is_exchange, is_host_echo, is_address, is_number}
 use Rattle.il_ring.specs.Rings.{RingView}
 use Rattle.il_control.specs.Calls.{Whole, Broke, IsIdle, loop_of, Made, BrokenOff, sent_as, Sent, NotSent}

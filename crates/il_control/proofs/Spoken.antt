@@ -14,7 +14,7 @@ use Rattle.il_device.specs.declared.device.Out.{Out}
 use Rattle.il_device.specs.declared.device.Out.TheVariants.{Pass, Source}
 use Rattle.il_device.specs.Takes.{eto}
 use Rattle.il_ports.specs.Media.{MediumView}
-use Rattle.loop_model.specs.Entries.{entry}
+use Rattle.il_frames.specs.NamedFrames.{entry}
 use Rattle.loop_model.specs.Exchanges.{Start, Sda, Sst, Sdi, Sai, start_frame, Break, cut_at, can_cut}
 use Rattle.loop_model.specs.Reach.{distance, brings_to}
 use Rattle.il_ring.specs.Rings.{RingView, devices_of, drive_party}

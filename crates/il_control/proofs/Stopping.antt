@@ -16,13 +16,14 @@ use Rattle.il_device.specs.Roles.{stopped}
 use Rattle.il_device.specs.State.{DeviceState}
 use Rattle.il_device.specs.Takes.{eto, Takes}
 use Rattle.il_ports.specs.Media.{MediumView}
-use Rattle.loop_model.specs.Entries.{entry, nrd}
+use Rattle.il_frames.specs.NamedFrames.{entry, nrd}
 use Rattle.loop_model.specs.Exchanges.{Echo, FrameLost, Stopped, echoed, returned, break_entries, is_answer, is_break, is_echo}
 use Rattle.il_ring.specs.declared.plan.Arrival.{Arrival}
 use Rattle.il_ring.specs.declared.plan.Arrival.TheVariants as arrival
 use Rattle.il_ring.specs.declared.flight.Flight.{Flight}
 use Rattle.il_ring.specs.Flights.{sourced}
 use Rattle.il_ring.specs.Lists.{First}
+use Rattle.il_ring.specs.Guests.{IsUnderHost}
 use Rattle.il_ring.specs.Rings.{RingView, IsRing, Round, devices_of, drive_party}
 use Rattle.il_ring.specs.Rounded.{Rounded, holding}
 use Rattle.il_ring.specs.Outcomes.{met_between, Obeys, DriveTook, IsTalking, Returned, WasLost, DriveDid}
@@ -174,6 +175,7 @@ module _ {M : Type 0} (view : M → MediumView) (m n : RingView M) (h : IsHoldin
       NrdCame g back.answer_is (record {
         next = record {
           ring = ring;
+          host = subst IsUnderHost (sym round.guest) h.host;
           flight = h.flight;
           held = back.held_is ∙ held_one;
           data_frame = h.data_frame;
@@ -297,7 +299,7 @@ module _ {M : Type 0} (view : M → MediumView) (m n s : RingView M) (h : IsHold
 
 -- ---- as a call
 
-nrd_sent : {M : Type 0} (view : M → MediumView) (m n : RingView M) (h : IsHolding m) (held : Option Flight) (f : Frame) (answer : Arrival) → Round view m held (sourced 0 f) answer n → f ≡ nrd → m.books.held ≡ held → NrdEnd view m h answer n
+pub nrd_sent : {M : Type 0} (view : M → MediumView) (m n : RingView M) (h : IsHolding m) (held : Option Flight) (f : Frame) (answer : Arrival) → Round view m held (sourced 0 f) answer n → f ≡ nrd → m.books.held ≡ held → NrdEnd view m h answer n
 nrd_sent view m n h held f answer round is stood = nrd_end view m n h held answer (subst (λ f. Round view m held (sourced 0 f) answer n) is round) stood
 
 came_back : {M : Type 0} (view : M → MediumView) (m n : RingView M) (h : IsHolding m) (g : Frame) (answer : Arrival) → NrdEnd view m h answer n → answer ≡ arrival.Frame g → NrdBack view m h n

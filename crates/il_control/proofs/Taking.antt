@@ -12,7 +12,7 @@ use Rattle.il_frames.specs.declared.entry.Outcome.TheVariants as outcome
 use Rattle.il_frames.specs.Frames.{byte_of}
 use Rattle.il_device.specs.Takes.{eto}
 use Rattle.il_ports.specs.Media.{MediumView}
-use Rattle.loop_model.specs.Entries.{entry, nrd}
+use Rattle.il_frames.specs.NamedFrames.{entry, nrd}
 use Rattle.loop_model.specs.Exchanges.{Echo, Break, Answer, NotTaken, ToItsEnd, Stopped, echoed, returned, break_entries, cut_at, can_cut, is_answer, is_break, is_echo, is_some_data, bytes_of}
 use Rattle.loop_model.specs.Reach.{held_at_end as held_after}
 use Rattle.il_ring.specs.Plans.{hops_of}

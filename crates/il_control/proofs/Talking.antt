@@ -12,7 +12,7 @@ use Rattle.il_device.specs.declared.interface.OwnFrame.{OwnFrame}
 use Rattle.il_device.specs.declared.roles.Roles.{Roles}
 use Rattle.il_device.specs.Roles.{is_own}
 use Rattle.il_device.specs.State.{DeviceState}
-use Rattle.loop_model.specs.Entries.{unl, tad, ddt, rfc}
+use Rattle.il_frames.specs.NamedFrames.{unl, tad, ddt, rfc}
 use Rattle.loop_model.specs.Exchanges.{Start, Answer, NotTaken, ToItsEnd, Stopped, Receive, returned, commanded, numbered, is_address, is_number, answers_as_asked, is_asked_for, receive_front}
 use Rattle.loop_model.specs.Roles.{talkers, talkers_from, roles_after, roles_after_entry, roles_along, is_at_most_one, are_numbered}
 use Rattle.loop_model.proofs.RoleLaws.{roles_after-append, is_quiet, no_talkers, all_quiet, quiet_log}

@@ -8,7 +8,7 @@ use Rattle.il_device.specs.declared.roles.Roles.{Roles}
 use Rattle.il_device.specs.Roles.{no_roles}
 use Rattle.il_device.specs.State.{DeviceState}
 use Rattle.il_ports.specs.Media.{MediumView}
-use Rattle.loop_model.specs.Entries.{unl, lad, ddl}
+use Rattle.il_frames.specs.NamedFrames.{unl, lad, ddl}
 use Rattle.loop_model.specs.Hearing.{roles_at}
 use Rattle.loop_model.specs.Exchanges.{Send, commanded, numbered, entries_of, is_exchange, is_number, is_address}
 use Rattle.loop_model.proofs.SendLaws.{roles_told, told_listens, others_do_not}

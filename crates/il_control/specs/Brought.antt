@@ -6,7 +6,7 @@ use Rattle.il_frames.specs.declared.message.Message.{Message}
 use Rattle.il_frames.specs.declared.message.Message.TheVariants as msg
 use Rattle.il_frames.specs.Frames.{is_data, with_service}
 use Rattle.il_frames.specs.Messages.{message_of}
-use Rattle.loop_model.specs.Entries.{aad, ddl, rfc}
+use Rattle.il_frames.specs.NamedFrames.{aad, ddl, rfc}
 use Rattle.loop_model.specs.Exchanges.{Echo}
 use Rattle.loop_model.specs.Reach.{brings_to}
 use Rattle.il_ring.specs.Journeys.{is_exact, is_identify}

@@ -9,18 +9,26 @@ use Rattle.il_frames.specs.declared.message.Message.{Message}
 use Rattle.il_frames.specs.Messages.{message_of}
 use Rattle.il_device.specs.State.{DeviceState}
 use Rattle.il_ports.specs.Media.{MediumView}
-use Rattle.loop_model.specs.Entries.{ifc, aau, is_no_nrd}
+use Rattle.il_frames.specs.NamedFrames.{ifc, aau, is_no_nrd}
 use Rattle.loop_model.specs.Loops.{Loop, host_loop}
 use Rattle.loop_model.specs.Roles.{talkers, is_at_most_one, OneTalker, are_numbered, is_aau}
 use Rattle.loop_model.specs.Exchanges.{Break, Echo, Exchange, Command, Address, echoed, entries_of, is_exchange, is_host_echo, is_talk_address, cut_at, can_cut}
 use Rattle.loop_model.specs.Reach.{held_at_end as held_after}
 use Rattle.loop_model.specs.Hearing.{has_no_data}
+use Rattle.il_ring.specs.declared.plan.Arrival.{Arrival}
+use Rattle.il_ring.specs.declared.plan.Arrival.TheVariants as arrival
+use Rattle.il_ring.specs.Guests.{IsUnderHost}
 use Rattle.il_ring.specs.Rings.{RingView, IsRing, devices_of, roles_of, drive_party}
 use Rattle.il_ring.specs.Lists.{Each, First}
 use Rattle.il_ring.specs.Outcomes.{met_between, Obeys, HearsNothing, HearsByte, HearsAny}
 use Rattle.il_ring.specs.Adds.{Adds}
 use Rattle.il_ring.specs.Polls.{KeepsPlace}
 use Rattle.il_control.specs.Brought.{Brought, CutBrought, is_from_here}
+
+-- a frame came to the host
+abbrev pub arrives : Arrival → Bool
+arrives (arrival.Frame f) = true
+arrives arrival.Lost = false
 
 -- no device heard anything
 abbrev pub Unheard : {M : Type 0} → RingView M → RingView M → Type 0
@@ -77,13 +85,14 @@ pub record IsFree {M : Type 0} (r : RingView M) : Type 0 where
   pub ring : IsRing r
   pub held : r.books.held ≡ None
 
--- no device talks, and the k-th device has the address k
+-- the host controls the loop, no device talks, and the k-th device has the address k
 pub record IsIdle {M : Type 0} (r : RingView M) : Type 0 where
   pub free : IsFree r
+  pub host : IsUnderHost r.guest
   pub silent : talkers (roles_of (devices_of r)) ≡ []
   pub numbered : are_numbered 1 (roles_of (devices_of r)) ≡ true
 
--- at most one device talks
+-- at most one device talks, whoever controls the loop
 pub record IsLost {M : Type 0} (r : RingView M) : Type 0 where
   pub free : IsFree r
   pub one : is_at_most_one (talkers (roles_of (devices_of r))) ≡ true

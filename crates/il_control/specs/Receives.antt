@@ -13,12 +13,13 @@ use Rattle.il_device.specs.declared.interface.OwnFrame.{OwnFrame}
 use Rattle.il_device.specs.State.{DeviceState}
 use Rattle.il_device.specs.Takes.{eto, ete, identity}
 use Rattle.il_ports.specs.Media.{MediumView}
-use Rattle.loop_model.specs.Entries.{entry, nrd, unt}
+use Rattle.il_frames.specs.NamedFrames.{entry, nrd, unt}
 use Rattle.loop_model.specs.Exchanges.{Start, Sda, Sst, Sdi, Sai, Answer, NotTaken, ToItsEnd, Stopped, Receive, Echo, Break, echoed, returned, commanded, answer_entries, start_frame, break_entries, cut_at, can_cut, is_answer, is_break, is_echo, answers_as_asked, bytes_of, receive_front}
 use Rattle.loop_model.specs.Reach.{held_at_end as held_after}
 use Rattle.il_ring.specs.declared.flight.Flight.{Flight}
 use Rattle.il_ring.specs.declared.plan.Arrival.{Arrival}
 use Rattle.il_ring.specs.declared.plan.Arrival.TheVariants as arrival
+use Rattle.il_ring.specs.Guests.{IsUnderHost}
 use Rattle.il_ring.specs.Rings.{RingView, IsRing, devices_of, drive_party}
 use Rattle.il_ring.specs.Lists.{Each}
 use Rattle.il_ring.specs.Outcomes.{met_between, IsTalking, StoodSo}
@@ -222,6 +223,7 @@ IsDeaf k d = d.roles.listens ≡ false
 -- A data frame of the one device that talks is held at the host, and no device listens.
 pub record IsHolding {M : Type 0} (m : RingView M) : Type 0 where
   pub ring : IsRing m
+  pub host : IsUnderHost m.guest
   pub flight : Flight
   pub held : m.books.held ≡ Some flight
   pub data_frame : is_data flight.sent ≡ true

@@ -3,7 +3,7 @@ ghost use Rattle.std.specs.Prelude.{◌≡◌, ◌≤◌, ◌<◌};
 ghost use Rattle.il_frames.specs.declared.frame.Class.TheVariants as class;
 ghost use Rattle.il_frames.specs.Frames.{framed};
 ghost use Rattle.il_device.specs.Takes as takes;
-ghost use Rattle.loop_model.specs.Entries as entries;
+ghost use Rattle.il_frames.specs.NamedFrames as entries;
 ghost use Rattle.loop_model.specs.Exchanges.{start_frame};
 ghost use Rattle.il_control.specs.Receives.{start_of};
 ghost use Rattle.il_control.specs.Calls as calls;

@@ -1,9 +1,10 @@
 // What the controller does to receive from a talker, one round behind the other.
 ghost use Rattle.std.specs.Prelude.{◌≡◌, ◌≤◌, ◌<◌, ◌+◌, ◌++◌, true, length, IfSome, IsSome, MatchBool, MatchOption};
 ghost use Rattle.il_frames.specs.Frames.{byte_of};
-ghost use Rattle.loop_model.specs.Entries.{tad, ddt, unt};
+ghost use Rattle.il_frames.specs.NamedFrames.{tad, ddt, unt};
 ghost use Rattle.loop_model.specs.Roles.{talkers, is_at_most_one};
 ghost use Rattle.loop_model.specs.Exchanges.{start_frame, commanded, numbered, receive_front};
+ghost use Rattle.il_ring.specs.Guests.{IsUnderHost};
 ghost use Rattle.il_ring.specs.Rings.{spare_of, roles_of, devices_of};
 ghost use Rattle.il_ring.specs.Lists.{Each};
 ghost use Rattle.il_control.specs.Calls.{Whole, Broke, IsFree, IsIdle};
@@ -51,10 +52,12 @@ pub(crate) enum Front {
 fn ask<M: Medium>(ring: &mut Ring<M>, address: u8, number: Option<u8>) -> bool
     requires room { 38 ≤ spare_of (⟦<Ring<M> as Seen<M>>⟧.seen ring.old) }
     requires free { IsFree (⟦<Ring<M> as Seen<M>>⟧.seen ring.old) }
+    requires host { IsUnderHost (⟦<Ring<M> as Seen<M>>⟧.seen ring.old).guest }
     requires address { address ≤ 30 }
     requires number { IfSome number (λ n. n < 32) }
-    ensures { MatchBool result (Asked M.view address number (⟦<Ring<M> as Seen<M>>⟧.seen ring.old) (⟦<Ring<M> as Seen<M>>⟧.seen ring.new))
+    ensures asked { MatchBool result (Asked M.view address number (⟦<Ring<M> as Seen<M>>⟧.seen ring.old) (⟦<Ring<M> as Seen<M>>⟧.seen ring.new))
         (Broke M.view (⟦<Ring<M> as Seen<M>>⟧.seen ring.old) (receive_front 0 address number) (⟦<Ring<M> as Seen<M>>⟧.seen ring.new)) }
+    ensures host { IsUnderHost (⟦<Ring<M> as Seen<M>>⟧.seen ring.new).guest }
 {
     command(ring, unl()) && ask_one(ring, address, number)
 }
@@ -63,11 +66,13 @@ fn ask<M: Medium>(ring: &mut Ring<M>, address: u8, number: Option<u8>) -> bool
 fn ask_one<M: Medium>(ring: &mut Ring<M>, address: u8, number: Option<u8>) -> bool
     requires room { 36 ≤ spare_of (⟦<Ring<M> as Seen<M>>⟧.seen ring.old) }
     requires free { IsFree (⟦<Ring<M> as Seen<M>>⟧.seen ring.old) }
+    requires host { IsUnderHost (⟦<Ring<M> as Seen<M>>⟧.seen ring.old).guest }
     requires address { address ≤ 30 }
     requires number { IfSome number (λ n. n < 32) }
     ensures done { MatchBool result (Whole M.view (⟦<Ring<M> as Seen<M>>⟧.seen ring.old) (commanded 0 (tad address) ++ numbered 0 ddt number) (⟦<Ring<M> as Seen<M>>⟧.seen ring.new))
         (Broke M.view (⟦<Ring<M> as Seen<M>>⟧.seen ring.old) (commanded 0 (tad address) ++ numbered 0 ddt number) (⟦<Ring<M> as Seen<M>>⟧.seen ring.new)) }
     ensures calm { result ≡ true → Each IsDeaf 1 (devices_of (⟦<Ring<M> as Seen<M>>⟧.seen ring.old)) → Each IsCalm 1 (devices_of (⟦<Ring<M> as Seen<M>>⟧.seen ring.new)) }
+    ensures host { IsUnderHost (⟦<Ring<M> as Seen<M>>⟧.seen ring.new).guest }
 {
     command(ring, tad(address)) && command_of(ring, number)
 }
@@ -76,10 +81,12 @@ fn ask_one<M: Medium>(ring: &mut Ring<M>, address: u8, number: Option<u8>) -> bo
 fn command_of<M: Medium>(ring: &mut Ring<M>, number: Option<u8>) -> bool
     requires room { 34 ≤ spare_of (⟦<Ring<M> as Seen<M>>⟧.seen ring.old) }
     requires free { IsFree (⟦<Ring<M> as Seen<M>>⟧.seen ring.old) }
+    requires host { IsUnderHost (⟦<Ring<M> as Seen<M>>⟧.seen ring.old).guest }
     requires number { IfSome number (λ n. n < 32) }
     ensures done { MatchBool result (Whole M.view (⟦<Ring<M> as Seen<M>>⟧.seen ring.old) (numbered 0 ddt number) (⟦<Ring<M> as Seen<M>>⟧.seen ring.new))
         (Broke M.view (⟦<Ring<M> as Seen<M>>⟧.seen ring.old) (numbered 0 ddt number) (⟦<Ring<M> as Seen<M>>⟧.seen ring.new)) }
     ensures calm { result ≡ true → Each IsCalm 1 (devices_of (⟦<Ring<M> as Seen<M>>⟧.seen ring.old)) → Each IsCalm 1 (devices_of (⟦<Ring<M> as Seen<M>>⟧.seen ring.new)) }
+    ensures host { IsUnderHost (⟦<Ring<M> as Seen<M>>⟧.seen ring.new).guest }
 {
     match number {
         None => true,
@@ -91,6 +98,7 @@ fn command_of<M: Medium>(ring: &mut Ring<M>, number: Option<u8>) -> bool
 fn begin<M: Medium>(ring: &mut Ring<M>, start: Sot) -> Begun
     requires room { 32 ≤ spare_of (⟦<Ring<M> as Seen<M>>⟧.seen ring.old) }
     requires free { IsFree (⟦<Ring<M> as Seen<M>>⟧.seen ring.old) }
+    requires host { IsUnderHost (⟦<Ring<M> as Seen<M>>⟧.seen ring.old).guest }
     requires one { is_at_most_one (talkers (roles_of (devices_of (⟦<Ring<M> as Seen<M>>⟧.seen ring.old)))) ≡ true }
     requires calm { Each IsCalm 1 (devices_of (⟦<Ring<M> as Seen<M>>⟧.seen ring.old)) }
     ensures { Begins M.view (start_frame (start_of start)) (⟦<Ring<M> as Seen<M>>⟧.seen ring.old) result (⟦<Ring<M> as Seen<M>>⟧.seen ring.new) }
@@ -197,6 +205,7 @@ fn answer<M: Medium>(ring: &mut Ring<M>, start: Sot, into: &mut [u8]) -> Option<
     requires some { 0 < length into.old }
     requires room { 36 + length into.old ≤ spare_of (⟦<Ring<M> as Seen<M>>⟧.seen ring.old) }
     requires free { IsFree (⟦<Ring<M> as Seen<M>>⟧.seen ring.old) }
+    requires host { IsUnderHost (⟦<Ring<M> as Seen<M>>⟧.seen ring.old).guest }
     requires one { is_at_most_one (talkers (roles_of (devices_of (⟦<Ring<M> as Seen<M>>⟧.seen ring.old)))) ≡ true }
     requires calm { Each IsCalm 1 (devices_of (⟦<Ring<M> as Seen<M>>⟧.seen ring.old)) }
     ensures { MatchOption result (NotAnswered M.view (start_of start) (length into.old) (⟦<Ring<M> as Seen<M>>⟧.seen ring.old) (⟦<Ring<M> as Seen<M>>⟧.seen ring.new))

@@ -3,43 +3,55 @@ ghost use Rattle.std.specs.Prelude.{◌≡◌, ◌≤◌, ◌<◌, [], ◌∷◌
 ghost use Rattle.il_frames.specs.Messages.{message_of};
 ghost use Rattle.il_device.specs.Passing.{is_plain};
 ghost use Rattle.loop_model.specs.Exchanges.{Send, entries_of, numbered, returned, commanded};
-ghost use Rattle.loop_model.specs.Entries.{ifc, aau, lad, ddl, is_frame};
+ghost use Rattle.il_frames.specs.NamedFrames.{ifc, aau, lad, ddl, is_frame};
 ghost use Rattle.il_guest.specs.Frames.{tct};
+ghost use Rattle.il_ring.specs.Guests.{IsUnderHost};
 ghost use Rattle.il_ring.specs.Rings.{spare_of};
-ghost use Rattle.il_control.specs.Calls.{AllStay, Obeyed, ObeyedInPart, Whole, Broke, IsFree, IsIdle, IsLost, Resumed, NotResumed, Sent, NotSent};
+ghost use Rattle.il_control.specs.Calls.{arrives, AllStay, Obeyed, ObeyedInPart, Whole, Broke, IsFree, IsIdle, IsLost, Resumed, NotResumed, Sent, NotSent};
 
 use crate::frames::{aad, aau, dab, ddl, ifc, lad, rfc, unl};
 use il_frames::Frame;
 use il_ports::Medium;
 use il_ring::{Arrival, Ring, Seen};
 
+/// Whether a frame came to the host.
+fn came_back(arrival: Arrival) -> bool
+    ensures { result ≡ arrives arrival }
+{
+    match arrival {
+        Arrival::Frame(_) => true,
+        Arrival::Lost => false,
+    }
+}
+
 /// Sends a command or ready frame that every device passes on, and that does not hand control over.
 pub(crate) fn pass_round<M: Medium>(ring: &mut Ring<M>, frame: Frame) -> bool
     requires room { 32 ≤ spare_of (⟦<Ring<M> as Seen<M>>⟧.seen ring.old) }
     requires free { IsFree (⟦<Ring<M> as Seen<M>>⟧.seen ring.old) }
+    requires host { IsUnderHost (⟦<Ring<M> as Seen<M>>⟧.seen ring.old).guest }
     requires plain { is_plain (message_of frame) ≡ true }
     requires hands { is_frame frame tct ≡ false }
     ensures done { MatchBool result (Whole M.view (⟦<Ring<M> as Seen<M>>⟧.seen ring.old) (returned 0 frame ∷ []) (⟦<Ring<M> as Seen<M>>⟧.seen ring.new))
         (Broke M.view (⟦<Ring<M> as Seen<M>>⟧.seen ring.old) (returned 0 frame ∷ []) (⟦<Ring<M> as Seen<M>>⟧.seen ring.new)) }
     ensures obeyed { result ≡ true → Obeyed (message_of frame) (⟦<Ring<M> as Seen<M>>⟧.seen ring.old) (⟦<Ring<M> as Seen<M>>⟧.seen ring.new) }
     ensures part { ObeyedInPart (message_of frame) (⟦<Ring<M> as Seen<M>>⟧.seen ring.old) (⟦<Ring<M> as Seen<M>>⟧.seen ring.new) }
+    ensures host { IsUnderHost (⟦<Ring<M> as Seen<M>>⟧.seen ring.new).guest }
 {
-    match ring.send(frame) {
-        Arrival::Frame(_) => true,
-        Arrival::Lost => false,
-    }
+    came_back(ring.send(frame))
 }
 
 /// Sends a command and waits for the handshake behind it.
 pub(crate) fn command<M: Medium>(ring: &mut Ring<M>, frame: Frame) -> bool
     requires room { 33 ≤ spare_of (⟦<Ring<M> as Seen<M>>⟧.seen ring.old) }
     requires free { IsFree (⟦<Ring<M> as Seen<M>>⟧.seen ring.old) }
+    requires host { IsUnderHost (⟦<Ring<M> as Seen<M>>⟧.seen ring.old).guest }
     requires plain { is_plain (message_of frame) ≡ true }
     requires hands { is_frame frame tct ≡ false }
     ensures done { MatchBool result (Whole M.view (⟦<Ring<M> as Seen<M>>⟧.seen ring.old) (commanded 0 frame) (⟦<Ring<M> as Seen<M>>⟧.seen ring.new))
         (Broke M.view (⟦<Ring<M> as Seen<M>>⟧.seen ring.old) (commanded 0 frame) (⟦<Ring<M> as Seen<M>>⟧.seen ring.new)) }
     ensures obeyed { result ≡ true → Obeyed (message_of frame) (⟦<Ring<M> as Seen<M>>⟧.seen ring.old) (⟦<Ring<M> as Seen<M>>⟧.seen ring.new) }
     ensures part { ObeyedInPart (message_of frame) (⟦<Ring<M> as Seen<M>>⟧.seen ring.old) (⟦<Ring<M> as Seen<M>>⟧.seen ring.new) }
+    ensures host { IsUnderHost (⟦<Ring<M> as Seen<M>>⟧.seen ring.new).guest }
 {
     pass_round(ring, frame) && pass_round(ring, rfc())
 }
@@ -48,6 +60,7 @@ pub(crate) fn command<M: Medium>(ring: &mut Ring<M>, frame: Frame) -> bool
 pub(crate) fn tell<M: Medium>(ring: &mut Ring<M>, address: u8, number: Option<u8>) -> bool
     requires room { 38 ≤ spare_of (⟦<Ring<M> as Seen<M>>⟧.seen ring.old) }
     requires free { IsFree (⟦<Ring<M> as Seen<M>>⟧.seen ring.old) }
+    requires host { IsUnderHost (⟦<Ring<M> as Seen<M>>⟧.seen ring.old).guest }
     requires address { address ≤ 30 }
     requires number { IfSome number (λ n. n < 32) }
     ensures done { MatchBool result (Whole M.view (⟦<Ring<M> as Seen<M>>⟧.seen ring.old) (entries_of 0 (Send address number [])) (⟦<Ring<M> as Seen<M>>⟧.seen ring.new))
@@ -61,11 +74,13 @@ pub(crate) fn tell<M: Medium>(ring: &mut Ring<M>, address: u8, number: Option<u8
 fn tell_one<M: Medium>(ring: &mut Ring<M>, address: u8, number: Option<u8>) -> bool
     requires room { 36 ≤ spare_of (⟦<Ring<M> as Seen<M>>⟧.seen ring.old) }
     requires free { IsFree (⟦<Ring<M> as Seen<M>>⟧.seen ring.old) }
+    requires host { IsUnderHost (⟦<Ring<M> as Seen<M>>⟧.seen ring.old).guest }
     requires address { address ≤ 30 }
     requires number { IfSome number (λ n. n < 32) }
     ensures done { MatchBool result (Whole M.view (⟦<Ring<M> as Seen<M>>⟧.seen ring.old) (commanded 0 (lad address) ++ numbered 0 ddl number) (⟦<Ring<M> as Seen<M>>⟧.seen ring.new))
         (Broke M.view (⟦<Ring<M> as Seen<M>>⟧.seen ring.old) (commanded 0 (lad address) ++ numbered 0 ddl number) (⟦<Ring<M> as Seen<M>>⟧.seen ring.new)) }
     ensures stays { AllStay (not (is_some number)) (⟦<Ring<M> as Seen<M>>⟧.seen ring.old) (⟦<Ring<M> as Seen<M>>⟧.seen ring.new) }
+    ensures host { IsUnderHost (⟦<Ring<M> as Seen<M>>⟧.seen ring.new).guest }
 {
     command(ring, lad(address)) && command_of(ring, number)
 }
@@ -74,10 +89,12 @@ fn tell_one<M: Medium>(ring: &mut Ring<M>, address: u8, number: Option<u8>) -> b
 fn command_of<M: Medium>(ring: &mut Ring<M>, number: Option<u8>) -> bool
     requires room { 34 ≤ spare_of (⟦<Ring<M> as Seen<M>>⟧.seen ring.old) }
     requires free { IsFree (⟦<Ring<M> as Seen<M>>⟧.seen ring.old) }
+    requires host { IsUnderHost (⟦<Ring<M> as Seen<M>>⟧.seen ring.old).guest }
     requires number { IfSome number (λ n. n < 32) }
     ensures done { MatchBool result (Whole M.view (⟦<Ring<M> as Seen<M>>⟧.seen ring.old) (numbered 0 ddl number) (⟦<Ring<M> as Seen<M>>⟧.seen ring.new))
         (Broke M.view (⟦<Ring<M> as Seen<M>>⟧.seen ring.old) (numbered 0 ddl number) (⟦<Ring<M> as Seen<M>>⟧.seen ring.new)) }
     ensures stays { AllStay (not (is_some number)) (⟦<Ring<M> as Seen<M>>⟧.seen ring.old) (⟦<Ring<M> as Seen<M>>⟧.seen ring.new) }
+    ensures host { IsUnderHost (⟦<Ring<M> as Seen<M>>⟧.seen ring.new).guest }
 {
     match number {
         None => true,
@@ -99,6 +116,32 @@ pub(crate) fn send_byte<M: Medium>(ring: &mut Ring<M>, byte: u8) -> bool
     }
 }
 
+/// Clears the interface. The host then controls the loop, whoever did before.
+fn take_control<M: Medium>(ring: &mut Ring<M>) -> bool
+    requires room { 32 ≤ spare_of (⟦<Ring<M> as Seen<M>>⟧.seen ring.old) }
+    requires free { IsFree (⟦<Ring<M> as Seen<M>>⟧.seen ring.old) }
+    ensures done { MatchBool result (Whole M.view (⟦<Ring<M> as Seen<M>>⟧.seen ring.old) (returned 0 ifc ∷ []) (⟦<Ring<M> as Seen<M>>⟧.seen ring.new))
+        (Broke M.view (⟦<Ring<M> as Seen<M>>⟧.seen ring.old) (returned 0 ifc ∷ []) (⟦<Ring<M> as Seen<M>>⟧.seen ring.new)) }
+    ensures obeyed { result ≡ true → Obeyed (message_of ifc) (⟦<Ring<M> as Seen<M>>⟧.seen ring.old) (⟦<Ring<M> as Seen<M>>⟧.seen ring.new) }
+    ensures part { ObeyedInPart (message_of ifc) (⟦<Ring<M> as Seen<M>>⟧.seen ring.old) (⟦<Ring<M> as Seen<M>>⟧.seen ring.new) }
+    ensures host { result ≡ true → IsUnderHost (⟦<Ring<M> as Seen<M>>⟧.seen ring.new).guest }
+{
+    came_back(ring.send(ifc()))
+}
+
+/// Clears the interface, and waits for the handshake behind it.
+pub(crate) fn clear_interface<M: Medium>(ring: &mut Ring<M>) -> bool
+    requires room { 33 ≤ spare_of (⟦<Ring<M> as Seen<M>>⟧.seen ring.old) }
+    requires free { IsFree (⟦<Ring<M> as Seen<M>>⟧.seen ring.old) }
+    ensures done { MatchBool result (Whole M.view (⟦<Ring<M> as Seen<M>>⟧.seen ring.old) (commanded 0 ifc) (⟦<Ring<M> as Seen<M>>⟧.seen ring.new))
+        (Broke M.view (⟦<Ring<M> as Seen<M>>⟧.seen ring.old) (commanded 0 ifc) (⟦<Ring<M> as Seen<M>>⟧.seen ring.new)) }
+    ensures obeyed { result ≡ true → Obeyed (message_of ifc) (⟦<Ring<M> as Seen<M>>⟧.seen ring.old) (⟦<Ring<M> as Seen<M>>⟧.seen ring.new) }
+    ensures part { ObeyedInPart (message_of ifc) (⟦<Ring<M> as Seen<M>>⟧.seen ring.old) (⟦<Ring<M> as Seen<M>>⟧.seen ring.new) }
+    ensures host { result ≡ true → IsUnderHost (⟦<Ring<M> as Seen<M>>⟧.seen ring.new).guest }
+{
+    take_control(ring) && pass_round(ring, rfc())
+}
+
 /// Clears the interface and takes all addresses away.
 fn clear<M: Medium>(ring: &mut Ring<M>) -> bool
     requires room { 36 ≤ spare_of (⟦<Ring<M> as Seen<M>>⟧.seen ring.old) }
@@ -106,8 +149,9 @@ fn clear<M: Medium>(ring: &mut Ring<M>) -> bool
     ensures done { MatchBool result (Whole M.view (⟦<Ring<M> as Seen<M>>⟧.seen ring.old) (commanded 0 ifc ++ commanded 0 aau) (⟦<Ring<M> as Seen<M>>⟧.seen ring.new))
         (Broke M.view (⟦<Ring<M> as Seen<M>>⟧.seen ring.old) (commanded 0 ifc ++ commanded 0 aau) (⟦<Ring<M> as Seen<M>>⟧.seen ring.new)) }
     ensures stays { AllStay true (⟦<Ring<M> as Seen<M>>⟧.seen ring.old) (⟦<Ring<M> as Seen<M>>⟧.seen ring.new) }
+    ensures host { result ≡ true → IsUnderHost (⟦<Ring<M> as Seen<M>>⟧.seen ring.new).guest }
 {
-    command(ring, ifc()) && command(ring, aau())
+    clear_interface(ring) && command(ring, aau())
 }
 
 /// Gives each device its number as address, and tells how many there are.

@@ -1,4 +1,4 @@
-use Rattle.loop_model.specs.Entries.{ddt}
+use Rattle.il_frames.specs.NamedFrames.{ddt}
 use Rattle.il_control.proofs.Asking.{number_calm}
 use Rattle.il_control.proofs.Telling.{no_number}
 use Rattle.il_control.proofs.receiving.command_of.Goals as goal

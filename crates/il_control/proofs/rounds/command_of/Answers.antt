@@ -1,4 +1,4 @@
-use Rattle.loop_model.specs.Entries.{ddl}
+use Rattle.il_frames.specs.NamedFrames.{ddl}
 use Rattle.il_control.proofs.Places.{no_number_stay, number_stay}
 use Rattle.il_control.proofs.Telling.{no_number}
 use Rattle.il_control.proofs.rounds.command_of.Goals as goal

@@ -1,5 +1,5 @@
 use Rattle.std.proofs.Common.{refl}
-use Rattle.loop_model.specs.Entries.{unl}
+use Rattle.il_frames.specs.NamedFrames.{unl}
 use Rattle.il_control.proofs.Places.{broke_stay, stay_then_more, whole_stay}
 use Rattle.il_control.proofs.Telling.{tell_done, tell_not}
 use Rattle.il_control.proofs.rounds.tell.Goals as goal

@@ -1,0 +1,161 @@
+-- An IFC of the host, whoever controls the loop.
+use Rattle.std.proofs.Common.{◌≡◌, ⊎_elim, ◌∙◌, ◌++◌, ℕ, Bool, true, false, List, [], ◌∷◌, Option, Some, None, option_map, length, refl, sym, ap, subst, append-nil}
+use Rattle.il_frames.specs.declared.entry.Entry.{Entry}
+use Rattle.il_frames.specs.declared.frame.Frame.{Frame}
+use Rattle.il_frames.specs.Messages.{message_of}
+use Rattle.il_frames.specs.NamedFrames.{ifc, is_frame}
+use Rattle.il_device.specs.Passing.{is_plain}
+use Rattle.il_guest.specs.Frames.{tct}
+use Rattle.il_ports.specs.Media.{MediumView}
+use Rattle.loop_model.specs.Exchanges.{cut_at, returned}
+use Rattle.il_ring.specs.declared.plan.Arrival.{Arrival}
+use Rattle.il_ring.specs.Adds.{Adds}
+use Rattle.il_ring.specs.Books.{BooksView}
+use Rattle.il_ring.specs.Flights.{sourced}
+use Rattle.il_ring.specs.Guests.{GuestMind, IsUnderHost, last_asked}
+use Rattle.il_ring.specs.Lending.{HostKeeps, TakenBack, as_host, entry_where, host_leads, leads, lending_ended, taken_back}
+use Rattle.il_ring.specs.Rings.{RingView, IsRing, Round, devices_of}
+use Rattle.il_ring.proofs.LedRings.{host_under}
+use Rattle.il_ring.proofs.LedRounds.{host_keeps, led_under, not_led}
+use Rattle.il_control.specs.Calls.{IsFree, Obeyed, ObeyedInPart, Whole, Broke, arrives}
+use Rattle.il_control.proofs.Asking.{plain_obeyed, plain_part}
+use Rattle.il_control.proofs.Calls.{Done, plain_call}
+
+-- ---- a ring that is not lent, as the host controls it
+
+last_host : (m : Option GuestMind) → last_asked (option_map as_host m) ≡ last_asked m
+last_host None = refl
+last_host (Some mind) = refl
+
+books_same : (k : ℕ) (b : BooksView) → b.lent ≡ None → b.kept ≡ None → lending_ended k b ≡ b
+books_same k b lent kept =
+    ap (λ kept. record b { log = (b.log ++ entry_where k kept) ++ entry_where 0 b.lent; lent = None; kept = None }) kept
+    ∙ ap (λ lent. record b { log = (b.log ++ []) ++ entry_where 0 lent; lent = None; kept = None }) lent
+    ∙ ap (λ log. record b { log = log; lent = None; kept = None }) (append-nil (b.log ++ []) ∙ append-nil b.log)
+    ∙ ap (λ lent. record b { lent = lent; kept = None }) (sym lent)
+    ∙ ap (λ kept. record b { kept = kept }) (sym kept)
+
+pub taken_same : {M : Type 0} (r : RingView M) → IsRing r → taken_back r ≡ r
+taken_same r ring = ap (λ b. record r { books = b }) (books_same (length (devices_of r)) r.books ring.lent ring.kept)
+
+led_free : {M : Type 0} (r : RingView M) → IsFree r → IsFree (host_leads r)
+led_free r free = record {
+  ring = record { few = free.ring.few; plan = free.ring.plan; crossings = free.ring.crossings; held = free.ring.held; drive = free.ring.drive; lent = free.ring.lent; kept = free.ring.kept; told = free.ring.told };
+  held = free.held;
+}
+
+-- ---- what came of it
+
+pub record IfcSent {M : Type 0} (view : M → MediumView) (r : RingView M) (f : Frame) (answer : Arrival) (s : RingView M) : Type 0 where
+  pub done : Done view r (returned 0 f ∷ []) (arrives answer) s
+  pub obeyed : arrives answer ≡ true → Obeyed (message_of f) r s
+  pub part : ObeyedInPart (message_of f) r s
+  pub host : arrives answer ≡ true → IsUnderHost s.guest
+
+-- the host controlled
+ifc_host : {M : Type 0} (view : M → MediumView) (r s : RingView M) (f : Frame) (answer : Arrival) → f ≡ ifc → IsFree r → IsUnderHost r.guest → Round view r r.books.held (sourced 0 f) answer s → IfcSent view r f answer s
+ifc_host view r s f answer is free under round = record {
+  done = plain_call view r s r.books.held f answer round free.held free plain;
+  obeyed = plain_obeyed view r s r.books.held f answer round free plain;
+  part = plain_part view r s r.books.held f answer round free plain;
+  host = λ came. subst IsUnderHost (sym round.guest) under;
+}
+  where
+    plain : is_plain (message_of f) ≡ true
+    plain = ap (λ f. is_plain (message_of f)) is
+
+-- another did
+
+module _ {M : Type 0} (view : M → MediumView) (r s : RingView M) (lead : leads r.guest ≡ true) (last : last_asked s.guest ≡ last_asked r.guest) where
+  never : IsUnderHost r.guest → s.guest ≡ r.guest
+  never under = let clash = sym (not_led r.guest under) ∙ lead in cc
+
+  ring_led : IsRing (host_leads s) → IsRing s
+  ring_led is = record { few = is.few; plan = is.plan; crossings = is.crossings; held = is.held; drive = is.drive; lent = is.lent; kept = is.kept; told = is.told }
+
+  adds_led : (from to : Option ℕ) (entries : List Entry) → Adds view (host_leads r) from entries to (host_leads s) → Adds view r from entries to s
+  adds_led from to entries adds = record {
+    log = adds.log;
+    plan = adds.plan;
+    begun = adds.begun;
+    room = adds.room;
+    guest = (last, never);
+    before = adds.before;
+    size = adds.size;
+    links = adds.links;
+    crossings = adds.crossings;
+    linked = adds.linked;
+    frames = adds.frames;
+    roles = adds.roles;
+    places = adds.places;
+    came = adds.came;
+    answers = adds.answers;
+    drive = adds.drive;
+  }
+
+  whole_led : (entries : List Entry) → Whole view (host_leads r) entries (host_leads s) → Whole view r entries s
+  unfolding adds_led
+  whole_led entries whole = record {
+    adds = adds_led None None entries whole.adds;
+    ring = ring_led whole.ring;
+    held = whole.held;
+    met_none = whole.met_none;
+    unheard = whole.unheard;
+    brought = whole.brought;
+  }
+
+  broke_led : (entries : List Entry) → Broke view (host_leads r) entries (host_leads s) → Broke view r entries s
+  unfolding adds_led
+  broke_led entries broke = record {
+    standing = broke.standing;
+    break = broke.break;
+    legal = broke.legal;
+    held_at_end = broke.held_at_end;
+    told = broke.told;
+    adds = adds_led None broke.held_at_end (cut_at entries broke.standing broke.break) broke.adds;
+    ring = ring_led broke.ring;
+    held = broke.held;
+    met_some = broke.met_some;
+    unheard = broke.unheard;
+    brought = broke.brought;
+  }
+
+  done_led : (entries : List Entry) (whole : Bool) → Done view (host_leads r) entries whole (host_leads s) → Done view r entries whole s
+  done_led entries true done = whole_led entries done
+  done_led entries false done = broke_led entries done
+
+ifc_led : {M : Type 0} (view : M → MediumView) (r s : RingView M) (f : Frame) (answer : Arrival) → f ≡ ifc → IsFree r → leads r.guest ≡ true → TakenBack view r f answer s → IfcSent view r f answer s
+ifc_led view r s f answer is free lead back = record {
+  done = done_led view r s lead last (returned 0 f ∷ []) (arrives answer) (plain_call view (host_leads r) (host_leads s) r.books.held f answer round free.held (led_free r free) plain);
+  obeyed = plain_obeyed view (host_leads r) (host_leads s) r.books.held f answer round (led_free r free) plain;
+  part = plain_part view (host_leads r) (host_leads s) r.books.held f answer round (led_free r free) plain;
+  host = λ came. ⊎_elim (λ same. subst (λ s. IsUnderHost s.guest) (sym same) (host_under s.guest)) (λ lost. let clash = sym came ∙ ap arrives lost.1 in cc) back.mind;
+}
+  where
+    plain : is_plain (message_of f) ≡ true
+    plain = ap (λ f. is_plain (message_of f)) is
+
+    round : Round view (host_leads r) r.books.held (sourced 0 f) answer (host_leads s)
+    round = subst (λ q. Round view (host_leads q) r.books.held (sourced 0 f) answer (host_leads s)) (taken_same r free.ring) back.round
+
+    last : last_asked s.guest ≡ last_asked r.guest
+    last = sym (last_host s.guest) ∙ ap last_asked round.guest ∙ last_host r.guest
+
+pub ifc_sent : {M : Type 0} (view : M → MediumView) (r s : RingView M) (f : Frame) (answer : Arrival) → f ≡ ifc → IsFree r → (HostKeeps r f → Round view r r.books.held (sourced 0 f) answer s) → (leads r.guest ≡ true → TakenBack view r f answer s) → IfcSent view r f answer s
+ifc_sent view r s f answer is free round back = by_lead (leads r.guest) refl
+  where
+    by_lead : (lead : Bool) → leads r.guest ≡ lead → IfcSent view r f answer s
+    by_lead true lead = ifc_led view r s f answer is free lead (back lead)
+    by_lead false none =
+        let under = led_under r.guest none in
+        ifc_host view r s f answer is free under (round (host_keeps r f under (ap (λ f. is_frame f tct) is)))
+
+-- by name
+pub ifc_done : {M : Type 0} (view : M → MediumView) (r s : RingView M) (f : Frame) (answer : Arrival) → f ≡ ifc → IfcSent view r f answer s → Done view r (returned 0 ifc ∷ []) (arrives answer) s
+ifc_done view r s f answer is sent = subst (λ f. Done view r (returned 0 f ∷ []) (arrives answer) s) is sent.done
+
+pub ifc_obeyed : {M : Type 0} (view : M → MediumView) (r s : RingView M) (f : Frame) (answer : Arrival) → f ≡ ifc → IfcSent view r f answer s → arrives answer ≡ true → Obeyed (message_of ifc) r s
+ifc_obeyed view r s f answer is sent came = subst (λ f. Obeyed (message_of f) r s) is (sent.obeyed came)
+
+pub ifc_part : {M : Type 0} (view : M → MediumView) (r s : RingView M) (f : Frame) (answer : Arrival) → f ≡ ifc → IfcSent view r f answer s → ObeyedInPart (message_of ifc) r s
+ifc_part view r s f answer is sent = subst (λ f. ObeyedInPart (message_of f) r s) is sent.part
