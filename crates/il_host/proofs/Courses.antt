@@ -9,7 +9,7 @@ use Rattle.std.proofs.lemmas.Slice.Eq.{bytes_eq-Decides}
 use Rattle.il_frames.specs.declared.frame.Frame.{Frame}
 use Rattle.il_frames.specs.Frames.{byte_of}
 use Rattle.il_device.specs.State.{DeviceState}
-use Rattle.loop_model.specs.Entries.{is_frame, lad, unl}
+use Rattle.il_frames.specs.NamedFrames.{is_frame, lad, unl}
 use Rattle.loop_model.specs.Exchanges.{Answer, NotTaken, ToItsEnd, Stopped, Exchange, Command, Address, Send, Receive, Identify, Sai, Sst, Sda, Sdi, Start, Echo, is_exchange, bytes_of}
 use Rattle.loop_model.specs.Loops.{Loop}
 use Rattle.loop_model.specs.Polls.{poll_enable, poll_unconfigure}

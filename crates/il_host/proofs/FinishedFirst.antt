@@ -23,7 +23,7 @@ use Rattle.lif_volume.specs.Commands.{AnswersTo, IsTold, SettlesOnly, directory_
 use Rattle.lif_volume.specs.declared.fault.VolumeFault.{VolumeFault}
 use Rattle.lif_volume.specs.declared.fault.VolumeFault.TheVariants.{Refused, Trouble as Troubled}
 use Rattle.lif_volume.proofs.Gated.{held_settled}
-use Rattle.lif_pack.specs.Packing.{bears_mark, has_mark, finished, finished_volume, finished_volume_of, marked_count, marked_slot, redo_slot}
+use Rattle.lif_model.specs.Packing.{bears_mark, has_mark, finished, finished_volume, finished_volume_of, marked_count, marked_slot, redo_slot}
 use Rattle.lif_pack.specs.Tasks.{IsFinished, IsShownAs}
 use Rattle.lif_pack.proofs.Finishes.{finished_shape, finished_unmarked, finishes, unmarked_volume}
 use Rattle.lif_pack.proofs.Stopped.{upgraded_not_held}

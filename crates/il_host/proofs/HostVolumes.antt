@@ -9,7 +9,7 @@ use Rattle.lif_model.proofs.Slots.{readable_tells}
 use Rattle.lif_model.specs.Header.{HeaderParts}
 use Rattle.lif_model.specs.Tape.{Tape}
 use Rattle.lif_model.specs.Volume.{volume_of, Volume as LifVolume}
-use Rattle.lif_pack.specs.Packing.{finished, finished_volume_of, has_mark}
+use Rattle.lif_model.specs.Packing.{finished, finished_volume_of, has_mark}
 use Rattle.lif_plan.specs.Directories.{IsLegalDirectory}
 use Rattle.lif_model.specs.Apply.{VolumeCommand, Dir, Label, Fetch, Store, Rename, Purge, Adopt, Upgrade, Batch, Format}
 use Rattle.lif_model.specs.Shelf.{IsSize}

@@ -10,7 +10,7 @@ use Rattle.loop_model.specs.Effect.{UnitsEffect}
 use Rattle.loop_model.specs.Loops.{Loop}
 use Rattle.loop_model.specs.Units.{RecordUnit, units_of, ends_within}
 use Rattle.loop_model.proofs.EffectLaws.{ends_within-append, units_of-append, UnitsEffect-append}
-use Rattle.loop_model.specs.Entries.{is_frame}
+use Rattle.il_frames.specs.NamedFrames.{is_frame}
 use Rattle.il_ring.specs.Rings.{RingView}
 use Rattle.il_control.specs.Calls.{IsFree, loop_of}
 use Rattle.il_record.specs.Asks.{Ask, AskCommand, AskAddresses, Asked, CameAsked, IsFirstOf, ask_of}

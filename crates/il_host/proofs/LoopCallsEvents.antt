@@ -20,7 +20,7 @@ use Rattle.host_model.specs.RingStates.{loop_on}
 use Rattle.host_model.specs.Courses.{Due, addressed_first, bytes_due, course_of, ids_due, is_commanding, is_identified, places_due}
 use Rattle.host_model.specs.Steps.{Exchanged}
 use Rattle.host_model.proofs.RingStates.{count_on, ids_on, poll_on}
-use Rattle.loop_model.specs.Entries.{unl}
+use Rattle.il_frames.specs.NamedFrames.{unl}
 use Rattle.loop_model.specs.Polls.{poll_place, poll_unconfigure, polled_along}
 use Rattle.il_host.proofs.CommandTravels.{event_on}
 use Rattle.il_host.proofs.Courses.{meets_ids, meets_poll, meets_say}

@@ -2,7 +2,7 @@
 use Rattle.std.proofs.Common.{◌≡◌, ◌≤◌, ℕ, Bool, true, false, List, [], Option, Some, refl, sym, ap, subst}
 use Rattle.lif_model.specs.Volume.{Volume}
 use Rattle.il_ports.specs.Media.{MediumView}
-use Rattle.loop_model.specs.Entries.{ifc, aau}
+use Rattle.il_frames.specs.NamedFrames.{ifc, aau}
 use Rattle.loop_model.specs.Exchanges.{Piece}
 use Rattle.loop_model.specs.Units.{RecordUnit, units_of}
 use Rattle.loop_model.specs.Effect.{all_good}

@@ -2,7 +2,7 @@
 use Rattle.std.proofs.Common.{◌≡◌, ◌∙◌, inl, Bool, true, false, refl, sym, ap, subst}
 use Rattle.std.specs.Prelude.{is_some, option_and_then, IfSome}
 use Rattle.lif_model.specs.Volume.{is_foreign_gated}
-use Rattle.lif_pack.specs.Packing.{finished_volume_of}
+use Rattle.lif_model.specs.Packing.{finished_volume_of}
 use Rattle.il_ports.specs.Media.{MediumView}
 use Rattle.il_ring.specs.Rings.{RingView}
 use Rattle.il_script.specs.declared.reply.Reply.TheVariants as reply

@@ -20,7 +20,7 @@ use Rattle.lif_volume.specs.declared.fault.VolumeFault.{VolumeFault}
 use Rattle.lif_volume.specs.declared.fault.VolumeFault.TheVariants.{Refused, Trouble as Troubled}
 use Rattle.lif_volume.specs.declared.volume.Volume.{Volume}
 use Rattle.lif_volume.proofs.Gated.{held_settled}
-use Rattle.lif_pack.specs.Packing.{files_shown, finished_volume_of, pack_refusal, packed}
+use Rattle.lif_model.specs.Packing.{files_shown, finished_volume_of, pack_refusal, packed}
 use Rattle.lif_pack.specs.Packs.{AnswersPack, KeepsFiled, PacksTo}
 use Rattle.lif_pack.specs.Tasks.{KeepsFiles}
 use Rattle.lif_pack.specs.declared.memory.Packer.{Packer}

@@ -20,7 +20,7 @@ use Rattle.lif_volume.specs.Commands.{AnswersTo, IsTold, batch_calls_needed, cal
 use Rattle.lif_volume.specs.declared.fault.VolumeFault.{VolumeFault}
 use Rattle.lif_volume.specs.declared.fault.VolumeFault.TheVariants.{Trouble as Troubled}
 use Rattle.lif_volume.specs.declared.volume.Volume.{Volume}
-use Rattle.lif_pack.specs.Packing.{finished_volume_of, has_mark}
+use Rattle.lif_model.specs.Packing.{finished_volume_of, has_mark}
 use Rattle.lif_pack.specs.Packers.{IsPackerFor}
 use Rattle.lif_pack.specs.declared.memory.Packer.{Packer}
 use Rattle.lif_pack.specs.Tasks.{IsFinished, IsShownAs}

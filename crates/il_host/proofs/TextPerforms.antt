@@ -19,7 +19,7 @@ use Rattle.il_script.specs.Replies.{reply_line}
 use Rattle.lif_model.specs.Apply.{Fetch, Store}
 use Rattle.lif_model.specs.Tape.{Tape}
 use Rattle.lif_model.specs.Volume.{volume_of}
-use Rattle.lif_pack.specs.Packing.{finished_volume_of}
+use Rattle.lif_model.specs.Packing.{finished_volume_of}
 use Rattle.lif_volume.specs.Commands.{FetchedFile, FetchesByRun, FetchesFile, IsTold}
 use Rattle.lif_volume.specs.Did.{Reads}
 use Rattle.lif_volume.specs.Views.{IsOpen, VolumeView}

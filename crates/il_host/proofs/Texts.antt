@@ -10,7 +10,7 @@ use Rattle.lif_model.specs.Directory.{slots_of, length_of}
 use Rattle.lif_model.specs.Redo.{settled}
 use Rattle.lif_model.specs.Legal.{is_legal, is_live, is_live_named, has_file, slot_named, IsLegal}
 use Rattle.lif_model.specs.Volume.{Volume, files_of, volume_of}
-use Rattle.lif_pack.specs.Packing.{finished_volume_of}
+use Rattle.lif_model.specs.Packing.{finished_volume_of}
 use Rattle.lif_model.specs.Apply.{VolumeCommand, Dir, Label, Fetch}
 use Rattle.lif_model.proofs.Legal.{legal_tells}
 use Rattle.lif_model.proofs.Slots.{readable_tells, live_named_tells}

@@ -9,6 +9,7 @@ use Rattle.il_ports.specs.Trouble.{answers_ok}
 use Rattle.il_ports.specs.declared.records.Trouble.{Trouble}
 use Rattle.il_ports.specs.declared.records.Trouble.TheVariants as trouble
 use Rattle.loop_model.specs.Roles.{is_at_most_one, talkers}
+use Rattle.il_ring.specs.Guests.{IsUnderHost}
 use Rattle.il_ring.specs.Rings.{RingView, devices_of, drive_party, roles_of, IsRing}
 use Rattle.il_control.specs.Calls.{loop_of}
 use Rattle.il_record.specs.declared.records.Since.TheVariants as since
@@ -105,7 +106,7 @@ module _ {M : Type 0} (view : M → MediumView) where
     plan = ap (λ (c : Standing M). plan_at c) two ∙ plan_rings view is s ∙ went_plan view r s went ∙ sym (plan_rings view was r) ∙ ap (λ (c : Standing M). plan_at c) (sym one);
     room =
         let own = ring_of was old.control r one room in
-        ring_on is new.control s two (went_room view r s went ∙ own.0 ∙ ap log_room (sym size)) (went_guest view r s went ∙ own.1);
+        ring_on is new.control s two (went_room view r s went ∙ own.0 ∙ ap log_room (sym size)) (went_guest view r s went (subst IsUnderHost (sym own.1) tt) ∙ own.1);
     images = images_on was is old.control new.control r s one two (went_images view r s went);
   }
 

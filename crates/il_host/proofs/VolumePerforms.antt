@@ -5,7 +5,7 @@ use Rattle.lif_model.specs.Apply.{VolumeCommand, apply}
 use Rattle.lif_model.specs.declared.refusal.Refusal.{Refusal}
 use Rattle.lif_model.specs.Tape.{Tape}
 use Rattle.lif_model.specs.Volume.{is_foreign_gated}
-use Rattle.lif_pack.specs.Packing.{finished_volume_of}
+use Rattle.lif_model.specs.Packing.{finished_volume_of}
 use Rattle.il_ports.specs.Media.{MediumView}
 use Rattle.il_ports.specs.Stores.{Begun, GoesOn, IsStore}
 use Rattle.il_ports.specs.declared.records.Trouble.{Trouble}

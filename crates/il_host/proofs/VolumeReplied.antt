@@ -3,7 +3,7 @@ use Rattle.std.proofs.Common.{◌≡◌, ◌∙◌, ◌⊎◌, ⊎_elim, inl, in
 use Rattle.std.specs.Prelude.{Ok, Err, option_and_then, IfSome, Result}
 use Rattle.lif_model.specs.Tape.{Tape}
 use Rattle.lif_model.specs.Volume.{is_foreign_gated}
-use Rattle.lif_pack.specs.Packing.{finished_volume_of}
+use Rattle.lif_model.specs.Packing.{finished_volume_of}
 use Rattle.lif_model.specs.Apply.{VolumeCommand, apply}
 use Rattle.lif_model.specs.declared.refusal.Refusal.{Refusal}
 use Rattle.lif_model.proofs.Moments.{after_still, started, still, weaker}

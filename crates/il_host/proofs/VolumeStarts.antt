@@ -6,7 +6,7 @@ use Rattle.il_ports.specs.Media.{MediumView}
 use Rattle.il_ports.specs.Stores.{Begun}
 use Rattle.il_ports.specs.declared.records.Trouble.{Trouble}
 use Rattle.il_ports.specs.declared.records.Trouble.TheVariants as trouble
-use Rattle.loop_model.specs.Entries.{lad, unl}
+use Rattle.il_frames.specs.NamedFrames.{lad, unl}
 use Rattle.il_ring.specs.Rings.{RingView, drive_party, ring_emptied}
 use Rattle.il_ring.specs.Books.{begun_anew}
 use Rattle.il_control.specs.Calls.{IsFree, IsIdle, loop_of}

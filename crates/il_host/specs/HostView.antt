@@ -6,7 +6,7 @@ use Rattle.lif_model.specs.Shelf.{Shelf}
 use Rattle.lif_model.specs.Tape.{Tape, IsTape}
 use Rattle.lif_model.specs.Directory.{slots_of}
 use Rattle.lif_model.specs.Volume.{Volume, volume_of}
-use Rattle.lif_pack.specs.Packing.{bears_mark, finished}
+use Rattle.lif_model.specs.Packing.{bears_mark, finished}
 use Rattle.il_ports.specs.Inserting.{OthersAreKept}
 use Rattle.lif_volume.specs.Changing.{records_stored}
 use Rattle.lif_volume.specs.Commands.{directory_records, records_named}

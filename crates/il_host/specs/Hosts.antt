@@ -11,7 +11,7 @@ use Rattle.il_ports.specs.Stores.{RecordsView}
 use Rattle.lif_volume.specs.Seen as volume
 use Rattle.lif_volume.specs.Views.{VolumeView, IsOpen}
 use Rattle.lif_volume.specs.Commands.{IsTold}
-use Rattle.lif_pack.specs.Packing.{has_mark}
+use Rattle.lif_model.specs.Packing.{has_mark}
 use Rattle.lif_pack.specs.declared.memory.Packer.{Packer}
 use Rattle.lif_volume.specs.declared.volume.Volume.{Volume}
 use Rattle.il_ring.specs.declared.plan.Planned.{Planned}

@@ -11,7 +11,7 @@ use Rattle.il_device.specs.declared.device.Out.{Out}
 use Rattle.il_drive.specs.Runs.{Ran}
 use Rattle.il_drive.specs.State.{DriveView, status_of}
 use Rattle.il_drive.proofs.ExchangesStill.{NonePuts, may_put, leaves_records}
-use Rattle.loop_model.specs.Entries.{ifc, aau, rfc, aad}
+use Rattle.il_frames.specs.NamedFrames.{ifc, aau, rfc, aad}
 use Rattle.loop_model.specs.Exchanges.{Command, Address, Piece, Whole as WholeOne, Cut, Break, is_piece, breaks_off, entries_of, cut_at, can_cut}
 use Rattle.loop_model.specs.Loops.{Loop, host_loop}
 use Rattle.loop_model.specs.Reach.{held_at_end}

@@ -7,7 +7,7 @@ use Rattle.il_drive.specs.Runs.{Ran}
 use Rattle.il_drive.specs.State.{DriveView, status_of}
 use Rattle.il_drive.proofs.Exchanges.{Stance}
 use Rattle.il_drive.proofs.ExchangesAddressed.{is_addressed}
-use Rattle.loop_model.specs.Entries.{aad, aau, ifc, rfc}
+use Rattle.il_frames.specs.NamedFrames.{aad, aau, ifc, rfc}
 use Rattle.il_ring.specs.Rings.{RingView, devices_of, drive_party}
 use Rattle.il_control.specs.Brought.{Brought}
 use Rattle.il_control.specs.Calls.{Resumed, addressing}

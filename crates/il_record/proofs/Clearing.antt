@@ -13,7 +13,7 @@ use Rattle.il_drive.proofs.Beginning.{joins}
 use Rattle.il_drive.specs.Resting.{sdc}
 use Rattle.il_drive.proofs.ExchangesAddressed.{clears, message_of-lad}
 use Rattle.il_drive.proofs.ExchangesStill.{NonePuts, may_put, leaves_records}
-use Rattle.loop_model.specs.Entries.{unl, rfc, lad}
+use Rattle.il_frames.specs.NamedFrames.{unl, rfc, lad}
 use Rattle.loop_model.specs.Exchanges.{Command, Piece, Whole as WholeOne, commanded}
 use Rattle.loop_model.specs.Hearing.{has_no_data}
 use Rattle.il_ring.specs.Rings.{RingView, devices_of, drive_party}

@@ -12,7 +12,7 @@ use Rattle.il_device.specs.Passing.{identified}
 use Rattle.il_device.specs.State.{DeviceState}
 use Rattle.il_device.specs.Takes.{may_change_service}
 use Rattle.il_ports.specs.Media.{MediumView}
-use Rattle.loop_model.specs.Entries.{lad, unl}
+use Rattle.il_frames.specs.NamedFrames.{lad, unl}
 use Rattle.loop_model.specs.Exchanges.{Command, Identify, commanded, entries_of}
 use Rattle.loop_model.specs.Hearing.{has_no_data}
 use Rattle.loop_model.specs.Devices.{EachBecomes}

@@ -12,7 +12,7 @@ use Rattle.il_device.specs.Takes.{may_change_service}
 use Rattle.il_ports.specs.Media.{MediumView}
 use Rattle.il_drive.specs.declared.mode.Start.TheVariants as start
 use Rattle.il_drive.specs.Runs.{Ran}
-use Rattle.loop_model.specs.Entries.{rfc, unl}
+use Rattle.il_frames.specs.NamedFrames.{rfc, unl}
 use Rattle.loop_model.specs.Exchanges.{Command, Identify, commanded, entries_of, returned, is_talk_address}
 use Rattle.loop_model.specs.Roles.{is_aau}
 use Rattle.loop_model.specs.Devices.{EachBecomes}

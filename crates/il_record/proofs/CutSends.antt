@@ -17,7 +17,7 @@ use Rattle.il_drive.proofs.ExchangesAddressed.{message_of-lad}
 use Rattle.il_drive.proofs.ExchangesBroken.{AsSent}
 use Rattle.il_drive.proofs.ExchangesStill.{leaves_records, puts-seek, puts-taken, seek_leaves}
 use Rattle.il_drive.proofs.Reading.{nothing_read}
-use Rattle.loop_model.specs.Entries.{unl, rfc, lad, ddl}
+use Rattle.il_frames.specs.NamedFrames.{unl, rfc, lad, ddl}
 use Rattle.loop_model.specs.Exchanges.{Echo, Break, FrameLost, HostAltered, TalkerAltered, Send, echoed, returned, entries_of, break_entries, cut_at, can_cut, is_echo, bytes_of}
 use Rattle.loop_model.specs.Units.{sent_bytes}
 use Rattle.loop_model.proofs.UnitLaws.{one_byte}

@@ -27,7 +27,7 @@ use Rattle.il_drive.specs.State.{DriveState, DriveView, status_of}
 use Rattle.il_drive.specs.Steps.{Step, Now, then_by, Did}
 use Rattle.il_drive.specs.Table as table
 use Rattle.il_drive.specs.Runs.{Ran}
-use Rattle.loop_model.specs.Entries.{ifc, unl}
+use Rattle.il_frames.specs.NamedFrames.{ifc, unl}
 
 -- What frames may ask the drive for, `what` below, is named as the start that answers it: its name by SAI, its status by SST.
 abbrev pub is_name : Start → Bool

@@ -19,7 +19,7 @@ use Rattle.il_drive.specs.declared.mode.Start.TheVariants as start
 use Rattle.il_drive.specs.State.{DriveView, status_of}
 use Rattle.il_drive.specs.Runs.{Ran}
 use Rattle.il_drive.proofs.ExchangesAddressed.{message_of-tad}
-use Rattle.loop_model.specs.Entries.{entry, unl, unt, rfc, nrd, tad}
+use Rattle.il_frames.specs.NamedFrames.{entry, unl, unt, rfc, nrd, tad}
 use Rattle.loop_model.specs.Exchanges.{Echo, Answer, NotTaken, ToItsEnd, Stopped, Start as StartMessage, Sai, Receive, start_frame, echoed, returned, commanded, answer_entries, entries_of, is_answer, is_echo, receive_front}
 use Rattle.loop_model.specs.Reach.{brings_to}
 use Rattle.loop_model.proofs.UnitLaws.{entries_of-receive}

@@ -12,7 +12,7 @@ use Rattle.il_drive.specs.State.{DriveView}
 use Rattle.il_drive.specs.Runs.{Ran}
 use Rattle.il_drive.proofs.Beginning.{joins}
 use Rattle.il_drive.proofs.ExchangesStatus.{status_frame, tells}
-use Rattle.loop_model.specs.Entries.{unl, rfc, tad}
+use Rattle.il_frames.specs.NamedFrames.{unl, rfc, tad}
 use Rattle.loop_model.specs.Exchanges.{Echo, Start, Sst, Answer, NotTaken, ToItsEnd, Stopped, Receive, start_frame, is_echo, is_answer, is_some_data, answers_as_asked, bytes_of}
 use Rattle.il_ring.specs.Rings.{RingView, devices_of, drive_party}
 use Rattle.il_control.specs.Calls.{IsIdle, Made}

@@ -24,7 +24,7 @@ use Rattle.il_drive.proofs.Exchanges.{parts}
 use Rattle.il_drive.proofs.ExchangesReading.{EchoesOf, IsReadOut, IsCutShort, reads_on, reads_run, ends_short, is_unread, to_read, passed}
 use Rattle.il_drive.proofs.ExchangesStatus.{polls, status_frame, tells}
 use Rattle.il_drive.proofs.Reading.{IsEcho, sent}
-use Rattle.loop_model.specs.Entries.{unl, unt, rfc, nrd, tad}
+use Rattle.il_frames.specs.NamedFrames.{unl, unt, rfc, nrd, tad}
 use Rattle.loop_model.specs.Exchanges.{Echo, Start, Sda, Sst, Answer, NotTaken, ToItsEnd, Stopped, Receive, start_frame, is_echo, is_answer, is_exchange, is_address, is_number, is_some_data, answers_as_asked, bytes_of}
 use Rattle.loop_model.specs.Roles.{are_numbered}
 use Rattle.il_ring.specs.Rings.{RingView, devices_of, roles_of, drive_party}

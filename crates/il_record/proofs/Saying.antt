@@ -9,7 +9,7 @@ use Rattle.il_frames.specs.declared.entry.Entry.{Entry}
 use Rattle.il_ports.specs.Media.{MediumView}
 use Rattle.il_drive.specs.declared.mode.Start.TheVariants as start
 use Rattle.il_drive.proofs.ExchangesAddressed.{message_of-lad}
-use Rattle.loop_model.specs.Entries.{rfc, lad}
+use Rattle.il_frames.specs.NamedFrames.{rfc, lad}
 use Rattle.loop_model.specs.Exchanges.{Echo, Send, echoed, returned, commanded, is_echo, bytes_of}
 use Rattle.loop_model.specs.Devices.{EachBecomes}
 use Rattle.il_ring.specs.Journeys.{is_exact}

@@ -21,7 +21,7 @@ use Rattle.il_frames.specs.declared.frame.Frame.{Frame}
 use Rattle.std.specs.Int.{to_be_bytes, w16}
 use Rattle.il_drive.specs.Runs.{Ran}
 use Rattle.il_drive.proofs.ExchangesAddressed.{seeks_record}
-use Rattle.loop_model.specs.Entries.{unl, rfc, lad, ddl}
+use Rattle.il_frames.specs.NamedFrames.{unl, rfc, lad, ddl}
 use Rattle.loop_model.specs.Devices.{EachBecomes}
 use Rattle.il_record.proofs.Heard.{others_then, others_deaf, others_deaf_to_any, told_on}
 use Rattle.il_record.proofs.HeardLogs.{heard_in_part, heard_sent, no_data_sent, none_broke, none_by, none_whole}

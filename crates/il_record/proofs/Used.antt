@@ -8,7 +8,7 @@ use Rattle.il_frames.specs.declared.entry.Entry.{Entry}
 use Rattle.il_frames.specs.declared.entry.Outcome.TheVariants as outcome
 use Rattle.il_device.specs.Takes.{eto}
 use Rattle.il_ports.specs.Media.{MediumView}
-use Rattle.loop_model.specs.Entries.{entry, unt, nrd}
+use Rattle.il_frames.specs.NamedFrames.{entry, unt, nrd}
 use Rattle.loop_model.specs.Exchanges.{Answer, NotTaken, ToItsEnd, Stopped, Echo, Exchange, Command, Send, Receive, Start, answer_entries, commanded, cut_at, echoed, entries_of, returned, start_frame, bytes_of, receive_front}
 use Rattle.loop_model.proofs.UnitLaws.{entries_of-receive, length-send, length-cut}
 use Rattle.il_ring.specs.Adds.{Adds}

@@ -3,7 +3,7 @@ use Rattle.std.specs.Prelude.{◌≡◌, ◌≤◌, ◌⊎◌, ◌+◌, ◌++◌
 use Rattle.il_frames.specs.declared.frame.Frame.{Frame}
 use Rattle.il_device.specs.State.{DeviceState}
 use Rattle.il_ports.specs.Media.{MediumView}
-use Rattle.loop_model.specs.Entries.{lad, unl}
+use Rattle.il_frames.specs.NamedFrames.{lad, unl}
 use Rattle.loop_model.specs.Devices.{EachBecomes}
 use Rattle.loop_model.specs.Polls.{poll_enable, poll_place, poll_unconfigure, polled_along}
 use Rattle.il_ring.specs.Outcomes.{HearsNothing}

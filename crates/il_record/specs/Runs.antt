@@ -10,7 +10,7 @@ use Rattle.il_ports.specs.Media.{MediumView}
 use Rattle.il_drive.specs.State.{DriveView, status_of}
 use Rattle.il_drive.specs.Steps.{IsStill}
 use Rattle.il_drive.specs.Resting.{IsAtRest, sdc, HasKept, IsRead}
-use Rattle.loop_model.specs.Entries.{aau, ifc, lad, unl}
+use Rattle.il_frames.specs.NamedFrames.{aau, ifc, lad, unl}
 use Rattle.loop_model.specs.Exchanges.{Answer, Echo, Stopped, Receive, Sst}
 use Rattle.loop_model.specs.Units.{RecordUnit}
 use Rattle.il_ring.specs.Rings.{RingView, drive_party}

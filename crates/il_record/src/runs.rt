@@ -5,7 +5,7 @@ ghost use Rattle.lif_model.specs.Shelf.{cut};
 ghost use Rattle.il_ports.specs.Stores.{AreRecords};
 ghost use Rattle.il_ring.specs.Rings.{spare_of, drive_party};
 ghost use Rattle.il_control.specs.Calls.{IsIdle, is_command};
-ghost use Rattle.loop_model.specs.Entries.{unl, lad};
+ghost use Rattle.il_frames.specs.NamedFrames.{unl, lad};
 ghost use Rattle.il_record.specs.Came.{CameUnits};
 ghost use Rattle.il_record.specs.Polls.{PlacesKept};
 ghost use Rattle.il_record.specs.Runs.{Cleared, Interrupted, clear_asks, Polled, NotPolled, ReadAs, ReadBroke, WroteAs, WriteBroke};
