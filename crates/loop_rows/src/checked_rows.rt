@@ -2,7 +2,7 @@
 ghost use Rattle.std.specs.Prelude.{◌≡◌, ◌≤◌, IfOk, length};
 
 use crate::store_rows::{read, resume, store, write};
-use crate::tools::{self, tape};
+use crate::tools;
 use il_device::{Device, Quiet};
 use il_frames::{Entry, Frame, Outcome};
 use il_ports::{Medium, MemoryMedium, Records, Trouble};
@@ -10,6 +10,7 @@ use il_record::LoopRecords;
 use il_ring::PlanFault::{Alter, Lose};
 use il_ring::{Planned, Ring};
 use il_same::same;
+use ring_rows::tape;
 use std::process::Abort;
 use std::test::Fail;
 use trace_readers::{Effects, Exchanges, Talkers, UnitFault};
@@ -45,7 +46,7 @@ fn run(
     rt: &(impl Abort + AllocGlobal),
     plan: &[Planned],
 ) -> Result<(Ring<MemoryMedium>, Result<(), Trouble>), Fail> {
-    let mut records = store(rt, tape(rt, 0, 0)?, true, plan)?;
+    let mut records = store(rt, tape(rt.alloc(), 0, 0)?, true, plan)?;
     let answer = write_and_read(rt, &mut records);
     Ok((records.into_ring(), answer))
 }
@@ -206,7 +207,7 @@ fn compare_party(rt: &(impl Abort + AllocGlobal), party: u8) -> Result<(), Fail>
     requires { (1 ≤ party) × (party ≤ 30) }
 {
     let (before, after) = (quiets(rt, party - 1)?, quiets(rt, 30 - party)?);
-    let mut records = tools::store(rt, tape(rt, 0, 0)?, before, after, &[])?;
+    let mut records = tools::store(rt, tape(rt.alloc(), 0, 0)?, before, after, &[])?;
     assert!(rt; write_and_read(rt, &mut records).is_ok(), "{party}");
     let ring = records.into_ring();
     assert!(rt; is_read(30, ring.log()), "{party}");

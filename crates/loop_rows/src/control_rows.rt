@@ -2,7 +2,7 @@
 ghost use Rattle.std.specs.Prelude.{◌<◌, IfOk, IfSome};
 ghost use Rattle.il_control.specs.Calls.{IsLost};
 
-use crate::tools::{self, compare_log, frame_of, has_paper, tape};
+use crate::tools;
 use il_control::{Lost, Sot};
 use il_device::{Device, Printer};
 use il_frames::{Entry, Outcome};
@@ -10,6 +10,7 @@ use il_ports::MemoryMedium;
 use il_ring::PlanFault::{Alter, Lose};
 use il_ring::{Planned, Ring, Seen};
 use il_same::{same, same_bytes};
+use ring_rows::{frame_of, has_paper, is_log, tape};
 use std::process::Abort;
 use std::test::Fail;
 
@@ -32,7 +33,7 @@ fn controller(
     let alloc = rt.alloc();
     let mut after = Vec::new(alloc);
     after.push(printer)?;
-    tools::controller(rt, tape(rt, 0, 0)?, Vec::new(alloc), after, plan)
+    tools::controller(rt, tape(alloc, 0, 0)?, Vec::new(alloc), after, plan)
 }
 
 /// Addresses the loop and sends `HP` to the printer, or gives up where that breaks off.
@@ -66,16 +67,17 @@ fn print(rt: &impl Abort, lost: Lost<MemoryMedium>) -> Ring<MemoryMedium>
 }
 
 /// The entries of the first frames of `SENT` that came back: all as they were but AAD.
-fn compare_whole(rt: &impl Abort, log: &[Entry], count: usize) {
+fn compare_whole(rt: &impl Abort, log: &[Entry], count: usize) -> Result<(), Fail> {
     for (entry, text) in log.iter().zip(SENT).take(count) {
         let back = if text == "AAD 01" { "AAD 03" } else { text };
         let want = Entry {
             source: 0,
-            frame: frame_of(rt, text),
-            outcome: Outcome::Back(frame_of(rt, back)),
+            frame: frame_of(text)?,
+            outcome: Outcome::Back(frame_of(back)?),
         };
         assert!(rt; same(*entry, want), "an entry that came back");
     }
+    Ok(())
 }
 
 #[test]
@@ -84,7 +86,7 @@ fn nothing_planned(rt: HostRuntime) -> Result<(), Fail> {
     let printer: Box<dyn Device> = Box::new(alloc, Printer::new(alloc)?)?;
     let ring = print(&rt, controller(&rt, printer, &[])?);
     assert!(rt; same(ring.log().len(), SENT.len()), "all entries");
-    compare_whole(&rt, ring.log(), SENT.len());
+    compare_whole(&rt, ring.log(), SENT.len())?;
     assert!(rt; same(ring.crossings(), LINKS), "crossings");
     assert!(rt; has_paper(&ring, b"HP"), "paper");
     Ok(())
@@ -97,15 +99,16 @@ fn compare_broken(
     whole: usize,
     last: Outcome,
     paper: &[u8],
-) {
+) -> Result<(), Fail> {
     let log = ring.log();
-    compare_whole(rt, log, whole);
+    compare_whole(rt, log, whole)?;
     assert!(rt; log.len() > whole, "{whole}");
     assert!(rt;
         same(log.len(), whole + 1) && same(log[whole].outcome, last),
         "{whole}"
     );
     assert!(rt; has_paper(ring, paper), "{whole}");
+    Ok(())
 }
 
 /// A frame is lost at each crossing in turn.
@@ -124,7 +127,7 @@ fn lost_at_each_crossing(rt: HostRuntime) -> Result<(), Fail> {
             _ => b"HP",
         };
         let last = Outcome::Lost((hop % 3) as u8);
-        compare_broken(&rt, &ring, (hop as usize - 1) / 3, last, paper);
+        compare_broken(&rt, &ring, (hop as usize - 1) / 3, last, paper)?;
         assert!(rt; same(ring.crossings(), hop), "{hop}");
     }
     Ok(())
@@ -146,8 +149,8 @@ fn altered_bytes(rt: HostRuntime) -> Result<(), Fail> {
         let printer: Box<dyn Device> = Box::new(alloc, Printer::new(alloc)?)?;
         let fault = Alter(1);
         let ring = print(&rt, controller(&rt, printer, &[Planned { hop, fault }])?);
-        let last = Outcome::Back(frame_of(&rt, back));
-        compare_broken(&rt, &ring, whole, last, paper);
+        let last = Outcome::Back(frame_of(back)?);
+        compare_broken(&rt, &ring, whole, last, paper)?;
     }
     Ok(())
 }
@@ -455,7 +458,8 @@ fn receives(rt: HostRuntime) -> Result<(), Fail> {
         let mut bytes = [0xFF; 3];
         assert!(rt; call.room <= bytes.len());
         let (ring, count) = receive(&rt, lost, call, &mut bytes[..call.room]);
-        compare_log(&rt, received(&rt, ring.log()), call.log, call.name);
+        let log = received(&rt, ring.log());
+        assert!(rt; is_log(log, call.log), "{}", call.name);
         compare_bytes(&rt, count.and_then(|count| bytes.get(..count)), call);
     }
     Ok(())
@@ -490,10 +494,10 @@ fn receive_lost_at_each_crossing(rt: HostRuntime) -> Result<(), Fail> {
             let (ring, came) = receive(&rt, lost, call, &mut [0]);
             assert!(rt; came.is_none() && same(ring.crossings(), hop), "{hop}");
             let (entry, before) = ring.log().split_last().expect(&rt, "an entry");
-            compare_log(&rt, received(&rt, before), want, text);
+            assert!(rt; is_log(received(&rt, before), want), "{text}");
             let lost_entry = Entry {
                 source,
-                frame: frame_of(&rt, text),
+                frame: frame_of(text)?,
                 outcome: Outcome::Lost((hop % 3) as u8),
             };
             assert!(rt; same(*entry, lost_entry), "{hop}");

@@ -2,8 +2,7 @@
 ghost use Rattle.std.specs.Prelude.{IfOk};
 
 use crate::checked_rows::is_read;
-use crate::plain::caller;
-use crate::tools::{frame_of, store, tape};
+use crate::tools::store;
 use arrayvec::ArrayVec;
 use il_device::{Device, Printer, Quiet};
 use il_ports::{MemoryMedium, Records, Trouble};
@@ -11,6 +10,7 @@ use il_record::LoopRecords;
 use il_ring::PlanFault::{Alter, Lose};
 use il_ring::{Planned, Ring};
 use il_same::same;
+use ring_rows::{caller, frame_of, tape};
 use std::process::Abort;
 use std::test::Fail;
 
@@ -99,7 +99,7 @@ fn compare_poll(
     let Ok(frame) = records.parallel_poll() else {
         return Err(Fail::from("a fault"));
     };
-    assert!(rt; same(frame, frame_of(rt, devices.poll)), "the poll");
+    assert!(rt; same(frame, frame_of(devices.poll)?), "the poll");
     Ok(())
 }
 
@@ -130,7 +130,7 @@ fn loop_of(
             before.push(device)?;
         }
     }
-    store(rt, tape(rt, 0, 0)?, before, after, plan)
+    store(rt, tape(alloc, 0, 0)?, before, after, plan)
 }
 
 /// Addresses the loop, asks for all IDs, and polls.

@@ -1,7 +1,7 @@
 // Runs of records over the loop, whole, with faults of frames, and with a medium that fails.
 ghost use Rattle.std.specs.Prelude.{IfOk};
 
-use crate::tools::{self, tape};
+use crate::tools;
 use il_device::{Device, Printer};
 use il_frames::Entry;
 use il_ports::{MemoryMedium, Records, Trouble};
@@ -9,6 +9,7 @@ use il_record::LoopRecords;
 use il_ring::PlanFault::{Alter, Lose};
 use il_ring::Planned;
 use il_same::same;
+use ring_rows::tape;
 use std::process::Abort;
 use std::test::Fail;
 
@@ -98,7 +99,7 @@ fn are_all(bytes: &[u8], byte: u8) -> bool {
 fn round_trip(rt: &(impl Abort + AllocGlobal), count: u16) -> Result<(), Fail> {
     assert!(rt; count >= 1 && count <= 3);
     let size = 256 * usize::from(count);
-    let mut records = store(rt, tape(rt, 0, 0)?, true, &[])?;
+    let mut records = store(rt, tape(rt.alloc(), 0, 0)?, true, &[])?;
     assert!(rt; same(resume(rt, &mut records), Ok(())), "resumed");
     assert!(rt; same(log(&records).len(), 11), "log of the resume");
     let bytes = [6; 768];
@@ -138,7 +139,7 @@ fn written_with(
     planned: Planned,
     image: &mut [u8; 512],
 ) -> Result<Result<(), Trouble>, Fail> {
-    let mut records = store(rt, tape(rt, 0, 0)?, false, &[planned])?;
+    let mut records = store(rt, tape(rt.alloc(), 0, 0)?, false, &[planned])?;
     assert!(rt; same(resume(rt, &mut records), Ok(())), "resumed");
     records.begin();
     let mut bytes = [1; 512];
@@ -203,7 +204,7 @@ fn faults_at_every_crossing(rt: HostRuntime) -> Result<(), Fail> {
 /// whole, the records before it stand, it holds what the medium left, and those behind it are as before.
 fn failing_write(rt: &(impl Abort + AllocGlobal), k: usize) -> Result<(), Fail> {
     assert!(rt; k >= 1 && k <= 3);
-    let mut records = store(rt, tape(rt, 0, k as u64)?, false, &[])?;
+    let mut records = store(rt, tape(rt.alloc(), 0, k as u64)?, false, &[])?;
     assert!(rt; same(resume(rt, &mut records), Ok(())), "resumed");
     records.begin();
     assert!(rt;
@@ -231,7 +232,7 @@ fn failing_write(rt: &(impl Abort + AllocGlobal), k: usize) -> Result<(), Fail> 
 /// status tells it.
 fn failing_read(rt: &(impl Abort + AllocGlobal), k: usize) -> Result<(), Fail> {
     assert!(rt; k >= 1 && k <= 3);
-    let mut records = store(rt, tape(rt, k as u64, 0)?, false, &[])?;
+    let mut records = store(rt, tape(rt.alloc(), k as u64, 0)?, false, &[])?;
     assert!(rt; same(resume(rt, &mut records), Ok(())), "resumed");
     records.begin();
     let mut into = [9; 768];
@@ -270,7 +271,7 @@ fn tells_the_status_once(rt: HostRuntime) -> Result<(), Fail> {
         hop: 57,
         fault: Lose,
     };
-    let mut records = store(&rt, tape(&rt, 1, 0)?, false, &[planned])?;
+    let mut records = store(&rt, tape(rt.alloc(), 1, 0)?, false, &[planned])?;
     assert!(rt; same(resume(&rt, &mut records), Ok(())), "resumed");
     let mut into = [9; 256];
     assert!(rt;

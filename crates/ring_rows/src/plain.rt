@@ -4,7 +4,7 @@ use il_device::{Kind, Plain};
 
 /// The kind with this accessory ID, which keeps no byte and wants service at every moment.
 #[derive(Drop)]
-pub(crate) struct Calling<const ID: u8>;
+pub struct Calling<const ID: u8>;
 
 impl<const ID: u8> Kind for Calling<ID> {
     ghost use Rattle.std.specs.Prelude.{Some, []};
@@ -36,11 +36,11 @@ impl<const ID: u8> Kind for Calling<ID> {
 }
 
 /// One with the accessory ID of a drive.
-pub(crate) fn second_drive() -> Plain<Calling<16>> {
+pub fn second_drive() -> Plain<Calling<16>> {
     Plain::of(Calling)
 }
 
 /// One with the accessory ID 5.
-pub(crate) fn caller() -> Plain<Calling<5>> {
+pub fn caller() -> Plain<Calling<5>> {
     Plain::of(Calling)
 }

@@ -4,8 +4,7 @@ ghost use Rattle.std.specs.Prelude.{◌≡◌, ◌≤◌};
 ghost use Rattle.il_ring.specs.Rings.{spare_of};
 ghost use Rattle.il_ring.specs.Lending.{leads};
 
-use crate::plain::second_drive;
-use crate::tools::{compare_log, frame_of, has_paper, tape};
+use crate::{frame_of, has_paper, is_log, second_drive, tape};
 use PlanFault::{Alter, Lose};
 use il_device::{Device, Printer, Quiet};
 use il_frames::{Class, Frame};
@@ -16,7 +15,7 @@ use il_same::{same, same_bytes};
 use std::process::Abort;
 use std::test::Fail;
 
-/// A day of the drive and a printer behind it, three links a round.
+/// A day of the drive and a printer after it, three links a round.
 pub(crate) struct Day {
     pub name: &'static str,
     /// The crossings at which something is planned.
@@ -32,7 +31,7 @@ pub(crate) struct Day {
 
 static DAYS: [Day; 18] = [
     Day {
-        name: "a command is lost behind the drive, and no fault is left",
+        name: "a command is lost after the drive, and no fault is left",
         plan: &[(2, Lose)],
         rounds: &[("IFC", "lost"), ("IFC", "IFC")],
         log: &["~ 0 IFC ! 2", "~ 0 IFC = IFC"],
@@ -78,7 +77,7 @@ static DAYS: [Day; 18] = [
         paper: b"BA",
     },
     Day {
-        name: "a byte altered behind the printer",
+        name: "a byte altered after the printer",
         plan: &[(9, Alter(3))],
         rounds: &[
             ("AAD 01", "AAD 03"),
@@ -95,7 +94,7 @@ static DAYS: [Day; 18] = [
         paper: b"A",
     },
     Day {
-        name: "a byte altered before and behind the printer is lost",
+        name: "a byte altered before and after the printer is lost",
         plan: &[(8, Alter(3)), (9, Alter(3))],
         rounds: &[
             ("AAD 01", "AAD 03"),
@@ -112,7 +111,7 @@ static DAYS: [Day; 18] = [
         paper: b"B",
     },
     Day {
-        name: "a byte altered before and behind the drive is lost",
+        name: "a byte altered before and after the drive is lost",
         plan: &[(7, Alter(1)), (8, Alter(2))],
         rounds: &[
             ("AAD 01", "AAD 03"),
@@ -333,10 +332,10 @@ static DAYS: [Day; 18] = [
     },
 ];
 
-/// Days of the drive, a printer and a second controller behind it, four links a round.
+/// Days of the drive, a printer and a second controller after it, four links a round.
 static GUEST_DAYS: [Day; 6] = [
     Day {
-        name: "a command is lost before the second controller, and behind it",
+        name: "a command is lost before the second controller, and after it",
         plan: &[(3, Lose), (7, Lose)],
         rounds: &[("IFC", "lost"), ("IFC", "lost"), ("IFC", "IFC")],
         log: &["~ 0 IFC ! 3", "~ 0 IFC ! 0", "~ 0 IFC = IFC"],
@@ -368,7 +367,7 @@ static GUEST_DAYS: [Day; 6] = [
         paper: b"",
     },
     Day {
-        name: "a byte altered before and behind the second controller is lost",
+        name: "a byte altered before and after the second controller is lost",
         plan: &[(11, Alter(3)), (12, Alter(3))],
         rounds: &[
             ("AAD 01", "AAD 04"),
@@ -445,8 +444,11 @@ static GUEST_DAYS: [Day; 6] = [
     },
 ];
 
-/// A ring of the rig, with room for 100 entries.
-fn ring_of(
+/// How many entries the log of a ring has room for.
+const ROOM: usize = 1000;
+
+/// A ring of the rig, which follows the plan.
+pub(crate) fn ring_of(
     rt: &(impl Abort + AllocGlobal),
     rig: Rig<MemoryMedium>,
     plan: &[Planned],
@@ -454,13 +456,13 @@ fn ring_of(
     assert!(rt; rig.fits());
     assert!(rt; is_plan(plan));
     assert!(rt; rig.medium.size() > 0);
-    Ring::new(rt.alloc(), rig, plan, 100)
+    Ring::new(rt.alloc(), rig, plan, ROOM)
         .ok()
         .expect(rt, "memory for a ring")
 }
 
 /// Whether a second controller controls the loop.
-fn is_led(ring: &Ring<MemoryMedium>) -> bool
+pub(crate) fn is_led(ring: &Ring<MemoryMedium>) -> bool
     ensures { result ≡ leads (⟦<Ring<MemoryMedium> as Seen<MemoryMedium>>⟧.seen ring.now).guest }
 {
     match ring.guest() {
@@ -470,7 +472,7 @@ fn is_led(ring: &Ring<MemoryMedium>) -> bool
 }
 
 /// The host sends a frame: any while it controls, and else IFC.
-fn send(rt: &impl Abort, ring: &mut Ring<MemoryMedium>, frame: Frame) -> Arrival
+pub(crate) fn send(rt: &impl Abort, ring: &mut Ring<MemoryMedium>, frame: Frame) -> Arrival
     requires { 32 ≤ spare_of (⟦<Ring<MemoryMedium> as Seen<MemoryMedium>>⟧.seen ring.old) }
 {
     assert!(rt; ring.held().is_none() || frame == Frame::new(Class::Rdy, 0x42));
@@ -480,7 +482,12 @@ fn send(rt: &impl Abort, ring: &mut Ring<MemoryMedium>, frame: Frame) -> Arrival
 
 /// One round: the frame that the host sends, or `relay` or `pass`, and the frame that arrives, or
 /// `lost`.
-fn go_round(rt: &impl Abort, ring: &mut Ring<MemoryMedium>, frame: &str, arrives: &str) {
+fn go_round(
+    rt: &impl Abort,
+    ring: &mut Ring<MemoryMedium>,
+    frame: &str,
+    arrives: &str,
+) -> Result<(), Fail> {
     assert!(rt; ring.spare() >= 32);
     let arrival = if frame == "relay" {
         assert!(rt; ring.held().is_some());
@@ -489,31 +496,50 @@ fn go_round(rt: &impl Abort, ring: &mut Ring<MemoryMedium>, frame: &str, arrives
         assert!(rt; ring.is_lent());
         ring.pass()
     } else {
-        send(rt, ring, frame_of(rt, frame))
+        send(rt, ring, frame_of(frame)?)
     };
     let want = if arrives == "lost" {
         Arrival::Lost
     } else {
-        Arrival::Frame(frame_of(rt, arrives))
+        Arrival::Frame(frame_of(arrives)?)
     };
     assert!(rt; same(arrival, want), "{frame}");
+    let leads = frame == "pass" || (frame == "TCT" && arrives != "TCT");
+    assert!(rt; same(ring.is_lent(), leads && arrives != "lost"), "{frame}");
+    Ok(())
+}
+
+/// These rounds, one after the other.
+fn go_rounds(
+    rt: &impl Abort,
+    ring: &mut Ring<MemoryMedium>,
+    rounds: &[(&str, &str)],
+) -> Result<(), Fail> {
+    for (frame, arrives) in rounds {
+        go_round(rt, ring, frame, arrives)?;
+    }
+    Ok(())
 }
 
 /// What the day left.
-fn compare_day(rt: &impl Abort, ring: &Ring<MemoryMedium>, day: &Day) {
+fn compare_day(rt: &impl Abort, ring: &Ring<MemoryMedium>, day: &Day) -> Result<(), Fail> {
     let name = day.name;
-    compare_log(rt, ring.log(), day.log, name);
+    assert!(rt; is_log(ring.log(), day.log), "{name}");
     assert!(rt;
-        same(100_usize.checked_sub(ring.spare()), Some(day.log.len())),
+        same(ROOM.checked_sub(ring.spare()), Some(day.log.len())),
         "{name}"
     );
     assert!(rt; same(ring.crossings(), day.crossings), "{name}");
-    let held = day.held.map(|text| frame_of(rt, text));
+    let held = match day.held {
+        Some(text) => Some(frame_of(text)?),
+        None => None,
+    };
     assert!(rt; same(ring.held(), held), "{name}");
     assert!(rt; has_paper(ring, day.paper), "{name}");
+    Ok(())
 }
 
-/// The ring behind the day, of the drive, a printer and this second controller, or none.
+/// The ring after the day, of the drive, a printer and this second controller, or none.
 pub(crate) fn live_through(
     rt: &(impl Abort + AllocGlobal),
     guest: Option<Guest>,
@@ -522,7 +548,7 @@ pub(crate) fn live_through(
     let alloc = rt.alloc();
     let printer: Box<dyn Device> = Box::new(alloc, Printer::new(alloc)?)?;
     let rig = Rig {
-        medium: tape(rt, 0, 0)?,
+        medium: tape(alloc, 0, 0)?,
         before: Vec::new(alloc),
         after: Vec::from_array(alloc, [printer])?,
         guest,
@@ -535,10 +561,8 @@ pub(crate) fn live_through(
         })?;
     }
     let mut ring = ring_of(rt, rig, &plan);
-    for (frame, arrives) in day.rounds {
-        go_round(rt, &mut ring, frame, arrives);
-    }
-    compare_day(rt, &ring, day);
+    go_rounds(rt, &mut ring, day.rounds)?;
+    compare_day(rt, &ring, day)?;
     Ok(ring)
 }
 
@@ -579,7 +603,7 @@ fn guest_of_thirty(rt: HostRuntime) -> Result<(), Fail> {
         after.push(quiet)?;
     }
     let mut rig = Rig {
-        medium: tape(&rt, 0, 0)?,
+        medium: tape(alloc, 0, 0)?,
         before: Vec::new(alloc),
         after,
         guest: Some(Guest::new(2)),
@@ -591,11 +615,10 @@ fn guest_of_thirty(rt: HostRuntime) -> Result<(), Fail> {
         same(ring.devices(), 30) && ring.paper().is_none(),
         "thirty"
     );
-    for (frame, arrives) in [("AAD 01", "IAA"), ("TAD 1E", "TAD 1E"), ("SAI", "SAI")] {
-        go_round(&rt, &mut ring, frame, arrives);
-    }
+    let rounds = [("AAD 01", "IAA"), ("TAD 1E", "TAD 1E"), ("SAI", "SAI")];
+    go_rounds(&rt, &mut ring, &rounds)?;
     let log = ["~ 0 AAD 01 = IAA", "~ 0 TAD 1E = TAD 1E", "~ 0 SAI = SAI"];
-    compare_log(&rt, ring.log(), &log, "a guest of thirty");
+    assert!(rt; is_log(ring.log(), &log), "a guest of thirty");
     assert!(rt; same(ring.crossings(), 3 * 31), "crossings");
     let mut rig = ring.into_rig();
     // It has an address and talks; and in control it makes no new ring either.
@@ -605,6 +628,26 @@ fn guest_of_thirty(rt: HostRuntime) -> Result<(), Fail> {
     assert!(rt; rig.fits());
     Ok(())
 }
+
+/// The drive is party 11 of thirty.
+static AMONG_THIRTY: [(&str, &str); 6] = [
+    ("AAD 01", "IAA"),
+    ("TAD 0B", "TAD 0B"),
+    ("SAI", "DAB 10"),
+    ("relay", "ETO"),
+    ("LAD 1E", "LAD 1E"),
+    ("DAB 41", "DAB 41"),
+];
+
+static AMONG_THIRTY_LOG: [&str; 7] = [
+    "~ 0 AAD 01 = IAA",
+    "~ 0 TAD 0B = TAD 0B",
+    "~ 0 SAI > 11",
+    "~ 11 DAB 10 = DAB 10",
+    "~ 11 ETO > 0",
+    "~ 0 LAD 1E = LAD 1E",
+    "~ 0 DAB 41 = DAB 41",
+];
 
 /// A loop as long as it may be: 29 devices beside the drive.
 #[test]
@@ -620,7 +663,7 @@ fn thirty_devices(rt: HostRuntime) -> Result<(), Fail> {
         }
     }
     let mut rig = Rig {
-        medium: tape(&rt, 0, 0)?,
+        medium: tape(alloc, 0, 0)?,
         before,
         after,
         guest: None,
@@ -628,37 +671,14 @@ fn thirty_devices(rt: HostRuntime) -> Result<(), Fail> {
     assert!(rt; !rig.fits());
     let _ = rig.after.pop();
     let mut ring = ring_of(&rt, rig, &[]);
-    assert!(rt;
-        same(ring.party(), 11) && ring.paper().is_none(),
-        "no printer"
-    );
-    let rounds = [
-        ("AAD 01", "IAA"),
-        ("TAD 0B", "TAD 0B"),
-        ("SAI", "DAB 10"),
-        ("relay", "ETO"),
-        ("LAD 1E", "LAD 1E"),
-        ("DAB 41", "DAB 41"),
-    ];
-    for (frame, arrives) in rounds {
-        go_round(&rt, &mut ring, frame, arrives);
-    }
-    let log = [
-        "~ 0 AAD 01 = IAA",
-        "~ 0 TAD 0B = TAD 0B",
-        "~ 0 SAI > 11",
-        "~ 11 DAB 10 = DAB 10",
-        "~ 11 ETO > 0",
-        "~ 0 LAD 1E = LAD 1E",
-        "~ 0 DAB 41 = DAB 41",
-    ];
-    compare_log(&rt, ring.log(), &log, "thirty devices");
+    assert!(rt; same(ring.party(), 11), "the drive");
+    assert!(rt; ring.paper().is_none(), "no printer");
+    go_rounds(&rt, &mut ring, &AMONG_THIRTY)?;
+    assert!(rt; is_log(ring.log(), &AMONG_THIRTY_LOG), "thirty devices");
     assert!(rt; same(ring.crossings(), 6 * 31), "crossings");
     ring.clear_log();
-    assert!(rt;
-        same(ring.spare(), 100) && same(ring.crossings(), 6 * 31),
-        "no log"
-    );
+    assert!(rt; same(ring.spare(), ROOM), "no log");
+    assert!(rt; same(ring.crossings(), 6 * 31), "crossings then");
     let rig = ring.into_rig();
     assert!(rt;
         same(rig.before.len(), 10) && same(rig.after.len(), 19),
@@ -670,7 +690,19 @@ fn thirty_devices(rt: HostRuntime) -> Result<(), Fail> {
     Ok(())
 }
 
-/// A printer stands before the drive, and another behind it. A second drive may not stand there.
+/// The first printer hears three bytes, the second the last of them.
+static PRINTED: [(&str, &str); 8] = [
+    ("AAD 01", "AAD 04"),
+    ("LAD 01", "LAD 01"),
+    ("DAB 48", "DAB 48"),
+    ("END 50", "END 50"),
+    ("LAD 03", "LAD 03"),
+    ("DAB 21", "DAB 21"),
+    ("UNL", "UNL"),
+    ("DAB 3F", "DAB 3F"),
+];
+
+/// A printer stands before the drive, and another after it. A second drive may not stand there.
 #[test]
 fn printer_first(rt: HostRuntime) -> Result<(), Fail> {
     let alloc = rt.alloc();
@@ -682,7 +714,7 @@ fn printer_first(rt: HostRuntime) -> Result<(), Fail> {
     after.push(second)?;
     after.push(drive)?;
     let mut rig = Rig {
-        medium: tape(&rt, 0, 0)?,
+        medium: tape(alloc, 0, 0)?,
         before,
         after,
         guest: None,
@@ -691,19 +723,7 @@ fn printer_first(rt: HostRuntime) -> Result<(), Fail> {
     let _ = rig.after.pop();
     let mut ring = ring_of(&rt, rig, &[]);
     assert!(rt; same(ring.party(), 2) && has_paper(&ring, b""), "a printer");
-    let rounds = [
-        ("AAD 01", "AAD 04"),
-        ("LAD 01", "LAD 01"),
-        ("DAB 48", "DAB 48"),
-        ("END 50", "END 50"),
-        ("LAD 03", "LAD 03"),
-        ("DAB 21", "DAB 21"),
-        ("UNL", "UNL"),
-        ("DAB 3F", "DAB 3F"),
-    ];
-    for (frame, arrives) in rounds {
-        go_round(&rt, &mut ring, frame, arrives);
-    }
+    go_rounds(&rt, &mut ring, &PRINTED)?;
     assert!(rt; has_paper(&ring, b"HP!"), "the paper of the first");
     assert!(rt; same(ring.medium().size(), 512), "the tape on the ring");
     let rig = ring.into_rig();

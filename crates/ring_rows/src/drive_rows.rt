@@ -1,6 +1,6 @@
 // What the drive answers to each frame, and what it puts on the tape.
 
-use crate::tools::{frame_of, tape_of};
+use crate::{frame_of, tape_of};
 use il_device::Out;
 use il_drive::Drive;
 use il_frames::{Class, Frame};
@@ -21,12 +21,17 @@ fn answer_to(frame: Frame, text: &[u8]) -> Option<Out> {
 }
 
 /// Sends each frame to the drive, and compares its answer.
-fn talk(rt: &impl Abort, drive: &mut Drive<MemoryMedium>, lines: &[(&str, &str)]) {
+fn talk(
+    rt: &impl Abort,
+    drive: &mut Drive<MemoryMedium>,
+    lines: &[(&str, &str)],
+) -> Result<(), Fail> {
     for (text, answer) in lines {
-        let frame = frame_of(rt, text);
+        let frame = frame_of(text)?;
         let want = answer_to(frame, answer.as_bytes()).expect(rt, "an answer");
         assert!(rt; same(drive.take(frame), want), "{text}");
     }
+    Ok(())
 }
 
 /// A drive at address 1 over a tape whose record 0 holds the bytes 0 to 255, record 1 bytes 11 hex
@@ -41,10 +46,10 @@ fn drive_with(
         bytes[usize::from(byte)] = byte;
     }
     let image = Vec::from_array(rt.alloc(), bytes)?;
-    let medium = tape_of(rt, image, read, write, 0xFE)?;
+    let medium = tape_of(rt.alloc(), image, read, write, 0xFE)?;
     assert!(rt; medium.size() > 0);
     let mut drive = Drive::new(medium);
-    talk(rt, &mut drive, &[("AAD 01", "> AAD 02")]);
+    talk(rt, &mut drive, &[("AAD 01", "> AAD 02")])?;
     Ok(drive)
 }
 
@@ -163,7 +168,7 @@ const COMMANDS: [(&str, &[(&str, &str)]); 15] = [
         ],
     ),
     (
-        "DDT 2: the record, and NRD behind its second byte",
+        "DDT 2: the record, and NRD after its second byte",
         &[
             ("LAD 01", "="),
             ("DDL 07", "="),
@@ -308,7 +313,7 @@ const COMMANDS: [(&str, &[(&str, &str)]); 15] = [
         ],
     ),
     (
-        "the last record is read, and none behind it",
+        "the last record is read, and none after it",
         &[
             ("LAD 01", "="),
             ("DDL 04", "="),
@@ -334,7 +339,7 @@ const COMMANDS: [(&str, &[(&str, &str)]); 15] = [
         ],
     ),
     (
-        "DDL 6 behind the last record; SDC clears the status, and SAI is answered by 16",
+        "DDL 6 after the last record; SDC clears the status, and SAI is answered by 16",
         &[
             ("LAD 01", "="),
             ("DDL 04", "="),
@@ -399,7 +404,7 @@ const MEETINGS: [(&str, &[(&str, &str)]); 6] = [
         ],
     ),
     (
-        "DCL with an own frame on the loop: the transmission ends behind its echo",
+        "DCL with an own frame on the loop: the transmission ends after its echo",
         &[
             ("TAD 01", "="),
             ("DDT 02", "="),
@@ -438,7 +443,7 @@ const MEETINGS: [(&str, &[(&str, &str)]); 6] = [
         ],
     ),
     (
-        "put behind the last record, by DDL 8",
+        "put after the last record, by DDL 8",
         &[
             ("LAD 01", "="),
             ("DDL 04", "="),
@@ -476,7 +481,7 @@ fn every_command(rt: HostRuntime) -> Result<(), Fail> {
     for (what, lines) in COMMANDS.iter().chain(MEETINGS.iter()) {
         let mut drive = drive_with(&rt, 0, 0)?;
         assert!(rt; !drive.roles().talks, "{what}");
-        talk(&rt, &mut drive, lines);
+        talk(&rt, &mut drive, lines)?;
     }
     Ok(())
 }
@@ -520,7 +525,7 @@ const CLEARED: [(u64, &[(&str, &str)]); 2] = [
 fn faults_are_cleared(rt: HostRuntime) -> Result<(), Fail> {
     for (read, lines) in CLEARED {
         let mut drive = drive_with(&rt, read, 0)?;
-        talk(&rt, &mut drive, lines);
+        talk(&rt, &mut drive, lines)?;
         assert!(rt; same(drive.status(), 0), "{read}");
     }
     Ok(())
@@ -555,7 +560,7 @@ fn records_are_put(rt: HostRuntime) -> Result<(), Fail> {
         ("DAB 03", "="),
         ("DDL 02", "="),
     ];
-    talk(&rt, &mut drive, &seek);
+    talk(&rt, &mut drive, &seek)?;
     hear(&rt, &mut drive, 256, 0xA3);
     hear(&rt, &mut drive, 256, 0xA4);
     assert!(rt;
@@ -564,7 +569,7 @@ fn records_are_put(rt: HostRuntime) -> Result<(), Fail> {
     );
     assert!(rt; same(drive.status(), 0), "no fault");
     hear(&rt, &mut drive, 255, 0xA5);
-    talk(&rt, &mut drive, &FAILING);
+    talk(&rt, &mut drive, &FAILING)?;
     assert!(rt;
         holds(&drive, 5, 0xFE) && holds(&drive, 6, 0),
         "records 5 and 6"
@@ -581,7 +586,7 @@ fn records_are_put(rt: HostRuntime) -> Result<(), Fail> {
 }
 
 #[test]
-fn a_record_is_put_behind_the_last(rt: HostRuntime) -> Result<(), Fail> {
+fn a_record_is_put_after_the_last(rt: HostRuntime) -> Result<(), Fail> {
     let mut drive = drive_with(&rt, 0, 0)?;
     let seek = [
         ("LAD 01", "="),
@@ -590,7 +595,7 @@ fn a_record_is_put_behind_the_last(rt: HostRuntime) -> Result<(), Fail> {
         ("DAB FF", "="),
         ("DDL 02", "="),
     ];
-    talk(&rt, &mut drive, &seek);
+    talk(&rt, &mut drive, &seek)?;
     hear(&rt, &mut drive, 256, 0xA1);
     hear(&rt, &mut drive, 255, 0xA2);
     assert!(rt; same(drive.status(), 0), "no fault");
@@ -598,7 +603,7 @@ fn a_record_is_put_behind_the_last(rt: HostRuntime) -> Result<(), Fail> {
         &rt,
         &mut drive,
         &[("DAB A2", "> DSR A2"), ("DAB A3", "> DSR A3")],
-    );
+    )?;
     assert!(rt; same(drive.status(), 3), "no such record");
     assert!(rt; holds(&drive, 511, 0xA1), "the last record");
     Ok(())
