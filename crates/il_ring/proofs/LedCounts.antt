@@ -120,10 +120,10 @@ pub record IsMeasure (k : ℕ) (measure : Entry → ℕ) (more : ℕ) (holds : O
 abbrev IsOut : Flight → Entry → Type 0
 IsOut f x = (x ≡ entry f.source f.sent (outcome.Taken 0)) ⊎ (x ≡ entry f.source f.sent (outcome.Lost 0))
 
-at_host : (f : Flight) → 1 ≤ f.source → ended_at f 0 ≡ entry f.source f.sent (outcome.Taken 0)
+pub at_host : (f : Flight) → 1 ≤ f.source → ended_at f 0 ≡ entry f.source f.sent (outcome.Taken 0)
 at_host f some = ap (λ own. entry f.source f.sent (if own then outcome.Back f.now else outcome.Taken 0)) (ne_eqb f.source 0 (λ same. omega (arith, same, some)))
 
-at_party : (k : ℕ) (f : Flight) → f.source < k → ended_at f k ≡ entry f.source f.sent (outcome.Taken k)
+pub at_party : (k : ℕ) (f : Flight) → f.source < k → ended_at f k ≡ entry f.source f.sent (outcome.Taken k)
 at_party k f within = ap (λ own. entry f.source f.sent (if own then outcome.Back f.now else outcome.Taken k)) (ne_eqb f.source k (λ same. omega (arith, same, within)))
 
 own_out : (k : ℕ) (measure : Entry → ℕ) (more : ℕ) (holds : Option ℕ → ℕ) (x : Entry) (f : Frame) → IsMeasure k measure more holds → IsOut (sourced k f) x → measure x ≡ more

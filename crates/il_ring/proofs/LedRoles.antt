@@ -55,7 +55,7 @@ use Rattle.il_ring.specs.LedAdds.{standing}
 use Rattle.il_ring.specs.Lending.{IsLed, LedTrip, StandsLent, StandsUnder, books_led, entry_where, going_on, led, led_answers, led_home, leads, lent_home}
 use Rattle.il_ring.specs.Rings.{RingView, Round, arrived, arriving, books_at, comes, devices_of, home, over_last_link, roles_of}
 use Rattle.il_ring.specs.Rounded.{IsAwaited, IsReady}
-use Rattle.il_ring.specs.Turned.{Halves, NothingCame, SomeCame, StandsNot, books_anew, goes_out, is_aad, is_on, keeps_then, own_roles, ring_before_last, turned, turned_entries, turned_entry, turned_flight}
+use Rattle.il_ring.specs.Turned.{Halves, NothingCame, SomeCame, StandsNot, books_anew, goes_out, is_auto_address, is_on, keeps_then, own_roles, ring_before_last, turned, turned_entries, turned_entry, turned_flight}
 use Rattle.il_ring.proofs.CountSteps.{hit_same}
 use Rattle.il_ring.proofs.Fates.{passes_so}
 use Rattle.il_ring.proofs.Passing.{Carries, Exactly, AsData}
@@ -73,7 +73,7 @@ use Rattle.il_ring.proofs.LedDoes.{Does, HasLast, IsDev, all_said, does_append, 
 
 -- the message goes on as it is
 fits : Message → Bool
-fits m = is_exact m && not (is_aad m)
+fits m = is_exact m && not (is_auto_address m)
 
 abbrev RowsFit : List Row → Type 0
 RowsFit [] = Unit {0}
@@ -106,7 +106,7 @@ commands_say (command.Unt a) = command_fits (byte_of (command_frame (command.Unt
 -- a data or end frame
 record SaysData (m : Message) : Type 0 where
   keeps : changes_roles m ≡ false
-  no_aad : is_aad m ≡ false
+  no_aad : is_auto_address m ≡ false
   spoken : is_spoken m ≡ true
 
 says_data : (k : Class) (byte : ℕ) → is_data_class k ≡ true → SaysData (message_at k byte)
@@ -290,7 +290,7 @@ module _ {M : Type 0} (view : M → MediumView) (r s : RingView M) (f : Flight) 
 
   record Known : Type 0 where
     carries : f.source ≡ 0 → Carries (message_of f.sent) f.now
-    no_aad : is_aad (message_of f.sent) ≡ false
+    no_aad : is_auto_address (message_of f.sent) ≡ false
     quiet : 1 ≤ f.source → IsQuiet f
     spoken : 1 ≤ f.source → is_spoken (message_of f.sent) ≡ true
     kind : IsOwnFrame ⊎ IsLetGo
@@ -305,10 +305,10 @@ module _ {M : Type 0} (view : M → MediumView) (r s : RingView M) (f : Flight) 
       let source : f.source ≡ 0 = own_source f.source (ap (λ (f : Flight). f.source) same) within in
       let sent : f.sent ≡ m = ap (λ (f : Flight). f.sent) same in
       let now : f.now ≡ m = ap (λ (f : Flight). f.now) same in
-      let parts = and_parts (is_exact (message_of m)) (not (is_aad (message_of m))) fit in
+      let parts = and_parts (is_exact (message_of m)) (not (is_auto_address (message_of m))) fit in
       record {
         carries = λ none. Exactly (ap (λ f. is_exact (message_of f)) sent ∙ parts.0) (ap message_of (now ∙ sym sent));
-        no_aad = ap (λ f. is_aad (message_of f)) sent ∙ not-true (is_aad (message_of m)) parts.1;
+        no_aad = ap (λ f. is_auto_address (message_of f)) sent ∙ not-true (is_auto_address (message_of m)) parts.1;
         quiet = λ some. absurd (omega (arith, some, source));
         spoken = λ some. absurd (omega (arith, some, source));
         kind = inl (record { source = source; other = ap is_data now ∙ other });

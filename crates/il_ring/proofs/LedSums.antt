@@ -16,7 +16,8 @@ use Rattle.il_ring.proofs.LedCounts.{led_counts}
 use Rattle.il_ring.proofs.LedRoles.{led_roles}
 use Rattle.il_ring.proofs.LedSends.{pass_halves, pass_led}
 
-others_are : {M : Type 0} (r : RingView M) (boxed : List DeviceState) (last : DeviceState) → r.after ≡ boxed ++ last ∷ [] → others_of r ≡ r.before ++ device_of r.drive.state ∷ boxed
+-- the devices before the last
+pub others_are : {M : Type 0} (r : RingView M) (boxed : List DeviceState) (last : DeviceState) → r.after ≡ boxed ++ last ∷ [] → others_of r ≡ r.before ++ device_of r.drive.state ∷ boxed
 others_are r boxed last after =
     let front : List DeviceState = r.before ++ device_of r.drive.state ∷ boxed in
     let all : devices_of r ≡ front ++ last ∷ [] = ap (λ after. r.before ++ device_of r.drive.state ∷ after) after ∙ sym (append_assoc r.before (device_of r.drive.state ∷ boxed) (last ∷ [])) in

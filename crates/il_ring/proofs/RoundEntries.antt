@@ -32,7 +32,7 @@ use Rattle.il_ring.specs.Flights.{hit, lost_at, ended_at}
 use Rattle.il_ring.specs.Books.{BooksView}
 use Rattle.il_ring.specs.Journeys.{Trip, trip_of, answered, Meets, Reaches, Journey}
 use Rattle.il_ring.specs.Rings.{RingView, Round, books_at, comes, devices_of, home, over_last_link}
-use Rattle.il_ring.specs.Turned.{is_on, is_aad, gives_no_address, own_roles_entry, own_roles}
+use Rattle.il_ring.specs.Turned.{is_on, is_auto_address, gives_no_address, own_roles_entry, own_roles}
 use Rattle.il_ring.proofs.CountSteps.{hit_same}
 use Rattle.il_ring.proofs.RoundCounts.{round_journey}
 use Rattle.il_ring.proofs.TurnedCounts.{on_back, on_taken, on_lost}
@@ -42,7 +42,7 @@ pub record TellsRound (n : ℕ) (f : Flight) (entries : List Entry) : Type 0 whe
   -- they are entries of that ring
   pub on : list_all (is_on n) entries ≡ true
   -- none of them gives an address, where the frame of f does not
-  pub addresses : is_aad (message_of f.sent) ≡ false → list_all gives_no_address entries ≡ true
+  pub addresses : is_auto_address (message_of f.sent) ≡ false → list_all gives_no_address entries ≡ true
   -- all but the host's own are spoken: data and end frames, ETO and ETE
   pub said : f.source ≡ 0 → list_all (λ e. is_spoken (message_of e.frame) || (e.source == 0)) entries ≡ true
   -- all are, where the frame of f is
@@ -261,7 +261,7 @@ told_own n (e ∷ es) r told =
     ap (λ r. own_roles r es) (own_stays r e (leb-true 1 e.source more.0)) ∙ told_own n es r parts.1
 
 device_gives_none : (e : Entry) → 1 ≤ e.source → gives_no_address e ≡ true
-device_gives_none e from = ap (λ b. not (b && is_aad (message_of e.frame))) (ne_eqb e.source 0 (λ same. omega (arith, same, from)))
+device_gives_none e from = ap (λ b. not (b && is_auto_address (message_of e.frame))) (ne_eqb e.source 0 (λ same. omega (arith, same, from)))
 
 no_aad : (b aad : Bool) → aad ≡ false → not (b && aad) ≡ true
 no_aad true aad none = ap not none
@@ -278,7 +278,7 @@ first_and_rest n f first rest of_f told =
     record {
       on = and_from (is_on n first) (list_all (is_on n) rest) of_f.on (told_all n (is_on n) rest (λ e from on says. on) told);
       addresses = λ none.
-          and_from (gives_no_address first) (list_all gives_no_address rest) (no_aad (first.source == 0) (is_aad (message_of first.frame)) (ap is_aad says ∙ none))
+          and_from (gives_no_address first) (list_all gives_no_address rest) (no_aad (first.source == 0) (is_auto_address (message_of first.frame)) (ap is_auto_address says ∙ none))
           (told_all n gives_no_address rest (λ e from on says. device_gives_none e from) told);
       said = λ host.
           and_from (is_spoken (message_of first.frame) || (first.source == 0)) (list_all (λ e. is_spoken (message_of e.frame) || (e.source == 0)) rest)

@@ -18,7 +18,7 @@ use Rattle.loop_model.specs.Reach.{is_reached, crossed, links_of, came_to, bring
 use Rattle.loop_model.specs.Roles.{roles_by, passed_on, roles_along, roles_after_entry, roles_after}
 use Rattle.loop_model.specs.Leading.{handed_or_back, controller_after_entry, controller_after, roles_led_entry, roles_led}
 use Rattle.loop_model.proofs.TalkLaws.{length-roles_after}
-use Rattle.il_ring.specs.Turned.{turned, turned_outcome, turned_entry, turned_entries, ends_on, is_on, is_aad, gives_no_address, own_roles_entry, own_roles}
+use Rattle.il_ring.specs.Turned.{turned, turned_outcome, turned_entry, turned_entries, ends_on, is_on, is_auto_address, gives_no_address, own_roles_entry, own_roles}
 
 -- ---- entries of a ring
 
@@ -207,7 +207,7 @@ reached_as n k p (outcome.Lost zero) size ends some within = grind (arith, nat_t
 reached_as n k p (outcome.Lost (suc q)) size ends some within = grind (arith, nat_tests)
 
 -- a message that gives no address goes on as it is
-goes_same : (m : Message) (r : Roles) → is_aad m ≡ false → passed_on m r ≡ m
+goes_same : (m : Message) (r : Roles) → is_auto_address m ≡ false → passed_on m r ≡ m
 goes_same (msg.Aad a) r none = cc
 goes_same m r none = refl
 
@@ -215,7 +215,7 @@ same_where : (b : Bool) (m n : Message) → n ≡ m → (if b then n else m) ≡
 same_where true m n same = same
 same_where false m n same = refl
 
-on_same : (b : Bool) (m : Message) (r : Roles) → is_aad m ≡ false → (if b then passed_on m r else m) ≡ m
+on_same : (b : Bool) (m : Message) (r : Roles) → is_auto_address m ≡ false → (if b then passed_on m r else m) ≡ m
 on_same b m r none = same_where b m (passed_on m r) (goes_same m r none)
 
 -- the last party, behind those whose roles are these
@@ -223,7 +223,7 @@ at_last : (k j : ℕ) (o : Outcome) (m : Message) (r : Roles) → j ≡ k → ro
 at_last k j o m r here = ap (λ b. (if b then roles_by m r else r) ∷ []) (ap (is_reached k o) here ∙ own_reached k o)
 
 -- the devices from party j on, and the last party behind them
-along_last : (k j : ℕ) (o own : Outcome) (m : Message) (rs : List Roles) (r : Roles) → is_aad m ≡ false → j + length rs ≡ k → ((p : ℕ) → j ≤ p → p < k → is_reached k o p ≡ is_reached 0 own p)
+along_last : (k j : ℕ) (o own : Outcome) (m : Message) (rs : List Roles) (r : Roles) → is_auto_address m ≡ false → j + length rs ≡ k → ((p : ℕ) → j ≤ p → p < k → is_reached k o p ≡ is_reached 0 own p)
     → roles_along k o j m (rs ++ r ∷ []) ≡ roles_along 0 own j m rs ++ roles_by m r ∷ []
 along_last k j o own m [] r none size same = at_last k j o m r (omega (arith, size))
 along_last k j o own m (x ∷ rs) r none size same =
@@ -269,7 +269,7 @@ roles_at : (k source : ℕ) (f : Frame) (o : Outcome) (rs : List Roles) (r : Rol
     → roles_led_entry k (rs ++ r ∷ []) (entry (turned k source) f (turned_outcome k o)) ≡ roles_after_entry rs (entry source f o) ++ own_roles_entry r (entry source f o) ∷ []
 roles_at k zero f o rs r size on ends none =
     led_own k (rs ++ r ∷ []) f (turned_outcome k o)
-    ∙ along_last k 1 (turned_outcome k o) o (message_of f) rs r (not-true (is_aad (message_of f)) none) (omega (arith, size))
+    ∙ along_last k 1 (turned_outcome k o) o (message_of f) rs r (not-true (is_auto_address (message_of f)) none) (omega (arith, size))
     (λ p from less. reached_as (length rs) k p o size ends from (omega (arith, less, size)))
 roles_at k (suc p) f o rs r size on ends none =
     let stay =

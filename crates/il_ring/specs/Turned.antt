@@ -66,13 +66,13 @@ abbrev pub is_on : ℕ → Entry → Bool
 is_on n e = nat_le e.source n && ends_on n e.source e.outcome
 
 -- the message gives an address to a device that has none
-abbrev pub is_aad : Message → Bool
-is_aad (msg.Aad a) = true
-is_aad m = false
+abbrev pub is_auto_address : Message → Bool
+is_auto_address (msg.Aad a) = true
+is_auto_address m = false
 
 -- the entry is no such message of the host
 abbrev pub gives_no_address : Entry → Bool
-gives_no_address e = not ((e.source == 0) && is_aad (message_of e.frame))
+gives_no_address e = not ((e.source == 0) && is_auto_address (message_of e.frame))
 
 -- what the host itself, as one that has roles, does with them at an entry: it takes its own messages as the devices do
 abbrev pub own_roles_entry : Roles → Entry → Roles
