@@ -97,7 +97,7 @@ module _ {M : Type 0} (view : M → MediumView) (k last : ℕ) (own : Option ℕ
   said_other (command.Tad a) = refl
   said_other (command.Unt a) = refl
 
-  command_due : (more : List ℕ) (c : Command) → (rest : List Entry) × (from_command k (asked view k last own base) more c [] [] ≡ returned k (command_frame c) ∷ rest)
+  pub command_due : (more : List ℕ) (c : Command) → (rest : List Entry) × (from_command k (asked view k last own base) more c [] [] ≡ returned k (command_frame c) ∷ rest)
   command_due more command.Nop = (_, refl)
   command_due more (command.Unl a) = (_, refl)
   command_due more (command.Tad a) = (_, refl)
@@ -109,7 +109,7 @@ module _ {M : Type 0} (view : M → MediumView) (k last : ℕ) (own : Option ℕ
   command_goes more (command.Tad a) now later = refl
   command_goes more (command.Unt a) now later = refl
 
-  ready_due : (more : List ℕ) (c : Command) → (rest : List Entry) × (from_ready k (asked view k last own base) more c [] [] ≡ returned k rfc ∷ rest)
+  pub ready_due : (more : List ℕ) (c : Command) → (rest : List Entry) × (from_ready k (asked view k last own base) more c [] [] ≡ returned k rfc ∷ rest)
   ready_due more command.Nop = (_, refl)
   ready_due more (command.Unl a) = (_, refl)
   ready_due more (command.Tad a) = (_, refl)

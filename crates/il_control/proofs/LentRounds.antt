@@ -26,7 +26,7 @@ Passed view r answer s =
     (held : Option Flight) → (f : Flight) → r.books.lent ≡ Some (turned_flight (length (devices_of r)) f) → f.source < length (devices_of r) → Halves view (going_on r) held f answer s
 
 -- a device's flight is the same to both
-turned_same : (k : ℕ) (f : Flight) → 1 ≤ f.source → turned_flight k f ≡ f
+pub turned_same : (k : ℕ) (f : Flight) → 1 ≤ f.source → turned_flight k f ≡ f
 turned_same k f some = ap (λ source. record f { source = source }) (by f.source some)
   where
     by : (p : ℕ) → 1 ≤ p → turned k p ≡ p

@@ -2,19 +2,13 @@
 use Rattle.std.specs.Prelude.{◌≡◌, ◌⊎◌, ◌||◌, ◌==◌, nat_le, ℕ, zero, suc, Bool, true, false, List, [], ◌∷◌, Option, Some, None}
 use Rattle.il_frames.specs.declared.frame.Frame.{Frame}
 use Rattle.il_frames.specs.declared.entry.Entry.{Entry}
-use Rattle.il_frames.specs.declared.message.Message.{Message}
-use Rattle.il_frames.specs.declared.message.Message.TheVariants as msg
 use Rattle.il_frames.specs.Frames.{is_data, with_service}
 use Rattle.il_frames.specs.Messages.{message_of}
 use Rattle.il_frames.specs.NamedFrames.{aad, ddl, rfc}
 use Rattle.loop_model.specs.Exchanges.{Echo}
 use Rattle.loop_model.specs.Reach.{brings_to}
 use Rattle.il_ring.specs.Journeys.{is_exact, is_identify}
-
--- the message is an auto address
-abbrev pub is_auto_address : Message → Bool
-is_auto_address (msg.Aad a) = true
-is_auto_address m = false
+pub use Rattle.il_ring.specs.Turned.{is_auto_address}
 
 -- How a frame that was sent so comes to party q where no fault acts on it: a data or end frame with any service bit, AAD 1
 -- with the number of the party, an identify frame with any bits, and any other as it was sent.

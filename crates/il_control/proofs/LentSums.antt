@@ -1,0 +1,369 @@
+-- What a lent ring added since it was lent, and which frame is under way: the sums of its passes, as its second controller polls.
+use Rattle.std.proofs.Common.{◌≡◌, ◌∙◌, ◌<◌, ◌+◌, ◌++◌, ◌==◌, ◌&&◌, ◌⊎◌, inl, inr, ⊎_elim, nat_lt, ℕ, zero, suc, Bool, true, false, not, cond, flat_map, List, [], ◌∷◌, Option, Some, None, length, sum_by, refl, sym, ap, subst, arith, append_assoc, append-nil, length-append}
+use Rattle.std.specs.Prelude.{if◌then◌else◌}
+use Rattle.std.specs.List.{list_all}
+use Rattle.std.proofs.lemmas.Bool.{and_from, and_parts, ne_eqb, not-true}
+use Rattle.std.proofs.lemmas.List.{append_cancel_left}
+use Rattle.std.proofs.lemmas.List.Folds.{list_all-append}
+use Rattle.std.proofs.lemmas.List.Sums.{sum_by-append}
+use Rattle.il_frames.specs.declared.entry.Entry.{Entry}
+use Rattle.il_frames.specs.declared.entry.Outcome.{Outcome}
+use Rattle.il_frames.specs.declared.entry.Outcome.TheVariants as outcome
+use Rattle.il_frames.specs.declared.frame.Frame.{Frame}
+use Rattle.il_frames.specs.Frames.{is_data}
+use Rattle.il_frames.specs.Messages.{message_of}
+use Rattle.il_frames.specs.NamedFrames.{entry, is_frame, nrd, rfc, tad, unl, unt}
+use Rattle.il_device.specs.declared.roles.Roles.{Roles}
+use Rattle.il_device.specs.State.{DeviceState, risen, risen_by}
+use Rattle.il_device.specs.Takes.{eto}
+use Rattle.il_drive.specs.State.{device_of}
+use Rattle.il_ports.specs.Media.{MediumView}
+use Rattle.loop_model.specs.Exchanges.{Answer, NotTaken, ToItsEnd, Stopped, Exchange, Receive, Sst, Break, FrameLost, HostAltered, TalkerAltered, answer_entries, break_entries, commanded, echoed, entries_of, is_answer, returned, start_frame}
+use Rattle.loop_model.specs.Leading.{are_commands_led, controller_after, handed_or_back, roles_led}
+use Rattle.loop_model.specs.Reach.{brings_to, links_of}
+use Rattle.loop_model.proofs.LeadingLaws.{are_commands_led-append, controller_after-append, roles_led-append}
+use Rattle.il_guest.specs.declared.control.Place.{Place}
+use Rattle.il_guest.specs.declared.control.Place.TheVariants as place
+use Rattle.il_guest.specs.Frames.{nop, sst}
+use Rattle.il_guest.specs.Rounds.{addresses}
+use Rattle.il_guest.specs.Steps.{command_frame}
+use Rattle.il_ring.specs.declared.flight.Flight.{Flight}
+use Rattle.il_ring.specs.Flights.{sourced}
+use Rattle.il_ring.specs.LedAdds.{AllTookSince, IsUnderWay, LedAdds, others_of, standing}
+use Rattle.il_ring.specs.Lending.{going_on}
+use Rattle.il_ring.specs.Lends.{RoundsEnd, AtHost, BreaksOff, ByteLost, all_asked, end_entries, held_entries, is_one_status, rounds_asked, rounds_entries}
+use Rattle.il_ring.specs.Remaining.{BeginRounds, from_byte, from_command, from_ready, from_start}
+use Rattle.il_ring.specs.Rings.{RingView, devices_of, roles_of}
+use Rattle.il_ring.specs.Rounded.{IsAwaited}
+use Rattle.il_ring.proofs.Remaining.{none_told}
+use Rattle.il_control.specs.Receives.{IsHolding}
+use Rattle.il_control.proofs.LentPolls.{EndsSo, own_echo, own_echo-is}
+use Rattle.il_control.proofs.LentRings.{own_ring}
+use Rattle.il_ring.proofs.LedSums.{others_are}
+use Rattle.il_control.proofs.LentRounds.{turned_same}
+use Rattle.il_control.proofs.LentTelling.{within}
+use Rattle.il_control.proofs.LentWalks.{BrokeOff, Polling, StandsSo, yet_at}
+use Rattle.il_control.proofs.Relaying.{awaited}
+
+-- ---- which frame is under way
+
+-- the devices before the last are those of the ring that a second controller has
+others_own : {M : Type 0} (r : RingView M) (boxed : List DeviceState) (last : DeviceState) (held : Option Flight) → r.after ≡ boxed ++ last ∷ [] → others_of r ≡ devices_of (own_ring boxed held (going_on r))
+others_own r boxed last held after = others_are r boxed last after
+
+-- a frame that is held is awaited
+held_awaits : {M : Type 0} (m : RingView M) (h : IsHolding m) (f : Flight) → h.flight ≡ f → IsAwaited 0 f (devices_of m)
+held_awaits m h f is =
+    subst (λ f. IsAwaited 0 f (devices_of m)) is
+    (⊎_elim (λ host. let no : ⊥ = omega (arith, host, h.talking.party) in absurd no) (λ waits. waits) (awaited h.flight.source h.own h.flight (devices_of m) refl h.stood.data_frame h.talking))
+
+some_same : (f g : Flight) → Some f ≡ Some g → f ≡ g
+some_same f g same = ap (λ o. elim o [ Some h ↦ h | None ↦ f ]) same
+
+module _ {M : Type 0} (view : M → MediumView) (k last : ℕ) (own : Option ℕ) (base : List Entry) (r : RingView M) (arrived : ℕ) (old : Polling view k last own base r arrived) where
+  abbrev UnderWay : Type 0
+  UnderWay = (f : Flight) × IsUnderWay r f
+
+  many_some : 0 < length (devices_of r)
+  many_some =
+      let all = length-append r.before (device_of r.drive.state ∷ r.after) in
+      omega (arith, all)
+
+  nothing_kept : r.books.kept ≡ None → (h : Flight) → r.books.kept ≡ Some h → IsAwaited 0 h (others_of r)
+  nothing_kept none h is = let clash = sym none ∙ is in cc
+
+  -- a frame of its own stands at the host
+  own_way : (f : Frame) → r.books.lent ≡ Some (sourced k f) → ((h : Flight) → r.books.kept ≡ Some h → IsAwaited 0 h (others_of r)) → UnderWay
+  own_way f lent kept = (
+    sourced 0 f,
+    record {
+      stands = lent ∙ ap (λ k. Some (sourced k f)) (sym old.many);
+      within = many_some;
+      ready = inl refl;
+      kept = kept;
+    },
+  )
+
+  way_at : (p : Place) → old.place ≡ p → UnderWay
+  way_at (place.Command c) at =
+      let stands = subst (λ p. StandsSo view k last own base p r old.boxed old.entries) at old.stands in
+      own_way (command_frame c) stands.2.lent_is (nothing_kept stands.2.kept_is)
+  way_at (place.Ready c) at =
+      let stands = subst (λ p. StandsSo view k last own base p r old.boxed old.entries) at old.stands in
+      own_way rfc stands.2.lent_is (nothing_kept stands.2.kept_is)
+  way_at (place.Start a) at =
+      let stands = subst (λ p. StandsSo view k last own base p r old.boxed old.entries) at old.stands in
+      own_way sst stands.2.lent_is (nothing_kept stands.2.kept_is)
+  way_at (place.Held a d) at =
+      let stands = subst (λ p. StandsSo view k last own base p r old.boxed old.entries) at old.stands in
+      let flight = stands.2.flight in
+      let m = own_ring old.boxed (Some flight) (going_on r) in
+      let others = others_own r old.boxed old.device (Some flight) old.after in
+      own_way nrd stands.2.lent_is
+      (λ h is. subst (λ ds. IsAwaited 0 h ds) (sym others) (held_awaits m stands.2.holding h (stands.2.holding_is ∙ some_same flight h (sym stands.2.kept_is ∙ is))))
+  way_at (place.Relayed a d) at =
+      let stands = subst (λ p. StandsSo view k last own base p r old.boxed old.entries) at old.stands in
+      let flight = stands.2.flight in
+      let m = own_ring old.boxed (Some flight) (going_on r) in
+      let others = others_own r old.boxed old.device (Some flight) old.after in
+      let on = within view k last own base r old.boxed old.device flight old.after old.many stands.2.holding stands.2.holding_is in (
+        flight,
+        record {
+          stands = stands.2.lent_is ∙ ap (λ f. Some f) (sym (turned_same (length (devices_of r)) flight on.0));
+          within = omega (arith, on.1, old.many);
+          ready = inr (subst (λ ds. IsAwaited 0 flight ds) (sym others) (held_awaits m stands.2.holding flight stands.2.holding_is));
+          kept = nothing_kept stands.2.kept_is;
+        },
+      )
+
+  -- at every moment of polling the frames that are under way are awaited
+  pub under_way : (f : Flight) × IsUnderWay r f
+  under_way = way_at old.place refl
+
+-- ---- what was added since
+
+-- The ring q became r, and the log grew by these entries, behind which the same party controls. With what stands on the ring they count
+-- for the links that were crossed, for the frames that came to each device, and for the roles; what stood at first was counted then.
+pub record LentSince {M : Type 0} (q r : RingView M) (entries : List Entry) : Type 0 where
+  pub log : r.books.log ≡ q.books.log ++ entries
+  pub size : length (devices_of r) ≡ length (devices_of q)
+  pub stays : controller_after (length (devices_of q)) entries ≡ length (devices_of q)
+  pub commands : are_commands_led (length (devices_of q)) entries ≡ true
+  pub links : ℕ
+  pub crossings : r.books.crossings ≡ risen_by links q.books.crossings
+  pub linked :
+      links + sum_by (links_of (length (devices_of q))) (standing (length (devices_of q)) q.books)
+      ≡ sum_by (links_of (length (devices_of q))) (entries ++ standing (length (devices_of q)) r.books)
+  pub frames :
+      AllTookSince (length (devices_of q)) (standing (length (devices_of q)) q.books)
+      (entries ++ standing (length (devices_of q)) r.books) 0 (devices_of q) (devices_of r)
+  pub roles :
+      (before : List Roles) → roles_of (devices_of q) ≡ roles_led (length (devices_of q)) before (standing (length (devices_of q)) q.books)
+      → roles_of (devices_of r) ≡ roles_led (length (devices_of q)) before (entries ++ standing (length (devices_of q)) r.books)
+
+-- counts rise one behind the other
+risen_twice : (a b n : ℕ) → risen_by (a + b) n ≡ risen_by b (risen_by a n)
+risen_twice zero b n = let e : zero + b ≡ b = omega arith in ap (λ k. risen_by k n) e
+risen_twice (suc a) b n = let e : suc a + b ≡ suc (a + b) = omega arith in ap (λ k. risen_by k n) e ∙ risen_twice a b (risen n)
+
+-- what stood between is counted once
+sum_twice : (f : Entry → ℕ) (a b : ℕ) (before first between second after : List Entry) → a + sum_by f before ≡ sum_by f (first ++ between) → b + sum_by f between ≡ sum_by f (second ++ after)
+    → (a + b) + sum_by f before ≡ sum_by f ((first ++ second) ++ after)
+sum_twice f a b before first between second after one more =
+    let at = sum_by-append f first between in
+    let last = sum_by-append f second after in
+    let all = sum_by-append f (first ++ second) after in
+    let both = sum_by-append f first second in
+    omega (arith, one, more, at, last, all, both)
+
+took_none : (k j : ℕ) (before : List Entry) (ds : List DeviceState) → AllTookSince k before before j ds ds
+took_none k j before [] = tt
+took_none k j before (d ∷ ds) = ((0, refl, omega arith), took_none k (j + 1) before ds)
+
+took_twice : (k j : ℕ) (before first between second after : List Entry) (ds es fs : List DeviceState) → AllTookSince k before (first ++ between) j ds es → AllTookSince k between (second ++ after) j es fs
+    → AllTookSince k before ((first ++ second) ++ after) j ds fs
+took_twice k j before first between second after [] [] [] one more = tt
+took_twice k j before first between second after [] [] (f ∷ fs) one more = more
+took_twice k j before first between second after [] (e ∷ es) fs one more = absurd one
+took_twice k j before first between second after (d ∷ ds) [] fs one more = absurd one
+took_twice k j before first between second after (d ∷ ds) (e ∷ es) [] one more = absurd more
+took_twice k j before first between second after (d ∷ ds) (e ∷ es) (f ∷ fs) one more =
+    let a = one.0.0 in
+    let b = more.0.0 in (
+      (
+        a + b,
+        more.0.1 ∙ ap (risen_by b) one.0.1 ∙ sym (risen_twice a b d.frames),
+        sum_twice (λ x. cond (brings_to k (j + 1) x) 1 0) a b before first between second after one.0.2 more.0.2,
+      ),
+      took_twice k (j + 1) before first between second after ds es fs one.1 more.1,
+    )
+
+-- entries of which none is the host's leave control where it is
+pub control_stays : (k : ℕ) (entries : List Entry) → list_all (λ e. not (e.source == 0)) entries ≡ true → controller_after k entries ≡ k
+control_stays k [] others = refl
+control_stays k (e ∷ entries) others =
+    let parts = and_parts (not (e.source == 0)) (list_all (λ e. not (e.source == 0)) entries) others in
+    ap (λ b. controller_after (if b then handed_or_back k e.outcome (message_of e.frame) else k) entries) (not-true (e.source == 0) parts.0) ∙ control_stays k entries parts.1
+
+-- at first nothing was added
+pub since_none : {M : Type 0} (q : RingView M) → LentSince q q []
+since_none q = record {
+  log = sym (append-nil q.books.log);
+  size = refl;
+  stays = refl;
+  commands = refl;
+  links = 0;
+  crossings = refl;
+  linked = omega arith;
+  frames = took_none (length (devices_of q)) 0 (standing (length (devices_of q)) q.books) (devices_of q);
+  roles = λ before stood. stood;
+}
+
+-- a pass adds to it
+pub since_more : {M : Type 0} (q r s : RingView M) (entries : List Entry) → LentSince q r entries → (adds : LedAdds r s) → controller_after (length (devices_of r)) adds.counts.entries ≡ length (devices_of r)
+    → LentSince q s (entries ++ adds.counts.entries)
+since_more q r s entries since adds stays =
+    let new : List Entry = adds.counts.entries in
+    let k : ℕ = length (devices_of q) in
+    let size : length (devices_of r) ≡ k = since.size in
+    let stays_then : controller_after k new ≡ k = subst (λ k. controller_after k new ≡ k) size stays in
+    let commands : are_commands_led k new ≡ true = subst (λ k. are_commands_led k new ≡ true) size adds.commands in
+    let linked = subst (λ k. adds.counts.links + sum_by (links_of k) (standing k r.books) ≡ sum_by (links_of k) (new ++ standing k s.books)) size adds.counts.linked in
+    let frames = subst (λ k. AllTookSince k (standing k r.books) (new ++ standing k s.books) 0 (devices_of r) (devices_of s)) size adds.counts.frames in
+    let roles = subst (λ k. (before : List Roles) → roles_of (devices_of r) ≡ roles_led k before (standing k r.books) → roles_of (devices_of s) ≡ roles_led k before (new ++ standing k s.books)) size adds.roles in
+    record {
+      log = adds.counts.log ∙ ap (λ log. log ++ new) since.log ∙ append_assoc q.books.log entries new;
+      size = adds.counts.size ∙ size;
+      stays = controller_after-append k entries new ∙ ap (λ c. controller_after c new) since.stays ∙ stays_then;
+      commands =
+          are_commands_led-append k entries new
+          ∙ and_from (are_commands_led k entries) (are_commands_led (controller_after k entries) new) since.commands (ap (λ c. are_commands_led c new) since.stays ∙ commands);
+      links = since.links + adds.counts.links;
+      crossings = adds.counts.crossings ∙ ap (risen_by adds.counts.links) since.crossings ∙ sym (risen_twice since.links adds.counts.links q.books.crossings);
+      linked = sum_twice (links_of k) since.links adds.counts.links (standing k q.books) entries (standing k r.books) new (standing k s.books) since.linked linked;
+      frames = took_twice k 0 (standing k q.books) entries (standing k r.books) new (standing k s.books) (devices_of q) (devices_of r) (devices_of s) since.frames frames;
+      roles = λ before stood.
+          let between : roles_of (devices_of r) ≡ roles_led k (roles_led k before entries) (standing k r.books) =
+          since.roles before stood ∙ roles_led-append k before entries (standing k r.books) ∙ ap (λ c. roles_led c (roles_led k before entries) (standing k r.books)) since.stays in
+          roles (roles_led k before entries) between
+          ∙ sym (ap (λ c. roles_led c (roles_led k before entries) (new ++ standing k s.books)) since.stays)
+          ∙ sym (roles_led-append k before entries (new ++ standing k s.books))
+          ∙ ap (λ es. roles_led k before es) (sym (append_assoc entries new (standing k s.books)));
+    }
+
+-- ---- control stays while the rounds go on
+
+abbrev is_theirs : Entry → Bool
+is_theirs e = not (e.source == 0)
+
+abbrev are_theirs : List Entry → Bool
+are_theirs entries = list_all is_theirs entries
+
+module _ (k : ℕ) (guest : (k == 0) ≡ false) where
+  -- the entries of rounds are party k's and its talkers'
+  own_theirs : (f : Frame) (o : Outcome) (more : List Entry) → are_theirs more ≡ true → are_theirs (entry k f o ∷ more) ≡ true
+  own_theirs f o more all = and_from (not (k == 0)) (are_theirs more) (ap not guest) all
+
+  command_theirs : (f : Frame) (more : List Entry) → are_theirs more ≡ true → are_theirs (commanded k f ++ more) ≡ true
+  command_theirs f more all = own_theirs f (outcome.Back f) (returned k rfc ∷ more) (own_theirs rfc (outcome.Back rfc) more all)
+
+  answer_theirs : (answer : Answer) → is_one_status k answer ≡ true → (more : List Entry) → are_theirs more ≡ true → are_theirs (answer_entries k (start_frame Sst) answer ++ more) ≡ true
+  answer_theirs NotTaken one more all = own_theirs (start_frame Sst) (outcome.Back (start_frame Sst)) more all
+  answer_theirs (ToItsEnd p data_frames) one more all = cc
+  answer_theirs (Stopped p (d ∷ data_frames) last) one more all = cc
+  answer_theirs (Stopped p [] last) one more all =
+      let party = (and_parts (not (p == 0)) (nat_lt p k && is_answer k (Stopped p [] last)) one).0 in
+      own_theirs (start_frame Sst) (outcome.Taken p) (returned k nrd ∷ echoed p last ∷ entry p eto (outcome.Taken k) ∷ more)
+      (own_theirs nrd (outcome.Back nrd) (echoed p last ∷ entry p eto (outcome.Taken k) ∷ more)
+      (and_from (not (p == 0)) (are_theirs (entry p eto (outcome.Taken k) ∷ more)) party (and_from (not (p == 0)) (are_theirs more) party all)))
+
+  status_theirs : (a : ℕ) (answer : Answer) → is_one_status k answer ≡ true → (more : List Entry) → are_theirs more ≡ true → are_theirs (entries_of k (Receive a None Sst answer) ++ more) ≡ true
+  status_theirs a answer one more all =
+      ap are_theirs (append_assoc (commanded k unl ++ commanded k (tad a)) (answer_entries k (start_frame Sst) answer ++ commanded k unt) more)
+      ∙ command_theirs unl (commanded k (tad a) ++ ((answer_entries k (start_frame Sst) answer ++ commanded k unt) ++ more))
+      (command_theirs (tad a) ((answer_entries k (start_frame Sst) answer ++ commanded k unt) ++ more)
+      (ap are_theirs (append_assoc (answer_entries k (start_frame Sst) answer) (commanded k unt) more) ∙ answer_theirs answer one (commanded k unt ++ more) (command_theirs unt more all)))
+
+  asked_theirs : (asked : List ℕ) (answers : List Answer) → list_all (is_one_status k) answers ≡ true → (more : List Exchange) → are_theirs (flat_map (entries_of k) more) ≡ true → are_theirs (flat_map (entries_of k) (all_asked asked answers ++ more)) ≡ true
+  asked_theirs [] answers ones more all = all
+  asked_theirs (a ∷ asked) [] ones more all = status_theirs a NotTaken refl (flat_map (entries_of k) (all_asked asked [] ++ more)) (asked_theirs asked [] refl more all)
+  asked_theirs (a ∷ asked) (answer ∷ answers) ones more all =
+      let parts = and_parts (is_one_status k answer) (list_all (is_one_status k) answers) ones in
+      status_theirs a answer parts.0 (flat_map (entries_of k) (all_asked asked answers ++ more)) (asked_theirs asked answers parts.1 more all)
+
+  rounds_theirs : (asked : List ℕ) (answers : List (List Answer)) → list_all (λ round. list_all (is_one_status k) round) answers ≡ true → are_theirs (rounds_entries k asked answers) ≡ true
+  rounds_theirs asked [] ones = refl
+  rounds_theirs asked (round ∷ answers) ones =
+      let parts = and_parts (list_all (is_one_status k) round) (list_all (λ round. list_all (is_one_status k) round) answers) ones in
+      command_theirs nop (flat_map (entries_of k) (all_asked asked round ++ rounds_asked asked answers)) (asked_theirs asked round parts.0 (rounds_asked asked answers) (rounds_theirs asked answers parts.1))
+
+  -- so are those that stand, and what ends them
+  begun_theirs : (asked : List ℕ) (entries : List Entry) (yet : List ℕ) (goes : List Answer → List (List Answer) → List Entry) → BeginRounds k asked entries yet goes → are_theirs entries ≡ true
+  begun_theirs asked entries yet goes begun =
+      let all = begun [] [] (none_told k yet) (refl, refl) in
+      let whole : are_theirs (entries ++ goes [] []) ≡ true = ap are_theirs (sym all.2) ∙ rounds_theirs asked all.0 all.1.0 in
+      (and_parts (are_theirs entries) (are_theirs (goes [] [])) (sym (list_all-append is_theirs entries (goes [] [])) ∙ whole)).0
+
+  held_theirs : (due : Entry) (more rest : List Entry) → are_theirs more ≡ true → are_theirs rest ≡ true → are_theirs (held_entries k due more ++ rest) ≡ true
+  held_theirs due [] rest all then_all = then_all
+  held_theirs due (next ∷ more) rest all then_all = by (is_frame due.frame nrd)
+    where
+      by : (b : Bool) → are_theirs ((elim b [ true ↦ entry next.source next.frame (outcome.Taken k) ∷ [] | false ↦ [] ]) ++ rest) ≡ true
+      by true = and_from (is_theirs next) (are_theirs rest) (and_parts (is_theirs next) (are_theirs more) all).0 then_all
+      by false = then_all
+
+  end_theirs : (due : Entry) (more : List Entry) (end : RoundsEnd) → is_theirs due ≡ true → are_theirs more ≡ true → are_theirs (end_entries k due more end) ≡ true
+  end_theirs due more AtHost one all = held_theirs due more (entry due.source due.frame (outcome.Taken 0) ∷ []) all (and_from (is_theirs due) true one refl)
+  end_theirs due more (BreaksOff b) one all = held_theirs due more (break_entries due b) all (by b)
+    where
+      by : (b : Break) → are_theirs (break_entries due b) ≡ true
+      by (FrameLost q) = and_from (is_theirs due) true one refl
+      by (HostAltered f) = and_from (is_theirs due) true one refl
+      by (TalkerAltered f o) = and_from (is_theirs due) (is_theirs due && true) one (and_from (is_theirs due) true one refl)
+  end_theirs due [] (ByteLost q) one all = refl
+  end_theirs due (next ∷ more) (ByteLost q) one all = and_from (is_theirs next) true (and_parts (is_theirs next) (are_theirs more) all).0 refl
+
+  ends_theirs : (asked : List ℕ) (entries tail : List Entry) (end : RoundsEnd) → EndsSo k asked entries tail end → are_theirs (entries ++ tail) ≡ true
+  ends_theirs asked entries tail end so =
+      let whole : are_theirs (entries ++ so.due ∷ so.more) ≡ true = ap are_theirs (sym so.rounds) ∙ rounds_theirs asked so.all so.rounds_are.0 in
+      let parts = and_parts (are_theirs entries) (are_theirs (so.due ∷ so.more)) (sym (list_all-append is_theirs entries (so.due ∷ so.more)) ∙ whole) in
+      let due = and_parts (is_theirs so.due) (are_theirs so.more) parts.1 in
+      list_all-append is_theirs entries tail ∙ and_from (are_theirs entries) (are_theirs tail) parts.0 (ap are_theirs so.tail_is ∙ end_theirs so.due so.more end due.0 due.1)
+
+module _ {M : Type 0} (view : M → MediumView) (k last : ℕ) (own : Option ℕ) (base : List Entry) where
+  no_host : (r : RingView M) → length (devices_of r) ≡ k → (k == 0) ≡ false
+  no_host r many =
+      let all = length-append r.before (device_of r.drive.state ∷ r.after) in
+      ne_eqb k 0 (λ e. omega (arith, e, many, all))
+
+  -- what stands in the log at every moment of polling is none of the host's
+  pub polling_theirs : (r : RingView M) (arrived : ℕ) (old : Polling view k last own base r arrived) → list_all (λ e. not (e.source == 0)) old.entries ≡ true
+  polling_theirs r arrived old = by old.place refl
+    where
+      by : (p : Place) → old.place ≡ p → are_theirs old.entries ≡ true
+      by (place.Command c) at =
+          let stands = subst (λ p. StandsSo view k last own base p r old.boxed old.entries) at old.stands in
+          begun_theirs k (no_host r old.many) (addresses own last) old.entries (yet_at view k last own base c stands.0) (from_command k (addresses own last) stands.0 c) stands.2.begun
+      by (place.Ready c) at =
+          let stands = subst (λ p. StandsSo view k last own base p r old.boxed old.entries) at old.stands in
+          begun_theirs k (no_host r old.many) (addresses own last) old.entries (yet_at view k last own base c stands.0) (from_ready k (addresses own last) stands.0 c) stands.2.begun
+      by (place.Start a) at =
+          let stands = subst (λ p. StandsSo view k last own base p r old.boxed old.entries) at old.stands in
+          begun_theirs k (no_host r old.many) (addresses own last) old.entries (a ∷ stands.0) (from_start k (addresses own last) stands.0) stands.2.begun
+      by (place.Held a d) at =
+          let stands = subst (λ p. StandsSo view k last own base p r old.boxed old.entries) at old.stands in
+          let flight = stands.2.flight in
+          let bytes = subst (λ (f : Flight). is_data f.sent ≡ true) stands.2.holding_is stands.2.holding.data_frame in
+          begun_theirs k (no_host r old.many) (addresses own last) old.entries stands.0 (λ now later. returned k nrd ∷ from_byte k (addresses own last) stands.0 flight.source (own_echo flight.sent) now later)
+          (stands.2.begun flight.sent (own_echo-is flight.sent bytes))
+      by (place.Relayed a d) at =
+          let stands = subst (λ p. StandsSo view k last own base p r old.boxed old.entries) at old.stands in
+          let flight = stands.2.flight in
+          let bytes = subst (λ (f : Flight). is_data f.sent ≡ true) stands.2.holding_is stands.2.holding.data_frame in
+          begun_theirs k (no_host r old.many) (addresses own last) old.entries stands.0 (from_byte k (addresses own last) stands.0 flight.source (own_echo flight.sent)) (stands.2.begun flight.sent (own_echo-is flight.sent bytes))
+
+  -- nor where the rounds broke off
+  pub broken_theirs : (s : RingView M) (arrived : ℕ) (off : BrokeOff view k last own base s arrived) → (k == 0) ≡ false → list_all (λ e. not (e.source == 0)) (off.entries ++ off.tail) ≡ true
+  broken_theirs s arrived off guest = ends_theirs k guest (addresses own last) off.entries off.tail off.end off.ends
+
+  -- a pass leaves control to the second controller
+  pub pass_stays : (r s : RingView M) (arrived then_arrived : ℕ) (old : Polling view k last own base r arrived) → Polling view k last own base s then_arrived ⊎ BrokeOff view k last own base s then_arrived → (new : List Entry) → s.books.log ≡ r.books.log ++ new
+      → controller_after (length (devices_of r)) new ≡ length (devices_of r)
+  pass_stays r s arrived then_arrived old next new log =
+      subst (λ k. controller_after k new ≡ k) (sym old.many)
+      (⊎_elim
+      (λ (goes : Polling view k last own base s then_arrived). by goes.entries goes.log (polling_theirs s then_arrived goes))
+      (λ (off : BrokeOff view k last own base s then_arrived). by (off.entries ++ off.tail) off.log (broken_theirs s then_arrived off (no_host r old.many)))
+      next)
+    where
+      by : (entries : List Entry) → s.books.log ≡ base ++ entries → are_theirs entries ≡ true → controller_after k new ≡ k
+      by entries log_then theirs =
+          let same : entries ≡ old.entries ++ new =
+          append_cancel_left base entries (old.entries ++ new) (sym log_then ∙ log ∙ ap (λ log. log ++ new) old.log ∙ append_assoc base old.entries new) in
+          let parts = and_parts (are_theirs old.entries) (are_theirs new) (sym (list_all-append is_theirs old.entries new) ∙ ap are_theirs (sym same) ∙ theirs) in
+          control_stays k new parts.1
+
+  -- so a pass of the rounds adds to what was added
+  pub since_pass : (q r s : RingView M) (arrived then_arrived : ℕ) (entries : List Entry) → LentSince q r entries → Polling view k last own base r arrived → Polling view k last own base s then_arrived ⊎ BrokeOff view k last own base s then_arrived → (adds : LedAdds r s)
+      → LentSince q s (entries ++ adds.counts.entries)
+  since_pass q r s arrived then_arrived entries since old next adds = since_more q r s entries since adds (pass_stays r s arrived then_arrived old next adds.counts.entries adds.counts.log)
