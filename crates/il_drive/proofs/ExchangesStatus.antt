@@ -1,5 +1,5 @@
 -- The status poll as one exchange, and what ends a talker.
-use Rattle.std.proofs.Common.{◌≡◌, ◌≤◌, ◌++◌, ℕ, true, false, List, [], ◌∷◌, refl, ◌+◌, ap, subst, ◌∙◌}
+use Rattle.std.proofs.Common.{◌≡◌, ◌≤◌, ◌++◌, ℕ, true, false, List, [], ◌∷◌, refl, ap, subst, ◌∙◌}
 use Rattle.std.specs.Prelude.{Some, None}
 use Rattle.il_ports.specs.Media.{MediumView}
 use Rattle.il_frames.specs.declared.frame.Class.TheVariants as class

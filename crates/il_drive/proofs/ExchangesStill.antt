@@ -141,6 +141,10 @@ abbrev pub NoneListens : List Frame → Type 0
 NoneListens [] = Unit {0}
 NoneListens (f ∷ fs) = (makes_listener (message_of f) ≡ false) × NoneListens fs
 
+roles_behind-deaf : (fs : List Frame) (r : Roles) → NoneListens fs → r.listens ≡ false → (roles_behind fs r).listens ≡ false
+roles_behind-deaf [] r none deaf = deaf
+roles_behind-deaf (f ∷ fs) r none deaf = roles_behind-deaf fs (roles_after r (message_of f)) none.1 (still_mute r (message_of f) none.0 deaf)
+
 abbrev pub NonePuts : List Frame → Type 0
 NonePuts [] = Unit {0}
 NonePuts (f ∷ fs) = (may_put (message_of f) ≡ false) × NonePuts fs
@@ -213,6 +217,10 @@ module _ {M : Type 0} (view : M → MediumView) where
   roles-ran (f ∷ fs) [] v w ran = absurd ran
   roles-ran (f ∷ fs) (out ∷ outs) v w ran =
       roles-ran fs outs ran.0 w ran.2 ∙ ap (roles_behind fs) (roles-did (view v.medium).record_count v.state ran.0.state f out v.medium ran.0.medium ran.1)
+
+  -- a drive that does not listen, and is told by none of these frames to listen, does not listen then
+  pub deaf-ran : (fs : List Frame) (outs : List Out) (v w : DriveView M) → v.state.interface.roles.listens ≡ false → NoneListens fs → Ran view v fs outs w → w.state.interface.roles.listens ≡ false
+  deaf-ran fs outs v w deaf none ran = ap (λ (r : Roles). r.listens) (roles-ran fs outs v w ran) ∙ roles_behind-deaf fs v.state.interface.roles none deaf
 
   -- a frame that puts no record leaves every record
   still-did : (n : ℕ) (s t : DriveState) (f : Frame) (out : Out) (m m₂ : M) → (may_put (message_of f) && s.interface.roles.listens) ≡ false → Did view (table.drive_step n s f) (t, out) m m₂ → IsStill (view m) (view m₂)

@@ -18,3 +18,4 @@ pub mod ExchangesStill
 pub mod ExchangesReading
 pub mod ExchangesOthers
 pub mod ExchangesIdentity
+pub mod Mild

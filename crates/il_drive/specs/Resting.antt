@@ -1,6 +1,6 @@
 -- What exchanges find of the drive and leave of it and its medium: a drive at rest between two exchanges, records that were
 -- written, a seek, and a reading.
-use Rattle.std.specs.Prelude.{◌≡◌, ℕ, false, List, Option, Some, None, is_some}
+use Rattle.std.specs.Prelude.{◌≡◌, ◌⊎◌, ℕ, Bool, true, false, List, Option, Some, None, is_some}
 use Rattle.lif_model.specs.Stops.{Elapses}
 use Rattle.lif_model.specs.Transfers.{PartlyReplaced}
 use Rattle.il_ports.specs.Inserting.{OthersAreKept}
@@ -8,7 +8,9 @@ use Rattle.il_ports.specs.Media.{MediumView, KeepsIn}
 use Rattle.il_frames.specs.declared.frame.Class.TheVariants as class
 use Rattle.il_frames.specs.declared.frame.Frame.{Frame}
 use Rattle.il_frames.specs.Frames.{framed}
+use Rattle.il_device.specs.declared.interface.OwnFrame.{OwnFrame}
 use Rattle.il_drive.specs.declared.mode.Mode.TheVariants as mode
+use Rattle.il_drive.specs.declared.mode.Start.{Start}
 use Rattle.il_drive.specs.State.{DriveState, DriveView, status_of}
 use Rattle.il_drive.specs.Steps.{IsStill}
 
@@ -49,3 +51,15 @@ module _ {M : Type 0} (view : M → MediumView) where
     pub position : w.state.position ≡ k
     pub buffer_0 : w.state.buffer_0 ≡ v.state.buffer_0
     pub medium : w.medium ≡ v.medium
+
+-- ---- a drive that is asked for its name or its status alone
+
+-- nothing, or the one frame that answers this while it talks
+abbrev pub OneByte : Start → Option OwnFrame → Start → Bool → Type 0
+OneByte what None by talks = Unit {0}
+OneByte what (Some own) by talks = (own.last ≡ true) × (by ≡ what) × (talks ≡ true)
+
+-- The drive heeds no data, since it does not listen or awaits nothing, and sends so.
+pub record IsMildFor (what : Start) (s : DriveState) : Type 0 where
+  pub deaf : (s.interface.roles.listens ≡ false) ⊎ (s.mode ≡ mode.Rest)
+  pub sends : OneByte what s.interface.own s.begun s.interface.roles.talks

@@ -41,7 +41,7 @@ last_of [] d = refl
 last_of (x ∷ []) d = refl
 last_of (x ∷ y ∷ ds) d = last_of (y ∷ ds) d
 
-tct_hit : (fault : Option PlanFault) (at : Flight) → hit fault (sourced 0 tct) ≡ Some at → at ≡ sourced 0 tct
+pub tct_hit : (fault : Option PlanFault) (at : Flight) → hit fault (sourced 0 tct) ≡ Some at → at ≡ sourced 0 tct
 tct_hit None at came = sym (ap (λ o. elim o [ Some g ↦ g | None ↦ at ]) came)
 tct_hit (Some fault) at came = let clash = sym (plain_hit fault (sourced 0 tct) refl) ∙ came in cc
 
@@ -61,18 +61,18 @@ module _ {M : Type 0} (view : M → MediumView) (r s : RingView M) (answer : Arr
   went = goes_past (Is tct) Any (Obeys (message_of tct)) (plain_passes tct refl) r.books.plan 1 r.books.crossings r.books.log (sourced 0 tct) front front_then round.at_last (any_each 1 front) refl (led_to_last view r s (sourced 0 tct) answer round)
 
   module _ (g h : GuestState) (is : round.guest ≡ Some g) (next : round.guest_then ≡ Some h) where
-    passage : GuestReaches r.books.plan k round.at_last r.books.kept round.at_last.flight g round.behind h
+    pub passage : GuestReaches r.books.plan k round.at_last r.books.kept round.at_last.flight g round.behind h
     passage = subst (λ later. LastPassage r.books.plan k round.at_last r.books.kept (Some g) round.behind later) next (subst (λ guest. LastPassage r.books.plan k round.at_last r.books.kept guest round.behind round.guest_then) is round.past_last)
 
-    host : g.control ≡ control.Host
+    pub host : g.control ≡ control.Host
     host = subst IsUnderHost (round.mind ∙ ap guest_mind is) under
 
-    talks : g.device.roles.talks ≡ true
+    pub talks : g.device.roles.talks ≡ true
     talks =
         let after = round.after ∙ ap (λ guest. round.boxed ++ guest_devices guest) is in
         sym (last_of round.boxed g.device) ∙ ap last_talks (sym after) ∙ (and_parts (is_some r.guest) (last_talks r.after) (and_parts (is_frame tct tct) (is_some r.guest && last_talks r.after) over).1).1
 
-    many : k ≡ length front + 1
+    pub many : k ≡ length front + 1
     many =
         let all = led_party view r s (sourced 0 tct) answer round g is in
         let own = length-append r.before (device_of r.drive.state ∷ round.boxed) in

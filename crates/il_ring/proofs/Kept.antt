@@ -59,7 +59,7 @@ same_heard turn.Begin room heard byte count e = (refl, refl)
 same_heard (turn.Identify id) room heard byte count e = (refl, refl)
 same_heard (turn.Compare own) room heard byte count e = (refl, refl)
 
-takes_keeps : (d e : DeviceState) (f : Frame) (out : Out) → Takes d f out e → Keeps d e
+pub takes_keeps : (d e : DeviceState) (f : Frame) (out : Out) → Takes d f out e → Keeps d e
 takes_keeps d e f out takes = record {
   accessory = takes.accessory;
   room = takes.room;
@@ -68,7 +68,7 @@ takes_keeps d e f out takes = record {
       (takes.heard ∙ same.0, takes.heard_count ∙ same.1);
 }
 
-stays_keeps : (d e : DeviceState) → e ≡ d → Keeps d e
+pub stays_keeps : (d e : DeviceState) → e ≡ d → Keeps d e
 stays_keeps d e is = record {
   accessory = ap (λ (d : DeviceState). d.accessory) is;
   room = ap (λ (d : DeviceState). d.room) is;

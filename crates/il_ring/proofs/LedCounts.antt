@@ -117,7 +117,7 @@ pub record IsMeasure (k : ℕ) (measure : Entry → ℕ) (more : ℕ) (holds : O
   pub home_lost : (p : ℕ) (f : Frame) → 1 ≤ p → p < k → measure (entry p f (outcome.Lost 0)) ≡ holds (Some p) + more
 
 -- the entry of this frame behind the last link
-abbrev IsOut : Flight → Entry → Type 0
+abbrev pub IsOut : Flight → Entry → Type 0
 IsOut f x = (x ≡ entry f.source f.sent (outcome.Taken 0)) ⊎ (x ≡ entry f.source f.sent (outcome.Lost 0))
 
 pub at_host : (f : Flight) → 1 ≤ f.source → ended_at f 0 ≡ entry f.source f.sent (outcome.Taken 0)
@@ -140,10 +140,10 @@ module _ {M : Type 0} (r s : RingView M) where
   of_all = length (devices_of r)
 
   -- the entries, with those of what stands then
-  record Put (es xs : List Entry) : Type 0 where
-    entries : List Entry
-    log : s.books.log ≡ r.books.log ++ entries
-    all : entries ++ standing of_all s.books ≡ es ++ xs
+  pub record Put (es xs : List Entry) : Type 0 where
+    pub entries : List Entry
+    pub log : s.books.log ≡ r.books.log ++ entries
+    pub all : entries ++ standing of_all s.books ≡ es ++ xs
 
   not_put : (answer : Arrival) (es last : List Entry) (kept : Option Flight) (n : ℕ) → StandsNot r es kept last n answer s → Put es (entry_where of_all kept ++ last)
   not_put answer es last kept n ends = record {
@@ -155,13 +155,13 @@ module _ {M : Type 0} (r s : RingView M) where
   }
 
   -- a frame went out
-  record WentOut (es : List Entry) (kept : Option Flight) (f : Flight) (n : ℕ) : Type 0 where
-    last : Entry
-    is_out : IsOut f last
-    put : Put es (entry_where of_all kept ++ last ∷ [])
-    crossings : s.books.crossings ≡ risen n
+  pub record WentOut (es : List Entry) (kept : Option Flight) (f : Flight) (n : ℕ) : Type 0 where
+    pub last : Entry
+    pub is_out : IsOut f last
+    pub put : Put es (entry_where of_all kept ++ last ∷ [])
+    pub crossings : s.books.crossings ≡ risen n
 
-  went_out : (answer : Arrival) (es : List Entry) (kept : Option Flight) (f : Flight) (n : ℕ) → 1 ≤ f.source
+  pub went_out : (answer : Arrival) (es : List Entry) (kept : Option Flight) (f : Flight) (n : ℕ) → 1 ≤ f.source
       → StandsThere r es f kept n answer s ⊎ (StandsNot r es kept (lost_at f 0 ∷ []) (risen n) answer s × (hit (next_fault r.books.plan n) f ≡ None)) → WentOut es kept f n
   went_out answer es kept f n some (inl there) =
       let same = hit_same (next_fault r.books.plan n) f there.at there.came in

@@ -317,7 +317,7 @@ pub host_under : (m : Option GuestMind) → IsUnderHost (option_map as_host m)
 host_under None = tt
 host_under (Some mind) = refl
 
-ring_back : {M : Type 0} (r : RingView M) → IsLed r → IsRing (host_leads (taken_back r))
+pub ring_back : {M : Type 0} (r : RingView M) → IsLed r → IsRing (host_leads (taken_back r))
 ring_back r is = record {
   few = is.few;
   plan = is.plan;

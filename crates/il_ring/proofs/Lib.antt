@@ -59,10 +59,15 @@ pub mod Remaining
 pub mod LendLaws
 pub mod LedTalkers
 pub mod LendTalkers
+pub mod LendFaults
 mod LendExamples
 pub mod HandedOver
+pub mod HandLosses
 pub mod LedDoes
 pub mod LedRoles
 pub mod RoundHomeward
 pub mod LedCounts
 pub mod LedSums
+pub mod LedSince
+pub mod LedKeeps
+pub mod HandedCounts

@@ -1,4 +1,5 @@
 -- How the rounds of a second controller go on, entry by entry.
+pub use Rattle.il_ring.specs.Remaining.{Follow}
 use Rattle.std.proofs.Common.{◌≡◌, ◌∙◌, ◌+◌, ◌++◌, ◌==◌, ℕ, zero, suc, Bool, true, false, List, [], ◌∷◌, Option, None, refl, sym, ap, subst, arith, append_assoc}
 use Rattle.std.specs.Prelude.{if◌then◌else◌}
 use Rattle.std.specs.List.{list_all}
@@ -32,10 +33,6 @@ after_next (b ∷ more) = more
 abbrev pub yet_asked : List ℕ → List ℕ → List ℕ
 yet_asked addresses [] = addresses
 yet_asked addresses (b ∷ more) = b ∷ more
-
--- These are the addresses after a, up to the last one, but the own one.
-abbrev pub Follow : Option ℕ → ℕ → ℕ → List ℕ → Type 0
-Follow own last a more = (m : ℕ) × (a + m ≡ last) × (more ≡ addresses_from own (suc a) m)
 
 -- so many addresses from a on
 next_from : (own : Option ℕ) (last a m : ℕ) → a + m ≡ suc last → (asking last (passed_over own a) ≡ next_command (addresses_from own a m)) × ((b : ℕ) → (more : List ℕ) → addresses_from own a m ≡ b ∷ more → Follow own last b more)

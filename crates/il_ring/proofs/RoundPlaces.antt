@@ -51,13 +51,13 @@ data_no_poll class.End byte is = refl
 data_no_poll class.Esr byte is = refl
 data_no_poll _ byte is = cc
 
-identify_no_poll : (k : Class) (byte : ℕ) → is_identify_class k ≡ true → is_poll (message_at k byte) ≡ false
+pub identify_no_poll : (k : Class) (byte : ℕ) → is_identify_class k ≡ true → is_poll (message_at k byte) ≡ false
 identify_no_poll class.Idy byte is = refl
 identify_no_poll class.Isr byte is = refl
 identify_no_poll _ byte is = cc
 
 -- and are none behind a device
-passed_no_poll : (m : Message) (r : Roles) → is_poll m ≡ false → is_poll (passed_on m r) ≡ false
+pub passed_no_poll : (m : Message) (r : Roles) → is_poll m ≡ false → is_poll (passed_on m r) ≡ false
 passed_no_poll (msg.Aad a) r keeps = by_test (takes_address r.address a) (a == 30)
   where
     by_test : (takes last : Bool) → is_poll (if takes then (if last then msg.Iaa else msg.Aad (suc a)) else msg.Aad a) ≡ false

@@ -1,5 +1,5 @@
 -- How the entries of a log ended: as the faults made it that were planned at the crossings met while the log was written.
-use Rattle.std.specs.Prelude.{◌≡◌, ◌⊎◌, ◌<◌, ◌≤◌, ℕ, true, false, List, MatchBool, Option, Some, None, bit_xor}
+use Rattle.std.specs.Prelude.{◌≡◌, ◌⊎◌, ◌<◌, ◌≤◌, ◌==◌, ◌&&◌, not, ℕ, Bool, true, false, List, MatchBool, Option, Some, None, bit_xor}
 use Rattle.std.specs.List.{All}
 use Rattle.il_frames.specs.declared.frame.Frame.{Frame}
 use Rattle.il_frames.specs.declared.entry.Entry.{Entry}
@@ -45,6 +45,15 @@ EndsSo plan from to f (outcome.Lost party) = LostSo plan from to f
 -- the entry ended as the plan made it
 abbrev pub IsByPlan : List Planned → ℕ → ℕ → Entry → Type 0
 IsByPlan plan from to e = EndsSo plan from to e.frame e.outcome
+
+-- the frame was lost, or it is a data or end frame that came back with another byte
+abbrev pub ended_faulty : Frame → Outcome → Bool
+ended_faulty f (outcome.Back g) = is_data f && not (byte_of g == byte_of f)
+ended_faulty f (outcome.Taken party) = false
+ended_faulty f (outcome.Lost party) = true
+
+abbrev pub is_faulty : Entry → Bool
+is_faulty e = ended_faulty e.frame e.outcome
 
 -- a frame on its way is still of its kind, and a data or end frame has its byte, or another where it was altered
 pub record GoesByPlan (plan : List Planned) (from to : ℕ) (f : Flight) : Type 0 where

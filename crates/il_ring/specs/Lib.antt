@@ -15,6 +15,7 @@ pub mod Seen
 pub mod LedAdds
 pub mod Lending
 pub mod Lends
+pub mod Statuses
 pub mod Turned
 pub mod Remaining
 pub mod HandedOver

@@ -278,6 +278,10 @@ AllKeep (d ∷ ds) (e ∷ es) = Keeps d e × AllKeep ds es
 AllKeep [] (e ∷ es) = ⊥
 AllKeep (d ∷ ds) [] = ⊥
 
+-- it does not listen
+abbrev pub IsDeaf : ℕ → DeviceState → Type 0
+IsDeaf k d = d.roles.listens ≡ false
+
 -- ---- roles, behind any round
 
 -- the entry is a device's

@@ -24,6 +24,11 @@ is_poll m = false
 abbrev pub is_no_poll : Entry → Bool
 is_no_poll e = not (is_poll (message_of e.frame))
 
+-- the message has a device listen
+abbrev pub is_listen_address : Message → Bool
+is_listen_address (msg.Lad a) = true
+is_listen_address m = false
+
 -- the device has the place that it had
 abbrev pub KeepsPlace : DeviceState → DeviceState → Type 0
 KeepsPlace d e = e.assignment ≡ d.assignment

@@ -1,6 +1,6 @@
 -- What is still to come of the rounds of a second controller, from a place in them on: the entries of its rounds, as they will be where
 -- the addresses that it has not asked yet answer so.
-use Rattle.std.specs.Prelude.{◌≡◌, ℕ, true, List, [], ◌∷◌, ◌++◌}
+use Rattle.std.specs.Prelude.{◌≡◌, ◌+◌, ℕ, suc, true, List, [], ◌∷◌, ◌++◌, Option}
 use Rattle.std.specs.List.{flat_map, list_all}
 use Rattle.il_frames.specs.declared.entry.Entry.{Entry}
 use Rattle.il_frames.specs.declared.entry.Outcome.TheVariants as outcome
@@ -10,6 +10,7 @@ use Rattle.loop_model.specs.Exchanges.{Answer, Echo, NotTaken, Sst, answer_entri
 use Rattle.il_guest.specs.declared.control.Command.{Command}
 use Rattle.il_guest.specs.declared.control.Command.TheVariants as command
 use Rattle.il_guest.specs.Frames.{nop}
+use Rattle.il_guest.specs.Rounds.{addresses_from}
 use Rattle.il_ring.specs.Lends.{all_asked, are_told_by, is_one_status, rounds_asked, rounds_entries}
 
 -- the first answer; where none is given no device takes SST
@@ -71,3 +72,7 @@ abbrev pub BeginRounds : ℕ → List ℕ → List Entry → List ℕ → (List 
 BeginRounds k addresses entries yet goes_on =
     (now : List Answer) → (later : List (List Answer)) → IsRound k yet now → AreRounds k addresses later
     → (all : List (List Answer)) × AreRounds k addresses all × (rounds_entries k addresses all ≡ entries ++ goes_on now later)
+
+-- These are the addresses after a, up to the last one, but the own one.
+abbrev pub Follow : Option ℕ → ℕ → ℕ → List ℕ → Type 0
+Follow own last a more = (m : ℕ) × (a + m ≡ last) × (more ≡ addresses_from own (suc a) m)

@@ -1,0 +1,79 @@
+-- What the log of a second controller's rounds tells of the statuses that it asked for. Source: HP-IL Interface Specification,
+-- HP 82166-90017, send status and end of transmission; that the last status of each address counts is this project's own.
+use Rattle.std.specs.Prelude.{ℕ, ◌==◌, ◌&&◌, if◌then◌else◌, Bool, true, false, List, [], ◌∷◌, ◌++◌, Option, Some, None}
+use Rattle.il_frames.specs.declared.frame.Frame.{Frame}
+use Rattle.il_frames.specs.declared.entry.Entry.{Entry}
+use Rattle.il_frames.specs.declared.entry.Outcome.{Outcome}
+use Rattle.il_frames.specs.declared.entry.Outcome.TheVariants as outcome
+use Rattle.il_frames.specs.declared.message.Message.{Message}
+use Rattle.il_frames.specs.declared.message.Message.TheVariants as msg
+use Rattle.il_frames.specs.Frames.{byte_of, is_data}
+use Rattle.il_frames.specs.Messages.{message_of}
+use Rattle.il_frames.specs.NamedFrames.{is_frame}
+use Rattle.il_device.specs.Takes.{eto}
+use Rattle.il_guest.specs.Frames.{sst}
+
+-- party k took the frame
+abbrev pub is_taken_by : ℕ → Outcome → Bool
+is_taken_by k (outcome.Back f) = false
+is_taken_by k (outcome.Taken q) = q == k
+is_taken_by k (outcome.Lost q) = false
+
+abbrev pub is_back : Outcome → Bool
+is_back (outcome.Back f) = true
+is_back (outcome.Taken q) = false
+is_back (outcome.Lost q) = false
+
+-- the next entry is the ETO of the same source, which party k took
+abbrev pub is_ended : ℕ → Entry → List Entry → Bool
+is_ended k e [] = false
+is_ended k e (next ∷ log) = (next.source == e.source) && (is_frame next.frame eto && is_taken_by k next.outcome)
+
+-- the entry is a byte that was told to party k, whose source ended by ETO
+abbrev pub is_told : ℕ → Entry → List Entry → Bool
+is_told k e log = is_data e.frame && is_ended k e log
+
+-- the bytes that the device at party q told so, in their order
+abbrev pub told_by : ℕ → ℕ → List Entry → List ℕ
+told_by k q [] = []
+told_by k q (e ∷ log) =
+    if (e.source == q) && is_told k e log then byte_of e.frame ∷ told_by k q log else told_by k q log
+
+-- ---- the last status of an address
+
+-- the address that is asked behind a message
+abbrev pub asked_behind : Option ℕ → Message → Option ℕ
+asked_behind before (msg.Tad a) = Some a
+asked_behind before m = before
+
+-- and behind an entry: only party k asks
+abbrev pub asked_after : ℕ → Option ℕ → Entry → Option ℕ
+asked_after k before e = if e.source == k then asked_behind before (message_of e.frame) else before
+
+-- the address that is asked behind these entries
+abbrev pub asked_all : ℕ → Option ℕ → List Entry → Option ℕ
+asked_all k asked [] = asked
+asked_all k asked (e ∷ log) = asked_all k (asked_after k asked e) log
+
+-- party k's SST came back: no device told anything
+abbrev pub tells_none : ℕ → Entry → Bool
+tells_none k e = (e.source == k) && (is_frame e.frame sst && is_back e.outcome)
+
+-- what is known of the address that is asked, behind an entry that these follow
+abbrev pub known_behind : ℕ → Option ℕ → Entry → List Entry → Option ℕ
+known_behind k before e log =
+    if tells_none k e then None else (if is_told k e log then Some (byte_of e.frame) else before)
+
+abbrev pub is_asked : ℕ → Option ℕ → Bool
+is_asked a None = false
+is_asked a (Some b) = b == a
+
+-- what is known of address a, where that one is asked now and so much was known before
+abbrev pub known_of : ℕ → ℕ → Option ℕ → Option ℕ → List Entry → Option ℕ
+known_of k a asked before [] = before
+known_of k a asked before (e ∷ log) =
+    known_of k a (asked_after k asked e) (if is_asked a asked then known_behind k before e log else before) log
+
+-- the last status of address a that party k was told: the byte of the last one, or none where SST came back since
+abbrev pub last_told : ℕ → ℕ → List Entry → Option ℕ
+last_told k a log = known_of k a None None log
