@@ -38,7 +38,7 @@ use Rattle.il_ring.proofs.DataPasses.{next_alters, same_byte, xor_other}
 use Rattle.il_ring.proofs.Remaining.{start_back, start_taken}
 use Rattle.il_control.specs.Receives.{IsCalm, IsDeaf, IsHolding}
 use Rattle.il_control.proofs.LentCommands.{goes_own, lost_own}
-use Rattle.il_control.proofs.LentPlaces.{Since, since_answer, since_more, since_one}
+use Rattle.il_control.proofs.LentPlaces.{AskedSince, since_answer, since_more, since_one}
 use Rattle.il_control.proofs.LentPolls.{first_lost, nrd_lost, one_status, own_echo, own_echo-is}
 use Rattle.il_control.proofs.LentRings.{own_ring, own_ring-IsRing, own_ring-length}
 use Rattle.il_control.proofs.LentStarts.{NoStatus, StatusHeld, StartLostAt, StatusLost, rest, rest_then, start_move}
@@ -131,8 +131,8 @@ module _ {M : Type 0} (view : M → MediumView) (k last : ℕ) (own : Option ℕ
     calm : Each IsCalm 1 (devices_of (rest view r s answer so.two))
     calm = subst (λ boxed. Each IsCalm 1 (front_of view k last own base r boxed)) so.boxed_is stands.2.quiet
 
-    since : Since (λ since. since ≡ receive_front 0 a None) (devices_of (rest view r s answer so.two))
-    since = subst (λ boxed. Since (λ since. since ≡ receive_front 0 a None) (front_of view k last own base r boxed)) so.boxed_is stands.2.since
+    since : AskedSince (λ since. since ≡ receive_front 0 a None) (devices_of (rest view r s answer so.two))
+    since = subst (λ boxed. AskedSince (λ since. since ≡ receive_front 0 a None) (front_of view k last own base r boxed)) so.boxed_is stands.2.since
 
     -- the one that talks is the one that was asked
     talker_is : (q : ℕ) → IsTalking q None (devices_of (rest view r s answer so.two)) → (q == a) ≡ true
@@ -198,7 +198,7 @@ module _ {M : Type 0} (view : M → MediumView) (k last : ℕ) (own : Option ℕ
         (λ not.
         let ends = nrd_lost k A (old.entries ++ e) more q (own_echo flight.sent) (taken q (own_echo flight.sent) (own_echo-is flight.sent held.began.now.data_frame) held.began.talked) 0 in
         let kept_is : entry_where (length (devices_of (going_on r))) (Some flight) ++ lost_at (sourced k nrd) 0 ∷ [] ≡ entry q flight.sent (outcome.Taken k) ∷ entry k nrd (outcome.Lost 0) ∷ [] = kept_entry flight in_.1 in
-        inr (broke_off view k last own base r s arrived old e (entry q flight.sent (outcome.Taken k) ∷ entry k nrd (outcome.Lost 0) ∷ []) (BreaksOff (FrameLost 0)) ends refl (omega (arith, one)) (not.0.log_is ∙ ap (λ es. r.books.log ++ (e ++ es)) kept_is) not.0.lent_is))
+        inr (broke_off view k last own base r s arrived old e (entry q flight.sent (outcome.Taken k) ∷ entry k nrd (outcome.Lost 0) ∷ []) (BreaksOff (FrameLost 0)) ends refl refl (omega (arith, one)) (omega arith) (not.0.log_is ∙ ap (λ es. r.books.log ++ (e ++ es)) kept_is) not.0.lent_is))
         out.1
       where
         kept_entry : (f : Flight) → f.source < k → entry_where (length (devices_of (going_on r))) (Some f) ++ lost_at (sourced k nrd) 0 ∷ [] ≡ entry f.source f.sent (outcome.Taken k) ∷ entry k nrd (outcome.Lost 0) ∷ []
@@ -220,6 +220,6 @@ module _ {M : Type 0} (view : M → MediumView) (k last : ℕ) (own : Option ℕ
         let not = subst (λ j. StandsNot (going_on r) (entry j sst (outcome.Taken lost.taker) ∷ []) None (entry lost.taker lost.sent (outcome.Lost (turned j lost.own_party)) ∷ []) so.two.own.crossings answer s) old.many lost.ends in
         let ends = first_lost k A (old.entries ++ e) more lost.taker (own_echo lost.sent) (taken lost.taker (own_echo lost.sent) (own_echo-is lost.sent lost.data_frame) lost.talked) (turned k lost.own_party) in
         let one = taken_one k lost.taker sst (omega (arith, in_.1)) in
-        inr (broke_off view k last own base r s arrived old e tail (ByteLost (turned k lost.own_party)) ends refl (omega (arith, one)) not.log_is not.lent_is))
+        inr (broke_off view k last own base r s arrived old e tail (ByteLost (turned k lost.own_party)) ends refl refl (omega (arith, one)) (omega arith) not.log_is not.lent_is))
         off)
         (start_move view r s answer so.two old.led stands.2.kept_is a (so.control_is ∙ ap (λ p. control.Rounds p) at) calm (since_one a (devices_of (rest view r s answer so.two)) range.1 since))

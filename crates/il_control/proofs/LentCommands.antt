@@ -33,8 +33,8 @@ use Rattle.il_ring.proofs.LedSteps.{IsOwn}
 use Rattle.il_ring.proofs.Remaining.{Follow, after_next, begin_same, command_back, next_after, next_command, next_first, ready_next, yet_asked}
 use Rattle.il_control.specs.Calls.{Obeyed, Whole}
 use Rattle.il_control.proofs.LentMoves.{MovedOn, MoveLost, others, others_then, plain_move}
-use Rattle.il_control.proofs.LentPlaces.{QuietCommand, QuietReady, Since, SinceCommand, SinceReady, calm_ready, command_plain, deaf_ready, quiet_command, since_command, since_nop, since_tad, since_unl, since_unt}
-use Rattle.il_control.proofs.LentPolls.{EndsSo, command_no_nrd, own_lost}
+use Rattle.il_control.proofs.LentPlaces.{QuietCommand, QuietReady, AskedSince, SinceCommand, SinceReady, calm_ready, command_plain, deaf_ready, quiet_command, since_command, since_nop, since_tad, since_unl, since_unt}
+use Rattle.il_control.proofs.LentPolls.{RoundsEndSo, command_no_nrd, own_lost}
 use Rattle.il_control.proofs.LentSteps.{GoesOut}
 use Rattle.il_control.proofs.LentWalks.{BrokeOff, FollowsAsked, OwnStands, Polling, StandsSo, Stays, asked, broke_off, came_by, front_of, own_hit, polls_on, yet_at}
 
@@ -52,7 +52,7 @@ module _ {M : Type 0} (view : M → MediumView) (k last : ℕ) (own : Option ℕ
       let lent = there.lent_is ∙ ap (λ f. Some f) (own_hit k (sent_at q) _ there.at other there.came) in
       inl (polls_on view k last own base r s arrived answer held f old so q e at same_last same_address range one short there.log_is (stands lent there.kept_is)))
       (λ not.
-      inr (broke_off view k last own base r s arrived old e (entry k (sent_at q) (outcome.Lost 0) ∷ []) (BreaksOff (FrameLost 0)) (own_lost k (asked view k last own base) (old.entries ++ e) yet goes (sent_at q) more 0 begun due no_nrd) refl (omega (arith, one)) not.0.log_is not.0.lent_is))
+      inr (broke_off view k last own base r s arrived old e (entry k (sent_at q) (outcome.Lost 0) ∷ []) (BreaksOff (FrameLost 0)) (own_lost k (asked view k last own base) (old.entries ++ e) yet goes (sent_at q) more 0 begun due no_nrd) refl refl (omega (arith, one)) (omega (arith, short)) not.0.log_is not.0.lent_is))
       out.1
 
   -- one was lost
@@ -60,8 +60,8 @@ module _ {M : Type 0} (view : M → MediumView) (k last : ℕ) (own : Option ℕ
       → (yet : List ℕ) (goes : List Answer → List (List Answer) → List Entry) → BeginRounds k (asked view k last own base) old.entries yet goes → (more : List Entry) → goes [] [] ≡ returned k f ∷ more → BrokeOff view k last own base s (arrived + 1)
   lost_own r s arrived answer old f party n not no_nrd yet goes begun more due =
       broke_off view k last own base r s arrived old [] (entry k f (outcome.Lost party) ∷ []) (BreaksOff (FrameLost party))
-      (subst (λ es. EndsSo k (asked view k last own base) es (entry k f (outcome.Lost party) ∷ []) (BreaksOff (FrameLost party))) (sym (append-nil old.entries)) (own_lost k (asked view k last own base) old.entries yet goes f more party begun due no_nrd))
-      refl (omega arith) not.log_is not.lent_is
+      (subst (λ es. RoundsEndSo k (asked view k last own base) es (entry k f (outcome.Lost party) ∷ []) (BreaksOff (FrameLost party))) (sym (append-nil old.entries)) (own_lost k (asked view k last own base) old.entries yet goes f more party begun due no_nrd))
+      refl refl (omega arith) (omega arith) not.log_is not.lent_is
 
   module _ (r s : RingView M) (arrived : ℕ) (answer : Arrival) (f : Frame) (old : Polling view k last own base r arrived) (so : Stays view k last own base r s arrived old answer None (sourced 0 f)) where
     -- a frame that every device passes on
@@ -85,13 +85,13 @@ module _ {M : Type 0} (view : M → MediumView) (k last : ℕ) (own : Option ℕ
   abbrev Next : RingView M → ℕ → Type 0
   Next s arrived = Polling view k last own base s (arrived + 1) ⊎ BrokeOff view k last own base s (arrived + 1)
 
-  command_other : (c : Command) → is_data (command_frame c) ≡ false
+  pub command_other : (c : Command) → is_data (command_frame c) ≡ false
   command_other command.Nop = refl
   command_other (command.Unl a) = refl
   command_other (command.Tad a) = refl
   command_other (command.Unt a) = refl
 
-  said_other : (c : Command) → is_ifc (command_says c) ≡ false
+  pub said_other : (c : Command) → is_ifc (command_says c) ≡ false
   said_other command.Nop = refl
   said_other (command.Unl a) = refl
   said_other (command.Tad a) = refl
@@ -120,8 +120,8 @@ module _ {M : Type 0} (view : M → MediumView) (k last : ℕ) (own : Option ℕ
     old_quiet : (f : Frame) (old : Polling view k last own base r arrived) (so : Stays view k last own base r s arrived old answer None (sourced 0 f)) (Q : List DeviceState → Type 0) → Q (front_of view k last own base r old.boxed) → Q (devices_of (others view r s f answer so.two))
     old_quiet f old so Q quiet = subst (λ boxed. Q (front_of view k last own base r boxed)) so.boxed_is quiet
 
-    old_since : (f : Frame) (old : Polling view k last own base r arrived) (so : Stays view k last own base r s arrived old answer None (sourced 0 f)) (P : List Entry → Type 0) → Since P (front_of view k last own base r old.boxed) → Since P (devices_of (others view r s f answer so.two))
-    old_since f old so P since = subst (λ boxed. Since P (front_of view k last own base r boxed)) so.boxed_is since
+    old_since : (f : Frame) (old : Polling view k last own base r arrived) (so : Stays view k last own base r s arrived old answer None (sourced 0 f)) (P : List Entry → Type 0) → AskedSince P (front_of view k last own base r old.boxed) → AskedSince P (devices_of (others view r s f answer so.two))
+    old_since f old so P since = subst (λ boxed. AskedSince P (front_of view k last own base r boxed)) so.boxed_is since
 
     pub command_step : (c : Command) → (old : Polling view k last own base r arrived) (so : Stays view k last own base r s arrived old answer None (sourced 0 (command_frame c))) → old.place ≡ place.Command c → Next s arrived
     command_step c old so at =
@@ -172,7 +172,7 @@ module _ {M : Type 0} (view : M → MediumView) (k last : ℕ) (own : Option ℕ
     next_no_data [] = (refl, refl)
     next_no_data (b ∷ xs) = (refl, refl)
 
-    next_since : (xs : List ℕ) (front : List DeviceState) → Since (λ since. since ≡ []) front → Since (SinceCommand (next_command xs)) front
+    next_since : (xs : List ℕ) (front : List DeviceState) → AskedSince (λ since. since ≡ []) front → AskedSince (SinceCommand (next_command xs)) front
     next_since [] front since = since
     next_since (b ∷ xs) front since = since
 
@@ -192,7 +192,7 @@ module _ {M : Type 0} (view : M → MediumView) (k last : ℕ) (own : Option ℕ
     ready_asks : (c : Command) → (old : Polling view k last own base r arrived) (so : Stays view k last own base r s arrived old answer None (sourced 0 rfc)) → old.place ≡ place.Ready c → (more : List ℕ) → OwnStands view k last own base r old.boxed rfc (QuietReady c) (SinceReady c) old.entries (yet_at view k last own base c more) (from_ready k (asked view k last own base) more c)
         → (xs : List ℕ) → yet_at view k last own base c more ≡ xs → command_then so.two.g.device.roles.address so.two.g.last c ≡ place.Command (next_command xs) → ((now : List Answer) → (later : List (List Answer)) → from_ready k (asked view k last own base) more c now later ≡ returned k rfc ∷ asked_yet k (asked view k last own base) xs now later)
         → ((b : ℕ) → (rest : List ℕ) → xs ≡ b ∷ rest → Follow own last b rest)
-        → ((front then_ : List DeviceState) → Since (SinceReady c) front → roles_of then_ ≡ roles_after (roles_of front) (returned 0 rfc ∷ []) → Since (λ since. since ≡ []) then_) → Next s arrived
+        → ((front then_ : List DeviceState) → AskedSince (SinceReady c) front → roles_of then_ ≡ roles_after (roles_of front) (returned 0 rfc ∷ []) → AskedSince (λ since. since ≡ []) then_) → Next s arrived
     ready_asks c old so at more one xs yet_is next same follow rule =
         let goes = from_command k (asked view k last own base) (after_next xs) (next_command xs) in
         let begun = subst (λ yet. BeginRounds k (asked view k last own base) (old.entries ++ returned k rfc ∷ []) yet goes) (next_yet xs)

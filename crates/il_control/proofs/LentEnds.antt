@@ -27,7 +27,7 @@ use Rattle.il_ring.specs.Remaining.{BeginRounds, from_command, from_ready, from_
 use Rattle.il_ring.specs.Rings.{RingView}
 use Rattle.il_ring.proofs.LedCounts.{at_host, at_party}
 use Rattle.il_control.proofs.LentCommands.{command_due, ready_due}
-use Rattle.il_control.proofs.LentPolls.{EndsSo, byte_stands, command_no_nrd, ends_at, nrd_stands, own_echo, own_echo-is, own_stands}
+use Rattle.il_control.proofs.LentPolls.{RoundsEndSo, byte_stands, command_no_nrd, ends_at, nrd_stands, own_echo, own_echo-is, own_stands}
 use Rattle.il_control.proofs.LentTelling.{within}
 use Rattle.il_control.proofs.LentWalks.{BrokeOff, Polling, StandsSo, came_by, yet_at}
 
@@ -67,13 +67,13 @@ module _ {M : Type 0} (view : M → MediumView) (k last : ℕ) (own : Option ℕ
   A = addresses own last
 
   -- such are the rounds, and they stand so
-  rounds_so : list_all (λ a. is_address a) (addresses own last) ≡ true → (entries tail : List Entry) (end : RoundsEnd) (so : EndsSo k (addresses own last) entries tail end) → are_rounds k (addresses own last) so.all (length entries) end ≡ true
+  rounds_so : list_all (λ a. is_address a) (addresses own last) ≡ true → (entries tail : List Entry) (end : RoundsEnd) (so : RoundsEndSo k (addresses own last) entries tail end) → are_rounds k (addresses own last) so.all (length entries) end ≡ true
   rounds_so low entries tail end so =
       and_from (list_all (λ a. is_address a) A) (list_all (λ round. list_all (is_one_status k) round) so.all && can_end k (rounds_entries k A so.all) (length entries) end) low
       (and_from (list_all (λ round. list_all (is_one_status k) round) so.all) (can_end k (rounds_entries k A so.all) (length entries) end) so.rounds_are.0 (ends_at k A entries tail end so).1)
 
   -- as many frames came to the host
-  arrivals_are : (entries tail : List Entry) (end : RoundsEnd) (so : EndsSo k (addresses own last) entries tail end) → arrivals k (rounds_entries k (addresses own last) so.all) (length entries) ≡ came_by k entries
+  arrivals_are : (entries tail : List Entry) (end : RoundsEnd) (so : RoundsEndSo k (addresses own last) entries tail end) → arrivals k (rounds_entries k (addresses own last) so.all) (length entries) ≡ came_by k entries
   arrivals_are entries tail end so = ap (λ es. count_by (brings_to k 0) es) (ends_at k A entries tail end so).2
 
   -- ---- a frame stands at the host
@@ -88,16 +88,16 @@ module _ {M : Type 0} (view : M → MediumView) (k last : ℕ) (own : Option ℕ
     standing_is : (kept lent : Option Flight) (tail : List Entry) → r.books.kept ≡ kept → r.books.lent ≡ lent → entry_where k kept ++ entry_where 0 lent ≡ tail → standing k r.books ≡ tail
     standing_is kept lent tail kept_is lent_is is = ap₂ (λ kept lent. entry_where k kept ++ entry_where 0 lent) kept_is lent_is ∙ is
 
-    ends_as : (tail : List Entry) → standing k r.books ≡ tail → EndsSo k (addresses own last) old.entries tail AtHost → EndsSo k (addresses own last) old.entries (standing k r.books) AtHost
-    ends_as tail is ends = subst (λ tail. EndsSo k A old.entries tail AtHost) (sym is) ends
+    ends_as : (tail : List Entry) → standing k r.books ≡ tail → RoundsEndSo k (addresses own last) old.entries tail AtHost → RoundsEndSo k (addresses own last) old.entries (standing k r.books) AtHost
+    ends_as tail is ends = subst (λ tail. RoundsEndSo k A old.entries tail AtHost) (sym is) ends
 
     own_so : (f : Frame) → r.books.lent ≡ Some (sourced k f) → r.books.kept ≡ None → is_frame f nrd ≡ false → (yet : List ℕ) (goes : List Answer → List (List Answer) → List Entry) → BeginRounds k (addresses own last) old.entries yet goes → (more : List Entry) → goes [] [] ≡ returned k f ∷ more
-        → EndsSo k (addresses own last) old.entries (standing k r.books) AtHost
+        → RoundsEndSo k (addresses own last) old.entries (standing k r.books) AtHost
     own_so f lent kept other yet goes begun more due =
         ends_as (entry k f (outcome.Taken 0) ∷ []) (standing_is None (Some (sourced k f)) (entry k f (outcome.Taken 0) ∷ []) kept lent (ap (λ e. e ∷ []) (at_host (sourced k f) some)))
         (own_stands k A old.entries yet goes f more begun due other)
 
-    by_place : (p : Place) → StandsSo view k last own base p r old.boxed old.entries → EndsSo k (addresses own last) old.entries (standing k r.books) AtHost
+    by_place : (p : Place) → StandsSo view k last own base p r old.boxed old.entries → RoundsEndSo k (addresses own last) old.entries (standing k r.books) AtHost
     by_place (place.Command c) stands =
         let one = stands.2 in
         let due = command_due view k last own base stands.0 c in
@@ -127,7 +127,7 @@ module _ {M : Type 0} (view : M → MediumView) (k last : ℕ) (own : Option ℕ
         (byte_stands k A old.entries stands.0 f.source (own_echo f.sent) (byte.begun f.sent (own_echo-is f.sent bytes)) bytes)
 
     -- what ends at the host, where control is taken back now
-    pub stands_so : EndsSo k (addresses own last) old.entries (standing k r.books) AtHost
+    pub stands_so : RoundsEndSo k (addresses own last) old.entries (standing k r.books) AtHost
     stands_so = by_place old.place old.stands
 
     module _ (a : ℕ) (before : List Entry) (address : is_address a ≡ true) (low : list_all (λ a. is_address a) (addresses own last) ≡ true) (handed : base ≡ before ++ handed_entries a k) where

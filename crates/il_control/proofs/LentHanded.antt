@@ -32,7 +32,7 @@ use Rattle.il_control.proofs.LentPolls.{own_lost}
 use Rattle.il_control.proofs.LentWalks.{BrokeOff, Polling, own_hit}
 
 -- TCT changes no roles
-tct_roles : (ds es : List DeviceState) → First (Obeys (message_of tct)) (length ds) ds es → (roles_of es ≡ roles_of ds) × (length es ≡ length ds)
+pub tct_roles : (ds es : List DeviceState) → First (Obeys (message_of tct)) (length ds) ds es → (roles_of es ≡ roles_of ds) × (length es ≡ length ds)
 tct_roles [] [] took = (refl, refl)
 tct_roles (d ∷ ds) (e ∷ es) took = let more = tct_roles ds es took.1 in (ap₂ (λ r rs. r ∷ rs) took.0.roles more.0, ap suc more.1)
 tct_roles [] (e ∷ es) took = absurd took
@@ -109,8 +109,10 @@ module _ {M : Type 0} (view : M → MediumView) (r s : RingView M) (answer : Arr
       end = BreaksOff (FrameLost 0);
       ends = own_lost (length (devices_of r)) asked [] asked (from_command (length (devices_of r)) asked [] command.Nop) nop _ 0 (begin_rounds (length (devices_of r)) asked) refl refl;
       breaks = refl;
+      shows = refl;
       log = not.log_is ∙ sym (append_assoc r.books.log (entry 0 tct (outcome.Taken (length (devices_of r))) ∷ []) (entry (length (devices_of r)) nop (outcome.Lost 0) ∷ []));
       arrivals = omega arith;
+      short = omega arith;
       lent_is = not.lent_is;
     }
 

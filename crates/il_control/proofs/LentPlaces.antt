@@ -1,4 +1,5 @@
 -- Who talks, and what each device has of its own, at a place of the rounds of a second controller.
+pub use Rattle.il_control.specs.Polling.{QuietCommand, QuietReady, AskedSince, SinceCommand, SinceReady}
 use Rattle.std.proofs.Common.{◌≡◌, ◌∙◌, ◌≤◌, ◌++◌, ℕ, Bool, true, false, List, [], ◌∷◌, None, length, refl, sym, ap, append_assoc, append-nil}
 use Rattle.std.specs.Prelude.{if◌then◌else◌, nat_le}
 use Rattle.std.proofs.lemmas.Bool.{and_from, le-leb}
@@ -31,29 +32,7 @@ use Rattle.il_control.proofs.Talking.{one_asked}
 
 -- ---- since an address is asked
 
--- these entries were made since the address that is asked now is asked, in the words of the host of the other devices
-abbrev pub SinceCommand : Command → List Entry → Type 0
-SinceCommand command.Nop since = since ≡ []
-SinceCommand (command.Unl a) since = since ≡ []
-SinceCommand (command.Tad a) since = since ≡ commanded 0 unl
-SinceCommand (command.Unt a) since = (answer : Answer) × (is_answer 0 answer ≡ true) × (since ≡ receive_front 0 a None ++ answer_entries 0 (start_frame Sst) answer)
-
-abbrev pub SinceReady : Command → List Entry → Type 0
-SinceReady command.Nop since = since ≡ returned 0 nop ∷ []
-SinceReady (command.Unl a) since = since ≡ returned 0 unl ∷ []
-SinceReady (command.Tad a) since = since ≡ commanded 0 unl ++ returned 0 (tad a) ∷ []
-SinceReady (command.Unt a) since = (answer : Answer) × (is_answer 0 answer ≡ true) × (since ≡ receive_front 0 a None ++ (answer_entries 0 (start_frame Sst) answer ++ returned 0 unt ∷ []))
-
--- Before the first of them no device talked, and each had its number as address; these are their roles now.
-pub record Since (P : List Entry → Type 0) (front : List DeviceState) : Type 0 where
-  pub before : List Roles
-  pub silent : talkers before ≡ []
-  pub numbered : are_numbered 1 before ≡ true
-  pub since : List Entry
-  pub made : P since
-  pub roles : roles_of front ≡ roles_after before since
-
-pub since_more : (P Q : List Entry → Type 0) (front then_ : List DeviceState) (es : List Entry) → ((since : List Entry) → P since → Q (since ++ es)) → Since P front → roles_of then_ ≡ roles_after (roles_of front) es → Since Q then_
+pub since_more : (P Q : List Entry → Type 0) (front then_ : List DeviceState) (es : List Entry) → ((since : List Entry) → P since → Q (since ++ es)) → AskedSince P front → roles_of then_ ≡ roles_after (roles_of front) es → AskedSince Q then_
 since_more P Q front then_ es rule s more = record {
   before = s.before;
   silent = s.silent;
@@ -64,7 +43,7 @@ since_more P Q front then_ es rule s more = record {
 }
 
 -- a command came back
-pub since_command : (c : Command) (front then_ : List DeviceState) → Since (SinceCommand c) front → roles_of then_ ≡ roles_after (roles_of front) (returned 0 (command_frame c) ∷ []) → Since (SinceReady c) then_
+pub since_command : (c : Command) (front then_ : List DeviceState) → AskedSince (SinceCommand c) front → roles_of then_ ≡ roles_after (roles_of front) (returned 0 (command_frame c) ∷ []) → AskedSince (SinceReady c) then_
 since_command c front then_ s more = since_more (SinceCommand c) (SinceReady c) front then_ (returned 0 (command_frame c) ∷ []) (rule c) s more
   where
     rule : (c : Command) (since : List Entry) → SinceCommand c since → SinceReady c (since ++ returned 0 (command_frame c) ∷ [])
@@ -74,23 +53,23 @@ since_command c front then_ s more = since_more (SinceCommand c) (SinceReady c) 
     rule (command.Unt a) since is = (is.0, is.1, ap (λ es. es ++ returned 0 unt ∷ []) is.2 ∙ append_assoc (receive_front 0 a None) (answer_entries 0 (start_frame Sst) is.0) (returned 0 unt ∷ []))
 
 -- no address is asked yet
-pub none_asked : (front : List DeviceState) (rs : List Roles) → talkers rs ≡ [] → are_numbered 1 rs ≡ true → roles_of front ≡ rs → Since (λ since. since ≡ []) front
+pub none_asked : (front : List DeviceState) (rs : List Roles) → talkers rs ≡ [] → are_numbered 1 rs ≡ true → roles_of front ≡ rs → AskedSince (λ since. since ≡ []) front
 none_asked front rs silent numbered roles = record { before = rs; silent = silent; numbered = numbered; since = []; made = refl; roles = roles }
 
-since_asking : (last b : ℕ) (c : Command) (front : List DeviceState) → asking last b ≡ c → Since (λ since. since ≡ []) front → Since (SinceCommand (asking last b)) front
+since_asking : (last b : ℕ) (c : Command) (front : List DeviceState) → asking last b ≡ c → AskedSince (λ since. since ≡ []) front → AskedSince (SinceCommand (asking last b)) front
 since_asking last b c front is s = by (nat_le b last)
   where
-    by : (more : Bool) → Since (SinceCommand (if more then command.Unl b else command.Nop)) front
+    by : (more : Bool) → AskedSince (SinceCommand (if more then command.Unl b else command.Nop)) front
     by true = s
     by false = s
 
 -- the RFC of a command came back: of NOP, or of UNT, of which the receive is whole then
-pub since_nop : (front then_ : List DeviceState) → Since (SinceReady command.Nop) front → roles_of then_ ≡ roles_after (roles_of front) (returned 0 rfc ∷ []) → Since (λ since. since ≡ []) then_
+pub since_nop : (front then_ : List DeviceState) → AskedSince (SinceReady command.Nop) front → roles_of then_ ≡ roles_after (roles_of front) (returned 0 rfc ∷ []) → AskedSince (λ since. since ≡ []) then_
 since_nop front then_ s more =
     none_asked then_ (roles_after s.before (commanded 0 nop)) (no_talkers 1 (roles_after s.before (commanded 0 nop)) (quiet_log s.before (commanded 0 nop) refl (all_quiet 1 s.before s.silent))) (are_numbered-log s.before (commanded 0 nop) refl s.numbered)
     (more ∙ ap (λ rs. roles_after rs (returned 0 rfc ∷ [])) (s.roles ∙ ap (roles_after s.before) s.made))
 
-pub since_unt : (a : ℕ) (front then_ : List DeviceState) → a ≤ 30 → Since (SinceReady (command.Unt a)) front → roles_of then_ ≡ roles_after (roles_of front) (returned 0 rfc ∷ []) → Since (λ since. since ≡ []) then_
+pub since_unt : (a : ℕ) (front then_ : List DeviceState) → a ≤ 30 → AskedSince (SinceReady (command.Unt a)) front → roles_of then_ ≡ roles_after (roles_of front) (returned 0 rfc ∷ []) → AskedSince (λ since. since ≡ []) then_
 since_unt a front then_ low s more =
     let answer = s.made.0 in
     let x : Exchange = Receive a None Sst answer in
@@ -106,35 +85,22 @@ since_unt a front then_ low s more =
     (more ∙ ap (λ rs. roles_after rs (returned 0 rfc ∷ [])) s.roles ∙ sym (roles_after-append s.before s.since (returned 0 rfc ∷ [])) ∙ ap (roles_after s.before) all)
 
 -- that of UNL, and that of a talk address
-pub since_unl : (a : ℕ) (front then_ : List DeviceState) → Since (SinceReady (command.Unl a)) front → roles_of then_ ≡ roles_after (roles_of front) (returned 0 rfc ∷ []) → Since (SinceCommand (command.Tad a)) then_
+pub since_unl : (a : ℕ) (front then_ : List DeviceState) → AskedSince (SinceReady (command.Unl a)) front → roles_of then_ ≡ roles_after (roles_of front) (returned 0 rfc ∷ []) → AskedSince (SinceCommand (command.Tad a)) then_
 since_unl a front then_ s more = since_more (SinceReady (command.Unl a)) (SinceCommand (command.Tad a)) front then_ (returned 0 rfc ∷ []) (λ since is. ap (λ es. es ++ returned 0 rfc ∷ []) is) s more
 
-pub since_tad : (a : ℕ) (front then_ : List DeviceState) → Since (SinceReady (command.Tad a)) front → roles_of then_ ≡ roles_after (roles_of front) (returned 0 rfc ∷ []) → Since (λ since. since ≡ receive_front 0 a None) then_
+pub since_tad : (a : ℕ) (front then_ : List DeviceState) → AskedSince (SinceReady (command.Tad a)) front → roles_of then_ ≡ roles_after (roles_of front) (returned 0 rfc ∷ []) → AskedSince (λ since. since ≡ receive_front 0 a None) then_
 since_tad a front then_ s more = since_more (SinceReady (command.Tad a)) (λ since. since ≡ receive_front 0 a None) front then_ (returned 0 rfc ∷ []) (λ since is. ap (λ es. es ++ returned 0 rfc ∷ []) is) s more
 
 -- one device talks at most, as SST goes out
-pub since_one : (a : ℕ) (front : List DeviceState) → a ≤ 30 → Since (λ since. since ≡ receive_front 0 a None) front → is_at_most_one (talkers (roles_of front)) ≡ true
+pub since_one : (a : ℕ) (front : List DeviceState) → a ≤ 30 → AskedSince (λ since. since ≡ receive_front 0 a None) front → is_at_most_one (talkers (roles_of front)) ≡ true
 since_one a front low s = ap (λ rs. is_at_most_one (talkers rs)) (s.roles ∙ ap (roles_after s.before) s.made) ∙ one_asked s.before a None s.numbered s.silent (le-leb a 30 low) refl
 
 -- SST, and what came of it
-pub since_answer : (a : ℕ) (front then_ : List DeviceState) (answer : Answer) → is_answer 0 answer ≡ true → Since (λ since. since ≡ receive_front 0 a None) front → roles_of then_ ≡ roles_after (roles_of front) (answer_entries 0 (start_frame Sst) answer) → Since (SinceCommand (command.Unt a)) then_
+pub since_answer : (a : ℕ) (front then_ : List DeviceState) (answer : Answer) → is_answer 0 answer ≡ true → AskedSince (λ since. since ≡ receive_front 0 a None) front → roles_of then_ ≡ roles_after (roles_of front) (answer_entries 0 (start_frame Sst) answer) → AskedSince (SinceCommand (command.Unt a)) then_
 since_answer a front then_ answer is s more =
     since_more (λ since. since ≡ receive_front 0 a None) (SinceCommand (command.Unt a)) front then_ (answer_entries 0 (start_frame Sst) answer) (λ since made. (answer, is, ap (λ es. es ++ answer_entries 0 (start_frame Sst) answer) made)) s more
 
 -- ---- nobody listens, and nobody sends
-
--- behind UNL nobody listens, and behind a talk address nobody has a frame of its own on the loop either
-abbrev pub QuietCommand : Command → List DeviceState → Type 0
-QuietCommand command.Nop front = Unit {0}
-QuietCommand (command.Unl a) front = Unit {0}
-QuietCommand (command.Tad a) front = Each IsDeaf 1 front
-QuietCommand (command.Unt a) front = Unit {0}
-
-abbrev pub QuietReady : Command → List DeviceState → Type 0
-QuietReady command.Nop front = Unit {0}
-QuietReady (command.Unl a) front = Each IsDeaf 1 front
-QuietReady (command.Tad a) front = Each IsCalm 1 front
-QuietReady (command.Unt a) front = Unit {0}
 
 deaf_where : (b : Bool) (r : Roles) → r.listens ≡ false → (if b then record r { talks = true; listens = false } else record r { talks = false }).listens ≡ false
 deaf_where true r deaf = refl

@@ -1,4 +1,5 @@
 -- A second controller at a place of its rounds, at every moment at which a frame stands at the host.
+pub use Rattle.il_control.specs.Polling.{RoundsEndSo}
 use Rattle.std.proofs.Common.{◌≡◌, ◌≢◌, ◌∙◌, ◌≤◌, ◌<◌, ◌++◌, ◌&&◌, ◌==◌, not, nat_lt, ℕ, true, false, List, [], ◌∷◌, length, take, refl, sym, ap, arith}
 use Rattle.std.proofs.lemmas.Bool.{and_from, eq-eqb, lt-ltb, ne_eqb}
 use Rattle.il_frames.specs.declared.entry.Entry.{Entry}
@@ -15,21 +16,11 @@ use Rattle.il_guest.specs.declared.control.Command.{Command}
 use Rattle.il_guest.specs.declared.control.Command.TheVariants as command
 use Rattle.il_guest.specs.Steps.{command_frame}
 use Rattle.il_ring.specs.Lends.{RoundsEnd, AtHost, BreaksOff, ByteLost, can_end, end_entries, ended_after, is_end_at, is_one_status, rounds_entries}
-use Rattle.il_ring.specs.Remaining.{AreRounds, BeginRounds, asked_yet, from_byte, from_unt}
+use Rattle.il_ring.specs.Remaining.{BeginRounds, asked_yet, from_byte, from_unt}
 use Rattle.il_ring.proofs.RelayRounds.{wrong_echo}
 use Rattle.il_ring.proofs.Remaining.{none_told}
 
 -- ---- the end of rounds
-
--- Behind these entries this end stands in the place of one that is due.
-pub record EndsSo (k : ℕ) (asked : List ℕ) (entries tail : List Entry) (end : RoundsEnd) : Type 0 where
-  pub all : List (List Answer)
-  pub rounds_are : AreRounds k asked all
-  pub due : Entry
-  pub more : List Entry
-  pub rounds : rounds_entries k asked all ≡ entries ++ due ∷ more
-  pub tail_is : tail ≡ end_entries k due more end
-  pub legal : is_end_at k due end ≡ true
 
 ended_behind : (k : ℕ) (entries : List Entry) (due : Entry) (more : List Entry) (end : RoundsEnd) → (ended_after k (entries ++ due ∷ more) (length entries) end ≡ entries ++ end_entries k due more end) × (can_end k (entries ++ due ∷ more) (length entries) end ≡ is_end_at k due end)
 ended_behind k [] due more end = (refl, refl)
@@ -40,7 +31,7 @@ take_front [] rest = refl
 take_front (e ∷ entries) rest = ap (λ es. e ∷ es) (take_front entries rest)
 
 -- as a place in them
-pub ends_at : (k : ℕ) (asked : List ℕ) (entries tail : List Entry) (end : RoundsEnd) → (so : EndsSo k asked entries tail end)
+pub ends_at : (k : ℕ) (asked : List ℕ) (entries tail : List Entry) (end : RoundsEnd) → (so : RoundsEndSo k asked entries tail end)
     → (ended_after k (rounds_entries k asked so.all) (length entries) end ≡ entries ++ tail) × (can_end k (rounds_entries k asked so.all) (length entries) end ≡ true) × (take (length entries) (rounds_entries k asked so.all) ≡ entries)
 ends_at k asked entries tail end so =
     let at = ended_behind k entries so.due so.more end in (
@@ -89,7 +80,7 @@ one_status k q d some less echo =
 
 module _ (k : ℕ) (asked : List ℕ) (entries : List Entry) where
   -- a frame of its own other than NRD is due, whatever the addresses answer
-  pub own_due : (yet : List ℕ) (goes : List Answer → List (List Answer) → List Entry) (f : Frame) (more : List Entry) → BeginRounds k asked entries yet goes → goes [] [] ≡ returned k f ∷ more → is_frame f nrd ≡ false → (end : RoundsEnd) → (tail : List Entry) → tail ≡ end_entries k (returned k f) more end → is_end_at k (returned k f) end ≡ true → EndsSo k asked entries tail end
+  pub own_due : (yet : List ℕ) (goes : List Answer → List (List Answer) → List Entry) (f : Frame) (more : List Entry) → BeginRounds k asked entries yet goes → goes [] [] ≡ returned k f ∷ more → is_frame f nrd ≡ false → (end : RoundsEnd) → (tail : List Entry) → tail ≡ end_entries k (returned k f) more end → is_end_at k (returned k f) end ≡ true → RoundsEndSo k asked entries tail end
   own_due yet goes f more begun same other end tail is legal =
       let all = begun [] [] (none_told k yet) (refl, refl) in
       record { all = all.0; rounds_are = all.1; due = returned k f; more = more; rounds = all.2 ∙ ap (λ es. entries ++ es) same; tail_is = is; legal = legal }
@@ -99,30 +90,30 @@ module _ (k : ℕ) (asked : List ℕ) (entries : List Entry) where
   held_none due (next ∷ more) rest other = ap (λ b. (elim b [ true ↦ entry next.source next.frame (outcome.Taken k) ∷ [] | false ↦ [] ]) ++ entry due.source due.frame (outcome.Taken 0) ∷ []) other
 
   -- so it stands at the host, or is lost before party p
-  pub own_stands : (yet : List ℕ) (goes : List Answer → List (List Answer) → List Entry) (f : Frame) (more : List Entry) → BeginRounds k asked entries yet goes → goes [] [] ≡ returned k f ∷ more → is_frame f nrd ≡ false → EndsSo k asked entries (entry k f (outcome.Taken 0) ∷ []) AtHost
+  pub own_stands : (yet : List ℕ) (goes : List Answer → List (List Answer) → List Entry) (f : Frame) (more : List Entry) → BeginRounds k asked entries yet goes → goes [] [] ≡ returned k f ∷ more → is_frame f nrd ≡ false → RoundsEndSo k asked entries (entry k f (outcome.Taken 0) ∷ []) AtHost
   own_stands yet goes f more begun same other = own_due yet goes f more begun same other AtHost (entry k f (outcome.Taken 0) ∷ []) (sym (held_none (returned k f) more [] other)) refl
 
   broken_none : (due : Entry) (more : List Entry) (p : ℕ) → is_frame due.frame nrd ≡ false → end_entries k due more (BreaksOff (FrameLost p)) ≡ entry due.source due.frame (outcome.Lost p) ∷ []
   broken_none due [] p other = refl
   broken_none due (next ∷ more) p other = ap (λ b. (elim b [ true ↦ entry next.source next.frame (outcome.Taken k) ∷ [] | false ↦ [] ]) ++ entry due.source due.frame (outcome.Lost p) ∷ []) other
 
-  pub own_lost : (yet : List ℕ) (goes : List Answer → List (List Answer) → List Entry) (f : Frame) (more : List Entry) (p : ℕ) → BeginRounds k asked entries yet goes → goes [] [] ≡ returned k f ∷ more → is_frame f nrd ≡ false → EndsSo k asked entries (entry k f (outcome.Lost p) ∷ []) (BreaksOff (FrameLost p))
+  pub own_lost : (yet : List ℕ) (goes : List Answer → List (List Answer) → List Entry) (f : Frame) (more : List Entry) (p : ℕ) → BeginRounds k asked entries yet goes → goes [] [] ≡ returned k f ∷ more → is_frame f nrd ≡ false → RoundsEndSo k asked entries (entry k f (outcome.Lost p) ∷ []) (BreaksOff (FrameLost p))
   own_lost yet goes f more p begun same other = own_due yet goes f more begun same other (BreaksOff (FrameLost p)) (entry k f (outcome.Lost p) ∷ []) (sym (broken_none (returned k f) more p other)) refl
 
   -- NRD is due, and a byte of party q after it
   module _ (more : List ℕ) (q : ℕ) (d : Echo) (begun : BeginRounds k asked entries more (λ now later. returned k nrd ∷ from_byte k asked more q d now later)) where
-    nrd_due : (end : RoundsEnd) (tail : List Entry) → tail ≡ end_entries k (returned k nrd) (from_byte k asked more q d [] []) end → is_end_at k (returned k nrd) end ≡ true → EndsSo k asked entries tail end
+    nrd_due : (end : RoundsEnd) (tail : List Entry) → tail ≡ end_entries k (returned k nrd) (from_byte k asked more q d [] []) end → is_end_at k (returned k nrd) end ≡ true → RoundsEndSo k asked entries tail end
     nrd_due end tail is legal =
         let all = begun [] [] (none_told k more) (refl, refl) in
         record { all = all.0; rounds_are = all.1; due = returned k nrd; more = from_byte k asked more q d [] []; rounds = all.2; tail_is = is; legal = legal }
 
-    pub nrd_stands : EndsSo k asked entries (entry q d.sent (outcome.Taken k) ∷ entry k nrd (outcome.Taken 0) ∷ []) AtHost
+    pub nrd_stands : RoundsEndSo k asked entries (entry q d.sent (outcome.Taken k) ∷ entry k nrd (outcome.Taken 0) ∷ []) AtHost
     nrd_stands = nrd_due AtHost (entry q d.sent (outcome.Taken k) ∷ entry k nrd (outcome.Taken 0) ∷ []) refl refl
 
-    pub nrd_lost : (p : ℕ) → EndsSo k asked entries (entry q d.sent (outcome.Taken k) ∷ entry k nrd (outcome.Lost p) ∷ []) (BreaksOff (FrameLost p))
+    pub nrd_lost : (p : ℕ) → RoundsEndSo k asked entries (entry q d.sent (outcome.Taken k) ∷ entry k nrd (outcome.Lost p) ∷ []) (BreaksOff (FrameLost p))
     nrd_lost p = nrd_due (BreaksOff (FrameLost p)) (entry q d.sent (outcome.Taken k) ∷ entry k nrd (outcome.Lost p) ∷ []) refl refl
 
-    pub first_lost : (p : ℕ) → EndsSo k asked entries (entry q d.sent (outcome.Lost p) ∷ []) (ByteLost p)
+    pub first_lost : (p : ℕ) → RoundsEndSo k asked entries (entry q d.sent (outcome.Lost p) ∷ []) (ByteLost p)
     first_lost p = nrd_due (ByteLost p) (entry q d.sent (outcome.Lost p) ∷ []) refl refl
 
   -- the byte is due
@@ -130,19 +121,19 @@ module _ (k : ℕ) (asked : List ℕ) (entries : List Entry) where
     abbrev after_byte : List Entry
     after_byte = entry q eto (outcome.Taken k) ∷ returned k unt ∷ returned k rfc ∷ asked_yet k asked more [] []
 
-    byte_due : (end : RoundsEnd) (tail : List Entry) → tail ≡ end_entries k (echoed q d) after_byte end → is_end_at k (echoed q d) end ≡ true → EndsSo k asked entries tail end
+    byte_due : (end : RoundsEnd) (tail : List Entry) → tail ≡ end_entries k (echoed q d) after_byte end → is_end_at k (echoed q d) end ≡ true → RoundsEndSo k asked entries tail end
     byte_due end tail is legal =
         let all = begun [] [] (none_told k more) (refl, refl) in
         record { all = all.0; rounds_are = all.1; due = echoed q d; more = after_byte; rounds = all.2; tail_is = is; legal = legal }
 
-    pub byte_stands : EndsSo k asked entries (entry q d.sent (outcome.Taken 0) ∷ []) AtHost
+    pub byte_stands : RoundsEndSo k asked entries (entry q d.sent (outcome.Taken 0) ∷ []) AtHost
     byte_stands = byte_due AtHost (entry q d.sent (outcome.Taken 0) ∷ []) (sym (held_none (echoed q d) after_byte [] (data_no_nrd d.sent bytes))) refl
 
-    pub byte_lost_at : (p : ℕ) → EndsSo k asked entries (entry q d.sent (outcome.Lost p) ∷ []) (BreaksOff (FrameLost p))
+    pub byte_lost_at : (p : ℕ) → RoundsEndSo k asked entries (entry q d.sent (outcome.Lost p) ∷ []) (BreaksOff (FrameLost p))
     byte_lost_at p = byte_due (BreaksOff (FrameLost p)) (entry q d.sent (outcome.Lost p) ∷ []) (sym (broken_none (echoed q d) after_byte p (data_no_nrd d.sent bytes))) refl
 
     -- it came back as another frame, and its source ended by ETE, which came to party k or was lost
-    pub byte_altered : (back : Frame) → byte_of back ≢ byte_of d.sent → (q == k) ≡ false → (o : Outcome) → is_end k o ≡ true → EndsSo k asked entries (entry q d.sent (outcome.Back back) ∷ entry q ete o ∷ []) (BreaksOff (TalkerAltered back o))
+    pub byte_altered : (back : Frame) → byte_of back ≢ byte_of d.sent → (q == k) ≡ false → (o : Outcome) → is_end k o ≡ true → RoundsEndSo k asked entries (entry q d.sent (outcome.Back back) ∷ entry q ete o ∷ []) (BreaksOff (TalkerAltered back o))
     byte_altered back other no_guest o end =
         byte_due (BreaksOff (TalkerAltered back o)) (entry q d.sent (outcome.Back back) ∷ entry q ete o ∷ []) (sym (altered_none (data_no_nrd d.sent bytes)))
         (and_from (not (q == k)) (is_altered d.sent back && is_end k o) (ap not no_guest) (and_from (is_altered d.sent back) (is_end k o) (and_from (is_data d.sent) (not (same_but_service d.sent back)) bytes (ap not (wrong_echo d.sent back other))) end))
@@ -151,7 +142,7 @@ module _ (k : ℕ) (asked : List ℕ) (entries : List Entry) where
         altered_none other = ap (λ b. (elim b [ true ↦ entry q eto (outcome.Taken k) ∷ [] | false ↦ [] ]) ++ entry q d.sent (outcome.Back back) ∷ entry q ete o ∷ []) other
 
   -- ETO is due
-  pub end_lost : (more : List ℕ) (q : ℕ) (p : ℕ) → BeginRounds k asked entries more (λ now later. entry q eto (outcome.Taken k) ∷ from_unt k asked more now later) → EndsSo k asked entries (entry q eto (outcome.Lost p) ∷ []) (BreaksOff (FrameLost p))
+  pub end_lost : (more : List ℕ) (q : ℕ) (p : ℕ) → BeginRounds k asked entries more (λ now later. entry q eto (outcome.Taken k) ∷ from_unt k asked more now later) → RoundsEndSo k asked entries (entry q eto (outcome.Lost p) ∷ []) (BreaksOff (FrameLost p))
   end_lost more q p begun =
       let all = begun [] [] (none_told k more) (refl, refl) in
       record { all = all.0; rounds_are = all.1; due = entry q eto (outcome.Taken k); more = from_unt k asked more [] []; rounds = all.2; tail_is = refl; legal = refl }

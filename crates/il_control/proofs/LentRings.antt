@@ -1,4 +1,5 @@
 -- The ring of the devices before a second controller, as that one sees it: the host's of them, between its frames.
+pub use Rattle.il_control.specs.Polling.{own_ring}
 use Rattle.std.proofs.Common.{◌≡◌, ◌∙◌, ◌+◌, ◌++◌, List, [], ◌∷◌, Option, None, length, refl, ap, arith, length-append}
 use Rattle.std.proofs.lemmas.List.Elements.{All-nil}
 use Rattle.il_device.specs.State.{DeviceState}
@@ -8,12 +9,7 @@ use Rattle.il_ring.specs.Books.{IsHeld}
 use Rattle.il_ring.specs.Fates.{HoldsByPlan, IsByPlan}
 use Rattle.il_ring.specs.Lending.{IsLed, going_on}
 use Rattle.il_ring.specs.Rings.{RingView, IsRing, devices_of}
-use Rattle.il_ring.specs.Turned.{books_anew, ring_before_last}
 use Rattle.il_control.specs.Calls.{IsFree}
-
--- with this frame held, or none
-abbrev pub own_ring : {M : Type 0} → List DeviceState → Option Flight → RingView M → RingView M
-own_ring boxed held r = ring_before_last boxed (books_anew held r.books) r
 
 pub own_ring-IsRing : {M : Type 0} (r : RingView M) (boxed : List DeviceState) (last : DeviceState) (held : Option Flight) → r.after ≡ boxed ++ last ∷ [] → IsLed r → IsHeld held → HoldsByPlan r.books.plan r.books.begun r.books.crossings held → IsRing (own_ring boxed held (going_on r))
 own_ring-IsRing r boxed last held after led is way = record {

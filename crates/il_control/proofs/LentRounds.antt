@@ -43,7 +43,7 @@ module _ {M : Type 0} (view : M → MediumView) (k last : ℕ) (own : Option ℕ
       omega (arith, all)
 
   -- a frame of its own went round
-  own_so : (held : Option Flight) (f : Frame) → r.books.lent ≡ Some (sourced k f) → Stays view k last own base r s arrived old answer held (sourced 0 f)
+  pub own_so : (held : Option Flight) (f : Frame) → r.books.lent ≡ Some (sourced k f) → Stays view k last own base r s arrived old answer held (sourced 0 f)
   own_so held f lent =
       stays view k last own base r s arrived answer held (sourced 0 f) old
       (passed held (sourced 0 f) (lent ∙ ap (λ k. Some (sourced k f)) (sym old.many)) many_some) led

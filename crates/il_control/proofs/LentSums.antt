@@ -1,11 +1,10 @@
 -- What a lent ring added since it was lent, and which frame is under way: the sums of its passes, as its second controller polls.
-use Rattle.std.proofs.Common.{◌≡◌, ◌∙◌, ◌<◌, ◌+◌, ◌++◌, ◌==◌, ◌&&◌, ◌⊎◌, inl, inr, ⊎_elim, nat_lt, ℕ, zero, suc, Bool, true, false, not, cond, flat_map, List, [], ◌∷◌, Option, Some, None, length, sum_by, refl, sym, ap, subst, arith, append_assoc, append-nil, length-append}
+use Rattle.std.proofs.Common.{◌≡◌, ◌∙◌, ◌<◌, ◌++◌, ◌==◌, ◌&&◌, ◌⊎◌, inl, inr, ⊎_elim, nat_lt, ℕ, Bool, true, false, not, flat_map, List, [], ◌∷◌, Option, Some, None, length, refl, sym, ap, subst, arith, append_assoc, length-append}
 use Rattle.std.specs.Prelude.{if◌then◌else◌}
 use Rattle.std.specs.List.{list_all}
 use Rattle.std.proofs.lemmas.Bool.{and_from, and_parts, ne_eqb, not-true}
 use Rattle.std.proofs.lemmas.List.{append_cancel_left}
 use Rattle.std.proofs.lemmas.List.Folds.{list_all-append}
-use Rattle.std.proofs.lemmas.List.Sums.{sum_by-append}
 use Rattle.il_frames.specs.declared.entry.Entry.{Entry}
 use Rattle.il_frames.specs.declared.entry.Outcome.{Outcome}
 use Rattle.il_frames.specs.declared.entry.Outcome.TheVariants as outcome
@@ -13,15 +12,12 @@ use Rattle.il_frames.specs.declared.frame.Frame.{Frame}
 use Rattle.il_frames.specs.Frames.{is_data}
 use Rattle.il_frames.specs.Messages.{message_of}
 use Rattle.il_frames.specs.NamedFrames.{entry, is_frame, nrd, rfc, tad, unl, unt}
-use Rattle.il_device.specs.declared.roles.Roles.{Roles}
-use Rattle.il_device.specs.State.{DeviceState, risen, risen_by}
+use Rattle.il_device.specs.State.{DeviceState}
 use Rattle.il_device.specs.Takes.{eto}
 use Rattle.il_drive.specs.State.{device_of}
 use Rattle.il_ports.specs.Media.{MediumView}
 use Rattle.loop_model.specs.Exchanges.{Answer, NotTaken, ToItsEnd, Stopped, Exchange, Receive, Sst, Break, FrameLost, HostAltered, TalkerAltered, answer_entries, break_entries, commanded, echoed, entries_of, is_answer, returned, start_frame}
-use Rattle.loop_model.specs.Leading.{are_commands_led, controller_after, handed_or_back, roles_led}
-use Rattle.loop_model.specs.Reach.{brings_to, links_of}
-use Rattle.loop_model.proofs.LeadingLaws.{are_commands_led-append, controller_after-append, roles_led-append}
+use Rattle.loop_model.specs.Leading.{controller_after, handed_or_back}
 use Rattle.il_guest.specs.declared.control.Place.{Place}
 use Rattle.il_guest.specs.declared.control.Place.TheVariants as place
 use Rattle.il_guest.specs.Frames.{nop, sst}
@@ -29,17 +25,19 @@ use Rattle.il_guest.specs.Rounds.{addresses}
 use Rattle.il_guest.specs.Steps.{command_frame}
 use Rattle.il_ring.specs.declared.flight.Flight.{Flight}
 use Rattle.il_ring.specs.Flights.{sourced}
-use Rattle.il_ring.specs.LedAdds.{AllTookSince, IsUnderWay, LedAdds, others_of, standing}
+use Rattle.il_ring.specs.LedAdds.{IsUnderWay, LedAdds, others_of}
 use Rattle.il_ring.specs.Lending.{going_on}
 use Rattle.il_ring.specs.Lends.{RoundsEnd, AtHost, BreaksOff, ByteLost, all_asked, end_entries, held_entries, is_one_status, rounds_asked, rounds_entries}
 use Rattle.il_ring.specs.Remaining.{BeginRounds, from_byte, from_command, from_ready, from_start}
-use Rattle.il_ring.specs.Rings.{RingView, devices_of, roles_of}
+use Rattle.il_ring.specs.Rings.{RingView, devices_of}
 use Rattle.il_ring.specs.Rounded.{IsAwaited}
 use Rattle.il_ring.proofs.Remaining.{none_told}
 use Rattle.il_control.specs.Receives.{IsHolding}
-use Rattle.il_control.proofs.LentPolls.{EndsSo, own_echo, own_echo-is}
+use Rattle.il_control.proofs.LentPolls.{RoundsEndSo, own_echo, own_echo-is}
 use Rattle.il_control.proofs.LentRings.{own_ring}
 use Rattle.il_ring.proofs.LedSums.{others_are}
+use Rattle.il_ring.proofs.LedSince.{since_append, since_pass}
+use Rattle.il_ring.specs.LedAdds.{LedSince}
 use Rattle.il_control.proofs.LentRounds.{turned_same}
 use Rattle.il_control.proofs.LentTelling.{within}
 use Rattle.il_control.proofs.LentWalks.{BrokeOff, Polling, StandsSo, yet_at}
@@ -120,63 +118,7 @@ module _ {M : Type 0} (view : M → MediumView) (k last : ℕ) (own : Option ℕ
   pub under_way : (f : Flight) × IsUnderWay r f
   under_way = way_at old.place refl
 
--- ---- what was added since
-
--- The ring q became r, and the log grew by these entries, behind which the same party controls. With what stands on the ring they count
--- for the links that were crossed, for the frames that came to each device, and for the roles; what stood at first was counted then.
-pub record LentSince {M : Type 0} (q r : RingView M) (entries : List Entry) : Type 0 where
-  pub log : r.books.log ≡ q.books.log ++ entries
-  pub size : length (devices_of r) ≡ length (devices_of q)
-  pub stays : controller_after (length (devices_of q)) entries ≡ length (devices_of q)
-  pub commands : are_commands_led (length (devices_of q)) entries ≡ true
-  pub links : ℕ
-  pub crossings : r.books.crossings ≡ risen_by links q.books.crossings
-  pub linked :
-      links + sum_by (links_of (length (devices_of q))) (standing (length (devices_of q)) q.books)
-      ≡ sum_by (links_of (length (devices_of q))) (entries ++ standing (length (devices_of q)) r.books)
-  pub frames :
-      AllTookSince (length (devices_of q)) (standing (length (devices_of q)) q.books)
-      (entries ++ standing (length (devices_of q)) r.books) 0 (devices_of q) (devices_of r)
-  pub roles :
-      (before : List Roles) → roles_of (devices_of q) ≡ roles_led (length (devices_of q)) before (standing (length (devices_of q)) q.books)
-      → roles_of (devices_of r) ≡ roles_led (length (devices_of q)) before (entries ++ standing (length (devices_of q)) r.books)
-
--- counts rise one behind the other
-risen_twice : (a b n : ℕ) → risen_by (a + b) n ≡ risen_by b (risen_by a n)
-risen_twice zero b n = let e : zero + b ≡ b = omega arith in ap (λ k. risen_by k n) e
-risen_twice (suc a) b n = let e : suc a + b ≡ suc (a + b) = omega arith in ap (λ k. risen_by k n) e ∙ risen_twice a b (risen n)
-
--- what stood between is counted once
-sum_twice : (f : Entry → ℕ) (a b : ℕ) (before first between second after : List Entry) → a + sum_by f before ≡ sum_by f (first ++ between) → b + sum_by f between ≡ sum_by f (second ++ after)
-    → (a + b) + sum_by f before ≡ sum_by f ((first ++ second) ++ after)
-sum_twice f a b before first between second after one more =
-    let at = sum_by-append f first between in
-    let last = sum_by-append f second after in
-    let all = sum_by-append f (first ++ second) after in
-    let both = sum_by-append f first second in
-    omega (arith, one, more, at, last, all, both)
-
-took_none : (k j : ℕ) (before : List Entry) (ds : List DeviceState) → AllTookSince k before before j ds ds
-took_none k j before [] = tt
-took_none k j before (d ∷ ds) = ((0, refl, omega arith), took_none k (j + 1) before ds)
-
-took_twice : (k j : ℕ) (before first between second after : List Entry) (ds es fs : List DeviceState) → AllTookSince k before (first ++ between) j ds es → AllTookSince k between (second ++ after) j es fs
-    → AllTookSince k before ((first ++ second) ++ after) j ds fs
-took_twice k j before first between second after [] [] [] one more = tt
-took_twice k j before first between second after [] [] (f ∷ fs) one more = more
-took_twice k j before first between second after [] (e ∷ es) fs one more = absurd one
-took_twice k j before first between second after (d ∷ ds) [] fs one more = absurd one
-took_twice k j before first between second after (d ∷ ds) (e ∷ es) [] one more = absurd more
-took_twice k j before first between second after (d ∷ ds) (e ∷ es) (f ∷ fs) one more =
-    let a = one.0.0 in
-    let b = more.0.0 in (
-      (
-        a + b,
-        more.0.1 ∙ ap (risen_by b) one.0.1 ∙ sym (risen_twice a b d.frames),
-        sum_twice (λ x. cond (brings_to k (j + 1) x) 1 0) a b before first between second after one.0.2 more.0.2,
-      ),
-      took_twice k (j + 1) before first between second after ds es fs one.1 more.1,
-    )
+-- ---- control stays
 
 -- entries of which none is the host's leave control where it is
 pub control_stays : (k : ℕ) (entries : List Entry) → list_all (λ e. not (e.source == 0)) entries ≡ true → controller_after k entries ≡ k
@@ -185,58 +127,12 @@ control_stays k (e ∷ entries) others =
     let parts = and_parts (not (e.source == 0)) (list_all (λ e. not (e.source == 0)) entries) others in
     ap (λ b. controller_after (if b then handed_or_back k e.outcome (message_of e.frame) else k) entries) (not-true (e.source == 0) parts.0) ∙ control_stays k entries parts.1
 
--- at first nothing was added
-pub since_none : {M : Type 0} (q : RingView M) → LentSince q q []
-since_none q = record {
-  log = sym (append-nil q.books.log);
-  size = refl;
-  stays = refl;
-  commands = refl;
-  links = 0;
-  crossings = refl;
-  linked = omega arith;
-  frames = took_none (length (devices_of q)) 0 (standing (length (devices_of q)) q.books) (devices_of q);
-  roles = λ before stood. stood;
-}
-
--- a pass adds to it
-pub since_more : {M : Type 0} (q r s : RingView M) (entries : List Entry) → LentSince q r entries → (adds : LedAdds r s) → controller_after (length (devices_of r)) adds.counts.entries ≡ length (devices_of r)
-    → LentSince q s (entries ++ adds.counts.entries)
-since_more q r s entries since adds stays =
-    let new : List Entry = adds.counts.entries in
-    let k : ℕ = length (devices_of q) in
-    let size : length (devices_of r) ≡ k = since.size in
-    let stays_then : controller_after k new ≡ k = subst (λ k. controller_after k new ≡ k) size stays in
-    let commands : are_commands_led k new ≡ true = subst (λ k. are_commands_led k new ≡ true) size adds.commands in
-    let linked = subst (λ k. adds.counts.links + sum_by (links_of k) (standing k r.books) ≡ sum_by (links_of k) (new ++ standing k s.books)) size adds.counts.linked in
-    let frames = subst (λ k. AllTookSince k (standing k r.books) (new ++ standing k s.books) 0 (devices_of r) (devices_of s)) size adds.counts.frames in
-    let roles = subst (λ k. (before : List Roles) → roles_of (devices_of r) ≡ roles_led k before (standing k r.books) → roles_of (devices_of s) ≡ roles_led k before (new ++ standing k s.books)) size adds.roles in
-    record {
-      log = adds.counts.log ∙ ap (λ log. log ++ new) since.log ∙ append_assoc q.books.log entries new;
-      size = adds.counts.size ∙ size;
-      stays = controller_after-append k entries new ∙ ap (λ c. controller_after c new) since.stays ∙ stays_then;
-      commands =
-          are_commands_led-append k entries new
-          ∙ and_from (are_commands_led k entries) (are_commands_led (controller_after k entries) new) since.commands (ap (λ c. are_commands_led c new) since.stays ∙ commands);
-      links = since.links + adds.counts.links;
-      crossings = adds.counts.crossings ∙ ap (risen_by adds.counts.links) since.crossings ∙ sym (risen_twice since.links adds.counts.links q.books.crossings);
-      linked = sum_twice (links_of k) since.links adds.counts.links (standing k q.books) entries (standing k r.books) new (standing k s.books) since.linked linked;
-      frames = took_twice k 0 (standing k q.books) entries (standing k r.books) new (standing k s.books) (devices_of q) (devices_of r) (devices_of s) since.frames frames;
-      roles = λ before stood.
-          let between : roles_of (devices_of r) ≡ roles_led k (roles_led k before entries) (standing k r.books) =
-          since.roles before stood ∙ roles_led-append k before entries (standing k r.books) ∙ ap (λ c. roles_led c (roles_led k before entries) (standing k r.books)) since.stays in
-          roles (roles_led k before entries) between
-          ∙ sym (ap (λ c. roles_led c (roles_led k before entries) (new ++ standing k s.books)) since.stays)
-          ∙ sym (roles_led-append k before entries (new ++ standing k s.books))
-          ∙ ap (λ es. roles_led k before es) (sym (append_assoc entries new (standing k s.books)));
-    }
-
 -- ---- control stays while the rounds go on
 
-abbrev is_theirs : Entry → Bool
+abbrev pub is_theirs : Entry → Bool
 is_theirs e = not (e.source == 0)
 
-abbrev are_theirs : List Entry → Bool
+abbrev pub are_theirs : List Entry → Bool
 are_theirs entries = list_all is_theirs entries
 
 module _ (k : ℕ) (guest : (k == 0) ≡ false) where
@@ -303,7 +199,7 @@ module _ (k : ℕ) (guest : (k == 0) ≡ false) where
   end_theirs due [] (ByteLost q) one all = refl
   end_theirs due (next ∷ more) (ByteLost q) one all = and_from (is_theirs next) true (and_parts (is_theirs next) (are_theirs more) all).0 refl
 
-  ends_theirs : (asked : List ℕ) (entries tail : List Entry) (end : RoundsEnd) → EndsSo k asked entries tail end → are_theirs (entries ++ tail) ≡ true
+  pub ends_theirs : (asked : List ℕ) (entries tail : List Entry) (end : RoundsEnd) → RoundsEndSo k asked entries tail end → are_theirs (entries ++ tail) ≡ true
   ends_theirs asked entries tail end so =
       let whole : are_theirs (entries ++ so.due ∷ so.more) ≡ true = ap are_theirs (sym so.rounds) ∙ rounds_theirs asked so.all so.rounds_are.0 in
       let parts = and_parts (are_theirs entries) (are_theirs (so.due ∷ so.more)) (sym (list_all-append is_theirs entries (so.due ∷ so.more)) ∙ whole) in
@@ -364,6 +260,9 @@ module _ {M : Type 0} (view : M → MediumView) (k last : ℕ) (own : Option ℕ
           control_stays k new parts.1
 
   -- so a pass of the rounds adds to what was added
-  pub since_pass : (q r s : RingView M) (arrived then_arrived : ℕ) (entries : List Entry) → LentSince q r entries → Polling view k last own base r arrived → Polling view k last own base s then_arrived ⊎ BrokeOff view k last own base s then_arrived → (adds : LedAdds r s)
-      → LentSince q s (entries ++ adds.counts.entries)
-  since_pass q r s arrived then_arrived entries since old next adds = since_more q r s entries since adds (pass_stays r s arrived then_arrived old next adds.counts.entries adds.counts.log)
+  pub since_polls : (c : ℕ) (q r s : RingView M) (arrived then_arrived : ℕ) (entries : List Entry) → LedSince c k q r entries → Polling view k last own base r arrived → Polling view k last own base s then_arrived ⊎ BrokeOff view k last own base s then_arrived → (adds : LedAdds r s)
+      → LedSince c k q s (entries ++ adds.counts.entries)
+  since_polls c q r s arrived then_arrived entries since old next adds =
+      let new = adds.counts.entries in
+      since_append c k k q r s entries new since
+      (subst (λ j. LedSince j j r s new) old.many (since_pass r s adds (pass_stays r s arrived then_arrived old next new adds.counts.log)))

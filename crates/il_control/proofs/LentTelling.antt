@@ -1,7 +1,8 @@
 -- A second controller that has the first byte of a status: NRD, and then the byte, goes round.
 use Rattle.std.proofs.Common.{◌≡◌, ◌∙◌, ◌⊎◌, inl, inr, ⊎_elim, ◌≤◌, ◌<◌, ◌+◌, ◌++◌, ◌==◌, not, ℕ, suc, Bool, true, false, List, [], ◌∷◌, Option, Some, None, length, cond, refl, sym, ap, ap₂, subst, arith, append_assoc, append-nil, length-append}
 use Rattle.std.specs.Prelude.{◌-◌, if◌then◌else◌, nat_le, nat_lt}
-use Rattle.std.proofs.lemmas.Bool.{and_from, eq-eqb, ne_eqb}
+use Rattle.std.specs.List.{list_any}
+use Rattle.std.proofs.lemmas.Bool.{and_from, eq-eqb, ne_eqb, or_left}
 use Rattle.std.proofs.lemmas.Bool.Decides.{nat_tests}
 use Rattle.il_frames.specs.declared.entry.Entry.{Entry}
 use Rattle.il_frames.specs.declared.entry.Outcome.{Outcome}
@@ -31,13 +32,14 @@ use Rattle.il_ring.specs.Remaining.{BeginRounds, asked_yet, from_byte, from_unt}
 use Rattle.il_ring.specs.Rings.{RingView, devices_of, roles_of}
 use Rattle.il_ring.specs.Turned.{StandsNot, StandsThere, turned}
 use Rattle.il_ring.proofs.DataPasses.{same_served}
+use Rattle.il_ring.proofs.LendFaults.{back_faulty, is_faulty}
 use Rattle.il_ring.proofs.Remaining.{begin_same}
 use Rattle.il_control.specs.Receives.{IsHolding}
 use Rattle.il_control.proofs.LentAsking.{hit_so, hold_again}
 use Rattle.il_control.proofs.LentBytes.{NrdOn, NrdGone, ByteBack, ByteGone, ByteAltered, holds, holds_then, hold, hold_then, nrd_move, byte_move}
 use Rattle.il_control.proofs.LentCommands.{goes_own}
-use Rattle.il_control.proofs.LentPlaces.{Since, SinceCommand, since_more}
-use Rattle.il_control.proofs.LentPolls.{EndsSo, byte_altered, byte_lost_at, end_lost, nrd_lost, own_echo, own_echo-is}
+use Rattle.il_control.proofs.LentPlaces.{AskedSince, SinceCommand, since_more}
+use Rattle.il_control.proofs.LentPolls.{RoundsEndSo, byte_altered, byte_lost_at, end_lost, nrd_lost, own_echo, own_echo-is}
 use Rattle.il_control.proofs.LentRings.{own_ring, own_ring-length}
 use Rattle.il_control.proofs.LentSteps.{GoesOut}
 use Rattle.il_control.proofs.LentWalks.{BrokeOff, Polling, StandsSo, Stays, asked, broke_off, came_by, front_of, polls_on}
@@ -130,14 +132,14 @@ module _ {M : Type 0} (view : M → MediumView) (k last : ℕ) (own : Option ℕ
               since = since_more (λ since. since ≡ receive_front 0 a None ++ entry 0 sst (outcome.Taken held_flight.source) ∷ []) (λ since. since ≡ receive_front 0 a None ++ entry 0 sst (outcome.Taken there.at.source) ∷ returned 0 nrd ∷ [])
                   (devices_of (holds view r s held_flight answer so.two)) (devices_of (holds_then view r s held_flight answer so.two)) (returned 0 nrd ∷ [])
                   (λ since made. ap (λ es. es ++ returned 0 nrd ∷ []) made ∙ append_assoc (receive_front 0 a None) (entry 0 sst (outcome.Taken held_flight.source) ∷ []) (returned 0 nrd ∷ []) ∙ ap (λ q. receive_front 0 a None ++ entry 0 sst (outcome.Taken q) ∷ returned 0 nrd ∷ []) (sym hit_at.1))
-                  (subst (λ boxed. Since (λ since. since ≡ receive_front 0 a None ++ entry 0 sst (outcome.Taken held_flight.source) ∷ []) (front_of view k last own base r boxed)) so.boxed_is held_stands.2.since)
+                  (subst (λ boxed. AskedSince (λ since. since ≡ receive_front 0 a None ++ entry 0 sst (outcome.Taken held_flight.source) ∷ []) (front_of view k last own base r boxed)) so.boxed_is held_stands.2.since)
                   nrd_on.back.added.adds.roles;
               begun = begun_then there.at.source there.at.sent hit_at.1 hit_at.2;
             },
           )))
           (λ not.
           let ends = byte_lost_at k A (old.entries ++ e) held_stands.0 held_flight.source (own_echo held_flight.sent) (begun_then held_flight.source held_flight.sent refl refl held_flight.sent (own_echo-is held_flight.sent bytes)) bytes 0 in
-          inr (broke_off view k last own base r s arrived old e (entry held_flight.source held_flight.sent (outcome.Lost 0) ∷ []) (BreaksOff (FrameLost 0)) ends refl (omega arith) not.0.log_is not.0.lent_is))
+          inr (broke_off view k last own base r s arrived old e (entry held_flight.source held_flight.sent (outcome.Lost 0) ∷ []) (BreaksOff (FrameLost 0)) ends refl refl (omega arith) (omega arith) not.0.log_is not.0.lent_is))
           out.1
 
       gone : NrdGone view r s held_flight answer so.two holding.0 → Next s arrived
@@ -149,7 +151,7 @@ module _ {M : Type 0} (view : M → MediumView) (k last : ℕ) (own : Option ℕ
           let kept_is : entry_where (length (devices_of (going_on r))) (Some held_flight) ++ entry k nrd (outcome.Lost p) ∷ [] ≡ tail =
           ap (λ j. ended_at held_flight j ∷ entry k nrd (outcome.Lost p) ∷ []) old.many ∙ ap (λ b. entry held_flight.source held_flight.sent (if b then outcome.Back held_flight.now else outcome.Taken k) ∷ entry k nrd (outcome.Lost p) ∷ []) other in
           let ends = nrd_lost k A old.entries held_stands.0 held_flight.source (own_echo held_flight.sent) (held_stands.2.begun held_flight.sent (own_echo-is held_flight.sent bytes)) p in
-          inr (broke_off view k last own base r s arrived old [] tail (BreaksOff (FrameLost p)) (subst (λ es. EndsSo k A es tail (BreaksOff (FrameLost p))) (sym (append-nil old.entries)) ends) refl (omega arith) (not.log_is ∙ ap (λ es. r.books.log ++ es) kept_is) not.lent_is)
+          inr (broke_off view k last own base r s arrived old [] tail (BreaksOff (FrameLost p)) (subst (λ es. RoundsEndSo k A es tail (BreaksOff (FrameLost p))) (sym (append-nil old.entries)) ends) refl refl (omega arith) (omega arith) (not.log_is ∙ ap (λ es. r.books.log ++ es) kept_is) not.lent_is)
 
       pub nrd_step : Next s arrived
       nrd_step = ⊎_elim on gone (nrd_move view r s held_flight answer so.two old.led held_stands.2.kept_is a d (so.control_is ∙ ap (λ p. control.Rounds p) at) holding.0)
@@ -209,7 +211,7 @@ module _ {M : Type 0} (view : M → MediumView) (k last : ℕ) (own : Option ℕ
                     ap (λ es. es ++ echoed byte_flight.source (record { sent = byte_flight.sent; back = back }) ∷ entry byte_flight.source eto (outcome.Taken 0) ∷ []) made
                         ∙ append_assoc (receive_front 0 a None) (entry 0 sst (outcome.Taken byte_flight.source) ∷ returned 0 nrd ∷ []) (echoed byte_flight.source (record { sent = byte_flight.sent; back = back }) ∷ entry byte_flight.source eto (outcome.Taken 0) ∷ []),
                   ))
-                  (subst (λ boxed. Since (λ since. since ≡ receive_front 0 a None ++ entry 0 sst (outcome.Taken byte_flight.source) ∷ returned 0 nrd ∷ []) (front_of view k last own base r boxed)) so.boxed_is byte_stands.2.since)
+                  (subst (λ boxed. AskedSince (λ since. since ≡ receive_front 0 a None ++ entry 0 sst (outcome.Taken byte_flight.source) ∷ returned 0 nrd ∷ []) (front_of view k last own base r boxed)) so.boxed_is byte_stands.2.since)
                   roles;
               begun = begun;
             },
@@ -227,7 +229,8 @@ module _ {M : Type 0} (view : M → MediumView) (k last : ℕ) (own : Option ℕ
       altered_so back came o end log none =
           let tail : List Entry = back_entry byte_flight back ∷ entry byte_flight.source ete o ∷ [] in
           let ends = byte_altered k A old.entries byte_stands.0 byte_flight.source (own_echo byte_flight.sent) own_begun bytes₂ back came.echo.0 no_guest o end in
-          inr (broke_off view k last own base r s arrived old [] tail (BreaksOff (TalkerAltered back o)) (subst (λ es. EndsSo k A es tail (BreaksOff (TalkerAltered back o))) (sym (append-nil old.entries)) ends) refl (omega arith) log none)
+          let shows : list_any is_faulty tail ≡ true = or_left (is_faulty (back_entry byte_flight back)) _ (back_faulty byte_flight.source byte_flight.sent back bytes₂ came.echo.0) in
+          inr (broke_off view k last own base r s arrived old [] tail (BreaksOff (TalkerAltered back o)) (subst (λ es. RoundsEndSo k A es tail (BreaksOff (TalkerAltered back o))) (sym (append-nil old.entries)) ends) refl shows (omega arith) (omega arith) log none)
 
       gone₂ : ByteGone view r s byte_flight answer so.two holding₂.0 → Next s arrived
       gone₂ off =
@@ -237,7 +240,7 @@ module _ {M : Type 0} (view : M → MediumView) (k last : ℕ) (own : Option ℕ
           (λ first.
           let tail : List Entry = entry byte_flight.source byte_flight.sent (outcome.Lost p) ∷ [] in
           let ends = byte_lost_at k A old.entries byte_stands.0 byte_flight.source (own_echo byte_flight.sent) own_begun bytes₂ p in
-          inr (broke_off view k last own base r s arrived old [] tail (BreaksOff (FrameLost p)) (subst (λ es. EndsSo k A es tail (BreaksOff (FrameLost p))) (sym (append-nil old.entries)) ends) refl (omega arith)
+          inr (broke_off view k last own base r s arrived old [] tail (BreaksOff (FrameLost p)) (subst (λ es. RoundsEndSo k A es tail (BreaksOff (FrameLost p))) (sym (append-nil old.entries)) ends) refl refl (omega arith) (omega arith)
           (not.log_is ∙ ap₂ (λ front frame. r.books.log ++ (front ++ entry byte_flight.source frame (outcome.Lost p) ∷ [])) first.0 first.1) not.lent_is))
           (λ next. by_right next.0 next.1 next.2 not.lent_is p (not.log_is ∙ ap₂ (λ front frame. r.books.log ++ (front ++ entry byte_flight.source frame (outcome.Lost p) ∷ [])) next.3 next.4))
           off.kind
@@ -248,7 +251,7 @@ module _ {M : Type 0} (view : M → MediumView) (k last : ℕ) (own : Option ℕ
               let e : List Entry = back_entry byte_flight back ∷ [] in
               let echo : is_echo (record { sent = byte_flight.sent; back = back }) ≡ true = and_from (is_data byte_flight.sent) (same_but_service byte_flight.sent back) bytes₂ (same_served byte_flight.sent back came.echo.1) in
               let ends = end_lost k A (old.entries ++ e) byte_stands.0 byte_flight.source p (begun_eto back echo) in
-              inr (broke_off view k last own base r s arrived old e (entry byte_flight.source eto (outcome.Lost p) ∷ []) (BreaksOff (FrameLost p)) ends refl (omega arith) log none)
+              inr (broke_off view k last own base r s arrived old e (entry byte_flight.source eto (outcome.Lost p) ∷ []) (BreaksOff (FrameLost p)) ends refl refl (omega arith) (omega arith) log none)
           by_right false back came none p log = altered_so back came (outcome.Lost p) refl log none
 
       altered₂ : ByteAltered view r s byte_flight answer so.two holding₂.0 → Next s arrived

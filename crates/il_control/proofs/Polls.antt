@@ -29,11 +29,11 @@ identify_class class.Isr is = refl
 identify_class _ is = cc
 
 -- what came of it
-abbrev pub Polled : {M : Type 0} → (M → MediumView) → RingView M → Arrival → RingView M → Type 0
-Polled view r (arrival.Frame g) s = Made view (Identify g) r s × (g ≡ identified_along (devices_of r) idy)
-Polled view r arrival.Lost s = BrokenOff view (Identify idy) r s
+abbrev pub PolledUntil : {M : Type 0} → (M → MediumView) → RingView M → Arrival → RingView M → Type 0
+PolledUntil view r (arrival.Frame g) s = Made view (Identify g) r s × (g ≡ identified_along (devices_of r) idy)
+PolledUntil view r arrival.Lost s = BrokenOff view (Identify idy) r s
 
-pub identify_call : {M : Type 0} (view : M → MediumView) (r s : RingView M) (held : Option Flight) (f : Frame) (answer : Arrival) → Round view r held (sourced 0 f) answer s → f ≡ idy → held ≡ None → IsIdle r → Polled view r answer s
+pub identify_call : {M : Type 0} (view : M → MediumView) (r s : RingView M) (held : Option Flight) (f : Frame) (answer : Arrival) → Round view r held (sourced 0 f) answer s → f ≡ idy → held ≡ None → IsIdle r → PolledUntil view r answer s
 identify_call view r s held f answer round is none idle =
     let all = devices_of r in
     let end = identified_along all idy in
@@ -44,9 +44,9 @@ identify_call view r s held f answer round is none idle =
     let leads = came.1 in
     let less : suc (length all) - 1 ≡ length all = omega arith in
     let past : identified_along (drop (suc (length all) - 1) all) back ≡ back = ap (λ n. identified_along (drop n all) back) less ∙ ap (λ rest. identified_along rest back) (drop-length all) in
-    subst (λ answer. Polled view r answer s) (sym came.2) (
+    subst (λ answer. PolledUntil view r answer s) (sym came.2) (
       made view (Identify back) r s idle (identify_class (class_of back) leads.identify) refl refl came.3,
       sym past ∙ leads.behind,
     ))
-    (λ lost. subst (λ answer. Polled view r answer s) (sym lost.0) (quiet_broken_off view (Identify idy) r s idle refl refl refl (lost.1 (outcome.Back idy))))
+    (λ lost. subst (λ answer. PolledUntil view r answer s) (sym lost.0) (quiet_broken_off view (Identify idy) r s idle refl refl refl (lost.1 (outcome.Back idy))))
     (pass_call view (LeadsTo all end) (IsParty all) OnlyPassed (identify_passes all end) (λ d e passed. passed.0) r s held idy answer sent none idle.free (parties [] all) (record { identify = refl; behind = refl }) (AsIdentify refl refl) (λ g leads. poll_comes (drive_party r) g leads.identify))

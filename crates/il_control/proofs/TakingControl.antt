@@ -1,7 +1,8 @@
 -- An IFC of the host, whoever controls the loop.
-use Rattle.std.proofs.Common.{◌≡◌, ⊎_elim, ◌∙◌, ◌++◌, ℕ, Bool, true, false, List, [], ◌∷◌, Option, Some, None, option_map, length, refl, sym, ap, subst, append-nil}
+use Rattle.std.proofs.Common.{◌≡◌, ◌≤◌, ⊎_elim, ◌∙◌, ◌++◌, ℕ, Bool, true, false, List, [], ◌∷◌, Option, Some, None, option_map, length, refl, sym, ap, subst, arith, append-nil, length-append}
 use Rattle.il_frames.specs.declared.entry.Entry.{Entry}
 use Rattle.il_frames.specs.declared.frame.Frame.{Frame}
+use Rattle.il_frames.specs.declared.message.Message.{Message}
 use Rattle.il_frames.specs.Messages.{message_of}
 use Rattle.il_frames.specs.NamedFrames.{ifc, is_frame}
 use Rattle.il_device.specs.Passing.{is_plain}
@@ -13,9 +14,9 @@ use Rattle.il_ring.specs.Adds.{Adds}
 use Rattle.il_ring.specs.Books.{BooksView}
 use Rattle.il_ring.specs.Flights.{sourced}
 use Rattle.il_ring.specs.Guests.{GuestMind, IsUnderHost, last_asked}
-use Rattle.il_ring.specs.Lending.{HostKeeps, TakenBack, as_host, entry_where, host_leads, leads, lending_ended, taken_back}
-use Rattle.il_ring.specs.Rings.{RingView, IsRing, Round, devices_of}
-use Rattle.il_ring.proofs.LedRings.{host_under}
+use Rattle.il_ring.specs.Lending.{HostKeeps, IsLed, TakenBack, about_to_send, as_host, entry_where, host_leads, leads, lending_ended, taken_back, taken_back_where}
+use Rattle.il_ring.specs.Rings.{RingView, IsRing, Round, devices_of, spare_of}
+use Rattle.il_ring.proofs.LedRings.{host_under, ring_back}
 use Rattle.il_ring.proofs.LedRounds.{host_keeps, led_under, not_led}
 use Rattle.il_control.specs.Calls.{IsFree, Obeyed, ObeyedInPart, Whole, Broke, arrives}
 use Rattle.il_control.proofs.Asking.{plain_obeyed, plain_part}
@@ -37,6 +38,39 @@ books_same k b lent kept =
 
 pub taken_same : {M : Type 0} (r : RingView M) → IsRing r → taken_back r ≡ r
 taken_same r ring = ap (λ b. record r { books = b }) (books_same (length (devices_of r)) r.books ring.lent ring.kept)
+
+-- what was lent ends: the ring as the host is about to send
+
+about_same_where : {M : Type 0} (lead : Bool) (r : RingView M) → IsRing r → taken_back_where lead r ≡ r
+about_same_where true r ring = taken_same r ring
+about_same_where false r ring = refl
+
+-- where the ring is not lent nothing ends
+pub about_same : {M : Type 0} (r : RingView M) → IsRing r → about_to_send r ≡ r
+about_same r ring = about_same_where (leads r.guest) r ring
+
+pub about_free : {M : Type 0} (r : RingView M) → IsFree r → IsFree (about_to_send r)
+about_free r free = subst IsFree (sym (about_same r free.ring)) free
+
+held_where : {M : Type 0} (lead : Bool) (r : RingView M) → (taken_back_where lead r).books.held ≡ r.books.held
+held_where true r = refl
+held_where false r = refl
+
+-- what is held stays
+pub about_held : {M : Type 0} (r : RingView M) → IsFree (about_to_send r) → r.books.held ≡ None
+about_held r free = sym (held_where (leads r.guest) r) ∙ free.held
+
+spare_where : {M : Type 0} (lead : Bool) (r : RingView M) → spare_of (taken_back_where lead r) ≤ spare_of r
+spare_where true r =
+    let k = length (devices_of r) in
+    let kept = length-append r.books.log (entry_where k r.books.kept) in
+    let lent = length-append (r.books.log ++ entry_where k r.books.kept) (entry_where 0 r.books.lent) in
+    omega (arith, kept, lent)
+spare_where false r = omega arith
+
+-- its log has room for as many entries at most
+pub about_spare : {M : Type 0} (r : RingView M) (more : ℕ) → more ≤ spare_of (about_to_send r) → more ≤ spare_of r
+about_spare r more room = let less = spare_where (leads r.guest) r in omega (arith, less, room)
 
 led_free : {M : Type 0} (r : RingView M) → IsFree r → IsFree (host_leads r)
 led_free r free = record {
@@ -124,31 +158,31 @@ module _ {M : Type 0} (view : M → MediumView) (r s : RingView M) (lead : leads
   done_led entries true done = whole_led entries done
   done_led entries false done = broke_led entries done
 
-ifc_led : {M : Type 0} (view : M → MediumView) (r s : RingView M) (f : Frame) (answer : Arrival) → f ≡ ifc → IsFree r → leads r.guest ≡ true → TakenBack view r f answer s → IfcSent view r f answer s
+ifc_led : {M : Type 0} (view : M → MediumView) (r s : RingView M) (f : Frame) (answer : Arrival) → f ≡ ifc → IsFree (taken_back r) → leads r.guest ≡ true → TakenBack view r f answer s → IfcSent view (taken_back r) f answer s
 ifc_led view r s f answer is free lead back = record {
-  done = done_led view r s lead last (returned 0 f ∷ []) (arrives answer) (plain_call view (host_leads r) (host_leads s) r.books.held f answer round free.held (led_free r free) plain);
-  obeyed = plain_obeyed view (host_leads r) (host_leads s) r.books.held f answer round (led_free r free) plain;
-  part = plain_part view (host_leads r) (host_leads s) r.books.held f answer round (led_free r free) plain;
+  done = done_led view (taken_back r) s lead last (returned 0 f ∷ []) (arrives answer) (plain_call view (host_leads (taken_back r)) (host_leads s) r.books.held f answer back.round free.held (led_free (taken_back r) free) plain);
+  obeyed = plain_obeyed view (host_leads (taken_back r)) (host_leads s) r.books.held f answer back.round (led_free (taken_back r) free) plain;
+  part = plain_part view (host_leads (taken_back r)) (host_leads s) r.books.held f answer back.round (led_free (taken_back r) free) plain;
   host = λ came. ⊎_elim (λ same. subst (λ s. IsUnderHost s.guest) (sym same) (host_under s.guest)) (λ lost. let clash = sym came ∙ ap arrives lost.1 in cc) back.mind;
 }
   where
     plain : is_plain (message_of f) ≡ true
     plain = ap (λ f. is_plain (message_of f)) is
 
-    round : Round view (host_leads r) r.books.held (sourced 0 f) answer (host_leads s)
-    round = subst (λ q. Round view (host_leads q) r.books.held (sourced 0 f) answer (host_leads s)) (taken_same r free.ring) back.round
-
     last : last_asked s.guest ≡ last_asked r.guest
-    last = sym (last_host s.guest) ∙ ap last_asked round.guest ∙ last_host r.guest
+    last = sym (last_host s.guest) ∙ ap last_asked back.round.guest ∙ last_host r.guest
 
-pub ifc_sent : {M : Type 0} (view : M → MediumView) (r s : RingView M) (f : Frame) (answer : Arrival) → f ≡ ifc → IsFree r → (HostKeeps r f → Round view r r.books.held (sourced 0 f) answer s) → (leads r.guest ≡ true → TakenBack view r f answer s) → IfcSent view r f answer s
+pub ifc_sent : {M : Type 0} (view : M → MediumView) (r s : RingView M) (f : Frame) (answer : Arrival) → f ≡ ifc → IsFree (about_to_send r) → (HostKeeps r f → Round view r r.books.held (sourced 0 f) answer s) → (leads r.guest ≡ true → TakenBack view r f answer s) → IfcSent view (about_to_send r) f answer s
 ifc_sent view r s f answer is free round back = by_lead (leads r.guest) refl
   where
-    by_lead : (lead : Bool) → leads r.guest ≡ lead → IfcSent view r f answer s
-    by_lead true lead = ifc_led view r s f answer is free lead (back lead)
+    by_lead : (lead : Bool) → leads r.guest ≡ lead → IfcSent view (about_to_send r) f answer s
+    by_lead true lead =
+        let as_led : about_to_send r ≡ taken_back r = ap (λ lead. taken_back_where lead r) lead in
+        subst (λ q. IfcSent view q f answer s) (sym as_led) (ifc_led view r s f answer is (subst IsFree as_led free) lead (back lead))
     by_lead false none =
+        let as_host : about_to_send r ≡ r = ap (λ lead. taken_back_where lead r) none in
         let under = led_under r.guest none in
-        ifc_host view r s f answer is free under (round (host_keeps r f under (ap (λ f. is_frame f tct) is)))
+        subst (λ q. IfcSent view q f answer s) (sym as_host) (ifc_host view r s f answer is (subst IsFree as_host free) under (round (host_keeps r f under (ap (λ f. is_frame f tct) is))))
 
 -- by name
 pub ifc_done : {M : Type 0} (view : M → MediumView) (r s : RingView M) (f : Frame) (answer : Arrival) → f ≡ ifc → IfcSent view r f answer s → Done view r (returned 0 ifc ∷ []) (arrives answer) s
@@ -159,3 +193,23 @@ ifc_obeyed view r s f answer is sent came = subst (λ f. Obeyed (message_of f) r
 
 pub ifc_part : {M : Type 0} (view : M → MediumView) (r s : RingView M) (f : Frame) (answer : Arrival) → f ≡ ifc → IfcSent view r f answer s → ObeyedInPart (message_of ifc) r s
 ifc_part view r s f answer is sent = subst (λ f. ObeyedInPart (message_of f) r s) is sent.part
+
+-- ---- where nothing was lent
+
+pub of_unlent : {M : Type 0} (view : M → MediumView) (r s : RingView M) (entries : List Entry) (whole : Bool) → IsRing r → Done view (about_to_send r) entries whole s → Done view r entries whole s
+of_unlent view r s entries whole ring done = subst (λ q. Done view q entries whole s) (about_same r ring) done
+
+pub part_of_unlent : {M : Type 0} (view : M → MediumView) (r s : RingView M) (entries : List Entry) (whole : Bool) (m : Message) → IsRing r → Done view r entries whole s → ObeyedInPart m (about_to_send r) s → ObeyedInPart m r s
+part_of_unlent view r s entries whole m ring done part = subst (λ q. ObeyedInPart m q s) (about_same r ring) part
+
+pub room_unlent : {M : Type 0} (r : RingView M) (more : ℕ) → IsRing r → more ≤ spare_of r → more ≤ spare_of (about_to_send r)
+room_unlent r more ring room = subst (λ q. more ≤ spare_of q) (sym (about_same r ring)) room
+
+-- ---- a ring that is lent
+
+pub about_led : {M : Type 0} (r : RingView M) → IsLed r → IsFree (about_to_send r)
+about_led r led =
+    let as_led : about_to_send r ≡ taken_back r = ap (λ lead. taken_back_where lead r) led.leads in
+    let back = ring_back r led in
+    let ring : IsRing (taken_back r) = record { few = back.few; plan = back.plan; crossings = back.crossings; held = back.held; drive = back.drive; lent = back.lent; kept = back.kept; told = back.told } in
+    subst IsFree (sym as_led) (record { ring = ring; held = led.held })

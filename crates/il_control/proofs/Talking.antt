@@ -80,7 +80,7 @@ module _ (rs : List Roles) (a : ℕ) (number : Option ℕ) (numbers : are_number
   many : length between ≡ length rs
   many = length-roles_after rs (commanded 0 unl)
 
-  front_roles : roles_after rs (receive_front 0 a number) ≡ roles_after_entry between (returned 0 (tad a))
+  pub front_roles : roles_after rs (receive_front 0 a number) ≡ roles_after_entry between (returned 0 (tad a))
   front_roles =
       roles_after-append rs (commanded 0 unl) (commanded 0 (tad a) ++ numbered 0 ddt number)
       ∙ roles_after-kept (roles_after_entry between (returned 0 (tad a))) (returned 0 rfc ∷ numbered 0 ddt number) (ddt_keeps number fit)

@@ -22,6 +22,7 @@ use Rattle.il_ring.specs.declared.plan.Arrival.TheVariants as arrival
 use Rattle.il_ring.specs.Guests.{IsUnderHost}
 use Rattle.il_ring.specs.Rings.{RingView, IsRing, devices_of, drive_party}
 use Rattle.il_ring.specs.Lists.{Each}
+pub use Rattle.il_ring.specs.Outcomes.{IsDeaf}
 use Rattle.il_ring.specs.Outcomes.{met_between, IsTalking, StoodSo}
 use Rattle.il_ring.specs.Adds.{Adds}
 use Rattle.il_control.specs.declared.frames.Sot.{Sot}
@@ -216,9 +217,6 @@ abbrev pub CutBrings : {M : Type 0} → (M → MediumView) → RingView M → �
 CutBrings view m p from entries n break to s = AddsBy view m p from (cut_at entries n break) to (λ k q gs outs. CutBrought k q entries n gs) s
 
 -- ---- a held frame
-
-abbrev pub IsDeaf : ℕ → DeviceState → Type 0
-IsDeaf k d = d.roles.listens ≡ false
 
 -- A data frame of the one device that talks is held at the host, and no device listens.
 pub record IsHolding {M : Type 0} (m : RingView M) : Type 0 where

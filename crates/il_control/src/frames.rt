@@ -4,6 +4,7 @@ ghost use Rattle.il_frames.specs.declared.frame.Class.TheVariants as class;
 ghost use Rattle.il_frames.specs.Frames.{framed};
 ghost use Rattle.il_device.specs.Takes as takes;
 ghost use Rattle.il_frames.specs.NamedFrames as entries;
+ghost use Rattle.il_guest.specs.Frames as guests;
 ghost use Rattle.loop_model.specs.Exchanges.{start_frame};
 ghost use Rattle.il_control.specs.Receives.{start_of};
 ghost use Rattle.il_control.specs.Calls as calls;
@@ -103,6 +104,13 @@ pub(crate) fn nrd() -> Frame
     ensures { result ≡ entries.nrd }
 {
     Frame::new(Class::Rdy, 0x42)
+}
+
+/// Take control.
+pub(crate) fn tct() -> Frame
+    ensures { result ≡ guests.tct }
+{
+    Frame::new(Class::Rdy, 0x64)
 }
 
 /// End of transmission, all right.

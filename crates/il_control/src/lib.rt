@@ -3,6 +3,7 @@
 #![tactic(auto)]
 
 mod frames;
+mod lending;
 mod receiving;
 mod rounds;
 mod states;

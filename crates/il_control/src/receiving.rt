@@ -49,7 +49,7 @@ pub(crate) enum Front {
 }
 
 /// Has the device of this address talk, and no device listen, and sends the DDT of a number behind that.
-fn ask<M: Medium>(ring: &mut Ring<M>, address: u8, number: Option<u8>) -> bool
+pub(crate) fn ask<M: Medium>(ring: &mut Ring<M>, address: u8, number: Option<u8>) -> bool
     requires room { 38 ≤ spare_of (⟦<Ring<M> as Seen<M>>⟧.seen ring.old) }
     requires free { IsFree (⟦<Ring<M> as Seen<M>>⟧.seen ring.old) }
     requires host { IsUnderHost (⟦<Ring<M> as Seen<M>>⟧.seen ring.old).guest }

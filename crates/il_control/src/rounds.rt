@@ -6,7 +6,9 @@ ghost use Rattle.loop_model.specs.Exchanges.{Send, entries_of, numbered, returne
 ghost use Rattle.il_frames.specs.NamedFrames.{ifc, aau, lad, ddl, is_frame};
 ghost use Rattle.il_guest.specs.Frames.{tct};
 ghost use Rattle.il_ring.specs.Guests.{IsUnderHost};
+ghost use Rattle.il_ring.specs.Lending.{about_to_send, hands_over};
 ghost use Rattle.il_ring.specs.Rings.{spare_of};
+ghost use Rattle.il_control.specs.Found.{KeepsFound};
 ghost use Rattle.il_control.specs.Calls.{arrives, AllStay, Obeyed, ObeyedInPart, Whole, Broke, IsFree, IsIdle, IsLost, Resumed, NotResumed, Sent, NotSent};
 
 use crate::frames::{aad, aau, dab, ddl, ifc, lad, rfc, unl};
@@ -24,13 +26,13 @@ fn came_back(arrival: Arrival) -> bool
     }
 }
 
-/// Sends a command or ready frame that every device passes on, and that does not hand control over.
+/// Sends a command or ready frame that every device passes on, and that hands control over to nobody.
 pub(crate) fn pass_round<M: Medium>(ring: &mut Ring<M>, frame: Frame) -> bool
     requires room { 32 ≤ spare_of (⟦<Ring<M> as Seen<M>>⟧.seen ring.old) }
     requires free { IsFree (⟦<Ring<M> as Seen<M>>⟧.seen ring.old) }
     requires host { IsUnderHost (⟦<Ring<M> as Seen<M>>⟧.seen ring.old).guest }
     requires plain { is_plain (message_of frame) ≡ true }
-    requires hands { is_frame frame tct ≡ false }
+    requires hands { hands_over (⟦<Ring<M> as Seen<M>>⟧.seen ring.old) frame ≡ false }
     ensures done { MatchBool result (Whole M.view (⟦<Ring<M> as Seen<M>>⟧.seen ring.old) (returned 0 frame ∷ []) (⟦<Ring<M> as Seen<M>>⟧.seen ring.new))
         (Broke M.view (⟦<Ring<M> as Seen<M>>⟧.seen ring.old) (returned 0 frame ∷ []) (⟦<Ring<M> as Seen<M>>⟧.seen ring.new)) }
     ensures obeyed { result ≡ true → Obeyed (message_of frame) (⟦<Ring<M> as Seen<M>>⟧.seen ring.old) (⟦<Ring<M> as Seen<M>>⟧.seen ring.new) }
@@ -116,28 +118,32 @@ pub(crate) fn send_byte<M: Medium>(ring: &mut Ring<M>, byte: u8) -> bool
     }
 }
 
-/// Clears the interface. The host then controls the loop, whoever did before.
+/// Clears the interface. The host then controls the loop, whoever did before; what was lent has ended.
 fn take_control<M: Medium>(ring: &mut Ring<M>) -> bool
     requires room { 32 ≤ spare_of (⟦<Ring<M> as Seen<M>>⟧.seen ring.old) }
-    requires free { IsFree (⟦<Ring<M> as Seen<M>>⟧.seen ring.old) }
-    ensures done { MatchBool result (Whole M.view (⟦<Ring<M> as Seen<M>>⟧.seen ring.old) (returned 0 ifc ∷ []) (⟦<Ring<M> as Seen<M>>⟧.seen ring.new))
-        (Broke M.view (⟦<Ring<M> as Seen<M>>⟧.seen ring.old) (returned 0 ifc ∷ []) (⟦<Ring<M> as Seen<M>>⟧.seen ring.new)) }
-    ensures obeyed { result ≡ true → Obeyed (message_of ifc) (⟦<Ring<M> as Seen<M>>⟧.seen ring.old) (⟦<Ring<M> as Seen<M>>⟧.seen ring.new) }
-    ensures part { ObeyedInPart (message_of ifc) (⟦<Ring<M> as Seen<M>>⟧.seen ring.old) (⟦<Ring<M> as Seen<M>>⟧.seen ring.new) }
+    requires free { IsFree (about_to_send (⟦<Ring<M> as Seen<M>>⟧.seen ring.old)) }
+    ensures done { MatchBool result (Whole M.view (about_to_send (⟦<Ring<M> as Seen<M>>⟧.seen ring.old)) (returned 0 ifc ∷ []) (⟦<Ring<M> as Seen<M>>⟧.seen ring.new))
+        (Broke M.view (about_to_send (⟦<Ring<M> as Seen<M>>⟧.seen ring.old)) (returned 0 ifc ∷ []) (⟦<Ring<M> as Seen<M>>⟧.seen ring.new)) }
+    ensures obeyed { result ≡ true → Obeyed (message_of ifc) (about_to_send (⟦<Ring<M> as Seen<M>>⟧.seen ring.old)) (⟦<Ring<M> as Seen<M>>⟧.seen ring.new) }
+    ensures part { ObeyedInPart (message_of ifc) (about_to_send (⟦<Ring<M> as Seen<M>>⟧.seen ring.old)) (⟦<Ring<M> as Seen<M>>⟧.seen ring.new) }
     ensures host { result ≡ true → IsUnderHost (⟦<Ring<M> as Seen<M>>⟧.seen ring.new).guest }
+    // What a second controller has found stays.
+    ensures found { KeepsFound (⟦<Ring<M> as Seen<M>>⟧.seen ring.old) (⟦<Ring<M> as Seen<M>>⟧.seen ring.new) }
 {
     came_back(ring.send(ifc()))
 }
 
 /// Clears the interface, and waits for the handshake behind it.
 pub(crate) fn clear_interface<M: Medium>(ring: &mut Ring<M>) -> bool
-    requires room { 33 ≤ spare_of (⟦<Ring<M> as Seen<M>>⟧.seen ring.old) }
-    requires free { IsFree (⟦<Ring<M> as Seen<M>>⟧.seen ring.old) }
-    ensures done { MatchBool result (Whole M.view (⟦<Ring<M> as Seen<M>>⟧.seen ring.old) (commanded 0 ifc) (⟦<Ring<M> as Seen<M>>⟧.seen ring.new))
-        (Broke M.view (⟦<Ring<M> as Seen<M>>⟧.seen ring.old) (commanded 0 ifc) (⟦<Ring<M> as Seen<M>>⟧.seen ring.new)) }
-    ensures obeyed { result ≡ true → Obeyed (message_of ifc) (⟦<Ring<M> as Seen<M>>⟧.seen ring.old) (⟦<Ring<M> as Seen<M>>⟧.seen ring.new) }
-    ensures part { ObeyedInPart (message_of ifc) (⟦<Ring<M> as Seen<M>>⟧.seen ring.old) (⟦<Ring<M> as Seen<M>>⟧.seen ring.new) }
+    requires room { 33 ≤ spare_of (about_to_send (⟦<Ring<M> as Seen<M>>⟧.seen ring.old)) }
+    requires free { IsFree (about_to_send (⟦<Ring<M> as Seen<M>>⟧.seen ring.old)) }
+    ensures done { MatchBool result (Whole M.view (about_to_send (⟦<Ring<M> as Seen<M>>⟧.seen ring.old)) (commanded 0 ifc) (⟦<Ring<M> as Seen<M>>⟧.seen ring.new))
+        (Broke M.view (about_to_send (⟦<Ring<M> as Seen<M>>⟧.seen ring.old)) (commanded 0 ifc) (⟦<Ring<M> as Seen<M>>⟧.seen ring.new)) }
+    ensures obeyed { result ≡ true → Obeyed (message_of ifc) (about_to_send (⟦<Ring<M> as Seen<M>>⟧.seen ring.old)) (⟦<Ring<M> as Seen<M>>⟧.seen ring.new) }
+    ensures part { ObeyedInPart (message_of ifc) (about_to_send (⟦<Ring<M> as Seen<M>>⟧.seen ring.old)) (⟦<Ring<M> as Seen<M>>⟧.seen ring.new) }
     ensures host { result ≡ true → IsUnderHost (⟦<Ring<M> as Seen<M>>⟧.seen ring.new).guest }
+    // What a second controller has found stays.
+    ensures found { KeepsFound (⟦<Ring<M> as Seen<M>>⟧.seen ring.old) (⟦<Ring<M> as Seen<M>>⟧.seen ring.new) }
 {
     take_control(ring) && pass_round(ring, rfc())
 }

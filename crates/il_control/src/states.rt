@@ -1,4 +1,4 @@
-ghost use Rattle.std.specs.Prelude.{◌≡◌, ◌≤◌, ◌<◌, ◌+◌, [], true, length, IfSome, IfOk, IfErr, not, is_some};
+ghost use Rattle.std.specs.Prelude.{◌≡◌, ◌≤◌, ◌<◌, ◌+◌, ◌*◌, [], true, length, IfSome, IfOk, IfErr, not, is_some};
 ghost use Rattle.il_frames.specs.Messages.{message_of};
 ghost use Rattle.loop_model.specs.Exchanges.Exchange.{Command, Identify, Send};
 ghost use Rattle.il_ring.specs.Rings.{spare_of, devices_of, ring_emptied};
@@ -6,9 +6,11 @@ ghost use Rattle.il_ring.specs.Lists.{Each};
 ghost use Rattle.il_ring.specs.Polls.{identified_along};
 ghost use Rattle.il_control.specs.Calls.{idy, IsIdle, IsLost, is_command, Made, BrokenOff, Obeyed, ObeyedInPart, AllStay, Resumed, NotResumed, IsTold, Sent, NotSent};
 ghost use Rattle.il_control.specs.Receives.{start_of, Received, NotReceived};
+ghost use Rattle.il_control.specs.Lent.{LendBroken, LendMade};
 
 use crate::frames;
 use crate::frames::Sot;
+use crate::lending::lend;
 use crate::receiving::receive;
 use crate::rounds::{address, command, send_byte, tell};
 use il_device::Device;
@@ -236,6 +238,25 @@ impl<M: Medium> Idle<M> {
         let Idle { mut ring, devices } = self;
         match receive(&mut ring, address, number, start, into) {
             Some(count) => Ok((Idle { ring, devices }, count)),
+            None => Err(Lost { ring, devices }),
+        }
+    }
+
+    /// Hands control of the loop to the second controller, where it stands at this address, 1 to 30: the device there is to talk,
+    /// and TCT is sent. While the second controller polls, each of its frames comes past the host; at the one that is the `limit`-th,
+    /// 1 to 4,096, the host takes control back by IFC. Answers whether a second controller took control. Where none did, TCT came
+    /// back, and no device talks any more.
+    pub fn lend(self, address: u8, limit: u16) -> Result<(Idle<M>, bool), Lost<M>>
+        requires address { (1 ≤ address) × (address ≤ 30) }
+        requires limit { (1 ≤ limit) × (limit ≤ 4096) }
+        requires room { 4 * limit + 48 ≤ spare_of (⟦<Idle<M> as Seen<M>>⟧.seen self) }
+        requires idle { IsIdle (⟦<Idle<M> as Seen<M>>⟧.seen self) }
+        ensures made { IfOk result (λ told. LendMade address limit told.1 (⟦<Idle<M> as Seen<M>>⟧.seen self) (⟦<Idle<M> as Seen<M>>⟧.seen told.0)) }
+        ensures broken { IfErr result (λ lost. LendBroken address limit (⟦<Idle<M> as Seen<M>>⟧.seen self) (⟦<Lost<M> as Seen<M>>⟧.seen lost)) }
+    {
+        let Idle { mut ring, devices } = self;
+        match lend(&mut ring, address, limit) {
+            Some(taken) => Ok((Idle { ring, devices }, taken)),
             None => Err(Lost { ring, devices }),
         }
     }
