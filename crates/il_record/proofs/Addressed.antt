@@ -30,7 +30,7 @@ use Rattle.il_record.specs.Runs.{LeavesDevices, LeavesRecords, Interrupted, Read
 use Rattle.il_record.specs.Talks.{Talked, all_entries}
 use Rattle.il_record.proofs.AddressedDrive.{resumed_drive}
 use Rattle.il_record.proofs.Cuts.{counts_up, comes_may}
-use Rattle.il_record.proofs.Mild.{AllMild, ifc_ran, is_mild}
+use Rattle.il_drive.proofs.Mild.{AllMild, ifc_ran, is_mild}
 use Rattle.il_record.proofs.Places.{kept_stays}
 use Rattle.il_record.proofs.HeardLogs.{heard_none, none_broke, none_whole}
 use Rattle.il_record.proofs.ReadRuns.{came_still}

@@ -36,7 +36,7 @@ use Rattle.il_record.proofs.Asking.{asked_broken, asked_made, asked_nothing, ask
 use Rattle.il_record.proofs.CameLaws.{tape_same}
 use Rattle.il_record.proofs.Commands.{PlacedTo, all_polls, all_released, command_broken, command_made, command_room, identify_broken, identify_made, identify_room, may_polls, obeyed_polls, part_polls, place_is, ppe_mild, ppu_polls, ppu_released, stays_polls, unl_broken, unl_made}
 use Rattle.il_record.proofs.HeardLogs.{heard_same, heard_then, none_broke, none_whole}
-use Rattle.il_record.proofs.Mild.{StaysMild, mild_then}
+use Rattle.il_drive.proofs.Mild.{StaysMild, mild_then}
 use Rattle.il_record.proofs.MildCame.{left_as_was, left_by, leaves_mild, leaves_then, mild_frame}
 use Rattle.il_record.proofs.Readings.{idle_mute}
 use Rattle.il_record.proofs.Saying.{lad_mild}

@@ -29,7 +29,7 @@ use Rattle.il_control.specs.Calls.{AllStay, BrokenOff, Made, Obeyed, ObeyedInPar
 use Rattle.il_control.proofs.Assigning.{MayHavePlace, message_of-ppe}
 use Rattle.il_control.proofs.Calls.{hears_then, room_behind}
 use Rattle.il_record.specs.Polls.{PollsOn, Released}
-use Rattle.il_record.proofs.Mild.{IsMild, StaysMild, is_mild, mild_ran, unl_ran}
+use Rattle.il_drive.proofs.Mild.{IsMild, StaysMild, is_mild, mild_ran, unl_ran}
 use Rattle.il_record.proofs.MildCame.{UnlFirst, brought_mild, cut_mild, mild_entry, mild_frame, unl_cut}
 use Rattle.il_control.proofs.Brings.{command_brings}
 

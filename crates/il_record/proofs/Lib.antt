@@ -9,8 +9,8 @@ pub mod HeardLogs
 pub mod Hearing
 pub mod Collecting
 pub mod Commands
+pub mod Lending
 pub mod Listened
-pub mod Mild
 pub mod MildCame
 pub mod Naming
 pub mod Pieces

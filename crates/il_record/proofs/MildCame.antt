@@ -30,7 +30,7 @@ use Rattle.il_control.specs.Receives.{Received, NotReceived, IsSpoken, AllSpoken
 use Rattle.il_record.specs.LoopCalls.{LeavesDrive}
 use Rattle.il_record.proofs.Asked.{front_plain}
 use Rattle.il_record.proofs.Cuts.{comes_may, receive_near}
-use Rattle.il_record.proofs.Mild.{AllMildFor, IsMildFor, OneByte, StaysMild, StaysMildFor, StatusLeft, is_mild_for, left_same, unl_ran}
+use Rattle.il_drive.proofs.Mild.{AllMildFor, IsMildFor, OneByte, StaysMild, StaysMildFor, StatusLeft, is_mild_for, left_same, unl_ran}
 use Rattle.il_record.proofs.Readings.{legal_answer, end_echoes, stop_echoes}
 
 -- ---- frames

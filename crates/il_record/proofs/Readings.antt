@@ -1,4 +1,5 @@
 -- The receives of records and of the status: which bytes they brought, and what the drive stands at behind them.
+pub use Rattle.il_control.proofs.IdleDrives.{idle_address, idle_mute, idle_silent, numbered_here, own_is}
 use Rattle.std.proofs.Common.{◌≡◌, ◌∙◌, ◌≤◌, ◌<◌, ◌+◌, ◌*◌, ◌++◌, ◌&&◌, ◌==◌, ⊎_elim, ℕ, suc, true, false, List, [], ◌∷◌, Option, Some, None, not, map, get_or, length, refl, sym, ap, subst, arith, length-append, append_assoc}
 use Rattle.std.specs.Prelude.{drop, nat_le}
 use Rattle.std.specs.List.{list_all}
@@ -11,9 +12,6 @@ use Rattle.il_frames.specs.Frames.{byte_of, framed, class_of, same_class, same_b
 use Rattle.il_device.specs.declared.device.Out.{Out}
 use Rattle.il_device.specs.declared.device.Out.TheVariants.{Pass, Source}
 use Rattle.il_device.specs.Takes.{eto}
-use Rattle.il_device.specs.State.{DeviceState, IsSent}
-use Rattle.il_device.specs.declared.interface.OwnFrame.{OwnFrame}
-use Rattle.il_device.specs.Roles.{is_own}
 use Rattle.il_ports.specs.Media.{MediumView, IsMedium}
 use Rattle.lif_model.specs.Tape.{bytes_from}
 use Rattle.il_drive.specs.State.{DriveView, device_of}
@@ -26,47 +24,15 @@ use Rattle.il_drive.proofs.ExchangesStatus.{polls, status_frame, tells}
 use Rattle.il_drive.proofs.Reading.{IsEcho, sent}
 use Rattle.il_frames.specs.NamedFrames.{unl, unt, rfc, nrd, tad}
 use Rattle.loop_model.specs.Exchanges.{Echo, Start, Sda, Sst, Answer, NotTaken, ToItsEnd, Stopped, Receive, start_frame, is_echo, is_answer, is_exchange, is_address, is_number, is_some_data, answers_as_asked, bytes_of}
-use Rattle.loop_model.specs.Roles.{are_numbered}
-use Rattle.il_ring.specs.Rings.{RingView, devices_of, roles_of, drive_party}
-use Rattle.il_ring.specs.Lists.{AllSilent}
-use Rattle.il_ring.proofs.Talkers.{none_talk}
+use Rattle.il_ring.specs.Rings.{RingView, devices_of, drive_party}
 use Rattle.il_control.specs.Brought.{AllCome}
-use Rattle.il_control.specs.Calls.{IsIdle, loop_of}
+use Rattle.il_control.specs.Calls.{loop_of}
 use Rattle.il_control.specs.Receives.{SpokenBy, frames_of, talker_of, own_frames}
 use Rattle.il_control.proofs.Brings.{command_frames}
 use Rattle.il_record.specs.Runs.{TellsStatus, ReadAll, ReadPart}
 use Rattle.il_record.proofs.Asked.{front_plain, front_numbered, untaken_frames, to_end_frames, stopped_frames, all_own, all_data, come_length, echo_of, come_back, RanAsked, ran_asked, append_same, same_frames, ran_length, stop_answers}
 
 -- ---- the drive of an idle loop
-
-own_is : (address : Option ℕ) (n : ℕ) → is_own address n ≡ true → address ≡ Some n
-own_is None n own = cc
-own_is (Some a) n own = ap Some (eqb-true a n own)
-
-numbered_here : (k : ℕ) (before : List DeviceState) (d : DeviceState) (after : List DeviceState) → are_numbered k (roles_of (before ++ d ∷ after)) ≡ true → d.roles.address ≡ Some (length before + k)
-numbered_here k [] d after numbers = own_is d.roles.address k (and_parts (is_own d.roles.address k) (are_numbered (suc k) (roles_of after)) numbers).0 ∙ ap Some (omega arith)
-numbered_here k (b ∷ before) d after numbers =
-    let sum : length before + suc k ≡ suc (length before) + k = omega arith in
-    numbered_here (suc k) before d after (and_parts (is_own b.roles.address k) (are_numbered (suc k) (roles_of (before ++ d ∷ after))) numbers).1 ∙ ap Some sum
-
-silent_here : (before : List DeviceState) (d : DeviceState) (after : List DeviceState) → AllSilent (before ++ d ∷ after) → d.roles.talks ≡ false
-silent_here [] d after silent = silent.0
-silent_here (b ∷ before) d after silent = silent_here before d after silent.1
-
--- it has its number as address, and does not talk
-pub idle_address : {M : Type 0} (r : RingView M) → IsIdle r → r.drive.state.interface.roles.address ≡ Some (drive_party r)
-idle_address r idle = numbered_here 1 r.before (device_of r.drive.state) r.after idle.numbered
-
-pub idle_mute : {M : Type 0} (r : RingView M) → IsIdle r → r.drive.state.interface.roles.talks ≡ false
-idle_mute r idle = silent_here r.before (device_of r.drive.state) r.after (none_talk 1 (devices_of r) idle.silent)
-
--- and sends nothing
-pub idle_silent : {M : Type 0} (r : RingView M) → IsIdle r → r.drive.state.interface.own ≡ None
-idle_silent r idle = by r.drive.state.interface.own refl idle.free.ring.drive.1.standing.standing.sender
-  where
-    by : (own : Option OwnFrame) → r.drive.state.interface.own ≡ own → IsSent own r.drive.state.interface.roles.talks → r.drive.state.interface.own ≡ None
-    by None is sent = is
-    by (Some own) is sent = let clash : false ≡ true = sym (idle_mute r idle) ∙ sent.0 in cc
 
 pub party_within : {M : Type 0} (r : RingView M) → (1 ≤ drive_party r) × (drive_party r ≤ length (devices_of r))
 party_within r = let long = length-append r.before (device_of r.drive.state ∷ r.after) in (omega arith, omega (arith, long))

@@ -22,7 +22,7 @@ use Rattle.il_record.specs.LoopCalls.{NotSaid, Said, say_asks}
 use Rattle.il_record.specs.Sends.{filled, SentAll, SendBroke}
 use Rattle.il_record.proofs.Asking.{asked_broken, asked_made}
 use Rattle.il_record.proofs.CameLaws.{tape_same}
-use Rattle.il_record.proofs.Mild.{is_mild}
+use Rattle.il_drive.proofs.Mild.{is_mild}
 use Rattle.il_record.proofs.MildCame.{echo_mild, left_by, mild_entry, mild_frame, unl_brought, unl_cut}
 use Rattle.il_record.proofs.HeardLogs.{send_echoes}
 use Rattle.il_record.proofs.Sends.{filled_exact}

@@ -1,10 +1,10 @@
 // Calls of a store over the loop that move no record.
-ghost use Rattle.std.specs.Prelude.{◌≡◌, ◌≤◌, ◌+◌, ◌/◌, true, false, length};
+ghost use Rattle.std.specs.Prelude.{◌≡◌, ◌≤◌, ◌+◌, ◌/◌, true, false, length, ◌*◌};
 ghost use Rattle.loop_model.specs.Polls.{polled_along};
 ghost use Rattle.il_ring.specs.Rings.{spare_of, devices_of, drive_party};
 ghost use Rattle.il_control.specs.Calls.{idy};
 ghost use Rattle.il_record.specs.Asks.{up_to};
-ghost use Rattle.il_record.specs.Called.{Calls, LeavesStore};
+ghost use Rattle.il_record.specs.Called.{Calls, LeavesLent, LeavesStore, LendCalls};
 ghost use Rattle.il_record.specs.LoopCalls.{AllNamed, LeftAlone, NotSaid, Said, id_asks};
 ghost use Rattle.il_record.specs.LoopStores.{HasRing, StandsSo, is_idle, since_frame, since_said};
 ghost use Rattle.il_record.specs.Polls.{HasPolled, PollBroke, poll_asks};
@@ -109,6 +109,30 @@ impl<M: Medium + Drop> LoopRecords<M> {
             Ok(idle) => {
                 self.put_back(idle);
                 Ok(())
+            }
+            Err(lost) => Err(self.broke(lost)),
+        }
+    }
+
+    /// Lends the loop to the second controller where it stands at this address, 1 to 30, until `limit` frames of it, 1 to 4,096,
+    /// have come to the host. Answers whether a second controller took control. No record changes; the store is not sound then.
+    ///
+    /// The error is `Trouble::Frame`, and comes where a frame was lost, or a status came back to its device with another byte.
+    pub fn lend(&mut self, address: u8, limit: u16) -> Result<bool, Trouble>
+        requires valid { StandsSo (⟦<LoopRecords<M> as Looped<M>>⟧.looped self.old).control (⟦<LoopRecords<M> as Looped<M>>⟧.looped self.old).sound (⟦<LoopRecords<M> as Looped<M>>⟧.looped self.old).since }
+        requires ready { is_idle (⟦<LoopRecords<M> as Looped<M>>⟧.looped self.old).control ≡ true }
+        requires address { (1 ≤ address) × (address ≤ 30) }
+        requires limit { (1 ≤ limit) × (limit ≤ 4096) }
+        requires room { HasRing (⟦<LoopRecords<M> as Looped<M>>⟧.looped self.old).control (λ r. 4 * limit + 48 ≤ spare_of r) }
+        ensures lent { LendCalls address limit (⟦<LoopRecords<M> as Looped<M>>⟧.looped self.old) (⟦<LoopRecords<M> as Looped<M>>⟧.looped self.new) result }
+        ensures leaves { LeavesLent ((2 * limit + 309) / 300) (⟦<LoopRecords<M> as Records>⟧.view self.old) (⟦<LoopRecords<M> as Records>⟧.view self.new) }
+    {
+        let idle = self.take_idle();
+        self.lent();
+        match idle.lend(address, limit) {
+            Ok((idle, taken)) => {
+                self.put_back(idle);
+                Ok(taken)
             }
             Err(lost) => Err(self.broke(lost)),
         }

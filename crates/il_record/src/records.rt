@@ -35,7 +35,7 @@ pub(crate) enum Since {
     Failed,
     /// The last exchange was broken off.
     Broken,
-    /// It goes on behind an exchange that was broken off.
+    /// It goes on behind an exchange that was broken off, or control of the loop was lent.
     Mended,
     /// Bytes were sent to another device than the drive, and all exchanges are whole.
     Said,
@@ -299,6 +299,14 @@ impl<M: Medium + Drop> LoopRecords<M> {
         ensures { ⟦<LoopRecords<M> as Looped<M>>⟧.looped self.new ≡ record (⟦<LoopRecords<M> as Looped<M>>⟧.looped self.old) { since = since_said (⟦<LoopRecords<M> as Looped<M>>⟧.looped self.old).since } }
     {
         self.since = self.since.said();
+    }
+
+    /// Control of the loop is lent.
+    pub(crate) fn lent(&mut self)
+        ensures { ⟦<LoopRecords<M> as Looped<M>>⟧.looped self.new ≡ record (⟦<LoopRecords<M> as Looped<M>>⟧.looped self.old) { sound = false; since = since_is.Mended } }
+    {
+        self.sound = false;
+        self.since = Since::Mended;
     }
 
     /// A call in which the medium failed.
