@@ -6,6 +6,14 @@ mod checked_rows;
 #[cfg(test)]
 mod control_rows;
 #[cfg(test)]
+mod lend_reckoning;
+#[cfg(test)]
+mod lend_rows;
+#[cfg(test)]
+mod lend_store_rows;
+#[cfg(test)]
+mod lent_rows;
+#[cfg(test)]
 mod naming_rows;
 #[cfg(test)]
 mod store_rows;

@@ -25,6 +25,29 @@ fn lost_of(ring: Ring<MemoryMedium>) -> Lost<MemoryMedium>
     Lost::new(ring)
 }
 
+/// The controller of a new ring of these devices.
+pub(crate) fn controller_of(
+    rt: &(impl Abort + AllocGlobal),
+    rig: Rig<MemoryMedium>,
+    plan: &[Planned],
+) -> Result<Lost<MemoryMedium>, Fail>
+    ensures lost { IfOk result (λ lost. IsLost (⟦<Lost<MemoryMedium> as Seen<MemoryMedium>>⟧.seen lost)) }
+    ensures empty { IfOk result (λ lost. (⟦<Lost<MemoryMedium> as Seen<MemoryMedium>>⟧.seen lost).books.log ≡ []) }
+    ensures places { IfOk result (λ lost. Each MayPoll 1 (devices_of (⟦<Lost<MemoryMedium> as Seen<MemoryMedium>>⟧.seen lost))) }
+{
+    assert!(rt; is_plan(plan));
+    assert!(rt; rig.medium.size() > 0);
+    let fits = rig.fits();
+    if fits {
+        match Ring::new(rt.alloc(), rig, plan, 20_000) {
+            Ok(ring) => Ok(lost_of(ring)),
+            Err(_) => Err(Fail::from("no memory for a ring")),
+        }
+    } else {
+        Err(Fail::from("the devices do not fit"))
+    }
+}
+
 /// The controller of a new ring of the drive between these devices.
 pub(crate) fn controller(
     rt: &(impl Abort + AllocGlobal),
@@ -43,17 +66,7 @@ pub(crate) fn controller(
         after,
         guest: None,
     };
-    assert!(rt; is_plan(plan));
-    assert!(rt; rig.medium.size() > 0);
-    let fits = rig.fits();
-    if fits {
-        match Ring::new(rt.alloc(), rig, plan, 10_000) {
-            Ok(ring) => Ok(lost_of(ring)),
-            Err(_) => Err(Fail::from("no memory for a ring")),
-        }
-    } else {
-        Err(Fail::from("the devices do not fit"))
-    }
+    controller_of(rt, rig, plan)
 }
 
 /// A store over that loop.
