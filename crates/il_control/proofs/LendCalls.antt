@@ -1,5 +1,6 @@
 -- The calls of a lend, one behind the other.
-use Rattle.std.proofs.Common.{◌≡◌, ◌∙◌, ◌⊎◌, inl, inr, ⊎_elim, ◌≤◌, ◌+◌, ◌*◌, ◌++◌, ℕ, Bool, true, false, [], ◌∷◌, None, is_some, length, refl, sym, ap, subst, arith, length-append}
+use Rattle.std.proofs.lemmas.Bool.{ltb-true}
+use Rattle.std.proofs.Common.{Bool, None, [], ap, arith, false, inl, inr, is_some, length, length-append, nat_lt, refl, subst, sym, true, ℕ, ⊎_elim, ◌*◌, ◌++◌, ◌+◌, ◌∙◌, ◌∷◌, ◌≡◌, ◌≤◌, ◌⊎◌}
 use Rattle.il_frames.specs.declared.frame.Frame.{Frame}
 use Rattle.il_frames.specs.NamedFrames.{ifc, unt}
 use Rattle.il_ports.specs.Media.{MediumView}
@@ -18,9 +19,9 @@ use Rattle.il_ring.proofs.LedRounds.{not_led}
 use Rattle.il_control.specs.declared.lending.Handed.TheVariants as handed
 use Rattle.il_control.specs.Calls.{Broke, IsFree, IsIdle, Whole, arrives}
 use Rattle.il_control.specs.Found.{KeepsFound}
-use Rattle.il_control.specs.Lent.{Hands, HandsOver, IsLentNow, LendBroken, LendMade, LentSo, PolledUntil}
+use Rattle.il_control.specs.Lent.{Hands, HandsOver, IsLentNow, LendBroken, LendMade, LentSo, PolledUntil, controller_at}
 use Rattle.il_control.specs.Receives.{Asked}
-use Rattle.il_control.proofs.Calls.{Done, broke_before, broke_behind, plain_call, room_behind, whole_then}
+use Rattle.il_control.proofs.Calls.{Done, broke_before, broke_before_standing, broke_behind, broke_behind_standing, cut_within, plain_call, room_behind, whole_then}
 use Rattle.il_control.proofs.LendEnds.{as_taken, cut_broken, lent_made, lent_not, where_short}
 use Rattle.il_control.proofs.LendFronts.{refused_broken, refused_made}
 use Rattle.il_control.proofs.LendHands.{hands_where}
@@ -96,8 +97,17 @@ module _ {M : Type 0} (view : M → MediumView) (r s : RingView M) (f : Frame) (
 -- ---- nobody took it
 
 module _ {M : Type 0} (view : M → MediumView) (a limit : ℕ) (q : RingView M) (idle : IsIdle q) (some : 1 ≤ a) (low : a ≤ 30) where
+  -- before TCT came back nothing is said of who would take it
+  early : (n : ℕ) → n ≤ 4 → nat_lt 4 n ≡ true → controller_at a q ≡ false
+  early n few more = let less = ltb-true 4 n more in let no : ⊥ = omega (arith, few, less) in absurd no
+
   pub not_asked : (s : RingView M) → Broke view q (receive_front 0 a None) s → LendBroken a limit q s
-  not_asked s broke = refused_broken view a limit q s idle low (broke_before view q s (receive_front 0 a None) (returned 0 tct ∷ commanded 0 unt) broke)
+  not_asked s broke =
+      refused_broken view a limit q s idle low (broke_before view q s (receive_front 0 a None) (returned 0 tct ∷ commanded 0 unt) broke)
+      (early (broke_before view q s (receive_front 0 a None) (returned 0 tct ∷ commanded 0 unt) broke).standing
+      (let few = cut_within (receive_front 0 a None) broke.standing broke.break broke.legal in
+      let same = broke_before_standing view q s (receive_front 0 a None) (returned 0 tct ∷ commanded 0 unt) broke in
+      omega (arith, few, same)))
 
   module _ (r : RingView M) (asked : Asked view a None q r) where
     front_ring : IsRing q
@@ -105,8 +115,14 @@ module _ {M : Type 0} (view : M → MediumView) (a limit : ℕ) (q : RingView M)
 
     pub not_handed : (s : RingView M) → Broke view r (returned 0 tct ∷ []) s → LendBroken a limit q s
     not_handed s broke =
-        refused_broken view a limit q s idle low
-        (broke_behind view q r s (receive_front 0 a None) (returned 0 tct ∷ commanded 0 unt) front_ring asked.whole (broke_before view r s (returned 0 tct ∷ []) (commanded 0 unt) broke))
+        let more = broke_before view r s (returned 0 tct ∷ []) (commanded 0 unt) broke in
+        let all = broke_behind view q r s (receive_front 0 a None) (returned 0 tct ∷ commanded 0 unt) front_ring asked.whole more in
+        refused_broken view a limit q s idle low all
+        (early all.standing
+        (let few = cut_within (returned 0 tct ∷ []) broke.standing broke.break broke.legal in
+        let same = broke_before_standing view r s (returned 0 tct ∷ []) (commanded 0 unt) broke in
+        let sum = broke_behind_standing view q r s (receive_front 0 a None) (returned 0 tct ∷ commanded 0 unt) front_ring asked.whole more in
+        omega (arith, few, same, sum)))
 
     module _ (m : RingView M) (nobody : HandsOver view r handed.NotTaken m) where
       front : Whole view q (receive_front 0 a None ++ returned 0 tct ∷ []) m
@@ -126,6 +142,7 @@ module _ {M : Type 0} (view : M → MediumView) (a limit : ℕ) (q : RingView M)
       pub nobody_broke : (f : Frame) → f ≡ unt → (s : RingView M) → Broke view m (commanded 0 f) s → LendBroken a limit q s
       nobody_broke f is s broke =
           refused_broken view a limit q s idle low (broke_behind view q m s (receive_front 0 a None ++ returned 0 tct ∷ []) (commanded 0 unt) front_ring front (subst (λ f. Broke view m (commanded 0 f) s) is broke))
+          (λ back. sym (hands_where view q r a idle some low asked) ∙ nobody.1)
 
     -- ---- a second controller took it
 
@@ -139,7 +156,7 @@ module _ {M : Type 0} (view : M → MediumView) (a limit : ℕ) (q : RingView M)
         (λ gone.
         ⊎_elim
         (λ so. let lent = lent_some view a q s s 1 arrival.Lost so in let clash = sym (ap is_some gone.1) ∙ lent in cc)
-        (λ off. cut_broken view a limit q s idle low off off.at)
+        (λ off. cut_broken view a limit q s idle low off off.at (sym gone.0.hands ∙ hands_where view q r a idle some low asked))
         (lent_or_broke view q r s a idle some low asked gone.0.answer gone.0.round gone.0.hands gone.0.over gone.0.led limit some_limit))
         broken
 
@@ -169,7 +186,7 @@ module _ {M : Type 0} (view : M → MediumView) (a limit : ℕ) (q : RingView M)
       taken_room room = poll_has_room taken begun room
 
       pub taken_broke : (s : RingView M) → PolledUntil view false taken limit s → LendBroken a limit q s
-      taken_broke s polled = let off = polled a q begun in cut_broken view a limit q s idle low off off.at
+      taken_broke s polled = let off = polled a q begun in cut_broken view a limit q s idle low off off.at (sym hands.0.hands ∙ hands_where view q r a idle some low asked)
 
       module _ (m : RingView M) (polled : PolledUntil view true taken limit m) where
         so : LentSo view a q m limit
@@ -194,5 +211,5 @@ module _ {M : Type 0} (view : M → MediumView) (a limit : ℕ) (q : RingView M)
         taken_made s whole host found =
             lent_made view a limit q m idle low so s whole so.at (sym hands.0.hands ∙ hands_where view q r a idle some low asked) host (found so.found.entries so.found.found)
 
-        pub taken_not : (s : RingView M) → Broke view (about_to_send m) (commanded 0 ifc) s → LendBroken a limit q s
-        taken_not s broke = lent_not view a limit q m idle low so s broke so.at
+        pub taken_not : (s : RingView M) → Broke view (about_to_send m) (commanded 0 ifc) s → KeepsFound m s → LendBroken a limit q s
+        taken_not s broke found = lent_not view a limit q m idle low so s broke so.at (sym hands.0.hands ∙ hands_where view q r a idle some low asked) (found so.found.entries so.found.found)

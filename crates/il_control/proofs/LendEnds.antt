@@ -3,7 +3,7 @@ use Rattle.il_ring.specs.declared.flight.Flight.{Flight}
 use Rattle.il_control.proofs.LentTold.{tells_left}
 use Rattle.il_control.proofs.LentHost.{ifc_broke, ifc_whole, still_of}
 use Rattle.il_control.proofs.LendDrives.{told_behind, told_no_more}
-use Rattle.std.proofs.Common.{List, None, Option, Some, [], ap, append_assoc, ap₂, arith, false, inl, inr, length, length-append, refl, subst, suc, sym, true, zero, ℕ, ⊎_elim, ◌*◌, ◌++◌, ◌+◌, ◌<◌, ◌==◌, ◌||◌, ◌∙◌, ◌∷◌, ◌≡◌, ◌≤◌}
+use Rattle.std.proofs.Common.{List, None, Option, Some, [], ap, append-nil, append_assoc, ap₂, arith, false, inl, inr, length, length-append, refl, subst, suc, sym, true, zero, ℕ, ⊎_elim, ◌*◌, ◌++◌, ◌+◌, ◌<◌, ◌==◌, ◌||◌, ◌∙◌, ◌∷◌, ◌≡◌, ◌≤◌}
 use Rattle.std.specs.Prelude.{IfSome, get_or, if◌then◌else◌}
 use Rattle.std.specs.List.{list_all, list_any}
 use Rattle.std.proofs.lemmas.Bool.{and_from, and_parts, le-leb, ne_eqb}
@@ -37,10 +37,10 @@ use Rattle.il_control.specs.Found.{HasFound}
 use Rattle.il_control.specs.Lent.{DriveLeft, DriveTold, KeptSince, LendBroken, LendMade, LentBroke, LentSo, ToldStatus, asked_on, base_of, last_of, controller_at}
 use Rattle.il_control.proofs.Calls.{cut_within}
 use Rattle.il_control.proofs.LendFronts.{cut_length, kept_adds, kept_then, only_lost}
-use Rattle.il_control.proofs.LendSums.{lend_broken, lend_made}
+use Rattle.il_control.proofs.LendSums.{lend_broken, lend_made, taken_not_back}
 use Rattle.il_control.proofs.LentEnds.{LendsSo, addresses_are, lent_cut, lent_lost, lent_whole, stands_so}
 use Rattle.il_control.proofs.LentFound.{standing_told}
-use Rattle.il_control.proofs.LentStatuses.{are_mute, ifc-mute, is_mute, told-lent}
+use Rattle.il_control.proofs.LentStatuses.{are_mute, handed-asks, ifc-cut, ifc-mute, is_mute, told-between, told-lent}
 use Rattle.il_control.proofs.LentSums.{are_theirs, control_stays, ends_theirs, is_theirs}
 
 -- ---- an IFC of the host, whoever controls
@@ -50,6 +50,12 @@ back_roles k other o rest none rs =
     let own : ((0 == k) || true) ≡ true = ap (λ b. b || true) other in
     ap (λ own. roles_led 0 (if own then roles_along 0 o 1 (message_of ifc) rs else rs) rest) own
     ∙ roles_led-no_lend (roles_along 0 o 1 (message_of ifc) rs) rest none
+
+-- logs that tell the same
+has_told : (guest : Option GuestMind) (k : ℕ) (es fs : List Entry) → ((b : ℕ) → last_told k b es ≡ last_told k b fs) → IfSome guest (λ mind. (b : ℕ) → b ≤ 30 → get_or mind.found b None ≡ last_told k b es)
+    → IfSome guest (λ mind. (b : ℕ) → b ≤ 30 → get_or mind.found b None ≡ last_told k b fs)
+has_told None k es fs told has = tt
+has_told (Some mind) k es fs told has = λ b few. has b few ∙ told b
 
 pub where_short : (j : ℕ) (o : Option Flight) → length (entry_where j o) ≤ 1
 where_short j None = omega arith
@@ -127,6 +133,27 @@ module _ {M : Type 0} (view : M → MediumView) (a limit : ℕ) (q r : RingView 
       let short = so.polls.short in
       omega (arith, all, left, mid, stood, kept, lent, log, front, short, few)
 
+  -- the rounds of the log are those that it found statuses in
+  entries_for : (last entries : List Entry) → (r.books.log ++ standing k r.books) ++ last ≡ q.books.log ++ entries → entries ≡ handed_entries a k ++ (so.polls.entries ++ (standing k r.books ++ last))
+  entries_for last entries is = append_cancel_left q.books.log entries (handed_entries a k ++ (so.polls.entries ++ (standing k r.books ++ last)))
+      (sym is ∙ ap (λ log. (log ++ standing k r.books) ++ last) so.polls.log
+      ∙ append_assoc (base_of a q ++ so.polls.entries) (standing k r.books) last
+      ∙ append_assoc (base_of a q) so.polls.entries (standing k r.books ++ last)
+      ∙ append_assoc q.books.log (handed_entries a k) (so.polls.entries ++ (standing k r.books ++ last)))
+
+  found_for : (s : RingView M) (last entries : List Entry) → are_mute k last ≡ true → (r.books.log ++ standing k r.books) ++ last ≡ q.books.log ++ entries → length (devices_of s) ≡ k → HasFound so.found.entries s → HasFound entries s
+  found_for s last entries mute is many has = has_told s.guest (length (devices_of s)) so.found.entries entries told has
+    where
+      same : so.found.entries ≡ so.polls.entries
+      same = append_cancel_left (base_of a q) so.found.entries so.polls.entries (sym so.found.log ∙ so.polls.log)
+
+      told : (b : ℕ) → last_told (length (devices_of s)) b so.found.entries ≡ last_told (length (devices_of s)) b entries
+      told b =
+          subst (λ j. last_told j b so.found.entries ≡ last_told j b entries) (sym many)
+          (ap (last_told k b) same
+          ∙ sym (told-lent k b a so.polls.entries (standing k r.books) last host_other (standing_told view k own_last (Some k) (base_of a q) r limit so.polls) mute)
+          ∙ ap (last_told k b) (sym (entries_for last entries is)))
+
   -- ---- the IFC and its RFC came back
 
   module _ (s : RingView M) (whole : Whole view (about_to_send r) (commanded 0 ifc) s) where
@@ -144,37 +171,11 @@ module _ {M : Type 0} (view : M → MediumView) (a limit : ℕ) (q r : RingView 
     made_kept : KeptSince q s
     made_kept = kept_then q (taken_back r) s taken_kept (kept_adds view None (taken_back r) s (commanded 0 ifc) its_whole.adds (its_whole.unheard refl) refl)
 
-    -- the rounds of the log are those that it found statuses in
     made_entries : lend_entries k (asked_on q) made_so.lend ≡ handed_entries a k ++ (so.polls.entries ++ (standing k r.books ++ commanded 0 ifc))
-    made_entries = append_cancel_left q.books.log (lend_entries k (asked_on q) made_so.lend) (handed_entries a k ++ (so.polls.entries ++ (standing k r.books ++ commanded 0 ifc)))
-        (sym made_so.log_is ∙ ap (λ log. (log ++ standing k r.books) ++ commanded 0 ifc) so.polls.log
-        ∙ append_assoc (base_of a q ++ so.polls.entries) (standing k r.books) (commanded 0 ifc)
-        ∙ append_assoc (base_of a q) so.polls.entries (standing k r.books ++ commanded 0 ifc)
-        ∙ append_assoc q.books.log (handed_entries a k) (so.polls.entries ++ (standing k r.books ++ commanded 0 ifc)))
+    made_entries = entries_for (commanded 0 ifc) (lend_entries k (asked_on q) made_so.lend) made_so.log_is
 
     made_found : HasFound so.found.entries s → HasFound (lend_entries k (asked_on q) made_so.lend) s
-    made_found has = by s.guest has
-      where
-        many : length (devices_of s) ≡ k
-        many = made_since.size
-
-        same : so.found.entries ≡ so.polls.entries
-        same = append_cancel_left (base_of a q) so.found.entries so.polls.entries (sym so.found.log ∙ so.polls.log)
-
-        standing_mute : are_mute k (standing k r.books) ≡ true
-        standing_mute = standing_told view k own_last (Some k) (base_of a q) r limit so.polls
-
-        told : (b : ℕ) → last_told (length (devices_of s)) b so.found.entries ≡ last_told (length (devices_of s)) b (lend_entries k (asked_on q) made_so.lend)
-        told b =
-            subst (λ j. last_told j b so.found.entries ≡ last_told j b (lend_entries k (asked_on q) made_so.lend)) (sym many)
-            (ap (last_told k b) same
-            ∙ sym (told-lent k b a so.polls.entries (standing k r.books) (commanded 0 ifc) host_other standing_mute (ifc-mute k host_other))
-            ∙ ap (last_told k b) (sym made_entries))
-
-        by : (guest : Option GuestMind) → IfSome guest (λ mind. (b : ℕ) → b ≤ 30 → get_or mind.found b None ≡ last_told (length (devices_of s)) b so.found.entries)
-            → IfSome guest (λ mind. (b : ℕ) → b ≤ 30 → get_or mind.found b None ≡ last_told (length (devices_of s)) b (lend_entries k (asked_on q) made_so.lend))
-        by None has = tt
-        by (Some mind) has = λ b few. has b few ∙ told b
+    made_found has = found_for s (commanded 0 ifc) (lend_entries k (asked_on q) made_so.lend) (ifc-mute k host_other) made_so.log_is made_since.size has
 
     made_drive : DriveTold q s (lend_entries k (asked_on q) made_so.lend)
     made_drive =
@@ -197,8 +198,8 @@ module _ {M : Type 0} (view : M → MediumView) (a limit : ℕ) (q r : RingView 
 
     pub lent_made : a ≡ k → true ≡ controller_at a q → IsUnderHost s.guest → HasFound so.found.entries s → LendMade a limit true q s
     lent_made at stands host has =
-        lend_made a limit 0 true q s idle made_so.lend made_so.is made_so.own made_so.whole_is made_so.address (λ taken. at) made_since made_kept made_short its_whole.ring
-        refl true made_so.taken stands made_drive (λ taken. made_found has) host its_whole.held
+        lend_made a limit 0 true q s idle made_so.lend made_so.is made_so.own made_so.whole_is made_so.address (λ taken. at) made_since made_kept made_short (λ taken. sym stands) (λ back. absurd (taken_not_back made_so.lend made_so.taken back)) (λ taken. made_found has) (λ not_taken. let clash = sym not_taken ∙ made_so.taken in cc) its_whole.ring
+        refl true made_so.taken stands made_drive (λ not_taken. cc) host its_whole.held
 
   -- ---- one of the two was lost
 
@@ -247,9 +248,10 @@ module _ {M : Type 0} (view : M → MediumView) (a limit : ℕ) (q r : RingView 
           status = ⊎_elim (λ same. inl (still.status ∙ same)) (λ none. inr (still.status ∙ none)) left;
         }
 
-    pub lent_not : a ≡ k → LendBroken a limit q s
-    lent_not at =
-        lend_broken a limit 0 false q s idle lost_so.lend lost_so.is lost_so.own lost_so.whole_is lost_so.address (λ taken. at) lost_since lost_kept (long_so ended (lend_entries k (asked_on q) lost_so.lend) (cut_length (commanded 0 ifc) n lost.0) lost_so.log_is) its_broke.ring refl lost_drive its_broke.held
+    pub lent_not : a ≡ k → true ≡ controller_at a q → HasFound so.found.entries s → LendBroken a limit q s
+    lent_not at stands has =
+        lend_broken a limit 0 false q s idle lost_so.lend lost_so.is lost_so.own lost_so.whole_is lost_so.address (λ taken. at) lost_since lost_kept (long_so ended (lend_entries k (asked_on q) lost_so.lend) (cut_length (commanded 0 ifc) n lost.0) lost_so.log_is)
+        (λ taken. sym stands) (λ back. absurd (taken_not_back lost_so.lend lost_so.taken back)) (λ taken. found_for s ended (lend_entries k (asked_on q) lost_so.lend) (ifc-cut k n lost.0 host_other) lost_so.log_is lost_since.size has) (λ not_taken. let clash = sym not_taken ∙ lost_so.taken in cc) its_broke.ring refl lost_drive its_broke.held
         (ap (list_any is_faulty) adds.log ∙ faulty_behind (taken_back r).books.log ended (cut_faulty (commanded 0 ifc) n lost.0 less))
 
 -- ---- the rounds broke off
@@ -272,8 +274,27 @@ module _ {M : Type 0} (view : M → MediumView) (a limit : ℕ) (q s : RingView 
       let few = off.few in
       omega (arith, log, whole, front, all, short, few)
 
-  pub cut_broken : a ≡ length (devices_of q) → LendBroken a limit q s
-  cut_broken at =
-      lend_broken a limit (length (devices_of q)) false q s idle cut_so.lend cut_so.is cut_so.own cut_so.whole_is cut_so.address (λ taken. at) cut_since off.kept cut_short
+  cut_found : HasFound (lend_entries (length (devices_of q)) (asked_on q) cut_so.lend) s
+  cut_found = has_told s.guest (length (devices_of s)) off.found.entries (lend_entries (length (devices_of q)) (asked_on q) cut_so.lend) told off.found.found
+    where
+      party : 1 ≤ length (devices_of q)
+      party = let all = length-append q.before (device_of q.drive.state ∷ q.after) in omega (arith, all)
+
+      other : (0 == length (devices_of q)) ≡ false
+      other = ne_eqb 0 (length (devices_of q)) (λ e. omega (arith, e, party))
+
+      entries : lend_entries (length (devices_of q)) (asked_on q) cut_so.lend ≡ handed_entries a (length (devices_of q)) ++ (off.found.entries ++ [])
+      entries = append_cancel_left q.books.log (lend_entries (length (devices_of q)) (asked_on q) cut_so.lend) (handed_entries a (length (devices_of q)) ++ (off.found.entries ++ []))
+          (sym cut_so.log_is ∙ off.found.log ∙ append_assoc q.books.log (handed_entries a (length (devices_of q))) off.found.entries
+          ∙ ap (λ es. q.books.log ++ (handed_entries a (length (devices_of q)) ++ es)) (sym (append-nil off.found.entries)))
+
+      told : (b : ℕ) → last_told (length (devices_of s)) b off.found.entries ≡ last_told (length (devices_of s)) b (lend_entries (length (devices_of q)) (asked_on q) cut_so.lend)
+      told b =
+          subst (λ j. last_told j b off.found.entries ≡ last_told j b (lend_entries (length (devices_of q)) (asked_on q) cut_so.lend)) (sym cut_since.size)
+          (sym (told-between (length (devices_of q)) b (handed_entries a (length (devices_of q))) off.found.entries [] (handed-asks (length (devices_of q)) a other) refl) ∙ ap (last_told (length (devices_of q)) b) (sym entries))
+
+  pub cut_broken : a ≡ length (devices_of q) → true ≡ controller_at a q → LendBroken a limit q s
+  cut_broken at stands =
+      lend_broken a limit (length (devices_of q)) false q s idle cut_so.lend cut_so.is cut_so.own cut_so.whole_is cut_so.address (λ taken. at) cut_since off.kept cut_short (λ taken. sym stands) (λ back. absurd (taken_not_back cut_so.lend cut_so.taken back)) (λ taken. cut_found) (λ not_taken. let clash = sym not_taken ∙ cut_so.taken in cc)
       (led_ring s off.led off.off.lent_is) refl off.drive off.led.held
       (ap (list_any is_faulty) off.off.log ∙ faulty_behind (base_of a q) (off.off.entries ++ off.off.tail) (faulty_behind off.off.entries off.off.tail off.off.shows))

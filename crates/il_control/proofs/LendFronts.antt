@@ -1,6 +1,6 @@
 -- A lend in which nobody took control, whole or broken off: rounds of the host.
 use Rattle.il_control.proofs.LendDrives.{refused_left, refused_told}
-use Rattle.std.proofs.Common.{◌≡◌, ◌∙◌, ◌≤◌, ◌&&◌, ◌==◌, not, ℕ, zero, suc, Bool, true, false, List, [], ◌∷◌, Option, None, length, refl, sym, ap, subst, arith}
+use Rattle.std.proofs.Common.{Bool, List, None, Option, [], ap, arith, false, length, nat_lt, not, refl, subst, suc, sym, true, zero, ℕ, ◌&&◌, ◌==◌, ◌∙◌, ◌∷◌, ◌≡◌, ◌≤◌}
 use Rattle.std.specs.List.{list_all, list_any}
 use Rattle.std.proofs.lemmas.Bool.{and_from, and_parts, le-leb, lt-ltb, not-true}
 use Rattle.il_frames.specs.declared.entry.Entry.{Entry}
@@ -102,11 +102,11 @@ module _ {M : Type 0} (view : M → MediumView) (a limit : ℕ) (q s : RingView 
       lend_made a limit 0 true q s idle (NoTaker a) (le-leb a 30 low) refl refl refl (λ taken. cc)
       (host_since (refused_entries a) whole.adds whole.ring.lent whole.ring.kept refl)
       (kept_adds view None q s (refused_entries a) whole.adds (whole.unheard refl) (refused_no_poll a low))
-      (omega arith)
-      whole.ring refl false refl stands (refused_told view q s a idle low whole) (λ taken. cc) host whole.held
+      (omega arith) (λ taken. cc) (λ back. sym stands) (λ taken. cc) (λ not_taken. whole.adds.guest.1 idle.host)
+      whole.ring refl false refl stands (refused_told view q s a idle low whole) (λ not_taken. whole.met_none) host whole.held
 
-  pub refused_broken : Broke view q (refused_entries a) s → LendBroken a limit q s
-  refused_broken broke =
+  pub refused_broken : (broke : Broke view q (refused_entries a) s) → (nat_lt 4 broke.standing ≡ true → controller_at a q ≡ false) → LendBroken a limit q s
+  refused_broken broke refused =
       let n = broke.standing in
       let lost = only_lost (refused_entries a) n broke.break refl broke.legal in
       let entries = cut_at (refused_entries a) n (FrameLost lost.0) in
@@ -116,6 +116,6 @@ module _ {M : Type 0} (view : M → MediumView) (a limit : ℕ) (q s : RingView 
       refl refl refl (λ taken. cc)
       (host_since entries adds broke.ring.lent broke.ring.kept (cut_no_lend (refused_entries a) n lost.0 refl))
       (kept_adds view None q s entries adds (broke.unheard refl) (cut_no_poll (refused_entries a) n lost.0 (refused_no_poll a low)))
-      (let many = cut_length (refused_entries a) n lost.0 in omega (arith, many))
+      (let many = cut_length (refused_entries a) n lost.0 in omega (arith, many)) (λ taken. cc) refused (λ taken. cc) (λ not_taken. broke.adds.guest.1 idle.host)
       broke.ring refl (refused_left view q s a idle low broke) broke.held
       (ap (list_any is_faulty) adds.log ∙ faulty_behind q.books.log entries (cut_faulty (refused_entries a) n lost.0 (cut_within (refused_entries a) n broke.break broke.legal)))

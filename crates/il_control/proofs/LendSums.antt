@@ -1,4 +1,5 @@
 -- A lend from its value and what was added to the ring.
+use Rattle.il_ring.specs.Outcomes.{met_between}
 use Rattle.std.proofs.Common.{Bool, List, None, [], ap, append-nil, arith, false, length, length-append, subst, sum_by, sym, true, ℕ, ◌&&◌, ◌*◌, ◌++◌, ◌+◌, ◌==◌, ◌∙◌, ◌∷◌, ◌≡◌, ◌≤◌}
 use Rattle.std.specs.List.{list_any}
 use Rattle.std.proofs.lemmas.Bool.{and_parts, ne_eqb}
@@ -9,7 +10,7 @@ use Rattle.loop_model.specs.Leading.{OneTalkerLed, controller_after_entry, has_o
 use Rattle.loop_model.specs.Reach.{links_of}
 use Rattle.loop_model.specs.Roles.{are_numbered, is_at_most_one, talkers}
 use Rattle.il_ring.specs.LedAdds.{AllTookSince, LedSince, standing}
-use Rattle.il_ring.specs.Lends.{Lend, is_lend, is_whole_lend, lend_address, lend_entries, tells_own, was_taken}
+use Rattle.il_ring.specs.Lends.{Lend, Lent, LentCut, LentLost, NoTaker, NoTakerCut, is_lend, is_whole_lend, lend_address, lend_entries, tells_own, was_taken}
 use Rattle.il_ring.specs.Guests.{IsUnderHost}
 use Rattle.il_ring.specs.Rings.{IsRing, RingView, devices_of, roles_of}
 use Rattle.il_ring.proofs.LedDoes.{length-roles_of}
@@ -19,7 +20,15 @@ use Rattle.il_ring.proofs.LendLaws.{lend_led}
 use Rattle.il_ring.proofs.LendTalkers.{lend_idle, lend_one_talker}
 use Rattle.il_control.specs.Calls.{IsIdle}
 use Rattle.il_control.specs.Found.{HasFound}
-use Rattle.il_control.specs.Lent.{DriveLeft, DriveTold, KeptSince, LendBroken, LendMade, Lends, asked_on, controller_at}
+use Rattle.il_control.specs.Lent.{DriveLeft, DriveTold, KeptSince, LendBroken, LendMade, Lends, asked_on, came_back, controller_at}
+
+-- where control was taken TCT did not come back
+pub taken_not_back : (lend : Lend) → was_taken lend ≡ true → came_back lend ≡ true → ⊥
+taken_not_back (NoTaker a) taken back = cc
+taken_not_back (NoTakerCut a n q) taken back = cc
+taken_not_back (Lent a answers n) taken back = cc
+taken_not_back (LentCut a answers n end) taken back = cc
+taken_not_back (LentLost a answers n m q) taken back = cc
 
 -- at most one talks at its end
 one_led : (c : ℕ) (rs : List Roles) (log : List Entry) → has_one_talker_led c rs log ≡ true → is_at_most_one (talkers (roles_led c rs log)) ≡ true
@@ -30,7 +39,7 @@ one_led c rs (e ∷ log) one =
     one_led (controller_after_entry c e) (roles_led_entry c rs e) log rest.1
 
 module _ {M : Type 0} (a limit d : ℕ) (whole : Bool) (q s : RingView M) (idle : IsIdle q) (lend : Lend) (is : is_lend (length (devices_of q)) (asked_on q) limit lend ≡ true) (own : tells_own (asked_on q) lend ≡ true) (whole_is : is_whole_lend lend ≡ whole)
-    (address : lend_address lend ≡ a) (at : was_taken lend ≡ true → a ≡ length (devices_of q)) (since : LedSince 0 d q s (lend_entries (length (devices_of q)) (asked_on q) lend)) (kept : KeptSince q s) (short : length (lend_entries (length (devices_of q)) (asked_on q) lend) ≤ 2 * limit + 9) (ring : IsRing s) where
+    (address : lend_address lend ≡ a) (at : was_taken lend ≡ true → a ≡ length (devices_of q)) (since : LedSince 0 d q s (lend_entries (length (devices_of q)) (asked_on q) lend)) (kept : KeptSince q s) (short : length (lend_entries (length (devices_of q)) (asked_on q) lend) ≤ 2 * limit + 9) (taker : was_taken lend ≡ true → controller_at a q ≡ true) (refused : came_back lend ≡ true → controller_at a q ≡ false) (found : was_taken lend ≡ true → HasFound (lend_entries (length (devices_of q)) (asked_on q) lend) s) (same_guest : was_taken lend ≡ false → s.guest ≡ q.guest) (ring : IsRing s) where
   abbrev k : ℕ
   k = length (devices_of q)
 
@@ -82,6 +91,10 @@ module _ {M : Type 0} (a limit d : ℕ) (whole : Bool) (q s : RingView M) (idle 
     roles = roles;
     one = one;
     commands = lend_led k some (asked_on q) limit lend is;
+    taker = taker;
+    refused = refused;
+    found = found;
+    guest = same_guest;
   }
 
   -- by name
@@ -104,19 +117,23 @@ module _ {M : Type 0} (a limit d : ℕ) (whole : Bool) (q s : RingView M) (idle 
     roles = roles;
     one = one;
     commands = lends.commands;
+    taker = taker;
+    refused = refused;
+    found = found;
+    guest = same_guest;
   }
 
   -- after a whole one the loop is idle
-  pub lend_made : whole ≡ true → (taken : Bool) → was_taken lend ≡ taken → taken ≡ controller_at a q → DriveTold q s entries → (taken ≡ true → HasFound entries s) → IsUnderHost s.guest → s.books.held ≡ None → LendMade a limit taken q s
+  pub lend_made : whole ≡ true → (taken : Bool) → was_taken lend ≡ taken → taken ≡ controller_at a q → DriveTold q s entries → (taken ≡ false → met_between q s ≡ []) → IsUnderHost s.guest → s.books.held ≡ None → LendMade a limit taken q s
   unfolding lends_whole
-  lend_made is_whole taken taken_is stands drive found host held =
+  lend_made is_whole taken taken_is stands drive met host held =
       let rests = lend_idle k (asked_on q) limit lend (roles_of (devices_of q)) many idle.silent idle.numbered is own last (whole_is ∙ is_whole) in
       record {
         lends = lends_whole is_whole;
         taken_is = taken_is;
         stands = stands;
         drive = drive;
-        found = found;
+        met = met;
         idle = record {
           free = record { ring = ring; held = held };
           host = host;

@@ -27,7 +27,7 @@ use Rattle.il_guest.specs.declared.control.Place.{Place}
 use Rattle.il_guest.specs.declared.control.Place.TheVariants as place
 use Rattle.il_guest.specs.declared.guest.GuestOut.{GuestOut}
 use Rattle.il_guest.specs.Courses.{control_next, first_control, told_by_control}
-use Rattle.il_guest.specs.Frames.{sst}
+use Rattle.il_guest.specs.Frames.{nop, sst}
 use Rattle.il_guest.specs.State.{GuestState, is_leading, none_found}
 use Rattle.il_guest.specs.Steps.{IsAsked, IsRoundPlace, command_frame, command_then, control_after, expecting, noted, sent_at, told_at}
 use Rattle.il_guest.specs.Takes.{GuestTakes, takes_control}
@@ -563,6 +563,16 @@ module _ {M : Type 0} (view : M → MediumView) (r s : RingView M) (f : Flight) 
     found = subst (λ mind. IfSome mind (λ mind. (a : ℕ) → a ≤ 30 → get_or mind.found a None ≡ last_told (length (devices_of s)) a [])) (sym over.mind_then)
         (λ a small. ap (λ found. get_or found a None) handed_none.0 ∙ get_or-replicate 31 a None None (omega (arith, small)));
     knows = subst (λ mind. IfSome mind (λ mind. KnowsAsked None s.books mind.control)) (sym over.mind_then) (subst (λ c. KnowsAsked None s.books c) (sym over.control) tt);
+  }
+
+  -- nor where that frame was lost
+  pub found_gone : (base : List Entry) (k : ℕ) → s.books.log ≡ base ++ entry k nop (outcome.Lost 0) ∷ [] → FoundLeft base s
+  found_gone base k log = record {
+    entries = entry k nop (outcome.Lost 0) ∷ [];
+    log = log;
+    found = subst (λ mind. IfSome mind (λ mind. (a : ℕ) → a ≤ 30 → get_or mind.found a None ≡ last_told (length (devices_of s)) a (entry k nop (outcome.Lost 0) ∷ []))) (sym over.mind_then)
+        (λ a small. ap (λ found. get_or found a None) handed_none.0 ∙ get_or-replicate 31 a None None (omega (arith, small))
+        ∙ sym (told-mute (length (devices_of s)) a [] (entry k nop (outcome.Lost 0) ∷ []) (and_from (is_mute (length (devices_of s)) (entry k nop (outcome.Lost 0))) true (mute-lost (length (devices_of s)) k nop 0) refl)));
   }
 
 -- ---- as control is taken back

@@ -33,7 +33,7 @@ use Rattle.il_ring.proofs.LedKeeps.{led_keeps}
 use Rattle.il_control.specs.Lent.{IsLentNow, KeptSince, LentBroke, LentSo, PolledUntil, PolledSoFar, base_of, last_of}
 use Rattle.il_control.specs.Polling.{BrokeOff, Polling}
 use Rattle.il_control.proofs.LentDrive.{drive_left, drive_went}
-use Rattle.il_control.proofs.LentFound.{found_passes}
+use Rattle.il_control.proofs.LentFound.{found_left, found_passes}
 use Rattle.il_control.proofs.LentRounds.{Passed, goes_or_breaks}
 use Rattle.il_control.proofs.LentSums.{since_polls, under_way}
 
@@ -187,7 +187,7 @@ module _ {M : Type 0} (view : M → MediumView) (a : ℕ) (q r s : RingView M) (
         let then_ = stands_mute view k own_last (Some k) (base_of a q) s (arrived + 1) polls in
         let now = subst (λ answer. StandsNow answer s.books.lent) is (led so.polls.led).1 in
         let clash = sym now ∙ then_.1 in cc)
-        (λ off. record { at = so.at; few_asked = so.few_asked; arrived = arrived + 1; few = omega (arith, less); off = off; led = (led so.polls.led).0; added = so.added ++ adds.counts.entries; since = since; kept = kept; drive = drive_left view k own_last (Some k) (base_of a q) r s arrived answer so.polls (passed so.polls.led) (led so.polls.led).0 q.drive so.drive })
+        (λ off. record { at = so.at; few_asked = so.few_asked; arrived = arrived + 1; few = omega (arith, less); off = off; led = (led so.polls.led).0; added = so.added ++ adds.counts.entries; since = since; kept = kept; found = found_left view k own_last (Some k) (base_of a q) r s arrived answer so.polls (passed so.polls.led) (led so.polls.led).0 so.found; drive = drive_left view k own_last (Some k) (base_of a q) r s arrived answer so.polls (passed so.polls.led) (led so.polls.led).0 q.drive so.drive })
         next
 
 -- ---- all passes

@@ -1,5 +1,5 @@
 -- Laws of what a log tells of the statuses that a second controller asked for: logs one behind the other.
-use Rattle.std.proofs.Common.{◌≡◌, ◌∙◌, ◌++◌, ◌==◌, ◌&&◌, not, ℕ, Bool, true, false, List, [], ◌∷◌, Option, Some, None, refl, sym, ap, ap₂}
+use Rattle.std.proofs.Common.{Bool, List, None, Option, Some, [], ap, ap₂, false, not, refl, suc, sym, true, zero, ℕ, ◌&&◌, ◌++◌, ◌==◌, ◌∙◌, ◌∷◌, ◌≡◌}
 use Rattle.std.specs.Prelude.{if◌then◌else◌}
 use Rattle.std.specs.List.{list_all}
 use Rattle.std.proofs.Math.Bool.{and-false}
@@ -13,7 +13,7 @@ use Rattle.il_frames.specs.Frames.{byte_of, is_data}
 use Rattle.il_frames.specs.Messages.{message_of}
 use Rattle.il_frames.specs.NamedFrames.{entry, is_frame, ifc}
 use Rattle.il_device.specs.Takes.{eto}
-use Rattle.loop_model.specs.Exchanges.{commanded, returned}
+use Rattle.loop_model.specs.Exchanges.{FrameLost, commanded, cut_at, returned}
 use Rattle.il_guest.specs.Frames.{sst}
 use Rattle.il_guest.proofs.RoundLaws.{is_same-true}
 use Rattle.il_ring.specs.declared.flight.Flight.{Flight}
@@ -163,6 +163,12 @@ handed-asks k a other = rw other refl
 -- and takes it back
 pub ifc-mute : (k : ℕ) → (0 == k) ≡ false → are_mute k (commanded 0 ifc) ≡ true
 ifc-mute k other = rw other refl
+
+-- or its IFC or RFC was lost
+pub ifc-cut : (k m q : ℕ) → (0 == k) ≡ false → are_mute k (cut_at (commanded 0 ifc) m (FrameLost q)) ≡ true
+ifc-cut k zero q other = rw other refl
+ifc-cut k (suc zero) q other = rw other refl
+ifc-cut k (suc (suc m)) q other = rw other refl
 
 -- So in a lend: of what stood as control was taken back nothing was told, nor of the frames by which it was.
 pub told-lent : (k a b : ℕ) (entries behind last : List Entry) → (0 == k) ≡ false → are_mute k behind ≡ true → are_mute k last ≡ true → last_told k a (handed_entries b k ++ (entries ++ (behind ++ last))) ≡ last_told k a entries

@@ -42,7 +42,7 @@ use Rattle.il_control.specs.Polling.{BrokeOff, Polling}
 use Rattle.il_control.specs.Receives.{Asked, IsCalm}
 use Rattle.il_control.proofs.LendFronts.{kept_adds}
 use Rattle.il_control.proofs.LendHands.{asked_guest, asked_host, handed_address, handed_at, handed_numbered, handed_silent, talks_last}
-use Rattle.il_control.proofs.LentFound.{found_handed, handed_few}
+use Rattle.il_control.proofs.LentFound.{found_gone, found_handed, handed_few}
 use Rattle.il_control.proofs.LentHanded.{handed_base, handed_polls, tct_roles}
 use Rattle.il_control.proofs.IdleDrives.{idle_silent}
 use Rattle.il_control.proofs.LentHost.{StaysDeaf, drive_handed, drive_handed_left, tad_plain, unl_whole}
@@ -225,6 +225,7 @@ module _ {M : Type 0} (view : M → MediumView) (q r s : RingView M) (a : ℕ) (
             added = receive_front 0 a None ++ entries;
             since = all_since entries (hand_since entries are controls (ap (λ es. list_all (λ e. not (changes_roles (message_of e.frame))) (entries ++ es)) stood));
             kept = kept;
+            found = found_gone view r s (sourced 0 tct) answer round under over (base_of a q) (length (devices_of r)) (stood_not.0.log_is ∙ sym (append_assoc r.books.log (entry 0 tct (outcome.Taken (length (devices_of r))) ∷ []) (entry (length (devices_of r)) nop (outcome.Lost 0) ∷ [])) ∙ ap (λ base. base ++ entry (length (devices_of r)) nop (outcome.Lost 0) ∷ []) base_is);
             drive = left_so (drive_handed_left view r s answer round front_drive.mild);
           }))
           begins

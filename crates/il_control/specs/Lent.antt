@@ -1,5 +1,5 @@
 -- What a lend tells of the drive, and what its second controller has found.
-use Rattle.std.specs.Prelude.{◌≡◌, ◌≢◌, ◌⊎◌, ◌≤◌, ◌+◌, ◌*◌, ◌++◌, ◌&&◌, ℕ, Bool, true, false, All, List, [], ◌∷◌, length, sum_by, Option, Some, None, is_some, IsSome, MatchBool}
+use Rattle.std.specs.Prelude.{All, Bool, IsSome, List, MatchBool, None, Option, Some, [], false, is_some, length, nat_lt, sum_by, true, ℕ, ◌&&◌, ◌*◌, ◌++◌, ◌+◌, ◌∷◌, ◌≡◌, ◌≢◌, ◌≤◌, ◌⊎◌}
 use Rattle.il_frames.specs.declared.entry.Entry.{Entry}
 use Rattle.il_frames.specs.Frames.{byte_of}
 use Rattle.il_poll.specs.Service.{status_byte_of}
@@ -22,13 +22,13 @@ use Rattle.il_ring.specs.declared.plan.Arrival.{Arrival}
 use Rattle.il_ring.specs.Flights.{sourced}
 use Rattle.il_ring.specs.HandedOver.{HandedOver}
 use Rattle.il_ring.specs.Lending.{IsLed, LedRound, hands_over}
-use Rattle.il_ring.specs.Lends.{Lend, handed_entries, is_lend, is_whole_lend, lend_address, lend_entries, tells_own, was_taken}
+use Rattle.il_ring.specs.Lends.{Lend, Lent, LentCut, LentLost, NoTaker, NoTakerCut, handed_entries, is_lend, is_whole_lend, lend_address, lend_entries, tells_own, was_taken}
 use Rattle.il_ring.specs.Lists.{Each, First}
-use Rattle.il_ring.specs.Outcomes.{IsDeaf}
+use Rattle.il_ring.specs.Outcomes.{IsDeaf, met_between}
 use Rattle.il_ring.specs.Plans.{hops_of}
 use Rattle.il_ring.specs.Polls.{KeepsPlace}
 use Rattle.il_control.specs.Calls.{Broke, IsIdle, IsLost, Unheard, Whole}
-use Rattle.il_control.specs.Found.{FoundSo, HasFound}
+use Rattle.il_control.specs.Found.{FoundLeft, FoundSo, HasFound}
 use Rattle.il_control.specs.Polling.{BrokeOff, Polling}
 use Rattle.il_ring.specs.declared.flight.Flight.{Flight}
 use Rattle.il_ring.specs.Rings.{RingView, devices_of, drive_party, roles_of}
@@ -112,6 +112,7 @@ pub record LentBroke {M : Type 0} (view : M → MediumView) (a : ℕ) (q : RingV
   pub added : List Entry
   pub since : LedSince 0 (length (devices_of q)) q s added
   pub kept : KeptSince q s
+  pub found : FoundLeft (base_of a q) s
   pub drive : DriveLeft q.drive s.drive
 
 -- lent by some host, and so many frames have come to it
@@ -138,9 +139,18 @@ last_at a (d ∷ e ∷ ds) = last_at a (e ∷ ds)
 abbrev pub controller_at : {M : Type 0} → ℕ → RingView M → Bool
 controller_at a q = is_some q.guest && last_at a q.after
 
+-- TCT came back, since nobody took it: it is the fifth frame
+abbrev pub came_back : Lend → Bool
+came_back (NoTaker a) = true
+came_back (NoTakerCut a n q) = nat_lt 4 n
+came_back (Lent a answers n) = false
+came_back (LentCut a answers n end) = false
+came_back (LentLost a answers n m q) = false
+
 -- The log grew by the entries of a lend of address a, whole or broken off, and these count for the links that were crossed, for the frames
 -- that came to each device, and for the roles. At most one party talked at every moment, and only the talker spoke; each command was the
--- controller's.
+-- controller's. Where a second controller stands at that address TCT does not come back, and only there control is taken; what it has found then is what the log tells;
+-- where it was not taken, a second controller has the same in mind.
 pub record Lends {M : Type 0} (a limit : ℕ) (whole : Bool) (q s : RingView M) : Type 0 where
   pub lend : Lend
   pub is : is_lend (length (devices_of q)) (asked_on q) limit lend ≡ true
@@ -158,15 +168,19 @@ pub record Lends {M : Type 0} (a limit : ℕ) (whole : Bool) (q s : RingView M) 
   pub roles : roles_of (devices_of s) ≡ roles_led 0 (roles_of (devices_of q)) (lend_entries (length (devices_of q)) (asked_on q) lend)
   pub one : OneTalkerLed 0 (roles_of (devices_of q)) (lend_entries (length (devices_of q)) (asked_on q) lend)
   pub commands : are_commands_led 0 (lend_entries (length (devices_of q)) (asked_on q) lend) ≡ true
+  pub taker : was_taken lend ≡ true → controller_at a q ≡ true
+  pub refused : came_back lend ≡ true → controller_at a q ≡ false
+  pub found : was_taken lend ≡ true → HasFound (lend_entries (length (devices_of q)) (asked_on q) lend) s
+  pub guest : was_taken lend ≡ false → s.guest ≡ q.guest
 
--- It was whole. Somebody took control exactly where a second controller stands at that address; what it has found then is what the log tells.
+-- It was whole. Somebody took control exactly where a second controller stands at that address; where nobody did, no planned hop was met.
 -- The drive keeps its medium, and told its status so.
 pub record LendMade {M : Type 0} (a limit : ℕ) (taken : Bool) (q s : RingView M) : Type 0 where
   pub lends : Lends a limit true q s
   pub taken_is : was_taken lends.lend ≡ taken
   pub stands : taken ≡ controller_at a q
   pub drive : DriveTold q s (lend_entries (length (devices_of q)) (asked_on q) lends.lend)
-  pub found : taken ≡ true → HasFound (lend_entries (length (devices_of q)) (asked_on q) lends.lend) s
+  pub met : taken ≡ false → met_between q s ≡ []
   pub idle : IsIdle s
 
 -- It was broken off. The drive keeps its medium, and its status may be told. A planned hop was met since the log was last emptied.
