@@ -147,10 +147,11 @@ came_back (Lent a answers n) = false
 came_back (LentCut a answers n end) = false
 came_back (LentLost a answers n m q) = false
 
--- The log grew by the entries of a lend of address a, whole or broken off, and these count for the links that were crossed, for the frames
--- that came to each device, and for the roles. At most one party talked at every moment, and only the talker spoke; each command was the
--- controller's. Where a second controller stands at that address TCT does not come back, and only there control is taken; what it has found then is what the log tells;
--- where it was not taken, a second controller has the same in mind.
+-- The log grew by the entries of a lend of address a, whole or broken off, and these count for the links that were
+-- crossed, for the frames that came to each device, and for the roles. At most one party talked at every moment, and only
+-- the talker spoke; each command was the controller's. Where a second controller stands at that address TCT does not come
+-- back, and only there control is taken; what it has found then is what the log tells. Where it was not taken, a second
+-- controller has the same in mind as before.
 pub record Lends {M : Type 0} (a limit : ℕ) (whole : Bool) (q s : RingView M) : Type 0 where
   pub lend : Lend
   pub is : is_lend (length (devices_of q)) (asked_on q) limit lend ≡ true

@@ -246,6 +246,10 @@ impl<M: Medium> Idle<M> {
     /// and TCT is sent. While the second controller polls, each of its frames comes past the host; at the one that is the `limit`-th,
     /// 1 to 4,096, the host takes control back by IFC. Answers whether a second controller took control. Where none did, TCT came
     /// back, and no device talks any more.
+    ///
+    /// The error comes where a frame was lost, or a status came back to its device with another byte. The second controller may
+    /// control the loop still; `resume` takes control back. Source: HP-IL Interface Specification, HP 82166-90017, take control
+    /// and interface clear; that the host counts frames is this project's own.
     pub fn lend(self, address: u8, limit: u16) -> Result<(Idle<M>, bool), Lost<M>>
         requires address { (1 ≤ address) × (address ≤ 30) }
         requires limit { (1 ≤ limit) × (limit ≤ 4096) }

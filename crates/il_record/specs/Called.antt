@@ -64,7 +64,7 @@ LendCalls a limit old new (Ok taken) = LendCalled (LendMade a limit taken) old n
 LendCalls a limit old new (Err e) = (e ≡ trouble.Frame) × CallBroke (LendBroken a limit) since.Mended old new
 
 -- What it leaves of the store, as every store is seen: no record changes and no time goes by, and the medium does not fail. It takes the
--- room of so many entries.
+-- room of at most so many records.
 pub record LeavesLent {S : Type 0} (calls : ℕ) (v w : RecordsView S) : Type 0 where
   pub valid : w.valid
   pub quiet : IsQuiet v w
