@@ -13,7 +13,7 @@ use Rattle.il_script.specs.Commands.{spelt_as, reading_of, command_read, bytes_r
 use Rattle.il_script.specs.Replies.{text_line, reply_line}
 use Rattle.il_script.specs.declared.lines.Line.TheVariants.{Text, TooLong}
 use Rattle.il_script.specs.declared.limits.TheConstants.{LONGEST_LINE, LONGEST_PAYLOAD, LONGEST_SCRIPT, MOST_SLOTS}
-use Rattle.il_script.specs.declared.command.Command.TheVariants.{Dir, Label, Fetch, Store, Put, Get, Rename, Purge, Format, Adopt, Upgrade, Pack, Begin, Commit, Devices, Status, Poll, Say, Paper}
+use Rattle.il_script.specs.declared.command.Command.TheVariants.{Dir, Label, Fetch, Store, Put, Get, Rename, Purge, Format, Adopt, Upgrade, Begin, Commit, Devices, Status, Poll, Say, Paper, Lend}
 use Rattle.il_script.specs.declared.command.LineFault.TheVariants.{BadLine, BadName}
 use Rattle.il_script.specs.declared.reply.Code.TheVariants as code
 use Rattle.il_script.specs.declared.reply.Reply.TheVariants as reply
@@ -131,6 +131,16 @@ rename_line = refl
 format_line : reading_of (codes "format TAPE 16") ≡ Ok (Some (record { command = Format (record { bytes = codes "TAPE  " }) 16; bytes = [] }))
 format_line = refl
 
+lend_lines : (reading_of (codes "lend 1") ≡ Ok (Some (record { command = Lend 1; bytes = [] })))
+    × (reading_of (codes "lend 4096") ≡ Ok (Some (record { command = Lend 4096; bytes = [] })))
+lend_lines = (refl, refl)
+
+-- the loop is lent for some frames and not for more than that
+no_lend_lines : (reading_of (codes "lend 0") ≡ Err BadLine) × (reading_of (codes "lend 4097") ≡ Err BadLine)
+    × (reading_of (codes "lend 01") ≡ Err BadLine) × (reading_of (codes "lend") ≡ Err BadLine)
+    × (reading_of (codes "lend 1 2") ≡ Err BadLine)
+no_lend_lines = (refl, refl, refl, refl, refl)
+
 store_line : reading_of (codes "store A E080 00000180 4142") ≡ Ok (Some (record { command = Store made 0xE080 (0 ∷ 0 ∷ 1 ∷ 0x80 ∷ []); bytes = codes "AB" }))
 unfolding hex_on_literals
 store_line = refl
@@ -159,5 +169,6 @@ said = (refl, refl, refl)
 -- ---- replies
 
 texts : (reply_line reply.Ok ≡ text_line (codes "ok")) × (reply_line (reply.No code.Protected) ≡ text_line (codes "error 11 Protected")) × (reply_line reply.FaultMedium ≡ text_line (codes "fault medium"))
+    × (reply_line (reply.No code.NoTaker) ≡ text_line (codes "error 17 NoTaker"))
 unfolding digits
-texts = (refl, refl, refl)
+texts = (refl, refl, refl, refl)

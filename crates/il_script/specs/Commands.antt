@@ -9,7 +9,7 @@ use Rattle.il_script.specs.Digits.{number_up_to, hex_bytes, payload_of, type_in}
 use Rattle.il_script.specs.Spelling.{spelt}
 use Rattle.il_script.specs.declared.limits.TheConstants.{MOST_SLOTS}
 use Rattle.il_script.specs.declared.command.Command.{Command}
-use Rattle.il_script.specs.declared.command.Command.TheVariants.{Dir, Label, Fetch, Store, Put, Get, Rename, Purge, Format, Adopt, Upgrade, Pack, Begin, Commit, Devices, Status, Poll, Say, Paper}
+use Rattle.il_script.specs.declared.command.Command.TheVariants.{Dir, Label, Fetch, Store, Put, Get, Rename, Purge, Format, Adopt, Upgrade, Pack, Begin, Commit, Devices, Status, Poll, Say, Paper, Lend}
 use Rattle.il_script.specs.declared.command.LineFault.{LineFault}
 use Rattle.il_script.specs.declared.command.LineFault.TheVariants.{BadLine, BadName}
 
@@ -69,6 +69,10 @@ abbrev pub format_of : List (List ℕ) → Result Command LineFault
 format_of parts = in_form (only_two parts) (λ p. in_form (spelt_as new_label p.0) (λ label. in_form (number_up_to MOST_SLOTS p.1) (λ slots.
     with_name label (λ label. Ok (Format label slots)))))
 
+-- `lend FRAMES`: FRAMES is a number in decimal, at most 4096
+abbrev pub lend_of : List (List ℕ) → Result Command LineFault
+lend_of parts = in_form (only_one parts) (λ part. in_form (number_up_to 4096 part) (λ frames. Ok (Lend frames)))
+
 -- a command of the name that a file is given, with the bytes that a text spells
 abbrev pub carrying : (NewName → Command) → Option NewName → List ℕ → Result Asked LineFault
 carrying command name text = in_form (payload_of text) (λ bytes. with_name name (λ name. Ok (record { command = command name; bytes = bytes })))
@@ -113,7 +117,8 @@ command_of word parts =
     if bytes_eq word (codes "get") then get_of parts else
     if bytes_eq word (codes "purge") then purge_of parts else
     if bytes_eq word (codes "rename") then rename_of parts else
-    if bytes_eq word (codes "format") then format_of parts else lone_of word parts
+    if bytes_eq word (codes "format") then format_of parts else
+    if bytes_eq word (codes "lend") then lend_of parts else lone_of word parts
 
 abbrev pub without_bytes : Result Command LineFault → Result Asked LineFault
 without_bytes (Ok command) = Ok (record { command = command; bytes = [] })

@@ -60,6 +60,9 @@ pub enum Command {
     Say,
     /// Tells what the printer has heard.
     Paper,
+    /// Lends control of the loop to the last device, until so many frames have arrived at the host, 1 to
+    /// [`MOST_FRAMES`](crate::MOST_FRAMES), and tells the status bytes that it has read.
+    Lend(u16),
 }
 
 /// Why a line is no command.

@@ -14,7 +14,9 @@ mod words;
 
 pub use command::{Command, LineFault};
 pub use digits::{read_byte, read_number};
-pub use limits::{KEPT_OF_LINE, LONGEST_LINE, LONGEST_PAYLOAD, LONGEST_SCRIPT, MOST_SLOTS};
+pub use limits::{
+    KEPT_OF_LINE, LONGEST_LINE, LONGEST_PAYLOAD, LONGEST_SCRIPT, MOST_FRAMES, MOST_SLOTS,
+};
 pub use lines::{Line, Lines};
 pub use page::Page;
 pub use payload::Payload;

@@ -14,3 +14,6 @@ pub const LONGEST_PAYLOAD: usize = MOST_BYTES;
 
 /// How many slots a new directory may have: eight in each record of an HP 9114 disc but six.
 pub const MOST_SLOTS: u16 = 19_664;
+
+/// How many frames may arrive at the host while control of the loop is lent.
+pub const MOST_FRAMES: u16 = 4_096;

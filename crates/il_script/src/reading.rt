@@ -1,13 +1,13 @@
 ghost use Rattle.std.specs.Prelude.{◌≡◌, ◌≤◌, [], Ok, length};
 ghost use Rattle.il_script.specs.Digits.{number_up_to, payload_of};
 ghost use Rattle.il_script.specs.Words.{words_of};
-ghost use Rattle.il_script.specs.Commands.{is_comment, fetch_of, get_of, purge_of, rename_of, format_of, carrying, store_of, put_of, say_of, word_command, lone_of, command_of, asked_of, reading_of, command_in, bytes_in, command_read, bytes_read, name_of_part, in_form, with_name};
+ghost use Rattle.il_script.specs.Commands.{is_comment, fetch_of, get_of, purge_of, rename_of, format_of, lend_of, carrying, store_of, put_of, say_of, word_command, lone_of, command_of, asked_of, reading_of, command_in, bytes_in, command_read, bytes_read, name_of_part, in_form, with_name};
 ghost use Rattle.il_script.specs.declared.command.Command.{Command};
 ghost use Rattle.lif_dir.specs.declared.names.NewName.{NewName};
 
 use crate::command::{Command, LineFault};
 use crate::digits::{read_hex, read_number, read_type};
-use crate::limits::{LONGEST_LINE, MOST_SLOTS};
+use crate::limits::{LONGEST_LINE, MOST_FRAMES, MOST_SLOTS};
 use crate::payload::Payload;
 use crate::spelling::{spelt_name, spelt_new_label, spelt_new_name};
 use crate::words::{four_parts, is_end, next_word, one_part, two_parts, without_return};
@@ -76,6 +76,9 @@ fn read_bare(word: &[u8], rest: &[u8]) -> Result<Command, LineFault>
     }
     if word == b"format".as_slice() {
         return read_format(rest);
+    }
+    if word == b"lend".as_slice() {
+        return read_lend(rest);
     }
     read_lone(word, rest)
 }
@@ -172,17 +175,26 @@ fn read_format(rest: &[u8]) -> Result<Command, LineFault>
 {
     let (label, slots) = two_parts(rest).ok_or(LineFault::BadLine)?;
     let label = spelt_new_label(label).ok_or(LineFault::BadLine)?;
-    let slots = read_slots(slots).ok_or(LineFault::BadLine)?;
+    let slots = read_count(slots, MOST_SLOTS).ok_or(LineFault::BadLine)?;
     let label = label.ok_or(LineFault::BadName)?;
     Ok(Command::Format { label, slots })
 }
 
-/// The number of slots of a directory that is made.
-fn read_slots(text: &[u8]) -> Option<u16>
-    ensures { result ≡ number_up_to MOST_SLOTS text.now }
+/// `lend FRAMES`
+fn read_lend(rest: &[u8]) -> Result<Command, LineFault>
+    ensures { result ≡ lend_of (words_of rest.now) }
 {
-    let slots = read_number(text, u64::from(MOST_SLOTS))?;
-    Some(slots as u16)
+    let frames = one_part(rest).ok_or(LineFault::BadLine)?;
+    let frames = read_count(frames, MOST_FRAMES).ok_or(LineFault::BadLine)?;
+    Ok(Command::Lend(frames))
+}
+
+/// A count of slots or of frames, 1 to `most`.
+fn read_count(text: &[u8], most: u16) -> Option<u16>
+    ensures { result ≡ number_up_to most text.now }
+{
+    let count = read_number(text, u64::from(most))?;
+    Some(count as u16)
 }
 
 /// `store NAME TYPE IMPL HEX`

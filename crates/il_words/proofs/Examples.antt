@@ -9,7 +9,7 @@ use Rattle.il_words.specs.Generating.{seed_in, count_in, script_in}
 use Rattle.il_words.specs.Faults.{crossing_in, change_in, list_in}
 use Rattle.il_words.specs.Planning.{plan_by}
 use Rattle.il_words.specs.Simple.{il_app}
-use Rattle.il_words.specs.Asked.{words_in}
+use Rattle.il_words.specs.Asked.{Asked, words_in}
 
 -- ---- values
 
@@ -77,7 +77,8 @@ twice = (refl, refl)
 
 -- ---- words
 
-plain : words_in (codes "TAPE" ∷ []) ≡ Some (record { image = codes "TAPE"; made = None; plan = []; quiet = false; generated = None })
+plain : words_in (codes "TAPE" ∷ [])
+    ≡ Some (record { image = codes "TAPE"; made = None; plan = []; quiet = false; guest = false; generated = None })
 unfolding il_app clap_on_literals
 plain = refl
 
@@ -86,9 +87,31 @@ unfolding il_app clap_on_literals
 no_image = refl
 
 whole : words_in (codes "--new" ∷ codes "--lose" ∷ codes "6" ∷ codes "--generate" ∷ codes "1:8" ∷ codes "TAPE" ∷ [])
-    ≡ Some (record { image = codes "TAPE"; made = Some 512; plan = record { hop = 6; fault = Lose } ∷ []; quiet = false; generated = Some (1, 8) })
+    ≡ Some (record {
+      image = codes "TAPE";
+      made = Some 512;
+      plan = record { hop = 6; fault = Lose } ∷ [];
+      quiet = false;
+      guest = false;
+      generated = Some (1, 8);
+    })
 unfolding il_app clap_on_literals
 whole = refl
+
+abbrev with_guest : Asked
+with_guest = record { image = codes "TAPE"; made = None; plan = []; quiet = false; guest = true; generated = None }
+
+-- a second controller, wherever its word stands
+guests : (words_in (codes "--guest" ∷ codes "TAPE" ∷ []) ≡ Some with_guest)
+    × (words_in (codes "TAPE" ∷ codes "--guest" ∷ []) ≡ Some with_guest)
+unfolding il_app clap_on_literals
+guests = (refl, refl)
+
+-- not twice, not with a value, and not alone
+no_guests : (words_in (codes "--guest" ∷ codes "--guest" ∷ codes "TAPE" ∷ []) ≡ None)
+    × (words_in (codes "--guest=2" ∷ codes "TAPE" ∷ []) ≡ None) × (words_in (codes "--guest" ∷ []) ≡ None)
+unfolding il_app clap_on_literals
+no_guests = (refl, refl, refl)
 
 -- a tape and a disc together, an alteration by 0, and a question for help
 refused : (words_in (codes "--new" ∷ codes "--new-disc" ∷ codes "TAPE" ∷ []) ≡ None) × (words_in (codes "--alter" ∷ codes "30:00" ∷ codes "TAPE" ∷ []) ≡ None)

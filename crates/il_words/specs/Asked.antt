@@ -18,6 +18,8 @@ pub record Asked : Type 0 where
   -- the faults that are planned
   pub plan : List Planned
   pub quiet : Bool
+  -- a second controller stands on the loop
+  pub guest : Bool
   -- the seed and the number of lines of a script that is generated
   pub generated : Option (ℕ × ℕ)
 
@@ -34,10 +36,18 @@ script_if None = Some None
 script_if (Some text) = option_map Some (script_in text)
 
 -- the parts together, where each is there
-abbrev pub asked_of : Option Text → Option New → Option (List Planned) → Bool → Option (Option (ℕ × ℕ)) → Option Asked
-asked_of (Some image) (Some made) (Some plan) quiet (Some generated) =
-    Some (record { image = image; made = records_made made; plan = plan; quiet = quiet; generated = generated })
-asked_of _ _ _ _ _ = None
+abbrev pub asked_of : Option Text → Option New → Option (List Planned) → Bool → Bool → Option (Option (ℕ × ℕ))
+    → Option Asked
+asked_of (Some image) (Some made) (Some plan) quiet guest (Some generated) =
+    Some (record {
+      image = image;
+      made = records_made made;
+      plan = plan;
+      quiet = quiet;
+      guest = guest;
+      generated = generated;
+    })
+asked_of _ _ _ _ _ _ = None
 
 -- what the values ask for, where each is in its grammar
 abbrev pub asked_in : List Row → Option Asked
@@ -46,6 +56,7 @@ asked_in rows = asked_of
     (made_by (is_set (codes "new") rows) (is_set (codes "new-disc") rows))
     (plan_by (first_of (codes "lose") rows) (first_of (codes "alter") rows))
     (is_set (codes "quiet") rows)
+    (is_set (codes "guest") rows)
     (script_if (first_of (codes "generate") rows))
 
 -- what the words ask for: nothing exactly where the command does not take them, or a value is not in its grammar
@@ -59,5 +70,6 @@ asked_by w = record {
   made = records_made w.made;
   plan = w.plan.items;
   quiet = w.quiet;
+  guest = w.guest;
   generated = option_map (λ script. (script.seed, script.count)) w.generated;
 }

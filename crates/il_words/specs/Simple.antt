@@ -21,10 +21,10 @@ abbrev pub bare_app : App
 bare_app = let a : App = new_app (codes "il") in
     record a { top = record (a.top) { no_binary_name = true; disable_help_flag = true; disable_version_flag = true } }
 
--- three options without a value, three with one, and the image
+-- four options without a value, three with one, and the image
 unfoldable pub il_app : App
-il_app = with_rule (with_rule (with_rule (with_rule (with_rule (with_rule (with_rule bare_app
-    (flag_rule (codes "new"))) (flag_rule (codes "new-disc"))) (flag_rule (codes "quiet")))
+il_app = with_rule (with_rule (with_rule (with_rule (with_rule (with_rule (with_rule (with_rule bare_app
+    (flag_rule (codes "new"))) (flag_rule (codes "new-disc"))) (flag_rule (codes "quiet"))) (flag_rule (codes "guest")))
     (valued_rule (codes "lose"))) (valued_rule (codes "alter"))) (valued_rule (codes "generate"))) image_rule
 
 -- what is found, where nothing is at fault

@@ -52,6 +52,7 @@ fn command<'a>(alloc: Global) -> Result<Command<'a>, AllocError>
         .arg(flag(alloc, "new"))?
         .arg(flag(alloc, "new-disc"))?
         .arg(flag(alloc, "quiet"))?
+        .arg(flag(alloc, "guest"))?
         .arg(valued(alloc, "lose"))?
         .arg(valued(alloc, "alter"))?
         .arg(valued(alloc, "generate"))?

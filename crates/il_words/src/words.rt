@@ -26,6 +26,8 @@ pub struct Words<'a> {
     pub plan: ArrayVec<Planned, MOST_PLANNED>,
     /// Whether the replies are written without the trace of the loop.
     pub quiet: bool,
+    /// Whether a second controller stands on the loop.
+    pub guest: bool,
     /// The script that is made in place of one that is read.
     pub generated: Option<Generated>,
 }
@@ -73,6 +75,7 @@ fn read_matches<'a>(matches: &ArgMatches<'a>) -> Option<Words<'a>>
         made,
         plan,
         quiet: is_set(matches, "quiet"),
+        guest: is_set(matches, "guest"),
         generated,
     })
 }

@@ -164,6 +164,23 @@ const LINES: &str = "\
 -get %\n\
 !get ELEVENCHARS\n\
 -gets A\n\
++lend 1\n\
++lend 4096\n\
++  lend   7  \n\
+-lend\n\
+-lend 0\n\
+-lend 00\n\
+-lend 01\n\
+-lend 4097\n\
+-lend 65537\n\
+-lend 18446744073709551617\n\
+-lend +1\n\
+-lend -1\n\
+-lend -\n\
+-lend 1x\n\
+-lend 1 2\n\
+-lends 1\n\
+-Lend 1\n\
 -say\n\
 +say -\n\
 -say - -\n\
@@ -225,7 +242,7 @@ fn commands_have_their_parts(rt: HostRuntime) -> Result<(), Fail> {
     };
     let rename = Command::Rename { old: file, new };
     let format = Command::Format { label, slots: 4048 };
-    let rows: [(&str, &[u8], Command); 10] = [
+    let rows: [(&str, &[u8], Command); 12] = [
         ("store DATA_1 e080 001aFF03 4142fF", b"AB\xFF", store),
         ("store DATA_1 E080 001AFF03 -", b"", store),
         ("put DATA_1 68690A0a79", b"hi\n\ny", Command::Put(new)),
@@ -236,6 +253,8 @@ fn commands_have_their_parts(rt: HostRuntime) -> Result<(), Fail> {
         ("rename A%20%00%25 DATA_1%20", b"", rename),
         ("format TAPE 4048", b"", format),
         ("say 00", b"\x00", Command::Say),
+        ("lend 1", b"", Command::Lend(1)),
+        ("lend 4096", b"", Command::Lend(4096)),
     ];
     for (line, bytes, command) in rows {
         asks(&rt, &mut payload, line, bytes, command);
@@ -258,6 +277,8 @@ fn no_bytes_of_a_line_before_stay(rt: HostRuntime) -> Result<(), Fail> {
         "store a 0001 00000000 4142",
         "put a 4142",
         "get A",
+        "lend 1",
+        "lend 4097",
         "fetch ELEVENCHARS",
     ] {
         let before = read(&rt, &mut payload, b"say 414243");

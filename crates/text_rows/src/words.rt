@@ -9,11 +9,12 @@ use std::fmt::Write;
 use std::test::Fail;
 
 /// What words ask for: the image, what is made where it is missing, the faults that are planned, whether the run is
-/// quiet, and the script that is generated.
+/// quiet, whether a second controller is on the loop, and the script that is generated.
 type Asked = (
     &'static str,
     New,
     &'static [Planned],
+    bool,
     bool,
     Option<Generated>,
 );
@@ -51,27 +52,48 @@ const ALTERED_AT_34: Planned = Planned {
 const MIXED: [Planned; 4] = [ALTERED_AT_5, LOST_AT_6, ALTERED_AT_30, ALTERED_AT_34];
 
 /// Words, and what they ask for.
-const RUNS: [(&str, Asked); 14] = [
-    ("TAPE", ("TAPE", New::No, &[], false, None)),
-    ("-- --x", ("--x", New::No, &[], false, None)),
-    ("--quiet TAPE", ("TAPE", New::No, &[], true, None)),
-    ("--new --quiet TAPE", ("TAPE", New::Tape, &[], true, None)),
-    ("TAPE --new-disc", ("TAPE", New::Disc, &[], false, None)),
+const RUNS: [(&str, Asked); 20] = [
+    ("TAPE", ("TAPE", New::No, &[], false, false, None)),
+    ("-- --x", ("--x", New::No, &[], false, false, None)),
+    ("--quiet TAPE", ("TAPE", New::No, &[], true, false, None)),
+    (
+        "--new --quiet TAPE",
+        ("TAPE", New::Tape, &[], true, false, None),
+    ),
+    (
+        "TAPE --new-disc",
+        ("TAPE", New::Disc, &[], false, false, None),
+    ),
+    ("--guest TAPE", ("TAPE", New::No, &[], false, true, None)),
+    ("TAPE --guest", ("TAPE", New::No, &[], false, true, None)),
+    ("-- --guest", ("--guest", New::No, &[], false, false, None)),
+    (
+        "--guest --quiet TAPE",
+        ("TAPE", New::No, &[], true, true, None),
+    ),
+    (
+        "--quiet TAPE --guest",
+        ("TAPE", New::No, &[], true, true, None),
+    ),
+    (
+        "--lose 6 --guest TAPE",
+        ("TAPE", New::No, &[LOST_AT_6], false, true, None),
+    ),
     (
         "--lose 6 TAPE",
-        ("TAPE", New::No, &[LOST_AT_6], false, None),
+        ("TAPE", New::No, &[LOST_AT_6], false, false, None),
     ),
     (
         "--lose=5 TAPE",
-        ("TAPE", New::No, &[LOST_AT_5], false, None),
+        ("TAPE", New::No, &[LOST_AT_5], false, false, None),
     ),
     (
         "--lose 6,5 TAPE",
-        ("TAPE", New::No, &[LOST_AT_5, LOST_AT_6], false, None),
+        ("TAPE", New::No, &[LOST_AT_5, LOST_AT_6], false, false, None),
     ),
     (
         "--lose 999999999999999999 TAPE",
-        ("TAPE", New::No, &[LOST_LAST], false, None),
+        ("TAPE", New::No, &[LOST_LAST], false, false, None),
     ),
     (
         "--alter 30:01,34:fF TAPE",
@@ -80,12 +102,13 @@ const RUNS: [(&str, Asked); 14] = [
             New::No,
             &[ALTERED_AT_30, ALTERED_AT_34],
             false,
+            false,
             None,
         ),
     ),
     (
         "--alter 34:Ff,5:10,30:01 --lose 6 TAPE",
-        ("TAPE", New::No, &MIXED, false, None),
+        ("TAPE", New::No, &MIXED, false, false, None),
     ),
     (
         "--generate 0:1 TAPE",
@@ -93,6 +116,7 @@ const RUNS: [(&str, Asked); 14] = [
             "TAPE",
             New::No,
             &[],
+            false,
             false,
             Some(Generated { seed: 0, count: 1 }),
         ),
@@ -104,6 +128,7 @@ const RUNS: [(&str, Asked); 14] = [
             New::Tape,
             &[],
             false,
+            false,
             Some(Generated { seed: 1, count: 8 }),
         ),
     ),
@@ -113,6 +138,7 @@ const RUNS: [(&str, Asked); 14] = [
             "TAPE",
             New::No,
             &[],
+            false,
             false,
             Some(Generated {
                 seed: 2_147_483_647,
@@ -146,6 +172,7 @@ fn words_ask_for_a_run(rt: HostRuntime) -> Result<(), Fail> {
             read.made,
             read.plan.as_slice(),
             read.quiet,
+            read.guest,
             read.generated,
         );
         assert!(rt; same(came, asked), "{text}");
@@ -154,7 +181,7 @@ fn words_ask_for_a_run(rt: HostRuntime) -> Result<(), Fail> {
 }
 
 /// Words that are none of a run.
-const REFUSED: [&str; 38] = [
+const REFUSED: [&str; 46] = [
     "",
     "TAPE TAPE",
     "--new --new-disc TAPE",
@@ -166,6 +193,14 @@ const REFUSED: [&str; 38] = [
     "--version",
     "-V",
     "--quie TAPE",
+    "--guest",
+    "--guest --guest TAPE",
+    "TAPE --guest --guest",
+    "--guest= TAPE",
+    "--guest=2 TAPE",
+    "--guest 2 TAPE",
+    "--gues TAPE",
+    "-guest TAPE",
     "--lose TAPE",
     "--lose= TAPE",
     "--lose 0 TAPE",
