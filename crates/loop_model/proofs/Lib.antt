@@ -12,6 +12,8 @@ pub mod HearLaws
 pub mod ReadingLaws
 pub mod DeviceLaws
 pub mod LeadingLaws
+pub mod Commanded
+pub mod TakingBack
 mod Examples
 mod TransferExamples
 mod LeadingExamples
