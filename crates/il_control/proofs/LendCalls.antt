@@ -211,5 +211,5 @@ module _ {M : Type 0} (view : M → MediumView) (a limit : ℕ) (q : RingView M)
         taken_made s whole host found =
             lent_made view a limit q m idle low so s whole so.at (sym hands.0.hands ∙ hands_where view q r a idle some low asked) host (found so.found.entries so.found.found)
 
-        pub taken_not : (s : RingView M) → Broke view (about_to_send m) (commanded 0 ifc) s → KeepsFound m s → LendBroken a limit q s
-        taken_not s broke found = lent_not view a limit q m idle low so s broke so.at (sym hands.0.hands ∙ hands_where view q r a idle some low asked) (found so.found.entries so.found.found)
+        pub taken_not : (s : RingView M) → Broke view (about_to_send m) (commanded 0 ifc) s → KeepsFound m s → (length s.books.log ≡ length (about_to_send m).books.log + 2 → IsUnderHost s.guest) → LendBroken a limit q s
+        taken_not s broke found ready = lent_not view a limit q m idle low so s broke so.at (sym hands.0.hands ∙ hands_where view q r a idle some low asked) (found so.found.entries so.found.found) ready

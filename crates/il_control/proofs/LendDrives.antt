@@ -13,9 +13,9 @@ use Rattle.il_drive.specs.State.{status_of}
 use Rattle.loop_model.specs.Exchanges.{commanded, returned}
 use Rattle.il_ring.specs.Lends.{refused_entries}
 use Rattle.il_ring.specs.Rings.{RingView, devices_of, drive_party}
-use Rattle.il_ring.specs.Statuses.{is_told, told_by}
+use Rattle.il_ring.specs.Statuses.{is_told, told_by, ToldStatus}
 use Rattle.il_control.specs.Calls.{Broke, IsIdle, Whole}
-use Rattle.il_control.specs.Lent.{DriveLeft, DriveTold, ToldStatus}
+use Rattle.il_control.specs.Lent.{DriveLeft, DriveTold}
 use Rattle.il_control.proofs.IdleDrives.{idle_silent}
 use Rattle.il_control.proofs.LentHost.{plain_entry, still_of, tad_plain, unl_broke, unl_whole}
 use Rattle.il_control.proofs.LentStatuses.{NoEnd, are_mute, is_mute, mute-NoEnd}

@@ -1,12 +1,13 @@
 -- A lend in which a second controller took control: the host took it back, or the rounds broke off.
 use Rattle.il_ring.specs.declared.flight.Flight.{Flight}
 use Rattle.il_control.proofs.LentTold.{tells_left}
+use Rattle.il_control.proofs.LentMet.{met_since, risen_up}
 use Rattle.il_control.proofs.LentHost.{ifc_broke, ifc_whole, still_of}
 use Rattle.il_control.proofs.LendDrives.{told_behind, told_no_more}
-use Rattle.std.proofs.Common.{List, None, Option, Some, [], ap, append-nil, append_assoc, ap₂, arith, false, inl, inr, length, length-append, refl, subst, suc, sym, true, zero, ℕ, ⊎_elim, ◌*◌, ◌++◌, ◌+◌, ◌<◌, ◌==◌, ◌||◌, ◌∙◌, ◌∷◌, ◌≡◌, ◌≤◌}
+use Rattle.std.proofs.Common.{List, None, Option, Some, [], ap, append-nil, append_assoc, ap₂, arith, false, inl, inr, length, length-append, refl, subst, suc, sym, true, zero, ℕ, ⊎_elim, ◌*◌, ◌++◌, ◌+◌, ◌<◌, ◌==◌, ◌||◌, ◌∙◌, ◌∷◌, ◌≡◌, ◌≤◌, nat_le}
 use Rattle.std.specs.Prelude.{IfSome, get_or, if◌then◌else◌}
 use Rattle.std.specs.List.{list_all, list_any}
-use Rattle.std.proofs.lemmas.Bool.{and_from, and_parts, le-leb, ne_eqb}
+use Rattle.std.proofs.lemmas.Bool.{and_from, and_parts, eqb-true, le-leb, ne_eqb}
 use Rattle.std.proofs.lemmas.List.{append_cancel_left}
 use Rattle.std.proofs.lemmas.List.Folds.{list_all-append}
 use Rattle.il_frames.specs.declared.entry.Entry.{Entry}
@@ -28,17 +29,19 @@ use Rattle.il_ring.specs.LedAdds.{LedSince, standing}
 use Rattle.il_ring.specs.Lending.{about_to_send, entry_where, taken_back, taken_back_where}
 use Rattle.il_ring.specs.Lends.{AtHost, handed_entries, lend_entries}
 use Rattle.il_ring.specs.Rings.{RingView, devices_of, drive_party}
-use Rattle.il_ring.specs.Statuses.{last_told, told_by}
+use Rattle.il_ring.specs.Turned.{is_on}
+use Rattle.il_ring.specs.Statuses.{answers_always, asked_all, last_told, told_by, ToldStatus}
 use Rattle.il_ring.proofs.LendFaults.{cut_faulty, faulty_behind, is_faulty}
 use Rattle.il_ring.proofs.LedRings.{led_ring}
 use Rattle.il_ring.proofs.LedSince.{since_adds, since_append, since_back}
 use Rattle.il_control.specs.Calls.{Broke, IsIdle, Whole}
 use Rattle.il_control.specs.Found.{HasFound}
-use Rattle.il_control.specs.Lent.{DriveLeft, DriveTold, KeptSince, LendBroken, LendMade, LentBroke, LentSo, ToldStatus, asked_on, base_of, last_of, controller_at}
+use Rattle.il_control.specs.Lent.{DriveLeft, DriveTold, KeptSince, LendBroken, LendMade, LentBroke, LentSo, asked_on, base_of, last_of, controller_at}
 use Rattle.il_control.proofs.Calls.{cut_within}
-use Rattle.il_control.proofs.LendFronts.{cut_length, kept_adds, kept_then, only_lost}
+use Rattle.il_control.proofs.LendFronts.{cut_length, cut_on, kept_adds, kept_then, only_lost}
 use Rattle.il_control.proofs.LendSums.{lend_broken, lend_made, taken_not_back}
-use Rattle.il_control.proofs.LentEnds.{LendsSo, addresses_are, lent_cut, lent_lost, lent_whole, stands_so}
+use Rattle.il_control.proofs.LentAnswers.{answers-append, answers-front, are_mute-answers}
+use Rattle.il_control.proofs.LentEnds.{LendsSo, addresses_are, lent_cut, lent_cut-back, lent_lost, lent_lost-back, lent_lost-control, lent_whole, stands_so}
 use Rattle.il_control.proofs.LentFound.{standing_told}
 use Rattle.il_control.proofs.LentStatuses.{are_mute, handed-asks, ifc-cut, ifc-mute, is_mute, told-between, told-lent}
 use Rattle.il_control.proofs.LentSums.{are_theirs, control_stays, ends_theirs, is_theirs}
@@ -154,6 +157,19 @@ module _ {M : Type 0} (view : M → MediumView) (a limit : ℕ) (q r : RingView 
           ∙ sym (told-lent k b a so.polls.entries (standing k r.books) last host_other (standing_told view k own_last (Some k) (base_of a q) r limit so.polls) mute)
           ∙ ap (last_told k b) (sym (entries_for last entries is)))
 
+  -- the drive answers wherever it is asked in them
+  answered_for : (last entries : List Entry) → are_mute k last ≡ true → (r.books.log ++ standing k r.books) ++ last ≡ q.books.log ++ entries → answers_always k (drive_party q) None entries ≡ true
+  answered_for last entries mute is =
+      let same : so.found.entries ≡ so.polls.entries = append_cancel_left (base_of a q) so.found.entries so.polls.entries (sym so.found.log ∙ so.polls.log) in
+      let party : drive_party r ≡ drive_party q = ap (λ n. n + 1) so.kept.before in
+      let rounds : answers_always k (drive_party q) None so.polls.entries ≡ true =
+      sym (ap₂ (λ j p. answers_always j p None so.found.entries) so.polls.many party ∙ ap (answers_always k (drive_party q) None) same) ∙ so.found.answered in
+      let behind = standing k r.books ++ last in
+      let still : are_mute k behind ≡ true = list_all-append (is_mute k) (standing k r.books) last ∙ and_from (are_mute k (standing k r.books)) (are_mute k last) (standing_told view k own_last (Some k) (base_of a q) r limit so.polls) mute in
+      ap (answers_always k (drive_party q) None) (entries_for last entries is)
+      ∙ answers-front k (drive_party q) (handed_entries a k) (so.polls.entries ++ behind) (handed-asks k a host_other)
+      (answers-append k (drive_party q) None so.polls.entries behind rounds (are_mute-answers k (drive_party q) (asked_all k None so.polls.entries) behind still))
+
   -- ---- the IFC and its RFC came back
 
   module _ (s : RingView M) (whole : Whole view (about_to_send r) (commanded 0 ifc) s) where
@@ -198,7 +214,8 @@ module _ {M : Type 0} (view : M → MediumView) (a limit : ℕ) (q r : RingView 
 
     pub lent_made : a ≡ k → true ≡ controller_at a q → IsUnderHost s.guest → HasFound so.found.entries s → LendMade a limit true q s
     lent_made at stands host has =
-        lend_made a limit 0 true q s idle made_so.lend made_so.is made_so.own made_so.whole_is made_so.address (λ taken. at) made_since made_kept made_short (λ taken. sym stands) (λ back. absurd (taken_not_back made_so.lend made_so.taken back)) (λ taken. made_found has) (λ not_taken. let clash = sym not_taken ∙ made_so.taken in cc) its_whole.ring
+        lend_made a limit 0 true q s idle made_so.lend made_so.is made_so.own made_so.whole_is made_so.address (λ taken. at) made_since made_kept made_short (λ taken. sym stands) (λ back. absurd (taken_not_back made_so.lend made_so.taken back)) (λ taken. made_found has) (λ not_taken. let clash = sym not_taken ∙ made_so.taken in cc)
+        (answered_for (commanded 0 ifc) (lend_entries k (asked_on q) made_so.lend) (ifc-mute k host_other) made_so.log_is) its_whole.ring
         refl true made_so.taken stands made_drive (λ not_taken. cc) host its_whole.held
 
   -- ---- one of the two was lost
@@ -222,8 +239,11 @@ module _ {M : Type 0} (view : M → MediumView) (a limit : ℕ) (q r : RingView 
     adds : Adds view (taken_back r) None ended None s
     adds = subst (λ to. Adds view (taken_back r) None ended to s) (its_broke.told refl) (subst (λ b. Adds view (taken_back r) None (cut_at (commanded 0 ifc) n b) its_broke.held_at_end s) lost.1 its_broke.adds)
 
+    lost_on : nat_le lost.0 k ≡ true
+    lost_on = cut_on (commanded 0 ifc) n lost.0 k less (subst (λ j. list_all (is_on j) ended ≡ true) so.polls.many adds.on)
+
     abbrev lost_so : LendsSo k (asked_on q) limit a false q.books.log ((r.books.log ++ standing k r.books) ++ ended)
-    lost_so = lent_lost view k own_last (Some k) (base_of a q) r limit so.polls a q.books.log address lows refl n lost.0 less
+    lost_so = lent_lost view k own_last (Some k) (base_of a q) r limit so.polls a q.books.log address lows refl n lost.0 less lost_on
 
     ended_back : (m p : ℕ) → m < 2 → (controller_after k (cut_at (commanded 0 ifc) m (FrameLost p)) ≡ 0) × ((rs : List Roles) → roles_led k rs (cut_at (commanded 0 ifc) m (FrameLost p)) ≡ roles_after rs (cut_at (commanded 0 ifc) m (FrameLost p)))
         × (list_all is_no_poll (cut_at (commanded 0 ifc) m (FrameLost p)) ≡ true)
@@ -248,11 +268,20 @@ module _ {M : Type 0} (view : M → MediumView) (a limit : ℕ) (q r : RingView 
           status = ⊎_elim (λ same. inl (still.status ∙ same)) (λ none. inr (still.status ∙ none)) left;
         }
 
-    pub lent_not : a ≡ k → true ≡ controller_at a q → HasFound so.found.entries s → LendBroken a limit q s
-    lent_not at stands has =
+    pub lent_not : a ≡ k → true ≡ controller_at a q → HasFound so.found.entries s → (length s.books.log ≡ length (about_to_send r).books.log + 2 → IsUnderHost s.guest) → LendBroken a limit q s
+    lent_not at stands has ready =
         lend_broken a limit 0 false q s idle lost_so.lend lost_so.is lost_so.own lost_so.whole_is lost_so.address (λ taken. at) lost_since lost_kept (long_so ended (lend_entries k (asked_on q) lost_so.lend) (cut_length (commanded 0 ifc) n lost.0) lost_so.log_is)
-        (λ taken. sym stands) (λ back. absurd (taken_not_back lost_so.lend lost_so.taken back)) (λ taken. found_for s ended (lend_entries k (asked_on q) lost_so.lend) (ifc-cut k n lost.0 host_other) lost_so.log_is lost_since.size has) (λ not_taken. let clash = sym not_taken ∙ lost_so.taken in cc) its_broke.ring refl lost_drive its_broke.held
+        (λ taken. sym stands) (λ back. absurd (taken_not_back lost_so.lend lost_so.taken back)) (λ taken. found_for s ended (lend_entries k (asked_on q) lost_so.lend) (ifc-cut k n lost.0 host_other) lost_so.log_is lost_since.size has) (λ not_taken. let clash = sym not_taken ∙ lost_so.taken in cc)
+        (answered_for ended (lend_entries k (asked_on q) lost_so.lend) (ifc-cut k n lost.0 host_other) lost_so.log_is) its_broke.ring refl lost_drive its_broke.held
         (ap (list_any is_faulty) adds.log ∙ faulty_behind (taken_back r).books.log ended (cut_faulty (commanded 0 ifc) n lost.0 less))
+        (met_since q (taken_back r) s so.kept.plan (risen_up so.since.links q.books.crossings r.books.crossings idle.free.ring.crossings so.since.crossings) its_broke.met_some)
+        (λ keeps. let clash = sym keeps ∙ lent_lost-control view k own_last (Some k) (base_of a q) r limit so.polls a q.books.log address lows refl n lost.0 less lost_on in cc)
+        (λ back.
+        let one : n ≡ 1 = eqb-true n 1 (sym (lent_lost-back view k own_last (Some k) (base_of a q) r limit so.polls a q.books.log address lows refl n lost.0 less lost_on) ∙ back) in
+        let two : length ended ≡ 2 = ap (λ m. length (cut_at (commanded 0 ifc) m (FrameLost lost.0))) one in
+        let log = ap length adds.log ∙ length-append (taken_back r).books.log ended in
+        let same = ap (λ (t : RingView M). length t.books.log) as_taken in
+        ready (omega (arith, two, log, same)))
 
 -- ---- the rounds broke off
 
@@ -274,27 +303,36 @@ module _ {M : Type 0} (view : M → MediumView) (a limit : ℕ) (q s : RingView 
       let few = off.few in
       omega (arith, log, whole, front, all, short, few)
 
+  cut_some : 1 ≤ length (devices_of q)
+  cut_some = let all = length-append q.before (device_of q.drive.state ∷ q.after) in omega (arith, all)
+
+  cut_other : (0 == length (devices_of q)) ≡ false
+  cut_other = ne_eqb 0 (length (devices_of q)) (λ e. omega (arith, e, cut_some))
+
+  cut_entries : lend_entries (length (devices_of q)) (asked_on q) cut_so.lend ≡ handed_entries a (length (devices_of q)) ++ (off.found.entries ++ [])
+  cut_entries = append_cancel_left q.books.log (lend_entries (length (devices_of q)) (asked_on q) cut_so.lend) (handed_entries a (length (devices_of q)) ++ (off.found.entries ++ []))
+      (sym cut_so.log_is ∙ off.found.log ∙ append_assoc q.books.log (handed_entries a (length (devices_of q))) off.found.entries
+      ∙ ap (λ es. q.books.log ++ (handed_entries a (length (devices_of q)) ++ es)) (sym (append-nil off.found.entries)))
+
   cut_found : HasFound (lend_entries (length (devices_of q)) (asked_on q) cut_so.lend) s
   cut_found = has_told s.guest (length (devices_of s)) off.found.entries (lend_entries (length (devices_of q)) (asked_on q) cut_so.lend) told off.found.found
     where
-      party : 1 ≤ length (devices_of q)
-      party = let all = length-append q.before (device_of q.drive.state ∷ q.after) in omega (arith, all)
-
-      other : (0 == length (devices_of q)) ≡ false
-      other = ne_eqb 0 (length (devices_of q)) (λ e. omega (arith, e, party))
-
-      entries : lend_entries (length (devices_of q)) (asked_on q) cut_so.lend ≡ handed_entries a (length (devices_of q)) ++ (off.found.entries ++ [])
-      entries = append_cancel_left q.books.log (lend_entries (length (devices_of q)) (asked_on q) cut_so.lend) (handed_entries a (length (devices_of q)) ++ (off.found.entries ++ []))
-          (sym cut_so.log_is ∙ off.found.log ∙ append_assoc q.books.log (handed_entries a (length (devices_of q))) off.found.entries
-          ∙ ap (λ es. q.books.log ++ (handed_entries a (length (devices_of q)) ++ es)) (sym (append-nil off.found.entries)))
-
       told : (b : ℕ) → last_told (length (devices_of s)) b off.found.entries ≡ last_told (length (devices_of s)) b (lend_entries (length (devices_of q)) (asked_on q) cut_so.lend)
       told b =
           subst (λ j. last_told j b off.found.entries ≡ last_told j b (lend_entries (length (devices_of q)) (asked_on q) cut_so.lend)) (sym cut_since.size)
-          (sym (told-between (length (devices_of q)) b (handed_entries a (length (devices_of q))) off.found.entries [] (handed-asks (length (devices_of q)) a other) refl) ∙ ap (last_told (length (devices_of q)) b) (sym entries))
+          (sym (told-between (length (devices_of q)) b (handed_entries a (length (devices_of q))) off.found.entries [] (handed-asks (length (devices_of q)) a cut_other) refl) ∙ ap (last_told (length (devices_of q)) b) (sym cut_entries))
+
+  cut_answered : answers_always (length (devices_of q)) (drive_party q) None (lend_entries (length (devices_of q)) (asked_on q) cut_so.lend) ≡ true
+  cut_answered =
+      let k = length (devices_of q) in
+      let rounds : answers_always k (drive_party q) None off.found.entries ≡ true =
+      sym (ap₂ (λ j p. answers_always j p None off.found.entries) cut_since.size (ap (λ n. n + 1) off.kept.before)) ∙ off.found.answered in
+      ap (answers_always k (drive_party q) None) cut_entries
+      ∙ answers-front k (drive_party q) (handed_entries a k) (off.found.entries ++ []) (handed-asks k a cut_other) (answers-append k (drive_party q) None off.found.entries [] rounds refl)
 
   pub cut_broken : a ≡ length (devices_of q) → true ≡ controller_at a q → LendBroken a limit q s
   cut_broken at stands =
-      lend_broken a limit (length (devices_of q)) false q s idle cut_so.lend cut_so.is cut_so.own cut_so.whole_is cut_so.address (λ taken. at) cut_since off.kept cut_short (λ taken. sym stands) (λ back. absurd (taken_not_back cut_so.lend cut_so.taken back)) (λ taken. cut_found) (λ not_taken. let clash = sym not_taken ∙ cut_so.taken in cc)
+      lend_broken a limit (length (devices_of q)) false q s idle cut_so.lend cut_so.is cut_so.own cut_so.whole_is cut_so.address (λ taken. at) cut_since off.kept cut_short (λ taken. sym stands) (λ back. absurd (taken_not_back cut_so.lend cut_so.taken back)) (λ taken. cut_found) (λ not_taken. let clash = sym not_taken ∙ cut_so.taken in cc) cut_answered
       (led_ring s off.led off.off.lent_is) refl off.drive off.led.held
-      (ap (list_any is_faulty) off.off.log ∙ faulty_behind (base_of a q) (off.off.entries ++ off.off.tail) (faulty_behind off.off.entries off.off.tail off.off.shows))
+      (ap (list_any is_faulty) off.off.log ∙ faulty_behind (base_of a q) (off.off.entries ++ off.off.tail) (faulty_behind off.off.entries off.off.tail off.off.shows)) off.met (λ keeps. off.led.leads)
+      (λ back. let clash = sym back ∙ lent_cut-back view (length (devices_of q)) (last_of q.guest) (Some (length (devices_of q))) (base_of a q) s off.arrived limit a q.books.log off.off off.few (le-leb a 30 low) (addresses_are (Some (length (devices_of q))) (last_of q.guest) off.few_asked) refl in cc)

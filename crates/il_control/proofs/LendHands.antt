@@ -35,24 +35,33 @@ along_each f party m (r ∷ rs) passes =
     ap (λ n. roles_by m r ∷ roles_along 0 (outcome.Back f) (suc party) n rs) (passes r) ∙ ap (λ rs. roles_by m r ∷ rs) (along_each f (suc party) m rs passes)
 
 -- behind UNL and TAD a
-abbrev asked_roles : ℕ → List Roles → List Roles
+abbrev pub asked_roles : ℕ → List Roles → List Roles
 asked_roles a rs = map (roles_by (msg.Tad a)) (map (roles_by msg.Unl) rs)
 
 -- it talks exactly where that is its address
-told_to_talk : (a : ℕ) (r : Roles) → (roles_by (msg.Tad a) (roles_by msg.Unl r)).talks ≡ is_own r.address a
+pub told_to_talk : (a : ℕ) (r : Roles) → (roles_by (msg.Tad a) (roles_by msg.Unl r)).talks ≡ is_own r.address a
 told_to_talk a r = by_own (is_own r.address a)
   where
     by_own : (own : Bool) → (if own then record r { talks = true; listens = false } else record r { talks = false; listens = false }).talks ≡ own
     by_own true = refl
     by_own false = refl
 
+-- so are the roles of numbered devices, of which none talked
+pub asked_roles-front : (a : ℕ) (rs : List Roles) → are_numbered 1 rs ≡ true → talkers rs ≡ [] → a ≤ 30 → roles_after rs (receive_front 0 a None) ≡ asked_roles a rs
+asked_roles-front a rs numbered silent low =
+    let unlistened : roles_after rs (commanded 0 unl) ≡ map (roles_by msg.Unl) rs = roles_after-kept (roles_after_entry rs (returned 0 unl)) (returned 0 rfc ∷ []) refl ∙ along_each unl 1 msg.Unl rs (λ r. refl) in
+    front_roles rs a None numbered silent (le-leb a 30 low) refl
+    ∙ ap (λ m. roles_along 0 (outcome.Back (tad a)) 1 m (roles_after rs (commanded 0 unl))) (message_of-tad a (le-leb a 30 low))
+    ∙ along_each (tad a) 1 (msg.Tad a) (roles_after rs (commanded 0 unl)) (λ r. refl)
+    ∙ ap (map (roles_by (msg.Tad a))) unlistened
+
 -- ---- the last device
 
-abbrev first_of : List Roles → Roles
+abbrev pub first_of : List Roles → Roles
 first_of [] = no_roles
 first_of (r ∷ rs) = r
 
-abbrev rest_of : List Roles → List Roles
+abbrev pub rest_of : List Roles → List Roles
 rest_of [] = []
 rest_of (r ∷ rs) = rs
 
@@ -121,14 +130,7 @@ module _ {M : Type 0} (view : M → MediumView) (q r : RingView M) (a : ℕ) (id
   asked_host = subst IsUnderHost (sym asked_guest) idle.host
 
   told : roles_of (devices_of r) ≡ asked_roles a (roles_of (devices_of q))
-  told =
-      let rs = roles_of (devices_of q) in
-      let unlistened : roles_after rs (commanded 0 unl) ≡ map (roles_by msg.Unl) rs = roles_after-kept (roles_after_entry rs (returned 0 unl)) (returned 0 rfc ∷ []) refl ∙ along_each unl 1 msg.Unl rs (λ r. refl) in
-      asked.whole.adds.roles
-      ∙ front_roles rs a None idle.numbered idle.silent (le-leb a 30 low) refl
-      ∙ ap (λ m. roles_along 0 (outcome.Back (tad a)) 1 m (roles_after rs (commanded 0 unl))) (message_of-tad a (le-leb a 30 low))
-      ∙ along_each (tad a) 1 (msg.Tad a) (roles_after rs (commanded 0 unl)) (λ r. refl)
-      ∙ ap (map (roles_by (msg.Tad a))) unlistened
+  told = asked.whole.adds.roles ∙ asked_roles-front a (roles_of (devices_of q)) idle.numbered idle.silent low
 
   pub last_where : last_talks r.after ≡ last_at a q.after
   last_where = last_asked_talks a q.after r.after (ap rest_of (roles_behind a q.before r.before (device_of q.drive.state ∷ q.after) (device_of r.drive.state ∷ r.after) asked.whole.adds.before told))

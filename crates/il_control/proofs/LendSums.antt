@@ -1,6 +1,6 @@
 -- A lend from its value and what was added to the ring.
 use Rattle.il_ring.specs.Outcomes.{met_between}
-use Rattle.std.proofs.Common.{Bool, List, None, [], ap, append-nil, arith, false, length, length-append, subst, sum_by, sym, true, ℕ, ◌&&◌, ◌*◌, ◌++◌, ◌+◌, ◌==◌, ◌∙◌, ◌∷◌, ◌≡◌, ◌≤◌}
+use Rattle.std.proofs.Common.{Bool, List, None, [], ap, append-nil, arith, false, length, length-append, subst, sum_by, sym, true, ℕ, ◌&&◌, ◌*◌, ◌++◌, ◌+◌, ◌==◌, ◌∙◌, ◌∷◌, ◌≡◌, ◌≤◌, ◌≢◌}
 use Rattle.std.specs.List.{list_any}
 use Rattle.std.proofs.lemmas.Bool.{and_parts, ne_eqb}
 use Rattle.il_frames.specs.declared.entry.Entry.{Entry}
@@ -10,9 +10,11 @@ use Rattle.loop_model.specs.Leading.{OneTalkerLed, controller_after_entry, has_o
 use Rattle.loop_model.specs.Reach.{links_of}
 use Rattle.loop_model.specs.Roles.{are_numbered, is_at_most_one, talkers}
 use Rattle.il_ring.specs.LedAdds.{AllTookSince, LedSince, standing}
-use Rattle.il_ring.specs.Lends.{Lend, Lent, LentCut, LentLost, NoTaker, NoTakerCut, is_lend, is_whole_lend, lend_address, lend_entries, tells_own, was_taken}
+use Rattle.il_ring.specs.Lends.{came_back, is_lend, is_whole_lend, keeps_control, Lend, lend_address, lend_entries, Lent, LentCut, LentLost, NoTaker, NoTakerCut, tells_own, took_back, was_taken}
 use Rattle.il_ring.specs.Guests.{IsUnderHost}
-use Rattle.il_ring.specs.Rings.{IsRing, RingView, devices_of, roles_of}
+use Rattle.il_ring.specs.Lending.{leads}
+use Rattle.il_ring.specs.Rings.{IsRing, RingView, devices_of, drive_party, roles_of}
+use Rattle.il_ring.specs.Statuses.{answers_always}
 use Rattle.il_ring.proofs.LedDoes.{length-roles_of}
 use Rattle.il_ring.proofs.LedSince.{none_stands}
 use Rattle.il_ring.proofs.LendFaults.{faulty_met, is_faulty}
@@ -20,7 +22,7 @@ use Rattle.il_ring.proofs.LendLaws.{lend_led}
 use Rattle.il_ring.proofs.LendTalkers.{lend_idle, lend_one_talker}
 use Rattle.il_control.specs.Calls.{IsIdle}
 use Rattle.il_control.specs.Found.{HasFound}
-use Rattle.il_control.specs.Lent.{DriveLeft, DriveTold, KeptSince, LendBroken, LendMade, Lends, asked_on, came_back, controller_at}
+use Rattle.il_control.specs.Lent.{DriveLeft, DriveTold, KeptSince, LendBroken, LendMade, Lends, asked_on, controller_at}
 
 -- where control was taken TCT did not come back
 pub taken_not_back : (lend : Lend) → was_taken lend ≡ true → came_back lend ≡ true → ⊥
@@ -39,7 +41,7 @@ one_led c rs (e ∷ log) one =
     one_led (controller_after_entry c e) (roles_led_entry c rs e) log rest.1
 
 module _ {M : Type 0} (a limit d : ℕ) (whole : Bool) (q s : RingView M) (idle : IsIdle q) (lend : Lend) (is : is_lend (length (devices_of q)) (asked_on q) limit lend ≡ true) (own : tells_own (asked_on q) lend ≡ true) (whole_is : is_whole_lend lend ≡ whole)
-    (address : lend_address lend ≡ a) (at : was_taken lend ≡ true → a ≡ length (devices_of q)) (since : LedSince 0 d q s (lend_entries (length (devices_of q)) (asked_on q) lend)) (kept : KeptSince q s) (short : length (lend_entries (length (devices_of q)) (asked_on q) lend) ≤ 2 * limit + 9) (taker : was_taken lend ≡ true → controller_at a q ≡ true) (refused : came_back lend ≡ true → controller_at a q ≡ false) (found : was_taken lend ≡ true → HasFound (lend_entries (length (devices_of q)) (asked_on q) lend) s) (same_guest : was_taken lend ≡ false → s.guest ≡ q.guest) (ring : IsRing s) where
+    (address : lend_address lend ≡ a) (at : was_taken lend ≡ true → a ≡ length (devices_of q)) (since : LedSince 0 d q s (lend_entries (length (devices_of q)) (asked_on q) lend)) (kept : KeptSince q s) (short : length (lend_entries (length (devices_of q)) (asked_on q) lend) ≤ 2 * limit + 9) (taker : was_taken lend ≡ true → controller_at a q ≡ true) (refused : came_back lend ≡ true → controller_at a q ≡ false) (found : was_taken lend ≡ true → HasFound (lend_entries (length (devices_of q)) (asked_on q) lend) s) (same_guest : was_taken lend ≡ false → s.guest ≡ q.guest) (answered : answers_always (length (devices_of q)) (drive_party q) None (lend_entries (length (devices_of q)) (asked_on q) lend) ≡ true) (ring : IsRing s) where
   abbrev k : ℕ
   k = length (devices_of q)
 
@@ -94,13 +96,14 @@ module _ {M : Type 0} (a limit d : ℕ) (whole : Bool) (q s : RingView M) (idle 
     taker = taker;
     refused = refused;
     found = found;
+    answered = answered;
     guest = same_guest;
   }
 
   -- by name
-  lends_whole : whole ≡ true → Lends a limit true q s
+  lends_as : (to : Bool) → whole ≡ to → Lends a limit to q s
   unfolding lends
-  lends_whole is_whole = record {
+  lends_as to is_whole = record {
     lend = lend;
     is = is;
     own = own;
@@ -120,16 +123,17 @@ module _ {M : Type 0} (a limit d : ℕ) (whole : Bool) (q s : RingView M) (idle 
     taker = taker;
     refused = refused;
     found = found;
+    answered = answered;
     guest = same_guest;
   }
 
   -- after a whole one the loop is idle
   pub lend_made : whole ≡ true → (taken : Bool) → was_taken lend ≡ taken → taken ≡ controller_at a q → DriveTold q s entries → (taken ≡ false → met_between q s ≡ []) → IsUnderHost s.guest → s.books.held ≡ None → LendMade a limit taken q s
-  unfolding lends_whole
+  unfolding lends_as
   lend_made is_whole taken taken_is stands drive met host held =
       let rests = lend_idle k (asked_on q) limit lend (roles_of (devices_of q)) many idle.silent idle.numbered is own last (whole_is ∙ is_whole) in
       record {
-        lends = lends_whole is_whole;
+        lends = lends_as true is_whole;
         taken_is = taken_is;
         stands = stands;
         drive = drive;
@@ -143,11 +147,15 @@ module _ {M : Type 0} (a limit d : ℕ) (whole : Bool) (q s : RingView M) (idle 
       }
 
   -- after a broken one at most one talks, and where the log shows a fault a planned hop was met
-  pub lend_broken : whole ≡ false → DriveLeft q.drive s.drive → s.books.held ≡ None → list_any is_faulty s.books.log ≡ true → LendBroken a limit q s
-  lend_broken broken drive held shows = record {
+  pub lend_broken : whole ≡ false → DriveLeft q.drive s.drive → s.books.held ≡ None → list_any is_faulty s.books.log ≡ true → met_between q s ≢ [] → (keeps_control lend ≡ true → leads s.guest ≡ true) → (took_back lend ≡ true → IsUnderHost s.guest) → LendBroken a limit q s
+  unfolding lends_as
+  lend_broken broken drive held shows met_in leads_on host = record {
     met = faulty_met s.books.plan s.books.begun s.books.crossings s.books.log ring.told.entries shows;
     drive = drive;
-    lends = subst (λ whole. Lends a limit whole q s) broken lends;
+    lends = lends_as false broken;
+    met_in = met_in;
+    leads_on = leads_on;
+    host_leads = host;
     lost = record {
       free = record { ring = ring; held = held };
       one = ap (λ rs. is_at_most_one (talkers rs)) roles ∙ one_led 0 (roles_of (devices_of q)) entries one;

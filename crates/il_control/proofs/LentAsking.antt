@@ -37,6 +37,7 @@ use Rattle.il_ring.specs.Turned.{StandsNot, StandsThere, turned}
 use Rattle.il_ring.proofs.DataPasses.{next_alters, same_byte, xor_other}
 use Rattle.il_ring.proofs.Remaining.{start_back, start_taken}
 use Rattle.il_control.specs.Receives.{IsCalm, IsDeaf, IsHolding}
+use Rattle.il_control.proofs.LentArrivals.{came_lost_ahead, came_lost_home, came_second, came_taken_ahead, turned_ahead}
 use Rattle.il_control.proofs.LentCommands.{goes_own, lost_own}
 use Rattle.il_control.proofs.LentPlaces.{AskedSince, since_answer, since_more, since_one}
 use Rattle.il_control.proofs.LentPolls.{first_lost, nrd_lost, one_status, own_echo, own_echo-is}
@@ -196,9 +197,11 @@ module _ {M : Type 0} (view : M → MediumView) (k last : ℕ) (own : Option ℕ
           },
         )))
         (λ not.
-        let ends = nrd_lost k A (old.entries ++ e) more q (own_echo flight.sent) (taken q (own_echo flight.sent) (own_echo-is flight.sent held.began.now.data_frame) held.began.talked) 0 in
+        let ends = nrd_lost k A (old.entries ++ e) more q (own_echo flight.sent) (taken q (own_echo flight.sent) (own_echo-is flight.sent held.began.now.data_frame) held.began.talked) 0 (omega arith) in
         let kept_is : entry_where (length (devices_of (going_on r))) (Some flight) ++ lost_at (sourced k nrd) 0 ∷ [] ≡ entry q flight.sent (outcome.Taken k) ∷ entry k nrd (outcome.Lost 0) ∷ [] = kept_entry flight in_.1 in
-        inr (broke_off view k last own base r s arrived old e (entry q flight.sent (outcome.Taken k) ∷ entry k nrd (outcome.Lost 0) ∷ []) (BreaksOff (FrameLost 0)) ends refl refl (omega (arith, one)) (omega arith) (not.0.log_is ∙ ap (λ es. r.books.log ++ (e ++ es)) kept_is) not.0.lent_is))
+        inr (broke_off view k last own base r s arrived old e (entry q flight.sent (outcome.Taken k) ∷ entry k nrd (outcome.Lost 0) ∷ []) (BreaksOff (FrameLost 0)) ends refl refl
+        (let none = came_second k (entry q flight.sent (outcome.Taken k)) (entry k nrd (outcome.Lost 0)) (came_taken_ahead k q k flight.sent in_.1 (omega arith)) ∙ came_lost_home k k nrd in omega (arith, one, none))
+        (omega arith) (not.0.log_is ∙ ap (λ es. r.books.log ++ (e ++ es)) kept_is) not.0.lent_is))
         out.1
       where
         kept_entry : (f : Flight) → f.source < k → entry_where (length (devices_of (going_on r))) (Some f) ++ lost_at (sourced k nrd) 0 ∷ [] ≡ entry f.source f.sent (outcome.Taken k) ∷ entry k nrd (outcome.Lost 0) ∷ []
@@ -212,14 +215,18 @@ module _ {M : Type 0} (view : M → MediumView) (k last : ℕ) (own : Option ℕ
         (λ off. ⊎_elim
         (λ (gone : StartLostAt view r s answer so.two).
         let not = subst (λ j. StandsNot (going_on r) [] None (entry j sst (outcome.Lost (turned j gone.own_party)) ∷ []) so.two.own.crossings answer s) old.many gone.ends in
-        inr (lost_own view k last own base r s arrived answer old sst (turned k gone.own_party) so.two.own.crossings not refl (a ∷ more) (from_start k A more) stands.2.begun (from_unt k A more [] []) refl))
+        inr (lost_own view k last own base r s arrived answer old sst (turned k gone.own_party) so.two.own.crossings (subst (λ j. turned j gone.own_party ≤ j) old.many gone.on_ring) not refl (a ∷ more) (from_start k A more) stands.2.begun (from_unt k A more [] []) refl))
         (λ (lost : StatusLost view r s answer so.two).
         let in_ = within lost.taker None lost.talked in
         let e : List Entry = entry k sst (outcome.Taken lost.taker) ∷ [] in
         let tail : List Entry = entry lost.taker lost.sent (outcome.Lost (turned k lost.own_party)) ∷ [] in
         let not = subst (λ j. StandsNot (going_on r) (entry j sst (outcome.Taken lost.taker) ∷ []) None (entry lost.taker lost.sent (outcome.Lost (turned j lost.own_party)) ∷ []) so.two.own.crossings answer s) old.many lost.ends in
-        let ends = first_lost k A (old.entries ++ e) more lost.taker (own_echo lost.sent) (taken lost.taker (own_echo lost.sent) (own_echo-is lost.sent lost.data_frame) lost.talked) (turned k lost.own_party) in
+        let far = turned_ahead k lost.taker lost.own_party in_.1 lost.ahead in
+        let on = subst (λ j. turned j lost.own_party ≤ j) old.many lost.on_ring in
+        let ends = first_lost k A (old.entries ++ e) more lost.taker (own_echo lost.sent) (taken lost.taker (own_echo lost.sent) (own_echo-is lost.sent lost.data_frame) lost.talked) (turned k lost.own_party) far on in
         let one = taken_one k lost.taker sst (omega (arith, in_.1)) in
-        inr (broke_off view k last own base r s arrived old e tail (ByteLost (turned k lost.own_party)) ends refl refl (omega (arith, one)) (omega arith) not.log_is not.lent_is))
+        inr (broke_off view k last own base r s arrived old e tail (ByteLost (turned k lost.own_party)) ends refl refl
+        (let none = came_lost_ahead k lost.taker (turned k lost.own_party) lost.sent far on in omega (arith, one, none))
+        (omega arith) not.log_is not.lent_is))
         off)
         (start_move view r s answer so.two old.led stands.2.kept_is a (so.control_is ∙ ap (λ p. control.Rounds p) at) calm (since_one a (devices_of (rest view r s answer so.two)) range.1 since))

@@ -22,7 +22,7 @@ use Rattle.il_ring.specs.declared.plan.Arrival.TheVariants as arrival
 use Rattle.il_ring.specs.declared.flight.Flight.{Flight}
 use Rattle.il_ring.specs.Flights.{sourced}
 use Rattle.il_ring.specs.Lending.{IsLed, books_led, going_on, led_home}
-use Rattle.il_ring.specs.Outcomes.{Returned, WasLost, Relayed, IsLostNow, CameBack, SendsMore, EndsSending, back_entry, met_between}
+use Rattle.il_ring.specs.Outcomes.{LostWhere, Returned, WasLost, Relayed, IsLostNow, CameBack, SendsMore, EndsSending, back_entry, met_between}
 use Rattle.il_ring.specs.Rings.{RingView, Round, devices_of}
 use Rattle.il_ring.specs.Turned.{Halves, StandsNot, goes_out, keeps_then, ring_before_last, turned, turned_entry, turned_entries}
 use Rattle.il_ring.proofs.PassSteps.{silent_home}
@@ -149,6 +149,7 @@ module _ {M : Type 0} (view : M → MediumView) (r s : RingView M) (flight : Fli
     pub own_party : ℕ
     pub some : 1 ≤ turned k₂ own_party
     pub on_ring : turned k₂ own_party ≤ k₂
+    pub where_ : LostWhere front flight.source own_party
     pub own_log : two.own.log ≡ front ++ entry flight.source frame (outcome.Lost own_party) ∷ []
     pub met_some : met_between hold hold_then ≢ []
     pub ends : StandsNot (going_on r) front None (entry flight.source frame (outcome.Lost (turned k₂ own_party)) ∷ []) two.own.crossings answer s
@@ -217,6 +218,7 @@ module _ {M : Type 0} (view : M → MediumView) (r s : RingView M) (flight : Fli
           own_party = lost.party;
           some = party_some r two.boxed two.g.device two.after lost.party;
           on_ring = party_on r two.boxed two.g.device two.after lost.party lost.on_ring;
+          where_ = lost.place;
           own_log = lost.log;
           met_some = lost.met_some;
           ends = ends.0;

@@ -32,6 +32,7 @@ use Rattle.il_ring.specs.Turned.{StandsNot, StandsThere, turned}
 use Rattle.il_ring.proofs.LedSteps.{IsOwn}
 use Rattle.il_ring.proofs.Remaining.{Follow, after_next, begin_same, command_back, next_after, next_command, next_first, ready_next, yet_asked}
 use Rattle.il_control.specs.Calls.{Obeyed, Whole}
+use Rattle.il_control.proofs.LentArrivals.{came_lost_home, came_one}
 use Rattle.il_control.proofs.LentMoves.{MovedOn, MoveLost, others, others_then, plain_move}
 use Rattle.il_control.proofs.LentPlaces.{QuietCommand, QuietReady, AskedSince, SinceCommand, SinceReady, calm_ready, command_plain, deaf_ready, quiet_command, since_command, since_nop, since_tad, since_unl, since_unt}
 use Rattle.il_control.proofs.LentPolls.{RoundsEndSo, command_no_nrd, own_lost}
@@ -52,16 +53,16 @@ module _ {M : Type 0} (view : M → MediumView) (k last : ℕ) (own : Option ℕ
       let lent = there.lent_is ∙ ap (λ f. Some f) (own_hit k (sent_at q) _ there.at other there.came) in
       inl (polls_on view k last own base r s arrived answer held f old so q e at same_last same_address range one short there.log_is (stands lent there.kept_is)))
       (λ not.
-      inr (broke_off view k last own base r s arrived old e (entry k (sent_at q) (outcome.Lost 0) ∷ []) (BreaksOff (FrameLost 0)) (own_lost k (asked view k last own base) (old.entries ++ e) yet goes (sent_at q) more 0 begun due no_nrd) refl refl (omega (arith, one)) (omega (arith, short)) not.0.log_is not.0.lent_is))
+      inr (broke_off view k last own base r s arrived old e (entry k (sent_at q) (outcome.Lost 0) ∷ []) (BreaksOff (FrameLost 0)) (own_lost k (asked view k last own base) (old.entries ++ e) yet goes (sent_at q) more 0 (omega arith) begun due no_nrd) refl refl (let none = came_lost_home k k (sent_at q) in omega (arith, one, none)) (omega (arith, short)) not.0.log_is not.0.lent_is))
       out.1
 
   -- one was lost
-  pub lost_own : (r s : RingView M) (arrived : ℕ) (answer : Arrival) (old : Polling view k last own base r arrived) (f : Frame) (party n : ℕ) → StandsNot (going_on r) [] None (entry k f (outcome.Lost party) ∷ []) n answer s → is_frame f nrd ≡ false
+  pub lost_own : (r s : RingView M) (arrived : ℕ) (answer : Arrival) (old : Polling view k last own base r arrived) (f : Frame) (party n : ℕ) → party ≤ k → StandsNot (going_on r) [] None (entry k f (outcome.Lost party) ∷ []) n answer s → is_frame f nrd ≡ false
       → (yet : List ℕ) (goes : List Answer → List (List Answer) → List Entry) → BeginRounds k (asked view k last own base) old.entries yet goes → (more : List Entry) → goes [] [] ≡ returned k f ∷ more → BrokeOff view k last own base s (arrived + 1)
-  lost_own r s arrived answer old f party n not no_nrd yet goes begun more due =
+  lost_own r s arrived answer old f party n on not no_nrd yet goes begun more due =
       broke_off view k last own base r s arrived old [] (entry k f (outcome.Lost party) ∷ []) (BreaksOff (FrameLost party))
-      (subst (λ es. RoundsEndSo k (asked view k last own base) es (entry k f (outcome.Lost party) ∷ []) (BreaksOff (FrameLost party))) (sym (append-nil old.entries)) (own_lost k (asked view k last own base) old.entries yet goes f more party begun due no_nrd))
-      refl refl (omega arith) (omega arith) not.log_is not.lent_is
+      (subst (λ es. RoundsEndSo k (asked view k last own base) es (entry k f (outcome.Lost party) ∷ []) (BreaksOff (FrameLost party))) (sym (append-nil old.entries)) (own_lost k (asked view k last own base) old.entries yet goes f more party on begun due no_nrd))
+      refl refl (let one = came_one k (entry k f (outcome.Lost party)) in omega (arith, one)) (omega arith) not.log_is not.lent_is
 
   module _ (r s : RingView M) (arrived : ℕ) (answer : Arrival) (f : Frame) (old : Polling view k last own base r arrived) (so : Stays view k last own base r s arrived old answer None (sourced 0 f)) where
     -- a frame that every device passes on
@@ -77,7 +78,7 @@ module _ {M : Type 0} (view : M → MediumView) (k last : ℕ) (own : Option ℕ
         goes_own r s arrived answer None (sourced 0 f) old so q (returned k f ∷ []) on.control on.last on.address on.range refl (omega arith) out other_then no_nrd_then yet_then goes_then begun_then more_then due_then (stands on.whole on.obeyed))
         (λ (lost : MoveLost view r s f answer so.two).
         let not = subst (λ j. StandsNot (going_on r) [] None (entry j f (outcome.Lost (turned j lost.own_party)) ∷ []) so.two.own.crossings answer s) old.many lost.ends in
-        inr (lost_own r s arrived answer old f (turned k lost.own_party) so.two.own.crossings not no_nrd yet goes begun more due))
+        inr (lost_own r s arrived answer old f (turned k lost.own_party) so.two.own.crossings (subst (λ j. turned j lost.own_party ≤ j) old.many lost.on_ring) not no_nrd yet goes begun more due))
         (plain_move view r s f answer so.two old.led kept old.place q so.control_is is plain other no_ifc next)
 
   -- ---- a command

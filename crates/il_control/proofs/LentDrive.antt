@@ -32,10 +32,10 @@ use Rattle.il_ring.specs.Flights.{sourced}
 use Rattle.il_ring.specs.Lending.{IsLed, going_on}
 use Rattle.il_ring.specs.Lists.{Each}
 use Rattle.il_ring.specs.Rings.{RingView, devices_of, drive_party}
-use Rattle.il_ring.specs.Statuses.{told_by}
+use Rattle.il_ring.specs.Statuses.{told_by, ToldStatus}
 use Rattle.il_ring.specs.Turned.{turned_flight}
 use Rattle.il_ring.proofs.LedSteps.{IsOwn}
-use Rattle.il_control.specs.Lent.{DriveLeft, ToldStatus}
+use Rattle.il_control.specs.Lent.{DriveLeft}
 use Rattle.il_control.specs.Receives.{IsCalm, IsHolding}
 use Rattle.il_control.proofs.LentBytes.{ByteAltered, ByteBack, ByteGone, NrdGone, NrdOn, byte_move, hold, hold_then, holds, holds_then, nrd_move}
 use Rattle.il_control.proofs.LentCame.{AllQuiet, StaysSo, brought_quiet, data_quiet_frame, ended_status, plain_came, plain_message, plain_quiet_frame, plain_stays, quiet_frame, quiet_listens, quiet_mild, silent_stays, spoken_quiet, told_status}

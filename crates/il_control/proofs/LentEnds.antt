@@ -1,5 +1,5 @@
 -- Where the host takes control back from a second controller that polls, or its rounds broke off, the log since its talk address is a lend.
-use Rattle.std.proofs.Common.{◌≡◌, ◌∙◌, ◌≤◌, ◌<◌, ◌+◌, ◌++◌, ◌&&◌, nat_lt, ℕ, zero, suc, Bool, true, false, List, [], ◌∷◌, Option, Some, None, length, count_by, refl, sym, ap, ap₂, subst, arith, append_assoc, length-append}
+use Rattle.std.proofs.Common.{◌≡◌, ◌∙◌, ◌≤◌, ◌<◌, ◌+◌, ◌++◌, ◌&&◌, ◌==◌, nat_le, nat_lt, ℕ, zero, suc, Bool, true, false, List, [], ◌∷◌, Option, Some, None, length, count_by, refl, sym, ap, ap₂, subst, arith, append_assoc, length-append}
 use Rattle.std.specs.Prelude.{if◌then◌else◌}
 use Rattle.std.specs.List.{list_all}
 use Rattle.std.proofs.lemmas.Bool.{and_from, eq-eqb, le-leb, lt-ltb}
@@ -22,7 +22,7 @@ use Rattle.il_ring.specs.declared.flight.Flight.{Flight}
 use Rattle.il_ring.specs.Flights.{sourced}
 use Rattle.il_ring.specs.LedAdds.{standing}
 use Rattle.il_ring.specs.Lending.{entry_where}
-use Rattle.il_ring.specs.Lends.{AtHost, Lend, Lent, LentCut, LentLost, RoundsEnd, are_rounds, arrivals, can_end, ended_after, handed_entries, is_break_end, is_lend, is_one_status, is_whole_lend, lend_address, lend_entries, rounds_entries, stands_at_last, tells_own, was_taken}
+use Rattle.il_ring.specs.Lends.{AtHost, Lend, Lent, LentCut, LentLost, RoundsEnd, are_rounds, arrivals, arrivals_in, can_end, ended_after, handed_entries, is_break_end, is_lend, is_one_status, is_whole_lend, keeps_control, lend_address, lend_entries, rounds_entries, stands_at_last, tells_own, took_back, was_taken}
 use Rattle.il_ring.specs.Remaining.{BeginRounds, from_command, from_ready, from_start, from_unt}
 use Rattle.il_ring.specs.Rings.{RingView}
 use Rattle.il_ring.proofs.LedCounts.{at_host, at_party}
@@ -158,19 +158,29 @@ module _ {M : Type 0} (view : M → MediumView) (k last : ℕ) (own : Option ℕ
       }
 
       -- one of the two was lost before party q
-      pub lent_lost : (m q : ℕ) → m < 2 → LendsSo k (addresses own last) arrived a false before ((r.books.log ++ standing k r.books) ++ cut_at (commanded 0 ifc) m (FrameLost q))
-      lent_lost m q less = record {
+      pub lent_lost : (m q : ℕ) → m < 2 → nat_le q k ≡ true → LendsSo k (addresses own last) arrived a false before ((r.books.log ++ standing k r.books) ++ cut_at (commanded 0 ifc) m (FrameLost q))
+      lent_lost m q less on = record {
         lend = LentLost a stands_so.all (length old.entries) m q;
         is =
-            and_from (is_address a) (are_rounds k A stands_so.all (length old.entries) AtHost && (stands_at_last k A arrived stands_so.all (length old.entries) && nat_lt m 2)) address
-            (and_from (are_rounds k A stands_so.all (length old.entries) AtHost) (stands_at_last k A arrived stands_so.all (length old.entries) && nat_lt m 2) (rounds_so low old.entries (standing k r.books) AtHost stands_so)
-            (and_from (stands_at_last k A arrived stands_so.all (length old.entries)) (nat_lt m 2) last_one (lt-ltb m 2 less)));
+            and_from (is_address a) (are_rounds k A stands_so.all (length old.entries) AtHost && (stands_at_last k A arrived stands_so.all (length old.entries) && (nat_lt m 2 && nat_le q k))) address
+            (and_from (are_rounds k A stands_so.all (length old.entries) AtHost) (stands_at_last k A arrived stands_so.all (length old.entries) && (nat_lt m 2 && nat_le q k)) (rounds_so low old.entries (standing k r.books) AtHost stands_so)
+            (and_from (stands_at_last k A arrived stands_so.all (length old.entries)) (nat_lt m 2 && nat_le q k) last_one (and_from (nat_lt m 2) (nat_le q k) (lt-ltb m 2 less) on)));
         own = stands_so.rounds_are.1;
         taken = refl;
         whole_is = refl;
         address = refl;
         log_is = log_with (cut_at (commanded 0 ifc) m (FrameLost q));
       }
+
+      -- the host sent it
+      pub lent_lost-control : (m q : ℕ) (less : m < 2) (on : nat_le q k ≡ true) → keeps_control (lent_lost m q less on).lend ≡ false
+      unfolding lent_lost
+      lent_lost-control m q less on = refl
+
+      -- and it came back where its RFC was lost
+      pub lent_lost-back : (m q : ℕ) (less : m < 2) (on : nat_le q k ≡ true) → took_back (lent_lost m q less on).lend ≡ (m == 1)
+      unfolding lent_lost
+      lent_lost-back m q less on = refl
 
   -- ---- the rounds broke off
 
@@ -180,15 +190,15 @@ module _ {M : Type 0} (view : M → MediumView) (k last : ℕ) (own : Option ℕ
       let so = off.ends in
       let n = length off.entries in
       let rounds = rounds_so low off.entries off.tail off.end so in
-      let many = arrivals_are off.entries off.tail off.end so in
+      let many = ap (λ es. came_by k es) (ends_at k A off.entries off.tail off.end so).0 in
       let came = off.arrivals in
-      let less : nat_lt (arrivals k (rounds_entries k A so.all) n) limit ≡ true = lt-ltb (arrivals k (rounds_entries k A so.all) n) limit (omega (arith, many, came, few)) in
+      let less : nat_lt (arrivals_in k (rounds_entries k A so.all) n off.end) limit ≡ true = lt-ltb (arrivals_in k (rounds_entries k A so.all) n off.end) limit (omega (arith, many, came, few)) in
       record {
         lend = LentCut a so.all n off.end;
         is =
-            and_from (is_address a) (are_rounds k A so.all n off.end && (is_break_end off.end && nat_lt (arrivals k (rounds_entries k A so.all) n) limit)) address
-            (and_from (are_rounds k A so.all n off.end) (is_break_end off.end && nat_lt (arrivals k (rounds_entries k A so.all) n) limit) rounds
-            (and_from (is_break_end off.end) (nat_lt (arrivals k (rounds_entries k A so.all) n) limit) off.breaks less));
+            and_from (is_address a) (are_rounds k A so.all n off.end && (is_break_end off.end && nat_lt (arrivals_in k (rounds_entries k A so.all) n off.end) limit)) address
+            (and_from (are_rounds k A so.all n off.end) (is_break_end off.end && nat_lt (arrivals_in k (rounds_entries k A so.all) n off.end) limit) rounds
+            (and_from (is_break_end off.end) (nat_lt (arrivals_in k (rounds_entries k A so.all) n off.end) limit) off.breaks less));
         own = so.rounds_are.1;
         taken = refl;
         whole_is = refl;
@@ -197,3 +207,9 @@ module _ {M : Type 0} (view : M → MediumView) (k last : ℕ) (own : Option ℕ
             off.log ∙ ap (λ base. base ++ (off.entries ++ off.tail)) handed ∙ append_assoc before (handed_entries a k) (off.entries ++ off.tail)
             ∙ ap (λ ended. before ++ (handed_entries a k ++ ended)) (sym (ends_at k A off.entries off.tail off.end so).0);
       }
+
+  -- it sent no IFC
+  pub lent_cut-back : (s : RingView M) (arrived limit a : ℕ) (before : List Entry) (off : BrokeOff view k last own base s arrived) (few : arrived ≤ limit) (address : is_address a ≡ true) (low : list_all (λ a. is_address a) (addresses own last) ≡ true) (handed : base ≡ before ++ handed_entries a k)
+      → took_back (lent_cut s arrived limit a before off few address low handed).lend ≡ false
+  unfolding lent_cut
+  lent_cut-back s arrived limit a before off few address low handed = refl

@@ -1,6 +1,6 @@
 -- What a second controller has found is what the log tells of the statuses that it asked for: as control is handed over, from one frame
 -- at the host to the next, and where the rounds break off.
-use Rattle.std.proofs.Common.{◌≡◌, ◌∙◌, ◌⊎◌, inl, inr, ⊎_elim, ◌≤◌, ◌+◌, ◌++◌, ◌==◌, ◌&&◌, ℕ, Bool, true, false, List, [], ◌∷◌, Option, Some, None, length, set, get_or, refl, sym, ap, subst, arith, append_assoc, append-nil, length-append, eqb-true}
+use Rattle.std.proofs.Common.{◌≡◌, ◌∙◌, ◌⊎◌, inl, inr, ⊎_elim, ◌≤◌, ◌+◌, ◌++◌, ◌==◌, ◌&&◌, not, ℕ, Bool, true, false, List, [], ◌∷◌, Option, Some, None, length, set, get_or, refl, sym, ap, ap₂, subst, arith, append_assoc, append-nil, length-append, eqb-true}
 use Rattle.std.specs.Prelude.{if◌then◌else◌}
 use Rattle.std.specs.Option.{IfSome}
 use Rattle.std.proofs.Math.Bool.{and-false}
@@ -47,8 +47,8 @@ use Rattle.il_ring.specs.Lending.{GuestMeets, GuestReaches, IsLed, LastPassage, 
 use Rattle.il_ring.specs.Lists.{Each}
 use Rattle.il_ring.specs.Outcomes.{IsTalking, StoodSo, back_entry}
 use Rattle.il_ring.specs.Plans.{next_fault}
-use Rattle.il_ring.specs.Rings.{RingView, devices_of}
-use Rattle.il_ring.specs.Statuses.{asked_after, asked_all, asked_behind, known_of, last_told}
+use Rattle.il_ring.specs.Rings.{RingView, devices_of, drive_party}
+use Rattle.il_ring.specs.Statuses.{answers_always, asked_after, asked_all, asked_behind, known_of, last_told, tells_none}
 use Rattle.il_ring.specs.Turned.{Halves, NothingCame, StandsThere, turned, turned_flight}
 use Rattle.il_ring.proofs.DataPasses.{same_byte}
 use Rattle.il_ring.proofs.LedSteps.{IsOwn}
@@ -57,11 +57,12 @@ use Rattle.il_control.specs.Receives.{IsCalm, IsHolding}
 use Rattle.il_control.proofs.LentAsking.{hit_so}
 use Rattle.il_control.proofs.LentBytes.{ByteAltered, ByteBack, ByteGone, NrdGone, NrdOn, byte_move, nrd_move}
 use Rattle.il_control.proofs.LentCommands.{command_other, said_other}
+use Rattle.il_control.proofs.LentAnswers.{answers-append, are_mute-answers, mute-answers, not_untold}
 use Rattle.il_control.proofs.LentMoves.{MovedOn, plain_move}
 use Rattle.il_control.proofs.LentPlaces.{AskedSince, command_plain, since_one}
 use Rattle.il_control.proofs.LentRings.{own_ring, own_ring-length}
 use Rattle.il_control.proofs.LentRounds.{Passed, own_so, turned_same}
-use Rattle.il_control.proofs.LentStarts.{NoStatus, StartLostAt, StatusHeld, StatusLost, rest, start_move}
+use Rattle.il_control.proofs.LentStarts.{NoStatus, StartLostAt, StatusHeld, StatusLost, rest, rest_then, start_move}
 use Rattle.il_control.proofs.LentStatuses.{NoEnd, are_mute, asked_all-append, byte-NoEnd, data-no-end, is_mute, known-append, known-byte, known-none, mute-byte, mute-lost, mute-other, mute-own, standing-mute, told-mute}
 use Rattle.il_control.proofs.LentSteps.{GoesOut}
 use Rattle.il_control.proofs.LentTelling.{byte_stands, held_stands, within}
@@ -215,7 +216,7 @@ back_mute k f back bytes other more = ap (λ b. b && are_mute k more) (mute-othe
 start_NoEnd : (k : ℕ) → NoEnd k (returned k sst ∷ [])
 start_NoEnd k e = and-false (k == e.source)
 
-then_own : (own : Option ℕ) (last : ℕ) (c : Command) → IsOwn (command_then own last c)
+pub then_own : (own : Option ℕ) (last : ℕ) (c : Command) → IsOwn (command_then own last c)
 then_own own last command.Nop = tt
 then_own own last (command.Unl a) = tt
 then_own own last (command.Tad a) = tt
@@ -254,20 +255,33 @@ module _ {M : Type 0} (view : M → MediumView) (k last : ℕ) (own : Option ℕ
         subst (λ mind. IfSome mind (λ mind. (b : ℕ) → b ≤ 30 → get_or mind.found b None ≡ last_told (length (devices_of s)) b (so_far.entries ++ e))) (sym so.two.mind_then)
         (subst (λ n. (b : ℕ) → b ≤ 30 → get_or so.two.h.found b None ≡ last_told n b (so_far.entries ++ e)) size found)
 
+    -- in these the drive answers wherever it is asked
+    abbrev Answered : List Entry → Type 0
+    Answered e = answers_always n (drive_party r) (asked_all n None so_far.entries) e ≡ true
+
+    answered_still : (e : List Entry) → are_mute n e ≡ true → Answered e
+    answered_still e mute = are_mute-answers n (drive_party r) (asked_all n None so_far.entries) e mute
+
+    has_answered : (e : List Entry) → Answered e → answers_always (length (devices_of s)) (drive_party s) None (so_far.entries ++ e) ≡ true
+    has_answered e answered =
+        ap₂ (λ n q. answers_always n q None (so_far.entries ++ e)) (sym size) (ap (λ n. n + 1) so.two.before)
+        ∙ answers-append n (drive_party r) None so_far.entries e so_far.answered answered
+
     -- they broke off
-    left_then : (e : List Entry) → s.books.log ≡ r.books.log ++ e → s.books.lent ≡ None → Heard e → Next
-    left_then e log none found = inr (
+    left_then : (e : List Entry) → s.books.log ≡ r.books.log ++ e → s.books.lent ≡ None → Heard e → Answered e → Next
+    left_then e log none found answered = inr (
       record {
         entries = so_far.entries ++ e;
         log = log_then e log;
         found = has_found e found;
+        answered = has_answered e answered;
       },
       none,
     )
 
     -- they broke off, and nothing was told
     left_still : (e : List Entry) → s.books.log ≡ r.books.log ++ e → s.books.lent ≡ None → are_mute n e ≡ true → so.two.h.found ≡ so.two.g.found → Next
-    left_still e log none mute same = left_then e log none (heard_still e mute same)
+    left_still e log none mute same = left_then e log none (heard_still e mute same) (answered_still e mute)
 
     -- at a place, what was found and what is known
     module _ (p q : Place) (at : so.two.g.control ≡ control.Rounds p) (to : so.two.h.control ≡ control.Rounds q) where
@@ -294,24 +308,26 @@ module _ {M : Type 0} (view : M → MediumView) (k last : ℕ) (own : Option ℕ
           ∙ sym (known-append n b None None so_far.entries e no_end ∙ ap (λ asked. known_of n b asked (last_told n b so_far.entries) e) asked ∙ known b (last_told n b so_far.entries))
 
       -- so it is behind these entries
-      found_then : (e : List Entry) → s.books.log ≡ r.books.log ++ e → Heard e → KnowsPlace (asked_all n None (so_far.entries ++ e)) s.books q → FoundSo base s
-      found_then e log found knows = record {
+      found_then : (e : List Entry) → s.books.log ≡ r.books.log ++ e → Heard e → Answered e → KnowsPlace (asked_all n None (so_far.entries ++ e)) s.books q → FoundSo base s
+      found_then e log found answered knows = record {
         entries = so_far.entries ++ e;
         log = log_then e log;
         found = has_found e found;
+        answered = has_answered e answered;
         knows = subst (λ mind. IfSome mind (λ mind. KnowsAsked (asked_all (length (devices_of s)) None (so_far.entries ++ e)) s.books mind.control)) (sym so.two.mind_then)
             (subst (λ c. KnowsAsked (asked_all (length (devices_of s)) None (so_far.entries ++ e)) s.books c) (sym to) (subst (λ n. KnowsPlace (asked_all n None (so_far.entries ++ e)) s.books q) size knows));
       }
 
       -- its next frame goes out behind them
-      found_out : (e : List Entry) (next : Flight) (kept : Option Flight) (out : GoesOut (going_on r) e next kept answer s) → Heard e → are_mute n (entry_where n kept ++ lost_at next 0 ∷ []) ≡ true
+      found_out : (e : List Entry) (next : Flight) (kept : Option Flight) (out : GoesOut (going_on r) e next kept answer s) → Heard e → Answered e → are_mute n (entry_where n kept ++ lost_at next 0 ∷ []) ≡ true
           → (StandsThere (going_on r) e next kept out.0 answer s → KnowsPlace (asked_all n None (so_far.entries ++ e)) s.books q) → Next
-      found_out e next kept out found mute knows = ⊎_elim
-          (λ (there : StandsThere (going_on r) e next kept out.0 answer s). inl (found_then e there.log_is found (knows there)))
+      found_out e next kept out found answered mute knows = ⊎_elim
+          (λ (there : StandsThere (going_on r) e next kept out.0 answer s). inl (found_then e there.log_is found answered (knows there)))
           (λ not.
           let tail = entry_where n kept ++ lost_at next 0 ∷ [] in
           left_then (e ++ tail) not.0.log_is not.0.lent_is
-          (λ b small. found b small ∙ sym (told-mute n b (so_far.entries ++ e) tail mute) ∙ ap (last_told n b) (append_assoc so_far.entries e tail)))
+          (λ b small. found b small ∙ sym (told-mute n b (so_far.entries ++ e) tail mute) ∙ ap (last_told n b) (append_assoc so_far.entries e tail))
+          (answers-append n (drive_party r) (asked_all n None so_far.entries) e tail answered (are_mute-answers n (drive_party r) (asked_all n (asked_all n None so_far.entries) e) tail mute)))
           out.1
 
   -- ---- by place
@@ -353,6 +369,7 @@ module _ {M : Type 0} (view : M → MediumView) (k last : ℕ) (own : Option ℕ
       let e : List Entry = returned n f ∷ [] in
       found_out None (sourced 0 f) so (place.Command c) (place.Ready c) from on.control e (sourced n rfc) None on.out
       (heard_still None (sourced 0 f) so e (own_mute n f (outcome.Back f) kind.0 kind.1) (found_is None (sourced 0 f) so (place.Command c) (place.Ready c) from on.control))
+      (answered_still None (sourced 0 f) so e (own_mute n f (outcome.Back f) kind.0 kind.1))
       (lost_mute n n rfc 0) (λ there. knows_ready n so_far.entries c range))
       (λ lost. left_still None (sourced 0 f) so (entry n f (outcome.Lost (turned n lost.own_party)) ∷ []) lost.ends.log_is lost.ends.lent_is (lost_mute n n f (turned n lost.own_party)) (found_same so.two.g so.two.h lost.same))
       (plain_move view r s f answer so.two old.led stands.2.kept_is old.place (place.Ready c) so.control_is tt (ap is_plain says ∙ command_plain c) (command_other view k last own base c) (ap is_ifc says ∙ said_other view k last own base c) to)
@@ -369,6 +386,7 @@ module _ {M : Type 0} (view : M → MediumView) (k last : ℕ) (own : Option ℕ
       let e : List Entry = returned n rfc ∷ [] in
       found_out None (sourced 0 rfc) so (place.Ready c) q from on.control e (sourced n (sent_at q)) None on.out
       (heard_still None (sourced 0 rfc) so e (own_mute n rfc (outcome.Back rfc) refl refl) (found_is None (sourced 0 rfc) so (place.Ready c) q from on.control))
+      (answered_still None (sourced 0 rfc) so e (own_mute n rfc (outcome.Back rfc) refl refl))
       (lost_mute n n (sent_at q) 0)
       (λ there. knows_then n so_far.entries s.books so.two.g.device.roles.address so.two.g.last c (knew None (sourced 0 rfc) so (place.Ready c) q from on.control)))
       (λ lost. left_still None (sourced 0 rfc) so (entry n rfc (outcome.Lost (turned n lost.own_party)) ∷ []) lost.ends.log_is lost.ends.lent_is (lost_mute n n rfc (turned n lost.own_party)) (found_same so.two.g so.two.h lost.same))
@@ -389,6 +407,8 @@ module _ {M : Type 0} (view : M → MediumView) (k last : ℕ) (own : Option ℕ
       let q = place.Command (command.Unt a) in
       found_out None (sourced 0 sst) so (place.Start a) q from none.control e (sourced n unt) None none.out
       (heard_told None (sourced 0 sst) so (place.Start a) q from none.control e a None (λ same. cc) refl range.1 (start_NoEnd n) (knew None (sourced 0 sst) so (place.Start a) q from none.control) (λ b known. known-none n a b known))
+      (let other : (a == drive_party r) ≡ false = ne_eqb a (drive_party r) (not_untold view (rest view r s answer so.two) (rest_then view r s answer so.two) a range.1 calm since none.whole none.said) in
+      ap (λ asked. answers_always n (drive_party r) asked e) (knew None (sourced 0 sst) so (place.Start a) q from none.control) ∙ ap (λ mine. not (mine && tells_none n (returned n sst)) && true) other)
       (lost_mute n n unt 0) (λ there. tt))
       (λ (held : StatusHeld view r s answer so.two a).
       let flight = held.began.now.flight in
@@ -398,6 +418,7 @@ module _ {M : Type 0} (view : M → MediumView) (k last : ℕ) (own : Option ℕ
       let kept_mute : are_mute n (entry_where n (Some flight) ++ lost_at (sourced n nrd) 0 ∷ []) ≡ true = held_mute n flight bytes (entry n nrd (outcome.Lost 0)) (mute-lost n n nrd 0) (source_other so.two.boxed so.two.g.device so.two.after flight.source held.began.talked) in
       found_out None (sourced 0 sst) so (place.Start a) q from held.control e (sourced n nrd) (Some flight) held.out
       (heard_still None (sourced 0 sst) so e (start_mute n flight.source) (found_is None (sourced 0 sst) so (place.Start a) q from held.control))
+      (answered_still None (sourced 0 sst) so e (start_mute n flight.source))
       kept_mute (λ there. asked_more n so_far.entries sst (outcome.Taken flight.source) a (λ asked. refl) (knew None (sourced 0 sst) so (place.Start a) q from held.control)))
       on)
       (λ off. ⊎_elim
@@ -427,6 +448,7 @@ module _ {M : Type 0} (view : M → MediumView) (k last : ℕ) (own : Option ℕ
       let q = place.Relayed a d in
       found_out (Some flight) (sourced 0 nrd) so (place.Held a d) q from on.control e flight None on.out
       (heard_still (Some flight) (sourced 0 nrd) so e (own_mute n nrd (outcome.Back nrd) refl refl) (found_is (Some flight) (sourced 0 nrd) so (place.Held a d) q from on.control))
+      (answered_still (Some flight) (sourced 0 nrd) so e (own_mute n nrd (outcome.Back nrd) refl refl))
       (lost_mute n flight.source flight.sent 0)
       (λ (there : StandsThere (going_on r) e flight None on.out.0 answer s).
       let came = hit_so r.books.plan on.out.0 flight there.at old.led.plan stood there.came in (
@@ -465,6 +487,7 @@ module _ {M : Type 0} (view : M → MediumView) (k last : ℕ) (own : Option ℕ
       found_out None flight so (place.Relayed a d) q from came.control e (sourced n unt) None came.out
       (heard_told None flight so (place.Relayed a d) q from came.control e a (Some (byte_of flight.sent)) (λ same. cc) (ap (λ byte. set so.two.g.found a (Some byte)) byte) range.0.1
       (byte-NoEnd n flight.source flight.sent back (entry flight.source eto (outcome.Taken n) ∷ [])) known.0 (λ b before. known-byte n flight.source a b before flight.sent back bytes other))
+      (mute-answers n (drive_party r) (asked_all n None so_far.entries) e (ap (λ own. not (own && (is_frame flight.sent sst && true)) && (not (own && false) && true)) other))
       (lost_mute n n unt 0) (λ there. tt))
       (λ off. ⊎_elim
       (λ (gone : ByteGone view r s flight answer so.two holding.0).
@@ -509,7 +532,7 @@ module _ {M : Type 0} (view : M → MediumView) (k last : ℕ) (own : Option ℕ
 
   -- either way what was found is what the log tells
   pub found_left : FoundLeft base s
-  found_left = ⊎_elim (λ (so : FoundSo base s). record { entries = so.entries; log = so.log; found = so.found }) (λ left. left.0) (by_place old.place refl)
+  found_left = ⊎_elim (λ (so : FoundSo base s). record { entries = so.entries; log = so.log; found = so.found; answered = so.answered }) (λ left. left.0) (by_place old.place refl)
 
 -- ---- as control is handed over
 
@@ -560,6 +583,7 @@ module _ {M : Type 0} (view : M → MediumView) (r s : RingView M) (f : Flight) 
   found_handed base log = record {
     entries = [];
     log = log ∙ sym (append-nil base);
+    answered = refl;
     found = subst (λ mind. IfSome mind (λ mind. (a : ℕ) → a ≤ 30 → get_or mind.found a None ≡ last_told (length (devices_of s)) a [])) (sym over.mind_then)
         (λ a small. ap (λ found. get_or found a None) handed_none.0 ∙ get_or-replicate 31 a None None (omega (arith, small)));
     knows = subst (λ mind. IfSome mind (λ mind. KnowsAsked None s.books mind.control)) (sym over.mind_then) (subst (λ c. KnowsAsked None s.books c) (sym over.control) tt);
@@ -570,6 +594,7 @@ module _ {M : Type 0} (view : M → MediumView) (r s : RingView M) (f : Flight) 
   found_gone base k log = record {
     entries = entry k nop (outcome.Lost 0) ∷ [];
     log = log;
+    answered = are_mute-answers (length (devices_of s)) (drive_party s) None (entry k nop (outcome.Lost 0) ∷ []) (and_from (is_mute (length (devices_of s)) (entry k nop (outcome.Lost 0))) true (mute-lost (length (devices_of s)) k nop 0) refl);
     found = subst (λ mind. IfSome mind (λ mind. (a : ℕ) → a ≤ 30 → get_or mind.found a None ≡ last_told (length (devices_of s)) a (entry k nop (outcome.Lost 0) ∷ []))) (sym over.mind_then)
         (λ a small. ap (λ found. get_or found a None) handed_none.0 ∙ get_or-replicate 31 a None None (omega (arith, small))
         ∙ sym (told-mute (length (devices_of s)) a [] (entry k nop (outcome.Lost 0) ∷ []) (and_from (is_mute (length (devices_of s)) (entry k nop (outcome.Lost 0))) true (mute-lost (length (devices_of s)) k nop 0) refl)));

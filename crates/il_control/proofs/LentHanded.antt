@@ -27,6 +27,7 @@ use Rattle.il_ring.specs.Remaining.{from_command}
 use Rattle.il_ring.specs.Rings.{RingView, devices_of, roles_of}
 use Rattle.il_ring.specs.Turned.{StandsNot, StandsThere}
 use Rattle.il_ring.proofs.Remaining.{begin_rounds}
+use Rattle.il_control.proofs.LentArrivals.{came_lost_home}
 use Rattle.il_control.proofs.LentPlaces.{none_asked}
 use Rattle.il_control.proofs.LentPolls.{own_lost}
 use Rattle.il_control.proofs.LentWalks.{BrokeOff, Polling, own_hit}
@@ -107,11 +108,11 @@ module _ {M : Type 0} (view : M → MediumView) (r s : RingView M) (answer : Arr
       entries = [];
       tail = entry (length (devices_of r)) nop (outcome.Lost 0) ∷ [];
       end = BreaksOff (FrameLost 0);
-      ends = own_lost (length (devices_of r)) asked [] asked (from_command (length (devices_of r)) asked [] command.Nop) nop _ 0 (begin_rounds (length (devices_of r)) asked) refl refl;
+      ends = own_lost (length (devices_of r)) asked [] asked (from_command (length (devices_of r)) asked [] command.Nop) nop _ 0 (omega arith) (begin_rounds (length (devices_of r)) asked) refl refl;
       breaks = refl;
       shows = refl;
       log = not.log_is ∙ sym (append_assoc r.books.log (entry 0 tct (outcome.Taken (length (devices_of r))) ∷ []) (entry (length (devices_of r)) nop (outcome.Lost 0) ∷ []));
-      arrivals = omega arith;
+      arrivals = let none = came_lost_home (length (devices_of r)) (length (devices_of r)) nop in omega (arith, none);
       short = omega arith;
       lent_is = not.lent_is;
     }

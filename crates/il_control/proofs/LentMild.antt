@@ -31,10 +31,10 @@ use Rattle.il_ring.specs.Lending.{going_on}
 use Rattle.il_ring.specs.Lists.{AllSilent, Each}
 use Rattle.il_ring.specs.Outcomes.{IsTalking}
 use Rattle.il_ring.specs.Rings.{RingView, devices_of, drive_party}
-use Rattle.il_ring.specs.Statuses.{told_by}
+use Rattle.il_ring.specs.Statuses.{ToldStatus, told_by}
 use Rattle.il_control.specs.Calls.{Broke}
 use Rattle.il_control.specs.Brought.{is_from_here}
-use Rattle.il_control.specs.Lent.{DriveLeft, DriveSo, ToldStatus}
+use Rattle.il_control.specs.Lent.{DriveLeft, DriveSo}
 use Rattle.il_control.specs.Receives.{AtEnd, AtHeld, AtNext, DueAt, FirstLost, IsCalm, IsHolding, NotBegun, NotTook, Severed, StartLost, behind_start}
 use Rattle.il_control.proofs.LentCame.{AllQuiet, StaysSo, cut_quiet, echo_quiet, echoes_quiet, quiet_entry, quiet_frame, quiet_mild, spoken_quiet}
 use Rattle.il_control.proofs.LentSteps.{GoesOut}

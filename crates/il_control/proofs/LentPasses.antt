@@ -1,6 +1,6 @@
 -- While a ring is lent: a pass, and the passes of a poll.
 use Rattle.il_control.proofs.Calls.{unheard_then}
-use Rattle.std.proofs.Common.{◌≡◌, ◌∙◌, ◌⊎◌, ⊎_elim, ◌≤◌, ◌<◌, ◌+◌, ◌*◌, ◌++◌, ℕ, true, false, List, [], ◌∷◌, Option, Some, length, refl, sym, ap, subst, arith, length-append}
+use Rattle.std.proofs.Common.{◌≡◌, ◌∙◌, ◌⊎◌, ◌≢◌, inl, inr, ⊎_elim, ◌≤◌, ◌<◌, ◌+◌, ◌*◌, ◌++◌, ℕ, true, false, List, [], ◌∷◌, Option, Some, length, refl, sym, ap, subst, arith, length-append}
 use Rattle.std.specs.Prelude.{IfSome, IsSome}
 use Rattle.il_frames.specs.declared.entry.Entry.{Entry}
 use Rattle.il_frames.specs.declared.frame.Class.{Class}
@@ -26,7 +26,7 @@ use Rattle.il_ring.specs.declared.plan.Arrival.TheVariants as arrival
 use Rattle.il_ring.specs.LedAdds.{IsUnderWay, LedAdds, LedKeeps, LedSince}
 use Rattle.il_ring.specs.Lending.{IsLed, LedRound, StandsNow, going_on}
 use Rattle.il_ring.specs.Lists.{Each, First}
-use Rattle.il_ring.specs.Outcomes.{AllKeep, HearsNothing, IsDeaf}
+use Rattle.il_ring.specs.Outcomes.{AllKeep, HearsNothing, IsDeaf, met_between}
 use Rattle.il_ring.specs.Polls.{KeepsPlace, is_listen_address, is_poll}
 use Rattle.il_ring.specs.Rings.{RingView, devices_of, spare_of}
 use Rattle.il_ring.proofs.LedKeeps.{led_keeps}
@@ -34,6 +34,9 @@ use Rattle.il_control.specs.Lent.{IsLentNow, KeptSince, LentBroke, LentSo, Polle
 use Rattle.il_control.specs.Polling.{BrokeOff, Polling}
 use Rattle.il_control.proofs.LentDrive.{drive_left, drive_went}
 use Rattle.il_control.proofs.LentFound.{found_left, found_passes}
+use Rattle.il_ring.specs.Flights.{HasAltered}
+use Rattle.il_ring.proofs.LedAltered.{led_altered}
+use Rattle.il_control.proofs.LentMet.{breaks_met, met_since, met_until, risen_up}
 use Rattle.il_control.proofs.LentRounds.{Passed, goes_or_breaks}
 use Rattle.il_control.proofs.LentSums.{since_polls, under_way}
 
@@ -173,10 +176,30 @@ module _ {M : Type 0} (view : M → MediumView) (a : ℕ) (q r s : RingView M) (
     kept : KeptSince q s
     kept = kept_more stood.0.now q r s so.kept keeps so.deaf stood.2.no_poll
 
+    plan_same : r.books.plan ≡ q.books.plan
+    plan_same = so.kept.plan
+
+    up : r.books.crossings ≤ s.books.crossings
+    up = risen_up adds.counts.links r.books.crossings s.books.crossings so.polls.led.crossings adds.counts.crossings
+
+    -- what was altered before, or now
+    met_now : (HasAltered r.books.lent ⊎ HasAltered r.books.kept) ⊎ (met_between r s ≢ []) → met_between q s ≢ []
+    met_now (inl way) = met_until q r s up (so.altered way)
+    met_now (inr some) = met_since q r s plan_same low some
+      where
+        low : q.books.crossings ≤ r.books.crossings
+        low = risen_up so.since.links q.books.crossings r.books.crossings so.from so.since.crossings
+
+    altered_on : HasAltered s.books.lent ⊎ HasAltered s.books.kept → met_between q s ≢ []
+    altered_on way = met_now (⊎_elim
+        (λ before. inl (⊎_elim (λ altered. inl (stood.0, stood.1, altered)) (λ way. inr way) before))
+        (λ some. inr some)
+        (led_altered view (going_on r) s stood.0 answer (subst (λ lent. IfSome lent (λ f. LedRound view (going_on r) f answer s)) stood.1 round) so.polls.led.crossings (led so.polls.led).0.leads way))
+
     -- a frame came to the host
     pub pass_goes : (g : Frame) → answer ≡ arrival.Frame g → LentSo view a q s (arrived + 1)
     pass_goes g is = ⊎_elim
-        (λ polls. record { at = so.at; few_asked = so.few_asked; polls = polls; added = so.added ++ adds.counts.entries; since = since; kept = kept; deaf = keeps.deaf stood.2.no_listener so.deaf; found = found_passes view k own_last (Some k) (base_of a q) r s arrived answer so.polls (passed so.polls.led) (led so.polls.led).0 so.found polls; drive = (drive_went view k own_last (Some k) (base_of a q) r s arrived answer so.polls (passed so.polls.led) (led so.polls.led).0 q.drive so.drive).on (stands_mute view k own_last (Some k) (base_of a q) s (arrived + 1) polls).0 (stands_mute view k own_last (Some k) (base_of a q) s (arrived + 1) polls).1 })
+        (λ polls. record { at = so.at; few_asked = so.few_asked; polls = polls; added = so.added ++ adds.counts.entries; since = since; kept = kept; deaf = keeps.deaf stood.2.no_listener so.deaf; found = found_passes view k own_last (Some k) (base_of a q) r s arrived answer so.polls (passed so.polls.led) (led so.polls.led).0 so.found polls; drive = (drive_went view k own_last (Some k) (base_of a q) r s arrived answer so.polls (passed so.polls.led) (led so.polls.led).0 q.drive so.drive).on (stands_mute view k own_last (Some k) (base_of a q) s (arrived + 1) polls).0 (stands_mute view k own_last (Some k) (base_of a q) s (arrived + 1) polls).1; from = so.from; altered = altered_on })
         (λ off. let now = subst (λ answer. StandsNow answer s.books.lent) is (led so.polls.led).1 in let clash = sym off.lent_is ∙ now.1 in cc)
         next
 
@@ -187,7 +210,7 @@ module _ {M : Type 0} (view : M → MediumView) (a : ℕ) (q r s : RingView M) (
         let then_ = stands_mute view k own_last (Some k) (base_of a q) s (arrived + 1) polls in
         let now = subst (λ answer. StandsNow answer s.books.lent) is (led so.polls.led).1 in
         let clash = sym now ∙ then_.1 in cc)
-        (λ off. record { at = so.at; few_asked = so.few_asked; arrived = arrived + 1; few = omega (arith, less); off = off; led = (led so.polls.led).0; added = so.added ++ adds.counts.entries; since = since; kept = kept; found = found_left view k own_last (Some k) (base_of a q) r s arrived answer so.polls (passed so.polls.led) (led so.polls.led).0 so.found; drive = drive_left view k own_last (Some k) (base_of a q) r s arrived answer so.polls (passed so.polls.led) (led so.polls.led).0 q.drive so.drive })
+        (λ off. record { at = so.at; few_asked = so.few_asked; arrived = arrived + 1; few = omega (arith, less); off = off; led = (led so.polls.led).0; added = so.added ++ adds.counts.entries; since = since; kept = kept; found = found_left view k own_last (Some k) (base_of a q) r s arrived answer so.polls (passed so.polls.led) (led so.polls.led).0 so.found; drive = drive_left view k own_last (Some k) (base_of a q) r s arrived answer so.polls (passed so.polls.led) (led so.polls.led).0 q.drive so.drive; met = met_now (⊎_elim (λ some. inr some) (λ way. inl way) (breaks_met view k own_last (Some k) (base_of a q) r s arrived answer so.polls (passed so.polls.led) (led so.polls.led).0 off.lent_is)) })
         next
 
 -- ---- all passes

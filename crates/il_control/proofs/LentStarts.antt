@@ -1,5 +1,5 @@
 -- The move by which a second controller asks for a status: SST goes round.
-use Rattle.std.proofs.Common.{◌≡◌, ◌≢◌, ◌∙◌, ◌⊎◌, inl, inr, ⊎_elim, ◌≤◌, ◌+◌, ◌++◌, ◌==◌, ℕ, zero, suc, Bool, true, false, List, [], ◌∷◌, Some, None, length, refl, sym, ap, subst, arith}
+use Rattle.std.proofs.Common.{◌<◌, ◌≡◌, ◌≢◌, ◌∙◌, ◌⊎◌, inl, inr, ⊎_elim, ◌≤◌, ◌+◌, ◌++◌, ◌==◌, ℕ, zero, suc, Bool, true, false, List, [], ◌∷◌, Some, None, length, refl, sym, ap, subst, arith}
 use Rattle.il_frames.specs.declared.entry.Entry.{Entry}
 use Rattle.il_frames.specs.declared.entry.Outcome.TheVariants as outcome
 use Rattle.il_frames.specs.declared.frame.Frame.{Frame}
@@ -31,11 +31,11 @@ use Rattle.il_ring.proofs.Handing.{data_no_ifc}
 use Rattle.il_ring.proofs.PassSteps.{goes_home, past_held}
 use Rattle.il_ring.proofs.SendLaws.{start_sent}
 use Rattle.il_control.specs.Calls.{IsFree, Whole}
-use Rattle.il_control.specs.Receives.{Began, IsCalm, NotBegun}
+use Rattle.il_control.specs.Receives.{Began, IsCalm, NotBegun, own_frames}
 use Rattle.il_control.proofs.Beginning.{StartEnd, ItPassed, ItBegan, ItFailed, start_call}
 use Rattle.il_control.proofs.LentMoves.{others, others_then, party_on, party_some}
 use Rattle.il_control.proofs.LentRings.{own_ring-IsFree}
-use Rattle.il_control.proofs.LentSteps.{GoesOut, goes_half, lost_half, out_half, some_came}
+use Rattle.il_control.proofs.LentSteps.{goes_later, GoesOut, goes_half, lost_half, out_half, some_came}
 
 none_sends : (k : ℕ) (ds : List DeviceState) → Each IsCalm k ds → NoneSends ds
 none_sends k [] calm = tt
@@ -76,6 +76,7 @@ module _ {M : Type 0} (view : M → MediumView) (r s : RingView M) (answer : Arr
     pub own_party : ℕ
     pub some : 1 ≤ turned k own_party
     pub on_ring : turned k own_party ≤ k
+    pub ahead : (own_party ≡ 0) ⊎ (taker < own_party)
     pub failed : NotBegun view sst rest rest_then
     pub met_some : met_between rest rest_then ≢ []
     pub own_log : two.own.log ≡ entry 0 sst (outcome.Taken taker) ∷ entry taker sent (outcome.Lost own_party) ∷ []
@@ -96,6 +97,7 @@ module _ {M : Type 0} (view : M → MediumView) (r s : RingView M) (answer : Arr
   -- it came back, and UNT goes out
   pub record NoStatus (a : ℕ) : Type 0 where
     pub whole : Whole view rest (returned 0 sst ∷ []) rest_then
+    pub said : own_frames whole.adds.answers ≡ []
     pub control : two.h.control ≡ control.Rounds (place.Command (command.Unt a))
     pub last : two.h.last ≡ two.g.last
     pub address : two.h.device.roles.address ≡ two.g.device.roles.address
@@ -125,7 +127,8 @@ module _ {M : Type 0} (view : M → MediumView) (r s : RingView M) (answer : Arr
         let so = goes_half view (going_on r) s None (sourced 0 sst) answer two lead sst answer_is refl refl in
         let to : two.h.control ≡ control.Rounds (place.Command (command.Unt a)) = so.control ∙ ap (λ c. control_next two.g.device.roles.address two.g.last c sst) at in
         record {
-          whole = whole_of end;
+          whole = (whole_of end).0;
+          said = (whole_of end).1;
           control = to;
           last = so.last;
           address = so.address;
@@ -135,9 +138,9 @@ module _ {M : Type 0} (view : M → MediumView) (r s : RingView M) (answer : Arr
               (out_half view (going_on r) s None (sourced 0 sst) answer two lead sst so (returned k sst ∷ []) (ap (turned_entries k) back.returned.log) (sourced k unt) (ap (λ c. goes_out k c r.books.kept) to) (ap is_leading to));
         }
       where
-        whole_of : StartEnd view rest sst two.arrives rest_then → Whole view rest (returned 0 sst ∷ []) rest_then
+        whole_of : StartEnd view rest sst two.arrives rest_then → (whole : Whole view rest (returned 0 sst ∷ []) rest_then) × (own_frames whole.adds.answers ≡ [])
         whole_of end = elim end [
-          | ItPassed g is none whole said nameless unheard ↦ whole
+          | ItPassed g is none whole said nameless unheard ↦ (whole, said)
           | ItBegan g is flight held began ↦ (let clash = sym back.returned.held_is ∙ held in cc)
           | ItFailed lost not ↦ (let clash = sym lost ∙ back.returned.answer_is in cc)
         ]
@@ -179,6 +182,7 @@ module _ {M : Type 0} (view : M → MediumView) (r s : RingView M) (answer : Arr
           own_party = lost.party;
           some = party_some r two.boxed two.g.device two.after lost.party;
           on_ring = party_on r two.boxed two.g.device two.after lost.party lost.on_ring;
+          ahead = lost.place;
           failed = failed_of lost.answer_is;
           own_log = lost.log;
           met_some = lost.met_some;
@@ -225,11 +229,10 @@ module _ {M : Type 0} (view : M → MediumView) (r s : RingView M) (answer : Arr
             address = on_as.3;
             range = subst IsControl on_as.1 some.takes.after.control;
             out =
-                subst (λ kept. GoesOut (going_on r) e (sourced k nrd) kept answer s) keeps (
-                  two.behind.trip.crossings,
-                  goes_home (going_on r) s answer two.behind e (Some (turned_flight k some.at)) (two.books ∙ ap (λ c. led_home (is_leading c) k (books_led (going_on r).books two.behind) two.behind.trip.flight) on_as.1) two.answer_is past.0.kept (sourced k nrd) past.0.flight
-                      (past.0.log_is ∙ ap (λ log. r.books.log ++ log) log),
-                );
+                subst (λ kept. GoesOut (going_on r) e (sourced k nrd) kept answer s) keeps
+                (goes_later view (going_on r) s None (sourced 0 sst) answer two e (sourced k nrd) (Some (turned_flight k some.at)) past.0.crossings
+                (goes_home (going_on r) s answer two.behind e (Some (turned_flight k some.at)) (two.books ∙ ap (λ c. led_home (is_leading c) k (books_led (going_on r).books two.behind) two.behind.trip.flight) on_as.1) two.answer_is past.0.kept (sourced k nrd) past.0.flight
+                (past.0.log_is ∙ ap (λ log. r.books.log ++ log) log)));
           }
 
     -- SST goes round

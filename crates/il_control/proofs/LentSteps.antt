@@ -1,5 +1,5 @@
 -- A frame of a second controller that every device passes on goes round, and what it then sends comes to the host.
-use Rattle.std.proofs.Common.{◌≡◌, ◌∙◌, ◌⊎◌, ⊎_elim, ◌++◌, ℕ, true, false, List, [], ◌∷◌, Option, Some, None, length, refl, sym, ap, subst}
+use Rattle.std.proofs.Common.{◌≡◌, ◌∙◌, ◌⊎◌, inl, inr, ⊎_elim, ◌++◌, ℕ, true, false, List, [], ◌∷◌, Option, Some, None, length, refl, sym, ap, subst}
 use Rattle.il_frames.specs.declared.entry.Entry.{Entry}
 use Rattle.il_frames.specs.declared.frame.Frame.{Frame}
 use Rattle.il_frames.specs.Frames.{is_data}
@@ -20,7 +20,10 @@ use Rattle.il_ring.specs.Plans.{next_fault}
 use Rattle.il_ring.specs.Flights.{hit, lost_at}
 use Rattle.il_ring.specs.Lending.{books_led, led_home, lent_home}
 use Rattle.il_ring.specs.Rings.{RingView, devices_of}
-use Rattle.il_ring.specs.Turned.{Halves, NothingCame, SomeCame, StandsNot, StandsThere, books_anew, goes_out, keeps_then, turned_entries}
+use Rattle.il_ring.specs.Turned.{Halves, NothingCame, SomeCame, StandsNot, StandsThere, books_anew, goes_out, keeps_then, ring_before_last, turned_entries}
+use Rattle.il_ring.specs.Journeys.{trip_of}
+use Rattle.il_ring.proofs.Later.{Later, end_later, journey_later, later_then}
+use Rattle.il_ring.proofs.RoundCounts.{round_journey}
 use Rattle.il_ring.proofs.PassSteps.{PastLast, goes_home, last_home, past_ended}
 
 -- ---- the second half of a pass
@@ -29,7 +32,7 @@ use Rattle.il_ring.proofs.PassSteps.{PastLast, goes_home, last_home, past_ended}
 abbrev pub GoesOut : {M : Type 0} → RingView M → List Entry → Flight → Option Flight → Arrival → RingView M → Type 0
 GoesOut r entries out kept answer s =
     (before : ℕ) × (StandsThere r entries out kept before answer s
-    ⊎ (StandsNot r entries kept (lost_at out 0 ∷ []) (risen before) answer s × (hit (next_fault r.books.plan before) out ≡ None)))
+    ⊎ (StandsNot r entries kept (lost_at out 0 ∷ []) (risen before) answer s × (hit (next_fault r.books.plan before) out ≡ None) × Later r.books.crossings before))
 
 module _ {M : Type 0} (view : M → MediumView) (r s : RingView M) (held : Option Flight) (f : Flight) (answer : Arrival) (two : Halves view r held f answer s) where
   abbrev k : ℕ
@@ -47,6 +50,22 @@ module _ {M : Type 0} (view : M → MediumView) (r s : RingView M) (held : Optio
     where
       frames_same : (a b : Frame) → arrival.Frame a ≡ arrival.Frame b → a ≡ b
       frames_same a b same = ap (λ answer. elim answer [ arrival.Frame g ↦ g | arrival.Lost ↦ a ]) same
+
+  -- so far the crossings went up alone
+  pub own_later : Later r.books.crossings two.own.crossings
+  own_later =
+      let rest = ring_before_last two.boxed (books_anew held r.books) r in
+      let rest_then = ring_before_last two.boxed_then two.own s in
+      later_then r.books.crossings two.its_round.behind.crossings two.own.crossings
+      (journey_later r.books.plan 1 (trip_of rest.books (Some f)) two.its_round.behind (devices_of rest) (devices_of rest_then) (round_journey view rest rest_then held f two.arrives two.its_round))
+      (end_later view rest rest_then held f two.arrives two.its_round)
+
+  -- the same of the frame that goes out
+  pub goes_later : (e : List Entry) (out : Flight) (kept : Option Flight) → two.behind.trip.crossings ≡ two.own.crossings
+      → StandsThere r e out kept two.behind.trip.crossings answer s ⊎ (StandsNot r e kept (lost_at out 0 ∷ []) (risen two.behind.trip.crossings) answer s × (hit (next_fault r.books.plan two.behind.trip.crossings) out ≡ None))
+      → GoesOut r e out kept answer s
+  goes_later e out kept count goes =
+      (two.behind.trip.crossings, ⊎_elim (λ there. inl there) (λ not. inr (not.0, not.1, (own_later.0, count ∙ own_later.1))) goes)
 
   -- while it controls
   module _ (lead : is_leading two.g.control ≡ true) where
@@ -88,7 +107,6 @@ module _ {M : Type 0} (view : M → MediumView) (r s : RingView M) (held : Optio
 
     -- where it goes on so, its frame goes out behind these entries
     pub out_half : (g : Frame) → GoesSo g → (e : List Entry) → turned_entries k two.own.log ≡ e → (out : Flight) → goes_out k two.h.control r.books.kept ≡ Some out → is_leading two.h.control ≡ true → GoesOut r e out (keeps_then two.h.control r.books.kept) answer s
-    out_half g so e log out goes on = (
-      two.behind.trip.crossings,
-      goes_home r s answer two.behind e (keeps_then two.h.control r.books.kept) (books_lent on) two.answer_is so.past.kept out (so.past.flight ∙ goes) (so.past.log_is ∙ ap (λ log. r.books.log ++ log) log),
-    )
+    out_half g so e log out goes on =
+        goes_later e out (keeps_then two.h.control r.books.kept) so.past.crossings
+        (goes_home r s answer two.behind e (keeps_then two.h.control r.books.kept) (books_lent on) two.answer_is so.past.kept out (so.past.flight ∙ goes) (so.past.log_is ∙ ap (λ log. r.books.log ++ log) log))

@@ -1,5 +1,5 @@
 -- As the host of an idle ring hands control over to the device that it has talk, a second controller begins to poll.
-use Rattle.std.proofs.Common.{◌≡◌, ◌∙◌, ◌⊎◌, inl, inr, ⊎_elim, ◌≤◌, ◌++◌, ◌==◌, ◌&&◌, ◌+◌, ℕ, true, false, not, List, [], ◌∷◌, Some, None, length, refl, sym, ap, ap₂, subst, arith, append_assoc, length-append}
+use Rattle.std.proofs.Common.{◌≡◌, ◌∙◌, ◌⊎◌, inl, inr, ⊎_elim, ◌≤◌, ◌++◌, ◌==◌, ◌&&◌, ◌+◌, ℕ, true, false, not, List, [], ◌∷◌, Option, Some, None, length, refl, sym, ap, ap₂, subst, arith, append_assoc, length-append}
 use Rattle.std.specs.Prelude.{if◌then◌else◌}
 use Rattle.std.specs.List.{list_all}
 use Rattle.std.proofs.lemmas.Bool.{and_parts, le-leb, ne_eqb, not-true}
@@ -21,7 +21,7 @@ use Rattle.il_guest.specs.Frames.{nop, tct}
 use Rattle.il_ring.specs.declared.plan.Arrival.{Arrival}
 use Rattle.il_ring.specs.Flights.{hit, lost_at, sourced}
 use Rattle.il_ring.specs.Plans.{next_fault}
-use Rattle.il_ring.specs.Statuses.{told_by}
+use Rattle.il_ring.specs.Statuses.{told_by, ToldStatus}
 use Rattle.il_ring.specs.Guests.{IsUnderHost}
 use Rattle.il_ring.specs.HandedOver.{HandedOver}
 use Rattle.il_ring.specs.LedAdds.{LedCounts, LedSince, standing}
@@ -37,7 +37,7 @@ use Rattle.il_ring.proofs.LedKeeps.{handed_keeps}
 use Rattle.il_ring.proofs.LedSince.{none_stands, since_adds, since_append}
 use Rattle.il_ring.proofs.LedTalkers.{kept_entry}
 use Rattle.il_control.specs.Calls.{IsIdle}
-use Rattle.il_control.specs.Lent.{DriveLeft, DriveMild, KeptSince, LentBroke, LentSo, ToldStatus, base_of, last_of}
+use Rattle.il_control.specs.Lent.{DriveLeft, DriveMild, KeptSince, LentBroke, LentSo, base_of, last_of}
 use Rattle.il_control.specs.Polling.{BrokeOff, Polling}
 use Rattle.il_control.specs.Receives.{Asked, IsCalm}
 use Rattle.il_control.proofs.LendFronts.{kept_adds}
@@ -46,6 +46,8 @@ use Rattle.il_control.proofs.LentFound.{found_gone, found_handed, handed_few}
 use Rattle.il_control.proofs.LentHanded.{handed_base, handed_polls, tct_roles}
 use Rattle.il_control.proofs.IdleDrives.{idle_silent}
 use Rattle.il_control.proofs.LentHost.{StaysDeaf, drive_handed, drive_handed_left, tad_plain, unl_whole}
+use Rattle.il_ring.specs.declared.flight.Flight.{Flight}
+use Rattle.il_control.proofs.LentMet.{met_since, out_met, risen_up}
 use Rattle.il_control.proofs.LentPasses.{kept_more, stands_mute}
 use Rattle.il_control.proofs.LentWalks.{own_hit}
 
@@ -195,6 +197,14 @@ module _ {M : Type 0} (view : M → MediumView) (q r s : RingView M) (a : ℕ) (
           inl (record {
             at = at;
             few_asked = few_asked;
+            from = idle.free.ring.crossings;
+            altered = λ way. ⊎_elim
+                (λ way.
+                let own = at_host_now.lent_is ∙ ap (λ f. Some f) (own_hit (length (devices_of r)) nop (next_fault r.books.plan over.out.0) at_host_now.at refl at_host_now.came) in
+                let same : false ≡ way.0.altered = ap (λ (o : Option Flight). elim o [ Some h ↦ h.altered | None ↦ false ]) (sym own ∙ way.1) in
+                let clash = same ∙ way.2 in cc)
+                (λ way. let clash = sym at_host_now.kept_is ∙ way.1 in cc)
+                way;
             polls = polls;
             added = receive_front 0 a None ++ entries;
             since = all_since entries (hand_since entries are refl (ap (λ es. list_all (λ e. not (changes_roles (message_of e.frame))) (entries ++ es)) stood));
@@ -227,5 +237,8 @@ module _ {M : Type 0} (view : M → MediumView) (q r s : RingView M) (a : ℕ) (
             kept = kept;
             found = found_gone view r s (sourced 0 tct) answer round under over (base_of a q) (length (devices_of r)) (stood_not.0.log_is ∙ sym (append_assoc r.books.log (entry 0 tct (outcome.Taken (length (devices_of r))) ∷ []) (entry (length (devices_of r)) nop (outcome.Lost 0) ∷ [])) ∙ ap (λ base. base ++ entry (length (devices_of r)) nop (outcome.Lost 0) ∷ []) base_is);
             drive = left_so (drive_handed_left view r s answer round front_drive.mild);
+            met =
+                let low = risen_up front_since.links q.books.crossings r.books.crossings idle.free.ring.crossings front_since.crossings in
+                met_since q r s asked.whole.adds.plan low (out_met r s over.out.0 (sourced (length (devices_of r)) nop) over.later stood_not.0.crossings_are stood_not.1);
           }))
           begins

@@ -2,7 +2,7 @@
 use Rattle.std.proofs.Common.{◌≡◌, ◌∙◌, ◌⊎◌, inl, inr, ⊎_elim, ◌≤◌, ◌<◌, ◌+◌, ◌++◌, ◌==◌, not, ℕ, suc, Bool, true, false, List, [], ◌∷◌, Option, Some, None, length, cond, refl, sym, ap, ap₂, subst, arith, append_assoc, append-nil, length-append}
 use Rattle.std.specs.Prelude.{◌-◌, if◌then◌else◌, nat_le, nat_lt}
 use Rattle.std.specs.List.{list_any}
-use Rattle.std.proofs.lemmas.Bool.{and_from, eq-eqb, ne_eqb, or_left}
+use Rattle.std.proofs.lemmas.Bool.{and_from, eq-eqb, le-leb, lt-ltb, ne_eqb, or_left}
 use Rattle.std.proofs.lemmas.Bool.Decides.{nat_tests}
 use Rattle.il_frames.specs.declared.entry.Entry.{Entry}
 use Rattle.il_frames.specs.declared.entry.Outcome.{Outcome}
@@ -15,7 +15,6 @@ use Rattle.il_device.specs.State.{DeviceState}
 use Rattle.il_device.specs.Takes.{eto, ete}
 use Rattle.il_ports.specs.Media.{MediumView}
 use Rattle.loop_model.specs.Exchanges.{Answer, Stopped, FrameLost, TalkerAltered, echoed, is_answer, is_echo, is_end, receive_front, returned}
-use Rattle.loop_model.specs.Reach.{distance}
 use Rattle.loop_model.specs.Roles.{roles_after}
 use Rattle.il_guest.specs.declared.control.Command.TheVariants as command
 use Rattle.il_guest.specs.declared.control.Control.TheVariants as control
@@ -25,9 +24,9 @@ use Rattle.il_ring.specs.declared.plan.Arrival.{Arrival}
 use Rattle.il_ring.specs.declared.flight.Flight.{Flight}
 use Rattle.il_ring.specs.Flights.{ended_at, sourced}
 use Rattle.il_ring.specs.Fates.{HoldsByPlan}
-use Rattle.il_ring.specs.Lends.{BreaksOff}
+use Rattle.il_ring.specs.Lends.{BreaksOff, can_end_by}
 use Rattle.il_ring.specs.Lending.{entry_where, going_on}
-use Rattle.il_ring.specs.Outcomes.{CameBack, StoodSo, back_entry}
+use Rattle.il_ring.specs.Outcomes.{CameBack, LostWhere, StoodSo, back_entry}
 use Rattle.il_ring.specs.Remaining.{BeginRounds, asked_yet, from_byte, from_unt}
 use Rattle.il_ring.specs.Rings.{RingView, devices_of, roles_of}
 use Rattle.il_ring.specs.Turned.{StandsNot, StandsThere, turned}
@@ -35,6 +34,7 @@ use Rattle.il_ring.proofs.DataPasses.{same_served}
 use Rattle.il_ring.proofs.LendFaults.{back_faulty, is_faulty}
 use Rattle.il_ring.proofs.Remaining.{begin_same}
 use Rattle.il_control.specs.Receives.{IsHolding}
+use Rattle.il_control.proofs.LentArrivals.{came_lost_ahead, came_lost_home, came_one, came_second, came_taken_ahead, came_two, dist_ahead, dist_home, turned_ahead, turned_up_to}
 use Rattle.il_control.proofs.LentAsking.{hit_so, hold_again}
 use Rattle.il_control.proofs.LentBytes.{NrdOn, NrdGone, ByteBack, ByteGone, ByteAltered, holds, holds_then, hold, hold_then, nrd_move, byte_move}
 use Rattle.il_control.proofs.LentCommands.{goes_own}
@@ -46,21 +46,11 @@ use Rattle.il_control.proofs.LentWalks.{BrokeOff, Polling, StandsSo, Stays, aske
 
 -- ---- what an entry brought to the host
 
-dist_home : (k q : ℕ) → distance k q 0 ≡ suc k - q
-dist_home k q =
-    let no : nat_lt q 0 ≡ false = grind (arith, nat_tests) in
-    ap (λ b. if b then 0 - q else (suc k + 0) - q) no ∙ omega arith
-
-dist_last : (k q : ℕ) → q < k → distance k q k ≡ k - q
-dist_last k q less =
-    let yes : nat_lt q k ≡ true = grind (arith, nat_tests) in
-    ap (λ b. if b then k - q else (suc k + k) - q) yes
-
 -- the byte came past it, and ETO did not
 byte_one : (k q : ℕ) (f g h : Frame) → q < k → came_by k (entry q f (outcome.Back g) ∷ entry q h (outcome.Taken k) ∷ []) ≡ 1
 byte_one k q f g h less =
     let no : nat_le (suc k - q) (k - q) ≡ false = grind (arith, nat_tests) in
-    ap₂ (λ a b. 1 + cond (nat_le a b) 1 0) (dist_home k q) (dist_last k q less) ∙ ap (λ b. 1 + cond b 1 0) no
+    ap₂ (λ a b. 1 + cond (nat_le a b) 1 0) (dist_home k q) (dist_ahead k q k less) ∙ ap (λ b. 1 + cond b 1 0) no
 
 module _ {M : Type 0} (view : M → MediumView) (k last : ℕ) (own : Option ℕ) (base : List Entry) where
   abbrev A : List ℕ
@@ -138,8 +128,9 @@ module _ {M : Type 0} (view : M → MediumView) (k last : ℕ) (own : Option ℕ
             },
           )))
           (λ not.
-          let ends = byte_lost_at k A (old.entries ++ e) held_stands.0 held_flight.source (own_echo held_flight.sent) (begun_then held_flight.source held_flight.sent refl refl held_flight.sent (own_echo-is held_flight.sent bytes)) bytes 0 in
-          inr (broke_off view k last own base r s arrived old e (entry held_flight.source held_flight.sent (outcome.Lost 0) ∷ []) (BreaksOff (FrameLost 0)) ends refl refl (omega arith) (omega arith) not.0.log_is not.0.lent_is))
+          let ends = byte_lost_at k A (old.entries ++ e) held_stands.0 held_flight.source (own_echo held_flight.sent) (begun_then held_flight.source held_flight.sent refl refl held_flight.sent (own_echo-is held_flight.sent bytes)) bytes 0 (ne_eqb held_flight.source k (λ e. omega (arith, e, in_.1))) (omega arith) in
+          inr (broke_off view k last own base r s arrived old e (entry held_flight.source held_flight.sent (outcome.Lost 0) ∷ []) (BreaksOff (FrameLost 0)) ends refl refl
+          (let none = came_lost_home k held_flight.source held_flight.sent in omega (arith, none)) (omega arith) not.0.log_is not.0.lent_is))
           out.1
 
       gone : NrdGone view r s held_flight answer so.two holding.0 → Next s arrived
@@ -150,8 +141,10 @@ module _ {M : Type 0} (view : M → MediumView) (k last : ℕ) (own : Option ℕ
           let other : (held_flight.source == k) ≡ false = ne_eqb held_flight.source k (λ e. omega (arith, e, in_.1)) in
           let kept_is : entry_where (length (devices_of (going_on r))) (Some held_flight) ++ entry k nrd (outcome.Lost p) ∷ [] ≡ tail =
           ap (λ j. ended_at held_flight j ∷ entry k nrd (outcome.Lost p) ∷ []) old.many ∙ ap (λ b. entry held_flight.source held_flight.sent (if b then outcome.Back held_flight.now else outcome.Taken k) ∷ entry k nrd (outcome.Lost p) ∷ []) other in
-          let ends = nrd_lost k A old.entries held_stands.0 held_flight.source (own_echo held_flight.sent) (held_stands.2.begun held_flight.sent (own_echo-is held_flight.sent bytes)) p in
-          inr (broke_off view k last own base r s arrived old [] tail (BreaksOff (FrameLost p)) (subst (λ es. RoundsEndSo k A es tail (BreaksOff (FrameLost p))) (sym (append-nil old.entries)) ends) refl refl (omega arith) (omega arith) (not.log_is ∙ ap (λ es. r.books.log ++ es) kept_is) not.lent_is)
+          let ends = nrd_lost k A old.entries held_stands.0 held_flight.source (own_echo held_flight.sent) (held_stands.2.begun held_flight.sent (own_echo-is held_flight.sent bytes)) p (subst (λ j. turned j off.own_party ≤ j) old.many off.on_ring) in
+          inr (broke_off view k last own base r s arrived old [] tail (BreaksOff (FrameLost p)) (subst (λ es. RoundsEndSo k A es tail (BreaksOff (FrameLost p))) (sym (append-nil old.entries)) ends) refl refl
+          (let second = came_second k (entry held_flight.source held_flight.sent (outcome.Taken k)) (entry k nrd (outcome.Lost p)) (came_taken_ahead k held_flight.source k held_flight.sent in_.1 (omega arith)) in let one = came_one k (entry k nrd (outcome.Lost p)) in omega (arith, second, one))
+          (omega arith) (not.log_is ∙ ap (λ es. r.books.log ++ es) kept_is) not.lent_is)
 
       pub nrd_step : Next s arrived
       nrd_step = ⊎_elim on gone (nrd_move view r s held_flight answer so.two old.led held_stands.2.kept_is a d (so.control_is ∙ ap (λ p. control.Rounds p) at) holding.0)
@@ -224,40 +217,45 @@ module _ {M : Type 0} (view : M → MediumView) (k last : ℕ) (own : Option ℕ
       own_begun = byte_stands.2.begun byte_flight.sent (own_echo-is byte_flight.sent bytes₂)
 
       -- it came back altered
-      altered_so : (back : Frame) → CameBack (hold view r s byte_flight answer so.two) (hold_then view r s byte_flight answer so.two) byte_flight false back → (o : Outcome) → is_end k o ≡ true
+      altered_so : (back : Frame) → CameBack (hold view r s byte_flight answer so.two) (hold_then view r s byte_flight answer so.two) byte_flight false back → (o : Outcome) → is_end k o ≡ true → can_end_by k byte_flight.source o ≡ true → came_by k (entry byte_flight.source ete o ∷ []) ≡ 0
           → s.books.log ≡ r.books.log ++ (back_entry byte_flight back ∷ entry byte_flight.source ete o ∷ []) → s.books.lent ≡ None → Next s arrived
-      altered_so back came o end log none =
+      altered_so back came o end by past log none =
           let tail : List Entry = back_entry byte_flight back ∷ entry byte_flight.source ete o ∷ [] in
-          let ends = byte_altered k A old.entries byte_stands.0 byte_flight.source (own_echo byte_flight.sent) own_begun bytes₂ back came.echo.0 no_guest o end in
+          let ends = byte_altered k A old.entries byte_stands.0 byte_flight.source (own_echo byte_flight.sent) own_begun bytes₂ back came.echo.0 no_guest o end by in
           let shows : list_any is_faulty tail ≡ true = or_left (is_faulty (back_entry byte_flight back)) _ (back_faulty byte_flight.source byte_flight.sent back bytes₂ came.echo.0) in
-          inr (broke_off view k last own base r s arrived old [] tail (BreaksOff (TalkerAltered back o)) (subst (λ es. RoundsEndSo k A es tail (BreaksOff (TalkerAltered back o))) (sym (append-nil old.entries)) ends) refl shows (omega arith) (omega arith) log none)
+          inr (broke_off view k last own base r s arrived old [] tail (BreaksOff (TalkerAltered back o)) (subst (λ es. RoundsEndSo k A es tail (BreaksOff (TalkerAltered back o))) (sym (append-nil old.entries)) ends) refl shows
+          (let one = came_two k (back_entry byte_flight back) (entry byte_flight.source ete o) past in omega (arith, one)) (omega arith) log none)
 
       gone₂ : ByteGone view r s byte_flight answer so.two holding₂.0 → Next s arrived
       gone₂ off =
           let p = turned k off.own_party in
+          let ahead : (back : Frame) → off.front ≡ back_entry byte_flight back ∷ [] → byte_flight.source < p = λ back is. turned_ahead k byte_flight.source off.own_party in₂.1 (subst (λ front. LostWhere front byte_flight.source off.own_party) is off.where_) in
           let not = subst (λ j. StandsNot (going_on r) off.front None (entry byte_flight.source off.frame (outcome.Lost (turned j off.own_party)) ∷ []) so.two.own.crossings answer s) old.many off.ends in
           ⊎_elim
           (λ first.
           let tail : List Entry = entry byte_flight.source byte_flight.sent (outcome.Lost p) ∷ [] in
-          let ends = byte_lost_at k A old.entries byte_stands.0 byte_flight.source (own_echo byte_flight.sent) own_begun bytes₂ p in
-          inr (broke_off view k last own base r s arrived old [] tail (BreaksOff (FrameLost p)) (subst (λ es. RoundsEndSo k A es tail (BreaksOff (FrameLost p))) (sym (append-nil old.entries)) ends) refl refl (omega arith) (omega arith)
+          let ends = byte_lost_at k A old.entries byte_stands.0 byte_flight.source (own_echo byte_flight.sent) own_begun bytes₂ p no_guest
+          (let at = subst (λ front. LostWhere front byte_flight.source off.own_party) first.0 off.where_ in turned_up_to k off.own_party byte_flight.source at.0 at.1) in
+          inr (broke_off view k last own base r s arrived old [] tail (BreaksOff (FrameLost p)) (subst (λ es. RoundsEndSo k A es tail (BreaksOff (FrameLost p))) (sym (append-nil old.entries)) ends) refl refl
+          (let one = came_one k (entry byte_flight.source byte_flight.sent (outcome.Lost p)) in omega (arith, one)) (omega arith)
           (not.log_is ∙ ap₂ (λ front frame. r.books.log ++ (front ++ entry byte_flight.source frame (outcome.Lost p) ∷ [])) first.0 first.1) not.lent_is))
-          (λ next. by_right next.0 next.1 next.2 not.lent_is p (not.log_is ∙ ap₂ (λ front frame. r.books.log ++ (front ++ entry byte_flight.source frame (outcome.Lost p) ∷ [])) next.3 next.4))
+          (λ next. by_right next.0 next.1 next.2 not.lent_is p (ahead next.1 next.3) (subst (λ j. turned j off.own_party ≤ j) old.many off.on_ring) (not.log_is ∙ ap₂ (λ front frame. r.books.log ++ (front ++ entry byte_flight.source frame (outcome.Lost p) ∷ [])) next.3 next.4))
           off.kind
         where
           by_right : (right : Bool) → (back : Frame) → CameBack (hold view r s byte_flight answer so.two) (hold_then view r s byte_flight answer so.two) byte_flight right back → s.books.lent ≡ None
-              → (p : ℕ) → s.books.log ≡ r.books.log ++ (back_entry byte_flight back ∷ entry byte_flight.source (if right then eto else ete) (outcome.Lost p) ∷ []) → Next s arrived
-          by_right true back came none p log =
+              → (p : ℕ) → byte_flight.source < p → p ≤ k → s.books.log ≡ r.books.log ++ (back_entry byte_flight back ∷ entry byte_flight.source (if right then eto else ete) (outcome.Lost p) ∷ []) → Next s arrived
+          by_right true back came none p far on log =
               let e : List Entry = back_entry byte_flight back ∷ [] in
               let echo : is_echo (record { sent = byte_flight.sent; back = back }) ≡ true = and_from (is_data byte_flight.sent) (same_but_service byte_flight.sent back) bytes₂ (same_served byte_flight.sent back came.echo.1) in
-              let ends = end_lost k A (old.entries ++ e) byte_stands.0 byte_flight.source p (begun_eto back echo) in
-              inr (broke_off view k last own base r s arrived old e (entry byte_flight.source eto (outcome.Lost p) ∷ []) (BreaksOff (FrameLost p)) ends refl refl (omega arith) (omega arith) log none)
-          by_right false back came none p log = altered_so back came (outcome.Lost p) refl log none
+              let ends = end_lost k A (old.entries ++ e) byte_stands.0 byte_flight.source p no_guest far on (begun_eto back echo) in
+              inr (broke_off view k last own base r s arrived old e (entry byte_flight.source eto (outcome.Lost p) ∷ []) (BreaksOff (FrameLost p)) ends refl refl
+              (let one = came_one k (back_entry byte_flight back) in let past = came_lost_ahead k byte_flight.source p eto far on in omega (arith, one, past)) (omega arith) log none)
+          by_right false back came none p far on log = altered_so back came (outcome.Lost p) refl (and_from (nat_lt byte_flight.source p) (nat_le p k) (lt-ltb byte_flight.source p far) (le-leb p k on)) (came_lost_ahead k byte_flight.source p ete far on) log none
 
       altered₂ : ByteAltered view r s byte_flight answer so.two holding₂.0 → Next s arrived
       altered₂ off =
           let not = subst (λ j. StandsNot (going_on r) (back_entry byte_flight off.back ∷ entry byte_flight.source ete (outcome.Taken j) ∷ []) None [] so.two.own.crossings answer s) old.many off.ends in
-          altered_so off.back off.came (outcome.Taken k) (eq-eqb k k refl) not.log_is not.lent_is
+          altered_so off.back off.came (outcome.Taken k) (eq-eqb k k refl) refl (came_taken_ahead k byte_flight.source k ete in₂.1 (omega arith)) not.log_is not.lent_is
 
       pub byte_step : Next s arrived
       byte_step = ⊎_elim back₂ (λ off. ⊎_elim gone₂ altered₂ off) (byte_move view r s byte_flight answer so.two old.led byte_stands.2.kept_is a d (so.control_is ∙ ap (λ p. control.Rounds p) at) holding₂.0 holding₂.1 holding₂.2)

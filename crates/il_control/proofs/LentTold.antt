@@ -15,8 +15,7 @@ use Rattle.il_poll.specs.Service.{status_byte_of}
 use Rattle.il_device.specs.Takes.{eto}
 use Rattle.il_drive.specs.declared.mode.Start.TheVariants as start
 use Rattle.il_drive.proofs.Mild.{StatusLeft}
-use Rattle.il_ring.specs.Statuses.{is_ended, is_taken_by, told_by}
-use Rattle.il_control.specs.Lent.{ToldStatus}
+use Rattle.il_ring.specs.Statuses.{is_ended, is_taken_by, told_by, ToldStatus}
 
 -- ---- entries
 

@@ -1,15 +1,13 @@
 -- From one frame at the host to the next: a second controller goes on in its rounds, or they end.
 pub use Rattle.il_control.specs.Polling.{BrokeOff, ByteStands, FollowsAsked, HeldStands, OwnStands, Polling, StandsSo, asked, came_by, front_of, yet_at}
-use Rattle.std.proofs.Common.{◌≡◌, ◌∙◌, ◌≤◌, ◌+◌, ◌++◌, ℕ, true, false, List, [], ◌∷◌, Option, Some, None, length, cond, refl, sym, ap, ap₂, arith, append_assoc, length-append}
+use Rattle.std.proofs.Common.{◌≡◌, ◌∙◌, ◌≤◌, ◌+◌, ◌++◌, ℕ, true, false, List, [], ◌∷◌, Option, Some, None, length, refl, sym, ap, ap₂, arith, append_assoc, length-append}
 use Rattle.std.specs.List.{list_any}
-use Rattle.std.proofs.lemmas.List.Sums.{sum_by-append}
 use Rattle.il_frames.specs.declared.entry.Entry.{Entry}
 use Rattle.il_frames.specs.declared.frame.Frame.{Frame}
 use Rattle.il_frames.specs.Frames.{is_data}
 use Rattle.il_device.specs.State.{DeviceState}
 use Rattle.il_drive.specs.State.{device_of}
 use Rattle.il_ports.specs.Media.{MediumView}
-use Rattle.loop_model.specs.Reach.{brings_to}
 use Rattle.il_guest.specs.declared.control.Control.TheVariants as control
 use Rattle.il_guest.specs.declared.control.Place.{Place}
 use Rattle.il_guest.specs.Rounds.{addresses}
@@ -25,6 +23,7 @@ use Rattle.il_ring.specs.Rings.{RingView, devices_of}
 use Rattle.il_ring.specs.Turned.{Halves}
 use Rattle.il_ring.proofs.Passes.{plain_hit}
 use Rattle.il_ring.proofs.LendFaults.{is_faulty}
+use Rattle.il_control.proofs.LentArrivals.{came_by-append}
 use Rattle.il_control.proofs.LentPolls.{RoundsEndSo}
 
 -- ---- the last of a list
@@ -42,11 +41,6 @@ snoc_same (x ∷ xs) (y ∷ ys) a b same =
 pub own_hit : (k : ℕ) (f : Frame) (fault : Option PlanFault) (at : Flight) → is_data f ≡ false → hit fault (sourced k f) ≡ Some at → at ≡ sourced k f
 own_hit k f None at other came = sym (ap (λ o. elim o [ Some g ↦ g | None ↦ at ]) came)
 own_hit k f (Some fault) at other came = let clash = sym (plain_hit fault (sourced k f) other) ∙ came in cc
-
--- ---- how many frames came to the host
-
-pub came_by-append : (k : ℕ) (xs ys : List Entry) → came_by k (xs ++ ys) ≡ came_by k xs + came_by k ys
-came_by-append k xs ys = sum_by-append (λ e. cond (brings_to k 0 e) 1 0) xs ys
 
 -- ---- at every moment
 
@@ -106,7 +100,7 @@ module _ {M : Type 0} (view : M → MediumView) (k last : ℕ) (own : Option ℕ
   }
 
   -- they broke off behind these entries more
-  pub broke_off : (r s : RingView M) (arrived : ℕ) (old : Polling view k last own base r arrived) (e tail : List Entry) (end : RoundsEnd) → RoundsEndSo k (addresses own last) (old.entries ++ e) tail end → is_break_end end ≡ true → list_any is_faulty tail ≡ true → came_by k e ≤ 1 → length e + length tail ≤ 3 → s.books.log ≡ r.books.log ++ (e ++ tail) → s.books.lent ≡ None → BrokeOff view k last own base s (arrived + 1)
+  pub broke_off : (r s : RingView M) (arrived : ℕ) (old : Polling view k last own base r arrived) (e tail : List Entry) (end : RoundsEnd) → RoundsEndSo k (addresses own last) (old.entries ++ e) tail end → is_break_end end ≡ true → list_any is_faulty tail ≡ true → came_by k e + came_by k tail ≤ 1 → length e + length tail ≤ 3 → s.books.log ≡ r.books.log ++ (e ++ tail) → s.books.lent ≡ None → BrokeOff view k last own base s (arrived + 1)
   broke_off r s arrived old e tail end ends breaks shows one short log none = record {
     entries = old.entries ++ e;
     tail = tail;
@@ -115,7 +109,11 @@ module _ {M : Type 0} (view : M → MediumView) (k last : ℕ) (own : Option ℕ
     breaks = breaks;
     shows = shows;
     log = log ∙ ap (λ log. log ++ (e ++ tail)) old.log ∙ append_assoc base old.entries (e ++ tail) ∙ ap (λ es. base ++ es) (sym (append_assoc old.entries e tail));
-    arrivals = let sum = came_by-append k old.entries e in let before = old.arrivals in omega (arith, sum, one, before);
+    arrivals =
+        let all = came_by-append k (old.entries ++ e) tail in
+        let sum = came_by-append k old.entries e in
+        let before = old.arrivals in
+        omega (arith, all, sum, one, before);
     short =
         let all = length-append (old.entries ++ e) tail in
         let front = length-append old.entries e in

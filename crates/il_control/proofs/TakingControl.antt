@@ -110,6 +110,7 @@ module _ {M : Type 0} (view : M → MediumView) (r s : RingView M) (lead : leads
   adds_led : (from to : Option ℕ) (entries : List Entry) → Adds view (host_leads r) from entries to (host_leads s) → Adds view r from entries to s
   adds_led from to entries adds = record {
     log = adds.log;
+    on = adds.on;
     plan = adds.plan;
     begun = adds.begun;
     room = adds.room;

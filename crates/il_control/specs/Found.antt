@@ -1,5 +1,5 @@
 -- What a second controller has found: what the log tells of the statuses that it asked for.
-use Rattle.std.specs.Prelude.{◌≡◌, ◌≤◌, ◌++◌, ℕ, false, List, length, get_or, Option, Some, None, IfSome}
+use Rattle.std.specs.Prelude.{◌≡◌, ◌≤◌, ◌++◌, ℕ, false, true, List, length, get_or, Option, Some, None, IfSome}
 use Rattle.il_frames.specs.declared.entry.Entry.{Entry}
 use Rattle.il_frames.specs.Frames.{byte_of}
 use Rattle.il_guest.specs.declared.control.Command.{Command}
@@ -10,8 +10,8 @@ use Rattle.il_guest.specs.declared.control.Place.{Place}
 use Rattle.il_guest.specs.declared.control.Place.TheVariants as place
 use Rattle.il_ring.specs.declared.flight.Flight.{Flight}
 use Rattle.il_ring.specs.Books.{BooksView}
-use Rattle.il_ring.specs.Rings.{RingView, devices_of}
-use Rattle.il_ring.specs.Statuses.{asked_all, last_told}
+use Rattle.il_ring.specs.Rings.{RingView, devices_of, drive_party}
+use Rattle.il_ring.specs.Statuses.{answers_always, asked_all, last_told}
 
 -- What the second controller has found is what the log tells.
 abbrev pub HasFound : {M : Type 0} → List Entry → RingView M → Type 0
@@ -43,12 +43,13 @@ KnowsAsked asked b control.Host = Unit {0}
 KnowsAsked asked b (control.Rounds p) = KnowsPlace asked b p
 KnowsAsked asked b control.Silent = Unit {0}
 
--- While a second controller polls, and the log has these entries since it took control: what it has found is what they tell, and this is
--- known of the address that is asked.
+-- While a second controller polls, and the log has these entries since it took control: what it has found is what they tell, the
+-- drive answered wherever it was asked, and this is known of the address that is asked.
 pub record FoundSo {M : Type 0} (base : List Entry) (r : RingView M) : Type 0 where
   pub entries : List Entry
   pub log : r.books.log ≡ base ++ entries
   pub found : HasFound entries r
+  pub answered : answers_always (length (devices_of r)) (drive_party r) None entries ≡ true
   pub knows : IfSome r.guest (λ mind. KnowsAsked (asked_all (length (devices_of r)) None entries) r.books mind.control)
 
 -- what is left of that where the rounds broke off
@@ -56,3 +57,4 @@ pub record FoundLeft {M : Type 0} (base : List Entry) (s : RingView M) : Type 0 
   pub entries : List Entry
   pub log : s.books.log ≡ base ++ entries
   pub found : HasFound entries s
+  pub answered : answers_always (length (devices_of s)) (drive_party s) None entries ≡ true

@@ -1,5 +1,5 @@
 -- What a lend tells of the drive, and what its second controller has found.
-use Rattle.std.specs.Prelude.{All, Bool, IsSome, List, MatchBool, None, Option, Some, [], false, is_some, length, nat_lt, sum_by, true, ℕ, ◌&&◌, ◌*◌, ◌++◌, ◌+◌, ◌∷◌, ◌≡◌, ◌≢◌, ◌≤◌, ◌⊎◌}
+use Rattle.std.specs.Prelude.{Bool, IsSome, List, MatchBool, None, Option, Some, [], false, is_some, length, sum_by, true, ℕ, ◌&&◌, ◌*◌, ◌++◌, ◌+◌, ◌∷◌, ◌≡◌, ◌≢◌, ◌≤◌, ◌⊎◌}
 use Rattle.il_frames.specs.declared.entry.Entry.{Entry}
 use Rattle.il_frames.specs.Frames.{byte_of}
 use Rattle.il_poll.specs.Service.{status_byte_of}
@@ -19,25 +19,20 @@ use Rattle.loop_model.specs.Exchanges.{returned}
 use Rattle.il_control.specs.declared.lending.Handed.{Handed}
 use Rattle.il_control.specs.declared.lending.Handed.TheVariants as handed
 use Rattle.il_ring.specs.declared.plan.Arrival.{Arrival}
-use Rattle.il_ring.specs.Flights.{sourced}
+use Rattle.il_ring.specs.Flights.{HasAltered, sourced}
 use Rattle.il_ring.specs.HandedOver.{HandedOver}
-use Rattle.il_ring.specs.Lending.{IsLed, LedRound, hands_over}
-use Rattle.il_ring.specs.Lends.{Lend, Lent, LentCut, LentLost, NoTaker, NoTakerCut, handed_entries, is_lend, is_whole_lend, lend_address, lend_entries, tells_own, was_taken}
+use Rattle.il_ring.specs.Lending.{IsLed, LedRound, hands_over, leads}
+use Rattle.il_ring.specs.Lends.{Lend, came_back, handed_entries, is_lend, is_whole_lend, keeps_control, lend_address, lend_entries, tells_own, took_back, was_taken}
 use Rattle.il_ring.specs.Lists.{Each, First}
 use Rattle.il_ring.specs.Outcomes.{IsDeaf, met_between}
-use Rattle.il_ring.specs.Plans.{hops_of}
+use Rattle.il_ring.specs.Plans.{hops_of, last_crossing}
 use Rattle.il_ring.specs.Polls.{KeepsPlace}
 use Rattle.il_control.specs.Calls.{Broke, IsIdle, IsLost, Unheard, Whole}
 use Rattle.il_control.specs.Found.{FoundLeft, FoundSo, HasFound}
 use Rattle.il_control.specs.Polling.{BrokeOff, Polling}
 use Rattle.il_ring.specs.declared.flight.Flight.{Flight}
 use Rattle.il_ring.specs.Rings.{RingView, devices_of, drive_party, roles_of}
-use Rattle.il_ring.specs.Statuses.{told_by}
-
--- The drive told these bytes: first its status, which is 0 then, and 0 each further time.
-abbrev pub ToldStatus : ℕ → List ℕ → ℕ → Type 0
-ToldStatus before [] now = now ≡ before
-ToldStatus before (byte ∷ more) now = (byte ≡ status_byte_of before) × All (λ b. b ≡ 0) more × (now ≡ 0)
+use Rattle.il_ring.specs.Statuses.{ToldStatus, answers_always, told_by}
 
 -- While a second controller polls, and the log has these entries since it took control: the drive hears nothing and keeps its medium. Its
 -- status is as it was, or told; and where its byte is under way, that tells its status.
@@ -93,6 +88,7 @@ pub record KeptSince {M : Type 0} (q r : RingView M) : Type 0 where
 pub record LentSo {M : Type 0} (view : M → MediumView) (a : ℕ) (q r : RingView M) (arrived : ℕ) : Type 0 where
   pub at : a ≡ length (devices_of q)
   pub few_asked : last_of q.guest ≤ 30
+  pub from : q.books.crossings ≤ last_crossing
   pub polls : Polling view (length (devices_of q)) (last_of q.guest) (Some (length (devices_of q))) (base_of a q) r arrived
   pub added : List Entry
   pub since : LedSince 0 (length (devices_of q)) q r added
@@ -100,6 +96,7 @@ pub record LentSo {M : Type 0} (view : M → MediumView) (a : ℕ) (q r : RingVi
   pub deaf : Each IsDeaf 1 (devices_of r)
   pub found : FoundSo (base_of a q) r
   pub drive : DriveMild q.drive (base_of a q) r
+  pub altered : HasAltered r.books.lent ⊎ HasAltered r.books.kept → met_between q r ≢ []
 
 -- its rounds broke off before more than so many did
 pub record LentBroke {M : Type 0} (view : M → MediumView) (a : ℕ) (q : RingView M) (limit : ℕ) (s : RingView M) : Type 0 where
@@ -114,6 +111,7 @@ pub record LentBroke {M : Type 0} (view : M → MediumView) (a : ℕ) (q : RingV
   pub kept : KeptSince q s
   pub found : FoundLeft (base_of a q) s
   pub drive : DriveLeft q.drive s.drive
+  pub met : met_between q s ≢ []
 
 -- lent by some host, and so many frames have come to it
 abbrev pub IsLentNow : {M : Type 0} → (M → MediumView) → RingView M → ℕ → Type 0
@@ -139,19 +137,11 @@ last_at a (d ∷ e ∷ ds) = last_at a (e ∷ ds)
 abbrev pub controller_at : {M : Type 0} → ℕ → RingView M → Bool
 controller_at a q = is_some q.guest && last_at a q.after
 
--- TCT came back, since nobody took it: it is the fifth frame
-abbrev pub came_back : Lend → Bool
-came_back (NoTaker a) = true
-came_back (NoTakerCut a n q) = nat_lt 4 n
-came_back (Lent a answers n) = false
-came_back (LentCut a answers n end) = false
-came_back (LentLost a answers n m q) = false
-
 -- The log grew by the entries of a lend of address a, whole or broken off, and these count for the links that were
 -- crossed, for the frames that came to each device, and for the roles. At most one party talked at every moment, and only
 -- the talker spoke; each command was the controller's. Where a second controller stands at that address TCT does not come
--- back, and only there control is taken; what it has found then is what the log tells. Where it was not taken, a second
--- controller has the same in mind as before.
+-- back, and only there control is taken; what it has found then is what the log tells. The drive answers wherever it asks the
+-- drive. Where control was not taken, a second controller has the same in mind as before.
 pub record Lends {M : Type 0} (a limit : ℕ) (whole : Bool) (q s : RingView M) : Type 0 where
   pub lend : Lend
   pub is : is_lend (length (devices_of q)) (asked_on q) limit lend ≡ true
@@ -172,6 +162,7 @@ pub record Lends {M : Type 0} (a limit : ℕ) (whole : Bool) (q s : RingView M) 
   pub taker : was_taken lend ≡ true → controller_at a q ≡ true
   pub refused : came_back lend ≡ true → controller_at a q ≡ false
   pub found : was_taken lend ≡ true → HasFound (lend_entries (length (devices_of q)) (asked_on q) lend) s
+  pub answered : answers_always (length (devices_of q)) (drive_party q) None (lend_entries (length (devices_of q)) (asked_on q) lend) ≡ true
   pub guest : was_taken lend ≡ false → s.guest ≡ q.guest
 
 -- It was whole. Somebody took control exactly where a second controller stands at that address; where nobody did, no planned hop was met.
@@ -184,12 +175,16 @@ pub record LendMade {M : Type 0} (a limit : ℕ) (taken : Bool) (q s : RingView 
   pub met : taken ≡ false → met_between q s ≡ []
   pub idle : IsIdle s
 
--- It was broken off. The drive keeps its medium, and its status may be told. A planned hop was met since the log was last emptied.
+-- It was broken off. The drive keeps its medium, and its status may be told. A planned hop was met meanwhile. Where the rounds of a second
+-- controller broke off that one controls the loop still; where IFC came back the host does.
 pub record LendBroken {M : Type 0} (a limit : ℕ) (q s : RingView M) : Type 0 where
   pub lends : Lends a limit false q s
   pub lost : IsLost s
   pub drive : DriveLeft q.drive s.drive
   pub met : met (hops_of s.books.plan) s.books.begun s.books.crossings ≢ []
+  pub met_in : met_between q s ≢ []
+  pub host_leads : took_back lends.lend ≡ true → IsUnderHost s.guest
+  pub leads_on : keeps_control lends.lend ≡ true → leads s.guest ≡ true
 
 -- ---- TCT
 

@@ -85,7 +85,7 @@ pub record RoundsEndSo (k : ℕ) (asked : List ℕ) (entries tail : List Entry) 
   pub more : List Entry
   pub rounds : rounds_entries k asked all ≡ entries ++ due ∷ more
   pub tail_is : tail ≡ end_entries k due more end
-  pub legal : is_end_at k due end ≡ true
+  pub legal : is_end_at k due more end ≡ true
 
 -- how many frames came to the host
 abbrev pub came_by : ℕ → List Entry → ℕ
@@ -178,6 +178,6 @@ module _ {M : Type 0} (view : M → MediumView) (k last : ℕ) (own : Option ℕ
     pub breaks : is_break_end end ≡ true
     pub shows : list_any is_faulty tail ≡ true
     pub log : s.books.log ≡ base ++ (entries ++ tail)
-    pub arrivals : came_by k entries + 1 ≤ arrived
+    pub arrivals : came_by k (entries ++ tail) + 1 ≤ arrived
     pub short : length (entries ++ tail) ≤ arrived + arrived + 1
     pub lent_is : s.books.lent ≡ None

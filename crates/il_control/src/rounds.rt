@@ -1,5 +1,5 @@
 // What the controller does on the ring, one round behind the other. Each answers whether it was done whole.
-ghost use Rattle.std.specs.Prelude.{◌≡◌, ◌≤◌, ◌<◌, [], ◌∷◌, ◌++◌, true, false, MatchBool, MatchOption, IfSome, not, is_some};
+ghost use Rattle.std.specs.Prelude.{◌≡◌, ◌≤◌, ◌<◌, ◌+◌, [], ◌∷◌, ◌++◌, length, true, false, MatchBool, MatchOption, IfSome, not, is_some};
 ghost use Rattle.il_frames.specs.Messages.{message_of};
 ghost use Rattle.il_device.specs.Passing.{is_plain};
 ghost use Rattle.loop_model.specs.Exchanges.{Send, entries_of, numbered, returned, commanded};
@@ -142,6 +142,8 @@ pub(crate) fn clear_interface<M: Medium>(ring: &mut Ring<M>) -> bool
     ensures obeyed { result ≡ true → Obeyed (message_of ifc) (about_to_send (⟦<Ring<M> as Seen<M>>⟧.seen ring.old)) (⟦<Ring<M> as Seen<M>>⟧.seen ring.new) }
     ensures part { ObeyedInPart (message_of ifc) (about_to_send (⟦<Ring<M> as Seen<M>>⟧.seen ring.old)) (⟦<Ring<M> as Seen<M>>⟧.seen ring.new) }
     ensures host { result ≡ true → IsUnderHost (⟦<Ring<M> as Seen<M>>⟧.seen ring.new).guest }
+    // Where IFC came back the host controls, whatever became of the handshake.
+    ensures ready { length (⟦<Ring<M> as Seen<M>>⟧.seen ring.new).books.log ≡ length (about_to_send (⟦<Ring<M> as Seen<M>>⟧.seen ring.old)).books.log + 2 → IsUnderHost (⟦<Ring<M> as Seen<M>>⟧.seen ring.new).guest }
     // What a second controller has found stays.
     ensures found { KeepsFound (⟦<Ring<M> as Seen<M>>⟧.seen ring.old) (⟦<Ring<M> as Seen<M>>⟧.seen ring.new) }
 {

@@ -104,7 +104,8 @@ impl Guest {
 
     /// The last address that it asks, 1 to 30.
     pub fn last(&self) -> u8
-        ensures { result ≡ self.now.last }
+        ensures value { result ≡ self.now.last }
+        ensures range { (1 ≤ result) × (result ≤ 30) }
     {
         self.last
     }

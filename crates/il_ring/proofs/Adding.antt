@@ -1,5 +1,8 @@
 -- Rounds one behind the other.
 use Rattle.std.proofs.Common.{◌≡◌, ◌+◌, ◌++◌, ℕ, List, [], ◌∷◌, Option, None, length, refl, sym, ap, subst, ◌∙◌, arith, append_assoc, append-nil}
+use Rattle.std.specs.List.{list_all}
+use Rattle.std.proofs.lemmas.Bool.{and_from}
+use Rattle.std.proofs.lemmas.List.Folds.{list_all-append}
 use Rattle.il_frames.specs.declared.entry.Entry.{Entry}
 use Rattle.il_device.specs.State.{DeviceState, risen_by}
 use Rattle.il_ports.specs.Media.{MediumView}
@@ -12,6 +15,7 @@ use Rattle.il_ring.specs.Guests.{IsUnderHost}
 use Rattle.il_ring.specs.Rings.{RingView, devices_of, roles_of}
 use Rattle.il_ring.specs.Rounded.{AllTook}
 use Rattle.il_ring.specs.Adds.{Adds}
+use Rattle.il_ring.specs.Turned.{is_on}
 use Rattle.il_ring.proofs.Counts.{risen_by-add}
 use Rattle.il_ring.proofs.RoundPlaces.{no_poll_parts, places_nothing, places_then}
 
@@ -48,6 +52,7 @@ took_held k j a xs (d ∷ ds) [] took = absurd took
 pub adds_nothing : {M : Type 0} (view : M → MediumView) (r : RingView M) (a : Option ℕ) → Adds view r a [] a r
 adds_nothing view r a = record {
   log = sym (append-nil r.books.log);
+  on = refl;
   plan = refl;
   begun = refl;
   room = refl;
@@ -82,6 +87,7 @@ adds_more view r m s a b c xs ys first more =
     let linked : more.links + held_links k b ≡ links_so_far k ys c = subst (λ k. more.links + held_links k b ≡ links_so_far k ys c) size more.linked in
     record {
       log = more.log ∙ ap (λ log. log ++ ys) first.log ∙ append_assoc r.books.log xs ys;
+      on = list_all-append (is_on k) xs ys ∙ and_from (list_all (is_on k) xs) (list_all (is_on k) ys) first.on (ap (λ k. list_all (is_on k) ys) (sym size) ∙ more.on);
       plan = more.plan ∙ first.plan;
       begun = more.begun ∙ first.begun;
       room = more.room ∙ first.room;
@@ -113,6 +119,7 @@ adds_more-answers view r m s a b c xs ys first more = refl
 pub adds_held : {M : Type 0} (view : M → MediumView) (r s : RingView M) (a : Option ℕ) (xs : List Entry) → Adds view r None xs None s → Adds view r a xs a s
 adds_held view r s a xs adds = record {
   log = adds.log;
+  on = adds.on;
   plan = adds.plan;
   begun = adds.begun;
   room = adds.room;

@@ -41,7 +41,7 @@ pub record Answered {D : Type 0} (rule : D → Frame → Out → D → Type 0) (
 pub record Gone (plan : List Planned) (j k m n : ℕ) (log : List Entry) (f : Flight) (u : Trip) : Type 0 where
   pub crossed : ℕ
   pub party : ℕ
-  pub on_ring : (party ≡ k) ⊎ (party < j + m)
+  pub on_ring : (party ≡ k) ⊎ ((j ≤ party) × (party < j + m))
   pub is : u ≡ trip (risen_by (suc crossed) n) (log ++ lost_at f party ∷ []) None
   pub planned : next_fault plan (risen_by crossed n) ≢ None
 
@@ -120,4 +120,4 @@ module _ {D : Type 0} (rule : D → Frame → Out → D → Type 0) (plan : List
       let none : t.flight ≡ None = ap (λ (t : Trip). t.flight) lost.is in
       let here : (t₁ ≡ t) × (e ≡ d) = subst (λ flight. Reaches rule plan k t flight d t₁ e) none reaches in
       let stays = nothing_comes plan (k + 1) t₁ u rest rest_then HearsAny (ap (λ (t : Trip). t.flight) here.0 ∙ none) journey in
-      inr (record { crossed = lost.reached; party = j + lost.reached; on_ring = inr (omega (arith, lost.within)); is = stays.0 ∙ here.0 ∙ lost.is; planned = lost.planned }, here.1, stays.1)
+      inr (record { crossed = lost.reached; party = j + lost.reached; on_ring = inr (omega arith, omega (arith, lost.within)); is = stays.0 ∙ here.0 ∙ lost.is; planned = lost.planned }, here.1, stays.1)

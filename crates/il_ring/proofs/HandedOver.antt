@@ -29,6 +29,7 @@ use Rattle.il_ring.specs.Lists.{First}
 use Rattle.il_ring.specs.Outcomes.{Obeys}
 use Rattle.il_ring.specs.Rings.{RingView, IsRing, arrived, arriving, devices_of}
 use Rattle.il_ring.proofs.EndsHome.{any_each}
+use Rattle.il_ring.proofs.LedAltered.{behind_later}
 use Rattle.il_ring.proofs.LedRounds.{led_party, led_to_last}
 use Rattle.il_ring.proofs.PassKinds.{Is, Any, plain_passes}
 use Rattle.il_ring.proofs.PassSteps.{goes_home}
@@ -120,6 +121,7 @@ module _ {M : Type 0} (view : M → MediumView) (r s : RingView M) (answer : Arr
             goes_home r s answer round.behind (entry 0 tct (outcome.Taken k) ∷ []) None (round.books ∙ ap (λ lead. led_home lead k (books_led r.books round.behind) round.behind.trip.flight) lead) round.answer_is
                 (ap (λ (l : LedTrip). l.kept) goes ∙ ring.kept) (sourced k nop) (ap (λ (l : LedTrip). l.trip.flight) goes) (ap (λ (l : LedTrip). l.trip.log) goes),
           );
+          later = behind_later view r s (sourced 0 tct) answer round ring.crossings;
         }
 
     by_hit : (n : ℕ) (o : Option Flight) → hit (next_fault r.books.plan n) (sourced 0 tct) ≡ o → First (Obeys (message_of tct)) (length front) front front_then

@@ -1,6 +1,6 @@
 -- Worked examples of lends, computed by the checker: a drive (party 1), a printer (party 2) and a second controller (party 3), which asks
 -- the addresses up to 2.
-use Rattle.std.proofs.Common.{◌≡◌, ◌++◌, ℕ, List, [], ◌∷◌, true, false, refl, codes, flat_map}
+use Rattle.std.proofs.Common.{◌≡◌, ◌++◌, ℕ, List, [], ◌∷◌, None, true, false, refl, codes, flat_map}
 use Rattle.std.specs.Fmt.{digits}
 use Rattle.il_frames.specs.declared.frame.Class.TheVariants as class
 use Rattle.il_frames.specs.declared.entry.Entry.{Entry}
@@ -8,10 +8,11 @@ use Rattle.il_frames.specs.declared.entry.Outcome.TheVariants as outcome
 use Rattle.il_frames.specs.Frames.{framed}
 use Rattle.il_frames.specs.Entries.{entry_text}
 use Rattle.il_frames.specs.NamedFrames.{aad, aau, entry, ifc}
-use Rattle.loop_model.specs.Exchanges.{Answer, Echo, Stopped, ToItsEnd, FrameLost, HostAltered, TalkerAltered, commanded}
+use Rattle.loop_model.specs.Exchanges.{Answer, Echo, NotTaken, Stopped, ToItsEnd, FrameLost, HostAltered, TalkerAltered, commanded}
 use Rattle.loop_model.specs.Leading.{are_commands_led, controller_after, has_one_talker_led}
 use Rattle.loop_model.specs.Roles.{all_without_roles}
-use Rattle.il_ring.specs.Lends.{Lend, NoTaker, NoTakerCut, Lent, LentCut, LentLost, AtHost, BreaksOff, ByteLost, is_lend, is_whole_lend, lend_entries, tells_own, was_taken}
+use Rattle.il_ring.specs.Statuses.{answers_always}
+use Rattle.il_ring.specs.Lends.{Lend, NoTaker, NoTakerCut, Lent, LentCut, LentLost, AtHost, BreaksOff, ByteLost, is_lend, is_whole_lend, keeps_control, lend_entries, tells_own, took_back, was_taken}
 
 abbrev asked : List ℕ
 asked = 1 ∷ 2 ∷ []
@@ -49,6 +50,14 @@ ten_trace = refl
 one_too_many : (is_lend 3 asked 11 ten ≡ false) × (is_lend 3 asked 9 ten ≡ false) × (is_lend 3 asked 10 (Lent 3 answers 11) ≡ false)
     × (is_lend 3 asked 9 (Lent 3 answers 9) ≡ false)
 one_too_many = (refl, refl, refl, refl)
+
+-- the drive, party 1, answers wherever it is asked: it is no lend in which its SST came back, although that is told by nobody else
+silent_drive : (is_lend 3 asked 60 (LentCut 3 ((NotTaken ∷ []) ∷ []) 8 (BreaksOff (FrameLost 0))) ≡ true)
+    × (tells_own asked (LentCut 3 ((NotTaken ∷ []) ∷ []) 8 (BreaksOff (FrameLost 0))) ≡ true)
+    × (answers_always 3 1 None (lend_entries 3 asked (LentCut 3 ((NotTaken ∷ []) ∷ []) 8 (BreaksOff (FrameLost 0)))) ≡ false)
+    × (answers_always 3 2 None (lend_entries 3 asked (LentCut 3 ((NotTaken ∷ []) ∷ []) 8 (BreaksOff (FrameLost 0)))) ≡ true)
+    × (answers_always 3 1 None (lend_entries 3 asked ten) ≡ true)
+silent_drive = (refl, refl, refl, refl, refl)
 
 -- ---- one frame, and the eighth, before which a byte is held
 
@@ -103,8 +112,36 @@ no_breaks : (is_lend 3 asked 60 (LentCut 3 answers 5 (BreaksOff (HostAltered (fr
     × (is_lend 3 asked 60 (LentCut 3 answers 6 (ByteLost 3)) ≡ false) × (is_lend 3 asked 60 (Lent 3 ((ToItsEnd 1 (zero_status ∷ []) ∷ []) ∷ []) 0) ≡ false)
 no_breaks = (refl, refl, refl, refl)
 
+-- no rounds break off behind the last frame that the host waits for: the tenth frame, UNT, is lost before it comes past the host, or behind it
+broken_in_time : (is_lend 3 asked 10 (LentCut 3 answers 10 (BreaksOff (FrameLost 0))) ≡ true)
+    × (is_lend 3 asked 10 (LentCut 3 answers 10 (BreaksOff (FrameLost 1))) ≡ false)
+    × (is_lend 3 asked 11 (LentCut 3 answers 10 (BreaksOff (FrameLost 1))) ≡ true)
+broken_in_time = (refl, refl, refl)
+
+-- what is lost is lost on its way: no party stands behind the third; the byte of party 1 goes first to party 2 and 3, and then to the host and
+-- to party 1; ETO and ETE go to party 2 and 3 alone
+on_the_way : (is_lend 3 asked 60 (LentCut 3 answers 5 (BreaksOff (FrameLost 3))) ≡ true)
+    × (is_lend 3 asked 60 (LentCut 3 answers 5 (BreaksOff (FrameLost 4))) ≡ false)
+    × (is_lend 3 asked 60 (LentCut 3 answers 7 (ByteLost 2)) ≡ true) × (is_lend 3 asked 60 (LentCut 3 answers 7 (ByteLost 1)) ≡ false)
+    × (is_lend 3 asked 60 (LentCut 3 answers 7 (ByteLost 4)) ≡ false)
+    × (is_lend 3 asked 60 (LentCut 3 answers 8 (BreaksOff (FrameLost 1))) ≡ true)
+    × (is_lend 3 asked 60 (LentCut 3 answers 8 (BreaksOff (FrameLost 2))) ≡ false)
+    × (is_lend 3 asked 60 (LentCut 3 answers 9 (BreaksOff (FrameLost 2))) ≡ true)
+    × (is_lend 3 asked 60 (LentCut 3 answers 9 (BreaksOff (FrameLost 0))) ≡ false)
+    × (is_lend 3 asked 60 (LentCut 3 answers 8 (BreaksOff (TalkerAltered (framed class.Dab 1) (outcome.Lost 2)))) ≡ true)
+    × (is_lend 3 asked 60 (LentCut 3 answers 8 (BreaksOff (TalkerAltered (framed class.Dab 1) (outcome.Lost 1)))) ≡ false)
+on_the_way = (refl, refl, refl, refl, refl, refl, refl, refl, refl, refl, refl)
+
+hosts_on_the_way : (is_lend 3 asked 10 (LentLost 3 answers 10 0 3) ≡ true) × (is_lend 3 asked 10 (LentLost 3 answers 10 0 4) ≡ false)
+    × (is_lend 2 asked 1 (NoTakerCut 2 4 0) ≡ true) × (is_lend 2 asked 1 (NoTakerCut 2 4 3) ≡ false)
+hosts_on_the_way = (refl, refl, refl, refl)
+
 whole : (is_whole_lend ten ≡ true) × (is_whole_lend (NoTaker 2) ≡ true) × (is_whole_lend (LentLost 3 answers 10 0 1) ≡ false)
 whole = (refl, refl, refl)
+
+-- IFC came back where RFC alone is lost
+back : (took_back (LentLost 3 answers 10 1 2) ≡ true) × (took_back (LentLost 3 answers 10 0 2) ≡ false)
+back = (refl, refl)
 
 -- ---- who controls, and who talks
 
@@ -116,6 +153,10 @@ taken_back = refl
 
 still_led : controller_after 0 (from_power_on (LentCut 3 answers 7 (ByteLost 3))) ≡ 3
 still_led = refl
+
+keeps : (keeps_control (LentCut 3 answers 7 (ByteLost 3)) ≡ true) × (keeps_control (LentLost 3 answers 10 0 1) ≡ false)
+    × (keeps_control (NoTakerCut 2 4 0) ≡ false)
+keeps = (refl, refl, refl)
 
 of_the_controller : (are_commands_led 0 (from_power_on ten) ≡ true) × (are_commands_led 0 (from_power_on (Lent 3 answers 7)) ≡ true)
 of_the_controller = (refl, refl)

@@ -1,5 +1,5 @@
 -- In a lend each command, ready and identify frame is the controller's, or the IFC by which the host takes control back.
-use Rattle.std.proofs.Common.{◌≡◌, ◌∙◌, ◌++◌, ◌==◌, ◌&&◌, ◌||◌, nat_lt, ℕ, zero, suc, Bool, true, false, not, List, [], ◌∷◌, None, if◌then◌else◌, flat_map, refl, ap, append_assoc}
+use Rattle.std.proofs.Common.{nat_le, nat_lt, ◌≡◌, ◌∙◌, ◌++◌, ◌==◌, ◌&&◌, ◌||◌, ℕ, zero, suc, Bool, true, false, not, List, [], ◌∷◌, None, if◌then◌else◌, flat_map, refl, ap, append_assoc}
 use Rattle.std.proofs.lemmas.Bool.{and_parts, and_from, not-true, or_left, or_right, eq-eqb}
 use Rattle.std.specs.List.{list_all}
 use Rattle.il_frames.specs.declared.frame.Frame.{Frame}
@@ -15,9 +15,9 @@ use Rattle.il_frames.specs.NamedFrames.{entry, ifc, nrd, rfc, tad, unl, unt, is_
 use Rattle.loop_model.specs.Roles.{is_spoken}
 use Rattle.loop_model.specs.Exchanges.{Answer, NotTaken, ToItsEnd, Stopped, Exchange, Receive, Sst, Break, FrameLost, HostAltered, TalkerAltered, answer_entries, break_entries, commanded, cut_at, entries_of, is_address, is_answer, is_echo, returned, start_frame}
 use Rattle.loop_model.specs.Leading.{are_commands_led, controller_after, controller_after_entry, is_no_lend, is_of_controller}
-use Rattle.loop_model.proofs.LeadingLaws.{are_commands_led-append, controller_after-no_lend}
+use Rattle.loop_model.proofs.LeadingLaws.{are_commands_led-append, controller_after-append, controller_after-no_lend}
 use Rattle.il_guest.specs.Frames.{nop, tct}
-use Rattle.il_ring.specs.Lends.{RoundsEnd, AtHost, BreaksOff, ByteLost, Lend, NoTaker, NoTakerCut, Lent, LentCut, LentLost, addressed_talker, all_asked, are_rounds, arrivals, can_end, ended_after, handed_entries, held_entries, is_break_end, is_lend, is_one_status, lend_entries, refused_entries, rounds_asked, rounds_entries, stands_at_last}
+use Rattle.il_ring.specs.Lends.{RoundsEnd, AtHost, BreaksOff, ByteLost, Lend, NoTaker, NoTakerCut, Lent, LentCut, LentLost, addressed_talker, all_asked, are_rounds, can_end, ended_after, handed_entries, held_entries, is_break_end, is_lend, is_one_status, is_whole_lend, lend_entries, refused_entries, rounds_asked, rounds_entries}
 
 -- ---- under the host
 
@@ -54,10 +54,10 @@ cut_hosts (e ∷ log) (suc n) q all =
 -- ---- under party k
 
 -- a frame of that party, or one that a talker speaks, and none of the host
-abbrev is_led : ℕ → ℕ → Frame → Bool
+abbrev pub is_led : ℕ → ℕ → Frame → Bool
 is_led k source f = (is_spoken (message_of f) || (source == k)) && not (source == 0)
 
-abbrev is_entry_led : ℕ → Entry → Bool
+abbrev pub is_entry_led : ℕ → Entry → Bool
 is_entry_led k e = is_led k e.source e.frame
 
 all_led : (k : ℕ) (log : List Entry) → list_all (is_entry_led k) log ≡ true → (are_commands_led k log ≡ true) × (controller_after k log ≡ k)
@@ -177,6 +177,32 @@ ended_led k (e ∷ next ∷ log) zero (ByteLost q) all =
     let parts = and_parts (is_entry_led k e) (list_all (is_entry_led k) (next ∷ log)) all in
     and_from (is_entry_led k next) true (and_parts (is_entry_led k next) (list_all (is_entry_led k) log) parts.1).0 refl
 
+-- the rounds, as they end
+pub rounds_are_led : (k : ℕ) → (k == 0) ≡ false → (addresses : List ℕ) (answers : List (List Answer)) (n : ℕ) (end : RoundsEnd) → are_rounds k addresses answers n end ≡ true
+    → list_all (is_entry_led k) (ended_after k (rounds_entries k addresses answers) n end) ≡ true
+rounds_are_led k guest addresses answers n end are =
+    let parts = and_parts (list_all (λ a. is_address a) addresses) (list_all (λ round. list_all (is_one_status k) round) answers && can_end k (rounds_entries k addresses answers) n end) are in
+    let ones = and_parts (list_all (λ round. list_all (is_one_status k) round) answers) (can_end k (rounds_entries k addresses answers) n end) parts.1 in
+    ended_led k (rounds_entries k addresses answers) n end (rounds_led k guest addresses answers ones.0)
+
+-- the rounds of a lend
+abbrev pub AreLent : ℕ → List ℕ → Lend → Type 0
+AreLent k addresses (NoTaker a) = Unit {0}
+AreLent k addresses (NoTakerCut a n q) = Unit {0}
+AreLent k addresses (Lent a answers n) = are_rounds k addresses answers n AtHost ≡ true
+AreLent k addresses (LentCut a answers n end) = are_rounds k addresses answers n end ≡ true
+AreLent k addresses (LentLost a answers n m q) = are_rounds k addresses answers n AtHost ≡ true
+
+pub are_lent : (k : ℕ) (addresses : List ℕ) (limit : ℕ) (lend : Lend) → is_lend k addresses limit lend ≡ true → AreLent k addresses lend
+are_lent k addresses limit (NoTaker a) is = tt
+are_lent k addresses limit (NoTakerCut a n q) is = tt
+are_lent k addresses limit (Lent a answers n) is =
+    (and_parts (are_rounds k addresses answers n AtHost) _ (and_parts (is_address a) _ is).1).0
+are_lent k addresses limit (LentCut a answers n end) is =
+    (and_parts (are_rounds k addresses answers n end) _ (and_parts (is_address a) _ is).1).0
+are_lent k addresses limit (LentLost a answers n m q) is =
+    (and_parts (are_rounds k addresses answers n AtHost) _ (and_parts (is_address a) _ is).1).0
+
 -- ---- lends
 
 -- IFC takes control back from any party, lost or not
@@ -193,11 +219,7 @@ handed_led a k log led =
 module _ (k : ℕ) (guest : (k == 0) ≡ false) (addresses : List ℕ) where
   turn_led : (answers : List (List Answer)) (n : ℕ) (end : RoundsEnd) → are_rounds k addresses answers n end ≡ true
       → (are_commands_led k (ended_after k (rounds_entries k addresses answers) n end) ≡ true) × (controller_after k (ended_after k (rounds_entries k addresses answers) n end) ≡ k)
-  turn_led answers n end are =
-      let parts = and_parts (list_all (λ a. is_address a) addresses) (list_all (λ round. list_all (is_one_status k) round) answers && can_end k (rounds_entries k addresses answers) n end) are in
-      let ones = and_parts (list_all (λ round. list_all (is_one_status k) round) answers) (can_end k (rounds_entries k addresses answers) n end) parts.1 in
-      all_led k (ended_after k (rounds_entries k addresses answers) n end)
-      (ended_led k (rounds_entries k addresses answers) n end (rounds_led k guest addresses answers ones.0))
+  turn_led answers n end are = all_led k (ended_after k (rounds_entries k addresses answers) n end) (rounds_are_led k guest addresses answers n end are)
 
   then_back : (answers : List (List Answer)) (n : ℕ) (log : List Entry) → are_rounds k addresses answers n AtHost ≡ true → are_commands_led k log ≡ true
       → are_commands_led k (ended_after k (rounds_entries k addresses answers) n AtHost ++ log) ≡ true
@@ -210,22 +232,25 @@ module _ (k : ℕ) (guest : (k == 0) ≡ false) (addresses : List ℕ) where
   lend_led limit (NoTaker a) is = (hosts_led (refused_entries a) refl).0
   lend_led limit (NoTakerCut a n q) is = (hosts_led (cut_at (refused_entries a) n (FrameLost q)) (cut_hosts (refused_entries a) n q refl)).0
   lend_led limit (Lent a answers n) is =
-      let at = stands_at_last k addresses limit answers n in
-      let parts = and_parts (is_address a) (are_rounds k addresses answers n AtHost && at) is in
-      let are = and_parts (are_rounds k addresses answers n AtHost) at parts.1 in
-      handed_led a k (ended_after k (rounds_entries k addresses answers) n AtHost ++ commanded 0 ifc) (then_back answers n (commanded 0 ifc) are.0 (back_led k (outcome.Back ifc) (returned 0 rfc ∷ []) refl))
+      handed_led a k (ended_after k (rounds_entries k addresses answers) n AtHost ++ commanded 0 ifc)
+      (then_back answers n (commanded 0 ifc) (are_lent k addresses limit (Lent a answers n) is) (back_led k (outcome.Back ifc) (returned 0 rfc ∷ []) refl))
   lend_led limit (LentCut a answers n end) is =
-      let early = is_break_end end && nat_lt (arrivals k (rounds_entries k addresses answers) n) limit in
-      let parts = and_parts (is_address a) (are_rounds k addresses answers n end && early) is in
-      let are = and_parts (are_rounds k addresses answers n end) early parts.1 in
-      handed_led a k (ended_after k (rounds_entries k addresses answers) n end) (turn_led answers n end are.0).0
+      handed_led a k (ended_after k (rounds_entries k addresses answers) n end) (turn_led answers n end (are_lent k addresses limit (LentCut a answers n end) is)).0
   lend_led limit (LentLost a answers n m q) is =
-      let at = stands_at_last k addresses limit answers n && nat_lt m 2 in
-      let parts = and_parts (is_address a) (are_rounds k addresses answers n AtHost && at) is in
-      let are = and_parts (are_rounds k addresses answers n AtHost) at parts.1 in
-      handed_led a k (ended_after k (rounds_entries k addresses answers) n AtHost ++ cut_at (commanded 0 ifc) m (FrameLost q)) (then_back answers n (cut_at (commanded 0 ifc) m (FrameLost q)) are.0 (lost m))
+      handed_led a k (ended_after k (rounds_entries k addresses answers) n AtHost ++ cut_at (commanded 0 ifc) m (FrameLost q))
+      (then_back answers n (cut_at (commanded 0 ifc) m (FrameLost q)) (are_lent k addresses limit (LentLost a answers n m q) is) (lost m))
     where
       lost : (m : ℕ) → are_commands_led k (cut_at (commanded 0 ifc) m (FrameLost q)) ≡ true
       lost zero = back_led k (outcome.Lost q) [] refl
       lost (suc zero) = back_led k (outcome.Back ifc) (entry 0 rfc (outcome.Lost q) ∷ []) refl
       lost (suc (suc m)) = back_led k (outcome.Back ifc) (returned 0 rfc ∷ []) refl
+
+  -- behind a whole lend the host controls the loop
+  pub lend_returned : (lend : Lend) → is_whole_lend lend ≡ true → controller_after 0 (lend_entries k addresses lend) ≡ 0
+  lend_returned (NoTaker a) whole = (hosts_led (refused_entries a) refl).1
+  lend_returned (NoTakerCut a n q) whole = cc
+  lend_returned (Lent a answers n) whole =
+      controller_after-append 0 (handed_entries a k) (ended_after k (rounds_entries k addresses answers) n AtHost ++ commanded 0 ifc)
+      ∙ controller_after-append (controller_after 0 (handed_entries a k)) (ended_after k (rounds_entries k addresses answers) n AtHost) (commanded 0 ifc)
+  lend_returned (LentCut a answers n end) whole = cc
+  lend_returned (LentLost a answers n m q) whole = cc

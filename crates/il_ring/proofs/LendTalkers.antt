@@ -1,6 +1,6 @@
 -- In a lend at most one party talks at every moment, and only the talker speaks; after a whole one nobody talks, and each device has its
 -- number as address.
-use Rattle.std.proofs.Common.{◌≡◌, ◌≤◌, ◌<◌, ◌∙◌, ◌++◌, ◌==◌, ◌&&◌, ◌||◌, nat_lt, ℕ, zero, suc, Bool, true, false, not, List, [], ◌∷◌, None, flat_map, length, refl, sym, ap, subst, arith, append-nil}
+use Rattle.std.proofs.Common.{nat_le, ◌≡◌, ◌≤◌, ◌<◌, ◌∙◌, ◌++◌, ◌==◌, ◌&&◌, ◌||◌, nat_lt, ℕ, zero, suc, Bool, true, false, not, List, [], ◌∷◌, None, flat_map, length, refl, sym, ap, subst, arith, append-nil}
 use Rattle.std.specs.List.{list_all}
 use Rattle.std.proofs.lemmas.Bool.{and_parts, and_from, or_left, or_right, not-true, eq-eqb, eqb-true, eqb-false, ltb-true}
 use Rattle.il_frames.specs.declared.frame.Frame.{Frame}
@@ -27,7 +27,7 @@ use Rattle.loop_model.proofs.TalkLaws.{are_numbered-log, gives_no_aau, length-ro
 use Rattle.loop_model.proofs.RoundLaws.{IsSafe, OneTalker-cut, OneTalker-safe, data_keeps, is_mute, message_of-tad, safe_mute}
 use Rattle.il_guest.specs.Frames.{nop, tct}
 use Rattle.il_guest.proofs.RoundLaws.{is_same-true}
-use Rattle.il_ring.specs.Lends.{RoundsEnd, AtHost, BreaksOff, ByteLost, Lend, NoTaker, NoTakerCut, Lent, LentCut, LentLost, addressed_talker, all_asked, are_rounds, are_told_by, arrivals, can_end, ended_after, handed_entries, held_entries, is_break_end, is_lend, is_one_status, is_told_by, is_whole_lend, lend_address, lend_entries, refused_entries, rounds_asked, rounds_entries, stands_at_last, tells_own, was_taken}
+use Rattle.il_ring.specs.Lends.{RoundsEnd, AtHost, BreaksOff, ByteLost, Lend, NoTaker, NoTakerCut, Lent, LentCut, LentLost, addressed_talker, all_asked, are_rounds, are_told_by, arrivals_in, can_end, can_end_by, can_lose_next, ended_after, handed_entries, held_entries, is_break_end, is_lend, is_one_status, is_told_by, is_whole_lend, lend_address, lend_entries, refused_entries, rounds_asked, rounds_entries, stands_at_last, tells_own, was_taken}
 use Rattle.il_ring.proofs.LedTalkers.{length_along, numbered_along, silent_but, all_silent, few_but, silent_along, untalked, cleared, told_along, one_told, own_entry, ifc_entry, kept_entry, is_plain, is_plain_entry, plain_keeps_addresses, plain_log, one_step, few_after, one_append}
 
 -- ---- rounds that may end anywhere
@@ -131,10 +131,10 @@ ended_talk c rs (e ∷ es) (suc n) end safe can = one_step c rs e (ended_after c
 ended_talk c rs (e ∷ es) zero AtHost safe can = due_ends c rs e es (outcome.Taken 0) safe
 ended_talk c rs (e ∷ es) zero (BreaksOff (FrameLost q)) safe can = due_ends c rs e es (outcome.Lost q) safe
 ended_talk c rs (e ∷ es) zero (BreaksOff (HostAltered f)) safe can = due_ends c rs e es (outcome.Back f) safe
-ended_talk c rs (e ∷ es) zero (BreaksOff (TalkerAltered f end)) safe can = altered_talk c rs e es f end safe can
+ended_talk c rs (e ∷ es) zero (BreaksOff (TalkerAltered f end)) safe can = altered_talk c rs e es f end safe (and_parts (is_break c e (TalkerAltered f end)) (can_end_by c e.source end) can).0
 ended_talk c rs (e ∷ []) zero (ByteLost q) safe can = safe.0
 ended_talk c rs (e ∷ next ∷ es) zero (ByteLost q) safe can =
-    let behind = behind_nrd c rs e next es safe can in
+    let behind = behind_nrd c rs e next es safe (and_parts (is_frame e.frame nrd) (can_lose_next c (next ∷ es) q) can).0 in
     ends_somehow c rs next (outcome.Lost q) behind.0 behind.1 behind.2 behind.3
 
 -- a byte that is held is as plain as the rest
@@ -537,8 +537,8 @@ pub lend_one_talker : (k : ℕ) (asked : List ℕ) (limit : ℕ) (lend : Lend) (
     → OneTalkerLed 0 rs (lend_entries k asked lend)
 lend_one_talker k asked limit (NoTaker a) rs many silent numbers is own last = refused_talk a rs numbers silent is
 lend_one_talker k asked limit (NoTakerCut a n q) rs many silent numbers is own last =
-    let parts = and_parts (is_address a) (nat_lt n (length (refused_entries a))) is in
-    refused_cut a n q rs numbers silent parts.0 parts.1
+    let parts = and_parts (is_address a) (nat_lt n (length (refused_entries a)) && nat_le q k) is in
+    refused_cut a n q rs numbers silent parts.0 (and_parts (nat_lt n (length (refused_entries a))) (nat_le q k) parts.1).0
 lend_one_talker k asked limit (Lent a answers n) rs many silent numbers is own last =
     let at = stands_at_last k asked limit answers n in
     let parts = and_parts (is_address a) (are_rounds k asked answers n AtHost && at) is in
@@ -546,14 +546,14 @@ lend_one_talker k asked limit (Lent a answers n) rs many silent numbers is own l
     subst (λ b. OneTalkerLed 0 rs (lend_entries k asked (Lent b answers n))) (sym (last refl))
     (turn_then k asked rs (sym many) silent numbers answers n AtHost (commanded 0 ifc) (ap is_address (sym (last refl)) ∙ parts.0) are.0 own (λ ss few. taken_talk k ss few))
 lend_one_talker k asked limit (LentCut a answers n end) rs many silent numbers is own last =
-    let early = is_break_end end && nat_lt (arrivals k (rounds_entries k asked answers) n) limit in
+    let early = is_break_end end && nat_lt (arrivals_in k (rounds_entries k asked answers) n end) limit in
     let parts = and_parts (is_address a) (are_rounds k asked answers n end && early) is in
     let are = and_parts (are_rounds k asked answers n end) early parts.1 in
     subst (λ b. OneTalkerLed 0 rs (lend_entries k asked (LentCut b answers n end))) (sym (last refl))
     (subst (λ es. OneTalkerLed 0 rs (handed_entries k k ++ es)) (append-nil (ended_after k (rounds_entries k asked answers) n end))
     (turn_then k asked rs (sym many) silent numbers answers n end [] (ap is_address (sym (last refl)) ∙ parts.0) are.0 own (λ ss few. few)))
 lend_one_talker k asked limit (LentLost a answers n m q) rs many silent numbers is own last =
-    let at = stands_at_last k asked limit answers n && nat_lt m 2 in
+    let at = stands_at_last k asked limit answers n && (nat_lt m 2 && nat_le q k) in
     let parts = and_parts (is_address a) (are_rounds k asked answers n AtHost && at) is in
     let are = and_parts (are_rounds k asked answers n AtHost) at parts.1 in
     subst (λ b. OneTalkerLed 0 rs (lend_entries k asked (LentLost b answers n m q))) (sym (last refl))

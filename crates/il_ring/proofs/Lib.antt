@@ -16,6 +16,7 @@ pub mod LedRounds
 pub mod LedWalks
 pub mod BeforeLast
 pub mod LedFates
+pub mod LedAltered
 pub mod LedSteps
 pub mod LedRings
 pub mod LedSends
@@ -57,6 +58,7 @@ pub mod TurnedRounds
 pub mod PassSteps
 pub mod Remaining
 pub mod LendLaws
+pub mod LendHeld
 pub mod LedTalkers
 pub mod LendTalkers
 pub mod LendFaults
@@ -71,3 +73,4 @@ pub mod LedSums
 pub mod LedSince
 pub mod LedKeeps
 pub mod HandedCounts
+pub mod HostFronts

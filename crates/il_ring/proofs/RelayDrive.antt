@@ -216,7 +216,7 @@ module _ {M : Type 0} (view : M → MediumView) (r s : RingView M) (held : Fligh
       (λ gone.
       let lost = stays_lost view r s None held answer round (risen_by (suc gone.0.crossed) n) (r.books.log ++ lost_at held gone.0.party ∷ []) gone.0.is in
       let far : Gone r.books.plan 1 k (length bs) n r.books.log held round.behind = record { crossed = gone.0.crossed; party = gone.0.party; on_ring = gone.0.on_ring; is = lost.0; planned = gone.0.planned } in
-      inl (gone_round r s held answer k (length bs) round.behind within (omega (arith, all)) (omega (arith, all)) far (round.books, round.answer_is), λ far. absurd (omega (arith, far, low)), λ _. lost.1))
+      inl (gone_round r s held answer k (length bs) round.behind within (omega (arith, all)) (omega (arith, all)) (omega arith) (omega (arith, at)) (omega (arith, at)) far (round.books, round.answer_is), λ far. absurd (omega (arith, far, low)), λ _. lost.1))
       (to_talker Takes r.books.plan 1 k n r.books.log held bs d cs round.at_drive head.e head.rest_then parts.middle head.middle parts.first plan goes head.passage head.journey)
 
   -- Up to its source the frame comes to the drive, behind it what its source sent then, or a planned hop is met; the drive,

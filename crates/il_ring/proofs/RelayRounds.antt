@@ -1,5 +1,5 @@
 -- Rounds of a held frame.
-use Rattle.std.proofs.Common.{◌≡◌, ◌≢◌, ◌≤◌, ◌+◌, ◌++◌, ◌⊎◌, ◌||◌, ◌==◌, inl, inr, ⊎_elim, ℕ, suc, Bool, true, false, List, [], ◌∷◌, Option, Some, None, length, refl, sym, ap, subst, ◌∙◌, arith, append_assoc, eqb-true}
+use Rattle.std.proofs.Common.{◌<◌, ◌≡◌, ◌≢◌, ◌≤◌, ◌+◌, ◌++◌, ◌⊎◌, ◌||◌, ◌==◌, inl, inr, ⊎_elim, ℕ, suc, Bool, true, false, List, [], ◌∷◌, Option, Some, None, length, refl, sym, ap, subst, ◌∙◌, arith, append_assoc, eqb-true}
 use Rattle.std.specs.Prelude.{MatchBool, if◌then◌else◌}
 use Rattle.std.proofs.lemmas.Bool.{and_parts, eq-eqb}
 use Rattle.il_frames.specs.declared.frame.Frame.{Frame}
@@ -128,7 +128,7 @@ module _ {M : Type 0} (view : M → MediumView) (r s : RingView M) (held : Fligh
           next_frame = frame;
           runs = runs;
           talking = talks_on (Some next) at same devices silent (still_behind books_so (held.source + 1) so_far (sourced held.source h) rest rest_then s.books answer homed silent_behind) talks own_is;
-          end = sent_home r s None answer held.source h (back_entry held back ∷ []) (suc (length bs)) rest rest_then within (omega (arith, at)) on clear homed;
+          end = sent_home r s None answer held.source h (back_entry held back ∷ []) (suc (length bs)) rest rest_then (λ party far. far) within (omega (arith, at)) on clear homed;
         },
         refl,
       )
@@ -154,6 +154,7 @@ module _ {M : Type 0} (view : M → MediumView) (r s : RingView M) (held : Fligh
               answer_is = lost.answer_is;
               party = lost.party;
               on_ring = ⊎_elim (λ zero. omega (arith, zero)) (λ there. omega (arith, there.0, there.1, on)) lost.party_is;
+              place = (⊎_elim (λ zero. inl zero) (λ there. inr (omega (arith, there.0))) lost.party_is);
               log = ap (λ (b : BooksView). b.log) lost.books ∙ append_assoc r.books.log (back_entry held back ∷ []) (entry held.source h (outcome.Lost lost.party) ∷ []) ∙ ap (λ h. r.books.log ++ (back_entry held back ∷ [] ++ entry held.source h (outcome.Lost lost.party) ∷ [])) is;
               held_is = ap (λ (b : BooksView). b.held) lost.books;
               met_some =
@@ -266,15 +267,16 @@ answered_round view r s held own answer bs cs d e rest rest_then u within plan a
         }
 
 -- where it was lost before
-pub gone_round : {M : Type 0} (r s : RingView M) (held : Flight) (answer : Arrival) (k m : ℕ) (u : Trip) → r.books.crossings ≤ last_crossing → k ≤ length (devices_of r) → m ≤ length (devices_of r) → Gone r.books.plan 1 k m r.books.crossings r.books.log held u
+pub gone_round : {M : Type 0} (r s : RingView M) (held : Flight) (answer : Arrival) (k m : ℕ) (u : Trip) → r.books.crossings ≤ last_crossing → k ≤ length (devices_of r) → m ≤ length (devices_of r) → 1 ≤ k → k ≤ held.source → m < held.source → Gone r.books.plan 1 k m r.books.crossings r.books.log held u
     → (s.books ≡ home (books_at (record r.books { held = None }) u) u.flight) × (answer ≡ arrived (arriving r.books.plan u.crossings u.flight)) → IsLostNow r [] held.source held.sent answer s
-gone_round r s held answer k m u within on far gone ending =
+gone_round r s held answer k m u within on far first here_or before gone ending =
     let n = r.books.crossings in
     let books : s.books ≡ record r.books { crossings = risen_by (suc gone.crossed) n; log = r.books.log ++ lost_at held gone.party ∷ []; held = None } = ending.0 ∙ ap (λ u. home (books_at (record r.books { held = None }) u) u.flight) gone.is in
     record {
       answer_is = ending.1 ∙ ap (λ (u : Trip). arrived (arriving r.books.plan u.crossings u.flight)) gone.is;
       party = gone.party;
-      on_ring = ⊎_elim (λ here. omega (arith, here, on)) (λ low. omega (arith, low, far)) gone.on_ring;
+      on_ring = ⊎_elim (λ here. omega (arith, here, on)) (λ low. omega (arith, low.1, far)) gone.on_ring;
+      place = ⊎_elim (λ here. (omega (arith, here, first), omega (arith, here, here_or))) (λ low. (low.0, omega (arith, low.1, before))) gone.on_ring;
       log = ap (λ (b : BooksView). b.log) books;
       held_is = ap (λ (b : BooksView). b.held) books;
       met_some = λ none. met_at r.books.plan gone.crossed (suc gone.crossed) n within (omega arith) gone.planned (ap (met (hops_of r.books.plan) n) (sym (ap (λ (b : BooksView). b.crossings) books)) ∙ none);
@@ -302,7 +304,7 @@ relay_shown view r s held own answer within plan talking frame stood round =
     ⊎_elim
     (λ (answer_at : Answered Takes r.books.plan k n r.books.log held bs d rest u head.e head.rest_then).
     inr (length bs, omega (arith, at), (answer_at.out, answered_round view r s held own answer bs cs d head.e rest head.rest_then u within plan at parts.same (omega (arith, at, all)) devices (goes_silent r.books.plan 1 n r.books.log held bs cs parts.middle goes talking.silent) talking.silent_behind talking.talks talking.own_is frame stood answer_at ending (end_later view r s None held answer round))))
-    (λ gone. inl (gone_round r s held answer k (length bs) u within (omega (arith, all)) (omega (arith, all)) gone.0 ending))
+    (λ gone. inl (gone_round r s held answer k (length bs) u within (omega (arith, all)) (omega (arith, all)) (omega arith) (omega (arith, at)) (omega (arith, at)) gone.0 ending))
     (to_talker Takes r.books.plan 1 k n r.books.log held bs d rest u head.e head.rest_then parts.middle head.middle cs plan goes head.passage head.journey)
 
 relayed : {M : Type 0} (r s : RingView M) (held : Flight) (own : OwnFrame) (answer : Arrival) → IsLostNow r [] held.source held.sent answer s ⊎ ((m : ℕ) × (held.source ≡ suc m) × ((out : Out) × AnsweredSo r held own m out answer s)) → Relayed r held own answer s

@@ -1,5 +1,5 @@
 -- What one round adds.
-use Rattle.std.proofs.Common.{◌≡◌, ◌≢◌, ◌++◌, ◌⊎◌, inl, inr, ⊎_elim, ℕ, false, List, [], ◌∷◌, Option, Some, None, true, length, refl, sym, ap, subst, ◌∙◌}
+use Rattle.std.proofs.Common.{◌≡◌, ◌≢◌, ◌++◌, ◌⊎◌, inl, inr, ⊎_elim, ◌≤◌, ℕ, false, List, [], ◌∷◌, Option, Some, None, true, length, refl, sym, ap, subst, arith, ◌∙◌}
 use Rattle.std.proofs.lemmas.List.{append_cancel_left}
 use Rattle.il_frames.specs.declared.frame.Frame.{Frame}
 use Rattle.il_frames.specs.declared.entry.Entry.{Entry}
@@ -25,7 +25,9 @@ use Rattle.il_ring.specs.Polls.{is_no_poll}
 use Rattle.il_ring.proofs.Passing.{Carries}
 use Rattle.il_ring.proofs.RoundPlaces.{IsUnpolled, first_no_poll, quiet_unpolled, round_places}
 use Rattle.il_ring.proofs.RoundRoles.{IsQuiet}
+use Rattle.il_device.specs.State.{DeviceState}
 use Rattle.il_ring.proofs.RoundCounts.{round_counts}
+use Rattle.il_ring.proofs.RoundEntries.{round_tells}
 use Rattle.il_ring.proofs.RolesHome.{host_round, device_round, others_leave}
 use Rattle.il_ring.proofs.Rings.{before-length, devices-length, round-plan, round-begun, round-room}
 
@@ -47,15 +49,21 @@ DriveCame P r s frames = ((frames ≡ []) × (met_between r s ≢ [])) ⊎ ((g :
 
 -- ---- any round
 
+-- a frame that may go round is one of a party of the ring
+ready_within : (f : Flight) (ds : List DeviceState) → IsReady f ds → f.source ≤ length ds
+ready_within f ds (inl host) = omega (arith, host)
+ready_within f ds (inr awaited) = let there = awaited.there in let within = awaited.within in omega (arith, there, within)
+
 -- whose entries these are, and which frame it leaves held
-pub round_adds : {M : Type 0} (view : M → MediumView) (P : Frame → Type 0) (r s : RingView M) (held : Option Flight) (f : Flight) (answer : Arrival) (entries : List Entry) (to : Option ℕ) → Round view r held f answer s → (counts : Rounded r held f answer s)
+pub round_adds : {M : Type 0} (view : M → MediumView) (P : Frame → Type 0) (r s : RingView M) (held : Option Flight) (f : Flight) (answer : Arrival) (entries : List Entry) (to : Option ℕ) → Round view r held f answer s → (counts : Rounded r held f answer s) → f.source ≤ length (devices_of r)
     → s.books.log ≡ r.books.log ++ entries → holding counts.new ≡ to → roles_of (devices_of s) ≡ roles_after (roles_of (devices_of r)) entries → (list_all is_no_poll entries ≡ true → IsUnpolled f) → DriveTook view P r s → Adds view r (device_sending f) entries to s
-round_adds view P r s held f answer entries to round counts log new roles unpolled took =
+round_adds view P r s held f answer entries to round counts within log new roles unpolled took =
     let k = length (devices_of r) in
     let same : counts.entries ≡ entries = append_cancel_left r.books.log counts.entries entries (sym counts.log ∙ log) in
     let ran = drive_ran view P r s took in
     record {
       log = log;
+      on = (round_tells view r s held f answer round entries within log).on;
       plan = round-plan view r s held f answer round;
       begun = round-begun view r s held f answer round;
       room = round-room view r s held f answer round;
@@ -81,7 +89,7 @@ pub host_adds : {M : Type 0} (view : M → MediumView) (P : Frame → Type 0) (r
 host_adds view P r s held f answer entries to carries round log new took =
     let hosted = host_round view r s held (sourced 0 f) (message_of f) answer refl refl carries round in
     let same : entry 0 f hosted.ended ∷ hosted.rest ≡ entries = append_cancel_left r.books.log (entry 0 f hosted.ended ∷ hosted.rest) entries (sym hosted.log ∙ log) in
-    round_adds view P r s held (sourced 0 f) answer entries to round (round_counts view r s held (sourced 0 f) answer (inl refl) round) log new (hosted.roles ∙ ap (roles_after (roles_of (devices_of r))) same)
+    round_adds view P r s held (sourced 0 f) answer entries to round (round_counts view r s held (sourced 0 f) answer (inl refl) round) (omega arith) log new (hosted.roles ∙ ap (roles_after (roles_of (devices_of r))) same)
     (λ none. record { message = message_of f; no_poll = first_no_poll (entry 0 f hosted.ended) hosted.rest (ap (list_all is_no_poll) same ∙ none); carries = carries }) took
 
 -- the held frame of a device
@@ -90,7 +98,7 @@ pub device_adds : {M : Type 0} (view : M → MediumView) (P : Frame → Type 0) 
 device_adds view P r s held f answer entries to quiet ready round log new took =
     let past = device_round view r s held f answer quiet round in
     let same : past.entries ≡ entries = append_cancel_left r.books.log past.entries entries (sym past.log ∙ log) in
-    round_adds view P r s held f answer entries to round (round_counts view r s held f answer ready round) log new
+    round_adds view P r s held f answer entries to round (round_counts view r s held f answer ready round) (ready_within f (devices_of r) ready) log new
     (past.roles ∙ sym (others_leave (roles_of (devices_of r)) past.entries past.others) ∙ ap (roles_after (roles_of (devices_of r))) same) (λ none. quiet_unpolled f quiet) took
 
 -- ---- the frames that came to the drive

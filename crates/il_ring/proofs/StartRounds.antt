@@ -1,5 +1,5 @@
 -- Rounds of start messages.
-use Rattle.std.proofs.Common.{◌≡◌, ◌≢◌, ◌≤◌, ◌+◌, ◌++◌, ◌⊎◌, ◌==◌, inl, inr, ⊎_elim, ℕ, suc, Bool, true, false, List, [], ◌∷◌, Option, Some, length, refl, sym, ap, subst, ◌∙◌, arith, append_assoc, length-append}
+use Rattle.std.proofs.Common.{◌<◌, ◌≡◌, ◌≢◌, ◌≤◌, ◌+◌, ◌++◌, ◌⊎◌, ◌==◌, inl, inr, ⊎_elim, ℕ, suc, Bool, true, false, List, [], ◌∷◌, Option, Some, length, refl, sym, ap, subst, ◌∙◌, arith, append_assoc, length-append}
 use Rattle.std.specs.Prelude.{MatchBool, if◌then◌else◌}
 use Rattle.std.proofs.lemmas.Bool.{ne_eqb}
 use Rattle.il_frames.specs.declared.frame.Frame.{Frame}
@@ -21,7 +21,7 @@ use Rattle.il_ring.specs.Books.{BooksView}
 use Rattle.il_ring.specs.Journeys.{trip, Journey}
 use Rattle.il_ring.specs.Rings.{RingView, Round, devices_of, roles_of, comes}
 use Rattle.il_ring.specs.Outcomes as ring
-use Rattle.il_ring.specs.Outcomes.{met_between, Returned, WasLost, IsTalking, IsHeldNow, IsLostNow, HearsByte}
+use Rattle.il_ring.specs.Outcomes.{LostWhere, met_between, Returned, WasLost, IsTalking, IsHeldNow, IsLostNow, HearsByte}
 use Rattle.il_ring.specs.Lists.{AllSilent}
 use Rattle.il_ring.proofs.Faults.{IsClear, clear_met, clear_more, met_at}
 use Rattle.il_ring.proofs.Counts.{risen_by-add}
@@ -45,9 +45,9 @@ module _ {M : Type 0} (r s : RingView M) (held : Option Flight) (answer : Arriva
   books_then = record r.books { held = held; log = r.books.log ++ entries }
 
   -- with j links crossed before it was sent, and nothing planned at them
-  pub sent_home : r.books.crossings ≤ last_crossing → 1 ≤ p → p + length behind ≤ length (devices_of r) → IsClear r.books.plan r.books.crossings j → DataHome books_then (p + 1) (risen_by j r.books.crossings) (sourced p sent) behind behind_then s.books answer
+  pub sent_home : ((party : ℕ) → (party ≡ 0) ⊎ (p < party) → LostWhere entries p party) → r.books.crossings ≤ last_crossing → 1 ≤ p → p + length behind ≤ length (devices_of r) → IsClear r.books.plan r.books.crossings j → DataHome books_then (p + 1) (risen_by j r.books.crossings) (sourced p sent) behind behind_then s.books answer
       → ((altered : Bool) × IsHeldNow r entries p sent altered answer s × MatchBool altered (met_between r s ≢ []) (met_between r s ≡ [])) ⊎ IsLostNow r entries p sent answer s
-  sent_home within some on clear (inl clean) =
+  sent_home place within some on clear (inl clean) =
       let other : (p == 0) ≡ false = ne_eqb p 0 (λ e. omega (arith, e, some)) in
       let books = clean.books ∙ ap (λ own. comes (record books_then { crossings = risen_by (suc (length behind)) (risen_by j r.books.crossings) }) (record (sourced p sent) { now = clean.now }) own true) other in
       let all : s.books.crossings ≡ risen_by (j + suc (length behind)) r.books.crossings = ap (λ (b : BooksView). b.crossings) books ∙ sym (risen_by-add j (suc (length behind)) r.books.crossings) in
@@ -64,7 +64,7 @@ module _ {M : Type 0} (r s : RingView M) (held : Option Flight) (answer : Arriva
         },
         ap (met (hops_of r.books.plan) r.books.crossings) all ∙ (clear_met r.books.plan (j + suc (length behind)) r.books.crossings within).1 (clear_more r.books.plan j (suc (length behind)) r.books.crossings clear clean.clear),
       )
-  sent_home within some on clear (inr (inl altered)) =
+  sent_home place within some on clear (inr (inl altered)) =
       let other : (p == 0) ≡ false = ne_eqb p 0 (λ e. omega (arith, e, some)) in
       let books = altered.books ∙ ap (λ own. comes (record books_then { crossings = risen_by (suc (length behind)) (risen_by j r.books.crossings) }) (record (sourced p sent) { now = altered.now; altered = true }) own true) other in
       let all : s.books.crossings ≡ risen_by (j + suc (length behind)) r.books.crossings = ap (λ (b : BooksView). b.crossings) books ∙ sym (risen_by-add j (suc (length behind)) r.books.crossings) in
@@ -83,12 +83,13 @@ module _ {M : Type 0} (r s : RingView M) (held : Option Flight) (answer : Arriva
             met_at r.books.plan (j + altered.hop) (j + suc (length behind)) r.books.crossings within (omega (arith, altered.within)) (λ here. altered.planned (ap (next_fault r.books.plan) (sym (risen_by-add j altered.hop r.books.crossings)) ∙ here))
             (ap (met (hops_of r.books.plan) r.books.crossings) (sym all) ∙ none),
       )
-  sent_home within some on clear (inr (inr lost)) =
+  sent_home place within some on clear (inr (inr lost)) =
       let all : s.books.crossings ≡ risen_by (j + suc lost.reached) r.books.crossings = ap (λ (b : BooksView). b.crossings) lost.books ∙ sym (risen_by-add j (suc lost.reached) r.books.crossings) in
       inr (record {
         answer_is = lost.answer_is;
         party = lost.party;
         on_ring = ⊎_elim (λ zero. omega (arith, zero)) (λ at. omega (arith, at.0, at.1, on)) lost.party_is;
+        place = place lost.party (⊎_elim (λ zero. inl zero) (λ at. inr (omega (arith, at.0))) lost.party_is);
         log = ap (λ (b : BooksView). b.log) lost.books ∙ append_assoc r.books.log entries (entry p sent (outcome.Lost lost.party) ∷ []);
         held_is = ap (λ (b : BooksView). b.held) lost.books;
         met_some = λ none.
@@ -157,7 +158,7 @@ taken_round view r s held f answer within plan one none round taken =
           own_is = taken.sends.on_loop;
           silent_behind = still_behind b (p + 1) (risen_by j r.books.crossings) (sourced p taken.sent) taken.behind taken.behind_then s.books answer homed silent.1;
         };
-        end = sent_home r s held answer p taken.sent entries j taken.behind taken.behind_then within (omega arith) (omega (arith, all)) taken.clear homed;
+        end = sent_home r s held answer p taken.sent entries j taken.behind taken.behind_then (λ party far. far) within (omega arith) (omega (arith, all)) taken.clear homed;
       },
       refl,
       refl,

@@ -12,15 +12,17 @@ use Rattle.loop_model.specs.Roles.{roles_after}
 use Rattle.il_ring.specs.Guests.{KeepsGuest}
 use Rattle.il_ring.specs.Rings.{RingView, devices_of, roles_of}
 use Rattle.il_ring.specs.Rounded.{AllTook}
+use Rattle.il_ring.specs.Turned.{is_on}
 use Rattle.il_ring.specs.Lists.{First}
 use Rattle.il_ring.specs.Polls.{is_no_poll, KeepsPlace}
 
 -- The ring r became s. The log grew by these entries. Before them a frame of the device `from` was held that they account
 -- for, and behind them one of the device `to`, if any: so many links were crossed and so many frames came to each device as
--- the entries stand for. The roles are those that the entries give. Where no entry is a poll message the places in the poll stay.
--- These frames came to the drive, in this order.
+-- the entries stand for. They are entries of this ring. The roles are those that the entries give. Where no entry is a poll
+-- message the places in the poll stay. These frames came to the drive, in this order.
 pub record Adds {M : Type 0} (view : M → MediumView) (r : RingView M) (from : Option ℕ) (entries : List Entry) (to : Option ℕ) (s : RingView M) : Type 0 where
   pub log : s.books.log ≡ r.books.log ++ entries
+  pub on : list_all (is_on (length (devices_of r))) entries ≡ true
   pub plan : s.books.plan ≡ r.books.plan
   pub begun : s.books.begun ≡ r.books.begun
   pub room : s.books.room ≡ r.books.room

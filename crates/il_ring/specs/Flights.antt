@@ -1,5 +1,5 @@
 -- A frame on its way, and how its entry in the log ends.
-use Rattle.std.specs.Prelude.{◌==◌, ◌&&◌, ℕ, true, false, not, if◌then◌else◌, Option, Some, None, bit_xor}
+use Rattle.std.specs.Prelude.{◌≡◌, ◌==◌, ◌&&◌, ℕ, true, false, not, if◌then◌else◌, Option, Some, None, bit_xor}
 use Rattle.il_frames.specs.declared.frame.Frame.{Frame}
 use Rattle.il_frames.specs.declared.entry.Entry.{Entry}
 use Rattle.il_frames.specs.declared.entry.Outcome.TheVariants as outcome
@@ -21,6 +21,10 @@ abbrev pub hit : Option PlanFault → Flight → Option Flight
 hit None f = Some f
 hit (Some Lose) f = None
 hit (Some (Alter change)) f = if is_data f.now && not f.altered then Some (record f { now = altered_by change f.now; altered = true }) else None
+
+-- there is one, and it was altered
+abbrev pub HasAltered : Option Flight → Type 0
+HasAltered o = (f : Flight) × (o ≡ Some f) × (f.altered ≡ true)
 
 -- its entry where it did not reach a party
 abbrev pub lost_at : Flight → ℕ → Entry

@@ -44,3 +44,4 @@ pub record HandedOver {M : Type 0} (r : RingView M) (answer : Arrival) (s : Ring
   pub out : (before : ℕ) × (StandsThere r (entry 0 tct (outcome.Taken (length (devices_of r))) ∷ []) (sourced (length (devices_of r)) nop) None before answer s
       ⊎ (StandsNot r (entry 0 tct (outcome.Taken (length (devices_of r))) ∷ []) None (lost_at (sourced (length (devices_of r)) nop) 0 ∷ []) (risen before) answer s
       × (hit (next_fault r.books.plan before) (sourced (length (devices_of r)) nop) ≡ None)))
+  pub later : r.books.crossings ≤ out.0

@@ -1,10 +1,12 @@
 -- A lend: the host hands control of the loop to a second controller, the last device, and takes it back when so many frames have come to
 -- it. The frames follow the HP-IL Interface Specification, HP 82166-90017 (take control, interface clear); that the host counts frames and
 -- takes control back by IFC alone is this project's own.
-use Rattle.std.specs.Prelude.{ℕ, zero, suc, ◌+◌, ◌==◌, ◌&&◌, nat_lt, not, Bool, true, false, List, [], ◌∷◌, ◌++◌, length, take, count_by, None}
+use Rattle.std.specs.Prelude.{ℕ, zero, suc, ◌+◌, ◌==◌, ◌&&◌, nat_le, nat_lt, not, if◌then◌else◌, Bool, true, false, List, [], ◌∷◌, ◌++◌, length, take, count_by, None}
 use Rattle.std.specs.List.{flat_map, list_all}
 use Rattle.il_frames.specs.declared.entry.Entry.{Entry}
+use Rattle.il_frames.specs.declared.entry.Outcome.{Outcome}
 use Rattle.il_frames.specs.declared.entry.Outcome.TheVariants as outcome
+use Rattle.il_frames.specs.Frames.{is_data}
 use Rattle.il_frames.specs.NamedFrames.{entry, ifc, unl, tad, unt, nrd, is_frame}
 use Rattle.loop_model.specs.Exchanges.{Answer, NotTaken, ToItsEnd, Stopped, Exchange, Command, Receive, Sst, Break, FrameLost, HostAltered, TalkerAltered, break_entries, commanded, cut_at, entries_of, is_address, is_answer, is_break, returned}
 use Rattle.loop_model.specs.Reach.{brings_to}
@@ -66,20 +68,49 @@ ended_after k [] n end = []
 ended_after k (e ∷ es) zero end = end_entries k e es end
 ended_after k (e ∷ es) (suc n) end = e ∷ ended_after k es n end
 
--- the frame that is due comes past the host; it can break off; or it is NRD
-abbrev pub is_end_at : ℕ → Entry → RoundsEnd → Bool
-is_end_at k due AtHost = brings_to k 0 due
-is_end_at k due (BreaksOff b) = is_break k due b
-is_end_at k due (ByteLost q) = is_frame due.frame nrd
+-- party q stands behind party p on a ring of k devices
+abbrev pub stands_behind : ℕ → ℕ → ℕ → Bool
+stands_behind k p q = nat_lt p q && nat_le q k
+
+-- Where the frame that is due can be lost: one of the second controller before any party; a data frame, which had come to that one, before
+-- the host or a device up to its source; and ETO before a device behind its source.
+abbrev pub can_lose : ℕ → Entry → ℕ → Bool
+can_lose k due q = if due.source == k then nat_le q k else (if is_data due.frame then nat_le q due.source else stands_behind k due.source q)
+
+-- the frame by which its source ends so comes to the second controller, or is lost behind its source
+abbrev pub can_end_by : ℕ → ℕ → Outcome → Bool
+can_end_by k p (outcome.Back f) = true
+can_end_by k p (outcome.Taken q) = true
+can_end_by k p (outcome.Lost q) = stands_behind k p q
+
+abbrev pub can_break : ℕ → Entry → Break → Bool
+can_break k due (FrameLost q) = can_lose k due q
+can_break k due (HostAltered f) = true
+can_break k due (TalkerAltered f end) = can_end_by k due.source end
+
+-- the frame that is due next can be lost before party q behind its source
+abbrev pub can_lose_next : ℕ → List Entry → ℕ → Bool
+can_lose_next k [] q = false
+can_lose_next k (next ∷ more) q = stands_behind k next.source q
+
+-- the frame that is due comes past the host; it can break off; or it is NRD, and the byte behind it is lost
+abbrev pub is_end_at : ℕ → Entry → List Entry → RoundsEnd → Bool
+is_end_at k due more AtHost = brings_to k 0 due
+is_end_at k due more (BreaksOff b) = is_break k due b && can_break k due b
+is_end_at k due more (ByteLost q) = is_frame due.frame nrd && can_lose_next k more q
 
 abbrev pub can_end : ℕ → List Entry → ℕ → RoundsEnd → Bool
 can_end k [] n end = false
-can_end k (e ∷ es) zero end = is_end_at k e end
+can_end k (e ∷ es) zero end = is_end_at k e es end
 can_end k (e ∷ es) (suc n) end = can_end k es n end
 
 -- how many of the first n entries came past the host
 abbrev pub arrivals : ℕ → List Entry → ℕ → ℕ
 arrivals k es n = count_by (brings_to k 0) (take n es)
+
+-- how many did of all entries, where they end so
+abbrev pub arrivals_in : ℕ → List Entry → ℕ → RoundsEnd → ℕ
+arrivals_in k es n end = count_by (brings_to k 0) (ended_after k es n end)
 
 -- ---- lends
 
@@ -135,15 +166,15 @@ is_break_end (ByteLost q) = true
 -- the value is a lend of so many frames
 abbrev pub is_lend : ℕ → List ℕ → ℕ → Lend → Bool
 is_lend k addresses limit (NoTaker a) = is_address a
-is_lend k addresses limit (NoTakerCut a n q) = is_address a && nat_lt n (length (refused_entries a))
+is_lend k addresses limit (NoTakerCut a n q) = is_address a && (nat_lt n (length (refused_entries a)) && nat_le q k)
 is_lend k addresses limit (Lent a answers n) =
     is_address a && (are_rounds k addresses answers n AtHost && stands_at_last k addresses limit answers n)
 is_lend k addresses limit (LentCut a answers n end) =
     is_address a && (are_rounds k addresses answers n end
-    && (is_break_end end && nat_lt (arrivals k (rounds_entries k addresses answers) n) limit))
+    && (is_break_end end && nat_lt (arrivals_in k (rounds_entries k addresses answers) n end) limit))
 is_lend k addresses limit (LentLost a answers n m q) =
     is_address a && (are_rounds k addresses answers n AtHost
-    && (stands_at_last k addresses limit answers n && nat_lt m 2))
+    && (stands_at_last k addresses limit answers n && (nat_lt m 2 && nat_le q k)))
 
 -- it is whole
 abbrev pub is_whole_lend : Lend → Bool
@@ -160,6 +191,30 @@ was_taken (NoTakerCut a n q) = false
 was_taken (Lent a answers n) = true
 was_taken (LentCut a answers n end) = true
 was_taken (LentLost a answers n m q) = true
+
+-- somebody did, and keeps it: the rounds broke off, so that the host sent no IFC
+abbrev pub keeps_control : Lend → Bool
+keeps_control (NoTaker a) = false
+keeps_control (NoTakerCut a n q) = false
+keeps_control (Lent a answers n) = false
+keeps_control (LentCut a answers n end) = true
+keeps_control (LentLost a answers n m q) = false
+
+-- its IFC came back, and its RFC did not
+abbrev pub took_back : Lend → Bool
+took_back (NoTaker a) = false
+took_back (NoTakerCut a n q) = false
+took_back (Lent a answers n) = false
+took_back (LentCut a answers n end) = false
+took_back (LentLost a answers n m q) = m == 1
+
+-- TCT came back, since nobody took it: it is the fifth frame
+abbrev pub came_back : Lend → Bool
+came_back (NoTaker a) = true
+came_back (NoTakerCut a n q) = nat_lt 4 n
+came_back (Lent a answers n) = false
+came_back (LentCut a answers n end) = false
+came_back (LentLost a answers n m q) = false
 
 -- the address that the host has talk
 abbrev pub lend_address : Lend → ℕ

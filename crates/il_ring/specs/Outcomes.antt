@@ -158,11 +158,18 @@ pub record IsHeldNow {M : Type 0} (r : RingView M) (entries : List Entry) (p : �
   pub same : altered ≡ false → with_service now ≡ with_service sent
   pub other : altered ≡ true → byte_of now ≢ byte_of sent
 
+-- Where a frame of party p can have been lost behind these entries: with none, on its way from the host to its source; else it was sent then,
+-- and lost before a party behind its source, or before the host.
+abbrev pub LostWhere : List Entry → ℕ → ℕ → Type 0
+LostWhere [] p party = (1 ≤ party) × (party ≤ p)
+LostWhere (e ∷ es) p party = (party ≡ 0) ⊎ (p < party)
+
 -- behind these entries it was lost
 pub record IsLostNow {M : Type 0} (r : RingView M) (entries : List Entry) (p : ℕ) (sent : Frame) (answer : Arrival) (s : RingView M) : Type 0 where
   pub answer_is : answer ≡ arrival.Lost
   pub party : ℕ
   pub on_ring : party ≤ length (devices_of r)
+  pub place : LostWhere entries p party
   pub log : s.books.log ≡ r.books.log ++ (entries ++ entry p sent (outcome.Lost party) ∷ [])
   pub held_is : s.books.held ≡ None
   pub met_some : met_between r s ≢ []

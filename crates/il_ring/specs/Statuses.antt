@@ -1,7 +1,6 @@
 -- What the log of a second controller's rounds tells of the statuses that it asked for. Source: HP-IL Interface Specification,
 -- HP 82166-90017, send status and end of transmission; that the last status of each address counts is this project's own.
-use Rattle.std.specs.Prelude.{ℕ, ◌==◌, ◌&&◌, if◌then◌else◌, Bool, true, false, List, [], ◌∷◌, ◌++◌, Option, Some, None}
-use Rattle.il_frames.specs.declared.frame.Frame.{Frame}
+use Rattle.std.specs.Prelude.{◌≡◌, ℕ, ◌==◌, ◌&&◌, not, if◌then◌else◌, All, Bool, true, false, List, [], ◌∷◌, Option, Some, None}
 use Rattle.il_frames.specs.declared.entry.Entry.{Entry}
 use Rattle.il_frames.specs.declared.entry.Outcome.{Outcome}
 use Rattle.il_frames.specs.declared.entry.Outcome.TheVariants as outcome
@@ -11,6 +10,7 @@ use Rattle.il_frames.specs.Frames.{byte_of, is_data}
 use Rattle.il_frames.specs.Messages.{message_of}
 use Rattle.il_frames.specs.NamedFrames.{is_frame}
 use Rattle.il_device.specs.Takes.{eto}
+use Rattle.il_poll.specs.Service.{status_byte_of}
 use Rattle.il_guest.specs.Frames.{sst}
 
 -- party k took the frame
@@ -77,3 +77,15 @@ known_of k a asked before (e ∷ log) =
 -- the last status of address a that party k was told: the byte of the last one, or none where SST came back since
 abbrev pub last_told : ℕ → ℕ → List Entry → Option ℕ
 last_told k a log = known_of k a None None log
+
+-- where one is asked so far, no SST of party k came back in these entries while address a was asked
+abbrev pub answers_always : ℕ → ℕ → Option ℕ → List Entry → Bool
+answers_always k a asked [] = true
+answers_always k a asked (e ∷ log) = not (is_asked a asked && tells_none k e) && answers_always k a (asked_after k asked e) log
+
+-- ---- the drive
+
+-- The drive told these bytes: first its status, which is 0 then, and 0 each further time.
+abbrev pub ToldStatus : ℕ → List ℕ → ℕ → Type 0
+ToldStatus before [] now = now ≡ before
+ToldStatus before (byte ∷ more) now = (byte ≡ status_byte_of before) × All (λ b. b ≡ 0) more × (now ≡ 0)

@@ -193,10 +193,11 @@ impl<M: Medium> Ring<M> {
         self.parts.boxes.before.len() as u8 + 1
     }
 
-    /// The number of devices on the loop, the drive among them: 1 to 30.
+    /// The number of devices on the loop, the drive and a second controller among them: 1 to 30.
     pub fn devices(&self) -> u8
         ensures count { result ≡ length (devices_of (⟦<Ring<M> as Seen<M>>⟧.seen self.now)) }
-        ensures range { result ≤ 30 }
+        ensures range { (1 ≤ result) × (result ≤ 30) }
+        ensures guest { is_some (⟦<Ring<M> as Seen<M>>⟧.seen self.now).guest ≡ true → 1 ≤ length (⟦<Ring<M> as Seen<M>>⟧.seen self.now).after }
     {
         self.party() + self.parts.boxes.after.len() as u8 + self.parts.boxes.last.count()
     }

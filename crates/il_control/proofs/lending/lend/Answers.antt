@@ -36,7 +36,7 @@ pub returns-then-clear_interface : goal.returns-then-clear_interface
 returns-then-clear_interface g c = taken_made g.M.Medium.view _ c.args.limit _ c.requires.idle c.requires.address.0 c.requires.address.1 _ c.if-not-ask.ensures.asked _ c.in-Taken.ensures c.requires.limit _ c.if-not-poll.ensures _ c.if-clear_interface.ensures.done (c.if-clear_interface.ensures.host refl) c.if-clear_interface.ensures.found
 
 pub returns-else-clear_interface : goal.returns-else-clear_interface
-returns-else-clear_interface g c = taken_not g.M.Medium.view _ c.args.limit _ c.requires.idle c.requires.address.0 c.requires.address.1 _ c.if-not-ask.ensures.asked _ c.in-Taken.ensures c.requires.limit _ c.if-not-poll.ensures _ c.if-clear_interface.ensures.done c.if-clear_interface.ensures.found
+returns-else-clear_interface g c = taken_not g.M.Medium.view _ c.args.limit _ c.requires.idle c.requires.address.0 c.requires.address.1 _ c.if-not-ask.ensures.asked _ c.in-Taken.ensures c.requires.limit _ c.if-not-poll.ensures _ c.if-clear_interface.ensures.done c.if-clear_interface.ensures.found c.if-clear_interface.ensures.ready
 
 pub returns-then-not-poll : goal.returns-then-not-poll
 returns-then-not-poll g c = taken_broke g.M.Medium.view _ c.args.limit _ c.requires.idle c.requires.address.0 c.requires.address.1 _ c.if-not-ask.ensures.asked _ c.in-Taken.ensures c.requires.limit _ c.if-not-poll.ensures

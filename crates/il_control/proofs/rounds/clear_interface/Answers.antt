@@ -3,6 +3,7 @@ use Rattle.il_frames.specs.NamedFrames.{ifc}
 use Rattle.il_ring.specs.Seen.{ring_seen}
 use Rattle.il_control.proofs.Asking.{obeyed_then_rfc, part_then_rfc}
 use Rattle.il_control.proofs.Calls.{command_done, command_not}
+use Rattle.il_control.proofs.LendFronts.{ifc_short}
 use Rattle.il_control.proofs.TakingControl.{about_spare}
 use Rattle.il_control.proofs.LentBack.{handshake_found}
 use Rattle.il_control.proofs.rounds.clear_interface.Goals as goal
@@ -24,3 +25,9 @@ returns-else-take_control-clause-done g c = command_not g.M.Medium.view _ _ ifc 
 
 pub returns-then-take_control-clause-found : goal.returns-then-take_control-clause-found
 returns-then-take_control-clause-found g c = handshake_found g.M.Medium.view (ring_seen (λ b. (goal.Device-dyn g (b.vtable, b.value)).state b.value) c.args.ring.now) _ _ _ _ c.if-take_control.ensures.found (c.if-take_control.ensures.host refl) c.pass_round.ensures.done
+
+pub returns-then-take_control-clause-ready : goal.returns-then-take_control-clause-ready
+returns-then-take_control-clause-ready g c = λ long. c.pass_round.ensures.host
+
+pub returns-else-take_control-clause-ready : goal.returns-else-take_control-clause-ready
+returns-else-take_control-clause-ready g c = λ long. absurd (ifc_short g.M.Medium.view _ _ c.if-take_control.ensures.done long)

@@ -8,7 +8,7 @@ returns-in-Ok-clause-named g c = names_told g.M.Medium.view _ _ _ _ _ c.take_idl
 
 pub returns-in-Ok-clause-leaves : goal.returns-in-Ok-clause-leaves
 returns-in-Ok-clause-leaves g c =
-    names_leave g.M.Medium.view _ _ _ _ _ _ _ _ _ c.take_idle-idle.ensures.idle c.requires.valid c.take_idle-idle.ensures.left _ _ _ c.devices-count.ensures.range c.put_back.ensures c.in-Ok.ensures.named c.in-Ok.ensures.used
+    names_leave g.M.Medium.view _ _ _ _ _ _ _ _ _ c.take_idle-idle.ensures.idle c.requires.valid c.take_idle-idle.ensures.left _ _ _ c.devices-count.ensures.range.1 c.put_back.ensures c.in-Ok.ensures.named c.in-Ok.ensures.used
 
 pub returns-in-Err-clause-named : goal.returns-in-Err-clause-named
 returns-in-Err-clause-named g c =
@@ -16,4 +16,4 @@ returns-in-Err-clause-named g c =
 
 pub returns-in-Err-clause-leaves : goal.returns-in-Err-clause-leaves
 returns-in-Err-clause-leaves g c =
-    names_break g.M.Medium.view _ _ _ _ _ _ _ _ _ c.take_idle-idle.ensures.idle c.requires.valid c.take_idle-idle.ensures.left _ _ _ c.devices-count.ensures.range c.broke.ensures.answer c.broke.ensures.left c.in-Err.ensures.broken c.in-Err.ensures.used_lost
+    names_break g.M.Medium.view _ _ _ _ _ _ _ _ _ c.take_idle-idle.ensures.idle c.requires.valid c.take_idle-idle.ensures.left _ _ _ c.devices-count.ensures.range.1 c.broke.ensures.answer c.broke.ensures.left c.in-Err.ensures.broken c.in-Err.ensures.used_lost
