@@ -62,9 +62,9 @@ lost_fetch_acts = record {
     };
     status = omega arith;
   };
-  travels = record { one_talker = refl; roles = refl; crossings = refl; frames = record { before = tt; after = (refl, tt) }; short = omega arith };
-  heard = record { before = tt; after = (record { more = []; few = omega arith; none = λ h. refl; heard = record { heard = refl; heard_count = refl; room = refl; accessory = refl } }, tt) };
-  exchanged = record {
+  travels = record { one_talker = refl; commands = refl; roles = refl; crossings = refl; frames = record { before = tt; after = (refl, tt) }; guest = refl; short = omega arith };
+  heard = λ h. record { before = tt; after = (record { more = []; few = omega arith; none = λ h. refl; heard = record { heard = refl; heard_count = refl; room = refl; accessory = refl } }, tt) };
+  exchanged = λ h. record {
     reading = record { pieces = Cut (Command ifc) 1 (FrameLost 0) ∷ []; legal = refl; entries = refl };
     ends = refl;
     course = refl;
@@ -74,8 +74,11 @@ lost_fetch_acts = record {
     effect = refl;
     carried = tt;
   };
+  lent = λ frames is. cc;
   by_plan = sixth_lost;
   ready = λ h. refl;
+  controls = λ h. refl;
+  clears = λ h g. refl;
   sound = λ h. refl;
   unsound = λ h. absurd (false_is_not_true (sym h));
   still = λ h. absurd (false_is_not_true (sym h));
@@ -113,4 +116,4 @@ abbrev pub failed_host : HostState
 failed_host = record a_host { ready = true }
 
 without_clearing : IsStep [] (record { item = asks_fetch; reply = reply.No code.NoFile; log = []; before = failed_host; after = record failed_host { sound = true } }) → ⊥
-without_clearing s = some_entry unl (is_commanding (lad 1) ∷ is_commanding sdc ∷ []) s.acts.exchanged.reading.pieces (s.acts.exchanged.begins refl) s.acts.exchanged.reading.entries
+without_clearing s = some_entry unl (is_commanding (lad 1) ∷ is_commanding sdc ∷ []) (s.acts.exchanged refl).reading.pieces ((s.acts.exchanged refl).begins refl) (s.acts.exchanged refl).reading.entries

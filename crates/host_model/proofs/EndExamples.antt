@@ -1,5 +1,5 @@
 -- Worked examples of how runs end, computed by the checker: each ending with a run that ends so, and what none leaves.
-use Rattle.std.proofs.Common.{◌≡◌, ◌≢◌, ◌≤◌, ◌<◌, ◌+◌, ◌++◌, ◌∙◌, ℕ, zero, suc, Bool, if◌then◌else◌, List, [], ◌∷◌, Option, Some, None, true, false, inl, inr, refl, sym, ap, subst, arith, length, replicate, codes}
+use Rattle.std.proofs.Common.{◌≡◌, ◌≢◌, ◌≤◌, ◌<◌, ◌+◌, ◌++◌, ◌∙◌, ℕ, zero, suc, Bool, if◌then◌else◌, List, [], ◌∷◌, Option, Some, None, true, false, inl, inr, refl, sym, ap, subst, arith, length, replicate, codes, append-nil}
 use Rattle.std.specs.Prelude.{◌-◌, get_or, map, unwrap_or, is_some}
 use Rattle.std.specs.Fmt.{digits}
 use Rattle.hex.specs.Hex.{encode_with}
@@ -31,7 +31,7 @@ use Rattle.host_model.proofs.StepExamples.{asked_on, lines, log_of, loss_on, los
 
 -- a blank tape is made for a missing image
 abbrev pub order : Order
-order = record { image = codes "T"; made = Some 512; plan = []; quiet = true; generated = None }
+order = record { image = codes "T"; made = Some 512; guest = false; plan = []; quiet = true; generated = None }
 
 -- a script that is generated has its summary alone
 modes : (mode_of order ≡ Quiet) × (mode_of (record order { quiet = false }) ≡ WithTrace) × (mode_of (record order { generated = Some (1, 8) }) ≡ Summary)
@@ -77,7 +77,7 @@ blank_is_tape = record {
 
 -- with this script, and an empty shelf
 abbrev pub with_script : List ℕ → Outside
-with_script script = record { shelf = Some []; tape = None; left = Some script; written = Some []; faults = 0; before = []; after = printer ∷ [] }
+with_script script = record { shelf = Some []; tape = None; left = Some script; written = Some []; faults = 0; before = []; after = printer ∷ []; guest = None }
 
 -- what a run that ended with this host leaves, with so much of the script, when it has written that
 abbrev pub handed_back : HostState → (left written : List ℕ) → Outside
@@ -89,6 +89,7 @@ handed_back finish left written = record {
   faults = finish.faults;
   before = finish.loop.before;
   after = finish.loop.after;
+  guest = None;
 }
 
 abbrev pub start : HostState
@@ -136,7 +137,7 @@ runs end plan quiet script left written finish stays ran = record {
   };
   ran = ran;
   tells = run_tells plan start ran.events finish ran.chain refl (omega arith);
-  back = record { tape = refl; faults = refl; before = refl; after = refl };
+  back = record { tape = refl; faults = refl; before = refl; after = append-nil finish.loop.after; guest = sym (run_tells plan start ran.events finish ran.chain refl (omega arith)).guest; aside = λ off. refl };
   stops = λ told x h. left_before plan start ran.events finish x ran.chain h;
   shelf = keeps_shelf script left written finish stays;
 }
@@ -316,7 +317,7 @@ abbrev pub empty_shelf : Outside
 empty_shelf = with_script two_lines
 
 untouched : (o : Outside) → IsUntouched o o
-untouched o = record { left = refl; written = refl; before = refl; after = refl }
+untouched o = record { left = refl; written = refl; before = refl; after = refl; guest = refl }
 
 ends_bad_words : LeavesBy BadWords None empty_shelf empty_shelf Stopped
 ends_bad_words = (record { untouched = untouched empty_shelf; tape = refl; shelf = refl }, refl)
@@ -344,7 +345,7 @@ ends_too_large size large = (
 )
 
 ends_insert_failed : LeavesBy InsertFailed (Some order) empty_shelf (record empty_shelf { faults = 1 }) Stopped
-ends_insert_failed = record { untouched = record { left = refl; written = refl; before = refl; after = refl }; tape = refl; shelf = refl }
+ends_insert_failed = record { untouched = record { left = refl; written = refl; before = refl; after = refl; guest = refl }; tape = refl; shelf = refl }
 
 -- no memory for the words; or for the host, and then the image is in the drive
 ends_out_of_memory : LeavesBy OutOfMemory None empty_shelf empty_shelf Stopped
@@ -355,7 +356,7 @@ unopened = handed_back start two_lines []
 
 ends_unopened : LeavesBy OutOfMemory (Some order) empty_shelf unopened Stopped
 ends_unopened = inr (record {
-  untouched = record { left = refl; written = refl; before = refl; after = refl };
+  untouched = record { left = refl; written = refl; before = refl; after = refl; guest = refl };
   inserts = record { reads_as = λ shelf told. (blank 512, refl, ap (λ s. inserted (image_of (codes "T") (unwrap_or s [])) (Some 512)) (sym told)) };
   shelf = keeps_shelf two_lines two_lines [] start refl;
   stops = λ told x left. left;

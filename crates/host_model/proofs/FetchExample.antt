@@ -34,14 +34,14 @@ fetched_host = record a_host {
   ready = true;
   sound = true;
   kept = true;
-  loop = record { before = []; status = 0; drive = addressed 1; after = record printer { roles = addressed 2; frames = 294 } ∷ [] };
+  loop = record { before = []; status = 0; drive = addressed 1; after = record printer { roles = addressed 2; frames = 294 } ∷ []; guest = None };
 }
 
 abbrev pub fetch_event : Event
 fetch_event = record { item = Asks (OfVolume (volume.Fetch a_name)); reply = reply.Ok; log = log_of fetch_pieces; before = a_host; after = fetched_host }
 
 fetch_travels : Travels fetch_event
-fetch_travels = record { one_talker = refl; roles = refl; crossings = refl; frames = record { before = tt; after = (refl, tt) }; short = omega arith }
+fetch_travels = record { one_talker = refl; commands = refl; roles = refl; crossings = refl; frames = record { before = tt; after = (refl, tt) }; guest = refl; short = omega arith }
 
 -- what is carried, by the bytes that the file map tells
 abbrev pub Carried : Option (List ℕ) → Type 0
@@ -72,10 +72,13 @@ fetch_acts = record {
     status = refl;
   };
   travels = fetch_travels;
-  heard = record { before = tt; after = (record { more = []; few = omega arith; none = λ h. refl; heard = record { heard = refl; heard_count = refl; room = refl; accessory = refl } }, tt) };
-  exchanged = fetch_exchanged;
+  heard = λ h. record { before = tt; after = (record { more = []; few = omega arith; none = λ h. refl; heard = record { heard = refl; heard_count = refl; room = refl; accessory = refl } }, tt) };
+  exchanged = λ h. fetch_exchanged;
+  lent = λ frames is. cc;
   by_plan = unfaulted [] 0 882 (log_of fetch_pieces) refl;
   ready = λ h. refl;
+  controls = λ h. refl;
+  clears = λ h g. refl;
   sound = λ h. refl;
   unsound = λ h. absurd (false_is_not_true (sym h));
   still = λ h. absurd (false_is_not_true (sym h));

@@ -173,7 +173,7 @@ no_pieces (p ∷ pieces) none =
 
 begun_by_a_device : IsStep [] (record status_event { log = entry 5 rfc (outcome.Back rfc) ∷ [] }) → ⊥
 begun_by_a_device s =
-    numbers_differ 5 0 refl (ap first_source s.acts.exchanged.reading.entries ∙ begun_by_host s.acts.exchanged.reading.pieces)
+    numbers_differ 5 0 refl (ap first_source (s.acts.exchanged refl).reading.entries ∙ begun_by_host (s.acts.exchanged refl).reading.pieces)
 
 -- the devices are named by no frame
 abbrev pub ready_host : HostState
@@ -182,11 +182,11 @@ ready_host = record asked_host { sound = true }
 named_by_nothing : IsStep [] (event (Asks Devices) reply.Ok [] ready_host ready_host) → ⊥
 named_by_nothing s =
     false_is_not_true (subst (λ pieces. keeps_course ready_host.loop true (course_of (Asks Devices) ready_host.loop) pieces ≡ true)
-    (no_pieces s.acts.exchanged.reading.pieces s.acts.exchanged.reading.entries) s.acts.exchanged.course)
+    (no_pieces (s.acts.exchanged refl).reading.pieces (s.acts.exchanged refl).reading.entries) (s.acts.exchanged refl).course)
 
 -- the tape is another, and no record was written
 written_by_nothing : IsStep [] (event asks_dir reply.Ok [] ready_host (record ready_host { tape = Some a_tape })) → ⊥
 written_by_nothing s =
     texts_differ (record_at a_tape 4) (record_at base.formatted 4) refl (ap (λ t. record_at t 4)
     (subst (λ pieces. UnitsEffect (units_of (host_loop 2 1) pieces) base.formatted a_tape)
-    (no_pieces s.acts.exchanged.reading.pieces s.acts.exchanged.reading.entries) s.acts.exchanged.effect))
+    (no_pieces (s.acts.exchanged refl).reading.pieces (s.acts.exchanged refl).reading.entries) (s.acts.exchanged refl).effect))

@@ -71,7 +71,7 @@ get_no_text : reply_of (Asks (Get a_name)) a_host ≡ reply.No code.NotText
 unfolding two_at four_at name_of is_open entry_at entries_of lines_in
 get_no_text = ap (λ bytes. got_as None (lines_of_found (Some (file a_name 4 1)) bytes)) a_found
 
-no_text : reply_text (Asks (Get a_name)) a_host (reply.No code.NotText) ≡ codes "error 16 NotText" ++ 10 ∷ []
+no_text : reply_text (Asks (Get a_name)) a_host [] (reply.No code.NotText) ≡ codes "error 16 NotText" ++ 10 ∷ []
 unfolding digits
 no_text = refl
 

@@ -13,7 +13,7 @@ use Rattle.il_script.specs.Replies.{is_ok}
 use Rattle.il_script.specs.declared.reply.Reply.{Reply}
 use Rattle.il_script.specs.declared.reply.Reply.TheVariants as reply
 use Rattle.il_ring.specs.declared.plan.Planned.{Planned}
-use Rattle.host_model.specs.Requests.{OfVolume, Get, Pack, Devices, Status, Poll, Say, Paper, Item, Asks, NoCommand}
+use Rattle.host_model.specs.Requests.{OfVolume, Get, Pack, Devices, Status, Poll, Say, Paper, Lend, Item, Asks, NoCommand}
 use Rattle.host_model.specs.HostStates.{HostState, HasOwnGate}
 use Rattle.host_model.specs.Steps.{Event, IsStep}
 use Rattle.host_model.specs.Stops.{IsLeft, MayBeLeft, LeftWithin}
@@ -107,6 +107,7 @@ left_at_first (Asks Status) s x is = is
 left_at_first (Asks Poll) s x is = is
 left_at_first (Asks (Say bytes)) s x is = is
 left_at_first (Asks Paper) s x is = is
+left_at_first (Asks (Lend frames)) s x is = is
 left_at_first (NoCommand c) s x is = is
 
 -- what a stop may have left before, it may have left still

@@ -1,4 +1,5 @@
 pub mod Steps
+pub mod Fronts
 pub mod Traces
 pub mod RingStates
 pub mod Runs
@@ -19,3 +20,5 @@ mod BatchExamples
 mod DirectoryExamples
 pub mod NoCommands
 mod PackExamples
+mod LendExamples
+pub mod Addressed

@@ -49,14 +49,16 @@ no_command_acts plan code s one = record {
   };
   travels = record {
     one_talker = one;
+    commands = refl;
     roles = refl;
     crossings = refl;
     frames = boxed_same (TookFrames (device_count s.loop) []) (λ party d. refl) s.loop;
+    guest = refl;
     short = omega arith;
   };
-  heard = boxed_same (HearsLog (device_count s.loop) (all_roles s.loop) [] true)
+  heard = λ h. boxed_same (HearsLog (device_count s.loop) (all_roles s.loop) [] true)
       (λ party d. record { more = []; few = omega arith; none = λ h. refl; heard = record { heard = refl; heard_count = refl; room = refl; accessory = refl } }) s.loop;
-  exchanged = record {
+  exchanged = λ h. record {
     reading = record { pieces = []; legal = refl; entries = refl };
     ends = refl;
     course = refl;
@@ -66,8 +68,11 @@ no_command_acts plan code s one = record {
     effect = same_tape s.tape;
     carried = tt;
   };
+  lent = λ frames is. cc;
   by_plan = All-nil (IsByPlan plan s.crossings s.crossings);
   ready = λ h. absurd (false_is_not_true h);
+  controls = λ h. refl;
+  clears = λ h g. absurd (false_is_not_true h);
   sound = λ h. absurd (false_is_not_true h);
   unsound = λ h g. absurd (false_is_not_true g);
   still = λ h. (refl, refl);

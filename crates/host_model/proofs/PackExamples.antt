@@ -44,7 +44,7 @@ packs : (reply_of (Asks Pack) (host gap) ≡ reply.Ok) × (volume_behind (Asks P
 unfolding two_at four_at entries_of entry_at name_of is_open with_type new_entry with_start unmarked
 packs = (refl, refl)
 
-told : reply_text (Asks Pack) (host gap) reply.Ok ≡ codes "packed 1 1" ++ 10 ∷ codes "ok" ++ 10 ∷ []
+told : reply_text (Asks Pack) (host gap) [] reply.Ok ≡ codes "packed 1 1" ++ 10 ∷ codes "ok" ++ 10 ∷ []
 unfolding two_at four_at entries_of entry_at name_of is_open with_type new_entry digits packed_text
 told = refl
 
@@ -52,7 +52,7 @@ told = refl
 abbrev out_of_order : Tape
 out_of_order = tape (file a_name 5 1 ++ file b_name 4 1 ++ redo ++ base.end_entry) (numbered 4) (numbered 5)
 
-told_closed : reply_text (Asks Pack) (host closed) reply.Ok ≡ codes "packed 0 1" ++ 10 ∷ codes "ok" ++ 10 ∷ []
+told_closed : reply_text (Asks Pack) (host closed) [] reply.Ok ≡ codes "packed 0 1" ++ 10 ∷ codes "ok" ++ 10 ∷ []
 unfolding two_at four_at entries_of entry_at name_of is_open with_type new_entry digits packed_text
 told_closed = refl
 

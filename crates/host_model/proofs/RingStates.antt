@@ -1,5 +1,5 @@
 -- What is said of the devices of a ring, in the words of what the ring stands for.
-use Rattle.std.proofs.Common.{◌≡◌, ◌≤◌, ◌+◌, ◌++◌, ◌∙◌, ℕ, suc, Bool, List, [], ◌∷◌, length, map, Option, Some, None, refl, sym, ap, subst, arith, length-append}
+use Rattle.std.proofs.Common.{◌≡◌, ◌≤◌, ◌+◌, ◌++◌, ◌∙◌, ℕ, suc, Bool, true, List, [], ◌∷◌, length, map, Option, Some, None, refl, sym, ap, subst, arith, length-append}
 use Rattle.il_frames.specs.declared.entry.Entry.{Entry}
 use Rattle.il_frames.specs.declared.frame.Class.TheVariants as class
 use Rattle.il_frames.specs.declared.frame.Frame.{Frame}
@@ -12,7 +12,11 @@ use Rattle.loop_model.specs.Devices.{EachBecomes}
 use Rattle.loop_model.specs.Loops.{host_loop}
 use Rattle.loop_model.specs.Polls.{poll_place, polled_along}
 use Rattle.loop_model.specs.Reach.{links, passes, held_at_end}
+use Rattle.loop_model.specs.Exchanges.{Reading}
+use Rattle.loop_model.specs.Leading.{OneTalkerLed, are_commands_led, has_no_lend, roles_led}
 use Rattle.loop_model.specs.Roles.{OneTalker, roles_after}
+use Rattle.loop_model.proofs.Commanded.{commands-reading}
+use Rattle.loop_model.proofs.LeadingLaws.{OneTalkerLed-no_lend, has_no_lend-reading, roles_led-no_lend}
 use Rattle.loop_model.proofs.DeviceLaws.{each_weaker}
 use Rattle.il_ring.specs.Adds.{Adds}
 use Rattle.il_ring.specs.Rings.{RingView, devices_of, roles_of, drive_party}
@@ -101,9 +105,18 @@ took_frames k log party d e h =
 
 -- ---- what the frames of a log did
 
+-- a log of exchanges of the host, whole or broken off
+pub record HostLed (devices : List DeviceState) (log : List Entry) : Type 0 where
+  pub one : OneTalker (roles_of devices) log
+  pub none : has_no_lend log ≡ true
+  pub commands : are_commands_led 0 log ≡ true
+
+pub host_led : (devices : List DeviceState) (k q : ℕ) (log : List Entry) → Reading (host_loop k q) log → OneTalker (roles_of devices) log → HostLed devices log
+host_led devices k q log reading one = record { one = one; none = has_no_lend-reading (host_loop k q) log reading; commands = commands-reading k q log reading }
+
 -- by what the ring tells of rounds behind each other, which began and ended without a held frame
 pub travels_on : {M : Type 0} (view : M → MediumView) (item : Item) (reply : Reply) (was is sound sound_now : Bool) (log : List Entry) (r s : RingView M)
-    → Adds view r None log (held_at_end None log) s → OneTalker (roles_of (devices_of r)) log → length log ≤ log_room (view r.drive.medium).record_count
+    → Adds view r None log (held_at_end None log) s → HostLed (devices_of r) log → length log ≤ log_room (view r.drive.medium).record_count
     → Travels (record { item = item; reply = reply; log = log; before = state_on view was sound r; after = state_on view is sound_now s })
 travels_on view item reply was is sound sound_now log r s adds one short =
     let k = length (devices_of r) in
@@ -112,9 +125,11 @@ travels_on view item reply was is sound sound_now log r s adds one short =
     (took_each k None log (held_at_end None log) 0 (devices_of r) (devices_of s) adds.frames) in
     let beside = beside_drive (TookFrames k log) (loop_on r) (loop_on s) (device_of r.drive.state) (device_of s.drive.state) adds.before frames in
     record {
-      one_talker = subst (λ rs. OneTalker rs log) (sym (roles_on r)) one;
-      roles = roles_on s ∙ adds.roles ∙ ap (λ rs. roles_after rs log) (sym (roles_on r));
+      one_talker = subst (λ rs. OneTalkerLed 0 rs log) (sym (roles_on r)) ((OneTalkerLed-no_lend (roles_of (devices_of r)) log one.none).1 one.one);
+      commands = one.commands;
+      roles = roles_on s ∙ adds.roles ∙ sym (roles_led-no_lend (roles_of (devices_of r)) log one.none) ∙ ap (λ rs. roles_led 0 rs log) (sym (roles_on r));
       crossings = adds.crossings ∙ ap (λ c. risen_by c r.books.crossings) (crossed ∙ ap (λ j. links j log) (sym (count_on r)));
       frames = subst (λ j. BoxedBecome (TookFrames j log) (loop_on r) (loop_on s)) (sym (count_on r)) beside;
+      guest = adds.guest.0;
       short = short;
     }

@@ -47,9 +47,9 @@ late_acts = record {
     };
     status = refl;
   };
-  travels = record { one_talker = refl; roles = refl; crossings = refl; frames = record { before = tt; after = (refl, tt) }; short = omega arith };
-  heard = record { before = tt; after = (record { more = []; few = omega arith; none = λ h. refl; heard = record { heard = refl; heard_count = refl; room = refl; accessory = refl } }, tt) };
-  exchanged = record {
+  travels = record { one_talker = refl; commands = refl; roles = refl; crossings = refl; frames = record { before = tt; after = (refl, tt) }; guest = refl; short = omega arith };
+  heard = λ h. record { before = tt; after = (record { more = []; few = omega arith; none = λ h. refl; heard = record { heard = refl; heard_count = refl; room = refl; accessory = refl } }, tt) };
+  exchanged = λ h. record {
     reading = record { pieces = status_pieces; legal = refl; entries = refl };
     ends = refl;
     course = refl;
@@ -59,8 +59,11 @@ late_acts = record {
     effect = refl;
     carried = tt;
   };
+  lent = λ frames is. cc;
   by_plan = unfaulted sixth 6 48 (log_of status_pieces) refl;
   ready = λ h. refl;
+  controls = λ h. refl;
+  clears = λ h g. refl;
   sound = λ h. absurd (false_is_not_true h);
   unsound = λ h g. refl;
   still = λ h. absurd (false_is_not_true (sym h));

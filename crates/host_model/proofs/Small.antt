@@ -24,11 +24,11 @@ quiet = fresh None 0
 
 -- over this tape, with these devices behind the drive
 abbrev pub host_with : Tape → List DeviceState → HostState
-host_with tape after = fresh_host (Some tape) 12 0 [] after
+host_with tape after = fresh_host (Some tape) 12 0 [] after None
 
 -- with a printer, over a tape of so many records
 abbrev pub host_on : Tape → ℕ → HostState
-host_on tape n = fresh_host (Some tape) n 0 [] (printer ∷ [])
+host_on tape n = fresh_host (Some tape) n 0 [] (printer ∷ []) None
 
 abbrev pub empty_host : HostState
 empty_host = host_on base.formatted 12

@@ -65,7 +65,7 @@ abbrev pub asked_on : Tape → ℕ → HostState
 asked_on tape n = record (host_on tape n) {
   crossings = 42;
   ready = true;
-  loop = record { before = []; status = 0; drive = addressed 1; after = record printer { roles = addressed 2; frames = 14 } ∷ [] };
+  loop = record { before = []; status = 0; drive = addressed 1; after = record printer { roles = addressed 2; frames = 14 } ∷ []; guest = None };
 }
 
 abbrev pub status_on : Tape → ℕ → Event
@@ -81,9 +81,9 @@ status_acts tape n = record {
     };
     status = refl;
   };
-  travels = record { one_talker = refl; roles = refl; crossings = refl; frames = record { before = tt; after = (refl, tt) }; short = omega arith };
-  heard = record { before = tt; after = (record { more = []; few = omega arith; none = λ h. refl; heard = record { heard = refl; heard_count = refl; room = refl; accessory = refl } }, tt) };
-  exchanged = record {
+  travels = record { one_talker = refl; commands = refl; roles = refl; crossings = refl; frames = record { before = tt; after = (refl, tt) }; guest = refl; short = omega arith };
+  heard = λ h. record { before = tt; after = (record { more = []; few = omega arith; none = λ h. refl; heard = record { heard = refl; heard_count = refl; room = refl; accessory = refl } }, tt) };
+  exchanged = λ h. record {
     reading = record { pieces = status_pieces; legal = refl; entries = refl };
     ends = refl;
     course = refl;
@@ -93,8 +93,11 @@ status_acts tape n = record {
     effect = refl;
     carried = tt;
   };
+  lent = λ frames is. cc;
   by_plan = unfaulted [] 0 42 (log_of status_pieces) refl;
   ready = λ h. refl;
+  controls = λ h. refl;
+  clears = λ h g. refl;
   sound = λ h. absurd (false_is_not_true h);
   unsound = λ h g. refl;
   still = λ h. absurd (false_is_not_true (sym h));
@@ -128,7 +131,7 @@ one_more_frame s = numbers_differ 15 14 refl s.acts.travels.frames.after.0
 -- a byte at the printer that no entry of the log has brought
 one_more_byte : IsStep [] (record status_event { after = record asked_host { loop = record asked_host.loop { after = record printer { roles = addressed 2; frames = 14; heard_count = 1 } ∷ [] } } }) → ⊥
 one_more_byte s =
-    let heard = s.acts.heard.after.0 in
+    let heard = (s.acts.heard refl).after.0 in
     numbers_differ 1 0 refl (heard.heard.heard_count ∙ ap (λ more. risen_by (length more) 0) (heard.none refl))
 
 -- a crossing that no entry stands for
@@ -151,10 +154,10 @@ medium_at_status s = false_is_not_true s.acts.replied.may
 
 -- `fault frame` where no fault is planned, and ok where one was met
 fault_without_a_plan : IsStep [] (record status_event { reply = reply.FaultFrame }) → ⊥
-fault_without_a_plan s = s.acts.exchanged.cause.0 refl
+fault_without_a_plan s = (s.acts.exchanged refl).cause.0 refl
 
 ok_in_spite_of_a_hop : IsStep sixth status_event → ⊥
-ok_in_spite_of_a_hop s = hop_is_none s.acts.exchanged.cause.0
+ok_in_spite_of_a_hop s = hop_is_none (s.acts.exchanged refl).cause.0
 
 -- another tape behind it
 another_tape : IsStep [] (record status_event { after = record asked_host { tape = Some a_tape } }) → ⊥
@@ -193,9 +196,9 @@ lost_acts tape n = record {
     };
     status = inl refl;
   };
-  travels = record { one_talker = refl; roles = refl; crossings = refl; frames = record { before = tt; after = (refl, tt) }; short = omega arith };
-  heard = record { before = tt; after = (record { more = []; few = omega arith; none = λ h. refl; heard = record { heard = refl; heard_count = refl; room = refl; accessory = refl } }, tt) };
-  exchanged = record {
+  travels = record { one_talker = refl; commands = refl; roles = refl; crossings = refl; frames = record { before = tt; after = (refl, tt) }; guest = refl; short = omega arith };
+  heard = λ h. record { before = tt; after = (record { more = []; few = omega arith; none = λ h. refl; heard = record { heard = refl; heard_count = refl; room = refl; accessory = refl } }, tt) };
+  exchanged = λ h. record {
     reading = record { pieces = lost_pieces; legal = refl; entries = refl };
     ends = refl;
     course = refl;
@@ -205,8 +208,11 @@ lost_acts tape n = record {
     effect = refl;
     carried = tt;
   };
+  lent = λ frames is. cc;
   by_plan = sixth_lost;
   ready = λ h. refl;
+  controls = λ h. refl;
+  clears = λ h g. refl;
   sound = λ h. absurd (false_is_not_true h);
   unsound = λ h g. refl;
   still = λ h. absurd (false_is_not_true (sym h));
@@ -223,4 +229,4 @@ lost_event = loss_on base.formatted 12
 
 -- with a plan of the seventh crossing the loss is no step
 lost_too_early : IsStep (loss_at 7) lost_event → ⊥
-lost_too_early s = s.acts.exchanged.cause.0 refl
+lost_too_early s = (s.acts.exchanged refl).cause.0 refl

@@ -1,5 +1,5 @@
 -- Laws of one step, for those who say a part of it by itself.
-use Rattle.std.proofs.Common.{◌≡◌, ◌≢◌, ◌≤◌, ◌+◌, ◌↔◌, ◌∙◌, ◌==◌, ◌||◌, ℕ, Bool, All, true, false, not, cond, List, [], ◌∷◌, Option, Some, None, length, inl, refl, sym, ap, subst, arith, eqb-true}
+use Rattle.std.proofs.Common.{◌≡◌, ◌≢◌, ◌≤◌, ◌+◌, ◌↔◌, ◌∙◌, ◌==◌, ◌||◌, ◌⊎◌, ⊎_elim, inr, ℕ, Bool, All, true, false, not, cond, List, [], ◌∷◌, Option, Some, None, length, inl, refl, sym, ap, subst, arith, eqb-true}
 use Rattle.std.specs.Prelude.{IfSome}
 use Rattle.std.specs.List.{list_all}
 use Rattle.std.proofs.lemmas.Bool.{and_parts}
@@ -26,6 +26,8 @@ use Rattle.il_ring.specs.Plans.{hops_of}
 use Rattle.il_ring.specs.Fates.{EndsSo, IsByPlan}
 use Rattle.host_model.specs.LoopStates.{LoopState, device_count, drive_at, ring_of}
 use Rattle.host_model.specs.Next.{BoxedBecome}
+use Rattle.host_model.specs.Requests.{Asks, Devices, Get, Item, Lend, NoCommand, OfVolume, Pack, Paper, Poll, Say, Status, is_lending}
+use Rattle.host_model.specs.Histories.{IsLostWhere}
 use Rattle.host_model.specs.Steps.{Event, IsStep, HasReplyCause, SettlesAlike, is_frame_fault}
 
 -- ---- devices one by one
@@ -75,17 +77,68 @@ faults_grow reply.FaultMedium hops before now units cause = cause.1.later
 faults_grow reply.Ok hops before now units cause = omega (arith, cause.1)
 faults_grow (reply.No c) hops before now units cause = omega (arith, cause.1)
 
--- ---- exactly
+-- ---- by the item
 
--- the reply is `fault frame` exactly where a planned hop was met
-pub lost_exactly : (plan : List Planned) (e : Event) → IsStep plan e → (e.reply ≡ reply.FaultFrame) ↔ (met (hops_of plan) e.before.crossings e.after.crossings ≢ [])
-lost_exactly plan e s = by_reply e.reply (met (hops_of plan) e.before.crossings e.after.crossings) _ _ _ s.acts.exchanged.cause
+-- a lend or not
+pub is_lend_or : (item : Item) → ((frames : ℕ) × (item ≡ Asks (Lend frames))) ⊎ (is_lending item ≡ false)
+is_lend_or (Asks (OfVolume command)) = inr refl
+is_lend_or (Asks (Get name)) = inr refl
+is_lend_or (Asks Pack) = inr refl
+is_lend_or (Asks Devices) = inr refl
+is_lend_or (Asks Status) = inr refl
+is_lend_or (Asks Poll) = inr refl
+is_lend_or (Asks (Say bytes)) = inr refl
+is_lend_or (Asks Paper) = inr refl
+is_lend_or (Asks (Lend frames)) = inl (frames, refl)
+is_lend_or (NoCommand code) = inr refl
+
+-- of a lend one direction is said
+where_met : (item : Item) (Lost Met : Type 0) → is_lending item ≡ false → Lost ↔ Met → IsLostWhere item Lost Met
+where_met (Asks (OfVolume command)) Lost Met other both = both
+where_met (Asks (Get name)) Lost Met other both = both
+where_met (Asks Pack) Lost Met other both = both
+where_met (Asks Devices) Lost Met other both = both
+where_met (Asks Status) Lost Met other both = both
+where_met (Asks Poll) Lost Met other both = both
+where_met (Asks (Say bytes)) Lost Met other both = both
+where_met (Asks Paper) Lost Met other both = both
+where_met (Asks (Lend frames)) Lost Met other both = let clash : true ≡ false = other in cc
+where_met (NoCommand code) Lost Met other both = both
+
+of_lend : (item : Item) (frames : ℕ) (Lost Met : Type 0) → item ≡ Asks (Lend frames) → (Lost → Met) → IsLostWhere item Lost Met
+of_lend item frames Lost Met is only = subst (λ item. IsLostWhere item Lost Met) (sym is) only
+
+-- ---- what a step tells of its faults
+
+fault_is : (r : Reply) → r ≡ reply.FaultFrame → is_frame_fault r ≡ true
+fault_is r is = ap is_frame_fault is
+
+-- the reply is `fault frame` exactly where a planned hop was met, and of a lend only there
+pub lost_exactly : (plan : List Planned) (e : Event) → IsStep plan e → IsLostWhere e.item (e.reply ≡ reply.FaultFrame) (met (hops_of plan) e.before.crossings e.after.crossings ≢ [])
+lost_exactly plan e s =
+    ⊎_elim (λ is. of_lend e.item is.0 _ _ is.1 (λ lost. (s.acts.lent is.0 is.1).cause (fault_is e.reply lost)))
+    (λ other. where_met e.item _ _ other (by_reply e.reply (met (hops_of plan) e.before.crossings e.after.crossings) _ _ _ (s.acts.exchanged other).cause))
+    (is_lend_or e.item)
   where
     by_reply : (r : Reply) (found : List ℕ) (before now : ℕ) (units : List RecordUnit) → HasReplyCause r found before now units → (r ≡ reply.FaultFrame) ↔ (found ≢ [])
     by_reply reply.FaultFrame found before now units cause = (λ h. cause.0, λ h. refl)
     by_reply reply.FaultMedium found before now units cause = (λ h. cc, λ h. absurd (h cause.0))
     by_reply reply.Ok found before now units cause = (λ h. cc, λ h. absurd (h cause.0))
     by_reply (reply.No c) found before now units cause = (λ h. cc, λ h. absurd (h cause.0))
+
+-- a fault of the loop stands for a planned hop
+pub lost_at_most : (plan : List Planned) (e : Event) → IsStep plan e → cond (is_frame_fault e.reply) 1 0 ≤ length (met (hops_of plan) e.before.crossings e.after.crossings)
+lost_at_most plan e s =
+    ⊎_elim (λ is. by_fault (is_frame_fault e.reply) (s.acts.lent is.0 is.1).cause) (λ other. lost_once e.reply _ _ _ _ (s.acts.exchanged other).cause) (is_lend_or e.item)
+  where
+    by_fault : (fault : Bool) → (fault ≡ true → met (hops_of plan) e.before.crossings e.after.crossings ≢ []) → cond fault 1 0 ≤ length (met (hops_of plan) e.before.crossings e.after.crossings)
+    by_fault true cause = some_hop (met (hops_of plan) e.before.crossings e.after.crossings) (cause refl)
+    by_fault false cause = omega arith
+
+-- the medium's count never falls
+pub faults_later : (plan : List Planned) (e : Event) → IsStep plan e → e.before.faults ≤ e.after.faults
+faults_later plan e s =
+    ⊎_elim (λ is. (s.acts.lent is.0 is.1).faults) (λ other. faults_grow e.reply _ _ _ _ (s.acts.exchanged other).cause) (is_lend_or e.item)
 
 -- what settles to the same as the tape before
 pub alike : {before : Option Tape} (t x : Tape) → before ≡ Some t → SettlesAs (settled t) x → SettlesAlike before x

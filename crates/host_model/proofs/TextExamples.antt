@@ -68,21 +68,21 @@ dir_reply : reply_of asks_dir empty_host ≡ reply.Ok
 unfolding two_at four_at name_of is_open entry_at entries_of
 dir_reply = refl
 
-dir_text : reply_text asks_dir empty_host reply.Ok ≡ codes "volume HPTAPE 2 2 1 16" ++ 10 ∷ codes "file REDOFILE E0D0 8 4 00000000" ++ 10 ∷ codes "ok" ++ 10 ∷ []
+dir_text : reply_text asks_dir empty_host [] reply.Ok ≡ codes "volume HPTAPE 2 2 1 16" ++ 10 ∷ codes "file REDOFILE E0D0 8 4 00000000" ++ 10 ∷ codes "ok" ++ 10 ∷ []
 unfolding two_at four_at name_of label_of implementation_of is_open entry_at entries_of printed volume_line file_line listing digits encode_with
 dir_text = refl
 
 -- with a file
-dir_of_two : reply_text asks_dir a_host reply.Ok
+dir_of_two : reply_text asks_dir a_host [] reply.Ok
     ≡ codes "volume HPTAPE 2 2 2 16" ++ 10 ∷ codes "file A 0001 4 1 00000000" ++ 10 ∷ codes "file REDOFILE E0D0 8 4 00000000" ++ 10 ∷ codes "ok" ++ 10 ∷ []
 unfolding two_at four_at name_of label_of implementation_of is_open entry_at entries_of printed volume_line file_line listing digits encode_with
 dir_of_two = refl
 
 -- a reply without ok has its last line alone
-dir_faulted : reply_text asks_dir a_host reply.FaultMedium ≡ codes "fault medium" ++ 10 ∷ []
+dir_faulted : reply_text asks_dir a_host [] reply.FaultMedium ≡ codes "fault medium" ++ 10 ∷ []
 dir_faulted = refl
 
-label_text : reply_text (Asks (OfVolume volume.Label)) empty_host reply.Ok ≡ codes "label HPTAPE" ++ 10 ∷ codes "ok" ++ 10 ∷ []
+label_text : reply_text (Asks (OfVolume volume.Label)) empty_host [] reply.Ok ≡ codes "label HPTAPE" ++ 10 ∷ codes "ok" ++ 10 ∷ []
 unfolding two_at four_at name_of label_of is_open entry_at entries_of printed label_line
 label_text = refl
 
@@ -96,7 +96,7 @@ a_found = get-insert nat_list_cmp_total empty a_name a_bytes a_name
 abbrev pub data_text : Option (List ℕ) → List ℕ
 data_text found = data_line (Some (file a_name 4 1)) found ++ reply_line reply.Ok
 
-fetch_text : reply_text (asks_fetch a_name) a_host reply.Ok ≡ codes "data 0001 00000000 4142" ++ (replicate 508 48 ++ 10 ∷ codes "ok" ++ 10 ∷ [])
+fetch_text : reply_text (asks_fetch a_name) a_host [] reply.Ok ≡ codes "data 0001 00000000 4142" ++ (replicate 508 48 ++ 10 ∷ codes "ok" ++ 10 ∷ [])
 unfolding two_at four_at name_of implementation_of is_open entry_at entries_of encode_with
 fetch_text = ap data_text a_found
 
@@ -119,7 +119,7 @@ codes_of : (code_of refusal.NotLif ≡ code.NotLif) × (code_of refusal.NoRedo �
     × (code_of refusal.NeedsUpgrade ≡ code.NeedsUpgrade) × (code_of refusal.OutOfOrder ≡ code.OutOfOrder)
 codes_of = (refl, refl, refl, refl, refl, refl, refl, refl, refl, refl)
 
-refusal_text : reply_text (asks_store a_name) a_host (reply.No code.Exists) ≡ codes "error 5 Exists" ++ 10 ∷ []
+refusal_text : reply_text (asks_store a_name) a_host [] (reply.No code.Exists) ≡ codes "error 5 Exists" ++ 10 ∷ []
 unfolding digits
 refusal_text = refl
 
@@ -130,20 +130,20 @@ store_turns = (refl, refl)
 
 -- ---- the loop's commands
 
-devices_text : reply_text (Asks Devices) empty_host reply.Ok ≡ codes "device 1 10" ++ 10 ∷ codes "device 2 20" ++ 10 ∷ codes "ok" ++ 10 ∷ []
+devices_text : reply_text (Asks Devices) empty_host [] reply.Ok ≡ codes "device 1 10" ++ 10 ∷ codes "device 2 20" ++ 10 ∷ codes "ok" ++ 10 ∷ []
 unfolding digits encode_with
 devices_text = refl
 
 -- a device without an accessory ID
-quiet_text : reply_text (Asks Devices) (host_with base.formatted (quiet ∷ [])) reply.Ok ≡ codes "device 1 10" ++ 10 ∷ codes "device 2 --" ++ 10 ∷ codes "ok" ++ 10 ∷ []
+quiet_text : reply_text (Asks Devices) (host_with base.formatted (quiet ∷ [])) [] reply.Ok ≡ codes "device 1 10" ++ 10 ∷ codes "device 2 --" ++ 10 ∷ codes "ok" ++ 10 ∷ []
 unfolding digits encode_with
 quiet_text = refl
 
 -- a device that stands before the drive has the lower address
-before_the_drive : all_ids (record { before = printer ∷ []; status = 0; drive = empty_host.loop.drive; after = quiet ∷ [] }) ≡ Some 32 ∷ Some 16 ∷ None ∷ []
+before_the_drive : all_ids (record { before = printer ∷ []; status = 0; drive = empty_host.loop.drive; after = quiet ∷ []; guest = None }) ≡ Some 32 ∷ Some 16 ∷ None ∷ []
 before_the_drive = refl
 
-status_text : reply_text (Asks Status) empty_host reply.Ok ≡ codes "status 00" ++ 10 ∷ codes "ok" ++ 10 ∷ []
+status_text : reply_text (Asks Status) empty_host [] reply.Ok ≡ codes "status 00" ++ 10 ∷ codes "ok" ++ 10 ∷ []
 unfolding encode_with
 status_text = refl
 
@@ -152,7 +152,7 @@ abbrev pub with_status : ℕ → HostState → HostState
 with_status n s = record s { loop = record s.loop { status = n } }
 
 -- the status and, since it is not 0, the bit that asks for service
-status_2_text : reply_text (Asks Status) (with_status 2 empty_host) reply.Ok ≡ codes "status 42" ++ 10 ∷ codes "ok" ++ 10 ∷ []
+status_2_text : reply_text (Asks Status) (with_status 2 empty_host) [] reply.Ok ≡ codes "status 42" ++ 10 ∷ codes "ok" ++ 10 ∷ []
 unfolding encode_with
 status_2_text = refl
 
@@ -160,19 +160,19 @@ status_2_text = refl
 abbrev pub with_waiting : HostState → HostState
 with_waiting s = record s { loop = record s.loop { after = record printer { wants = true } ∷ [] } }
 
-poll_text : reply_text (Asks Poll) empty_host reply.Ok ≡ codes "poll 00 quiet" ++ 10 ∷ codes "ok" ++ 10 ∷ []
+poll_text : reply_text (Asks Poll) empty_host [] reply.Ok ≡ codes "poll 00 quiet" ++ 10 ∷ codes "ok" ++ 10 ∷ []
 unfolding encode_with
 poll_text = refl
 
 -- party 2 has bit 1, the drive bit 0
-poll_waiting : (reply_text (Asks Poll) (with_waiting empty_host) reply.Ok ≡ codes "poll 02 service" ++ 10 ∷ codes "ok" ++ 10 ∷ [])
-    × (reply_text (Asks Poll) (with_status 1 (with_waiting empty_host)) reply.Ok ≡ codes "poll 03 service" ++ 10 ∷ codes "ok" ++ 10 ∷ [])
+poll_waiting : (reply_text (Asks Poll) (with_waiting empty_host) [] reply.Ok ≡ codes "poll 02 service" ++ 10 ∷ codes "ok" ++ 10 ∷ [])
+    × (reply_text (Asks Poll) (with_status 1 (with_waiting empty_host)) [] reply.Ok ≡ codes "poll 03 service" ++ 10 ∷ codes "ok" ++ 10 ∷ [])
 unfolding encode_with
 poll_waiting = (refl, refl)
 
 -- the ninth party has no bit, but its service bit
 abbrev pub nine : LoopState
-nine = record { before = replicate 8 printer; status = 3; drive = empty_host.loop.drive; after = [] }
+nine = record { before = replicate 8 printer; status = 3; drive = empty_host.loop.drive; after = []; guest = None }
 
 poll_of_nine : poll_frame nine ≡ framed class.Isr 0
 poll_of_nine = refl
@@ -187,14 +187,14 @@ say_replies : (reply_of (Asks (Say (codes "HI"))) empty_host ≡ reply.Ok) × (p
     × (reply_of (Asks (Say (codes "A"))) (host_with base.formatted (quiet ∷ [])) ≡ reply.No code.NoPrinter)
 say_replies = (refl, refl, refl)
 
-paper_text : (reply_text (Asks Paper) (with_paper empty_host) reply.Ok ≡ codes "paper 4849 2" ++ 10 ∷ codes "ok" ++ 10 ∷ [])
-    × (reply_text (Asks Paper) empty_host reply.Ok ≡ codes "paper - 0" ++ 10 ∷ codes "ok" ++ 10 ∷ [])
+paper_text : (reply_text (Asks Paper) (with_paper empty_host) [] reply.Ok ≡ codes "paper 4849 2" ++ 10 ∷ codes "ok" ++ 10 ∷ [])
+    × (reply_text (Asks Paper) empty_host [] reply.Ok ≡ codes "paper - 0" ++ 10 ∷ codes "ok" ++ 10 ∷ [])
 unfolding digits encode_with
 paper_text = (refl, refl)
 
 -- the drive alone
 no_paper : (reply_of (Asks Paper) (host_with base.formatted []) ≡ reply.No code.NoPrinter)
-    × (reply_text (Asks Paper) (host_with base.formatted []) (reply.No code.NoPrinter) ≡ codes "error 12 NoPrinter" ++ 10 ∷ [])
+    × (reply_text (Asks Paper) (host_with base.formatted []) [] (reply.No code.NoPrinter) ≡ codes "error 12 NoPrinter" ++ 10 ∷ [])
 unfolding digits
 no_paper = (refl, refl)
 
@@ -204,16 +204,16 @@ no_paper = (refl, refl)
 abbrev pub purged_host : HostState
 purged_host = host_with (base.tape_with (purged (file a_name 4 1) ++ base.redo_entry ++ base.end_entry)) (printer ∷ [])
 
-dir_of_purged : reply_text asks_dir purged_host reply.Ok ≡ codes "volume HPTAPE 2 2 2 16" ++ 10 ∷ codes "file REDOFILE E0D0 8 4 00000000" ++ 10 ∷ codes "ok" ++ 10 ∷ []
+dir_of_purged : reply_text asks_dir purged_host [] reply.Ok ≡ codes "volume HPTAPE 2 2 2 16" ++ 10 ∷ codes "file REDOFILE E0D0 8 4 00000000" ++ 10 ∷ codes "ok" ++ 10 ∷ []
 unfolding two_at four_at name_of label_of implementation_of is_open entry_at entries_of printed with_type volume_line file_line listing digits encode_with
 dir_of_purged = refl
 
-used_without_purged : reply_text asks_dir purged_host reply.Ok ≡ codes "volume HPTAPE 2 2 1 16" ++ 10 ∷ codes "file REDOFILE E0D0 8 4 00000000" ++ 10 ∷ codes "ok" ++ 10 ∷ [] → ⊥
+used_without_purged : reply_text asks_dir purged_host [] reply.Ok ≡ codes "volume HPTAPE 2 2 1 16" ++ 10 ∷ codes "file REDOFILE E0D0 8 4 00000000" ++ 10 ∷ codes "ok" ++ 10 ∷ [] → ⊥
 unfolding two_at four_at name_of label_of implementation_of is_open entry_at entries_of printed with_type volume_line file_line listing digits encode_with
 used_without_purged = texts_differ _ _ refl
 
 -- numbers are decimal
-dir_in_hex : reply_text asks_dir empty_host reply.Ok ≡ codes "volume HPTAPE 2 2 1 10" ++ 10 ∷ codes "file REDOFILE E0D0 8 4 00000000" ++ 10 ∷ codes "ok" ++ 10 ∷ [] → ⊥
+dir_in_hex : reply_text asks_dir empty_host [] reply.Ok ≡ codes "volume HPTAPE 2 2 1 10" ++ 10 ∷ codes "file REDOFILE E0D0 8 4 00000000" ++ 10 ∷ codes "ok" ++ 10 ∷ [] → ⊥
 unfolding two_at four_at name_of label_of implementation_of is_open entry_at entries_of printed volume_line file_line listing digits encode_with
 dir_in_hex = texts_differ _ _ refl
 
@@ -232,25 +232,25 @@ exists_before_missing h = other_code (sym no_file ∙ h)
     other_code : reply.No code.NoFile ≡ reply.No code.Exists → ⊥
     other_code same = cc
 
-no_id_as_zero : reply_text (Asks Devices) (host_with base.formatted (quiet ∷ [])) reply.Ok ≡ codes "device 1 10" ++ 10 ∷ codes "device 2 00" ++ 10 ∷ codes "ok" ++ 10 ∷ [] → ⊥
+no_id_as_zero : reply_text (Asks Devices) (host_with base.formatted (quiet ∷ [])) [] reply.Ok ≡ codes "device 1 10" ++ 10 ∷ codes "device 2 00" ++ 10 ∷ codes "ok" ++ 10 ∷ [] → ⊥
 unfolding digits encode_with
 no_id_as_zero = texts_differ _ _ refl
 
-status_of_one_digit : reply_text (Asks Status) empty_host reply.Ok ≡ codes "status 0" ++ 10 ∷ codes "ok" ++ 10 ∷ [] → ⊥
+status_of_one_digit : reply_text (Asks Status) empty_host [] reply.Ok ≡ codes "status 0" ++ 10 ∷ codes "ok" ++ 10 ∷ [] → ⊥
 unfolding encode_with
 status_of_one_digit = texts_differ _ _ refl
 
-status_without_service : reply_text (Asks Status) (with_status 2 empty_host) reply.Ok ≡ codes "status 02" ++ 10 ∷ codes "ok" ++ 10 ∷ [] → ⊥
+status_without_service : reply_text (Asks Status) (with_status 2 empty_host) [] reply.Ok ≡ codes "status 02" ++ 10 ∷ codes "ok" ++ 10 ∷ [] → ⊥
 unfolding encode_with
 status_without_service = texts_differ _ _ refl
 
-poll_by_the_drive : reply_text (Asks Poll) (with_waiting empty_host) reply.Ok ≡ codes "poll 01 service" ++ 10 ∷ codes "ok" ++ 10 ∷ [] → ⊥
+poll_by_the_drive : reply_text (Asks Poll) (with_waiting empty_host) [] reply.Ok ≡ codes "poll 01 service" ++ 10 ∷ codes "ok" ++ 10 ∷ [] → ⊥
 unfolding encode_with
 poll_by_the_drive = texts_differ _ _ refl
 
-paper_of_nothing : reply_text (Asks Paper) empty_host reply.Ok ≡ codes "paper  0" ++ 10 ∷ codes "ok" ++ 10 ∷ [] → ⊥
+paper_of_nothing : reply_text (Asks Paper) empty_host [] reply.Ok ≡ codes "paper  0" ++ 10 ∷ codes "ok" ++ 10 ∷ [] → ⊥
 unfolding digits encode_with
 paper_of_nothing = texts_differ _ _ refl
 
-fault_with_lines : reply_text (Asks Status) empty_host reply.FaultFrame ≡ codes "status 00" ++ 10 ∷ codes "fault frame" ++ 10 ∷ [] → ⊥
+fault_with_lines : reply_text (Asks Status) empty_host [] reply.FaultFrame ≡ codes "status 00" ++ 10 ∷ codes "fault frame" ++ 10 ∷ [] → ⊥
 fault_with_lines = texts_differ _ _ refl

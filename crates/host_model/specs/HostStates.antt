@@ -23,9 +23,9 @@ pub record HostState : Type 0 where
   pub loop : LoopState
 
 -- a host that was just opened
-abbrev pub fresh_host : Option Tape → ℕ → ℕ → List DeviceState → List DeviceState → HostState
-fresh_host tape records faults before after =
-    record { tape = tape; records = records; faults = faults; crossings = 0; ready = false; sound = false; kept = false; loop = fresh_loop before after }
+abbrev pub fresh_host : Option Tape → ℕ → ℕ → List DeviceState → List DeviceState → Option ℕ → HostState
+fresh_host tape records faults before after guest =
+    record { tape = tape; records = records; faults = faults; crossings = 0; ready = false; sound = false; kept = false; loop = fresh_loop before after guest }
 
 -- The volume: none where the tape is not legal, or not told. A file that a stopped packing was moving stands at its new place.
 abbrev pub volume_at : HostState → Option Volume

@@ -123,7 +123,7 @@ pub record RunsOver (end : RunEnd) (order : Order) (old now : Outside) (stopped 
   pub opens : Opens order old start
   pub ran : RunSoFar order.plan order.generated (mode_of order) end start finish old.left now.left old.written now.written
   pub tells : RunTells order.plan start ran.events finish
-  pub back : HandsBack finish now
+  pub back : HandsBack order finish old now
   pub stops : LeavesWithin start ran.events finish stopped
   pub shelf : KeepsShelf order old now
 
@@ -144,6 +144,7 @@ pub record IsUntouched (old now : Outside) : Type 0 where
   pub written : now.written ≡ old.written
   pub before : now.before ≡ old.before
   pub after : now.after ≡ old.after
+  pub guest : now.guest ≡ old.guest
 
 -- and no tape is in, and the shelf is as it was
 pub record IsEmpty (old now : Outside) : Type 0 where

@@ -1,5 +1,5 @@
 -- What stands on the loop between two commands, and what the commands of the loop tell of it.
-use Rattle.std.specs.Prelude.{ℕ, suc, ◌+◌, List, ◌∷◌, ◌++◌, length, map, Option, Some, option_map}
+use Rattle.std.specs.Prelude.{ℕ, suc, ◌+◌, List, ◌∷◌, ◌++◌, length, map, Option, Some, None, option_map}
 use Rattle.std.specs.List.{position}
 use Rattle.il_frames.specs.declared.frame.Class.TheVariants as class
 use Rattle.il_frames.specs.declared.frame.Frame.{Frame}
@@ -10,20 +10,23 @@ use Rattle.il_device.specs.Roles.{no_roles}
 use Rattle.il_device.specs.State.{DeviceState}
 use Rattle.il_device.specs.Passing.{identified}
 use Rattle.il_drive.specs.State.{drive_id}
+use Rattle.il_guest.specs.Rounds.{addresses}
 use Rattle.il_ring.specs.Rings.{printer_id, has_id, paper_of}
 use Rattle.loop_model.specs.Loops.{Loop, host_loop}
 use Rattle.loop_model.specs.Polls.{poll_place, polled_along}
 
--- the devices before the drive, in the order of the ring; the drive's status, 0 to 3, and its roles; the devices behind it
+-- The devices before the drive, in the order of the ring; the drive's status, 0 to 3, and its roles; the devices behind it; and the last
+-- address that a second controller asks, where there is one. Its device is the last of those.
 pub record LoopState : Type 0 where
   pub before : List DeviceState
   pub status : ℕ
   pub drive : Roles
   pub after : List DeviceState
+  pub guest : Option ℕ
 
 -- the devices as they were handed in, with a drive to which nothing has come yet
-abbrev pub fresh_loop : List DeviceState → List DeviceState → LoopState
-fresh_loop before after = record { before = before; status = 0; drive = no_roles; after = after }
+abbrev pub fresh_loop : List DeviceState → List DeviceState → Option ℕ → LoopState
+fresh_loop before after guest = record { before = before; status = 0; drive = no_roles; after = after; guest = guest }
 
 -- ---- all devices, in the order of the ring: the first is party 1
 
@@ -73,3 +76,13 @@ printer_at z = option_map suc (position (has_id printer_id) (all_ids z))
 -- what the first printer beside the drive has kept, and how many bytes it has heard
 abbrev pub paper_on : LoopState → Option (List ℕ × ℕ)
 paper_on z = paper_of (boxed z)
+
+-- ---- a second controller
+
+abbrev pub last_address : Option ℕ → ℕ
+last_address None = 0
+last_address (Some last) = last
+
+-- the addresses that it asks for their status in each round, of which its own is none
+abbrev pub addresses_asked : LoopState → List ℕ
+addresses_asked z = addresses (Some (device_count z)) (last_address z.guest)

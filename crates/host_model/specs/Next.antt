@@ -6,7 +6,7 @@ use Rattle.loop_model.specs.Listening.{HearsAll, HearsInPart}
 use Rattle.il_ring.specs.Outcomes.{HearsNothing}
 use Rattle.il_script.specs.declared.reply.Reply.{Reply}
 use Rattle.il_script.specs.declared.reply.Reply.TheVariants as reply
-use Rattle.host_model.specs.Requests.{OfVolume, Get, Pack, Status, Poll, Say, Paper, Item, Asks, NoCommand}
+use Rattle.host_model.specs.Requests.{OfVolume, Get, Pack, Status, Poll, Say, Paper, Lend, Item, Asks, NoCommand}
 use Rattle.host_model.specs.LoopStates.{LoopState, printer_at}
 
 -- ---- device by device
@@ -49,9 +49,13 @@ abbrev pub StatusBehindVolume : Reply → ℕ → Type 0
 StatusBehindVolume reply.FaultFrame now = now ≤ 3
 StatusBehindVolume r now = now ≡ 0
 
+-- it is told, which ends it, or is as before
+abbrev pub MayBeTold : ℕ → ℕ → Type 0
+MayBeTold before now = (now ≡ 0) ⊎ (now ≡ before)
+
 -- telling the status ends it
 abbrev pub StatusBehindStatus : Reply → ℕ → ℕ → Type 0
-StatusBehindStatus reply.FaultFrame before now = (now ≡ 0) ⊎ (now ≡ before)
+StatusBehindStatus reply.FaultFrame before now = MayBeTold before now
 StatusBehindStatus reply.Ok before now = now ≡ 0
 StatusBehindStatus r before now = now ≡ before
 
@@ -60,6 +64,7 @@ StatusBehind (Asks (OfVolume command)) r before now = StatusBehindVolume r now
 StatusBehind (Asks (Get name)) r before now = StatusBehindVolume r now
 StatusBehind (Asks Pack) r before now = StatusBehindVolume r now
 StatusBehind (Asks Status) r before now = StatusBehindStatus r before now
+StatusBehind (Asks (Lend frames)) r before now = MayBeTold before now
 StatusBehind _ r before now = now ≡ before
 
 -- ---- all of it

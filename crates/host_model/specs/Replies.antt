@@ -21,8 +21,9 @@ use Rattle.il_script.specs.Replies.{text_line, next, reply_line, code_of}
 use Rattle.il_script.specs.declared.reply.Code.TheVariants as code
 use Rattle.il_script.specs.declared.reply.Reply.{Reply}
 use Rattle.il_script.specs.declared.reply.Reply.TheVariants as reply
-use Rattle.host_model.specs.Requests.{OfVolume, Get, Pack, Devices, Status, Poll, Say, Paper, Item, Asks, NoCommand, text_type}
-use Rattle.host_model.specs.LoopStates.{all_ids, status_byte, poll_frame, printer_at, paper_on}
+use Rattle.il_ring.specs.Statuses.{last_told}
+use Rattle.host_model.specs.Requests.{OfVolume, Get, Pack, Devices, Status, Poll, Say, Paper, Lend, Item, Asks, NoCommand, text_type}
+use Rattle.host_model.specs.LoopStates.{addresses_asked, all_ids, device_count, status_byte, poll_frame, printer_at, paper_on}
 use Rattle.host_model.specs.HostStates.{HostState, volume_at}
 use Rattle.host_model.specs.Listing.{type_text, listing}
 
@@ -52,6 +53,11 @@ abbrev pub if_printer : {X : Type 0} → Option X → Reply
 if_printer None = reply.No code.NoPrinter
 if_printer (Some x) = reply.Ok
 
+-- ok where a second controller stands on the loop, that takes control
+abbrev pub if_taker : {X : Type 0} → Option X → Reply
+if_taker None = reply.No code.NoTaker
+if_taker (Some x) = reply.Ok
+
 -- ok where there are lines
 abbrev pub if_text : Option (List (List ℕ)) → Reply
 if_text None = reply.No code.NotText
@@ -69,6 +75,7 @@ reply_of (Asks (Get name)) s = got_as (apply s.records (volume.Fetch name) (volu
 reply_of (Asks Pack) s = refused_as (pack_refusal s.records (volume_at s))
 reply_of (Asks (Say bytes)) s = if_printer (printer_at s.loop)
 reply_of (Asks Paper) s = if_printer (paper_on s.loop)
+reply_of (Asks (Lend frames)) s = if_taker s.loop.guest
 reply_of (Asks _) s = reply.Ok
 reply_of (NoCommand c) s = reply.No c
 
@@ -131,7 +138,7 @@ abbrev pub packed_line : ℕ → Option Volume → List ℕ
 packed_line n None = []
 packed_line n (Some v) = packed_text (files_moved n v) (records_free n v)
 
--- two hex digits, or `--` for a device that has no accessory ID
+-- two hex digits, or `--` for a device that has no accessory ID, or told no status
 abbrev pub id_text : Option ℕ → List ℕ
 id_text None = codes "--"
 id_text (Some id) = byte_text id
@@ -154,24 +161,33 @@ abbrev pub paper_line : Option (List ℕ × ℕ) → List ℕ
 paper_line None = []
 paper_line (Some paper) = text_line (codes "paper" ++ next (bytes_text paper.0) ++ next (decimal paper.1))
 
--- by what stands before the command
-abbrev pub lines_before : Item → HostState → List ℕ
-lines_before (Asks (OfVolume command)) s = told_of command (volume_at s)
-lines_before (Asks (Get name)) s = lines_text (lines_of_file name (volume_at s))
-lines_before (Asks Pack) s = packed_line s.records (volume_at s)
-lines_before (Asks Devices) s = device_lines 1 (all_ids s.loop)
-lines_before (Asks Status) s = status_line (status_byte s.loop)
-lines_before (Asks Poll) s = poll_line (poll_frame s.loop)
-lines_before (Asks (Say bytes)) s = []
-lines_before (Asks Paper) s = paper_line (paper_on s.loop)
-lines_before (NoCommand c) s = []
+-- `guest A HH`, or `guest A --` where that address told no status
+abbrev pub guest_line : ℕ → Option ℕ → List ℕ
+guest_line address status = text_line (codes "guest" ++ next (decimal address) ++ next (id_text status))
+
+-- of each of these addresses its last status that this log tells to party k
+abbrev pub guest_lines : ℕ → List Entry → List ℕ → List ℕ
+guest_lines k log addresses = flat_map (λ a. guest_line a (last_told k a log)) addresses
+
+-- By what stands before the command. That of a lend are told by its log.
+abbrev pub lines_before : Item → HostState → List Entry → List ℕ
+lines_before (Asks (OfVolume command)) s log = told_of command (volume_at s)
+lines_before (Asks (Get name)) s log = lines_text (lines_of_file name (volume_at s))
+lines_before (Asks Pack) s log = packed_line s.records (volume_at s)
+lines_before (Asks Devices) s log = device_lines 1 (all_ids s.loop)
+lines_before (Asks Status) s log = status_line (status_byte s.loop)
+lines_before (Asks Poll) s log = poll_line (poll_frame s.loop)
+lines_before (Asks (Say bytes)) s log = []
+lines_before (Asks Paper) s log = paper_line (paper_on s.loop)
+lines_before (Asks (Lend frames)) s log = guest_lines (device_count s.loop) log (addresses_asked s.loop)
+lines_before (NoCommand c) s log = []
 
 -- ---- texts
 
--- the text of a reply, by what stands before its item: only one with ok has lines before the last
-abbrev pub reply_text : Item → HostState → Reply → List ℕ
-reply_text item s reply.Ok = lines_before item s ++ reply_line reply.Ok
-reply_text item s r = reply_line r
+-- The text of a reply, by what stands before its item, and by the log of it: only one with ok has lines before the last.
+abbrev pub reply_text : Item → HostState → List Entry → Reply → List ℕ
+reply_text item s log reply.Ok = lines_before item s log ++ reply_line reply.Ok
+reply_text item s log r = reply_line r
 
 -- the text of a log: a line for each entry, oldest first
 abbrev pub trace_text : List Entry → List ℕ

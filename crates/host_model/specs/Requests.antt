@@ -21,7 +21,8 @@ use Rattle.il_script.specs.declared.reply.Code.TheVariants as code
 -- ---- requests
 
 -- A command with all that it carries: one of the volume, or one of the loop. `Get` is a fetch that tells the lines of a text; `Pack`
--- moves the files of the volume together; `Say` carries the bytes for the printer.
+-- moves the files of the volume together; `Say` carries the bytes for the printer; `Lend` hands control to a second controller until so
+-- many frames of its have come to the host.
 pub data Request : Type 0 where
   OfVolume : VolumeCommand → Request
   Get : (name : List ℕ) → Request
@@ -31,6 +32,7 @@ pub data Request : Type 0 where
   Poll : Request
   Say : (bytes : List ℕ) → Request
   Paper : Request
+  Lend : (frames : ℕ) → Request
 
 -- the type of a text file
 abbrev pub text_type : ℕ
@@ -59,6 +61,7 @@ request_of command.Status bytes = Status
 request_of command.Poll bytes = Poll
 request_of command.Say bytes = Say bytes
 request_of command.Paper bytes = Paper
+request_of (command.Lend frames) bytes = Lend frames
 
 -- ---- items
 
@@ -206,6 +209,11 @@ is_of_volume (Asks (OfVolume command)) = true
 is_of_volume (Asks (Get name)) = true
 is_of_volume (Asks Pack) = true
 is_of_volume _ = false
+
+-- it hands control of the loop to a second controller
+abbrev pub is_lending : Item → Bool
+is_lending (Asks (Lend frames)) = true
+is_lending _ = false
 
 -- every command but `paper` sends frames
 abbrev pub uses_frames : Item → Bool

@@ -2,6 +2,7 @@
 use Rattle.std.specs.Prelude.{Bool, false}
 use Rattle.il_ports.specs.Media.{MediumView}
 use Rattle.il_drive.specs.State.{status_of}
+use Rattle.il_ring.specs.Guests.{last_asked}
 use Rattle.il_ring.specs.Rings.{RingView}
 use Rattle.host_model.specs.LoopStates.{LoopState}
 use Rattle.host_model.specs.HostStates.{HostState}
@@ -12,6 +13,7 @@ loop_on r = record {
   status = status_of r.drive.state;
   drive = r.drive.state.interface.roles;
   after = r.after;
+  guest = last_asked r.guest;
 }
 
 -- of a host whose controller is ready or not, whose store is sound or not, and which keeps no directory

@@ -71,7 +71,7 @@ abbrev pub summary : List Event → List ℕ
 summary events = tally_text (length events) (tally_of (replies events))
 
 abbrev pub reply_text_of : Event → List ℕ
-reply_text_of e = reply_text e.item e.before e.reply
+reply_text_of e = reply_text e.item e.before e.log e.reply
 
 -- The text of an event's reply, where what it depends on is told. Of a reply that a tape decides which is not told, it may be any.
 abbrev pub IsTextOf : Event → List ℕ → Type 0

@@ -1,5 +1,5 @@
 -- One step of a run: an item, what was replied, the log, and what stands before and behind.
-use Rattle.std.specs.Prelude.{◌≡◌, ◌≢◌, ◌⊎◌, ◌≤◌, ◌++◌, ◌==◌, ◌&&◌, ◌||◌, ℕ, Bool, All, true, false, not, List, [], length, Option, Some, None, is_some, IfSome}
+use Rattle.std.specs.Prelude.{◌≡◌, ◌≢◌, ◌⊎◌, ◌≤◌, ◌++◌, ◌==◌, ◌&&◌, ◌||◌, ℕ, Bool, All, true, false, not, List, [], ◌∷◌, length, Option, Some, None, is_some, IfSome}
 use Rattle.std.specs.List.{list_any}
 use Rattle.std.specs.Str.{bytes_eq}
 use Rattle.std.specs.FinMap.{get}
@@ -24,18 +24,20 @@ use Rattle.loop_model.specs.Reach.{links, passes, met}
 use Rattle.il_device.specs.declared.roles.Roles.{Roles}
 use Rattle.loop_model.specs.Hearing.{heard_by}
 use Rattle.loop_model.specs.Listening.{HearsAll}
-use Rattle.loop_model.specs.Roles.{OneTalker, roles_after}
+use Rattle.loop_model.specs.Leading.{OneTalkerLed, are_commands_led, controller_after, is_taking_back, roles_led}
 use Rattle.loop_model.specs.Units.{RecordUnit, units_of, ends_within}
 use Rattle.il_script.specs.declared.reply.Reply.{Reply}
 use Rattle.il_script.specs.declared.reply.Reply.TheVariants as reply
 use Rattle.il_ring.specs.declared.plan.Planned.{Planned}
 use Rattle.il_ring.specs.Plans.{hops_of}
 use Rattle.il_ring.specs.Fates.{IsByPlan}
-use Rattle.host_model.specs.Requests.{OfVolume, Get, Pack, Item, Asks, is_of_volume, uses_frames}
-use Rattle.host_model.specs.LoopStates.{all_roles, device_count, ring_of}
+use Rattle.il_ring.specs.Lends.{Lend as Lending, came_back, is_lend, is_whole_lend, lend_address, lend_entries, tells_own, was_taken}
+use Rattle.il_ring.specs.Statuses.{ToldStatus, told_by}
+use Rattle.host_model.specs.Requests.{OfVolume, Get, Pack, Lend, Item, Asks, is_lending, is_of_volume, uses_frames}
+use Rattle.host_model.specs.LoopStates.{LoopState, addresses_asked, all_roles, device_count, drive_at, ring_of}
 use Rattle.host_model.specs.HostStates.{HostState, volume_at, HasOwnGate, log_room}
 use Rattle.host_model.specs.Replies.{reply_of, volume_behind}
-use Rattle.host_model.specs.Courses.{begins_with, cleared_first, course_of, keeps_course}
+use Rattle.host_model.specs.Courses.{addressed_first, begins_with, cleared_first, course_of, keeps_course, keeps_to}
 use Rattle.host_model.specs.Next.{Next, BoxedBecome}
 use Rattle.host_model.specs.Directories.{IsKeptAfter, LogOfKept}
 
@@ -95,11 +97,16 @@ pub record Replied (e : Event) : Type 0 where
 abbrev pub TookFrames : ℕ → List Entry → ℕ → DeviceState → DeviceState → Type 0
 TookFrames k log party d e = e.frames ≡ risen_by (passes k party log) d.frames
 
+-- At most one device talked at every moment, by the entries of a log that begins under the host's control, and each command was the
+-- controller's or an IFC of the host. The entries count for the crossings, for the frames that came to each device, and for the roles. A
+-- second controller asks the same addresses as before.
 pub record Travels (e : Event) : Type 0 where
-  pub one_talker : OneTalker (all_roles e.before.loop) e.log
-  pub roles : all_roles e.after.loop ≡ roles_after (all_roles e.before.loop) e.log
+  pub one_talker : OneTalkerLed 0 (all_roles e.before.loop) e.log
+  pub commands : are_commands_led 0 e.log ≡ true
+  pub roles : all_roles e.after.loop ≡ roles_led 0 (all_roles e.before.loop) e.log
   pub crossings : e.after.crossings ≡ risen_by (links (device_count e.before.loop) e.log) e.before.crossings
   pub frames : BoxedBecome (TookFrames (device_count e.before.loop) e.log) e.before.loop e.after.loop
+  pub guest : e.after.loop.guest ≡ e.before.loop.guest
   pub short : length e.log ≤ log_room e.before.records
 
 -- ---- what the devices heard of the log
@@ -186,23 +193,74 @@ pub record Exchanged (plan : List Planned) (e : Event) : Type 0 where
   pub effect : OnTapes e.before.tape e.after.tape (UnitsEffect (units_of (ring_of e.before.loop) reading.pieces))
   pub carried : IsCarried e.item e.reply e.before.records (volume_at e.before) (units_of (ring_of e.before.loop) reading.pieces)
 
+-- ---- a lend
+
+-- the entries of a lend, where it began
+abbrev pub entries_lent : LoopState → Option Lending → List Entry
+entries_lent z None = []
+entries_lent z (Some lend) = lend_entries (device_count z) (addresses_asked z) lend
+
+-- The host lends control of a loop like z by the last address, for so many frames. A second controller takes it, where one stands there.
+-- The lend is whole, unless it is a fault.
+pub record IsLendOf (z : LoopState) (frames : ℕ) (reply : Reply) (lend : Lending) : Type 0 where
+  pub is : is_lend (device_count z) (addresses_asked z) frames lend ≡ true
+  pub own : tells_own (addresses_asked z) lend ≡ true
+  pub address : lend_address lend ≡ device_count z
+  pub whole : is_whole_lend lend ≡ not (is_frame_fault reply)
+  pub taken : was_taken lend ≡ true → is_some z.guest ≡ true
+  pub refused : came_back lend ≡ true → is_some z.guest ≡ false
+
+-- The exchanges of the host before a lend are the addressing of a loop that was not ready, and break off at most where the lend did not
+-- begin. It is `fault frame` only where a planned hop was met; and where nobody takes control it is so exactly there. The medium does not
+-- fail in a lend that is whole. The drive told its status first, which is 0 then, and 0 each further time; all that came of it in the lend is these bytes.
+pub record Lent (plan : List Planned) (frames : ℕ) (e : Event) : Type 0 where
+  pub front : List Entry
+  pub reading : Reading (ring_of e.before.loop) front
+  pub addressed : keeps_to (addressed_first e.before.loop e.before.ready []) reading.pieces ≡ true
+  pub lent : Option Lending
+  pub ends : ends_as (is_some lent) reading.pieces ≡ true
+  pub log : e.log ≡ front ++ entries_lent e.before.loop lent
+  pub lends : IfSome lent (IsLendOf e.before.loop frames e.reply)
+  pub begun : is_frame_fault e.reply ≡ false → is_some lent ≡ true
+  pub cause : is_frame_fault e.reply ≡ true → met (hops_of plan) e.before.crossings e.after.crossings ≢ []
+  pub untaken : e.before.loop.guest ≡ None → is_frame_fault e.reply ≡ false → met (hops_of plan) e.before.crossings e.after.crossings ≡ []
+  pub faults : e.before.faults ≤ e.after.faults
+  pub unfailed : is_frame_fault e.reply ≡ false → e.after.faults ≡ e.before.faults
+  pub told : is_frame_fault e.reply ≡ false → ToldStatus e.before.loop.status (told_by (device_count e.before.loop) (drive_at e.before.loop) e.log) e.after.loop.status
+
 -- ---- a step
+
+-- the first frame is an IFC of the host, by which it takes control of the loop
+abbrev pub takes_back_first : List Entry → Bool
+takes_back_first [] = false
+takes_back_first (e ∷ log) = is_taking_back e
+
+-- A command that sends frames leaves a sound store sound, unless an exchange broke off; and a lend leaves none so.
+abbrev pub leaves_sound : Item → Reply → Bool
+leaves_sound (Asks (Lend frames)) r = false
+leaves_sound item r = not (is_frame_fault r)
 
 -- what an item did to the tape, the loop and its devices, and what its log tells of that, faults being planned at these crossings
 pub record Acts (plan : List Planned) (e : Event) : Type 0 where
   pub replied : Replied e
   pub next : Next e.item e.reply e.before.loop e.after.loop
   pub travels : Travels e
-  pub heard : BoxedBecome (HearsLog (device_count e.before.loop) (all_roles e.before.loop) e.log (not (is_frame_fault e.reply))) e.before.loop e.after.loop
-  pub exchanged : Exchanged plan e
+  -- the log of a lend is a lend, in which nobody hears, and that of every other item is exchanges of the host
+  pub heard : is_lending e.item ≡ false
+      → BoxedBecome (HearsLog (device_count e.before.loop) (all_roles e.before.loop) e.log (not (is_frame_fault e.reply))) e.before.loop e.after.loop
+  pub exchanged : is_lending e.item ≡ false → Exchanged plan e
+  pub lent : (frames : ℕ) → e.item ≡ Asks (Lend frames) → Lent plan frames e
   -- each frame that was lost, and each byte that was altered, was so by a fault planned at a crossing of this log
   pub by_plan : All (IsByPlan plan e.before.crossings e.after.crossings) e.log
   -- behind a command that sends frames the loop is ready, unless an exchange broke off
   pub ready : uses_frames e.item ≡ true → e.after.ready ≡ not (is_frame_fault e.reply)
+  -- the host controls a loop that is ready, and takes control of another first
+  pub controls : e.after.ready ≡ true → controller_after 0 e.log ≡ 0
+  pub clears : uses_frames e.item ≡ true → e.before.ready ≡ false → takes_back_first e.log ≡ true
   -- Behind a command of the volume the store is sound, unless it replied a fault. Another command that sends frames leaves it as it
-  -- was, unless an exchange broke off.
+  -- was, unless an exchange broke off, or control was lent.
   pub sound : is_of_volume e.item ≡ true → e.after.sound ≡ not (is_fault e.reply)
-  pub unsound : is_of_volume e.item ≡ false → uses_frames e.item ≡ true → e.after.sound ≡ (e.before.sound && not (is_frame_fault e.reply))
+  pub unsound : is_of_volume e.item ≡ false → uses_frames e.item ≡ true → e.after.sound ≡ (e.before.sound && leaves_sound e.item e.reply)
   -- an item that sends no frame has no log and leaves everything
   pub still : uses_frames e.item ≡ false → (e.log ≡ []) × (e.after ≡ e.before)
 
