@@ -1,19 +1,20 @@
 -- A run of the program, by what `run_il` leaves over what was made for it; and a check, by what `run_check` does.
 use Rattle.std.proofs.Common.{◌≡◌, ℕ, List, Option, subst}
 use Rattle.il_device.specs.State.{DeviceState}
+use Rattle.il_guest.specs.State.{GuestState}
 use Rattle.il_ports.specs.Media.{MediumView}
 use Rattle.il_host.specs.Whole.{RunLeaves, outside}
 use Rattle.il_check.specs.Whole.{CheckLeaves}
 
-module _ {D : Type 0} (view : D → MediumView) (status : ℕ) (words : List (List ℕ)) (now : D) (left_now written_now : Option (List ℕ)) (after before_now after_now : List DeviceState) (source_faults sink_faults : ℕ) (untouched : Type 0) where
+module _ {D : Type 0} (view : D → MediumView) (status : ℕ) (words : List (List ℕ)) (now : D) (left_now written_now : Option (List ℕ)) (after before_now after_now : List DeviceState) (guest guest_now : Option GuestState) (source_faults sink_faults : ℕ) (untouched : Type 0) where
   -- over this drive, script, output and counts
   abbrev Leaves : D → Option (List ℕ) → Option (List ℕ) → List DeviceState → ℕ → ℕ → Type 0
   Leaves d left written before source sink =
-      RunLeaves status words (view d) (view now) (outside (view d) left written before after) (outside (view now) left_now written_now before_now after_now) source source_faults sink sink_faults untouched
+      RunLeaves status words (view d) (view now) (outside (view d) left written before after guest) (outside (view now) left_now written_now before_now after_now guest_now) source source_faults sink sink_faults untouched
 
   pub ran_by : (fresh old : D) (left left_old written written_old : Option (List ℕ)) (before before_old : List DeviceState) (source sink : ℕ) (same : Type 0)
       → Leaves old left_old written_old before_old source sink → old ≡ fresh → left_old ≡ left → written_old ≡ written → before_old ≡ before → source ≡ 0 → sink ≡ 0 → (untouched → same)
-      → RunLeaves status words (view fresh) (view now) (outside (view fresh) left written before after) (outside (view now) left_now written_now before_now after_now) 0 source_faults 0 sink_faults same
+      → RunLeaves status words (view fresh) (view now) (outside (view fresh) left written before after guest) (outside (view now) left_now written_now before_now after_now guest_now) 0 source_faults 0 sink_faults same
   ran_by fresh old left left_old written written_old before before_old source sink same ran fresh_is left_is written_is before_is source_is sink_is stays =
       let told =
       subst (λ (d : D). Leaves d left written before 0 0) fresh_is

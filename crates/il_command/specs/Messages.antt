@@ -12,7 +12,7 @@ abbrev pub way_of : List (List ℕ) → Way
 way_of words = if asks_for_check words then Check else Script
 
 abbrev pub usage_of : Way → List ℕ
-usage_of Script = codes "il: usage: il [--new] [--new-disc] [--quiet] [--lose LIST] [--alter LIST] [--generate SEED:COUNT] IMAGE"
+usage_of Script = codes "il: usage: il [--new] [--new-disc] [--quiet] [--guest] [--lose LIST] [--alter LIST] [--generate SEED:COUNT] IMAGE"
 usage_of Check = codes "il: usage: il check K D BEFORE AFTER"
 
 -- the text for an exit status; a run that reads its script to the end tells nothing, and a check that reads its trace

@@ -13,6 +13,7 @@ ghost use Rattle.std.specs.declared.io.ErrorKind.TheVariants.{OutOfMemory};
 
 use checking::check_with;
 use il_device::{Device, Printer};
+use il_guest::Guest;
 use il_ports::SystemImages;
 use messages::Way;
 use running::run_with;
@@ -24,6 +25,9 @@ use telling::told;
 const BAD_WORDS: u8 = 2;
 
 const OUT_OF_MEMORY: u8 = 7;
+
+/// The last address that the second controller asks: it asks the drive and the printer.
+const LAST_ASKED: u8 = 2;
 
 /// The exit status where the words of the command line were not read. One that is not UTF-8 is no word of the program.
 fn unread_words(error: &io::Error) -> u8
@@ -61,7 +65,17 @@ fn run(rt: &HostRuntime, words: &[String]) -> u8 {
         return OUT_OF_MEMORY;
     }
     let images = SystemImages::new(rt);
-    run_with(rt.alloc(), words, reader, io::writer(rt), images, after).close()
+    let guest = Some(Guest::new(LAST_ASKED));
+    run_with(
+        rt.alloc(),
+        words,
+        reader,
+        io::writer(rt),
+        images,
+        after,
+        guest,
+    )
+    .close()
 }
 
 /// Checks the trace that comes on standard input, and gives the exit status.

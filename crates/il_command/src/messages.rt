@@ -28,7 +28,7 @@ impl Way {
     {
         match self {
             Way::Script => {
-                "il: usage: il [--new] [--new-disc] [--quiet] [--lose LIST] [--alter LIST] [--generate SEED:COUNT] IMAGE"
+                "il: usage: il [--new] [--new-disc] [--quiet] [--guest] [--lose LIST] [--alter LIST] [--generate SEED:COUNT] IMAGE"
             }
             Way::Check => "il: usage: il check K D BEFORE AFTER",
         }
@@ -64,7 +64,7 @@ mod tests {
             None,
             None,
             Some(
-                "il: usage: il [--new] [--new-disc] [--quiet] [--lose LIST] [--alter LIST] [--generate SEED:COUNT] IMAGE",
+                "il: usage: il [--new] [--new-disc] [--quiet] [--guest] [--lose LIST] [--alter LIST] [--generate SEED:COUNT] IMAGE",
             ),
             Some("il: no such image"),
             Some("il: image too large"),

@@ -1,10 +1,12 @@
-ghost use Rattle.std.specs.Prelude.{◌≡◌, ◌≤◌, [], length, map, string_bytes};
+ghost use Rattle.std.specs.Prelude.{◌≡◌, ◌≤◌, ◌+◌, [], length, map, string_bytes};
 ghost use Rattle.std.specs.List.{All};
+ghost use Rattle.il_ring.specs.Guests.{IsIdleGuest, MayBeGuest, guest_devices};
 ghost use Rattle.il_ring.specs.Rings.{MayStand};
 ghost use Rattle.il_ports.specs.FileDrives.{empty_drive};
 ghost use Rattle.il_host.specs.Whole.{RunLeaves, outside};
 
 use il_device::Device;
+use il_guest::Guest;
 use il_host::{Ended, Rig, run_il};
 use il_ports::{FileMedium, Images, Medium, Sink, Source, StdSink, StdSource, TapeFile};
 use std::alloc::Global;
@@ -48,8 +50,8 @@ impl<R: Read + Drop, W: Write + Drop, F: TapeFile + Drop, I: Images<F> + Drop> F
     }
 }
 
-/// A run over a reader and a writer of std, over named images, and over the devices after the drive, as `run_il` makes
-/// it. It takes no memory of its own.
+/// A run over a reader and a writer of std, over named images, and over the devices after the drive and a second
+/// controller, as `run_il` makes it. It takes no memory of its own.
 pub fn run_with<R: Read + Drop, W: Write + Drop, F: TapeFile + Drop, I: Images<F> + Drop>(
     alloc: Global,
     words: &[String],
@@ -57,12 +59,14 @@ pub fn run_with<R: Read + Drop, W: Write + Drop, F: TapeFile + Drop, I: Images<F
     writer: W,
     images: I,
     after: Vec<Box<dyn Device>>,
+    guest: Option<Guest>,
 ) -> Finished<R, W, F, I>
-    requires few { length after.items ≤ 29 }
+    requires few { length after.items + length (guest_devices guest) ≤ 29 }
     requires stand { All (λ b. MayStand (⟦<Box<dyn Device> as Device>⟧.state b)) after.items }
+    requires guest { IsIdleGuest guest × MayBeGuest guest }
     ensures { RunLeaves result.status (map string_bytes words.now) (empty_drive (I.shelf images) 0) (⟦<FileMedium<F, I> as Medium>⟧.view result.rig.medium)
-        (outside (empty_drive (I.shelf images) 0) (R.remaining reader) (W.contents writer) [] (map ⟦<Box<dyn Device> as Device>⟧.state after.items))
-        (outside (⟦<FileMedium<F, I> as Medium>⟧.view result.rig.medium) (⟦<StdSource<R> as Source>⟧.left result.script) (⟦<StdSink<W> as Sink>⟧.written result.out) (map ⟦<Box<dyn Device> as Device>⟧.state result.rig.before.items) (map ⟦<Box<dyn Device> as Device>⟧.state result.rig.after.items))
+        (outside (empty_drive (I.shelf images) 0) (R.remaining reader) (W.contents writer) [] (map ⟦<Box<dyn Device> as Device>⟧.state after.items) guest)
+        (outside (⟦<FileMedium<F, I> as Medium>⟧.view result.rig.medium) (⟦<StdSource<R> as Source>⟧.left result.script) (⟦<StdSink<W> as Sink>⟧.written result.out) (map ⟦<Box<dyn Device> as Device>⟧.state result.rig.before.items) (map ⟦<Box<dyn Device> as Device>⟧.state result.rig.after.items) result.rig.guest)
         0 (⟦<StdSource<R> as Source>⟧.faults result.script) 0 (⟦<StdSink<W> as Sink>⟧.faults result.out)
         ((⟦<StdSource<R> as Source>⟧.left result.script ≡ R.remaining reader) × (⟦<StdSink<W> as Sink>⟧.written result.out ≡ W.contents writer)) }
 {
@@ -72,7 +76,7 @@ pub fn run_with<R: Read + Drop, W: Write + Drop, F: TapeFile + Drop, I: Images<F
         medium: FileMedium::new(images),
         before: Vec::new(alloc),
         after,
-        guest: None,
+        guest,
     };
     let Ended { status, rig } = run_il(alloc, words, &mut script, &mut out, rig);
     Finished {

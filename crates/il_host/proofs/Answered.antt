@@ -8,7 +8,7 @@ use Rattle.host_model.specs.Steps.{Event, IsStep}
 use Rattle.host_model.specs.Stops.{LeftWithin}
 use Rattle.host_model.specs.Runs.{AreTextsOf, Chained, OutputMode, items_asked}
 use Rattle.host_model.specs.Leaves.{AsksAs, IsOkAs, WritesAs}
-use Rattle.host_model.proofs.Steps.{faults_grow}
+use Rattle.host_model.proofs.Steps.{faults_later}
 use Rattle.host_model.proofs.Growing.{chained_more, items_more, told_stays, texts_push, leaves_more, leaves_first}
 use Rattle.il_host.specs.HostView.{HostView, IsHost, KeepsImages}
 use Rattle.il_host.specs.Run.{Answers, AnswersScript, end_of, event_of}
@@ -54,7 +54,7 @@ answered_more v w x items events texts item r mode before now written s a =
 -- the medium's count of faults never falls
 pub answers-grow : {E : Type 0} (item : Item) (r : Reply) (mode : OutputMode) (v w : HostView) (before now : Option (List ℕ)) (written : Result (Unit {0}) E)
     → Answers item r mode v w before now written → v.state.faults ≤ w.state.faults
-answers-grow item r mode v w before now written a = faults_grow r _ v.state.faults w.state.faults _ a.step.acts.exchanged.cause
+answers-grow item r mode v w before now written a = faults_later v.plan (event_of item r a.log v w) a.step
 
 -- and so the loop ends
 pub answers_script : (generated : Option (ℕ × ℕ)) (ending : Ending) (mode : OutputMode) (v w : HostView) (left left_now before now : Option (List ℕ)) (items : List Item) (events : List Event) (texts : List (List ℕ))

@@ -2,8 +2,9 @@
 use Rattle.std.proofs.Common.{◌≡◌, ◌≤◌, ◌++◌, ◌∙◌, Bool, true, false, List, [], length, refl, sym, ap, subst, arith}
 use Rattle.il_frames.specs.declared.entry.Entry.{Entry}
 use Rattle.il_ports.specs.Media.{MediumView}
-use Rattle.loop_model.specs.Roles.{talkers, is_at_most_one, OneTalker}
-use Rattle.il_ring.specs.Rings.{RingView, devices_of, roles_of}
+use Rattle.loop_model.specs.Leading.{OneTalkerLed}
+use Rattle.loop_model.specs.Roles.{talkers, is_at_most_one}
+use Rattle.il_ring.specs.Rings.{RingView, devices_of, drive_party, roles_of}
 use Rattle.il_record.specs.Came.{CameBy}
 use Rattle.il_record.specs.Talks.{all_entries}
 use Rattle.il_script.specs.declared.reply.Reply.{Reply}
@@ -12,7 +13,7 @@ use Rattle.host_model.specs.LoopStates.{device_count}
 use Rattle.host_model.specs.HostStates.{log_room}
 use Rattle.host_model.specs.RingStates.{loop_on, state_on}
 use Rattle.host_model.specs.Steps.{Event, Travels, TookFrames, event}
-use Rattle.host_model.proofs.RingStates.{travels_on, roles_on}
+use Rattle.host_model.proofs.RingStates.{host_led, travels_on, roles_on}
 use Rattle.host_model.proofs.Steps.{boxed_same}
 
 -- a command over the loop: the ring r as it began, with an empty log, became s; the loop was ready before it, or not, and is
@@ -42,7 +43,8 @@ travels_came view item reply was is whole r s empty came short =
     let log = log_came view whole r s empty came in
     let room = subst (λ log. length log ≤ log_room (view r.drive.medium).record_count) log short in
     subst (λ log. Travels (event_with view item reply was is log r s)) (sym log)
-    (travels_on view item reply was is false false (all_entries came.pieces) r s came.talked.adds came.talked.one room)
+    (travels_on view item reply was is false false (all_entries came.pieces) r s came.talked.adds
+    (host_led (devices_of r) (length (devices_of r)) (drive_party r) (all_entries came.pieces) (record { pieces = came.pieces; legal = came.talked.legal; entries = refl }) came.talked.one) room)
 
 -- a command that sent no frame
 pub travels_none : {M : Type 0} (view : M → MediumView) (item : Item) (reply : Reply) (was is : Bool) (r s : RingView M) → r.books.log ≡ []
@@ -53,9 +55,11 @@ travels_none {M} view item reply was is r s empty one same =
   where
     nothing : Travels (event_with view item reply was is [] r r)
     nothing = record {
-      one_talker = subst (λ rs. OneTalker rs []) (sym (roles_on r)) one;
+      one_talker = subst (λ rs. OneTalkerLed 0 rs []) (sym (roles_on r)) one;
+      commands = refl;
       roles = refl;
       crossings = refl;
       frames = boxed_same (TookFrames (device_count (loop_on r)) []) (λ party d. refl) (loop_on r);
+      guest = refl;
       short = omega arith;
     }

@@ -162,7 +162,7 @@ module _ (name : List ℕ) (log : List Entry) (s t : HostState) where
   }
 
   travels_got : (r : Reply) (lines : Lines) → Travels (fetching name r log s t) → Travels (getting name (got r lines) log s t)
-  travels_got r lines so = record { one_talker = so.one_talker; roles = so.roles; crossings = so.crossings; frames = so.frames; short = so.short }
+  travels_got r lines so = record { one_talker = so.one_talker; commands = so.commands; roles = so.roles; crossings = so.crossings; frames = so.frames; guest = so.guest; short = so.short }
 
   acts_got : (r : Reply) (lines : Lines) (plan : List Planned) → (r ≡ reply.Ok → TellsReply (Asks (Get name)) s → lines ≡ lines_of_file name (volume_at s))
       → Acts plan (fetching name r log s t) → Acts plan (getting name (got r lines) log s t)
@@ -170,10 +170,13 @@ module _ (name : List ℕ) (log : List Entry) (s t : HostState) where
     replied = replied_got r lines same so.replied;
     next = next_got r lines s.loop t.loop so.next;
     travels = travels_got r lines so.travels;
-    heard = subst (λ (b : Bool). BoxedBecome (HearsLog (device_count s.loop) (all_roles s.loop) log (not b)) s.loop t.loop) (sym (frame_same r lines)) so.heard;
-    exchanged = exchanged_got r lines plan so.exchanged;
+    heard = λ other. subst (λ (b : Bool). BoxedBecome (HearsLog (device_count s.loop) (all_roles s.loop) log (not b)) s.loop t.loop) (sym (frame_same r lines)) (so.heard refl);
+    exchanged = λ other. exchanged_got r lines plan (so.exchanged refl);
+    lent = λ frames is. cc;
     by_plan = so.by_plan;
     ready = λ frames. so.ready refl ∙ sym (ap not (frame_same r lines));
+    controls = so.controls;
+    clears = λ frames. so.clears refl;
     sound = λ of. so.sound refl ∙ sym (ap not (fault_same r lines));
     unsound = λ other. cc;
     still = λ none. cc;
@@ -194,7 +197,7 @@ module _ (name : List ℕ) (log : List Entry) (s t : HostState) where
 
 module _ (name : List ℕ) (v w : HostView) where
   behind_got : (r : Reply) (lines : Lines) (text : List ℕ) → (r ≡ reply.Ok → TellsReply (Asks (Get name)) v.state → lines ≡ lines_of_file name (volume_at v.state))
-      → (TellsReply (Asks (Get name)) v.state → text ≡ reply_text (Asks (Get name)) v.state (got r lines))
+      → (TellsReply (Asks (Get name)) v.state → text ≡ reply_text (Asks (Get name)) v.state w.log (got r lines))
       → Performed (Asks (OfVolume (Fetch name))) r v w → Performed (Asks (Get name)) (got r lines) v (record w { text = text })
   behind_got r lines text same told so = record {
     valid = so.valid;
@@ -223,7 +226,7 @@ module _ (name : List ℕ) (v w : HostView) where
   got_lines lines same so = behind_got reply.Ok lines (lines_text lines ++ reply_line (if_text lines)) (λ ok. same) (told lines same) so
     where
       told : (lines : Lines) → (TellsReply (Asks (Get name)) v.state → lines ≡ lines_of_file name (volume_at v.state))
-          → TellsReply (Asks (Get name)) v.state → lines_text lines ++ reply_line (if_text lines) ≡ reply_text (Asks (Get name)) v.state (if_text lines)
+          → TellsReply (Asks (Get name)) v.state → lines_text lines ++ reply_line (if_text lines) ≡ reply_text (Asks (Get name)) v.state w.log (if_text lines)
       told None same tells = refl
       told (Some lines) same tells = ap (λ (l : Lines). lines_text l ++ reply_line reply.Ok) (same tells)
 

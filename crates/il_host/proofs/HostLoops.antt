@@ -1,6 +1,6 @@
 -- A command that asks the devices of the loop, as a host performs it.
 use Rattle.std.proofs.Common.{◌≡◌, ◌∙◌, ◌≤◌, ◌+◌, ◌*◌, ◌++◌, ◌-◌, ◌^◌, ◌/◌, ◌<◌, ℕ, suc, false, List, length, Option, None, Some, option_map, refl, sym, ap, subst, arith}
-use Rattle.std.specs.Prelude.{Result, Ok, Err, Bool, true, [], ◌∷◌, find, if◌then◌else◌, is_some}
+use Rattle.std.specs.Prelude.{IfSome, Result, Ok, Err, Bool, true, [], ◌∷◌, find, if◌then◌else◌, is_some}
 use Rattle.std.specs.List.{All, position}
 use Rattle.std.proofs.lemmas.List.Elements.{All-head, All-tail}
 use Rattle.il_device.specs.State.{DeviceState}
@@ -20,7 +20,9 @@ use Rattle.il_control.specs.Calls.{idy}
 use Rattle.il_record.specs.declared.records.LoopRecords.{LoopRecords}
 use Rattle.il_record.specs.declared.records.Since.{Since}
 use Rattle.il_record.specs.Asks.{up_to}
-use Rattle.il_record.specs.Called.{CallBroke, Called, LeavesStore}
+use Rattle.il_guest.specs.State.{GuestState}
+use Rattle.il_ring.specs.Guests.{guest_mind}
+use Rattle.il_record.specs.Called.{CallBroke, Called, LeavesLent, LeavesStore, LendCalls}
 use Rattle.il_record.specs.Controls.{ring_in}
 use Rattle.il_record.specs.IsStore.{is_store_at}
 use Rattle.il_record.specs.LoopCalls.{AllNamed, LeftAlone, NotSaid, Said, id_asks}
@@ -31,20 +33,22 @@ use Rattle.il_record.proofs.StoreResumes.{agrees}
 use Rattle.il_script.specs.declared.reply.Reply.{Reply}
 use Rattle.il_script.specs.declared.reply.Reply.TheVariants as reply
 use Rattle.il_script.specs.declared.reply.Code.TheVariants as code
-use Rattle.il_script.specs.declared.limits.TheConstants.{LONGEST_PAYLOAD}
+use Rattle.il_script.specs.declared.limits.TheConstants.{LONGEST_PAYLOAD, MOST_FRAMES}
 use Rattle.il_script.specs.Replies.{reply_line}
-use Rattle.host_model.specs.Requests.{Asks, Devices, Item, Paper, Poll, Say, Status}
+use Rattle.host_model.specs.Requests.{Asks, Devices, Item, Lend, Paper, Poll, Say, Status}
 use Rattle.host_model.specs.LoopStates.{paper_on, printer_at}
 use Rattle.host_model.specs.HostStates.{HostState}
 use Rattle.host_model.specs.Replies.{device_lines, if_printer, paper_line, poll_line, reply_text, status_line}
 use Rattle.host_model.specs.Steps.{KeepsDirectory}
 use Rattle.il_host.specs.HostView.{Performed}
 use Rattle.il_host.specs.Hosts.{Space, IsUsable, host_in, loop_in, store_in, volume_in}
-use Rattle.il_host.specs.Standings.{HasDriveId, fault_of}
+use Rattle.il_host.specs.Standings.{HasDriveId, fault_of, log_at}
+use Rattle.il_host.specs.Texts.{found_lines}
+use Rattle.il_frames.specs.declared.entry.Entry.{Entry}
 use Rattle.il_host.proofs.KeptDirectories.{forgotten}
 use Rattle.il_host.proofs.HostVolumes.{begun_calls, event_kept, fault_text, performed}
 use Rattle.il_host.proofs.LoopEvents.{IsOfLoop, not_of_volume}
-use Rattle.il_host.proofs.LoopPerforms.{devices_broke, devices_performs, loop_unready, poll_broke, poll_performs, printer_told, say_broke, say_no_printer, say_performs, say_unnamed, status_broke, status_performs}
+use Rattle.il_host.proofs.LoopPerforms.{devices_broke, devices_performs, lend_broke, lend_lines, lend_performs, loop_unready, poll_broke, poll_performs, printer_told, say_broke, say_no_printer, say_performs, say_unnamed, status_broke, status_performs}
 use Rattle.il_host.proofs.PaperPerforms.{paper_performs}
 use Rattle.il_host.proofs.VolumePerforms.{Performs}
 
@@ -60,6 +64,20 @@ ring_room {M} view seen p l k calls valid some left enough = by l.control valid 
     by (AtLost r) valid left = omega (arith, some, left, enough)
     by Nowhere valid left = absurd valid
 
+-- ---- a second controller
+
+guest_at : {M : Type 0} (c : Standing M) (guest : Option GuestState) (ring : RingView M) → HasRing c (λ s. ring ≡ s) → guest_mind guest ≡ ring.guest → HasRing c (λ s. guest_mind guest ≡ s.guest)
+guest_at {M} (AtIdle r) guest ring at is = is ∙ ap (λ (r : RingView M). r.guest) at
+guest_at {M} (AtLost r) guest ring at is = is ∙ ap (λ (r : RingView M). r.guest) at
+guest_at Nowhere guest ring at is = absurd at
+
+-- what its place and the last address are on the ring
+pub lends_by : {M : Type 0} (c : Standing M) (address : ℕ) (ring : RingView M) → HasRing c (λ m. ring ≡ m) → address ≡ length (devices_of ring) → (is_some ring.guest ≡ true → 1 ≤ length ring.after)
+    → HasRing c (λ m. (address ≡ length (devices_of m)) × (is_some m.guest ≡ true → 1 ≤ length m.after))
+lends_by {M} (AtIdle m) address ring at is last = subst (λ (m : RingView M). (address ≡ length (devices_of m)) × (is_some m.guest ≡ true → 1 ≤ length m.after)) at (is, last)
+lends_by {M} (AtLost m) address ring at is last = subst (λ (m : RingView M). (address ≡ length (devices_of m)) × (is_some m.guest ≡ true → 1 ≤ length m.after)) at (is, last)
+lends_by Nowhere address ring at is last = absurd at
+
 -- ---- the paper
 
 paper_at : {M : Type 0} (c : Standing M) (ring : RingView M) (found : Option (List ℕ × ℕ)) → HasRing c (λ r. ring ≡ r) → found ≡ paper_of (ring.before ++ ring.after) → HasRing c (λ r. found ≡ paper_of (r.before ++ r.after))
@@ -67,9 +85,9 @@ paper_at {M} (AtIdle r) ring found at is = is ∙ ap (λ (r : RingView M). paper
 paper_at {M} (AtLost r) ring found at is = is ∙ ap (λ (r : RingView M). paper_of (r.before ++ r.after)) at
 paper_at Nowhere ring found at is = absurd at
 
-paper_text : (found : Option (List ℕ × ℕ)) (s : HostState) → found ≡ paper_on s.loop → paper_line found ++ reply_line (if_printer found) ≡ reply_text (Asks Paper) s (if_printer found)
-paper_text None s is = refl
-paper_text (Some p) s is = ap (λ found. paper_line found ++ reply_line reply.Ok) is
+paper_text : (found : Option (List ℕ × ℕ)) (s : HostState) (log : List Entry) → found ≡ paper_on s.loop → paper_line found ++ reply_line (if_printer found) ≡ reply_text (Asks Paper) s log (if_printer found)
+paper_text None s log is = refl
+paper_text (Some p) s log is = ap (λ found. paper_line found ++ reply_line reply.Ok) is
 
 -- what is kept of it is short, where all devices keep to their room
 abbrev pub kept_of : Option (List ℕ × ℕ) → List ℕ
@@ -95,12 +113,12 @@ abbrev pub lent : {M I : Type 0} {D : I → Type 0} → Volume (LoopRecords M I 
 lent v records = record v { records = records; kept = None }
 
 -- it is open as before
-pub lent_open : {M I T : Type 0} {D : I → Type 0} (view : M → MediumView) (seen : Ring M I D → RingView M) (v : Volume (LoopRecords M I D)) (lends records : LoopRecords M I D) (k : ℕ) (P : Type 0) (answer : Result T Trouble)
-    → IsOpen (store_in view seen) (volume_in v) → lends ≡ v.records → LeavesStore k P (store_in view seen lends) (store_in view seen records) answer → IsOpen (store_in view seen) (volume_in (lent v records))
-lent_open {M} {I} {T} {D} view seen v lends records k P answer opens same leaves =
-    let size : (store_in view seen records).record_count ≡ (store_in view seen v.records).record_count = leaves.size ∙ ap (λ (l : LoopRecords M I D). (store_in view seen l).record_count) same in
+pub lent_open_by : {M I : Type 0} {D : I → Type 0} (view : M → MediumView) (seen : Ring M I D → RingView M) (v : Volume (LoopRecords M I D)) (lends records : LoopRecords M I D) → IsOpen (store_in view seen) (volume_in v) → lends ≡ v.records
+    → (store_in view seen records).valid → (store_in view seen records).record_count ≡ (store_in view seen lends).record_count → IsOpen (store_in view seen) (volume_in (lent v records))
+lent_open_by {M} {I} {D} view seen v lends records opens same valid sized =
+    let size : (store_in view seen records).record_count ≡ (store_in view seen v.records).record_count = sized ∙ ap (λ (l : LoopRecords M I D). (store_in view seen l).record_count) same in
     record {
-      valid = leaves.valid;
+      valid = valid;
       size = subst (λ n. 37 < n) (sym size) opens.size;
       small = subst (λ n. n < 2 ^ 16) (sym size) opens.small;
       room = opens.room ∙ ap (λ n. 8 * (n - 5)) (sym size);
@@ -109,6 +127,10 @@ lent_open {M} {I} {T} {D} view seen v lends records k P answer opens same leaves
       gate = λ t told. tt;
       end = λ t told. tt;
     }
+
+pub lent_open : {M I T : Type 0} {D : I → Type 0} (view : M → MediumView) (seen : Ring M I D → RingView M) (v : Volume (LoopRecords M I D)) (lends records : LoopRecords M I D) (k : ℕ) (P : Type 0) (answer : Result T Trouble)
+    → IsOpen (store_in view seen) (volume_in v) → lends ≡ v.records → LeavesStore k P (store_in view seen lends) (store_in view seen records) answer → IsOpen (store_in view seen) (volume_in (lent v records))
+lent_open view seen v lends records k P answer opens same leaves = lent_open_by view seen v lends records opens same leaves.valid leaves.size
 
 -- ---- a host over a volume that was o before, and b behind the emptying of its log
 
@@ -143,7 +165,7 @@ module _ {M I : Type 0} {D : I → Type 0} (view : M → MediumView) (seen : Rin
   faulted n item e of_loop opens off size did =
       performed view seen o b n text_space space usable began opens item (fault_of e) before (reply_line (fault_of e)) size
       (subst (λ e. Ran n.records item (fault_of e)) (sym did.0) did.1) (forgets n item (fault_of e) opens of_loop off)
-      (λ told. sym (fault_text item (host_in view seen o before text_space space).state e)) (λ is. absurd (not_of_volume item of_loop is))
+      (λ told. sym (fault_text item (host_in view seen o before text_space space).state (log_at (loop_in seen n.records).control) e)) (λ is. absurd (not_of_volume item of_loop is))
 
   -- the loop was not ready, and could not be addressed
   pub not_ready : (n : Volume (LoopRecords M I D)) (item : Item) (P : Type 0) (e : Trouble) → IsOpen (store_in view seen) (volume_in n) → IsOfLoop item
@@ -179,7 +201,7 @@ module _ {M I : Type 0} {D : I → Type 0} (view : M → MediumView) (seen : Rin
     paper_told opens kept =
         performed view seen o b b text_space space usable began opens (Asks Paper) (if_printer found) before (paper_line found ++ reply_line (if_printer found)) began.size paper_ran.1
         (record { kept = ap is_some kept; log = λ on. tt })
-        (λ told. paper_text found (host_in view seen o before text_space space).state paper_ran.0) (λ is. cc)
+        (λ told. paper_text found (host_in view seen o before text_space space).state (log_at (loop_in seen b.records).control) paper_ran.0) (λ is. cc)
 
   -- the loop is ready, the volume is m, and its records are lent
   module _ (m : Volume (LoopRecords M I D)) (x : Unit {0}) (P : Type 0) (addresses : Addresses {T = Unit {0}} view (loop_in seen b.records).control (loop_in seen b.records) (loop_in seen m.records) (Ok x))
@@ -197,13 +219,17 @@ module _ {M I : Type 0} {D : I → Type 0} (view : M → MediumView) (seen : Rin
     pub room_ready : HasRing (loop_in seen lends).control (λ r. 1000 ≤ spare_of r)
     room_ready = let left = left_ready in ring_room view seen (ring_in lends.control) (loop_in seen lends) 1000 4 ready.valid (omega arith) (omega (arith, left)) (omega arith)
 
+    -- and so has a lend
+    pub lend_room : (frames : ℕ) → frames ≤ MOST_FRAMES → HasRing (loop_in seen lends).control (λ r. 4 * frames + 48 ≤ spare_of r)
+    lend_room frames few = let left = left_ready in ring_room view seen (ring_in lends.control) (loop_in seen lends) (4 * frames + 48) 2760 ready.valid (omega arith) (omega (arith, left)) (omega (arith, few))
+
     -- one call: the records are l then
     module _ (l : LoopRecords M I D) where
       replied : {T : Type 0} (item : Item) (k : ℕ) (Q : Type 0) (answer : Result T Trouble) (lines : List ℕ) → LeavesStore k Q (store_in view seen lends) (store_in view seen l) answer → Ran l item reply.Ok → IsOfLoop item
-          → reply_text item (host_in view seen o before text_space space).state reply.Ok ≡ lines ++ reply_line reply.Ok → Behind (lent m l) item reply.Ok (lines ++ reply_line reply.Ok)
+          → ((log : List Entry) → reply_text item (host_in view seen o before text_space space).state log reply.Ok ≡ lines ++ reply_line reply.Ok) → Behind (lent m l) item reply.Ok (lines ++ reply_line reply.Ok)
       replied item k Q answer lines leaves ran of_loop text =
           performed view seen o b (lent m l) text_space space usable began (lent_open view seen m lends l k Q answer opens same leaves) item reply.Ok before (lines ++ reply_line reply.Ok) (leaves.size ∙ ready.size ∙ began.size) ran
-          (forgets (lent m l) item reply.Ok (lent_open view seen m lends l k Q answer opens same leaves) of_loop refl) (λ told. sym text) (λ is. absurd (not_of_volume item of_loop is))
+          (forgets (lent m l) item reply.Ok (lent_open view seen m lends l k Q answer opens same leaves) of_loop refl) (λ told. sym (text (log_at (loop_in seen l).control))) (λ is. absurd (not_of_volume item of_loop is))
 
       call_faulted : {T : Type 0} (item : Item) (k : ℕ) (Q : Type 0) (answer : Result T Trouble) (e : Trouble) → IsOfLoop item → LeavesStore k Q (store_in view seen lends) (store_in view seen l) answer → (e ≡ trouble.Frame) × Ran l item reply.FaultFrame
           → Behind (lent m l) item (fault_of e) (reply_line (fault_of e))
@@ -220,7 +246,7 @@ module _ {M I : Type 0} {D : I → Type 0} (view : M → MediumView) (seen : Rin
           let ran = status_performs view seen (ring_in o.records.control) (ring_in b.records.control) (loop_in seen o.records) (loop_in seen b.records)
           usable.volume_open.valid (agrees seen o.records.control) (agrees seen b.records.control) began x (loop_in seen lends) addressed (ring_in l.control) (loop_in seen l) store usable.log (left_called 1 (Unit {0}) (Ok byte) (omega arith) leaves)
           on byte did in
-          replied (Asks Status) 1 (Unit {0}) (Ok byte) (status_line byte) leaves ran.1 tt (ap (λ byte. status_line byte ++ reply_line reply.Ok) (sym ran.0))
+          replied (Asks Status) 1 (Unit {0}) (Ok byte) (status_line byte) leaves ran.1 tt (λ log. ap (λ byte. status_line byte ++ reply_line reply.Ok) (sym ran.0))
 
       pub status_failed : (e : Trouble) (off : Since) → (e ≡ trouble.Frame) × CallBroke (λ r s. NotPolled view (drive_party r) r s) off (loop_in seen lends) (loop_in seen l)
           → LeavesStore {T = ℕ} 1 (Unit {0}) (store_in view seen lends) (store_in view seen l) (Err e) → Behind (lent m l) (Asks Status) (fault_of e) (reply_line (fault_of e))
@@ -238,7 +264,7 @@ module _ {M I : Type 0} {D : I → Type 0} (view : M → MediumView) (seen : Rin
           let ran = poll_performs view seen (ring_in o.records.control) (ring_in b.records.control) (loop_in seen o.records) (loop_in seen b.records)
           usable.volume_open.valid (agrees seen o.records.control) (agrees seen b.records.control) began x (loop_in seen lends) addressed (ring_in l.control) (loop_in seen l) store usable.log (left_called 1 (Unit {0}) (Ok f) (omega arith) leaves)
           on f did in
-          replied (Asks Poll) 1 (Unit {0}) (Ok f) (poll_line f) leaves ran.1 tt (ap (λ f. poll_line f ++ reply_line reply.Ok) (sym ran.0))
+          replied (Asks Poll) 1 (Unit {0}) (Ok f) (poll_line f) leaves ran.1 tt (λ log. ap (λ f. poll_line f ++ reply_line reply.Ok) (sym ran.0))
 
       pub poll_failed : (e : Trouble) (off : Since) → (e ≡ trouble.Frame) × CallBroke (λ r s. PollBroke view 54 (poll_asks (length (devices_of r)) (polled_along 1 (devices_of r) idy)) r s) off (loop_in seen lends) (loop_in seen l)
           → LeavesStore {T = Frame} 1 (Unit {0}) (store_in view seen lends) (store_in view seen l) (Err e) → Behind (lent m l) (Asks Poll) (fault_of e) (reply_line (fault_of e))
@@ -248,6 +274,61 @@ module _ {M I : Type 0} {D : I → Type 0} (view : M → MediumView) (seen : Rin
           usable.volume_open.valid (agrees seen o.records.control) (agrees seen b.records.control) began x (loop_in seen lends) addressed (ring_in l.control) (loop_in seen l) store usable.log (left_called {T = Frame} 1 (Unit {0}) (Err e) (omega arith) leaves)
           off 54 e did)
 
+      -- ---- a lend
+
+      -- By the last address, which a second controller has, if there is one. The ring is shown by these records.
+      module _ (address frames : ℕ) (few : frames ≤ MOST_FRAMES) (first : RingView M) (shown : LoopRecords M I D) (shows : shown ≡ m.records) (at : HasRing (loop_in seen shown).control (λ r. first ≡ r))
+          (counts : address ≡ length (devices_of first)) (last : is_some first.guest ≡ true → 1 ≤ length first.after)
+          (leaves : LeavesLent ((2 * frames + 309) / 300) (store_in view seen lends) (store_in view seen l)) where
+        by : HasRing (loop_in seen lends).control (λ m. (address ≡ length (devices_of m)) × (is_some m.guest ≡ true → 1 ≤ length m.after))
+        by = lends_by (loop_in seen lends).control address first (subst (λ (l : LoopRecords M I D). HasRing (loop_in seen l).control (λ r. first ≡ r)) (shows ∙ sym same) at) counts last
+
+        open_lent : IsOpen (store_in view seen) (volume_in (lent m l))
+        open_lent = lent_open_by view seen m lends l opens same leaves.valid leaves.size
+
+        left_lent : 1 ≤ (store_in view seen l).calls_left
+        left_lent = let enough = left_ready in let used = leaves.left in omega (arith, enough, used, few)
+
+        size_lent : (store_in view seen l).record_count ≡ (store_in view seen o.records).record_count
+        size_lent = leaves.size ∙ ready.size ∙ began.size
+
+        lend_ended : (answered : Reply) (lines : List ℕ) → Ran l (Asks (Lend frames)) answered → lines ≡ reply_text (Asks (Lend frames)) (host_in view seen o before text_space space).state (log_at (loop_in seen l).control) answered
+            → Behind (lent m l) (Asks (Lend frames)) answered lines
+        lend_ended answered lines ran text =
+            performed view seen o b (lent m l) text_space space usable began open_lent (Asks (Lend frames)) answered before lines size_lent ran
+            (forgets (lent m l) (Asks (Lend frames)) answered open_lent tt refl) (λ told. text) (λ is. cc)
+
+        -- a second controller took control, and has found what it tells
+        pub lend_told : (taken : Bool) → taken ≡ true → (guest : Option GuestState) (ring : RingView M) (told : LoopRecords M I D) → told ≡ l → HasRing (loop_in seen told).control (λ s. ring ≡ s) → guest_mind guest ≡ ring.guest
+            → IfSome guest (λ g. g.last ≤ 30) → LendCalls address frames (loop_in seen lends) (loop_in seen l) (Ok taken) → Behind (lent m l) (Asks (Lend frames)) reply.Ok (found_lines address guest ++ reply_line reply.Ok)
+        lend_told taken took guest ring told tells stands mind low did_so =
+            let did : LendCalls address frames (loop_in seen lends) (loop_in seen l) (Ok true) = subst (λ taken. LendCalls address frames (loop_in seen lends) (loop_in seen l) (Ok taken)) took did_so in
+            let ran = lend_performs view seen (ring_in o.records.control) (ring_in b.records.control) (loop_in seen o.records) (loop_in seen b.records)
+            usable.volume_open.valid (agrees seen o.records.control) (agrees seen b.records.control) began x (loop_in seen lends) addressed (ring_in l.control) (loop_in seen l) store usable.log left_lent
+            address frames true by did in
+            lend_ended reply.Ok (found_lines address guest ++ reply_line reply.Ok) ran
+            (ap (λ lines. lines ++ reply_line reply.Ok)
+            (lend_lines view seen (ring_in o.records.control) (ring_in b.records.control) (loop_in seen o.records) (loop_in seen b.records)
+            usable.volume_open.valid (agrees seen o.records.control) (agrees seen b.records.control) began x (loop_in seen lends) addressed (ring_in l.control) (loop_in seen l) store usable.log left_lent
+            address frames by did guest (guest_at (loop_in seen l).control guest ring (subst (λ (l : LoopRecords M I D). HasRing (loop_in seen l).control (λ s. ring ≡ s)) tells stands) mind) low))
+
+        -- nobody took it
+        pub lend_not_taken : (taken : Bool) → taken ≡ false → LendCalls address frames (loop_in seen lends) (loop_in seen l) (Ok taken) → Behind (lent m l) (Asks (Lend frames)) (reply.No code.NoTaker) (reply_line (reply.No code.NoTaker))
+        lend_not_taken taken untaken did_so =
+            let did : LendCalls address frames (loop_in seen lends) (loop_in seen l) (Ok false) = subst (λ taken. LendCalls address frames (loop_in seen lends) (loop_in seen l) (Ok taken)) untaken did_so in
+            lend_ended (reply.No code.NoTaker) (reply_line (reply.No code.NoTaker))
+            (lend_performs view seen (ring_in o.records.control) (ring_in b.records.control) (loop_in seen o.records) (loop_in seen b.records)
+            usable.volume_open.valid (agrees seen o.records.control) (agrees seen b.records.control) began x (loop_in seen lends) addressed (ring_in l.control) (loop_in seen l) store usable.log left_lent
+            address frames false by did) refl
+
+        -- it was broken off
+        pub lend_failed : (e : Trouble) → LendCalls address frames (loop_in seen lends) (loop_in seen l) (Err e) → Behind (lent m l) (Asks (Lend frames)) (fault_of e) (reply_line (fault_of e))
+        lend_failed e did =
+            faulted (lent m l) (Asks (Lend frames)) e tt open_lent refl size_lent
+            (lend_broke view seen (ring_in o.records.control) (ring_in b.records.control) (loop_in seen o.records) (loop_in seen b.records)
+            usable.volume_open.valid (agrees seen o.records.control) (agrees seen b.records.control) began x (loop_in seen lends) addressed (ring_in l.control) (loop_in seen l) store usable.log left_lent
+            address frames e by did)
+
       -- ---- accessory IDs
 
       pub devices_told : (ids : List (Option ℕ)) (on : Since) (u : Unit {0}) → HasDriveId (loop_in seen o.records).control → Called (λ r s. AllNamed view ids r s) on (loop_in seen lends) (loop_in seen l)
@@ -256,7 +337,7 @@ module _ {M I : Type 0} {D : I → Type 0} (view : M → MediumView) (seen : Rin
           let ran = devices_performs view seen (ring_in o.records.control) (ring_in b.records.control) (loop_in seen o.records) (loop_in seen b.records)
           usable.volume_open.valid (agrees seen o.records.control) (agrees seen b.records.control) began x (loop_in seen lends) addressed (ring_in l.control) (loop_in seen l) store usable.log (left_called 2 (Unit {0}) (Ok u) (omega arith) leaves)
           on ids has did in
-          replied (Asks Devices) 2 (Unit {0}) (Ok u) (device_lines 1 ids) leaves ran.1 tt (ap (λ ids. device_lines 1 ids ++ reply_line reply.Ok) (sym ran.0))
+          replied (Asks Devices) 2 (Unit {0}) (Ok u) (device_lines 1 ids) leaves ran.1 tt (λ log. ap (λ ids. device_lines 1 ids ++ reply_line reply.Ok) (sym ran.0))
 
       pub devices_failed : (e : Trouble) (off : Since) → HasDriveId (loop_in seen o.records).control → (e ≡ trouble.Frame) × CallBroke (λ r s. LeftAlone view false (up_to (id_asks (devices_of r)) (length (devices_of r))) r s) off (loop_in seen lends) (loop_in seen l)
           → LeavesStore {T = Unit {0}} 2 (Unit {0}) (store_in view seen lends) (store_in view seen l) (Err e) → Behind (lent m l) (Asks Devices) (fault_of e) (reply_line (fault_of e))

@@ -50,7 +50,7 @@ use Rattle.il_host.specs.Hosts.{HasSpaceFor, Space, IsUnmarked, IsUsable, host_i
 use Rattle.il_host.specs.Preparing.{StaysUnsound}
 use Rattle.il_host.specs.PlainCommands.{ChangesVolume, IsOnVolume, OnVolume}
 use Rattle.il_host.specs.Shorts.{AllShort}
-use Rattle.il_host.proofs.Shorts.{all_short}
+use Rattle.il_host.proofs.Shorts.{short_behind}
 use Rattle.il_host.specs.Standings.{Ends, HasDriveStatus, IsHostRing, KeepsPage, MakesSound, MakesSoundBy, event_at, fault_of, plan_at, log_at, state_at, volume_reply}
 use Rattle.il_host.proofs.Texts.{ok_text}
 use Rattle.il_host.proofs.VolumeCarries.{CarriesAs, IsFormedAs, none_carried, not_carried}
@@ -62,6 +62,7 @@ use Rattle.il_host.proofs.Sounding.{acts_keeping, keeping, stops_keeping}
 use Rattle.il_host.proofs.VolumeStarts.{Emptied, stands_at, volume_begun}
 use Rattle.il_host.proofs.VolumeAsked.{asked_seen, asked_transferred}
 use Rattle.il_host.proofs.VolumeReplied.{AnswersSo, IsSeenAs, seen_as, told_tape, TurnsSo}
+use Rattle.il_frames.specs.declared.entry.Entry.{Entry}
 
 -- ---- room
 
@@ -71,8 +72,8 @@ room_of : {M S : Type 0} (view : M → MediumView) (seen : S → RingView M) (p 
 room_of {M} view seen p l stands room = by l.control stands room
   where
     by : (c : Standing M) → StandsSo c l.sound l.since → IsHostRing view c → (view_at view seen p l.sound l.since l.resumes c).room ≡ calls_in (log_room (view_at view seen p l.sound l.since l.resumes c).record_count)
-    by (AtIdle r) so own = ap calls_in own.0
-    by (AtLost r) so own = ap calls_in own.0
+    by (AtIdle r) so own = ap calls_in own
+    by (AtLost r) so own = ap calls_in own
     by Nowhere so room = absurd so
 
 -- how many calls are left behind a log
@@ -81,8 +82,8 @@ left_of : {M S : Type 0} (view : M → MediumView) (seen : S → RingView M) (p 
 left_of {M} view seen p l stands room = by l.control stands room
   where
     by : (c : Standing M) → StandsSo c l.sound l.since → IsHostRing view c → (view_at view seen p l.sound l.since l.resumes c).calls_left ≡ calls_behind (view_at view seen p l.sound l.since l.resumes c).record_count (log_at c)
-    by (AtIdle r) so own = ap (λ room. calls_in (room - length r.books.log)) own.0
-    by (AtLost r) so own = ap (λ room. calls_in (room - length r.books.log)) own.0
+    by (AtIdle r) so own = ap (λ room. calls_in (room - length r.books.log)) own
+    by (AtLost r) so own = ap (λ room. calls_in (room - length r.books.log)) own
     by Nowhere so room = absurd so
 
 -- the records of the medium are those of the host
@@ -127,9 +128,9 @@ mounting_few view old new is same = omega (arith, mounts_few view old new is sam
 
 -- ---- the text of a reply other than ok
 
-pub fault_text : (item : Item) (s : HostState) (e : Trouble) → reply_text item s (fault_of e) ≡ reply_line (fault_of e)
-fault_text item s trouble.Frame = refl
-fault_text item s trouble.Medium = refl
+pub fault_text : (item : Item) (s : HostState) (log : List Entry) (e : Trouble) → reply_text item s log (fault_of e) ≡ reply_line (fault_of e)
+fault_text item s log trouble.Frame = refl
+fault_text item s log trouble.Medium = refl
 
 no_lines : (command : VolumeCommand) (volume : Option LifVolume) → TellsNothing command → told_of command volume ≡ []
 no_lines command None nothing = refl
@@ -144,11 +145,11 @@ no_lines Upgrade (Some v) nothing = refl
 no_lines (Batch parts) (Some v) nothing = refl
 no_lines (Format label slots) (Some v) nothing = refl
 
-nothing_told : (command : VolumeCommand) (volume : Option LifVolume) (s : HostState) (r : Reply) → volume_at s ≡ volume → TellsNothing command → reply_text (Asks (OfVolume command)) s r ≡ reply_line r
-nothing_told command volume s reply.Ok is nothing = ap (λ lines. lines ++ reply_line reply.Ok) (no_lines command (volume_at s) nothing)
-nothing_told command volume s (reply.No code) is nothing = refl
-nothing_told command volume s reply.FaultFrame is nothing = refl
-nothing_told command volume s reply.FaultMedium is nothing = refl
+nothing_told : (command : VolumeCommand) (volume : Option LifVolume) (s : HostState) (log : List Entry) (r : Reply) → volume_at s ≡ volume → TellsNothing command → reply_text (Asks (OfVolume command)) s log r ≡ reply_line r
+nothing_told command volume s log reply.Ok is nothing = ap (λ lines. lines ++ reply_line reply.Ok) (no_lines command (volume_at s) nothing)
+nothing_told command volume s log (reply.No code) is nothing = refl
+nothing_told command volume s log reply.FaultFrame is nothing = refl
+nothing_told command volume s log reply.FaultMedium is nothing = refl
 
 -- ---- requests
 
@@ -171,6 +172,7 @@ volume_request command.Status bytes on = absurd on
 volume_request command.Poll bytes on = absurd on
 volume_request command.Say bytes on = absurd on
 volume_request command.Paper bytes on = absurd on
+volume_request (command.Lend frames) bytes on = absurd on
 volume_request command.Begin bytes on = absurd on
 volume_request command.Commit bytes on = absurd on
 
@@ -193,6 +195,7 @@ changes_volume command.Status on no_dir no_label no_fetch = absurd on
 changes_volume command.Poll on no_dir no_label no_fetch = absurd on
 changes_volume command.Say on no_dir no_label no_fetch = absurd on
 changes_volume command.Paper on no_dir no_label no_fetch = absurd on
+changes_volume (command.Lend frames) on no_dir no_label no_fetch = absurd on
 changes_volume command.Begin on no_dir no_label no_fetch = absurd on
 changes_volume command.Commit on no_dir no_label no_fetch = absurd on
 
@@ -216,6 +219,7 @@ on_volume P command.Status bytes changes has = absurd changes
 on_volume P command.Poll bytes changes has = absurd changes
 on_volume P command.Say bytes changes has = absurd changes
 on_volume P command.Paper bytes changes has = absurd changes
+on_volume P (command.Lend frames) bytes changes has = absurd changes
 on_volume P command.Begin bytes changes has = absurd changes
 on_volume P command.Commit bytes changes has = absurd changes
 
@@ -315,11 +319,11 @@ module _ {M I : Type 0} {D : I → Type 0} (view : M → MediumView) (seen : Rin
 
     pub performed : (item : Item) (answered : Reply) (before after : List ℕ) → (store_in view seen n.records).record_count ≡ count
         → Performs view seen (ring_in o.records.control) (ring_in n.records.control) item answered (loop_in seen o.records) (loop_in seen n.records) → KeepsDirectory (event_kept item answered)
-        → (TellsReply item (host_in view seen o before text_space space).state → after ≡ reply_text item (host_in view seen o before text_space space).state answered)
+        → (TellsReply item (host_in view seen o before text_space space).state → after ≡ reply_text item (host_in view seen o before text_space space).state (log_at (loop_in seen n.records).control) answered)
         → (is_of_volume item ≡ true → TookFew item × IsUnmarked (store_in view seen) (volume_in n))
         → Performed item answered (host_in view seen o before text_space space) (host_in view seen n after text_space space)
     performed item answered before after size did directory text few = record {
-      valid = usable_behind size did.keeps (all_short _ _ _ _ _ _ did.step.heard usable.short) sound unmarked;
+      valid = usable_behind size did.keeps (short_behind _ did.step usable.short) sound unmarked;
       plan = did.keeps.plan;
       step = record {
         acts = acts_keeping (plan_at (loop_in seen o.records).control) (event_at view item answered (loop_in seen o.records) (loop_in seen n.records)) (is_some o.kept) (is_some n.kept)
@@ -398,7 +402,7 @@ module _ {M I : Type 0} {D : I → Type 0} (view : M → MediumView) (seen : Rin
         (subst (λ e. Performs view seen (ring_in o.records.control) (ring_in n.records.control) (Asks (OfVolume command)) (fault_of e) (loop_in seen o.records) (loop_in seen n.records)) (sym did.0) did.1)
         (subst (λ e. KeepsDirectory (event_kept opens (Asks (OfVolume command)) (fault_of e))) (sym did.0)
         (record { kept = subst (IsKeptBehind command (is_some o.kept) reply.FaultFrame) (sym off) (forgets_it command (is_some o.kept) trouble.Frame); log = λ on. tt }))
-        (λ told. sym (fault_text (Asks (OfVolume command)) (host_in view seen o before text_space space).state e))
+        (λ told. sym (fault_text (Asks (OfVolume command)) (host_in view seen o before text_space space).state (log_at (loop_in seen n.records).control) e))
         (λ is. (
           (omega (arith, used), λ other t told. omega (arith, used), λ other t told on. omega (arith, used, some_beside (Asks (OfVolume command)))),
           λ t told on. let clash : true ≡ false = sym on ∙ off in cc,
@@ -430,7 +434,7 @@ module _ {M I : Type 0} {D : I → Type 0} (view : M → MediumView) (seen : Rin
           → TurnsSo command (store_in view seen) (volume_in m) (volume_in n) → AnswersSo command (store_in view seen) (volume_in m) (volume_in n) answer
           → CarriesAs command (volume_reply answer) (host_in view seen o before text_space space).state.records (volume_at (host_in view seen o before text_space space).state) (store_in view seen n.records).transferred
           → MindsFirst (store_in view seen) (volume_in m) (volume_in n) command answer
-          → (TellsReply (Asks (OfVolume command)) (host_in view seen o before text_space space).state → after ≡ reply_text (Asks (OfVolume command)) (host_in view seen o before text_space space).state (volume_reply answer))
+          → (TellsReply (Asks (OfVolume command)) (host_in view seen o before text_space space).state → after ≡ reply_text (Asks (OfVolume command)) (host_in view seen o before text_space space).state (log_at (loop_in seen n.records).control) (volume_reply answer))
           → Performed (Asks (OfVolume command)) (volume_reply answer) (host_in view seen o before text_space space) (host_in view seen n after text_space space)
       asked {T} answer calls before after few goes turns answers carries minds text =
           performed opens (Asks (OfVolume command)) (volume_reply answer) before after (goes.continues.size ∙ sounds.size ∙ began.size) ran (directory ran) text
@@ -513,7 +517,7 @@ module _ {M I : Type 0} {D : I → Type 0} (view : M → MediumView) (seen : Rin
           → Performed (Asks (OfVolume command)) reply.Ok (host_in view seen o before text_space space) (host_in view seen n (lines ++ reply_line reply.Ok) text_space space)
       done x calls before lines few goes turns answers carries minds text =
           asked (Ok x) calls before (lines ++ reply_line reply.Ok) few goes turns answers carries minds
-          (λ told. let t = told_asked before told in sym (ok_text command (host_in view seen o before text_space space).state t.0 lines t.1 (text t.0 t.2)))
+          (λ told. let t = told_asked before told in sym (ok_text command (host_in view seen o before text_space space).state (log_at (loop_in seen n.records).control) t.0 lines t.1 (text t.0 t.2)))
 
       -- it was refused, or the store failed
       pub refused : (T : Type 0) (fault : VolumeFault) (calls : ℕ) (before : List ℕ) → calls ≤ calls_to_pack (store_in view seen m.records).record_count + most_calls (store_in view seen m.records).record_count
@@ -529,7 +533,7 @@ module _ {M I : Type 0} {D : I → Type 0} (view : M → MediumView) (seen : Rin
           by (Refused why) goes answers minds =
               asked {T = T} (Err (Refused why)) calls before (reply_line (reply.No (code_of why))) few goes turns answers (not_carried command (reply.No (code_of why)) _ _ _ tt) minds (λ told. refl)
           by (Troubled e) goes answers minds =
-              asked {T = T} (Err (Troubled e)) calls before (reply_line (fault_of e)) few goes turns answers (none_carried command e _ _ _) minds (λ told. sym (fault_text (Asks (OfVolume command)) (host_in view seen o before text_space space).state e))
+              asked {T = T} (Err (Troubled e)) calls before (reply_line (fault_of e)) few goes turns answers (none_carried command e _ _ _) minds (λ told. sym (fault_text (Asks (OfVolume command)) (host_in view seen o before text_space space).state (log_at (loop_in seen n.records).control) e))
 
       -- a command that tells nothing answered
       pub changed : {T : Type 0} (answer : Result T VolumeFault) (calls : ℕ) (before : List ℕ) → TellsNothing command → calls ≤ calls_to_pack (store_in view seen m.records).record_count + most_calls (store_in view seen m.records).record_count
@@ -540,4 +544,4 @@ module _ {M I : Type 0} {D : I → Type 0} (view : M → MediumView) (seen : Rin
           → Performed (Asks (OfVolume command)) (volume_reply answer) (host_in view seen o before text_space space) (host_in view seen n (reply_line (volume_reply answer)) text_space space)
       changed answer calls before nothing few goes turns answers carries minds =
           asked answer calls before (reply_line (volume_reply answer)) few goes turns answers carries minds
-          (λ told. sym (nothing_told command (volume_at (host_in view seen o before text_space space).state) (host_in view seen o before text_space space).state (volume_reply answer) refl nothing))
+          (λ told. sym (nothing_told command (volume_at (host_in view seen o before text_space space).state) (host_in view seen o before text_space space).state (log_at (loop_in seen n.records).control) (volume_reply answer) refl nothing))

@@ -43,7 +43,7 @@ use Rattle.il_script.specs.declared.reply.Code.TheVariants as code
 use Rattle.il_script.specs.declared.reply.Reply.{Reply}
 use Rattle.il_script.specs.declared.reply.Reply.TheVariants as reply
 use Rattle.il_script.specs.Replies.{code_of}
-use Rattle.host_model.specs.Requests.{Asks, Devices, Get, Pack, Item, NoCommand, OfVolume, Paper, Poll, Say, Status, is_of_volume, uses_frames}
+use Rattle.host_model.specs.Requests.{Asks, Devices, Get, Pack, Item, NoCommand, OfVolume, Paper, Poll, Say, Status, is_of_volume, uses_frames, Lend}
 use Rattle.host_model.specs.LoopStates.{ring_of}
 use Rattle.host_model.specs.HostStates.{HostState}
 use Rattle.host_model.specs.Steps.{is_fault}
@@ -189,6 +189,7 @@ still_kept (Asks Status) was r now none is = cc
 still_kept (Asks Poll) was r now none is = cc
 still_kept (Asks (Say bytes)) was r now none is = cc
 still_kept (Asks Paper) was r now none is = is
+still_kept (Asks (Lend frames)) was r now none is = cc
 still_kept (NoCommand code) was r now none is = is
 
 -- and an item that is not of the volume keeps none that was not kept
@@ -201,6 +202,7 @@ kept_before (Asks Status) was r now other is on = let clash : true ≡ false = s
 kept_before (Asks Poll) was r now other is on = let clash : true ≡ false = sym on ∙ is in cc
 kept_before (Asks (Say bytes)) was r now other is on = let clash : true ≡ false = sym on ∙ is in cc
 kept_before (Asks Paper) was r now other is on = sym is ∙ on
+kept_before (Asks (Lend frames)) was r now other is on = let clash : true ≡ false = sym on ∙ is in cc
 kept_before (NoCommand code) was r now other is on = sym is ∙ on
 
 -- and where it is kept the store is sound
@@ -246,6 +248,7 @@ sound_kept (Asks Status) r was now before after sound still kept is on = let cla
 sound_kept (Asks Poll) r was now before after sound still kept is on = let clash : true ≡ false = sym on ∙ is in cc
 sound_kept (Asks (Say bytes)) r was now before after sound still kept is on = let clash : true ≡ false = sym on ∙ is in cc
 sound_kept (Asks Paper) r was now before after sound still kept is on = still refl ∙ kept (sym is ∙ on)
+sound_kept (Asks (Lend frames)) r was now before after sound still kept is on = let clash : true ≡ false = sym on ∙ is in cc
 sound_kept (NoCommand code) r was now before after sound still kept is on = still refl ∙ kept (sym is ∙ on)
 
 -- a command of the loop that sends frames forgets it
@@ -258,6 +261,7 @@ forgotten (Asks Status) was r s log now of_loop off = (off, tt)
 forgotten (Asks Poll) was r s log now of_loop off = (off, tt)
 forgotten (Asks (Say bytes)) was r s log now of_loop off = (off, tt)
 forgotten (Asks Paper) was r s log now of_loop off = absurd of_loop
+forgotten (Asks (Lend frames)) was r s log now of_loop off = (off, tt)
 forgotten (NoCommand code) was r s log now of_loop off = absurd of_loop
 
 -- ---- the log of a store
@@ -300,6 +304,7 @@ some_beside (Asks Status) = omega arith
 some_beside (Asks Poll) = omega arith
 some_beside (Asks (Say bytes)) = omega arith
 some_beside (Asks Paper) = omega arith
+some_beside (Asks (Lend frames)) = omega arith
 some_beside (NoCommand code) = omega arith
 
 pub few_beside : (command : VolumeCommand) → most_beside (Asks (OfVolume command)) ≤ 80

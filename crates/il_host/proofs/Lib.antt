@@ -5,6 +5,7 @@ pub mod Devices
 pub mod Keeping
 pub mod LoopEvents
 pub mod StatusEvents
+pub mod Statuses
 pub mod LoopNext
 pub mod LoopCallsNext
 pub mod Courses
@@ -44,6 +45,8 @@ pub mod FileCarries
 pub mod BatchCarries
 pub mod VolumeAsked
 pub mod LoopRuns
+pub mod LendTravels
+pub mod LendSteps
 pub mod SayHeard
 pub mod SayRuns
 pub mod LoopPerforms

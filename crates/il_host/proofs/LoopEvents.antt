@@ -13,7 +13,7 @@ use Rattle.il_record.specs.Runs.{Readied, Interrupted, address_asks}
 use Rattle.il_script.specs.declared.reply.Reply.{Reply}
 use Rattle.il_script.specs.declared.reply.Reply.TheVariants as reply
 use Rattle.il_script.specs.declared.reply.Code.{Code}
-use Rattle.host_model.specs.Requests.{Item, Asks, NoCommand, OfVolume, Get, Pack, Devices, Status, Poll, Say, Paper, is_of_volume}
+use Rattle.host_model.specs.Requests.{Item, Asks, NoCommand, OfVolume, Get, Pack, Devices, Status, Poll, Say, Paper, is_of_volume, Lend}
 use Rattle.host_model.specs.RingStates.{loop_on}
 use Rattle.host_model.specs.Courses.{Due, addressed_first, addresses_due, course_of, keeps_course, is_numbering}
 use Rattle.host_model.specs.Steps.{Exchanged, IsCarried}
@@ -29,7 +29,7 @@ abbrev pub Readies : {M : Type 0} → (M → MediumView) → Bool → RingView M
 Readies view true r m = (m ≡ r) × IsIdle r
 Readies view false r m = IsFree r × Readied view r m
 
-meets_addressing : {M : Type 0} (r : RingView M) → Meets (loop_of r) address_asks (addresses_due (loop_on r))
+pub meets_addressing : {M : Type 0} (r : RingView M) → Meets (loop_of r) address_asks (addresses_due (loop_on r))
 meets_addressing r =
     (meets_command (loop_of r) ifc, (meets_command (loop_of r) aau, (subst (λ k. MeetsOne (loop_of r) AskAddresses (is_numbering k)) (sym (count_on r)) (meets_addresses (loop_of r)), tt)))
 
@@ -67,6 +67,7 @@ carries_none (Asks Status) answer n v units of_loop = tt
 carries_none (Asks Poll) answer n v units of_loop = tt
 carries_none (Asks (Say bytes)) answer n v units of_loop = tt
 carries_none (Asks Paper) answer n v units of_loop = absurd of_loop
+carries_none (Asks (Lend frames)) answer n v units of_loop = tt
 carries_none (NoCommand code) answer n v units of_loop = absurd of_loop
 
 -- it is none of the volume
@@ -79,6 +80,7 @@ not_of_volume (Asks Status) of_loop is = cc
 not_of_volume (Asks Poll) of_loop is = cc
 not_of_volume (Asks (Say bytes)) of_loop is = cc
 not_of_volume (Asks Paper) of_loop is = absurd of_loop
+not_of_volume (Asks (Lend frames)) of_loop is = cc
 not_of_volume (NoCommand code) of_loop is = absurd of_loop
 
 course_kept : {M : Type 0} (r : RingView M) (was : Bool) (due : Option (List Due)) (course : List Due) (pieces : List Piece) → due ≡ Some course

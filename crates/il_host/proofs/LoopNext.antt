@@ -14,7 +14,7 @@ use Rattle.il_record.specs.Came.{NoneHeard}
 use Rattle.il_record.specs.Runs.{LeavesDevices, Interrupted, NotPolled, Polled, address_asks}
 use Rattle.il_script.specs.declared.reply.Reply.{Reply}
 use Rattle.il_script.specs.declared.reply.Reply.TheVariants as reply
-use Rattle.host_model.specs.Requests.{Item, Asks, NoCommand, OfVolume, Get, Pack, Devices, Status, Poll, Say, Paper}
+use Rattle.host_model.specs.Requests.{Item, Asks, NoCommand, OfVolume, Get, Pack, Devices, Status, Poll, Say, Paper, Lend}
 use Rattle.host_model.specs.LoopStates.{LoopState, printer_at}
 use Rattle.host_model.specs.RingStates.{loop_on}
 use Rattle.host_model.specs.Next.{BoxedBecome, DeviceBehind, HearsSaid, Next, StatusBehind, is_party}
@@ -70,6 +70,7 @@ fault_behind (Asks (OfVolume command)) z party d e of_loop still = absurd of_loo
 fault_behind (Asks (Get name)) z party d e of_loop still = absurd of_loop
 fault_behind (Asks Pack) z party d e of_loop still = absurd of_loop
 fault_behind (Asks Paper) z party d e of_loop still = absurd of_loop
+fault_behind (Asks (Lend frames)) z party d e of_loop still = record { accessory = still.nothing.accessory; hears = still.nothing; service = λ is. still.wants }
 fault_behind (NoCommand code) z party d e of_loop still = absurd of_loop
 fault_behind (Asks Devices) z party d e of_loop still = record { accessory = still.nothing.accessory; hears = still.nothing; service = λ is. still.wants }
 fault_behind (Asks Status) z party d e of_loop still = record { accessory = still.nothing.accessory; hears = still.nothing; service = λ is. still.wants }
@@ -107,6 +108,7 @@ module _ {M : Type 0} where
       by (Asks (Get name)) of_loop = absurd of_loop
       by (Asks Pack) of_loop = absurd of_loop
       by (Asks Paper) of_loop = absurd of_loop
+      by (Asks (Lend frames)) of_loop = inr leaves.status
       by (NoCommand code) of_loop = absurd of_loop
       by (Asks Devices) of_loop = leaves.status
       by (Asks Status) of_loop = inr leaves.status

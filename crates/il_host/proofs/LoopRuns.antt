@@ -19,7 +19,7 @@ use Rattle.il_record.proofs.StoreResumes.{still_of}
 use Rattle.il_script.specs.declared.reply.Reply.{Reply}
 use Rattle.il_script.specs.declared.reply.Reply.TheVariants as reply
 use Rattle.il_script.specs.declared.reply.Code.TheVariants as code
-use Rattle.host_model.specs.Requests.{Asks, Devices, Get, Pack, Item, NoCommand, OfVolume, Paper, Poll, Say, Status}
+use Rattle.host_model.specs.Requests.{Asks, Devices, Get, Pack, Item, NoCommand, OfVolume, Paper, Poll, Say, Status, Lend, is_lending}
 use Rattle.host_model.specs.LoopStates.{LoopState, all_roles, device_count, printer_at}
 use Rattle.host_model.specs.Replies.{if_printer}
 use Rattle.host_model.specs.RingStates.{loop_on}
@@ -53,25 +53,26 @@ pub record Ran {M : Type 0} (view : M → MediumView) (item : Item) (answered : 
 -- ---- the addressing was broken off
 
 -- what such a command makes
-course_there : (item : Item) (z : LoopState) → IsOfLoop item → (course : List Due) × (course_of item z ≡ Some course)
-course_there (Asks (OfVolume command)) z of_loop = absurd of_loop
-course_there (Asks (Get name)) z of_loop = absurd of_loop
-course_there (Asks Pack) z of_loop = absurd of_loop
-course_there (Asks Paper) z of_loop = absurd of_loop
-course_there (NoCommand code) z of_loop = absurd of_loop
-course_there (Asks Devices) z of_loop = (_, refl)
-course_there (Asks Status) z of_loop = (_, refl)
-course_there (Asks Poll) z of_loop = (_, refl)
-course_there (Asks (Say bytes)) z of_loop = (_, refl)
+pub course_there : (item : Item) (z : LoopState) → IsOfLoop item → is_lending item ≡ false → (course : List Due) × (course_of item z ≡ Some course)
+course_there (Asks (OfVolume command)) z of_loop other = absurd of_loop
+course_there (Asks (Get name)) z of_loop other = absurd of_loop
+course_there (Asks Pack) z of_loop other = absurd of_loop
+course_there (Asks Paper) z of_loop other = absurd of_loop
+course_there (Asks (Lend frames)) z of_loop other = let clash : true ≡ false = other in cc
+course_there (NoCommand code) z of_loop other = absurd of_loop
+course_there (Asks Devices) z of_loop other = (_, refl)
+course_there (Asks Status) z of_loop other = (_, refl)
+course_there (Asks Poll) z of_loop other = (_, refl)
+course_there (Asks (Say bytes)) z of_loop other = (_, refl)
 
 -- which leaves the tape
 pub still_tape : {M : Type 0} (view : M → MediumView) (r s : RingView M) → IsStill (view r.drive.medium) (view s.drive.medium) → LeavesTape view r s
 still_tape view r s still = record { tape = still.tape; size = still.stays_in.size }
 
-pub ran_unready : {M : Type 0} (view : M → MediumView) (item : Item) (r s : RingView M) → IsOfLoop item → r.books.log ≡ [] → ReadyBroke view r s → Ran view item reply.FaultFrame false false r s
-ran_unready view item r s of_loop empty broke =
+pub ran_unready : {M : Type 0} (view : M → MediumView) (item : Item) (r s : RingView M) → IsOfLoop item → is_lending item ≡ false → r.books.log ≡ [] → ReadyBroke view r s → Ran view item reply.FaultFrame false false r s
+ran_unready view item r s of_loop other empty broke =
     let cut = broke.interrupted in
-    let course = course_there item (loop_on r) of_loop in
+    let course = course_there item (loop_on r) of_loop other in
     record {
       empty = empty;
       came = cut.came.units.came;

@@ -38,12 +38,13 @@ use Rattle.il_record.proofs.StoreResumes.{Agrees, agrees}
 use Rattle.il_script.specs.Replies.{code_of, reply_line}
 use Rattle.il_script.specs.declared.reply.Reply.{Reply}
 use Rattle.il_script.specs.declared.reply.Reply.TheVariants as reply
-use Rattle.host_model.specs.Requests.{Asks, OfVolume, Pack, is_of_volume, uses_frames}
+use Rattle.host_model.specs.Requests.{Asks, Lend, OfVolume, Pack, is_of_volume, uses_frames}
 use Rattle.host_model.specs.HostStates.{HasOwnGate, HostState, volume_at}
 use Rattle.host_model.specs.Next.{DeviceBehind}
 use Rattle.host_model.specs.Replies.{packed_line, packed_text, packed_unless, refused_as, reply_of, reply_text, volume_behind}
 use Rattle.host_model.specs.Steps.{Acts, CountsWhole, Event, MayReply, Replied, TellsReply, event}
 use Rattle.host_model.specs.Stops.{StopsLeave}
+use Rattle.host_model.proofs.Fronts.{controls_still}
 use Rattle.il_host.specs.HostView.{Performed}
 use Rattle.il_host.specs.Hosts.{Space, space_of, IsUsable, host_in, loop_in, store_in, volume_in as seen_volume}
 use Rattle.il_host.specs.Preparing.{StaysUnsound}
@@ -68,7 +69,7 @@ loop_of_pack plan answered log s t so = record {
     };
     status = so.next.status;
   };
-  travels = record { one_talker = so.travels.one_talker; roles = so.travels.roles; crossings = so.travels.crossings; frames = so.travels.frames; short = so.travels.short };
+  travels = record { one_talker = so.travels.one_talker; commands = so.travels.commands; roles = so.travels.roles; crossings = so.travels.crossings; frames = so.travels.frames; guest = so.travels.guest; short = so.travels.short };
   heard = so.heard;
   exchanged = record {
     reading = so.exchanged.reading;
@@ -82,6 +83,7 @@ loop_of_pack plan answered log s t so = record {
   };
   by_plan = so.by_plan;
   ready = so.ready;
+  clears = so.clears;
   sound = so.sound;
 }
   where
@@ -93,10 +95,13 @@ pack_step plan e is replied loop = record {
   replied = replied;
   next = loop.next;
   travels = loop.travels;
-  heard = loop.heard;
-  exchanged = loop.exchanged;
+  heard = λ other. loop.heard;
+  exchanged = λ other. loop.exchanged;
+  lent = λ frames lends. let clash : Asks Pack ≡ Asks (Lend frames) = sym is ∙ lends in cc;
   by_plan = loop.by_plan;
   ready = λ frames. loop.ready;
+  controls = λ on. controls_still plan e loop.exchanged;
+  clears = λ frames. loop.clears;
   sound = λ of. loop.sound;
   unsound = λ other. let clash : true ≡ false = sym (ap is_of_volume is) ∙ other in cc;
   still = λ none. let clash : true ≡ false = sym (ap uses_frames is) ∙ none in cc;
@@ -263,7 +268,7 @@ module _ {M I : Type 0} {D : I → Type 0} (view : M → MediumView) (seen : Rin
       performed view seen o b n text_space space usable began opens (Asks Pack) (fault_of e) before (reply_line (fault_of e)) (stays.sounds.size ∙ began.size)
       (subst (λ e. Performs view seen (ring_in o.records.control) (ring_in n.records.control) (Asks Pack) (fault_of e) (loop_in seen o.records) (loop_in seen n.records)) (sym did.0) did.1)
       (record { kept = off; log = λ on. tt })
-      (λ told. sym (fault_text (Asks Pack) (state before) e))
+      (λ told. sym (fault_text (Asks Pack) (state before) (log_at (loop_in seen n.records).control) e))
       (λ is. ((omega (arith, used), λ other. cc, λ other. cc), λ t told on. let clash : true ≡ false = sym on ∙ off in cc))
 
   -- the store was made sound as m
@@ -280,7 +285,7 @@ module _ {M I : Type 0} {D : I → Type 0} (view : M → MediumView) (seen : Rin
 
     -- the text of its reply
     packed_text_is : (before : List ℕ) (answer : Packed) → AnswersPack (store_in view seen) (seen_volume m) (seen_volume n) (Ok answer) → is_some (store_in view seen n.records).tape ≡ is_some (store_in view seen m.records).tape
-        → TellsReply (Asks Pack) (state before) → packed_text answer.files answer.free ++ reply_line reply.Ok ≡ reply_text (Asks Pack) (state before) reply.Ok
+        → TellsReply (Asks Pack) (state before) → packed_text answer.files answer.free ++ reply_line reply.Ok ≡ reply_text (Asks Pack) (state before) (log_at (loop_in seen n.records).control) reply.Ok
     packed_text_is before answer answers told_so tells =
         let so = seen_made before in
         let t = told_tape (state before).tape (tells refl) in
@@ -295,7 +300,7 @@ module _ {M I : Type 0} {D : I → Type 0} (view : M → MediumView) (seen : Rin
         → GoesOn (15 * (store_in view seen m.records).record_count + 120) (store_in view seen m.records) (store_in view seen n.records) (store_answer answer)
         → n.kept ≡ None → AnswersPack (store_in view seen) (seen_volume m) (seen_volume n) answer
         → KeepsFiled (store_in view seen) (seen_volume m) (seen_volume n) → SettlesForeign (store_in view seen) (seen_volume m) (seen_volume n)
-        → (TellsReply (Asks Pack) (state before) → after ≡ reply_text (Asks Pack) (state before) (volume_reply answer))
+        → (TellsReply (Asks Pack) (state before) → after ≡ reply_text (Asks Pack) (state before) (log_at (loop_in seen n.records).control) (volume_reply answer))
         → Performed (Asks Pack) (volume_reply answer) (host_in view seen o before text_space space) (host_in view seen n after text_space space)
     pack_done answer before after goes none answers files foreign text =
         let off : is_some n.kept ≡ false = ap is_some none in
@@ -330,4 +335,4 @@ module _ {M I : Type 0} {D : I → Type 0} (view : M → MediumView) (seen : Rin
             → AnswersPack (store_in view seen) (seen_volume m) (seen_volume n) (Err fault)
             → Performed (Asks Pack) (volume_reply {T = Unit {0}} (Err fault)) (host_in view seen o before text_space space) (host_in view seen n (reply_line (volume_reply {T = Unit {0}} (Err fault))) text_space space)
         by (Refused why) goes answers = pack_done (Err (Refused why)) before (reply_line (reply.No (code_of why))) goes none answers files foreign (λ told. refl)
-        by (Troubled e) goes answers = pack_done (Err (Troubled e)) before (reply_line (fault_of e)) goes none answers files foreign (λ told. sym (fault_text (Asks Pack) (state before) e))
+        by (Troubled e) goes answers = pack_done (Err (Troubled e)) before (reply_line (fault_of e)) goes none answers files foreign (λ told. sym (fault_text (Asks Pack) (state before) (log_at (loop_in seen n.records).control) e))

@@ -20,6 +20,7 @@ use Rattle.host_model.specs.RingStates.{loop_on, state_on}
 use Rattle.host_model.specs.Next.{BoxedBecome, DeviceBehind}
 use Rattle.host_model.specs.Steps.{Event, Exchanged, HearsLog, Acts, Replied, is_frame_fault, event}
 use Rattle.host_model.proofs.Steps.{boxed_same, alike_staying}
+use Rattle.host_model.proofs.Fronts.{controls_still}
 use Rattle.il_host.specs.Standings.{IsHostRing, event_at, plan_at, log_at, state_at}
 use Rattle.il_host.proofs.CommandLogs.{SaysOf, exchanged_none, met_none}
 use Rattle.il_host.proofs.CommandTravels.{event_by, event_on, travels_none}
@@ -71,10 +72,13 @@ module _ {M : Type 0} (view : M → MediumView) (found : Option (List ℕ × ℕ
       status = refl;
     };
     travels = travels_sounding (event_on view (Asks Paper) (if_printer found) was was r r) sound sound (travels_none view (Asks Paper) (if_printer found) was was r r empty one refl);
-    heard = paper_heard _;
-    exchanged = paper_exchanged;
+    heard = λ other. paper_heard _;
+    exchanged = λ other. paper_exchanged;
+    lent = λ frames is. cc;
     by_plan = subst (λ log. All (IsByPlan r.books.plan r.books.crossings r.books.crossings) log) (sym empty) (All-nil (IsByPlan r.books.plan r.books.crossings r.books.crossings));
     ready = λ frames. cc;
+    controls = λ on. controls_still (r.books.plan) paper_event paper_exchanged;
+    clears = λ frames. cc;
     sound = λ of. cc;
     unsound = λ other frames. cc;
     still = λ none. (empty, refl);

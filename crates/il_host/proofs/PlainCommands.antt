@@ -10,7 +10,7 @@ use Rattle.lif_dir.specs.Names.{is_digit, name_of_bytes, new_label}
 use Rattle.lif_dir.specs.declared.entries.Name.{Name}
 use Rattle.il_script.specs.Words.{words_of, without_return, is_none, only_one, only_two, only_four}
 use Rattle.il_script.specs.Digits.{file_type, hex_bytes, is_number, number_up_to, payload_of, type_in, value_of}
-use Rattle.il_script.specs.Commands.{Asked, asked_of, command_of, command_read, format_of, in_form, is_comment, put_of, lone_of, name_of_part, naming, new_name_of_bytes, not_skipped, reading_of, reading_of_words, rename_of, say_of, spelt_as, store_of, with_name, without_bytes, word_command}
+use Rattle.il_script.specs.Commands.{Asked, asked_of, command_of, command_read, format_of, in_form, is_comment, lend_of, put_of, lone_of, name_of_part, naming, new_name_of_bytes, not_skipped, reading_of, reading_of_words, rename_of, say_of, spelt_as, store_of, with_name, without_bytes, word_command}
 use Rattle.il_script.specs.declared.limits.TheConstants.{MOST_SLOTS}
 use Rattle.il_script.specs.declared.command.Command.{Command}
 use Rattle.il_script.specs.declared.command.Command.TheVariants.{Dir, Label, Fetch, Store, Put, Get, Rename, Purge, Format, Adopt, Upgrade, Pack, Begin, Commit, Devices, Status, Poll, Paper}
@@ -93,6 +93,19 @@ plain_format parts =
     formed Plain (number_up_to MOST_SLOTS p.1) _ (λ fault. tt) (λ slots found.
     named Plain label (λ label. Ok (Format label slots)) (λ fault. tt) (λ label. number_some MOST_SLOTS p.1 slots found))))
 
+few_frames : (most : ℕ) (text : List ℕ) (found : ℕ) → number_up_to most text ≡ Some found → (0 < found) × (found ≤ most)
+few_frames most text found is =
+    let so = some_if (is_number text && nat_le (value_of text) most) (value_of text) found is in
+    let few = at_most (value_of text) most (and_parts (is_number text) (nat_le (value_of text) most) so.0).1 in
+    let same = so.1 in
+    (number_some most text found is, omega (arith, few, same))
+  where
+    at_most : (n m : ℕ) → nat_le n m ≡ true → n ≤ m
+    at_most n m is = grind (arith, nat_tests)
+
+plain_lend : (parts : List (List ℕ)) → Plain (lend_of parts)
+plain_lend parts = formed Plain (only_one parts) _ (λ fault. tt) (λ part is. formed Plain (number_up_to 4096 part) _ (λ fault. tt) (λ frames found. few_frames 4096 part frames found))
+
 plain_rename : (parts : List (List ℕ)) → Plain (rename_of parts)
 plain_rename parts =
     formed Plain (only_two parts) _ (λ fault. tt) (λ p is.
@@ -124,7 +137,8 @@ plain_command word parts =
     (either Plain (bytes_eq word (codes "get")) _ _ (plain_name Get (name_of_part parts) (λ name. tt))
     (either Plain (bytes_eq word (codes "purge")) _ _ (plain_name Purge (name_of_part parts) (λ name. tt))
     (either Plain (bytes_eq word (codes "rename")) _ _ (plain_rename parts)
-    (either Plain (bytes_eq word (codes "format")) _ _ (plain_format parts) (plain_lone word parts)))))
+    (either Plain (bytes_eq word (codes "format")) _ _ (plain_format parts)
+    (either Plain (bytes_eq word (codes "lend")) _ _ (plain_lend parts) (plain_lone word parts))))))
 
 plain_bare : (r : Result Command LineFault) → Plain r → PlainAsked (without_bytes r)
 plain_bare (Ok command) plain = plain

@@ -6,14 +6,14 @@ use Rattle.lif_model.specs.Tape.{Tape}
 use Rattle.il_script.specs.declared.reply.Reply.{Reply}
 use Rattle.il_script.specs.declared.reply.Reply.TheVariants as reply
 use Rattle.il_ring.specs.declared.plan.Planned.{Planned}
-use Rattle.host_model.specs.Requests.{Asks, Devices, Get, Pack, Item, NoCommand, OfVolume, Paper, Poll, Say, Status, is_of_volume, uses_frames}
+use Rattle.host_model.specs.Requests.{Asks, Devices, Get, Lend, Pack, Item, NoCommand, OfVolume, Paper, Poll, Say, Status, is_of_volume, uses_frames}
 use Rattle.host_model.specs.LoopStates.{all_roles, device_count}
 use Rattle.host_model.specs.HostStates.{HostState}
 use Rattle.host_model.specs.Courses.{begins_with, cleared_first}
 use Rattle.host_model.specs.Replies.{reply_of, volume_behind}
 use Rattle.host_model.specs.Next.{BoxedBecome}
 use Rattle.host_model.specs.Stops.{MayBeLeft, StopsLeave}
-use Rattle.host_model.specs.Steps.{Acts, CountsWhole, EitherVolume, Event, Exchanged, HearsLog, Replied, Travels, is_frame_fault}
+use Rattle.host_model.specs.Steps.{Acts, CountsWhole, EitherVolume, Event, Exchanged, HearsLog, Lent, Replied, Travels, is_frame_fault}
 
 -- a state, of a store that is sound or not, with a directory that is kept or not
 abbrev pub state_standing : (sound kept : Bool) → HostState → HostState
@@ -42,6 +42,7 @@ same_reply (Asks Status) sound kept s = refl
 same_reply (Asks Poll) sound kept s = refl
 same_reply (Asks (Say bytes)) sound kept s = refl
 same_reply (Asks Paper) sound kept s = refl
+same_reply (Asks (Lend frames)) sound kept s = refl
 same_reply (NoCommand code) sound kept s = refl
 
 same_behind : (item : Item) (sound kept : Bool) (s : HostState) → volume_behind item (state_standing sound kept s) ≡ volume_behind item s
@@ -53,6 +54,7 @@ same_behind (Asks Status) sound kept s = refl
 same_behind (Asks Poll) sound kept s = refl
 same_behind (Asks (Say bytes)) sound kept s = refl
 same_behind (Asks Paper) sound kept s = refl
+same_behind (Asks (Lend frames)) sound kept s = refl
 same_behind (NoCommand code) sound kept s = refl
 
 either_standing : (item : Item) (was was_kept is is_kept : Bool) (s t : HostState) → EitherVolume item s t → EitherVolume item (state_standing was was_kept s) (state_standing is is_kept t)
@@ -64,6 +66,7 @@ either_standing (Asks Status) was was_kept is is_kept s t either = either
 either_standing (Asks Poll) was was_kept is is_kept s t either = either
 either_standing (Asks (Say bytes)) was was_kept is is_kept s t either = either
 either_standing (Asks Paper) was was_kept is is_kept s t either = either
+either_standing (Asks (Lend frames)) was was_kept is is_kept s t either = either
 either_standing (NoCommand code) was was_kept is is_kept s t either = either
 
 counts_standing : (item : Item) (r : Reply) (was was_kept is is_kept : Bool) (s t : HostState) → CountsWhole item r s t → CountsWhole item r (state_standing was was_kept s) (state_standing is is_kept t)
@@ -91,7 +94,7 @@ module _ (e : Event) (was was_kept is is_kept : Bool) where
 
   -- what the frames did
   travels_standing : Travels e → Travels (standing e was was_kept is is_kept)
-  travels_standing so = record { one_talker = so.one_talker; roles = so.roles; crossings = so.crossings; frames = so.frames; short = so.short }
+  travels_standing so = record { one_talker = so.one_talker; commands = so.commands; roles = so.roles; crossings = so.crossings; frames = so.frames; guest = so.guest; short = so.short }
 
   -- the exchanges, but for those with which a command of the volume begins
   exchanged_standing : (plan : List Planned) (so : Exchanged plan e)
@@ -106,6 +109,24 @@ module _ (e : Event) (was was_kept is is_kept : Bool) where
     cause = so.cause;
     effect = so.effect;
     carried = so.carried;
+  }
+
+  -- a lend
+  lent_standing : (plan : List Planned) (frames : ℕ) → Lent plan frames e → Lent plan frames (standing e was was_kept is is_kept)
+  lent_standing plan frames so = record {
+    front = so.front;
+    reading = so.reading;
+    addressed = so.addressed;
+    lent = so.lent;
+    ends = so.ends;
+    log = so.log;
+    lends = so.lends;
+    begun = so.begun;
+    cause = so.cause;
+    untaken = so.untaken;
+    faults = so.faults;
+    unfailed = so.unfailed;
+    told = so.told;
   }
 
 -- ---- of a store that was sound or not, and is
@@ -130,9 +151,12 @@ acts_keeping plan e was is stays so = record {
   next = so.next;
   travels = travels_standing e e.before.sound was e.after.sound is so.travels;
   heard = so.heard;
-  exchanged = exchanged_standing e e.before.sound was e.after.sound is plan so.exchanged so.exchanged.begins;
+  exchanged = λ other. exchanged_standing e e.before.sound was e.after.sound is plan (so.exchanged other) (so.exchanged other).begins;
+  lent = λ frames lends. lent_standing e e.before.sound was e.after.sound is plan frames (so.lent frames lends);
   by_plan = so.by_plan;
   ready = so.ready;
+  controls = so.controls;
+  clears = so.clears;
   sound = so.sound;
   unsound = so.unsound;
   still = λ none. let left = so.still none in (left.0, λ i. record (left.1 i) { kept = stays none i });
@@ -148,6 +172,7 @@ left_keeping (Asks Status) s kept x = refl
 left_keeping (Asks Poll) s kept x = refl
 left_keeping (Asks (Say bytes)) s kept x = refl
 left_keeping (Asks Paper) s kept x = refl
+left_keeping (Asks (Lend frames)) s kept x = refl
 left_keeping (NoCommand code) s kept x = refl
 
 pub stops_keeping : (e : Event) (was is : Bool) (before now : ℕ) (past since : ℕ → Tape → Type 0) → StopsLeave e before now past since → StopsLeave (keeping e was is) before now past since

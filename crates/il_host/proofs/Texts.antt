@@ -30,13 +30,14 @@ use Rattle.host_model.specs.HostStates.{HostState, text_room}
 use Rattle.host_model.specs.Listing.{volume_line, slot_lines, listing}
 use Rattle.host_model.specs.Replies.{data_line, label_line, told_of, reply_text}
 use Rattle.il_host.specs.Texts.{parts_of, listing_text, label_text, data_text}
+use Rattle.il_frames.specs.declared.entry.Entry.{Entry}
 
 -- ---- the text of a reply
 
 -- by the tape that is told
-pub ok_text : (command : VolumeCommand) (s : HostState) (t : Tape) (lines : List ℕ) → s.tape ≡ Some t → told_of command (finished_volume_of t) ≡ lines
-    → reply_text (Asks (OfVolume command)) s reply.Ok ≡ lines ++ reply_line reply.Ok
-ok_text command s t lines told is = ap (λ (tape : Option Tape). told_of command (option_and_then finished_volume_of tape) ++ reply_line reply.Ok) told ∙ ap (λ l. l ++ reply_line reply.Ok) is
+pub ok_text : (command : VolumeCommand) (s : HostState) (log : List Entry) (t : Tape) (lines : List ℕ) → s.tape ≡ Some t → told_of command (finished_volume_of t) ≡ lines
+    → reply_text (Asks (OfVolume command)) s log reply.Ok ≡ lines ++ reply_line reply.Ok
+ok_text command s log t lines told is = ap (λ (tape : Option Tape). told_of command (option_and_then finished_volume_of tape) ++ reply_line reply.Ok) told ∙ ap (λ l. l ++ reply_line reply.Ok) is
 
 -- ---- dir
 

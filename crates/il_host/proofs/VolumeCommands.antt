@@ -9,13 +9,13 @@ use Rattle.il_ports.specs.Trouble.{answers_ok}
 use Rattle.il_ports.specs.declared.records.Trouble.{Trouble}
 use Rattle.il_ports.specs.declared.records.Trouble.TheVariants as trouble
 use Rattle.loop_model.specs.Roles.{is_at_most_one, talkers}
-use Rattle.il_ring.specs.Guests.{IsUnderHost}
 use Rattle.il_ring.specs.Rings.{RingView, devices_of, drive_party, roles_of, IsRing}
 use Rattle.il_control.specs.Calls.{loop_of}
+use Rattle.il_record.specs.declared.records.Since.{Since}
 use Rattle.il_record.specs.declared.records.Since.TheVariants as since
 use Rattle.il_record.specs.Came.{OnlyHeard}
 use Rattle.loop_model.specs.Effect.{Transferred}
-use Rattle.il_record.specs.LoopStores.{LoopView, Standing, StandsSo, is_idle, view_at, view_of, HasRing}
+use Rattle.il_record.specs.LoopStores.{LoopView, Standing, StandsSo, is_idle, view_at, view_of, HasRing, AtIdle, AtLost, Nowhere}
 use Rattle.il_record.proofs.HeardLogs.{heard_then}
 use Rattle.il_record.proofs.StoreResumes.{Agrees}
 use Rattle.il_script.specs.declared.reply.Reply.{Reply}
@@ -25,6 +25,7 @@ use Rattle.host_model.specs.HostStates.{HostState, log_room, volume_at}
 use Rattle.host_model.specs.RingStates.{state_on}
 use Rattle.host_model.specs.Next.{StatusBehindVolume}
 use Rattle.host_model.specs.Steps.{Exchanged, is_fault, is_frame_fault}
+use Rattle.host_model.proofs.Fronts.{clears_volume}
 use Rattle.il_host.specs.Standings.{HasDriveStatus, FitsAnswer, IsHostRing, MakesSound, event_at, plan_at, log_at, state_at}
 use Rattle.il_host.proofs.CommandTravels.{event_by}
 use Rattle.il_host.proofs.Images.{KeepsAt, KeepsMedium, images_then}
@@ -33,26 +34,23 @@ use Rattle.il_host.proofs.VolumeExchanges.{CarriesBy, Started, frame_joined, joi
 use Rattle.il_host.proofs.VolumeNext.{volume_heard, volume_next}
 use Rattle.il_host.proofs.VolumeStarts.{Emptied, MadeSound, StartBroke, made_sound, start_broke}
 use Rattle.il_host.proofs.VolumeSteps.{Behind, Here, StatusAs, TellsLoop, at_ring, behind, here_at, plan_rings, ready_behind, state_rings, tells_rings, within_room}
-use Rattle.il_host.proofs.VolumeTravels.{WentBy, one_talks, volume_went, went_images, went_loop, went_place, went_guest, went_plan, went_room, went_travels, ring_stands, went_by_plan}
+use Rattle.il_host.proofs.VolumeTravels.{WentBy, one_talks, volume_went, went_images, went_loop, went_place, went_plan, went_room, went_travels, ring_stands, went_by_plan}
 
 -- ---- what a command keeps
 
--- The plan of faults stays, and so does the room of the log, and no second controller comes. No image changes but the one in the drive.
+-- The plan of faults stays, and so does the room of the log. No image changes but the one in the drive.
 pub record KeepsRing {M : Type 0} (view : M → MediumView) (old new : LoopView M) : Type 0 where
   pub plan : plan_at new.control ≡ plan_at old.control
   pub room : IsHostRing view new.control
   pub images : KeepsAt view old.control new.control
 
 module _ {M : Type 0} (view : M → MediumView) where
-  ring_of : (is : Bool) (c : Standing M) (r : RingView M) → c ≡ at_ring is r → IsHostRing view c → (r.books.room ≡ log_room (view r.drive.medium).record_count) × (r.guest ≡ None)
-  ring_of is c r at own = by is (subst (λ (c : Standing M). IsHostRing view c) at own)
+  pub room_at : (is : Bool) (c : Standing M) (r : RingView M) → c ≡ at_ring is r → IsHostRing view c → r.books.room ≡ log_room (view r.drive.medium).record_count
+  room_at is c r at own = by is (subst (λ (c : Standing M). IsHostRing view c) at own)
     where
-      by : (is : Bool) → IsHostRing view (at_ring is r) → (r.books.room ≡ log_room (view r.drive.medium).record_count) × (r.guest ≡ None)
+      by : (is : Bool) → IsHostRing view (at_ring is r) → r.books.room ≡ log_room (view r.drive.medium).record_count
       by true own = own
       by false own = own
-
-  pub room_at : (is : Bool) (c : Standing M) (r : RingView M) → c ≡ at_ring is r → IsHostRing view c → r.books.room ≡ log_room (view r.drive.medium).record_count
-  room_at is c r at own = (ring_of is c r at own).0
 
   pub begins_at : (is : Bool) (c : Standing M) (r : RingView M) → c ≡ at_ring is r → HasRing c (λ r. r.books.begun ≡ r.books.crossings) → r.books.begun ≡ r.books.crossings
   begins_at is c r at begins = by is (subst (λ (c : Standing M). HasRing c (λ r. r.books.begun ≡ r.books.crossings)) at begins)
@@ -61,12 +59,12 @@ module _ {M : Type 0} (view : M → MediumView) where
       by true begins = begins
       by false begins = begins
 
-  ring_on : (is : Bool) (c : Standing M) (r : RingView M) → c ≡ at_ring is r → r.books.room ≡ log_room (view r.drive.medium).record_count → r.guest ≡ None → IsHostRing view c
-  ring_on is c r at room none = subst (λ (c : Standing M). IsHostRing view c) (sym at) (by is)
+  ring_on : (is : Bool) (c : Standing M) (r : RingView M) → c ≡ at_ring is r → r.books.room ≡ log_room (view r.drive.medium).record_count → IsHostRing view c
+  ring_on is c r at room = subst (λ (c : Standing M). IsHostRing view c) (sym at) (by is)
     where
       by : (is : Bool) → IsHostRing view (at_ring is r)
-      by true = (room, none)
-      by false = (room, none)
+      by true = room
+      by false = room
 
   status_at : (is : Bool) (c : Standing M) (r : RingView M) → c ≡ at_ring is r → HasDriveStatus c → status_of r.drive.state ≤ 3
   status_at is c r at has = by is (subst (λ (c : Standing M). HasDriveStatus c) at has)
@@ -100,15 +98,17 @@ module _ {M : Type 0} (view : M → MediumView) where
       by false true = kept
       by false false = kept
 
+  pub keeps_by : (old new : LoopView M) (was is : Bool) (r s : RingView M) → old.control ≡ at_ring was r → new.control ≡ at_ring is s → s.books.plan ≡ r.books.plan → s.books.room ≡ r.books.room → KeepsMedium (view r.drive.medium) (view s.drive.medium)
+      → (view s.drive.medium).record_count ≡ (view r.drive.medium).record_count → IsHostRing view old.control → KeepsRing view old new
+  keeps_by old new was is r s one two plan_is room_is images size room = record {
+    plan = ap (λ (c : Standing M). plan_at c) two ∙ plan_rings view is s ∙ plan_is ∙ sym (plan_rings view was r) ∙ ap (λ (c : Standing M). plan_at c) (sym one);
+    room = ring_on is new.control s two (room_is ∙ room_at was old.control r one room ∙ ap log_room (sym size));
+    images = images_on was is old.control new.control r s one two images;
+  }
+
   pub keeps_rings : (old new : LoopView M) (was is : Bool) (r s : RingView M) → old.control ≡ at_ring was r → new.control ≡ at_ring is s → WentBy view r s → (view s.drive.medium).record_count ≡ (view r.drive.medium).record_count → IsHostRing view old.control
       → KeepsRing view old new
-  keeps_rings old new was is r s one two went size room = record {
-    plan = ap (λ (c : Standing M). plan_at c) two ∙ plan_rings view is s ∙ went_plan view r s went ∙ sym (plan_rings view was r) ∙ ap (λ (c : Standing M). plan_at c) (sym one);
-    room =
-        let own = ring_of was old.control r one room in
-        ring_on is new.control s two (went_room view r s went ∙ own.0 ∙ ap log_room (sym size)) (went_guest view r s went (subst IsUnderHost (sym own.1) tt) ∙ own.1);
-    images = images_on was is old.control new.control r s one two (went_images view r s went);
-  }
+  keeps_rings old new was is r s one two went size room = keeps_by old new was is r s one two (went_plan view r s went) (went_room view r s went) (went_images view r s went) size room
 
   -- What is kept from the emptying of the log on, is kept from before it.
   pub keeps_emptied : (old begun new : LoopView M) → Emptied view old begun → KeepsRing view begun new → KeepsRing view old new
@@ -135,6 +135,12 @@ fits_status (Ok x) reply.FaultFrame status fits so low = cc
 fits_status (Ok x) reply.FaultMedium status fits so low = cc
 fits_status (Err trouble.Frame) answered status fits so low = subst (λ a. StatusBehindVolume a status) (sym fits) low
 fits_status (Err trouble.Medium) answered status fits so low = subst (λ a. StatusBehindVolume a status) (sym fits) so
+
+-- where the loop is not ready the store is not sound
+unsound_lost : {M : Type 0} (c : Standing M) (sound : Bool) (log : Since) → StandsSo c sound log → is_idle c ≡ false → sound ≡ false
+unsound_lost (AtIdle r) sound log so off = let clash : true ≡ false = off in cc
+unsound_lost (AtLost r) sound log so off = so.1
+unsound_lost Nowhere sound log so off = absurd so
 
 -- ---- the laws
 
@@ -181,15 +187,19 @@ module _ {M : Type 0} (view : M → MediumView) (command : VolumeCommand) (begun
       short : length s.books.log ≤ log_room (view r.drive.medium).record_count
       short = subst (λ n. length s.books.log ≤ n) (went_room view r s went ∙ room_at view was begun.control r here.at room) (short_at view seen q new false s broke.at left)
 
+      exchanged : Exchanged (r.books.plan) (event_by view (Asks (OfVolume command)) reply.FaultFrame was false begun.sound new.sound r s)
+      exchanged = subst (λ sound. Exchanged (r.books.plan) (event_by view (Asks (OfVolume command)) reply.FaultFrame was false sound new.sound r s)) (sym so.0)
+          (frame_joined view command was false false new.sound r s (here.empty empty) [] (joined_broken view was r s broke.keeps) broke.drive.count)
+
       tells : TellsLoop (r.books.plan) (event_by view (Asks (OfVolume command)) reply.FaultFrame was false begun.sound new.sound r s)
       tells = record {
         next = volume_next r s (went_place view r s went) broke.unheard command reply.FaultFrame (status_at view false new.control s broke.at low);
         travels = went_travels view r s went (Asks (OfVolume command)) reply.FaultFrame was false begun.sound new.sound (here.empty empty) one_here short;
         heard = volume_heard r s (went_place view r s went) (here.empty empty) broke.unheard false;
-        exchanged = subst (λ sound. Exchanged (r.books.plan) (event_by view (Asks (OfVolume command)) reply.FaultFrame was false sound new.sound r s)) (sym so.0)
-            (frame_joined view command was false false new.sound r s (here.empty empty) [] (joined_broken view was r s broke.keeps) broke.drive.count);
+        exchanged = exchanged;
         by_plan = went_by_plan view r s went ring_here begins_there;
         ready = refl;
+        clears = λ off. clears_volume (r.books.plan) (event_by view (Asks (OfVolume command)) reply.FaultFrame was false begun.sound new.sound r s) exchanged refl so.0 off;
         sound = broke.unsound;
       }
 
@@ -255,13 +265,17 @@ module _ {M : Type 0} (view : M → MediumView) (command : VolumeCommand) (begun
       frame : FrameAs answer answered
       frame = fits_ready answer answered fits
 
+      exchanged : Exchanged (r.books.plan) (event_by view (Asks (OfVolume command)) answered was is begun.sound new.sound r s)
+      exchanged = volume_exchanged view command was is begun.sound new.sound r m s answer answered (here.empty empty) start so.ends fits carried
+
       tells : TellsLoop (r.books.plan) (event_by view (Asks (OfVolume command)) answered was is begun.sound new.sound r s)
       tells = record {
         next = volume_next r s (went_place view r s went) unheard command answered (fits_status answer answered (status_of s.drive.state) fits so.status (status_at view is new.control s so.at low));
         travels = went_travels view r s went (Asks (OfVolume command)) answered was is begun.sound new.sound (here.empty empty) one_here short;
         heard = volume_heard r s (went_place view r s went) (here.empty empty) unheard (not (is_frame_fault answered));
-        exchanged = volume_exchanged view command was is begun.sound new.sound r m s answer answered (here.empty empty) start so.ends fits carried;
+        exchanged = exchanged;
         by_plan = went_by_plan view r s went ring_here begins_there;
         ready = frame.0;
+        clears = λ off. clears_volume (r.books.plan) (event_by view (Asks (OfVolume command)) answered was is begun.sound new.sound r s) exchanged refl (unsound_lost begun.control begun.sound since.Unbroken stands off) off;
         sound = so.sound ∙ frame.1;
       }

@@ -20,10 +20,11 @@ use Rattle.il_record.specs.LoopStores.{AtIdle, AtLost, FailedAtIdle, FailedAtLos
 use Rattle.il_record.proofs.StoreResumes.{Agrees}
 use Rattle.il_record.proofs.StoreStarts.{IsStart, nothing_since, unfailed_idle}
 use Rattle.il_script.specs.declared.reply.Reply.{Reply}
-use Rattle.host_model.specs.Requests.{Asks, Item, OfVolume, is_of_volume, uses_frames}
+use Rattle.host_model.specs.Requests.{Asks, Item, Lend, OfVolume, is_of_volume, uses_frames}
 use Rattle.host_model.specs.RingStates.{state_on}
 use Rattle.host_model.specs.Next.{Next}
-use Rattle.host_model.specs.Steps.{Event, Exchanged, Acts, Replied, Travels, is_fault, is_frame_fault}
+use Rattle.host_model.specs.Steps.{Event, Exchanged, Acts, Replied, Travels, is_fault, is_frame_fault, takes_back_first}
+use Rattle.host_model.proofs.Fronts.{controls_still}
 use Rattle.il_host.specs.Standings.{event_at, plan_at, log_at, state_at}
 use Rattle.il_host.proofs.CommandTravels.{event_by}
 use Rattle.il_host.proofs.LoopReady.{StandsAt}
@@ -40,6 +41,7 @@ pub record TellsLoop (plan : List Planned) (e : Event) : Type 0 where
   pub exchanged : Exchanged plan e
   pub by_plan : All (IsByPlan plan e.before.crossings e.after.crossings) e.log
   pub ready : e.after.ready ≡ not (is_frame_fault e.reply)
+  pub clears : e.before.ready ≡ false → takes_back_first e.log ≡ true
   pub sound : e.after.sound ≡ not (is_fault e.reply)
 
 -- with its reply it is a step
@@ -48,10 +50,13 @@ volume_step plan e command is replied loop = record {
   replied = replied;
   next = loop.next;
   travels = loop.travels;
-  heard = loop.heard;
-  exchanged = loop.exchanged;
+  heard = λ other. loop.heard;
+  exchanged = λ other. loop.exchanged;
+  lent = λ frames lends. let clash : Asks (OfVolume command) ≡ Asks (Lend frames) = sym is ∙ lends in cc;
   by_plan = loop.by_plan;
   ready = λ frames. loop.ready;
+  controls = λ on. controls_still plan e loop.exchanged;
+  clears = λ frames. loop.clears;
   sound = λ of. loop.sound;
   unsound = λ other. let clash : true ≡ false = sym (ap is_of_volume is) ∙ other in cc;
   still = λ none. let clash : true ≡ false = sym (ap uses_frames is) ∙ none in cc;

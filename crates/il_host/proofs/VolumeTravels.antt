@@ -6,7 +6,6 @@ use Rattle.il_ports.specs.Media.{MediumView}
 use Rattle.il_ports.specs.declared.records.Trouble.{Trouble}
 use Rattle.il_ports.specs.declared.records.Trouble.TheVariants as trouble
 use Rattle.loop_model.specs.Roles.{is_at_most_one, talkers}
-use Rattle.il_ring.specs.Guests.{IsUnderHost}
 use Rattle.il_ring.specs.Rings.{RingView, devices_of, roles_of, IsRing}
 use Rattle.il_ring.specs.Fates.{IsByPlan}
 use Rattle.il_control.specs.Calls.{loop_of, IsIdle, IsLost}
@@ -72,10 +71,6 @@ module _ {M : Type 0} (view : M → MediumView) (r s : RingView M) (went : WentB
 
   pub went_room : s.books.room ≡ r.books.room
   went_room = ⊎_elim (λ same. ap (λ (s : RingView M). s.books.room) same) (λ so. so.1.talked.adds.room) went
-
-  -- no second controller comes or goes
-  pub went_guest : IsUnderHost r.guest → s.guest ≡ r.guest
-  went_guest under = ⊎_elim (λ same. ap (λ (s : RingView M). s.guest) same) (λ so. so.1.talked.adds.guest.1 under) went
 
   -- and no image changes but the one in the drive
   pub went_images : KeepsMedium (view r.drive.medium) (view s.drive.medium)

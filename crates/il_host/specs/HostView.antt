@@ -113,7 +113,7 @@ pub record Performed (item : Item) (reply : Reply) (v w : HostView) : Type 0 whe
   pub valid : w.valid
   pub plan : w.plan ≡ v.plan
   pub step : IsStep v.plan (event_between item reply v w)
-  pub text : TellsReply item v.state → w.text ≡ reply_text item v.state reply
+  pub text : TellsReply item v.state → w.text ≡ reply_text item v.state w.log reply
   pub stops : StopsLeave (event_between item reply v w) v.moment w.moment v.left_since w.left_since
   pub images : KeepsImages v.inside w.inside v.images w.images
   pub calls : is_of_volume item ≡ true → MakesFewCalls item v.state w.log

@@ -1,11 +1,12 @@
 -- What holds of a host between its commands, and how contracts see it.
-use Rattle.std.specs.Prelude.{◌≡◌, ◌*◌, ◌-◌, ℕ, Bool, true, false, List, [], length, Option, is_some}
+use Rattle.std.specs.Prelude.{◌≡◌, ◌*◌, ◌-◌, ◌++◌, ℕ, Bool, true, false, List, [], length, Option, is_some}
 use Rattle.std.specs.Global.{Vec}
 use Rattle.lif_model.specs.Tape.{Tape}
 use Rattle.lif_model.specs.Volume.{volume_of}
 use Rattle.lif_model.specs.Shelf.{IsSize}
 use Rattle.lif_model.specs.Stops.{StandsStill}
 use Rattle.il_device.specs.State.{DeviceState}
+use Rattle.il_guest.specs.State.{GuestState}
 use Rattle.il_ports.specs.Media.{MediumView}
 use Rattle.il_ports.specs.Stores.{RecordsView}
 use Rattle.lif_volume.specs.Seen as volume
@@ -16,11 +17,13 @@ use Rattle.lif_pack.specs.declared.memory.Packer.{Packer}
 use Rattle.lif_volume.specs.declared.volume.Volume.{Volume}
 use Rattle.il_ring.specs.declared.plan.Planned.{Planned}
 use Rattle.il_ring.specs.declared.ring.Ring.{Ring}
+use Rattle.il_ring.specs.Guests.{guest_devices}
 use Rattle.il_ring.specs.Rings.{RingView}
 use Rattle.il_record.specs.declared.records.LoopRecords.{LoopRecords}
 use Rattle.il_record.specs.Controls.{ring_in, standing_of}
 use Rattle.il_record.specs.LoopStores.{LoopView, StandsSo, view_of}
 use Rattle.host_model.specs.HostStates.{fresh_host, text_room}
+use Rattle.host_model.specs.Orders.{asks_last}
 use Rattle.il_host.specs.HostView.{HostView}
 use Rattle.il_host.specs.Shorts.{AllShort}
 use Rattle.il_host.specs.Standings.{IsHostRing, state_at, log_at, plan_at, images_at, inside_at}
@@ -93,10 +96,11 @@ host_in view seen v text text_space space =
 
 -- ---- opening and closing
 
--- The host was opened on this medium, over devices before and behind the drive.
-pub record IsOpened {M : Type 0} (view : M → MediumView) (medium : M) (before after : List DeviceState) (plan : List Planned) (v : HostView) : Type 0 where
+-- The host was opened on this medium, over devices before and behind the drive, and a second controller behind them, where there is one.
+pub record IsOpened {M : Type 0} (view : M → MediumView) (medium : M) (before after : List DeviceState) (guest : Option GuestState) (plan : List Planned)
+    (v : HostView) : Type 0 where
   pub valid : v.valid
-  pub state : v.state ≡ fresh_host (view medium).tape (view medium).record_count (view medium).faults before after
+  pub state : v.state ≡ fresh_host (view medium).tape (view medium).record_count (view medium).faults before (after ++ guest_devices guest) (asks_last guest)
   pub plan_is : v.plan ≡ plan
   -- no command was performed yet
   pub log : v.log ≡ []
@@ -107,12 +111,13 @@ pub record IsOpened {M : Type 0} (view : M → MediumView) (medium : M) (before 
   pub since : StandsStill (view medium).left_since v.left_since
 
 -- The medium and the devices that are handed back are as the host left them.
-pub record IsClosed {M : Type 0} (view : M → MediumView) (v : HostView) (medium : M) (before after : List DeviceState) : Type 0 where
+pub record IsClosed {M : Type 0} (view : M → MediumView) (v : HostView) (medium : M) (before after : List DeviceState) (guest : Option GuestState) : Type 0 where
   pub tape : (view medium).tape ≡ v.state.tape
   pub faults : (view medium).faults ≡ v.state.faults
   pub shelf : (view medium).shelf ≡ v.images
   pub inside : (view medium).inside ≡ v.inside
   pub devices_before : before ≡ v.state.loop.before
-  pub devices_after : after ≡ v.state.loop.after
+  pub devices_after : after ++ guest_devices guest ≡ v.state.loop.after
+  pub guest_is : asks_last guest ≡ v.state.loop.guest
   pub moment : (view medium).moment ≡ v.moment
   pub since : StandsStill v.left_since (view medium).left_since

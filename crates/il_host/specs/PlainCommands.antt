@@ -1,17 +1,20 @@
 -- Commands that a script can ask for.
-use Rattle.std.specs.Prelude.{◌≢◌, ◌<◌, Option, Some, Result, Ok}
+use Rattle.std.specs.Prelude.{◌≢◌, ◌<◌, ◌≤◌, Option, Some, Result, Ok}
 use Rattle.il_script.specs.declared.reply.Code.{Code}
+use Rattle.il_script.specs.declared.limits.TheConstants.{MOST_FRAMES}
 use Rattle.il_script.specs.declared.command.Command.{Command}
-use Rattle.il_script.specs.declared.command.Command.TheVariants.{Store, Put, Get, Rename, Purge, Format, Adopt, Upgrade, Pack, Begin, Commit, Devices, Status, Poll, Say, Paper}
+use Rattle.il_script.specs.declared.command.Command.TheVariants.{Store, Put, Get, Rename, Purge, Format, Adopt, Upgrade, Pack, Begin, Commit, Devices, Status, Poll, Say, Paper, Lend}
 use Rattle.lif_model.specs.Apply.{VolumeCommand}
 use Rattle.host_model.specs.Requests.{Request, OfVolume}
 use Rattle.il_host.specs.declared.running.Asked.{Asked}
 use Rattle.il_host.specs.declared.running.Asked.TheVariants as asked
 
--- the type of a file that is stored is neither 0, a purged one, nor FFFF hex, the end of a directory; a directory that is made has a slot
+-- The type of a file that is stored is neither 0, a purged one, nor FFFF hex, the end of a directory; a directory that is made has a slot;
+-- and control is lent for a frame or more, up to the most.
 abbrev pub IsFormed : Command → Type 0
 IsFormed (Store name kind implementation) = (kind ≢ 0) × (kind ≢ 0xFFFF)
 IsFormed (Format label slots) = 0 < slots
+IsFormed (Lend frames) = (0 < frames) × (frames ≤ MOST_FRAMES)
 IsFormed command = Unit {0}
 
 -- and a batch is not performed line by line
@@ -48,6 +51,7 @@ IsOnVolume Status = ⊥
 IsOnVolume Poll = ⊥
 IsOnVolume Say = ⊥
 IsOnVolume Paper = ⊥
+IsOnVolume (Lend frames) = ⊥
 IsOnVolume Begin = ⊥
 IsOnVolume Commit = ⊥
 IsOnVolume command = Unit {0}

@@ -25,7 +25,7 @@ use Rattle.host_model.specs.Steps.{Event, event, is_fault}
 abbrev pub state_at : {M : Type 0} → (M → MediumView) → Bool → Standing M → HostState
 state_at view sound (AtIdle r) = state_on view true sound r
 state_at view sound (AtLost r) = state_on view false sound r
-state_at view sound Nowhere = fresh_host None 0 0 [] []
+state_at view sound Nowhere = fresh_host None 0 0 [] [] None
 
 -- the log of the ring
 abbrev pub log_at : {M : Type 0} → Standing M → List Entry
@@ -50,9 +50,9 @@ plan_at (AtIdle r) = r.books.plan
 plan_at (AtLost r) = r.books.plan
 plan_at Nowhere = []
 
--- the log has the room that a medium of so many records is to have, and no second controller is on the loop
+-- the log has the room that a medium of so many records is to have
 abbrev pub IsHostRing : {M : Type 0} → (M → MediumView) → Standing M → Type 0
-IsHostRing view c = HasRing c (λ r. (r.books.room ≡ log_room (view r.drive.medium).record_count) × (r.guest ≡ None))
+IsHostRing view c = HasRing c (λ r. r.books.room ≡ log_room (view r.drive.medium).record_count)
 
 -- the drive of this controller has a status of a drive
 abbrev pub HasDriveStatus : {M : Type 0} → Standing M → Type 0

@@ -1,5 +1,5 @@
 -- What a whole run leaves, by how it ends.
-use Rattle.std.specs.Prelude.{◌≡◌, ◌≤◌, ◌+◌, ◌==◌, ℕ, true, List, length, map, Option, None, if◌then◌else◌, is_some}
+use Rattle.std.specs.Prelude.{◌≡◌, ◌≤◌, ◌+◌, ◌++◌, ◌==◌, ℕ, true, List, length, map, Option, None, if◌then◌else◌, is_some}
 use Rattle.std.specs.List.{All}
 use Rattle.std.specs.declared.dyn_box.DynBox.{DynBox}
 use Rattle.std.specs.Global.{Global}
@@ -7,14 +7,16 @@ use Rattle.lif_model.specs.Shelf.{IsSize}
 use Rattle.lif_model.specs.Stops.{LeavesOnly}
 use Rattle.lif_model.specs.Tape.{Tape}
 use Rattle.il_device.specs.State.{DeviceState}
+use Rattle.il_guest.specs.State.{GuestState}
 use Rattle.il_ports.specs.Media.{MediumView}
 use Rattle.il_ring.specs.declared.rig.Rig.{Rig}
+use Rattle.il_ring.specs.Guests.{IsIdleGuest, MayBeGuest, guest_devices}
 use Rattle.il_ring.specs.Rings.{MayStand}
 use Rattle.host_model.specs.HostStates.{HostState, fresh_host}
 use Rattle.host_model.specs.Stops.{LeftWithin}
 use Rattle.host_model.specs.Histories.{RunTells}
 use Rattle.host_model.specs.Endings.{RunEnd, HasNoTape, HasEndingCause, IsEarly, exit_status}
-use Rattle.host_model.specs.Orders.{Order, Outside, HandsBack, mode_of}
+use Rattle.host_model.specs.Orders.{Order, Outside, HandsBack, asks_last, mode_of, taking_part}
 use Rattle.host_model.specs.Leaves.{RunSoFar, LeavesBy}
 use Rattle.il_host.specs.HostView.{KeepsImages}
 use Rattle.il_host.specs.Words.{order_in}
@@ -25,9 +27,9 @@ use Rattle.il_host.specs.Words.{order_in}
 abbrev pub tape_in : MediumView → Option Tape
 tape_in m = if m.record_count == 0 then None else m.tape
 
--- the medium, what is left of the script and what was written, and the devices before and behind the drive
-abbrev pub outside : MediumView → (left written : Option (List ℕ)) → (before after : List DeviceState) → Outside
-outside m left written before after = record {
+-- the medium, what is left of the script and what was written, the devices before and behind the drive, and a second controller
+abbrev pub outside : MediumView → (left written : Option (List ℕ)) → (before after : List DeviceState) → Option GuestState → Outside
+outside m left written before after guest = record {
   shelf = m.shelf;
   tape = tape_in m;
   left = left;
@@ -35,18 +37,20 @@ outside m left written before after = record {
   faults = m.faults;
   before = before;
   after = after;
+  guest = guest;
 }
 
 -- the same of a rig, by what contracts see of its medium, of the script, of the output and of a device
 abbrev pub outside_of : {M S K I : Type 0} {D : I → Type 0} → (M → MediumView) → (S → Option (List ℕ)) → (K → Option (List ℕ)) → (DynBox I Global D → DeviceState)
     → S → K → Rig M I D → Outside
 outside_of view left written state script out rig =
-    outside (view rig.medium) (left script) (written out) (map state rig.before.items) (map state rig.after.items)
+    outside (view rig.medium) (left script) (written out) (map state rig.before.items) (map state rig.after.items) rig.guest
 
--- what a run asks of the devices: at most 29, each of which may stand beside the drive
-abbrev pub MayStandBeside : {X : Type 0} → (X → DeviceState) → (before after : List X) → Type 0
-MayStandBeside state before after =
-    (length before + length after ≤ 29) × All (λ b. MayStand (state b)) before × All (λ b. MayStand (state b)) after
+-- what a run asks of the devices: at most 29, a second controller among them, each of which may stand beside the drive
+abbrev pub MayStandBeside : {X : Type 0} → (X → DeviceState) → (before after : List X) → Option GuestState → Type 0
+MayStandBeside state before after guest =
+    (length before + length after + length (guest_devices guest) ≤ 29) × All (λ b. MayStand (state b)) before × All (λ b. MayStand (state b)) after
+    × IsIdleGuest guest × MayBeGuest guest
 
 -- A stop since the run began may have left this tape, and none before it.
 abbrev pub MayHaveLeft : MediumView → MediumView → Tape → Type 0
@@ -59,10 +63,11 @@ MayHaveLeft v w x = (v.left_since v.moment x → ⊥) × w.left_since v.moment x
 pub record AnswersOver (order : Order) (end : RunEnd) (v w : MediumView) (old now : Outside) : Type 0 where
   pub start : HostState
   pub finish : HostState
-  pub fresh : start ≡ fresh_host v.tape v.record_count v.faults old.before old.after
+  pub fresh : start ≡ fresh_host v.tape v.record_count v.faults old.before (old.after ++ guest_devices (taking_part order.guest old.guest))
+      (asks_last (taking_part order.guest old.guest))
   pub ran : RunSoFar order.plan order.generated (mode_of order) end start finish old.left now.left old.written now.written
   pub tells : RunTells order.plan start ran.events finish
-  pub back : HandsBack finish now
+  pub back : HandsBack order finish old now
   pub stops : is_some start.tape ≡ true → LeavesOnly v.moment w.moment v.left_since w.left_since (LeftWithin ran.events finish)
   pub size : IsSize w.record_count
   pub images : KeepsImages v.inside w.inside v.shelf w.shelf

@@ -9,7 +9,7 @@ abbrev pub script_of : Generated → ℕ × ℕ
 script_of generated = (generated.seed, generated.count)
 
 abbrev pub order_of : Asked → Order
-order_of asked = record { image = asked.image; made = asked.made; plan = asked.plan; quiet = asked.quiet; generated = asked.generated }
+order_of asked = record { image = asked.image; made = asked.made; guest = asked.guest; plan = asked.plan; quiet = asked.quiet; generated = asked.generated }
 
 -- None where the words are not those of the program
 abbrev pub order_in : List (List ℕ) → Option Order

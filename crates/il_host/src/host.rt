@@ -49,6 +49,7 @@ impl<M: Medium + Drop> Performer for Host<M> {
             Command::Poll => self.poll(),
             Command::Say => self.say(bytes),
             Command::Paper => self.paper(),
+            Command::Lend(frames) => self.lend(*frames),
             Command::Put(name) => self.put(name, bytes),
             Command::Get(name) => self.get(name),
             Command::Pack => self.pack(),

@@ -1,17 +1,17 @@
-ghost use Rattle.std.specs.Prelude.{◌≡◌, ◌≤◌, if◌then◌else◌, suc, [], length, None, option_map};
+ghost use Rattle.std.specs.Prelude.{◌≡◌, ◌<◌, ◌≤◌, if◌then◌else◌, suc, [], length, None, option_map};
 ghost use Rattle.std.specs.List.{position};
 ghost use Rattle.il_ring.specs.Rings.{has_id, printer_id};
-ghost use Rattle.il_script.specs.declared.limits.TheConstants.{LONGEST_PAYLOAD};
+ghost use Rattle.il_script.specs.declared.limits.TheConstants.{LONGEST_PAYLOAD, MOST_FRAMES};
 ghost use Rattle.il_record.specs.Called.{LeavesStore};
 ghost use Rattle.il_record.specs.LoopStores.{Addresses, is_idle};
 ghost use Rattle.lif_volume.specs.Views.{IsOpen};
-ghost use Rattle.host_model.specs.Requests.{Asks, Devices, Paper, Poll, Say, Status};
+ghost use Rattle.host_model.specs.Requests.{Asks, Devices, Lend, Paper, Poll, Say, Status};
 ghost use Rattle.il_host.specs.HostView.{Performed};
 ghost use Rattle.il_host.specs.Hosts.{volume_in, space_of};
 ghost use Rattle.il_host.specs.Standings.{KeepsPage};
 
 use crate::host::Host;
-use crate::loop_texts::{put_devices, put_paper, put_poll, put_status};
+use crate::loop_texts::{put_devices, put_found, put_paper, put_poll, put_status};
 use crate::performer::Performer;
 use arrayvec::ArrayVec;
 use il_ports::{Medium, Records, Trouble};
@@ -114,6 +114,29 @@ impl<M: Medium + Drop> Host<M> {
                 self.answered(Reply::Ok)
             }
             None => self.answered(Reply::No(Code::NoPrinter)),
+        }
+    }
+
+    /// Hands control of the loop to a second controller at the last address, until so many of its frames have come, and
+    /// tells the statuses that it has found.
+    pub(crate) fn lend(&mut self, frames: u16) -> Reply
+        requires valid { (⟦<Host<M> as Performer>⟧.view self.old).valid }
+        requires blank { (⟦<Host<M> as Performer>⟧.view self.old).text ≡ [] }
+        requires frames { (0 < frames) × (frames ≤ MOST_FRAMES) }
+        ensures { Performed (Asks (Lend frames)) result (⟦<Host<M> as Performer>⟧.view self.old) (⟦<Host<M> as Performer>⟧.view self.new) }
+    {
+        self.volume.begin();
+        if let Err(trouble) = self.make_ready() {
+            return self.faulted(trouble);
+        }
+        let last = self.volume.records().ring().devices();
+        match self.volume.records_mut().lend(last, frames) {
+            Ok(true) => {
+                put_found(&mut self.page, last, self.volume.records().ring().guest());
+                self.answered(Reply::Ok)
+            }
+            Ok(false) => self.answered(Reply::No(Code::NoTaker)),
+            Err(trouble) => self.faulted(trouble),
         }
     }
 

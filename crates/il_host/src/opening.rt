@@ -1,4 +1,4 @@
-ghost use Rattle.std.specs.Prelude.{◌≡◌, ◌<◌, ◌≤◌, ◌+◌, [], map, length, None, IfOk, IfErr};
+ghost use Rattle.std.specs.Prelude.{◌≡◌, ◌<◌, ◌≤◌, ◌+◌, [], map, length, IfOk, IfErr};
 ghost use Rattle.std.specs.List.{All};
 ghost use Rattle.lif_model.specs.Shelf.{IsSize};
 ghost use Rattle.il_ring.specs.Plans.{IsPlan};
@@ -58,18 +58,18 @@ impl Memory {
 impl<M: Medium + Drop> Host<M> {
     /// A host for the tape that is in the drive, over the devices of the rig, with faults planned at these crossings of
     /// the loop. The log of a command has room for 5,500 entries for each record of the medium and 60,000 more. All
-    /// memory of the host is taken here; where there is none the rig is handed back, and no frame was sent. No second
-    /// controller is in the rig.
+    /// memory of the host is taken here; where there is none the rig is handed back, and no frame was sent. A second
+    /// controller in the rig stands on the loop.
     pub fn open(alloc: Global, rig: Rig<M>, plan: &[Planned]) -> Result<Host<M>, Refused<M>>
-        requires devices { MayStandBeside (λ b. state b) rig.before.items rig.after.items }
-        requires alone { rig.guest ≡ None }
+        requires devices { MayStandBeside (λ b. state b) rig.before.items rig.after.items rig.guest }
         requires size { IsSize (M.view rig.medium).record_count }
         requires plan { IsPlan plan.now }
-        ensures opened { IfOk result (λ host. IsOpened M.view rig.medium (map (λ b. state b) rig.before.items) (map (λ b. state b) rig.after.items) plan.now (⟦<Host<M> as Performer>⟧.view host)) }
+        ensures opened { IfOk result (λ host. IsOpened M.view rig.medium (map (λ b. state b) rig.before.items) (map (λ b. state b) rig.after.items) rig.guest plan.now (⟦<Host<M> as Performer>⟧.view host)) }
         ensures refused { IfErr result (λ refused. refused.rig.medium ≡ rig.medium) }
         // The devices that are handed back are as they were.
         ensures before { IfErr result (λ refused. map (λ b. state b) refused.rig.before.items ≡ map (λ b. state b) rig.before.items) }
         ensures after { IfErr result (λ refused. map (λ b. state b) refused.rig.after.items ≡ map (λ b. state b) rig.after.items) }
+        ensures guest { IfErr result (λ refused. refused.rig.guest ≡ rig.guest) }
     {
         let records = rig.medium.size();
         let Ok(memory) = Memory::new(alloc, records) else {
@@ -94,10 +94,10 @@ impl<M: Medium + Drop> Host<M> {
         }
     }
 
-    /// Hands the rig back: the medium with the tape as it is, and the devices.
+    /// Hands the rig back: the medium with the tape as it is, the devices, and a second controller that was in it.
     pub fn close(self) -> Rig<M>
         requires valid { (⟦<Host<M> as Performer>⟧.view self).valid }
-        ensures closed { IsClosed M.view (⟦<Host<M> as Performer>⟧.view self) result.medium (map (λ b. state b) result.before.items) (map (λ b. state b) result.after.items) }
+        ensures closed { IsClosed M.view (⟦<Host<M> as Performer>⟧.view self) result.medium (map (λ b. state b) result.before.items) (map (λ b. state b) result.after.items) result.guest }
         ensures size { (M.view result.medium).record_count ≡ (⟦<Host<M> as Performer>⟧.view self).state.records }
     {
         self.volume.into_records().into_ring().into_rig()

@@ -1,9 +1,11 @@
-ghost use Rattle.std.specs.Prelude.{◌≡◌, ◌≢◌, ◌+◌, ◌<◌, ◌≤◌, map, length, string_bytes, None, IfSome};
+ghost use Rattle.std.specs.Prelude.{◌≡◌, ◌≢◌, ◌+◌, ◌<◌, ◌≤◌, map, length, string_bytes, not, IfSome};
+ghost use Rattle.std.specs.Option.{option_or};
 ghost use Rattle.std.specs.List.{All};
 ghost use Rattle.lif_model.specs.Shelf.{IsSize};
 ghost use Rattle.il_ring.specs.Rings.{MayStand};
 ghost use Rattle.host_model.specs.Endings.{HasEndingCause, HasNoTape, IsEarly};
 ghost use Rattle.host_model.specs.Leaves.{LeavesBy};
+ghost use Rattle.host_model.specs.Orders.{taking_part};
 ghost use Rattle.il_host.specs.Run.{end_of};
 ghost use Rattle.il_host.specs.Whole.{AnswersOver, MayHaveLeft, MayStandBeside, RunLeaves, outside_of};
 ghost use Rattle.il_host.specs.Words.{order_in, order_of};
@@ -15,6 +17,7 @@ use crate::ending::Ending;
 use crate::host::Host;
 use crate::scripts::{Buffers, answer_script};
 use il_device::Device;
+use il_guest::Guest;
 use il_ports::{Inserted, Medium, Sink, Source};
 use il_ring::Rig;
 use il_words::{Words, WordsFault, read_words};
@@ -29,16 +32,37 @@ pub struct Ended<M: Medium> {
     pub rig: Rig<M>,
 }
 
-/// Opens the host on the tape that is in the drive, with the faults that are planned, and answers the script.
+/// Takes a second controller out of its place, where it takes no part.
+fn keep_aside(guest: &mut Option<Guest>, takes_part: bool) -> Option<Guest>
+    ensures aside { result ≡ taking_part (not takes_part) guest.old }
+    ensures left { guest.new ≡ taking_part takes_part guest.old }
+{
+    if takes_part { None } else { guest.take() }
+}
+
+/// Puts a second controller into a rig, if it was kept aside.
+fn put_back<M: Medium + Drop>(rig: Rig<M>, aside: Option<Guest>) -> Rig<M>
+    ensures { result ≡ record rig { guest = option_or aside rig.guest } }
+{
+    match aside {
+        Some(guest) => Rig {
+            guest: Some(guest),
+            ..rig
+        },
+        None => rig,
+    }
+}
+
+/// Opens the host on the tape that is in the drive, with the faults that are planned, and answers the script. A second
+/// controller takes part where the words ask for it.
 fn run_script<S: Source, K: Sink, M: Medium + Drop>(
     alloc: Global,
     words: &Words<'_>,
     script: &mut S,
     out: &mut K,
-    rig: Rig<M>,
+    mut rig: Rig<M>,
 ) -> (Ending, Rig<M>)
-    requires devices { MayStandBeside ⟦<Box<dyn Device> as Device>⟧.state rig.before.items rig.after.items }
-    requires alone { rig.guest ≡ None }
+    requires devices { MayStandBeside ⟦<Box<dyn Device> as Device>⟧.state rig.before.items rig.after.items rig.guest }
     requires size { IsSize (M.view rig.medium).record_count }
     requires plan { IsPlan words.now.plan.items }
     requires seed { IfSome words.now.generated (λ g. g.seed < 2147483648) }
@@ -47,7 +71,8 @@ fn run_script<S: Source, K: Sink, M: Medium + Drop>(
         (outside_of M.view S.left K.written ⟦<Box<dyn Device> as Device>⟧.state script.new out.new result.1) }
     ensures kept { result.0 ≡ Ending.OutOfMemory → (result.1.medium ≡ rig.medium)
         × (map ⟦<Box<dyn Device> as Device>⟧.state result.1.before.items ≡ map ⟦<Box<dyn Device> as Device>⟧.state rig.before.items)
-        × (map ⟦<Box<dyn Device> as Device>⟧.state result.1.after.items ≡ map ⟦<Box<dyn Device> as Device>⟧.state rig.after.items) }
+        × (map ⟦<Box<dyn Device> as Device>⟧.state result.1.after.items ≡ map ⟦<Box<dyn Device> as Device>⟧.state rig.after.items)
+        × (result.1.guest ≡ rig.guest) }
     ensures untouched { IsEarly (end_of result.0) → (script.new ≡ script.old) × (out.new ≡ out.old) }
     ensures cause { HasEndingCause (end_of result.0) (S.faults script.old) (S.faults script.new)
         (K.faults out.old) (K.faults out.new) (M.view rig.medium).faults (M.view result.1.medium).faults }
@@ -56,6 +81,7 @@ fn run_script<S: Source, K: Sink, M: Medium + Drop>(
     let Ok(buffers) = Buffers::new(alloc) else {
         return (Ending::OutOfMemory, rig);
     };
+    let aside = keep_aside(&mut rig.guest, words.guest);
     match Host::open(alloc, rig, words.plan.as_slice()) {
         Ok(mut host) => {
             let ending = answer_script(
@@ -66,9 +92,9 @@ fn run_script<S: Source, K: Sink, M: Medium + Drop>(
                 &mut host,
                 out,
             );
-            (ending, host.close())
+            (ending, put_back(host.close(), aside))
         }
-        Err(refused) => (Ending::OutOfMemory, refused.rig),
+        Err(refused) => (Ending::OutOfMemory, put_back(refused.rig, aside)),
     }
 }
 
@@ -81,8 +107,7 @@ fn run<S: Source, K: Sink, M: Medium + Drop>(
     mut rig: Rig<M>,
 ) -> (Ending, Rig<M>)
     requires empty { (M.view rig.medium).record_count ≡ 0 }
-    requires devices { MayStandBeside ⟦<Box<dyn Device> as Device>⟧.state rig.before.items rig.after.items }
-    requires alone { rig.guest ≡ None }
+    requires devices { MayStandBeside ⟦<Box<dyn Device> as Device>⟧.state rig.before.items rig.after.items rig.guest }
     ensures leaves { LeavesBy (end_of result.0) (order_in (map string_bytes words.now))
         (outside_of M.view S.left K.written ⟦<Box<dyn Device> as Device>⟧.state script.old out.old rig)
         (outside_of M.view S.left K.written ⟦<Box<dyn Device> as Device>⟧.state script.new out.new result.1)
@@ -106,39 +131,26 @@ fn run<S: Source, K: Sink, M: Medium + Drop>(
 }
 
 /// A run: reads the words, inserts the image that they name, opens a host on it, and answers the script line after
-/// line. No tape is in the drive yet, and the devices make a new ring, as `Rig::fits` says. A second controller is kept
-/// aside, off the loop, and handed back.
+/// line. No tape is in the drive yet, and the devices make a new ring, as `Rig::fits` says. A second controller is on
+/// the loop where the words ask for it; else it is kept aside and handed back as it is.
 pub fn run_il<S: Source, K: Sink, M: Medium + Drop>(
     alloc: Global,
     words: &[String],
     script: &mut S,
     out: &mut K,
-    mut rig: Rig<M>,
+    rig: Rig<M>,
 ) -> Ended<M>
     requires empty { (M.view rig.medium).record_count ≡ 0 }
-    requires devices { MayStandBeside ⟦<Box<dyn Device> as Device>⟧.state rig.before.items rig.after.items }
+    requires devices { MayStandBeside ⟦<Box<dyn Device> as Device>⟧.state rig.before.items rig.after.items rig.guest }
     ensures leaves { RunLeaves result.status (map string_bytes words.now) (M.view rig.medium) (M.view result.rig.medium)
         (outside_of M.view S.left K.written ⟦<Box<dyn Device> as Device>⟧.state script.old out.old rig)
         (outside_of M.view S.left K.written ⟦<Box<dyn Device> as Device>⟧.state script.new out.new result.rig)
         (S.faults script.old) (S.faults script.new) (K.faults out.old) (K.faults out.new)
         ((script.new ≡ script.old) × (out.new ≡ out.old)) }
-    ensures guest { result.rig.guest ≡ rig.guest }
 {
-    let guest = rig.guest.take();
     let (ending, rig) = run(alloc, words, script, out, rig);
-    let Rig {
-        medium,
-        before,
-        after,
-        ..
-    } = rig;
     Ended {
         status: ending.status(),
-        rig: Rig {
-            medium,
-            before,
-            after,
-            guest,
-        },
+        rig,
     }
 }

@@ -21,5 +21,5 @@ returns-in-Ok-Tape-clause-leaves g c =
     (λ is.
     let same = ran.kept is in
     let still = ran.untouched (subst (λ e. IsEarly (end_of e)) (sym is) tt) in
-    leaves_image order c.in-Ok.words.made v m refl c.requires.empty law law_now did _ (ap g.M.Medium.view same.0) _ _ _ _ _ _ _ _ (ap g.S.Source.left still.0) (ap g.K.Sink.written still.1) same.1 same.2)
-    (λ late. runs_over order c.in-Ok.words.made v m refl c.requires.empty law law_now did _ _ _ _ _ _ _ _ _ _ (g.met.M.Medium.is_medium _) (ran.over late))
+    leaves_image order c.in-Ok.words.made v m refl c.requires.empty law law_now did _ (ap g.M.Medium.view same.0) _ _ _ _ _ _ _ _ _ _ (ap g.S.Source.left still.0) (ap g.K.Sink.written still.1) same.1 same.2 same.3)
+    (λ late. runs_over order c.in-Ok.words.made v m refl c.requires.empty law law_now did _ _ _ _ _ _ _ _ _ _ _ _ (g.met.M.Medium.is_medium _) (ran.over late))
