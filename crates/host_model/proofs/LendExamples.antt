@@ -12,7 +12,7 @@ use Rattle.il_frames.specs.declared.entry.Outcome.TheVariants as outcome
 use Rattle.il_frames.specs.declared.frame.Class.TheVariants as class
 use Rattle.il_frames.specs.Frames.{byte_of, framed}
 use Rattle.il_frames.specs.NamedFrames.{aau, entry, ifc}
-use Rattle.loop_model.specs.Exchanges.{Answer, Echo, Stopped, Command, Address, Piece, Whole}
+use Rattle.loop_model.specs.Exchanges.{Answer, Echo, Stopped, Command, Address, Piece, Whole, NotTaken}
 use Rattle.loop_model.specs.Hearing.{roles_at}
 use Rattle.il_script.specs.declared.reply.Code.TheVariants as code
 use Rattle.il_script.specs.declared.reply.Reply.TheVariants as reply
@@ -169,7 +169,7 @@ one_lent tape n = record {
   lent = Some one;
   ends = refl;
   log = refl;
-  lends = record { is = refl; own = refl; address = refl; whole = refl; taken = λ h. refl; refused = λ h. absurd (false_is_not_true h) };
+  lends = record { is = refl; own = refl; address = refl; whole = refl; taken = λ h. refl; refused = λ h. absurd (false_is_not_true h); answered = refl };
   begun = λ h. refl;
   cause = λ h. absurd (false_is_not_true h);
   untaken = λ h g. refl;
@@ -296,7 +296,7 @@ ten_lent tape n = record {
   lent = Some told_two;
   ends = refl;
   log = refl;
-  lends = record { is = refl; own = refl; address = refl; whole = refl; taken = λ h. refl; refused = λ h. absurd (false_is_not_true h) };
+  lends = record { is = refl; own = refl; address = refl; whole = refl; taken = λ h. refl; refused = λ h. absurd (false_is_not_true h); answered = refl };
   begun = λ h. refl;
   cause = λ h. absurd (false_is_not_true h);
   untaken = λ h g. refl;
@@ -361,7 +361,7 @@ none_lent tape n = record {
   lent = Some none;
   ends = refl;
   log = refl;
-  lends = record { is = refl; own = refl; address = refl; whole = refl; taken = λ h. absurd (false_is_not_true h); refused = λ h. refl };
+  lends = record { is = refl; own = refl; address = refl; whole = refl; taken = λ h. absurd (false_is_not_true h); refused = λ h. refl; answered = refl };
   begun = λ h. refl;
   cause = λ h. absurd (false_is_not_true h);
   untaken = λ h g. refl;
@@ -420,7 +420,7 @@ first_lent tape n = record {
   lent = Some one;
   ends = refl;
   log = refl;
-  lends = record { is = refl; own = refl; address = refl; whole = refl; taken = λ h. refl; refused = λ h. absurd (false_is_not_true h) };
+  lends = record { is = refl; own = refl; address = refl; whole = refl; taken = λ h. refl; refused = λ h. absurd (false_is_not_true h); answered = refl };
   begun = λ h. refl;
   cause = λ h. absurd (false_is_not_true h);
   untaken = λ h g. refl;
@@ -459,9 +459,9 @@ first_acts tape n = record {
 
 lends : IsLendOf ready_host.loop 1 reply.Ok one × IsLendOf ready_host.loop 10 reply.Ok ten × IsLendOf lone_host.loop 1 (reply.No code.NoTaker) none
 lends = (
-  record { is = refl; own = refl; address = refl; whole = refl; taken = λ h. refl; refused = λ h. absurd (false_is_not_true h) },
-  record { is = refl; own = refl; address = refl; whole = refl; taken = λ h. refl; refused = λ h. absurd (false_is_not_true h) },
-  record { is = refl; own = refl; address = refl; whole = refl; taken = λ h. absurd (false_is_not_true h); refused = λ h. refl },
+  record { is = refl; own = refl; address = refl; whole = refl; taken = λ h. refl; refused = λ h. absurd (false_is_not_true h); answered = refl },
+  record { is = refl; own = refl; address = refl; whole = refl; taken = λ h. refl; refused = λ h. absurd (false_is_not_true h); answered = refl },
+  record { is = refl; own = refl; address = refl; whole = refl; taken = λ h. absurd (false_is_not_true h); refused = λ h. refl; answered = refl },
 )
 
 -- nine frames were asked for, where ten came
@@ -471,6 +471,10 @@ nine_asked l = false_is_not_true l.is
 -- the printer answered where the drive was asked
 told_by_another : IsLendOf ready_host.loop 10 reply.Ok (LentSo 3 ((Stopped 2 [] zero_status ∷ []) ∷ []) 10) → ⊥
 told_by_another l = false_is_not_true l.own
+
+-- the drive let the SST pass that asked it
+silent_drive : IsLendOf ready_host.loop 8 reply.Ok (LentSo 3 ((NotTaken ∷ []) ∷ []) 8) → ⊥
+silent_drive l = false_is_not_true l.answered
 
 address_of_printer : IsLendOf ready_host.loop 1 reply.Ok (LentSo 2 answers 0) → ⊥
 address_of_printer l = numbers_differ 2 3 refl l.address
@@ -513,7 +517,7 @@ cut_lent tape n = record {
   lent = Some cut;
   ends = refl;
   log = refl;
-  lends = record { is = refl; own = refl; address = refl; whole = refl; taken = λ h. refl; refused = λ h. absurd (false_is_not_true h) };
+  lends = record { is = refl; own = refl; address = refl; whole = refl; taken = λ h. refl; refused = λ h. absurd (false_is_not_true h); answered = refl };
   begun = λ h. refl;
   cause = λ h met. cc;
   untaken = λ h g. absurd (false_is_not_true (sym g));

@@ -32,7 +32,7 @@ use Rattle.il_ring.specs.declared.plan.Planned.{Planned}
 use Rattle.il_ring.specs.Plans.{hops_of}
 use Rattle.il_ring.specs.Fates.{IsByPlan}
 use Rattle.il_ring.specs.Lends.{Lend as Lending, came_back, is_lend, is_whole_lend, lend_address, lend_entries, tells_own, was_taken}
-use Rattle.il_ring.specs.Statuses.{ToldStatus, told_by}
+use Rattle.il_ring.specs.Statuses.{ToldStatus, answers_always, told_by}
 use Rattle.host_model.specs.Requests.{OfVolume, Get, Pack, Lend, Item, Asks, is_lending, is_of_volume, uses_frames}
 use Rattle.host_model.specs.LoopStates.{LoopState, addresses_asked, all_roles, device_count, drive_at, ring_of}
 use Rattle.host_model.specs.HostStates.{HostState, volume_at, HasOwnGate, log_room}
@@ -201,7 +201,7 @@ entries_lent z None = []
 entries_lent z (Some lend) = lend_entries (device_count z) (addresses_asked z) lend
 
 -- The host lends control of a loop like z by the last address, for so many frames. A second controller takes it, where one stands there.
--- The lend is whole, unless it is a fault.
+-- The lend is whole, unless it is a fault. The drive answers each SST that asks it.
 pub record IsLendOf (z : LoopState) (frames : ℕ) (reply : Reply) (lend : Lending) : Type 0 where
   pub is : is_lend (device_count z) (addresses_asked z) frames lend ≡ true
   pub own : tells_own (addresses_asked z) lend ≡ true
@@ -209,6 +209,7 @@ pub record IsLendOf (z : LoopState) (frames : ℕ) (reply : Reply) (lend : Lendi
   pub whole : is_whole_lend lend ≡ not (is_frame_fault reply)
   pub taken : was_taken lend ≡ true → is_some z.guest ≡ true
   pub refused : came_back lend ≡ true → is_some z.guest ≡ false
+  pub answered : answers_always (device_count z) (drive_at z) None (entries_lent z (Some lend)) ≡ true
 
 -- The exchanges of the host before a lend are the addressing of a loop that was not ready, and break off at most where the lend did not
 -- begin. It is `fault frame` only where a planned hop was met; and where nobody takes control it is so exactly there. The medium does not

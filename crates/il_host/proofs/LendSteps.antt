@@ -24,7 +24,7 @@ use Rattle.il_ring.specs.Lends.{is_lend, lend_entries, tells_own}
 use Rattle.il_ring.specs.Outcomes.{HearsNothing, met_between}
 use Rattle.il_ring.specs.Plans.{hops_of}
 use Rattle.il_ring.specs.Rings.{RingView, IsRing, devices_of, drive_party, roles_of}
-use Rattle.il_ring.specs.Statuses.{ToldStatus, last_told, told_by}
+use Rattle.il_ring.specs.Statuses.{ToldStatus, answers_always, last_told, told_by}
 use Rattle.il_ring.proofs.Faults.{risen_by_later}
 use Rattle.il_ring.proofs.HostFronts.{is_from_host, last_told_behind_host, told_by_behind_host}
 use Rattle.il_ring.proofs.LendLaws.{lend_returned}
@@ -265,6 +265,10 @@ module _ {M : Type 0} (view : M → MediumView) (frames : ℕ) (was sound : Bool
         whole = lends.whole_is ∙ ends;
         taken = λ taken. sym there ∙ lends.taker taken;
         refused = λ back. sym there ∙ lends.refused back;
+        answered = ap (answers_always (device_count z) (drive_at z) None) (sym entries_are)
+            ∙ ap (λ k. answers_always k (drive_at z) None (lend_entries (length (devices_of m)) (asked_on m) lends.lend)) (sym count_is)
+            ∙ ap (λ q. answers_always (length (devices_of m)) q None (lend_entries (length (devices_of m)) (asked_on m) lends.lend)) (sym (ap (λ n. n + 1) went_first.before))
+            ∙ lends.answered;
       }
 
   -- no device heard anything
