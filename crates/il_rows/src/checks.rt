@@ -4,6 +4,7 @@ ghost use Rattle.std.specs.Prelude.{◌≡◌, IfOk};
 
 use crate::images::formatted;
 use crate::loops::ALTERED_TRACE;
+use crate::runs;
 use crate::runs::{shelf_of, words_of};
 use il_check::run_check;
 use il_ports::{Medium, MemoryMedium, MemorySink, MemorySource};
@@ -158,6 +159,64 @@ fn what_is_said_of_traces(rt: HostRuntime) -> Result<(), Fail> {
         )?;
     }
     Ok(())
+}
+
+/// The trace of a run of this script with these words.
+fn traced(alloc: Global, words: &str, script: &[u8]) -> Result<Vec<u8>, Fail> {
+    let tape = formatted(alloc)?;
+    let words = String::from_str(alloc, words)?;
+    let given = runs::Given::script(&tape, script).with_words(&words);
+    Ok(runs::run(alloc, &given)?.output)
+}
+
+/// What is said of a trace over this tape, with these words.
+fn says<'x>(
+    rt: &impl Abort,
+    alloc: Global,
+    words: &'x str,
+    tape: &'x [u8],
+    trace: &'x [u8],
+    output: &[u8],
+) -> Result<(), Fail> {
+    let given = Given {
+        words,
+        ..Given::trace(trace, tape, tape)
+    };
+    answers(rt, alloc, &given, 1, output)
+}
+
+#[test]
+fn a_lend_is_read_up_to_take_control(rt: HostRuntime) -> Result<(), Fail> {
+    let alloc = rt.alloc();
+    let tape = formatted(alloc)?;
+    let (three, two) = ("check 3 1 TAPE TAPE", "check 2 1 TAPE TAPE");
+    let trace = traced(alloc, "--guest TAPE", b"lend 10\n")?;
+    says(
+        &rt,
+        alloc,
+        three,
+        &tape,
+        &trace,
+        b"check no 10 3 NoExchange\n",
+    )?;
+    let later = traced(alloc, "--guest TAPE", b"status\nlend 10\ndir\n")?;
+    says(
+        &rt,
+        alloc,
+        three,
+        &tape,
+        &later,
+        b"check no 22 3 NoExchange\n",
+    )?;
+    let refused = traced(alloc, "TAPE", b"lend 1\n")?;
+    says(
+        &rt,
+        alloc,
+        two,
+        &tape,
+        &refused,
+        b"check no 10 3 NoExchange\n",
+    )
 }
 
 #[test]

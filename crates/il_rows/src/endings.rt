@@ -3,13 +3,13 @@
 use crate::images::formatted;
 use crate::runs::{Given, answers, run};
 use il_same::same;
-use std::alloc::{AllocError, Global};
+use std::alloc::Global;
 use std::test::Fail;
 
 const LISTED: &[u8] = b"volume HPTAPE 2 2 1 16\nfile REDOFILE E0D0 508 4 00000000\nok\n";
 
 /// The status of a run, and how many bytes it wrote.
-fn ending_of(alloc: Global, given: &Given) -> Result<(u8, usize), AllocError> {
+fn ending_of(alloc: Global, given: &Given) -> Result<(u8, usize), Fail> {
     let left = run(alloc, given)?;
     Ok((left.status, left.output.len()))
 }

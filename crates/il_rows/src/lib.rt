@@ -20,6 +20,8 @@ mod hostile;
 #[cfg(test)]
 mod images;
 #[cfg(test)]
+mod lending;
+#[cfg(test)]
 mod loops;
 #[cfg(test)]
 mod packing;

@@ -70,6 +70,7 @@ fn thirty_devices(rt: HostRuntime) -> Result<(), Fail> {
         alloc,
         &Given {
             behind: Behind::Full,
+            guest: false,
             ..Given::script(&tape, b"devices\npoll\nsay 41\npaper\n")
         },
         0,

@@ -1,12 +1,13 @@
 //! One run, and what it leaves.
 
-ghost use Rattle.std.specs.Prelude.{◌≤◌, length, IfOk};
+ghost use Rattle.std.specs.Prelude.{◌≡◌, ◌≤◌, length, IfOk};
 ghost use Rattle.std.specs.List.{All};
 ghost use Rattle.il_ring.specs.Rings.{MayStand};
 
 use il_device::{Device, Printer, Quiet};
+use il_guest::Guest;
 use il_host::{Ended, Rig, run_il};
-use il_ports::{MemoryMedium, MemorySink, MemorySource};
+use il_ports::{Medium, MemoryMedium, MemorySink, MemorySource};
 use il_same::{same, same_bytes};
 use itoa::Buffer;
 use std::alloc::{AllocError, Global};
@@ -35,6 +36,8 @@ pub struct Given<'a> {
     /// How many bytes of the script come at once.
     pub piece: usize,
     pub behind: Behind,
+    /// Whether there is a second controller, which asks the addresses 1 and 2. A full loop has no room for it.
+    pub guest: bool,
     pub failing_inserts: &'a [u64],
     pub failing_reads: &'a [u64],
     /// With the bytes that each leaves in its record.
@@ -56,10 +59,12 @@ pub struct Left {
     pub writes: Vec<(u16, [u8; 256])>,
     /// How many frames the device behind the drive took.
     pub frames: Option<u64>,
+    /// The last address that the second controller asks, and whether it is idle.
+    pub guest: Option<(u8, bool)>,
 }
 
 impl<'a> Given<'a> {
-    /// A quiet run of a script over an image, without a fault, with a printer behind the drive.
+    /// A quiet run of a script over an image, without a fault, with a printer behind the drive and a second controller.
     pub(crate) fn script(image: &'a [u8], script: &'a [u8]) -> Given<'a> {
         Given {
             words: "--quiet TAPE",
@@ -67,6 +72,7 @@ impl<'a> Given<'a> {
             script,
             piece: 4096,
             behind: Behind::Printer,
+            guest: true,
             failing_inserts: &[],
             failing_reads: &[],
             failing_writes: &[],
@@ -172,8 +178,61 @@ pub(crate) fn words_with(
     Ok(words)
 }
 
+/// The rig of a run. No tape is in.
+fn rig_of(alloc: Global, given: &Given) -> Result<Rig<MemoryMedium>, AllocError>
+    ensures { IfOk result (λ rig. (⟦<MemoryMedium as Medium>⟧.view rig.medium).record_count ≡ 0) }
+{
+    let medium = MemoryMedium::new(
+        alloc,
+        shelf_of(alloc, given.image)?,
+        Vec::from_slice(alloc, given.failing_reads)?,
+        Vec::from_slice(alloc, given.failing_writes)?,
+        Vec::from_slice(alloc, given.failing_inserts)?,
+        6_000,
+    )?;
+    let guest = if given.guest {
+        Some(Guest::new(2))
+    } else {
+        None
+    };
+    Ok(Rig {
+        medium,
+        before: Vec::new(alloc),
+        after: devices_of(alloc, given.behind)?,
+        guest,
+    })
+}
+
+/// What a run leaves that ended with this status and wrote this output.
+fn left_of(
+    alloc: Global,
+    status: u8,
+    output: &[u8],
+    rig: Rig<MemoryMedium>,
+) -> Result<Left, AllocError> {
+    let image = match rig.medium.image("TAPE") {
+        Some(bytes) => Some(Vec::from_slice(alloc, bytes)?),
+        None => None,
+    };
+    let writes = Vec::from_slice(alloc, rig.medium.writes())?;
+    let frames = rig.after.first().map(|device| device.frames());
+    let guest = match &rig.guest {
+        Some(guest) => Some((guest.last(), guest.is_idle())),
+        None => None,
+    };
+    drop(rig);
+    Ok(Left {
+        status,
+        output: Vec::from_slice(alloc, output)?,
+        image,
+        writes,
+        frames,
+        guest,
+    })
+}
+
 /// Runs `il` over the ports in memory.
-pub(crate) fn run(alloc: Global, given: &Given) -> Result<Left, AllocError> {
+pub(crate) fn run(alloc: Global, given: &Given) -> Result<Left, Fail> {
     let words = words_of(alloc, given.words)?;
     let mut script = MemorySource::new(
         Vec::from_slice(alloc, given.script)?,
@@ -185,35 +244,12 @@ pub(crate) fn run(alloc: Global, given: &Given) -> Result<Left, AllocError> {
         given.room,
         Vec::from_slice(alloc, given.failing_puts)?,
     )?;
-    let medium = MemoryMedium::new(
-        alloc,
-        shelf_of(alloc, given.image)?,
-        Vec::from_slice(alloc, given.failing_reads)?,
-        Vec::from_slice(alloc, given.failing_writes)?,
-        Vec::from_slice(alloc, given.failing_inserts)?,
-        6_000,
-    )?;
-    let rig = Rig {
-        medium,
-        before: Vec::new(alloc),
-        after: devices_of(alloc, given.behind)?,
-        guest: None,
-    };
+    let rig = rig_of(alloc, given)?;
+    if !rig.fits() {
+        return Err(Fail::from("a rig that fits"));
+    }
     let Ended { status, rig } = run_il(alloc, words.as_slice(), &mut script, &mut out, rig);
-    let image = match rig.medium.image("TAPE") {
-        Some(bytes) => Some(Vec::from_slice(alloc, bytes)?),
-        None => None,
-    };
-    let writes = Vec::from_slice(alloc, rig.medium.writes())?;
-    let frames = rig.after.first().map(|device| device.frames());
-    drop(rig);
-    Ok(Left {
-        status,
-        output: Vec::from_slice(alloc, out.written())?,
-        image,
-        writes,
-        frames,
-    })
+    Ok(left_of(alloc, status, out.written(), rig)?)
 }
 
 /// A run ends with this status and this output.
