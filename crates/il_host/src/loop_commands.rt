@@ -117,8 +117,8 @@ impl<M: Medium + Drop> Host<M> {
         }
     }
 
-    /// Hands control of the loop to a second controller at the last address, until so many of its frames have come, and
-    /// tells the statuses that it has found.
+    /// Hands control of the loop to a second controller at the last address, until so many frames have come to the host,
+    /// and tells the statuses that it has found.
     pub(crate) fn lend(&mut self, frames: u16) -> Reply
         requires valid { (⟦<Host<M> as Performer>⟧.view self.old).valid }
         requires blank { (⟦<Host<M> as Performer>⟧.view self.old).text ≡ [] }
