@@ -1,5 +1,4 @@
 pub mod ReadBack
-pub mod DigitLemmas
 pub mod NumberLemmas
 pub mod EntryLemmas
 pub mod LineLemmas

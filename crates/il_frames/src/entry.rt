@@ -9,6 +9,7 @@ ghost use Rattle.il_frames.specs.Frames.{IsFrame};
 ghost use Rattle.il_frames.specs.Texts.{text_of};
 
 use crate::frame::Frame;
+use crate::text::{append, append_frame};
 use arrayvec::ArrayVec;
 use itoa::Buffer;
 
@@ -35,15 +36,6 @@ pub enum Outcome {
     Lost(u8),
 }
 
-/// Appends bytes for which there is room.
-fn append(out: &mut ArrayVec<u8, 40>, bytes: &[u8])
-    requires { array_vec_len out.old + length bytes.now ≤ 40 }
-    ensures items { out.new.items ≡ out.old.items ++ bytes.now }
-    ensures len { array_vec_len out.new ≡ array_vec_len out.old + length bytes.now }
-{
-    let _ = out.try_extend_from_slice(bytes);
-}
-
 /// Appends a party's number in decimal.
 fn append_party(out: &mut ArrayVec<u8, 40>, party: u8)
     requires { array_vec_len out.old ≤ 37 }
@@ -51,20 +43,12 @@ fn append_party(out: &mut ArrayVec<u8, 40>, party: u8)
     ensures len { array_vec_len out.new ≤ array_vec_len out.old + 3 }
     ensures range { party < 256 }
 {
+    if party < 10 {
+        append(out, &[b'0' + party]);
+        return;
+    }
     let mut digits = Buffer::new();
     append(out, digits.format(party).as_bytes());
-}
-
-/// Appends a frame's text.
-fn append_frame(out: &mut ArrayVec<u8, 40>, frame: Frame)
-    requires { array_vec_len out.old ≤ 34 }
-    ensures items { out.new.items ≡ out.old.items ++ text_of frame }
-    ensures len { array_vec_len out.new ≤ array_vec_len out.old + 6 }
-    ensures range { IsFrame frame }
-{
-    let mut text = ArrayVec::new();
-    frame.text(&mut text);
-    append(out, text.as_slice());
 }
 
 /// Appends how a frame ended.

@@ -1,6 +1,7 @@
 #![tactic(auto)]
 
-ghost use Rattle.std.specs.Prelude.{◌≡◌, length};
+ghost use Rattle.std.specs.Prelude.{◌≡◌, ◌+◌, ◌≤◌, ◌++◌, length};
+ghost use Rattle.arrayvec.specs.ArrayVec.{array_vec_len};
 ghost use Rattle.il_frames.specs.declared.frame.Frame.{Frame};
 ghost use Rattle.il_frames.specs.Frames.{IsFrame};
 ghost use Rattle.il_frames.specs.Texts.{name_of, number_of, hex_pair, text_of};
@@ -9,10 +10,12 @@ use crate::frame::Frame;
 use crate::message::{Message, message_at};
 use arrayvec::ArrayVec;
 
+/// The hex digits, in upper case.
+const DIGITS: &[u8; 16] = b"0123456789ABCDEF";
+
 impl Message {
-    fn name(self) -> &'static [u8]
-        ensures letters { result.now ≡ name_of self }
-        ensures three { length result.now ≡ 3 }
+    fn name(self) -> &'static [u8; 3]
+        ensures { result.now ≡ name_of self }
     {
         match self {
             Message::Dab(_) => b"DAB",
@@ -85,15 +88,44 @@ impl Message {
     }
 }
 
-/// The two hex digits of a byte, in upper case.
+/// The two hex digits of a byte, in upper case. A trace has four digits a line, too many for the crate `hex`, whose
+/// slices are in lower case and would be gone over once more.
 fn hex_digits(byte: u8) -> [u8; 2]
     ensures { result ≡ hex_pair byte }
 {
-    let mut digits = [0; 2];
-    // The room is exactly that of one byte's digits.
-    let _ = hex::encode_to_slice([byte], &mut digits);
-    let [high, low] = digits;
-    [high.to_ascii_uppercase(), low.to_ascii_uppercase()]
+    [
+        DIGITS[usize::from(byte / 16)],
+        DIGITS[usize::from(byte % 16)],
+    ]
+}
+
+/// Appends bytes for which there is room.
+#[inline(always)]
+pub(crate) fn append<const CAP: usize>(out: &mut ArrayVec<u8, CAP>, bytes: &[u8])
+    requires { array_vec_len out.old + length bytes.now ≤ CAP }
+    ensures items { out.new.items ≡ out.old.items ++ bytes.now }
+    ensures len { array_vec_len out.new ≡ array_vec_len out.old + length bytes.now }
+{
+    let _ = out.try_extend_from_slice(bytes);
+}
+
+/// Appends a frame's text. It is one array of three or six bytes, whose length is known where it is copied.
+pub(crate) fn append_frame<const CAP: usize>(out: &mut ArrayVec<u8, CAP>, frame: Frame)
+    requires { array_vec_len out.old + 6 ≤ CAP }
+    ensures items { out.new.items ≡ out.old.items ++ text_of frame }
+    ensures len { array_vec_len out.new ≤ array_vec_len out.old + 6 }
+    ensures range { IsFrame frame }
+{
+    // By the frame's parts, not by `message`: reading the byte shows the proof its range.
+    let message = message_at(frame.class(), frame.byte());
+    let [first, second, third] = *message.name();
+    match message.number() {
+        Some(number) => {
+            let [high, low] = hex_digits(number);
+            append(out, &[first, second, third, b' ', high, low]);
+        }
+        None => append(out, &[first, second, third]),
+    }
 }
 
 impl Frame {
@@ -105,14 +137,7 @@ impl Frame {
         ensures value { out.new.items ≡ text_of self.now }
         ensures distinct { (other : Frame) → IsFrame other → text_of other ≡ out.new.items → other ≡ self.now }
     {
-        // By the frame's parts, not by `message`: reading the byte shows the proof its range.
-        let message = message_at(self.class(), self.byte());
         out.clear();
-        // A text has at most six bytes, so both parts fit.
-        let _ = out.try_extend_from_slice(message.name());
-        if let Some(number) = message.number() {
-            out.push(b' ');
-            let _ = out.try_extend_from_slice(&hex_digits(number));
-        }
+        append_frame(out, *self);
     }
 }

@@ -1,4 +1,5 @@
 pub mod Cuts
+pub mod Searches
 pub mod Scans
 pub mod Gives
 pub mod Falls
@@ -8,6 +9,7 @@ pub mod Spellings
 pub mod Names
 pub mod Readings
 pub mod UpperDigits
+pub mod DigitPlaces
 pub mod Spaces
 pub mod ReadBack
 pub mod Examples

@@ -6,6 +6,7 @@ ghost use Rattle.il_script.specs.Told.{line_of_length};
 
 use crate::limits::{KEPT_OF_LINE, LONGEST_LINE, LONGEST_SCRIPT};
 use il_ports::{Failed, Source};
+use memchr::memchr;
 use std::alloc::{AllocError, Global};
 use std::marker::Model;
 
@@ -66,12 +67,7 @@ fn first_feed(bytes: &[u8]) -> Option<usize>
     ensures { MatchOption result (HasNoFeed bytes.now) (λ at. (at < length bytes.now)
         × (line_cut (take (at + 1) bytes.now) ≡ record { whole = take at bytes.now ∷ []; open_line = [] })) }
 {
-    for (i, b) in bytes.iter().enumerate() {
-        if *b == b'\n' {
-            return Some(i);
-        }
-    }
-    None
+    memchr(b'\n', bytes)
 }
 
 /// Empties the buffer where its line was given.

@@ -2,6 +2,8 @@ ghost use Rattle.std.specs.Prelude.{◌≡◌, ◌≤◌, length, option_map, If
 ghost use Rattle.std.specs.List.{take_while};
 ghost use Rattle.il_script.specs.Words.{IsNext, words_of, without_return, is_none, only_one, only_two, only_four, is_space, is_dark};
 
+use memchr::memchr;
+
 /// The line without a carriage return at its end.
 pub fn without_return(line: &[u8]) -> &[u8]
     ensures text { result.now ≡ without_return line.now }
@@ -25,7 +27,7 @@ fn gap(line: &[u8]) -> usize
 fn reach(line: &[u8]) -> usize
     ensures { result ≡ length (take_while is_dark line.now) }
 {
-    line.iter().take_while(|b| **b != b' ').count()
+    memchr(b' ', line).unwrap_or(line.len())
 }
 
 /// The first word, or an empty one where there is none, and what stands behind it.
