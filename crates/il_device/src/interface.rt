@@ -1,6 +1,6 @@
 #![tactic(auto)]
 
-ghost use Rattle.std.specs.Prelude.{◌≡◌, ◌↔◌, ◌<◌, IsTrue, Some, None, true, false, if◌then◌else◌};
+ghost use Rattle.std.specs.Prelude.{◌≡◌, ◌↔◌, ◌<◌, ◌&&◌, IsTrue, Some, None, true, false, not, is_some, if◌then◌else◌};
 ghost use Rattle.il_frames.specs.Frames as frames;
 ghost use Rattle.il_frames.specs.Messages.{message_of, is_in_range};
 ghost use Rattle.il_poll.specs.Service.{wants_service, status_byte_of};
@@ -216,8 +216,16 @@ impl Interface {
         }
     }
 
+    /// Whether it is a data or end frame that the device neither hears nor compares with one of its own.
+    pub(crate) fn only_passes(&self, frame: Frame) -> bool
+        ensures { result ≡ (frames.is_data frame && (not (is_some self.now.own) && not self.now.roles.listens)) }
+    {
+        frame.is_data() && self.own.is_none() && !self.roles.listens
+    }
+
     /// What the frame does to every device alike, and what it asks of this one. It comes before the
     /// answer.
+    #[inline(always)]
     pub fn effect(&mut self, frame: Frame) -> Turn
         ensures turn { result ≡ turn_on self.old frame }
         ensures state { self.new ≡ interface_after self.old frame }
@@ -228,9 +236,19 @@ impl Interface {
         } else {
             self.obey(frame)
         };
-        self.heard_count = counted(turn, self.heard_count);
+        self.count_hearing(turn);
         self.frames = self.frames.saturating_add(1);
         turn
+    }
+
+    /// Counts the byte where the frame asks the device to hear it.
+    fn count_hearing(&mut self, turn: Turn)
+        ensures { self.new ≡ record self.old { heard_count = count_after turn self.old.heard_count } }
+    {
+        match turn {
+            Turn::Hear => self.heard_count = self.heard_count.saturating_add(1),
+            _ => {}
+        }
     }
 
     /// What a frame that is no data and no end does to every device alike but to the counts, and what
@@ -251,6 +269,7 @@ impl Interface {
     }
 
     /// The frame that goes on, behind its effect. As it came the roles were `before`.
+    #[inline(always)]
     pub fn passed(&self, before: Roles, frame: Frame) -> Frame
         ensures { result ≡ passed_on self.now before frame }
     {
@@ -319,7 +338,8 @@ impl OwnFrame {
     pub fn is_echo(self, frame: Frame) -> bool
         ensures { result ≡ frames.same_but_service self.frame frame }
     {
-        self.frame.same_but_service(frame)
+        // Mostly the two are equal, which is soon seen.
+        self.frame == frame || self.frame.same_but_service(frame)
     }
 }
 
@@ -355,16 +375,6 @@ fn own_behind(roles: Roles, own: Option<OwnFrame>, message: Message) -> Option<O
             })
         }
         _ => own,
-    }
-}
-
-/// The count of bytes heard, behind what the frame asked.
-fn counted(turn: Turn, count: u64) -> u64
-    ensures { result ≡ count_after turn count }
-{
-    match turn {
-        Turn::Hear => count.saturating_add(1),
-        _ => count,
     }
 }
 

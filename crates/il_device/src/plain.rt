@@ -74,6 +74,38 @@ impl<K: Kind> Plain<K> {
         interface.set_status(kind.status());
         Plain { interface, kind }
     }
+
+    /// What it does with a frame. It is compiled into its callers, so that each of them pays for its own kinds of
+    /// frames.
+    #[inline(always)]
+    fn answer(&mut self, frame: Frame) -> Out
+        ensures takes { Takes self.old frame result self.new }
+        ensures plain { TakesAsPlain K.accessory K.status K.room self.old frame result self.new }
+    {
+        let before = self.interface.roles();
+        let turn = self.interface.effect(frame);
+        hear_at(turn, &mut self.kind, frame.byte());
+        match turn {
+            Turn::Pass | Turn::Hear => Out::Pass(self.interface.passed(before, frame)),
+            Turn::Begin => match (self.interface.accessory(), frame.message()) {
+                (Some(_), Message::Sst) => self
+                    .interface
+                    .source(one_byte(self.interface.status_byte()), true),
+                _ => Out::Pass(frame),
+            },
+            Turn::Identify(id) => self.interface.source(one_byte(id), true),
+            Turn::Compare(own) => self.interface.finish(own.is_echo(frame)),
+        }
+    }
+
+    /// The same. It stands apart, so that the way of a data frame that only passes stays short.
+    #[inline(never)]
+    fn answer_apart(&mut self, frame: Frame) -> Out
+        ensures takes { Takes self.old frame result self.new }
+        ensures plain { TakesAsPlain K.accessory K.status K.room self.old frame result self.new }
+    {
+        self.answer(frame)
+    }
 }
 
 impl<K: Kind> Device for Plain<K> {
@@ -103,19 +135,10 @@ impl<K: Kind> Device for Plain<K> {
         ensures takes { Takes self.old frame result self.new }
         ensures plain { TakesAsPlain K.accessory K.status K.room self.old frame result self.new }
     {
-        let before = self.interface.roles();
-        let turn = self.interface.effect(frame);
-        hear_at(turn, &mut self.kind, frame.byte());
-        match turn {
-            Turn::Pass | Turn::Hear => Out::Pass(self.interface.passed(before, frame)),
-            Turn::Begin => match (self.interface.accessory(), frame.message()) {
-                (Some(_), Message::Sst) => self
-                    .interface
-                    .source(one_byte(self.interface.status_byte()), true),
-                _ => Out::Pass(frame),
-            },
-            Turn::Identify(id) => self.interface.source(one_byte(id), true),
-            Turn::Compare(own) => self.interface.finish(own.is_echo(frame)),
+        if self.interface.only_passes(frame) {
+            self.answer(frame)
+        } else {
+            self.answer_apart(frame)
         }
     }
 }

@@ -45,8 +45,8 @@ impl Kind for Heard {
 
     fn hear(&mut self, byte: u8) {
         if self.bytes.len() < ROOM {
-            // The room was taken at the start, so this cannot fail.
-            let _ = self.bytes.push(byte);
+            // The room was taken at the start.
+            self.bytes.push_reserved(byte);
         }
     }
 

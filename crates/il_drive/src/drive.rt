@@ -128,6 +128,7 @@ impl<M: Medium> Drive<M> {
 
     /// The frame comes to the drive: its effect comes first, and the answer after it. A record is
     /// put on the tape before the byte that fills it goes on.
+    #[inline(always)]
     pub fn take(&mut self, frame: Frame) -> Out
         // What every device does.
         ensures takes { Takes (device_of self.old.state) frame result (device_of self.new.state) }
@@ -155,14 +156,38 @@ impl<M: Medium> Drive<M> {
         out
     }
 
+    // Data has a way of its own, which stays short.
+    #[inline(always)]
     fn step(&mut self, frame: Frame) -> Out
+        ensures did { Did M.view (table.drive_step (M.view self.old.medium).record_count self.old.state frame) (self.new.state, result) self.old.medium self.new.medium }
+        ensures before { IsDrive (M.view self.old.medium).record_count self.old.state }
+    {
+        if frame.is_data() {
+            self.step_here(frame)
+        } else {
+            self.step_apart(frame)
+        }
+    }
+
+    // The same, apart from the way of data.
+    #[inline(never)]
+    fn step_apart(&mut self, frame: Frame) -> Out
+        ensures did { Did M.view (table.drive_step (M.view self.old.medium).record_count self.old.state frame) (self.new.state, result) self.old.medium self.new.medium }
+        ensures before { IsDrive (M.view self.old.medium).record_count self.old.state }
+    {
+        self.step_here(frame)
+    }
+
+    // The same, compiled into its callers, so that each of them pays for its own kinds of frames.
+    #[inline(always)]
+    fn step_here(&mut self, frame: Frame) -> Out
         ensures did { Did M.view (table.drive_step (M.view self.old.medium).record_count self.old.state frame) (self.new.state, result) self.old.medium self.new.medium }
         ensures before { IsDrive (M.view self.old.medium).record_count self.old.state }
     {
         let before = self.interface.roles();
         match self.interface.effect(frame) {
             Turn::Pass => {
-                self.obey(before, frame.message());
+                self.obey_frame(before, frame);
                 self.pass(before, frame)
             }
             Turn::Hear => {
@@ -267,6 +292,16 @@ impl<M: Medium> Drive<M> {
             Message::Ddl(number) if before.listens => self.listen(number),
             Message::Ddt(number) if before.talks => self.talk(number),
             _ => {}
+        }
+    }
+
+    // What a frame does that the drive passes. Data does nothing, and its message is not looked for.
+    #[inline(always)]
+    fn obey_frame(&mut self, before: Roles, frame: Frame)
+        ensures { Did M.view (table.obeyed (message_of frame) (M.view self.old.medium).record_count before self.old.state) self.new.state self.old.medium self.new.medium }
+    {
+        if !frame.is_data() {
+            self.obey(before, frame.message());
         }
     }
 
@@ -496,6 +531,7 @@ impl<M: Medium> Drive<M> {
     // ---- transmissions
 
     // The frame goes on. As it came the roles were `before`.
+    #[inline(always)]
     fn pass(&self, before: Roles, frame: Frame) -> Out
         ensures { result ≡ Pass (passed_on self.now.state.interface before frame) }
     {
@@ -533,6 +569,7 @@ impl<M: Medium> Drive<M> {
 
     // Data behind an own frame: the echo is right where the two are equal apart from the service
     // bit.
+    #[inline(always)]
     fn compare(&mut self, own: OwnFrame, frame: Frame) -> Out
         requires { self.old.state.interface.roles.talks ≡ true }
         ensures { Did M.view (table.compared (frames.same_but_service own.frame frame) own (M.view self.old.medium).record_count self.old.state) (self.new.state, result) self.old.medium self.new.medium }

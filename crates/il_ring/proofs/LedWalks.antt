@@ -126,6 +126,14 @@ module _ {M : Type 0} (view : M → MediumView) (before before_then boxed boxed_
       answer_is = answered ∙ ap (λ plan. arrived (arriving plan b₄.crossings four)) (k₄.plan ∙ plan₃);
     }
 
+-- where there is no second controller the frame goes past none
+pub passes_none : (plan : List Planned) (k : ℕ) (t : Trip) (kept : Option Flight) (guest : Option GuestState) → guest_mind guest ≡ None → LastPassage plan k t kept guest (led t kept) guest
+passes_none plan k t kept None alone = refl
+passes_none plan k t kept (Some g) alone = cc
+
+pub keeps_same : (b : BooksView) → KeepsBooks 1 b b
+keeps_same b = record { plan = refl; room = refl; held = refl; lent = refl; kept = refl; begun = refl; grows = omega arith }
+
 -- by an equal ring
 pub led_round_at : {M : Type 0} (view : M → MediumView) (t r s : RingView M) (f : Flight) (answer : Arrival) → t ≡ r → LedRound view t f answer s → LedRound view r f answer s
 led_round_at view t r s f answer same round = subst (λ r. LedRound view r f answer s) same round

@@ -61,7 +61,6 @@ pub mod LendLaws
 pub mod LendHeld
 pub mod LedTalkers
 pub mod LendTalkers
-pub mod LendFaults
 mod LendExamples
 pub mod HandedOver
 pub mod HandLosses

@@ -49,6 +49,19 @@ pub record IsPassed (plan : List Planned) (crossings passed : ℕ) : Type 0 wher
   pub later : (n : ℕ) → crossings < n → fault_at plan n ≡ fault_at (drop passed plan) n
   pub coming : rises_from crossings (drop passed plan) ≡ true
 
+-- nothing is planned at the crossings behind so many of them, up to this one
+abbrev pub IsUnplanned : List Planned → ℕ → ℕ → Type 0
+IsUnplanned plan crossings last = (n : ℕ) → crossings < n → n ≤ last → fault_at plan n ≡ None
+
+-- a round that begins before so many crossings meets nothing that is planned: it crosses 31 links at most
+abbrev pub IsClearBefore : List Planned → ℕ → ℕ → Type 0
+IsClearBefore plan crossings before = crossings < before → (before + 30 ≤ last_crossing) × IsUnplanned plan crossings (before + 30)
+
+-- the next crossings, so many of them, are counted, and nothing is planned at them
+pub record IsClear (plan : List Planned) (crossings next : ℕ) : Type 0 where
+  pub counted : crossings + next ≤ last_crossing
+  pub free : IsUnplanned plan crossings (crossings + next)
+
 -- a frame went past so many parties: plan, room, the frames that stand and where the log begins are as before, and the log grew by so many
 -- entries at most
 pub record KeepsBooks (parties : ℕ) (old new : BooksView) : Type 0 where

@@ -46,15 +46,6 @@ EndsSo plan from to f (outcome.Lost party) = LostSo plan from to f
 abbrev pub IsByPlan : List Planned → ℕ → ℕ → Entry → Type 0
 IsByPlan plan from to e = EndsSo plan from to e.frame e.outcome
 
--- the frame was lost, or it is a data or end frame that came back with another byte
-abbrev pub ended_faulty : Frame → Outcome → Bool
-ended_faulty f (outcome.Back g) = is_data f && not (byte_of g == byte_of f)
-ended_faulty f (outcome.Taken party) = false
-ended_faulty f (outcome.Lost party) = true
-
-abbrev pub is_faulty : Entry → Bool
-is_faulty e = ended_faulty e.frame e.outcome
-
 -- a frame on its way is still of its kind, and a data or end frame has its byte, or another where it was altered
 pub record GoesByPlan (plan : List Planned) (from to : ℕ) (f : Flight) : Type 0 where
   pub kind : is_data f.now ≡ is_data f.sent

@@ -1,7 +1,7 @@
 -- A lend: the host hands control of the loop to a second controller, the last device, and takes it back when so many frames have come to
 -- it. The frames follow the HP-IL Interface Specification, HP 82166-90017 (take control, interface clear); that the host counts frames and
 -- takes control back by IFC alone is this project's own.
-use Rattle.std.specs.Prelude.{ℕ, zero, suc, ◌+◌, ◌==◌, ◌&&◌, nat_le, nat_lt, not, if◌then◌else◌, Bool, true, false, List, [], ◌∷◌, ◌++◌, length, take, count_by, None}
+use Rattle.std.specs.Prelude.{ℕ, zero, suc, ◌+◌, ◌==◌, ◌&&◌, ◌||◌, nat_le, nat_lt, not, if◌then◌else◌, Bool, true, false, List, [], ◌∷◌, ◌++◌, length, take, count_by, None}
 use Rattle.std.specs.List.{flat_map, list_all}
 use Rattle.il_frames.specs.declared.entry.Entry.{Entry}
 use Rattle.il_frames.specs.declared.entry.Outcome.{Outcome}
@@ -208,10 +208,10 @@ took_back (Lent a answers n) = false
 took_back (LentCut a answers n end) = false
 took_back (LentLost a answers n m q) = m == 1
 
--- TCT came back, since nobody took it: it is the fifth frame
+-- TCT came past every device, since nobody took it: it is the fifth frame
 abbrev pub came_back : Lend → Bool
 came_back (NoTaker a) = true
-came_back (NoTakerCut a n q) = nat_lt 4 n
+came_back (NoTakerCut a n q) = nat_lt 4 n || ((n == 4) && (q == 0))
 came_back (Lent a answers n) = false
 came_back (LentCut a answers n end) = false
 came_back (LentLost a answers n m q) = false

@@ -1,17 +1,21 @@
-ghost use Rattle.std.specs.Prelude.{◌≡◌, ℕ, ◌+◌, ◌-◌, ◌<◌, ◌≤◌, [], ◌∷◌, ◌++◌, ◌==◌, IfOk, OnSome, IfNone, IfSome, Some, None, length, vec_len, vec_capacity};
+ghost use Rattle.std.specs.Prelude.{◌≡◌, ℕ, true, ◌^◌, ◌+◌, ◌-◌, ◌<◌, ◌≤◌, [], ◌∷◌, ◌++◌, ◌==◌, IfOk, OnSome, IfNone, IfSome, Some, None, length, vec_len, vec_capacity};
 ghost use Rattle.il_device.specs.State.{risen};
 ghost use Rattle.il_ring.specs.Plans.{next_fault, IsPlan};
-ghost use Rattle.il_ring.specs.Flights.{hit, lost_at, ended_at};
-ghost use Rattle.il_ring.specs.Books.{IsHeld, books_emptied};
+ghost use Rattle.il_ring.specs.Flights.{hit, lost_at, ended_at, sourced};
+ghost use Rattle.il_ring.specs.Books.{IsClear, IsClearBefore, IsHeld, books_emptied};
 ghost use Rattle.il_frames.specs.Frames.{is_data};
 ghost use Rattle.il_ring.specs.Rings.{fresh_books, home, comes, arrived, arriving};
 ghost use Rattle.il_ring.specs.Lending.{before_last, lent_home, lent_lost, lending_ended};
 
 use crate::flight::Flight;
 use crate::plan::{Arrival, PlanFault, Planned};
-use il_frames::Entry;
+use il_frames::{Entry, Frame};
 use std::alloc::{AllocError, Global};
 use std::marker::Model;
+
+/// How many links a frame crosses at most behind the first: HP-IL has 30 addresses, and the last link leads to the
+/// host.
+const MOST_BEHIND: u64 = 30;
 
 /// What a ring keeps beside its devices: the planned faults, the count of crossings, the log in the
 /// room that was reserved for it, and the frame that is held at the host.
@@ -23,6 +27,8 @@ pub(crate) struct Books {
     begun: u64,
     /// How many of the planned faults lie at the crossings that were counted.
     passed: usize,
+    /// A round that begins before so many crossings meets nothing planned.
+    clear_before: u64,
     log: Vec<Entry>,
     room: usize,
     held: Option<Flight>,
@@ -34,14 +40,15 @@ pub(crate) struct Books {
 
 impl Model for Books {
     ghost use Rattle.std.specs.Vec.{vec_len, vec_capacity};
-    ghost use Rattle.il_ring.specs.Books.{BooksView, IsBooks, IsPassed};
+    ghost use Rattle.il_ring.specs.Books.{BooksView, IsBooks, IsPassed, IsClearBefore};
 
     ghost Value = { BooksView };
 
     ghost view = { λ b. record { plan = b.plan.items; crossings = b.crossings; begun = b.begun; log = b.log.items; room = b.room; held = b.held; lent = b.lent; kept = b.kept } };
 
     ghost invariant = { λ b. IsBooks (vec_len b.log) (vec_capacity b.log) (record { plan = b.plan.items; crossings = b.crossings; begun = b.begun; log = b.log.items; room = b.room; held = b.held; lent = b.lent; kept = b.kept })
-        × IsPassed b.plan.items b.crossings b.passed };
+        × IsPassed b.plan.items b.crossings b.passed
+        × IsClearBefore b.plan.items b.crossings b.clear_before };
 }
 
 impl Books {
@@ -56,6 +63,7 @@ impl Books {
             crossings: 0,
             begun: 0,
             passed: 0,
+            clear_before: 0,
             log: Vec::with_capacity(alloc, room)?,
             room,
             held: None,
@@ -104,6 +112,7 @@ impl Books {
     }
 
     /// The frame that is held at the host, which is not held any more.
+    #[inline(always)]
     pub fn take_held(&mut self) -> Option<Flight>
         ensures value { result ≡ self.old.held }
         ensures held { IsHeld result }
@@ -113,11 +122,33 @@ impl Books {
     }
 
     /// Appends the entry of a frame that ended at a party.
+    #[inline(always)]
     pub fn finish(&mut self, flight: Flight, party: u8)
         requires { length self.old.log < self.old.room }
         ensures { self.new ≡ record self.old { log = self.old.log ++ ended_at flight party ∷ [] } }
     {
         self.note(flight.ended_at(party));
+    }
+
+    /// The frame ends at a party, which sends one of its own in its place.
+    #[inline(always)]
+    pub fn replace(&mut self, flight: &mut Flight, party: u8, frame: Frame)
+        requires { length self.old.log < self.old.room }
+        ensures ended { self.new ≡ record self.old { log = self.old.log ++ ended_at flight.old party ∷ [] } }
+        ensures sent { flight.new ≡ sourced party frame }
+    {
+        self.finish(*flight, party);
+        *flight = Flight::sourced(party, frame);
+    }
+
+    /// The same. It stands apart, so that the way of a frame that is passed on stays short.
+    #[inline(never)]
+    pub fn replace_apart(&mut self, flight: &mut Flight, party: u8, frame: Frame)
+        requires { length self.old.log < self.old.room }
+        ensures ended { self.new ≡ record self.old { log = self.old.log ++ ended_at flight.old party ∷ [] } }
+        ensures sent { flight.new ≡ sourced party frame }
+    {
+        self.replace(flight, party, frame);
     }
 
     /// The frame crosses the link to a party. `None` where it is lost there, which its entry says.
@@ -128,6 +159,7 @@ impl Books {
         ensures lost { IfNone result (self.new ≡ record self.old { crossings = risen self.old.crossings; log = self.old.log ++ lost_at flight party ∷ [] }) }
     {
         let behind = flight.struck(self.count_crossing());
+        self.look_ahead();
         if behind.is_none() {
             self.note(flight.lost_at(party));
         }
@@ -149,7 +181,45 @@ impl Books {
         Some(planned.fault)
     }
 
+    /// Notes how far off the next planned fault is.
+    fn look_ahead(&mut self)
+        ensures { self.new ≡ self.old }
+    {
+        self.clear_before = self.last_clear();
+    }
+
+    /// Before so many crossings a round meets nothing that is planned and still to come.
+    fn last_clear(&self) -> u64
+        ensures { IsClearBefore self.now.plan self.now.crossings result }
+    {
+        match self.plan.get(self.passed) {
+            Some(planned) => rounds_before(planned.hop),
+            None => u64::MAX - MOST_BEHIND,
+        }
+    }
+
+    /// Whether a round meets nothing planned: nothing is planned at the next crossings, one for each link, and all of
+    /// them are counted.
+    #[inline(always)]
+    pub fn is_clear(&self) -> bool
+        ensures { result ≡ true → IsClear self.now.plan self.now.crossings 31 }
+    {
+        self.crossings < self.clear_before
+    }
+
+    /// A frame crosses a link at which nothing is planned.
+    #[inline(always)]
+    pub fn cross_clear(&mut self)
+        requires { IsClear self.old.plan self.old.crossings 1 }
+        ensures clear { next_fault self.old.plan self.old.crossings ≡ None }
+        ensures counted { self.new ≡ record self.old { crossings = risen self.old.crossings } }
+        ensures more { self.new.crossings ≡ self.old.crossings + 1 }
+    {
+        self.crossings += 1;
+    }
+
     /// Appends an entry, which takes no memory.
+    #[inline(always)]
     fn note(&mut self, entry: Entry)
         requires { length self.old.log < self.old.room }
         ensures { self.new ≡ record self.old { log = self.old.log ++ entry ∷ [] } }
@@ -185,6 +255,29 @@ impl Books {
             self.held = None;
             return Arrival::Lost;
         };
+        self.come(flight);
+        Arrival::Frame(flight.now)
+    }
+
+    /// The same where a frame comes to the last link, and nothing is planned there.
+    #[inline(always)]
+    pub fn home_clear(&mut self, flight: Flight) -> Arrival
+        requires room { length self.old.log < self.old.room }
+        requires clear { IsClear self.old.plan self.old.crossings 1 }
+        ensures books { self.new ≡ home self.old (Some flight) }
+        ensures answer { result ≡ arrived (arriving self.old.plan self.old.crossings (Some flight)) }
+    {
+        self.cross_clear();
+        self.come(flight);
+        Arrival::Frame(flight.now)
+    }
+
+    /// The frame has come to the host.
+    #[inline(always)]
+    fn come(&mut self, flight: Flight)
+        requires { length self.old.log < self.old.room }
+        ensures { self.new ≡ comes self.old flight (flight.source == 0) (is_data flight.now) }
+    {
         if flight.source == 0 {
             self.finish(flight, 0);
         } else if flight.now.is_data() {
@@ -193,7 +286,6 @@ impl Books {
             self.finish(flight, 0);
             self.held = None;
         }
-        Arrival::Frame(flight.now)
     }
 
     /// The frame that stands at the host while the ring is lent.
@@ -284,12 +376,21 @@ impl Books {
     }
 }
 
-/// With room an append takes no memory.
+/// Before so many crossings a round ends before this one.
+fn rounds_before(hop: u64) -> u64
+    ensures before { 0 < result → result + 31 ≡ hop }
+    ensures counted { result + 31 < 2 ^ 64 }
+{
+    hop.saturating_sub(1 + MOST_BEHIND)
+}
+
+/// With room an append takes no memory, and cannot fail.
+#[inline(always)]
 fn append<T: Drop>(list: &mut Vec<T>, item: T)
     requires { vec_len list.old < vec_capacity list.old }
     ensures items { list.new.items ≡ list.old.items ++ item ∷ [] }
     ensures len { vec_len list.new ≡ vec_len list.old + 1 }
     ensures capacity { vec_capacity list.old ≤ vec_capacity list.new }
 {
-    let _ = list.push(item);
+    list.push_reserved(item);
 }

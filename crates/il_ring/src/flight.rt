@@ -21,6 +21,7 @@ pub struct Flight {
 
 impl Flight {
     /// A frame that a party has just sent.
+    #[inline(always)]
     pub(crate) fn sourced(source: u8, frame: Frame) -> Flight
         ensures { result ≡ sourced source frame }
     {
@@ -69,6 +70,7 @@ impl Flight {
     }
 
     /// Its entry where it ended at a party: it came back to its source, or another took it.
+    #[inline(always)]
     pub(crate) fn ended_at(self, party: u8) -> Entry
         ensures { result ≡ ended_at self party }
     {

@@ -9,6 +9,7 @@ ghost use Rattle.loop_model.specs.Roles.{talkers, is_at_most_one};
 ghost use Rattle.il_drive.specs.State.{fresh_drive, IsDrive};
 ghost use Rattle.il_ring.specs.declared.plan.Arrival.TheVariants as arrival;
 ghost use Rattle.il_ring.specs.Plans.{IsPlan};
+ghost use Rattle.il_ring.specs.Books.{IsClear};
 ghost use Rattle.il_ring.specs.Flights.{sourced};
 ghost use Rattle.il_ring.specs.Rings.{RingView, IsRing, Round, devices_of, roles_of, drive_party, spare_of, fresh_books, ring_emptied, paper_of};
 ghost use Rattle.il_ring.specs.Guests.{guest_devices, guest_mind, MayBeGuest, StandsLast, IsUnderHost};
@@ -29,7 +30,7 @@ use crate::last::Last;
 use crate::paper::paper_in;
 use crate::plan::{Arrival, Planned};
 use crate::rig::{Refused, Rig};
-use crate::walk::{pass_drive, walk_past};
+use crate::walk::{pass_drive, pass_drive_clear, walk_past, walk_past_clear};
 use il_device::Device;
 use il_drive::Drive;
 use il_frames::{Entry, Frame};
@@ -282,8 +283,8 @@ impl<M: Medium> Ring<M> {
             hands_over (⟦<Ring<M> as Seen<M>>⟧.seen self.old) frame ≡ true
             → (IsRing (⟦<Ring<M> as Seen<M>>⟧.seen self.new) × IsUnderHost (⟦<Ring<M> as Seen<M>>⟧.seen self.new).guest)
             ⊎ (IsLed (⟦<Ring<M> as Seen<M>>⟧.seen self.new) × StandsNow result (⟦<Ring<M> as Seen<M>>⟧.seen self.new).books.lent) }
-        // It was lost before that one, and the host controls still; or that one took it, and the first frame of its rounds
-        // stands at the host, or was lost on the last link.
+        // It was lost before that one, and the host controls still; or that one took it, and the first frame of its
+        // rounds stands at the host, or was lost on the last link.
         ensures over { IsRing (⟦<Ring<M> as Seen<M>>⟧.seen self.old) → IsUnderHost (⟦<Ring<M> as Seen<M>>⟧.seen self.old).guest →
             frame ≡ tct → hands_over (⟦<Ring<M> as Seen<M>>⟧.seen self.old) tct ≡ true
             → HandLost (⟦<Ring<M> as Seen<M>>⟧.seen self.old) result (⟦<Ring<M> as Seen<M>>⟧.seen self.new)
@@ -338,8 +339,8 @@ impl<M: Medium> Ring<M> {
             (⟦<Ring<M> as Seen<M>>⟧.seen self.old).books.lent ≡ Some (turned_flight (length (devices_of (⟦<Ring<M> as Seen<M>>⟧.seen self.old))) f)
             → f.source < length (devices_of (⟦<Ring<M> as Seen<M>>⟧.seen self.old))
             → Halves M.view (going_on (⟦<Ring<M> as Seen<M>>⟧.seen self.old)) held f result (⟦<Ring<M> as Seen<M>>⟧.seen self.new) }
-        // Where the source of each data frame that is under way awaits it, the entries tell how many links were crossed, how
-        // many frames came to each device, and the roles; and each command is the second controller's.
+        // Where the source of each data frame that is under way awaits it, the entries tell how many links were
+        // crossed, how many frames came to each device, and the roles; and each command is the second controller's.
         ensures counts { IsLed (⟦<Ring<M> as Seen<M>>⟧.seen self.old) → (f : Flight) → IsUnderWay (⟦<Ring<M> as Seen<M>>⟧.seen self.old) f →
             LedAdds (⟦<Ring<M> as Seen<M>>⟧.seen self.old) (⟦<Ring<M> as Seen<M>>⟧.seen self.new) }
     {
@@ -363,8 +364,8 @@ impl<M: Medium> Ring<M> {
             IsRing (⟦<Ring<M> as Seen<M>>⟧.seen self.old) → IfSome (⟦<Ring<M> as Seen<M>>⟧.seen self.old).books.held
             (λ f. (own : OwnFrame) → IsTalking f.source (Some own) (devices_of (⟦<Ring<M> as Seen<M>>⟧.seen self.old)) → own.frame ≡ f.sent → StoodSo f
             → Relayed (⟦<Ring<M> as Seen<M>>⟧.seen self.old) f own result (⟦<Ring<M> as Seen<M>>⟧.seen self.new)) }
-        // Where its source has an own frame on the loop, the entries tell how many links were crossed, and how many frames
-        // came to each device.
+        // Where its source has an own frame on the loop, the entries tell how many links were crossed, and how many
+        // frames came to each device.
         ensures counts { IsUnderHost (⟦<Ring<M> as Seen<M>>⟧.seen self.old).guest →
             IfSome (⟦<Ring<M> as Seen<M>>⟧.seen self.old).books.held (λ f. IsReady f (devices_of (⟦<Ring<M> as Seen<M>>⟧.seen self.old))
             → Rounded (⟦<Ring<M> as Seen<M>>⟧.seen self.old) None f result (⟦<Ring<M> as Seen<M>>⟧.seen self.new)) }
@@ -377,8 +378,54 @@ impl<M: Medium> Ring<M> {
     }
 
     /// A frame goes round. Behind the two entries of a lending that ended this is IFC, which takes no
-    /// more than one.
+    /// more than one. The way of a frame that meets nothing planned and no second controller is short.
+    #[inline(always)]
     fn round(&mut self, flight: Flight) -> Arrival
+        requires room { (32 ≤ spare_of (⟦<Ring<M> as Seen<M>>⟧.seen self.old))
+            ⊎ ((30 ≤ spare_of (⟦<Ring<M> as Seen<M>>⟧.seen self.old)) × (flight ≡ sourced 0 ifc)) }
+        ensures { LedRound M.view (⟦<Ring<M> as Seen<M>>⟧.seen self.old) flight result (⟦<Ring<M> as Seen<M>>⟧.seen self.new) }
+    {
+        if self.is_clear() {
+            self.round_clear(flight)
+        } else {
+            self.round_apart(flight)
+        }
+    }
+
+    /// Whether a frame that goes round meets nothing planned, and no second controller.
+    #[inline(always)]
+    fn is_clear(&self) -> bool
+        ensures way { result ≡ true → IsClear (⟦<Ring<M> as Seen<M>>⟧.seen self.now).books.plan (⟦<Ring<M> as Seen<M>>⟧.seen self.now).books.crossings 31 }
+        ensures alone { result ≡ true → (⟦<Ring<M> as Seen<M>>⟧.seen self.now).guest ≡ None }
+    {
+        self.parts.books.is_clear() && self.parts.boxes.last.count() == 0
+    }
+
+    /// A frame that meets nothing planned, and no second controller, goes round.
+    #[inline(always)]
+    fn round_clear(&mut self, flight: Flight) -> Arrival
+        requires room { (32 ≤ spare_of (⟦<Ring<M> as Seen<M>>⟧.seen self.old))
+            ⊎ ((30 ≤ spare_of (⟦<Ring<M> as Seen<M>>⟧.seen self.old)) × (flight ≡ sourced 0 ifc)) }
+        requires way { IsClear (⟦<Ring<M> as Seen<M>>⟧.seen self.old).books.plan (⟦<Ring<M> as Seen<M>>⟧.seen self.old).books.crossings 31 }
+        requires alone { (⟦<Ring<M> as Seen<M>>⟧.seen self.old).guest ≡ None }
+        ensures { LedRound M.view (⟦<Ring<M> as Seen<M>>⟧.seen self.old) flight result (⟦<Ring<M> as Seen<M>>⟧.seen self.new) }
+    {
+        let party = self.party();
+        let Parts {
+            boxes,
+            drive,
+            books,
+        } = &mut *self.parts;
+        let mut on = flight;
+        walk_past_clear(&mut boxes.before, 1, books, &mut on);
+        pass_drive_clear(drive, party, books, &mut on);
+        walk_past_clear(&mut boxes.after, party + 1, books, &mut on);
+        books.home_clear(on)
+    }
+
+    /// A frame goes round, whatever it meets.
+    #[inline(never)]
+    fn round_apart(&mut self, flight: Flight) -> Arrival
         requires room { (32 ≤ spare_of (⟦<Ring<M> as Seen<M>>⟧.seen self.old))
             ⊎ ((30 ≤ spare_of (⟦<Ring<M> as Seen<M>>⟧.seen self.old)) × (flight ≡ sourced 0 ifc)) }
         ensures { LedRound M.view (⟦<Ring<M> as Seen<M>>⟧.seen self.old) flight result (⟦<Ring<M> as Seen<M>>⟧.seen self.new) }

@@ -1,6 +1,6 @@
 ghost use Rattle.std.specs.Prelude.{◌≡◌, ◌+◌, ◌<◌, ◌≤◌, length, map, Some};
 ghost use Rattle.il_device.specs.Takes.{Takes};
-ghost use Rattle.il_ring.specs.Books.{KeepsBooks};
+ghost use Rattle.il_ring.specs.Books.{IsClear, KeepsBooks};
 ghost use Rattle.il_ring.specs.Journeys.{Passage, Journey, DriveTakes, trip_of, answered};
 
 use crate::books::Books;
@@ -42,6 +42,7 @@ pub(crate) fn pass_drive<M: Medium>(
 }
 
 /// What goes on behind a party that has answered.
+#[inline(always)]
 pub(crate) fn go_on(books: &mut Books, flight: Flight, party: u8, out: Out) -> Flight
     requires { length books.old.log < books.old.room }
     ensures trip { trip_of books.new (Some result) ≡ answered books.old.crossings books.old.log party flight out }
@@ -94,4 +95,101 @@ pub(crate) fn walk_past<D: Device>(
     ensures len { length devices.new.items ≡ length devices.old.items }
 {
     walk(devices, first, books, flight)
+}
+
+// ---- where nothing is planned
+
+/// A frame crosses a link at which nothing is planned, and is taken by the device behind it.
+#[inline(always)]
+fn pass_clear<D: Device>(device: &mut D, party: u8, books: &mut Books, flight: &mut Flight)
+    requires room { length books.old.log < books.old.room }
+    requires clear { IsClear books.old.plan books.old.crossings 1 }
+    ensures passage { Passage Takes books.old.plan party (trip_of books.old (Some flight.old)) (D.state device.old) (trip_of books.new (Some flight.new)) (D.state device.new) }
+    ensures books { KeepsBooks 1 books.old books.new }
+    ensures counted { books.new.crossings ≡ books.old.crossings + 1 }
+{
+    books.cross_clear();
+    let out = device.take(flight.now);
+    go_on_clear(books, flight, party, out);
+}
+
+/// The same at the drive.
+#[inline(always)]
+pub(crate) fn pass_drive_clear<M: Medium>(
+    drive: &mut Drive<M>,
+    party: u8,
+    books: &mut Books,
+    flight: &mut Flight,
+)
+    requires room { length books.old.log < books.old.room }
+    requires clear { IsClear books.old.plan books.old.crossings 1 }
+    ensures passage { Passage (DriveTakes M.view) books.old.plan party (trip_of books.old (Some flight.old)) drive.old (trip_of books.new (Some flight.new)) drive.new }
+    ensures books { KeepsBooks 1 books.old books.new }
+    ensures counted { books.new.crossings ≡ books.old.crossings + 1 }
+{
+    books.cross_clear();
+    let out = drive.take(flight.now);
+    go_on_behind(books, flight, party, out);
+}
+
+/// What goes on behind the drive, which mostly sends where it does not listen.
+#[inline(always)]
+fn go_on_behind(books: &mut Books, flight: &mut Flight, party: u8, out: Out)
+    requires { length books.old.log < books.old.room }
+    ensures trip { trip_of books.new (Some flight.new) ≡ answered books.old.crossings books.old.log party flight.old out }
+    ensures books { KeepsBooks 1 books.old books.new }
+{
+    match out {
+        Out::Pass(frame) => flight.now = frame,
+        Out::Source(frame) => books.replace(flight, party, frame),
+    }
+}
+
+/// What goes on behind another party, which seldom sends.
+#[inline(always)]
+fn go_on_clear(books: &mut Books, flight: &mut Flight, party: u8, out: Out)
+    requires { length books.old.log < books.old.room }
+    ensures trip { trip_of books.new (Some flight.new) ≡ answered books.old.crossings books.old.log party flight.old out }
+    ensures books { KeepsBooks 1 books.old books.new }
+{
+    match out {
+        Out::Pass(frame) => flight.now = frame,
+        Out::Source(frame) => books.replace_apart(flight, party, frame),
+    }
+}
+
+/// A frame goes past devices, the first of which is the party `first`, over links at which nothing is planned.
+#[inline(always)]
+fn walk_clear<D: Device>(devices: &mut [D], first: u8, books: &mut Books, flight: &mut Flight)
+    requires room { length books.old.log + length devices.old ≤ books.old.room }
+    requires parties { first + length devices.old < 256 }
+    requires clear { IsClear books.old.plan books.old.crossings (length devices.old) }
+    ensures journey { Journey books.old.plan first (trip_of books.old (Some flight.old)) (map D.state devices.old) (trip_of books.new (Some flight.new)) (map D.state devices.new) }
+    ensures books { KeepsBooks (length devices.old) books.old books.new }
+    ensures counted { books.new.crossings ≡ books.old.crossings + length devices.old }
+{
+    let mut party = first;
+    for device in devices.iter_mut() {
+        pass_clear(device, party, books, flight);
+        party += 1;
+    }
+}
+
+/// The same of a list.
+#[inline(always)]
+pub(crate) fn walk_past_clear<D: Device>(
+    devices: &mut Vec<D>,
+    first: u8,
+    books: &mut Books,
+    flight: &mut Flight,
+)
+    requires room { length books.old.log + length devices.old.items ≤ books.old.room }
+    requires parties { first + length devices.old.items < 256 }
+    requires clear { IsClear books.old.plan books.old.crossings (length devices.old.items) }
+    ensures journey { Journey books.old.plan first (trip_of books.old (Some flight.old)) (map D.state devices.old.items) (trip_of books.new (Some flight.new)) (map D.state devices.new.items) }
+    ensures books { KeepsBooks (length devices.old.items) books.old books.new }
+    ensures counted { books.new.crossings ≡ books.old.crossings + length devices.old.items }
+    ensures len { length devices.new.items ≡ length devices.old.items }
+{
+    walk_clear(devices, first, books, flight);
 }

@@ -12,7 +12,7 @@ use Rattle.il_device.specs.declared.device.Out.TheVariants.{Pass, Source}
 use Rattle.il_device.specs.declared.interface.Turn.{Turn}
 use Rattle.il_device.specs.declared.interface.Turn.TheVariants as turn
 use Rattle.il_device.proofs.TurnLemmas.{Takes-on, Behind, Behind-effect, Behind-own, Answers-at, Answers-pass, Answers-identity, Answers-ended, MayPass-or}
-use Rattle.il_device.proofs.plain.PlainDevice.take.Goals as goal
+use Rattle.il_device.proofs.plain.Plain.answer.Goals as goal
 
 -- the same of the turn and the byte as the code has them
 Takes-told :

@@ -6,7 +6,7 @@ use Rattle.il_ring.specs.Flights.{sourced}
 use Rattle.il_ring.specs.Rings.{RingView, drive_party}
 use Rattle.il_ring.specs.Seen.{parts_seen}
 use Rattle.il_ring.proofs.LedWalks.{if_some, ifc_comes_grows, ifc_grows, led_from_walks, led_one, led_round_at, left_home, left_lent}
-use Rattle.il_ring.proofs.ring.Ring.round.Goals as goal
+use Rattle.il_ring.proofs.ring.Ring.round_apart.Goals as goal
 
 pub pass-on-requires : goal.pass-on-requires
 pass-on-requires g c =
