@@ -204,6 +204,11 @@ pub broke_behind_standing : {M : Type 0} (view : M → MediumView) (r m s : Ring
 unfolding broke_behind
 broke_behind_standing view r m s xs ys ring first more = cut_behind_standing xs ys more.standing more.break more.legal
 
+-- and the break is the same
+pub broke_behind_break : {M : Type 0} (view : M → MediumView) (r m s : RingView M) (xs ys : List Entry) (ring : IsRing r) (first : Whole view r xs m) (more : Broke view m ys s) → (broke_behind view r m s xs ys ring first more).break ≡ more.break
+unfolding broke_behind
+broke_behind_break view r m s xs ys ring first more = refl
+
 -- whether a frame was held is read off both, where it is read off the second
 pub broke_behind_ended : {M : Type 0} (view : M → MediumView) (r m s : RingView M) (xs ys : List Entry) (ring : IsRing r) (first : Whole view r xs m) (more : Broke view m ys s) → more.held_at_end ≡ held_after (sourcing None xs) (cut_at ys more.standing more.break)
     → (broke_behind view r m s xs ys ring first more).held_at_end ≡ held_after None (cut_at (xs ++ ys) (broke_behind view r m s xs ys ring first more).standing (broke_behind view r m s xs ys ring first more).break)
@@ -242,6 +247,10 @@ broke_before_came view r s xs ys broke = (cut_added_before view r s xs ys broke)
 pub broke_before_standing : {M : Type 0} (view : M → MediumView) (r s : RingView M) (xs ys : List Entry) (broke : Broke view r xs s) → (broke_before view r s xs ys broke).standing ≡ broke.standing
 unfolding broke_before
 broke_before_standing view r s xs ys broke = refl
+
+pub broke_before_break : {M : Type 0} (view : M → MediumView) (r s : RingView M) (xs ys : List Entry) (broke : Broke view r xs s) → (broke_before view r s xs ys broke).break ≡ broke.break
+unfolding broke_before
+broke_before_break view r s xs ys broke = refl
 
 pub broke_before_ended : {M : Type 0} (view : M → MediumView) (r s : RingView M) (xs ys : List Entry) (broke : Broke view r xs s) → broke.held_at_end ≡ held_after None (cut_at xs broke.standing broke.break)
     → (broke_before view r s xs ys broke).held_at_end ≡ held_after None (cut_at (xs ++ ys) (broke_before view r s xs ys broke).standing (broke_before view r s xs ys broke).break)

@@ -1,27 +1,31 @@
 -- The calls of a lend, one behind the other.
-use Rattle.std.proofs.lemmas.Bool.{ltb-true}
-use Rattle.std.proofs.Common.{Bool, None, [], ap, arith, false, inl, inr, is_some, length, length-append, nat_lt, refl, subst, sym, true, ℕ, ⊎_elim, ◌*◌, ◌++◌, ◌+◌, ◌∙◌, ◌∷◌, ◌≡◌, ◌≤◌, ◌⊎◌}
+use Rattle.std.proofs.lemmas.Bool.{and_parts, eqb-true, ltb-true}
+use Rattle.std.proofs.Common.{Bool, List, None, [], ap, arith, false, inl, inr, is_some, length, length-append, nat_lt, refl, subst, suc, sym, true, zero, ℕ, ⊎_elim, ◌&&◌, ◌*◌, ◌++◌, ◌+◌, ◌<◌, ◌==◌, ◌||◌, ◌∙◌, ◌∷◌, ◌≡◌, ◌≢◌, ◌≤◌, ◌⊎◌}
+use Rattle.std.proofs.lemmas.List.{append_cancel_left}
 use Rattle.il_frames.specs.declared.frame.Frame.{Frame}
-use Rattle.il_frames.specs.NamedFrames.{ifc, unt}
+use Rattle.il_frames.specs.declared.entry.Entry.{Entry}
+use Rattle.il_frames.specs.declared.entry.Outcome.{Outcome}
+use Rattle.il_frames.specs.declared.entry.Outcome.TheVariants as outcome
+use Rattle.il_frames.specs.NamedFrames.{entry, ifc, unt}
 use Rattle.il_ports.specs.Media.{MediumView}
-use Rattle.loop_model.specs.Exchanges.{commanded, receive_front, returned}
+use Rattle.loop_model.specs.Exchanges.{FrameLost, commanded, cut_at, receive_front, returned}
 use Rattle.il_guest.specs.Frames.{tct}
 use Rattle.il_ring.specs.declared.plan.Arrival.{Arrival}
 use Rattle.il_ring.specs.declared.plan.Arrival.TheVariants as arrival
 use Rattle.il_ring.specs.Flights.{sourced}
 use Rattle.il_ring.specs.Guests.{IsUnderHost}
-use Rattle.il_ring.specs.HandedOver.{HandedOver}
+use Rattle.il_ring.specs.HandedOver.{HandLost, HandedOver}
 use Rattle.il_ring.specs.Lending.{HostKeeps, IsLed, LedRound, StandsNow, about_to_send, entry_where, hands_over, taken_back}
-use Rattle.il_ring.specs.Lends.{handed_entries}
+use Rattle.il_ring.specs.Lends.{NoTakerCut, came_back, handed_entries}
 use Rattle.il_ring.specs.Rings.{IsRing, Round, RingView, devices_of, spare_of}
 use Rattle.il_ring.proofs.HandLosses.{hand_sent}
 use Rattle.il_ring.proofs.LedRounds.{not_led}
 use Rattle.il_control.specs.declared.lending.Handed.TheVariants as handed
 use Rattle.il_control.specs.Calls.{Broke, IsFree, IsIdle, Whole, arrives}
 use Rattle.il_control.specs.Found.{KeepsFound}
-use Rattle.il_control.specs.Lent.{Hands, HandsOver, IsLentNow, LendBroken, LendMade, LentSo, PolledUntil, controller_at}
+use Rattle.il_control.specs.Lent.{Hands, HandsOver, IsLentNow, LendBroken, LendMade, LentSo, PolledUntil, TctLost, controller_at}
 use Rattle.il_control.specs.Receives.{Asked}
-use Rattle.il_control.proofs.Calls.{Done, broke_before, broke_before_standing, broke_behind, broke_behind_standing, cut_within, plain_call, room_behind, whole_then}
+use Rattle.il_control.proofs.Calls.{Done, broke_before, broke_before_break, broke_before_standing, broke_behind, broke_behind_break, broke_behind_standing, cut_within, plain_call, room_behind, whole_then}
 use Rattle.il_control.proofs.LendEnds.{as_taken, cut_broken, lent_made, lent_not, where_short}
 use Rattle.il_control.proofs.LendFronts.{refused_broken, refused_made}
 use Rattle.il_control.proofs.LendHands.{hands_where}
@@ -30,6 +34,14 @@ use Rattle.il_control.proofs.LentTaken.{lent_or_broke}
 use Rattle.il_control.proofs.TakingControl.{about_led}
 
 -- ---- TCT
+
+abbrev lost_before : Outcome → ℕ
+lost_before (outcome.Lost party) = party
+lost_before _ = 0
+
+abbrev lost_party : List Entry → ℕ
+lost_party [] = 0
+lost_party (e ∷ es) = lost_before e.outcome
 
 module _ {M : Type 0} (view : M → MediumView) (r s : RingView M) (f : Frame) (answer : Arrival) (is : f ≡ tct) (free : IsFree r) (host : IsUnderHost r.guest) (round : HostKeeps r f → Round view r r.books.held (sourced 0 f) answer s) (led_round : IsUnderHost r.guest → hands_over r f ≡ true → LedRound view r (sourced 0 f) answer s)
     (lent : IsRing r → IsUnderHost r.guest → hands_over r f ≡ true → (IsRing s × IsUnderHost s.guest) ⊎ (IsLed s × StandsNow answer s.books.lent)) where
@@ -44,17 +56,27 @@ module _ {M : Type 0} (view : M → MediumView) (r s : RingView M) (f : Frame) (
     under = subst IsUnderHost (sym round.guest) host;
   }
 
-  -- or a second controller took it
-  what_came : (WentRound × ((g : Frame) → answer ≡ arrival.Frame g → hands_over r tct ≡ false)) ⊎ Hands view r s
+  -- and where a second controller was to take it, it was lost before that one
+  record WentPast : Type 0 where
+    went : WentRound
+    none : (g : Frame) → answer ≡ arrival.Frame g → hands_over r tct ≡ false
+    lost : hands_over r tct ≡ true → HandLost r answer s
+
+  -- or that one took it
+  what_came : WentPast ⊎ Hands view r s
   what_came = by (hands_over r tct) refl
     where
-      by : (hands : Bool) → hands_over r tct ≡ hands → (WentRound × ((g : Frame) → answer ≡ arrival.Frame g → hands_over r tct ≡ false)) ⊎ Hands view r s
-      by false none = inl (went_by (subst (λ f. Round view r r.books.held (sourced 0 f) answer s) is (round (record { host = host; hands = ap (hands_over r) is ∙ none }))), λ g came. none)
+      by : (hands : Bool) → hands_over r tct ≡ hands → WentPast ⊎ Hands view r s
+      by false none = inl (record {
+        went = went_by (subst (λ f. Round view r r.books.held (sourced 0 f) answer s) is (round (record { host = host; hands = ap (hands_over r) is ∙ none })));
+        none = λ g came. none;
+        lost = λ hands. let clash = sym hands ∙ none in cc;
+      })
       by true hands =
           let here = ap (hands_over r) is ∙ hands in
           let at : LedRound view r (sourced 0 tct) answer s = subst (λ f. LedRound view r (sourced 0 f) answer s) is (led_round host here) in
           ⊎_elim
-          (λ lost. inl (went_by lost.1, λ g came. let clash = sym came ∙ lost.0.answer_is in cc))
+          (λ lost. inl (record { went = went_by lost.1; none = λ g came. let clash = sym came ∙ lost.0.answer_is in cc; lost = λ hands. lost.0 }))
           (λ (over : HandedOver r answer s).
           inr (record {
             answer = answer;
@@ -74,55 +96,84 @@ module _ {M : Type 0} (view : M → MediumView) (r s : RingView M) (f : Frame) (
       no_ring : IsRing s → IsUnderHost s.guest → ⊥
       no_ring ring under = let clash = sym (not_led s.guest under) ∙ hands.led.leads in cc
 
+  -- so it did not come as far as the host
+  not_home : (broke : Broke view r (returned 0 tct ∷ []) s) → HandLost r answer s → broke.break ≢ FrameLost 0
+  not_home broke lost home = by broke.standing (cut_within (returned 0 tct ∷ []) broke.standing broke.break broke.legal) (sym broke.adds.log ∙ lost.log_is)
+    where
+      by : (n : ℕ) → n < 1 → r.books.log ++ cut_at (returned 0 tct ∷ []) n broke.break ≡ r.books.log ++ entry 0 tct (outcome.Lost lost.party) ∷ [] → ⊥
+      by zero few same =
+          let last : entry 0 tct (outcome.Lost 0) ∷ [] ≡ entry 0 tct (outcome.Lost lost.party) ∷ [] =
+          ap (cut_at (returned 0 tct ∷ []) 0) (sym home) ∙ append_cancel_left r.books.log (cut_at (returned 0 tct ∷ []) 0 broke.break) (entry 0 tct (outcome.Lost lost.party) ∷ []) same in
+          let none : 0 ≡ lost.party = ap lost_party last in
+          let some = lost.some in
+          absurd (omega (arith, none, some))
+      by (suc n) few same = absurd (omega (arith, few))
+
   pub hand_lost : answer ≡ arrival.Lost → HandsOver view r handed.Broken s
   hand_lost lost = ⊎_elim
-      (λ went. inl (subst (λ whole. Done view r (returned 0 tct ∷ []) whole s) (ap arrives lost) went.0.done))
+      (λ past.
+      let broke : Broke view r (returned 0 tct ∷ []) s = subst (λ whole. Done view r (returned 0 tct ∷ []) whole s) (ap arrives lost) past.went.done in
+      inl (record { broke = broke; before = λ hands. not_home broke (past.lost hands) }))
       (λ hands. inr (hands, subst (λ answer. StandsNow answer s.books.lent) lost (stands hands)))
       what_came
 
   pub hand_taken : (g : Frame) → answer ≡ arrival.Frame g → is_some s.books.lent ≡ true → HandsOver view r handed.Taken s
   hand_taken g came some = ⊎_elim
-      (λ went.
-      let whole : Whole view r (returned 0 tct ∷ []) s = subst (λ whole. Done view r (returned 0 tct ∷ []) whole s) (ap arrives came) went.0.done in
+      (λ past.
+      let whole : Whole view r (returned 0 tct ∷ []) s = subst (λ whole. Done view r (returned 0 tct ∷ []) whole s) (ap arrives came) past.went.done in
       let clash = sym some ∙ ap is_some whole.ring.lent in cc)
       (λ hands. (hands, some))
       what_came
 
   pub hand_not : (g : Frame) → answer ≡ arrival.Frame g → is_some s.books.lent ≡ false → HandsOver view r handed.NotTaken s
   hand_not g came none = ⊎_elim
-      (λ went. (subst (λ whole. Done view r (returned 0 tct ∷ []) whole s) (ap arrives came) went.0.done, went.1 g came, went.0.under))
+      (λ past. (subst (λ whole. Done view r (returned 0 tct ∷ []) whole s) (ap arrives came) past.went.done, past.none g came, past.went.under))
       (λ hands. let now = subst (λ answer. StandsNow answer s.books.lent) came (stands hands) in let clash = sym none ∙ ap is_some now.1 in cc)
       what_came
 
 -- ---- nobody took it
 
 module _ {M : Type 0} (view : M → MediumView) (a limit : ℕ) (q : RingView M) (idle : IsIdle q) (some : 1 ≤ a) (low : a ≤ 30) where
-  -- before TCT came back nothing is said of who would take it
-  early : (n : ℕ) → n ≤ 4 → nat_lt 4 n ≡ true → controller_at a q ≡ false
-  early n few more = let less = ltb-true 4 n more in let no : ⊥ = omega (arith, few, less) in absurd no
+  -- before TCT came to the host nothing is said of who would take it
+  early : (n p : ℕ) → n ≤ 4 → (n ≡ 4 → p ≢ 0) → came_back (NoTakerCut a n p) ≡ true → ⊥
+  early n p few other back = by (nat_lt 4 n) refl back
+    where
+      by : (more : Bool) → nat_lt 4 n ≡ more → (more || ((n == 4) && (p == 0))) ≡ true → ⊥
+      by true more back = let less = ltb-true 4 n more in omega (arith, few, less)
+      by false more back = let parts = and_parts (n == 4) (p == 0) back in other (eqb-true n 4 parts.0) (eqb-true p 0 parts.1)
 
   pub not_asked : (s : RingView M) → Broke view q (receive_front 0 a None) s → LendBroken a limit q s
   not_asked s broke =
       refused_broken view a limit q s idle low (broke_before view q s (receive_front 0 a None) (returned 0 tct ∷ commanded 0 unt) broke)
-      (early (broke_before view q s (receive_front 0 a None) (returned 0 tct ∷ commanded 0 unt) broke).standing
-      (let few = cut_within (receive_front 0 a None) broke.standing broke.break broke.legal in
+      (λ p is back.
+      let few = cut_within (receive_front 0 a None) broke.standing broke.break broke.legal in
       let same = broke_before_standing view q s (receive_front 0 a None) (returned 0 tct ∷ commanded 0 unt) broke in
-      omega (arith, few, same)))
+      absurd (early (broke_before view q s (receive_front 0 a None) (returned 0 tct ∷ commanded 0 unt) broke).standing p (omega (arith, few, same)) (λ four. let no : ⊥ = omega (arith, few, same, four) in absurd no) back))
 
   module _ (r : RingView M) (asked : Asked view a None q r) where
     front_ring : IsRing q
     front_ring = idle.free.ring
 
-    pub not_handed : (s : RingView M) → Broke view r (returned 0 tct ∷ []) s → LendBroken a limit q s
-    not_handed s broke =
+    nobody_there : (controller_at a q ≡ true → ⊥) → controller_at a q ≡ false
+    nobody_there not = by (controller_at a q) refl
+      where
+        by : (there : Bool) → controller_at a q ≡ there → controller_at a q ≡ false
+        by true is = absurd (not is)
+        by false is = is
+
+    pub not_handed : (s : RingView M) → TctLost view r s → LendBroken a limit q s
+    not_handed s lost =
+        let broke = lost.broke in
         let more = broke_before view r s (returned 0 tct ∷ []) (commanded 0 unt) broke in
         let all = broke_behind view q r s (receive_front 0 a None) (returned 0 tct ∷ commanded 0 unt) front_ring asked.whole more in
         refused_broken view a limit q s idle low all
-        (early all.standing
-        (let few = cut_within (returned 0 tct ∷ []) broke.standing broke.break broke.legal in
+        (λ p is back.
+        let few = cut_within (returned 0 tct ∷ []) broke.standing broke.break broke.legal in
         let same = broke_before_standing view r s (returned 0 tct ∷ []) (commanded 0 unt) broke in
         let sum = broke_behind_standing view q r s (receive_front 0 a None) (returned 0 tct ∷ commanded 0 unt) front_ring asked.whole more in
-        omega (arith, few, same, sum)))
+        let last : broke.break ≡ FrameLost p =
+        sym (broke_before_break view r s (returned 0 tct ∷ []) (commanded 0 unt) broke) ∙ sym (broke_behind_break view q r s (receive_front 0 a None) (returned 0 tct ∷ commanded 0 unt) front_ring asked.whole more) ∙ is in
+        nobody_there (λ there. early all.standing p (omega (arith, few, same, sum)) (λ four none. lost.before (hands_where view q r a idle some low asked ∙ there) (last ∙ ap (λ p. FrameLost p) none)) back))
 
     module _ (m : RingView M) (nobody : HandsOver view r handed.NotTaken m) where
       front : Whole view q (receive_front 0 a None ++ returned 0 tct ∷ []) m
@@ -142,7 +193,7 @@ module _ {M : Type 0} (view : M → MediumView) (a limit : ℕ) (q : RingView M)
       pub nobody_broke : (f : Frame) → f ≡ unt → (s : RingView M) → Broke view m (commanded 0 f) s → LendBroken a limit q s
       nobody_broke f is s broke =
           refused_broken view a limit q s idle low (broke_behind view q m s (receive_front 0 a None ++ returned 0 tct ∷ []) (commanded 0 unt) front_ring front (subst (λ f. Broke view m (commanded 0 f) s) is broke))
-          (λ back. sym (hands_where view q r a idle some low asked) ∙ nobody.1)
+          (λ p is back. sym (hands_where view q r a idle some low asked) ∙ nobody.1)
 
     -- ---- a second controller took it
 
@@ -152,7 +203,7 @@ module _ {M : Type 0} (view : M → MediumView) (a limit : ℕ) (q : RingView M)
 
     pub hands_broke : (s : RingView M) → 1 ≤ limit → HandsOver view r handed.Broken s → LendBroken a limit q s
     hands_broke s some_limit broken = ⊎_elim
-        (λ broke. not_handed s broke)
+        (λ lost. not_handed s lost)
         (λ gone.
         ⊎_elim
         (λ so. let lent = lent_some view a q s s 1 arrival.Lost so in let clash = sym (ap is_some gone.1) ∙ lent in cc)

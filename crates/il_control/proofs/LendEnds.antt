@@ -6,7 +6,7 @@ use Rattle.il_control.proofs.LentHost.{ifc_broke, ifc_whole, still_of}
 use Rattle.il_control.proofs.LendDrives.{told_behind, told_no_more}
 use Rattle.std.proofs.Common.{List, None, Option, Some, [], ap, append-nil, append_assoc, ap₂, arith, false, inl, inr, length, length-append, refl, subst, suc, sym, true, zero, ℕ, ⊎_elim, ◌*◌, ◌++◌, ◌+◌, ◌<◌, ◌==◌, ◌||◌, ◌∙◌, ◌∷◌, ◌≡◌, ◌≤◌, nat_le}
 use Rattle.std.specs.Prelude.{IfSome, get_or, if◌then◌else◌}
-use Rattle.std.specs.List.{list_all, list_any}
+use Rattle.std.specs.List.{list_all}
 use Rattle.std.proofs.lemmas.Bool.{and_from, and_parts, eqb-true, le-leb, ne_eqb}
 use Rattle.std.proofs.lemmas.List.{append_cancel_left}
 use Rattle.std.proofs.lemmas.List.Folds.{list_all-append}
@@ -31,7 +31,6 @@ use Rattle.il_ring.specs.Lends.{AtHost, handed_entries, lend_entries}
 use Rattle.il_ring.specs.Rings.{RingView, devices_of, drive_party}
 use Rattle.il_ring.specs.Turned.{is_on}
 use Rattle.il_ring.specs.Statuses.{answers_always, asked_all, last_told, told_by, ToldStatus}
-use Rattle.il_ring.proofs.LendFaults.{cut_faulty, faulty_behind, is_faulty}
 use Rattle.il_ring.proofs.LedRings.{led_ring}
 use Rattle.il_ring.proofs.LedSince.{since_adds, since_append, since_back}
 use Rattle.il_control.specs.Calls.{Broke, IsIdle, Whole}
@@ -273,7 +272,6 @@ module _ {M : Type 0} (view : M → MediumView) (a limit : ℕ) (q r : RingView 
         lend_broken a limit 0 false q s idle lost_so.lend lost_so.is lost_so.own lost_so.whole_is lost_so.address (λ taken. at) lost_since lost_kept (long_so ended (lend_entries k (asked_on q) lost_so.lend) (cut_length (commanded 0 ifc) n lost.0) lost_so.log_is)
         (λ taken. sym stands) (λ back. absurd (taken_not_back lost_so.lend lost_so.taken back)) (λ taken. found_for s ended (lend_entries k (asked_on q) lost_so.lend) (ifc-cut k n lost.0 host_other) lost_so.log_is lost_since.size has) (λ not_taken. let clash = sym not_taken ∙ lost_so.taken in cc)
         (answered_for ended (lend_entries k (asked_on q) lost_so.lend) (ifc-cut k n lost.0 host_other) lost_so.log_is) its_broke.ring refl lost_drive its_broke.held
-        (ap (list_any is_faulty) adds.log ∙ faulty_behind (taken_back r).books.log ended (cut_faulty (commanded 0 ifc) n lost.0 less))
         (met_since q (taken_back r) s so.kept.plan (risen_up so.since.links q.books.crossings r.books.crossings idle.free.ring.crossings so.since.crossings) its_broke.met_some)
         (λ keeps. let clash = sym keeps ∙ lent_lost-control view k own_last (Some k) (base_of a q) r limit so.polls a q.books.log address lows refl n lost.0 less lost_on in cc)
         (λ back.
@@ -334,5 +332,5 @@ module _ {M : Type 0} (view : M → MediumView) (a limit : ℕ) (q s : RingView 
   cut_broken at stands =
       lend_broken a limit (length (devices_of q)) false q s idle cut_so.lend cut_so.is cut_so.own cut_so.whole_is cut_so.address (λ taken. at) cut_since off.kept cut_short (λ taken. sym stands) (λ back. absurd (taken_not_back cut_so.lend cut_so.taken back)) (λ taken. cut_found) (λ not_taken. let clash = sym not_taken ∙ cut_so.taken in cc) cut_answered
       (led_ring s off.led off.off.lent_is) refl off.drive off.led.held
-      (ap (list_any is_faulty) off.off.log ∙ faulty_behind (base_of a q) (off.off.entries ++ off.off.tail) (faulty_behind off.off.entries off.off.tail off.off.shows)) off.met (λ keeps. off.led.leads)
+      off.met (λ keeps. off.led.leads)
       (λ back. let clash = sym back ∙ lent_cut-back view (length (devices_of q)) (last_of q.guest) (Some (length (devices_of q))) (base_of a q) s off.arrived limit a q.books.log off.off off.few (le-leb a 30 low) (addresses_are (Some (length (devices_of q))) (last_of q.guest) off.few_asked) refl in cc)

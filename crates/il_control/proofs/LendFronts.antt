@@ -1,7 +1,7 @@
 -- A lend in which nobody took control, whole or broken off: rounds of the host.
 use Rattle.il_control.proofs.LendDrives.{refused_left, refused_told}
-use Rattle.std.proofs.Common.{Bool, List, None, Option, [], ap, arith, false, length, length-append, nat_le, nat_lt, not, refl, subst, suc, sym, true, zero, ℕ, ◌&&◌, ◌+◌, ◌++◌, ◌==◌, ◌∙◌, ◌∷◌, ◌≡◌, ◌≤◌, ◌<◌}
-use Rattle.std.specs.List.{list_all, list_any}
+use Rattle.std.proofs.Common.{Bool, List, None, Option, [], ap, arith, false, length, length-append, nat_le, nat_lt, not, refl, subst, suc, sym, true, zero, ℕ, ◌&&◌, ◌+◌, ◌==◌, ◌∙◌, ◌∷◌, ◌≡◌, ◌≤◌, ◌<◌}
+use Rattle.std.specs.List.{list_all}
 use Rattle.std.proofs.lemmas.Bool.{and_from, and_parts, le-leb, lt-ltb, ne_eqb, not-true}
 use Rattle.il_frames.specs.declared.entry.Entry.{Entry}
 use Rattle.il_frames.specs.Frames.{is_data, same_but_service}
@@ -14,12 +14,11 @@ use Rattle.loop_model.proofs.RoundLaws.{message_of-tad}
 use Rattle.il_ring.specs.Adds.{Adds}
 use Rattle.il_ring.specs.Guests.{IsUnderHost}
 use Rattle.il_ring.specs.LedAdds.{LedSince}
-use Rattle.il_ring.specs.Lends.{NoTaker, NoTakerCut, refused_entries}
+use Rattle.il_ring.specs.Lends.{NoTaker, NoTakerCut, came_back, refused_entries}
 use Rattle.il_ring.specs.Polls.{is_no_poll, is_poll}
 use Rattle.il_ring.specs.Rings.{RingView, devices_of, drive_party}
 use Rattle.il_ring.specs.Turned.{is_on}
 use Rattle.il_ring.proofs.LedSince.{since_adds}
-use Rattle.il_ring.proofs.LendFaults.{cut_faulty, faulty_behind, is_faulty}
 use Rattle.il_control.specs.Calls.{Broke, IsIdle, Unheard, Whole}
 use Rattle.il_control.specs.Lent.{KeptSince, LendBroken, LendMade, controller_at}
 use Rattle.il_control.proofs.Calls.{cut_within, unheard_then}
@@ -134,7 +133,7 @@ module _ {M : Type 0} (view : M → MediumView) (a limit : ℕ) (q s : RingView 
       (omega arith) (λ taken. cc) (λ back. sym stands) (λ taken. cc) (λ not_taken. whole.adds.guest.1 idle.host) (hosts-answers (length (devices_of q)) (drive_party q) other (refused_entries a) refl)
       whole.ring refl false refl stands (refused_told view q s a idle low whole) (λ not_taken. whole.met_none) host whole.held
 
-  pub refused_broken : (broke : Broke view q (refused_entries a) s) → (nat_lt 4 broke.standing ≡ true → controller_at a q ≡ false) → LendBroken a limit q s
+  pub refused_broken : (broke : Broke view q (refused_entries a) s) → ((p : ℕ) → broke.break ≡ FrameLost p → came_back (NoTakerCut a broke.standing p) ≡ true → controller_at a q ≡ false) → LendBroken a limit q s
   refused_broken broke refused =
       let n = broke.standing in
       let lost = only_lost (refused_entries a) n broke.break refl broke.legal in
@@ -147,8 +146,7 @@ module _ {M : Type 0} (view : M → MediumView) (a limit : ℕ) (q s : RingView 
       refl refl refl (λ taken. cc)
       (host_since entries adds broke.ring.lent broke.ring.kept (cut_no_lend (refused_entries a) n lost.0 refl))
       (kept_adds view None q s entries adds (broke.unheard refl) (cut_no_poll (refused_entries a) n lost.0 (refused_no_poll a low)))
-      (let many = cut_length (refused_entries a) n lost.0 in omega (arith, many)) (λ taken. cc) refused (λ taken. cc) (λ not_taken. broke.adds.guest.1 idle.host)
+      (let many = cut_length (refused_entries a) n lost.0 in omega (arith, many)) (λ taken. cc) (refused lost.0 lost.1) (λ taken. cc) (λ not_taken. broke.adds.guest.1 idle.host)
       (hosts-answers (length (devices_of q)) (drive_party q) other entries (cut_hosts (refused_entries a) n lost.0 refl))
       broke.ring refl (refused_left view q s a idle low broke) broke.held
-      (ap (list_any is_faulty) adds.log ∙ faulty_behind q.books.log entries (cut_faulty (refused_entries a) n lost.0 (cut_within (refused_entries a) n broke.break broke.legal)))
       broke.met_some (λ keeps. cc) (λ back. cc)

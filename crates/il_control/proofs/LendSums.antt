@@ -1,7 +1,6 @@
 -- A lend from its value and what was added to the ring.
 use Rattle.il_ring.specs.Outcomes.{met_between}
 use Rattle.std.proofs.Common.{Bool, List, None, [], ap, append-nil, arith, false, length, length-append, subst, sum_by, sym, true, ℕ, ◌&&◌, ◌*◌, ◌++◌, ◌+◌, ◌==◌, ◌∙◌, ◌∷◌, ◌≡◌, ◌≤◌, ◌≢◌}
-use Rattle.std.specs.List.{list_any}
 use Rattle.std.proofs.lemmas.Bool.{and_parts, ne_eqb}
 use Rattle.il_frames.specs.declared.entry.Entry.{Entry}
 use Rattle.il_device.specs.declared.roles.Roles.{Roles}
@@ -17,7 +16,6 @@ use Rattle.il_ring.specs.Rings.{IsRing, RingView, devices_of, drive_party, roles
 use Rattle.il_ring.specs.Statuses.{answers_always}
 use Rattle.il_ring.proofs.LedDoes.{length-roles_of}
 use Rattle.il_ring.proofs.LedSince.{none_stands}
-use Rattle.il_ring.proofs.LendFaults.{faulty_met, is_faulty}
 use Rattle.il_ring.proofs.LendLaws.{lend_led}
 use Rattle.il_ring.proofs.LendTalkers.{lend_idle, lend_one_talker}
 use Rattle.il_control.specs.Calls.{IsIdle}
@@ -146,14 +144,13 @@ module _ {M : Type 0} (a limit d : ℕ) (whole : Bool) (q s : RingView M) (idle 
         };
       }
 
-  -- after a broken one at most one talks, and where the log shows a fault a planned hop was met
-  pub lend_broken : whole ≡ false → DriveLeft q.drive s.drive → s.books.held ≡ None → list_any is_faulty s.books.log ≡ true → met_between q s ≢ [] → (keeps_control lend ≡ true → leads s.guest ≡ true) → (took_back lend ≡ true → IsUnderHost s.guest) → LendBroken a limit q s
+  -- after a broken one at most one talks
+  pub lend_broken : whole ≡ false → DriveLeft q.drive s.drive → s.books.held ≡ None → met_between q s ≢ [] → (keeps_control lend ≡ true → leads s.guest ≡ true) → (took_back lend ≡ true → IsUnderHost s.guest) → LendBroken a limit q s
   unfolding lends_as
-  lend_broken broken drive held shows met_in leads_on host = record {
-    met = faulty_met s.books.plan s.books.begun s.books.crossings s.books.log ring.told.entries shows;
+  lend_broken broken drive held met leads_on host = record {
     drive = drive;
     lends = lends_as false broken;
-    met_in = met_in;
+    met = met;
     leads_on = leads_on;
     host_leads = host;
     lost = record {

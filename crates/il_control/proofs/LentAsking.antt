@@ -199,7 +199,7 @@ module _ {M : Type 0} (view : M → MediumView) (k last : ℕ) (own : Option ℕ
         (λ not.
         let ends = nrd_lost k A (old.entries ++ e) more q (own_echo flight.sent) (taken q (own_echo flight.sent) (own_echo-is flight.sent held.began.now.data_frame) held.began.talked) 0 (omega arith) in
         let kept_is : entry_where (length (devices_of (going_on r))) (Some flight) ++ lost_at (sourced k nrd) 0 ∷ [] ≡ entry q flight.sent (outcome.Taken k) ∷ entry k nrd (outcome.Lost 0) ∷ [] = kept_entry flight in_.1 in
-        inr (broke_off view k last own base r s arrived old e (entry q flight.sent (outcome.Taken k) ∷ entry k nrd (outcome.Lost 0) ∷ []) (BreaksOff (FrameLost 0)) ends refl refl
+        inr (broke_off view k last own base r s arrived old e (entry q flight.sent (outcome.Taken k) ∷ entry k nrd (outcome.Lost 0) ∷ []) (BreaksOff (FrameLost 0)) ends refl
         (let none = came_second k (entry q flight.sent (outcome.Taken k)) (entry k nrd (outcome.Lost 0)) (came_taken_ahead k q k flight.sent in_.1 (omega arith)) ∙ came_lost_home k k nrd in omega (arith, one, none))
         (omega arith) (not.0.log_is ∙ ap (λ es. r.books.log ++ (e ++ es)) kept_is) not.0.lent_is))
         out.1
@@ -225,7 +225,7 @@ module _ {M : Type 0} (view : M → MediumView) (k last : ℕ) (own : Option ℕ
         let on = subst (λ j. turned j lost.own_party ≤ j) old.many lost.on_ring in
         let ends = first_lost k A (old.entries ++ e) more lost.taker (own_echo lost.sent) (taken lost.taker (own_echo lost.sent) (own_echo-is lost.sent lost.data_frame) lost.talked) (turned k lost.own_party) far on in
         let one = taken_one k lost.taker sst (omega (arith, in_.1)) in
-        inr (broke_off view k last own base r s arrived old e tail (ByteLost (turned k lost.own_party)) ends refl refl
+        inr (broke_off view k last own base r s arrived old e tail (ByteLost (turned k lost.own_party)) ends refl
         (let none = came_lost_ahead k lost.taker (turned k lost.own_party) lost.sent far on in omega (arith, one, none))
         (omega arith) not.log_is not.lent_is))
         off)

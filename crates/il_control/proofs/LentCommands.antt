@@ -53,7 +53,7 @@ module _ {M : Type 0} (view : M → MediumView) (k last : ℕ) (own : Option ℕ
       let lent = there.lent_is ∙ ap (λ f. Some f) (own_hit k (sent_at q) _ there.at other there.came) in
       inl (polls_on view k last own base r s arrived answer held f old so q e at same_last same_address range one short there.log_is (stands lent there.kept_is)))
       (λ not.
-      inr (broke_off view k last own base r s arrived old e (entry k (sent_at q) (outcome.Lost 0) ∷ []) (BreaksOff (FrameLost 0)) (own_lost k (asked view k last own base) (old.entries ++ e) yet goes (sent_at q) more 0 (omega arith) begun due no_nrd) refl refl (let none = came_lost_home k k (sent_at q) in omega (arith, one, none)) (omega (arith, short)) not.0.log_is not.0.lent_is))
+      inr (broke_off view k last own base r s arrived old e (entry k (sent_at q) (outcome.Lost 0) ∷ []) (BreaksOff (FrameLost 0)) (own_lost k (asked view k last own base) (old.entries ++ e) yet goes (sent_at q) more 0 (omega arith) begun due no_nrd) refl (let none = came_lost_home k k (sent_at q) in omega (arith, one, none)) (omega (arith, short)) not.0.log_is not.0.lent_is))
       out.1
 
   -- one was lost
@@ -62,7 +62,7 @@ module _ {M : Type 0} (view : M → MediumView) (k last : ℕ) (own : Option ℕ
   lost_own r s arrived answer old f party n on not no_nrd yet goes begun more due =
       broke_off view k last own base r s arrived old [] (entry k f (outcome.Lost party) ∷ []) (BreaksOff (FrameLost party))
       (subst (λ es. RoundsEndSo k (asked view k last own base) es (entry k f (outcome.Lost party) ∷ []) (BreaksOff (FrameLost party))) (sym (append-nil old.entries)) (own_lost k (asked view k last own base) old.entries yet goes f more party on begun due no_nrd))
-      refl refl (let one = came_one k (entry k f (outcome.Lost party)) in omega (arith, one)) (omega arith) not.log_is not.lent_is
+      refl (let one = came_one k (entry k f (outcome.Lost party)) in omega (arith, one)) (omega arith) not.log_is not.lent_is
 
   module _ (r s : RingView M) (arrived : ℕ) (answer : Arrival) (f : Frame) (old : Polling view k last own base r arrived) (so : Stays view k last own base r s arrived old answer None (sourced 0 f)) where
     -- a frame that every device passes on

@@ -110,7 +110,6 @@ module _ {M : Type 0} (view : M → MediumView) (r s : RingView M) (answer : Arr
       end = BreaksOff (FrameLost 0);
       ends = own_lost (length (devices_of r)) asked [] asked (from_command (length (devices_of r)) asked [] command.Nop) nop _ 0 (omega arith) (begin_rounds (length (devices_of r)) asked) refl refl;
       breaks = refl;
-      shows = refl;
       log = not.log_is ∙ sym (append_assoc r.books.log (entry 0 tct (outcome.Taken (length (devices_of r))) ∷ []) (entry (length (devices_of r)) nop (outcome.Lost 0) ∷ []));
       arrivals = let none = came_lost_home (length (devices_of r)) (length (devices_of r)) nop in omega (arith, none);
       short = omega arith;

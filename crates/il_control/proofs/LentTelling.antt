@@ -1,8 +1,7 @@
 -- A second controller that has the first byte of a status: NRD, and then the byte, goes round.
 use Rattle.std.proofs.Common.{◌≡◌, ◌∙◌, ◌⊎◌, inl, inr, ⊎_elim, ◌≤◌, ◌<◌, ◌+◌, ◌++◌, ◌==◌, not, ℕ, suc, Bool, true, false, List, [], ◌∷◌, Option, Some, None, length, cond, refl, sym, ap, ap₂, subst, arith, append_assoc, append-nil, length-append}
 use Rattle.std.specs.Prelude.{◌-◌, if◌then◌else◌, nat_le, nat_lt}
-use Rattle.std.specs.List.{list_any}
-use Rattle.std.proofs.lemmas.Bool.{and_from, eq-eqb, le-leb, lt-ltb, ne_eqb, or_left}
+use Rattle.std.proofs.lemmas.Bool.{and_from, eq-eqb, le-leb, lt-ltb, ne_eqb}
 use Rattle.std.proofs.lemmas.Bool.Decides.{nat_tests}
 use Rattle.il_frames.specs.declared.entry.Entry.{Entry}
 use Rattle.il_frames.specs.declared.entry.Outcome.{Outcome}
@@ -31,7 +30,6 @@ use Rattle.il_ring.specs.Remaining.{BeginRounds, asked_yet, from_byte, from_unt}
 use Rattle.il_ring.specs.Rings.{RingView, devices_of, roles_of}
 use Rattle.il_ring.specs.Turned.{StandsNot, StandsThere, turned}
 use Rattle.il_ring.proofs.DataPasses.{same_served}
-use Rattle.il_ring.proofs.LendFaults.{back_faulty, is_faulty}
 use Rattle.il_ring.proofs.Remaining.{begin_same}
 use Rattle.il_control.specs.Receives.{IsHolding}
 use Rattle.il_control.proofs.LentArrivals.{came_lost_ahead, came_lost_home, came_one, came_second, came_taken_ahead, came_two, dist_ahead, dist_home, turned_ahead, turned_up_to}
@@ -129,7 +127,7 @@ module _ {M : Type 0} (view : M → MediumView) (k last : ℕ) (own : Option ℕ
           )))
           (λ not.
           let ends = byte_lost_at k A (old.entries ++ e) held_stands.0 held_flight.source (own_echo held_flight.sent) (begun_then held_flight.source held_flight.sent refl refl held_flight.sent (own_echo-is held_flight.sent bytes)) bytes 0 (ne_eqb held_flight.source k (λ e. omega (arith, e, in_.1))) (omega arith) in
-          inr (broke_off view k last own base r s arrived old e (entry held_flight.source held_flight.sent (outcome.Lost 0) ∷ []) (BreaksOff (FrameLost 0)) ends refl refl
+          inr (broke_off view k last own base r s arrived old e (entry held_flight.source held_flight.sent (outcome.Lost 0) ∷ []) (BreaksOff (FrameLost 0)) ends refl
           (let none = came_lost_home k held_flight.source held_flight.sent in omega (arith, none)) (omega arith) not.0.log_is not.0.lent_is))
           out.1
 
@@ -142,7 +140,7 @@ module _ {M : Type 0} (view : M → MediumView) (k last : ℕ) (own : Option ℕ
           let kept_is : entry_where (length (devices_of (going_on r))) (Some held_flight) ++ entry k nrd (outcome.Lost p) ∷ [] ≡ tail =
           ap (λ j. ended_at held_flight j ∷ entry k nrd (outcome.Lost p) ∷ []) old.many ∙ ap (λ b. entry held_flight.source held_flight.sent (if b then outcome.Back held_flight.now else outcome.Taken k) ∷ entry k nrd (outcome.Lost p) ∷ []) other in
           let ends = nrd_lost k A old.entries held_stands.0 held_flight.source (own_echo held_flight.sent) (held_stands.2.begun held_flight.sent (own_echo-is held_flight.sent bytes)) p (subst (λ j. turned j off.own_party ≤ j) old.many off.on_ring) in
-          inr (broke_off view k last own base r s arrived old [] tail (BreaksOff (FrameLost p)) (subst (λ es. RoundsEndSo k A es tail (BreaksOff (FrameLost p))) (sym (append-nil old.entries)) ends) refl refl
+          inr (broke_off view k last own base r s arrived old [] tail (BreaksOff (FrameLost p)) (subst (λ es. RoundsEndSo k A es tail (BreaksOff (FrameLost p))) (sym (append-nil old.entries)) ends) refl
           (let second = came_second k (entry held_flight.source held_flight.sent (outcome.Taken k)) (entry k nrd (outcome.Lost p)) (came_taken_ahead k held_flight.source k held_flight.sent in_.1 (omega arith)) in let one = came_one k (entry k nrd (outcome.Lost p)) in omega (arith, second, one))
           (omega arith) (not.log_is ∙ ap (λ es. r.books.log ++ es) kept_is) not.lent_is)
 
@@ -222,8 +220,7 @@ module _ {M : Type 0} (view : M → MediumView) (k last : ℕ) (own : Option ℕ
       altered_so back came o end by past log none =
           let tail : List Entry = back_entry byte_flight back ∷ entry byte_flight.source ete o ∷ [] in
           let ends = byte_altered k A old.entries byte_stands.0 byte_flight.source (own_echo byte_flight.sent) own_begun bytes₂ back came.echo.0 no_guest o end by in
-          let shows : list_any is_faulty tail ≡ true = or_left (is_faulty (back_entry byte_flight back)) _ (back_faulty byte_flight.source byte_flight.sent back bytes₂ came.echo.0) in
-          inr (broke_off view k last own base r s arrived old [] tail (BreaksOff (TalkerAltered back o)) (subst (λ es. RoundsEndSo k A es tail (BreaksOff (TalkerAltered back o))) (sym (append-nil old.entries)) ends) refl shows
+          inr (broke_off view k last own base r s arrived old [] tail (BreaksOff (TalkerAltered back o)) (subst (λ es. RoundsEndSo k A es tail (BreaksOff (TalkerAltered back o))) (sym (append-nil old.entries)) ends) refl
           (let one = came_two k (back_entry byte_flight back) (entry byte_flight.source ete o) past in omega (arith, one)) (omega arith) log none)
 
       gone₂ : ByteGone view r s byte_flight answer so.two holding₂.0 → Next s arrived
@@ -236,7 +233,7 @@ module _ {M : Type 0} (view : M → MediumView) (k last : ℕ) (own : Option ℕ
           let tail : List Entry = entry byte_flight.source byte_flight.sent (outcome.Lost p) ∷ [] in
           let ends = byte_lost_at k A old.entries byte_stands.0 byte_flight.source (own_echo byte_flight.sent) own_begun bytes₂ p no_guest
           (let at = subst (λ front. LostWhere front byte_flight.source off.own_party) first.0 off.where_ in turned_up_to k off.own_party byte_flight.source at.0 at.1) in
-          inr (broke_off view k last own base r s arrived old [] tail (BreaksOff (FrameLost p)) (subst (λ es. RoundsEndSo k A es tail (BreaksOff (FrameLost p))) (sym (append-nil old.entries)) ends) refl refl
+          inr (broke_off view k last own base r s arrived old [] tail (BreaksOff (FrameLost p)) (subst (λ es. RoundsEndSo k A es tail (BreaksOff (FrameLost p))) (sym (append-nil old.entries)) ends) refl
           (let one = came_one k (entry byte_flight.source byte_flight.sent (outcome.Lost p)) in omega (arith, one)) (omega arith)
           (not.log_is ∙ ap₂ (λ front frame. r.books.log ++ (front ++ entry byte_flight.source frame (outcome.Lost p) ∷ [])) first.0 first.1) not.lent_is))
           (λ next. by_right next.0 next.1 next.2 not.lent_is p (ahead next.1 next.3) (subst (λ j. turned j off.own_party ≤ j) old.many off.on_ring) (not.log_is ∙ ap₂ (λ front frame. r.books.log ++ (front ++ entry byte_flight.source frame (outcome.Lost p) ∷ [])) next.3 next.4))
@@ -248,7 +245,7 @@ module _ {M : Type 0} (view : M → MediumView) (k last : ℕ) (own : Option ℕ
               let e : List Entry = back_entry byte_flight back ∷ [] in
               let echo : is_echo (record { sent = byte_flight.sent; back = back }) ≡ true = and_from (is_data byte_flight.sent) (same_but_service byte_flight.sent back) bytes₂ (same_served byte_flight.sent back came.echo.1) in
               let ends = end_lost k A (old.entries ++ e) byte_stands.0 byte_flight.source p no_guest far on (begun_eto back echo) in
-              inr (broke_off view k last own base r s arrived old e (entry byte_flight.source eto (outcome.Lost p) ∷ []) (BreaksOff (FrameLost p)) ends refl refl
+              inr (broke_off view k last own base r s arrived old e (entry byte_flight.source eto (outcome.Lost p) ∷ []) (BreaksOff (FrameLost p)) ends refl
               (let one = came_one k (back_entry byte_flight back) in let past = came_lost_ahead k byte_flight.source p eto far on in omega (arith, one, past)) (omega arith) log none)
           by_right false back came none p far on log = altered_so back came (outcome.Lost p) refl (and_from (nat_lt byte_flight.source p) (nat_le p k) (lt-ltb byte_flight.source p far) (le-leb p k on)) (came_lost_ahead k byte_flight.source p ete far on) log none
 

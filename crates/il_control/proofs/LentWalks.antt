@@ -1,7 +1,6 @@
 -- From one frame at the host to the next: a second controller goes on in its rounds, or they end.
 pub use Rattle.il_control.specs.Polling.{BrokeOff, ByteStands, FollowsAsked, HeldStands, OwnStands, Polling, StandsSo, asked, came_by, front_of, yet_at}
 use Rattle.std.proofs.Common.{◌≡◌, ◌∙◌, ◌≤◌, ◌+◌, ◌++◌, ℕ, true, false, List, [], ◌∷◌, Option, Some, None, length, refl, sym, ap, ap₂, arith, append_assoc, length-append}
-use Rattle.std.specs.List.{list_any}
 use Rattle.il_frames.specs.declared.entry.Entry.{Entry}
 use Rattle.il_frames.specs.declared.frame.Frame.{Frame}
 use Rattle.il_frames.specs.Frames.{is_data}
@@ -22,7 +21,6 @@ use Rattle.il_ring.specs.Lending.{IsLed, going_on}
 use Rattle.il_ring.specs.Rings.{RingView, devices_of}
 use Rattle.il_ring.specs.Turned.{Halves}
 use Rattle.il_ring.proofs.Passes.{plain_hit}
-use Rattle.il_ring.proofs.LendFaults.{is_faulty}
 use Rattle.il_control.proofs.LentArrivals.{came_by-append}
 use Rattle.il_control.proofs.LentPolls.{RoundsEndSo}
 
@@ -100,14 +98,13 @@ module _ {M : Type 0} (view : M → MediumView) (k last : ℕ) (own : Option ℕ
   }
 
   -- they broke off behind these entries more
-  pub broke_off : (r s : RingView M) (arrived : ℕ) (old : Polling view k last own base r arrived) (e tail : List Entry) (end : RoundsEnd) → RoundsEndSo k (addresses own last) (old.entries ++ e) tail end → is_break_end end ≡ true → list_any is_faulty tail ≡ true → came_by k e + came_by k tail ≤ 1 → length e + length tail ≤ 3 → s.books.log ≡ r.books.log ++ (e ++ tail) → s.books.lent ≡ None → BrokeOff view k last own base s (arrived + 1)
-  broke_off r s arrived old e tail end ends breaks shows one short log none = record {
+  pub broke_off : (r s : RingView M) (arrived : ℕ) (old : Polling view k last own base r arrived) (e tail : List Entry) (end : RoundsEnd) → RoundsEndSo k (addresses own last) (old.entries ++ e) tail end → is_break_end end ≡ true → came_by k e + came_by k tail ≤ 1 → length e + length tail ≤ 3 → s.books.log ≡ r.books.log ++ (e ++ tail) → s.books.lent ≡ None → BrokeOff view k last own base s (arrived + 1)
+  broke_off r s arrived old e tail end ends breaks one short log none = record {
     entries = old.entries ++ e;
     tail = tail;
     end = end;
     ends = ends;
     breaks = breaks;
-    shows = shows;
     log = log ∙ ap (λ log. log ++ (e ++ tail)) old.log ∙ append_assoc base old.entries (e ++ tail) ∙ ap (λ es. base ++ es) (sym (append_assoc old.entries e tail));
     arrivals =
         let all = came_by-append k (old.entries ++ e) tail in

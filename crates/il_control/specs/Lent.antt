@@ -12,10 +12,10 @@ use Rattle.il_ring.specs.Guests.{GuestMind, IsUnderHost, last_asked}
 use Rattle.il_device.specs.Roles.{is_own}
 use Rattle.il_device.specs.State.{DeviceState, risen_by}
 use Rattle.loop_model.specs.Leading.{OneTalkerLed, are_commands_led, roles_led}
-use Rattle.loop_model.specs.Reach.{links_of, met}
+use Rattle.loop_model.specs.Reach.{links_of}
 use Rattle.il_ring.specs.LedAdds.{AllTookSince, LedSince}
 use Rattle.il_guest.specs.Frames.{tct}
-use Rattle.loop_model.specs.Exchanges.{returned}
+use Rattle.loop_model.specs.Exchanges.{FrameLost, returned}
 use Rattle.il_control.specs.declared.lending.Handed.{Handed}
 use Rattle.il_control.specs.declared.lending.Handed.TheVariants as handed
 use Rattle.il_ring.specs.declared.plan.Arrival.{Arrival}
@@ -25,7 +25,7 @@ use Rattle.il_ring.specs.Lending.{IsLed, LedRound, hands_over, leads}
 use Rattle.il_ring.specs.Lends.{Lend, came_back, handed_entries, is_lend, is_whole_lend, keeps_control, lend_address, lend_entries, tells_own, took_back, was_taken}
 use Rattle.il_ring.specs.Lists.{Each, First}
 use Rattle.il_ring.specs.Outcomes.{IsDeaf, met_between}
-use Rattle.il_ring.specs.Plans.{hops_of, last_crossing}
+use Rattle.il_ring.specs.Plans.{last_crossing}
 use Rattle.il_ring.specs.Polls.{KeepsPlace}
 use Rattle.il_control.specs.Calls.{Broke, IsIdle, IsLost, Unheard, Whole}
 use Rattle.il_control.specs.Found.{FoundLeft, FoundSo, HasFound}
@@ -181,8 +181,7 @@ pub record LendBroken {M : Type 0} (a limit : ℕ) (q s : RingView M) : Type 0 w
   pub lends : Lends a limit false q s
   pub lost : IsLost s
   pub drive : DriveLeft q.drive s.drive
-  pub met : met (hops_of s.books.plan) s.books.begun s.books.crossings ≢ []
-  pub met_in : met_between q s ≢ []
+  pub met : met_between q s ≢ []
   pub host_leads : took_back lends.lend ≡ true → IsUnderHost s.guest
   pub leads_on : keeps_control lends.lend ≡ true → leads s.guest ≡ true
 
@@ -196,8 +195,13 @@ pub record Hands {M : Type 0} (view : M → MediumView) (r s : RingView M) : Typ
   pub over : HandedOver r answer s
   pub led : IsLed s
 
+-- it was lost, and where a second controller was to take it, before that one
+pub record TctLost {M : Type 0} (view : M → MediumView) (r s : RingView M) : Type 0 where
+  pub broke : Broke view r (returned 0 tct ∷ []) s
+  pub before : hands_over r tct ≡ true → broke.break ≢ FrameLost 0
+
 -- Nobody took it; or a second controller did, and its first frame stands at the host; or it was lost, or that frame.
 abbrev pub HandsOver : {M : Type 0} → (M → MediumView) → RingView M → Handed → RingView M → Type 0
 HandsOver view r handed.NotTaken s = Whole view r (returned 0 tct ∷ []) s × (hands_over r tct ≡ false) × IsUnderHost s.guest
 HandsOver view r handed.Taken s = Hands view r s × IsSome s.books.lent
-HandsOver view r handed.Broken s = Broke view r (returned 0 tct ∷ []) s ⊎ (Hands view r s × (s.books.lent ≡ None))
+HandsOver view r handed.Broken s = TctLost view r s ⊎ (Hands view r s × (s.books.lent ≡ None))

@@ -1,6 +1,5 @@
 -- A second controller that polls, at every moment at which a frame stands at the host: where it is in its rounds, and what the loop is then.
 use Rattle.std.specs.Prelude.{◌≡◌, ◌≤◌, ◌+◌, ◌++◌, ℕ, true, List, [], ◌∷◌, Option, Some, None, length, count_by}
-use Rattle.std.specs.List.{list_any}
 use Rattle.il_control.specs.Receives.{IsCalm, IsDeaf, IsHolding}
 use Rattle.il_device.specs.State.{DeviceState}
 use Rattle.il_device.specs.declared.roles.Roles.{Roles}
@@ -26,7 +25,6 @@ use Rattle.il_ring.specs.Remaining.{AreRounds, BeginRounds, from_byte, from_comm
 use Rattle.il_ring.specs.Rings.{RingView, devices_of, roles_of}
 use Rattle.il_ring.specs.Turned.{books_anew, ring_before_last}
 use Rattle.il_ring.specs.declared.flight.Flight.{Flight}
-use Rattle.il_ring.specs.Fates.{is_faulty}
 use Rattle.loop_model.specs.Exchanges.{Answer, Sst, answer_entries, commanded, is_answer, is_echo, receive_front, returned, start_frame}
 use Rattle.loop_model.specs.Reach.{brings_to}
 use Rattle.loop_model.specs.Roles.{are_numbered, roles_after, talkers}
@@ -169,14 +167,13 @@ module _ {M : Type 0} (view : M → MediumView) (k last : ℕ) (own : Option ℕ
     pub short : length entries ≤ arrived + arrived
     pub stands : StandsSo place r boxed entries
 
-  -- the rounds broke off; the last entries show a loss, or a byte that came back as another
+  -- the rounds broke off by these last entries
   pub record BrokeOff (s : RingView M) (arrived : ℕ) : Type 0 where
     pub entries : List Entry
     pub tail : List Entry
     pub end : RoundsEnd
     pub ends : RoundsEndSo k asked entries tail end
     pub breaks : is_break_end end ≡ true
-    pub shows : list_any is_faulty tail ≡ true
     pub log : s.books.log ≡ base ++ (entries ++ tail)
     pub arrivals : came_by k (entries ++ tail) + 1 ≤ arrived
     pub short : length (entries ++ tail) ≤ arrived + arrived + 1

@@ -1,10 +1,11 @@
 // What the host does to lend the ring to a second controller.
-ghost use Rattle.std.specs.Prelude.{◌≤◌, ◌+◌, ◌*◌, MatchOption};
+ghost use Rattle.std.specs.Prelude.{◌≤◌, ◌+◌, ◌*◌, IfOk, IfErr};
 ghost use Rattle.il_ring.specs.Rings.{spare_of};
 ghost use Rattle.il_ring.specs.Guests.{IsUnderHost};
 ghost use Rattle.il_control.specs.Calls.{IsFree, IsIdle};
 ghost use Rattle.il_control.specs.Lent.{HandsOver, IsLentNow, LendBroken, LendMade, PolledUntil};
 
+use crate::exchanges::Broken;
 use crate::frames::{tct, unt};
 use crate::receiving::ask;
 use crate::rounds::{clear_interface, command};
@@ -41,7 +42,8 @@ fn hand_over<M: Medium>(ring: &mut Ring<M>) -> Handed
     }
 }
 
-/// Lets a second controller go on with its rounds until so many frames have come to the host since it took control. One has.
+/// Lets a second controller go on with its rounds until so many frames have come to the host since it took control. One
+/// has.
 pub(crate) fn poll<M: Medium>(ring: &mut Ring<M>, limit: u16) -> bool
     requires some { 1 ≤ limit }
     requires room { 32 + 2 * limit ≤ spare_of (⟦<Ring<M> as Seen<M>>⟧.seen ring.old) }
@@ -57,36 +59,42 @@ pub(crate) fn poll<M: Medium>(ring: &mut Ring<M>, limit: u16) -> bool
     true
 }
 
-/// Lends the ring to the device of this address, until so many of its frames have come to the host. Answers whether a second
-/// controller took control.
-pub(crate) fn lend<M: Medium>(ring: &mut Ring<M>, address: u8, limit: u16) -> Option<bool>
+/// Hands control of the loop to the second controller, where it stands at this address, 1 to 30: the device there is to
+/// talk, and TCT is sent. While the second controller polls, each of its frames comes past the host; at the one that is
+/// the `limit`-th, 1 to 4,096, the host takes control back by IFC. Answers whether a second controller took control.
+/// Where none did, TCT came back, and no device talks any more.
+///
+/// The error comes where a frame was lost, or a status came back to its device with another byte. The second controller
+/// may control the loop still; `resume` takes control back. Source: HP-IL Interface Specification, HP 82166-90017, take
+/// control and interface clear; that the host counts frames is this project's own.
+pub fn lend<M: Medium>(ring: &mut Ring<M>, address: u8, limit: u16) -> Result<bool, Broken>
     requires address { (1 ≤ address) × (address ≤ 30) }
-    requires limit { 1 ≤ limit }
+    requires limit { (1 ≤ limit) × (limit ≤ 4096) }
     requires room { 4 * limit + 48 ≤ spare_of (⟦<Ring<M> as Seen<M>>⟧.seen ring.old) }
     requires idle { IsIdle (⟦<Ring<M> as Seen<M>>⟧.seen ring.old) }
-    ensures { MatchOption result (LendBroken address limit (⟦<Ring<M> as Seen<M>>⟧.seen ring.old) (⟦<Ring<M> as Seen<M>>⟧.seen ring.new))
-        (λ taken. LendMade address limit taken (⟦<Ring<M> as Seen<M>>⟧.seen ring.old) (⟦<Ring<M> as Seen<M>>⟧.seen ring.new)) }
+    ensures made { IfOk result (λ taken. LendMade address limit taken (⟦<Ring<M> as Seen<M>>⟧.seen ring.old) (⟦<Ring<M> as Seen<M>>⟧.seen ring.new)) }
+    ensures broken { IfErr result (λ broken. LendBroken address limit (⟦<Ring<M> as Seen<M>>⟧.seen ring.old) (⟦<Ring<M> as Seen<M>>⟧.seen ring.new)) }
 {
     if !ask(ring, address, None) {
-        return None;
+        return Err(Broken);
     }
     match hand_over(ring) {
-        Handed::Broken => None,
+        Handed::Broken => Err(Broken),
         Handed::NotTaken => {
             if command(ring, unt()) {
-                Some(false)
+                Ok(false)
             } else {
-                None
+                Err(Broken)
             }
         }
         Handed::Taken => {
             if !poll(ring, limit) {
-                return None;
+                return Err(Broken);
             }
             if clear_interface(ring) {
-                Some(true)
+                Ok(true)
             } else {
-                None
+                Err(Broken)
             }
         }
     }

@@ -1,5 +1,5 @@
 // What the controller does to receive from a talker, one round behind the other.
-ghost use Rattle.std.specs.Prelude.{◌≡◌, ◌≤◌, ◌<◌, ◌+◌, ◌++◌, true, length, IfSome, IsSome, MatchBool, MatchOption};
+ghost use Rattle.std.specs.Prelude.{◌≡◌, ◌≤◌, ◌<◌, ◌+◌, ◌++◌, true, length, IfSome, IsSome, IfOk, IfErr, MatchBool, MatchOption};
 ghost use Rattle.il_frames.specs.Frames.{byte_of};
 ghost use Rattle.il_frames.specs.NamedFrames.{tad, ddt, unt};
 ghost use Rattle.loop_model.specs.Roles.{talkers, is_at_most_one};
@@ -10,6 +10,7 @@ ghost use Rattle.il_ring.specs.Lists.{Each};
 ghost use Rattle.il_control.specs.Calls.{Whole, Broke, IsFree, IsIdle};
 ghost use Rattle.il_control.specs.Receives.{Asked, IsCalm, IsDeaf, IsHolding, IsOnward, WentAs, Begins, Fronts, Stops, TakesBytes, Answered, NotAnswered, start_of, Received, NotReceived};
 
+use crate::exchanges::Broken;
 use crate::frames::{Sot, ddt, eto, nrd, tad, unl, unt};
 use crate::rounds::command;
 use il_ports::Medium;
@@ -181,8 +182,8 @@ fn stop<M: Medium>(ring: &mut Ring<M>) -> bool
     }
 }
 
-/// Takes the bytes of a talker, whose first frame is held, to its end or until `into` is full. The talker is stopped before the frame
-/// that fills it goes back.
+/// Takes the bytes of a talker, whose first frame is held, to its end or until `into` is full. The talker is stopped
+/// before the frame that fills it goes back.
 fn take_bytes<M: Medium>(ring: &mut Ring<M>, into: &mut [u8]) -> Option<usize>
     requires some { 0 < length into.old }
     requires room { 35 + length into.old ≤ spare_of (⟦<Ring<M> as Seen<M>>⟧.seen ring.old) }
@@ -218,31 +219,35 @@ fn answer<M: Medium>(ring: &mut Ring<M>, start: Sot, into: &mut [u8]) -> Option<
     }
 }
 
-/// Has the device of this address talk, takes its bytes and has it talk no more. Answers how many bytes came.
-pub(crate) fn receive<M: Medium>(
+/// Has the device of this address, 1 to 30, talk, and takes the bytes that it sends into the front of `into`, to its
+/// end or until `into` is full; then it talks no more. Behind the talk address it sends device dependent talker command
+/// `number`, 0 to 31, where one is given. Answers how many bytes came, none where no device took the start message. A
+/// talker that fills `into` is stopped at that byte. Where a frame was lost or came back to the talker with another
+/// byte, the bytes in `into` are any.
+pub fn receive<M: Medium>(
     ring: &mut Ring<M>,
     address: u8,
     number: Option<u8>,
     start: Sot,
     into: &mut [u8],
-) -> Option<usize>
+) -> Result<usize, Broken>
     requires some { 0 < length into.old }
     requires room { 43 + length into.old ≤ spare_of (⟦<Ring<M> as Seen<M>>⟧.seen ring.old) }
     requires idle { IsIdle (⟦<Ring<M> as Seen<M>>⟧.seen ring.old) }
     requires address { (1 ≤ address) × (address ≤ 30) }
     requires number { IfSome number (λ n. n < 32) }
-    ensures { MatchOption result (NotReceived M.view address number (start_of start) (length into.old) (⟦<Ring<M> as Seen<M>>⟧.seen ring.old) (⟦<Ring<M> as Seen<M>>⟧.seen ring.new))
-        (λ n. Received M.view address number (start_of start) n (⟦<Ring<M> as Seen<M>>⟧.seen ring.old) into.old into.new (⟦<Ring<M> as Seen<M>>⟧.seen ring.new)) }
+    ensures received { IfOk result (λ n. Received M.view address number (start_of start) n (⟦<Ring<M> as Seen<M>>⟧.seen ring.old) into.old into.new (⟦<Ring<M> as Seen<M>>⟧.seen ring.new)) }
+    ensures not_received { IfErr result (λ broken. NotReceived M.view address number (start_of start) (length into.old) (⟦<Ring<M> as Seen<M>>⟧.seen ring.old) (⟦<Ring<M> as Seen<M>>⟧.seen ring.new)) }
 {
     if !ask(ring, address, number) {
-        return None;
+        return Err(Broken);
     }
     let Some(count) = answer(ring, start, into) else {
-        return None;
+        return Err(Broken);
     };
     if command(ring, unt()) {
-        Some(count)
+        Ok(count)
     } else {
-        None
+        Err(Broken)
     }
 }

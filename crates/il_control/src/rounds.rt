@@ -1,5 +1,5 @@
 // What the controller does on the ring, one round behind the other. Each answers whether it was done whole.
-ghost use Rattle.std.specs.Prelude.{◌≡◌, ◌≤◌, ◌<◌, ◌+◌, [], ◌∷◌, ◌++◌, length, true, false, MatchBool, MatchOption, IfSome, not, is_some};
+ghost use Rattle.std.specs.Prelude.{◌≡◌, ◌≤◌, ◌<◌, ◌+◌, [], ◌∷◌, ◌++◌, length, true, false, MatchBool, IfSome, not, is_some};
 ghost use Rattle.il_frames.specs.Messages.{message_of};
 ghost use Rattle.il_device.specs.Passing.{is_plain};
 ghost use Rattle.loop_model.specs.Exchanges.{Send, entries_of, numbered, returned, commanded};
@@ -9,9 +9,9 @@ ghost use Rattle.il_ring.specs.Guests.{IsUnderHost};
 ghost use Rattle.il_ring.specs.Lending.{about_to_send, hands_over};
 ghost use Rattle.il_ring.specs.Rings.{spare_of};
 ghost use Rattle.il_control.specs.Found.{KeepsFound};
-ghost use Rattle.il_control.specs.Calls.{arrives, AllStay, Obeyed, ObeyedInPart, Whole, Broke, IsFree, IsIdle, IsLost, Resumed, NotResumed, Sent, NotSent};
+ghost use Rattle.il_control.specs.Calls.{arrives, AllStay, Obeyed, ObeyedInPart, Whole, Broke, IsFree, IsIdle, Sent, NotSent};
 
-use crate::frames::{aad, aau, dab, ddl, ifc, lad, rfc, unl};
+use crate::frames::{aau, dab, ddl, ifc, lad, rfc, unl};
 use il_frames::Frame;
 use il_ports::Medium;
 use il_ring::{Arrival, Ring, Seen};
@@ -105,7 +105,7 @@ fn command_of<M: Medium>(ring: &mut Ring<M>, number: Option<u8>) -> bool
 }
 
 /// Sends a byte, and tells whether its frame came back the same apart from the service bit.
-pub(crate) fn send_byte<M: Medium>(ring: &mut Ring<M>, byte: u8) -> bool
+pub(crate) fn byte_round<M: Medium>(ring: &mut Ring<M>, byte: u8) -> bool
     requires room { 33 ≤ spare_of (⟦<Ring<M> as Seen<M>>⟧.seen ring.old) }
     requires idle { IsIdle (⟦<Ring<M> as Seen<M>>⟧.seen ring.old) }
     ensures { MatchBool result (Sent M.view byte (⟦<Ring<M> as Seen<M>>⟧.seen ring.old) (⟦<Ring<M> as Seen<M>>⟧.seen ring.new))
@@ -151,7 +151,7 @@ pub(crate) fn clear_interface<M: Medium>(ring: &mut Ring<M>) -> bool
 }
 
 /// Clears the interface and takes all addresses away.
-fn clear<M: Medium>(ring: &mut Ring<M>) -> bool
+pub(crate) fn clear<M: Medium>(ring: &mut Ring<M>) -> bool
     requires room { 36 ≤ spare_of (⟦<Ring<M> as Seen<M>>⟧.seen ring.old) }
     requires free { IsFree (⟦<Ring<M> as Seen<M>>⟧.seen ring.old) }
     ensures done { MatchBool result (Whole M.view (⟦<Ring<M> as Seen<M>>⟧.seen ring.old) (commanded 0 ifc ++ commanded 0 aau) (⟦<Ring<M> as Seen<M>>⟧.seen ring.new))
@@ -160,21 +160,4 @@ fn clear<M: Medium>(ring: &mut Ring<M>) -> bool
     ensures host { result ≡ true → IsUnderHost (⟦<Ring<M> as Seen<M>>⟧.seen ring.new).guest }
 {
     clear_interface(ring) && command(ring, aau())
-}
-
-/// Gives each device its number as address, and tells how many there are.
-pub(crate) fn address<M: Medium>(ring: &mut Ring<M>) -> Option<u8>
-    requires room { 37 ≤ spare_of (⟦<Ring<M> as Seen<M>>⟧.seen ring.old) }
-    requires lost { IsLost (⟦<Ring<M> as Seen<M>>⟧.seen ring.old) }
-    ensures done { MatchOption result (NotResumed M.view (⟦<Ring<M> as Seen<M>>⟧.seen ring.old) (⟦<Ring<M> as Seen<M>>⟧.seen ring.new))
-        (λ n. Resumed M.view n (⟦<Ring<M> as Seen<M>>⟧.seen ring.old) (⟦<Ring<M> as Seen<M>>⟧.seen ring.new)) }
-    ensures stays { AllStay true (⟦<Ring<M> as Seen<M>>⟧.seen ring.old) (⟦<Ring<M> as Seen<M>>⟧.seen ring.new) }
-{
-    if !clear(ring) {
-        return None;
-    }
-    match ring.send(aad()) {
-        Arrival::Frame(back) => Some(back.byte() - 0x81),
-        Arrival::Lost => None,
-    }
 }

@@ -8,15 +8,13 @@ ghost use Rattle.il_control.specs.Calls.{idy, IsIdle, IsLost, is_command, Made, 
 ghost use Rattle.il_control.specs.Receives.{start_of, Received, NotReceived};
 ghost use Rattle.il_control.specs.Lent.{LendBroken, LendMade};
 
-use crate::frames;
+use crate::exchanges;
+use crate::exchanges::Broken;
 use crate::frames::Sot;
-use crate::lending::lend;
-use crate::receiving::receive;
-use crate::rounds::{address, command, send_byte, tell};
 use il_device::Device;
 use il_frames::Frame;
 use il_ports::Medium;
-use il_ring::{Arrival, Ring, Seen};
+use il_ring::{Ring, Seen};
 use std::marker::PhantomData;
 
 /// No device talks.
@@ -68,10 +66,9 @@ impl<M: Medium> Sending<M> {
         ensures not_sent { IfErr result (λ lost. NotSent M.view byte (⟦<Sending<M> as Seen<M>>⟧.seen self) (⟦<Lost<M> as Seen<M>>⟧.seen lost)) }
     {
         let Sending { mut ring, devices } = self;
-        if send_byte(&mut ring, byte) {
-            Ok(Sending { ring, devices })
-        } else {
-            Err(Lost { ring, devices })
+        match exchanges::send_byte(&mut ring, byte) {
+            Ok(()) => Ok(Sending { ring, devices }),
+            Err(Broken) => Err(Lost { ring, devices }),
         }
     }
 
@@ -123,9 +120,9 @@ impl<M: Medium> Lost<M> {
         ensures not_resumed { IfErr result (λ lost. NotResumed M.view (⟦<Lost<M> as Seen<M>>⟧.seen self) (⟦<Lost<M> as Seen<M>>⟧.seen lost)) }
     {
         let Lost { mut ring, devices } = self;
-        match address(&mut ring) {
-            Some(count) => Ok((Idle { ring, devices }, count)),
-            None => Err(Lost { ring, devices }),
+        match exchanges::resume(&mut ring) {
+            Ok(count) => Ok((Idle { ring, devices }, count)),
+            Err(Broken) => Err(Lost { ring, devices }),
         }
     }
 
@@ -167,10 +164,9 @@ impl<M: Medium> Idle<M> {
         ensures part { IfErr result (λ lost. ObeyedInPart (message_of frame) (⟦<Idle<M> as Seen<M>>⟧.seen self) (⟦<Lost<M> as Seen<M>>⟧.seen lost)) }
     {
         let Idle { mut ring, devices } = self;
-        if command(&mut ring, frame) {
-            Ok(Idle { ring, devices })
-        } else {
-            Err(Lost { ring, devices })
+        match exchanges::command(&mut ring, frame) {
+            Ok(()) => Ok(Idle { ring, devices }),
+            Err(Broken) => Err(Lost { ring, devices }),
         }
     }
 
@@ -187,9 +183,9 @@ impl<M: Medium> Idle<M> {
         ensures broken { IfErr result (λ lost. BrokenOff M.view (Identify idy) (⟦<Idle<M> as Seen<M>>⟧.seen self) (⟦<Lost<M> as Seen<M>>⟧.seen lost)) }
     {
         let Idle { mut ring, devices } = self;
-        match ring.send(frames::idy()) {
-            Arrival::Frame(frame) => Ok((Idle { ring, devices }, frame)),
-            Arrival::Lost => Err(Lost { ring, devices }),
+        match exchanges::identify(&mut ring) {
+            Ok(frame) => Ok((Idle { ring, devices }, frame)),
+            Err(Broken) => Err(Lost { ring, devices }),
         }
     }
 
@@ -201,25 +197,25 @@ impl<M: Medium> Idle<M> {
         requires address { (1 ≤ address) × (address ≤ 30) }
         requires number { IfSome number (λ n. n < 32) }
         ensures made { IfOk result (λ sending. Made M.view (Send address number []) (⟦<Idle<M> as Seen<M>>⟧.seen self) (⟦<Sending<M> as Seen<M>>⟧.seen sending)) }
-        // No device hears anything, and each keeps its place in the parallel poll; and where no command is given, its wish for service.
+        // No device hears anything, and each keeps its place in the parallel poll; and where no command is given, its
+        // wish for service.
         ensures stays { IfOk result (λ sending. AllStay (not (is_some number)) (⟦<Idle<M> as Seen<M>>⟧.seen self) (⟦<Sending<M> as Seen<M>>⟧.seen sending)) }
         ensures stays_lost { IfErr result (λ lost. AllStay (not (is_some number)) (⟦<Idle<M> as Seen<M>>⟧.seen self) (⟦<Lost<M> as Seen<M>>⟧.seen lost)) }
         ensures told { IfOk result (λ sending. Each (IsTold address) 1 (devices_of (⟦<Sending<M> as Seen<M>>⟧.seen sending))) }
         ensures broken { IfErr result (λ lost. BrokenOff M.view (Send address number []) (⟦<Idle<M> as Seen<M>>⟧.seen self) (⟦<Lost<M> as Seen<M>>⟧.seen lost)) }
     {
         let Idle { mut ring, devices } = self;
-        if tell(&mut ring, address, number) {
-            Ok(Sending { ring, devices })
-        } else {
-            Err(Lost { ring, devices })
+        match exchanges::listen(&mut ring, address, number) {
+            Ok(()) => Ok(Sending { ring, devices }),
+            Err(Broken) => Err(Lost { ring, devices }),
         }
     }
 
-    /// Has the device of this address, 1 to 30, talk, and takes the bytes that it sends into the front of `into`, to its end
-    /// or until `into` is full; then it talks no more. Behind the talk address it sends device dependent talker command
-    /// `number`, 0 to 31, where one is given. Answers how many bytes came, none where no device took the start message.
-    /// A talker that fills `into` is stopped at that byte. Where a frame was lost or came back to the talker with another
-    /// byte, the bytes in `into` are any.
+    /// Has the device of this address, 1 to 30, talk, and takes the bytes that it sends into the front of `into`, to
+    /// its end or until `into` is full; then it talks no more. Behind the talk address it sends device dependent talker
+    /// command `number`, 0 to 31, where one is given. Answers how many bytes came, none where no device took the start
+    /// message. A talker that fills `into` is stopped at that byte. Where a frame was lost or came back to the talker
+    /// with another byte, the bytes in `into` are any.
     pub fn receive(
         self,
         address: u8,
@@ -236,20 +232,20 @@ impl<M: Medium> Idle<M> {
         ensures not_received { IfErr result (λ lost. NotReceived M.view address number (start_of start) (length into.old) (⟦<Idle<M> as Seen<M>>⟧.seen self) (⟦<Lost<M> as Seen<M>>⟧.seen lost)) }
     {
         let Idle { mut ring, devices } = self;
-        match receive(&mut ring, address, number, start, into) {
-            Some(count) => Ok((Idle { ring, devices }, count)),
-            None => Err(Lost { ring, devices }),
+        match exchanges::receive(&mut ring, address, number, start, into) {
+            Ok(count) => Ok((Idle { ring, devices }, count)),
+            Err(Broken) => Err(Lost { ring, devices }),
         }
     }
 
-    /// Hands control of the loop to the second controller, where it stands at this address, 1 to 30: the device there is to talk,
-    /// and TCT is sent. While the second controller polls, each of its frames comes past the host; at the one that is the `limit`-th,
-    /// 1 to 4,096, the host takes control back by IFC. Answers whether a second controller took control. Where none did, TCT came
-    /// back, and no device talks any more.
+    /// Hands control of the loop to the second controller, where it stands at this address, 1 to 30: the device there
+    /// is to talk, and TCT is sent. While the second controller polls, each of its frames comes past the host; at the
+    /// one that is the `limit`-th, 1 to 4,096, the host takes control back by IFC. Answers whether a second controller
+    /// took control. Where none did, TCT came back, and no device talks any more.
     ///
-    /// The error comes where a frame was lost, or a status came back to its device with another byte. The second controller may
-    /// control the loop still; `resume` takes control back. Source: HP-IL Interface Specification, HP 82166-90017, take control
-    /// and interface clear; that the host counts frames is this project's own.
+    /// The error comes where a frame was lost, or a status came back to its device with another byte. The second
+    /// controller may control the loop still; `resume` takes control back. Source: HP-IL Interface Specification, HP
+    /// 82166-90017, take control and interface clear; that the host counts frames is this project's own.
     pub fn lend(self, address: u8, limit: u16) -> Result<(Idle<M>, bool), Lost<M>>
         requires address { (1 ≤ address) × (address ≤ 30) }
         requires limit { (1 ≤ limit) × (limit ≤ 4096) }
@@ -259,9 +255,9 @@ impl<M: Medium> Idle<M> {
         ensures broken { IfErr result (λ lost. LendBroken address limit (⟦<Idle<M> as Seen<M>>⟧.seen self) (⟦<Lost<M> as Seen<M>>⟧.seen lost)) }
     {
         let Idle { mut ring, devices } = self;
-        match lend(&mut ring, address, limit) {
-            Some(taken) => Ok((Idle { ring, devices }, taken)),
-            None => Err(Lost { ring, devices }),
+        match exchanges::lend(&mut ring, address, limit) {
+            Ok(taken) => Ok((Idle { ring, devices }, taken)),
+            Err(Broken) => Err(Lost { ring, devices }),
         }
     }
 

@@ -4,7 +4,7 @@ use Rattle.il_frames.specs.NamedFrames.{is_frame}
 use Rattle.il_ring.proofs.LedRounds.{host_keeps}
 use Rattle.il_control.proofs.Places.{identify_stay}
 use Rattle.il_control.proofs.Polls.{identify_call}
-use Rattle.il_control.proofs.states.Idle.identify.Goals as goal
+use Rattle.il_control.proofs.exchanges.identify.Goals as goal
 
 pub returns-in-Frame-clause-made : goal.returns-in-Frame-clause-made
 returns-in-Frame-clause-made g c = (identify_call g.M.Medium.view _ _ _ _ _ (c.in-Frame.ensures.round (host_keeps _ c.idy.result c.requires.idle.host (ap (λ f. is_frame f tct) c.idy.ensures))) c.idy.ensures c.requires.idle.free.held c.requires.idle).0
@@ -18,5 +18,5 @@ returns-in-Lost-clause-broken g c = identify_call g.M.Medium.view _ _ _ _ _ (c.i
 pub returns-in-Frame-clause-stays : goal.returns-in-Frame-clause-stays
 returns-in-Frame-clause-stays g c = identify_stay g.M.Medium.view _ _ _ _ _ (c.in-Frame.ensures.round (host_keeps _ c.idy.result c.requires.idle.host (ap (λ f. is_frame f tct) c.idy.ensures))) c.idy.ensures c.requires.idle
 
-pub returns-in-Lost-clause-stays_lost : goal.returns-in-Lost-clause-stays_lost
-returns-in-Lost-clause-stays_lost g c = identify_stay g.M.Medium.view _ _ _ _ _ (c.in-Lost.ensures.round (host_keeps _ c.idy.result c.requires.idle.host (ap (λ f. is_frame f tct) c.idy.ensures))) c.idy.ensures c.requires.idle
+pub returns-in-Lost-clause-stays : goal.returns-in-Lost-clause-stays
+returns-in-Lost-clause-stays g c = identify_stay g.M.Medium.view _ _ _ _ _ (c.in-Lost.ensures.round (host_keeps _ c.idy.result c.requires.idle.host (ap (λ f. is_frame f tct) c.idy.ensures))) c.idy.ensures c.requires.idle

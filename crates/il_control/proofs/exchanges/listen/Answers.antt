@@ -1,5 +1,5 @@
 use Rattle.il_control.proofs.Telling.{listening, listen_made, listen_broken}
-use Rattle.il_control.proofs.states.Idle.listen.Goals as goal
+use Rattle.il_control.proofs.exchanges.listen.Goals as goal
 
 pub returns-then-tell-clause-made : goal.returns-then-tell-clause-made
 returns-then-tell-clause-made g c = listen_made g.M.Medium.view _ _ _ _ c.requires.idle c.requires.address.1 c.requires.number c.if-tell.ensures.done

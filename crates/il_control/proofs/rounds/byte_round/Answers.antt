@@ -3,7 +3,7 @@ use Rattle.il_guest.specs.Frames.{tct}
 use Rattle.il_frames.specs.NamedFrames.{is_frame}
 use Rattle.il_ring.proofs.LedRounds.{host_keeps}
 use Rattle.il_control.proofs.Bytes.{byte_done}
-use Rattle.il_control.proofs.rounds.send_byte.Goals as goal
+use Rattle.il_control.proofs.rounds.byte_round.Goals as goal
 
 pub returns-in-Frame : goal.returns-in-Frame
 returns-in-Frame g c = byte_done g.M.Medium.view _ _ _ _ _ _ _ (c.in-Frame.ensures.round (host_keeps _ c.dab-frame.result c.requires.idle.host (ap (λ f. is_frame f tct) c.dab-frame.ensures))) c.dab-frame.ensures c.same_but_service.ensures c.requires.idle.free.held c.requires.idle

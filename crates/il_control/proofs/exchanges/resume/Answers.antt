@@ -4,19 +4,19 @@ use Rattle.il_frames.specs.NamedFrames.{is_frame}
 use Rattle.il_ring.proofs.LedRounds.{host_keeps}
 use Rattle.il_control.proofs.Addressing.{address_call, count_of, not_cleared}
 use Rattle.il_control.proofs.Places.{address_stay}
-use Rattle.il_control.proofs.rounds.address.Goals as goal
+use Rattle.il_control.proofs.exchanges.resume.Goals as goal
 
-pub returns-then-not-clear-clause-done : goal.returns-then-not-clear-clause-done
-returns-then-not-clear-clause-done g c = not_cleared g.M.Medium.view _ c.requires.lost _ c.if-not-clear.ensures.done
+pub returns-then-not-clear-clause-not_resumed : goal.returns-then-not-clear-clause-not_resumed
+returns-then-not-clear-clause-not_resumed g c = not_cleared g.M.Medium.view _ c.requires.lost _ c.if-not-clear.ensures.done
 
 pub overflow_sub-result : goal.overflow_sub-result
 overflow_sub-result g c = (count_of g.M.Medium.view _ _ c.in-Frame.back _ c.byte.ensures (address_call g.M.Medium.view _ c.requires.lost _ _ _ _ _ (c.if-not-clear.ensures.host refl) c.if-not-clear.ensures.done (c.in-Frame.ensures.round (host_keeps _ c.aad.result (c.if-not-clear.ensures.host refl) (ap (λ f. is_frame f tct) c.aad.ensures))) c.aad.ensures c.if-not-clear.ensures.done.held)).0
 
-pub returns-in-Frame-clause-done : goal.returns-in-Frame-clause-done
-returns-in-Frame-clause-done g c = (count_of g.M.Medium.view _ _ c.in-Frame.back _ c.byte.ensures (address_call g.M.Medium.view _ c.requires.lost _ _ _ _ _ (c.if-not-clear.ensures.host refl) c.if-not-clear.ensures.done (c.in-Frame.ensures.round (host_keeps _ c.aad.result (c.if-not-clear.ensures.host refl) (ap (λ f. is_frame f tct) c.aad.ensures))) c.aad.ensures c.if-not-clear.ensures.done.held)).1
+pub returns-in-Frame-clause-resumed : goal.returns-in-Frame-clause-resumed
+returns-in-Frame-clause-resumed g c = (count_of g.M.Medium.view _ _ c.in-Frame.back _ c.byte.ensures (address_call g.M.Medium.view _ c.requires.lost _ _ _ _ _ (c.if-not-clear.ensures.host refl) c.if-not-clear.ensures.done (c.in-Frame.ensures.round (host_keeps _ c.aad.result (c.if-not-clear.ensures.host refl) (ap (λ f. is_frame f tct) c.aad.ensures))) c.aad.ensures c.if-not-clear.ensures.done.held)).1
 
-pub returns-in-Lost-clause-done : goal.returns-in-Lost-clause-done
-returns-in-Lost-clause-done g c = address_call g.M.Medium.view _ c.requires.lost _ _ _ _ _ (c.if-not-clear.ensures.host refl) c.if-not-clear.ensures.done (c.in-Lost.ensures.round (host_keeps _ c.aad.result (c.if-not-clear.ensures.host refl) (ap (λ f. is_frame f tct) c.aad.ensures))) c.aad.ensures c.if-not-clear.ensures.done.held
+pub returns-in-Lost-clause-not_resumed : goal.returns-in-Lost-clause-not_resumed
+returns-in-Lost-clause-not_resumed g c = address_call g.M.Medium.view _ c.requires.lost _ _ _ _ _ (c.if-not-clear.ensures.host refl) c.if-not-clear.ensures.done (c.in-Lost.ensures.round (host_keeps _ c.aad.result (c.if-not-clear.ensures.host refl) (ap (λ f. is_frame f tct) c.aad.ensures))) c.aad.ensures c.if-not-clear.ensures.done.held
 
 pub returns-in-Frame-clause-stays : goal.returns-in-Frame-clause-stays
 returns-in-Frame-clause-stays g c = address_stay g.M.Medium.view _ _ _ _ _ _ c.requires.lost c.if-not-clear.ensures.done c.if-not-clear.ensures.stays (c.in-Frame.ensures.round (host_keeps _ c.aad.result (c.if-not-clear.ensures.host refl) (ap (λ f. is_frame f tct) c.aad.ensures))) c.aad.ensures

@@ -1,6 +1,6 @@
 use Rattle.std.proofs.Common.{refl}
 use Rattle.il_control.proofs.Made.{command_hands, command_plain, command_made, command_broken}
-use Rattle.il_control.proofs.states.Idle.command.Goals as goal
+use Rattle.il_control.proofs.exchanges.command.Goals as goal
 
 pub command-requires-clause-plain : goal.command-requires-clause-plain
 command-requires-clause-plain g c = command_plain c.args.frame (search) c.requires.command
