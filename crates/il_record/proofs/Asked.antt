@@ -52,9 +52,7 @@ front_numbered k q a n (f ∷ g ∷ h ∷ i ∷ x ∷ y ∷ gs) brought =
 
 start_is : (q : ℕ) (s : Start) (g : Frame) → ComesAs q (start_frame s) g → g ≡ start_frame s
 start_is q Sda g comes = comes.other refl refl
-start_is q Sst g comes = comes.other refl refl
-start_is q Sdi g comes = comes.other refl refl
-start_is q Sai g comes = comes.other refl refl
+start_is q _ g comes = comes.other refl refl
 
 -- it came back
 pub untaken_frames : (k q : ℕ) (s : Start) (gs : List Frame) → Brought k q (answer_entries 0 (start_frame s) NotTaken) gs → gs ≡ start_frame s ∷ []
@@ -164,15 +162,13 @@ all_own (Source g ∷ outs) many = ap (λ outs. Source g ∷ outs) (all_own outs
 
 pub all_data : (ds : List Echo) (gs : List Frame) → AllCome ds gs → AllData gs
 all_data [] [] come = tt
-all_data [] (g ∷ gs) come = absurd come
-all_data (d ∷ ds) [] come = absurd come
 all_data (d ∷ ds) (g ∷ gs) come = (come.0.0, all_data ds gs come.1)
+all_data _ _ come = absurd come
 
 pub come_length : (ds : List Echo) (gs : List Frame) → AllCome ds gs → length gs ≡ length ds
 come_length [] [] come = refl
-come_length [] (g ∷ gs) come = absurd come
-come_length (d ∷ ds) [] come = absurd come
 come_length (d ∷ ds) (g ∷ gs) come = ap suc (come_length ds gs come.1)
+come_length _ _ come = absurd come
 
 pub same_frames : (f g : Frame) → with_service g ≡ with_service f → same_but_service f g ≡ true
 same_frames f g same =
@@ -186,8 +182,6 @@ echo_of f g same = same_frames f g same
 -- each frame that came is the echo of what was sent before it, and what was sent goes on by these frames
 pub come_back : (ds : List Echo) (gs rest : List Frame) → AllCome ds gs → length rest ≡ 1 → EchoesOf (map (λ (g : Frame). Source g) (frames_of ds ++ rest)) gs
 come_back [] [] (r ∷ []) come one = tt
-come_back [] [] [] come one = cc
-come_back [] [] (r ∷ s ∷ rest) come one = cc
 come_back [] (g ∷ gs) rest come one = absurd come
 come_back (d ∷ ds) [] rest come one = absurd come
 come_back (d ∷ ds) (g ∷ gs) rest come one = by d g come.0.1 (frames_of ds ++ rest) (come_back ds gs rest come.1 one)
@@ -195,6 +189,7 @@ come_back (d ∷ ds) (g ∷ gs) rest come one = by d g come.0.1 (frames_of ds ++
     by : (d : Echo) (g : Frame) → with_service g ≡ with_service d.sent → (sent : List Frame) → EchoesOf (map (λ (g : Frame). Source g) sent) gs → EchoesOf (Source d.sent ∷ map (λ (g : Frame). Source g) sent) (g ∷ gs)
     by d g same [] more = absurd more
     by d g same (next ∷ sent) more = (same_frames d.sent g same, more)
+come_back _ _ _ come one = cc
 
 -- ---- the run in its parts
 
@@ -205,9 +200,8 @@ append_same {A} xs ys zs ws long is =
 module _ {M : Type 0} (view : M → MediumView) where
   pub ran_length : (fs : List Frame) (outs : List Out) (v w : DriveView M) → Ran view v fs outs w → length outs ≡ length fs
   ran_length [] [] v w ran = refl
-  ran_length [] (out ∷ outs) v w ran = absurd ran
-  ran_length (f ∷ fs) [] v w ran = absurd ran
   ran_length (f ∷ fs) (out ∷ outs) v w ran = ap suc (ran_length fs outs ran.0 w ran.2)
+  ran_length _ _ v w ran = absurd ran
 
   -- Before the start message, from it to the last echo, and behind that; in the middle part these own frames went out.
   pub record RanAsked (before during behind said : List Frame) (v w : DriveView M) : Type 0 where

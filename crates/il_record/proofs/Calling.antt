@@ -1,286 +1,159 @@
--- Calls of a store over the loop that move no record, of which the controller was taken out and put back.
-use Rattle.std.proofs.Common.{◌≡◌, ◌∙◌, ◌≤◌, ◌+◌, ◌*◌, ◌/◌, ◌&&◌, ℕ, Bool, true, false, List, [], Option, None, length, refl, sym, ap, subst, arith, append-nil}
-use Rattle.std.specs.Prelude.{Result, Ok, Err}
+-- Calls of a store over the loop that move no record.
+use Rattle.std.proofs.Common.{◌≡◌, ◌∙◌, ◌≤◌, ◌+◌, ◌*◌, ℕ, Bool, true, false, List, [], refl, sym, ap, subst, arith, append-nil}
+use Rattle.std.specs.Prelude.{Result, Ok, Err, IfOk, IfErr, Option}
 use Rattle.il_ports.specs.declared.records.Trouble.{Trouble}
-use Rattle.il_ports.specs.declared.records.Trouble.TheVariants as trouble
 use Rattle.il_ports.specs.Media.{MediumView}
-use Rattle.il_drive.specs.Steps.{IsStill}
 use Rattle.il_drive.specs.Resting.{IsFree}
-use Rattle.loop_model.specs.Polls.{polled_along}
 use Rattle.il_ring.specs.Lists.{Each}
 use Rattle.il_ring.specs.Rings.{RingView, devices_of, drive_party, spare_of}
-use Rattle.il_control.specs.Calls.{IsIdle, IsLost, idy, loop_of}
+use Rattle.il_control.specs.Calls.{loop_of}
 use Rattle.il_frames.specs.declared.frame.Frame.{Frame}
 use Rattle.il_record.specs.declared.records.Since.{Since}
 use Rattle.il_record.specs.declared.records.Since.TheVariants as since
-use Rattle.il_record.specs.Asks.{Ask, up_to}
-use Rattle.il_record.specs.Called.{Called, CallBroke, LeavesStore}
-use Rattle.il_record.specs.Came.{CameUnits}
-use Rattle.il_record.specs.LoopCalls.{AllNamed, LeftAlone, NotSaid, Said, id_asks}
+use Rattle.il_record.specs.Asks.{Ask}
+use Rattle.il_record.specs.Called.{Calls, Ended, LeavesStore}
+use Rattle.il_record.specs.Came.{CameUnits, NoneHeard}
+use Rattle.il_record.specs.LoopCalls.{AllNamed, LeavesDrive, LeftAlone, NotSaid, Said}
 use Rattle.loop_model.specs.Effect.{Transferred}
-use Rattle.il_record.specs.LoopStores.{LoopView, Standing, Addresses, AtIdle, AtLost, HasRing, Nowhere, StandsSo, Stood, FailedAtLost, calls_in, is_broken, since_frame, since_more, since_said, view_at, view_of}
-use Rattle.il_record.specs.Polls.{HasPolled, MayPoll, PlacesKept, PollBroke, poll_asks}
+use Rattle.il_record.specs.LoopStores.{LoopView, StandsBy, StandsSo, Stood, calls_in, is_broken, since_frame, since_said, view_of}
+use Rattle.il_record.specs.Polls.{HasPolled, MayPoll, PlacesKept, PollBroke}
 use Rattle.il_record.specs.Runs.{NotPolled, Polled}
+use Rattle.il_record.proofs.CameLaws.{not_polled_came, polled_came}
 use Rattle.il_record.proofs.HeardLogs.{heard_none}
-use Rattle.il_record.proofs.Places.{free_on, kept_left, kept_not_said, kept_said, kept_stays, may_poll_broke, may_poll_kept, may_poll_polled}
+use Rattle.il_record.proofs.Places.{free_on, kept_left, kept_not_said, kept_said, may_poll_broke, may_poll_kept, may_poll_polled}
 use Rattle.il_record.proofs.StoreCalls.{calls_less, frames_rose, frames_same, stood_frame, stood_not_said, stood_said, stood_whole, transferred_then}
-use Rattle.il_record.proofs.StoreResumes.{alive_more, count_of, more_same, party_same, still_of}
-use Rattle.il_record.proofs.StoreRuns.{from_start}
-use Rattle.il_record.proofs.StoreStarts.{unfailed_lost}
+use Rattle.il_record.proofs.StoreRuns.{as_left, party_of}
+use Rattle.il_record.proofs.StoreStarts.{count_of, sound_and, sound_none, still_of}
 
--- ---- how the controller was put back
+-- ---- what stands before a call
 
-module _ {M : Type 0} (P : RingView M → RingView M → Type 0) (log : Since) (old mid new : LoopView M) (r s : RingView M) (at : old.control ≡ AtIdle r) (taken : mid ≡ record old { control = Nowhere; since = log }) (did : P r s) where
-  pub called : new ≡ record mid { control = AtIdle s } → Called P log old new
-  called left = record { ring = r; at = at; behind = s; did = did; left = left ∙ ap (λ (l : LoopView M). record l { control = AtIdle s }) taken }
+pub stands : {M : Type 0} (ready : Bool) (r : RingView M) (sound : Bool) (log : Since) → ready ≡ true → StandsBy ready r sound log → StandsBy true r sound log
+stands ready r sound log is so = subst (λ b. StandsBy b r sound log) is so
 
-  pub call_broke : new ≡ record mid { control = AtLost s; sound = false; since = since_frame mid.since } → CallBroke P (since_frame log) old new
-  call_broke left = record { ring = r; at = at; behind = s; did = did; left = left ∙ ap (λ (l : LoopView M). record l { control = AtLost s; sound = false; since = since_frame l.since }) taken }
+-- ---- what exchanges leave that move no record, whole or broken off, where the log stood so and stands so behind them
 
--- ---- what stands before it
+pub record Mild {M : Type 0} (view : M → MediumView) (whole : Bool) (log new : Since) (r s : RingView M) : Type 0 where
+  pub units : CameUnits view whole [] r s
+  pub medium : s.drive.medium ≡ r.drive.medium
+  pub may : Each MayPoll 1 (devices_of r) → Each MayPoll 1 (devices_of s)
+  pub free : whole ≡ true → IsFree (drive_party r) r.drive.state → IsFree (drive_party s) s.drive.state
+  pub stood : is_broken log ≡ false → (start : RingView M) → Stood view log start r → Stood view new start s
 
--- the store of an idle controller
-pub record Stands {M : Type 0} (l : LoopView M) (r : RingView M) : Type 0 where
-  pub idle : IsIdle r
-  pub free : l.sound ≡ true → IsFree (drive_party r) r.drive.state
-  pub alive : is_broken l.since ≡ false
-  pub may : Each MayPoll 1 (devices_of r)
+-- by what they leave of the drive and of the devices
+module _ {M : Type 0} (view : M → MediumView) (log : Since) (r s : RingView M) (drive : LeavesDrive r.drive s.drive) (may : Each MayPoll 1 (devices_of r) → Each MayPoll 1 (devices_of s)) where
+  mild_whole : CameUnits view true [] r s → NoneHeard r s → Mild view true log log r s
+  mild_whole units unheard = record {
+    units = units;
+    medium = drive.medium;
+    may = may;
+    free = λ whole free. free_on view r s [] free units drive;
+    stood = λ alive start so. stood_whole view log [] start r s so alive units refl (heard_none (drive_party r) r s unheard) (count_of view r s drive.medium) (λ before. drive.status ∙ before);
+  }
 
-pub stands : {M : Type 0} (l : LoopView M) (r : RingView M) → l.control ≡ AtIdle r → StandsSo l.control l.sound l.since → Stands l r
-stands {M} l r at so =
-    let now = subst (λ (c : Standing M). StandsSo c l.sound l.since) at so in
-    record { idle = now.0; free = now.1; alive = now.2; may = now.3 }
+  mild_broken : CameUnits view false [] r s → NoneHeard r s → Mild view false log (since_frame log) r s
+  mild_broken units unheard = record { units = units; medium = drive.medium; may = may; free = λ whole. cc; stood = λ alive start so. stood_frame view log start r s so alive units.came (heard_none (drive_party r) r s unheard) }
 
-pub room_at : {M : Type 0} (P : RingView M → Type 0) (c : Standing M) (r : RingView M) → c ≡ AtIdle r → HasRing c P → P r
-room_at {M} P c r at so = subst (λ (c : Standing M). HasRing c P) at so
+module _ {M : Type 0} (view : M → MediumView) (log : Since) (r s : RingView M) where
+  pub status_mild : (byte : ℕ) → PlacesKept r s → Polled view (drive_party r) byte r s → Mild view true log log r s
+  status_mild byte places told =
+      let units = polled_came view (drive_party r) r s byte told in
+      record {
+        units = units;
+        medium = told.drive.medium;
+        may = may_poll_kept r s places;
+        free = λ whole free. subst (λ d. IsFree d s.drive.state) (sym (party_of view true r s units.came)) told.drive.rests.free;
+        stood = λ alive start so. stood_whole view log [] start r s so alive units refl (heard_none (drive_party r) r s told.unheard) (count_of view r s told.drive.medium) (λ before. told.drive.rests.free.status);
+      }
+
+  pub not_told_mild : PlacesKept r s → NotPolled view (drive_party r) r s → Mild view false log (since_frame log) r s
+  not_told_mild places not =
+      let units = not_polled_came view (drive_party r) r s not in
+      record { units = units; medium = not.medium; may = may_poll_kept r s places; free = λ whole. cc; stood = λ alive start so. stood_frame view log start r s so alive units.came (heard_none (drive_party r) r s not.unheard) }
+
+  pub names_mild : (ids : List (Option ℕ)) → AllNamed view ids r s → Mild view true log log r s
+  names_mild ids named = let left = named.left in mild_whole view log r s left.drive (may_poll_kept r s (kept_left view r s true _ left)) left.came.units left.unheard
+
+  pub not_named_mild : (asks : List Ask) → LeftAlone view false asks r s → Mild view false log (since_frame log) r s
+  not_named_mild asks left = mild_broken view log r s left.drive (may_poll_kept r s (kept_left view r s false asks left)) left.came.units left.unheard
+
+  pub poll_mild : (f : Frame) → HasPolled view f r s → Mild view true log log r s
+  poll_mild f polled = mild_whole view log r s polled.drive (λ may. may_poll_polled view r s f polled) polled.came.units polled.unheard
+
+  pub not_polled_mild : (n : ℕ) (asks : List Ask) → PollBroke view n asks r s → Mild view false log (since_frame log) r s
+  not_polled_mild n asks broke = mild_broken view log r s broke.drive (may_poll_broke view r s n asks broke) broke.came.units broke.unheard
+
+  pub said_mild : (a : ℕ) (bytes : List ℕ) → Said view a bytes r s → Mild view true log (since_said log) r s
+  said_mild a bytes said =
+      let units = said.came.units in
+      record { units = units; medium = said.drive.medium; may = may_poll_kept r s (kept_said view r s a bytes said); free = λ whole free. free_on view r s [] free units said.drive; stood = λ alive start so. stood_said view log start r s so alive units.came }
+
+  pub not_said_mild : (a : ℕ) (bytes : List ℕ) → NotSaid view a bytes r s → Mild view false log (since_frame (since_said log)) r s
+  not_said_mild a bytes not =
+      let units = not.came.units in
+      record { units = units; medium = not.drive.medium; may = may_poll_kept r s (kept_not_said view r s a bytes not); free = λ whole. cc; stood = λ alive start so. stood_not_said view log start r s so alive units.came }
+
+pub poll_used : {M E : Type 0} (view : M → MediumView) (r s : RingView M) (asks : List Ask) (answer : Result Frame E) → IfOk answer (λ f. HasPolled view f r s) → IfErr answer (λ e. PollBroke view 54 asks r s) → spare_of r ≤ spare_of s + 54
+poll_used view r s asks (Ok f) polled not = let room = polled.room in omega (arith, room)
+poll_used view r s asks (Err e) polled not = not.room
+
+pub said_alive : (log : Since) → is_broken (since_said log) ≡ false
+said_alive since.Unbroken = refl
+said_alive _ = refl
+
+-- ---- what a call tells, by how its exchanges ended
+
+-- the loop stays ready
+pub left_whole : {M : Type 0} (sound : Bool) (log : Since) (old new : LoopView M) (s : RingView M) → old.ready ≡ true → new ≡ record old { ring = s; sound = sound; since = log } → new ≡ record old { ring = s; ready = true; sound = sound; since = log }
+left_whole sound log old new s ready is = is ∙ ap (λ (b : Bool). record old { ring = s; ready = b; sound = sound; since = log }) ready
+
+pub calls : {M T E : Type 0} (P : T → RingView M → RingView M → Type 0) (Q : RingView M → RingView M → Type 0) (sound : Bool) (log now : Since) (old new : LoopView M) (s : RingView M) → old.ready ≡ true → now ≡ log → (answer : Result T E) (result : Result T Trouble)
+    → Ended answer (record old { ring = s; sound = sound; since = now }) new result → IfOk answer (λ x. P x old.ring s) → IfErr answer (λ e. Q old.ring s) → Calls P Q sound log old new result
+calls {M} {T} {E} P Q sound log now old new s ready logged answer result ended did not = by answer (subst (λ (log : Since). Ended answer (record old { ring = s; sound = sound; since = log }) new result) logged ended) did not
+  where
+    by : (answer : Result T E) → Ended answer (record old { ring = s; sound = sound; since = log }) new result → IfOk answer (λ x. P x old.ring s) → IfErr answer (λ e. Q old.ring s) → Calls P Q sound log old new result
+    by (Ok x) ended did not = as_left (λ l result. Calls P Q sound log old l result) new _ result _ (ended.0, left_whole sound log old new s ready ended.1) (record { did = did; left = refl })
+    by (Err e) ended did not = as_left (λ l result. Calls P Q sound log old l result) new _ result _ ended (refl, record { did = not; left = refl })
 
 -- ---- what it leaves
 
-sound_and : (b : Bool) → b ≡ (b && true)
-sound_and true = refl
-sound_and false = refl
+module _ {M S : Type 0} (view : M → MediumView) (seen : S → RingView M) (p q : S) (log now : Since) (logged : now ≡ log) (old new : LoopView M) (s : RingView M) (ready : old.ready ≡ true) (valid : StandsSo old) (told : Type 0) (k n : ℕ) (used : spare_of old.ring ≤ spare_of s + n) (few : n ≤ 300 * k) (alive : is_broken log ≡ false) where
+  before : StandsBy true old.ring old.sound old.since
+  before = stands old.ready old.ring old.sound old.since ready valid
 
-sound_none : (b : Bool) → false ≡ (b && false)
-sound_none true = refl
-sound_none false = refl
-
-module _ {M S : Type 0} (view : M → MediumView) (seen : S → RingView M) (p q : Option S) (old new : LoopView M) (log : Since) (k n : ℕ) (r s : RingView M) (at : old.control ≡ AtIdle r) (before : Stands old r) (still : IsStill (view r.drive.medium) (view s.drive.medium)) (may : Each MayPoll 1 (devices_of s))
-    (used : spare_of r ≤ spare_of s + n) (few : n ≤ 300 * k) (told : Type 0) where
-  -- all came
-  pub leaves_ok : {T : Type 0} (x : T) → new ≡ record old { control = AtIdle s; since = log } → CameUnits view true [] r s → (old.sound ≡ true → IsFree (drive_party s) s.drive.state) → (view s.drive.medium).faults ≡ (view r.drive.medium).faults → is_broken log ≡ false
-      → ((start : RingView M) → Stood view old.since start r → Stood view log start s) → LeavesStore k told (view_of view seen p old) (view_of view seen q new) (Ok x)
-  leaves_ok {T} x left units free count alive stood =
-      subst (λ (l : LoopView M). LeavesStore {T = T} k told (view_of view seen p old) (view_of view seen q l) (Ok x)) (sym left)
-      (subst (λ (c : Standing M). LeavesStore {T = T} k told (view_at view seen p old.sound old.since old.resumes c) (view_at view seen q old.sound log old.resumes (AtIdle s)) (Ok x)) (sym at) now)
-    where
-      now : LeavesStore {T = T} k told (view_at view seen p old.sound old.since old.resumes (AtIdle r)) (view_at view seen q old.sound log old.resumes (AtIdle s)) (Ok x)
-      now = record {
-        valid = (units.came.talked.state, free, alive, may);
+  leaves_by : {T E : Type 0} (answer : Result T E) (result : Result T Trouble) → Ended answer (record old { ring = s; since = log }) new result → IfOk answer (λ x. Mild view true old.since log old.ring s) → IfErr answer (λ e. Mild view false old.since (since_frame log) old.ring s)
+      → LeavesStore k told (view_of view seen p old) (view_of view seen q new) result
+  leaves_by (Ok x) result ended mild not =
+      let still = still_of view old.ring s mild.medium in
+      let units = mild.units in
+      as_left (λ l result. LeavesStore k told (view_of view seen p old) (view_of view seen q l) result) new _ result _ (ended.0, left_whole old.sound log old new s ready ended.1) (record {
+        valid = (units.came.talked.state, (λ is. mild.free refl (before.1 is)), alive, mild.may before.3);
         quiet = record { tape = still.tape; moment = still.moment; since = still.since };
         size = still.stays_in.size;
         sound = sound_and old.sound;
-        left = calls_less k n r s used few;
+        left = calls_less k n old.ring s used few;
         room = ap calls_in units.came.talked.adds.room;
-        cause = (frames_same view units.came.pieces r s before.idle.free.ring units.came.talked, count);
-        transferred = λ list so. subst (λ list. Transferred (loop_of s) s.books.log list) (append-nil list) (transferred_then view true [] r s list units refl so);
-        stood = λ told start so. from_start seen start _ _ (λ at so. stood at so) so;
+        cause = (frames_same view units.came.pieces old.ring s before.0.free.ring units.came.talked, count_of view old.ring s mild.medium);
+        transferred = λ list so. subst (λ list. Transferred (loop_of s) s.books.log list) (append-nil list) (transferred_then view true [] old.ring s list units refl so);
+        stood = λ told start so. mild.stood before.2 (seen start) so;
         resumed = λ k so. so;
-      }
-
-  -- an exchange was broken off
-  pub leaves_not : {T : Type 0} (e : Trouble) → e ≡ trouble.Frame → new ≡ record old { control = AtLost s; sound = false; since = log } → CameUnits view false [] r s → (view r.drive.medium).faults ≤ (view s.drive.medium).faults
-      → ((start : RingView M) → Stood view old.since start r → Stood view log start s) → LeavesStore {T = T} k told (view_of view seen p old) (view_of view seen q new) (Err e)
-  leaves_not {T} e is left units count stood =
-      subst (λ (e : Trouble). LeavesStore {T = T} k told (view_of view seen p old) (view_of view seen q new) (Err e)) (sym is)
-      (subst (λ (l : LoopView M). LeavesStore {T = T} k told (view_of view seen p old) (view_of view seen q l) (Err trouble.Frame)) (sym left)
-      (subst (λ (c : Standing M). LeavesStore {T = T} k told (view_at view seen p old.sound old.since old.resumes c) (view_at view seen q false log old.resumes (AtLost s)) (Err trouble.Frame)) (sym at) now))
-    where
-      now : LeavesStore {T = T} k told (view_at view seen p old.sound old.since old.resumes (AtIdle r)) (view_at view seen q false log old.resumes (AtLost s)) (Err trouble.Frame)
-      now = record {
-        valid = (units.came.talked.state, refl, may);
+      })
+  leaves_by (Err e) result ended mild not =
+      let still = still_of view old.ring s not.medium in
+      let units = not.units in
+      let count = count_of view old.ring s not.medium in
+      as_left (λ l result. LeavesStore k told (view_of view seen p old) (view_of view seen q l) result) new _ result _ ended (record {
+        valid = (units.came.talked.state, refl, not.may before.3);
         quiet = record { tape = still.tape; moment = still.moment; since = still.since };
         size = still.stays_in.size;
         sound = sound_none old.sound;
-        left = calls_less k n r s used few;
+        left = calls_less k n old.ring s used few;
         room = ap calls_in units.came.talked.adds.room;
-        cause = (frames_rose view units.came.pieces r s before.idle.free.ring units.came.talked, count);
-        transferred = λ list so. subst (λ list. Transferred (loop_of s) s.books.log list) (append-nil list) (transferred_then view false [] r s list units refl so);
-        stood = λ told start so. from_start seen start _ _ (λ at so. stood at so) so;
+        cause = (frames_rose view units.came.pieces old.ring s before.0.free.ring units.came.talked, omega (arith, count));
+        transferred = λ list so. subst (λ list. Transferred (loop_of s) s.books.log list) (append-nil list) (transferred_then view false [] old.ring s list units refl so);
+        stood = λ told start so. not.stood before.2 (seen start) so;
         resumed = λ k so. so;
-      }
+      })
 
--- ---- the calls
-
-said_alive : (log : Since) → is_broken (since_said log) ≡ false
-said_alive since.Unbroken = refl
-said_alive since.Failed = refl
-said_alive since.Broken = refl
-said_alive since.Mended = refl
-said_alive since.Said = refl
-said_alive since.SaidBroken = refl
-
--- ---- what the calls tell
-
-module _ {M : Type 0} (view : M → MediumView) (old mid new : LoopView M) (r s : RingView M) (at : old.control ≡ AtIdle r) where
-  module _ (taken : mid ≡ record old { control = Nowhere }) where
-    module _ (d : ℕ) (party : d ≡ drive_party r) where
-      pub status_told : (byte : ℕ) → new ≡ record mid { control = AtIdle s } → Polled view d byte r s
-          → Called (λ r s. Polled view (drive_party r) byte r s) old.since old new
-      status_told byte left told = called (λ r s. Polled view (drive_party r) byte r s) old.since old mid new r s at taken (subst (λ d. Polled view d byte r s) party told) left
-
-      pub status_not_told : (e : Trouble) → e ≡ trouble.Frame → new ≡ record mid { control = AtLost s; sound = false; since = since_frame mid.since } → NotPolled view d r s
-          → (e ≡ trouble.Frame) × CallBroke (λ r s. NotPolled view (drive_party r) r s) (since_frame old.since) old new
-      status_not_told e is left not = (is, call_broke (λ r s. NotPolled view (drive_party r) r s) old.since old mid new r s at taken (subst (λ d. NotPolled view d r s) party not) left)
-
-    pub names_told : (ids : List (Option ℕ)) → new ≡ record mid { control = AtIdle s } → AllNamed view ids r s → Called (λ r s. AllNamed view ids r s) old.since old new
-    names_told ids left named = called (λ r s. AllNamed view ids r s) old.since old mid new r s at taken named left
-
-    pub names_not_told : (n : ℕ) (e : Trouble) → n ≡ length (devices_of r) → e ≡ trouble.Frame → new ≡ record mid { control = AtLost s; sound = false; since = since_frame mid.since } → LeftAlone view false (up_to (id_asks (devices_of r)) n) r s
-        → (e ≡ trouble.Frame) × CallBroke (λ r s. LeftAlone view false (up_to (id_asks (devices_of r)) (length (devices_of r))) r s) (since_frame old.since) old new
-    names_not_told n e count is left not = (is, call_broke (λ r s. LeftAlone view false (up_to (id_asks (devices_of r)) (length (devices_of r))) r s) old.since old mid new r s at taken (subst (λ n. LeftAlone view false (up_to (id_asks (devices_of r)) n) r s) count not) left)
-
-    pub poll_told : (f : Frame) → new ≡ record mid { control = AtIdle s } → HasPolled view f r s → Called (HasPolled view f) old.since old new
-    poll_told f left polled = called (HasPolled view f) old.since old mid new r s at taken polled left
-
-    pub poll_not_told : (n : ℕ) (e : Trouble) → n ≡ length (devices_of r) → e ≡ trouble.Frame → new ≡ record mid { control = AtLost s; sound = false; since = since_frame mid.since } → PollBroke view 54 (poll_asks n (polled_along 1 (devices_of r) idy)) r s
-        → (e ≡ trouble.Frame) × CallBroke (λ r s. PollBroke view 54 (poll_asks (length (devices_of r)) (polled_along 1 (devices_of r) idy)) r s) (since_frame old.since) old new
-    poll_not_told n e count is left not = (is, call_broke (λ r s. PollBroke view 54 (poll_asks (length (devices_of r)) (polled_along 1 (devices_of r) idy)) r s) old.since old mid new r s at taken (subst (λ n. PollBroke view 54 (poll_asks n (polled_along 1 (devices_of r) idy)) r s) count not) left)
-
-  module _ (between : LoopView M) (taken : between ≡ record old { control = Nowhere }) (spoken : mid ≡ record between { since = since_said between.since }) (a : ℕ) (bytes : List ℕ) where
-    spoke : mid ≡ record old { control = Nowhere; since = since_said old.since }
-    spoke = spoken ∙ ap (λ (l : LoopView M). record l { since = since_said l.since }) taken
-
-    pub said_told : new ≡ record mid { control = AtIdle s } → Said view a bytes r s → Called (λ r s. Said view a bytes r s) (since_said old.since) old new
-    said_told left said = called (λ r s. Said view a bytes r s) (since_said old.since) old mid new r s at spoke said left
-
-    pub said_not_told : (e : Trouble) → e ≡ trouble.Frame → new ≡ record mid { control = AtLost s; sound = false; since = since_frame mid.since } → NotSaid view a bytes r s
-        → (e ≡ trouble.Frame) × CallBroke (λ r s. NotSaid view a bytes r s) (since_frame (since_said old.since)) old new
-    said_not_told e is left not = (is, call_broke (λ r s. NotSaid view a bytes r s) (since_said old.since) old mid new r s at spoke not left)
-
--- ---- what they leave
-
-module _ {M S : Type 0} (view : M → MediumView) (seen : S → RingView M) (p q : Option S) (told : Type 0) (old mid new : LoopView M) (r s : RingView M) (at : old.control ≡ AtIdle r) (valid : StandsSo old.control old.sound old.since) where
-  begun : Stands old r
-  begun = stands old r at valid
-
-  module _ (taken : mid ≡ record old { control = Nowhere }) where
-    -- ---- the drive's status
-
-    module _ (d : ℕ) (party : d ≡ drive_party r) where
-      pub status_leaves : {T : Type 0} (x : T) (byte : ℕ) → new ≡ record mid { control = AtIdle s } → Polled view d byte r s → CameUnits view true [] r s → PlacesKept r s → spare_of r ≤ spare_of s + 13 → LeavesStore 1 told (view_of view seen p old) (view_of view seen q new) (Ok x)
-      status_leaves x byte left polled units places used =
-          leaves_ok view seen p q old new old.since 1 13 r s at begun (still_of view r s polled.drive.medium) (may_poll_kept r s places begun.may) used (omega arith) told x (left ∙ ap (λ (l : LoopView M). record l { control = AtIdle s }) taken) units
-          (λ sound. subst (λ d. IsFree d s.drive.state) (party ∙ sym (party_same view r s units)) polled.drive.rests.free) (count_of view r s polled.drive.medium) begun.alive (λ start so. stood_whole view old.since [] start r s so begun.alive units refl (heard_none (drive_party r) r s polled.unheard) (count_of view r s polled.drive.medium) (λ before. polled.drive.rests.free.status))
-
-      pub status_breaks : {T : Type 0} (e : Trouble) → e ≡ trouble.Frame → new ≡ record mid { control = AtLost s; sound = false; since = since_frame mid.since } → NotPolled view d r s → CameUnits view false [] r s → PlacesKept r s → spare_of r ≤ spare_of s + 14
-          → LeavesStore {T = T} 1 told (view_of view seen p old) (view_of view seen q new) (Err e)
-      status_breaks e is left not units places used =
-          leaves_not view seen p q old new (since_frame old.since) 1 14 r s at begun not.drive.still (may_poll_kept r s places begun.may) used (omega arith) told e is (left ∙ ap (λ (l : LoopView M). record l { control = AtLost s; sound = false; since = since_frame l.since }) taken) units not.drive.count
-          (λ start so. stood_frame view old.since start r s so begun.alive units.came (heard_none (drive_party r) r s not.unheard))
-
-    -- ---- accessory IDs
-
-    pub names_leave : {T : Type 0} (x : T) (n : ℕ) (ids : List (Option ℕ)) → n ≤ 30 → new ≡ record mid { control = AtIdle s } → AllNamed view ids r s → spare_of r ≤ spare_of s + 13 * n → LeavesStore 2 told (view_of view seen p old) (view_of view seen q new) (Ok x)
-    names_leave x n ids few left named used =
-        let alone = named.left in
-        let units = alone.came.units in
-        leaves_ok view seen p q old new old.since 2 (13 * n) r s at begun (still_of view r s alone.drive.medium) (may_poll_kept r s (kept_left view r s true _ alone) begun.may) used (omega (arith, few)) told x (left ∙ ap (λ (l : LoopView M). record l { control = AtIdle s }) taken) units
-        (λ sound. free_on view r s [] (begun.free sound) units alone.drive) (count_of view r s alone.drive.medium) begun.alive
-        (λ start so. stood_whole view old.since [] start r s so begun.alive units refl (heard_none (drive_party r) r s alone.unheard) (count_of view r s alone.drive.medium) (λ before. alone.drive.status ∙ before))
-
-    pub names_break : {T : Type 0} (e : Trouble) (n : ℕ) (asks : List Ask) → n ≤ 30 → e ≡ trouble.Frame → new ≡ record mid { control = AtLost s; sound = false; since = since_frame mid.since } → LeftAlone view false asks r s → spare_of r ≤ spare_of s + (13 * n + 1)
-        → LeavesStore {T = T} 2 told (view_of view seen p old) (view_of view seen q new) (Err e)
-    names_break e n asks few is left alone used =
-        let count = count_of view r s alone.drive.medium in
-        leaves_not view seen p q old new (since_frame old.since) 2 (13 * n + 1) r s at begun (still_of view r s alone.drive.medium) (may_poll_kept r s (kept_left view r s false asks alone) begun.may) used (omega (arith, few)) told e is
-        (left ∙ ap (λ (l : LoopView M). record l { control = AtLost s; sound = false; since = since_frame l.since }) taken) alone.came.units (omega (arith, count))
-        (λ start so. stood_frame view old.since start r s so begun.alive alone.came.units.came (heard_none (drive_party r) r s alone.unheard))
-
-    -- ---- the poll
-
-    pub poll_leaves : {T : Type 0} (x : T) (f : Frame) → new ≡ record mid { control = AtIdle s } → HasPolled view f r s → LeavesStore 1 told (view_of view seen p old) (view_of view seen q new) (Ok x)
-    poll_leaves x f left polled =
-        let units = polled.came.units in
-        leaves_ok view seen p q old new old.since 1 53 r s at begun (still_of view r s polled.drive.medium) (may_poll_polled view r s f polled) polled.room (omega arith) told x (left ∙ ap (λ (l : LoopView M). record l { control = AtIdle s }) taken) units
-        (λ sound. free_on view r s [] (begun.free sound) units polled.drive) (count_of view r s polled.drive.medium) begun.alive
-        (λ start so. stood_whole view old.since [] start r s so begun.alive units refl (heard_none (drive_party r) r s polled.unheard) (count_of view r s polled.drive.medium) (λ before. polled.drive.status ∙ before))
-
-    pub poll_breaks : {T : Type 0} (e : Trouble) (asks : List Ask) → e ≡ trouble.Frame → new ≡ record mid { control = AtLost s; sound = false; since = since_frame mid.since } → PollBroke view 54 asks r s → LeavesStore {T = T} 1 told (view_of view seen p old) (view_of view seen q new) (Err e)
-    poll_breaks e asks is left broke =
-        let count = count_of view r s broke.drive.medium in
-        leaves_not view seen p q old new (since_frame old.since) 1 54 r s at begun (still_of view r s broke.drive.medium) (may_poll_broke view r s 54 asks broke begun.may) broke.room (omega arith) told e is
-        (left ∙ ap (λ (l : LoopView M). record l { control = AtLost s; sound = false; since = since_frame l.since }) taken) broke.came.units (omega (arith, count))
-        (λ start so. stood_frame view old.since start r s so begun.alive broke.came.units.came (heard_none (drive_party r) r s broke.unheard))
-
-  -- ---- printing
-
-  module _ (between : LoopView M) (taken : between ≡ record old { control = Nowhere }) (spoken : mid ≡ record between { since = since_said between.since }) (a : ℕ) (bytes : List ℕ) where
-    silenced : mid ≡ record old { control = Nowhere; since = since_said old.since }
-    silenced = spoken ∙ ap (λ (l : LoopView M). record l { since = since_said l.since }) taken
-
-    pub said_leaves : {T : Type 0} (x : T) (n : ℕ) → new ≡ record mid { control = AtIdle s } → Said view a bytes r s → spare_of r ≤ spare_of s + (n + 6) → LeavesStore ((n + 306) / 300) told (view_of view seen p old) (view_of view seen q new) (Ok x)
-    said_leaves x n left said used =
-        let units = said.came.units in
-        leaves_ok view seen p q old new (since_said old.since) ((n + 306) / 300) (n + 6) r s at begun (still_of view r s said.drive.medium) (may_poll_kept r s (kept_said view r s a bytes said) begun.may) used (omega arith) told x (left ∙ ap (λ (l : LoopView M). record l { control = AtIdle s }) silenced) units
-        (λ sound. free_on view r s [] (begun.free sound) units said.drive) (count_of view r s said.drive.medium) (said_alive old.since) (λ start so. stood_said view old.since start r s so begun.alive units.came)
-
-    pub said_breaks : {T : Type 0} (e : Trouble) (n : ℕ) → e ≡ trouble.Frame → new ≡ record mid { control = AtLost s; sound = false; since = since_frame mid.since } → NotSaid view a bytes r s → spare_of r ≤ spare_of s + (n + 7)
-        → LeavesStore {T = T} ((n + 306) / 300) told (view_of view seen p old) (view_of view seen q new) (Err e)
-    said_breaks e n is left not used =
-        let count = count_of view r s not.drive.medium in
-        leaves_not view seen p q old new (since_frame (since_said old.since)) ((n + 306) / 300) (n + 7) r s at begun (still_of view r s not.drive.medium) (may_poll_kept r s (kept_not_said view r s a bytes not) begun.may) used (omega arith) told e is
-        (left ∙ ap (λ (l : LoopView M). record l { control = AtLost s; sound = false; since = since_frame l.since }) silenced) not.came.units (omega (arith, count)) (λ start so. stood_not_said view old.since start r s so begun.alive not.came.units.came)
-
--- ---- addressing
-
-not_sound : {A : Type 0} (b : Bool) → b ≡ false → b ≡ true → A
-not_sound true is clash = cc
-not_sound false is clash = cc
-
-module _ {M S : Type 0} (view : M → MediumView) (seen : S → RingView M) (p q : Option S) where
-  pub ready_lost : {T : Type 0} (old new : LoopView M) (r : RingView M) (answer : Result T Trouble) → old.control ≡ AtLost r → IsLost r × (old.sound ≡ false) × Each MayPoll 1 (devices_of r) → Addresses view (AtLost r) old new answer
-      → LeavesStore 1 ((view_of view seen p old).failed None) (view_of view seen p old) (view_of view seen q new) answer
-  ready_lost {T} old new r (Ok x) at valid so =
-      let units = so.readied.came.units in
-      let s = so.ring in
-      let still = still_of view r s so.readied.medium in
-      let now : LeavesStore {T = T} 1 (FailedAtLost old.since None) (view_at view seen p old.sound old.since old.resumes (AtLost r)) (view_at view seen q old.sound (since_more old.since) old.resumes (AtIdle s)) (Ok x) = record {
-        valid = (so.readied.idle, not_sound old.sound valid.1, alive_more old.since, may_poll_kept r s (kept_stays r s true so.readied.leaves.stays) valid.2);
-        quiet = record { tape = still.tape; moment = still.moment; since = still.since };
-        size = still.stays_in.size;
-        sound = sound_and old.sound;
-        left = calls_less 1 5 r s so.used (omega arith);
-        room = ap calls_in units.came.talked.adds.room;
-        cause = (frames_same view units.came.pieces r s valid.0.free.ring units.came.talked, count_of view r s so.readied.medium);
-        transferred = λ list so. subst (λ list. Transferred (loop_of s) s.books.log list) (append-nil list) (transferred_then view true [] r s list units refl so);
-        stood = λ none start told. from_start seen start _ _
-            (λ at stood. let whole = unfailed_lost old.since none in subst (λ log. Stood view log at s) (sym (more_same old.since whole)) (stood_whole view since.Unbroken [] at r s (subst (λ log. Stood view log at r) whole stood) refl units refl so.readied.unheard (count_of view r s so.readied.medium) (λ before. so.readied.leaves.status ∙ before))) told;
-        resumed = λ k so. so;
-      } in
-      subst (λ (l : LoopView M). LeavesStore {T = T} 1 ((view_of view seen p old).failed None) (view_of view seen p old) (view_of view seen q l) (Ok x)) (sym so.left)
-      (subst (λ (c : Standing M). LeavesStore {T = T} 1 ((view_at view seen p old.sound old.since old.resumes c).failed None) (view_at view seen p old.sound old.since old.resumes c) (view_at view seen q old.sound (since_more old.since) old.resumes (AtIdle s)) (Ok x)) (sym at) now)
-  ready_lost {T} old new r (Err e) at valid so =
-      let not = so.1 in
-      let units = not.interrupted.came.units in
-      let s = not.ring in
-      let still = not.interrupted.drive.still in
-      let now : LeavesStore {T = T} 1 (FailedAtLost old.since None) (view_at view seen p old.sound old.since old.resumes (AtLost r)) (view_at view seen q false (since_frame old.since) old.resumes (AtLost s)) (Err trouble.Frame) = record {
-        valid = (units.came.talked.state, refl, may_poll_kept r s not.interrupted.places valid.2);
-        quiet = record { tape = still.tape; moment = still.moment; since = still.since };
-        size = still.stays_in.size;
-        sound = sound_none old.sound;
-        left = calls_less 1 6 r s not.used (omega arith);
-        room = ap calls_in units.came.talked.adds.room;
-        cause = (frames_rose view units.came.pieces r s valid.0.free.ring units.came.talked, not.interrupted.drive.count);
-        transferred = λ list so. subst (λ list. Transferred (loop_of s) s.books.log list) (append-nil list) (transferred_then view false [] r s list units refl so);
-        stood = λ none start told. from_start seen start _ _
-            (λ at stood. stood_frame view old.since at r s stood (ap is_broken (unfailed_lost old.since none)) units.came not.interrupted.unheard) told;
-        resumed = λ k so. so;
-      } in
-      subst (λ (e : Trouble). LeavesStore {T = T} 1 ((view_of view seen p old).failed None) (view_of view seen p old) (view_of view seen q new) (Err e)) (sym so.0)
-      (subst (λ (l : LoopView M). LeavesStore {T = T} 1 ((view_of view seen p old).failed None) (view_of view seen p old) (view_of view seen q l) (Err trouble.Frame)) (sym not.left)
-      (subst (λ (c : Standing M). LeavesStore {T = T} 1 ((view_at view seen p old.sound old.since old.resumes c).failed None) (view_at view seen p old.sound old.since old.resumes c) (view_at view seen q false (since_frame old.since) old.resumes (AtLost s)) (Err trouble.Frame)) (sym at) now))
-
-  -- as the controller was taken out for it
-  pub ready_by : {T : Type 0} (old new : LoopView M) (r : RingView M) (answer : Result T Trouble) → old.control ≡ AtLost r → StandsSo old.control old.sound old.since → Addresses view old.control old new answer → LeavesStore 1 ((view_of view seen p old).failed None) (view_of view seen p old) (view_of view seen q new) answer
-  ready_by {T} old new r answer at valid so = ready_lost old new r answer at (subst (λ (c : Standing M). StandsSo c old.sound old.since) at valid) (subst (λ (c : Standing M). Addresses view c old new answer) at so)
+  pub leaves : {T E : Type 0} (answer : Result T E) (result : Result T Trouble) → Ended answer (record old { ring = s; since = now }) new result → IfOk answer (λ x. Mild view true old.since log old.ring s) → IfErr answer (λ e. Mild view false old.since (since_frame log) old.ring s)
+      → LeavesStore k told (view_of view seen p old) (view_of view seen q new) result
+  leaves answer result ended mild not = leaves_by answer result (subst (λ (log : Since). Ended answer (record old { ring = s; since = log }) new result) logged ended) mild not

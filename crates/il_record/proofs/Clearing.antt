@@ -1,5 +1,5 @@
 -- Commands one behind the other that clear the drive, and those that address the loop: no records in the log, none on the tape.
-use Rattle.std.proofs.Common.{◌≡◌, ◌∙◌, ◌≤◌, ◌++◌, ⊎_elim, ℕ, zero, suc, true, false, List, [], ◌∷◌, Some, length, refl, sym, ap, subst}
+use Rattle.std.proofs.Common.{◌≡◌, ◌∙◌, ◌≤◌, ◌++◌, ⊎_elim, ℕ, zero, suc, true, false, List, [], ◌∷◌, Some, length, refl, sym, ap, subst, arith}
 use Rattle.std.specs.List.{list_all}
 use Rattle.il_frames.specs.declared.frame.Class.TheVariants as class
 use Rattle.il_frames.specs.declared.frame.Frame.{Frame}
@@ -164,6 +164,10 @@ module _ {M : Type 0} (view : M → MediumView) (f g : Frame) (m : Message) (r s
 
   pub uncommanded_as : BrokenOff view (Command f) r s → ObeyedInPart (message_of f) r s → Uncommanded view g m r s
   uncommanded_as broken part = record { broken = subst (λ f. BrokenOff view (Command f) r s) is broken; part = subst (λ m. ObeyedInPart m r s) (ap message_of is ∙ says) part }
+
+-- the party of the drive by its address
+pub low_party : (d party : ℕ) → d ≤ 30 → d ≡ party → party ≤ 30
+low_party d party low at = omega (arith, low, at)
 
 -- all three
 pub cleared_by : {M : Type 0} (view : M → MediumView) (d : ℕ) (r a b s : RingView M) → IsIdle r → d ≤ 30 → d ≡ drive_party r → Commanded view unl msg.Unl r a → Commanded view (lad d) (msg.Lad d) a b → Commanded view sdc msg.Sdc b s → Cleared view d r s

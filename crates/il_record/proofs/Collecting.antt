@@ -322,22 +322,23 @@ module _ {M : Type 0} (view : M → MediumView) (r : RingView M) (idle : IsIdle 
       }
 
   -- at the place of the next device, or as the answers were collected: as the poll of n devices
-  pub broke_placing : (i n : ℕ) (m s : RingView M) → i + 1 ≤ min n 8 → AssignedSo view i r m → PollBroke view 7 (place_asks (i + 1)) m s → PollBroke view 54 (poll_asks n (polled_along 1 (devices_of r) idy)) r s
-  broke_placing i n m s few so broke =
+  pub broke_placing : (i n : ℕ) (m s : RingView M) → i + 1 ≤ min n 8 → n ≡ length (devices_of r) → AssignedSo view i r m → PollBroke view 7 (place_asks (i + 1)) m s → PollBroke view 54 (poll_asks (length (devices_of r)) (polled_along 1 (devices_of r) idy)) r s
+  broke_placing i n m s few count so broke =
       let behind = broke_behind i 7 54 (place_asks (i + 1)) m s (omega (arith, few)) so broke in
-      record {
+      subst (λ n. PollBroke view 54 (poll_asks n (polled_along 1 (devices_of r) idy)) r s) count (record {
         came = asked_up_to view place_asks i (min n 8) (collect_asks (polled_along 1 (devices_of r) idy)) r m s few idle so.came broke.came;
         devices = behind.devices;
         unheard = behind.unheard;
         drive = behind.drive;
         room = behind.room;
-      }
+      })
 
-  pub broke_collecting : (i n : ℕ) (m s : RingView M) → i ≡ min n 8 → n ≡ length (devices_of r) → Each MayPoll 1 (devices_of r) → AssignedSo view i r m → PollBroke view 6 (collect_asks (identified_along (devices_of m) idy)) m s → PollBroke view 54 (poll_asks n (polled_along 1 (devices_of r) idy)) r s
+  pub broke_collecting : (i n : ℕ) (m s : RingView M) → i ≡ min n 8 → n ≡ length (devices_of r) → Each MayPoll 1 (devices_of r) → AssignedSo view i r m → PollBroke view 6 (collect_asks (identified_along (devices_of m) idy)) m s → PollBroke view 54 (poll_asks (length (devices_of r)) (polled_along 1 (devices_of r) idy)) r s
   broke_collecting i n m s most count may so broke =
       let told : identified_along (devices_of m) idy ≡ polled_along 1 (devices_of r) idy = along_placed i n 1 (devices_of r) (devices_of m) idy most (omega (arith, count)) so.placed may in
-      subst (λ f. PollBroke view 54 (poll_asks n f) r s) told
-      (subst (λ i. PollBroke view 54 (up_to place_asks i ++ collect_asks (identified_along (devices_of m) idy)) r s) most (broke_behind i 6 54 (collect_asks (identified_along (devices_of m) idy)) m s (omega (arith, most)) so broke))
+      subst (λ n. PollBroke view 54 (poll_asks n (polled_along 1 (devices_of r) idy)) r s) count
+      (subst (λ f. PollBroke view 54 (poll_asks n f) r s) told
+      (subst (λ i. PollBroke view 54 (up_to place_asks i ++ collect_asks (identified_along (devices_of m) idy)) r s) most (broke_behind i 6 54 (collect_asks (identified_along (devices_of m) idy)) m s (omega (arith, most)) so broke)))
 
   pub polled : (i n : ℕ) (f : Frame) (m s : RingView M) → i ≡ min n 8 → n ≡ length (devices_of r) → Each MayPoll 1 (devices_of r) → AssignedSo view i r m → Collected view f m s → HasPolled view f r s
   polled i n f m s most count may so got =

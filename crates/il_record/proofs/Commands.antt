@@ -128,15 +128,13 @@ each_first : (R : DeviceState → DeviceState → Type 0) (S : ℕ → DeviceSta
 each_first R S rule same k j [] [] took = tt
 each_first R S rule same k zero (d ∷ ds) (e ∷ es) took = (subst (S k d) (sym took.0) (same k d), each_first R S rule same (k + 1) zero ds es took.1)
 each_first R S rule same k (suc j) (d ∷ ds) (e ∷ es) took = (rule k d e took.0, each_first R S rule same (k + 1) j ds es took.1)
-each_first R S rule same k j [] (e ∷ es) took = absurd took
-each_first R S rule same k j (d ∷ ds) [] took = absurd took
+each_first _ _ rule same k j _ _ took = absurd took
 
 -- of all of them
 pub each_all : (R : DeviceState → DeviceState → Type 0) (S : ℕ → DeviceState → DeviceState → Type 0) → ((k : ℕ) (d e : DeviceState) → R d e → S k d e) → (k : ℕ) (ds es : List DeviceState) → First R (length ds) ds es → EachBecomes S k ds es
 each_all R S rule k [] [] took = tt
 each_all R S rule k (d ∷ ds) (e ∷ es) took = (rule k d e took.0, each_all R S rule (k + 1) ds es took.1)
-each_all R S rule k [] (e ∷ es) took = absurd took
-each_all R S rule k (d ∷ ds) [] took = absurd took
+each_all _ _ rule k _ _ took = absurd took
 
 module _ {M : Type 0} (r s : RingView M) where
   pub obeyed_polls : (m : Message) → is_poll m ≡ false → may_change_service m ≡ false → Obeyed m r s → EachBecomes PollsOn 1 (devices_of r) (devices_of s)

@@ -166,8 +166,7 @@ sent_echoes (d ∷ ds) zero b legal within = by b (and_parts (is_data d.sent) (s
   where
     by : (b : Break) → is_data d.sent ≡ true → sent_bytes (break_entries (echoed 0 d) b) ≡ byte_of d.sent ∷ []
     by (FrameLost q) h = one_byte (is_data d.sent) (byte_of d.sent) [] h
-    by (HostAltered g) h = one_byte (is_data d.sent) (byte_of d.sent) [] h
-    by (TalkerAltered g o) h = one_byte (is_data d.sent) (byte_of d.sent) [] h
+    by _ h = one_byte (is_data d.sent) (byte_of d.sent) [] h
 sent_echoes (d ∷ ds) (suc i) b legal within =
     let both = and_parts (is_echo d) (list_all is_echo ds) legal in
     let h = (and_parts (is_data d.sent) (same_but_service d.sent d.back) both.0).0 in

@@ -37,12 +37,11 @@ fell_never view (Writes k bytes good bad) x m n did = ⊎_elim (λ took. let sam
 -- frames never take the count of the medium down
 pub counts_up : {M : Type 0} (view : M → MediumView) (fs : List Frame) (outs : List Out) (v w : DriveView M) → Ran view v fs outs w → (view v.medium).faults ≤ (view w.medium).faults
 counts_up view [] [] v w ran = subst (λ w. (view v.medium).faults ≤ (view w.medium).faults) (sym ran) (omega arith)
-counts_up view [] (out ∷ outs) v w ran = absurd ran
-counts_up view (f ∷ fs) [] v w ran = absurd ran
 counts_up view (f ∷ fs) (out ∷ outs) v w ran =
     let one = fell_never view (drive_step (view v.medium).record_count v.state f) (ran.0.state, out) v.medium ran.0.medium ran.1 in
     let more = counts_up view fs outs ran.0 w ran.2 in
     omega (arith, one, more)
+counts_up view _ _ v w ran = absurd ran
 
 -- ---- frames that make no listener
 
@@ -96,9 +95,7 @@ echoes_none p (d ∷ ds) rest legal more =
 
 start_none : (s : Start) → no_listener (start_frame s) ≡ true
 start_none Sda = refl
-start_none Sst = refl
-start_none Sdi = refl
-start_none Sai = refl
+start_none _ = refl
 
 answer_none : (s : Start) (answer : Answer) → is_answer 0 answer ≡ true → list_all (λ e. no_listener e.frame) (answer_entries 0 (start_frame s) answer ++ commanded 0 unt) ≡ true
 answer_none s NotTaken legal = and_from (no_listener (start_frame s)) true (start_none s) refl
@@ -173,5 +170,4 @@ receive_from_here q a number s answer at = receive_near q a number s answer (by 
   where
     by : (answer : Answer) → IfSome (talker_of answer) (λ p. p ≡ q) → IfSome (talker_of answer) (λ p. q ≤ p)
     by NotTaken at = tt
-    by (ToItsEnd p ds) at = omega (arith, at)
-    by (Stopped p ds last) at = omega (arith, at)
+    by _ at = omega (arith, at)

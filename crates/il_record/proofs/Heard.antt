@@ -25,18 +25,16 @@ others_same a k (d ∷ ds) = ((λ other. same_device d d refl), others_same a (k
 -- where no device heard anything, no other did
 pub nothing_heard : (a k j : ℕ) (ds es : List DeviceState) → First HearsNothing j ds es → OthersUnheard a k ds es
 nothing_heard a k j [] [] first = tt
-nothing_heard a k j [] (e ∷ es) first = absurd first
-nothing_heard a k j (d ∷ ds) [] first = absurd first
 nothing_heard a k zero (d ∷ ds) (e ∷ es) first = ((λ other. same_device d e first.0), nothing_heard a (k + 1) 0 ds es first.1)
 nothing_heard a k (suc j) (d ∷ ds) (e ∷ es) first = ((λ other. first.0), nothing_heard a (k + 1) j ds es first.1)
+nothing_heard a k j _ _ first = absurd first
 
 pub others_then : (a k : ℕ) (cs ds es : List DeviceState) → OthersUnheard a k cs ds → OthersUnheard a k ds es → OthersUnheard a k cs es
 others_then a k [] [] [] first more = tt
 others_then a k (c ∷ cs) (d ∷ ds) (e ∷ es) first more = ((λ other. hears_then c d e (first.0 other) (more.0 other)), others_then a (k + 1) cs ds es first.1 more.1)
-others_then a k [] [] (e ∷ es) first more = absurd more
 others_then a k [] (d ∷ ds) es first more = absurd first
 others_then a k (c ∷ cs) [] es first more = absurd first
-others_then a k (c ∷ cs) (d ∷ ds) [] first more = absurd more
+others_then a k _ _ _ first more = absurd more
 
 -- ---- a byte
 
@@ -54,23 +52,20 @@ deaf byte d e none hears = record {
 
 pub others_deaf : (byte a k j : ℕ) (ds es : List DeviceState) → Each (IsTold a) k ds → First (HearsByte byte) j ds es → OthersUnheard a k ds es
 others_deaf byte a k j [] [] told first = tt
-others_deaf byte a k j [] (e ∷ es) told first = absurd first
-others_deaf byte a k j (d ∷ ds) [] told first = absurd first
 others_deaf byte a k zero (d ∷ ds) (e ∷ es) told first = ((λ other. same_device d e first.0), others_deaf byte a (k + 1) 0 ds es told.1 first.1)
 others_deaf byte a k (suc j) (d ∷ ds) (e ∷ es) told first = ((λ other. deaf byte d e (told.0 ∙ ne_eqb k a other) first.0), others_deaf byte a (k + 1) j ds es told.1 first.1)
+others_deaf byte a k j _ _ told first = absurd first
 
 -- and the same where some byte came to some of them
 pub others_deaf_to_any : (a k j : ℕ) (ds es : List DeviceState) → Each (IsTold a) k ds → First HearsAny j ds es → OthersUnheard a k ds es
 others_deaf_to_any a k j [] [] told first = tt
-others_deaf_to_any a k j [] (e ∷ es) told first = absurd first
-others_deaf_to_any a k j (d ∷ ds) [] told first = absurd first
 others_deaf_to_any a k zero (d ∷ ds) (e ∷ es) told first = ((λ other. same_device d e first.0), others_deaf_to_any a (k + 1) 0 ds es told.1 first.1)
 others_deaf_to_any a k (suc j) (d ∷ ds) (e ∷ es) told first = ((λ other. deaf first.0.0 d e (told.0 ∙ ne_eqb k a other) first.0.1), others_deaf_to_any a (k + 1) j ds es told.1 first.1)
+others_deaf_to_any a k j _ _ told first = absurd first
 
 -- they listen on as they were told
 pub told_on : (byte a k j : ℕ) (ds es : List DeviceState) → Each (IsTold a) k ds → First (HearsByte byte) j ds es → Each (IsTold a) k es
 told_on byte a k j [] [] told first = tt
-told_on byte a k j [] (e ∷ es) told first = absurd first
-told_on byte a k j (d ∷ ds) [] told first = absurd first
 told_on byte a k zero (d ∷ ds) (e ∷ es) told first = (ap (λ (d : DeviceState). d.roles.listens) first.0 ∙ told.0, told_on byte a (k + 1) 0 ds es told.1 first.1)
 told_on byte a k (suc j) (d ∷ ds) (e ∷ es) told first = (ap (λ (r : Roles). r.listens) first.0.roles ∙ told.0, told_on byte a (k + 1) j ds es told.1 first.1)
+told_on byte a k j _ _ told first = absurd first

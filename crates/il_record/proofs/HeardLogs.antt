@@ -75,8 +75,7 @@ bytes_then a bytes rest r m s first more = (
 others_none : (a k : ℕ) (ds es : List DeviceState) → 1 ≤ k → OthersUnheard 0 k ds es → OthersUnheard a k ds es
 others_none a k [] [] some none = tt
 others_none a k (d ∷ ds) (e ∷ es) some none = ((λ other. none.0 (λ zero. omega (arith, some, zero))), others_none a (k + 1) ds es (omega (arith, some)) none.1)
-others_none a k [] (e ∷ es) some none = absurd none
-others_none a k (d ∷ ds) [] some none = absurd none
+others_none a k _ _ some none = absurd none
 
 -- as it is told of one party
 pub none_by : {M : Type 0} (a : ℕ) (r s : RingView M) → NoneHeard r s → OnlyHeardBytes a [] r s

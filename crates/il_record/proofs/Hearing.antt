@@ -31,10 +31,7 @@ use Rattle.il_record.proofs.Readings.{end_echoes, stop_echoes}
 
 not_intact : (listens data_frame other intact rest : Bool) (bytes : List ℕ) → intact ≡ false → (if listens && (data_frame && (other && (intact && rest))) then bytes else []) ≡ []
 not_intact true true true true rest bytes is = cc
-not_intact true true true false rest bytes is = refl
-not_intact true true false intact rest bytes is = refl
-not_intact true false other intact rest bytes is = refl
-not_intact false data_frame other intact rest bytes is = refl
+not_intact _ _ _ _ rest bytes is = refl
 
 -- nothing is heard of an entry whose frame came back altered
 heard_altered : (k party : ℕ) (rs : List Roles) (due : Entry) (f : Frame) → is_altered due.frame f ≡ true → heard_of k party rs (entry due.source due.frame (outcome.Back f)) ≡ []
@@ -166,9 +163,7 @@ echoes_make_none p (d ∷ ds) legal =
 
 start_makes_none : (s : Start) → makes_no_listener (message_of (start_frame s)) ≡ true
 start_makes_none Sda = refl
-start_makes_none Sst = refl
-start_makes_none Sdi = refl
-start_makes_none Sai = refl
+start_makes_none _ = refl
 
 answer_makes_none : (s : Start) (answer : Answer) → is_answer 0 answer ≡ true → list_all makes_none (answer_entries 0 (start_frame s) answer) ≡ true
 answer_makes_none s NotTaken legal = and_from _ true (start_makes_none s) refl

@@ -28,7 +28,6 @@ pub mod WriteRuns
 pub mod StoreAnswers
 pub mod StoreCalls
 pub mod StoreResumes
-pub mod Resuming
 pub mod StoreRuns
 pub mod StoreStarts
 pub mod Talks

@@ -65,14 +65,12 @@ nothing_in_part bytes false d e nothing = nothing
 pub hears_none : (a : ℕ) (still : Bool) (k : ℕ) (ds es : List DeviceState) → First (Stays still) (length ds) ds es → EachBecomes (Hears a []) k ds es
 hears_none a still k [] [] stays = tt
 hears_none a still k (d ∷ ds) (e ∷ es) stays = ((stays.0.place, nothing_whole (k == a) d e stays.0.nothing), hears_none a still (k + 1) ds es stays.1)
-hears_none a still k [] (e ∷ es) stays = absurd stays
-hears_none a still k (d ∷ ds) [] stays = absurd stays
+hears_none a still k _ _ stays = absurd stays
 
 pub hears_no_part : (a : ℕ) (still : Bool) (bytes : List ℕ) (k : ℕ) (ds es : List DeviceState) → First (Stays still) (length ds) ds es → EachBecomes (HearsPart a 0 bytes) k ds es
 hears_no_part a still bytes k [] [] stays = tt
 hears_no_part a still bytes k (d ∷ ds) (e ∷ es) stays = ((stays.0.place, nothing_in_part bytes (k == a) d e stays.0.nothing), hears_no_part a still bytes (k + 1) ds es stays.1)
-hears_no_part a still bytes k [] (e ∷ es) stays = absurd stays
-hears_no_part a still bytes k (d ∷ ds) [] stays = absurd stays
+hears_no_part a still bytes k _ _ stays = absurd stays
 
 pub hears_more : (a byte : ℕ) (bytes : List ℕ) (k : ℕ) (cs ds es : List DeviceState) → EachBecomes (Hears a bytes) k cs ds → Each (IsTold a) k ds → First (HearsByte byte) (length ds) ds es → EachBecomes (Hears a (bytes ++ byte ∷ [])) k cs es
 hears_more a byte bytes k [] [] [] first told more = tt

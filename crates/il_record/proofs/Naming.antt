@@ -27,10 +27,9 @@ keeps_then c d e first more = record { nothing = hears_then c d e first.nothing 
 all_then : (cs ds es : List DeviceState) → First (Stays false) (length cs) cs ds → First (Stays false) (length ds) ds es → First (Stays false) (length cs) cs es
 all_then [] [] [] first more = tt
 all_then (c ∷ cs) (d ∷ ds) (e ∷ es) first more = (keeps_then c d e first.0 more.0, all_then cs ds es first.1 more.1)
-all_then [] [] (e ∷ es) first more = absurd more
 all_then [] (d ∷ ds) es first more = absurd first
 all_then (c ∷ cs) [] es first more = absurd first
-all_then (c ∷ cs) (d ∷ ds) [] first more = absurd more
+all_then _ _ _ first more = absurd more
 
 all_same : (ds : List DeviceState) → First (Stays false) (length ds) ds ds
 all_same [] = tt
@@ -40,8 +39,7 @@ ids_stay : (i : ℕ) (ds es : List DeviceState) → First (Stays false) (length 
 ids_stay i [] [] stays = refl
 ids_stay zero (d ∷ ds) (e ∷ es) stays = stays.0.nothing.accessory
 ids_stay (suc i) (d ∷ ds) (e ∷ es) stays = ids_stay i ds es stays.1
-ids_stay i [] (e ∷ es) stays = absurd stays
-ids_stay i (d ∷ ds) [] stays = absurd stays
+ids_stay i _ _ stays = absurd stays
 
 module _ {M : Type 0} (view : M → MediumView) where
   pub left_then : (whole : Bool) (asks more : List Ask) (r m s : RingView M) → IsIdle r → LeftAlone view true asks r m → LeftAlone view whole more m s → LeftAlone view whole (asks ++ more) r s
@@ -68,9 +66,7 @@ not_both false is other = cc
 -- by the bytes that were received into one place
 by_bytes : (k a : ℕ) (id : Option ℕ) (answer : Answer) (n long : ℕ) → answers_as_asked k (Receive a None Sai answer) ≡ true → is_answer 0 answer ≡ true → received answer ≡ id_bytes id → n ≡ length (received answer) → long ≡ 1 → is_stopped answer ≡ (n == long) → told_of answer ≡ id_told a id
 by_bytes k a None NotTaken n long asked legal bytes count one stops = refl
-by_bytes k a (Some id) NotTaken n long asked legal bytes count one stops = cc
 by_bytes k a None (ToItsEnd p []) n long asked legal bytes count one stops = let none : false ≡ true = (and_parts (not (p == 0)) false legal).1 in cc
-by_bytes k a None (ToItsEnd p (d ∷ ds)) n long asked legal bytes count one stops = cc
 by_bytes k a (Some id) (ToItsEnd p ds) n long asked legal bytes count one stops =
     let same : n ≡ long = count ∙ ap length bytes ∙ sym one in
     not_both (n == long) (eq-eqb n long same) (sym stops)
@@ -81,6 +77,7 @@ by_bytes k a (Some id) (Stopped p [] last) n long asked legal bytes count one st
 by_bytes k a None (Stopped p (d ∷ ds) last) n long asked legal bytes count one stops = cc
 by_bytes k a (Some id) (Stopped p (d ∷ []) last) n long asked legal bytes count one stops = cc
 by_bytes k a (Some id) (Stopped p (d ∷ e ∷ ds) last) n long asked legal bytes count one stops = cc
+by_bytes k a _ _ n long asked legal bytes count one stops = cc
 
 -- a receive of an accessory ID into one byte: the device of that address told its own, or has none
 received_id : {M : Type 0} (view : M → MediumView) (a n : ℕ) (r s : RingView M) (old new : List ℕ) → length old ≡ 1 → (got : Received view a None Sai n r old new s) → told_of got.answer ≡ id_told a (accessory_at (a - 1) (devices_of r))

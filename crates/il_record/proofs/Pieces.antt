@@ -12,9 +12,8 @@ behind_zeros : (bytes : List ℕ) (m i : ℕ) → get_or (bytes ++ replicate m 0
 behind_zeros [] m i = zeros m i
   where
     zeros : (m i : ℕ) → get_or {A = ℕ} (replicate m 0) i 0 ≡ 0
-    zeros zero i = refl
-    zeros (suc m) zero = refl
     zeros (suc m) (suc i) = zeros m i
+    zeros _ _ = refl
 behind_zeros (byte ∷ bytes) m zero = refl
 behind_zeros (byte ∷ bytes) m (suc i) = behind_zeros bytes m i
 

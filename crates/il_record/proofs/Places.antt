@@ -29,47 +29,40 @@ use Rattle.il_record.proofs.Readings.{idle_address, idle_mute}
 all_kept : (still : Bool) (ds es : List DeviceState) → First (Stays still) (length ds) ds es → First KeepsPlace (length ds) ds es
 all_kept still [] [] stays = tt
 all_kept still (d ∷ ds) (e ∷ es) stays = (stays.0.place, all_kept still ds es stays.1)
-all_kept still [] (e ∷ es) stays = absurd stays
-all_kept still (d ∷ ds) [] stays = absurd stays
+all_kept still _ _ stays = absurd stays
 
 each_kept : (R : ℕ → DeviceState → DeviceState → Type 0) → ((k : ℕ) (d e : DeviceState) → R k d e → KeepsPlace d e) → (k : ℕ) (ds es : List DeviceState) → EachBecomes R k ds es → First KeepsPlace (length ds) ds es
 each_kept R rule k [] [] each = tt
 each_kept R rule k (d ∷ ds) (e ∷ es) each = (rule k d e each.0, each_kept R rule (k + 1) ds es each.1)
-each_kept R rule k [] (e ∷ es) each = absurd each
-each_kept R rule k (d ∷ ds) [] each = absurd each
+each_kept _ rule k _ _ each = absurd each
 
 both_kept : (cs ds es : List DeviceState) → First KeepsPlace (length cs) cs ds → First KeepsPlace (length ds) ds es → First KeepsPlace (length cs) cs es
 both_kept [] [] [] first more = tt
 both_kept (c ∷ cs) (d ∷ ds) (e ∷ es) first more = (more.0 ∙ first.0, both_kept cs ds es first.1 more.1)
-both_kept [] [] (e ∷ es) first more = absurd more
 both_kept [] (d ∷ ds) es first more = absurd first
 both_kept (c ∷ cs) [] es first more = absurd first
-both_kept (c ∷ cs) (d ∷ ds) [] first more = absurd more
+both_kept _ _ _ first more = absurd more
 
 first_kept : (m : Message) → is_poll m ≡ false → (j : ℕ) (ds es : List DeviceState) → First (Obeys m) j ds es → First KeepsPlace (length ds) ds es
 first_kept m none j [] [] took = tt
 first_kept m none zero (d ∷ ds) (e ∷ es) took = (ap (λ (d : DeviceState). d.assignment) took.0, first_kept m none zero ds es took.1)
 first_kept m none (suc j) (d ∷ ds) (e ∷ es) took = (took.0.assignment ∙ place_kept m d.roles d.assignment none, first_kept m none j ds es took.1)
-first_kept m none j [] (e ∷ es) took = absurd took
-first_kept m none j (d ∷ ds) [] took = absurd took
+first_kept m none j _ _ took = absurd took
 
 may_on : (k : ℕ) (ds es : List DeviceState) → First KeepsPlace (length ds) ds es → Each MayPoll k ds → Each MayPoll k es
 may_on k [] [] kept may = tt
 may_on k (d ∷ ds) (e ∷ es) kept may = (⊎_elim (λ none. inl (kept.0 ∙ none)) (λ own. inr (kept.0 ∙ own)) may.0, may_on (k + 1) ds es kept.1 may.1)
-may_on k [] (e ∷ es) kept may = absurd kept
-may_on k (d ∷ ds) [] kept may = absurd kept
+may_on k _ _ kept may = absurd kept
 
 polls_may : (k : ℕ) (ds es : List DeviceState) → EachBecomes PollsOn k ds es → Each MayPoll k ds → Each MayPoll k es
 polls_may k [] [] each may = tt
 polls_may k (d ∷ ds) (e ∷ es) each may = (each.0.place may.0, polls_may (k + 1) ds es each.1 may.1)
-polls_may k [] (e ∷ es) each may = absurd each
-polls_may k (d ∷ ds) [] each may = absurd each
+polls_may k _ _ each may = absurd each
 
 released_may : (k : ℕ) (ds es : List DeviceState) → EachBecomes Released k ds es → Each MayPoll k es
 released_may k [] [] each = tt
 released_may k (d ∷ ds) (e ∷ es) each = (inl each.0.place, released_may (k + 1) ds es each.1)
-released_may k [] (e ∷ es) each = absurd each
-released_may k (d ∷ ds) [] each = absurd each
+released_may k _ _ each = absurd each
 
 -- ---- calls
 

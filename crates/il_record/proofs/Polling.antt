@@ -77,20 +77,22 @@ module _ {M : Type 0} (view : M → MediumView) (d k₀ : ℕ) (low : d ≤ 30) 
       let long = length-append (bytes_of (c ∷ ds)) (byte_of last.sent ∷ []) in
       absurd (omega (arith, count, few, long))
 
-pub polled : {M : Type 0} (view : M → MediumView) (d n : ℕ) (r : RingView M) (old new : List ℕ) (s : RingView M) → d ≤ 30 → d ≡ drive_party r → IsIdle r → length old ≡ 1 → Received view d None Sst n r old new s → Polled view d (get_or new 0 0) r s
+pub polled : {M : Type 0} (view : M → MediumView) (d n : ℕ) (r : RingView M) (old new : List ℕ) (s : RingView M) → d ≤ 30 → d ≡ drive_party r → IsIdle r → length old ≡ 1 → Received view d None Sst n r old new s → Polled view (drive_party r) (get_or new 0 0) r s
 polled view d n r old new s low at idle one got =
     let party = party_within r in
     let meant = meant_for (length (devices_of r)) d (drive_party r) None Sst got.answer got.asked at in
     let spoken = subst (λ q. SpokenBy (length (devices_of r)) q d None Sst got.answer got.made.whole.adds.came got.made.whole.adds.answers) (sym at) (got.spoken meant) in
-    polled_by view d (length (devices_of r)) low (omega (arith, at, party.0)) (omega (arith, at, party.1)) got.answer n old new r s idle (idle_address r idle ∙ ap Some (sym at)) (idle_mute r idle) (legal_answer r d None Sst got.answer got.made.legal)
-    (subst (λ q. IfSome (talker_of got.answer) (λ p. p ≡ q)) (sym at) meant) got.count (omega (arith, one, got.within)) got.bytes (got.stops ∙ ap (λ l. n == l) one) got.made (none_received view r s d None Sst got.answer got.made got.unheard) spoken
+    subst (λ d. Polled view d (get_or new 0 0) r s) at
+    (polled_by view d (length (devices_of r)) low (omega (arith, at, party.0)) (omega (arith, at, party.1)) got.answer n old new r s idle (idle_address r idle ∙ ap Some (sym at)) (idle_mute r idle) (legal_answer r d None Sst got.answer got.made.legal)
+    (subst (λ q. IfSome (talker_of got.answer) (λ p. p ≡ q)) (sym at) meant) got.count (omega (arith, one, got.within)) got.bytes (got.stops ∙ ap (λ l. n == l) one) got.made (none_received view r s d None Sst got.answer got.made got.unheard) spoken)
 
-pub not_polled : {M : Type 0} (view : M → MediumView) (d w : ℕ) (r s : RingView M) → d ≤ 30 → d ≡ drive_party r → r.drive.state.interface.own ≡ None → NotReceived view d None Sst w r s → NotPolled view d r s
+pub not_polled : {M : Type 0} (view : M → MediumView) (d w : ℕ) (r s : RingView M) → d ≤ 30 → d ≡ drive_party r → r.drive.state.interface.own ≡ None → NotReceived view d None Sst w r s → NotPolled view (drive_party r) r s
 not_polled view d w r s low at silent got =
     let broke = got.broken.broke in
     let meant = meant_for (length (devices_of r)) d (drive_party r) None Sst got.answer got.asked at in
     let left = not_received_for start.Status Sst refl view d w r s low silent got in
-    record {
+    subst (λ d. NotPolled view d r s) at
+    (record {
       answer = got.answer;
       broken = got.broken;
       unheard = none_not_received view r s d None Sst got.answer got.broken got.unheard;
@@ -98,4 +100,4 @@ not_polled view d w r s low at silent got =
           (broke.brought (receive_from_here (drive_party r) d None Sst got.answer meant)) broke.adds.drive;
       status = left.status;
       medium = left.medium;
-    }
+    })

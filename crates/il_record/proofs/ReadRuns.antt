@@ -49,10 +49,8 @@ record TwoEchoes (ds : List Echo) (high low : ℕ) : Type 0 where
   low_is : byte_of second.sent ≡ low
 
 two_echoes : (ds : List Echo) (high low : ℕ) → bytes_of ds ≡ high ∷ low ∷ [] → TwoEchoes ds high low
-two_echoes [] high low are = cc
-two_echoes (c ∷ []) high low are = cc
-two_echoes (c ∷ d ∷ e ∷ ds) high low are = cc
 two_echoes (c ∷ d ∷ []) high low are = record { first = c; second = d; are = refl; high_is = cc; low_is = cc }
+two_echoes _ high low are = cc
 
 -- the drive has sought record n
 pub record SoughtBy {M : Type 0} (view : M → MediumView) (n : ℕ) (r s : RingView M) : Type 0 where
@@ -309,7 +307,7 @@ read_whole view k first n byte old new r a b s idle long so got read told good i
 
 -- ---- for the drive's address by another name
 
-module _ {M : Type 0} (view : M → MediumView) (d first k : ℕ) (r : RingView M) (low : d ≤ 30) (at : d ≡ drive_party r) (idle : IsIdle r) (small : first < 2 ^ 16) (free : IsFree d r.drive.state) (medium : IsMedium (view r.drive.medium))
+module _ {M : Type 0} (view : M → MediumView) (d first k : ℕ) (r : RingView M) (low : d ≤ 30) (at : d ≡ drive_party r) (idle : IsIdle r) (small : first < 2 ^ 16) (free : IsFree (drive_party r) r.drive.state) (medium : IsMedium (view r.drive.medium))
     (fits : first + k ≤ (view r.drive.medium).record_count) (many : 1 ≤ k) where
   low_party : drive_party r ≤ 30
   low_party = omega (arith, low, at)
@@ -318,7 +316,7 @@ module _ {M : Type 0} (view : M → MediumView) (d first k : ℕ) (r : RingView 
   there = omega (arith, fits, many)
 
   sought_at : (s : RingView M) → SentAll view d (Some 4) (filled 2 (to_be_bytes w16 first)) r s → SoughtBy view first r s
-  sought_at s so = sought_by view first r s low_party small (subst (λ d. IsFree d r.drive.state) at free) there (subst (λ d. SentAll view d (Some 4) (filled 2 (to_be_bytes w16 first)) r s) at so)
+  sought_at s so = sought_by view first r s low_party small free there (subst (λ d. SentAll view d (Some 4) (filled 2 (to_be_bytes w16 first)) r s) at so)
 
   -- the receive behind the seek
   read_at : (n : ℕ) (old new : List ℕ) (a b : RingView M) → length old ≡ 256 * k → SoughtBy view first r a → Received view (drive_party r) (Some 2) Sda n a old new b → ReadSo view (drive_party r) k first n old new a.drive b.drive
@@ -329,25 +327,29 @@ module _ {M : Type 0} (view : M → MediumView) (d first k : ℕ) (r : RingView 
       (read_so view k n first old new a b (omega (arith, party, low_party)) (subst (λ d. IsFree d a.drive.state) (sym party) so.drive.rests.free) (subst (λ m. IsMedium (view m)) (sym same) medium) so.drive.position
       (omega (arith, fits, ap (λ m. (view m).record_count) same)) many long (subst (λ d. Received view d (Some 2) Sda n a old new b) (sym party) got))
 
-  pub read_broke_at_seek : (bytes : List ℕ) (s : RingView M) → SendBroke view d (Some 4) bytes r s → ReadBroke view d r s
-  read_broke_at_seek bytes s so = subst (λ d. ReadBroke view d r s) (sym at) (seek_broke view bytes r s low_party idle (subst (λ d. SendBroke view d (Some 4) bytes r s) at so))
+  -- the drive has this address behind the receive too
+  polled_at : (n : ℕ) (old new : List ℕ) (a b : RingView M) → SoughtBy view first r a → Received view (drive_party r) (Some 2) Sda n a old new b → drive_party b ≡ drive_party r
+  polled_at n old new a b so got = same_party view _ a b got.made ∙ same_party view _ r a so.made
 
-  pub read_broke_at_receive : (w : ℕ) (a s : RingView M) → SentAll view d (Some 4) (filled 2 (to_be_bytes w16 first)) r a → NotReceived view d (Some 2) Sda w a s → ReadBroke view d r s
-  read_broke_at_receive w a s so not = subst (λ d. ReadBroke view d r s) (sym at) (receive_broke view first w r a s low_party idle (sought_at a so) (subst (λ d. NotReceived view d (Some 2) Sda w a s) at not))
+  pub read_broke_at_seek : (bytes : List ℕ) (s : RingView M) → SendBroke view d (Some 4) bytes r s → ReadBroke view (drive_party r) r s
+  read_broke_at_seek bytes s so = seek_broke view bytes r s low_party idle (subst (λ d. SendBroke view d (Some 4) bytes r s) at so)
 
-  pub read_broke_at_status : (n : ℕ) (old new : List ℕ) (a b s : RingView M) → length old ≡ 256 * k → SentAll view d (Some 4) (filled 2 (to_be_bytes w16 first)) r a → Received view d (Some 2) Sda n a old new b → NotPolled view d b s → ReadBroke view d r s
+  pub read_broke_at_receive : (w : ℕ) (a s : RingView M) → SentAll view d (Some 4) (filled 2 (to_be_bytes w16 first)) r a → NotReceived view d (Some 2) Sda w a s → ReadBroke view (drive_party r) r s
+  read_broke_at_receive w a s so not = receive_broke view first w r a s low_party idle (sought_at a so) (subst (λ d. NotReceived view d (Some 2) Sda w a s) at not)
+
+  pub read_broke_at_status : (n : ℕ) (old new : List ℕ) (a b s : RingView M) → length old ≡ 256 * k → SentAll view d (Some 4) (filled 2 (to_be_bytes w16 first)) r a → Received view d (Some 2) Sda n a old new b → NotPolled view (drive_party b) b s
+      → ReadBroke view (drive_party r) r s
   read_broke_at_status n old new a b s long so got not =
       let seek = sought_at a so in
       let here : Received view (drive_party r) (Some 2) Sda n a old new b = subst (λ d. Received view d (Some 2) Sda n a old new b) at got in
-      subst (λ d. ReadBroke view d r s) (sym at) (poll_broke view k first n old new r a b s low_party idle seek here (read_at n old new a b long seek here) (subst (λ d. NotPolled view d b s) at not))
+      poll_broke view k first n old new r a b s low_party idle seek here (read_at n old new a b long seek here) (subst (λ d. NotPolled view d b s) (polled_at n old new a b seek here) not)
 
-  pub read_done : (n byte : ℕ) (old new : List ℕ) (a b s : RingView M) → length old ≡ 256 * k → SentAll view d (Some 4) (filled 2 (to_be_bytes w16 first)) r a → Received view d (Some 2) Sda n a old new b → Polled view d byte b s
-      → (good : Bool) → good ≡ ((n == length old) && (byte == 0)) → ReadAs view d first new good r s
+  pub read_done : (n byte : ℕ) (old new : List ℕ) (a b s : RingView M) → length old ≡ 256 * k → SentAll view d (Some 4) (filled 2 (to_be_bytes w16 first)) r a → Received view d (Some 2) Sda n a old new b → Polled view (drive_party b) byte b s
+      → (good : Bool) → good ≡ ((n == length old) && (byte == 0)) → ReadAs view (drive_party r) first new good r s
   read_done n byte old new a b s long so got told good is =
       let seek = sought_at a so in
       let here : Received view (drive_party r) (Some 2) Sda n a old new b = subst (λ d. Received view d (Some 2) Sda n a old new b) at got in
-      subst (λ d. ReadAs view d first new good r s) (sym at)
-      (read_whole view k first n byte old new r a b s idle long seek here (read_at n old new a b long seek here) (subst (λ d. Polled view d byte b s) at told) good is)
+      read_whole view k first n byte old new r a b s idle long seek here (read_at n old new a b long seek here) (subst (λ d. Polled view d byte b s) (polled_at n old new a b seek here) told) good is
 
 -- ---- whether all came
 
@@ -360,8 +362,5 @@ same_length view a n number start r old new s got =
     let within = got.within in
     omega (arith, all, parts, rest, many, within)
 
-pub all_came : (n m k byte : ℕ) (good : Bool) → m ≡ k → n ≡ m → good ≡ (byte == 0) → good ≡ ((n == k) && (byte == 0))
-all_came n m k byte good long all is = is ∙ ap (λ b. b && (byte == 0)) (sym (eq-eqb n k (all ∙ long)))
-
-pub some_came : (n m k byte : ℕ) (good : Bool) → m ≡ k → (n ≡ m → ⊥) → good ≡ (n == m) → good ≡ ((n == k) && (byte == 0))
-some_came n m k byte good long some is = is ∙ ne_eqb n m some ∙ sym (ap (λ b. b && (byte == 0)) (ne_eqb n k (λ same. some (same ∙ sym long))))
+pub all_came : (n m k byte : ℕ) (good : Bool) → m ≡ k → good ≡ ((n == m) && (byte == 0)) → good ≡ ((n == k) && (byte == 0))
+all_came n m k byte good same is = subst (λ m. good ≡ ((n == m) && (byte == 0))) same is

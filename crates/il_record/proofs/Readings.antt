@@ -83,17 +83,15 @@ their_bytes (byte ∷ bytes) = ap (λ bytes. byte ∷ bytes) (their_bytes bytes)
 
 -- ETO is no byte
 no_end : (gs : List Frame) (bytes : List ℕ) → gs ++ eto ∷ [] ≡ byte_frames bytes → ⊥
-no_end [] [] is = cc
 no_end [] (byte ∷ []) is = let clash : true ≡ false = ap (λ (g : Frame). same_class (class_of g) class.Rdy) (first is) in cc
   where
     first : {f g : Frame} {fs gs : List Frame} → f ∷ fs ≡ g ∷ gs → f ≡ g
     first is = cc
-no_end [] (byte ∷ b ∷ bytes) is = cc
-no_end (g ∷ gs) [] is = cc
 no_end (g ∷ gs) (byte ∷ bytes) is = no_end gs bytes (tails is)
   where
     tails : {f g : Frame} {fs gs : List Frame} → f ∷ fs ≡ g ∷ gs → fs ≡ gs
     tails is = cc
+no_end _ _ is = cc
 
 -- the bytes of frames and one more
 bytes_then : (ds : List Echo) (last : Frame) → map byte_of (frames_of ds ++ last ∷ []) ≡ bytes_of ds ++ byte_of last ∷ []

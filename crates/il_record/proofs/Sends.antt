@@ -48,9 +48,8 @@ pub filled_at : (n i : ℕ) (bytes : List ℕ) → i < n → get_or (filled n by
 filled_at n i bytes within = get_or-take n (bytes ++ replicate n 0) i 0 within ∙ by bytes i
   where
     zeros : (n i : ℕ) → get_or {A = ℕ} (replicate n 0) i 0 ≡ 0
-    zeros zero i = refl
-    zeros (suc n) zero = refl
     zeros (suc n) (suc i) = zeros n i
+    zeros _ _ = refl
 
     by : (bytes : List ℕ) (i : ℕ) → get_or (bytes ++ replicate n 0) i 0 ≡ get_or bytes i 0
     by [] i = zeros n i
@@ -100,8 +99,8 @@ sent_more view a number i byte bytes r m s idle within is so sent =
     }
 
 -- all were
-pub sent_all : {M : Type 0} (view : M → MediumView) (a : ℕ) (number : Option ℕ) (i : ℕ) (bytes : List ℕ) (r s t : RingView M) → t ≡ s → i ≡ length bytes → SentSo view a number i bytes r s → SentAll view a number bytes r t
-sent_all view a number i bytes r s t same all so = subst (λ t. SentAll view a number bytes r t) (sym same) (subst (λ i. SentSo view a number i bytes r s) all so)
+pub sent_all : {M : Type 0} (view : M → MediumView) (a : ℕ) (number : Option ℕ) (i : ℕ) (bytes : List ℕ) (r s : RingView M) → i ≡ length bytes → SentSo view a number i bytes r s → SentAll view a number bytes r s
+sent_all view a number i bytes r s all so = subst (λ i. SentSo view a number i bytes r s) all so
 
 -- it broke off at this byte
 pub send_broke : {M : Type 0} (view : M → MediumView) (a : ℕ) (number : Option ℕ) (i byte : ℕ) (bytes : List ℕ) (r m s : RingView M) → IsIdle r → i < length bytes → byte ≡ get_or bytes i 0 → SentSo view a number i bytes r m → NotSent view byte m s → SendBroke view a number bytes r s
@@ -189,6 +188,10 @@ sought view d n r s low small so = λ at free within.
     seeks_record view d n frames.0 frames.1 adds.answers r.drive s.drive low free frames.3 frames.4 value within (subst (λ fs. Ran view r.drive fs adds.answers s.drive) came adds.drive)
 
 -- a result that is handed on as it is
+pub by_result : {T E A : Type 0} (result : Result T E) (P : T → Type 0) (Q : E → Type 0) → ((x : T) → P x → A) → ((e : E) → Q e → A) → IfOk result P → IfErr result Q → A
+by_result (Ok x) P Q done broken ok err = done x ok
+by_result (Err e) P Q done broken ok err = broken e err
+
 pub ok_as : {T E : Type 0} (result : Result T E) (P Q : T → Type 0) → ((x : T) → P x → Q x) → IfOk result P → IfOk result Q
 ok_as (Ok x) P Q rule so = rule x so
 ok_as (Err e) P Q rule so = tt

@@ -104,9 +104,8 @@ stood_whole view since.Failed us start r s stood alive units good unheard count 
   by = bad_any view us start r s stood.free units true good (told stood.by.told) stood.by;
 }
 stood_whole view since.Said us start r s stood alive units good unheard count told = record { free = stood.free; unheard = λ none. cc; by = came_then view true start r s stood.free stood.by units.came }
-stood_whole view since.Broken us start r s stood alive units good unheard count told = cc
-stood_whole view since.SaidBroken us start r s stood alive units good unheard count told = cc
 stood_whole view since.Mended us start r s stood alive units good unheard count told = absurd stood.by
+stood_whole view _ us start r s stood alive units good unheard count told = cc
 
 -- a unit that has another status, which the drive told
 pub stood_medium : {M : Type 0} (view : M → MediumView) (log : Since) (us : List RecordUnit) (start r s : RingView M) → Stood view log start r → is_broken log ≡ false → CameUnits view true us r s → all_good us ≡ false → OnlyHeard (drive_party r) r s
@@ -121,9 +120,8 @@ stood_medium view since.Failed us start r s stood alive units bad unheard told =
   by = bad_any view us start r s stood.free units false bad told stood.by;
 }
 stood_medium view since.Said us start r s stood alive units bad unheard told = record { free = stood.free; unheard = λ none. cc; by = came_then view true start r s stood.free stood.by units.came }
-stood_medium view since.Broken us start r s stood alive units bad unheard told = cc
-stood_medium view since.SaidBroken us start r s stood alive units bad unheard told = cc
 stood_medium view since.Mended us start r s stood alive units bad unheard told = absurd stood.by
+stood_medium view _ us start r s stood alive units bad unheard told = cc
 
 -- an exchange that was broken off
 pub stood_frame : {M : Type 0} (view : M → MediumView) (log : Since) (start r s : RingView M) → Stood view log start r → is_broken log ≡ false → CameBy view false r s → OnlyHeard (drive_party r) r s → Stood view (since_frame log) start s
@@ -133,9 +131,8 @@ stood_frame {M} view since.Unbroken start r s stood alive came unheard = ⊎_eli
     stood.by
 stood_frame view since.Failed start r s stood alive came unheard = record { free = stood.free; unheard = λ none. heard view start r s (stood.unheard refl) unheard stood.by.came; by = came_then view false start r s stood.free stood.by.came came }
 stood_frame view since.Said start r s stood alive came unheard = record { free = stood.free; unheard = λ none. cc; by = came_then view false start r s stood.free stood.by came }
-stood_frame view since.Broken start r s stood alive came unheard = cc
-stood_frame view since.SaidBroken start r s stood alive came unheard = cc
 stood_frame view since.Mended start r s stood alive came unheard = absurd stood.by
+stood_frame view _ start r s stood alive came unheard = cc
 
 -- bytes for another device, sent whole or in part
 said_by : {M : Type 0} (view : M → MediumView) (whole : Bool) (start r s : RingView M) → IsFree start → StoodBy view since.Unbroken start r → CameBy view whole r s → CameBy view whole start s
@@ -145,17 +142,15 @@ pub stood_said : {M : Type 0} (view : M → MediumView) (log : Since) (start r s
 stood_said view since.Unbroken start r s stood alive came = record { free = stood.free; unheard = λ none. cc; by = said_by view true start r s stood.free stood.by came }
 stood_said view since.Failed start r s stood alive came = record { free = stood.free; unheard = λ none. cc; by = came_then view true start r s stood.free stood.by.came came }
 stood_said view since.Said start r s stood alive came = record { free = stood.free; unheard = λ none. cc; by = came_then view true start r s stood.free stood.by came }
-stood_said view since.Broken start r s stood alive came = cc
-stood_said view since.SaidBroken start r s stood alive came = cc
 stood_said view since.Mended start r s stood alive came = absurd stood.by
+stood_said view _ start r s stood alive came = cc
 
 pub stood_not_said : {M : Type 0} (view : M → MediumView) (log : Since) (start r s : RingView M) → Stood view log start r → is_broken log ≡ false → CameBy view false r s → Stood view (since_frame (since_said log)) start s
 stood_not_said view since.Unbroken start r s stood alive came = record { free = stood.free; unheard = λ none. cc; by = said_by view false start r s stood.free stood.by came }
 stood_not_said view since.Failed start r s stood alive came = record { free = stood.free; unheard = λ none. cc; by = came_then view false start r s stood.free stood.by.came came }
 stood_not_said view since.Said start r s stood alive came = record { free = stood.free; unheard = λ none. cc; by = came_then view false start r s stood.free stood.by came }
-stood_not_said view since.Broken start r s stood alive came = cc
-stood_not_said view since.SaidBroken start r s stood alive came = cc
 stood_not_said view since.Mended start r s stood alive came = absurd stood.by
+stood_not_said view _ start r s stood alive came = cc
 
 -- ---- the list of transfers
 

@@ -1,164 +1,251 @@
 -- What emptying the log, addressing the loop and clearing the drive mean to a store over the loop.
-use Rattle.std.proofs.Common.{◌≡◌, ◌≤◌, ◌+◌, ℕ, Bool, true, false, inl, [], Option, Some, None, refl, sym, ap, subst, arith, append-nil}
-use Rattle.std.specs.Prelude.{Result, Ok, Err, min}
+use Rattle.std.proofs.Common.{◌≡◌, ◌∙◌, ◌≤◌, ◌+◌, ◌&&◌, ℕ, Bool, true, false, inl, [], None, refl, sym, ap, subst, arith, append-nil}
+use Rattle.std.specs.Prelude.{Result, Ok, Err, IfOk, IfErr, IsErr}
+use Rattle.std.specs.Result.{IsErrAnd}
 use Rattle.il_ports.specs.declared.records.Trouble.{Trouble}
 use Rattle.il_ports.specs.declared.records.Trouble.TheVariants as trouble
 use Rattle.il_ports.specs.Media.{MediumView}
-use Rattle.il_ports.specs.Stores.{RecordsView, Begun, Resumed}
+use Rattle.il_ports.specs.Stores.{Begun}
+use Rattle.il_drive.specs.State.{status_of}
 use Rattle.il_drive.specs.Steps.{IsStill}
 use Rattle.il_drive.specs.Resting.{IsFree}
-use Rattle.il_ring.specs.Rings.{RingView, IsRing, ring_emptied, devices_of, drive_party, spare_of}
+use Rattle.il_drive.proofs.Reading.{nothing_read}
+use Rattle.il_ring.specs.Rings.{RingView, ring_emptied, devices_of, drive_party, spare_of}
 use Rattle.il_ring.specs.Lists.{Each}
 use Rattle.il_ring.proofs.Rings.{IsRing-clear}
-use Rattle.il_control.specs.Calls.{AllStay, IsFree as IsFreeRing, IsLost, loop_of}
-use Rattle.il_record.specs.Polls.{MayPoll}
+use Rattle.il_control.specs.Calls.{AllStay, IsFree as IsFreeRing, IsIdle, IsLost, loop_of}
 use Rattle.il_control.specs.Calls as calls
+use Rattle.il_control.proofs.Made.{idle_cleared, lost_cleared}
 use Rattle.il_record.proofs.Addressed.{readied, not_readied}
+use Rattle.il_record.proofs.CameLaws.{nothing_came}
+use Rattle.il_record.proofs.Places.{kept_stays, may_poll_kept}
 use Rattle.il_record.proofs.Used.{resumed_used, not_resumed_used}
 use Rattle.il_record.specs.declared.records.Since.{Since}
 use Rattle.il_record.specs.declared.records.Since.TheVariants as since
+use Rattle.il_record.specs.Called.{Ended, LeavesStore, left_broken}
 use Rattle.il_record.specs.Came.{OnlyHeard, CameUnits}
+use Rattle.il_record.specs.Polls.{MayPoll}
 use Rattle.loop_model.specs.Effect.{Transferred}
-use Rattle.il_record.specs.LoopStores.{LoopView, Standing, Nowhere, Addresses, AtIdle, AtLost, Addressed, NotAddressed, since_more, since_frame, FromStart, IsEmptied, IsFresh, Stood, FailedAtIdle, FailedAtLost, calls_in, is_broken, most_resumes, over_ring, view_at}
+use Rattle.il_record.specs.LoopStores.{LoopView, Addresses, Addressed, NotAddressed, FailedBy, IsFresh, StandsBy, StandsSo, Stood, calls_in, is_broken, log_emptied, since_more, view_of}
 use Rattle.il_record.proofs.HeardLogs.{heard_same}
 use Rattle.il_record.proofs.StoreCalls.{stood_whole, stood_frame, transferred_then, frames_same, frames_rose, calls_less}
-use Rattle.il_record.proofs.StoreRuns.{from_start}
+use Rattle.il_record.proofs.StoreRuns.{on_error}
 
 -- how the log stands where no call failed
-pub unfailed_idle : (log : Since) → FailedAtIdle log None → log ≡ since.Unbroken
-unfailed_idle since.Unbroken is = refl
-unfailed_idle since.Failed is = cc
-unfailed_idle since.Broken is = absurd is
-unfailed_idle since.Mended is = absurd is
-unfailed_idle since.Said is = absurd is
-unfailed_idle since.SaidBroken is = absurd is
+pub unfailed : (ready : Bool) (log : Since) → FailedBy ready log None → log ≡ since.Unbroken
+unfailed true since.Unbroken is = refl
+unfailed true since.Failed is = cc
+unfailed false since.Unbroken is = refl
+unfailed false since.Broken is = cc
+unfailed _ _ is = absurd is
 
-pub unfailed_lost : (log : Since) → FailedAtLost log None → log ≡ since.Unbroken
-unfailed_lost since.Unbroken is = refl
-unfailed_lost since.Failed is = absurd is
-unfailed_lost since.Broken is = cc
-unfailed_lost since.Mended is = absurd is
-unfailed_lost since.Said is = absurd is
-unfailed_lost since.SaidBroken is = absurd is
+pub alive_more : (log : Since) → is_broken (since_more log) ≡ false
+alive_more since.Unbroken = refl
+alive_more _ = refl
 
-module _ {M S : Type 0} (view : M → MediumView) (seen : S → RingView M) (p q : Option S) (valid : Type 0) (failed : Option Trouble → Type 0) (ready : Bool) (log : Since) (unfailed : failed None → log ≡ since.Unbroken) (resumes more n : ℕ) (r s : RingView M) (free : IsFreeRing r) (unheard : OnlyHeard (drive_party r) r s)
-    (used : spare_of r ≤ spare_of s + n) (few : n ≤ 300) (still : IsStill (view r.drive.medium) (view s.drive.medium)) (counted : more ≡ min (resumes + 1) most_resumes) (may : Each MayPoll 1 (devices_of s)) where
-  abbrev earlier : RecordsView (Option S)
-  earlier = over_ring view seen p valid failed ready false log resumes r
+pub sound_and : (b : Bool) → b ≡ (b && true)
+sound_and true = refl
+sound_and false = refl
 
-  resumed_more : (k : ℕ) → min k most_resumes ≡ resumes → min (k + 1) most_resumes ≡ more
-  resumed_more k is = omega (arith, is, counted)
+pub sound_none : (b : Bool) → false ≡ (b && false)
+sound_none true = refl
+sound_none false = refl
 
-  -- the store is sound again
-  pub resumed_ok : {T : Type 0} (x : T) (new : Since) → CameUnits view true [] r s → IsFree (drive_party s) s.drive.state → (view s.drive.medium).faults ≡ (view r.drive.medium).faults → is_broken new ≡ false → (log ≡ since.Unbroken → new ≡ since.Unbroken)
-      → Resumed earlier (view_at view seen q true new more (AtIdle s)) (Ok x)
-  resumed_ok x new units rest count alive same = record {
-    goes_on = record {
-      valid = (units.came.talked.state, (λ sound. rest), alive, may);
-      told = still.stays_in.told;
-      size = still.stays_in.size;
-      sound = refl;
-      ready = λ was. refl;
-      left = calls_less 1 n r s used (omega (arith, few));
-      room = ap calls_in units.came.talked.adds.room;
-      failed = λ none. subst (λ log. FailedAtIdle log None) (sym (same (unfailed none))) refl;
-      cause = (frames_same view units.came.pieces r s free.ring units.came.talked, count);
-    };
-    quiet = record { tape = still.tape; moment = still.moment; since = still.since };
-    transferred = λ list so. subst (λ list. Transferred (loop_of s) s.books.log list) (append-nil list) (transferred_then view true [] r s list units refl so);
-    stood = λ none start so. from_start seen start _ _
-        (λ at stood. subst (λ log. Stood view log at s) (sym (same (unfailed none))) (stood_whole view since.Unbroken [] at r s (subst (λ log. Stood view log at r) (unfailed none) stood) refl units refl unheard count (λ before. rest.status))) so;
-    resumed = λ k so. resumed_more k so;
-  }
+-- no frame is held
+pub stands_free : {M : Type 0} (ready : Bool) (r : RingView M) (sound : Bool) (log : Since) → StandsBy ready r sound log → IsFreeRing r
+stands_free true r sound log so = so.0.free
+stands_free false r sound log so = so.0.free
 
-  -- an exchange was broken off
-  pub resumed_not : {T : Type 0} → (new : Since) → CameUnits view false [] r s → (view r.drive.medium).faults ≤ (view s.drive.medium).faults → (log ≡ since.Unbroken → new ≡ since.Broken)
-      → Resumed {T = T} earlier (view_at view seen q false new more (AtLost s)) (Err trouble.Frame)
-  resumed_not new units count broke = record {
-    goes_on = record {
-      valid = (units.came.talked.state, refl, may);
-      told = still.stays_in.told;
-      size = still.stays_in.size;
-      sound = refl;
-      ready = tt;
-      left = calls_less 1 n r s used (omega (arith, few));
-      room = ap calls_in units.came.talked.adds.room;
-      failed = λ none. subst (λ log. FailedAtLost log (Some trouble.Frame)) (sym (broke (unfailed none))) refl;
-      cause = (frames_rose view units.came.pieces r s free.ring units.came.talked, count);
-    };
-    quiet = record { tape = still.tape; moment = still.moment; since = still.since };
-    transferred = λ list so. subst (λ list. Transferred (loop_of s) s.books.log list) (append-nil list) (transferred_then view false [] r s list units refl so);
-    stood = λ none start so. from_start seen start _ _
-        (λ at stood. subst (λ log. Stood view log at s) (sym (broke (unfailed none))) (stood_frame view since.Unbroken at r s (subst (λ log. Stood view log at r) (unfailed none) stood) refl units.came unheard)) so;
-    resumed = λ k so. resumed_more k so;
-  }
+pub still_of : {M : Type 0} (view : M → MediumView) (r s : RingView M) → s.drive.medium ≡ r.drive.medium → IsStill (view r.drive.medium) (view s.drive.medium)
+still_of view r s same = subst (λ m. IsStill (view r.drive.medium) (view m)) (sym same) (nothing_read (view r.drive.medium)).still
+
+pub count_of : {M : Type 0} (view : M → MediumView) (r s : RingView M) → s.drive.medium ≡ r.drive.medium → (view s.drive.medium).faults ≡ (view r.drive.medium).faults
+count_of view r s same = ap (λ m. (view m).faults) same
 
 -- ---- the log is emptied
 
--- a start that is this ring
-abbrev pub IsStart : {M S : Type 0} → (S → RingView M) → Option S → RingView M → Type 0
-IsStart seen start r = FromStart seen start (λ s. s ≡ r)
+pub nothing_since : {M : Type 0} (view : M → MediumView) (start s : RingView M) → IsFreeRing s → start ≡ s → Stood view since.Unbroken start s
+nothing_since {M} view start s free is = subst (λ (start : RingView M). Stood view since.Unbroken start s) (sym is) (record { free = free; unheard = λ none. heard_same (drive_party s) s; by = inl refl })
 
-emptied_is : {M S : Type 0} (seen : S → RingView M) (p q : Option S) (r : RingView M) → IsStart seen p r → IsStart seen q (ring_emptied r) → IsEmptied seen p q
-emptied_is seen None q r one two = absurd one
-emptied_is seen (Some a) None r one two = absurd two
-emptied_is {M} seen (Some a) (Some b) r one two = subst (λ (r : RingView M). seen b ≡ ring_emptied r) (sym one) two
+cleared_stands : {M : Type 0} (ready : Bool) (r : RingView M) (sound : Bool) (log : Since) → StandsBy ready r sound log → StandsBy ready (ring_emptied r) sound since.Unbroken
+cleared_stands true r sound log so = (idle_cleared r so.0, so.1, refl, so.3)
+cleared_stands false r sound log so = (lost_cleared r so.0, so.1, so.2)
 
-pub nothing_since : {M S : Type 0} (view : M → MediumView) (seen : S → RingView M) (q : Option S) (s : RingView M) → IsFreeRing s → IsStart seen q s → FromStart seen q (λ start. Stood view since.Unbroken start s)
-nothing_since view seen None s free is = absurd is
-nothing_since {M} view seen (Some b) s free is =
-    subst (λ (start : RingView M). Stood view since.Unbroken start s) (sym is) (record { free = free; unheard = λ none. heard_same (drive_party s) s; by = inl refl })
+pub unbroken : (ready : Bool) → FailedBy ready since.Unbroken None
+unbroken true = refl
+unbroken false = refl
 
-module _ {M S : Type 0} (view : M → MediumView) (seen : S → RingView M) (p q : Option S) (sound : Bool) (log : Since) (resumes : ℕ) (valid_old valid_new : Type 0) (failed_old failed_new : Option Trouble → Type 0) (ready : Bool) (none : failed_new None) (r : RingView M) (free : IsFreeRing r) (here : IsStart seen p r) (there : IsStart seen q (ring_emptied r)) where
-  pub begun : valid_new → Begun (over_ring view seen p valid_old failed_old ready sound log resumes r) (over_ring view seen q valid_new failed_new ready sound since.Unbroken 0 (ring_emptied r))
-  begun valid = record {
-    valid = valid;
-    quiet = record { tape = refl; moment = refl; since = record { nothing_else = λ m t left. left; keeps = λ m t left. left } };
-    size = refl;
-    ready = refl;
-    sound = refl;
-    frame_faults = refl;
-    medium_faults = refl;
-    left = omega arith;
-    enough = omega arith;
-    room = refl;
-    emptied = emptied_is seen p q r here there;
-    stood = nothing_since view seen q (ring_emptied r) free_cleared there;
-    transferred = record { reading = record { pieces = []; legal = refl; entries = refl }; outside = refl; good = refl; are = refl };
-    failed = none;
-    resumed = refl;
-  }
-    where
-      free_cleared : IsFreeRing (ring_emptied r)
-      free_cleared = record { ring = IsRing-clear r free.ring; held = free.held }
+begun_at : {M S : Type 0} (view : M → MediumView) (seen : S → RingView M) (p q : S) (old : LoopView M) → StandsSo old → seen p ≡ old.ring → seen q ≡ ring_emptied old.ring → Begun (view_of view seen p old) (view_of view seen q (log_emptied old))
+begun_at view seen p q old valid here there = record {
+  valid = cleared_stands old.ready old.ring old.sound old.since valid;
+  quiet = record { tape = refl; moment = refl; since = record { nothing_else = λ m t left. left; keeps = λ m t left. left } };
+  size = refl;
+  ready = refl;
+  sound = refl;
+  frame_faults = refl;
+  medium_faults = refl;
+  left = omega arith;
+  enough = omega arith;
+  room = refl;
+  emptied = there ∙ sym (ap ring_emptied here);
+  stood = nothing_since view (seen q) (ring_emptied old.ring) free_cleared there;
+  transferred = record { reading = record { pieces = []; legal = refl; entries = refl }; outside = refl; good = refl; are = refl };
+  failed = unbroken old.ready;
+  resumed = refl;
+}
+  where
+    free : IsFreeRing old.ring
+    free = stands_free old.ready old.ring old.sound old.since valid
+
+    free_cleared : IsFreeRing (ring_emptied old.ring)
+    free_cleared = record { ring = IsRing-clear old.ring free.ring; held = free.held }
+
+pub begun : {M S : Type 0} (view : M → MediumView) (seen : S → RingView M) (p q : S) (old : LoopView M) (s : RingView M) → StandsSo old → seen p ≡ old.ring → seen q ≡ s → s ≡ ring_emptied old.ring
+    → Begun (view_of view seen p old) (view_of view seen q (record old { ring = s; since = since.Unbroken; resumes = 0 }))
+begun {M} view seen p q old s valid here there is =
+    subst (λ (s : RingView M). Begun (view_of view seen p old) (view_of view seen q (record old { ring = s; since = since.Unbroken; resumes = 0 }))) (sym is) (begun_at view seen p q old valid here (there ∙ is))
 
 -- a new store
-pub fresh : {M S : Type 0} (view : M → MediumView) (seen : S → RingView M) (q : Option S) (r : RingView M) → IsLost r → Each MayPoll 1 (devices_of r) → r.books.log ≡ [] → IsStart seen q r → IsFresh (view_at view seen q false since.Unbroken 0 (AtLost r))
-fresh view seen q r lost may empty here = record {
+fresh_at : {M S : Type 0} (view : M → MediumView) (seen : S → RingView M) (q : S) → IsLost (seen q) → Each MayPoll 1 (devices_of (seen q)) → (seen q).books.log ≡ []
+    → IsFresh (view_of view seen q (record { ring = seen q; ready = false; sound = false; since = since.Unbroken; resumes = 0 }))
+fresh_at view seen q lost may empty = record {
   valid = (lost, refl, may);
-  stood = nothing_since view seen q r lost.free here;
-  transferred = subst (λ log. Transferred (loop_of r) log []) (sym empty) (record { reading = record { pieces = []; legal = refl; entries = refl }; outside = refl; good = refl; are = refl });
+  stood = nothing_since view (seen q) (seen q) lost.free refl;
+  transferred = subst (λ log. Transferred (loop_of (seen q)) log []) (sym empty) (record { reading = record { pieces = []; legal = refl; entries = refl }; outside = refl; good = refl; are = refl });
   failed = refl;
   resumed = refl;
 }
 
+pub fresh : {M S : Type 0} (view : M → MediumView) (seen : S → RingView M) (q : S) (r : RingView M) → IsLost r → Each MayPoll 1 (devices_of r) → r.books.log ≡ [] → seen q ≡ r
+    → IsFresh (view_of view seen q (record { ring = seen q; ready = false; sound = false; since = since.Unbroken; resumes = 0 }))
+fresh {M} view seen q r lost may empty here =
+    fresh_at view seen q (subst (λ (r : RingView M). IsLost r) (sym here) lost) (subst (λ (r : RingView M). Each MayPoll 1 (devices_of r)) (sym here) may) (ap (λ (r : RingView M). r.books.log) here ∙ empty)
+
 -- ---- the loop is addressed
 
-pub addressed : {M : Type 0} (view : M → MediumView) (n : ℕ) (r s : RingView M) (log : Since) (old new : LoopView M) → IsRing r → calls.Resumed view n r s → AllStay true r s → log ≡ since_more old.since → new ≡ record old { control = AtIdle s; since = log } → Addressed view r old new
-addressed {M} view n r s log old new ring done stays logged left = record {
-  ring = s;
-  left = subst (λ (log : Since). new ≡ record old { control = AtIdle s; since = log }) logged left;
-  readied = readied view n r s (omega (arith, ring.few)) done stays;
-  used = resumed_used view n r s done;
-}
+module _ {M : Type 0} (view : M → MediumView) (old : LoopView M) (s : RingView M) (unready : old.ready ≡ false) (valid : StandsSo old) (stays : AllStay true old.ring s) where
+  few : drive_party old.ring ≤ 30
+  few = let ring = (stands_free old.ready old.ring old.sound old.since valid).ring in omega (arith, ring.few)
 
-pub not_addressed : {M : Type 0} (view : M → MediumView) (r s : RingView M) (old new : LoopView M) → IsRing r → calls.NotResumed view r s → AllStay true r s → new ≡ record old { control = AtLost s; sound = false; since = since_frame old.since } → NotAddressed view r old new
-not_addressed view r s old new ring not stays left = let so = not_readied view r s (omega (arith, ring.few)) not stays in record { ring = s; left = left; interrupted = so.0; leaves = so.1; used = not_resumed_used view r s not }
+  pub addressed : {T U E : Type 0} (y : T) (answer : Result U E) (x : U) (n : U → ℕ) (mid : LoopView M) (log : Since) → Ended answer (record old { ring = s }) mid (Ok x) → IfOk answer (λ x. calls.Resumed view (n x) old.ring s) → log ≡ since_more mid.since
+      → Addresses view old.ready old (record mid { ready = true; since = log }) (Ok y)
+  addressed {T} y (Ok z) x n mid log ended done logged =
+      let now : Addressed view old (record old { ring = s; ready = true; since = since_more old.since }) = record { left = refl; readied = readied view (n z) old.ring s few done stays; used = resumed_used view (n z) old.ring s done } in
+      subst (λ b. Addresses view b old (record mid { ready = true; since = log }) (Ok y)) (sym unready)
+      (subst (λ (log : Since). Addressed view old (record mid { ready = true; since = log })) (sym logged)
+      (subst (λ (l : LoopView M). Addressed view old (record l { ready = true; since = since_more l.since })) (sym ended.1) now))
+  addressed y (Err e) x n mid log ended done logged = let clash = ended.0 in cc
 
--- a call in which the controller was taken out
-pub addresses_as : {M T : Type 0} (view : M → MediumView) (r : RingView M) (old mid new : LoopView M) (answer : Result T Trouble) → old.control ≡ AtLost r → mid ≡ record old { control = Nowhere } → Addresses view (AtLost r) mid new answer → Addresses view old.control old new answer
-addresses_as {M} {T} view r old mid new answer at taken so = subst (λ (c : Standing M). Addresses view c old new answer) (sym at) (by answer (subst (λ (mid : LoopView M). Addresses view (AtLost r) mid new answer) taken so))
+  pub not_addressed : {T U E : Type 0} (answer : Result U E) (new : LoopView M) (e : Trouble) (result : Result T Trouble) → Ended answer (record old { ring = s }) new (Err e) → IfErr answer (λ b. calls.NotResumed view old.ring s) → IsErr result × IsErrAnd result (λ x. x ≡ e) → Addresses view old.ready old new result
+  not_addressed {T} (Ok z) new e result ended not handed = let clash = ended.0 in cc
+  not_addressed {T} (Err b) new e result ended not handed =
+      let so = not_readied view old.ring s few not stays in
+      let now : NotAddressed view old (left_broken (record old { ring = s })) = record { left = refl; interrupted = so.0; leaves = so.1; used = not_resumed_used view old.ring s not } in
+      let is : e ≡ trouble.Frame = let same = ended.0 in cc in
+      on_error result e (λ result. Addresses view old.ready old new result) handed
+      (subst (λ b. Addresses {T = T} view b old new (Err e)) (sym unready) (is, subst (λ (l : LoopView M). NotAddressed view old l) (sym ended.1) now))
+
+-- ---- where `ready` answered Ok
+
+-- The loop is ready: as before, or addressed.
+pub record GotReady {M : Type 0} (view : M → MediumView) (old mid : LoopView M) : Type 0 where
+  pub units : CameUnits view true [] old.ring mid.ring
+  pub unheard : OnlyHeard (drive_party old.ring) old.ring mid.ring
+  pub status : status_of mid.ring.drive.state ≡ status_of old.ring.drive.state
+  pub medium : mid.ring.drive.medium ≡ old.ring.drive.medium
+  pub used : spare_of old.ring ≤ spare_of mid.ring + 5
+  pub may : Each MayPoll 1 (devices_of mid.ring)
+  pub idle : IsIdle mid.ring
+  pub free : mid.sound ≡ true → IsFree (drive_party mid.ring) mid.ring.drive.state
+  pub alive : is_broken mid.since ≡ false
+  pub same : old.since ≡ since.Unbroken → mid.since ≡ since.Unbroken
+  pub ready : mid.ready ≡ true
+  pub sound : mid.sound ≡ old.sound
+  pub resumes : mid.resumes ≡ old.resumes
+
+not_sound : {A : Type 0} (b : Bool) → b ≡ false → b ≡ true → A
+not_sound true is clash = cc
+not_sound false is clash = cc
+
+pub got_ready : {M U : Type 0} (view : M → MediumView) (old mid : LoopView M) (y : U) → StandsSo old → Addresses view old.ready old mid (Ok y) → GotReady view old mid
+got_ready {M} {U} view old mid y valid so = by old.ready refl valid so
   where
-    by : (answer : Result T Trouble) → Addresses view (AtLost r) (record old { control = Nowhere }) new answer → Addresses view (AtLost r) old new answer
-    by (Ok x) so = record { ring = so.ring; left = so.left; readied = so.readied; used = so.used }
-    by (Err e) so = (so.0, record { ring = so.1.ring; left = so.1.left; interrupted = so.1.interrupted; leaves = so.1.leaves; used = so.1.used })
+    by : (ready : Bool) → old.ready ≡ ready → StandsBy ready old.ring old.sound old.since → Addresses {T = U} view ready old mid (Ok y) → GotReady view old mid
+    by true is valid so = subst (λ (l : LoopView M). GotReady view old l) (sym so) (record {
+      units = nothing_came view old.ring valid.0;
+      unheard = heard_same (drive_party old.ring) old.ring;
+      status = refl;
+      medium = refl;
+      used = omega arith;
+      may = valid.3;
+      idle = valid.0;
+      free = valid.1;
+      alive = valid.2;
+      same = λ is. is;
+      ready = is;
+      sound = refl;
+      resumes = refl;
+    })
+    by false is valid so = record {
+      units = so.readied.came.units;
+      unheard = so.readied.unheard;
+      status = so.readied.leaves.status;
+      medium = so.readied.medium;
+      used = so.used;
+      may = may_poll_kept old.ring mid.ring (kept_stays old.ring mid.ring true so.readied.leaves.stays) valid.2;
+      idle = so.readied.idle;
+      free = λ sound. not_sound old.sound valid.1 (sym (ap (λ (l : LoopView M). l.sound) so.left) ∙ sound);
+      alive = ap (λ (l : LoopView M). is_broken l.since) so.left ∙ alive_more old.since;
+      same = λ is. ap (λ (l : LoopView M). l.since) so.left ∙ ap since_more is;
+      ready = ap (λ (l : LoopView M). l.ready) so.left;
+      sound = ap (λ (l : LoopView M). l.sound) so.left;
+      resumes = ap (λ (l : LoopView M). l.resumes) so.left;
+    }
+
+-- what `ready` leaves of the store
+module _ {M S : Type 0} (view : M → MediumView) (seen : S → RingView M) (p q : S) (old new : LoopView M) (valid : StandsSo old) where
+  left_ready : {T : Type 0} (x : T) → GotReady view old new → LeavesStore 1 (FailedBy old.ready old.since None) (view_of view seen p old) (view_of view seen q new) (Ok x)
+  left_ready x got =
+      let still = still_of view old.ring new.ring got.medium in
+      let units = got.units in
+      record {
+        valid = subst (λ b. StandsBy b new.ring new.sound new.since) (sym got.ready) (got.idle, got.free, got.alive, got.may);
+        quiet = record { tape = still.tape; moment = still.moment; since = still.since };
+        size = still.stays_in.size;
+        sound = got.sound ∙ sound_and old.sound;
+        left = calls_less 1 5 old.ring new.ring got.used (omega arith);
+        room = ap calls_in units.came.talked.adds.room;
+        cause = (frames_same view units.came.pieces old.ring new.ring (stands_free old.ready old.ring old.sound old.since valid).ring units.came.talked, count_of view old.ring new.ring got.medium);
+        transferred = λ list so. subst (λ list. Transferred (loop_of new.ring) new.ring.books.log list) (append-nil list) (transferred_then view true [] old.ring new.ring list units refl so);
+        stood = λ none start so.
+            let whole = unfailed old.ready old.since none in
+            subst (λ log. Stood view log (seen start) new.ring) (sym (got.same whole))
+            (stood_whole view since.Unbroken [] (seen start) old.ring new.ring (subst (λ log. Stood view log (seen start) old.ring) whole so) refl units refl got.unheard (count_of view old.ring new.ring got.medium) (λ before. got.status ∙ before));
+        resumed = λ k so. so ∙ sym got.resumes;
+      }
+
+  left_unready : {T : Type 0} → StandsBy false old.ring old.sound old.since → NotAddressed view old new → LeavesStore {T = T} 1 (FailedBy old.ready old.since None) (view_of view seen p old) (view_of view seen q new) (Err trouble.Frame)
+  left_unready {T} lost not =
+      let still = not.interrupted.drive.still in
+      let units = not.interrupted.came.units in
+      let s = new.ring in
+      subst (λ (l : LoopView M). LeavesStore {T = T} 1 (FailedBy old.ready old.since None) (view_of view seen p old) (view_of view seen q l) (Err trouble.Frame)) (sym not.left) (record {
+        valid = (units.came.talked.state, refl, may_poll_kept old.ring s not.interrupted.places lost.2);
+        quiet = record { tape = still.tape; moment = still.moment; since = still.since };
+        size = still.stays_in.size;
+        sound = sound_none old.sound;
+        left = calls_less 1 6 old.ring s not.used (omega arith);
+        room = ap calls_in units.came.talked.adds.room;
+        cause = (frames_rose view units.came.pieces old.ring s lost.0.free.ring units.came.talked, not.interrupted.drive.count);
+        transferred = λ list so. subst (λ list. Transferred (loop_of s) s.books.log list) (append-nil list) (transferred_then view false [] old.ring s list units refl so);
+        stood = λ none start so. stood_frame view old.since (seen start) old.ring s so (ap is_broken (unfailed old.ready old.since none)) units.came not.interrupted.unheard;
+        resumed = λ k so. so;
+      })
+
+  pub ready_leaves : {T : Type 0} (answer : Result T Trouble) → Addresses view old.ready old new answer → LeavesStore 1 (FailedBy old.ready old.since None) (view_of view seen p old) (view_of view seen q new) answer
+  ready_leaves (Ok x) so = left_ready x (got_ready view old new x valid so)
+  ready_leaves {T} (Err e) so = by old.ready valid so
+    where
+      by : (ready : Bool) → StandsBy ready old.ring old.sound old.since → Addresses {T = T} view ready old new (Err e) → LeavesStore {T = T} 1 (FailedBy old.ready old.since None) (view_of view seen p old) (view_of view seen q new) (Err e)
+      by true valid so = absurd so
+      by false valid so = subst (λ (e : Trouble). LeavesStore {T = T} 1 (FailedBy old.ready old.since None) (view_of view seen p old) (view_of view seen q new) (Err e)) (sym so.0) (left_unready valid so.1)

@@ -42,7 +42,7 @@ use Rattle.il_record.proofs.CutSends.{CutSend, InFront, InData, CutData, cut_sen
 use Rattle.il_record.proofs.Pieces.{cut_filled, bytes_filled, all_of, full_of}
 use Rattle.il_record.proofs.Readings.{legal_answer}
 use Rattle.il_record.proofs.HeardLogs.{heard_none, heard_then, send_echoes}
-use Rattle.il_record.proofs.ReadRuns.{SoughtBy, sought_by, seek_broke, outside_three, leaves_same, sent_received, talked_three, count_same}
+use Rattle.il_record.proofs.ReadRuns.{same_party, SoughtBy, sought_by, seek_broke, outside_three, leaves_same, sent_received, talked_three, count_same}
 use Rattle.il_record.proofs.Sends.{length-filled}
 use Rattle.il_record.proofs.Talks.{made_talked, broken_talked, talked_then}
 
@@ -99,9 +99,8 @@ from_before view first pieces u v w same wrote = record {
 
 come_bytes : (ds : List Echo) (gs : List Frame) → AllCome ds gs → runs.bytes_of gs ≡ bytes_of ds
 come_bytes [] [] come = refl
-come_bytes [] (g ∷ gs) come = absurd come
-come_bytes (d ∷ ds) [] come = absurd come
 come_bytes (d ∷ ds) (g ∷ gs) come = λ i. ap byte_of come.0.1 i ∷ come_bytes ds gs come.1 i
+come_bytes _ _ come = absurd come
 
 module _ {M : Type 0} (view : M → MediumView) (c first : ℕ) (sent : List ℕ) (r a : RingView M) (low : drive_party r ≤ 30) (idle : IsIdle r) (so : SoughtBy view first r a) (medium : IsMedium (view r.drive.medium))
     (fits : first + c ≤ (view r.drive.medium).record_count) (room : length r.drive.state.buffer_0 ≡ 256) (long : length sent ≡ 256 * c) where
@@ -334,7 +333,7 @@ as_run : {M : Type 0} (view : M → MediumView) (d first c : ℕ) (from : List �
 as_run view d first c from true r s wrote = subst (λ ps. WriteRun view d first (joined (cut c from)) ps r s) (cut_filled c from) (subst (λ bytes. WriteRun view d first bytes (cut_up c (filled (256 * c) from)) r s) (bytes_filled c from) wrote)
 as_run view d first c from false r s wrote = subst (λ ps. NotWritten view d first (joined (cut c from)) ps r s) (cut_filled c from) (subst (λ bytes. NotWritten view d first bytes (cut_up c (filled (256 * c) from)) r s) (bytes_filled c from) wrote)
 
-module _ {M : Type 0} (view : M → MediumView) (d first c : ℕ) (from : List ℕ) (r : RingView M) (low : d ≤ 30) (at : d ≡ drive_party r) (idle : IsIdle r) (small : first < 2 ^ 16) (free : IsFree d r.drive.state) (room : length r.drive.state.buffer_0 ≡ 256)
+module _ {M : Type 0} (view : M → MediumView) (d first c : ℕ) (from : List ℕ) (r : RingView M) (low : d ≤ 30) (at : d ≡ drive_party r) (idle : IsIdle r) (small : first < 2 ^ 16) (free : IsFree (drive_party r) r.drive.state) (room : length r.drive.state.buffer_0 ≡ 256)
     (medium : IsMedium (view r.drive.medium)) (fits : first + c ≤ (view r.drive.medium).record_count) (some : 1 ≤ c) where
   abbrev bytes : List ℕ
   bytes = filled (256 * c) from
@@ -343,26 +342,29 @@ module _ {M : Type 0} (view : M → MediumView) (d first c : ℕ) (from : List �
   low_party = omega (arith, low, at)
 
   so_at : (s : RingView M) → SentAll view d (Some 4) (filled 2 (to_be_bytes w16 first)) r s → SoughtBy view first r s
-  so_at s so = sought_by view first r s low_party small (subst (λ d. IsFree d r.drive.state) at free) (omega (arith, fits, some)) (subst (λ d. SentAll view d (Some 4) (filled 2 (to_be_bytes w16 first)) r s) at so)
+  so_at s so = sought_by view first r s low_party small free (omega (arith, fits, some)) (subst (λ d. SentAll view d (Some 4) (filled 2 (to_be_bytes w16 first)) r s) at so)
 
-  broke_as : (s : RingView M) → WriteBroke view (drive_party r) first (cut_up c bytes) r s → WriteBroke view d first (cut c from) r s
-  broke_as s broke = subst (λ d. WriteBroke view d first (cut c from) r s) (sym at) (subst (λ ps. WriteBroke view (drive_party r) first ps r s) (cut_filled c from) broke)
+  -- the drive has this address behind the send too
+  polled_at : (n : ℕ) (a b : RingView M) → SentAll view d (Some 4) (filled 2 (to_be_bytes w16 first)) r a → SentAll view d (Some 2) (filled n from) a b → drive_party b ≡ drive_party r
+  polled_at n a b so whole = same_party view _ a b whole.made ∙ same_party view _ r a so.made
 
-  pub wrote_not_at_seek : (sought : List ℕ) (s : RingView M) → SendBroke view d (Some 4) sought r s → WriteBroke view d first (cut c from) r s
+  broke_as : (s : RingView M) → WriteBroke view (drive_party r) first (cut_up c bytes) r s → WriteBroke view (drive_party r) first (cut c from) r s
+  broke_as s broke = subst (λ ps. WriteBroke view (drive_party r) first ps r s) (cut_filled c from) broke
+
+  pub wrote_not_at_seek : (sought : List ℕ) (s : RingView M) → SendBroke view d (Some 4) sought r s → WriteBroke view (drive_party r) first (cut c from) r s
   wrote_not_at_seek sought s not =
       let broke = seek_broke view sought r s low_party idle (subst (λ d. SendBroke view d (Some 4) sought r s) at not) in
       broke_as s (record { came = broke.came; unheard = broke.unheard; left = wrote_nothing view first (cut_up c bytes) r.drive s.drive broke.drive })
 
-  pub wrote_not_at_send : (n : ℕ) (a s : RingView M) → n ≡ 256 * c → SentAll view d (Some 4) (filled 2 (to_be_bytes w16 first)) r a → SendBroke view d (Some 2) (filled n from) a s → WriteBroke view d first (cut c from) r s
+  pub wrote_not_at_send : (n : ℕ) (a s : RingView M) → n ≡ 256 * c → SentAll view d (Some 4) (filled 2 (to_be_bytes w16 first)) r a → SendBroke view d (Some 2) (filled n from) a s → WriteBroke view (drive_party r) first (cut c from) r s
   wrote_not_at_send n a s is so not =
       broke_as s (write_broke_at_send view c first bytes r a low_party idle (so_at a so) medium fits room (length-filled (256 * c) from) some s (subst (λ d. SendBroke view d (Some 2) bytes a s) at (subst (λ n. SendBroke view d (Some 2) (filled n from) a s) is not)))
 
-  pub wrote_not_at_status : (n : ℕ) (a b s : RingView M) → n ≡ 256 * c → SentAll view d (Some 4) (filled 2 (to_be_bytes w16 first)) r a → SentAll view d (Some 2) (filled n from) a b → NotPolled view d b s → WriteBroke view d first (cut c from) r s
+  pub wrote_not_at_status : (n : ℕ) (a b s : RingView M) → n ≡ 256 * c → SentAll view d (Some 4) (filled 2 (to_be_bytes w16 first)) r a → SentAll view d (Some 2) (filled n from) a b → NotPolled view (drive_party b) b s → WriteBroke view (drive_party r) first (cut c from) r s
   wrote_not_at_status n a b s is so whole not =
-      broke_as s (write_broke_at_status view c first bytes r a low_party idle (so_at a so) medium fits room (length-filled (256 * c) from) some b s (subst (λ d. SentAll view d (Some 2) bytes a b) at (subst (λ n. SentAll view d (Some 2) (filled n from) a b) is whole)) (subst (λ d. NotPolled view d b s) at not))
+      broke_as s (write_broke_at_status view c first bytes r a low_party idle (so_at a so) medium fits room (length-filled (256 * c) from) some b s (subst (λ d. SentAll view d (Some 2) bytes a b) at (subst (λ n. SentAll view d (Some 2) (filled n from) a b) is whole)) (subst (λ d. NotPolled view d b s) (polled_at n a b so whole) not))
 
-  pub wrote : (n byte : ℕ) (a b s : RingView M) → n ≡ 256 * c → SentAll view d (Some 4) (filled 2 (to_be_bytes w16 first)) r a → SentAll view d (Some 2) (filled n from) a b → Polled view d byte b s → (good : Bool) → good ≡ (byte == 0) → WroteAs view d first (cut c from) good r s
+  pub wrote : (n byte : ℕ) (a b s : RingView M) → n ≡ 256 * c → SentAll view d (Some 4) (filled 2 (to_be_bytes w16 first)) r a → SentAll view d (Some 2) (filled n from) a b → Polled view (drive_party b) byte b s → (good : Bool) → good ≡ (byte == 0) → WroteAs view (drive_party r) first (cut c from) good r s
   wrote n byte a b s long so whole told good is =
-      subst (λ d. WroteAs view d first (cut c from) good r s) (sym at)
-      (as_run view (drive_party r) first c from good r s
-      (write_done view c first bytes r a low_party idle (so_at a so) medium fits room (length-filled (256 * c) from) some byte b s (subst (λ d. SentAll view d (Some 2) bytes a b) at (subst (λ n. SentAll view d (Some 2) (filled n from) a b) long whole)) (subst (λ d. Polled view d byte b s) at told) good is))
+      as_run view (drive_party r) first c from good r s
+      (write_done view c first bytes r a low_party idle (so_at a so) medium fits room (length-filled (256 * c) from) some byte b s (subst (λ d. SentAll view d (Some 2) bytes a b) at (subst (λ n. SentAll view d (Some 2) (filled n from) a b) long whole)) (subst (λ d. Polled view d byte b s) (polled_at n a b so whole) told) good is)

@@ -1,7 +1,6 @@
 pub mod Asks
 pub mod Called
 pub mod Came
-pub mod Controls
 pub mod IsStore
 pub mod Listening
 pub mod LoopCalls

@@ -19,16 +19,11 @@ use Rattle.il_record.specs.Came.{OnlyHeard, CameBy}
 use Rattle.il_record.specs.Polls.{MayPoll}
 use Rattle.il_record.specs.Runs.{LeavesDevices, Readied, Interrupted, Cleared, address_asks, clear_asks}
 
--- the controller, by its ring
-pub data Standing (M : Type 0) : Type 0 where
-  AtIdle : RingView M → Standing M
-  AtLost : RingView M → Standing M
-  Nowhere : Standing M
-
--- the controller; whether records can be read and written; how the log stands since it was last emptied; and how many calls of
--- `resume` there were since, a count that stays at its greatest value
+-- the ring; whether the loop is addressed and no device talks; whether records can be read and written; how the log stands since it
+-- was last emptied; and how many calls of `resume` there were since, a count that stays at its greatest value
 pub record LoopView (M : Type 0) : Type 0 where
-  pub control : Standing M
+  pub ring : RingView M
+  pub ready : Bool
   pub sound : Bool
   pub since : Since
   pub resumes : ℕ
@@ -47,12 +42,14 @@ has_said since.Said = true
 has_said since.SaidBroken = true
 has_said _ = false
 
--- Each device has no place in the parallel poll, or that of its party. An idle controller's drive rests, with status 0, where the
--- store is sound; a lost one's store is not sound.
-abbrev pub StandsSo : {M : Type 0} → Standing M → Bool → Since → Type 0
-StandsSo (AtIdle r) sound log = IsIdle r × (sound ≡ true → IsFree (drive_party r) r.drive.state) × (is_broken log ≡ false) × Each MayPoll 1 (devices_of r)
-StandsSo (AtLost r) sound log = IsLost r × (sound ≡ false) × Each MayPoll 1 (devices_of r)
-StandsSo Nowhere sound log = ⊥
+-- Each device has no place in the parallel poll, or that of its party. Where the loop is ready the drive rests, with status 0, if the
+-- store is sound; where it is not, the store is not sound.
+abbrev pub StandsBy : {M : Type 0} → Bool → RingView M → Bool → Since → Type 0
+StandsBy true r sound log = IsIdle r × (sound ≡ true → IsFree (drive_party r) r.drive.state) × (is_broken log ≡ false) × Each MayPoll 1 (devices_of r)
+StandsBy false r sound log = IsLost r × (sound ≡ false) × Each MayPoll 1 (devices_of r)
+
+abbrev pub StandsSo : {M : Type 0} → LoopView M → Type 0
+StandsSo l = StandsBy l.ready l.ring l.sound l.since
 
 -- ---- what became of the ring
 
@@ -102,78 +99,42 @@ most_resumes = 4294967295
 -- ---- the view
 
 -- How the calls since the log was last emptied ended, where no bytes were sent to another device than the drive: none failed, or the
--- last one alone. An idle controller's was failed by the medium, and a lost one's by a frame.
-abbrev pub FailedAtIdle : Since → Option Trouble → Type 0
-FailedAtIdle since.Unbroken failure = failure ≡ None
-FailedAtIdle since.Failed failure = failure ≡ Some trouble.Medium
-FailedAtIdle _ failure = ⊥
+-- last one alone. Where the loop is ready it was failed by the medium, and where it is not by a frame.
+abbrev pub FailedReady : Since → Option Trouble → Type 0
+FailedReady since.Unbroken failure = failure ≡ None
+FailedReady since.Failed failure = failure ≡ Some trouble.Medium
+FailedReady _ failure = ⊥
 
-abbrev pub FailedAtLost : Since → Option Trouble → Type 0
-FailedAtLost since.Unbroken failure = failure ≡ None
-FailedAtLost since.Broken failure = failure ≡ Some trouble.Frame
-FailedAtLost _ failure = ⊥
+abbrev pub FailedLost : Since → Option Trouble → Type 0
+FailedLost since.Unbroken failure = failure ≡ None
+FailedLost since.Broken failure = failure ≡ Some trouble.Frame
+FailedLost _ failure = ⊥
 
--- a start, as a ring
-abbrev pub FromStart : {M S : Type 0} → (S → RingView M) → Option S → (RingView M → Type 0) → Type 0
-FromStart seen None P = ⊥
-FromStart seen (Some s) P = P (seen s)
+abbrev pub FailedBy : Bool → Since → Option Trouble → Type 0
+FailedBy true log = FailedReady log
+FailedBy false log = FailedLost log
 
--- the second start is the first with its log emptied
-abbrev pub IsEmptied : {M S : Type 0} → (S → RingView M) → Option S → Option S → Type 0
-IsEmptied seen a b = FromStart seen a (λ r. FromStart seen b (λ s. s ≡ ring_emptied r))
-
--- of a store whose ring is r
-abbrev pub over_ring : {M S : Type 0} → (M → MediumView) → (S → RingView M) → Option S → Type 0 → (Option Trouble → Type 0) → Bool → Bool → Since → ℕ → RingView M → RecordsView (Option S)
-over_ring view seen present valid failed ready sound log resumes r = record {
-  valid = valid;
-  tape = (view r.drive.medium).tape;
-  record_count = (view r.drive.medium).record_count;
-  ready = ready;
-  sound = sound;
-  calls_left = calls_in (spare_of r);
-  room = calls_in r.books.room;
-  frame_faults = crossed_hops r;
-  medium_faults = (view r.drive.medium).faults;
-  moment = (view r.drive.medium).moment;
-  left_since = (view r.drive.medium).left_since;
-  transferred = Transferred (loop_of r) r.books.log;
+-- A store over the loop as every store is seen. It starts as a ring.
+abbrev pub view_of : {M S : Type 0} → (M → MediumView) → (S → RingView M) → S → LoopView M → RecordsView S
+view_of view seen present l = record {
+  valid = StandsSo l;
+  tape = (view l.ring.drive.medium).tape;
+  record_count = (view l.ring.drive.medium).record_count;
+  ready = l.ready;
+  sound = l.sound;
+  calls_left = calls_in (spare_of l.ring);
+  room = calls_in l.ring.books.room;
+  frame_faults = crossed_hops l.ring;
+  medium_faults = (view l.ring.drive.medium).faults;
+  moment = (view l.ring.drive.medium).moment;
+  left_since = (view l.ring.drive.medium).left_since;
+  transferred = Transferred (loop_of l.ring) l.ring.books.log;
   present = present;
-  emptied = IsEmptied seen;
-  stood = λ start. FromStart seen start (λ s. Stood view log s r);
-  failed = failed;
-  resumed = λ k. min k most_resumes ≡ resumes;
+  emptied = λ old new. seen new ≡ ring_emptied (seen old);
+  stood = λ start. Stood view l.since (seen start) l.ring;
+  failed = FailedBy l.ready l.since;
+  resumed = λ k. min k most_resumes ≡ l.resumes;
 }
-
--- of one that is at work
-abbrev pub at_work : {M S : Type 0} → (S → RingView M) → Option S → RecordsView (Option S)
-at_work seen present = record {
-  valid = ⊥;
-  tape = None;
-  record_count = 0;
-  ready = false;
-  sound = false;
-  calls_left = 0;
-  room = 0;
-  frame_faults = 0;
-  medium_faults = 0;
-  moment = 0;
-  left_since = λ m t. ⊥;
-  transferred = λ list. ⊥;
-  present = present;
-  emptied = IsEmptied seen;
-  stood = λ start. ⊥;
-  failed = λ failure. ⊥;
-  resumed = λ k. ⊥;
-}
-
--- by the controller
-abbrev pub view_at : {M S : Type 0} → (M → MediumView) → (S → RingView M) → Option S → Bool → Since → ℕ → Standing M → RecordsView (Option S)
-view_at view seen present sound log resumes (AtIdle r) = over_ring view seen present (StandsSo (AtIdle r) sound log) (FailedAtIdle log) true sound log resumes r
-view_at view seen present sound log resumes (AtLost r) = over_ring view seen present (StandsSo (AtLost r) sound log) (FailedAtLost log) false sound log resumes r
-view_at view seen present sound log resumes Nowhere = at_work seen present
-
-abbrev pub view_of : {M S : Type 0} → (M → MediumView) → (S → RingView M) → Option S → LoopView M → RecordsView (Option S)
-view_of view seen present l = view_at view seen present l.sound l.since l.resumes l.control
 
 -- of which no call was made yet
 pub record IsFresh {S : Type 0} (v : RecordsView S) : Type 0 where
@@ -184,17 +145,6 @@ pub record IsFresh {S : Type 0} (v : RecordsView S) : Type 0 where
   pub resumed : v.resumed 0
 
 -- ---- for the calls
-
--- the controller is idle
-abbrev pub is_idle : {M : Type 0} → Standing M → Bool
-is_idle (AtIdle r) = true
-is_idle _ = false
-
--- its ring has this
-abbrev pub HasRing : {M : Type 0} → Standing M → (RingView M → Type 0) → Type 0
-HasRing (AtIdle r) P = P r
-HasRing (AtLost r) P = P r
-HasRing Nowhere P = ⊥
 
 -- how the log stands behind a call that failed
 abbrev pub since_medium : Since → Since
@@ -221,35 +171,26 @@ since_said since.Said = since.Said
 since_said _ = since.Mended
 
 -- with the log of its ring emptied
-abbrev pub with_empty_log : {M : Type 0} → Standing M → Standing M
-with_empty_log (AtIdle r) = AtIdle (ring_emptied r)
-with_empty_log (AtLost r) = AtLost (ring_emptied r)
-with_empty_log Nowhere = Nowhere
-
 abbrev pub log_emptied : {M : Type 0} → LoopView M → LoopView M
-log_emptied l = record l { control = with_empty_log l.control; since = since.Unbroken; resumes = 0 }
+log_emptied l = record l { ring = ring_emptied l.ring; since = since.Unbroken; resumes = 0 }
 
--- What `ready` does, by where the controller is: nothing where it is idle. Else the devices are addressed, or an exchange was broken
--- off.
-pub record Addressed {M : Type 0} (view : M → MediumView) (r : RingView M) (old new : LoopView M) : Type 0 where
-  pub ring : RingView M
-  pub left : new ≡ record old { control = AtIdle ring; since = since_more old.since }
-  pub readied : Readied view r ring
-  pub used : spare_of r ≤ spare_of ring + 5
+-- What `ready` does: nothing where the loop is ready. Else the devices are addressed, or an exchange was broken off.
+pub record Addressed {M : Type 0} (view : M → MediumView) (old new : LoopView M) : Type 0 where
+  pub left : new ≡ record old { ring = new.ring; ready = true; since = since_more old.since }
+  pub readied : Readied view old.ring new.ring
+  pub used : spare_of old.ring ≤ spare_of new.ring + 5
 
-pub record NotAddressed {M : Type 0} (view : M → MediumView) (r : RingView M) (old new : LoopView M) : Type 0 where
-  pub ring : RingView M
-  pub left : new ≡ record old { control = AtLost ring; sound = false; since = since_frame old.since }
-  pub interrupted : Interrupted view address_asks (drive_party r) r ring
-  pub leaves : LeavesDevices r ring
-  pub used : spare_of r ≤ spare_of ring + 6
+pub record NotAddressed {M : Type 0} (view : M → MediumView) (old new : LoopView M) : Type 0 where
+  pub left : new ≡ record old { ring = new.ring; ready = false; sound = false; since = since_frame old.since }
+  pub interrupted : Interrupted view address_asks (drive_party old.ring) old.ring new.ring
+  pub leaves : LeavesDevices old.ring new.ring
+  pub used : spare_of old.ring ≤ spare_of new.ring + 6
 
-abbrev pub Addresses : {M T : Type 0} → (M → MediumView) → Standing M → LoopView M → LoopView M → Result T Trouble → Type 0
-Addresses view (AtIdle r) old new (Ok x) = new ≡ old
-Addresses view (AtIdle r) old new (Err e) = ⊥
-Addresses view (AtLost r) old new (Ok x) = Addressed view r old new
-Addresses view (AtLost r) old new (Err e) = (e ≡ trouble.Frame) × NotAddressed view r old new
-Addresses view Nowhere old new answer = ⊥
+abbrev pub Addresses : {M T : Type 0} → (M → MediumView) → Bool → LoopView M → LoopView M → Result T Trouble → Type 0
+Addresses view true old new (Ok x) = new ≡ old
+Addresses view true old new (Err e) = ⊥
+Addresses view false old new (Ok x) = Addressed view old new
+Addresses view false old new (Err e) = (e ≡ trouble.Frame) × NotAddressed view old new
 
 -- ---- resuming
 
@@ -260,26 +201,24 @@ counted_resume l = record l { resumes = min (l.resumes + 1) most_resumes }
 -- The loop is as `ready` leaves it, and then the drive was cleared.
 pub record Mended {M : Type 0} (view : M → MediumView) (old new : LoopView M) : Type 0 where
   pub ready : LoopView M
-  pub addressed : Addresses {T = Unit {0}} view old.control old ready (Ok tt)
-  pub ring : RingView M
-  pub at : ready.control ≡ AtIdle ring
-  pub behind : RingView M
-  pub cleared : Cleared view (drive_party ring) ring behind
-  pub left : new ≡ record ready { control = AtIdle behind; sound = true }
+  pub addressed : Addresses {T = Unit {0}} view old.ready old ready (Ok tt)
+  pub at : ready.ready ≡ true
+  pub cleared : Cleared view (drive_party ready.ring) ready.ring new.ring
+  pub used : spare_of ready.ring ≤ spare_of new.ring + 7
+  pub left : new ≡ record ready { ring = new.ring; sound = true }
 
 -- Then an exchange of the clearing was broken off.
 pub record NotMended {M : Type 0} (view : M → MediumView) (old new : LoopView M) : Type 0 where
   pub ready : LoopView M
-  pub addressed : Addresses {T = Unit {0}} view old.control old ready (Ok tt)
-  pub ring : RingView M
-  pub at : ready.control ≡ AtIdle ring
-  pub behind : RingView M
-  pub interrupted : Interrupted view (clear_asks (drive_party ring)) (drive_party ring) ring behind
-  pub left : new ≡ record ready { control = AtLost behind; sound = false; since = since_frame ready.since }
+  pub addressed : Addresses {T = Unit {0}} view old.ready old ready (Ok tt)
+  pub at : ready.ready ≡ true
+  pub interrupted : Interrupted view (clear_asks (drive_party ready.ring)) (drive_party ready.ring) ready.ring new.ring
+  pub used : spare_of ready.ring ≤ spare_of new.ring + 7
+  pub left : new ≡ record ready { ring = new.ring; ready = false; sound = false; since = since_frame ready.since }
 
 -- What `resume` does, by whether the store is sound: nothing where it is. An error comes from addressing or from clearing.
 abbrev pub Resumes : {M T : Type 0} → (M → MediumView) → Bool → LoopView M → LoopView M → Result T Trouble → Type 0
 Resumes view true old new (Ok x) = new ≡ old
 Resumes view true old new (Err e) = ⊥
 Resumes view false old new (Ok x) = Mended view old new
-Resumes {T = T} view false old new (Err e) = Addresses {T = T} view old.control old new (Err e) ⊎ ((e ≡ trouble.Frame) × NotMended view old new)
+Resumes {T = T} view false old new (Err e) = Addresses {T = T} view old.ready old new (Err e) ⊎ ((e ≡ trouble.Frame) × NotMended view old new)

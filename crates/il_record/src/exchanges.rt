@@ -5,9 +5,10 @@ ghost use Rattle.il_ring.specs.Rings.{spare_of};
 ghost use Rattle.il_control.specs.Calls.{IsIdle};
 ghost use Rattle.il_record.specs.Sends.{filled, SentAll, SendBroke};
 
-use il_control::{Idle, Lost};
+use il_control::Broken;
+use il_control::exchanges::{listen, send_byte};
 use il_ports::Medium;
-use il_ring::Seen;
+use il_ring::{Ring, Seen};
 
 /// The byte at this place, and 0 behind the last.
 fn byte_at(bytes: &[u8], place: usize) -> u8
@@ -16,40 +17,38 @@ fn byte_at(bytes: &[u8], place: usize) -> u8
     bytes.get(place).copied().unwrap_or(0)
 }
 
-/// Sends `length` bytes to the device of this address: these bytes, followed by zeros. In front of them goes device dependent
-/// listener command `number`, where one is given.
+/// Sends `length` bytes to the device of this address: these bytes, followed by zeros. In front of them goes device
+/// dependent listener command `number`, where one is given.
 pub(crate) fn send<M: Medium>(
-    idle: Idle<M>,
+    ring: &mut Ring<M>,
     address: u8,
     number: Option<u8>,
     bytes: &[u8],
     length: usize,
-) -> Result<Idle<M>, Lost<M>>
-    requires room { 39 + length ≤ spare_of (⟦<Idle<M> as Seen<M>>⟧.seen idle) }
-    requires idle { IsIdle (⟦<Idle<M> as Seen<M>>⟧.seen idle) }
+) -> Result<(), Broken>
+    requires room { 39 + length ≤ spare_of (⟦<Ring<M> as Seen<M>>⟧.seen ring.old) }
+    requires idle { IsIdle (⟦<Ring<M> as Seen<M>>⟧.seen ring.old) }
     requires address { (1 ≤ address) × (address ≤ 30) }
     requires number { IfSome number (λ n. n < 32) }
-    ensures sent { IfOk result (λ sent. SentAll M.view address number (filled length bytes.now) (⟦<Idle<M> as Seen<M>>⟧.seen idle) (⟦<Idle<M> as Seen<M>>⟧.seen sent)) }
-    ensures broken { IfErr result (λ lost. SendBroke M.view address number (filled length bytes.now) (⟦<Idle<M> as Seen<M>>⟧.seen idle) (⟦<Lost<M> as Seen<M>>⟧.seen lost)) }
-    ensures used { IfOk result (λ sent. spare_of (⟦<Idle<M> as Seen<M>>⟧.seen idle) ≤ spare_of (⟦<Idle<M> as Seen<M>>⟧.seen sent) + (length + 6)) }
-    ensures used_lost { IfErr result (λ lost. spare_of (⟦<Idle<M> as Seen<M>>⟧.seen idle) ≤ spare_of (⟦<Lost<M> as Seen<M>>⟧.seen lost) + (length + 7)) }
+    ensures sent { IfOk result (λ done. SentAll M.view address number (filled length bytes.now) (⟦<Ring<M> as Seen<M>>⟧.seen ring.old) (⟦<Ring<M> as Seen<M>>⟧.seen ring.new)) }
+    ensures broken { IfErr result (λ broken. SendBroke M.view address number (filled length bytes.now) (⟦<Ring<M> as Seen<M>>⟧.seen ring.old) (⟦<Ring<M> as Seen<M>>⟧.seen ring.new)) }
+    ensures used { spare_of (⟦<Ring<M> as Seen<M>>⟧.seen ring.old) ≤ spare_of (⟦<Ring<M> as Seen<M>>⟧.seen ring.new) + (length + 7) }
 {
-    let mut sending = idle.listen(address, number)?;
+    listen(ring, address, number)?;
     for place in 0..length {
-        sending = sending.byte(byte_at(bytes, place))?;
+        send_byte(ring, byte_at(bytes, place))?;
     }
-    Ok(sending.done())
+    Ok(())
 }
 
 /// Has the drive, which has this address, seek record `n`.
-pub(crate) fn seek<M: Medium>(idle: Idle<M>, drive: u8, n: u16) -> Result<Idle<M>, Lost<M>>
-    requires room { 41 ≤ spare_of (⟦<Idle<M> as Seen<M>>⟧.seen idle) }
-    requires idle { IsIdle (⟦<Idle<M> as Seen<M>>⟧.seen idle) }
+pub(crate) fn seek<M: Medium>(ring: &mut Ring<M>, drive: u8, n: u16) -> Result<(), Broken>
+    requires room { 41 ≤ spare_of (⟦<Ring<M> as Seen<M>>⟧.seen ring.old) }
+    requires idle { IsIdle (⟦<Ring<M> as Seen<M>>⟧.seen ring.old) }
     requires address { (1 ≤ drive) × (drive ≤ 30) }
-    ensures sent { IfOk result (λ sought. SentAll M.view drive (Some 4) (filled 2 (to_be_bytes w16 n)) (⟦<Idle<M> as Seen<M>>⟧.seen idle) (⟦<Idle<M> as Seen<M>>⟧.seen sought)) }
-    ensures broken { IfErr result (λ lost. SendBroke M.view drive (Some 4) (filled 2 (to_be_bytes w16 n)) (⟦<Idle<M> as Seen<M>>⟧.seen idle) (⟦<Lost<M> as Seen<M>>⟧.seen lost)) }
-    ensures used { IfOk result (λ sought. spare_of (⟦<Idle<M> as Seen<M>>⟧.seen idle) ≤ spare_of (⟦<Idle<M> as Seen<M>>⟧.seen sought) + 8) }
-    ensures used_lost { IfErr result (λ lost. spare_of (⟦<Idle<M> as Seen<M>>⟧.seen idle) ≤ spare_of (⟦<Lost<M> as Seen<M>>⟧.seen lost) + 9) }
+    ensures sent { IfOk result (λ done. SentAll M.view drive (Some 4) (filled 2 (to_be_bytes w16 n)) (⟦<Ring<M> as Seen<M>>⟧.seen ring.old) (⟦<Ring<M> as Seen<M>>⟧.seen ring.new)) }
+    ensures broken { IfErr result (λ broken. SendBroke M.view drive (Some 4) (filled 2 (to_be_bytes w16 n)) (⟦<Ring<M> as Seen<M>>⟧.seen ring.old) (⟦<Ring<M> as Seen<M>>⟧.seen ring.new)) }
+    ensures used { spare_of (⟦<Ring<M> as Seen<M>>⟧.seen ring.old) ≤ spare_of (⟦<Ring<M> as Seen<M>>⟧.seen ring.new) + 9 }
 {
-    send(idle, drive, Some(4), &n.to_be_bytes(), 2)
+    send(ring, drive, Some(4), &n.to_be_bytes(), 2)
 }

@@ -6,14 +6,15 @@ ghost use Rattle.il_control.specs.Calls.{idy};
 ghost use Rattle.il_record.specs.Asks.{up_to};
 ghost use Rattle.il_record.specs.Called.{Calls, LeavesLent, LeavesStore, LendCalls};
 ghost use Rattle.il_record.specs.LoopCalls.{AllNamed, LeftAlone, NotSaid, Said, id_asks};
-ghost use Rattle.il_record.specs.LoopStores.{HasRing, StandsSo, is_idle, since_frame, since_said};
+ghost use Rattle.il_record.specs.LoopStores.{StandsSo, since_said};
 ghost use Rattle.il_record.specs.Polls.{HasPolled, PollBroke, poll_asks};
 ghost use Rattle.il_record.specs.Runs.{NotPolled, Polled};
 
-use crate::records::{LoopRecords, Looped};
-use crate::runs::{drive_of, status};
+use crate::records::{LoopRecords, Looped, Since};
+use crate::runs::status;
 use crate::{calls, poll};
 use arrayvec::ArrayVec;
+use il_control::exchanges;
 use il_frames::Frame;
 use il_ports::{Medium, Records, Trouble};
 
@@ -22,119 +23,81 @@ impl<M: Medium + Drop> LoopRecords<M> {
     ///
     /// The error is `Trouble::Frame`, and comes exactly where a planned fault acted on a frame of the call.
     pub fn drive_status(&mut self) -> Result<u8, Trouble>
-        requires valid { StandsSo (⟦<LoopRecords<M> as Looped<M>>⟧.looped self.old).control (⟦<LoopRecords<M> as Looped<M>>⟧.looped self.old).sound (⟦<LoopRecords<M> as Looped<M>>⟧.looped self.old).since }
-        requires ready { is_idle (⟦<LoopRecords<M> as Looped<M>>⟧.looped self.old).control ≡ true }
-        requires room { HasRing (⟦<LoopRecords<M> as Looped<M>>⟧.looped self.old).control (λ r. 1000 ≤ spare_of r) }
-        ensures told { Calls (λ byte r s. Polled M.view (drive_party r) byte r s) (λ r s. NotPolled M.view (drive_party r) r s)
-            (⟦<LoopRecords<M> as Looped<M>>⟧.looped self.old).since (since_frame (⟦<LoopRecords<M> as Looped<M>>⟧.looped self.old).since)
-            (⟦<LoopRecords<M> as Looped<M>>⟧.looped self.old) (⟦<LoopRecords<M> as Looped<M>>⟧.looped self.new) result }
+        requires valid { StandsSo (⟦<LoopRecords<M> as Looped<M>>⟧.looped self.old) }
+        requires ready { (⟦<LoopRecords<M> as Looped<M>>⟧.looped self.old).ready ≡ true }
+        requires room { 1000 ≤ spare_of (⟦<LoopRecords<M> as Looped<M>>⟧.looped self.old).ring }
+        ensures told { Calls (λ byte r s. Polled M.view (drive_party r) byte r s) (λ r s. NotPolled M.view (drive_party r) r s) (⟦<LoopRecords<M> as Looped<M>>⟧.looped self.old).sound (⟦<LoopRecords<M> as Looped<M>>⟧.looped self.old).since (⟦<LoopRecords<M> as Looped<M>>⟧.looped self.old) (⟦<LoopRecords<M> as Looped<M>>⟧.looped self.new) result }
         ensures leaves { LeavesStore 1 (Unit {0}) (⟦<LoopRecords<M> as Records>⟧.view self.old) (⟦<LoopRecords<M> as Records>⟧.view self.new) result }
     {
-        let idle = self.take_idle();
-        let drive = drive_of(&idle);
-        match status(idle, drive) {
-            Ok((idle, byte)) => {
-                self.put_back(idle);
-                Ok(byte)
-            }
-            Err(lost) => Err(self.broke(lost)),
-        }
+        let answer = status(&mut self.ring);
+        self.ended(answer)
     }
 
-    /// Asks each device, in the order of the ring, for its accessory ID, and puts these into `into`: None for a device that
-    /// has none.
+    /// Asks each device, in the order of the ring, for its accessory ID, and puts these into `into`: None for a device
+    /// that has none.
     ///
     /// The error is `Trouble::Frame`, and comes exactly where a planned fault acted on a frame of the call.
     pub fn accessories(&mut self, into: &mut ArrayVec<Option<u8>, 30>) -> Result<(), Trouble>
-        requires valid { StandsSo (⟦<LoopRecords<M> as Looped<M>>⟧.looped self.old).control (⟦<LoopRecords<M> as Looped<M>>⟧.looped self.old).sound (⟦<LoopRecords<M> as Looped<M>>⟧.looped self.old).since }
-        requires ready { is_idle (⟦<LoopRecords<M> as Looped<M>>⟧.looped self.old).control ≡ true }
-        requires room { HasRing (⟦<LoopRecords<M> as Looped<M>>⟧.looped self.old).control (λ r. 1000 ≤ spare_of r) }
-        ensures named { Calls (λ x r s. AllNamed M.view into.new.items r s) (λ r s. LeftAlone M.view false (up_to (id_asks (devices_of r)) (length (devices_of r))) r s)
-            (⟦<LoopRecords<M> as Looped<M>>⟧.looped self.old).since (since_frame (⟦<LoopRecords<M> as Looped<M>>⟧.looped self.old).since)
-            (⟦<LoopRecords<M> as Looped<M>>⟧.looped self.old) (⟦<LoopRecords<M> as Looped<M>>⟧.looped self.new) result }
+        requires valid { StandsSo (⟦<LoopRecords<M> as Looped<M>>⟧.looped self.old) }
+        requires ready { (⟦<LoopRecords<M> as Looped<M>>⟧.looped self.old).ready ≡ true }
+        requires room { 1000 ≤ spare_of (⟦<LoopRecords<M> as Looped<M>>⟧.looped self.old).ring }
+        ensures named { Calls (λ x r s. AllNamed M.view into.new.items r s) (λ r s. LeftAlone M.view false (up_to (id_asks (devices_of r)) (length (devices_of r))) r s) (⟦<LoopRecords<M> as Looped<M>>⟧.looped self.old).sound (⟦<LoopRecords<M> as Looped<M>>⟧.looped self.old).since (⟦<LoopRecords<M> as Looped<M>>⟧.looped self.old) (⟦<LoopRecords<M> as Looped<M>>⟧.looped self.new) result }
         ensures leaves { LeavesStore 2 (Unit {0}) (⟦<LoopRecords<M> as Records>⟧.view self.old) (⟦<LoopRecords<M> as Records>⟧.view self.new) result }
     {
-        let idle = self.take_idle();
-        let count = idle.ring().devices();
-        match calls::accessories(idle, count, into) {
-            Ok(idle) => {
-                self.put_back(idle);
-                Ok(())
-            }
-            Err(lost) => Err(self.broke(lost)),
-        }
+        let answer = calls::accessories(&mut self.ring, into);
+        self.ended(answer)
     }
 
-    /// Polls the first eight devices in parallel, and answers the identify frame as it came back: bit a - 1 is set where
-    /// device a wants service, and its class is ISR where any device on the ring does.
+    /// Polls the first eight devices in parallel, and answers the identify frame as it came back: bit a - 1 is set
+    /// where device a wants service, and its class is ISR where any device on the ring does.
     ///
     /// The error is `Trouble::Frame`, and comes exactly where a planned fault acted on a frame of the call.
     pub fn parallel_poll(&mut self) -> Result<Frame, Trouble>
-        requires valid { StandsSo (⟦<LoopRecords<M> as Looped<M>>⟧.looped self.old).control (⟦<LoopRecords<M> as Looped<M>>⟧.looped self.old).sound (⟦<LoopRecords<M> as Looped<M>>⟧.looped self.old).since }
-        requires ready { is_idle (⟦<LoopRecords<M> as Looped<M>>⟧.looped self.old).control ≡ true }
-        requires room { HasRing (⟦<LoopRecords<M> as Looped<M>>⟧.looped self.old).control (λ r. 1000 ≤ spare_of r) }
-        ensures polled { Calls (HasPolled M.view) (λ r s. PollBroke M.view 54 (poll_asks (length (devices_of r)) (polled_along 1 (devices_of r) idy)) r s)
-            (⟦<LoopRecords<M> as Looped<M>>⟧.looped self.old).since (since_frame (⟦<LoopRecords<M> as Looped<M>>⟧.looped self.old).since)
-            (⟦<LoopRecords<M> as Looped<M>>⟧.looped self.old) (⟦<LoopRecords<M> as Looped<M>>⟧.looped self.new) result }
+        requires valid { StandsSo (⟦<LoopRecords<M> as Looped<M>>⟧.looped self.old) }
+        requires ready { (⟦<LoopRecords<M> as Looped<M>>⟧.looped self.old).ready ≡ true }
+        requires room { 1000 ≤ spare_of (⟦<LoopRecords<M> as Looped<M>>⟧.looped self.old).ring }
+        ensures polled { Calls (HasPolled M.view) (λ r s. PollBroke M.view 54 (poll_asks (length (devices_of r)) (polled_along 1 (devices_of r) idy)) r s) (⟦<LoopRecords<M> as Looped<M>>⟧.looped self.old).sound (⟦<LoopRecords<M> as Looped<M>>⟧.looped self.old).since (⟦<LoopRecords<M> as Looped<M>>⟧.looped self.old) (⟦<LoopRecords<M> as Looped<M>>⟧.looped self.new) result }
         ensures leaves { LeavesStore 1 (Unit {0}) (⟦<LoopRecords<M> as Records>⟧.view self.old) (⟦<LoopRecords<M> as Records>⟧.view self.new) result }
     {
-        let idle = self.take_idle();
-        let count = idle.ring().devices();
-        match poll::parallel_poll(idle, count) {
-            Ok((idle, frame)) => {
-                self.put_back(idle);
-                Ok(frame)
-            }
-            Err(lost) => Err(self.broke(lost)),
-        }
+        let answer = poll::parallel_poll(&mut self.ring);
+        self.ended(answer)
     }
 
     /// Sends bytes to the device of this address, 1 to 30.
     ///
-    /// The error is `Trouble::Frame`, and comes exactly where a planned fault acted on a frame of the call. The device then
-    /// heard those bytes that the log has whole, the first ones, and at most one byte more, of any value.
+    /// The error is `Trouble::Frame`, and comes exactly where a planned fault acted on a frame of the call. The device
+    /// then heard those bytes that the log has whole, the first ones, and at most one byte more, of any value.
     pub fn say(&mut self, printer: u8, bytes: &[u8]) -> Result<(), Trouble>
-        requires valid { StandsSo (⟦<LoopRecords<M> as Looped<M>>⟧.looped self.old).control (⟦<LoopRecords<M> as Looped<M>>⟧.looped self.old).sound (⟦<LoopRecords<M> as Looped<M>>⟧.looped self.old).since }
-        requires ready { is_idle (⟦<LoopRecords<M> as Looped<M>>⟧.looped self.old).control ≡ true }
-        requires room { HasRing (⟦<LoopRecords<M> as Looped<M>>⟧.looped self.old).control (λ r. length bytes.now + 1000 ≤ spare_of r) }
+        requires valid { StandsSo (⟦<LoopRecords<M> as Looped<M>>⟧.looped self.old) }
+        requires ready { (⟦<LoopRecords<M> as Looped<M>>⟧.looped self.old).ready ≡ true }
+        requires room { length bytes.now + 1000 ≤ spare_of (⟦<LoopRecords<M> as Looped<M>>⟧.looped self.old).ring }
         requires address { (1 ≤ printer) × (printer ≤ 30) }
-        ensures said { Calls (λ x r s. Said M.view printer bytes.now r s) (λ r s. NotSaid M.view printer bytes.now r s)
-            (since_said (⟦<LoopRecords<M> as Looped<M>>⟧.looped self.old).since) (since_frame (since_said (⟦<LoopRecords<M> as Looped<M>>⟧.looped self.old).since))
-            (⟦<LoopRecords<M> as Looped<M>>⟧.looped self.old) (⟦<LoopRecords<M> as Looped<M>>⟧.looped self.new) result }
+        ensures said { Calls (λ x r s. Said M.view printer bytes.now r s) (λ r s. NotSaid M.view printer bytes.now r s) (⟦<LoopRecords<M> as Looped<M>>⟧.looped self.old).sound (since_said (⟦<LoopRecords<M> as Looped<M>>⟧.looped self.old).since) (⟦<LoopRecords<M> as Looped<M>>⟧.looped self.old) (⟦<LoopRecords<M> as Looped<M>>⟧.looped self.new) result }
         ensures leaves { LeavesStore ((length bytes.now + 306) / 300) (Unit {0}) (⟦<LoopRecords<M> as Records>⟧.view self.old) (⟦<LoopRecords<M> as Records>⟧.view self.new) result }
     {
-        let idle = self.take_idle();
-        self.speak();
-        match calls::say(idle, printer, bytes) {
-            Ok(idle) => {
-                self.put_back(idle);
-                Ok(())
-            }
-            Err(lost) => Err(self.broke(lost)),
-        }
+        self.since = self.since.said();
+        let answer = calls::say(&mut self.ring, printer, bytes);
+        self.ended(answer)
     }
 
-    /// Lends the loop to the second controller where it stands at this address, 1 to 30, until `limit` frames of it, 1 to 4,096,
-    /// have come to the host. Answers whether a second controller took control. No record changes; the store is not sound then.
+    /// Lends the loop to the second controller where it stands at this address, 1 to 30, until `limit` frames of it, 1
+    /// to 4,096, have come to the host. Answers whether a second controller took control. No record changes; the store
+    /// is not sound then.
     ///
-    /// The error is `Trouble::Frame`, and comes where a frame was lost, or a status came back to its device with another byte.
+    /// The error is `Trouble::Frame`, and comes where a frame was lost, or a status came back to its device with
+    /// another byte.
     pub fn lend(&mut self, address: u8, limit: u16) -> Result<bool, Trouble>
-        requires valid { StandsSo (⟦<LoopRecords<M> as Looped<M>>⟧.looped self.old).control (⟦<LoopRecords<M> as Looped<M>>⟧.looped self.old).sound (⟦<LoopRecords<M> as Looped<M>>⟧.looped self.old).since }
-        requires ready { is_idle (⟦<LoopRecords<M> as Looped<M>>⟧.looped self.old).control ≡ true }
+        requires valid { StandsSo (⟦<LoopRecords<M> as Looped<M>>⟧.looped self.old) }
+        requires ready { (⟦<LoopRecords<M> as Looped<M>>⟧.looped self.old).ready ≡ true }
         requires address { (1 ≤ address) × (address ≤ 30) }
         requires limit { (1 ≤ limit) × (limit ≤ 4096) }
-        requires room { HasRing (⟦<LoopRecords<M> as Looped<M>>⟧.looped self.old).control (λ r. 4 * limit + 48 ≤ spare_of r) }
+        requires room { 4 * limit + 48 ≤ spare_of (⟦<LoopRecords<M> as Looped<M>>⟧.looped self.old).ring }
         ensures lent { LendCalls address limit (⟦<LoopRecords<M> as Looped<M>>⟧.looped self.old) (⟦<LoopRecords<M> as Looped<M>>⟧.looped self.new) result }
         ensures leaves { LeavesLent ((2 * limit + 309) / 300) (⟦<LoopRecords<M> as Records>⟧.view self.old) (⟦<LoopRecords<M> as Records>⟧.view self.new) }
     {
-        let idle = self.take_idle();
-        self.lent();
-        match idle.lend(address, limit) {
-            Ok((idle, taken)) => {
-                self.put_back(idle);
-                Ok(taken)
-            }
-            Err(lost) => Err(self.broke(lost)),
-        }
+        self.sound = false;
+        self.since = Since::Mended;
+        let answer = exchanges::lend(&mut self.ring, address, limit);
+        self.ended(answer)
     }
 }

@@ -5,6 +5,6 @@ use Rattle.il_record.proofs.calls.accessories.Given as goal
 
 abbrev pub invariant-loop-place : goal.invariant-loop-place
 invariant-loop-place g l =
-    let old : RingView g.row.M.Denot = ring_seen (λ b. (goal.Device-dyn g (b.vtable, b.value)).state b.value) l.fn.idle.ring in
-    let now : RingView g.row.M.Denot = ring_seen (λ b. (goal.Device-dyn g (b.vtable, b.value)).state b.value) l.idle.ring in
+    let old : RingView g.row.M.Denot = ring_seen (λ b. (goal.Device-dyn g (b.vtable, b.value)).state b.value) l.fn.ring in
+    let now : RingView g.row.M.Denot = ring_seen (λ b. (goal.Device-dyn g (b.vtable, b.value)).state b.value) l.ring in
     NamedSo g.M.Medium.view l.place l.into.items old now

@@ -1,19 +1,15 @@
-use Rattle.std.proofs.Common.{◌∙◌, length, ap}
-use Rattle.il_ring.specs.Rings.{devices_of}
-use Rattle.il_record.proofs.Calling.{names_told, names_not_told, names_leave, names_break}
+use Rattle.std.proofs.Common.{arith, refl}
+use Rattle.il_record.proofs.Calling.{calls, leaves, names_mild, not_named_mild, stands}
+use Rattle.il_record.proofs.Sends.{err_as, ok_as}
 use Rattle.il_record.proofs.records.LoopRecords.accessories.Goals as goal
 
-pub returns-in-Ok-clause-named : goal.returns-in-Ok-clause-named
-returns-in-Ok-clause-named g c = names_told g.M.Medium.view _ _ _ _ _ c.take_idle-idle.ensures.idle c.take_idle-idle.ensures.left _ c.put_back.ensures c.in-Ok.ensures.named
+pub accessories-answer-requires-clause-idle : goal.accessories-answer-requires-clause-idle
+accessories-answer-requires-clause-idle g c = (stands _ _ _ _ c.requires.ready c.requires.valid).0
 
-pub returns-in-Ok-clause-leaves : goal.returns-in-Ok-clause-leaves
-returns-in-Ok-clause-leaves g c =
-    names_leave g.M.Medium.view _ _ _ _ _ _ _ _ _ c.take_idle-idle.ensures.idle c.requires.valid c.take_idle-idle.ensures.left _ _ _ c.devices-count.ensures.range.1 c.put_back.ensures c.in-Ok.ensures.named c.in-Ok.ensures.used
+pub returns-clause-named : goal.returns-clause-named
+returns-clause-named g c = calls _ _ _ _ _ _ _ _ c.requires.ready refl _ _ c.ended.ensures c.accessories-answer.ensures.named c.accessories-answer.ensures.broken
 
-pub returns-in-Err-clause-named : goal.returns-in-Err-clause-named
-returns-in-Err-clause-named g c =
-    names_not_told g.M.Medium.view _ _ _ _ _ c.take_idle-idle.ensures.idle c.take_idle-idle.ensures.left _ _ (c.devices-count.ensures.count ∙ ap (λ r. length (devices_of r)) c.ring.ensures) c.broke.ensures.answer c.broke.ensures.left c.in-Err.ensures.broken
-
-pub returns-in-Err-clause-leaves : goal.returns-in-Err-clause-leaves
-returns-in-Err-clause-leaves g c =
-    names_break g.M.Medium.view _ _ _ _ _ _ _ _ _ c.take_idle-idle.ensures.idle c.requires.valid c.take_idle-idle.ensures.left _ _ _ c.devices-count.ensures.range.1 c.broke.ensures.answer c.broke.ensures.left c.in-Err.ensures.broken c.in-Err.ensures.used_lost
+pub returns-clause-leaves : goal.returns-clause-leaves
+returns-clause-leaves g c =
+    leaves g.M.Medium.view _ _ _ _ _ refl _ _ _ c.requires.ready c.requires.valid _ _ _ c.accessories-answer.ensures.used (omega arith) (stands _ _ _ _ c.requires.ready c.requires.valid).2 _ _ c.ended.ensures
+    (ok_as _ _ _ (λ done named. names_mild g.M.Medium.view _ _ _ _ named) c.accessories-answer.ensures.named) (err_as _ _ _ (λ e not. not_named_mild g.M.Medium.view _ _ _ _ not) c.accessories-answer.ensures.broken)

@@ -1,16 +1,15 @@
-use Rattle.il_record.proofs.Calling.{status_told, status_not_told, status_leaves, status_breaks}
+use Rattle.std.proofs.Common.{arith, refl}
+use Rattle.il_record.proofs.Calling.{calls, leaves, not_told_mild, stands, status_mild}
+use Rattle.il_record.proofs.Sends.{err_as, ok_as}
 use Rattle.il_record.proofs.records.LoopRecords.drive_status.Goals as goal
 
-pub returns-in-Ok-clause-told : goal.returns-in-Ok-clause-told
-returns-in-Ok-clause-told g c = status_told g.M.Medium.view _ _ _ _ _ c.take_idle-idle.ensures.idle c.take_idle-idle.ensures.left _ c.drive_of-drive.ensures.party _ c.put_back.ensures c.in-Ok.ensures.told
+pub status-answer-requires-clause-idle : goal.status-answer-requires-clause-idle
+status-answer-requires-clause-idle g c = (stands _ _ _ _ c.requires.ready c.requires.valid).0
 
-pub returns-in-Ok-clause-leaves : goal.returns-in-Ok-clause-leaves
-returns-in-Ok-clause-leaves g c =
-    status_leaves g.M.Medium.view _ _ _ _ _ _ _ _ _ c.take_idle-idle.ensures.idle c.requires.valid c.take_idle-idle.ensures.left _ c.drive_of-drive.ensures.party _ _ c.put_back.ensures c.in-Ok.ensures.told c.in-Ok.ensures.came c.in-Ok.ensures.places c.in-Ok.ensures.used
+pub returns-clause-told : goal.returns-clause-told
+returns-clause-told g c = calls _ _ _ _ _ _ _ _ c.requires.ready refl _ _ c.ended.ensures c.status-answer.ensures.told c.status-answer.ensures.broken
 
-pub returns-in-Err-clause-told : goal.returns-in-Err-clause-told
-returns-in-Err-clause-told g c = status_not_told g.M.Medium.view _ _ _ _ _ c.take_idle-idle.ensures.idle c.take_idle-idle.ensures.left _ c.drive_of-drive.ensures.party _ c.broke.ensures.answer c.broke.ensures.left c.in-Err.ensures.broken
-
-pub returns-in-Err-clause-leaves : goal.returns-in-Err-clause-leaves
-returns-in-Err-clause-leaves g c =
-    status_breaks g.M.Medium.view _ _ _ _ _ _ _ _ _ c.take_idle-idle.ensures.idle c.requires.valid c.take_idle-idle.ensures.left _ c.drive_of-drive.ensures.party _ c.broke.ensures.answer c.broke.ensures.left c.in-Err.ensures.broken c.in-Err.ensures.came_in_part c.in-Err.ensures.places_in_part c.in-Err.ensures.used_lost
+pub returns-clause-leaves : goal.returns-clause-leaves
+returns-clause-leaves g c =
+    leaves g.M.Medium.view _ _ _ _ _ refl _ _ _ c.requires.ready c.requires.valid _ _ _ c.status-answer.ensures.used (omega arith) (stands _ _ _ _ c.requires.ready c.requires.valid).2 _ _ c.ended.ensures
+    (ok_as _ _ _ (λ byte told. status_mild g.M.Medium.view _ _ _ byte c.status-answer.ensures.places told) c.status-answer.ensures.told) (err_as _ _ _ (λ e not. not_told_mild g.M.Medium.view _ _ _ c.status-answer.ensures.places not) c.status-answer.ensures.broken)

@@ -1,17 +1,19 @@
-use Rattle.std.proofs.Common.{◌∙◌, length, ap}
-use Rattle.il_ring.specs.Rings.{devices_of}
-use Rattle.il_record.proofs.Calling.{poll_told, poll_not_told, poll_leaves, poll_breaks}
+use Rattle.std.proofs.Common.{arith, refl}
+use Rattle.il_record.proofs.Calling.{calls, leaves, not_polled_mild, poll_mild, poll_used, stands}
+use Rattle.il_record.proofs.Sends.{err_as, ok_as}
 use Rattle.il_record.proofs.records.LoopRecords.parallel_poll.Goals as goal
 
-pub returns-in-Ok-clause-polled : goal.returns-in-Ok-clause-polled
-returns-in-Ok-clause-polled g c = poll_told g.M.Medium.view _ _ _ _ _ c.take_idle-idle.ensures.idle c.take_idle-idle.ensures.left _ c.put_back.ensures c.in-Ok.ensures.polled
+pub parallel_poll-answer-requires-clause-idle : goal.parallel_poll-answer-requires-clause-idle
+parallel_poll-answer-requires-clause-idle g c = (stands _ _ _ _ c.requires.ready c.requires.valid).0
 
-pub returns-in-Ok-clause-leaves : goal.returns-in-Ok-clause-leaves
-returns-in-Ok-clause-leaves g c = poll_leaves g.M.Medium.view _ _ _ _ _ _ _ _ _ c.take_idle-idle.ensures.idle c.requires.valid c.take_idle-idle.ensures.left _ _ c.put_back.ensures c.in-Ok.ensures.polled
+pub parallel_poll-answer-requires-clause-places : goal.parallel_poll-answer-requires-clause-places
+parallel_poll-answer-requires-clause-places g c = (stands _ _ _ _ c.requires.ready c.requires.valid).3
 
-pub returns-in-Err-clause-polled : goal.returns-in-Err-clause-polled
-returns-in-Err-clause-polled g c =
-    poll_not_told g.M.Medium.view _ _ _ _ _ c.take_idle-idle.ensures.idle c.take_idle-idle.ensures.left _ _ (c.devices-count.ensures.count ∙ ap (λ r. length (devices_of r)) c.ring.ensures) c.broke.ensures.answer c.broke.ensures.left c.in-Err.ensures.broken
+pub returns-clause-polled : goal.returns-clause-polled
+returns-clause-polled g c = calls _ _ _ _ _ _ _ _ c.requires.ready refl _ _ c.ended.ensures c.parallel_poll-answer.ensures.polled c.parallel_poll-answer.ensures.broken
 
-pub returns-in-Err-clause-leaves : goal.returns-in-Err-clause-leaves
-returns-in-Err-clause-leaves g c = poll_breaks g.M.Medium.view _ _ _ _ _ _ _ _ _ c.take_idle-idle.ensures.idle c.requires.valid c.take_idle-idle.ensures.left _ _ c.broke.ensures.answer c.broke.ensures.left c.in-Err.ensures.broken
+pub returns-clause-leaves : goal.returns-clause-leaves
+returns-clause-leaves g c =
+    let used = poll_used g.M.Medium.view _ _ _ _ c.parallel_poll-answer.ensures.polled c.parallel_poll-answer.ensures.broken in
+    leaves g.M.Medium.view _ _ _ _ _ refl _ _ _ c.requires.ready c.requires.valid _ _ _ used (omega arith) (stands _ _ _ _ c.requires.ready c.requires.valid).2 _ _ c.ended.ensures
+    (ok_as _ _ _ (λ f polled. poll_mild g.M.Medium.view _ _ _ f polled) c.parallel_poll-answer.ensures.polled) (err_as _ _ _ (λ e not. not_polled_mild g.M.Medium.view _ _ _ _ _ not) c.parallel_poll-answer.ensures.broken)

@@ -1,14 +1,15 @@
-use Rattle.il_record.proofs.Calling.{said_told, said_not_told, said_leaves, said_breaks}
+use Rattle.std.proofs.Common.{arith}
+use Rattle.il_record.proofs.Calling.{calls, leaves, not_said_mild, said_alive, said_mild, stands}
+use Rattle.il_record.proofs.Sends.{err_as, ok_as}
 use Rattle.il_record.proofs.records.LoopRecords.say.Goals as goal
 
-pub returns-in-Ok-clause-said : goal.returns-in-Ok-clause-said
-returns-in-Ok-clause-said g c = said_told g.M.Medium.view _ _ _ _ _ c.take_idle-idle.ensures.idle _ c.take_idle-idle.ensures.left c.speak.ensures _ _ c.put_back.ensures c.in-Ok.ensures.said
+pub say-answer-requires-clause-idle : goal.say-answer-requires-clause-idle
+say-answer-requires-clause-idle g c = (stands _ _ _ _ c.requires.ready c.requires.valid).0
 
-pub returns-in-Ok-clause-leaves : goal.returns-in-Ok-clause-leaves
-returns-in-Ok-clause-leaves g c = said_leaves g.M.Medium.view _ _ _ _ _ _ _ _ _ c.take_idle-idle.ensures.idle c.requires.valid _ c.take_idle-idle.ensures.left c.speak.ensures _ _ _ _ c.put_back.ensures c.in-Ok.ensures.said c.in-Ok.ensures.used
+pub returns-clause-said : goal.returns-clause-said
+returns-clause-said g c = calls _ _ _ _ _ _ _ _ c.requires.ready c.said-self.ensures _ _ c.ended.ensures c.say-answer.ensures.said c.say-answer.ensures.broken
 
-pub returns-in-Err-clause-said : goal.returns-in-Err-clause-said
-returns-in-Err-clause-said g c = said_not_told g.M.Medium.view _ _ _ _ _ c.take_idle-idle.ensures.idle _ c.take_idle-idle.ensures.left c.speak.ensures _ _ _ c.broke.ensures.answer c.broke.ensures.left c.in-Err.ensures.broken
-
-pub returns-in-Err-clause-leaves : goal.returns-in-Err-clause-leaves
-returns-in-Err-clause-leaves g c = said_breaks g.M.Medium.view _ _ _ _ _ _ _ _ _ c.take_idle-idle.ensures.idle c.requires.valid _ c.take_idle-idle.ensures.left c.speak.ensures _ _ _ _ c.broke.ensures.answer c.broke.ensures.left c.in-Err.ensures.broken c.in-Err.ensures.used_lost
+pub returns-clause-leaves : goal.returns-clause-leaves
+returns-clause-leaves g c =
+    leaves g.M.Medium.view _ _ _ _ _ c.said-self.ensures _ _ _ c.requires.ready c.requires.valid _ _ _ c.say-answer.ensures.used (omega arith) (said_alive _) _ _ c.ended.ensures
+    (ok_as _ _ _ (λ done said. said_mild g.M.Medium.view _ _ _ _ _ said) c.say-answer.ensures.said) (err_as _ _ _ (λ e not. not_said_mild g.M.Medium.view _ _ _ _ _ not) c.say-answer.ensures.broken)

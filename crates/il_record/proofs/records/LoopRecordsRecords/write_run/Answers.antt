@@ -1,20 +1,20 @@
+use Rattle.std.proofs.Common.{◌*◌, ◌+◌, ◌≤◌, sym, arith}
 use Rattle.lif_model.proofs.Made.{length_cut}
-use Rattle.il_record.proofs.StoreAnswers.{begins, room_for_write, stored_at, not_stored_at, broke_storing_at}
+use Rattle.il_record.proofs.StoreRuns.{begins, stored}
 use Rattle.il_record.proofs.records.LoopRecordsRecords.write_run.Goals as goal
 
-pub write_run-requires-clause-room : goal.write_run-requires-clause-room
-write_run-requires-clause-room g c = room_for_write _ _ (begins g.M.Medium.view _ _ _ _ _ _ _ _ c.take_idle-idle.ensures.idle c.requires.ready).left c.requires.some
+pub write_run-answer-requires-clause-room : goal.write_run-answer-requires-clause-room
+write_run-answer-requires-clause-room g c =
+    let left = c.requires.ready.left in
+    omega (arith, c.requires.some, left)
 
-pub returns-in-Ok-default-true : goal.returns-in-Ok-default-true
-returns-in-Ok-default-true g c =
-    stored_at g.M.Medium.view _ _ _ _ _ c.args.count _ _ _ c.take_idle-idle.ensures.idle c.requires.ready c.drive_of-drive.ensures.party _ (length_cut c.args.count c.args.from.now) c.requires.some c.in-Ok-default-true.ensures.places _ _ _ _ c.in-Ok-default-true.field-0-1-test c.take_idle-idle.ensures.left c.put_back.ensures c.in-Ok-default-true.ensures.wrote c.in-Ok-default-true.ensures.used
+pub write_run-answer-requires-clause-idle : goal.write_run-answer-requires-clause-idle
+write_run-answer-requires-clause-idle g c = (begins g.M.Medium.view _ _ _ _ c.requires.ready).idle
 
-pub returns-in-Ok-default-false : goal.returns-in-Ok-default-false
-returns-in-Ok-default-false g c =
-    not_stored_at g.M.Medium.view _ _ _ _ _ c.args.count _ _ _ c.take_idle-idle.ensures.idle c.requires.ready c.drive_of-drive.ensures.party _ (length_cut c.args.count c.args.from.now) c.requires.some c.in-Ok-default-false.ensures.places _ _ _ _ c.in-Ok-default-false.field-0-1-test c.failed.ensures.answer c.take_idle-idle.ensures.left
-    c.failed.ensures.left c.in-Ok-default-false.ensures.wrote c.in-Ok-default-false.ensures.used
+pub write_run-answer-requires-clause-free : goal.write_run-answer-requires-clause-free
+write_run-answer-requires-clause-free g c = (begins g.M.Medium.view _ _ _ _ c.requires.ready).free
 
-pub returns-in-Err : goal.returns-in-Err
-returns-in-Err g c =
-    broke_storing_at g.M.Medium.view _ _ _ _ _ c.args.count _ _ _ c.take_idle-idle.ensures.idle c.requires.ready c.drive_of-drive.ensures.party _ (length_cut c.args.count c.args.from.now) c.requires.some c.in-Err.ensures.places_in_part _ _ _ c.broke.ensures.answer c.take_idle-idle.ensures.left
-    c.broke.ensures.left c.in-Err.ensures.broken c.in-Err.ensures.used_lost
+pub returns : goal.returns
+returns g c =
+    let few : 30 + 256 * c.args.count ≤ 300 * c.args.count = omega (arith, c.requires.some) in
+    stored g.M.Medium.view _ _ _ _ _ _ _ (begins g.M.Medium.view _ _ _ _ c.requires.ready) c.write_run-answer.ensures.places c.write_run-answer.ensures.used few _ _ _ _ _ (sym (length_cut c.args.count c.args.from.now)) c.moved.ensures c.write_run-answer.ensures.wrote c.write_run-answer.ensures.broken
