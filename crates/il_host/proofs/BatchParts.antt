@@ -8,7 +8,7 @@ use Rattle.lif_model.specs.Parts.{most_parts}
 use Rattle.lif_model.specs.Parts as model
 use Rattle.lif_dir.specs.Batches.{BatchView, has_room, IsPartOf, bytes_at, part_of, parts_of}
 use Rattle.lif_dir.specs.declared.batch.Part.{Part}
-use Rattle.lif_dir.specs.declared.batch.Part.TheVariants.{Store, Rename, Purge}
+use Rattle.lif_dir.specs.declared.batch.Part.TheVariants.{Store}
 use Rattle.lif_dir.specs.declared.names.NewName.{NewName}
 use Rattle.lif_dir.specs.Entries.{name_bytes}
 use Rattle.lif_dir.specs.Names.{made_name}
@@ -28,8 +28,7 @@ bytes_last xs ys = ap (take (length ys)) (drop-append_seam xs ys) ∙ take_all (
 
 part_still : (xs ys : List ℕ) (p : Part) → IsPartOf (length xs) p → part_of (xs ++ ys) p ≡ part_of xs p
 part_still xs ys (Store name kind implementation from size) is = ap (model.Store (name_bytes (made_name name)) kind implementation) (bytes_still from size xs ys is.0)
-part_still xs ys (Rename old new) is = refl
-part_still xs ys (Purge name) is = refl
+part_still xs ys _ is = refl
 
 parts_still : (xs ys : List ℕ) (ps : List Part) → All (IsPartOf (length xs)) ps → map (part_of (xs ++ ys)) ps ≡ map (part_of xs) ps
 parts_still xs ys [] each = refl
@@ -38,8 +37,7 @@ parts_still xs ys (p ∷ ps) each =
 
 part_longer : (count more : ℕ) (p : Part) → count ≤ more → IsPartOf count p → IsPartOf more p
 part_longer count more (Store name kind implementation from size) le is = (omega (arith, le, is.0), is.1, is.2)
-part_longer count more (Rename old new) le is = tt
-part_longer count more (Purge name) le is = tt
+part_longer count more _ le is = tt
 
 parts_longer : (count more : ℕ) (ps : List Part) → count ≤ more → All (IsPartOf count) ps → All (IsPartOf more) ps
 parts_longer count more [] le each = All-nil (IsPartOf more)

@@ -1,5 +1,5 @@
 -- A host that is closed.
-use Rattle.std.proofs.Common.{◌≡◌, ◌∙◌, ℕ, Bool, true, false, List, [], ◌∷◌, ◌++◌, length, Option, Some, None, refl, sym, ap, subst, arith, append-nil, length-append}
+use Rattle.std.proofs.Common.{◌≡◌, ◌∙◌, ℕ, List, [], ◌∷◌, ◌++◌, length, Option, Some, None, refl, sym, ap, subst, arith, append-nil, length-append}
 use Rattle.lif_model.specs.Stops.{StandsStill}
 use Rattle.lif_model.specs.Tape.{Tape}
 use Rattle.il_ports.specs.Media.{MediumView}
@@ -10,11 +10,7 @@ use Rattle.il_ring.specs.declared.ring.Ring.{Ring}
 use Rattle.il_ring.specs.Guests.{GuestMind, guest_devices, guest_mind, last_asked, mind_of}
 use Rattle.il_ring.specs.Rings.{RingView}
 use Rattle.il_record.specs.declared.records.LoopRecords.{LoopRecords}
-use Rattle.il_record.specs.declared.records.Since.{Since}
-use Rattle.il_record.specs.LoopStores.{AtIdle, AtLost, HasRing, Nowhere, Standing, view_at}
-use Rattle.host_model.specs.RingStates.{state_on}
-use Rattle.il_host.specs.HostView.{HostView}
-use Rattle.il_host.specs.Hosts.{IsClosed, Space, host_in, host_view, loop_in}
+use Rattle.il_host.specs.Hosts.{IsClosed, Space, host_in, loop_in}
 
 -- ---- what is handed back of a second controller
 
@@ -38,11 +34,10 @@ same_guest g h device mind = ap (λ d. guest_of d (mind_of g)) device ∙ ap (gu
 -- The devices and a second controller as the last one are the same, and so is what it has in mind: then each part is the same.
 handed_back_same : (ds es : List DeviceState) (g h : Option GuestState) → ds ++ guest_devices g ≡ es ++ guest_devices h → guest_mind g ≡ guest_mind h → (ds ≡ es) × (g ≡ h)
 handed_back_same ds es None None same mind = (sym (append-nil ds) ∙ same ∙ append-nil es, refl)
-handed_back_same ds es None (Some h) same mind = cc
-handed_back_same ds es (Some g) None same mind = cc
 handed_back_same ds es (Some g) (Some h) same mind =
     let parts = same_last ds es g.device h.device same in
     (parts.0, ap Some (same_guest g h parts.1 (ap (λ m. elim m [ None ↦ mind_of g | Some n ↦ n ]) mind)))
+handed_back_same ds es _ _ same mind = cc
 
 -- what a ring was made of is handed back by a ring that is as that one
 pub unsent : {M : Type 0} (r t : RingView M) (ds es : List DeviceState) (g h : Option GuestState) → t ≡ r → r.after ≡ es ++ guest_devices h → r.guest ≡ guest_mind h
@@ -62,23 +57,10 @@ pub record HandsBack {M : Type 0} (r : RingView M) (medium : M) (before after : 
   pub devices_after : after ++ guest_devices guest ≡ r.after
   pub guest_is : guest_mind guest ≡ r.guest
 
-module _ {M S : Type 0} (view : M → MediumView) (seen : S → RingView M) (present : Option S) (sound : Bool) (log : Since) (resumes : ℕ) (kept : Bool) (valid : Type 0) (text : List ℕ)
+module _ {M I : Type 0} {D : I → Type 0} (view : M → MediumView) (seen : Ring M I D → RingView M) (v : Volume (LoopRecords M I D)) (text : List ℕ) (text_space : ℕ) (space : Space)
     (medium : M) (before after : List DeviceState) (guest : Option GuestState) where
-  abbrev host_of : Bool → RingView M → HostView
-  host_of ready s = record {
-    valid = valid;
-    state = record (state_on view ready sound s) { kept = kept };
-    plan = s.books.plan;
-    log = s.books.log;
-    text = text;
-    images = (view s.drive.medium).shelf;
-    inside = (view s.drive.medium).inside;
-    moment = (view s.drive.medium).moment;
-    left_since = (view s.drive.medium).left_since;
-  }
-
-  closes_ring : (ready : Bool) (s r : RingView M) → r ≡ s → HandsBack r medium before after guest → IsClosed view (host_of ready s) medium before after guest
-  closes_ring ready s r same back = record {
+  closes_host : (r : RingView M) → r ≡ (loop_in seen v.records).ring → HandsBack r medium before after guest → IsClosed view (host_in view seen v text text_space space) medium before after guest
+  closes_host r same back = record {
     tape = ap (λ m. (view m).tape) medium_is;
     faults = ap (λ m. (view m).faults) medium_is;
     shelf = ap (λ m. (view m).shelf) medium_is;
@@ -90,17 +72,11 @@ module _ {M S : Type 0} (view : M → MediumView) (seen : S → RingView M) (pre
     since = subst (λ m. StandsStill (view s.drive.medium).left_since (view m).left_since) (sym medium_is) (still (view s.drive.medium).left_since);
   }
     where
+      s : RingView M
+      s = (loop_in seen v.records).ring
+
       medium_is : medium ≡ s.drive.medium
       medium_is = back.medium_is ∙ ap (λ (r : RingView M). r.drive.medium) same
 
-  pub closes_at : (control : Standing M) (r : RingView M) → HasRing control (λ s. r ≡ s) → HandsBack r medium before after guest
-      → IsClosed view (host_view view valid (view_at view seen present sound log resumes control) (record { control = control; sound = sound; since = log; resumes = resumes }) kept text) medium before after guest
-  closes_at (AtIdle s) r same back = closes_ring true s r same back
-  closes_at (AtLost s) r same back = closes_ring false s r same back
-  closes_at Nowhere r same back = absurd same
-
-module _ {M I : Type 0} {D : I → Type 0} (view : M → MediumView) (seen : Ring M I D → RingView M) (v : Volume (LoopRecords M I D)) (text : List ℕ) (text_space : ℕ) (space : Space)
-    (medium : M) (before after : List DeviceState) (guest : Option GuestState) where
-  pub closes : (l : LoopRecords M I D) (r : RingView M) → l ≡ v.records → HasRing (loop_in seen l).control (λ s. r ≡ s) → HandsBack r medium before after guest
-      → IsClosed view (host_in view seen v text text_space space) medium before after guest
-  closes l r is same back = closes_at view seen _ _ _ _ _ _ text medium before after guest _ r (subst (λ l. HasRing (loop_in seen l).control (λ s. r ≡ s)) is same) back
+  pub closes : (l : LoopRecords M I D) (r : RingView M) → l ≡ v.records → r ≡ (loop_in seen l).ring → HandsBack r medium before after guest → IsClosed view (host_in view seen v text text_space space) medium before after guest
+  closes l r is same back = closes_host r (same ∙ ap (λ (l : LoopRecords M I D). (loop_in seen l).ring) is) back

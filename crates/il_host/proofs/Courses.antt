@@ -10,7 +10,7 @@ use Rattle.il_frames.specs.declared.frame.Frame.{Frame}
 use Rattle.il_frames.specs.Frames.{byte_of}
 use Rattle.il_device.specs.State.{DeviceState}
 use Rattle.il_frames.specs.NamedFrames.{is_frame, lad, unl}
-use Rattle.loop_model.specs.Exchanges.{Answer, NotTaken, ToItsEnd, Stopped, Exchange, Command, Address, Send, Receive, Identify, Sai, Sst, Sda, Sdi, Start, Echo, is_exchange, bytes_of}
+use Rattle.loop_model.specs.Exchanges.{Answer, NotTaken, ToItsEnd, Stopped, Exchange, Send, Receive, Identify, Sai, Start, Echo, is_exchange, bytes_of}
 use Rattle.loop_model.specs.Loops.{Loop}
 use Rattle.loop_model.specs.Polls.{poll_enable, poll_unconfigure}
 use Rattle.il_control.specs.Receives.{accessory_at}
@@ -56,49 +56,38 @@ told_bytes (Some t) = t.bytes
 -- an accessory ID is told as the host has it
 answered : (a : ℕ) (id : Option ℕ) (answer : Answer) → told_of answer ≡ id_told a id → is_id_answer a id answer ≡ true
 answered a None NotTaken told = refl
-answered a None (ToItsEnd p ds) told = cc
-answered a None (Stopped p ds last) told = cc
-answered a (Some id) NotTaken told = cc
 answered a (Some id) (ToItsEnd p ds) told = let stop : false ≡ true = ap stopped_of told in cc
 answered a (Some id) (Stopped p [] last) told =
     let byte : byte_of last.sent ≡ id = ap (λ bytes. get_or bytes 0 0) (ap told_bytes told) in
     and_from (p == a) (byte_of last.sent == id) (eq-eqb p a (ap party_of told)) (eq-eqb (byte_of last.sent) id byte)
 answered a (Some id) (Stopped p (d ∷ []) last) told = let two : byte_of d.sent ∷ byte_of last.sent ∷ [] ≡ id ∷ [] = ap told_bytes told in cc
 answered a (Some id) (Stopped p (d ∷ e ∷ ds) last) told = let more : byte_of d.sent ∷ byte_of e.sent ∷ (bytes_of ds ++ byte_of last.sent ∷ []) ≡ id ∷ [] = ap told_bytes told in cc
+answered a _ _ told = cc
 
 meets_id : (l : Loop) (a : ℕ) (id : Option ℕ) → MeetsOne l (AskTell a None Sai (id_told a id)) (is_id_told a id)
 meets_id l a id = record { whole = whole; broken = broken }
   where
     by : (b : ℕ) (number : Option ℕ) (start : Start) (answer : Answer) → AskTell b number start (told_of answer) ≡ AskTell a None Sai (id_told a id) → is_id_told a id true (Receive b number start answer) ≡ true
     by b (Some n) start answer is = cc
-    by b None Sda answer is = cc
-    by b None Sst answer is = cc
-    by b None Sdi answer is = cc
     by b None Sai answer is =
         let same : b ≡ a = cc in
         let told : told_of answer ≡ id_told a id = cc in
         and_from (b == a) (is_id_answer a id answer) (eq-eqb b a same) (answered a id answer told)
+    by b _ _ answer is = cc
 
     begun : (b : ℕ) (number : Option ℕ) (start : Start) (answer : Answer) (told : Option Told) → AskTell a None Sai (id_told a id) ≡ AskTell b number start told → is_id_told a id false (Receive b number start answer) ≡ true
-    begun b (Some n) start answer told is = cc
-    begun b None Sda answer told is = cc
-    begun b None Sst answer told is = cc
-    begun b None Sdi answer told is = cc
     begun b None Sai answer told is = let same : b ≡ a = cc in and_from (b == a) true (eq-eqb b a same) refl
+    begun b _ _ answer told is = cc
 
     whole : (x : Exchange) → is_exchange l x ≡ true → ask_of x ≡ AskTell a None Sai (id_told a id) → is_id_told a id true x ≡ true
-    whole (Command g) legal is = cc
-    whole (Address n) legal is = cc
-    whole (Send b number ds) legal is = cc
     whole (Receive b number start answer) legal is = by b number start answer is
-    whole (Identify g) legal is = cc
+    whole _ legal is = cc
 
     broken : (x : Exchange) → is_exchange l x ≡ true → IsFirstOf (ask_of x) (AskTell a None Sai (id_told a id)) → is_id_told a id false x ≡ true
-    broken (Command g) legal is = cc
-    broken (Address n) legal is = cc
     broken (Send b number ds) legal is = let clash = is.1 in cc
     broken (Receive b number start answer) legal is = begun b number start answer is.0 is.1
     broken (Identify g) legal is = let clash = is.1 in cc
+    broken _ legal is = cc
 
 -- the ID of the device behind these
 at_front : (front : List DeviceState) (d : DeviceState) (ds : List DeviceState) → accessory_at (length front) (front ++ d ∷ ds) ≡ d.accessory
@@ -126,18 +115,14 @@ meets_identify : (l : Loop) (f : Frame) → MeetsOne l (AskIdentify f) (is_ident
 meets_identify l f = record { whole = whole; broken = broken }
   where
     whole : (x : Exchange) → is_exchange l x ≡ true → ask_of x ≡ AskIdentify f → is_identified f true x ≡ true
-    whole (Command g) legal is = cc
-    whole (Address n) legal is = cc
-    whole (Send b number ds) legal is = cc
-    whole (Receive b number start answer) legal is = cc
     whole (Identify g) legal is = let same : g ≡ f = cc in subst (λ g. is_frame f g ≡ true) (sym same) (same_frame f)
+    whole _ legal is = cc
 
     broken : (x : Exchange) → is_exchange l x ≡ true → IsFirstOf (ask_of x) (AskIdentify f) → is_identified f false x ≡ true
-    broken (Command g) legal is = cc
-    broken (Address n) legal is = cc
     broken (Send b number ds) legal is = let clash = is.1 in cc
     broken (Receive b number start answer) legal is = let clash = is.1 in cc
     broken (Identify g) legal is = refl
+    broken _ legal is = cc
 
 meets_places_from : (l : Loop) (k n : ℕ) → Meets l (from place_asks k n) (places_due k n)
 meets_places_from l k zero = tt
@@ -177,18 +162,14 @@ meets_said l a bytes = record { whole = whole; broken = broken }
         and_from (b == a) (starts_with nat_eq bytes (bytes_of ds)) (eq-eqb b a same) (front_of (bytes_of ds) more bytes all)
 
     whole : (x : Exchange) → is_exchange l x ≡ true → ask_of x ≡ AskHear a None bytes → is_said a bytes true x ≡ true
-    whole (Command g) legal is = cc
-    whole (Address n) legal is = cc
     whole (Send b number ds) legal is = by b number ds is
-    whole (Receive b number start answer) legal is = cc
-    whole (Identify g) legal is = cc
+    whole _ legal is = cc
 
     broken : (x : Exchange) → is_exchange l x ≡ true → IsFirstOf (ask_of x) (AskHear a None bytes) → is_said a bytes false x ≡ true
-    broken (Command g) legal is = cc
-    broken (Address n) legal is = cc
     broken (Send b number ds) legal is = begun b number ds is.0 is.1
     broken (Receive b number start answer) legal is = let clash = is.1 in cc
     broken (Identify g) legal is = let clash = is.1 in cc
+    broken _ legal is = cc
 
 -- the device of that address is to hear these bytes
 pub meets_say : (l : Loop) (a : ℕ) (bytes : List ℕ) → Meets l (say_asks a bytes) (bytes_due (Some a) bytes)

@@ -17,8 +17,7 @@ use Rattle.host_model.proofs.RingStates.{beside_drive}
 each_unheard : (a k : ℕ) (ds es : List DeviceState) → OthersUnheard a k ds es → EachBecomes (λ party d e. party ≢ a → HearsNothing d e) k ds es
 each_unheard a k [] [] h = tt
 each_unheard a k (d ∷ ds) (e ∷ es) h = (h.0, each_unheard a (k + 1) ds es h.1)
-each_unheard a k [] (e ∷ es) h = absurd h
-each_unheard a k (d ∷ ds) [] h = absurd h
+each_unheard a k _ _ h = absurd h
 
 -- ---- the devices beside the drive
 

@@ -8,7 +8,7 @@ use Rattle.lif_model.specs.declared.version.Version.TheVariants.{Two}
 use Rattle.lif_model.specs.Redo.{Changes, is_none, redo_start, settled}
 use Rattle.lif_model.specs.Commit.{SettlesAs}
 use Rattle.lif_model.specs.Volume.{Volume, IsVolume, volume_of, is_foreign_gated, is_gate_held}
-use Rattle.lif_model.specs.Apply.{VolumeCommand, Dir, Label, Fetch, Store, Rename, Purge, Adopt, Upgrade, Batch, Format, is_upgraded, apply}
+use Rattle.lif_model.specs.Apply.{VolumeCommand, Fetch, is_upgraded, apply}
 use Rattle.lif_model.specs.Transfers.{Transfer}
 use Rattle.lif_model.specs.declared.refusal.Refusal.{Refusal}
 use Rattle.lif_model.proofs.Directory.{settled_shape, volume_in_is, volume_tells}
@@ -220,16 +220,8 @@ module _ {R S : Type 0} (view : R → RecordsView S) (m f n : VolumeView R) (law
             (behind t told).finished.is_settled ∙ (behind t told).finished.plain (ap (has_mark (length t)) plain) ∙ sym (finished_unmarked t (ap (has_mark (length t)) plain)))
 
         by : (command : VolumeCommand) → records_asked (Asks (OfVolume command)) (settled u) ≡ records_asked (Asks (OfVolume command)) (finished t)
-        by Dir = refl
-        by Label = refl
         by (Fetch name) = ap (λ slots. records_named slots name) slots
-        by (Store name kind implementation bytes) = refl
-        by (Rename old new) = refl
-        by (Purge name) = refl
-        by Adopt = refl
-        by Upgrade = refl
-        by (Batch parts) = refl
-        by (Format label slots) = refl
+        by _ = refl
 
     -- where the directory is kept the tape is finished
     quiet : has_mark count (volume_of t) ≡ false → finished t ≡ settled t

@@ -169,15 +169,13 @@ one_more_generated seed count place state state' v w x t t' line r s within line
 
 -- nothing is written for one event
 silent : (events : List Event) (texts : List (List ℕ)) → event_texts Summary events texts ≡ []
-silent [] texts = refl
-silent (e ∷ events) [] = refl
 silent (e ∷ events) (text ∷ texts) = silent events texts
+silent _ _ = refl
 
 counts_ok : (r : Reply) (t : Tally) → (is_ok r && is_all_ok t) ≡ is_all_ok (with_reply r t)
 counts_ok reply.Ok t = refl
 counts_ok (reply.No code) t = sym (ap (λ b. b && t.faults == 0) (ne_eqb (t.errors + 1) 0 (λ e. omega arith)))
-counts_ok reply.FaultFrame t = sym (ap (λ b. t.errors == 0 && b) (ne_eqb (t.faults + 1) 0 (λ e. omega arith)) ∙ and-false (t.errors == 0))
-counts_ok reply.FaultMedium t = sym (ap (λ b. t.errors == 0 && b) (ne_eqb (t.faults + 1) 0 (λ e. omega arith)) ∙ and-false (t.errors == 0))
+counts_ok _ t = sym (ap (λ b. t.errors == 0 && b) (ne_eqb (t.faults + 1) 0 (λ e. omega arith)) ∙ and-false (t.errors == 0))
 
 all_ok_is : (events : List Event) → all_ok events ≡ is_all_ok (tally_of (replies events))
 all_ok_is [] = refl

@@ -40,17 +40,11 @@ got r lines = r
 
 frame_same : (r : Reply) (lines : Lines) → is_frame_fault (got r lines) ≡ is_frame_fault r
 frame_same reply.Ok None = refl
-frame_same reply.Ok (Some lines) = refl
-frame_same (reply.No code) lines = refl
-frame_same reply.FaultFrame lines = refl
-frame_same reply.FaultMedium lines = refl
+frame_same _ _ = refl
 
 fault_same : (r : Reply) (lines : Lines) → is_fault (got r lines) ≡ is_fault r
 fault_same reply.Ok None = refl
-fault_same reply.Ok (Some lines) = refl
-fault_same (reply.No code) lines = refl
-fault_same reply.FaultFrame lines = refl
-fault_same reply.FaultMedium lines = refl
+fault_same _ _ = refl
 
 got_reply : (r : Reply) (why : Option Refusal) (lines found : Lines) → (r ≡ reply.Ok → lines ≡ found) → r ≡ refused_as why → got r lines ≡ got_as why found
 got_reply r None lines found same is = ap (λ r. got r lines) is ∙ ap if_text (same is)
@@ -61,9 +55,9 @@ fetch_leaves : (n : ℕ) (name : List ℕ) (v : Option Volume) → (apply n (Fet
 fetch_leaves n name v = by v (apply n (Fetch name) v).0
   where
     by : (v : Option Volume) (why : Option Refusal) → next_unless n (Fetch name) v why ≡ v
-    by v (Some why) = refl
     by None None = refl
     by (Some v) None = refl
+    by v (Some why) = refl
 
 -- ---- a step
 
@@ -79,8 +73,6 @@ module _ (name : List ℕ) (log : List Entry) (s t : HostState) where
 
   replied_got : (r : Reply) (lines : Lines) → (r ≡ reply.Ok → TellsReply (Asks (Get name)) s → lines ≡ lines_of_file name (volume_at s))
       → Replied (fetching name r log s t) → Replied (getting name (got r lines) log s t)
-  replied_got reply.FaultFrame lines same so = record { may = refl; whole = λ tells own. either_got (so.whole tells own); stays = λ other. cc; told = so.told; size = so.size; gate = so.gate; foreign = so.foreign }
-  replied_got reply.FaultMedium lines same so = record { may = refl; whole = λ tells own. either_got (so.whole tells own); stays = λ other. cc; told = so.told; size = so.size; gate = so.gate; foreign = so.foreign }
   replied_got (reply.No code) lines same so = record {
     may = tt;
     whole = λ tells.
@@ -114,13 +106,11 @@ module _ (name : List ℕ) (log : List Entry) (s t : HostState) where
     gate = so.gate;
     foreign = so.foreign;
   }
+  replied_got _ lines same so = record { may = refl; whole = λ tells own. either_got (so.whole tells own); stays = λ other. cc; told = so.told; size = so.size; gate = so.gate; foreign = so.foreign }
 
   status_got : (r : Reply) (lines : Lines) (now : ℕ) → StatusBehindVolume r now → StatusBehindVolume (got r lines) now
   status_got reply.Ok None now so = so
-  status_got reply.Ok (Some lines) now so = so
-  status_got (reply.No code) lines now so = so
-  status_got reply.FaultFrame lines now so = so
-  status_got reply.FaultMedium lines now so = so
+  status_got _ _ now so = so
 
   next_got : (r : Reply) (lines : Lines) (z y : LoopState) → Next (Asks (OfVolume (Fetch name))) r z y → Next (Asks (Get name)) (got r lines) z y
   next_got r lines z y so = record {
@@ -136,18 +126,11 @@ module _ (name : List ℕ) (log : List Entry) (s t : HostState) where
 
   cause_got : (r : Reply) (lines : Lines) (hops : List ℕ) (before now : ℕ) (units : List RecordUnit) → HasReplyCause r hops before now units → HasReplyCause (got r lines) hops before now units
   cause_got reply.Ok None hops before now units so = so
-  cause_got reply.Ok (Some lines) hops before now units so = so
-  cause_got (reply.No code) lines hops before now units so = so
-  cause_got reply.FaultFrame lines hops before now units so = so
-  cause_got reply.FaultMedium lines hops before now units so = so
+  cause_got _ _ hops before now units so = so
 
   carried_got : (r : Reply) (lines : Lines) (n : ℕ) (v : Option Volume) (units : List RecordUnit) → IsCarried (Asks (OfVolume (Fetch name))) r n v units → IsCarried (Asks (Get name)) (got r lines) n v units
-  carried_got reply.Ok None n v units so = tt
-  carried_got reply.Ok (Some lines) n None units so = tt
   carried_got reply.Ok (Some lines) n (Some v) units so = so
-  carried_got (reply.No code) lines n v units so = tt
-  carried_got reply.FaultFrame lines n v units so = tt
-  carried_got reply.FaultMedium lines n v units so = tt
+  carried_got _ _ n _ units so = tt
 
   exchanged_got : (r : Reply) (lines : Lines) (plan : List Planned) → Exchanged plan (fetching name r log s t) → Exchanged plan (getting name (got r lines) log s t)
   exchanged_got r lines plan so = record {
@@ -186,8 +169,7 @@ module _ (name : List ℕ) (log : List Entry) (s t : HostState) where
   kept_got reply.Ok None so = record { kept = so.kept; log = λ on. inr (refl, so.log on) }
   kept_got reply.Ok (Some lines) so = record { kept = so.kept; log = λ on. so.log on }
   kept_got (reply.No code) lines so = record { kept = so.kept; log = λ on. inl (so.log on) }
-  kept_got reply.FaultFrame lines so = record { kept = so.kept; log = λ on. tt }
-  kept_got reply.FaultMedium lines so = record { kept = so.kept; log = λ on. tt }
+  kept_got _ lines so = record { kept = so.kept; log = λ on. tt }
 
   step_got : (r : Reply) (lines : Lines) (plan : List Planned) → (r ≡ reply.Ok → TellsReply (Asks (Get name)) s → lines ≡ lines_of_file name (volume_at s))
       → IsStep plan (fetching name r log s t) → IsStep plan (getting name (got r lines) log s t)

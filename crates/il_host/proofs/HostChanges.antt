@@ -2,7 +2,7 @@
 use Rattle.std.proofs.Common.{◌≡◌, ◌≤◌, ◌+◌, ℕ, List, Option, None, Some, refl, subst, arith}
 use Rattle.std.specs.Prelude.{Result, Ok, Err}
 use Rattle.lif_model.specs.Parts.{Part}
-use Rattle.lif_model.specs.Apply.{Adopt, Dir, Fetch, Format, Label, Batch, Purge, Rename, Store, Upgrade, VolumeCommand}
+use Rattle.lif_model.specs.Apply.{Adopt, Dir, Format, Batch, Purge, Rename, Store, Upgrade, VolumeCommand}
 use Rattle.lif_model.specs.Header.{HeaderParts}
 use Rattle.il_ports.specs.Media.{MediumView, IsMedium}
 use Rattle.il_ports.specs.Stores.{Begun, RecordsView}
@@ -47,9 +47,8 @@ few_with_mounting {T = T} view old new answer is size calls most all any beside 
     by : (was kept : Option HeaderParts) → ((header : HeaderParts) → kept ≡ Some header → header.length + 5 ≤ count) → (answer : Result T VolumeFault) → with_mounting count was kept calls most answer ≤ most_calls count
     by (Some old) kept long answer = any
     by None (Some header) long answer = omega (arith, beside header (long header refl))
-    by None None long (Ok x) = all
     by None None long (Err (Refused why)) = omega arith
-    by None None long (Err (Troubled e)) = all
+    by _ _ long _ = all
 
 -- a file, or those of a batch, lie beside the directory
 stores_few : {T : Type 0} (n : ℕ) (kept : Option HeaderParts) (bytes : List ℕ) (answer : Result T VolumeFault) → filing n kept bytes answer + committing answer ≤ beside n kept + 10
@@ -85,8 +84,6 @@ changing_few {T = T} view old new command answer nothing is size = by command no
 
     by : (command : VolumeCommand) → TellsNothing command → changing (view old.records).record_count command old.kept new.kept answer ≤ most_calls (view old.records).record_count
     by Dir nothing = absurd nothing
-    by Label nothing = absurd nothing
-    by (Fetch name) nothing = absurd nothing
     by (Store name kind implementation bytes) nothing =
         few_with_mounting view old new answer is size (λ kept. filing count kept bytes answer + committing answer) (count + 76) (omega arith)
         (omega (arith, stores_few count None bytes answer)) (λ header long. omega (arith, stores_few count (Some header) bytes answer, long))
@@ -98,11 +95,12 @@ changing_few {T = T} view old new command answer nothing is size = by command no
         few_with_mounting view old new answer is size (λ kept. batching count kept parts answer) (count + 138) (omega arith)
         (omega (arith, batches_few count None parts answer)) (λ header long. omega (arith, batches_few count (Some header) parts answer, long))
     by (Format label slots) nothing = omega (arith, mounts_any (view old.records).record_count old.kept, commits_few answer)
+    by _ nothing = absurd nothing
 
 module _ {M I : Type 0} {D : I → Type 0} (view : M → MediumView) (seen : Ring M I D → RingView M) (o b f n : Volume (LoopRecords M I D)) (text_space : ℕ) (space : Space)
     (usable : IsUsable view (store_in view seen) (volume_in o) (loop_in seen o.records) text_space space) (began : Begun (store_in view seen o.records) (store_in view seen b.records))
     (law : (x : M) → IsMedium (view x)) (p : IsPrepared view seen o b f) (opened : IsOpen (store_in view seen) (volume_in f))
-    (opens : IsOpen (store_in view seen) (volume_in n)) (low : HasDriveStatus (loop_in seen n.records).control) where
+    (opens : IsOpen (store_in view seen) (volume_in n)) (low : HasDriveStatus (loop_in seen n.records).ring) where
   -- a command that tells nothing, as the volume did it
   pub altered : {T : Type 0} (command : VolumeCommand) (answer : Result T VolumeFault) (before : List ℕ) → TellsNothing command → IsFormedAs command answer
       → Alters command (store_in view seen) (volume_in f) (volume_in n) answer

@@ -22,14 +22,12 @@ use Rattle.il_record.specs.declared.records.Since.{Since}
 use Rattle.il_record.specs.Asks.{up_to}
 use Rattle.il_guest.specs.State.{GuestState}
 use Rattle.il_ring.specs.Guests.{guest_mind}
-use Rattle.il_record.specs.Called.{CallBroke, Called, LeavesLent, LeavesStore, LendCalls}
-use Rattle.il_record.specs.Controls.{ring_in}
-use Rattle.il_record.specs.IsStore.{is_store_at}
+use Rattle.il_record.specs.Called.{Called, LeavesLent, LeavesStore, LendCalls}
+use Rattle.il_record.specs.IsStore.{is_store_of}
 use Rattle.il_record.specs.LoopCalls.{AllNamed, LeftAlone, NotSaid, Said, id_asks}
-use Rattle.il_record.specs.LoopStores.{Addresses, AtIdle, AtLost, HasRing, LoopView, Nowhere, Standing, is_idle, view_at, view_of}
+use Rattle.il_record.specs.LoopStores.{Addresses, LoopView, view_of}
 use Rattle.il_record.specs.Polls.{HasPolled, PollBroke, poll_asks}
 use Rattle.il_record.specs.Runs.{NotPolled, Polled}
-use Rattle.il_record.proofs.StoreResumes.{agrees}
 use Rattle.il_script.specs.declared.reply.Reply.{Reply}
 use Rattle.il_script.specs.declared.reply.Reply.TheVariants as reply
 use Rattle.il_script.specs.declared.reply.Code.TheVariants as code
@@ -42,12 +40,13 @@ use Rattle.host_model.specs.Replies.{device_lines, if_printer, paper_line, poll_
 use Rattle.host_model.specs.Steps.{KeepsDirectory}
 use Rattle.il_host.specs.HostView.{Performed}
 use Rattle.il_host.specs.Hosts.{Space, IsUsable, host_in, loop_in, store_in, volume_in}
-use Rattle.il_host.specs.Standings.{HasDriveId, fault_of, log_at}
+use Rattle.il_host.specs.Standings.{HasDriveId, fault_of}
 use Rattle.il_host.specs.Texts.{found_lines}
 use Rattle.il_frames.specs.declared.entry.Entry.{Entry}
 use Rattle.il_host.proofs.KeptDirectories.{forgotten}
 use Rattle.il_host.proofs.HostVolumes.{begun_calls, event_kept, fault_text, performed}
 use Rattle.il_host.proofs.LoopEvents.{IsOfLoop, not_of_volume}
+use Rattle.il_host.proofs.LoopReady.{ready_err}
 use Rattle.il_host.proofs.LoopPerforms.{devices_broke, devices_performs, lend_broke, lend_lines, lend_performs, loop_unready, poll_broke, poll_performs, printer_told, say_broke, say_no_printer, say_performs, say_unnamed, status_broke, status_performs}
 use Rattle.il_host.proofs.PaperPerforms.{paper_performs}
 use Rattle.il_host.proofs.VolumePerforms.{Performs}
@@ -55,35 +54,11 @@ use Rattle.il_host.proofs.VolumePerforms.{Performs}
 -- ---- room
 
 -- the ring of a store with room for so many calls has room for their entries
-pub ring_room : {M S : Type 0} (view : M → MediumView) (seen : S → RingView M) (p : Option S) (l : LoopView M) (k calls : ℕ) → (view_of view seen p l).valid → 1 ≤ calls → calls ≤ (view_of view seen p l).calls_left → k ≤ 300 * calls + 32
-    → HasRing l.control (λ r. k ≤ spare_of r)
-ring_room {M} view seen p l k calls valid some left enough = by l.control valid left
-  where
-    by : (c : Standing M) → (view_at view seen p l.sound l.since l.resumes c).valid → calls ≤ (view_at view seen p l.sound l.since l.resumes c).calls_left → HasRing c (λ r. k ≤ spare_of r)
-    by (AtIdle r) valid left = omega (arith, some, left, enough)
-    by (AtLost r) valid left = omega (arith, some, left, enough)
-    by Nowhere valid left = absurd valid
-
--- ---- a second controller
-
-guest_at : {M : Type 0} (c : Standing M) (guest : Option GuestState) (ring : RingView M) → HasRing c (λ s. ring ≡ s) → guest_mind guest ≡ ring.guest → HasRing c (λ s. guest_mind guest ≡ s.guest)
-guest_at {M} (AtIdle r) guest ring at is = is ∙ ap (λ (r : RingView M). r.guest) at
-guest_at {M} (AtLost r) guest ring at is = is ∙ ap (λ (r : RingView M). r.guest) at
-guest_at Nowhere guest ring at is = absurd at
-
--- what its place and the last address are on the ring
-pub lends_by : {M : Type 0} (c : Standing M) (address : ℕ) (ring : RingView M) → HasRing c (λ m. ring ≡ m) → address ≡ length (devices_of ring) → (is_some ring.guest ≡ true → 1 ≤ length ring.after)
-    → HasRing c (λ m. (address ≡ length (devices_of m)) × (is_some m.guest ≡ true → 1 ≤ length m.after))
-lends_by {M} (AtIdle m) address ring at is last = subst (λ (m : RingView M). (address ≡ length (devices_of m)) × (is_some m.guest ≡ true → 1 ≤ length m.after)) at (is, last)
-lends_by {M} (AtLost m) address ring at is last = subst (λ (m : RingView M). (address ≡ length (devices_of m)) × (is_some m.guest ≡ true → 1 ≤ length m.after)) at (is, last)
-lends_by Nowhere address ring at is last = absurd at
+pub ring_room : {M S : Type 0} (view : M → MediumView) (seen : S → RingView M) (p : S) (l : LoopView M) (k calls : ℕ) → (view_of view seen p l).valid → 1 ≤ calls → calls ≤ (view_of view seen p l).calls_left → k ≤ 300 * calls + 32
+    → k ≤ spare_of l.ring
+ring_room view seen p l k calls valid some left enough = omega (arith, some, left, enough)
 
 -- ---- the paper
-
-paper_at : {M : Type 0} (c : Standing M) (ring : RingView M) (found : Option (List ℕ × ℕ)) → HasRing c (λ r. ring ≡ r) → found ≡ paper_of (ring.before ++ ring.after) → HasRing c (λ r. found ≡ paper_of (r.before ++ r.after))
-paper_at {M} (AtIdle r) ring found at is = is ∙ ap (λ (r : RingView M). paper_of (r.before ++ r.after)) at
-paper_at {M} (AtLost r) ring found at is = is ∙ ap (λ (r : RingView M). paper_of (r.before ++ r.after)) at
-paper_at Nowhere ring found at is = absurd at
 
 paper_text : (found : Option (List ℕ × ℕ)) (s : HostState) (log : List Entry) → found ≡ paper_on s.loop → paper_line found ++ reply_line (if_printer found) ≡ reply_text (Asks Paper) s log (if_printer found)
 paper_text None s log is = refl
@@ -132,6 +107,11 @@ pub lent_open : {M I T : Type 0} {D : I → Type 0} (view : M → MediumView) (s
     → IsOpen (store_in view seen) (volume_in v) → lends ≡ v.records → LeavesStore k P (store_in view seen lends) (store_in view seen records) answer → IsOpen (store_in view seen) (volume_in (lent v records))
 lent_open view seen v lends records k P answer opens same leaves = lent_open_by view seen v lends records opens same leaves.valid leaves.size
 
+-- what a call leaves of records that were lent is what it leaves of those of the volume
+pub left_lent_as : {M I T : Type 0} {D : I → Type 0} (view : M → MediumView) (seen : Ring M I D → RingView M) (lends records new : LoopRecords M I D) (answer : Result T Trouble) → lends ≡ records
+    → LeavesStore 1 ((store_in view seen lends).failed None) (store_in view seen lends) (store_in view seen new) answer → LeavesStore 1 ((store_in view seen records).failed None) (store_in view seen records) (store_in view seen new) answer
+left_lent_as {M} {I} {T} {D} view seen lends records new answer same leaves = subst (λ (l : LoopRecords M I D). LeavesStore 1 ((store_in view seen l).failed None) (store_in view seen l) (store_in view seen new) answer) same leaves
+
 -- ---- a host over a volume that was o before, and b behind the emptying of its log
 
 module _ {M I : Type 0} {D : I → Type 0} (view : M → MediumView) (seen : Ring M I D → RingView M) (o b : Volume (LoopRecords M I D)) (text_space : ℕ) (space : Space)
@@ -139,14 +119,14 @@ module _ {M I : Type 0} {D : I → Type 0} (view : M → MediumView) (seen : Rin
     (law : (m : M) → IsMedium (view m)) (before : List ℕ) where
   -- its records became these
   abbrev Ran : LoopRecords M I D → Item → Reply → Type 0
-  Ran l item answered = Performs view seen (ring_in o.records.control) (ring_in l.control) item answered (loop_in seen o.records) (loop_in seen l)
+  Ran l item answered = Performs view seen o.records.ring l.ring item answered (loop_in seen o.records) (loop_in seen l)
 
   -- the host with this volume and this text
   abbrev Behind : Volume (LoopRecords M I D) → Item → Reply → List ℕ → Type 0
   Behind n item answered text = Performed item answered (host_in view seen o before text_space space) (host_in view seen n text text_space space)
 
   store : IsStore (store_in view seen o.records)
-  store = is_store_at view seen (ring_in o.records.control) o.records.sound o.records.since o.records.resumes (loop_in seen o.records).control law
+  store = is_store_of view seen o.records.ring (loop_in seen o.records) law
 
   left_begun : 2763 ≤ (store_in view seen b.records).calls_left
   left_begun = let left = begun_calls view seen o b o text_space space usable began in let size = size_bounds (store_in view seen o.records).record_count usable.size in omega (arith, left, size.0, size.1)
@@ -165,33 +145,28 @@ module _ {M I : Type 0} {D : I → Type 0} (view : M → MediumView) (seen : Rin
   faulted n item e of_loop opens off size did =
       performed view seen o b n text_space space usable began opens item (fault_of e) before (reply_line (fault_of e)) size
       (subst (λ e. Ran n.records item (fault_of e)) (sym did.0) did.1) (forgets n item (fault_of e) opens of_loop off)
-      (λ told. sym (fault_text item (host_in view seen o before text_space space).state (log_at (loop_in seen n.records).control) e)) (λ is. absurd (not_of_volume item of_loop is))
+      (λ told. sym (fault_text item (host_in view seen o before text_space space).state ((loop_in seen n.records).ring.books.log) e)) (λ is. absurd (not_of_volume item of_loop is))
 
   -- the loop was not ready, and could not be addressed
   pub not_ready : (n : Volume (LoopRecords M I D)) (item : Item) (P : Type 0) (e : Trouble) → IsOpen (store_in view seen) (volume_in n) → IsOfLoop item
-      → Addresses {T = Unit {0}} view (loop_in seen b.records).control (loop_in seen b.records) (loop_in seen n.records) (Err e)
-      → LeavesStore {T = Unit {0}} 1 P (store_in view seen b.records) (store_in view seen n.records) (Err e) → n.kept ≡ (if is_idle (loop_in seen b.records).control then b.kept else None) → Behind n item (fault_of e) (reply_line (fault_of e))
+      → Addresses {T = Unit {0}} view (loop_in seen b.records).ready (loop_in seen b.records) (loop_in seen n.records) (Err e)
+      → LeavesStore {T = Unit {0}} 1 P (store_in view seen b.records) (store_in view seen n.records) (Err e) → n.kept ≡ (if (loop_in seen b.records).ready then b.kept else None) → Behind n item (fault_of e) (reply_line (fault_of e))
   not_ready n item P e opens of_loop addresses leaves kept =
       let left : 1 ≤ (store_in view seen n.records).calls_left = let enough = left_begun in let used = leaves.left in omega (arith, enough, used) in
-      faulted n item e of_loop opens (ap is_some (kept ∙ ap (λ idle. if idle then b.kept else None) (unready (loop_in seen b.records).control addresses))) (leaves.size ∙ began.size)
-      (loop_unready view seen (ring_in o.records.control) (ring_in b.records.control) (loop_in seen o.records) (loop_in seen b.records)
-      usable.volume_open.valid (agrees seen o.records.control) (agrees seen b.records.control) began (ring_in n.records.control) (loop_in seen n.records) store usable.log left
+      faulted n item e of_loop opens (ap is_some (kept ∙ ap (λ idle. if idle then b.kept else None) (ready_err (Unit {0}) view e (loop_in seen b.records).ready (loop_in seen b.records) (loop_in seen n.records) addresses).0)) (leaves.size ∙ began.size)
+      (loop_unready view seen o.records.ring b.records.ring (loop_in seen o.records) (loop_in seen b.records)
+      usable.volume_open.valid refl refl began n.records.ring (loop_in seen n.records) store usable.log left
       (Unit {0}) item e of_loop addresses)
-    where
-      unready : (c : Standing M) → Addresses {T = Unit {0}} view c (loop_in seen b.records) (loop_in seen n.records) (Err e) → is_idle c ≡ false
-      unready (AtIdle r) addresses = absurd addresses
-      unready (AtLost r) addresses = refl
-      unready Nowhere addresses = absurd addresses
 
   -- the ring told of a printer's paper, if there is one
-  module _ (found : Option (List ℕ × ℕ)) (ring : RingView M) (lends : LoopRecords M I D) (same : lends ≡ b.records) (at : HasRing (loop_in seen lends).control (λ r. ring ≡ r)) (is : found ≡ paper_of (ring.before ++ ring.after)) where
-    paper_here : HasRing (loop_in seen b.records).control (λ r. found ≡ paper_of (r.before ++ r.after))
-    paper_here = paper_at (loop_in seen b.records).control ring found (subst (λ (l : LoopRecords M I D). HasRing (loop_in seen l).control (λ r. ring ≡ r)) same at) is
+  module _ (found : Option (List ℕ × ℕ)) (ring : RingView M) (lends : LoopRecords M I D) (same : lends ≡ b.records) (at : ring ≡ (loop_in seen lends).ring) (is : found ≡ paper_of (ring.before ++ ring.after)) where
+    paper_here : found ≡ paper_of ((loop_in seen b.records).ring.before ++ (loop_in seen b.records).ring.after)
+    paper_here = is ∙ ap (λ (r : RingView M). paper_of (r.before ++ r.after)) (at ∙ ap (λ (l : LoopRecords M I D). (loop_in seen l).ring) same)
 
     paper_ran : (found ≡ paper_on (host_in view seen o before text_space space).state.loop) × Ran b.records (Asks Paper) (if_printer found)
     paper_ran =
-        paper_performs view seen (ring_in o.records.control) (ring_in b.records.control) (loop_in seen o.records) (loop_in seen b.records)
-        usable.volume_open.valid (agrees seen o.records.control) (agrees seen b.records.control) began store usable.log found paper_here
+        paper_performs view seen o.records.ring b.records.ring (loop_in seen o.records) (loop_in seen b.records)
+        usable.volume_open.valid refl refl began store usable.log found paper_here
 
     -- it is that of the loop before
     pub paper_before : found ≡ paper_on (host_in view seen o before text_space space).state.loop
@@ -201,13 +176,13 @@ module _ {M I : Type 0} {D : I → Type 0} (view : M → MediumView) (seen : Rin
     paper_told opens kept =
         performed view seen o b b text_space space usable began opens (Asks Paper) (if_printer found) before (paper_line found ++ reply_line (if_printer found)) began.size paper_ran.1
         (record { kept = ap is_some kept; log = λ on. tt })
-        (λ told. paper_text found (host_in view seen o before text_space space).state (log_at (loop_in seen b.records).control) paper_ran.0) (λ is. cc)
+        (λ told. paper_text found (host_in view seen o before text_space space).state ((loop_in seen b.records).ring.books.log) paper_ran.0) (λ is. cc)
 
   -- the loop is ready, the volume is m, and its records are lent
-  module _ (m : Volume (LoopRecords M I D)) (x : Unit {0}) (P : Type 0) (addresses : Addresses {T = Unit {0}} view (loop_in seen b.records).control (loop_in seen b.records) (loop_in seen m.records) (Ok x))
+  module _ (m : Volume (LoopRecords M I D)) (x : Unit {0}) (P : Type 0) (addresses : Addresses {T = Unit {0}} view (loop_in seen b.records).ready (loop_in seen b.records) (loop_in seen m.records) (Ok x))
       (leaves_ready : LeavesStore {T = Unit {0}} 1 P (store_in view seen b.records) (store_in view seen m.records) (Ok x)) (opens : IsOpen (store_in view seen) (volume_in m)) (lends : LoopRecords M I D) (same : lends ≡ m.records) where
-    addressed : Addresses {T = Unit {0}} view (loop_in seen b.records).control (loop_in seen b.records) (loop_in seen lends) (Ok x)
-    addressed = subst (λ (l : LoopRecords M I D). Addresses {T = Unit {0}} view (loop_in seen b.records).control (loop_in seen b.records) (loop_in seen l) (Ok x)) (sym same) addresses
+    addressed : Addresses {T = Unit {0}} view (loop_in seen b.records).ready (loop_in seen b.records) (loop_in seen lends) (Ok x)
+    addressed = subst (λ (l : LoopRecords M I D). Addresses {T = Unit {0}} view (loop_in seen b.records).ready (loop_in seen b.records) (loop_in seen l) (Ok x)) (sym same) addresses
 
     ready : LeavesStore {T = Unit {0}} 1 P (store_in view seen b.records) (store_in view seen lends) (Ok x)
     ready = subst (λ (l : LoopRecords M I D). LeavesStore {T = Unit {0}} 1 P (store_in view seen b.records) (store_in view seen l) (Ok x)) (sym same) leaves_ready
@@ -216,12 +191,12 @@ module _ {M I : Type 0} {D : I → Type 0} (view : M → MediumView) (seen : Rin
     left_ready = let left = left_begun in let used = ready.left in omega (arith, left, used)
 
     -- so a call has room
-    pub room_ready : HasRing (loop_in seen lends).control (λ r. 1000 ≤ spare_of r)
-    room_ready = let left = left_ready in ring_room view seen (ring_in lends.control) (loop_in seen lends) 1000 4 ready.valid (omega arith) (omega (arith, left)) (omega arith)
+    pub room_ready : 1000 ≤ spare_of (loop_in seen lends).ring
+    room_ready = let left = left_ready in ring_room view seen lends.ring (loop_in seen lends) 1000 4 ready.valid (omega arith) (omega (arith, left)) (omega arith)
 
     -- and so has a lend
-    pub lend_room : (frames : ℕ) → frames ≤ MOST_FRAMES → HasRing (loop_in seen lends).control (λ r. 4 * frames + 48 ≤ spare_of r)
-    lend_room frames few = let left = left_ready in ring_room view seen (ring_in lends.control) (loop_in seen lends) (4 * frames + 48) 2760 ready.valid (omega arith) (omega (arith, left)) (omega (arith, few))
+    pub lend_room : (frames : ℕ) → frames ≤ MOST_FRAMES → 4 * frames + 48 ≤ spare_of (loop_in seen lends).ring
+    lend_room frames few = let left = left_ready in ring_room view seen lends.ring (loop_in seen lends) (4 * frames + 48) 2760 ready.valid (omega arith) (omega (arith, left)) (omega (arith, few))
 
     -- one call: the records are l then
     module _ (l : LoopRecords M I D) where
@@ -229,7 +204,7 @@ module _ {M I : Type 0} {D : I → Type 0} (view : M → MediumView) (seen : Rin
           → ((log : List Entry) → reply_text item (host_in view seen o before text_space space).state log reply.Ok ≡ lines ++ reply_line reply.Ok) → Behind (lent m l) item reply.Ok (lines ++ reply_line reply.Ok)
       replied item k Q answer lines leaves ran of_loop text =
           performed view seen o b (lent m l) text_space space usable began (lent_open view seen m lends l k Q answer opens same leaves) item reply.Ok before (lines ++ reply_line reply.Ok) (leaves.size ∙ ready.size ∙ began.size) ran
-          (forgets (lent m l) item reply.Ok (lent_open view seen m lends l k Q answer opens same leaves) of_loop refl) (λ told. sym (text (log_at (loop_in seen l).control))) (λ is. absurd (not_of_volume item of_loop is))
+          (forgets (lent m l) item reply.Ok (lent_open view seen m lends l k Q answer opens same leaves) of_loop refl) (λ told. sym (text ((loop_in seen l).ring.books.log))) (λ is. absurd (not_of_volume item of_loop is))
 
       call_faulted : {T : Type 0} (item : Item) (k : ℕ) (Q : Type 0) (answer : Result T Trouble) (e : Trouble) → IsOfLoop item → LeavesStore k Q (store_in view seen lends) (store_in view seen l) answer → (e ≡ trouble.Frame) × Ran l item reply.FaultFrame
           → Behind (lent m l) item (fault_of e) (reply_line (fault_of e))
@@ -240,48 +215,48 @@ module _ {M I : Type 0} {D : I → Type 0} (view : M → MediumView) (seen : Rin
 
       -- ---- the status
 
-      pub status_told : (byte : ℕ) (on : Since) → Called (λ r s. Polled view (drive_party r) byte r s) on (loop_in seen lends) (loop_in seen l)
+      pub status_told : (byte : ℕ) (on : Since) → Called (λ r s. Polled view (drive_party r) byte r s) true (loop_in seen lends).sound on (loop_in seen lends) (loop_in seen l)
           → LeavesStore {T = ℕ} 1 (Unit {0}) (store_in view seen lends) (store_in view seen l) (Ok byte) → Behind (lent m l) (Asks Status) reply.Ok (status_line byte ++ reply_line reply.Ok)
       status_told byte on did leaves =
-          let ran = status_performs view seen (ring_in o.records.control) (ring_in b.records.control) (loop_in seen o.records) (loop_in seen b.records)
-          usable.volume_open.valid (agrees seen o.records.control) (agrees seen b.records.control) began x (loop_in seen lends) addressed (ring_in l.control) (loop_in seen l) store usable.log (left_called 1 (Unit {0}) (Ok byte) (omega arith) leaves)
+          let ran = status_performs view seen o.records.ring b.records.ring (loop_in seen o.records) (loop_in seen b.records)
+          usable.volume_open.valid refl refl began x (loop_in seen lends) addressed l.ring (loop_in seen l) store usable.log (left_called 1 (Unit {0}) (Ok byte) (omega arith) leaves)
           on byte did in
           replied (Asks Status) 1 (Unit {0}) (Ok byte) (status_line byte) leaves ran.1 tt (λ log. ap (λ byte. status_line byte ++ reply_line reply.Ok) (sym ran.0))
 
-      pub status_failed : (e : Trouble) (off : Since) → (e ≡ trouble.Frame) × CallBroke (λ r s. NotPolled view (drive_party r) r s) off (loop_in seen lends) (loop_in seen l)
+      pub status_failed : (e : Trouble) (off : Since) → (e ≡ trouble.Frame) × Called (λ r s. NotPolled view (drive_party r) r s) false false off (loop_in seen lends) (loop_in seen l)
           → LeavesStore {T = ℕ} 1 (Unit {0}) (store_in view seen lends) (store_in view seen l) (Err e) → Behind (lent m l) (Asks Status) (fault_of e) (reply_line (fault_of e))
       status_failed e off did leaves =
           call_faulted {T = ℕ} (Asks Status) 1 (Unit {0}) (Err e) e tt leaves
-          (status_broke view seen (ring_in o.records.control) (ring_in b.records.control) (loop_in seen o.records) (loop_in seen b.records)
-          usable.volume_open.valid (agrees seen o.records.control) (agrees seen b.records.control) began x (loop_in seen lends) addressed (ring_in l.control) (loop_in seen l) store usable.log (left_called {T = ℕ} 1 (Unit {0}) (Err e) (omega arith) leaves)
+          (status_broke view seen o.records.ring b.records.ring (loop_in seen o.records) (loop_in seen b.records)
+          usable.volume_open.valid refl refl began x (loop_in seen lends) addressed l.ring (loop_in seen l) store usable.log (left_called {T = ℕ} 1 (Unit {0}) (Err e) (omega arith) leaves)
           off e did)
 
       -- ---- the parallel poll
 
-      pub poll_told : (f : Frame) (on : Since) → Called (HasPolled view f) on (loop_in seen lends) (loop_in seen l)
+      pub poll_told : (f : Frame) (on : Since) → Called (HasPolled view f) true (loop_in seen lends).sound on (loop_in seen lends) (loop_in seen l)
           → LeavesStore {T = Frame} 1 (Unit {0}) (store_in view seen lends) (store_in view seen l) (Ok f) → Behind (lent m l) (Asks Poll) reply.Ok (poll_line f ++ reply_line reply.Ok)
       poll_told f on did leaves =
-          let ran = poll_performs view seen (ring_in o.records.control) (ring_in b.records.control) (loop_in seen o.records) (loop_in seen b.records)
-          usable.volume_open.valid (agrees seen o.records.control) (agrees seen b.records.control) began x (loop_in seen lends) addressed (ring_in l.control) (loop_in seen l) store usable.log (left_called 1 (Unit {0}) (Ok f) (omega arith) leaves)
+          let ran = poll_performs view seen o.records.ring b.records.ring (loop_in seen o.records) (loop_in seen b.records)
+          usable.volume_open.valid refl refl began x (loop_in seen lends) addressed l.ring (loop_in seen l) store usable.log (left_called 1 (Unit {0}) (Ok f) (omega arith) leaves)
           on f did in
           replied (Asks Poll) 1 (Unit {0}) (Ok f) (poll_line f) leaves ran.1 tt (λ log. ap (λ f. poll_line f ++ reply_line reply.Ok) (sym ran.0))
 
-      pub poll_failed : (e : Trouble) (off : Since) → (e ≡ trouble.Frame) × CallBroke (λ r s. PollBroke view 54 (poll_asks (length (devices_of r)) (polled_along 1 (devices_of r) idy)) r s) off (loop_in seen lends) (loop_in seen l)
+      pub poll_failed : (e : Trouble) (off : Since) → (e ≡ trouble.Frame) × Called (λ r s. PollBroke view 54 (poll_asks (length (devices_of r)) (polled_along 1 (devices_of r) idy)) r s) false false off (loop_in seen lends) (loop_in seen l)
           → LeavesStore {T = Frame} 1 (Unit {0}) (store_in view seen lends) (store_in view seen l) (Err e) → Behind (lent m l) (Asks Poll) (fault_of e) (reply_line (fault_of e))
       poll_failed e off did leaves =
           call_faulted {T = Frame} (Asks Poll) 1 (Unit {0}) (Err e) e tt leaves
-          (poll_broke view seen (ring_in o.records.control) (ring_in b.records.control) (loop_in seen o.records) (loop_in seen b.records)
-          usable.volume_open.valid (agrees seen o.records.control) (agrees seen b.records.control) began x (loop_in seen lends) addressed (ring_in l.control) (loop_in seen l) store usable.log (left_called {T = Frame} 1 (Unit {0}) (Err e) (omega arith) leaves)
+          (poll_broke view seen o.records.ring b.records.ring (loop_in seen o.records) (loop_in seen b.records)
+          usable.volume_open.valid refl refl began x (loop_in seen lends) addressed l.ring (loop_in seen l) store usable.log (left_called {T = Frame} 1 (Unit {0}) (Err e) (omega arith) leaves)
           off 54 e did)
 
       -- ---- a lend
 
       -- By the last address, which a second controller has, if there is one. The ring is shown by these records.
-      module _ (address frames : ℕ) (few : frames ≤ MOST_FRAMES) (first : RingView M) (shown : LoopRecords M I D) (shows : shown ≡ m.records) (at : HasRing (loop_in seen shown).control (λ r. first ≡ r))
+      module _ (address frames : ℕ) (few : frames ≤ MOST_FRAMES) (first : RingView M) (shown : LoopRecords M I D) (shows : shown ≡ m.records) (at : first ≡ (loop_in seen shown).ring)
           (counts : address ≡ length (devices_of first)) (last : is_some first.guest ≡ true → 1 ≤ length first.after)
           (leaves : LeavesLent ((2 * frames + 309) / 300) (store_in view seen lends) (store_in view seen l)) where
-        by : HasRing (loop_in seen lends).control (λ m. (address ≡ length (devices_of m)) × (is_some m.guest ≡ true → 1 ≤ length m.after))
-        by = lends_by (loop_in seen lends).control address first (subst (λ (l : LoopRecords M I D). HasRing (loop_in seen l).control (λ r. first ≡ r)) (shows ∙ sym same) at) counts last
+        by : (address ≡ length (devices_of (loop_in seen lends).ring)) × (is_some (loop_in seen lends).ring.guest ≡ true → 1 ≤ length (loop_in seen lends).ring.after)
+        by = subst (λ (m : RingView M). (address ≡ length (devices_of m)) × (is_some m.guest ≡ true → 1 ≤ length m.after)) (at ∙ ap (λ (l : LoopRecords M I D). (loop_in seen l).ring) (shows ∙ sym same)) (counts, last)
 
         open_lent : IsOpen (store_in view seen) (volume_in (lent m l))
         open_lent = lent_open_by view seen m lends l opens same leaves.valid leaves.size
@@ -292,83 +267,83 @@ module _ {M I : Type 0} {D : I → Type 0} (view : M → MediumView) (seen : Rin
         size_lent : (store_in view seen l).record_count ≡ (store_in view seen o.records).record_count
         size_lent = leaves.size ∙ ready.size ∙ began.size
 
-        lend_ended : (answered : Reply) (lines : List ℕ) → Ran l (Asks (Lend frames)) answered → lines ≡ reply_text (Asks (Lend frames)) (host_in view seen o before text_space space).state (log_at (loop_in seen l).control) answered
+        lend_ended : (answered : Reply) (lines : List ℕ) → Ran l (Asks (Lend frames)) answered → lines ≡ reply_text (Asks (Lend frames)) (host_in view seen o before text_space space).state ((loop_in seen l).ring.books.log) answered
             → Behind (lent m l) (Asks (Lend frames)) answered lines
         lend_ended answered lines ran text =
             performed view seen o b (lent m l) text_space space usable began open_lent (Asks (Lend frames)) answered before lines size_lent ran
             (forgets (lent m l) (Asks (Lend frames)) answered open_lent tt refl) (λ told. text) (λ is. cc)
 
         -- a second controller took control, and has found what it tells
-        pub lend_told : (taken : Bool) → taken ≡ true → (guest : Option GuestState) (ring : RingView M) (told : LoopRecords M I D) → told ≡ l → HasRing (loop_in seen told).control (λ s. ring ≡ s) → guest_mind guest ≡ ring.guest
+        pub lend_told : (taken : Bool) → taken ≡ true → (guest : Option GuestState) (ring : RingView M) (told : LoopRecords M I D) → told ≡ l → ring ≡ (loop_in seen told).ring → guest_mind guest ≡ ring.guest
             → IfSome guest (λ g. g.last ≤ 30) → LendCalls address frames (loop_in seen lends) (loop_in seen l) (Ok taken) → Behind (lent m l) (Asks (Lend frames)) reply.Ok (found_lines address guest ++ reply_line reply.Ok)
         lend_told taken took guest ring told tells stands mind low did_so =
             let did : LendCalls address frames (loop_in seen lends) (loop_in seen l) (Ok true) = subst (λ taken. LendCalls address frames (loop_in seen lends) (loop_in seen l) (Ok taken)) took did_so in
-            let ran = lend_performs view seen (ring_in o.records.control) (ring_in b.records.control) (loop_in seen o.records) (loop_in seen b.records)
-            usable.volume_open.valid (agrees seen o.records.control) (agrees seen b.records.control) began x (loop_in seen lends) addressed (ring_in l.control) (loop_in seen l) store usable.log left_lent
+            let ran = lend_performs view seen o.records.ring b.records.ring (loop_in seen o.records) (loop_in seen b.records)
+            usable.volume_open.valid refl refl began x (loop_in seen lends) addressed l.ring (loop_in seen l) store usable.log left_lent
             address frames true by did in
             lend_ended reply.Ok (found_lines address guest ++ reply_line reply.Ok) ran
             (ap (λ lines. lines ++ reply_line reply.Ok)
-            (lend_lines view seen (ring_in o.records.control) (ring_in b.records.control) (loop_in seen o.records) (loop_in seen b.records)
-            usable.volume_open.valid (agrees seen o.records.control) (agrees seen b.records.control) began x (loop_in seen lends) addressed (ring_in l.control) (loop_in seen l) store usable.log left_lent
-            address frames by did guest (guest_at (loop_in seen l).control guest ring (subst (λ (l : LoopRecords M I D). HasRing (loop_in seen l).control (λ s. ring ≡ s)) tells stands) mind) low))
+            (lend_lines view seen o.records.ring b.records.ring (loop_in seen o.records) (loop_in seen b.records)
+            usable.volume_open.valid refl refl began x (loop_in seen lends) addressed l.ring (loop_in seen l) store usable.log left_lent
+            address frames by did guest (mind ∙ ap (λ (r : RingView M). r.guest) (stands ∙ ap (λ (l : LoopRecords M I D). (loop_in seen l).ring) tells)) low))
 
         -- nobody took it
         pub lend_not_taken : (taken : Bool) → taken ≡ false → LendCalls address frames (loop_in seen lends) (loop_in seen l) (Ok taken) → Behind (lent m l) (Asks (Lend frames)) (reply.No code.NoTaker) (reply_line (reply.No code.NoTaker))
         lend_not_taken taken untaken did_so =
             let did : LendCalls address frames (loop_in seen lends) (loop_in seen l) (Ok false) = subst (λ taken. LendCalls address frames (loop_in seen lends) (loop_in seen l) (Ok taken)) untaken did_so in
             lend_ended (reply.No code.NoTaker) (reply_line (reply.No code.NoTaker))
-            (lend_performs view seen (ring_in o.records.control) (ring_in b.records.control) (loop_in seen o.records) (loop_in seen b.records)
-            usable.volume_open.valid (agrees seen o.records.control) (agrees seen b.records.control) began x (loop_in seen lends) addressed (ring_in l.control) (loop_in seen l) store usable.log left_lent
+            (lend_performs view seen o.records.ring b.records.ring (loop_in seen o.records) (loop_in seen b.records)
+            usable.volume_open.valid refl refl began x (loop_in seen lends) addressed l.ring (loop_in seen l) store usable.log left_lent
             address frames false by did) refl
 
         -- it was broken off
         pub lend_failed : (e : Trouble) → LendCalls address frames (loop_in seen lends) (loop_in seen l) (Err e) → Behind (lent m l) (Asks (Lend frames)) (fault_of e) (reply_line (fault_of e))
         lend_failed e did =
             faulted (lent m l) (Asks (Lend frames)) e tt open_lent refl size_lent
-            (lend_broke view seen (ring_in o.records.control) (ring_in b.records.control) (loop_in seen o.records) (loop_in seen b.records)
-            usable.volume_open.valid (agrees seen o.records.control) (agrees seen b.records.control) began x (loop_in seen lends) addressed (ring_in l.control) (loop_in seen l) store usable.log left_lent
+            (lend_broke view seen o.records.ring b.records.ring (loop_in seen o.records) (loop_in seen b.records)
+            usable.volume_open.valid refl refl began x (loop_in seen lends) addressed l.ring (loop_in seen l) store usable.log left_lent
             address frames e by did)
 
       -- ---- accessory IDs
 
-      pub devices_told : (ids : List (Option ℕ)) (on : Since) (u : Unit {0}) → HasDriveId (loop_in seen o.records).control → Called (λ r s. AllNamed view ids r s) on (loop_in seen lends) (loop_in seen l)
+      pub devices_told : (ids : List (Option ℕ)) (on : Since) (u : Unit {0}) → HasDriveId (loop_in seen o.records).ring → Called (λ r s. AllNamed view ids r s) true (loop_in seen lends).sound on (loop_in seen lends) (loop_in seen l)
           → LeavesStore {T = Unit {0}} 2 (Unit {0}) (store_in view seen lends) (store_in view seen l) (Ok u) → Behind (lent m l) (Asks Devices) reply.Ok (device_lines 1 ids ++ reply_line reply.Ok)
       devices_told ids on u has did leaves =
-          let ran = devices_performs view seen (ring_in o.records.control) (ring_in b.records.control) (loop_in seen o.records) (loop_in seen b.records)
-          usable.volume_open.valid (agrees seen o.records.control) (agrees seen b.records.control) began x (loop_in seen lends) addressed (ring_in l.control) (loop_in seen l) store usable.log (left_called 2 (Unit {0}) (Ok u) (omega arith) leaves)
+          let ran = devices_performs view seen o.records.ring b.records.ring (loop_in seen o.records) (loop_in seen b.records)
+          usable.volume_open.valid refl refl began x (loop_in seen lends) addressed l.ring (loop_in seen l) store usable.log (left_called 2 (Unit {0}) (Ok u) (omega arith) leaves)
           on ids has did in
           replied (Asks Devices) 2 (Unit {0}) (Ok u) (device_lines 1 ids) leaves ran.1 tt (λ log. ap (λ ids. device_lines 1 ids ++ reply_line reply.Ok) (sym ran.0))
 
-      pub devices_failed : (e : Trouble) (off : Since) → HasDriveId (loop_in seen o.records).control → (e ≡ trouble.Frame) × CallBroke (λ r s. LeftAlone view false (up_to (id_asks (devices_of r)) (length (devices_of r))) r s) off (loop_in seen lends) (loop_in seen l)
+      pub devices_failed : (e : Trouble) (off : Since) → HasDriveId (loop_in seen o.records).ring → (e ≡ trouble.Frame) × Called (λ r s. LeftAlone view false (up_to (id_asks (devices_of r)) (length (devices_of r))) r s) false false off (loop_in seen lends) (loop_in seen l)
           → LeavesStore {T = Unit {0}} 2 (Unit {0}) (store_in view seen lends) (store_in view seen l) (Err e) → Behind (lent m l) (Asks Devices) (fault_of e) (reply_line (fault_of e))
       devices_failed e off has did leaves =
           call_faulted {T = Unit {0}} (Asks Devices) 2 (Unit {0}) (Err e) e tt leaves
-          (devices_broke view seen (ring_in o.records.control) (ring_in b.records.control) (loop_in seen o.records) (loop_in seen b.records)
-          usable.volume_open.valid (agrees seen o.records.control) (agrees seen b.records.control) began x (loop_in seen lends) addressed (ring_in l.control) (loop_in seen l) store usable.log (left_called {T = Unit {0}} 2 (Unit {0}) (Err e) (omega arith) leaves)
+          (devices_broke view seen o.records.ring b.records.ring (loop_in seen o.records) (loop_in seen b.records)
+          usable.volume_open.valid refl refl began x (loop_in seen lends) addressed l.ring (loop_in seen l) store usable.log (left_called {T = Unit {0}} 2 (Unit {0}) (Err e) (omega arith) leaves)
           off e has did)
 
-      pub unnamed_failed : (e : Trouble) (off : Since) (bytes : List ℕ) → HasDriveId (loop_in seen o.records).control → (e ≡ trouble.Frame) × CallBroke (λ r s. LeftAlone view false (up_to (id_asks (devices_of r)) (length (devices_of r))) r s) off (loop_in seen lends) (loop_in seen l)
+      pub unnamed_failed : (e : Trouble) (off : Since) (bytes : List ℕ) → HasDriveId (loop_in seen o.records).ring → (e ≡ trouble.Frame) × Called (λ r s. LeftAlone view false (up_to (id_asks (devices_of r)) (length (devices_of r))) r s) false false off (loop_in seen lends) (loop_in seen l)
           → LeavesStore {T = Unit {0}} 2 (Unit {0}) (store_in view seen lends) (store_in view seen l) (Err e) → Behind (lent m l) (Asks (Say bytes)) (fault_of e) (reply_line (fault_of e))
       unnamed_failed e off bytes has did leaves =
           call_faulted {T = Unit {0}} (Asks (Say bytes)) 2 (Unit {0}) (Err e) e tt leaves
-          (say_unnamed view seen (ring_in o.records.control) (ring_in b.records.control) (loop_in seen o.records) (loop_in seen b.records)
-          usable.volume_open.valid (agrees seen o.records.control) (agrees seen b.records.control) began x (loop_in seen lends) addressed (ring_in l.control) (loop_in seen l) store usable.log (left_called {T = Unit {0}} 2 (Unit {0}) (Err e) (omega arith) leaves)
+          (say_unnamed view seen o.records.ring b.records.ring (loop_in seen o.records) (loop_in seen b.records)
+          usable.volume_open.valid refl refl began x (loop_in seen lends) addressed l.ring (loop_in seen l) store usable.log (left_called {T = Unit {0}} 2 (Unit {0}) (Err e) (omega arith) leaves)
           off bytes e has did)
 
       -- the devices told their accessory IDs, and the first printer has this address, if there is one
-      module _ (ids : List (Option ℕ)) (on : Since) (u : Unit {0}) (has : HasDriveId (loop_in seen o.records).control) (did : Called (λ r s. AllNamed view ids r s) on (loop_in seen lends) (loop_in seen l))
+      module _ (ids : List (Option ℕ)) (on : Since) (u : Unit {0}) (has : HasDriveId (loop_in seen o.records).ring) (did : Called (λ r s. AllNamed view ids r s) true (loop_in seen lends).sound on (loop_in seen lends) (loop_in seen l))
           (named : LeavesStore {T = Unit {0}} 2 (Unit {0}) (store_in view seen lends) (store_in view seen l) (Ok u)) (bytes : List ℕ) (found : Option ℕ) (first : found ≡ option_map suc (position (has_id printer_id) ids)) where
         open_named : IsOpen (store_in view seen) (volume_in (lent m l))
         open_named = lent_open view seen m lends l 2 (Unit {0}) (Ok u) opens same named
 
         printer : found ≡ printer_at (host_in view seen o before text_space space).state.loop
-        printer = first ∙ printer_told view seen (ring_in o.records.control) (ring_in b.records.control) (loop_in seen o.records) (loop_in seen b.records)
-            usable.volume_open.valid (agrees seen o.records.control) (agrees seen b.records.control) began x (loop_in seen lends) addressed on ids (loop_in seen l) has did
+        printer = first ∙ printer_told view seen o.records.ring b.records.ring (loop_in seen o.records) (loop_in seen b.records)
+            usable.volume_open.valid refl refl began x (loop_in seen lends) addressed on ids (loop_in seen l) has did
 
         pub no_printer : found ≡ None → Behind (lent m l) (Asks (Say bytes)) (reply.No code.NoPrinter) (reply_line (reply.No code.NoPrinter))
         no_printer none =
-            let ran = say_no_printer view seen (ring_in o.records.control) (ring_in b.records.control) (loop_in seen o.records) (loop_in seen b.records)
-            usable.volume_open.valid (agrees seen o.records.control) (agrees seen b.records.control) began x (loop_in seen lends) addressed (ring_in l.control) (loop_in seen l) store usable.log (left_called 2 (Unit {0}) (Ok u) (omega arith) named)
+            let ran = say_no_printer view seen o.records.ring b.records.ring (loop_in seen o.records) (loop_in seen b.records)
+            usable.volume_open.valid refl refl began x (loop_in seen lends) addressed l.ring (loop_in seen l) store usable.log (left_called 2 (Unit {0}) (Ok u) (omega arith) named)
             on ids bytes has (sym none ∙ printer) did in
             performed view seen o b (lent m l) text_space space usable began open_named (Asks (Say bytes)) (reply.No code.NoPrinter) before (reply_line (reply.No code.NoPrinter)) (named.size ∙ ready.size ∙ began.size) ran
             (forgets (lent m l) (Asks (Say bytes)) (reply.No code.NoPrinter) open_named tt refl) (λ told. refl) (λ is. cc)
@@ -378,15 +353,15 @@ module _ {M I : Type 0} {D : I → Type 0} (view : M → MediumView) (seen : Rin
           left_again : 2760 ≤ (store_in view seen again).calls_left
           left_again = let left = left_ready in let used = named.left in subst (λ (l : LoopRecords M I D). 2760 ≤ (store_in view seen l).calls_left) (sym same_again) (omega (arith, left, used))
 
-          pub room_named : HasRing (loop_in seen again).control (λ r. length bytes + 1000 ≤ spare_of r)
+          pub room_named : length bytes + 1000 ≤ spare_of (loop_in seen again).ring
           room_named =
               let left = left_again in
               let valid = subst (λ (l : LoopRecords M I D). (store_in view seen l).valid) (sym same_again) named.valid in
-              ring_room view seen (ring_in again.control) (loop_in seen again) (length bytes + 1000) 2760 valid (omega arith) left (omega (arith, few))
+              ring_room view seen again.ring (loop_in seen again) (length bytes + 1000) 2760 valid (omega arith) left (omega (arith, few))
 
           module _ (q : LoopRecords M I D) where
-            did_again : Called (λ r s. AllNamed view ids r s) on (loop_in seen lends) (loop_in seen again)
-            did_again = subst (λ (l : LoopRecords M I D). Called (λ r s. AllNamed view ids r s) on (loop_in seen lends) (loop_in seen l)) (sym same_again) did
+            did_again : Called (λ r s. AllNamed view ids r s) true (loop_in seen lends).sound on (loop_in seen lends) (loop_in seen again)
+            did_again = subst (λ (l : LoopRecords M I D). Called (λ r s. AllNamed view ids r s) true (loop_in seen lends).sound on (loop_in seen lends) (loop_in seen l)) (sym same_again) did
 
             left_said : {T : Type 0} (answer : Result T Trouble) → LeavesStore ((length bytes + 306) / 300) (Unit {0}) (store_in view seen again) (store_in view seen q) answer → 1 ≤ (store_in view seen q).calls_left
             left_said answer leaves = let left = left_again in let used = leaves.left in omega (arith, left, used, few)
@@ -397,19 +372,19 @@ module _ {M I : Type 0} {D : I → Type 0} (view : M → MediumView) (seen : Rin
             size_said : {T : Type 0} (answer : Result T Trouble) → LeavesStore ((length bytes + 306) / 300) (Unit {0}) (store_in view seen again) (store_in view seen q) answer → (store_in view seen q).record_count ≡ (store_in view seen o.records).record_count
             size_said answer leaves = leaves.size ∙ ap (λ (l : LoopRecords M I D). (store_in view seen l).record_count) same_again ∙ named.size ∙ ready.size ∙ began.size
 
-            pub say_told : (more : Since) (w : Unit {0}) → Called (λ r s. Said view address bytes r s) more (loop_in seen again) (loop_in seen q)
+            pub say_told : (more : Since) (w : Unit {0}) → Called (λ r s. Said view address bytes r s) true (loop_in seen again).sound more (loop_in seen again) (loop_in seen q)
                 → LeavesStore {T = Unit {0}} ((length bytes + 306) / 300) (Unit {0}) (store_in view seen again) (store_in view seen q) (Ok w) → Behind (lent m q) (Asks (Say bytes)) reply.Ok (reply_line reply.Ok)
             say_told more w said leaves =
-                let ran = say_performs view seen (ring_in o.records.control) (ring_in b.records.control) (loop_in seen o.records) (loop_in seen b.records)
-                usable.volume_open.valid (agrees seen o.records.control) (agrees seen b.records.control) began x (loop_in seen lends) addressed (ring_in q.control) (loop_in seen q) store usable.log (left_said (Ok w) leaves)
+                let ran = say_performs view seen o.records.ring b.records.ring (loop_in seen o.records) (loop_in seen b.records)
+                usable.volume_open.valid refl refl began x (loop_in seen lends) addressed q.ring (loop_in seen q) store usable.log (left_said (Ok w) leaves)
                 on ids (loop_in seen again) did_again has address (sym at ∙ printer) bytes more said in
                 performed view seen o b (lent m q) text_space space usable began (open_said (Ok w) leaves) (Asks (Say bytes)) reply.Ok before (reply_line reply.Ok) (size_said (Ok w) leaves) ran
                 (forgets (lent m q) (Asks (Say bytes)) reply.Ok (open_said (Ok w) leaves) tt refl) (λ told. refl) (λ is. cc)
 
-            pub say_failed : (e : Trouble) (off : Since) → (e ≡ trouble.Frame) × CallBroke (λ r s. NotSaid view address bytes r s) off (loop_in seen again) (loop_in seen q)
+            pub say_failed : (e : Trouble) (off : Since) → (e ≡ trouble.Frame) × Called (λ r s. NotSaid view address bytes r s) false false off (loop_in seen again) (loop_in seen q)
                 → LeavesStore {T = Unit {0}} ((length bytes + 306) / 300) (Unit {0}) (store_in view seen again) (store_in view seen q) (Err e) → Behind (lent m q) (Asks (Say bytes)) (fault_of e) (reply_line (fault_of e))
             say_failed e off broke leaves =
                 faulted (lent m q) (Asks (Say bytes)) e tt (open_said {T = Unit {0}} (Err e) leaves) refl (size_said {T = Unit {0}} (Err e) leaves)
-                (say_broke view seen (ring_in o.records.control) (ring_in b.records.control) (loop_in seen o.records) (loop_in seen b.records)
-                usable.volume_open.valid (agrees seen o.records.control) (agrees seen b.records.control) began x (loop_in seen lends) addressed (ring_in q.control) (loop_in seen q) store usable.log (left_said {T = Unit {0}} (Err e) leaves)
+                (say_broke view seen o.records.ring b.records.ring (loop_in seen o.records) (loop_in seen b.records)
+                usable.volume_open.valid refl refl began x (loop_in seen lends) addressed q.ring (loop_in seen q) store usable.log (left_said {T = Unit {0}} (Err e) leaves)
                 on ids (loop_in seen again) did_again has address (sym at ∙ printer) bytes off e broke)

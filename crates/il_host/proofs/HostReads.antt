@@ -1,9 +1,6 @@
 -- The commands that tell a label or the bytes of a file, as a host performs them.
 use Rattle.std.proofs.Common.{◌≡◌, ◌≤◌, ◌+◌, ◌++◌, ◌∙◌, ℕ, List, map, take, Option, Some, None, refl, sym, ap, arith}
 use Rattle.std.specs.Prelude.{Result, Ok, Err, IfSome, length, option_map, unwrap_or}
-use Rattle.std.specs.Global.{Vec}
-use Rattle.std.specs.List.{length_refill}
-use Rattle.std.specs.Vec.{with_items}
 use Rattle.std.specs.FinMap.{empty}
 use Rattle.lif_dir.specs.Entries.{slot_bytes}
 use Rattle.lif_model.specs.Tape.{Tape}
@@ -36,7 +33,7 @@ use Rattle.host_model.specs.Requests.{Asks, OfVolume}
 use Rattle.host_model.specs.HostStates.{volume_at}
 use Rattle.host_model.specs.Replies.{told_of}
 use Rattle.il_host.specs.HostView.{Performed, calls_to_pack}
-use Rattle.il_host.specs.Hosts.{Space, space_of, IsUsable, host_in, loop_in, store_in, volume_in}
+use Rattle.il_host.specs.Hosts.{Space, IsUsable, host_in, loop_in, store_in, volume_in}
 use Rattle.il_host.specs.Standings.{HasDriveStatus, volume_reply}
 use Rattle.il_host.specs.Texts.{data_text, label_text}
 use Rattle.il_host.proofs.FileCarries.{fetch_carried}
@@ -49,13 +46,9 @@ use Rattle.il_host.proofs.VolumeReplied.{reads_turn}
 
 -- ---- the buffer for files
 
--- bytes that are written over a vector's leave its length
-pub same_length : (v : Vec ℕ) (xs : List ℕ) → length (with_items v xs).items ≡ length v.items
-same_length v xs = sym (length_refill v.len v.items xs v.ok.0) ∙ v.ok.0
-
--- and so the room for files and slots
-pub same_room : (v : Vec ℕ) (xs : List ℕ) (packer : Packer) → space_of (with_items v xs) packer ≡ space_of v packer
-same_room v xs packer = ap (λ k. record { file = k; slots = packer.slots.room }) (same_length v xs)
+-- it stays as long, and so does the room for files and slots
+pub same_room : {a b : ℕ} (packer : Packer) → a ≡ b → ◌≡◌ {A = Space} (record { file = a; slots = packer.slots.room }) (record { file = b; slots = packer.slots.room })
+same_room packer same = ap (λ (k : ℕ). let space : Space = record { file = k; slots = packer.slots.room } in space) same
 
 -- ---- how many records a fetch takes
 
@@ -86,7 +79,7 @@ fetching_few view old name answer is = by old.kept is.legal
 module _ {M I : Type 0} {D : I → Type 0} (view : M → MediumView) (seen : Ring M I D → RingView M) (o b f n : Volume (LoopRecords M I D)) (text_space : ℕ) (space : Space)
     (usable : IsUsable view (store_in view seen) (volume_in o) (loop_in seen o.records) text_space space) (began : Begun (store_in view seen o.records) (store_in view seen b.records))
     (law : (x : M) → IsMedium (view x)) (p : IsPrepared view seen o b f) (opened : IsOpen (store_in view seen) (volume_in f))
-    (opens : IsOpen (store_in view seen) (volume_in n)) (low : HasDriveStatus (loop_in seen n.records).control) where
+    (opens : IsOpen (store_in view seen) (volume_in n)) (low : HasDriveStatus (loop_in seen n.records).ring) where
   abbrev made : ℕ
   made = (store_in view seen p.m.records).record_count
 

@@ -28,11 +28,8 @@ use Rattle.il_ring.specs.declared.ring.Ring.{Ring}
 use Rattle.il_ring.specs.Rings.{RingView}
 use Rattle.il_record.specs.declared.records.LoopRecords.{LoopRecords}
 use Rattle.loop_model.specs.Effect.{Transferred}
-use Rattle.il_record.specs.declared.records.Since.{Since}
-use Rattle.il_record.specs.LoopStores.{AtIdle, AtLost, LoopView, Nowhere, Standing, StandsSo, calls_in, view_of, view_at}
-use Rattle.il_record.specs.Controls.{ring_in}
-use Rattle.il_record.specs.IsStore.{is_store_at}
-use Rattle.il_record.proofs.StoreResumes.{agrees}
+use Rattle.il_record.specs.LoopStores.{LoopView, calls_in, view_of}
+use Rattle.il_record.specs.IsStore.{is_store_of}
 use Rattle.il_script.specs.declared.reply.Reply.{Reply}
 use Rattle.il_script.specs.declared.reply.Reply.TheVariants as reply
 use Rattle.il_script.specs.declared.command.Command.{Command}
@@ -51,7 +48,7 @@ use Rattle.il_host.specs.Preparing.{StaysUnsound}
 use Rattle.il_host.specs.PlainCommands.{ChangesVolume, IsOnVolume, OnVolume}
 use Rattle.il_host.specs.Shorts.{AllShort}
 use Rattle.il_host.proofs.Shorts.{short_behind}
-use Rattle.il_host.specs.Standings.{Ends, HasDriveStatus, IsHostRing, KeepsPage, MakesSound, MakesSoundBy, event_at, fault_of, plan_at, log_at, state_at, volume_reply}
+use Rattle.il_host.specs.Standings.{Ends, HasDriveStatus, IsHostRing, KeepsPage, MakesSound, MakesSoundBy, event_at, fault_of, state_at, volume_reply}
 use Rattle.il_host.proofs.Texts.{ok_text}
 use Rattle.il_host.proofs.VolumeCarries.{CarriesAs, IsFormedAs, none_carried, not_carried}
 use Rattle.il_host.proofs.VolumeCommands.{KeepsRing}
@@ -59,7 +56,7 @@ use Rattle.il_host.proofs.VolumePerforms.{Performs, volume_asked, volume_failed,
 use Rattle.il_host.proofs.KeptDirectories.{TellsNothing, forgets_it, kept_before, some_beside, sound_kept, still_kept, told_log}
 use Rattle.il_host.proofs.FinishedFirst.{MindsFirst}
 use Rattle.il_host.proofs.Sounding.{acts_keeping, keeping, stops_keeping}
-use Rattle.il_host.proofs.VolumeStarts.{Emptied, stands_at, volume_begun}
+use Rattle.il_host.proofs.VolumeStarts.{Emptied, volume_begun}
 use Rattle.il_host.proofs.VolumeAsked.{asked_seen, asked_transferred}
 use Rattle.il_host.proofs.VolumeReplied.{AnswersSo, IsSeenAs, seen_as, told_tape, TurnsSo}
 use Rattle.il_frames.specs.declared.entry.Entry.{Entry}
@@ -67,39 +64,12 @@ use Rattle.il_frames.specs.declared.entry.Entry.{Entry}
 -- ---- room
 
 -- how many calls the log of a host is enough for
-room_of : {M S : Type 0} (view : M → MediumView) (seen : S → RingView M) (p : Option S) (l : LoopView M) → StandsSo l.control l.sound l.since → IsHostRing view l.control
-    → (view_of view seen p l).room ≡ calls_in (log_room (view_of view seen p l).record_count)
-room_of {M} view seen p l stands room = by l.control stands room
-  where
-    by : (c : Standing M) → StandsSo c l.sound l.since → IsHostRing view c → (view_at view seen p l.sound l.since l.resumes c).room ≡ calls_in (log_room (view_at view seen p l.sound l.since l.resumes c).record_count)
-    by (AtIdle r) so own = ap calls_in own
-    by (AtLost r) so own = ap calls_in own
-    by Nowhere so room = absurd so
+room_of : {M S : Type 0} (view : M → MediumView) (seen : S → RingView M) (p : S) (l : LoopView M) → IsHostRing view l.ring → (view_of view seen p l).room ≡ calls_in (log_room (view_of view seen p l).record_count)
+room_of view seen p l own = ap calls_in own
 
 -- how many calls are left behind a log
-left_of : {M S : Type 0} (view : M → MediumView) (seen : S → RingView M) (p : Option S) (l : LoopView M) → StandsSo l.control l.sound l.since → IsHostRing view l.control
-    → (view_of view seen p l).calls_left ≡ calls_behind (view_of view seen p l).record_count (log_at l.control)
-left_of {M} view seen p l stands room = by l.control stands room
-  where
-    by : (c : Standing M) → StandsSo c l.sound l.since → IsHostRing view c → (view_at view seen p l.sound l.since l.resumes c).calls_left ≡ calls_behind (view_at view seen p l.sound l.since l.resumes c).record_count (log_at c)
-    by (AtIdle r) so own = ap (λ room. calls_in (room - length r.books.log)) own
-    by (AtLost r) so own = ap (λ room. calls_in (room - length r.books.log)) own
-    by Nowhere so room = absurd so
-
--- the records of the medium are those of the host
-records_of : {M S : Type 0} (view : M → MediumView) (seen : S → RingView M) (p : Option S) (l : LoopView M) → (state_at view l.sound l.control).records ≡ (view_of view seen p l).record_count
-records_of {M} view seen p l = by l.control
-  where
-    by : (c : Standing M) → (state_at view l.sound c).records ≡ (view_at view seen p l.sound l.since l.resumes c).record_count
-    by (AtIdle r) = refl
-    by (AtLost r) = refl
-    by Nowhere = refl
-
--- a state that stands is sound as its store
-sound_of : {M : Type 0} (view : M → MediumView) (c : Standing M) (sound : Bool) (log : Since) → StandsSo c sound log → (state_at view sound c).sound ≡ sound
-sound_of view (AtIdle r) sound log so = refl
-sound_of view (AtLost r) sound log so = refl
-sound_of view Nowhere sound log so = absurd so
+left_of : {M S : Type 0} (view : M → MediumView) (seen : S → RingView M) (p : S) (l : LoopView M) → IsHostRing view l.ring → (view_of view seen p l).calls_left ≡ calls_behind (view_of view seen p l).record_count (l.ring.books.log)
+left_of view seen p l own = ap (λ room. calls_in (room - length l.ring.books.log)) own
 
 pub enough_calls : (n : ℕ) → IsSize n → 18 * n + 199 ≤ calls_in (log_room n)
 enough_calls n size = let bounds = size_bounds n size in omega (arith, bounds.0, bounds.1)
@@ -147,9 +117,7 @@ no_lines (Format label slots) (Some v) nothing = refl
 
 nothing_told : (command : VolumeCommand) (volume : Option LifVolume) (s : HostState) (log : List Entry) (r : Reply) → volume_at s ≡ volume → TellsNothing command → reply_text (Asks (OfVolume command)) s log r ≡ reply_line r
 nothing_told command volume s log reply.Ok is nothing = ap (λ lines. lines ++ reply_line reply.Ok) (no_lines command (volume_at s) nothing)
-nothing_told command volume s log (reply.No code) is nothing = refl
-nothing_told command volume s log reply.FaultFrame is nothing = refl
-nothing_told command volume s log reply.FaultMedium is nothing = refl
+nothing_told command volume s log _ is nothing = refl
 
 -- ---- requests
 
@@ -164,17 +132,7 @@ volume_request (command.Purge name) bytes on = (Purge (name_bytes name), refl)
 volume_request (command.Format label slots) bytes on = (Format (label_bytes label) slots, refl)
 volume_request command.Adopt bytes on = (Adopt, refl)
 volume_request command.Upgrade bytes on = (Upgrade, refl)
-volume_request (command.Put name) bytes on = absurd on
-volume_request (command.Get name) bytes on = absurd on
-volume_request command.Pack bytes on = absurd on
-volume_request command.Devices bytes on = absurd on
-volume_request command.Status bytes on = absurd on
-volume_request command.Poll bytes on = absurd on
-volume_request command.Say bytes on = absurd on
-volume_request command.Paper bytes on = absurd on
-volume_request (command.Lend frames) bytes on = absurd on
-volume_request command.Begin bytes on = absurd on
-volume_request command.Commit bytes on = absurd on
+volume_request _ bytes on = absurd on
 
 -- one that is none of the three that tell something changes the volume, and tells nothing
 pub changes_volume : (c : Command) → IsOnVolume c → c ≢ command.Dir → c ≢ command.Label → ((name : Name) → c ≢ command.Fetch name) → ChangesVolume c
@@ -187,41 +145,18 @@ changes_volume (command.Purge name) on no_dir no_label no_fetch = tt
 changes_volume (command.Format label slots) on no_dir no_label no_fetch = tt
 changes_volume command.Adopt on no_dir no_label no_fetch = tt
 changes_volume command.Upgrade on no_dir no_label no_fetch = tt
-changes_volume (command.Put name) on no_dir no_label no_fetch = absurd on
-changes_volume (command.Get name) on no_dir no_label no_fetch = absurd on
-changes_volume command.Pack on no_dir no_label no_fetch = absurd on
-changes_volume command.Devices on no_dir no_label no_fetch = absurd on
-changes_volume command.Status on no_dir no_label no_fetch = absurd on
-changes_volume command.Poll on no_dir no_label no_fetch = absurd on
-changes_volume command.Say on no_dir no_label no_fetch = absurd on
-changes_volume command.Paper on no_dir no_label no_fetch = absurd on
-changes_volume (command.Lend frames) on no_dir no_label no_fetch = absurd on
-changes_volume command.Begin on no_dir no_label no_fetch = absurd on
-changes_volume command.Commit on no_dir no_label no_fetch = absurd on
+changes_volume _ on no_dir no_label no_fetch = absurd on
 
 -- what is said of it
 pub on_volume : (P : VolumeCommand → Type 0) (c : Command) (bytes : List ℕ) → ChangesVolume c → OnVolume (request_of c bytes) P
     → (command : VolumeCommand) × (request_of c bytes ≡ OfVolume command) × TellsNothing command × ((answer : Result (Unit {0}) VolumeFault) → IsFormedAs command answer) × P command
-on_volume P command.Dir bytes changes has = absurd changes
-on_volume P command.Label bytes changes has = absurd changes
-on_volume P (command.Fetch name) bytes changes has = absurd changes
 on_volume P (command.Store name kind implementation) bytes changes has = (Store (name_bytes (made_name name)) kind implementation bytes, refl, tt, λ answer. tt, has)
 on_volume P (command.Rename old new) bytes changes has = (Rename (name_bytes old) (name_bytes (made_name new)), refl, tt, λ answer. tt, has)
 on_volume P (command.Purge name) bytes changes has = (Purge (name_bytes name), refl, tt, λ answer. tt, has)
 on_volume P (command.Format label slots) bytes changes has = (Format (label_bytes label) slots, refl, tt, λ answer. tt, has)
 on_volume P command.Adopt bytes changes has = (Adopt, refl, tt, λ answer. tt, has)
 on_volume P command.Upgrade bytes changes has = (Upgrade, refl, tt, λ answer. tt, has)
-on_volume P (command.Put name) bytes changes has = absurd changes
-on_volume P (command.Get name) bytes changes has = absurd changes
-on_volume P command.Pack bytes changes has = absurd changes
-on_volume P command.Devices bytes changes has = absurd changes
-on_volume P command.Status bytes changes has = absurd changes
-on_volume P command.Poll bytes changes has = absurd changes
-on_volume P command.Say bytes changes has = absurd changes
-on_volume P command.Paper bytes changes has = absurd changes
-on_volume P (command.Lend frames) bytes changes has = absurd changes
-on_volume P command.Begin bytes changes has = absurd changes
-on_volume P command.Commit bytes changes has = absurd changes
+on_volume _ _ bytes changes has = absurd changes
 
 -- ---- the page and the volume behind the last line
 
@@ -265,7 +200,7 @@ module _ {M I : Type 0} {D : I → Type 0} (view : M → MediumView) (seen : Rin
   same_kept m begun made = ap is_some made ∙ by b.records.sound refl
     where
       emptied : Emptied view (loop_in seen o.records) (loop_in seen b.records)
-      emptied = volume_begun view seen (ring_in o.records.control) (ring_in b.records.control) (loop_in seen o.records) (loop_in seen b.records) usable.volume_open.valid (agrees seen o.records.control) (agrees seen b.records.control) began
+      emptied = volume_begun view seen o.records.ring b.records.ring (loop_in seen o.records) (loop_in seen b.records) usable.volume_open.valid refl refl began
 
       none : (kept : Bool) → is_some o.kept ≡ kept → b.records.sound ≡ false → false ≡ kept
       none true is off = let clash : false ≡ true = sym off ∙ emptied.sound ∙ usable.kept is in cc
@@ -277,7 +212,7 @@ module _ {M I : Type 0} {D : I → Type 0} (view : M → MediumView) (seen : Rin
 
   -- the log has room for so many calls
   pub begun_calls : calls_in (log_room count) ≤ (store_in view seen b.records).calls_left
-  begun_calls = let room = room_of view seen (ring_in o.records.control) (loop_in seen o.records) usable.stands usable.log in omega (arith, began.enough, room)
+  begun_calls = let room = room_of view seen o.records.ring (loop_in seen o.records) usable.log in omega (arith, began.enough, room)
 
   -- so for every command of the volume, for a packing that is finished before it, and for one call more
   pub begun_left : 18 * count + 199 ≤ (store_in view seen b.records).calls_left
@@ -288,12 +223,12 @@ module _ {M I : Type 0} {D : I → Type 0} (view : M → MediumView) (seen : Rin
 
   module _ (opens : IsOpen (store_in view seen) (volume_in n)) where
     -- it can be used again
-    usable_behind : (store_in view seen n.records).record_count ≡ count → KeepsRing view (loop_in seen o.records) (loop_in seen n.records) → AllShort (state_at view n.records.sound (loop_in seen n.records).control).loop
+    usable_behind : (store_in view seen n.records).record_count ≡ count → KeepsRing view (loop_in seen o.records) (loop_in seen n.records) → AllShort (state_at view (loop_in seen n.records)).loop
         → (is_some n.kept ≡ true → n.records.sound ≡ true) → IsUnmarked (store_in view seen) (volume_in n) → IsUsable view (store_in view seen) (volume_in n) (loop_in seen n.records) text_space space
     usable_behind size keeps short kept unmarked = record {
       volume_open = opens;
       size = subst IsSize (sym size) usable.size;
-      stands = stands_at view seen (ring_in n.records.control) (loop_in seen n.records) opens.valid;
+      stands = opens.valid;
       kept = kept;
       log = keeps.room;
       short = short;
@@ -312,21 +247,21 @@ module _ {M I : Type 0} {D : I → Type 0} (view : M → MediumView) (seen : Rin
 
     abbrev pub TookFew : Item → Type 0
     TookFew item = Took (2 * count + 40 + calls_to_pack count)
-        × (is_packing item ≡ false → (t : Tape) → (state_at view o.records.sound (loop_in seen o.records).control).tape ≡ Some t
+        × (is_packing item ≡ false → (t : Tape) → (state_at view (loop_in seen o.records)).tape ≡ Some t
         → Took (directory_records (finished t) + records_asked item (finished t) + 200 + calls_to_prepare count (volume_of t)))
-        × (is_packing item ≡ false → (t : Tape) → (state_at view o.records.sound (loop_in seen o.records).control).tape ≡ Some t → is_some o.kept ≡ true
+        × (is_packing item ≡ false → (t : Tape) → (state_at view (loop_in seen o.records)).tape ≡ Some t → is_some o.kept ≡ true
         → Took (records_asked item (finished t) + most_beside item))
 
     pub performed : (item : Item) (answered : Reply) (before after : List ℕ) → (store_in view seen n.records).record_count ≡ count
-        → Performs view seen (ring_in o.records.control) (ring_in n.records.control) item answered (loop_in seen o.records) (loop_in seen n.records) → KeepsDirectory (event_kept item answered)
-        → (TellsReply item (host_in view seen o before text_space space).state → after ≡ reply_text item (host_in view seen o before text_space space).state (log_at (loop_in seen n.records).control) answered)
+        → Performs view seen o.records.ring n.records.ring item answered (loop_in seen o.records) (loop_in seen n.records) → KeepsDirectory (event_kept item answered)
+        → (TellsReply item (host_in view seen o before text_space space).state → after ≡ reply_text item (host_in view seen o before text_space space).state ((loop_in seen n.records).ring.books.log) answered)
         → (is_of_volume item ≡ true → TookFew item × IsUnmarked (store_in view seen) (volume_in n))
         → Performed item answered (host_in view seen o before text_space space) (host_in view seen n after text_space space)
     performed item answered before after size did directory text few = record {
       valid = usable_behind size did.keeps (short_behind _ did.step usable.short) sound unmarked;
       plan = did.keeps.plan;
       step = record {
-        acts = acts_keeping (plan_at (loop_in seen o.records).control) (event_at view item answered (loop_in seen o.records) (loop_in seen n.records)) (is_some o.kept) (is_some n.kept)
+        acts = acts_keeping ((loop_in seen o.records).ring.books.plan) (event_at view item answered (loop_in seen o.records) (loop_in seen n.records)) (is_some o.kept) (is_some n.kept)
             (λ none. still_kept item (is_some o.kept) answered (is_some n.kept) none directory.kept) did.step;
         directory = directory;
       };
@@ -336,32 +271,28 @@ module _ {M I : Type 0} {D : I → Type 0} (view : M → MediumView) (seen : Rin
       calls = λ is.
           let most = (few is).0 in
           record {
-            all = subst (λ k. TakesAtMost k (2 * k + 40 + calls_to_pack k) (log_at (loop_in seen n.records).control)) (sym records) (takes (2 * count + 40 + calls_to_pack count) most.0);
+            all = subst (λ k. TakesAtMost k (2 * k + 40 + calls_to_pack k) ((loop_in seen n.records).ring.books.log)) (sym records) (takes (2 * count + 40 + calls_to_pack count) most.0);
             on_tape = λ other t told.
-                subst (λ k. TakesAtMost k (directory_records (finished t) + records_asked item (finished t) + 200 + calls_to_prepare k (volume_of t)) (log_at (loop_in seen n.records).control)) (sym records)
+                subst (λ k. TakesAtMost k (directory_records (finished t) + records_asked item (finished t) + 200 + calls_to_prepare k (volume_of t)) ((loop_in seen n.records).ring.books.log)) (sym records)
                 (takes _ (most.1 other t told));
-            from_kept = λ other t told on. subst (λ k. TakesAtMost k (records_asked item (finished t) + most_beside item) (log_at (loop_in seen n.records).control)) (sym records) (takes _ (most.2 other t told on));
+            from_kept = λ other t told on. subst (λ k. TakesAtMost k (records_asked item (finished t) + most_beside item) ((loop_in seen n.records).ring.books.log)) (sym records) (takes _ (most.2 other t told on));
           };
     }
       where
-        records : (state_at view o.records.sound (loop_in seen o.records).control).records ≡ count
-        records = records_of view seen (ring_in o.records.control) (loop_in seen o.records)
+        records : (state_at view (loop_in seen o.records)).records ≡ count
+        records = refl
 
-        stood : StandsSo (loop_in seen n.records).control n.records.sound n.records.since
-        stood = stands_at view seen (ring_in n.records.control) (loop_in seen n.records) opens.valid
+        left : (store_in view seen n.records).calls_left ≡ calls_behind count ((loop_in seen n.records).ring.books.log)
+        left = left_of view seen n.records.ring (loop_in seen n.records) did.keeps.room ∙ ap (λ count. calls_behind count ((loop_in seen n.records).ring.books.log)) size
 
-        left : (store_in view seen n.records).calls_left ≡ calls_behind count (log_at (loop_in seen n.records).control)
-        left = left_of view seen (ring_in n.records.control) (loop_in seen n.records) stood did.keeps.room ∙ ap (λ count. calls_behind count (log_at (loop_in seen n.records).control)) size
-
-        takes : (most : ℕ) → Took most → TakesAtMost count most (log_at (loop_in seen n.records).control)
+        takes : (most : ℕ) → Took most → TakesAtMost count most ((loop_in seen n.records).ring.books.log)
         takes most took = omega (arith, begun_calls, took, left)
 
         sound : is_some n.kept ≡ true → n.records.sound ≡ true
         sound on =
-            sym (sound_of view (loop_in seen n.records).control n.records.sound n.records.since stood)
-            ∙ sound_kept item answered (is_some o.kept) (is_some n.kept) (state_at view o.records.sound (loop_in seen o.records).control).sound (state_at view n.records.sound (loop_in seen n.records).control).sound
+            sound_kept item answered (is_some o.kept) (is_some n.kept) (state_at view (loop_in seen o.records)).sound (state_at view (loop_in seen n.records)).sound
             did.step.sound (λ none. ap (λ (s : HostState). s.sound) (did.step.still none).1)
-            (λ was. sound_of view (loop_in seen o.records).control o.records.sound o.records.since usable.stands ∙ usable.kept was) directory.kept on
+            usable.kept directory.kept on
 
         -- an item that is not of the volume leaves the tape
         unmarked : IsUnmarked (store_in view seen) (volume_in n)
@@ -370,8 +301,8 @@ module _ {M I : Type 0} {D : I → Type 0} (view : M → MediumView) (seen : Rin
             by : (of : Bool) → is_of_volume item ≡ of → IsUnmarked (store_in view seen) (volume_in n)
             by true is = (few is).1
             by false other = λ t told on.
-                let before = seen_as view seen (ring_in o.records.control) (loop_in seen o.records) in
-                let after = seen_as view seen (ring_in n.records.control) (loop_in seen n.records) in
+                let before = seen_as view seen o.records.ring (loop_in seen o.records) in
+                let after = seen_as view seen n.records.ring (loop_in seen n.records) in
                 let here : (store_in view seen o.records).tape ≡ Some t = sym before.tape ∙ sym (did.step.replied.stays other) ∙ after.tape ∙ told in
                 ap (λ (k : ℕ). has_mark k (volume_of t)) size ∙ usable.unmarked t here (kept_before item (is_some o.kept) answered (is_some n.kept) other directory.kept on)
 
@@ -387,22 +318,22 @@ module _ {M I : Type 0} {D : I → Type 0} (view : M → MediumView) (seen : Rin
   pub forgotten_unsound : (e : Trouble) → StaysUnsound view seen b n e → is_some n.kept ≡ false
   forgotten_unsound e stays = ap is_some (stays.kept ∙ ap (λ sound. if sound then b.kept else None) (unsound e (loop_in seen n.records) stays.makes))
 
-  module _ (command : VolumeCommand) (opens : IsOpen (store_in view seen) (volume_in n)) (low : HasDriveStatus (loop_in seen n.records).control) where
+  module _ (command : VolumeCommand) (opens : IsOpen (store_in view seen) (volume_in n)) (low : HasDriveStatus (loop_in seen n.records).ring) where
     -- and the volume was not asked
     pub not_asked : (e : Trouble) (before : List ℕ) → ((m : M) → IsMedium (view m)) → StaysUnsound view seen b n e
         → Performed (Asks (OfVolume command)) (fault_of e) (host_in view seen o before text_space space) (host_in view seen n (reply_line (fault_of e)) text_space space)
     not_asked e before law stays =
-        let store = is_store_at view seen (ring_in o.records.control) o.records.sound o.records.since o.records.resumes (loop_in seen o.records).control law in
+        let store = is_store_of view seen o.records.ring (loop_in seen o.records) law in
         let used = stays.sounds.left in
         let left : 1 ≤ (store_in view seen n.records).calls_left = let enough = begun_left in omega (arith, enough, used) in
         let off = forgotten_unsound e stays in
-        let did = volume_not_asked view seen (ring_in o.records.control) (ring_in b.records.control) (ring_in n.records.control) command (loop_in seen o.records) (loop_in seen b.records) (loop_in seen n.records)
-        usable.volume_open.valid (agrees seen o.records.control) (agrees seen b.records.control) began usable.log low left (Unit {0}) e store stays.makes in
+        let did = volume_not_asked view seen o.records.ring b.records.ring n.records.ring command (loop_in seen o.records) (loop_in seen b.records) (loop_in seen n.records)
+        usable.volume_open.valid refl refl began usable.log low left (Unit {0}) e store stays.makes in
         performed opens (Asks (OfVolume command)) (fault_of e) before (reply_line (fault_of e)) (stays.sounds.size ∙ began.size)
-        (subst (λ e. Performs view seen (ring_in o.records.control) (ring_in n.records.control) (Asks (OfVolume command)) (fault_of e) (loop_in seen o.records) (loop_in seen n.records)) (sym did.0) did.1)
+        (subst (λ e. Performs view seen o.records.ring n.records.ring (Asks (OfVolume command)) (fault_of e) (loop_in seen o.records) (loop_in seen n.records)) (sym did.0) did.1)
         (subst (λ e. KeepsDirectory (event_kept opens (Asks (OfVolume command)) (fault_of e))) (sym did.0)
         (record { kept = subst (IsKeptBehind command (is_some o.kept) reply.FaultFrame) (sym off) (forgets_it command (is_some o.kept) trouble.Frame); log = λ on. tt }))
-        (λ told. sym (fault_text (Asks (OfVolume command)) (host_in view seen o before text_space space).state (log_at (loop_in seen n.records).control) e))
+        (λ told. sym (fault_text (Asks (OfVolume command)) (host_in view seen o before text_space space).state ((loop_in seen n.records).ring.books.log) e))
         (λ is. (
           (omega (arith, used), λ other t told. omega (arith, used), λ other t told on. omega (arith, used, some_beside (Asks (OfVolume command)))),
           λ t told on. let clash : true ≡ false = sym on ∙ off in cc,
@@ -413,14 +344,14 @@ module _ {M I : Type 0} {D : I → Type 0} (view : M → MediumView) (seen : Rin
       -- where the volume is asked, its store has the tape of the host, and nothing was read or written yet
       pub seen_asked : (before : List ℕ) → IsSeenAs (host_in view seen o before text_space space).state (store_in view seen m.records)
       seen_asked before =
-          let so = asked_seen view seen (ring_in o.records.control) (ring_in b.records.control) (ring_in m.records.control) (loop_in seen o.records) (loop_in seen b.records) (loop_in seen m.records)
-          usable.volume_open.valid (agrees seen o.records.control) (agrees seen b.records.control) began u makes in
+          let so = asked_seen view seen o.records.ring b.records.ring m.records.ring (loop_in seen o.records) (loop_in seen b.records) (loop_in seen m.records)
+          usable.volume_open.valid refl refl began u makes in
           record { tape = so.tape; records = so.records }
 
       pub none_asked : (store_in view seen m.records).transferred []
       none_asked =
-          asked_transferred view seen (ring_in o.records.control) (ring_in b.records.control) (ring_in m.records.control) (loop_in seen o.records) (loop_in seen b.records) (loop_in seen m.records)
-          usable.volume_open.valid (agrees seen o.records.control) (agrees seen b.records.control) began u makes
+          asked_transferred view seen o.records.ring b.records.ring m.records.ring (loop_in seen o.records) (loop_in seen b.records) (loop_in seen m.records)
+          usable.volume_open.valid refl refl began u makes
 
       -- the tape that is told
       pub told_asked : (before : List ℕ) → TellsReply (Asks (OfVolume command)) (host_in view seen o before text_space space).state
@@ -434,7 +365,7 @@ module _ {M I : Type 0} {D : I → Type 0} (view : M → MediumView) (seen : Rin
           → TurnsSo command (store_in view seen) (volume_in m) (volume_in n) → AnswersSo command (store_in view seen) (volume_in m) (volume_in n) answer
           → CarriesAs command (volume_reply answer) (host_in view seen o before text_space space).state.records (volume_at (host_in view seen o before text_space space).state) (store_in view seen n.records).transferred
           → MindsFirst (store_in view seen) (volume_in m) (volume_in n) command answer
-          → (TellsReply (Asks (OfVolume command)) (host_in view seen o before text_space space).state → after ≡ reply_text (Asks (OfVolume command)) (host_in view seen o before text_space space).state (log_at (loop_in seen n.records).control) (volume_reply answer))
+          → (TellsReply (Asks (OfVolume command)) (host_in view seen o before text_space space).state → after ≡ reply_text (Asks (OfVolume command)) (host_in view seen o before text_space space).state ((loop_in seen n.records).ring.books.log) (volume_reply answer))
           → Performed (Asks (OfVolume command)) (volume_reply answer) (host_in view seen o before text_space space) (host_in view seen n after text_space space)
       asked {T} answer calls before after few goes turns answers carries minds text =
           performed opens (Asks (OfVolume command)) (volume_reply answer) before after (goes.continues.size ∙ sounds.size ∙ began.size) ran (directory ran) text
@@ -469,42 +400,42 @@ module _ {M I : Type 0} {D : I → Type 0} (view : M → MediumView) (seen : Rin
 
           did : (answer : Result T VolumeFault) → GoesOn calls (store_in view seen m.records) (store_in view seen n.records) (store_answer answer) → AnswersSo command (store_in view seen) (volume_in m) (volume_in n) answer
               → CarriesAs command (volume_reply answer) (host_in view seen o before text_space space).state.records (volume_at (host_in view seen o before text_space space).state) (store_in view seen n.records).transferred
-              → Performs view seen (ring_in o.records.control) (ring_in n.records.control) (Asks (OfVolume command)) (volume_reply answer) (loop_in seen o.records) (loop_in seen n.records)
+              → Performs view seen o.records.ring n.records.ring (Asks (OfVolume command)) (volume_reply answer) (loop_in seen o.records) (loop_in seen n.records)
           did (Ok x) goes answers carries =
-              volume_asked view seen (ring_in o.records.control) (ring_in b.records.control) (ring_in n.records.control) command (loop_in seen o.records) (loop_in seen b.records) (loop_in seen n.records)
-              usable.volume_open.valid (agrees seen o.records.control) (agrees seen b.records.control) began usable.log low left u (ring_in m.records.control) calls (loop_in seen m.records) makes (agrees seen m.records.control) turns.0 turns.1 None goes answers carries
+              volume_asked view seen o.records.ring b.records.ring n.records.ring command (loop_in seen o.records) (loop_in seen b.records) (loop_in seen n.records)
+              usable.volume_open.valid refl refl began usable.log low left u m.records.ring calls (loop_in seen m.records) makes refl turns.0 turns.1 None goes answers carries
           did (Err (Refused why)) goes answers carries =
-              volume_asked view seen (ring_in o.records.control) (ring_in b.records.control) (ring_in n.records.control) command (loop_in seen o.records) (loop_in seen b.records) (loop_in seen n.records)
-              usable.volume_open.valid (agrees seen o.records.control) (agrees seen b.records.control) began usable.log low left u (ring_in m.records.control) calls (loop_in seen m.records) makes (agrees seen m.records.control) turns.0 turns.1 (Some why) goes answers carries
+              volume_asked view seen o.records.ring b.records.ring n.records.ring command (loop_in seen o.records) (loop_in seen b.records) (loop_in seen n.records)
+              usable.volume_open.valid refl refl began usable.log low left u m.records.ring calls (loop_in seen m.records) makes refl turns.0 turns.1 (Some why) goes answers carries
           did (Err (Troubled e)) goes answers carries =
-              volume_failed view seen (ring_in o.records.control) (ring_in b.records.control) (ring_in n.records.control) command (loop_in seen o.records) (loop_in seen b.records) (loop_in seen n.records)
-              usable.volume_open.valid (agrees seen o.records.control) (agrees seen b.records.control) began usable.log low left u (ring_in m.records.control) calls (loop_in seen m.records) makes (agrees seen m.records.control) turns.0 turns.1 e goes
+              volume_failed view seen o.records.ring b.records.ring n.records.ring command (loop_in seen o.records) (loop_in seen b.records) (loop_in seen n.records)
+              usable.volume_open.valid refl refl began usable.log low left u m.records.ring calls (loop_in seen m.records) makes refl turns.0 turns.1 e goes
 
-          ran : Performs view seen (ring_in o.records.control) (ring_in n.records.control) (Asks (OfVolume command)) (volume_reply answer) (loop_in seen o.records) (loop_in seen n.records)
+          ran : Performs view seen o.records.ring n.records.ring (Asks (OfVolume command)) (volume_reply answer) (loop_in seen o.records) (loop_in seen n.records)
           ran = did answer goes answers carries
 
-          at_asked : (t : Tape) → (state_at view o.records.sound (loop_in seen o.records).control).tape ≡ Some t → (store_in view seen m.records).tape ≡ Some t
+          at_asked : (t : Tape) → (state_at view (loop_in seen o.records)).tape ≡ Some t → (store_in view seen m.records).tape ≡ Some t
           at_asked t told = sym (seen_asked before).tape ∙ told
 
           emptied : Emptied view (loop_in seen o.records) (loop_in seen b.records)
-          emptied = volume_begun view seen (ring_in o.records.control) (ring_in b.records.control) (loop_in seen o.records) (loop_in seen b.records) usable.volume_open.valid (agrees seen o.records.control) (agrees seen b.records.control) began
+          emptied = volume_begun view seen o.records.ring b.records.ring (loop_in seen o.records) (loop_in seen b.records) usable.volume_open.valid refl refl began
 
           -- where the directory is kept the store was sound, and its log is empty
-          empty : is_some o.kept ≡ true → log_at (loop_in seen m.records).control ≡ []
+          empty : is_some o.kept ≡ true → (loop_in seen m.records).ring.books.log ≡ []
           empty on =
               let still : loop_in seen m.records ≡ loop_in seen b.records = subst (λ sound. MakesSoundBy view sound (loop_in seen b.records) (loop_in seen m.records) (Ok u)) (emptied.sound ∙ usable.kept on) makes in
-              ap (λ (l : LoopView M). log_at l.control) still ∙ emptied.log
+              ap (λ (l : LoopView M). l.ring.books.log) still ∙ emptied.log
 
-          directory : Performs view seen (ring_in o.records.control) (ring_in n.records.control) (Asks (OfVolume command)) (volume_reply answer) (loop_in seen o.records) (loop_in seen n.records)
+          directory : Performs view seen o.records.ring n.records.ring (Asks (OfVolume command)) (volume_reply answer) (loop_in seen o.records) (loop_in seen n.records)
               → KeepsDirectory (event_kept opens (Asks (OfVolume command)) (volume_reply answer))
           directory ran = record {
             kept = subst (λ was. IsKeptBehind command was (volume_reply answer) (is_some n.kept)) same minds.kept;
             log = λ on.
-                let ring = ring_stays _ (state_at view o.records.sound (loop_in seen o.records).control).loop (state_at view n.records.sound (loop_in seen n.records).control).loop ran.step.next.devices in
-                minds.log (same ∙ on) (host_in view seen o before text_space space).state (log_at (loop_in seen n.records).control) (seen_asked before).tape
-                (records_of view seen (ring_in o.records.control) (loop_in seen o.records) ∙ sym (sounds.size ∙ began.size))
-                (λ rests. ap (λ (r : LoopRecords M I D). log_at (loop_in seen r).control) rests ∙ empty on)
-                (λ list was. subst (λ l. Transferred l (log_at (loop_in seen n.records).control) list) ring (told_log view seen (ring_in n.records.control) (loop_in seen n.records) list was));
+                let ring = ring_stays _ (state_at view (loop_in seen o.records)).loop (state_at view (loop_in seen n.records)).loop ran.step.next.devices in
+                minds.log (same ∙ on) (host_in view seen o before text_space space).state ((loop_in seen n.records).ring.books.log) (seen_asked before).tape
+                (sym (sounds.size ∙ began.size))
+                (λ rests. ap (λ (r : LoopRecords M I D). (loop_in seen r).ring.books.log) rests ∙ empty on)
+                (λ list was. subst (λ l. Transferred l ((loop_in seen n.records).ring.books.log) list) ring (told_log view seen n.records.ring (loop_in seen n.records) list was));
           }
 
       -- it replied ok: what it tells of a told tape was written
@@ -517,7 +448,7 @@ module _ {M I : Type 0} {D : I → Type 0} (view : M → MediumView) (seen : Rin
           → Performed (Asks (OfVolume command)) reply.Ok (host_in view seen o before text_space space) (host_in view seen n (lines ++ reply_line reply.Ok) text_space space)
       done x calls before lines few goes turns answers carries minds text =
           asked (Ok x) calls before (lines ++ reply_line reply.Ok) few goes turns answers carries minds
-          (λ told. let t = told_asked before told in sym (ok_text command (host_in view seen o before text_space space).state (log_at (loop_in seen n.records).control) t.0 lines t.1 (text t.0 t.2)))
+          (λ told. let t = told_asked before told in sym (ok_text command (host_in view seen o before text_space space).state ((loop_in seen n.records).ring.books.log) t.0 lines t.1 (text t.0 t.2)))
 
       -- it was refused, or the store failed
       pub refused : (T : Type 0) (fault : VolumeFault) (calls : ℕ) (before : List ℕ) → calls ≤ calls_to_pack (store_in view seen m.records).record_count + most_calls (store_in view seen m.records).record_count
@@ -533,7 +464,7 @@ module _ {M I : Type 0} {D : I → Type 0} (view : M → MediumView) (seen : Rin
           by (Refused why) goes answers minds =
               asked {T = T} (Err (Refused why)) calls before (reply_line (reply.No (code_of why))) few goes turns answers (not_carried command (reply.No (code_of why)) _ _ _ tt) minds (λ told. refl)
           by (Troubled e) goes answers minds =
-              asked {T = T} (Err (Troubled e)) calls before (reply_line (fault_of e)) few goes turns answers (none_carried command e _ _ _) minds (λ told. sym (fault_text (Asks (OfVolume command)) (host_in view seen o before text_space space).state (log_at (loop_in seen n.records).control) e))
+              asked {T = T} (Err (Troubled e)) calls before (reply_line (fault_of e)) few goes turns answers (none_carried command e _ _ _) minds (λ told. sym (fault_text (Asks (OfVolume command)) (host_in view seen o before text_space space).state ((loop_in seen n.records).ring.books.log) e))
 
       -- a command that tells nothing answered
       pub changed : {T : Type 0} (answer : Result T VolumeFault) (calls : ℕ) (before : List ℕ) → TellsNothing command → calls ≤ calls_to_pack (store_in view seen m.records).record_count + most_calls (store_in view seen m.records).record_count
@@ -544,4 +475,4 @@ module _ {M I : Type 0} {D : I → Type 0} (view : M → MediumView) (seen : Rin
           → Performed (Asks (OfVolume command)) (volume_reply answer) (host_in view seen o before text_space space) (host_in view seen n (reply_line (volume_reply answer)) text_space space)
       changed answer calls before nothing few goes turns answers carries minds =
           asked answer calls before (reply_line (volume_reply answer)) few goes turns answers carries minds
-          (λ told. sym (nothing_told command (volume_at (host_in view seen o before text_space space).state) (host_in view seen o before text_space space).state (log_at (loop_in seen n.records).control) (volume_reply answer) refl nothing))
+          (λ told. sym (nothing_told command (volume_at (host_in view seen o before text_space space).state) (host_in view seen o before text_space space).state ((loop_in seen n.records).ring.books.log) (volume_reply answer) refl nothing))

@@ -9,17 +9,11 @@ use Rattle.il_drive.specs.Steps.{Did, Now, Reads, Step, Writes}
 use Rattle.il_drive.specs.Runs.{Ran}
 use Rattle.il_ring.specs.Rings.{RingView}
 use Rattle.il_record.specs.Came.{CameBy}
-use Rattle.il_record.specs.LoopStores.{Standing}
 use Rattle.il_host.specs.HostView.{KeepsImages}
-use Rattle.il_host.specs.Standings.{images_at, inside_at}
 
 -- the images of a medium that became another
 abbrev pub KeepsMedium : (v w : MediumView) → Type 0
 KeepsMedium v w = KeepsImages v.inside w.inside v.shelf w.shelf
-
--- those of the media in two drives, by their controllers
-abbrev pub KeepsAt : {M : Type 0} → (M → MediumView) → (c d : Standing M) → Type 0
-KeepsAt view c d = KeepsImages (inside_at view c) (inside_at view d) (images_at view c) (images_at view d)
 
 -- A shelf that stays as it is keeps its images.
 pub images_kept : (inside : Option (List ℕ)) (shelf : Option Shelf) → KeepsImages inside inside shelf shelf

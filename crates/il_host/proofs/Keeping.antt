@@ -5,7 +5,7 @@ use Rattle.std.proofs.lemmas.Bool.{and_parts, and_from, eq-eqb}
 use Rattle.il_frames.specs.declared.frame.Frame.{Frame}
 use Rattle.il_frames.specs.Frames.{byte_of, class_of, number_of_class, same_class}
 use Rattle.il_ports.specs.Media.{MediumView}
-use Rattle.loop_model.specs.Exchanges.{Exchange, Command, Address, Send, Receive, Identify, Piece, Whole, Cut, are_whole, breaks_off, can_cut, entries_of, is_exchange, is_piece}
+use Rattle.loop_model.specs.Exchanges.{Exchange, Command, Address, Piece, Whole, Cut, are_whole, breaks_off, can_cut, entries_of, is_exchange, is_piece}
 use Rattle.loop_model.specs.Effect.{UnitsEffect}
 use Rattle.loop_model.specs.Loops.{Loop}
 use Rattle.loop_model.specs.Units.{RecordUnit, units_of, ends_within}
@@ -23,12 +23,11 @@ use Rattle.host_model.specs.Courses.{Due, begins_with, keeps_to, is_commanding, 
 -- what is due first was done whole, and then what is due behind it
 pub keeps_front : (front course : List Due) (ps qs : List Piece) → keeps_to front ps ≡ true → are_whole ps ≡ true → keeps_to course qs ≡ true → keeps_to (front ++ course) (ps ++ qs) ≡ true
 keeps_front [] course [] qs first whole more = more
-keeps_front [] course (p ∷ ps) qs first whole more = cc
-keeps_front (test ∷ front) course [] qs first whole more = cc
 keeps_front (test ∷ front) course (Whole x ∷ ps) qs first whole more =
     let parts = and_parts (test true x) (keeps_to front ps) first in
     and_from (test true x) (keeps_to (front ++ course) (ps ++ qs)) parts.0 (keeps_front front course ps qs parts.1 whole more)
 keeps_front (test ∷ front) course (Cut x n b ∷ ps) qs first whole more = cc
+keeps_front _ course _ qs first whole more = cc
 
 -- what is due first was broken off, and with it the whole course
 pub keeps_cut : (front course : List Due) (ps : List Piece) → keeps_to front ps ≡ true → breaks_off ps ≡ true → keeps_to (front ++ course) ps ≡ true
@@ -58,16 +57,13 @@ Meets l (ask ∷ asks) [] = ⊥
 pub meets_then : (l : Loop) (asks more : List Ask) (dues course : List Due) → Meets l asks dues → Meets l more course → Meets l (asks ++ more) (dues ++ course)
 meets_then l [] more [] course first rest = rest
 meets_then l (ask ∷ asks) more (due ∷ dues) course first rest = (first.0, meets_then l asks more dues course first.1 rest)
-meets_then l [] more (due ∷ dues) course first rest = absurd first
-meets_then l (ask ∷ asks) more [] course first rest = absurd first
+meets_then l _ more _ course first rest = absurd first
 
 -- exchanges that are those asked for are those that are due
 pub asked_keeps : (l : Loop) (asks : List Ask) (dues : List Due) (pieces : List Piece) (whole : Bool) → list_all (is_piece l) pieces ≡ true → Asked asks pieces whole → Meets l asks dues → keeps_to dues pieces ≡ true
 asked_keeps l [] [] [] whole legal asked meets = refl
-asked_keeps l [] [] (p ∷ pieces) whole legal asked meets = absurd asked
 asked_keeps l [] (due ∷ dues) pieces whole legal asked meets = absurd meets
 asked_keeps l (ask ∷ asks) [] pieces whole legal asked meets = absurd meets
-asked_keeps l (ask ∷ asks) (due ∷ dues) [] whole legal asked meets = absurd asked
 asked_keeps l (ask ∷ asks) (due ∷ dues) (Whole x ∷ pieces) whole legal asked meets =
     let parts = and_parts (is_exchange l x) (list_all (is_piece l) pieces) legal in
     and_from (due true x) (keeps_to dues pieces) (meets.0.whole x parts.0 asked.0) (asked_keeps l asks dues pieces whole parts.1 asked.1 meets.1)
@@ -76,6 +72,7 @@ asked_keeps l (ask ∷ asks) (due ∷ dues) (Cut x n b ∷ []) false legal asked
     let parts = and_parts (is_exchange l x && can_cut l.controller (entries_of l.controller x) n b) true legal in
     meets.0.broken x (and_parts (is_exchange l x) (can_cut l.controller (entries_of l.controller x) n b) parts.0).0 asked
 asked_keeps l (ask ∷ asks) (due ∷ dues) (Cut x n b ∷ p ∷ pieces) whole legal asked meets = absurd asked
+asked_keeps l _ _ _ whole legal asked meets = absurd asked
 
 -- ---- commands and addresses
 
@@ -89,35 +86,25 @@ meets_command l f = record { whole = whole; broken = broken }
   where
     whole : (x : Exchange) → is_exchange l x ≡ true → ask_of x ≡ AskCommand f → is_commanding f true x ≡ true
     whole (Command g) legal is = let same : g ≡ f = cc in subst (λ g. is_frame f g ≡ true) (sym same) (same_frame f)
-    whole (Address devices) legal is = cc
-    whole (Send a number ds) legal is = cc
-    whole (Receive a number start answer) legal is = cc
-    whole (Identify g) legal is = cc
+    whole _ legal is = cc
 
     broken : (x : Exchange) → is_exchange l x ≡ true → IsFirstOf (ask_of x) (AskCommand f) → is_commanding f false x ≡ true
     broken (Command g) legal is = let same : g ≡ f = cc in subst (λ g. is_frame f g ≡ true) (sym same) (same_frame f)
     broken (Address devices) legal is = cc
-    broken (Send a number ds) legal is = let clash = is.1 in cc
-    broken (Receive a number start answer) legal is = let clash = is.1 in cc
-    broken (Identify g) legal is = let clash = is.1 in cc
+    broken _ legal is = let clash = is.1 in cc
 
 -- the addresses of all devices
 pub meets_addresses : (l : Loop) → MeetsOne l AskAddresses (is_numbering l.devices)
 meets_addresses l = record { whole = whole; broken = broken }
   where
     whole : (x : Exchange) → is_exchange l x ≡ true → ask_of x ≡ AskAddresses → is_numbering l.devices true x ≡ true
-    whole (Command g) legal is = cc
     whole (Address devices) legal is = legal
-    whole (Send a number ds) legal is = cc
-    whole (Receive a number start answer) legal is = cc
-    whole (Identify g) legal is = cc
+    whole _ legal is = cc
 
     broken : (x : Exchange) → is_exchange l x ≡ true → IsFirstOf (ask_of x) AskAddresses → is_numbering l.devices false x ≡ true
     broken (Command g) legal is = cc
     broken (Address devices) legal is = legal
-    broken (Send a number ds) legal is = let clash = is.1 in cc
-    broken (Receive a number start answer) legal is = let clash = is.1 in cc
-    broken (Identify g) legal is = let clash = is.1 in cc
+    broken _ legal is = let clash = is.1 in cc
 
 -- ---- stages of a command
 

@@ -29,7 +29,7 @@ use Rattle.il_ports.specs.declared.records.Trouble.TheVariants as trouble
 use Rattle.loop_model.specs.Effect.{Transferred}
 use Rattle.loop_model.specs.Loops.{Loop}
 use Rattle.il_ring.specs.Rings.{RingView}
-use Rattle.il_record.specs.LoopStores.{AtIdle, AtLost, LoopView, Nowhere, Standing, view_at, view_of}
+use Rattle.il_record.specs.LoopStores.{LoopView, view_of}
 use Rattle.lif_volume.specs.Views.{VolumeView, IsOpen, IsDirectoryOf}
 use Rattle.lif_volume.specs.Commands.{Consults, EndsWithRead, FetchesByRun, FetchesFile, directory_records, fetching, fetching_on, mounting, mounting_on, reading, records_named}
 use Rattle.lif_volume.specs.Changing.{writes_if_any, carrying, changing, changes_filed, files_when, keeps_behind_command}
@@ -51,21 +51,13 @@ use Rattle.host_model.specs.Directories.{AsksLittle, HasFilesAndCommit, HasOnly,
 use Rattle.host_model.proofs.RingStates.{ring_on}
 use Rattle.il_host.specs.HostView.{most_beside, records_asked}
 use Rattle.il_host.proofs.LoopEvents.{IsOfLoop}
-use Rattle.il_host.specs.Standings.{fault_of, log_at, state_at, volume_reply}
+use Rattle.il_host.specs.Standings.{fault_of, state_at, volume_reply}
 
 -- ---- whether it is kept
 
 code_kept : (why : Refusal) → keeps_behind why ≡ has_volume (code_of why)
 code_kept refusal.NotLif = refl
-code_kept refusal.NoFile = refl
-code_kept refusal.Exists = refl
-code_kept refusal.NoSlot = refl
-code_kept refusal.NoRoom = refl
-code_kept refusal.NoRedo = refl
-code_kept refusal.InUse = refl
-code_kept refusal.Protected = refl
-code_kept refusal.NeedsUpgrade = refl
-code_kept refusal.OutOfOrder = refl
+code_kept _ = refl
 
 -- every command but `format` and a batch, and those two
 refused_kept : (T : Type 0) (command : VolumeCommand) (was : Bool) (why : Refusal) (now : Bool) → now ≡ keeps_behind_command {T = T} command was (Err (Refused why))
@@ -78,30 +70,13 @@ refused_kept T (Rename old new) was why now is = is ∙ code_kept why
 refused_kept T (Purge name) was why now is = is ∙ code_kept why
 refused_kept T Adopt was why now is = is ∙ code_kept why
 refused_kept T Upgrade was why now is = is ∙ code_kept why
-refused_kept T (Batch parts) was why now is = is
-refused_kept T (Format label slots) was refusal.NotLif now is = is
-refused_kept T (Format label slots) was refusal.NoFile now is = is
-refused_kept T (Format label slots) was refusal.Exists now is = is
-refused_kept T (Format label slots) was refusal.NoSlot now is = is
 refused_kept T (Format label slots) was refusal.NoRoom now is = λ on. is ∙ on
-refused_kept T (Format label slots) was refusal.NoRedo now is = is
-refused_kept T (Format label slots) was refusal.InUse now is = is
-refused_kept T (Format label slots) was refusal.Protected now is = is
-refused_kept T (Format label slots) was refusal.NeedsUpgrade now is = is
-refused_kept T (Format label slots) was refusal.OutOfOrder now is = is
+refused_kept _ _ was _ now is = is
 
 -- whatever the command is, ok and a fault decide
 ok_kept : {T : Type 0} (x : T) (command : VolumeCommand) (was now : Bool) → now ≡ keeps_behind_command command was (Ok x) → IsKeptBehind command was reply.Ok now
 ok_kept x Dir was now is = is
-ok_kept x Label was now is = is
-ok_kept x (Fetch name) was now is = is
-ok_kept x (Store name kind implementation bytes) was now is = is
-ok_kept x (Rename old new) was now is = is
-ok_kept x (Purge name) was now is = is
-ok_kept x Adopt was now is = is
-ok_kept x Upgrade was now is = is
-ok_kept x (Batch parts) was now is = is
-ok_kept x (Format label slots) was now is = is
+ok_kept x _ was now is = is
 
 -- a fault forgets it
 pub forgets_it : (command : VolumeCommand) (was : Bool) (e : Trouble) → IsKeptBehind command was (fault_of e) false
@@ -128,15 +103,7 @@ forgets_it (Format label slots) was trouble.Medium = refl
 
 fault_forgets : (T : Type 0) (e : Trouble) (command : VolumeCommand) (was : Bool) → keeps_behind_command {T = T} command was (Err (Troubled e)) ≡ false
 fault_forgets T e Dir was = refl
-fault_forgets T e Label was = refl
-fault_forgets T e (Fetch name) was = refl
-fault_forgets T e (Store name kind implementation bytes) was = refl
-fault_forgets T e (Rename old new) was = refl
-fault_forgets T e (Purge name) was = refl
-fault_forgets T e Adopt was = refl
-fault_forgets T e Upgrade was = refl
-fault_forgets T e (Batch parts) was = refl
-fault_forgets T e (Format label slots) was = refl
+fault_forgets _ e _ was = refl
 
 pub kept_as : {T : Type 0} (command : VolumeCommand) (was : Bool) (answer : Result T VolumeFault) (now : Bool) → now ≡ keeps_behind_command command was answer
     → IsKeptBehind command was (volume_reply answer) now
@@ -146,18 +113,6 @@ kept_as {T} command was (Err (Troubled e)) now is = subst (IsKeptBehind command 
 
 -- a directory that was kept, or not, behind one that is kept too wherever the first was
 pub kept_longer : (command : VolumeCommand) (was mid : Bool) (r : Reply) (now : Bool) → (was ≡ true → mid ≡ true) → IsKeptBehind command mid r now → IsKeptBehind command was r now
-kept_longer Dir was mid r now more is = is
-kept_longer Label was mid r now more is = is
-kept_longer (Fetch name) was mid r now more is = is
-kept_longer (Store name kind implementation bytes) was mid r now more is = is
-kept_longer (Rename old new) was mid r now more is = is
-kept_longer (Purge name) was mid r now more is = is
-kept_longer Adopt was mid r now more is = is
-kept_longer Upgrade was mid r now more is = is
-kept_longer (Batch parts) was mid r now more is = is
-kept_longer (Format label slots) was mid reply.Ok now more is = is
-kept_longer (Format label slots) was mid reply.FaultFrame now more is = is
-kept_longer (Format label slots) was mid reply.FaultMedium now more is = is
 kept_longer (Format label slots) was mid (reply.No c) now more is = by c is
   where
     by : (c : Code) → IsKeptBehind (Format label slots) mid (reply.No c) now → IsKeptBehind (Format label slots) was (reply.No c) now
@@ -178,32 +133,22 @@ kept_longer (Format label slots) was mid (reply.No c) now more is = by c is
     by code.OutOfOrder is = is
     by code.NotText is = is
     by code.NoTaker is = is
+kept_longer _ was mid _ now more is = is
 
 -- an item that sends no frame leaves that
 pub still_kept : (item : Item) (was : Bool) (r : Reply) (now : Bool) → uses_frames item ≡ false → IsKeptAfter item was r now → now ≡ was
-still_kept (Asks (OfVolume command)) was r now none is = cc
-still_kept (Asks (Get name)) was r now none is = cc
-still_kept (Asks Pack) was r now none is = cc
-still_kept (Asks Devices) was r now none is = cc
-still_kept (Asks Status) was r now none is = cc
-still_kept (Asks Poll) was r now none is = cc
-still_kept (Asks (Say bytes)) was r now none is = cc
 still_kept (Asks Paper) was r now none is = is
-still_kept (Asks (Lend frames)) was r now none is = cc
 still_kept (NoCommand code) was r now none is = is
+still_kept _ was r now none is = cc
 
 -- and an item that is not of the volume keeps none that was not kept
 pub kept_before : (item : Item) (was : Bool) (r : Reply) (now : Bool) → is_of_volume item ≡ false → IsKeptAfter item was r now → now ≡ true → was ≡ true
 kept_before (Asks (OfVolume command)) was r now other is on = cc
 kept_before (Asks (Get name)) was r now other is on = cc
 kept_before (Asks Pack) was r now other is on = cc
-kept_before (Asks Devices) was r now other is on = let clash : true ≡ false = sym on ∙ is in cc
-kept_before (Asks Status) was r now other is on = let clash : true ≡ false = sym on ∙ is in cc
-kept_before (Asks Poll) was r now other is on = let clash : true ≡ false = sym on ∙ is in cc
-kept_before (Asks (Say bytes)) was r now other is on = let clash : true ≡ false = sym on ∙ is in cc
 kept_before (Asks Paper) was r now other is on = sym is ∙ on
-kept_before (Asks (Lend frames)) was r now other is on = let clash : true ≡ false = sym on ∙ is in cc
 kept_before (NoCommand code) was r now other is on = sym is ∙ on
+kept_before _ was r now other is on = let clash : true ≡ false = sym on ∙ is in cc
 
 -- and where it is kept the store is sound
 command_sound : (command : VolumeCommand) (was : Bool) (r : Reply) (now : Bool) → IsKeptBehind command was r now → now ≡ true → is_fault r ≡ false
@@ -214,67 +159,37 @@ command_sound command was reply.FaultFrame now is on =
   where
     off_behind : (command : VolumeCommand) → IsKeptBehind command was reply.FaultFrame now → now ≡ false
     off_behind Dir is = is
-    off_behind Label is = is
-    off_behind (Fetch name) is = is
-    off_behind (Store name kind implementation bytes) is = is
-    off_behind (Rename old new) is = is
-    off_behind (Purge name) is = is
-    off_behind Adopt is = is
-    off_behind Upgrade is = is
-    off_behind (Batch parts) is = is
-    off_behind (Format label slots) is = is
+    off_behind _ is = is
 command_sound command was reply.FaultMedium now is on =
     let off : now ≡ false = off_behind command is in let clash : true ≡ false = sym on ∙ off in cc
   where
     off_behind : (command : VolumeCommand) → IsKeptBehind command was reply.FaultMedium now → now ≡ false
     off_behind Dir is = is
-    off_behind Label is = is
-    off_behind (Fetch name) is = is
-    off_behind (Store name kind implementation bytes) is = is
-    off_behind (Rename old new) is = is
-    off_behind (Purge name) is = is
-    off_behind Adopt is = is
-    off_behind Upgrade is = is
-    off_behind (Batch parts) is = is
-    off_behind (Format label slots) is = is
+    off_behind _ is = is
 
 pub sound_kept : (item : Item) (r : Reply) (was now before after : Bool) → (is_of_volume item ≡ true → after ≡ not (is_fault r)) → (uses_frames item ≡ false → after ≡ before) → (was ≡ true → before ≡ true)
     → IsKeptAfter item was r now → now ≡ true → after ≡ true
 sound_kept (Asks (OfVolume command)) r was now before after sound still kept is on = sound refl ∙ ap not (command_sound command was r now is on)
 sound_kept (Asks (Get name)) r was now before after sound still kept is on = sound refl ∙ ap not (command_sound (Fetch name) was r now is on)
-sound_kept (Asks Pack) r was now before after sound still kept is on = let clash : true ≡ false = sym on ∙ is in cc
-sound_kept (Asks Devices) r was now before after sound still kept is on = let clash : true ≡ false = sym on ∙ is in cc
-sound_kept (Asks Status) r was now before after sound still kept is on = let clash : true ≡ false = sym on ∙ is in cc
-sound_kept (Asks Poll) r was now before after sound still kept is on = let clash : true ≡ false = sym on ∙ is in cc
-sound_kept (Asks (Say bytes)) r was now before after sound still kept is on = let clash : true ≡ false = sym on ∙ is in cc
 sound_kept (Asks Paper) r was now before after sound still kept is on = still refl ∙ kept (sym is ∙ on)
-sound_kept (Asks (Lend frames)) r was now before after sound still kept is on = let clash : true ≡ false = sym on ∙ is in cc
 sound_kept (NoCommand code) r was now before after sound still kept is on = still refl ∙ kept (sym is ∙ on)
+sound_kept _ r was now before after sound still kept is on = let clash : true ≡ false = sym on ∙ is in cc
 
 -- a command of the loop that sends frames forgets it
 pub forgotten : (item : Item) (was : Bool) (r : Reply) (s : HostState) (log : List Entry) (now : Bool) → IsOfLoop item → now ≡ false → IsKeptAfter item was r now × LogOfKept item r s log
-forgotten (Asks (OfVolume command)) was r s log now of_loop off = absurd of_loop
-forgotten (Asks (Get name)) was r s log now of_loop off = absurd of_loop
-forgotten (Asks Pack) was r s log now of_loop off = absurd of_loop
 forgotten (Asks Devices) was r s log now of_loop off = (off, tt)
 forgotten (Asks Status) was r s log now of_loop off = (off, tt)
 forgotten (Asks Poll) was r s log now of_loop off = (off, tt)
 forgotten (Asks (Say bytes)) was r s log now of_loop off = (off, tt)
-forgotten (Asks Paper) was r s log now of_loop off = absurd of_loop
 forgotten (Asks (Lend frames)) was r s log now of_loop off = (off, tt)
-forgotten (NoCommand code) was r s log now of_loop off = absurd of_loop
+forgotten _ was r s log now of_loop off = absurd of_loop
 
 -- ---- the log of a store
 
 -- its list of reads and writes is that of the log
-pub told_log : {M S : Type 0} (view : M → MediumView) (seen : S → RingView M) (p : Option S) (l : LoopView M) (list : List Transfer)
-    → (view_of view seen p l).transferred list → Transferred (ring_of (state_at view l.sound l.control).loop) (log_at l.control) list
-told_log {M} view seen p l list = by l.control
-  where
-    by : (c : Standing M) → (view_at view seen p l.sound l.since l.resumes c).transferred list → Transferred (ring_of (state_at view l.sound c).loop) (log_at c) list
-    by (AtIdle r) so = subst (λ (k : Loop). Transferred k r.books.log list) (sym (ring_on r)) so
-    by (AtLost r) so = subst (λ (k : Loop). Transferred k r.books.log list) (sym (ring_on r)) so
-    by Nowhere so = absurd so
+pub told_log : {M S : Type 0} (view : M → MediumView) (seen : S → RingView M) (p : S) (l : LoopView M) (list : List Transfer)
+    → (view_of view seen p l).transferred list → Transferred (ring_of (state_at view l).loop) (l.ring.books.log) list
+told_log view seen p l list so = subst (λ (k : Loop). Transferred k l.ring.books.log list) (sym (ring_on l.ring)) so
 
 -- ---- what is said of a command of the volume
 
@@ -288,36 +203,11 @@ pub record Minds {R S T : Type 0} (view : R → RecordsView S) (x y : VolumeView
 
 pub some_beside : (item : Item) → 12 ≤ most_beside item
 some_beside (Asks (OfVolume Dir)) = omega arith
-some_beside (Asks (OfVolume Label)) = omega arith
-some_beside (Asks (OfVolume (Fetch name))) = omega arith
-some_beside (Asks (OfVolume (Store name kind implementation bytes))) = omega arith
-some_beside (Asks (OfVolume (Rename before later))) = omega arith
-some_beside (Asks (OfVolume (Purge name))) = omega arith
-some_beside (Asks (OfVolume Adopt)) = omega arith
-some_beside (Asks (OfVolume Upgrade)) = omega arith
-some_beside (Asks (OfVolume (Batch parts))) = omega arith
-some_beside (Asks (OfVolume (Format label slots))) = omega arith
-some_beside (Asks (Get name)) = omega arith
-some_beside (Asks Pack) = omega arith
-some_beside (Asks Devices) = omega arith
-some_beside (Asks Status) = omega arith
-some_beside (Asks Poll) = omega arith
-some_beside (Asks (Say bytes)) = omega arith
-some_beside (Asks Paper) = omega arith
-some_beside (Asks (Lend frames)) = omega arith
-some_beside (NoCommand code) = omega arith
+some_beside _ = omega arith
 
 pub few_beside : (command : VolumeCommand) → most_beside (Asks (OfVolume command)) ≤ 80
 few_beside Dir = omega arith
-few_beside Label = omega arith
-few_beside (Fetch name) = omega arith
-few_beside (Store name kind implementation bytes) = omega arith
-few_beside (Rename before later) = omega arith
-few_beside (Purge name) = omega arith
-few_beside Adopt = omega arith
-few_beside Upgrade = omega arith
-few_beside (Batch parts) = omega arith
-few_beside (Format label slots) = omega arith
+few_beside _ = omega arith
 
 -- a refusal leaves an empty log, and of a fault nothing is said
 by_fault : (T : Type 0) (command : VolumeCommand) (fault : VolumeFault) (s : HostState) (log : List Entry) → ((why : Refusal) → fault ≡ Refused why → log ≡ []) → AsksLittle command (volume_reply {T = T} (Err fault)) s log
@@ -472,13 +362,7 @@ refused_calls T n command None new why nothing on = cc
 refused_calls T n Dir (Some header) new why nothing on = absurd nothing
 refused_calls T n Label (Some header) new why nothing on = absurd nothing
 refused_calls T n (Fetch name) (Some header) new why nothing on = absurd nothing
-refused_calls T n (Store name kind implementation bytes) (Some header) new why nothing on = refl
-refused_calls T n (Rename before later) (Some header) new why nothing on = refl
-refused_calls T n (Purge name) (Some header) new why nothing on = refl
-refused_calls T n Adopt (Some header) new why nothing on = refl
-refused_calls T n Upgrade (Some header) new why nothing on = refl
-refused_calls T n (Batch parts) (Some header) new why nothing on = refl
-refused_calls T n (Format label slots) (Some header) new why nothing on = refl
+refused_calls _ n _ _ new why nothing on = refl
 
 -- beside the records of the files
 carrying_few : {T : Type 0} (n : ℕ) (command : VolumeCommand) (t : Tape) (answer : Result T VolumeFault) → TellsNothing command
@@ -511,9 +395,7 @@ carrying_few n (Format label slots) t (Err (Troubled e)) nothing = (omega arith,
 has_files : (n : ℕ) (l : Loop) (log : List Entry) (files : List NewFile) (changes : Changes) → (files ≡ [] → changes ≡ [] → log ≡ []) → ((list : List Transfer) × Transferred l log list × AreFilesAndCommit n files changes list)
     → HasFilesAndCommit n l log files changes
 has_files n l log [] [] quiet some = quiet refl refl
-has_files n l log [] (c ∷ cs) quiet some = some
-has_files n l log (f ∷ fs) [] quiet some = some
-has_files n l log (f ∷ fs) (c ∷ cs) quiet some = some
+has_files n l log _ _ quiet some = some
 
 is_commit : (version : Version) (n : ℕ) (was_open : Bool) (changes writes : Changes) → writes ≡ writes_if_any version n was_open changes → IsCommitOf n changes writes
 is_commit version n was_open [] writes is = is
@@ -524,13 +406,7 @@ has_only : (command : VolumeCommand) (n : ℕ) (l : Loop) (log : List Entry) (v 
 has_only Dir n l log v t nothing has = absurd nothing
 has_only Label n l log v t nothing has = absurd nothing
 has_only (Fetch name) n l log v t nothing has = absurd nothing
-has_only (Store name kind implementation bytes) n l log v t nothing has = has
-has_only (Rename before later) n l log v t nothing has = has
-has_only (Purge name) n l log v t nothing has = has
-has_only Adopt n l log v t nothing has = has
-has_only Upgrade n l log v t nothing has = has
-has_only (Batch parts) n l log v t nothing has = has
-has_only (Format label slots) n l log v t nothing has = has
+has_only _ n l log v t nothing has = has
 
 pub minds_altered : {R S T : Type 0} (view : R → RecordsView S) (x y : VolumeView R) (command : VolumeCommand) (answer : Result T VolumeFault) → TellsNothing command → IsOpen view x → Alters command view x y answer
     → Minds view x y command answer
@@ -548,8 +424,6 @@ minds_altered {T = T} view x y command answer nothing opens alters = record {
     by : (answer : Result T VolumeFault) → Alters command view x y answer → is_some x.kept ≡ true → (view x.records).transferred [] → (s : HostState) (log : List Entry) → s.tape ≡ (view x.records).tape → s.records ≡ (view x.records).record_count → (y.records ≡ x.records → log ≡ [])
         → ((list : List Transfer) → (view y.records).transferred list → Transferred (ring_of s.loop) log list) → AsksLittle command (volume_reply answer) s log
     by (Err (Refused why)) alters on first s log tape size none told = none (alters.idle (refused_calls T (view x.records).record_count command x.kept y.kept why nothing on))
-    by (Err (Troubled trouble.Frame)) alters on first s log tape size none told = tt
-    by (Err (Troubled trouble.Medium)) alters on first s log tape size none told = tt
     by (Ok a) alters on first s log tape size none told = λ t v here of.
         let n : ℕ = (view x.records).record_count in
         let at : (view x.records).tape ≡ Some t = sym tape ∙ here in
@@ -573,3 +447,5 @@ minds_altered {T = T} view x y command answer nothing opens alters = record {
             commit = subst (λ (cs : Changes). IsCommitOf n cs (writes_among parts.more)) changes_same (is_commit _ n _ (changes_filed n command (volume_of t) (settled t)) (writes_among parts.more) parts.writes);
           },
         )))
+    by (Err (Troubled trouble.Frame)) alters on first s log tape size none told = tt
+    by (Err (Troubled trouble.Medium)) alters on first s log tape size none told = tt

@@ -1,5 +1,5 @@
 -- A lend, from the ring on which the log was emptied: what its log is, what it left of the loop, and that this is a step of a run.
-use Rattle.std.proofs.Common.{◌≡◌, ◌≢◌, ◌≤◌, ◌⊎◌, ⊎_elim, inl, inr, ◌+◌, ◌-◌, ◌++◌, ◌&&◌, ◌==◌, ◌∙◌, ℕ, suc, Bool, true, false, not, List, [], ◌∷◌, length, Option, Some, None, is_some, map, refl, sym, ap, subst, arith, append-nil, length-append}
+use Rattle.std.proofs.Common.{◌≡◌, ◌≢◌, ◌≤◌, ⊎_elim, inl, inr, ◌+◌, ◌-◌, ◌++◌, ◌&&◌, ◌==◌, ◌∙◌, ℕ, suc, Bool, true, false, not, List, [], ◌∷◌, length, Option, Some, None, is_some, map, refl, sym, ap, subst, arith, append-nil, length-append}
 use Rattle.std.specs.Prelude.{IfSome, get_or, sum_by}
 use Rattle.std.specs.List.{All, list_all}
 use Rattle.std.proofs.lemmas.Bool.{and_parts, ne_eqb}
@@ -31,10 +31,11 @@ use Rattle.il_ring.proofs.LendLaws.{lend_returned}
 use Rattle.il_control.specs.Calls.{IsIdle}
 use Rattle.il_control.specs.Lent.{LendBroken, LendMade, Lends, asked_on, controller_at, last_at, last_of}
 use Rattle.il_control.proofs.Calls.{hears_then}
+use Rattle.il_control.proofs.LentMet.{met_since, risen_up}
 use Rattle.il_record.specs.Came.{CameBy}
 use Rattle.il_record.specs.Runs.{Interrupted, address_asks}
 use Rattle.il_record.specs.Talks.{all_entries}
-use Rattle.il_record.proofs.StoreResumes.{still_of}
+use Rattle.il_record.proofs.StoreStarts.{still_of}
 use Rattle.il_script.specs.declared.reply.Reply.{Reply}
 use Rattle.il_script.specs.declared.reply.Reply.TheVariants as reply
 use Rattle.il_script.specs.declared.reply.Code.TheVariants as code
@@ -42,7 +43,7 @@ use Rattle.host_model.specs.Requests.{Asks, Lend}
 use Rattle.host_model.specs.LoopStates.{LoopState, addresses_asked, device_count, drive_at, last_address, ring_of}
 use Rattle.host_model.specs.HostStates.{log_room}
 use Rattle.host_model.specs.Courses.{addressed_first, addresses_due, keeps_to}
-use Rattle.host_model.specs.Next.{BoxedBecome, DeviceBehind, MayBeTold, Next}
+use Rattle.host_model.specs.Next.{BoxedBecome, DeviceBehind, MayBeTold}
 use Rattle.host_model.specs.Replies.{guest_lines, if_taker}
 use Rattle.host_model.specs.RingStates.{loop_on}
 use Rattle.host_model.specs.Steps.{Acts, Event, IsLendOf, Lent, Replied, is_frame_fault, takes_back_first}
@@ -130,6 +131,11 @@ ready_idle view false r m ready = ready.1.idle
 pub ready_went : {M : Type 0} (view : M → MediumView) (was : Bool) (r m : RingView M) → Readies view was r m → WentBy view r m
 ready_went view true r m ready = inl ready.0
 ready_went view false r m ready = inr (true, ready.1.came.units.came)
+
+-- its count of crossings did not fall
+ready_up : {M : Type 0} (view : M → MediumView) (was : Bool) (r m : RingView M) → IsRing r → Readies view was r m → r.books.crossings ≤ m.books.crossings
+ready_up {M} view true r m ring ready = let same = ap (λ (m : RingView M). m.books.crossings) ready.0 in omega (arith, same)
+ready_up view false r m ring ready = let adds = ready.1.came.units.came.talked.adds in risen_up adds.links r.books.crossings m.books.crossings ring.crossings adds.crossings
 
 module _ {M : Type 0} (view : M → MediumView) (was : Bool) (r m : RingView M) (ready : Readies view was r m) where
   ready_plan : m.books.plan ≡ r.books.plan
@@ -390,10 +396,9 @@ module _ {M : Type 0} (view : M → MediumView) (frames : ℕ) (was sound : Bool
       ap is_some (sym (went_ready view r empty was m ready idle).guest) ∙ sym (guest_there m.guest) ∙ sym (stands_last m idle last) ∙ sym stands
 
   reply_is : (guest : Option ℕ) (taken : Bool) → is_some guest ≡ taken → taker_reply taken ≡ if_taker guest
-  reply_is None true is = cc
   reply_is None false is = refl
   reply_is (Some n) true is = refl
-  reply_is (Some n) false is = cc
+  reply_is _ _ is = cc
 
   no_fault : (taken : Bool) → is_frame_fault (taker_reply taken) ≡ false
   no_fault true = refl
@@ -491,9 +496,7 @@ module _ {M : Type 0} (view : M → MediumView) (frames : ℕ) (was sound : Bool
       }
     where
       met_some : LendBroken (length (devices_of m)) frames m s → met_between r s ≢ []
-      met_some broken =
-          subst (λ n. met (hops_of r.books.plan) n s.books.crossings ≢ []) (broken.lends.kept.begun ∙ ready_begun view was r m ready ∙ begins)
-          (subst (λ plan. met (hops_of plan) s.books.begun s.books.crossings ≢ []) (broken.lends.kept.plan ∙ ready_plan view was r m ready) broken.met)
+      met_some broken = met_since r m s (ready_plan view was r m ready) (ready_up view was r m ring ready) broken.met
 
 -- ---- the lend did not begin
 

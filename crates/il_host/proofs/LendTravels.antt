@@ -1,5 +1,5 @@
 -- What the frames of a lend did on the ring, with those of the addressing before it.
-use Rattle.std.proofs.Common.{◌≡◌, ◌≤◌, ◌+◌, ◌++◌, ◌&&◌, ◌==◌, ◌∙◌, ℕ, Bool, true, false, not, List, [], ◌∷◌, length, map, None, refl, sym, ap, subst, arith, length-append}
+use Rattle.std.proofs.Common.{◌≡◌, ◌≤◌, ◌+◌, ◌++◌, ◌&&◌, ◌==◌, ◌∙◌, ℕ, Bool, true, false, not, List, [], ◌∷◌, length, None, refl, sym, ap, subst, arith, length-append}
 use Rattle.std.specs.Prelude.{sum_by, count_by}
 use Rattle.std.specs.List.{list_all}
 use Rattle.std.proofs.lemmas.Bool.{and_from, and_parts, ne_eqb}
@@ -21,7 +21,7 @@ use Rattle.loop_model.proofs.LeadingLaws.{OneTalkerLed-no_lend, are_commands_led
 use Rattle.loop_model.proofs.ReachLaws.{links_so_far-append, passes_so_far-append}
 use Rattle.loop_model.specs.Roles.{is_at_most_one, talkers}
 use Rattle.il_ring.specs.Guests.{last_asked}
-use Rattle.il_ring.specs.LedAdds.{AllTookSince, TookSince}
+use Rattle.il_ring.specs.LedAdds.{AllTookSince}
 use Rattle.il_ring.specs.Lends.{lend_entries}
 use Rattle.il_ring.specs.Rings.{RingView, devices_of, drive_party, roles_of}
 use Rattle.il_ring.specs.Rounded.{AllTook}
@@ -32,7 +32,7 @@ use Rattle.il_record.specs.Came.{CameBy}
 use Rattle.il_record.specs.Talks.{all_entries}
 use Rattle.il_script.specs.declared.reply.Reply.{Reply}
 use Rattle.host_model.specs.Requests.{Item}
-use Rattle.host_model.specs.LoopStates.{all_roles, device_count}
+use Rattle.host_model.specs.LoopStates.{all_roles}
 use Rattle.host_model.specs.HostStates.{log_room}
 use Rattle.host_model.specs.Next.{BoxedBecome}
 use Rattle.host_model.specs.RingStates.{loop_on}
@@ -79,14 +79,12 @@ stands_unheld (e ∷ es) all =
       where
         kept : (own nrds : Bool) → not (own && (nrds && false)) ≡ true
         kept true true = refl
-        kept true false = refl
-        kept false nrds = refl
+        kept _ _ = refl
     by f (outcome.Taken q) own so = kept own (is_frame f nrd)
       where
         kept : (own nrds : Bool) → not (own && (nrds && false)) ≡ true
         kept true true = refl
-        kept true false = refl
-        kept false nrds = refl
+        kept _ _ = refl
     by f (outcome.Lost q) own so = cc
 
 took_came : (k : ℕ) (entries : List Entry) (j : ℕ) (ds es : List DeviceState) → AllTook k None entries None j ds es

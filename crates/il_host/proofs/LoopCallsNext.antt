@@ -1,7 +1,6 @@
 -- What asking for accessory IDs, polling and printing leave of the loop, once it is ready.
-use Rattle.std.proofs.Common.{◌≡◌, ◌==◌, ◌∙◌, ◌≤◌, ℕ, Bool, true, false, List, length, Option, Some, sym, subst}
+use Rattle.std.proofs.Common.{◌≡◌, ◌==◌, ◌∙◌, ◌≤◌, ℕ, Bool, true, false, List, length, Some, sym, subst}
 use Rattle.std.specs.Prelude.{MatchBool}
-use Rattle.il_frames.specs.declared.frame.Frame.{Frame}
 use Rattle.il_device.specs.State.{DeviceState}
 use Rattle.il_ports.specs.Media.{MediumView}
 use Rattle.il_drive.specs.State.{status_of}
@@ -12,8 +11,7 @@ use Rattle.il_control.specs.Calls.{Stays}
 use Rattle.il_control.proofs.Calls.{hears_then}
 use Rattle.il_record.specs.Asks.{Ask}
 use Rattle.il_record.specs.Listening.{Hears, HearsPart}
-use Rattle.il_record.specs.LoopCalls.{AllNamed, LeftAlone, NotSaid, Said}
-use Rattle.il_record.specs.Polls.{HasPolled, PollBroke, PollsOn, Released}
+use Rattle.il_record.specs.LoopCalls.{LeftAlone, NotSaid, Said, LeavesDrive}
 use Rattle.il_script.specs.declared.reply.Reply.{Reply}
 use Rattle.il_script.specs.declared.reply.Reply.TheVariants as reply
 use Rattle.il_script.specs.declared.reply.Code.{Code}
@@ -48,39 +46,23 @@ module _ {M : Type 0} (view : M → MediumView) (was : Bool) (r m s : RingView M
       behind Deaf Deaf (λ party d e f first more. hears_then d e f first.nothing more)
       (boxed_first (Stays false) Deaf m s left.came.units.came.talked.adds.before left.stays (λ party d e stays. stays.nothing))
 
-  devices_behind : (answer : Reply) (whole : Bool) (asks : List Ask) → LeftAlone view whole asks m s → BoxedBecome (DeviceBehind (Asks Devices) answer (loop_on r)) (loop_on r) (loop_on s)
-  devices_behind answer whole asks left =
-      behind Deaf (DeviceBehind (Asks Devices) answer (loop_on r))
-      (λ party d e f first more. let both = hears_then d e f first.nothing more in record { accessory = both.accessory; hears = both; service = λ is. cc })
-      (boxed_first (Stays false) Deaf m s left.came.units.came.talked.adds.before left.stays (λ party d e stays. stays.nothing))
-
-  -- each device told its accessory ID
-  pub devices_next : (ids : List (Option ℕ)) → AllNamed view ids m s → Next (Asks Devices) reply.Ok (loop_on r) (loop_on s)
-  devices_next ids named = record { devices = devices_behind reply.Ok true _ named.left; status = same_status named.left.drive.status }
-
-  -- that was broken off
-  pub devices_broken_next : (asks : List Ask) → LeftAlone view false asks m s → Next (Asks Devices) reply.FaultFrame (loop_on r) (loop_on s)
-  devices_broken_next asks left = record { devices = devices_behind reply.FaultFrame false asks left; status = same_status left.drive.status }
-
-  -- ---- the parallel poll
-
-  poll_behind : (answer : Reply) (party : ℕ) (d e f : DeviceState) → IsStill d e → IsStill e f → DeviceBehind (Asks Poll) answer (loop_on r) party d f
-  poll_behind answer party d e f first more = let both = still_then d e f first more in record { accessory = both.nothing.accessory; hears = both.nothing; service = λ is. both.wants }
-
-  -- the devices were polled
-  pub poll_next : (f : Frame) → HasPolled view f m s → Next (Asks Poll) reply.Ok (loop_on r) (loop_on s)
-  poll_next f polled = record {
-    devices = behind Still (DeviceBehind (Asks Poll) reply.Ok (loop_on r)) (poll_behind reply.Ok)
-        (boxed_to Released Still m s polled.came.units.came.talked.adds.before polled.released (λ party d e is. record { nothing = is.nothing; wants = is.wants }));
-    status = same_status polled.drive.status;
+  -- each device told its accessory ID, or one was asked for it, and that was broken off
+  pub devices_next : (answer : Reply) (whole : Bool) (asks : List Ask) → LeftAlone view whole asks m s → Next (Asks Devices) answer (loop_on r) (loop_on s)
+  devices_next answer whole asks left = record {
+    devices =
+        behind Deaf (DeviceBehind (Asks Devices) answer (loop_on r))
+        (λ party d e f first more. let both = hears_then d e f first.nothing more in record { accessory = both.accessory; hears = both; service = λ is. cc })
+        (boxed_first (Stays false) Deaf m s left.came.units.came.talked.adds.before left.stays (λ party d e stays. stays.nothing));
+    status = same_status left.drive.status;
   }
 
-  -- that was broken off
-  pub poll_broken_next : (n : ℕ) (asks : List Ask) → PollBroke view n asks m s → Next (Asks Poll) reply.FaultFrame (loop_on r) (loop_on s)
-  poll_broken_next n asks broke = record {
-    devices = behind Still (DeviceBehind (Asks Poll) reply.FaultFrame (loop_on r)) (poll_behind reply.FaultFrame)
-        (boxed_to PollsOn Still m s broke.came.units.came.talked.adds.before broke.devices (λ party d e is. record { nothing = is.nothing; wants = is.wants }));
-    status = same_status broke.drive.status;
+  -- the devices were polled, or that was broken off
+  pub poll_next : (answer : Reply) → BoxedBecome Still (loop_on m) (loop_on s) → LeavesDrive m.drive s.drive → Next (Asks Poll) answer (loop_on r) (loop_on s)
+  poll_next answer still drive = record {
+    devices =
+        behind Still (DeviceBehind (Asks Poll) answer (loop_on r))
+        (λ party d e f first more. let both = still_then d e f first more in record { accessory = both.nothing.accessory; hears = both.nothing; service = λ is. both.wants }) still;
+    status = same_status drive.status;
   }
 
   -- ---- printing

@@ -59,29 +59,21 @@ IsOfLoop (NoCommand code) = ⊥
 
 -- it says nothing of bytes that transfers carry
 carries_none : (item : Item) (answer : Reply) (n : ℕ) (v : Option Volume) (units : List RecordUnit) → IsOfLoop item → IsCarried item answer n v units
-carries_none (Asks (OfVolume command)) answer n v units of_loop = absurd of_loop
-carries_none (Asks (Get name)) answer n v units of_loop = absurd of_loop
-carries_none (Asks Pack) answer n v units of_loop = absurd of_loop
 carries_none (Asks Devices) answer n v units of_loop = tt
 carries_none (Asks Status) answer n v units of_loop = tt
 carries_none (Asks Poll) answer n v units of_loop = tt
 carries_none (Asks (Say bytes)) answer n v units of_loop = tt
-carries_none (Asks Paper) answer n v units of_loop = absurd of_loop
 carries_none (Asks (Lend frames)) answer n v units of_loop = tt
-carries_none (NoCommand code) answer n v units of_loop = absurd of_loop
+carries_none _ answer n v units of_loop = absurd of_loop
 
 -- it is none of the volume
 pub not_of_volume : (item : Item) → IsOfLoop item → is_of_volume item ≡ true → ⊥
-not_of_volume (Asks (OfVolume command)) of_loop is = absurd of_loop
-not_of_volume (Asks (Get name)) of_loop is = absurd of_loop
-not_of_volume (Asks Pack) of_loop is = absurd of_loop
 not_of_volume (Asks Devices) of_loop is = cc
 not_of_volume (Asks Status) of_loop is = cc
 not_of_volume (Asks Poll) of_loop is = cc
 not_of_volume (Asks (Say bytes)) of_loop is = cc
-not_of_volume (Asks Paper) of_loop is = absurd of_loop
 not_of_volume (Asks (Lend frames)) of_loop is = cc
-not_of_volume (NoCommand code) of_loop is = absurd of_loop
+not_of_volume _ of_loop is = absurd of_loop
 
 course_kept : {M : Type 0} (r : RingView M) (was : Bool) (due : Option (List Due)) (course : List Due) (pieces : List Piece) → due ≡ Some course
     → keeps_course (loop_on r) was (Some course) pieces ≡ true → keeps_course (loop_on r) was due pieces ≡ true

@@ -14,7 +14,7 @@ use Rattle.il_record.specs.Came.{NoneHeard}
 use Rattle.il_record.specs.Runs.{LeavesDevices, Interrupted, NotPolled, Polled, address_asks}
 use Rattle.il_script.specs.declared.reply.Reply.{Reply}
 use Rattle.il_script.specs.declared.reply.Reply.TheVariants as reply
-use Rattle.host_model.specs.Requests.{Item, Asks, NoCommand, OfVolume, Get, Pack, Devices, Status, Poll, Say, Paper, Lend}
+use Rattle.host_model.specs.Requests.{Item, Asks, Devices, Status, Poll, Say, Lend}
 use Rattle.host_model.specs.LoopStates.{LoopState, printer_at}
 use Rattle.host_model.specs.RingStates.{loop_on}
 use Rattle.host_model.specs.Next.{BoxedBecome, DeviceBehind, HearsSaid, Next, StatusBehind, is_party}
@@ -66,12 +66,7 @@ either false x y = y
 
 -- Where nothing was heard, every command of the loop that ended by a fault of the frames leaves it so.
 pub fault_behind : (item : Item) (z : LoopState) (party : ℕ) (d e : DeviceState) → IsOfLoop item → IsStill d e → DeviceBehind item reply.FaultFrame z party d e
-fault_behind (Asks (OfVolume command)) z party d e of_loop still = absurd of_loop
-fault_behind (Asks (Get name)) z party d e of_loop still = absurd of_loop
-fault_behind (Asks Pack) z party d e of_loop still = absurd of_loop
-fault_behind (Asks Paper) z party d e of_loop still = absurd of_loop
 fault_behind (Asks (Lend frames)) z party d e of_loop still = record { accessory = still.nothing.accessory; hears = still.nothing; service = λ is. still.wants }
-fault_behind (NoCommand code) z party d e of_loop still = absurd of_loop
 fault_behind (Asks Devices) z party d e of_loop still = record { accessory = still.nothing.accessory; hears = still.nothing; service = λ is. still.wants }
 fault_behind (Asks Status) z party d e of_loop still = record { accessory = still.nothing.accessory; hears = still.nothing; service = λ is. still.wants }
 fault_behind (Asks Poll) z party d e of_loop still = record { accessory = still.nothing.accessory; hears = still.nothing; service = λ is. still.wants }
@@ -80,6 +75,7 @@ fault_behind (Asks (Say bytes)) z party d e of_loop still = record {
   hears = either (is_party party (printer_at z)) (said_none bytes d e still.nothing) still.nothing;
   service = λ is. still.wants;
 }
+fault_behind _ z party d e of_loop still = absurd of_loop
 
 -- ---- what `ready` leaves
 
@@ -104,16 +100,12 @@ module _ {M : Type 0} where
   }
     where
       by : (item : Item) → IsOfLoop item → StatusBehind item reply.FaultFrame (status_of r.drive.state) (status_of s.drive.state)
-      by (Asks (OfVolume command)) of_loop = absurd of_loop
-      by (Asks (Get name)) of_loop = absurd of_loop
-      by (Asks Pack) of_loop = absurd of_loop
-      by (Asks Paper) of_loop = absurd of_loop
       by (Asks (Lend frames)) of_loop = inr leaves.status
-      by (NoCommand code) of_loop = absurd of_loop
       by (Asks Devices) of_loop = leaves.status
       by (Asks Status) of_loop = inr leaves.status
       by (Asks Poll) of_loop = leaves.status
       by (Asks (Say bytes)) of_loop = leaves.status
+      by _ of_loop = absurd of_loop
 
 -- ---- the status
 

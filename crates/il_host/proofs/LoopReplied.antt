@@ -7,7 +7,7 @@ use Rattle.il_ports.specs.Media.{MediumView}
 use Rattle.il_ring.specs.Rings.{RingView}
 use Rattle.il_script.specs.declared.reply.Reply.TheVariants as reply
 use Rattle.il_script.specs.declared.reply.Code.{Code}
-use Rattle.host_model.specs.Requests.{Asks, Devices, Get, Pack, Item, NoCommand, OfVolume, Paper, Poll, Say, Status, uses_frames, Lend}
+use Rattle.host_model.specs.Requests.{Asks, Devices, Item, Poll, Say, Status, uses_frames, Lend}
 use Rattle.host_model.specs.HostStates.{HasOwnGate, HostState, volume_at}
 use Rattle.host_model.specs.Replies.{reply_of, volume_behind}
 use Rattle.host_model.specs.RingStates.{state_on}
@@ -22,40 +22,28 @@ pub record LeavesTape {M : Type 0} (view : M → MediumView) (r s : RingView M) 
   pub size : (view s.drive.medium).record_count ≡ (view r.drive.medium).record_count
 
 pub sends_frames : (item : Item) → IsOfLoop item → uses_frames item ≡ true
-sends_frames (Asks (OfVolume command)) of_loop = absurd of_loop
-sends_frames (Asks (Get name)) of_loop = absurd of_loop
-sends_frames (Asks Pack) of_loop = absurd of_loop
 sends_frames (Asks Devices) of_loop = refl
 sends_frames (Asks Status) of_loop = refl
 sends_frames (Asks Poll) of_loop = refl
 sends_frames (Asks (Say bytes)) of_loop = refl
-sends_frames (Asks Paper) of_loop = absurd of_loop
 sends_frames (Asks (Lend frames)) of_loop = refl
-sends_frames (NoCommand code) of_loop = absurd of_loop
+sends_frames _ of_loop = absurd of_loop
 
 same_volume : (item : Item) (s : HostState) → IsOfLoop item → volume_at s ≡ volume_behind item s
-same_volume (Asks (OfVolume command)) s of_loop = absurd of_loop
-same_volume (Asks (Get name)) s of_loop = absurd of_loop
-same_volume (Asks Pack) s of_loop = absurd of_loop
 same_volume (Asks Devices) s of_loop = refl
 same_volume (Asks Status) s of_loop = refl
 same_volume (Asks Poll) s of_loop = refl
 same_volume (Asks (Say bytes)) s of_loop = refl
-same_volume (Asks Paper) s of_loop = absurd of_loop
 same_volume (Asks (Lend frames)) s of_loop = refl
-same_volume (NoCommand code) s of_loop = absurd of_loop
+same_volume _ s of_loop = absurd of_loop
 
 either_staying : (item : Item) (s t : HostState) → IsOfLoop item → volume_at t ≡ volume_at s → EitherVolume item s t
-either_staying (Asks (OfVolume command)) s t of_loop same = absurd of_loop
-either_staying (Asks (Get name)) s t of_loop same = absurd of_loop
-either_staying (Asks Pack) s t of_loop same = absurd of_loop
 either_staying (Asks Devices) s t of_loop same = inl same
 either_staying (Asks Status) s t of_loop same = inl same
 either_staying (Asks Poll) s t of_loop same = inl same
 either_staying (Asks (Say bytes)) s t of_loop same = inl same
-either_staying (Asks Paper) s t of_loop same = absurd of_loop
 either_staying (Asks (Lend frames)) s t of_loop same = inl same
-either_staying (NoCommand code) s t of_loop same = absurd of_loop
+either_staying _ s t of_loop same = absurd of_loop
 
 module _ {M : Type 0} (view : M → MediumView) (item : Item) (of_loop : IsOfLoop item) (was is : Bool) (r s : RingView M) (leaves : LeavesTape view r s) where
   volume_stays : volume_at (state_on view is false s) ≡ volume_at (state_on view was false r)

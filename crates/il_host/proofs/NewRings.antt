@@ -2,11 +2,11 @@
 use Rattle.std.proofs.lemmas.List.Elements.{All-append, All-map as every_map, All-same as every_same}
 use Rattle.il_ports.specs.Media.{MediumView as Seen_medium}
 use Rattle.il_record.specs.declared.records.Since.TheVariants as since_is
-use Rattle.il_record.specs.LoopStores.{HasRing, LoopView as SeenLoop, AtLost as LostAt}
+use Rattle.il_record.specs.LoopStores.{LoopView as SeenLoop}
 use Rattle.host_model.specs.RingStates.{state_on as on_ring}
 use Rattle.il_host.specs.Standings.{state_at as standing_state}
 use Rattle.il_host.specs.Shorts.{AllShort, IsShort}
-use Rattle.std.proofs.Common.{◌≡◌, ℕ, false, List, ◌++◌, Option, map, ◌∙◌, ap, subst, sym}
+use Rattle.std.proofs.Common.{◌≡◌, ℕ, Bool, false, List, ◌++◌, Option, map, ◌∙◌, ap, subst, sym}
 use Rattle.std.specs.List.{All}
 use Rattle.il_device.specs.State.{DeviceState}
 use Rattle.il_drive.specs.State.{DriveView, fresh_drive}
@@ -50,17 +50,23 @@ short_of ds stand = λ i d within. let keeps = (stand i d within).2 in record { 
 
 -- the paper of each device of a new ring is short
 pub new_ring_short : {M X : Type 0} (view : M → Seen_medium) (state : X → DeviceState) (l : SeenLoop M) (r s : RingView M) (xs ys : List X) (guest : Option GuestState)
-    → l ≡ record { control = LostAt s; sound = false; since = since_is.Unbroken; resumes = 0 } → s ≡ r → r.before ≡ map state xs → r.after ≡ map state ys ++ guest_devices guest
-    → All (λ x. MayStand (state x)) xs → All (λ x. MayStand (state x)) ys → IsIdleGuest guest → MayBeGuest guest → AllShort (standing_state view l.sound l.control).loop
+    → l ≡ record { ring = s; ready = false; sound = false; since = since_is.Unbroken; resumes = 0 } → s ≡ r → r.before ≡ map state xs → r.after ≡ map state ys ++ guest_devices guest
+    → All (λ x. MayStand (state x)) xs → All (λ x. MayStand (state x)) ys → IsIdleGuest guest → MayBeGuest guest → AllShort (standing_state view l).loop
 new_ring_short {M} view state l r s xs ys guest fresh same before after first last idle may =
-    subst (λ (l : SeenLoop M). AllShort (standing_state view l.sound l.control).loop) (sym fresh)
+    subst (λ (l : SeenLoop M). AllShort (standing_state view l).loop) (sym fresh)
     (subst (λ (s : RingView M). AllShort (on_ring view false false s).loop) (sym same)
     (record {
       before = every_same IsShort r.before (map state xs) before (short_of (map state xs) (every_map MayStand state xs first));
       after = short_of r.after (all_stand state ys guest r.after after last idle may);
     }))
 
+-- the state of a store that was just made, which keeps no directory
+pub new_ring_state : {M : Type 0} (view : M → Seen_medium) (l : SeenLoop M) (r s : RingView M) (kept : Bool) → l ≡ record { ring = s; ready = false; sound = false; since = since_is.Unbroken; resumes = 0 } → s ≡ r → kept ≡ false
+    → record (standing_state view l) { kept = kept } ≡ on_ring view false false r
+new_ring_state {M} view l r s kept fresh same none =
+    ap (λ (l : SeenLoop M). record (standing_state view l) { kept = kept }) fresh ∙ ap (λ (s : RingView M). record (on_ring view false false s) { kept = kept }) same ∙ ap (λ kept. record (on_ring view false false r) { kept = kept }) none
+
 -- the ring of a store that was just made is the one that it was made of
-pub ring_unsent : {M : Type 0} (l : SeenLoop M) (r s t : RingView M) → l ≡ record { control = LostAt s; sound = false; since = since_is.Unbroken; resumes = 0 } → s ≡ r
-    → HasRing l.control (λ q. t ≡ q) → t ≡ r
-ring_unsent {M} l r s t fresh same has = subst (λ (l : SeenLoop M). HasRing l.control (λ q. t ≡ q)) fresh has ∙ same
+pub ring_unsent : {M : Type 0} (l : SeenLoop M) (r s t : RingView M) → l ≡ record { ring = s; ready = false; sound = false; since = since_is.Unbroken; resumes = 0 } → s ≡ r
+    → t ≡ l.ring → t ≡ r
+ring_unsent {M} l r s t fresh same has = has ∙ ap (λ (l : SeenLoop M). l.ring) fresh ∙ same

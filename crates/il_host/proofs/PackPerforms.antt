@@ -1,13 +1,14 @@
 -- A packing of the volume, as a host performs it.
-use Rattle.std.proofs.Common.{◌≡◌, ◌∙◌, ◌≤◌, ◌+◌, ◌*◌, ◌++◌, ℕ, true, false, List, Option, Some, None, refl, sym, ap, ap₂, subst, arith}
-use Rattle.std.specs.Global.{Vec}
-use Rattle.std.specs.Prelude.{length, Result, Ok, Err, is_some, option_and_then}
+use Rattle.std.proofs.Common.{◌≡◌, ◌∙◌, ◌≤◌, ◌+◌, ◌*◌, ◌++◌, ℕ, true, false, List, Some, None, refl, sym, ap, ap₂, subst, arith}
+use Rattle.std.specs.Prelude.{Result, Ok, Err, is_some, option_and_then}
 use Rattle.lif_model.specs.Tape.{Tape}
 use Rattle.lif_model.specs.Volume.{is_foreign_gated, volume_in}
 use Rattle.lif_model.specs.Apply.{Dir}
 use Rattle.lif_model.specs.declared.refusal.Refusal.{Refusal}
 use Rattle.il_device.specs.State.{DeviceState}
 use Rattle.il_frames.specs.declared.entry.Entry.{Entry}
+use Rattle.lif_model.specs.Shelf.{IsSize}
+use Rattle.lif_model.proofs.Sizes.{size_bounds}
 use Rattle.il_ports.specs.Media.{IsMedium, MediumView}
 use Rattle.il_ports.specs.Stores.{Begun, Continues, GoesOn, IsQuiet, IsReady, IsStore, RecordsView}
 use Rattle.il_ports.specs.declared.records.Trouble.{Trouble}
@@ -32,9 +33,7 @@ use Rattle.il_ring.specs.declared.ring.Ring.{Ring}
 use Rattle.il_ring.specs.Rings.{RingView}
 use Rattle.il_record.specs.declared.records.LoopRecords.{LoopRecords}
 use Rattle.il_record.specs.LoopStores.{LoopView, view_of}
-use Rattle.il_record.specs.Controls.{ring_in}
-use Rattle.il_record.specs.IsStore.{is_store_at}
-use Rattle.il_record.proofs.StoreResumes.{Agrees, agrees}
+use Rattle.il_record.specs.IsStore.{is_store_of}
 use Rattle.il_script.specs.Replies.{code_of, reply_line}
 use Rattle.il_script.specs.declared.reply.Reply.{Reply}
 use Rattle.il_script.specs.declared.reply.Reply.TheVariants as reply
@@ -46,9 +45,10 @@ use Rattle.host_model.specs.Steps.{Acts, CountsWhole, Event, MayReply, Replied, 
 use Rattle.host_model.specs.Stops.{StopsLeave}
 use Rattle.host_model.proofs.Fronts.{controls_still}
 use Rattle.il_host.specs.HostView.{Performed}
+use Rattle.il_host.specs.declared.file_buffer.FileBuffer.{FileBuffer}
 use Rattle.il_host.specs.Hosts.{Space, space_of, IsUsable, host_in, loop_in, store_in, volume_in as seen_volume}
 use Rattle.il_host.specs.Preparing.{StaysUnsound}
-use Rattle.il_host.specs.Standings.{FitsAnswer, HasDriveStatus, IsHostRing, MakesSound, event_at, fault_of, log_at, plan_at, state_at, volume_reply}
+use Rattle.il_host.specs.Standings.{FitsAnswer, HasDriveStatus, IsHostRing, MakesSound, event_at, fault_of, state_at, volume_reply}
 use Rattle.il_host.proofs.HostVolumes.{begun_left, fault_text, forgotten_unsound, performed}
 use Rattle.il_host.proofs.VolumeAsked.{asked_seen}
 use Rattle.il_host.proofs.VolumeCarries.{CarriesAs}
@@ -183,9 +183,9 @@ fits_answer (Ok x) = refl
 fits_answer (Err (Refused why)) = refl
 fits_answer (Err (Troubled e)) = fits_fault (Unit {0}) e
 
-module _ {M S : Type 0} (view : M → MediumView) (seen : S → RingView M) (o a q : Option S) (old begun new : LoopView M)
-    (valid : (view_of view seen o old).valid) (here : Agrees seen o old.control) (there : Agrees seen a begun.control) (empties : Begun (view_of view seen o old) (view_of view seen a begun))
-    (room : IsHostRing view old.control) (low : HasDriveStatus new.control) (left : 1 ≤ (view_of view seen q new).calls_left) where
+module _ {M S : Type 0} (view : M → MediumView) (seen : S → RingView M) (o a q : S) (old begun new : LoopView M)
+    (valid : (view_of view seen o old).valid) (here : seen o ≡ old.ring) (there : seen a ≡ begun.ring) (empties : Begun (view_of view seen o old) (view_of view seen a begun))
+    (room : IsHostRing view old.ring) (low : HasDriveStatus new.ring) (left : 1 ≤ (view_of view seen q new).calls_left) where
   emptied : Emptied view old begun
   emptied = volume_begun view seen o a old begun valid here there empties
 
@@ -193,44 +193,44 @@ module _ {M S : Type 0} (view : M → MediumView) (seen : S → RingView M) (o a
   pub pack_not_asked : (e : Trouble) → IsStore (view_of view seen o old) → MakesSound {T = Unit {0}} view begun new (Err e) → (e ≡ trouble.Frame) × Performs view seen o q (Asks Pack) reply.FaultFrame old new
   pack_not_asked e store makes =
       let loop = volume_broke view Dir begun new emptied.stands emptied.log emptied.begins (emptied.room room) low (Unit {0}) seen q e left makes in
-      let still = broke_quiet view seen a q begun new emptied.unbroken emptied.stands (Unit {0}) e makes in
-      let s = state_at view begun.sound begun.control in
-      let t = state_at view new.sound new.control in
+      let still = broke_quiet view seen a q begun new emptied.stands (Unit {0}) e makes in
+      let s = state_at view begun in
+      let t = state_at view new in
       let before = seen_as view seen a begun in
       let after = seen_as view seen q new in
-      let same = tape_still (Asks Pack) (view_of view seen a begun) (view_of view seen q new) s t (log_at new.control) before after still in
-      let replied = item_broke (Asks Pack) (view_of view seen a begun) (view_of view seen q new) s t (log_at new.control) before after still refl refl
+      let same = tape_still (Asks Pack) (view_of view seen a begun) (view_of view seen q new) s t (new.ring.books.log) before after still in
+      let replied = item_broke (Asks Pack) (view_of view seen a begun) (view_of view seen q new) s t (new.ring.books.log) before after still refl refl
       (ap (λ tape. files_shown s.records (option_and_then finished_volume_of tape)) same) in
       let first = subst (λ (s : HostState). IsSeenAs s (view_of view seen o old)) (sym emptied.state) (seen_as view seen o old) in
-      let stops = broke_stops (Asks Pack) reply.FaultFrame (view_of view seen o old) (view_of view seen q new) s t (log_at new.control) first store
+      let stops = broke_stops (Asks Pack) reply.FaultFrame (view_of view seen o old) (view_of view seen q new) s t (new.ring.books.log) first store
       (quiet_then (view_of view seen o old) (view_of view seen a begun) (view_of view seen q new) empties.quiet still.quiet) in (
         loop.0,
         performs_of view seen o a q (Asks Pack) old begun new emptied reply.FaultFrame
-            (pack_step (plan_at begun.control) (event_at view (Asks Pack) reply.FaultFrame begun new) refl replied (loop_of_pack (plan_at begun.control) reply.FaultFrame (log_at new.control) s t loop.1)) stops loop.2,
+            (pack_step (begun.ring.books.plan) (event_at view (Asks Pack) reply.FaultFrame begun new) refl replied (loop_of_pack (begun.ring.books.plan) reply.FaultFrame (new.ring.books.log) s t loop.1)) stops loop.2,
       )
 
   -- It was made sound as p, and the volume was packed.
-  module _ (p : Option S) (calls : ℕ) (mid : LoopView M) (makes : MakesSound {T = Unit {0}} view begun mid (Ok tt)) (agrees : Agrees seen p mid.control)
+  module _ (p : S) (calls : ℕ) (mid : LoopView M) (makes : MakesSound {T = Unit {0}} view begun mid (Ok tt)) (agrees : seen p ≡ mid.ring)
       (answer : Result Packed VolumeFault) (goes : GoesOn calls (view_of view seen p mid) (view_of view seen q new) (store_answer answer))
       (leaves_files : (t : Tape) → (view_of view seen p mid).tape ≡ Some t → is_foreign_gated t ≡ false → LeavesBy (KeepsFiles (view_of view seen p mid).record_count t) (view_of view seen p mid) (view_of view seen q new))
       (foreign : (t : Tape) → (view_of view seen p mid).tape ≡ Some t → is_foreign_gated t ≡ true → SettlesOnly (view_of view seen p mid) (view_of view seen q new) t)
       (packs : (t u : Tape) → (view_of view seen p mid).tape ≡ Some t → (view_of view seen q new).tape ≡ Some u → PacksTo (view_of view seen p mid).record_count t u answer) where
     pub pack_performs : Performs view seen o q (Asks Pack) (volume_reply answer) old new
     pack_performs =
-        let s = state_at view begun.sound begun.control in
-        let t = state_at view new.sound new.control in
-        let quiet = made_quiet view seen a p begun mid emptied.unbroken emptied.stands tt makes in
+        let s = state_at view begun in
+        let t = state_at view new in
+        let quiet = made_quiet view seen a p begun mid emptied.stands tt emptied.unbroken makes in
         let before = seen_still s (view_of view seen a begun) (view_of view seen p mid) (seen_as view seen a begun) quiet.quiet quiet.size in
         let after = seen_as view seen q new in
         let loop = volume_done view Dir begun new emptied.stands emptied.log emptied.begins (emptied.room room) low tt seen p q calls mid (store_answer answer) (volume_reply answer) emptied.unbroken makes agrees goes (fits_answer answer)
         (dir_carries answer) left in
-        let replied = pack_replied (view_of view seen p mid) (view_of view seen q new) s t (log_at new.control) before after leaves_files foreign goes.continues.told goes.continues.size answer packs in
-        let stops = pack_stops (view_of view seen p mid) (view_of view seen q new) s t (log_at new.control) before after leaves_files foreign (volume_reply answer) (view_of view seen o old)
+        let replied = pack_replied (view_of view seen p mid) (view_of view seen q new) s t (new.ring.books.log) before after leaves_files foreign goes.continues.told goes.continues.size answer packs in
+        let stops = pack_stops (view_of view seen p mid) (view_of view seen q new) s t (new.ring.books.log) before after leaves_files foreign (volume_reply answer) (view_of view seen o old)
         (quiet_then (view_of view seen o old) (view_of view seen a begun) (view_of view seen p mid) empties.quiet quiet.quiet) in
         performs_of view seen o a q (Asks Pack) old begun new emptied (volume_reply answer)
-        (pack_step (plan_at begun.control) (event_at view (Asks Pack) (volume_reply answer) begun new) refl replied (loop_of_pack (plan_at begun.control) (volume_reply answer) (log_at new.control) s t loop.0)) stops loop.1
+        (pack_step (begun.ring.books.plan) (event_at view (Asks Pack) (volume_reply answer) begun new) refl replied (loop_of_pack (begun.ring.books.plan) (volume_reply answer) (new.ring.books.log) s t loop.0)) stops loop.1
       where
-        dir_carries : (answer : Result Packed VolumeFault) → CarriesAs Dir (volume_reply answer) (state_at view begun.sound begun.control).records (volume_at (state_at view begun.sound begun.control)) (view_of view seen q new).transferred
+        dir_carries : (answer : Result Packed VolumeFault) → CarriesAs Dir (volume_reply answer) (state_at view begun).records (volume_at (state_at view begun)) (view_of view seen q new).transferred
         dir_carries answer = tt
 
 -- ---- a host
@@ -246,29 +246,33 @@ module _ {M I : Type 0} {D : I → Type 0} (view : M → MediumView) (seen : Rin
     left = omega (arith, begun_left view seen o b m text_space space usable began, sounds.left, sounds.size, began.size);
   }
 
+-- its medium is no larger than the largest
+pub small_to_pack : (asked begun old : ℕ) → asked ≡ begun → begun ≡ old → IsSize old → asked ≤ 8192
+small_to_pack asked begun old one two size = let bounds = size_bounds old size in omega (arith, one, two, bounds.1)
+
 -- as much memory for files and slots
-pub same_space : (v w : Vec ℕ) (p q : Packer) → length v.items ≡ length w.items → p.slots.room ≡ q.slots.room → space_of v p ≡ space_of w q
+pub same_space : (v w : FileBuffer) (p q : Packer) → v.room ≡ w.room → p.slots.room ≡ q.slots.room → space_of v p ≡ space_of w q
 same_space v w p q files slots i = record { file = files i; slots = slots i }
 
 module _ {M I : Type 0} {D : I → Type 0} (view : M → MediumView) (seen : Ring M I D → RingView M) (o b n : Volume (LoopRecords M I D)) (text_space : ℕ) (space : Space)
     (usable : IsUsable view (store_in view seen) (seen_volume o) (loop_in seen o.records) text_space space) (began : Begun (store_in view seen o.records) (store_in view seen b.records))
-    (law : (x : M) → IsMedium (view x)) (opens : IsOpen (store_in view seen) (seen_volume n)) (low : HasDriveStatus (loop_in seen n.records).control) where
+    (law : (x : M) → IsMedium (view x)) (opens : IsOpen (store_in view seen) (seen_volume n)) (low : HasDriveStatus (loop_in seen n.records).ring) where
   abbrev state : List ℕ → HostState
   state before = (host_in view seen o before text_space space).state
 
   pub pack_unsound : (e : Trouble) (before : List ℕ) → StaysUnsound view seen b n e
       → Performed (Asks Pack) (fault_of e) (host_in view seen o before text_space space) (host_in view seen n (reply_line (fault_of e)) text_space space)
   pack_unsound e before stays =
-      let store = is_store_at view seen (ring_in o.records.control) o.records.sound o.records.since o.records.resumes (loop_in seen o.records).control law in
+      let store = is_store_of view seen o.records.ring (loop_in seen o.records) law in
       let used = stays.sounds.left in
       let left : 1 ≤ (store_in view seen n.records).calls_left = omega (arith, begun_left view seen o b n text_space space usable began, used) in
       let off = forgotten_unsound view seen o b n text_space space usable began e stays in
-      let did = pack_not_asked view seen (ring_in o.records.control) (ring_in b.records.control) (ring_in n.records.control) (loop_in seen o.records) (loop_in seen b.records) (loop_in seen n.records)
-      usable.volume_open.valid (agrees seen o.records.control) (agrees seen b.records.control) began usable.log low left e store stays.makes in
+      let did = pack_not_asked view seen o.records.ring b.records.ring n.records.ring (loop_in seen o.records) (loop_in seen b.records) (loop_in seen n.records)
+      usable.volume_open.valid refl refl began usable.log low left e store stays.makes in
       performed view seen o b n text_space space usable began opens (Asks Pack) (fault_of e) before (reply_line (fault_of e)) (stays.sounds.size ∙ began.size)
-      (subst (λ e. Performs view seen (ring_in o.records.control) (ring_in n.records.control) (Asks Pack) (fault_of e) (loop_in seen o.records) (loop_in seen n.records)) (sym did.0) did.1)
+      (subst (λ e. Performs view seen o.records.ring n.records.ring (Asks Pack) (fault_of e) (loop_in seen o.records) (loop_in seen n.records)) (sym did.0) did.1)
       (record { kept = off; log = λ on. tt })
-      (λ told. sym (fault_text (Asks Pack) (state before) (log_at (loop_in seen n.records).control) e))
+      (λ told. sym (fault_text (Asks Pack) (state before) ((loop_in seen n.records).ring.books.log) e))
       (λ is. ((omega (arith, used), λ other. cc, λ other. cc), λ t told on. let clash : true ≡ false = sym on ∙ off in cc))
 
   -- the store was made sound as m
@@ -279,13 +283,13 @@ module _ {M I : Type 0} {D : I → Type 0} (view : M → MediumView) (seen : Rin
 
     seen_made : (before : List ℕ) → IsSeenAs (state before) (store_in view seen m.records)
     seen_made before =
-        let so = asked_seen view seen (ring_in o.records.control) (ring_in b.records.control) (ring_in m.records.control) (loop_in seen o.records) (loop_in seen b.records) (loop_in seen m.records)
-        usable.volume_open.valid (agrees seen o.records.control) (agrees seen b.records.control) began tt makes in
+        let so = asked_seen view seen o.records.ring b.records.ring m.records.ring (loop_in seen o.records) (loop_in seen b.records) (loop_in seen m.records)
+        usable.volume_open.valid refl refl began tt makes in
         record { tape = so.tape; records = so.records }
 
     -- the text of its reply
     packed_text_is : (before : List ℕ) (answer : Packed) → AnswersPack (store_in view seen) (seen_volume m) (seen_volume n) (Ok answer) → is_some (store_in view seen n.records).tape ≡ is_some (store_in view seen m.records).tape
-        → TellsReply (Asks Pack) (state before) → packed_text answer.files answer.free ++ reply_line reply.Ok ≡ reply_text (Asks Pack) (state before) (log_at (loop_in seen n.records).control) reply.Ok
+        → TellsReply (Asks Pack) (state before) → packed_text answer.files answer.free ++ reply_line reply.Ok ≡ reply_text (Asks Pack) (state before) ((loop_in seen n.records).ring.books.log) reply.Ok
     packed_text_is before answer answers told_so tells =
         let so = seen_made before in
         let t = told_tape (state before).tape (tells refl) in
@@ -300,14 +304,14 @@ module _ {M I : Type 0} {D : I → Type 0} (view : M → MediumView) (seen : Rin
         → GoesOn (15 * (store_in view seen m.records).record_count + 120) (store_in view seen m.records) (store_in view seen n.records) (store_answer answer)
         → n.kept ≡ None → AnswersPack (store_in view seen) (seen_volume m) (seen_volume n) answer
         → KeepsFiled (store_in view seen) (seen_volume m) (seen_volume n) → SettlesForeign (store_in view seen) (seen_volume m) (seen_volume n)
-        → (TellsReply (Asks Pack) (state before) → after ≡ reply_text (Asks Pack) (state before) (log_at (loop_in seen n.records).control) (volume_reply answer))
+        → (TellsReply (Asks Pack) (state before) → after ≡ reply_text (Asks Pack) (state before) ((loop_in seen n.records).ring.books.log) (volume_reply answer))
         → Performed (Asks Pack) (volume_reply answer) (host_in view seen o before text_space space) (host_in view seen n after text_space space)
     pack_done answer before after goes none answers files foreign text =
         let off : is_some n.kept ≡ false = ap is_some none in
         let left : 1 ≤ (store_in view seen n.records).calls_left = omega (arith, begun_left view seen o b n text_space space usable began, sounds.left, goes.continues.left, size_made) in
-        let did = pack_performs view seen (ring_in o.records.control) (ring_in b.records.control) (ring_in n.records.control) (loop_in seen o.records) (loop_in seen b.records) (loop_in seen n.records)
-        usable.volume_open.valid (agrees seen o.records.control) (agrees seen b.records.control) began usable.log low left
-        (ring_in m.records.control) _ (loop_in seen m.records) makes (agrees seen m.records.control) answer goes
+        let did = pack_performs view seen o.records.ring b.records.ring n.records.ring (loop_in seen o.records) (loop_in seen b.records) (loop_in seen n.records)
+        usable.volume_open.valid refl refl began usable.log low left
+        m.records.ring _ (loop_in seen m.records) makes refl answer goes
         (λ t told own. let so = files t told own in record { stops = so.stops; after = so.after })
         (λ t told held. foreign t told (held_settled t held)) answers in
         performed view seen o b n text_space space usable began opens (Asks Pack) (volume_reply answer) before after (goes.continues.size ∙ size_made) did
@@ -335,4 +339,4 @@ module _ {M I : Type 0} {D : I → Type 0} (view : M → MediumView) (seen : Rin
             → AnswersPack (store_in view seen) (seen_volume m) (seen_volume n) (Err fault)
             → Performed (Asks Pack) (volume_reply {T = Unit {0}} (Err fault)) (host_in view seen o before text_space space) (host_in view seen n (reply_line (volume_reply {T = Unit {0}} (Err fault))) text_space space)
         by (Refused why) goes answers = pack_done (Err (Refused why)) before (reply_line (reply.No (code_of why))) goes none answers files foreign (λ told. refl)
-        by (Troubled e) goes answers = pack_done (Err (Troubled e)) before (reply_line (fault_of e)) goes none answers files foreign (λ told. sym (fault_text (Asks Pack) (state before) (log_at (loop_in seen n.records).control) e))
+        by (Troubled e) goes answers = pack_done (Err (Troubled e)) before (reply_line (fault_of e)) goes none answers files foreign (λ told. sym (fault_text (Asks Pack) (state before) ((loop_in seen n.records).ring.books.log) e))

@@ -10,18 +10,17 @@ use Rattle.il_ring.specs.Plans.{hops_of}
 use Rattle.il_ring.specs.Rings.{RingView, devices_of, paper_of, roles_of}
 use Rattle.il_ring.specs.Fates.{IsByPlan}
 use Rattle.il_record.specs.declared.records.Since.TheVariants as since
-use Rattle.il_record.specs.LoopStores.{HasRing, LoopView, Standing, is_idle, view_of}
-use Rattle.il_record.proofs.StoreResumes.{Agrees}
+use Rattle.il_record.specs.LoopStores.{LoopView, view_of}
 use Rattle.host_model.specs.Requests.{Asks, Paper}
 use Rattle.host_model.specs.LoopStates.{all_roles, device_count, paper_on}
 use Rattle.host_model.specs.HostStates.{HostState}
 use Rattle.host_model.specs.Replies.{if_printer}
-use Rattle.host_model.specs.RingStates.{loop_on, state_on}
+use Rattle.host_model.specs.RingStates.{loop_on}
 use Rattle.host_model.specs.Next.{BoxedBecome, DeviceBehind}
 use Rattle.host_model.specs.Steps.{Event, Exchanged, HearsLog, Acts, Replied, is_frame_fault, event}
 use Rattle.host_model.proofs.Steps.{boxed_same, alike_staying}
 use Rattle.host_model.proofs.Fronts.{controls_still}
-use Rattle.il_host.specs.Standings.{IsHostRing, event_at, plan_at, log_at, state_at}
+use Rattle.il_host.specs.Standings.{IsHostRing, event_at, state_at}
 use Rattle.il_host.proofs.CommandLogs.{SaysOf, exchanged_none, met_none}
 use Rattle.il_host.proofs.CommandTravels.{event_by, event_on, travels_none}
 use Rattle.il_host.proofs.LoopPerforms.{quiet_stops}
@@ -29,7 +28,6 @@ use Rattle.il_host.proofs.Sounding.{travels_sounding}
 use Rattle.il_host.proofs.VolumePerforms.{Performs}
 use Rattle.il_host.proofs.VolumeReplied.{seen_as}
 use Rattle.il_host.proofs.VolumeStarts.{Emptied, volume_begun}
-use Rattle.il_host.proofs.VolumeSteps.{Here, at_ring, event_rings, here_at, plan_rings, state_rings}
 use Rattle.il_host.proofs.VolumeTravels.{one_talks}
 
 module _ {M : Type 0} (view : M → MediumView) (found : Option (List ℕ × ℕ)) (was sound : Bool) (r : RingView M) (paper : found ≡ paper_on (loop_on r)) (empty : r.books.log ≡ []) where
@@ -85,16 +83,16 @@ module _ {M : Type 0} (view : M → MediumView) (found : Option (List ℕ × ℕ
   }
 
 -- The log was emptied, and then the ring told of a paper, if it has one.
-pub paper_performs : {M S : Type 0} (view : M → MediumView) (seen : S → RingView M) (o a : Option S) (old begun : LoopView M) → (view_of view seen o old).valid → Agrees seen o old.control → Agrees seen a begun.control
-    → Begun (view_of view seen o old) (view_of view seen a begun) → IsStore (view_of view seen o old) → IsHostRing view old.control
-    → (found : Option (List ℕ × ℕ)) → HasRing begun.control (λ r. found ≡ paper_of (r.before ++ r.after))
-    → (found ≡ paper_on (state_at view old.sound old.control).loop) × Performs view seen o a (Asks Paper) (if_printer found) old begun
+pub paper_performs : {M S : Type 0} (view : M → MediumView) (seen : S → RingView M) (o a : S) (old begun : LoopView M) → (view_of view seen o old).valid → seen o ≡ old.ring → seen a ≡ begun.ring
+    → Begun (view_of view seen o old) (view_of view seen a begun) → IsStore (view_of view seen o old) → IsHostRing view old.ring
+    → (found : Option (List ℕ × ℕ)) → found ≡ paper_of (begun.ring.before ++ begun.ring.after)
+    → (found ≡ paper_on (state_at view old).loop) × Performs view seen o a (Asks Paper) (if_printer found) old begun
 paper_performs {M} {S} view seen o a old begun valid here there empties store room found told = (
-  paper ∙ ap (λ (s : HostState). paper_on s.loop) state_is,
+  told ∙ ap (λ (s : HostState). paper_on s.loop) emptied.state,
   record {
     step = subst (λ plan. Acts plan (event_at view (Asks Paper) (if_printer found) old begun)) emptied.plan
-        (subst (λ (s : HostState). Acts (plan_at begun.control) (event_from s)) emptied.state begun_step);
-    stops = quiet_stops (Asks Paper) (if_printer found) (log_at begun.control) (state_at view old.sound old.control) (state_at view begun.sound begun.control) (view_of view seen o old) (view_of view seen a begun) (seen_as view seen o old) store empties.quiet;
+        (subst (λ (s : HostState). Acts (begun.ring.books.plan) (event_from s)) emptied.state begun_step);
+    stops = quiet_stops (Asks Paper) (if_printer found) (begun.ring.books.log) (state_at view old) (state_at view begun) (view_of view seen o old) (view_of view seen a begun) (seen_as view seen o old) store empties.quiet;
     keeps = record { plan = emptied.plan; room = emptied.room room; images = emptied.images };
   },
 )
@@ -102,29 +100,8 @@ paper_performs {M} {S} view seen o a old begun valid here there empties store ro
     emptied : Emptied view old begun
     emptied = volume_begun view seen o a old begun valid here there empties
 
-    stood : Here begun.control
-    stood = here_at begun.control begun.sound since.Unbroken emptied.stands
-
-    was : Bool
-    was = is_idle begun.control
-
-    r : RingView M
-    r = stood.ring
-
-    state_is : state_on view was begun.sound r ≡ state_at view old.sound old.control
-    state_is = sym (ap (λ (c : Standing M). state_at view begun.sound c) stood.at ∙ state_rings view begun.sound was r) ∙ emptied.state
-
-    paper_at : (is : Bool) → HasRing (at_ring is r) (λ r. found ≡ paper_of (r.before ++ r.after)) → found ≡ paper_on (loop_on r)
-    paper_at true so = so
-    paper_at false so = so
-
-    paper : found ≡ paper_on (loop_on r)
-    paper = paper_at was (subst (λ (c : Standing M). HasRing c (λ r. found ≡ paper_of (r.before ++ r.after))) stood.at told)
-
-    begun_step : Acts (plan_at begun.control) (event_at view (Asks Paper) (if_printer found) begun begun)
-    begun_step = subst (λ plan. Acts plan (event_at view (Asks Paper) (if_printer found) begun begun)) (sym (ap (λ (c : Standing M). plan_at c) stood.at ∙ plan_rings view was r))
-        (subst (λ (e : Event). Acts (r.books.plan) e) (sym (event_rings view (Asks Paper) (if_printer found) begun begun was was r r stood.at stood.at))
-        (paper_step view found was begun.sound r paper (stood.empty emptied.log) (one_talks begun.control begun.sound since.Unbroken r emptied.stands stood.stands)))
+    begun_step : Acts (begun.ring.books.plan) (event_at view (Asks Paper) (if_printer found) begun begun)
+    begun_step = paper_step view found begun.ready begun.sound begun.ring told emptied.log (one_talks begun.ready begun.ring begun.sound since.Unbroken emptied.stands)
 
     event_from : HostState → Event
-    event_from s = event (Asks Paper) (if_printer found) (log_at begun.control) s (state_at view begun.sound begun.control)
+    event_from s = event (Asks Paper) (if_printer found) (begun.ring.books.log) s (state_at view begun)

@@ -1,6 +1,5 @@
 -- A host whose volume is ready for a command: the store is sound, and no packing is to be finished.
 use Rattle.std.proofs.Common.{◌≡◌, ◌∙◌, ◌<◌, ◌≤◌, ◌+◌, ◌-◌, ◌*◌, ℕ, Bool, true, false, List, length, Option, Some, None, inl, inr, refl, sym, ap, subst, arith}
-use Rattle.std.specs.Global.{Vec}
 use Rattle.std.specs.Prelude.{Result, Ok, Err, IfSome, is_some, option_and_then}
 use Rattle.lif_model.specs.Tape.{Tape, record_at}
 use Rattle.lif_model.specs.Header.{HeaderParts}
@@ -28,13 +27,12 @@ use Rattle.lif_pack.proofs.Finishes.{finished_unmarked, unmarked_volume}
 use Rattle.il_ring.specs.declared.ring.Ring.{Ring}
 use Rattle.il_ring.specs.Rings.{RingView}
 use Rattle.il_record.specs.declared.records.LoopRecords.{LoopRecords}
-use Rattle.il_record.specs.Controls.{ring_in}
-use Rattle.il_record.specs.IsStore.{is_store_at}
-use Rattle.il_record.proofs.StoreResumes.{agrees}
+use Rattle.il_record.specs.IsStore.{is_store_of}
 use Rattle.il_script.specs.Replies.{reply_line}
 use Rattle.host_model.specs.Requests.{Asks, OfVolume}
 use Rattle.host_model.specs.Replies.{told_of}
 use Rattle.il_host.specs.HostView.{Performed, calls_to_pack}
+use Rattle.il_host.specs.declared.file_buffer.FileBuffer.{FileBuffer}
 use Rattle.il_host.specs.Hosts.{Space, space_of, IsUnmarked, IsUsable, host_in, loop_in, store_in, volume_in}
 use Rattle.il_host.specs.Preparing.{Finishes, IsMadeSound, Prepares}
 use Rattle.il_host.specs.Standings.{HasDriveStatus, MakesSound, fault_of}
@@ -57,7 +55,7 @@ pub record IsPrepared {M I : Type 0} {D : I → Type 0} (view : M → MediumView
   pub unmarked : IsUnmarked (store_in view seen) (volume_in m)
 
 -- there is room and memory to finish a packing
-module _ {M I : Type 0} {D : I → Type 0} (view : M → MediumView) (seen : Ring M I D → RingView M) (o b : Volume (LoopRecords M I D)) (text_space : ℕ) (file : Vec ℕ) (packer : Packer)
+module _ {M I : Type 0} {D : I → Type 0} (view : M → MediumView) (seen : Ring M I D → RingView M) (o b : Volume (LoopRecords M I D)) (text_space : ℕ) (file : FileBuffer) (packer : Packer)
     (usable : IsUsable view (store_in view seen) (volume_in o) (loop_in seen o.records) text_space (space_of file packer)) (began : Begun (store_in view seen o.records) (store_in view seen b.records)) where
   pub room_to_prepare : 15 * (store_in view seen b.records).record_count + 121 ≤ (store_in view seen b.records).calls_left
   room_to_prepare = omega (arith, begun_left view seen o b o text_space (space_of file packer) usable began, began.size)
@@ -69,7 +67,7 @@ module _ {M I : Type 0} {D : I → Type 0} (view : M → MediumView) (seen : Rin
     (usable : IsUsable view (store_in view seen) (volume_in o) (loop_in seen o.records) text_space space) (began : Begun (store_in view seen o.records) (store_in view seen b.records))
     (law : (x : M) → IsMedium (view x)) where
   pub store_law : (r : LoopRecords M I D) → IsStore (store_in view seen r)
-  store_law r = is_store_at view seen (ring_in r.control) r.sound r.since r.resumes (loop_in seen r).control law
+  store_law r = is_store_of view seen r.ring (loop_in seen r) law
 
   -- ---- it was prepared
 
@@ -78,9 +76,9 @@ module _ {M I : Type 0} {D : I → Type 0} (view : M → MediumView) (seen : Rin
     -- the tape is the one before
     tape_made : (store_in view seen m.records).tape ≡ (store_in view seen o.records).tape
     tape_made =
-        let now = asked_seen view seen (ring_in o.records.control) (ring_in b.records.control) (ring_in m.records.control) (loop_in seen o.records) (loop_in seen b.records) (loop_in seen m.records)
-        usable.volume_open.valid (agrees seen o.records.control) (agrees seen b.records.control) began tt makes in
-        let before = seen_as view seen (ring_in o.records.control) (loop_in seen o.records) in
+        let now = asked_seen view seen o.records.ring b.records.ring m.records.ring (loop_in seen o.records) (loop_in seen b.records) (loop_in seen m.records)
+        usable.volume_open.valid refl refl began tt makes in
+        let before = seen_as view seen o.records.ring (loop_in seen o.records) in
         sym now.tape ∙ before.tape
 
     unmarked_made : is_some m.kept ≡ is_some o.kept → IsUnmarked (store_in view seen) (volume_in m)
@@ -145,7 +143,7 @@ module _ {M I : Type 0} {D : I → Type 0} (view : M → MediumView) (seen : Rin
 
   -- ---- it was not
 
-  module _ (command : VolumeCommand) (opens : IsOpen (store_in view seen) (volume_in f)) (low : HasDriveStatus (loop_in seen f.records).control) where
+  module _ (command : VolumeCommand) (opens : IsOpen (store_in view seen) (volume_in f)) (low : HasDriveStatus (loop_in seen f.records).ring) where
     unfinished : (e : Trouble) (before : List ℕ) → b.kept ≡ o.kept → (m : Volume (LoopRecords M I D)) → IsMadeSound view seen b m f (Err e)
         → Performed (Asks (OfVolume command)) (fault_of e) (host_in view seen o before text_space space) (host_in view seen f (reply_line (fault_of e)) text_space space)
     unfinished e before begun m is = by (is_some m.kept) refl
@@ -203,15 +201,15 @@ module _ {M I : Type 0} {D : I → Type 0} (view : M → MediumView) (seen : Rin
 
     pub some_prepared : TellsSome (store_in view seen f.records).transferred
     some_prepared =
-        asked_lists view seen (ring_in o.records.control) (ring_in b.records.control) (ring_in p.m.records.control) (loop_in seen o.records) (loop_in seen b.records) (loop_in seen p.m.records)
-        usable.volume_open.valid (agrees seen o.records.control) (agrees seen b.records.control) began tt p.makes
-        (ring_in f.records.control) (calls_to_pack made) (loop_in seen f.records) (agrees seen p.m.records.control) p.first.goes_on
+        asked_lists view seen o.records.ring b.records.ring p.m.records.ring (loop_in seen o.records) (loop_in seen b.records) (loop_in seen p.m.records)
+        usable.volume_open.valid refl refl began tt p.makes
+        f.records.ring (calls_to_pack made) (loop_in seen f.records) refl p.first.goes_on
 
     -- the tape of the volume that is asked is that before, finished
     pub behind_prepared : (n : Volume (LoopRecords M I D)) (command : VolumeCommand) (t : Tape) → IsTold (store_in view seen) (volume_in p.m) t → FinishedAs (store_in view seen) (volume_in f) made t
     behind_prepared n command t told = behind (store_in view seen) (volume_in p.m) (volume_in f) (volume_in n) store_law p.first still_seen p.unmarked wide command t told
 
-    module _ (n : Volume (LoopRecords M I D)) (command : VolumeCommand) (opens : IsOpen (store_in view seen) (volume_in n)) (low : HasDriveStatus (loop_in seen n.records).control) where
+    module _ (n : Volume (LoopRecords M I D)) (command : VolumeCommand) (opens : IsOpen (store_in view seen) (volume_in n)) (low : HasDriveStatus (loop_in seen n.records).ring) where
       pub shows_prepared : (before : List ℕ) → ShowsVolume (host_in view seen o before text_space space).state (store_in view seen f.records)
       shows_prepared before = record { volume = ap (option_and_then finished_volume_of) asked.tape ∙ by (store_in view seen p.m.records).tape refl; records = asked.records ∙ sym size_first }
         where

@@ -10,7 +10,7 @@ use Rattle.il_script.specs.LineCut.{line_cut, line_told, lines_of}
 use Rattle.il_script.specs.Progress.{Progress, Given, GivesWhole, GivesAll, Turn, line_given}
 use Rattle.il_script.specs.Replies.{is_ok}
 use Rattle.il_script.specs.declared.lines.Line.{Line}
-use Rattle.il_script.specs.declared.lines.Line.TheVariants.{Text, TooLong, End, Fault, Over}
+use Rattle.il_script.specs.declared.lines.Line.TheVariants.{End, Fault, Over}
 use Rattle.il_script.specs.declared.reply.Reply.{Reply}
 use Rattle.il_script.proofs.Gives.{given-front}
 use Rattle.host_model.specs.Requests.{Item, Gathering, Outside, reads, gathering_by, gathered, item_by, item_of, items_from, items_in, items_of, left_open, lone_items}
@@ -113,11 +113,10 @@ GivesLine old before new now line = (script : List ℕ) (given : List (Option (L
 
 turn-line : (script : List ℕ) (new : Progress) (left : Option (List ℕ)) (given : List (Option (List ℕ))) (line : Line)
     → (line ≡ End → ⊥) → (line ≡ Fault → ⊥) → (line ≡ Over → ⊥) → Turn script new left given line → Given script new left (given ++ line_given new line ∷ [])
-turn-line script new left given Text a b d t = t
-turn-line script new left given TooLong a b d t = t
 turn-line script new left given End a b d t = absurd (a refl)
 turn-line script new left given Fault a b d t = absurd (b refl)
 turn-line script new left given Over a b d t = absurd (d refl)
+turn-line script new left given _ a b d t = t
 
 -- the turn gave a line more, and the host stands as before
 pub sofar-gives : (quiet : Bool) (old new : Progress) (standing : Gathering) (v w : HostView) (left_before left left' before now : Option (List ℕ)) (ok : Bool) (line : Line)

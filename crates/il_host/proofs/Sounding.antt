@@ -6,7 +6,7 @@ use Rattle.lif_model.specs.Tape.{Tape}
 use Rattle.il_script.specs.declared.reply.Reply.{Reply}
 use Rattle.il_script.specs.declared.reply.Reply.TheVariants as reply
 use Rattle.il_ring.specs.declared.plan.Planned.{Planned}
-use Rattle.host_model.specs.Requests.{Asks, Devices, Get, Lend, Pack, Item, NoCommand, OfVolume, Paper, Poll, Say, Status, is_of_volume, uses_frames}
+use Rattle.host_model.specs.Requests.{Asks, Item, OfVolume, is_of_volume, uses_frames}
 use Rattle.host_model.specs.LoopStates.{all_roles, device_count}
 use Rattle.host_model.specs.HostStates.{HostState}
 use Rattle.host_model.specs.Courses.{begins_with, cleared_first}
@@ -35,45 +35,20 @@ keeping e was is = standing e e.before.sound was e.after.sound is
 
 pub same_reply : (item : Item) (sound kept : Bool) (s : HostState) → reply_of item (state_standing sound kept s) ≡ reply_of item s
 same_reply (Asks (OfVolume command)) sound kept s = refl
-same_reply (Asks (Get name)) sound kept s = refl
-same_reply (Asks Pack) sound kept s = refl
-same_reply (Asks Devices) sound kept s = refl
-same_reply (Asks Status) sound kept s = refl
-same_reply (Asks Poll) sound kept s = refl
-same_reply (Asks (Say bytes)) sound kept s = refl
-same_reply (Asks Paper) sound kept s = refl
-same_reply (Asks (Lend frames)) sound kept s = refl
-same_reply (NoCommand code) sound kept s = refl
+same_reply _ sound kept s = refl
 
 same_behind : (item : Item) (sound kept : Bool) (s : HostState) → volume_behind item (state_standing sound kept s) ≡ volume_behind item s
 same_behind (Asks (OfVolume command)) sound kept s = refl
-same_behind (Asks (Get name)) sound kept s = refl
-same_behind (Asks Pack) sound kept s = refl
-same_behind (Asks Devices) sound kept s = refl
-same_behind (Asks Status) sound kept s = refl
-same_behind (Asks Poll) sound kept s = refl
-same_behind (Asks (Say bytes)) sound kept s = refl
-same_behind (Asks Paper) sound kept s = refl
-same_behind (Asks (Lend frames)) sound kept s = refl
-same_behind (NoCommand code) sound kept s = refl
+same_behind _ sound kept s = refl
 
 either_standing : (item : Item) (was was_kept is is_kept : Bool) (s t : HostState) → EitherVolume item s t → EitherVolume item (state_standing was was_kept s) (state_standing is is_kept t)
 either_standing (Asks (OfVolume command)) was was_kept is is_kept s t either = either
-either_standing (Asks (Get name)) was was_kept is is_kept s t either = either
-either_standing (Asks Pack) was was_kept is is_kept s t either = either
-either_standing (Asks Devices) was was_kept is is_kept s t either = either
-either_standing (Asks Status) was was_kept is is_kept s t either = either
-either_standing (Asks Poll) was was_kept is is_kept s t either = either
-either_standing (Asks (Say bytes)) was was_kept is is_kept s t either = either
-either_standing (Asks Paper) was was_kept is is_kept s t either = either
-either_standing (Asks (Lend frames)) was was_kept is is_kept s t either = either
-either_standing (NoCommand code) was was_kept is is_kept s t either = either
+either_standing _ was was_kept is is_kept s t either = either
 
 counts_standing : (item : Item) (r : Reply) (was was_kept is is_kept : Bool) (s t : HostState) → CountsWhole item r s t → CountsWhole item r (state_standing was was_kept s) (state_standing is is_kept t)
-counts_standing item reply.FaultFrame was was_kept is is_kept s t counts = λ own. either_standing item was was_kept is is_kept s t (counts own)
-counts_standing item reply.FaultMedium was was_kept is is_kept s t counts = λ own. either_standing item was was_kept is is_kept s t (counts own)
 counts_standing item reply.Ok was was_kept is is_kept s t counts = (counts.0 ∙ sym (same_reply item was was_kept s), counts.1 ∙ sym (same_behind item was was_kept s))
 counts_standing item (reply.No code) was was_kept is is_kept s t counts = (counts.0 ∙ sym (same_reply item was was_kept s), counts.1 ∙ sym (same_behind item was was_kept s))
+counts_standing item _ was was_kept is is_kept s t counts = λ own. either_standing item was was_kept is is_kept s t (counts own)
 
 -- the devices of an event heard what its log brought them
 abbrev pub HeardOf : Event → Type 0
@@ -165,15 +140,7 @@ acts_keeping plan e was is stays so = record {
 -- the tapes that a stop may leave tell nothing of it
 left_keeping : (item : Item) (s : HostState) (kept : Bool) (x : Tape) → MayBeLeft item (record s { kept = kept }) x ≡ MayBeLeft item s x
 left_keeping (Asks (OfVolume command)) s kept x = refl
-left_keeping (Asks (Get name)) s kept x = refl
-left_keeping (Asks Pack) s kept x = refl
-left_keeping (Asks Devices) s kept x = refl
-left_keeping (Asks Status) s kept x = refl
-left_keeping (Asks Poll) s kept x = refl
-left_keeping (Asks (Say bytes)) s kept x = refl
-left_keeping (Asks Paper) s kept x = refl
-left_keeping (Asks (Lend frames)) s kept x = refl
-left_keeping (NoCommand code) s kept x = refl
+left_keeping _ s kept x = refl
 
 pub stops_keeping : (e : Event) (was is : Bool) (before now : ℕ) (past since : ℕ → Tape → Type 0) → StopsLeave e before now past since → StopsLeave (keeping e was is) before now past since
 stops_keeping e was is before now past since so = λ told. subst (λ (P : Tape → Type 0). LeavesOnly before now past since P) (λ i x. sym (left_keeping e.item e.before was x) i) (so told)

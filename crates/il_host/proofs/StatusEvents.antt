@@ -1,5 +1,5 @@
 -- The command that asks the drive for its status: its exchanges, and what it leaves of the loop.
-use Rattle.std.proofs.Common.{◌≡◌, ◌≤◌, ◌+◌, ◌&&◌, ◌==◌, ◌∙◌, ℕ, Bool, true, false, List, [], ◌∷◌, length, None, refl, sym, ap, subst}
+use Rattle.std.proofs.Common.{◌≡◌, ◌+◌, ◌&&◌, ◌==◌, ◌∙◌, ℕ, Bool, true, false, List, [], ◌∷◌, length, None, refl, sym, ap, subst}
 use Rattle.std.proofs.lemmas.Bool.{and_from, eq-eqb}
 use Rattle.il_frames.specs.Frames.{byte_of}
 use Rattle.il_poll.specs.Service.{status_byte_of}
@@ -9,13 +9,9 @@ use Rattle.loop_model.specs.Exchanges.{Stopped, Receive, Sst}
 use Rattle.il_ring.specs.Rings.{RingView, drive_party}
 use Rattle.il_record.specs.Runs.{NotPolled, Polled}
 use Rattle.il_record.proofs.CameLaws.{broken_came, made_came, tape_same}
-use Rattle.il_script.specs.declared.reply.Reply.TheVariants as reply
-use Rattle.host_model.specs.Requests.{Asks, Status}
 use Rattle.host_model.specs.Courses.{Due, is_status_told}
-use Rattle.host_model.specs.Steps.{Exchanged}
-use Rattle.il_host.proofs.CommandTravels.{event_on}
 use Rattle.il_host.proofs.Keeping.{Keeps}
-use Rattle.il_host.proofs.LoopEvents.{Readies, keeps_ready, loop_broken, loop_done}
+use Rattle.il_host.proofs.LoopEvents.{Readies}
 
 -- ---- what `ready` leaves
 
@@ -40,14 +36,14 @@ ready_leaves view false r m ready = record {
 
 -- ---- its exchanges
 
-abbrev status_course : {M : Type 0} → RingView M → List Due
+abbrev pub status_course : {M : Type 0} → RingView M → List Due
 status_course r = is_status_told (drive_party r) (status_byte_of (status_of r.drive.state)) ∷ []
 
 one_byte : (d byte told : ℕ) → told ≡ byte → ((d == d) && (told == byte)) ≡ true
 one_byte d byte told is = and_from (d == d) (told == byte) (eq-eqb d d refl) (eq-eqb told byte is)
 
 module _ {M : Type 0} (view : M → MediumView) where
-  polled_keeps : (byte : ℕ) (r m s : RingView M) → ReadyLeaves r m → Polled view (drive_party m) byte m s → Keeps view true (status_course r) m s
+  pub polled_keeps : (byte : ℕ) (r m s : RingView M) → ReadyLeaves r m → Polled view (drive_party m) byte m s → Keeps view true (status_course r) m s
   polled_keeps byte r m s leaves told =
       let d = drive_party m in
       let place : d ≡ drive_party r = ap (λ n. n + 1) leaves.place in
@@ -59,7 +55,7 @@ module _ {M : Type 0} (view : M → MediumView) where
         keeps = and_from _ true (subst (λ p. is_status_told p (status_byte_of (status_of r.drive.state)) true (Receive d None Sst (Stopped d [] told.echo)) ≡ true) place here) refl;
       }
 
-  not_polled_keeps : (r m s : RingView M) → ReadyLeaves r m → NotPolled view (drive_party m) m s → Keeps view false (status_course r) m s
+  pub not_polled_keeps : (r m s : RingView M) → ReadyLeaves r m → NotPolled view (drive_party m) m s → Keeps view false (status_course r) m s
   not_polled_keeps r m s leaves not =
       let d = drive_party m in
       let place : d ≡ drive_party r = ap (λ n. n + 1) leaves.place in
@@ -67,21 +63,3 @@ module _ {M : Type 0} (view : M → MediumView) where
         came = broken_came view (Receive d None Sst not.answer) m s not.broken not.drive.still.tape;
         keeps = and_from (d == drive_party r) true (eq-eqb d (drive_party r) place) refl;
       }
-
-module _ {M : Type 0} (view : M → MediumView) (was is : Bool) (r s : RingView M) (empty : r.books.log ≡ []) where
-  -- the drive told its status
-  pub status_exchanged : (byte : ℕ) (m : RingView M) → Readies view was r m → Polled view (drive_party m) byte m s
-      → Exchanged (r.books.plan) (event_on view (Asks Status) reply.Ok was is r s)
-  status_exchanged byte m ready told =
-      let leaves = ready_leaves view was r m ready in
-      loop_done view (Asks Status) tt (status_course r) was is r s empty refl
-      (keeps_ready view was true (status_course r) r m s ready (polled_keeps view byte r m s leaves told))
-      (ap (λ medium. (view medium).faults) (told.drive.medium ∙ leaves.medium))
-
-  -- that was broken off
-  pub status_broken : (m : RingView M) → Readies view was r m → NotPolled view (drive_party m) m s → Exchanged (r.books.plan) (event_on view (Asks Status) reply.FaultFrame was is r s)
-  status_broken m ready not =
-      let leaves = ready_leaves view was r m ready in
-      loop_broken view (Asks Status) tt (status_course r) was is r s empty refl
-      (keeps_ready view was false (status_course r) r m s ready (not_polled_keeps view r m s leaves not))
-      (subst (λ medium. (view medium).faults ≤ (view s.drive.medium).faults) leaves.medium not.drive.count)

@@ -7,10 +7,8 @@ use Rattle.il_ports.specs.Stores.{Begun, IsStore, RecordsView}
 use Rattle.il_ring.specs.declared.ring.Ring.{Ring}
 use Rattle.il_ring.specs.Rings.{RingView}
 use Rattle.il_record.specs.declared.records.LoopRecords.{LoopRecords}
-use Rattle.il_record.specs.Controls.{ring_in}
-use Rattle.il_record.specs.IsStore.{is_store_at}
+use Rattle.il_record.specs.IsStore.{is_store_of}
 use Rattle.il_record.specs.LoopStores.{LoopView, view_of}
-use Rattle.il_record.proofs.StoreResumes.{Agrees, agrees}
 use Rattle.il_script.specs.declared.reply.Code.{Code}
 use Rattle.il_script.specs.Sheet.{Sheet}
 use Rattle.il_script.specs.declared.reply.Reply.{Reply}
@@ -36,7 +34,7 @@ use Rattle.il_host.specs.HostView.{HostView, Performed}
 use Rattle.il_host.specs.Hosts.{Space, IsUsable, host_in, loop_in, store_in, volume_in}
 use Rattle.il_host.specs.IsHosts.{is_host_at}
 use Rattle.il_host.specs.Texts.{data_text}
-use Rattle.il_host.specs.Standings.{Ends, HasDriveStatus, IsHostRing, plan_at, log_at, state_at}
+use Rattle.il_host.specs.Standings.{Ends, HasDriveStatus, IsHostRing, state_at}
 use Rattle.il_host.proofs.Getting.{got_lines}
 use Rattle.il_host.proofs.HostReads.{fetched}
 use Rattle.il_host.proofs.HostVolumes.{performed, told_asked}
@@ -49,13 +47,13 @@ use Rattle.il_host.proofs.VolumeStarts.{Emptied, volume_begun}
 -- ---- nothing is done
 
 -- The log was emptied, and an item was refused that is no command.
-no_command_performs : {M S : Type 0} (view : M → MediumView) (seen : S → RingView M) (o a : Option S) (old begun : LoopView M) → (view_of view seen o old).valid → Agrees seen o old.control → Agrees seen a begun.control
-    → Begun (view_of view seen o old) (view_of view seen a begun) → IsStore (view_of view seen o old) → IsHostRing view old.control
-    → (code : Code) → is_at_most_one (talkers (all_roles (state_at view old.sound old.control).loop)) ≡ true → Performs view seen o a (NoCommand code) (reply.No code) old begun
+no_command_performs : {M S : Type 0} (view : M → MediumView) (seen : S → RingView M) (o a : S) (old begun : LoopView M) → (view_of view seen o old).valid → seen o ≡ old.ring → seen a ≡ begun.ring
+    → Begun (view_of view seen o old) (view_of view seen a begun) → IsStore (view_of view seen o old) → IsHostRing view old.ring
+    → (code : Code) → is_at_most_one (talkers (all_roles (state_at view old).loop)) ≡ true → Performs view seen o a (NoCommand code) (reply.No code) old begun
 no_command_performs view seen o a old begun valid here there empties store room code one = record {
-  step = subst (λ (s : HostState). Acts (plan_at old.control) (event_to (log_at begun.control) s)) (sym emptied.state)
-      (subst (λ (log : List Entry). Acts (plan_at old.control) (event_to log (state_at view old.sound old.control))) (sym emptied.log) (no_command (plan_at old.control) code (state_at view old.sound old.control) one).acts);
-  stops = quiet_stops (NoCommand code) (reply.No code) (log_at begun.control) (state_at view old.sound old.control) (state_at view begun.sound begun.control) (view_of view seen o old) (view_of view seen a begun) (seen_as view seen o old) store empties.quiet;
+  step = subst (λ (s : HostState). Acts (old.ring.books.plan) (event_to (begun.ring.books.log) s)) (sym emptied.state)
+      (subst (λ (log : List Entry). Acts (old.ring.books.plan) (event_to log (state_at view old))) (sym emptied.log) (no_command (old.ring.books.plan) code (state_at view old) one).acts);
+  stops = quiet_stops (NoCommand code) (reply.No code) (begun.ring.books.log) (state_at view old) (state_at view begun) (view_of view seen o old) (view_of view seen a begun) (seen_as view seen o old) store empties.quiet;
   keeps = record { plan = emptied.plan; room = emptied.room room; images = emptied.images };
 }
   where
@@ -63,7 +61,7 @@ no_command_performs view seen o a old begun valid here there empties store room 
     emptied = volume_begun view seen o a old begun valid here there empties
 
     event_to : List Entry → HostState → Event
-    event_to log s = event (NoCommand code) (reply.No code) log (state_at view old.sound old.control) s
+    event_to log s = event (NoCommand code) (reply.No code) log (state_at view old) s
 
 module _ {M I : Type 0} {D : I → Type 0} (view : M → MediumView) (seen : Ring M I D → RingView M) (o b : Volume (LoopRecords M I D)) (text_space : ℕ) (space : Space)
     (usable : IsUsable view (store_in view seen) (volume_in o) (loop_in seen o.records) text_space space) (began : Begun (store_in view seen o.records) (store_in view seen b.records)) where
@@ -71,9 +69,9 @@ module _ {M I : Type 0} {D : I → Type 0} (view : M → MediumView) (seen : Rin
       → Performed (NoCommand code) (reply.No code) (host_in view seen o before text_space space) (host_in view seen b (reply_line (reply.No code)) text_space space)
   nothing_done before code law opens kept =
       performed view seen o b b text_space space usable began opens (NoCommand code) (reply.No code) before (reply_line (reply.No code)) began.size
-      (no_command_performs view seen (ring_in o.records.control) (ring_in b.records.control) (loop_in seen o.records) (loop_in seen b.records)
-      usable.volume_open.valid (agrees seen o.records.control) (agrees seen b.records.control) began
-      (is_store_at view seen (ring_in o.records.control) o.records.sound o.records.since o.records.resumes (loop_in seen o.records).control law) usable.log code
+      (no_command_performs view seen o.records.ring b.records.ring (loop_in seen o.records) (loop_in seen b.records)
+      usable.volume_open.valid refl refl began
+      (is_store_of view seen o.records.ring (loop_in seen o.records) law) usable.log code
       (is_host_at view seen o before text_space space law usable).one)
       (record { kept = ap is_some kept; log = λ on. tt }) (λ told. refl) (λ is. cc)
 
@@ -107,7 +105,7 @@ lines_told view old t told name file into fetches = by (fetches t told)
 module _ {M I : Type 0} {D : I → Type 0} (view : M → MediumView) (seen : Ring M I D → RingView M) (o b f n : Volume (LoopRecords M I D)) (text_space : ℕ) (space : Space)
     (usable : IsUsable view (store_in view seen) (volume_in o) (loop_in seen o.records) text_space space) (began : Begun (store_in view seen o.records) (store_in view seen b.records))
     (law : (x : M) → IsMedium (view x)) (p : IsPrepared view seen o b f) (opened : IsOpen (store_in view seen) (volume_in f))
-    (opens : IsOpen (store_in view seen) (volume_in n)) (low : HasDriveStatus (loop_in seen n.records).control) where
+    (opens : IsOpen (store_in view seen) (volume_in n)) (low : HasDriveStatus (loop_in seen n.records).ring) where
   -- the lines that are told are those of the file
   pub lines_got : (name : List ℕ) (file : Fetched) (into shown before : List ℕ) → shown ≡ take file.length into
       → Reads (Fetch name) (store_in view seen) (volume_in f) (volume_in n) (Ok file) → FetchesFile name (store_in view seen) (volume_in f) file into → FetchesByRun name (store_in view seen) (volume_in f) (volume_in n) file into

@@ -10,7 +10,7 @@ use Rattle.std.specs.FinMap.{get}
 use Rattle.il_ports.specs.Media.{MediumView}
 use Rattle.il_ports.specs.declared.records.Trouble.{Trouble}
 use Rattle.il_ports.specs.declared.records.Trouble.TheVariants as trouble
-use Rattle.lif_model.specs.Apply.{VolumeCommand, Adopt, Dir, Fetch, Format, Label, Purge, Rename, Store, Upgrade, Batch, IsWellFormed}
+use Rattle.lif_model.specs.Apply.{VolumeCommand, Fetch, Store, Batch, IsWellFormed}
 use Rattle.lif_model.specs.Directory.{start_of, length_of}
 use Rattle.lif_model.specs.Fit.{Place, At, fit_in}
 use Rattle.lif_model.specs.Legal.{slot_named}
@@ -240,11 +240,5 @@ module _ {M : Type 0} (view : M → MediumView) (was : Bool) (r s : RingView M) 
   carries_by command reply.FaultMedium so = λ ok. cc
   carries_by (Store name kind implementation bytes) reply.Ok so = ok_store name kind implementation bytes volume_here refl so
   carries_by (Fetch name) reply.Ok so = ok_fetch name volume_here refl so
-  carries_by Dir reply.Ok so = λ ok a good. tt
-  carries_by Label reply.Ok so = λ ok a good. tt
-  carries_by (Rename old new) reply.Ok so = λ ok a good. tt
-  carries_by (Purge name) reply.Ok so = λ ok a good. tt
-  carries_by Adopt reply.Ok so = λ ok a good. tt
-  carries_by Upgrade reply.Ok so = λ ok a good. tt
   carries_by (Batch parts) reply.Ok so = ok_batch parts volume_here refl so
-  carries_by (Format label slots) reply.Ok so = λ ok a good. tt
+  carries_by _ _ so = λ ok a good. tt

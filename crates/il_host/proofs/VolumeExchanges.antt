@@ -192,8 +192,6 @@ volume_exchanged {M} {T} view command was is sound sound_now r m s answer answer
     no_alone false code start same = no_joined view command was is false sound_now r s empty code [] (joined_alone view was r m s start.by same) refl (ap (λ (s : RingView M). (view s.drive.medium).faults) same ∙ faults_same)
 
     by_ok : (a : Reply) → FitsAnswer {T = Unit {0}} (Ok tt) a → (s ≡ m) ⊎ CameGood view m s → CarriesBy view command a was r s → Exchanged (r.books.plan) (event_by view (Asks (OfVolume command)) a was is sound sound_now r s)
-    by_ok reply.FaultFrame fits so carries = cc
-    by_ok reply.FaultMedium fits so carries = cc
     by_ok reply.Ok fits so carries = ⊎_elim
         (λ same. ok_alone sound start same carries)
         (λ good. ok_joined view command was is sound sound_now r s empty _ (joined view was r true sound m s start good.came) good.good (good.count ∙ faults_same) carries)
@@ -202,6 +200,7 @@ volume_exchanged {M} {T} view command was is sound sound_now r m s answer answer
         (λ same. no_alone sound code start same)
         (λ good. no_joined view command was is sound sound_now r s empty code _ (joined view was r true sound m s start good.came) good.good (good.count ∙ faults_same))
         so
+    by_ok _ fits so carries = cc
 
     by : (answer : Result T Trouble) → EndsBy view answer m s → FitsAnswer answer answered → Exchanged (r.books.plan) (event_by view (Asks (OfVolume command)) answered was is sound sound_now r s)
     by (Ok x) so fits = by_ok answered fits so carries

@@ -42,8 +42,7 @@ each_within a k (d ∷ ds) (e ∷ es) h = ((omega arith, omega arith, h.0), each
         → EachBecomes (λ party d e. (k ≤ party) × (party < k + length (d ∷ ds)) × (party ≢ a → HearsNothing d e)) j xs ys
     shifted j [] [] h = tt
     shifted j (x ∷ xs) (y ∷ ys) h = let low = h.0.0 in let high = h.0.1 in ((omega (arith, low), omega (arith, high), h.0.2), shifted (j + 1) xs ys h.1)
-    shifted j [] (y ∷ ys) h = absurd h
-    shifted j (x ∷ xs) [] h = absurd h
+    shifted j _ _ h = absurd h
 
     each_further : EachBecomes (λ party d e. (k + 1 ≤ party) × (party < k + 1 + length ds) × (party ≢ a → HearsNothing d e)) (k + 1) ds es
         → EachBecomes (λ party d e. (k ≤ party) × (party < k + length (d ∷ ds)) × (party ≢ a → HearsNothing d e)) (k + 1) ds es

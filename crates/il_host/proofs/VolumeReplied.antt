@@ -18,8 +18,8 @@ use Rattle.il_ports.specs.declared.records.Trouble.TheVariants as trouble
 use Rattle.il_drive.specs.Steps.{IsStill}
 use Rattle.il_ring.specs.Rings.{RingView}
 use Rattle.il_record.specs.declared.records.Since.TheVariants as since
-use Rattle.il_record.specs.LoopStores.{AtIdle, AtLost, LoopView, Nowhere, Standing, StandsSo, is_idle, view_at, view_of}
-use Rattle.il_record.proofs.StoreResumes.{still_of}
+use Rattle.il_record.specs.LoopStores.{LoopView, StandsBy, view_of}
+use Rattle.il_record.proofs.StoreStarts.{still_of}
 use Rattle.il_script.specs.declared.reply.Reply.{Reply}
 use Rattle.il_script.specs.declared.reply.Reply.TheVariants as reply
 use Rattle.il_script.specs.Replies.{code_of}
@@ -38,7 +38,6 @@ use Rattle.host_model.specs.Stops.{IsLeft, MayBeLeft, StopsLeave}
 use Rattle.host_model.proofs.Growing.{left_at_first}
 use Rattle.host_model.proofs.Steps.{alike, alike_staying}
 use Rattle.il_host.specs.Standings.{FitsAnswer, MakesSound, fault_of, state_at}
-use Rattle.il_host.proofs.VolumeSteps.{at_ring, here_at}
 use Rattle.il_host.proofs.VolumeStarts.{made_sound, start_broke}
 
 -- ---- a state and a store
@@ -49,13 +48,8 @@ pub record IsSeenAs {S : Type 0} (s : HostState) (v : RecordsView S) : Type 0 wh
   pub records : s.records ≡ v.record_count
 
 -- that of a store over the loop
-pub seen_as : {M S : Type 0} (view : M → MediumView) (seen : S → RingView M) (p : Option S) (l : LoopView M) → IsSeenAs (state_at view l.sound l.control) (view_of view seen p l)
-seen_as {M} view seen p l = by l.control
-  where
-    by : (c : Standing M) → IsSeenAs (state_at view l.sound c) (view_at view seen p l.sound l.since l.resumes c)
-    by (AtIdle r) = record { tape = refl; records = refl }
-    by (AtLost r) = record { tape = refl; records = refl }
-    by Nowhere = record { tape = refl; records = refl }
+pub seen_as : {M S : Type 0} (view : M → MediumView) (seen : S → RingView M) (p : S) (l : LoopView M) → IsSeenAs (state_at view l) (view_of view seen p l)
+seen_as view seen p l = record { tape = refl; records = refl }
 
 -- and still, where no record changed
 pub seen_still : {S : Type 0} (s : HostState) (v w : RecordsView S) → IsSeenAs s v → IsQuiet v w → w.record_count ≡ v.record_count → IsSeenAs s w
@@ -76,33 +70,18 @@ pub record StaysQuiet {S : Type 0} (v w : RecordsView S) : Type 0 where
   pub quiet : IsQuiet v w
   pub size : w.record_count ≡ v.record_count
 
-module _ {M S : Type 0} (view : M → MediumView) (seen : S → RingView M) (p q : Option S) (old new : LoopView M) where
-  -- by the rings
-  pub quiet_rings : (was is : Bool) (r s : RingView M) → old.control ≡ at_ring was r → new.control ≡ at_ring is s → IsStill (view r.drive.medium) (view s.drive.medium) → StaysQuiet (view_of view seen p old) (view_of view seen q new)
-  quiet_rings was is r s one two so =
-      subst (λ (c : Standing M). StaysQuiet (view_at view seen p old.sound old.since old.resumes c) (view_of view seen q new)) (sym one)
-      (subst (λ (d : Standing M). StaysQuiet (view_at view seen p old.sound old.since old.resumes (at_ring was r)) (view_at view seen q new.sound new.since new.resumes d)) (sym two) (by was is))
-    where
-      by : (was is : Bool) → StaysQuiet (view_at view seen p old.sound old.since old.resumes (at_ring was r)) (view_at view seen q new.sound new.since new.resumes (at_ring is s))
-      by true true = record { quiet = record { tape = so.tape; moment = so.moment; since = so.since }; size = so.stays_in.size }
-      by true false = record { quiet = record { tape = so.tape; moment = so.moment; since = so.since }; size = so.stays_in.size }
-      by false true = record { quiet = record { tape = so.tape; moment = so.moment; since = so.since }; size = so.stays_in.size }
-      by false false = record { quiet = record { tape = so.tape; moment = so.moment; since = so.since }; size = so.stays_in.size }
+module _ {M S : Type 0} (view : M → MediumView) (seen : S → RingView M) (p q : S) (old new : LoopView M) where
+  pub quiet_rings : IsStill (view old.ring.drive.medium) (view new.ring.drive.medium) → StaysQuiet (view_of view seen p old) (view_of view seen q new)
+  quiet_rings so = record { quiet = record { tape = so.tape; moment = so.moment; since = so.since }; size = so.stays_in.size }
 
-  module _ (unbroken : old.since ≡ since.Unbroken) (stands : StandsSo old.control old.sound since.Unbroken) where
+  module _ (stands : StandsBy old.ready old.ring old.sound since.Unbroken) where
     -- with ok
-    pub made_quiet : {T : Type 0} (x : T) → MakesSound view old new (Ok x) → StaysQuiet (view_of view seen p old) (view_of view seen q new)
-    made_quiet x makes =
-        let here = here_at old.control old.sound since.Unbroken stands in
-        let made = made_sound view old new here.ring unbroken x old.control old.sound refl refl stands here.stands makes in
-        quiet_rings (is_idle old.control) true here.ring made.ring here.at made.at (still_of view here.ring made.ring made.started.medium)
+    pub made_quiet : {T : Type 0} (x : T) → old.since ≡ since.Unbroken → MakesSound view old new (Ok x) → StaysQuiet (view_of view seen p old) (view_of view seen q new)
+    made_quiet x unbroken makes = quiet_rings (still_of view old.ring new.ring (made_sound view old new unbroken x stands makes).started.medium)
 
     -- with an error
     pub broke_quiet : (T : Type 0) (e : Trouble) → MakesSound {T = T} view old new (Err e) → StaysQuiet (view_of view seen p old) (view_of view seen q new)
-    broke_quiet T e makes =
-        let here = here_at old.control old.sound since.Unbroken stands in
-        let broke = (start_broke T view old new here.ring e old.control old.sound refl stands here.stands makes).2 in
-        quiet_rings (is_idle old.control) false here.ring broke.ring here.at broke.at broke.drive.still
+    broke_quiet T e makes = quiet_rings (start_broke T view old new e stands makes).2.drive.still
 
 -- ---- the store could not be made sound
 

@@ -11,7 +11,7 @@ use Rattle.il_ring.specs.Fates.{IsByPlan}
 use Rattle.il_control.specs.Calls.{loop_of, IsIdle, IsLost}
 use Rattle.il_record.specs.declared.records.Since.{Since}
 use Rattle.il_record.specs.Came.{CameBy}
-use Rattle.il_record.specs.LoopStores.{AtIdle, AtLost, Nowhere, Standing, StandsSo}
+use Rattle.il_record.specs.LoopStores.{StandsBy}
 use Rattle.il_record.proofs.Talks.{same_loop}
 use Rattle.il_script.specs.declared.reply.Reply.{Reply}
 use Rattle.host_model.specs.Requests.{Item}
@@ -19,20 +19,13 @@ use Rattle.host_model.specs.HostStates.{log_room}
 use Rattle.host_model.specs.Steps.{Travels}
 use Rattle.il_host.proofs.CommandTravels.{event_by, event_on, travels_came, travels_none}
 use Rattle.il_host.proofs.Images.{KeepsMedium, came_images, same_images}
-use Rattle.il_host.proofs.LoopReady.{StandsAt}
 use Rattle.il_host.proofs.Sounding.{travels_sounding}
 use Rattle.il_host.proofs.VolumeExchanges.{EndsBy, Started, joined}
 
 -- where the controller stands, idle or lost, at most one device talks
-pub one_talks : {M : Type 0} (c : Standing M) (sound : Bool) (log : Since) (r : RingView M) → StandsSo c sound log → StandsAt c r → is_at_most_one (talkers (roles_of (devices_of r))) ≡ true
-one_talks {M} (AtIdle q) sound log r so here = subst (λ (q : RingView M). is_at_most_one (talkers (roles_of (devices_of q))) ≡ true) here (ap is_at_most_one so.0.silent)
-one_talks {M} (AtLost q) sound log r so here = subst (λ (q : RingView M). is_at_most_one (talkers (roles_of (devices_of q))) ≡ true) here so.0.one
-one_talks Nowhere sound log r so here = absurd here
-
-pub ring_stands : {M : Type 0} (c : Standing M) (sound : Bool) (log : Since) (r : RingView M) → StandsSo c sound log → StandsAt c r → IsRing r
-ring_stands (AtIdle q) sound log r so here = subst IsRing here so.0.free.ring
-ring_stands (AtLost q) sound log r so here = subst IsRing here so.0.free.ring
-ring_stands Nowhere sound log r so here = absurd here
+pub one_talks : {M : Type 0} (ready : Bool) (r : RingView M) (sound : Bool) (log : Since) → StandsBy ready r sound log → is_at_most_one (talkers (roles_of (devices_of r))) ≡ true
+one_talks true r sound log so = ap is_at_most_one so.0.silent
+one_talks false r sound log so = so.0.one
 
 -- ---- exchanges, or none
 

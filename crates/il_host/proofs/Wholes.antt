@@ -209,16 +209,12 @@ module _ (order : Order) (made : New) (v m : MediumView) (makes : order.made ≡
   -- by the ending of what came behind the insert
   by_ending : (e : Ending) (old now : Outside) (stopped : Tape → Type 0) → (HasNoTape (end_of e) → ⊥) → (e ≡ ending.OutOfMemory → LeavesImage order old now stopped)
       → (e ≢ ending.OutOfMemory → RunsOver (end_of e) order old now stopped) → LeavesBy (end_of e) (Some order) old now stopped
-  by_ending ending.AllOk old now stopped inside kept ran = ran (λ h. cc)
-  by_ending ending.SomeNotOk old now stopped inside kept ran = ran (λ h. cc)
-  by_ending ending.SourceFailed old now stopped inside kept ran = ran (λ h. cc)
-  by_ending ending.SinkFailed old now stopped inside kept ran = ran (λ h. cc)
-  by_ending ending.ScriptTooLong old now stopped inside kept ran = ran (λ h. cc)
   by_ending ending.OutOfMemory old now stopped inside kept ran = inr (kept refl)
   by_ending ending.BadWords old now stopped inside kept ran = absurd (inside tt)
   by_ending ending.NoImage old now stopped inside kept ran = absurd (inside tt)
   by_ending ending.ImageTooLarge old now stopped inside kept ran = absurd (inside tt)
   by_ending ending.InsertFailed old now stopped inside kept ran = absurd (inside tt)
+  by_ending _ old now stopped inside kept ran = ran (λ h. cc)
 
   pub leaves_inserted : (asked : Option Order) → Some order ≡ asked → (e : Ending) (old now : Outside) (stopped : Tape → Type 0) → (HasNoTape (end_of e) → ⊥)
       → (e ≡ ending.OutOfMemory → LeavesImage order old now stopped) → (e ≢ ending.OutOfMemory → RunsOver (end_of e) order old now stopped) → LeavesBy (end_of e) asked old now stopped

@@ -1,6 +1,5 @@
 -- What holds of a host between its commands, and how contracts see it.
-use Rattle.std.specs.Prelude.{◌≡◌, ◌*◌, ◌-◌, ◌++◌, ℕ, Bool, true, false, List, [], length, Option, is_some}
-use Rattle.std.specs.Global.{Vec}
+use Rattle.std.specs.Prelude.{◌≡◌, ◌*◌, ◌-◌, ◌++◌, ℕ, Bool, true, false, List, [], Option, is_some}
 use Rattle.lif_model.specs.Tape.{Tape}
 use Rattle.lif_model.specs.Volume.{volume_of}
 use Rattle.lif_model.specs.Shelf.{IsSize}
@@ -20,21 +19,21 @@ use Rattle.il_ring.specs.declared.ring.Ring.{Ring}
 use Rattle.il_ring.specs.Guests.{guest_devices}
 use Rattle.il_ring.specs.Rings.{RingView}
 use Rattle.il_record.specs.declared.records.LoopRecords.{LoopRecords}
-use Rattle.il_record.specs.Controls.{ring_in, standing_of}
 use Rattle.il_record.specs.LoopStores.{LoopView, StandsSo, view_of}
 use Rattle.host_model.specs.HostStates.{fresh_host, text_room}
 use Rattle.host_model.specs.Orders.{asks_last}
 use Rattle.il_host.specs.HostView.{HostView}
+use Rattle.il_host.specs.declared.file_buffer.FileBuffer.{FileBuffer}
 use Rattle.il_host.specs.Shorts.{AllShort}
-use Rattle.il_host.specs.Standings.{IsHostRing, state_at, log_at, plan_at, images_at, inside_at}
+use Rattle.il_host.specs.Standings.{IsHostRing, state_at}
 
 -- how many bytes of a file there is memory for, and how many slots of a directory that is packed
 pub record Space : Type 0 where
   pub file : ℕ
   pub slots : ℕ
 
-abbrev pub space_of : Vec ℕ → Packer → Space
-space_of file packer = record { file = length file.items; slots = packer.slots.room }
+abbrev pub space_of : FileBuffer → Packer → Space
+space_of file packer = record { file = file.room; slots = packer.slots.room }
 
 -- enough for every file and every directory on a medium of n records
 pub record HasSpaceFor (n : ℕ) (space : Space) : Type 0 where
@@ -53,10 +52,10 @@ pub record IsUsable {M R S : Type 0} (view : M → MediumView) (records : R → 
     (text_space : ℕ) (space : Space) : Type 0 where
   pub volume_open : IsOpen records volume
   pub size : IsSize (records volume.records).record_count
-  pub stands : StandsSo loop.control loop.sound loop.since
+  pub stands : StandsSo loop
   pub kept : is_some volume.kept ≡ true → loop.sound ≡ true
-  pub log : IsHostRing view loop.control
-  pub short : AllShort (state_at view loop.sound loop.control).loop
+  pub log : IsHostRing view loop.ring
+  pub short : AllShort (state_at view loop).loop
   pub text : text_space ≡ text_room (records volume.records).record_count
   pub space_is : HasSpaceFor (records volume.records).record_count space
   pub unmarked : IsUnmarked records volume
@@ -65,12 +64,12 @@ pub record IsUsable {M R S : Type 0} (view : M → MediumView) (records : R → 
 abbrev pub host_view : {M S : Type 0} → (M → MediumView) → Type 0 → RecordsView S → LoopView M → Bool → List ℕ → HostView
 host_view view valid store loop kept text = record {
   valid = valid;
-  state = record (state_at view loop.sound loop.control) { kept = kept };
-  plan = plan_at loop.control;
-  log = log_at loop.control;
+  state = record (state_at view loop) { kept = kept };
+  plan = loop.ring.books.plan;
+  log = loop.ring.books.log;
   text = text;
-  images = images_at view loop.control;
-  inside = inside_at view loop.control;
+  images = (view loop.ring.drive.medium).shelf;
+  inside = (view loop.ring.drive.medium).inside;
   moment = store.moment;
   left_since = store.left_since;
 }
@@ -79,10 +78,10 @@ host_view view valid store loop kept text = record {
 
 -- a store over the loop, by what contracts see of a ring
 abbrev pub loop_in : {M I : Type 0} {D : I → Type 0} → (Ring M I D → RingView M) → LoopRecords M I D → LoopView M
-loop_in seen l = record { control = standing_of seen l.control; sound = l.sound; since = l.since; resumes = l.resumes }
+loop_in seen l = record { ring = seen l.ring; ready = l.ready; sound = l.sound; since = l.since; resumes = l.resumes }
 
-abbrev pub store_in : {M I : Type 0} {D : I → Type 0} → (M → MediumView) → (Ring M I D → RingView M) → LoopRecords M I D → RecordsView (Option (Ring M I D))
-store_in view seen l = view_of view seen (ring_in l.control) (loop_in seen l)
+abbrev pub store_in : {M I : Type 0} {D : I → Type 0} → (M → MediumView) → (Ring M I D → RingView M) → LoopRecords M I D → RecordsView (Ring M I D)
+store_in view seen l = view_of view seen l.ring (loop_in seen l)
 
 -- a volume over it
 abbrev pub volume_in : {R : Type 0} → Volume R → VolumeView R

@@ -1,13 +1,11 @@
--- What stands between two commands, by the controller of the loop, and what a command does before it asks the volume.
-use Rattle.std.specs.Prelude.{◌≡◌, ◌≤◌, ◌++◌, ℕ, Bool, true, false, List, [], Option, None, Some, Result, Ok, Err}
-use Rattle.lif_model.specs.Shelf.{Shelf}
-use Rattle.il_frames.specs.declared.entry.Entry.{Entry}
+-- What stands between two commands, by the loop, and what a command does before it asks the volume.
+use Rattle.std.specs.Prelude.{◌≡◌, ◌≤◌, ◌++◌, Bool, true, false, Some, Result, Ok, Err}
 use Rattle.il_ports.specs.Media.{MediumView}
 use Rattle.il_ports.specs.declared.records.Trouble.{Trouble}
 use Rattle.il_ports.specs.declared.records.Trouble.TheVariants as trouble
 use Rattle.il_drive.specs.State.{drive_id, status_of}
-use Rattle.il_ring.specs.declared.plan.Planned.{Planned}
-use Rattle.il_record.specs.LoopStores.{AtIdle, AtLost, HasRing, LoopView, Nowhere, Resumes, Standing, counted_resume}
+use Rattle.il_ring.specs.Rings.{RingView}
+use Rattle.il_record.specs.LoopStores.{LoopView, Resumes, counted_resume}
 use Rattle.lif_volume.specs.declared.fault.VolumeFault.{VolumeFault}
 use Rattle.lif_volume.specs.declared.fault.VolumeFault.TheVariants.{Refused, Trouble as Troubled}
 use Rattle.il_script.specs.declared.reply.Reply.{Reply}
@@ -15,57 +13,31 @@ use Rattle.il_script.specs.declared.reply.Reply.TheVariants as reply
 use Rattle.il_script.specs.Replies.{code_of, reply_line}
 use Rattle.il_script.specs.Sheet.{Sheet}
 use Rattle.host_model.specs.Requests.{Item}
-use Rattle.host_model.specs.HostStates.{HostState, fresh_host, log_room}
+use Rattle.host_model.specs.HostStates.{HostState, log_room}
 use Rattle.host_model.specs.RingStates.{state_on}
 use Rattle.host_model.specs.Steps.{Event, event, is_fault}
 
--- ---- by the controller
+-- ---- by the loop
 
--- the state, of a store that is sound or not
-abbrev pub state_at : {M : Type 0} → (M → MediumView) → Bool → Standing M → HostState
-state_at view sound (AtIdle r) = state_on view true sound r
-state_at view sound (AtLost r) = state_on view false sound r
-state_at view sound Nowhere = fresh_host None 0 0 [] [] None
+-- the state
+abbrev pub state_at : {M : Type 0} → (M → MediumView) → LoopView M → HostState
+state_at view l = state_on view l.ready l.sound l.ring
 
--- the log of the ring
-abbrev pub log_at : {M : Type 0} → Standing M → List Entry
-log_at (AtIdle r) = r.books.log
-log_at (AtLost r) = r.books.log
-log_at Nowhere = []
+-- the log of the ring has the room that a medium of so many records is to have
+abbrev pub IsHostRing : {M : Type 0} → (M → MediumView) → RingView M → Type 0
+IsHostRing view r = r.books.room ≡ log_room (view r.drive.medium).record_count
 
--- the images of the medium, and the name of the one in the drive
-abbrev pub images_at : {M : Type 0} → (M → MediumView) → Standing M → Option Shelf
-images_at view (AtIdle r) = (view r.drive.medium).shelf
-images_at view (AtLost r) = (view r.drive.medium).shelf
-images_at view Nowhere = None
-
-abbrev pub inside_at : {M : Type 0} → (M → MediumView) → Standing M → Option (List ℕ)
-inside_at view (AtIdle r) = (view r.drive.medium).inside
-inside_at view (AtLost r) = (view r.drive.medium).inside
-inside_at view Nowhere = None
-
--- the faults that are planned
-abbrev pub plan_at : {M : Type 0} → Standing M → List Planned
-plan_at (AtIdle r) = r.books.plan
-plan_at (AtLost r) = r.books.plan
-plan_at Nowhere = []
-
--- the log has the room that a medium of so many records is to have
-abbrev pub IsHostRing : {M : Type 0} → (M → MediumView) → Standing M → Type 0
-IsHostRing view c = HasRing c (λ r. r.books.room ≡ log_room (view r.drive.medium).record_count)
-
--- the drive of this controller has a status of a drive
-abbrev pub HasDriveStatus : {M : Type 0} → Standing M → Type 0
-HasDriveStatus c = HasRing c (λ r. status_of r.drive.state ≤ 3)
+-- the drive has a status of a drive
+abbrev pub HasDriveStatus : {M : Type 0} → RingView M → Type 0
+HasDriveStatus r = status_of r.drive.state ≤ 3
 
 -- and the accessory ID of a drive
-abbrev pub HasDriveId : {M : Type 0} → Standing M → Type 0
-HasDriveId c = HasRing c (λ r. r.drive.state.interface.accessory ≡ Some drive_id)
+abbrev pub HasDriveId : {M : Type 0} → RingView M → Type 0
+HasDriveId r = r.drive.state.interface.accessory ≡ Some drive_id
 
 -- an item with its reply, from the moment at which the log was emptied
 abbrev pub event_at : {M : Type 0} → (M → MediumView) → Item → Reply → (old new : LoopView M) → Event
-event_at view item reply old new =
-    event item reply (log_at new.control) (state_at view old.sound old.control) (state_at view new.sound new.control)
+event_at view item reply old new = event item reply new.ring.books.log (state_at view old) (state_at view new)
 
 -- ---- within a command
 

@@ -96,8 +96,8 @@ fn within(
     }
 }
 
-/// Adds the part that a command asks for. A command that is no part spoils the batch, and so does a part for which there
-/// is no room.
+/// Adds the part that a command asks for. A command that is no part spoils the batch, and so does a part for which
+/// there is no room.
 fn add(command: Command, bytes: &[u8], batch: &mut Batch) -> Gathering
     requires formed { IsFormed command }
     requires gathered { IsGathered batch.old }

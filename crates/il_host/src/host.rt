@@ -7,6 +7,7 @@ ghost use Rattle.il_host.specs.Hosts.{volume_in, space_of};
 ghost use Rattle.il_host.specs.Preparing.{Prepares};
 ghost use Rattle.il_host.specs.Standings.{Ends, HasDriveStatus, KeepsPage, MakesSound, fault_of};
 
+use crate::file_buffer::FileBuffer;
 use crate::made_text::MadeText;
 use crate::performer::Performer;
 use il_device::Device;
@@ -24,7 +25,7 @@ use std::marker::PhantomData;
 pub struct Host<M: Medium> {
     pub(crate) volume: Volume<LoopRecords<M>>,
     pub(crate) page: Page,
-    pub(crate) file: Vec<u8>,
+    pub(crate) file: FileBuffer,
     pub(crate) text: MadeText,
     pub(crate) packer: Packer,
     pub(crate) devices: PhantomData<Box<dyn Device>>,
@@ -125,7 +126,7 @@ impl<M: Medium + Drop> Host<M> {
         requires volume_open { IsOpen ⟦<LoopRecords<M> as Records>⟧.view (volume_in self.old.volume) }
         requires room { length self.old.page.text + 23 ≤ self.old.page.room }
         ensures ended { Ends reply self.old.volume self.old.page (space_of self.old.file self.old.packer) result self.new.volume self.new.page (space_of self.new.file self.new.packer) }
-        ensures drive { HasDriveStatus (⟦<LoopRecords<M> as Looped<M>>⟧.looped self.old.volume.records).control }
+        ensures drive { HasDriveStatus (⟦<LoopRecords<M> as Looped<M>>⟧.looped self.old.volume.records).ring }
     {
         self.page.put(reply.last_line());
         reply
@@ -136,7 +137,7 @@ impl<M: Medium + Drop> Host<M> {
         requires volume_open { IsOpen ⟦<LoopRecords<M> as Records>⟧.view (volume_in self.old.volume) }
         requires room { length self.old.page.text + 23 ≤ self.old.page.room }
         ensures ended { Ends (fault_of trouble) self.old.volume self.old.page (space_of self.old.file self.old.packer) result self.new.volume self.new.page (space_of self.new.file self.new.packer) }
-        ensures drive { HasDriveStatus (⟦<LoopRecords<M> as Looped<M>>⟧.looped self.old.volume.records).control }
+        ensures drive { HasDriveStatus (⟦<LoopRecords<M> as Looped<M>>⟧.looped self.old.volume.records).ring }
     {
         match trouble {
             Trouble::Frame => self.answered(Reply::FaultFrame),

@@ -5,6 +5,7 @@
 #![tactic(auto)]
 
 mod ending;
+mod file_buffer;
 mod gathering;
 mod generating;
 mod host;

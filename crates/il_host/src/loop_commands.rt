@@ -3,7 +3,7 @@ ghost use Rattle.std.specs.List.{position};
 ghost use Rattle.il_ring.specs.Rings.{has_id, printer_id};
 ghost use Rattle.il_script.specs.declared.limits.TheConstants.{LONGEST_PAYLOAD, MOST_FRAMES};
 ghost use Rattle.il_record.specs.Called.{LeavesStore};
-ghost use Rattle.il_record.specs.LoopStores.{Addresses, is_idle};
+ghost use Rattle.il_record.specs.LoopStores.{Addresses};
 ghost use Rattle.lif_volume.specs.Views.{IsOpen};
 ghost use Rattle.host_model.specs.Requests.{Asks, Devices, Lend, Paper, Poll, Say, Status};
 ghost use Rattle.il_host.specs.HostView.{Performed};
@@ -117,8 +117,8 @@ impl<M: Medium + Drop> Host<M> {
         }
     }
 
-    /// Hands control of the loop to a second controller at the last address, until so many frames have come to the host,
-    /// and tells the statuses that it has found.
+    /// Hands control of the loop to a second controller at the last address, until so many frames have come to the
+    /// host, and tells the statuses that it has found.
     pub(crate) fn lend(&mut self, frames: u16) -> Reply
         requires valid { (⟦<Host<M> as Performer>⟧.view self.old).valid }
         requires blank { (⟦<Host<M> as Performer>⟧.view self.old).text ≡ [] }
@@ -144,11 +144,11 @@ impl<M: Medium + Drop> Host<M> {
     fn make_ready(&mut self) -> Result<(), Trouble>
         requires volume_open { IsOpen ⟦<LoopRecords<M> as Records>⟧.view (volume_in self.old.volume) }
         requires left { 1 ≤ (⟦<LoopRecords<M> as Records>⟧.view self.old.volume.records).calls_left }
-        ensures addresses { Addresses M.view (⟦<LoopRecords<M> as Looped<M>>⟧.looped self.old.volume.records).control (⟦<LoopRecords<M> as Looped<M>>⟧.looped self.old.volume.records) (⟦<LoopRecords<M> as Looped<M>>⟧.looped self.new.volume.records) result }
+        ensures addresses { Addresses M.view (⟦<LoopRecords<M> as Looped<M>>⟧.looped self.old.volume.records).ready (⟦<LoopRecords<M> as Looped<M>>⟧.looped self.old.volume.records) (⟦<LoopRecords<M> as Looped<M>>⟧.looped self.new.volume.records) result }
         ensures leaves { LeavesStore 1 ((⟦<LoopRecords<M> as Records>⟧.view self.old.volume.records).failed None) (⟦<LoopRecords<M> as Records>⟧.view self.old.volume.records) (⟦<LoopRecords<M> as Records>⟧.view self.new.volume.records) result }
         ensures opens { IsOpen ⟦<LoopRecords<M> as Records>⟧.view (volume_in self.new.volume) }
         ensures rests { KeepsPage self.old.page (space_of self.old.file self.old.packer) self.new.page (space_of self.new.file self.new.packer) }
-        ensures kept { (volume_in self.new.volume).kept ≡ (if is_idle (⟦<LoopRecords<M> as Looped<M>>⟧.looped self.old.volume.records).control
+        ensures kept { (volume_in self.new.volume).kept ≡ (if (⟦<LoopRecords<M> as Looped<M>>⟧.looped self.old.volume.records).ready
             then (volume_in self.old.volume).kept else None) }
     {
         if self.volume.records().is_ready() {

@@ -6,6 +6,7 @@ ghost use Rattle.host_model.specs.HostStates.{log_room, text_room};
 ghost use Rattle.il_host.specs.Hosts.{IsOpened, IsClosed, space_of, HasSpaceFor};
 ghost use Rattle.il_host.specs.Whole.{MayStandBeside};
 
+use crate::file_buffer::FileBuffer;
 use crate::host::Host;
 use crate::made_text::MadeText;
 use crate::performer::Performer;
@@ -32,7 +33,7 @@ struct Memory {
     /// The text of every reply.
     page: Page,
     /// The bytes of every file.
-    file: Vec<u8>,
+    file: FileBuffer,
     /// The text of every payload.
     text: MadeText,
     /// The slots of every directory.
@@ -48,7 +49,7 @@ impl Memory {
     {
         Ok(Memory {
             page: Page::new(alloc, 1000 * usize::from(records) + 20_000)?,
-            file: vec![in alloc; 0; 256 * usize::from(records)]?,
+            file: FileBuffer::new(alloc, 256 * usize::from(records))?,
             text: MadeText::new(alloc)?,
             packer: Packer::new(alloc, records)?,
         })

@@ -68,10 +68,11 @@ impl<M: Medium + Drop> Host<M> {
         if let Err(trouble) = self.prepare() {
             return self.faulted(trouble);
         }
-        match self.volume.fetch(name, &mut self.file) {
+        self.file.fill();
+        match self.volume.fetch(name, &mut self.file.bytes) {
             Ok(fetched) => {
-                let count = fetched.length.min(self.file.len());
-                let reply = put_text(&mut self.page, fetched.kind, &self.file[..count]);
+                let count = fetched.length.min(self.file.bytes.len());
+                let reply = put_text(&mut self.page, fetched.kind, &self.file.bytes[..count]);
                 self.answered(reply)
             }
             Err(fault) => self.refused(fault),

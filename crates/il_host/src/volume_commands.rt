@@ -47,14 +47,17 @@ impl<M: Medium + Drop> Host<M> {
                 }
                 Err(fault) => self.refused(fault),
             },
-            Command::Fetch(name) => match self.volume.fetch(name, &mut self.file) {
-                Ok(fetched) => {
-                    let count = fetched.length.min(self.file.len());
-                    put_data(&mut self.page, &fetched, &self.file[..count]);
-                    self.answered(Reply::Ok)
+            Command::Fetch(name) => {
+                self.file.fill();
+                match self.volume.fetch(name, &mut self.file.bytes) {
+                    Ok(fetched) => {
+                        let count = fetched.length.min(self.file.bytes.len());
+                        put_data(&mut self.page, &fetched, &self.file.bytes[..count]);
+                        self.answered(Reply::Ok)
+                    }
+                    Err(fault) => self.refused(fault),
                 }
-                Err(fault) => self.refused(fault),
-            },
+            }
             _ => {
                 let answer = alter(&mut self.volume, command, bytes);
                 self.ended(answer)
@@ -100,7 +103,7 @@ impl<M: Medium + Drop> Host<M> {
         requires volume_open { IsOpen ⟦<LoopRecords<M> as Records>⟧.view (volume_in self.old.volume) }
         requires room { length self.old.page.text + 23 ≤ self.old.page.room }
         ensures ended { Ends (volume_reply answer) self.old.volume self.old.page (space_of self.old.file self.old.packer) result self.new.volume self.new.page (space_of self.new.file self.new.packer) }
-        ensures drive { HasDriveStatus (⟦<LoopRecords<M> as Looped<M>>⟧.looped self.old.volume.records).control }
+        ensures drive { HasDriveStatus (⟦<LoopRecords<M> as Looped<M>>⟧.looped self.old.volume.records).ring }
     {
         match answer {
             Ok(()) => self.answered(Reply::Ok),
@@ -113,7 +116,7 @@ impl<M: Medium + Drop> Host<M> {
         requires volume_open { IsOpen ⟦<LoopRecords<M> as Records>⟧.view (volume_in self.old.volume) }
         requires room { length self.old.page.text + 23 ≤ self.old.page.room }
         ensures ended { Ends (volume_reply {T = Unit {0}} (Err fault)) self.old.volume self.old.page (space_of self.old.file self.old.packer) result self.new.volume self.new.page (space_of self.new.file self.new.packer) }
-        ensures drive { HasDriveStatus (⟦<LoopRecords<M> as Looped<M>>⟧.looped self.old.volume.records).control }
+        ensures drive { HasDriveStatus (⟦<LoopRecords<M> as Looped<M>>⟧.looped self.old.volume.records).ring }
     {
         match fault {
             VolumeFault::Refused(refusal) => self.answered(Reply::No(Code::from(refusal))),

@@ -18,10 +18,10 @@ pub returns-in-Ok : goal.returns-in-Ok
 returns-in-Ok g c =
     ends_told {n = lent c.make_ready.new.self.volume c.accessories.new.self} (device_lines 1 c.accessories.new.into.items) c.make_ready.ensures.rests c.requires.blank c.put_devices.ensures.text c.answered.ensures.ended
     (devices_told _ _ c.args.self.now.volume c.begin.new.self _ _ c.requires.valid c.begin.ensures.begun g.met.M.Medium.is_medium _ c.make_ready.new.self.volume c.in_default.field-0 _ c.in_default.ensures.addresses c.in_default.ensures.leaves c.in_default.ensures.opens _ c.records_mut.ensures.value
-    c.accessories.new.self c.accessories.new.into.items _ c.in-Ok.field-0 (has_drive_id g.M.Medium.view _ _ _ c.requires.valid.volume_open.valid) c.in-Ok.ensures.named c.in-Ok.ensures.leaves)
+    c.accessories.new.self c.accessories.new.into.items _ c.in-Ok.field-0 (has_drive_id _ _ _ _ c.requires.valid.volume_open.valid) c.in-Ok.ensures.named c.in-Ok.ensures.leaves)
 
 pub returns-in-Err-accessories : goal.returns-in-Err-accessories
 returns-in-Err-accessories g c =
     ends_blank {n = lent c.make_ready.new.self.volume c.accessories.new.self} c.make_ready.ensures.rests c.requires.blank c.faulted-in-Err-accessories.ensures.ended
     (devices_failed _ _ c.args.self.now.volume c.begin.new.self _ _ c.requires.valid c.begin.ensures.begun g.met.M.Medium.is_medium _ c.make_ready.new.self.volume c.in_default.field-0 _ c.in_default.ensures.addresses c.in_default.ensures.leaves c.in_default.ensures.opens _ c.records_mut.ensures.value
-    c.accessories.new.self c.in-Err-accessories.trouble _ (has_drive_id g.M.Medium.view _ _ _ c.requires.valid.volume_open.valid) c.in-Err-accessories.ensures.named c.in-Err-accessories.ensures.leaves)
+    c.accessories.new.self c.in-Err-accessories.trouble _ (has_drive_id _ _ _ _ c.requires.valid.volume_open.valid) c.in-Err-accessories.ensures.named c.in-Err-accessories.ensures.leaves)

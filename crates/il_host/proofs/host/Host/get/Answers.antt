@@ -31,15 +31,15 @@ returns-in-Ok g c =
     let into = c.fetch.new.into in
     let long = c.fetch.auto.into ∙ c.deref_mut.ensures.len in
     let count = c.min-count.ensures ∙ ap (λ k. min c.in-Ok.fetched.length k) (c.len.ensures ∙ sym long) in
-    let shown = ap (take c.min-count.result) (c.deref.ensures.value ∙ with_items_is c.prepare.new.self.file into long) ∙ ap (λ k. take k into) count ∙ take_min c.in-Ok.fetched.length into in
-    ends_told (lines_text (lines_of_type c.in-Ok.fetched.kind (take c.min-count.result c.deref.result.now))) (record { page = c.prepare.ensures.rests.page; room = same_room c.prepare.new.self.file into c.prepare.new.self.packer ∙ c.prepare.ensures.rests.room }) c.requires.blank c.put_text-reply.ensures.text
+    let shown = ap (take c.min-count.result) (c.deref.ensures.value ∙ with_items_is c.fill.new.self.bytes into long) ∙ ap (λ k. take k into) count ∙ take_min c.in-Ok.fetched.length into in
+    ends_told (lines_text (lines_of_type c.in-Ok.fetched.kind (take c.min-count.result c.deref.result.now))) (record { page = c.prepare.ensures.rests.page; room = same_room c.prepare.new.self.packer c.fill.ensures.room ∙ c.prepare.ensures.rests.room }) c.requires.blank c.put_text-reply.ensures.text
     (ends_as c.put_text-reply.ensures.reply c.answered.ensures.ended)
     (lines_got _ _ c.args.self.now.volume c.begin.new.self c.prepare.new.self.volume c.fetch.new.self _ _ c.requires.valid c.begin.ensures.begun g.met.M.Medium.is_medium (prepared _ _ c.args.self.now.volume c.begin.new.self c.prepare.new.self.volume _ _ c.requires.valid c.begin.ensures.begun g.met.M.Medium.is_medium c.in_default.field-0 c.begin.ensures.kept c.in_default.ensures.prepares)
     c.in_default.ensures.opens c.fetch.ensures.open c.answered.ensures.drive (name_bytes c.args.name.now) c.in-Ok.fetched into _ _ shown c.in-Ok.ensures.did c.in-Ok.ensures.fetched c.in-Ok.ensures.run)
 
 pub returns-in-Err-fetch : goal.returns-in-Err-fetch
 returns-in-Err-fetch g c =
-    ends_blank (record { page = c.prepare.ensures.rests.page; room = same_room c.prepare.new.self.file c.fetch.new.into c.prepare.new.self.packer ∙ c.prepare.ensures.rests.room }) c.requires.blank c.refused.ensures.ended
+    ends_blank (record { page = c.prepare.ensures.rests.page; room = same_room c.prepare.new.self.packer c.fill.ensures.room ∙ c.prepare.ensures.rests.room }) c.requires.blank c.refused.ensures.ended
     (not_got (name_bytes c.args.name.now) _ _ _ (error_not_ok c.in-Err-fetch.fault)
     (not_fetched _ _ c.args.self.now.volume c.begin.new.self c.prepare.new.self.volume c.fetch.new.self _ _ c.requires.valid c.begin.ensures.begun g.met.M.Medium.is_medium (prepared _ _ c.args.self.now.volume c.begin.new.self c.prepare.new.self.volume _ _ c.requires.valid c.begin.ensures.begun g.met.M.Medium.is_medium c.in_default.field-0 c.begin.ensures.kept c.in_default.ensures.prepares)
     c.in_default.ensures.opens c.fetch.ensures.open c.refused.ensures.drive (name_bytes c.args.name.now) c.in-Err-fetch.fault _ c.in-Err-fetch.ensures.did))

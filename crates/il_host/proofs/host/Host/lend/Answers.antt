@@ -1,10 +1,9 @@
-use Rattle.std.proofs.Common.{◌∙◌, ap, sym}
 use Rattle.std.specs.Prelude.{option_map}
 use Rattle.host_model.specs.Requests.{Asks, Lend}
 use Rattle.il_host.specs.Texts.{found_lines}
 use Rattle.il_host.proofs.host.Host.lend.Goals as goal
 use Rattle.il_host.proofs.HostVolumes.{ends_blank, ends_told}
-use Rattle.il_host.proofs.HostLoops.{lend_failed, lend_not_taken, lend_room, lend_told, lends_by, lent, not_ready}
+use Rattle.il_host.proofs.HostLoops.{lend_failed, lend_not_taken, lend_room, lend_told, lent, not_ready}
 
 pub returns-in-Err : goal.returns-in-Err
 returns-in-Err g c =

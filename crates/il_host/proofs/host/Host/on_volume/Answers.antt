@@ -94,16 +94,16 @@ returns-in-Ok-fetch g c =
     let into = c.fetch.new.into in
     let long = c.fetch.auto.into ∙ c.deref_mut.ensures.len in
     let count = c.min-count.ensures ∙ ap (λ k. min c.in-Ok-fetch.fetched.length k) (c.len.ensures ∙ sym long) in
-    let shown = ap (take c.min-count.result) (c.deref.ensures.value ∙ with_items_is c.prepare.new.self.file into long) ∙ ap (λ k. take k into) count ∙ take_min c.in-Ok-fetch.fetched.length into in
+    let shown = ap (take c.min-count.result) (c.deref.ensures.value ∙ with_items_is c.fill.new.self.bytes into long) ∙ ap (λ k. take k into) count ∙ take_min c.in-Ok-fetch.fetched.length into in
     rw c.in-Fetch.is (
-    ends_told (data_text c.in-Ok-fetch.fetched.kind c.in-Ok-fetch.fetched.implementation (take c.min-count.result c.deref.result.now)) (record { page = c.prepare.ensures.rests.page; room = same_room c.prepare.new.self.file into c.prepare.new.self.packer ∙ c.prepare.ensures.rests.room }) c.requires.blank c.put_data.ensures.text c.answered-in-Ok-fetch.ensures.ended
+    ends_told (data_text c.in-Ok-fetch.fetched.kind c.in-Ok-fetch.fetched.implementation (take c.min-count.result c.deref.result.now)) (record { page = c.prepare.ensures.rests.page; room = same_room c.prepare.new.self.packer c.fill.ensures.room ∙ c.prepare.ensures.rests.room }) c.requires.blank c.put_data.ensures.text c.answered-in-Ok-fetch.ensures.ended
     (fetched _ _ c.args.self.now.volume c.begin.new.self c.prepare.new.self.volume c.fetch.new.self _ _ c.requires.valid c.begin.ensures.begun g.met.M.Medium.is_medium (prepared _ _ c.args.self.now.volume c.begin.new.self c.prepare.new.self.volume _ _ c.requires.valid c.begin.ensures.begun g.met.M.Medium.is_medium c.in_default.field-0 c.begin.ensures.kept c.in_default.ensures.prepares)
     c.in_default.ensures.opens c.fetch.ensures.open c.answered-in-Ok-fetch.ensures.drive (name_bytes c.in-Fetch.name) c.in-Ok-fetch.fetched into _ _ shown c.in-Ok-fetch.ensures.did c.in-Ok-fetch.ensures.fetched c.in-Ok-fetch.ensures.run))
 
 pub returns-in-Err-fetch : goal.returns-in-Err-fetch
 returns-in-Err-fetch g c =
     rw c.in-Fetch.is (
-    ends_blank (record { page = c.prepare.ensures.rests.page; room = same_room c.prepare.new.self.file c.fetch.new.into c.prepare.new.self.packer ∙ c.prepare.ensures.rests.room }) c.requires.blank c.refused-in-Err-fetch.ensures.ended
+    ends_blank (record { page = c.prepare.ensures.rests.page; room = same_room c.prepare.new.self.packer c.fill.ensures.room ∙ c.prepare.ensures.rests.room }) c.requires.blank c.refused-in-Err-fetch.ensures.ended
     (not_fetched _ _ c.args.self.now.volume c.begin.new.self c.prepare.new.self.volume c.fetch.new.self _ _ c.requires.valid c.begin.ensures.begun g.met.M.Medium.is_medium (prepared _ _ c.args.self.now.volume c.begin.new.self c.prepare.new.self.volume _ _ c.requires.valid c.begin.ensures.begun g.met.M.Medium.is_medium c.in_default.field-0 c.begin.ensures.kept c.in_default.ensures.prepares)
     c.in_default.ensures.opens c.fetch.ensures.open c.refused-in-Err-fetch.ensures.drive (name_bytes c.in-Fetch.name) c.in-Err-fetch.fault _ c.in-Err-fetch.ensures.did))
 

@@ -2,7 +2,7 @@ use Rattle.std.proofs.Common.{◌∙◌, ◌-◌, ◌*◌, ℕ, sym, ap}
 use Rattle.host_model.specs.Replies.{packed_text}
 use Rattle.il_host.specs.Hosts.{Space}
 use Rattle.il_host.proofs.HostVolumes.{ends_blank, ends_told}
-use Rattle.il_host.proofs.PackPerforms.{not_packed_host, pack_unsound, packed_host, ready_to_pack, same_space}
+use Rattle.il_host.proofs.PackPerforms.{not_packed_host, pack_unsound, packed_host, ready_to_pack, same_space, small_to_pack}
 use Rattle.il_host.proofs.host.Host.pack.Goals as goal
 
 pub returns-in-Err : goal.returns-in-Err
@@ -14,6 +14,9 @@ returns-in-Err g c =
 
 pub pack-requires-clause-ready : goal.pack-requires-clause-ready
 pack-requires-clause-ready g c = ready_to_pack _ _ c.args.self.now.volume c.begin.new.self c.make_sound.new.self.volume _ _ c.requires.valid c.begin.ensures.begun c.in_default.ensures.sounds
+
+pub pack-requires-clause-small : goal.pack-requires-clause-small
+pack-requires-clause-small g c = small_to_pack _ _ _ c.in_default.ensures.sounds.size c.begin.ensures.begun.size c.requires.valid.size
 
 pub returns-in-Ok : goal.returns-in-Ok
 returns-in-Ok g c =
