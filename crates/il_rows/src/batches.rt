@@ -1,7 +1,9 @@
 //! Several changes at once: a batch has one reply, and counts whole or not at all.
 
 use crate::faults::{Change, open_gate, stopped_at};
-use crate::images::{END_ENTRY, FILE_ENTRY, SECOND_REDO_ENTRY, formatted};
+use crate::images::{
+    END_ENTRY, FILE_ENTRY, REDO_ENTRY, SECOND_REDO_ENTRY, formatted, with_entries,
+};
 use crate::runs::{Given, answers, run};
 use il_same::same;
 use std::alloc::{AllocError, Global};
@@ -9,11 +11,28 @@ use std::process::Abort;
 use std::test::Fail;
 
 /// A volume that takes batches, with no file but the redo file.
-fn upgraded(alloc: Global) -> Result<Vec<u8>, Fail> {
+pub(crate) fn upgraded(alloc: Global) -> Result<Vec<u8>, Fail> {
     let tape = formatted(alloc)?;
     let left = run(alloc, &Given::script(&tape, b"upgrade\n"))?;
     Ok(left.image.ok_or("an image")?)
 }
+
+/// Batches that lines spoil: by a command that is no part, and by thirty-two parts.
+const SPOILT: &[u8] = b"\
+upgrade\n\
+store A 0001 00000000 41\n\
+begin\n\
+dir\n\
+commit\n\
+begin\n\
+purge A\npurge A\npurge A\npurge A\npurge A\npurge A\npurge A\npurge A\n\
+purge A\npurge A\npurge A\npurge A\npurge A\npurge A\npurge A\npurge A\n\
+purge A\npurge A\npurge A\npurge A\npurge A\npurge A\npurge A\npurge A\n\
+purge A\npurge A\npurge A\npurge A\npurge A\npurge A\npurge A\npurge A\n\
+commit\n\
+begin\n\
+commit\n\
+dir\n";
 
 #[test]
 fn a_batch_has_one_reply(rt: HostRuntime) -> Result<(), Fail> {
@@ -35,14 +54,19 @@ fn a_batch_has_one_reply(rt: HostRuntime) -> Result<(), Fail> {
             0,
             b"ok\nok\nok\nok\nok\nvolume HPTAPE 2 2 2 16\nfile REDOFILE E0D0 478 34 00000000\nok\n",
         ),
+        (
+            SPOILT,
+            1,
+            b"ok\nok\nerror 1 BadLine\nerror 13 BatchTooLarge\nok\nvolume HPTAPE 2 2 2 16\nfile A 0001 4 1 00000000\nfile REDOFILE E0D0 478 34 00000000\nok\n",
+        ),
     ] {
         answers(&rt, alloc, &Given::script(&tape, script), status, output)?;
     }
     Ok(())
 }
 
-/// A batch of a part, these lines, two that are no parts either, on a volume that takes batches: it has this reply alone,
-/// and leaves no file.
+/// A batch of a part, these lines, two that are no parts either, on a volume that takes batches: it has this reply
+/// alone, and leaves no file.
 fn is_spoilt(
     rt: &impl Abort,
     alloc: Global,
@@ -108,9 +132,14 @@ fn a_batch_that_is_not_begun_or_not_ended_is_a_bad_line(rt: HostRuntime) -> Resu
     Ok(())
 }
 
-/// A volume after a stop, with an open gate, a list of one target and its data at the place of the second version.
-fn with_second_redo(alloc: Global, version: &[u8]) -> Result<Vec<u8>, AllocError> {
-    let mut image = formatted(alloc)?;
+/// A volume of these entries after a stop, with an open gate, a list of one target and its data at the place of the
+/// second version.
+fn with_second_redo(
+    alloc: Global,
+    entries: &[&[u8]],
+    version: &[u8],
+) -> Result<Vec<u8>, AllocError> {
+    let mut image = with_entries(alloc, entries)?;
     image.resize(256 * 478, 0)?;
     for entry in [FILE_ENTRY, SECOND_REDO_ENTRY, END_ENTRY] {
         image.extend_from_slice(entry)?;
@@ -127,14 +156,17 @@ fn with_second_redo(alloc: Global, version: &[u8]) -> Result<Vec<u8>, AllocError
 #[test]
 fn the_targets_tell_where_their_data_is(rt: HostRuntime) -> Result<(), Fail> {
     let alloc = rt.alloc();
-    for (version, output) in [
-        (
-            b"LIFREDO2".as_slice(),
-            b"volume HPTAPE 2 2 2 16\nfile A 0001 4 1 00000000\nfile REDOFILE E0D0 478 34 00000000\nok\n".as_slice(),
-        ),
-        (b"LIFREDO1", b"volume HPTAPE 2 2 16 16\nok\n"),
+    let listed =
+        b"volume HPTAPE 2 2 2 16\nfile A 0001 4 1 00000000\nfile REDOFILE E0D0 478 34 00000000\nok\n".as_slice();
+    let zeros = b"volume HPTAPE 2 2 16 16\nok\n".as_slice();
+    // With the redo entry of the second version, and with that of the first.
+    for (entry, version, output) in [
+        (SECOND_REDO_ENTRY, b"LIFREDO2".as_slice(), listed),
+        (SECOND_REDO_ENTRY, b"LIFREDO1", zeros),
+        (REDO_ENTRY, b"LIFREDO2", listed),
+        (REDO_ENTRY, b"LIFREDO1", zeros),
     ] {
-        let tape = with_second_redo(alloc, version)?;
+        let tape = with_second_redo(alloc, &[entry, END_ENTRY], version)?;
         answers(&rt, alloc, &Given::script(&tape, b"dir\n"), 0, output)?;
     }
     Ok(())
@@ -144,7 +176,7 @@ const PARTS: &[u8] =
     b"begin\nstore A 0001 00000000 41\nstore B 0001 00000000 42\nrename A C\ncommit\ndir\n";
 
 /// A batch of two files on this tape.
-fn batch_on<'a>(tape: &'a [u8]) -> Change<'a> {
+pub(crate) fn batch_on<'a>(tape: &'a [u8]) -> Change<'a> {
     Change {
         tape,
         script: PARTS,
@@ -154,12 +186,15 @@ fn batch_on<'a>(tape: &'a [u8]) -> Change<'a> {
 }
 
 #[test]
-fn a_batch_whose_frames_are_lost_counts_whole_or_not_at_all(rt: HostRuntime) -> Result<(), Fail> {
+fn a_batch_whose_frames_are_lost_or_altered_counts_as_one(rt: HostRuntime) -> Result<(), Fail> {
     let alloc = rt.alloc();
     let tape = upgraded(alloc)?;
-    let tried = batch_on(&tape).crossings_tried(&rt, alloc, "--lose ", "")?;
+    let batch = batch_on(&tape);
     // One write more than the store of a file.
-    assert!(rt; same(tried, 87), "the crossings");
+    for (option, change) in [("--lose ", ""), ("--alter ", ":01")] {
+        let tried = batch.crossings_tried(&rt, alloc, option, change)?;
+        assert!(rt; same(tried, 87), "the crossings of {option}");
+    }
     Ok(())
 }
 

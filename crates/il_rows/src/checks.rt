@@ -2,8 +2,8 @@
 
 ghost use Rattle.std.specs.Prelude.{◌≡◌, IfOk};
 
-use crate::images::formatted;
-use crate::loops::ALTERED_TRACE;
+use crate::images::{formatted, with_header, with_packing_mark, with_redo_of_header};
+use crate::loops::{ALTERED_TRACE, STATUS_TRACE};
 use crate::runs;
 use crate::runs::{shelf_of, words_of};
 use il_check::run_check;
@@ -13,47 +13,59 @@ use std::alloc::{AllocError, Global};
 use std::process::Abort;
 use std::test::Fail;
 
-/// What a check is given. The lists name the calls that fail, counted from 1.
+/// Calls that fail, counted from 1.
+type Calls<'a> = &'a [u64];
+
+/// No call of either tape.
+const NONE: (Calls, Calls) = (&[], &[]);
+
+/// What a check is given. The lists name the calls that fail, where there are two those of the tape before come first.
 #[derive(Clone, Copy)]
 struct Given<'a> {
     /// With a space between two of them.
     words: &'a str,
     trace: &'a [u8],
-    /// The bytes of the image TAPE before the trace and after it, where there is one.
+    /// The bytes of the image B before the trace, and of A after it, where there is one.
     before: Option<&'a [u8]>,
     after: Option<&'a [u8]>,
-    failing_takes: &'a [u64],
-    failing_puts: &'a [u64],
-    failing_inserts: &'a [u64],
-    failing_reads: &'a [u64],
+    failing_takes: Calls<'a>,
+    failing_puts: Calls<'a>,
+    failing_inserts: (Calls<'a>, Calls<'a>),
+    failing_reads: (Calls<'a>, Calls<'a>),
 }
 
 impl<'a> Given<'a> {
     /// A trace of two devices, of which the drive is the first, over these tapes, without a fault.
     fn trace(trace: &'a [u8], before: &'a [u8], after: &'a [u8]) -> Given<'a> {
         Given {
-            words: "check 2 1 TAPE TAPE",
+            words: "check 2 1 B A",
             trace,
             before: Some(before),
             after: Some(after),
             failing_takes: &[],
             failing_puts: &[],
-            failing_inserts: &[],
-            failing_reads: &[],
+            failing_inserts: NONE,
+            failing_reads: NONE,
         }
     }
 }
 
-/// A medium with this image, which fails as it is given. No tape is in.
-fn medium(alloc: Global, image: Option<&[u8]>, given: &Given) -> Result<MemoryMedium, AllocError>
+/// A medium with an image of this name, of which these inserts and reads fail. No tape is in.
+fn medium(
+    alloc: Global,
+    name: &str,
+    image: Option<&[u8]>,
+    inserts: Calls,
+    reads: Calls,
+) -> Result<MemoryMedium, AllocError>
     ensures { IfOk result (λ m. (⟦<MemoryMedium as Medium>⟧.view m).record_count ≡ 0) }
 {
     MemoryMedium::new(
         alloc,
-        shelf_of(alloc, image)?,
-        Vec::from_slice(alloc, given.failing_reads)?,
+        shelf_of(alloc, name, image)?,
+        Vec::from_slice(alloc, reads)?,
         Vec::new(alloc),
-        Vec::from_slice(alloc, given.failing_inserts)?,
+        Vec::from_slice(alloc, inserts)?,
         0,
     )
 }
@@ -67,8 +79,9 @@ fn check(alloc: Global, given: &Given) -> Result<(u8, Vec<u8>), AllocError> {
         Vec::from_slice(alloc, given.failing_takes)?,
     );
     let mut out = MemorySink::new(alloc, 1000, Vec::from_slice(alloc, given.failing_puts)?)?;
-    let mut before = medium(alloc, given.before, given)?;
-    let mut after = medium(alloc, given.after, given)?;
+    let (inserts, reads) = (given.failing_inserts, given.failing_reads);
+    let mut before = medium(alloc, "B", given.before, inserts.0, reads.0)?;
+    let mut after = medium(alloc, "A", given.after, inserts.1, reads.1)?;
     let status = run_check(
         alloc,
         words.as_slice(),
@@ -189,7 +202,7 @@ fn says<'x>(
 fn a_lend_is_read_up_to_take_control(rt: HostRuntime) -> Result<(), Fail> {
     let alloc = rt.alloc();
     let tape = formatted(alloc)?;
-    let (three, two) = ("check 3 1 TAPE TAPE", "check 2 1 TAPE TAPE");
+    let (three, two) = ("check 3 1 B A", "check 2 1 B A");
     let trace = traced(alloc, "--guest TAPE", b"lend 10\n")?;
     says(
         &rt,
@@ -249,101 +262,165 @@ fn what_is_said_of_tapes(rt: HostRuntime) -> Result<(), Fail> {
     other.push(1)?;
     let mut disc = formatted(alloc)?;
     disc.resize(131_073, 0)?;
-    let rows: [(&[u8], &[u8], &[u8], u8); 4] = [
-        (&tape, &other, b"check no 7 4 NoEffect\n", 1),
-        (&tape, &disc, b"check no 0 7 SizeDiffers\n", 1),
-        (&[], &[], b"check ok\nbefore notlif\nafter notlif\n", 0),
-        (&disc, &disc, TOGETHER, 0),
+    let rows: [(&[u8], &[u8], &[u8], &[u8]); 3] = [
+        (b"", &tape, &other, b"check no 7 4 NoEffect\n"),
+        (STATUS_TRACE, &tape, &other, b"check no 7 4 NoEffect\n"),
+        (b"", &tape, &disc, b"check no 0 7 SizeDiffers\n"),
     ];
-    for (before, after, output, status) in rows {
-        answers(
-            &rt,
-            alloc,
-            &Given::trace(b"", before, after),
-            status,
-            output,
-        )?;
+    for (trace, before, after, output) in rows {
+        let given = Given::trace(trace, before, after);
+        answers(&rt, alloc, &given, 1, output)?;
+    }
+    Ok(())
+}
+
+/// The output where tapes without a volume go together.
+const NO_VOLUMES: &[u8] = b"check ok\nbefore notlif\nafter notlif\n";
+
+#[test]
+fn labels_are_those_of_the_settled_tapes(rt: HostRuntime) -> Result<(), Fail> {
+    let alloc = rt.alloc();
+    let mut disc = formatted(alloc)?;
+    disc.resize(131_073, 0)?;
+    let unmarked = with_header(alloc, 0, b"\x80\x01")?;
+    let open = with_redo_of_header(alloc, b"\x80\0SECOND")?;
+    let moving = with_packing_mark(alloc)?;
+    let rows: [(&[u8], &[u8]); 5] = [
+        (&[], NO_VOLUMES),
+        (&unmarked, NO_VOLUMES),
+        (&disc, TOGETHER),
+        (&moving, TOGETHER),
+        (&open, b"check ok\nbefore SECOND\nafter SECOND\n"),
+    ];
+    for (tape, output) in rows {
+        answers(&rt, alloc, &Given::trace(b"", tape, tape), 0, output)?;
+    }
+    Ok(())
+}
+
+/// A day of commands that write.
+const DAY: &[u8] = b"\
+upgrade
+begin
+store A 0001 00000000 41
+store B 0001 00000000 42
+commit
+purge A
+put T 6869
+get T
+pack
+devices
+say 4849
+";
+
+/// A run ends with the first status, and a check of its trace, its tape and what it leaves with the second, so.
+fn is_told_of_a_run(
+    rt: &impl Abort,
+    alloc: Global,
+    given: &runs::Given,
+    ended: u8,
+    status: u8,
+    output: &[u8],
+) -> Result<(), Fail> {
+    let before = given.image.ok_or("an image")?;
+    let left = runs::run(alloc, given)?;
+    assert!(rt; same(left.status, ended), "the run");
+    let after = left.image.ok_or("an image")?;
+    answers(
+        rt,
+        alloc,
+        &Given::trace(&left.output, before, &after),
+        status,
+        output,
+    )
+}
+
+#[test]
+fn what_a_run_leaves_goes_together_with_its_trace(rt: HostRuntime) -> Result<(), Fail> {
+    let alloc = rt.alloc();
+    let tape = formatted(alloc)?;
+    let mut store = Vec::from_slice(alloc, b"store A 0001 00000000 ")?;
+    store.resize(store.len() + 1200, b'4')?;
+    // The first crossing that is lost lies in the write of the file's three records, the second after it.
+    let unclear = b"check no 1506 5 Unclear\n".as_slice();
+    let made = b"check ok\nbefore notlif\nafter SECOND\n".as_slice();
+    let rows: [(&str, &[u8], &[u8], u8, u8, &[u8]); 5] = [
+        ("TAPE", &tape, &store, 0, 0, TOGETHER),
+        ("TAPE", &tape, DAY, 0, 0, TOGETHER),
+        ("TAPE", &[], b"format SECOND 16\n", 0, 0, made),
+        ("--lose 4500 TAPE", &tape, &store, 1, 1, unclear),
+        ("--lose 5000 TAPE", &tape, &store, 1, 0, TOGETHER),
+    ];
+    for (words, before, script, ended, status, output) in rows {
+        let given = runs::Given::script(before, script).with_words(words);
+        is_told_of_a_run(&rt, alloc, &given, ended, status, output)?;
     }
     Ok(())
 }
 
 #[test]
-fn checks_that_end_early_write_nothing(rt: HostRuntime) -> Result<(), Fail> {
+fn checks_without_words_or_images_write_nothing(rt: HostRuntime) -> Result<(), Fail> {
     let alloc = rt.alloc();
     let tape = formatted(alloc)?;
     let long = vec![in alloc; 0; 630_785]?;
     let given = Given::trace(b"ok\n", &tape, &tape);
-    for words in [
-        "check 0 1 TAPE TAPE",
-        "check 31 1 TAPE TAPE",
-        "check 2 0 TAPE TAPE",
-        "check 2 3 TAPE TAPE",
-        "check 02 1 TAPE TAPE",
-        "check 2 1 TAPE",
-        "check 2 1 TAPE TAPE TAPE",
-        "Check 2 1 TAPE TAPE",
+    for (words, status) in [
+        ("check 0 1 B A", 2),
+        ("check 31 1 B A", 2),
+        ("check 2 0 B A", 2),
+        ("check 2 3 B A", 2),
+        ("check 02 1 B A", 2),
+        ("check 2 1 B", 2),
+        ("check 2 1 B A A", 2),
+        ("Check 2 1 B A", 2),
+        ("check 2 1 A B", 3),
     ] {
-        answers(&rt, alloc, &Given { words, ..given }, 2, b"")?;
+        answers(&rt, alloc, &Given { words, ..given }, status, b"")?;
     }
-    let rows = [
-        (
-            Given {
-                before: None,
-                ..given
-            },
-            3,
-        ),
-        (
-            Given {
-                after: None,
-                ..given
-            },
-            3,
-        ),
-        (
-            Given {
-                before: Some(&long),
-                ..given
-            },
-            4,
-        ),
-        (
-            Given {
-                after: Some(&long),
-                ..given
-            },
-            4,
-        ),
-        (
-            Given {
-                failing_takes: &[2],
-                ..given
-            },
-            5,
-        ),
-        (
-            Given {
-                failing_puts: &[1],
-                ..given
-            },
-            6,
-        ),
-        (
-            Given {
-                failing_inserts: &[1],
-                ..given
-            },
-            9,
-        ),
-        (
-            Given {
-                failing_reads: &[512],
-                ..given
-            },
-            10,
-        ),
+    let rows: [(Option<&[u8]>, Option<&[u8]>, u8); 4] = [
+        (None, Some(&tape), 3),
+        (Some(&tape), None, 3),
+        (Some(&long), Some(&tape), 4),
+        (Some(&tape), Some(&long), 4),
     ];
-    for (given, status) in rows {
+    for (before, after, status) in rows {
+        let given = Given {
+            before,
+            after,
+            ..given
+        };
+        answers(&rt, alloc, &given, status, b"")?;
+    }
+    Ok(())
+}
+
+/// Traces, the takes of them and the puts that fail, the inserts of either tape, the reads of either, and the status.
+const FAILURES: [(&[u8], (Calls, Calls), (Calls, Calls), (Calls, Calls), u8); 9] = [
+    (b"ok\n", (&[1], &[]), NONE, NONE, 5),
+    (b"ok\n", (&[2], &[]), NONE, NONE, 5),
+    (b"~\n", (&[2], &[]), NONE, NONE, 5),
+    (b"ok\n", (&[], &[1]), NONE, NONE, 6),
+    (b"~\n", (&[], &[1]), NONE, NONE, 6),
+    (b"ok\n", NONE, (&[1], &[]), NONE, 9),
+    (b"ok\n", NONE, (&[], &[1]), NONE, 9),
+    (b"ok\n", NONE, NONE, (&[512], &[]), 10),
+    (b"ok\n", NONE, NONE, (&[], &[512]), 10),
+];
+
+#[test]
+fn checks_of_which_a_call_fails_write_nothing(rt: HostRuntime) -> Result<(), Fail> {
+    let alloc = rt.alloc();
+    let tape = formatted(alloc)?;
+    let given = Given::trace(b"ok\n", &tape, &tape);
+    for (trace, calls, failing_inserts, failing_reads, status) in FAILURES {
+        let given = Given {
+            trace,
+            failing_takes: calls.0,
+            failing_puts: calls.1,
+            failing_inserts,
+            failing_reads,
+            ..given
+        };
         answers(&rt, alloc, &given, status, b"")?;
     }
     Ok(())

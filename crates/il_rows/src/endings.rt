@@ -1,17 +1,18 @@
 //! How runs end, and what they leave.
 
-use crate::images::formatted;
+use crate::images::{END_ENTRY, FILE_ENTRY, SECOND_REDO_ENTRY, formatted, with_entries};
 use crate::runs::{Given, answers, run};
-use il_same::same;
+use il_same::{same, same_bytes};
 use std::alloc::Global;
+use std::process::Abort;
 use std::test::Fail;
 
 const LISTED: &[u8] = b"volume HPTAPE 2 2 1 16\nfile REDOFILE E0D0 508 4 00000000\nok\n";
 
-/// The status of a run, and how many bytes it wrote.
-fn ending_of(alloc: Global, given: &Given) -> Result<(u8, usize), Fail> {
+/// The status of a run, how many bytes it wrote, and whether it left the image.
+fn ending_of(alloc: Global, given: &Given) -> Result<(u8, usize, bool), Fail> {
     let left = run(alloc, given)?;
-    Ok((left.status, left.output.len()))
+    Ok((left.status, left.output.len(), left.writes.is_empty()))
 }
 
 #[test]
@@ -29,7 +30,7 @@ fn words_that_are_refused(rt: HostRuntime) -> Result<(), Fail> {
     ];
     for words in refused {
         let given = Given::script(&image, b"dir\n").with_words(words);
-        assert!(rt; same(ending_of(alloc, &given)?, (2, 0)), "{words}");
+        assert!(rt; same(ending_of(alloc, &given)?, (2, 0, true)), "{words}");
     }
     Ok(())
 }
@@ -40,10 +41,9 @@ fn each_early_ending_has_its_status_and_writes_nothing(rt: HostRuntime) -> Resul
     let image = formatted(alloc)?;
     let long = vec![in alloc; 0; 630_785]?;
     let dir = Given::script(&image, b"dir\n");
-    let other = dir.with_words("tape");
     let cases = [
         (Given { image: None, ..dir }, 3),
-        (other, 3),
+        (dir.with_words("tape"), 3),
         (Given::script(&long, b"dir\n"), 4),
         (
             Given {
@@ -70,7 +70,7 @@ fn each_early_ending_has_its_status_and_writes_nothing(rt: HostRuntime) -> Resul
     ];
     for (given, status) in cases {
         assert!(rt;
-            same(ending_of(alloc, &given)?, (status, 0)),
+            same(ending_of(alloc, &given)?, (status, 0, true)),
             "status {status}"
         );
     }
@@ -119,7 +119,10 @@ fn a_long_comment_is_skipped(rt: HostRuntime) -> Result<(), Fail> {
     let image = formatted(alloc)?;
     let comment = vec![in alloc; b'#'; 262_144]?;
     assert!(rt;
-        same(ending_of(alloc, &Given::script(&image, &comment))?, (0, 0)),
+        same(
+            ending_of(alloc, &Given::script(&image, &comment))?,
+            (0, 0, true)
+        ),
         "a comment"
     );
     Ok(())
@@ -167,16 +170,40 @@ fn a_fault_cuts_off_the_line_that_it_meets(rt: HostRuntime) -> Result<(), Fail> 
     answers(&rt, alloc, &given, 5, LISTED)
 }
 
+const LABELLED: &[u8] = b"label HPTAPE\nok\n";
+
+/// A script in pieces of six bytes, of which these takes fail, has these replies. The tape is left or not.
+fn is_cut_off<'x>(
+    rt: &impl Abort,
+    alloc: Global,
+    tape: &'x [u8],
+    script: &'x [u8],
+    failing_takes: &'x [u64],
+    output: &[u8],
+    is_left: bool,
+) -> Result<(), Fail> {
+    let given = Given {
+        failing_takes,
+        piece: 6,
+        ..Given::script(tape, script)
+    };
+    let left = run(alloc, &given)?;
+    assert!(rt; same_bytes(&left.output, output), "the output");
+    assert!(rt; same(left.status, 5), "the status");
+    assert!(rt; same(left.writes.is_empty(), is_left), "the writes");
+    Ok(())
+}
+
 #[test]
 fn complete_lines_before_a_fault_are_answered(rt: HostRuntime) -> Result<(), Fail> {
     let alloc = rt.alloc();
-    let image = formatted(alloc)?;
-    let given = Given {
-        failing_takes: &[2],
-        piece: 6,
-        ..Given::script(&image, b"label\nlabel\n")
-    };
-    answers(&rt, alloc, &given, 5, b"label HPTAPE\nok\n")
+    let tape = with_entries(alloc, &[FILE_ENTRY, SECOND_REDO_ENTRY, END_ENTRY])?;
+    let (label, batch) = (b"label\nlabel\n", b"label\nbegin\npurge A\ncommit\n");
+    is_cut_off(&rt, alloc, &tape, label, &[2], LABELLED, true)?;
+    // A batch is answered with the end of its last line.
+    is_cut_off(&rt, alloc, &tape, batch, &[5], LABELLED, true)?;
+    let output = b"label HPTAPE\nok\nok\n";
+    is_cut_off(&rt, alloc, &tape, batch, &[6], output, false)
 }
 
 #[test]
@@ -186,5 +213,9 @@ fn a_script_has_a_greatest_length(rt: HostRuntime) -> Result<(), Fail> {
     let mut feeds = vec![in alloc; b'\n'; 16_777_216]?;
     answers(&rt, alloc, &Given::script(&image, &feeds), 0, b"")?;
     feeds.push(b'\n')?;
-    answers(&rt, alloc, &Given::script(&image, &feeds), 8, b"")
+    for (byte, letter) in feeds.iter_mut().zip(b"label\nbegin\n") {
+        *byte = *letter;
+    }
+    let given = Given::script(&image, &feeds);
+    answers(&rt, alloc, &given, 8, LABELLED)
 }

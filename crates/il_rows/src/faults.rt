@@ -1,5 +1,6 @@
 //! Faults of the loop and of the medium: a command counts whole or not at all.
 
+use crate::batches::{batch_on, upgraded};
 use crate::images::formatted;
 use crate::runs::{Given, answers, run, words_with};
 use il_same::{same, same_bytes};
@@ -32,6 +33,14 @@ fn store_on<'a>(tape: &'a [u8]) -> Change<'a> {
         script: SCRIPT,
         without: WITHOUT,
         with: WITH,
+    }
+}
+
+/// The same file, put as a text.
+fn put_on<'a>(tape: &'a [u8]) -> Change<'a> {
+    Change {
+        script: b"put A 41\ndir\n",
+        ..store_on(tape)
     }
 }
 
@@ -88,19 +97,41 @@ impl<'a> Change<'a> {
         }
         Ok(1000)
     }
+
+    /// How many reads the change makes. A fault of each of them leaves it made or not.
+    fn reads_tried(&self, rt: &impl Abort, alloc: Global) -> Result<u64, Fail> {
+        for read in 1..20 {
+            let given = Given {
+                failing_reads: &[read],
+                ..Given::script(self.tape, self.script)
+            };
+            let left = run(alloc, &given)?;
+            if left.output.starts_with(b"ok\n") {
+                return Ok(read - 1);
+            }
+            assert!(rt;
+                self.listed_behind(alloc, b"fault medium\n", &left.output)?
+                    .is_some(),
+                "read {read}"
+            );
+            assert!(rt; same(left.status, 1), "the status of read {read}");
+        }
+        Ok(20)
+    }
 }
 
 #[test]
-fn a_store_counts_whole_or_not_at_all(rt: HostRuntime) -> Result<(), Fail> {
+fn a_file_counts_whole_or_not_at_all(rt: HostRuntime) -> Result<(), Fail> {
     let alloc = rt.alloc();
     let tape = formatted(alloc)?;
-    let store = store_on(&tape);
-    let lost = store.crossings_tried(&rt, alloc, "--lose ", "")?;
-    let altered = store.crossings_tried(&rt, alloc, "--alter ", ":01")?;
-    // The store has 7,602 crossings: 33 to address the loop and clear the drive, 849 for each of three reads and 837 for
+    // Either has 7,602 crossings: 33 to address the loop and clear the drive, 849 for each of three reads and 837 for
     // each of six writes.
-    assert!(rt; same(lost, 79), "the crossings that are lost");
-    assert!(rt; same(altered, lost), "the crossings that are altered");
+    for change in [store_on(&tape), put_on(&tape)] {
+        let lost = change.crossings_tried(&rt, alloc, "--lose ", "")?;
+        let altered = change.crossings_tried(&rt, alloc, "--alter ", ":01")?;
+        assert!(rt; same(lost, 79), "the crossings that are lost");
+        assert!(rt; same(altered, lost), "the crossings that are altered");
+    }
     for (words, output) in [
         ("--quiet --lose 7602 TAPE", b"fault frame\n".as_slice()),
         ("--quiet --lose 7603 TAPE", b"ok\n".as_slice()),
@@ -165,33 +196,14 @@ fn each_write_of_a_store_fails(rt: HostRuntime) -> Result<(), Fail> {
     Ok(())
 }
 
-/// How many reads the store makes. A fault of each of them leaves the file or not.
-fn reads_tried(rt: &impl Abort, alloc: Global) -> Result<u64, Fail> {
-    let tape = formatted(alloc)?;
-    for read in 1..20 {
-        let left = run(
-            alloc,
-            &Given {
-                failing_reads: &[read],
-                ..Given::script(&tape, SCRIPT)
-            },
-        )?;
-        if left.output.starts_with(b"ok\n") {
-            return Ok(read - 1);
-        }
-        assert!(rt;
-            listed_behind(alloc, b"fault medium\n", &left.output)?.is_some(),
-            "read {read}"
-        );
-        assert!(rt; same(left.status, 1), "the status of read {read}");
-    }
-    Ok(20)
-}
-
 #[test]
-fn each_read_of_a_store_fails(rt: HostRuntime) -> Result<(), Fail> {
+fn each_read_of_a_change_fails(rt: HostRuntime) -> Result<(), Fail> {
+    let alloc = rt.alloc();
+    let (tape, second) = (formatted(alloc)?, upgraded(alloc)?);
     // The gate, record 0 and the directory's record; the commit reads none.
-    assert!(rt; same(reads_tried(&rt, rt.alloc())?, 3), "the reads");
+    for change in [store_on(&tape), put_on(&tape), batch_on(&second)] {
+        assert!(rt; same(change.reads_tried(&rt, alloc)?, 3), "the reads");
+    }
     Ok(())
 }
 

@@ -33,7 +33,7 @@ fn run_over(
     let mut out = MemorySink::new(alloc, 100_000, Vec::new(alloc))?;
     let mut fails = Vec::new(alloc);
     fails.push(fail)?;
-    let shelf = shelf_of(alloc, Some(image))?;
+    let shelf = shelf_of(alloc, "TAPE", Some(image))?;
     let rig = Rig {
         medium: FileMedium::new(MemoryImages::new(alloc, shelf, most, Vec::new(alloc), fails)),
         before: Vec::new(alloc),

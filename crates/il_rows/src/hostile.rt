@@ -1,29 +1,43 @@
 //! Images that hold no volume, each with one change in one that does.
 
-use crate::images::{END_ENTRY, REDO_ENTRY, formatted, with_entries};
-use crate::runs::{Given, answers};
+use crate::images::{END_ENTRY, REDO_ENTRY, with_entries, with_header};
+use crate::runs::{Given, answers, run};
+use il_same::{same, same_bytes};
 use std::alloc::{AllocError, Global};
 use std::process::Abort;
 use std::test::Fail;
 
-/// Nothing is found on the image.
-fn is_no_volume(rt: &impl Abort, alloc: Global, image: &[u8]) -> Result<(), Fail> {
-    answers(
-        rt,
-        alloc,
-        &Given::script(image, b"dir\n"),
-        1,
-        b"error 3 NotLif\n",
-    )
-}
+/// Twelve commands of a volume, and one of the loop, which no second controller is on.
+const COMMANDS: &[u8] = b"\
+dir
+label
+fetch A
+store A 0001 00000000 41
+rename A B
+purge A
+adopt
+upgrade
+begin
+purge A
+commit
+pack
+put T 41
+get T
+lend 1
+";
 
-/// A formatted volume with these bytes at a place of record 0.
-fn with_header(alloc: Global, place: usize, bytes: &[u8]) -> Result<Vec<u8>, AllocError> {
-    let mut image = formatted(alloc)?;
-    for (byte, new) in image.iter_mut().skip(place).zip(bytes) {
-        *byte = *new;
+/// No command of a volume finds one on the image, or writes to it.
+fn is_no_volume(rt: &impl Abort, alloc: Global, image: &[u8]) -> Result<(), Fail> {
+    let mut wanted = Vec::new(alloc);
+    for _ in 0..12 {
+        wanted.extend_from_slice(b"error 3 NotLif\n")?;
     }
-    Ok(image)
+    wanted.extend_from_slice(b"error 17 NoTaker\n")?;
+    let left = run(alloc, &Given::script(image, COMMANDS))?;
+    assert!(rt; same_bytes(&left.output, &wanted), "the output");
+    assert!(rt; same(left.status, 1), "the status");
+    assert!(rt; left.writes.is_empty(), "no write");
+    Ok(())
 }
 
 #[test]

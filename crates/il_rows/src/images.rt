@@ -17,6 +17,13 @@ pub const END_ENTRY: &[u8] =
 /// The entry of a file A of one record, the first behind the directory.
 pub const FILE_ENTRY: &[u8] = b"A         \0\x01\0\0\0\x04\0\0\0\x01\0\0\0\0\0\0\x80\x01\0\0\0\0";
 
+/// The entry of such a redo file while a file in the first slot is being moved, of which one record stands at its new
+/// place, and the entry of that file.
+const MOVING_REDO_ENTRY: &[u8] =
+    b"REDOFILE  \xE0\xD0\0\0\x01\xDE\0\0\0\x22\0\0\0\0\0\0\x80\x01\0\x01\0\x01";
+
+const MOVING_ENTRY: &[u8] = b"A         \0\x01\0\0\0\x05\0\0\0\x02\0\0\0\0\0\0\x80\x01\0\0\0\0";
+
 /// The header of a volume HPTAPE with room for sixteen entries in records 2 and 3.
 const HEADER: &[u8] =
     b"\x80\0HPTAPE\0\0\0\x02\x10\0\0\0\0\0\0\x02\0\x01\0\0\0\0\0\x02\0\0\0\x01\0\0\x01\0\0\0\0\0\0\0";
@@ -41,6 +48,37 @@ pub(crate) fn with_entries(alloc: Global, entries: &[&[u8]]) -> Result<Vec<u8>, 
 /// A volume as it is formatted: the redo file alone.
 pub(crate) fn formatted(alloc: Global) -> Result<Vec<u8>, AllocError> {
     with_entries(alloc, &[REDO_ENTRY, END_ENTRY])
+}
+
+/// A volume on which a file is being moved.
+pub(crate) fn with_packing_mark(alloc: Global) -> Result<Vec<u8>, AllocError> {
+    with_entries(alloc, &[MOVING_ENTRY, MOVING_REDO_ENTRY, END_ENTRY])
+}
+
+/// A formatted volume with these bytes at a place of record 0.
+pub(crate) fn with_header(
+    alloc: Global,
+    place: usize,
+    bytes: &[u8],
+) -> Result<Vec<u8>, AllocError> {
+    let mut image = formatted(alloc)?;
+    for (byte, new) in image.iter_mut().skip(place).zip(bytes) {
+        *byte = *new;
+    }
+    Ok(image)
+}
+
+/// A formatted volume with an open redo, by which its record 0 begins with these bytes.
+pub(crate) fn with_redo_of_header(alloc: Global, header: &[u8]) -> Result<Vec<u8>, AllocError> {
+    let mut image = with_open_gate(alloc)?;
+    image.resize(256 * 509, 0)?;
+    image.extend_from_slice(b"LIFREDO1\0\x01\0\0")?;
+    image.resize(256 * 510, 0)?;
+    image.extend_from_slice(header)?;
+    for byte in HEADER.iter().skip(header.len()) {
+        image.push(*byte)?;
+    }
+    Ok(image)
 }
 
 /// A volume of another make, with one program and these entries behind it, and no redo file.

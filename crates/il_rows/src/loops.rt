@@ -8,7 +8,7 @@ use std::process::Abort;
 use std::test::Fail;
 
 /// The frames of the first `status` of a run, over a drive and a printer.
-const STATUS_TRACE: &[u8] =
+pub(crate) const STATUS_TRACE: &[u8] =
     b"~ 0 IFC = IFC\n~ 0 RFC = RFC\n~ 0 AAU = AAU\n~ 0 RFC = RFC\n~ 0 AAD 01 = AAD 03\n~ 0 UNL = UNL\n~ 0 RFC = RFC\n~ 0 TAD 01 = TAD 01\n~ 0 RFC = RFC\n~ 0 SST > 1\n~ 0 NRD = NRD\n~ 1 DAB 00 = DAB 00\n~ 1 ETO > 0\n~ 0 UNT = UNT\n~ 0 RFC = RFC\nstatus 00\nok\n";
 
 /// The frames of the first `status` up to the byte of the drive's status.
@@ -135,6 +135,7 @@ fn a_kept_directory_needs_no_frame(rt: HostRuntime) -> Result<(), Fail> {
     let mut twice = Vec::from_slice(alloc, listed)?;
     twice.extend_from_slice(listed)?;
     assert!(rt; left.output.ends_with(&twice), "two listings");
+    assert!(rt; same(left.status, 0), "their status");
     let lost = run(
         alloc,
         &Given::script(&tape, b"dir\ndir\n").with_words("--lose 1 TAPE"),

@@ -1,5 +1,7 @@
 //! Packing: files move together, and a stop or a fault at any moment keeps each of them.
 
+ghost use Rattle.std.specs.Prelude.{◌≤◌};
+
 use crate::faults::stopped_at;
 use crate::images::{END_ENTRY, foreign_with, formatted};
 use crate::runs::{Given, answers, run, words_with};
@@ -112,23 +114,66 @@ fn each_write_of_a_packing_fails(rt: HostRuntime) -> Result<(), Fail> {
     Ok(())
 }
 
-#[test]
-fn a_packing_whose_frames_are_lost_keeps_the_files(rt: HostRuntime) -> Result<(), Fail> {
-    let alloc = rt.alloc();
-    let tape = with_gap(alloc, 2)?;
+/// How many of the crossings 1, 1 + step and so on a packing has. A fault at each of them keeps the files.
+fn crossings_tried(
+    rt: &impl Abort,
+    alloc: Global,
+    tape: &[u8],
+    option: &str,
+    change: &str,
+    step: u64,
+) -> Result<u64, Fail>
+    requires { step ≤ 1000 }
+{
     let faulted = then_fetched(alloc, b"fault frame\n", 2)?;
     for tried in 0..1000 {
-        let words = words_with(alloc, "--lose ", 97 * tried + 1, "")?;
-        let given = Given::script(&tape, b"pack\nfetch B\n").with_words(&words);
+        let words = words_with(alloc, option, step * tried + 1, change)?;
+        let given = Given::script(tape, b"pack\nfetch B\n").with_words(&words);
         let left = run(alloc, &given)?;
         if left.output.starts_with(b"packed 2 471\nok\n") {
-            assert!(rt; same(tried, 348), "the crossings");
-            return Ok(());
+            return Ok(tried);
         }
         assert!(rt; same_bytes(&left.output, &faulted), "crossing {tried}");
     }
-    Err("a packing without a fault")?
+    Ok(1000)
 }
+
+#[test]
+fn a_packing_whose_frames_are_lost_or_altered_keeps_the_files(rt: HostRuntime) -> Result<(), Fail> {
+    let alloc = rt.alloc();
+    let tape = with_gap(alloc, 2)?;
+    for (option, change, step, count) in [("--lose ", "", 97, 348), ("--alter ", ":01", 970, 35)] {
+        let tried = crossings_tried(&rt, alloc, &tape, option, change, step)?;
+        assert!(rt; same(tried, count), "the crossings of {option}");
+    }
+    Ok(())
+}
+
+/// Scripts over a volume of which the file B is being moved, and the replies.
+const FINISHED: [(&[u8], &[u8]); 7] = [
+    (
+        b"dir\n",
+        b"volume HPTAPE 2 2 4 16\nfile B 0001 4 40 00000000\nfile C 0001 45 1 00000000\nfile REDOFILE E0D0 478 34 00000000\nok\n",
+    ),
+    (
+        b"store D 0001 00000000 44\ndir\n",
+        b"ok\nvolume HPTAPE 2 2 5 16\nfile B 0001 4 40 00000000\nfile C 0001 45 1 00000000\nfile D 0001 46 1 00000000\nfile REDOFILE E0D0 478 34 00000000\nok\n",
+    ),
+    (
+        b"begin\nrename B D\npurge C\ncommit\ndir\n",
+        b"ok\nvolume HPTAPE 2 2 4 16\nfile D 0001 4 40 00000000\nfile REDOFILE E0D0 478 34 00000000\nok\n",
+    ),
+    (
+        b"put T 41\ndir\n",
+        b"ok\nvolume HPTAPE 2 2 5 16\nfile B 0001 4 40 00000000\nfile C 0001 45 1 00000000\nfile T 0001 46 1 00000000\nfile REDOFILE E0D0 478 34 00000000\nok\n",
+    ),
+    (
+        b"upgrade\ndir\n",
+        b"ok\nvolume HPTAPE 2 2 4 16\nfile B 0001 4 40 00000000\nfile C 0001 45 1 00000000\nfile REDOFILE E0D0 478 34 00000000\nok\n",
+    ),
+    (b"label\n", b"label HPTAPE\nok\n"),
+    (b"pack\n", b"packed 1 433\nok\n"),
+];
 
 #[test]
 fn the_next_command_finishes_a_packing(rt: HostRuntime) -> Result<(), Fail> {
@@ -140,22 +185,11 @@ fn the_next_command_finishes_a_packing(rt: HostRuntime) -> Result<(), Fail> {
         return Err("sixty-six writes")?;
     };
     let marked = stopped_at(alloc, &tape, writes, &[0; 256])?;
-    for (script, output) in [
-        (
-            b"dir\n".as_slice(),
-            b"volume HPTAPE 2 2 4 16\nfile B 0001 4 40 00000000\nfile C 0001 45 1 00000000\nfile REDOFILE E0D0 478 34 00000000\nok\n".as_slice(),
-        ),
-        (
-            b"store D 0001 00000000 44\ndir\n",
-            b"ok\nvolume HPTAPE 2 2 5 16\nfile B 0001 4 40 00000000\nfile C 0001 45 1 00000000\nfile D 0001 46 1 00000000\nfile REDOFILE E0D0 478 34 00000000\nok\n",
-        ),
-        (
-            b"begin\nrename B D\npurge C\ncommit\ndir\n",
-            b"ok\nvolume HPTAPE 2 2 4 16\nfile D 0001 4 40 00000000\nfile REDOFILE E0D0 478 34 00000000\nok\n",
-        ),
-        (b"pack\n", b"packed 1 433\nok\n"),
-    ] {
-        answers(&rt, alloc, &Given::script(&marked, script), 0, output)?;
+    for (script, output) in FINISHED {
+        let left = run(alloc, &Given::script(&marked, script))?;
+        assert!(rt; same_bytes(&left.output, output), "the output");
+        assert!(rt; same(left.status, 0), "the status");
+        assert!(rt; !left.writes.is_empty(), "the rest is moved");
     }
     Ok(())
 }

@@ -98,14 +98,16 @@ pub(crate) fn words_of(alloc: Global, words: &str) -> Result<Vec<String>, AllocE
     Ok(all)
 }
 
+/// A shelf with an image of this name, where there is one.
 pub(crate) fn shelf_of(
     alloc: Global,
+    name: &str,
     image: Option<&[u8]>,
 ) -> Result<Vec<(String, Vec<u8>)>, AllocError> {
     let mut shelf = Vec::new(alloc);
     if let Some(bytes) = image {
         shelf.push((
-            String::from_str(alloc, "TAPE")?,
+            String::from_str(alloc, name)?,
             Vec::from_slice(alloc, bytes)?,
         ))?;
     }
@@ -184,7 +186,7 @@ fn rig_of(alloc: Global, given: &Given) -> Result<Rig<MemoryMedium>, AllocError>
 {
     let medium = MemoryMedium::new(
         alloc,
-        shelf_of(alloc, given.image)?,
+        shelf_of(alloc, "TAPE", given.image)?,
         Vec::from_slice(alloc, given.failing_reads)?,
         Vec::from_slice(alloc, given.failing_writes)?,
         Vec::from_slice(alloc, given.failing_inserts)?,

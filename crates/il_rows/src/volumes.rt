@@ -199,17 +199,24 @@ fn slot_of(image: &Option<Vec<u8>>, k: usize) -> Option<&[u8]> {
     image.as_deref()?.get(512..)?.chunks(32).nth(k)
 }
 
+/// The replies to the scripts that store six files and seven.
+const SIX_FILES: &[u8] =
+    b"ok\nok\nok\nok\nok\nok\nvolume HPTAPE 2 2 7 16\nfile F1 0001 4 1 00000000\nfile F2 0001 5 1 00000000\nfile F3 0001 6 1 00000000\nfile F4 0001 7 1 00000000\nfile F5 0001 8 1 00000000\nfile F6 0001 9 1 00000000\nfile REDOFILE E0D0 508 4 00000000\nok\n";
+
+const SEVEN_FILES: &[u8] =
+    b"ok\nok\nok\nok\nok\nok\nok\nvolume HPTAPE 2 2 8 16\nfile F1 0001 4 1 00000000\nfile F2 0001 5 1 00000000\nfile F3 0001 6 1 00000000\nfile F4 0001 7 1 00000000\nfile F5 0001 8 1 00000000\nfile F6 0001 9 1 00000000\nfile F7 0001 10 1 00000000\nfile REDOFILE E0D0 508 4 00000000\nok\n";
+
 #[test]
 fn the_redo_entry_moves_behind_new_files(rt: HostRuntime) -> Result<(), Fail> {
     let alloc = rt.alloc();
-    let wanted =
-        b"ok\nok\nok\nok\nok\nok\nok\nvolume HPTAPE 2 2 8 16\nfile F1 0001 4 1 00000000\nfile F2 0001 5 1 00000000\nfile F3 0001 6 1 00000000\nfile F4 0001 7 1 00000000\nfile F5 0001 8 1 00000000\nfile F6 0001 9 1 00000000\nfile F7 0001 10 1 00000000\nfile REDOFILE E0D0 508 4 00000000\nok\n";
     // Zeros in the slots of record 3, and then old bytes.
     for old in [0, 0x33] {
         let mut tape = formatted(alloc)?;
         tape.truncate(768);
         tape.resize(1024, old)?;
         let six = run(alloc, &Given::script(&tape, &numbered_files(alloc, b'6')?))?;
+        assert!(rt; same_bytes(&six.output, SIX_FILES), "six files, over {old}");
+        assert!(rt; same(six.status, 0), "their status, over {old}");
         assert!(rt;
             same(slot_of(&six.image, 6), Some(REDO_ENTRY)),
             "the seventh slot of six files"
@@ -219,7 +226,10 @@ fn the_redo_entry_moves_behind_new_files(rt: HostRuntime) -> Result<(), Fail> {
             "the eighth slot of six files"
         );
         let seven = run(alloc, &Given::script(&tape, &numbered_files(alloc, b'7')?))?;
-        assert!(rt; same_bytes(&seven.output, wanted), "the output, over {old}");
+        assert!(rt;
+            same_bytes(&seven.output, SEVEN_FILES),
+            "the output, over {old}"
+        );
         assert!(rt; same(seven.status, 0), "the status, over {old}");
         assert!(rt;
             same(slot_of(&seven.image, 7), Some(REDO_ENTRY)),
@@ -381,28 +391,41 @@ fn a_byte_more_than_a_tape_is_a_disc(rt: HostRuntime) -> Result<(), Fail> {
     )
 }
 
+/// Scripts over a volume whose open redo puts the file A there, the status, and the replies.
+const SETTLED: [(&[u8], u8, &[u8]); 5] = [
+    (
+        b"dir\n",
+        0,
+        b"volume HPTAPE 2 2 2 16\nfile A 0001 4 1 00000000\nfile REDOFILE E0D0 508 4 00000000\nok\n",
+    ),
+    (
+        b"upgrade\ndir\n",
+        0,
+        b"ok\nvolume HPTAPE 2 2 2 16\nfile A 0001 4 1 00000000\nfile REDOFILE E0D0 478 34 00000000\nok\n",
+    ),
+    (
+        b"put T 41\ndir\n",
+        0,
+        b"ok\nvolume HPTAPE 2 2 3 16\nfile A 0001 4 1 00000000\nfile T 0001 5 1 00000000\nfile REDOFILE E0D0 508 4 00000000\nok\n",
+    ),
+    (b"begin\npurge A\ncommit\n", 1, b"error 14 NeedsUpgrade\n"),
+    (b"pack\n", 1, b"error 14 NeedsUpgrade\n"),
+];
+
 #[test]
 fn an_open_redo_is_settled_first(rt: HostRuntime) -> Result<(), Fail> {
     let alloc = rt.alloc();
     let open = with_redo(alloc, b"LIFREDO1 OPEN   ", 1)?;
-    let left = run(alloc, &Given::script(&open, b"dir\n"))?;
-    assert!(rt;
-        same_bytes(
-            &left.output,
-            b"volume HPTAPE 2 2 2 16\nfile A 0001 4 1 00000000\nfile REDOFILE E0D0 508 4 00000000\nok\n"
-        ),
-        "the listing"
-    );
-    let zeros = [0; 256];
-    assert!(rt;
-        same(
-            left.image
-                .as_deref()
-                .and_then(|bytes| bytes.get(508 * 256..509 * 256)),
-            Some(zeros.as_slice())
-        ),
-        "the gate"
-    );
+    for (script, status, output) in SETTLED {
+        let left = run(alloc, &Given::script(&open, script))?;
+        assert!(rt; same_bytes(&left.output, output), "the output");
+        assert!(rt; same(left.status, status), "the status");
+        let gate = left
+            .image
+            .as_deref()
+            .and_then(|bytes| bytes.get(508 * 256..509 * 256));
+        assert!(rt; same(gate, Some([0; 256].as_slice())), "the gate");
+    }
     // With another sixteenth byte the gate is closed.
     let closed = with_redo(alloc, b"LIFREDO1 OPEN  X", 1)?;
     answers(&rt, alloc, &Given::script(&closed, b"dir\n"), 0, FORMATTED)?;

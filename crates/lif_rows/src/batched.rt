@@ -7,8 +7,8 @@ use crate::labels::row;
 use crate::stops::{C, D, E, F, G, stopped, stops, torn_contents};
 use crate::tapes::put;
 use crate::volumes::{
-    EXISTS, FILE, HEADER, NO_FILE, NO_REDO, PURGED, REDO, REDO_TWO, RENAMED, SECOND_FILE, Step,
-    change_now, dir_now, fetch_now, holds, new_name, open_now, resume_now, shows, tape_with,
+    EXISTS, FILE, HEADER, NO_FILE, NO_REDO, NOT_LIF, PURGED, REDO, REDO_TWO, RENAMED, SECOND_FILE,
+    Step, change_now, dir_now, fetch_now, holds, new_name, open_now, resume_now, shows, tape_with,
 };
 use il_ports::{Records, Trouble};
 use il_same::same;
@@ -23,7 +23,8 @@ const NEEDS_UPGRADE: Result<(), VolumeFault> = Err(VolumeFault::Refused(Refusal:
 
 const NO_SLOT: Result<(), VolumeFault> = Err(VolumeFault::Refused(Refusal::NoSlot));
 
-/// A file in record 5, the one that was stored first, purged, a purged file in records 5 and 6, and files in records 6 and 5.
+/// A file in record 5, the one that was stored first, purged, a purged file in records 5 and 6, and files in records 6
+/// and 5.
 const LATER: &[u8] = b"A         \0\x01\0\0\0\x05\0\0\0\x01\0\0\0\0\0\0\x80\x01\0\0\0\0";
 
 const GONE: &[u8] = b"B         \0\0\0\0\0\x04\0\0\0\x01\0\0\0\0\0\0\x80\x01\0\0\0\0";
@@ -53,7 +54,7 @@ const FOUR: &[Step<'static>] = &[
     Step::Purge(b"B"),
 ];
 
-const ROWS: [Row; 13] = [
+const ROWS: [Row; 14] = [
     (&[REDO_TWO], FOUR, Ok(()), &[GONE, LATER, REDO_TWO], 1, 1),
     // A name that the batch has purged is free.
     (
@@ -126,6 +127,15 @@ const ROWS: [Row; 13] = [
     ),
     (&[FILE, REDO], &[], NEEDS_UPGRADE, &[FILE, REDO], 0, 0),
     (&[FILE], &[Step::Purge(b"B")], NO_REDO, &[FILE], 0, 0),
+    // Two files of one name: no volume, which shows nothing.
+    (
+        &[FILE, LATER, REDO_TWO],
+        &[Step::Purge(b"A")],
+        NOT_LIF,
+        &[],
+        0,
+        0,
+    ),
     // The redo entry goes over into the next record of the directory.
     (
         &[FILE, C, D, E, F, G, REDO_TWO],
@@ -220,12 +230,8 @@ fn a_batch_is_answered_as_one(rt: HostRuntime) -> Result<(), Fail> {
         );
         // The same as it is read again.
         assert!(rt; resume_now(&rt, &mut volume).is_ok(), "resumed");
-        row(
-            &rt,
-            shows(&rt, &mut volume, HEADER, after),
-            "tape",
-            k as u64,
-        );
+        let front = if after.is_empty() { b"" } else { HEADER };
+        row(&rt, shows(&rt, &mut volume, front, after), "tape", k as u64);
     }
     Ok(())
 }

@@ -419,6 +419,8 @@ pub fn new_name(bytes: &[u8]) -> Option<NewName> {
     NewName::of(&Name::of(bytes)?)
 }
 
+pub const NOT_LIF: Result<(), VolumeFault> = Err(VolumeFault::Refused(Refusal::NotLif));
+
 pub const NO_REDO: Result<(), VolumeFault> = Err(VolumeFault::Refused(Refusal::NoRedo));
 
 const PROTECTED: Result<(), VolumeFault> = Err(VolumeFault::Refused(Refusal::Protected));
@@ -580,16 +582,30 @@ fn changes_the_directory(rt: HostRuntime) -> Result<(), Fail> {
             k as u64,
         );
     }
-    // A tape of zeros is no volume.
-    let blank = tape_of(&rt, alloc, 512, b"", &[], &[])?;
-    let mut volume = open_now(&rt, alloc, blank, Vec::new(alloc))?;
-    assert!(rt; shows(&rt, &mut volume, b"", &[]), "no volume");
-    let purged = change_now(&rt, &mut volume, Step::Purge(b"A"));
-    assert!(rt;
-        same(purged, Err(VolumeFault::Refused(Refusal::NotLif))),
-        "no purge on it"
-    );
-    assert!(rt; !volume.is_kept(), "nothing kept");
+    Ok(())
+}
+
+/// All steps but a format, each of which needs a volume.
+const ON_A_BLANK: [Step<'static>; 5] = [
+    Step::Purge(b"A"),
+    Step::Rename(b"A", b"B"),
+    Step::Store(b"A", b"1"),
+    Step::Adopt,
+    Step::Upgrade,
+];
+
+#[test]
+fn a_tape_of_zeros_is_no_volume(rt: HostRuntime) -> Result<(), Fail> {
+    let alloc = rt.alloc();
+    for (k, step) in ON_A_BLANK.iter().enumerate() {
+        let blank = tape_of(&rt, alloc, 512, b"", &[], &[])?;
+        let mut volume = open_now(&rt, alloc, blank, Vec::new(alloc))?;
+        let answer = change_now(&rt, &mut volume, *step);
+        row(&rt, same(answer, NOT_LIF), "answer", k as u64);
+        row(&rt, shows(&rt, &mut volume, b"", &[]), "tape", k as u64);
+        let written = volume.records().writes().len();
+        row(&rt, written == 0, "writes", k as u64);
+    }
     Ok(())
 }
 

@@ -465,8 +465,8 @@ fn receives(rt: HostRuntime) -> Result<(), Fail> {
     Ok(())
 }
 
-/// What is lost of a receive of the drive's status: the crossings of a frame, how many entries of the receive stand before its
-/// own, its source and its text.
+/// What is lost of a receive of the drive's status: the crossings of a frame, how many entries of the receive stand
+/// before its own, its source and its text.
 const LOSSES: [(u64, u64, usize, u8, &str); 11] = [
     (16, 18, 0, 0, "UNL"),
     (19, 21, 1, 0, "RFC"),

@@ -253,8 +253,8 @@ impl Reckoning {
         self.command(frame_of("UNT")?)
     }
 
-    /// A device tells its status: SST to it, the byte to the second controller, NRD round, the byte on to the device, and
-    /// ETO to the second controller.
+    /// A device tells its status: SST to it, the byte to the second controller, NRD round, the byte on to the device,
+    /// and ETO to the second controller.
     fn tell(&mut self, party: u8, status: u8) -> Result<(), Fail> {
         let guest = self.lineup.count();
         let (sst, nrd, eto) = (frame_of("SST")?, frame_of("NRD")?, frame_of("ETO")?);
@@ -372,8 +372,8 @@ impl Reckoning {
         Ok(left)
     }
 
-    /// A status is altered on one of its two ways. Where it comes back, its device ends by ETE, which silences the second
-    /// controller; and else nobody sees it.
+    /// A status is altered on one of its two ways. Where it comes back, its device ends by ETE, which silences the
+    /// second controller; and else nobody sees it.
     fn altered(
         &self,
         alloc: Global,
@@ -402,8 +402,8 @@ impl Reckoning {
         self.whole(alloc, found)
     }
 
-    /// What the lend leaves, with a fault at the crossing of this number of its own, if at any. The second controller was
-    /// told this before.
+    /// What the lend leaves, with a fault at the crossing of this number of its own, if at any. The second controller
+    /// was told this before.
     pub fn left(
         &self,
         alloc: Global,

@@ -1,5 +1,5 @@
-// Lends of the loop to a second controller: the answer, the whole log, the links that were crossed, what was told and the
-// drive's status after it, each as reckoned; and the exchanges that follow.
+// Lends of the loop to a second controller: the answer, the whole log, the links that were crossed, what was told and
+// the drive's status after it, each as reckoned; and the exchanges that follow.
 ghost use Rattle.std.specs.Prelude.{IfErr, IfOk};
 ghost use Rattle.il_control.specs.Calls.{IsIdle, IsLost};
 
@@ -239,8 +239,8 @@ fn compare(
     Ok(())
 }
 
-/// The loop is lent as reckoned, with this fault of the plan, counted by the crossings of the lend. Where it broke off, it
-/// is addressed anew.
+/// The loop is lent as reckoned, with this fault of the plan, counted by the crossings of the lend. Where it broke off,
+/// it is addressed anew.
 pub(crate) fn lend_as_reckoned(
     rt: &(impl Abort + AllocGlobal),
     idle: Idle<MemoryMedium>,
@@ -326,8 +326,8 @@ pub(crate) fn poll(
     Ok(idle)
 }
 
-/// A lend on a new loop, with this fault of the plan, and what follows: a poll tells the drive's status, and another that
-/// it is 0 then.
+/// A lend on a new loop, with this fault of the plan, and what follows: a poll tells the drive's status, and another
+/// that it is 0 then.
 pub(crate) fn lend_and_poll(
     rt: &(impl Abort + AllocGlobal),
     lending: &Lending,
@@ -350,8 +350,8 @@ pub(crate) fn lend_and_poll(
     Ok(())
 }
 
-/// On loops of the drive in every place among up to four devices and a second controller that asks few addresses or more
-/// than there are.
+/// On loops of the drive in every place among up to four devices and a second controller that asks few addresses or
+/// more than there are.
 #[test]
 fn whole_lends(rt: HostRuntime) -> Result<(), Fail> {
     for devices in DEVICES {

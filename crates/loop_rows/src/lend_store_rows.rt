@@ -132,8 +132,8 @@ fn a_store_after_a_lend(rt: HostRuntime) -> Result<(), Fail> {
     Ok(())
 }
 
-/// A loss and an alteration at each crossing of a lend of twenty frames, in which the drive tells its status: the answer is
-/// a fault of frames, and no record has changed.
+/// A loss and an alteration at each crossing of a lend of twenty frames, in which the drive tells its status: the
+/// answer is a fault of frames, and no record has changed.
 #[test]
 fn a_store_after_a_fault(rt: HostRuntime) -> Result<(), Fail> {
     let mut records = written(&rt, &[])?;

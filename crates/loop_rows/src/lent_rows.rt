@@ -27,7 +27,8 @@ fn told_by(rt: &impl AllocGlobal, log: &[Entry], party: u8, guest: u8) -> Result
     Ok(bytes)
 }
 
-/// The drive tells the status 3 once, and 0 each further time; where the lend ends before ETO, the poll after it tells 3.
+/// The drive tells the status 3 once, and 0 each further time; where the lend ends before ETO, the poll after it tells
+/// 3.
 #[test]
 fn a_status_is_told_once(rt: HostRuntime) -> Result<(), Fail> {
     // A round of a drive alone has eleven frames, with the status as the ninth. Each further time is eleven later.
@@ -140,8 +141,8 @@ fn compare_found(rt: &impl Abort, found: [Option<u8>; 31]) {
     }
 }
 
-/// A second controller behind 29 devices asks them all. A round has two frames, and of each address seven, or nine where
-/// it tells a status.
+/// A second controller behind 29 devices asks them all. A round has two frames, and of each address seven, or nine
+/// where it tells a status.
 #[test]
 fn among_thirty_devices(rt: HostRuntime) -> Result<(), Fail> {
     let frames = 2 + 29 * 7 + 2 * TWENTY_NINE.iter().filter(|kind| **kind != b'Q').count();

@@ -26,7 +26,8 @@ fn address(rt: &impl Abort, records: &mut LoopRecords<MemoryMedium>) -> Result<(
     }
 }
 
-/// The devices of a loop in order, the drive (D) among printers (P), callers (C) and quiet ones, and what a poll answers.
+/// The devices of a loop in order, the drive (D) among printers (P), callers (C) and quiet ones, and what a poll
+/// answers.
 struct Loop {
     devices: &'static [u8],
     poll: &'static str,

@@ -133,7 +133,8 @@ fn writes_and_reads_back(rt: HostRuntime) -> Result<(), Fail> {
     round_trip(&rt, 3)
 }
 
-/// What stands of two records, of 1s and of 2s, that were written with a fault planned at that crossing, and the answer.
+/// What stands of two records, of 1s and of 2s, that were written with a fault planned at that crossing, and the
+/// answer.
 fn written_with(
     rt: &(impl Abort + AllocGlobal),
     planned: Planned,
@@ -156,8 +157,8 @@ fn written_with(
     Ok(answer)
 }
 
-/// Whether a record of these bytes stands where the fault was planned behind the crossing at which its last byte came to
-/// the drive, and else nothing; at that crossing an altered last byte is the only one that is another.
+/// Whether a record of these bytes stands where the fault was planned behind the crossing at which its last byte came
+/// to the drive, and else nothing; at that crossing an altered last byte is the only one that is another.
 fn stands(record: &[u8], byte: u8, end: u64, planned: Planned) -> bool {
     let altered = planned.hop == end && planned.fault == Alter(4);
     let Some((last, front)) = record.split_last() else {
@@ -177,8 +178,8 @@ fn both_stand(image: &[u8; 512], first: u64, second: u64, planned: Planned) -> b
     stands(&image[..256], 1, first, planned) && stands(&image[256..], 2, second, planned)
 }
 
-/// A loss and an alteration at every crossing of a write of two records: the answer is a fault of frames, and each record
-/// stands as its frames came to the drive. The next resume and read work.
+/// A loss and an alteration at every crossing of a write of two records: the answer is a fault of frames, and each
+/// record stands as its frames came to the drive. The next resume and read work.
 #[test]
 fn faults_at_every_crossing(rt: HostRuntime) -> Result<(), Fail> {
     // Addressing and clearing have 11 frames of two links each, the seek has 8, and the commands of the write 6.
@@ -200,8 +201,8 @@ fn faults_at_every_crossing(rt: HostRuntime) -> Result<(), Fail> {
     Ok(())
 }
 
-/// A medium that fails to write record k of a run of three, 1 to 3: the answer is a fault of the medium, the exchanges are
-/// whole, the records before it stand, it holds what the medium left, and those behind it are as before.
+/// A medium that fails to write record k of a run of three, 1 to 3: the answer is a fault of the medium, the exchanges
+/// are whole, the records before it stand, it holds what the medium left, and those behind it are as before.
 fn failing_write(rt: &(impl Abort + AllocGlobal), k: usize) -> Result<(), Fail> {
     assert!(rt; k >= 1 && k <= 3);
     let mut records = store(rt, tape(rt.alloc(), 0, k as u64)?, false, &[])?;
@@ -228,8 +229,8 @@ fn failing_write(rt: &(impl Abort + AllocGlobal), k: usize) -> Result<(), Fail> 
     Ok(())
 }
 
-/// One that fails to read record k of a run of three: the receive ends behind the records before it, without NRD, and the
-/// status tells it.
+/// One that fails to read record k of a run of three: the receive ends behind the records before it, without NRD, and
+/// the status tells it.
 fn failing_read(rt: &(impl Abort + AllocGlobal), k: usize) -> Result<(), Fail> {
     assert!(rt; k >= 1 && k <= 3);
     let mut records = store(rt, tape(rt.alloc(), k as u64, 0)?, false, &[])?;

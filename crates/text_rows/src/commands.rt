@@ -39,6 +39,10 @@ const LINES: &str = "\
 -dir A\n\
 -label A\n\
 -adopt A\n\
+-upgrade A\n\
+-begin A\n\
+-commit A\n\
+-commits\n\
 -devices 1\n\
 -status 1\n\
 -poll 1\n\
