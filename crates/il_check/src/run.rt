@@ -155,9 +155,9 @@ fn check<S: Source, K: Sink, M: Medium>(
     }
 }
 
-/// A check: reads the words, inserts the images that they name, reads the trace to its end, and writes whether the trace,
-/// the tape before it and the tape after it go together, or the first fault. No tape is in a drive yet. The answer is the
-/// exit status, 0 to 10. Nothing is written at 2 to 5 and 7 to 10, and no image is ever written.
+/// A check: reads the words, inserts the images that they name, reads the trace to its end, and writes whether the
+/// trace, the tape before it and the tape after it go together, or the first fault. No tape is in a drive yet. The
+/// answer is the exit status, 0 to 10. Nothing is written at 2 to 5 and 7 to 10, and no image is ever written.
 pub fn run_check<S: Source, K: Sink, M: Medium>(
     alloc: Global,
     words: &[String],

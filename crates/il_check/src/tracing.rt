@@ -56,8 +56,8 @@ fn is_entry_line(line: &[u8]) -> bool
 }
 
 impl Readers {
-    /// Reads the entry of a line, of which this is the front. An error is the fault of the line, and after it the readers
-    /// know nothing more.
+    /// Reads the entry of a line, of which this is the front. An error is the fault of the line, and after it the
+    /// readers know nothing more.
     fn read(&mut self, line: &[u8]) -> Result<(), TraceFault>
         ensures reads { (k d : ℕ) (old : Tape) (log : List Entry) (whole : List ℕ) → line.now ≡ take 41 whole →
             HaveRead k d old log self.old → ReadsLine k d old log whole self.new result }
@@ -95,7 +95,8 @@ fn first_not_made(effects: &Effects, after: &[Record]) -> Option<u16>
 }
 
 impl Tracing {
-    /// No byte yet of the trace of a ring of so many devices, 1 to 30, and readers of the effects on the tape before it.
+    /// No byte yet of the trace of a ring of so many devices, 1 to 30, and readers of the effects on the tape before
+    /// it.
     pub(crate) fn new(devices: u8, effects: Effects) -> Tracing
         requires { (1 ≤ devices) × (devices ≤ 30) }
         ensures taken { (d : ℕ) (old : Tape) → IsEffectAfter d old [] effects → HasTaken devices d old [] result }
@@ -190,8 +191,8 @@ impl Tracing {
             self.end_line();
         }
     }
-    /// What is said of a trace that is at its end, of the tape before it, over which it was read, and of the tape after it:
-    /// the fault and its line or record, or `None` where they go together.
+    /// What is said of a trace that is at its end, of the tape before it, over which it was read, and of the tape after
+    /// it: the fault and its line or record, or `None` where they go together.
     pub(crate) fn verdict(&self, after: &[Record]) -> Option<(u32, TraceFault)>
         requires lines { self.now.lines + 1 < 4294967296 }
         requires size { length after.now ≡ length self.now.readers.effects.expected.records }

@@ -6,8 +6,8 @@ use il_script::read_number;
 /// The most devices of a ring.
 const MOST_DEVICES: u64 = 30;
 
-/// The number of devices of the ring, and the drive's party, that the words of a check ask for: `check K D BEFORE AFTER`. The images
-/// are named by the last two. `None` comes exactly where the words are no such words.
+/// The number of devices of the ring, and the drive's party, that the words of a check ask for: `check K D BEFORE
+/// AFTER`. The images are named by the last two. `None` comes exactly where the words are no such words.
 pub(crate) fn read_party(words: &[String]) -> Option<(u8, u8)>
     ensures party { option_map (λ party. check_order (get_or (map string_bytes words.now) 3 []) (get_or (map string_bytes words.now) 4 []) (party.0, party.1)) result
         ≡ check_asked (map string_bytes words.now) }

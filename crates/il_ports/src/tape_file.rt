@@ -34,7 +34,8 @@ pub trait TapeFile {
         requires held { HasLock (view self.old) }
         ensures { Measured (view self.old) (view self.new) result };
 
-    /// Reads bytes from place `from` on into the front of `into`, and says how many. `Ok(0)` comes only from the end on.
+    /// Reads bytes from place `from` on into the front of `into`, and says how many. `Ok(0)` comes only from the end
+    /// on.
     fn read_at(&mut self, from: u64, into: &mut [u8]) -> io::Result<usize>
         requires some { 0 < length into.old }
         requires held { HasLock (view self.old) }

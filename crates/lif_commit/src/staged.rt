@@ -28,8 +28,8 @@ use std::alloc::{AllocError, Global};
 /// How many slots one commit changes at most: those of a file and the redo entry, and an end, for each part of a batch.
 const MOST: usize = 3 * MOST_PARTS;
 
-/// The records that one commit is to change, each with what it is to hold, and the record with the end of the directory.
-/// All memory is taken by `new`.
+/// The records that one commit is to change, each with what it is to hold, and the record with the end of the
+/// directory. All memory is taken by `new`.
 #[derive(Drop)]
 pub struct Staged {
     changes: Vec<(u16, Record)>,
@@ -72,8 +72,8 @@ impl Staged {
     }
 
     /// Changes slots of a settled directory, whose slots the table has, by one commit. It is known whether the gate
-    /// reads open. Where k records of the directory change, 2 k + 3 records are read and written at most, one more where
-    /// the gate reads open, and one for each of the k past the one with the end.
+    /// reads open. Where k records of the directory change, 2 k + 3 records are read and written at most, one more
+    /// where the gate reads open, and one for each of the k past the one with the end.
     pub fn commit<R: Records>(
         &mut self,
         records: &mut R,
@@ -176,8 +176,8 @@ impl Staged {
 }
 
 impl Staged {
-    /// Brings in the records of the slots that change, and changes them in memory, one change after the other. Tells how
-    /// many slots there are then.
+    /// Brings in the records of the slots that change, and changes them in memory, one change after the other. Tells
+    /// how many slots there are then.
     fn stage<R: Records>(
         &mut self,
         records: &mut R,
@@ -362,8 +362,8 @@ impl Staged {
         Ok(())
     }
 
-    /// The place of a slot's record among the changes. Where it is not among them, it comes last; it is read where it is
-    /// not known.
+    /// The place of a slot's record among the changes. Where it is not among them, it comes last; it is read where it
+    /// is not known.
     fn bring_in<R: Records>(
         &mut self,
         records: &mut R,

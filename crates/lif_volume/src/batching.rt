@@ -33,9 +33,9 @@ impl<R: Records> Volume<R> {
     /// The files that are left after all parts are written first, each by one run, into records that no file has, and
     /// then the directory changes by one commit. A batch after which the directory is as it was writes nothing.
     ///
-    /// It is refused by `NoRedo` and `NeedsUpgrade` where the volume is not adopted with version 2, and else as the first
-    /// of its parts that is refused. Then nothing is written but what settles the tape, and the directory is read anew
-    /// by the next command.
+    /// It is refused by `NoRedo` and `NeedsUpgrade` where the volume is not adopted with version 2, and else as the
+    /// first of its parts that is refused. Then nothing is written but what settles the tape, and the directory is read
+    /// anew by the next command.
     pub fn batch(&mut self, batch: &Batch) -> Result<(), VolumeFault>
         requires open { IsOpen R.view (seen self.old) }
         requires ready { IsReadyForBatch R.view (seen self.old) }
