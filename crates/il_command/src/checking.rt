@@ -43,8 +43,8 @@ impl<R: Read + Drop, W: Write + Drop, F: TapeFile + Drop, I: Images<F> + Drop> C
     }
 }
 
-/// A check over a reader and a writer of std, and over named images, which are opened to be read alone, as `run_check` makes
-/// it.
+/// A check over a reader and a writer of std, and over named images, which are opened to be read alone, as `run_check`
+/// makes it.
 pub fn check_with<R: Read + Drop, W: Write + Drop, F: TapeFile + Drop, I: Images<F> + Drop>(
     alloc: Global,
     words: &[String],
