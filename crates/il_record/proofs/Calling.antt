@@ -11,7 +11,7 @@ use Rattle.il_frames.specs.declared.frame.Frame.{Frame}
 use Rattle.il_record.specs.declared.records.Since.{Since}
 use Rattle.il_record.specs.declared.records.Since.TheVariants as since
 use Rattle.il_record.specs.Asks.{Ask}
-use Rattle.il_record.specs.Called.{Calls, Ended, LeavesStore}
+use Rattle.il_record.specs.Called.{Calls, EndedBy, LeavesStore}
 use Rattle.il_record.specs.Came.{CameUnits, NoneHeard}
 use Rattle.il_record.specs.LoopCalls.{AllNamed, LeavesDrive, LeftAlone, NotSaid, Said}
 use Rattle.loop_model.specs.Effect.{Transferred}
@@ -107,10 +107,10 @@ pub left_whole : {M : Type 0} (sound : Bool) (log : Since) (old new : LoopView M
 left_whole sound log old new s ready is = is ∙ ap (λ (b : Bool). record old { ring = s; ready = b; sound = sound; since = log }) ready
 
 pub calls : {M T E : Type 0} (P : T → RingView M → RingView M → Type 0) (Q : RingView M → RingView M → Type 0) (sound : Bool) (log now : Since) (old new : LoopView M) (s : RingView M) → old.ready ≡ true → now ≡ log → (answer : Result T E) (result : Result T Trouble)
-    → Ended answer (record old { ring = s; sound = sound; since = now }) new result → IfOk answer (λ x. P x old.ring s) → IfErr answer (λ e. Q old.ring s) → Calls P Q sound log old new result
-calls {M} {T} {E} P Q sound log now old new s ready logged answer result ended did not = by answer (subst (λ (log : Since). Ended answer (record old { ring = s; sound = sound; since = log }) new result) logged ended) did not
+    → EndedBy answer (record old { ring = s; sound = sound; since = now }) new result → IfOk answer (λ x. P x old.ring s) → IfErr answer (λ e. Q old.ring s) → Calls P Q sound log old new result
+calls {M} {T} {E} P Q sound log now old new s ready logged answer result ended did not = by answer (subst (λ (log : Since). EndedBy answer (record old { ring = s; sound = sound; since = log }) new result) logged ended) did not
   where
-    by : (answer : Result T E) → Ended answer (record old { ring = s; sound = sound; since = log }) new result → IfOk answer (λ x. P x old.ring s) → IfErr answer (λ e. Q old.ring s) → Calls P Q sound log old new result
+    by : (answer : Result T E) → EndedBy answer (record old { ring = s; sound = sound; since = log }) new result → IfOk answer (λ x. P x old.ring s) → IfErr answer (λ e. Q old.ring s) → Calls P Q sound log old new result
     by (Ok x) ended did not = as_left (λ l result. Calls P Q sound log old l result) new _ result _ (ended.0, left_whole sound log old new s ready ended.1) (record { did = did; left = refl })
     by (Err e) ended did not = as_left (λ l result. Calls P Q sound log old l result) new _ result _ ended (refl, record { did = not; left = refl })
 
@@ -120,7 +120,7 @@ module _ {M S : Type 0} (view : M → MediumView) (seen : S → RingView M) (p q
   before : StandsBy true old.ring old.sound old.since
   before = stands old.ready old.ring old.sound old.since ready valid
 
-  leaves_by : {T E : Type 0} (answer : Result T E) (result : Result T Trouble) → Ended answer (record old { ring = s; since = log }) new result → IfOk answer (λ x. Mild view true old.since log old.ring s) → IfErr answer (λ e. Mild view false old.since (since_frame log) old.ring s)
+  leaves_by : {T E : Type 0} (answer : Result T E) (result : Result T Trouble) → EndedBy answer (record old { ring = s; since = log }) new result → IfOk answer (λ x. Mild view true old.since log old.ring s) → IfErr answer (λ e. Mild view false old.since (since_frame log) old.ring s)
       → LeavesStore k told (view_of view seen p old) (view_of view seen q new) result
   leaves_by (Ok x) result ended mild not =
       let still = still_of view old.ring s mild.medium in
@@ -154,6 +154,6 @@ module _ {M S : Type 0} (view : M → MediumView) (seen : S → RingView M) (p q
         resumed = λ k so. so;
       })
 
-  pub leaves : {T E : Type 0} (answer : Result T E) (result : Result T Trouble) → Ended answer (record old { ring = s; since = now }) new result → IfOk answer (λ x. Mild view true old.since log old.ring s) → IfErr answer (λ e. Mild view false old.since (since_frame log) old.ring s)
+  pub leaves : {T E : Type 0} (answer : Result T E) (result : Result T Trouble) → EndedBy answer (record old { ring = s; since = now }) new result → IfOk answer (λ x. Mild view true old.since log old.ring s) → IfErr answer (λ e. Mild view false old.since (since_frame log) old.ring s)
       → LeavesStore k told (view_of view seen p old) (view_of view seen q new) result
-  leaves answer result ended mild not = leaves_by answer result (subst (λ (log : Since). Ended answer (record old { ring = s; since = log }) new result) logged ended) mild not
+  leaves answer result ended mild not = leaves_by answer result (subst (λ (log : Since). EndedBy answer (record old { ring = s; since = log }) new result) logged ended) mild not

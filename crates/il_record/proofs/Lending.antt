@@ -12,7 +12,7 @@ use Rattle.il_ring.specs.Rings.{RingView, IsRing, devices_of, spare_of}
 use Rattle.il_ring.proofs.Faults.{risen_by_later}
 use Rattle.il_control.specs.Lent.{LendBroken, LendMade, Lends, asked_on}
 use Rattle.il_record.specs.declared.records.Since.TheVariants as since
-use Rattle.il_record.specs.Called.{Ended, LeavesLent}
+use Rattle.il_record.specs.Called.{EndedBy, LeavesLent}
 use Rattle.il_record.specs.LoopStores.{LoopView, StandsBy, StandsSo, calls_in, crossed_hops, view_of}
 use Rattle.il_record.specs.Polls.{MayPoll}
 use Rattle.il_record.proofs.Calling.{left_whole, stands}
@@ -66,7 +66,7 @@ module _ {M S : Type 0} (view : M → MediumView) (seen : S → RingView M) (p q
   may : (whole : Bool) → Lends a limit whole old.ring s → Each MayPoll 1 (devices_of s)
   may whole lends = may_poll_kept old.ring s (record { kept = lends.kept.places }) before.3
 
-  pub lend_leaves : {E : Type 0} (answer : Result Bool E) (new : LoopView M) (result : Result Bool Trouble) → Ended answer (record old { ring = s; sound = false; since = since.Mended }) new result
+  pub lend_leaves : {E : Type 0} (answer : Result Bool E) (new : LoopView M) (result : Result Bool Trouble) → EndedBy answer (record old { ring = s; sound = false; since = since.Mended }) new result
       → IfOk answer (λ took. LendMade a limit took old.ring s) → IfErr answer (λ e. LendBroken a limit old.ring s) → LeavesLent ((2 * limit + 309) / 300) (view_of view seen p old) (view_of view seen q new)
   lend_leaves (Ok took) new result ended made broken =
       as_left (λ l result. LeavesLent ((2 * limit + 309) / 300) (view_of view seen p old) (view_of view seen q l)) new _ result _ (ended.0, left_whole false since.Mended old new s ready ended.1) (lent true made.lends made.drive.medium true (made.idle, λ sound. cc, refl, may true made.lends))

@@ -13,7 +13,7 @@ use Rattle.il_ring.specs.Lists.{Each}
 use Rattle.il_control.specs.Calls.{IsFree as IsFreeRing, loop_of}
 use Rattle.il_record.specs.declared.records.Since.{Since}
 use Rattle.il_record.specs.declared.records.Since.TheVariants as since
-use Rattle.il_record.specs.Called.{Ended}
+use Rattle.il_record.specs.Called.{EndedBy}
 use Rattle.il_record.specs.Came.{OnlyHeard, CameUnits}
 use Rattle.il_record.specs.LoopStores.{LoopView, Addresses, FailedReady, FailedLost, Mended, NotMended, Resumes, StandsBy, StandsSo, Stood, calls_in, counted_resume, is_broken, most_resumes, since_frame, view_of}
 use Rattle.loop_model.specs.Effect.{Transferred}
@@ -56,13 +56,13 @@ module _ {M : Type 0} (T : Type 0) (view : M → MediumView) (more : ℕ) (befor
     at : ready.ready ≡ true
     at = ready_behind view before.ready (record before { resumes = more }) ready y refl so
 
-    pub resumes_done : {V E : Type 0} (x : T) (answer : Result V E) (z : V) (new : LoopView M) → Ended answer (record ready { ring = s }) new (Ok z) → IfOk answer (λ done. Cleared view (drive_party ready.ring) ready.ring s) → Resumes view before.sound (counted_resume before) (record new { sound = true }) (Ok x)
+    pub resumes_done : {V E : Type 0} (x : T) (answer : Result V E) (z : V) (new : LoopView M) → EndedBy answer (record ready { ring = s }) new (Ok z) → IfOk answer (λ done. Cleared view (drive_party ready.ring) ready.ring s) → Resumes view before.sound (counted_resume before) (record new { sound = true }) (Ok x)
     resumes_done x (Ok d) z new ended done =
         as_unsound (record new { sound = true }) (Ok x)
         (subst (λ (l : LoopView M). Mended view (counted_resume before) (record l { sound = true })) (sym ended.1) (record { ready = ready; addressed = addressed_so; at = at; cleared = done; used = used; left = refl }))
     resumes_done x (Err e) z new ended done = let clash = ended.0 in cc
 
-    pub resumes_broke : {V E : Type 0} (answer : Result V E) (result : Result T Trouble) (new : LoopView M) (e : Trouble) → Ended answer (record ready { ring = s }) new (Err e) → IfErr answer (λ b. Interrupted view (clear_asks (drive_party ready.ring)) (drive_party ready.ring) ready.ring s) → IsErr result × IsErrAnd result (λ x. x ≡ e)
+    pub resumes_broke : {V E : Type 0} (answer : Result V E) (result : Result T Trouble) (new : LoopView M) (e : Trouble) → EndedBy answer (record ready { ring = s }) new (Err e) → IfErr answer (λ b. Interrupted view (clear_asks (drive_party ready.ring)) (drive_party ready.ring) ready.ring s) → IsErr result × IsErrAnd result (λ x. x ≡ e)
         → Resumes view before.sound (counted_resume before) new result
     resumes_broke (Ok d) result new e ended not handed = let clash = ended.0 in cc
     resumes_broke (Err b) result new e ended not handed =

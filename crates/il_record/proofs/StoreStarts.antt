@@ -22,7 +22,7 @@ use Rattle.il_record.proofs.Places.{kept_stays, may_poll_kept}
 use Rattle.il_record.proofs.Used.{resumed_used, not_resumed_used}
 use Rattle.il_record.specs.declared.records.Since.{Since}
 use Rattle.il_record.specs.declared.records.Since.TheVariants as since
-use Rattle.il_record.specs.Called.{Ended, LeavesStore, left_broken}
+use Rattle.il_record.specs.Called.{EndedBy, LeavesStore, left_broken}
 use Rattle.il_record.specs.Came.{OnlyHeard, CameUnits}
 use Rattle.il_record.specs.Polls.{MayPoll}
 use Rattle.loop_model.specs.Effect.{Transferred}
@@ -127,7 +127,7 @@ module _ {M : Type 0} (view : M → MediumView) (old : LoopView M) (s : RingView
   few : drive_party old.ring ≤ 30
   few = let ring = (stands_free old.ready old.ring old.sound old.since valid).ring in omega (arith, ring.few)
 
-  pub addressed : {T U E : Type 0} (y : T) (answer : Result U E) (x : U) (n : U → ℕ) (mid : LoopView M) (log : Since) → Ended answer (record old { ring = s }) mid (Ok x) → IfOk answer (λ x. calls.Resumed view (n x) old.ring s) → log ≡ since_more mid.since
+  pub addressed : {T U E : Type 0} (y : T) (answer : Result U E) (x : U) (n : U → ℕ) (mid : LoopView M) (log : Since) → EndedBy answer (record old { ring = s }) mid (Ok x) → IfOk answer (λ x. calls.Resumed view (n x) old.ring s) → log ≡ since_more mid.since
       → Addresses view old.ready old (record mid { ready = true; since = log }) (Ok y)
   addressed {T} y (Ok z) x n mid log ended done logged =
       let now : Addressed view old (record old { ring = s; ready = true; since = since_more old.since }) = record { left = refl; readied = readied view (n z) old.ring s few done stays; used = resumed_used view (n z) old.ring s done } in
@@ -136,7 +136,7 @@ module _ {M : Type 0} (view : M → MediumView) (old : LoopView M) (s : RingView
       (subst (λ (l : LoopView M). Addressed view old (record l { ready = true; since = since_more l.since })) (sym ended.1) now))
   addressed y (Err e) x n mid log ended done logged = let clash = ended.0 in cc
 
-  pub not_addressed : {T U E : Type 0} (answer : Result U E) (new : LoopView M) (e : Trouble) (result : Result T Trouble) → Ended answer (record old { ring = s }) new (Err e) → IfErr answer (λ b. calls.NotResumed view old.ring s) → IsErr result × IsErrAnd result (λ x. x ≡ e) → Addresses view old.ready old new result
+  pub not_addressed : {T U E : Type 0} (answer : Result U E) (new : LoopView M) (e : Trouble) (result : Result T Trouble) → EndedBy answer (record old { ring = s }) new (Err e) → IfErr answer (λ b. calls.NotResumed view old.ring s) → IsErr result × IsErrAnd result (λ x. x ≡ e) → Addresses view old.ready old new result
   not_addressed {T} (Ok z) new e result ended not handed = let clash = ended.0 in cc
   not_addressed {T} (Err b) new e result ended not handed =
       let so = not_readied view old.ring s few not stays in

@@ -17,9 +17,9 @@ use Rattle.il_record.specs.LoopStores.{LoopView, since_frame, since_medium}
 abbrev pub left_broken : {M : Type 0} → LoopView M → LoopView M
 left_broken l = record l { ready = false; sound = false; since = since_frame l.since }
 
-abbrev pub Ended : {M T E : Type 0} → Result T E → LoopView M → LoopView M → Result T Trouble → Type 0
-Ended (Ok x) old new answer = (answer ≡ Ok x) × (new ≡ old)
-Ended (Err e) old new answer = (answer ≡ Err trouble.Frame) × (new ≡ left_broken old)
+abbrev pub EndedBy : {M T E : Type 0} → Result T E → LoopView M → LoopView M → Result T Trouble → Type 0
+EndedBy (Ok x) old new answer = (answer ≡ Ok x) × (new ≡ old)
+EndedBy (Err e) old new answer = (answer ≡ Err trouble.Frame) × (new ≡ left_broken old)
 
 -- the same of a run of records, by whether the medium moved them all
 abbrev pub Moved : {M E : Type 0} → Result Bool E → LoopView M → LoopView M → Result (Unit {0}) Trouble → Type 0

@@ -4,7 +4,7 @@ ghost use Rattle.il_ring.specs.Lists.{Each};
 ghost use Rattle.il_ring.specs.Rings.{spare_of, devices_of};
 ghost use Rattle.il_record.specs.Polls.{MayPoll};
 ghost use Rattle.il_control.specs.Calls.{IsLost};
-ghost use Rattle.il_record.specs.Called.{Ended, LeavesStore, Moved};
+ghost use Rattle.il_record.specs.Called.{EndedBy, LeavesStore, Moved};
 ghost use Rattle.il_record.specs.declared.records.Since.TheVariants as since_is;
 ghost use Rattle.il_record.specs.LoopStores.{calls_in as calls_of, IsFresh, StandsSo, log_emptied, Addresses, Resumes, counted_resume, since_frame, since_medium, since_more, since_said};
 ghost use Rattle.il_ports.specs.Stores.{Begun};
@@ -200,7 +200,7 @@ impl<M: Medium + Drop> LoopRecords<M> {
     /// The answer of a call by how its exchanges ended. Where they were broken off the loop is not ready, and the store
     /// not sound.
     pub(crate) fn ended<T>(&mut self, answer: Result<T, Broken>) -> Result<T, Trouble>
-        ensures { Ended answer (⟦<LoopRecords<M> as Looped<M>>⟧.looped self.old) (⟦<LoopRecords<M> as Looped<M>>⟧.looped self.new) result }
+        ensures { EndedBy answer (⟦<LoopRecords<M> as Looped<M>>⟧.looped self.old) (⟦<LoopRecords<M> as Looped<M>>⟧.looped self.new) result }
     {
         match answer {
             Ok(told) => Ok(told),
