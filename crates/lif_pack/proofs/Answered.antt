@@ -10,6 +10,8 @@ use Rattle.lif_model.specs.Volume.{Volume, is_adopted, is_gate_held, volume_if, 
 use Rattle.lif_model.specs.Apply.{is_upgraded, first_met}
 use Rattle.lif_model.specs.declared.refusal.Refusal.{Refusal}
 use Rattle.lif_model.specs.declared.refusal.Refusal.TheVariants.{NotLif, NoRedo, NeedsUpgrade, OutOfOrder}
+use Rattle.lif_model.specs.Transfers.{Transfer}
+use Rattle.il_ports.specs.Transfers.{AddsOnly}
 use Rattle.lif_model.proofs.Legal.{legal_tells}
 use Rattle.lif_model.proofs.Slots.{readable_tells}
 use Rattle.lif_plan.specs.Directories.{IsLegalDirectory}
@@ -39,6 +41,11 @@ none_by (Some x) off = absurd (off x refl)
 
 pub same_tape : (t u : Tape) (o : Option Tape) → o ≡ Some u → o ≡ Some t → u ≡ t
 same_tape t u o one two = ap (λ (p : Option Tape). unwrap_or p t) (sym one ∙ two)
+
+-- what an error tells of the store is told of any answer
+pub adds_alike : (T U : Type 0) (fault : VolumeFault) (P : ℕ → Type 0) (old new : List Transfer → Type 0) → AddsOnly P old new (store_answer {T = T} (Err fault)) → AddsOnly P old new (store_answer {T = U} (Err fault))
+adds_alike T U (Refused why) P old new adds = adds
+adds_alike T U (Troubled trouble) P old new adds = adds
 
 -- a directory that is read lies below the redo file
 pub mounts_within : (n : ℕ) (old new : Option HeaderParts) (slots : List (List ℕ)) → 5 ≤ n → IfSome new (λ header. IsLegalDirectory n header slots) → mounting n old new ≤ n + 66

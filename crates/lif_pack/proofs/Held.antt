@@ -34,17 +34,21 @@ module _ (n first end redo : ℕ) (slots : List (List ℕ)) (may : MayPack n fir
 
 -- ---- nothing is left to do
 
+-- the slots are those of the volume
+pub held_same : (n first end redo : ℕ) (slots : List (List ℕ)) (v : Volume) → AreThoseOf n first end redo None slots v → slots ≡ v.slots
+held_same n first end redo slots v those =
+    let zero = no_mark_is_zero n v those.version those.task_is in
+    let bare : unmarked (redo_slot v) ≡ redo_slot v = unmarked_same (redo_slot v) (those.volume.entries (redo_place v.slots) (redo_here n v those.volume those.version)) zero.0 zero.1 in
+    those.slots_are ∙ sym (ap (λ (r : ℕ). set v.slots r (unmarked (redo_slot v))) those.redo_is) ∙ ap (set v.slots (redo_place v.slots)) bare ∙ set-get_or v.slots (redo_place v.slots) []
+
 module _ (n first end redo : ℕ) (slots : List (List ℕ)) (t : Tape) (v : Volume) (is : IsTape n t) (some : volume_of t ≡ Some v) where
   pub none_left : AreThoseOf n first end redo None slots v → IsFinishedTo first end slots t t
   none_left those =
-      let zero = no_mark_is_zero n v those.version those.task_is in
-      let bare : unmarked (redo_slot v) ≡ redo_slot v = unmarked_same (redo_slot v) (those.volume.entries (redo_place v.slots) (redo_here n v those.volume those.version)) zero.0 zero.1 in
-      let same : slots ≡ v.slots = those.slots_are ∙ sym (ap (λ (r : ℕ). set v.slots r (unmarked (redo_slot v))) those.redo_is) ∙ ap (set v.slots (redo_place v.slots)) bare ∙ set-get_or v.slots (redo_place v.slots) [] in
       record {
         volume = v;
         shown = unmarked_volume t ((λ i. has_mark (is.records i) (some i)) ∙ those.task_is) ∙ some;
         stands = some;
-        slots_are = sym same;
+        slots_are = sym (held_same n first end redo slots v those);
         starts = those.starts;
         ends = those.ends;
       }

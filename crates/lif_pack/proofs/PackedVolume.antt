@@ -5,7 +5,7 @@ use Rattle.lif_model.specs.Directory.{name_of, type_of, start_of, length_of}
 use Rattle.lif_model.specs.Legal.{is_live, has_records, occupies, end_of}
 use Rattle.lif_model.proofs.Slots.{occupies_tells}
 use Rattle.lif_model.specs.Packing.{with_start, live_length, live_records, stands_at, are_packed, without_start, packed_from}
-use Rattle.lif_pack.proofs.Entries.{started_size, started_name, started_type, started_start, started_length, started_bare}
+use Rattle.lif_pack.proofs.Entries.{started_size, started_name, started_type, started_start, started_length, started_bare, started_again}
 use Rattle.lif_pack.proofs.Order.{packed_within, standing, live_whole}
 use Rattle.lif_pack.proofs.Finishing.{live_alike}
 
@@ -24,10 +24,6 @@ packed_apart place (slot ∷ slots) are (suc i) (suc j) lt long first second =
 
 -- ---- slots of files, packed from a place on
 
--- each slot is a live entry
-pub AreLive : List (List ℕ) → Type 0
-AreLive slots = (k : ℕ) → k < length slots → (length (get_or slots k []) ≡ 32) × (is_live (get_or slots k []) ≡ true)
-
 -- the slot at a place
 abbrev pub put : ℕ → List ℕ → List ℕ
 put place slot = if has_records slot then with_start place slot else slot
@@ -44,6 +40,8 @@ pub record IsPut (place : ℕ) (slot new : List ℕ) : Type 0 where
   pub long : length_of new ≡ length_of slot
   pub bare : without_start new ≡ without_start slot
   pub start : has_records slot ≡ true → start_of new ≡ place
+  pub again : (later : ℕ) → with_start later new ≡ with_start later slot
+  pub empty : has_records slot ≡ false → new ≡ slot
 
 pub put_is : (place : ℕ) (slot : List ℕ) → length slot ≡ 32 → IsPut place slot (put place slot)
 put_is place slot size = go (has_records slot) refl
@@ -56,6 +54,8 @@ put_is place slot size = go (has_records slot) refl
       long = started_length place slot size;
       bare = started_bare place slot size;
       start = λ some. started_start place slot size;
+      again = started_again place slot size;
+      empty = λ none. let no : true ≡ false = sym e ∙ none in cc;
     }
     go false e = record {
       size = size;
@@ -64,6 +64,8 @@ put_is place slot size = go (has_records slot) refl
       long = refl;
       bare = refl;
       start = λ some. let no : true ≡ false = sym some ∙ e in cc;
+      again = λ later. refl;
+      empty = λ none. refl;
     }
 
 -- each of them

@@ -17,14 +17,17 @@ use Rattle.lif_model.specs.Apply.{is_upgraded}
 use Rattle.lif_model.proofs.Lists.{filter_pairs_tell, pairs_tell}
 use Rattle.lif_model.proofs.Legal.{names_tell, names_from}
 use Rattle.lif_model.proofs.Slots.{HasNew, push_new, legal_with_new, each_with_new, occupies_tells}
-use Rattle.lif_model.proofs.Adopted.{redo_is_alone, redo_file_tells, redo_file_is_named, redo_entry_tells, is_file_tells, ends_before_redo}
+use Rattle.lif_model.proofs.Adopted.{redo_is_alone, redo_file_tells, redo_file_is_live, redo_file_is_named, redo_entry_tells, is_file_tells, ends_before_redo}
 use Rattle.lif_model.proofs.Named.{file_from}
 use Rattle.lif_model.specs.Packing.{rises, is_in_order, live_records, are_packed, redo_slot, marked_slot, marked_count, unmarked, bears_mark, without_start, files_shown, packed_from, packed}
+use Rattle.lif_pack.specs.Steps.{AreLive}
 use Rattle.lif_pack.proofs.Entries.{unmarked_size, unmarked_name, unmarked_type, unmarked_start, unmarked_length, unmarked_slot, unmarked_count, unmarked_redo}
 use Rattle.lif_pack.proofs.Order.{rise, packed_within}
 use Rattle.lif_pack.proofs.Finishing.{upgraded_is_adopted, redo_here, redo_is_two, clear_of, live_alike}
 use Rattle.lif_pack.proofs.Filtering.{filter_at, filter_fewer, filter_all}
+use Rattle.lif_pack.proofs.MovedVolume.{unmarked_same}
 use Rattle.lif_pack.proofs.PackedVolume.{packed_apart, length_packed, packed_at, packed_are, packed_bare}
+use Rattle.lif_pack.proofs.SamePacked.{packed_same}
 
 -- the files' records have room between two places, if each lies between them and they do not overlap
 pub room_between : (n low high : ℕ) (slots : List (List ℕ)) → low ≤ high
@@ -281,6 +284,13 @@ module _ (n : ℕ) (v : Volume) (is : IsVolume n v) (up : is_upgraded n v ≡ tr
   pub packed_is_packed : are_packed (directory_end v.header) (take (redo_place later) later) ≡ true
   packed_is_packed = ap (are_packed low) before_last ∙ are.0
 
+  -- each slot is live
+  packed_are_live : AreLive later
+  packed_are_live k lt = elim (cases_eq k (length front)) [
+    | inl e ↦ ap (λ (m : ℕ). is_live (get_or later m [])) e ∙ ap is_live has.here ∙ redo_file_is_live n last (redo_entry_tells n Two last last_is_redo).0
+    | inr off ↦ let old = has.others k lt off in ap is_live old.1 ∙ (front_slot k old.0).live
+  ]
+
   -- ---- the files that are shown
 
   last_is_none : filter (is_file n) (last ∷ []) ≡ []
@@ -297,3 +307,34 @@ module _ (n : ℕ) (v : Volume) (is : IsVolume n v) (up : is_upgraded n v ≡ tr
   packed_shows =
       let bare : map without_start (filter (is_file n) later) ≡ map without_start files = ap (map without_start) files_of_packed ∙ packed_bare low files sizes in
       λ i. Some (record { header = v.header; slots = bare i; files = v.files })
+
+  -- ---- packed again
+
+  last_again : unmarked last ≡ last
+  last_again = unmarked_same last (unmarked_size (redo_slot v) entry_size) (unmarked_slot (redo_slot v) entry_size) (unmarked_count (redo_slot v) entry_size)
+
+  front_again : packed_from low (filter (is_file n) later) ≡ front
+  front_again =
+      ap (packed_from low) (files_of_packed ∙ sym (filter_all (is_file n) front front_is_file))
+      ∙ packed_same n low files front count (λ k lt.
+      let is = (packed_at low files sizes k lt).1 in
+      (front_is_file k (omega (arith, lt, count)) ∙ sym (files_are k lt), record { long = is.long; started = is.again; empty = is.empty }))
+      ∙ ap (packed_from low) (filter_all (is_file n) files files_are)
+    where
+      files_are : (k : ℕ) → k < length files → is_file n (get_or files k []) ≡ true
+      files_are k lt = let found = filter_at (is_file n) v.slots k lt in ap (is_file n) found.3 ∙ found.2
+
+  -- packing makes the same of what it made
+  pub packed_again : packed n (packed n v) ≡ packed n v
+  packed_again =
+      let redo : redo_slot (packed n v) ≡ last = ap (λ (m : ℕ). get_or later m []) redo_is_last ∙ has.here in
+      λ i. record v { slots = front_again i ++ (ap unmarked redo ∙ last_again) i ∷ [] }
+
+-- a volume of which packing makes the same: its files stand at their places, and each slot is live
+pub packed_stands : (n : ℕ) (v : Volume) → IsVolume n v → is_upgraded n v ≡ true → is_in_order v.slots ≡ true → packed n v ≡ v
+    → AreLive v.slots × (are_packed (directory_end v.header) (take (redo_place v.slots) v.slots) ≡ true)
+packed_stands n v is up in_order same =
+    let slots = ap (λ (w : Volume). w.slots) same in (
+      subst AreLive slots (packed_are_live n v is up in_order),
+      subst (λ (xs : List (List ℕ)). are_packed (directory_end v.header) (take (redo_place xs) xs) ≡ true) slots (packed_is_packed n v is up in_order),
+    )

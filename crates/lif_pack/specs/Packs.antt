@@ -16,8 +16,8 @@ use Rattle.lif_volume.specs.declared.fault.VolumeFault.{VolumeFault}
 use Rattle.lif_volume.specs.declared.fault.VolumeFault.TheVariants.{Refused, Trouble as Troubled}
 use Rattle.lif_volume.specs.declared.volume.Listing.{Listing}
 use Rattle.lif_volume.specs.Views.{VolumeView}
-use Rattle.lif_volume.specs.Commands.{IsTold}
-use Rattle.lif_model.specs.Packing.{with_start, redo_slot, unmarked, finished_volume_of}
+use Rattle.lif_volume.specs.Commands.{IsTold, OnlySettles, WritesBySettling}
+use Rattle.lif_model.specs.Packing.{with_start, redo_slot, unmarked, bears_mark, finished_volume_of}
 use Rattle.lif_model.specs.Packing.{pack_refusal, packed, files_moved, records_free}
 use Rattle.lif_pack.specs.declared.marks.Move.{Move}
 use Rattle.lif_pack.specs.declared.tasks.Task.{Task}
@@ -26,16 +26,26 @@ use Rattle.lif_pack.specs.declared.reading.Readable.{Readable}
 use Rattle.lif_pack.specs.Tasks.{MayFinish, IsTask, KeepsFiles, calls_to_finish}
 use Rattle.lif_pack.specs.Steps.{ArePlaced}
 
+-- ---- a volume that is packed already
+
+-- the tape has it, no file of it is being moved, and packing makes the same of it
+pub record IsPackedOn (n : ℕ) (t : Tape) : Type 0 where
+  pub volume : Volume
+  pub has : volume_of t ≡ Some volume
+  pub unmarked : bears_mark n volume ≡ false
+  pub same : packed n volume ≡ volume
+
 -- ---- the answer
 
--- The volume that t is finished to was packed: the settled tape u has what packing makes of it, and the answer counts
--- the files whose start changed, and the records that are free before the redo file.
+-- The volume that t is finished to was packed: the settled tape u has what packing makes of it, and is packed. The answer
+-- counts the files whose start changed, and the records that are free before the redo file.
 pub record IsPacking (n : ℕ) (t u : Tape) (answer : Packed) : Type 0 where
   pub volume : Volume
   pub shown : finished_volume_of t ≡ Some volume
   pub may : pack_refusal n (Some volume) ≡ None
   pub after : volume_of u ≡ Some (packed n volume)
   pub shown_after : finished_volume_of u ≡ Some (packed n volume)
+  pub is_packed : IsPackedOn n u
   pub is_settled : IsSettled u
   pub files : answer.files ≡ files_moved n volume
   pub free : answer.free ≡ records_free n volume
@@ -80,6 +90,15 @@ pub record StaysFiled {S : Type 0} (v w : RecordsView S) (t : Tape) : Type 0 whe
 abbrev pub KeepsFiled : {R S : Type 0} → (R → RecordsView S) → (old new : VolumeView R) → Type 0
 KeepsFiled view old new = (t : Tape) → IsTold view old t → is_foreign_gated t ≡ false
     → StaysFiled (view old.records) (view new.records) t
+
+-- ---- packing it again
+
+-- of a tape whose volume is packed nothing is changed but by settling, and the reads and writes go on by writes of
+-- settling alone
+abbrev pub StaysPacked : {R S : Type 0} → (R → RecordsView S) → (old new : VolumeView R)
+    → Result Packed VolumeFault → Type 0
+StaysPacked view old new answer = (t : Tape) → IsTold view old t → IsPackedOn (view old.records).record_count t
+    → OnlySettles view old new × WritesBySettling view old new answer
 
 -- ---- a volume whose slots, without the mark, are in memory
 

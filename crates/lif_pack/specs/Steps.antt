@@ -68,6 +68,10 @@ TapeHasSlots n first old new before after = (end redo : ℕ) (t : Tape) → MayP
 
 -- ---- closing up
 
+-- no slot is purged
+abbrev pub AreLive : List (List ℕ) → Type 0
+AreLive slots = (k : ℕ) → k < length slots → is_live (get_or slots k []) ≡ true
+
 -- the slots before slot `front` are live, and those from it on, before slot `slot`, are purged
 pub record IsGap (front slot : ℕ) (slots : List (List ℕ)) : Type 0 where
   pub order : front ≤ slot

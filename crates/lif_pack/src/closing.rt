@@ -1,6 +1,6 @@
 //! Slots of a directory change places, and no gap is left among the live ones.
 ghost use Rattle.std.specs.Prelude.{◌≡◌, ◌⊎◌, ◌<◌, ◌≤◌, ◌+◌, ◌-◌, ◌*◌, ◌^◌, ◌++◌, ◌/◌, ℕ, [], true, false, length};
-ghost use Rattle.std.specs.Prelude.{filter, map, min, get_or, set, Some, IfOk, OnOk};
+ghost use Rattle.std.specs.Prelude.{filter, map, min, get_or, set, Some, Ok, IfOk, OnOk};
 ghost use Rattle.lif_model.specs.Tape.{Tape, record_at};
 ghost use Rattle.lif_model.specs.Directory.{entry_at};
 ghost use Rattle.lif_model.specs.Legal.{is_live};
@@ -10,7 +10,7 @@ ghost use Rattle.il_ports.specs.Stores.{IsReady, GoesOn, IsQuiet};
 ghost use Rattle.lif_dir.specs.Entries.{slot_bytes};
 ghost use Rattle.lif_commit.specs.Staged.{HoldsSlots};
 ghost use Rattle.lif_pack.specs.Packers.{slots_held};
-ghost use Rattle.lif_pack.specs.Steps.{IsGap, StayBut, AreUpTo, AreSetAside, HasRecord};
+ghost use Rattle.lif_pack.specs.Steps.{AreLive, IsGap, StayBut, AreUpTo, AreSetAside, HasRecord};
 
 use crate::memory::Packer;
 use crate::moving::put_entry;
@@ -58,6 +58,9 @@ impl Packer {
             (slots_held self.new)) }
         ensures closes { OnOk result (TapeHasSlots (R.view records.old).record_count first (slots_held self.old)
             (slots_held self.new) (R.view records.old).tape (R.view records.new).tape) }
+        // Where all are live already nothing is read or written.
+        ensures idle { AreLive (slots_held self.old) → (result ≡ Ok (length (slots_held self.old)))
+            × (records.new ≡ records.old) × (slots_held self.new ≡ slots_held self.old) }
         // A stop at any moment leaves a tape with the same files.
         ensures stops { (end redo : ℕ) (t : Tape) (v : Volume)
             → MayPack (R.view records.old).record_count first end redo (slots_held self.old)
@@ -111,6 +114,10 @@ impl Packer {
         // The volume has these slots then, and its files as before.
         ensures closes { OnOk result (TapeHasSlots (R.view records.old).record_count first (slots_held self.old)
             (slots_held self.new) (R.view records.old).tape (R.view records.new).tape) }
+        // Where all are live and stand there already nothing is read or written.
+        ensures idle { front ≡ 8 * i → AreLive (slots_held self.old)
+            → (result ≡ Ok (min (length (slots_held self.old)) (8 * i + 8))) × (records.new ≡ records.old)
+            × (slots_held self.new ≡ slots_held self.old) }
         // A stop at any moment leaves a tape that has the slots before or after the commit.
         ensures stops { (t : Tape) (v : Volume) → (R.view records.old).tape ≡ Some t → volume_of t ≡ Some v
             → v.slots ≡ slots_held self.old → directory_start v.header ≡ first
@@ -150,6 +157,9 @@ impl Packer {
             × IsStagedAs first (R.view records.old).tape (λ x. writes) self.new.changes.items
             × AreBefore (length (slots_held self.old)) (length (slots_held self.old)) writes
             × (slots_after writes (slots_held self.old) ≡ slots_held self.new)) }
+        ensures idle { front ≡ 8 * i → AreLive (slots_held self.old)
+            → (result ≡ Ok (min (length (slots_held self.old)) (8 * i + 8))) × (records.new ≡ records.old)
+            × (self.new.changes.items ≡ []) × (slots_held self.new ≡ slots_held self.old) }
     {
         self.changes.clear();
         let until = self.slots.len().min(ENTRIES * i + ENTRIES);
@@ -178,6 +188,7 @@ impl Packer {
         ensures few { result.next + from ≤ front + until }
         ensures moved { result.moved ≡ true → front < result.next }
         ensures still { result.moved ≡ false → slots_held self.new ≡ slots_held self.old }
+        ensures idle { front ≡ from → AreLive (slots_held self.old) → (result.next ≡ until) × (result.moved ≡ false) }
         ensures changes { self.new.changes ≡ self.old.changes }
         // The live slots stand in the same order.
         ensures live { filter is_live (slots_held self.new) ≡ filter is_live (slots_held self.old) }
@@ -205,6 +216,8 @@ impl Packer {
         ensures few { result.next ≤ closed.next + 1 }
         ensures moved { result.moved ≡ true → (closed.moved ≡ true) ⊎ (closed.next < result.next) }
         ensures before { result.moved ≡ false → closed.moved ≡ false }
+        ensures idle { closed.next ≡ slot → is_live (get_or (slots_held self.old) slot []) ≡ true
+            → (result.next ≡ slot + 1) × (result.moved ≡ closed.moved) }
         ensures still { result.moved ≡ false → slots_held self.new ≡ slots_held self.old }
         ensures changes { self.new.changes ≡ self.old.changes }
         // The live slots stand in the same order.

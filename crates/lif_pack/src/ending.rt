@@ -1,5 +1,5 @@
 //! The end of the directory is brought forward to the slot after the last live one.
-ghost use Rattle.std.specs.Prelude.{◌≡◌, ◌<◌, ◌≤◌, ◌+◌, ◌/◌, ◌%◌, ◌^◌, ℕ, [], ◌∷◌, length, take, Some, OnOk};
+ghost use Rattle.std.specs.Prelude.{◌≡◌, ◌<◌, ◌≤◌, ◌+◌, ◌/◌, ◌%◌, ◌^◌, ℕ, [], ◌∷◌, length, take, Some, Ok, OnOk};
 ghost use Rattle.lif_model.specs.Tape.{Tape};
 ghost use Rattle.lif_model.specs.Header.{directory_start};
 ghost use Rattle.lif_model.specs.Directory.{entry_at};
@@ -39,6 +39,7 @@ impl Packer {
         ensures goes_on { GoesOn 9 (R.view records.old) (R.view records.new) result }
         ensures settled { OnOk result ((t : Tape) → (R.view records.new).tape ≡ Some t → IsSettled t) }
         ensures slots { OnOk result (slots_held self.new ≡ take count (slots_held self.old)) }
+        ensures idle { count ≡ length (slots_held self.old) → (result ≡ Ok tt) × (records.new ≡ records.old) }
         ensures ends { OnOk result (TapeHasSlots (R.view records.old).record_count first (slots_held self.old)
             (take count (slots_held self.old)) (R.view records.old).tape (R.view records.new).tape) }
         // A stop at any moment leaves a tape with the same files.

@@ -1,6 +1,6 @@
 //! The slots of a directory in memory, and what is left to finish of them and of the tape.
 ghost use Rattle.std.specs.Prelude.{◌≡◌, ◌<◌, ◌≤◌, ◌+◌, ◌^◌, ℕ, [], true, false, length, map, set, get_or};
-ghost use Rattle.std.specs.Prelude.{Some, OnOk, IfSome};
+ghost use Rattle.std.specs.Prelude.{Some, None, Ok, OnOk, IfSome};
 ghost use Rattle.lif_model.specs.Tape.{Tape};
 ghost use Rattle.lif_model.specs.Directory.{is_end};
 ghost use Rattle.lif_model.specs.Redo.{IsSettled};
@@ -62,6 +62,7 @@ impl Packer {
         ensures room { self.new.slots.room ≡ self.old.slots.room }
         ensures goes_on { GoesOn (calls_left_to task.now) (R.view records.old) (R.view records.new) result }
         ensures settled { OnOk result ((t : Tape) → (R.view records.new).tape ≡ Some t → IsSettled t) }
+        ensures idle { task.now ≡ None → (result ≡ Ok tt) × (records.new ≡ records.old) × (self.new ≡ self.old) }
         ensures may { OnOk result ((first end redo : ℕ)
             → MayPack (R.view records.old).record_count first end redo (slots_held self.old)
             → IsTaskWith (R.view records.old).record_count end redo (slots_held self.old) task.now

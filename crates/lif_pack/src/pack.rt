@@ -1,10 +1,11 @@
 //! A volume is packed.
 ghost use Rattle.std.specs.Prelude.{◌≡◌, ◌≤◌, ◌<◌, ◌+◌, ◌-◌, ◌*◌, ◌/◌, ◌^◌, ℕ, is_some, length, filter};
-ghost use Rattle.std.specs.Prelude.{true, Some, None, Err, OnOk, IfOk, IfErr};
+ghost use Rattle.std.specs.Prelude.{true, Some, None, Ok, Err, OnOk, IfOk, IfErr, is_ok, take};
 ghost use Rattle.lif_model.specs.Tape.{Tape};
 ghost use Rattle.lif_model.specs.Redo.{IsSettled};
 ghost use Rattle.lif_model.specs.Legal.{is_live};
 ghost use Rattle.lif_model.specs.Volume.{Volume as VolumeModel, volume_of};
+ghost use Rattle.lif_model.specs.Packing.{are_packed};
 ghost use Rattle.lif_model.specs.declared.refusal.Refusal.{Refusal};
 ghost use Rattle.il_ports.specs.Stores.{IsReady, GoesOn, RunLeaves};
 ghost use Rattle.lif_volume.specs.Views.{IsOpen};
@@ -13,9 +14,9 @@ ghost use Rattle.lif_volume.specs.Changing.{SettlesForeign};
 ghost use Rattle.lif_volume.specs.Did.{IsOneOf};
 ghost use Rattle.lif_volume.specs.Seen.{seen};
 ghost use Rattle.lif_pack.specs.Packers.{IsPackerFor, slots_held};
-ghost use Rattle.lif_pack.specs.Steps.{MayPack, TapeHasSlots, OfSlots};
+ghost use Rattle.lif_pack.specs.Steps.{AreLive, MayPack, TapeHasSlots, OfSlots};
 ghost use Rattle.lif_pack.specs.Tasks.{KeepsFiles};
-ghost use Rattle.lif_pack.specs.Packs.{IsPacking, AnswersPack, KeepsFiled, pack_refusals};
+ghost use Rattle.lif_pack.specs.Packs.{IsPacking, AnswersPack, KeepsFiled, StaysPacked, pack_refusals};
 ghost use Rattle.lif_pack.specs.Packs.{IsTaskWith, AreThoseOf};
 
 use crate::counting::{files_moved, records_free};
@@ -45,7 +46,8 @@ impl Packer {
     /// entry. The tape is settled alone then.
     ///
     /// A packing can be stopped at any moment, and can fail: the files are kept, and `finish` makes whole the one that
-    /// was being moved. On a medium of N records at most 15 N + 120 are read and written. The medium has 8,192 records
+    /// was being moved. Of a volume that is packed no record is written, but by settling. On a medium of N records at
+    /// most 15 N + 120 are read and written. The medium has 8,192 records
     /// at most, since the mark of a file that is being moved has two bytes for its slot.
     pub fn pack<R: Records>(&mut self, volume: &mut Volume<R>) -> Result<Packed, VolumeFault>
         requires open { IsOpen R.view (seen volume.old) }
@@ -67,6 +69,8 @@ impl Packer {
         // tape whose gate record a file holds that is not ours nothing is changed but by settling.
         ensures files { KeepsFiled R.view (seen volume.old) (seen volume.new) }
         ensures foreign { SettlesForeign R.view (seen volume.old) (seen volume.new) }
+        // A volume that is packed is not written again: only settling writes.
+        ensures again { StaysPacked R.view (seen volume.old) (seen volume.new) result }
     {
         let read = self.read(volume);
         // The directory is forgotten, also where it is refused: it may have a mark.
@@ -106,6 +110,10 @@ impl Packer {
             → AreThoseOf (R.view records.old).record_count found.now.first found.now.end found.now.redo
             found.now.task (slots_held self.old) v
             → RunLeaves (R.view records.old) (R.view records.new) (KeepsFiles (R.view records.old).record_count t) }
+        // Where the files stand at their places, and no slot is purged, nothing is read or written.
+        ensures idle { found.now.task ≡ None → AreLive (slots_held self.old)
+            → are_packed found.now.end (take found.now.redo (slots_held self.old)) ≡ true
+            → (is_ok result ≡ true) × (records.new ≡ records.old) }
     {
         self.finish_held(records, &found.task)?;
         let size = records.size();
@@ -131,6 +139,7 @@ impl Packer {
         ensures settled { OnOk result ((t : Tape) → (R.view records.new).tape ≡ Some t → IsSettled t) }
         ensures closes { OnOk result (TapeHasSlots (R.view records.old).record_count first (slots_held self.old)
             (filter is_live (slots_held self.old)) (R.view records.old).tape (R.view records.new).tape) }
+        ensures idle { AreLive (slots_held self.old) → (result ≡ Ok tt) × (records.new ≡ records.old) }
         ensures stops { (t : Tape) → (R.view records.old).tape ≡ Some t → (end redo : ℕ)
             → MayPack (R.view records.old).record_count first end redo (slots_held self.old)
             → OfSlots first end (slots_held self.old) t (λ v. RunLeaves (R.view records.old) (R.view records.new)

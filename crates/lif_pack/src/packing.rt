@@ -1,5 +1,5 @@
 //! The files of a volume are moved to their places, in slot order.
-ghost use Rattle.std.specs.Prelude.{◌≡◌, ◌<◌, ◌≤◌, ◌+◌, ◌*◌, ◌^◌, ◌&&◌, nat_lt, ℕ, [], true, false, Some, OnOk};
+ghost use Rattle.std.specs.Prelude.{◌≡◌, ◌<◌, ◌≤◌, ◌+◌, ◌*◌, ◌^◌, ◌&&◌, nat_lt, ℕ, [], true, false, Some, Ok, OnOk};
 ghost use Rattle.std.specs.Prelude.{get_or, set, length};
 ghost use Rattle.lif_model.specs.Tape.{Tape};
 ghost use Rattle.lif_model.specs.Directory.{start_of, length_of, is_end};
@@ -104,6 +104,9 @@ impl Packer {
         ensures may { OnOk result (MayPack (R.view records.old).record_count found.now.first found.now.end
             found.now.redo (slots_held self.new)) }
         ensures packed { OnOk result (are_packed found.now.end (take found.now.redo (slots_held self.new)) ≡ true) }
+        // Where there is none nothing is read or written.
+        ensures idle { from ≡ found.now.redo → (result ≡ Ok tt) × (records.new ≡ records.old)
+            × (slots_held self.new ≡ slots_held self.old) }
         // Packing makes of them what it made of the slots before.
         ensures alike { OnOk result (ArePackedAlike (R.view records.old).record_count found.now.end
             (slots_held self.old) (slots_held self.new)) }

@@ -11,7 +11,7 @@ ghost use Rattle.lif_plan.specs.Directories.{IsLegalDirectory};
 ghost use Rattle.lif_plan.specs.Refusals.{IsAmong};
 ghost use Rattle.lif_volume.specs.Views.{IsOpen};
 ghost use Rattle.lif_volume.specs.Answers.{store_answer};
-ghost use Rattle.lif_volume.specs.Commands.{IsReadyFor, IsTold, OnlySettles};
+ghost use Rattle.lif_volume.specs.Commands.{IsReadyFor, IsTold, OnlySettles, WritesBySettling};
 ghost use Rattle.lif_volume.specs.Did.{IsOneOf};
 ghost use Rattle.lif_volume.specs.Seen.{seen};
 ghost use Rattle.lif_model.specs.Packing.{pack_refusal};
@@ -73,6 +73,7 @@ impl Packer {
             × AreThoseOf (R.view (seen volume.old).records).record_count found.first found.end found.redo found.task
             (slots_held self.new) v) }
         ensures settling { OnlySettles R.view (seen volume.old) (seen volume.new) }
+        ensures writes { WritesBySettling R.view (seen volume.old) (seen volume.new) result }
         ensures shown { KeepsShown R.view (seen volume.old) (seen volume.new) }
     {
         let listing = volume.dir()?;

@@ -1,15 +1,24 @@
-use Rattle.std.proofs.Common.{◌≡◌, ◌+◌, ◌*◌, ◌/◌, ◌∙◌, ℕ, List, length, take, filter, refl, sym, subst}
+use Rattle.std.proofs.Common.{◌≡◌, ◌+◌, ◌*◌, ◌/◌, ◌∙◌, ℕ, List, length, take, filter, refl, sym, subst, arith}
+use Rattle.std.specs.Prelude.{Err}
 use Rattle.std.proofs.lemmas.Result.{on_ok_weaker}
 use Rattle.lif_model.specs.Legal.{is_live}
 use Rattle.il_ports.specs.Stores.{RunLeaves}
-use Rattle.il_ports.proofs.Stores.{goes_further}
+use Rattle.il_ports.proofs.Stores.{goes_further, goes_within}
+use Rattle.lif_commit.proofs.Staging.{goes_failed}
 use Rattle.lif_pack.specs.Packers.{slots_held}
 use Rattle.lif_pack.specs.Steps.{MayPack, TapeHasSlots}
 use Rattle.lif_pack.specs.Tasks.{KeepsFiles}
 use Rattle.lif_pack.proofs.Placing.{tape_then}
 use Rattle.lif_pack.proofs.Keeping.{kept_further}
+use Rattle.lif_pack.proofs.Answered.{passed_on}
 use Rattle.lif_pack.proofs.Ended.{live_is_front}
 use Rattle.lif_pack.proofs.memory.Packer.close_directory.Goals as goal
+
+pub returns-in_err-count-clause-goes_on : goal.returns-in_err-count-clause-goes_on
+returns-in_err-count-clause-goes_on g c =
+    let calls : ℕ = 13 * (length (slots_held c.args.self.now) / 8 + 1) in
+    let is : c.from_residual.result ≡ Err c.in_err-count.field-0.0 = passed_on c.from_residual.result c.in_err-count.field-0.0 c.from_residual.ensures.0 c.from_residual.ensures.1 in
+    rw is (goes_within calls (calls + 9) _ _ _ (omega arith) (goes_failed calls _ _ c.in_err-count.field-0.0 c.in_err-count.ensures.goes_on))
 
 pub returns-in_err-count-clause-stops : goal.returns-in_err-count-clause-stops
 returns-in_err-count-clause-stops g c t is end redo may v some same starts ends = c.close_up.ensures.stops end redo t v may is some same starts ends

@@ -1,4 +1,5 @@
-use Rattle.std.proofs.Common.{◌∙◌, ℕ, inl, inr, arith}
+use Rattle.std.proofs.Common.{◌≡◌, ◌∙◌, ℕ, true, [], get_or, inl, inr, ap, arith}
+use Rattle.lif_model.specs.Legal.{is_live}
 use Rattle.lif_pack.specs.Packers.{slots_held}
 use Rattle.lif_pack.proofs.Swapping.{stay_longer}
 use Rattle.lif_pack.proofs.memory.Packer.close_slots.Goals as goal
@@ -19,6 +20,12 @@ loop-slot-preserved c =
         | inr less ↦ omega (arith, inv.begins, less)
       ];
       still = λ off. done.still off ∙ inv.still (done.before off);
+      idle = λ same live.
+          let was = inv.idle same live in
+          let here : is_live (get_or (slots_held c.loop-slot.self) k []) ≡ true =
+          ap (λ xs. is_live (get_or xs k [])) (inv.still was.1) ∙ live k (omega (arith, c.loop-slot-test.true, c.requires.until)) in
+          let next = done.idle was.0 here in
+          (next.0, next.1 ∙ was.1);
       changes = done.changes ∙ inv.changes;
       live = done.live ∙ inv.live;
       others = stay_longer c.args.front c.loop-slot.closed.next c.close_slot-closed.result.next c.args.from k (slots_held c.args.self.now) (slots_held c.loop-slot.self)

@@ -27,6 +27,7 @@ loop-slot-init g c =
       alike = λ v ends. refl;
       onward = omega arith;
       below = placed_below n c.args.found.now.first c.args.found.now.end c.args.found.now.redo slots c.requires.may c.args.from c.args.place c.requires.placed c.requires.before;
+      idle = λ none. (refl, refl);
       moves = λ t is. (t, is, same_slots_of c.args.found.now.first c.args.found.now.end slots t);
       stops = λ t is v some same starts ends.
           quiet_run _ _ _ t (g.met.R.Records.is_store _) (quiet_nowhere _) is
@@ -73,6 +74,7 @@ loop-slot-preserved g c =
           (subst (λ (m : ℕ). ArePackedAlike m c.args.found.now.end slots (slots_held c.place_file.new.self)) size step.2);
       onward = omega (arith, done.next, inv.onward);
       below = omega (arith, done.next, next);
+      idle = λ none. absurd (omega (arith, none, c.loop-slot.auto.slot));
       moves = λ t is.
           let was = inv.moves t is in
           let now = done.moves c.args.found.now.end was.0 may inv.placed was.1 in
@@ -100,3 +102,11 @@ returns-in_err-next-clause-stops g c = λ t is v some same starts ends.
     kept_further (g.R.Records.view c.args.records.now) (g.R.Records.view c.loop-slot.records) (g.R.Records.view c.place_file.new.records) n t was.0 (g.met.R.Records.is_store _) was.1 (inv.stops t is v some same starts ends)
     (subst (λ (m : ℕ). RunLeaves (g.R.Records.view c.loop-slot.records) (g.R.Records.view c.place_file.new.records) (KeepsFiles m was.0)) size
     (c.place_file.ensures.stops c.args.found.now.end was.0 may inv.placed was.1 (record v { slots = slots }) (was.2 v some same starts ends) refl starts ends))
+
+pub returns-in_err-next-clause-idle : goal.returns-in_err-next-clause-idle
+returns-in_err-next-clause-idle g c none = absurd (omega (arith, none, c.loop-slot.auto.slot, c.loop-slot-test.true))
+
+pub returns-clause-idle : goal.returns-clause-idle
+returns-clause-idle g c none =
+    let kept = c.loop-slot.invariant.idle (omega (arith, none, c.loop-slot.auto.slot, c.loop-slot.auto.slot-end)) in
+    (refl, kept.0, kept.1)

@@ -21,6 +21,7 @@ invariant-loop-slot g l = record {
   below : l.next ≤ redo_start Two (g.R.Records.view l.initial.records).record_count;
   moves : (t : Tape) → (g.R.Records.view l.initial.records).tape ≡ Some t → (x : Tape) × ((g.R.Records.view l.records).tape ≡ Some x)
       × HasSlotsOf l.fn.found.first l.fn.found.end (slots_held l.initial.self) (slots_held l.self) t x;
+  idle : l.slot ≡ l.fn.from → (l.records ≡ l.initial.records) × (slots_held l.self ≡ slots_held l.initial.self);
   stops : (t : Tape) → (g.R.Records.view l.initial.records).tape ≡ Some t → OfSlots l.fn.found.first l.fn.found.end (slots_held l.initial.self) t (λ v.
       RunLeaves (g.R.Records.view l.initial.records) (g.R.Records.view l.records) (KeepsFiles (g.R.Records.view l.initial.records).record_count t));
 }

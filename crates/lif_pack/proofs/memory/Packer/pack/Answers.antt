@@ -1,18 +1,23 @@
-use Rattle.std.proofs.Common.{◌≡◌, ◌+◌, ◌-◌, ◌*◌, ◌∙◌, ℕ, sym, ap, subst, arith}
-use Rattle.std.specs.Prelude.{Some, Ok, Err, is_some}
+use Rattle.std.proofs.Common.{◌≡◌, ◌+◌, ◌-◌, ◌*◌, ◌∙◌, ℕ, true, false, sym, ap, subst, arith}
+use Rattle.std.specs.Prelude.{Some, Ok, Err, is_ok, is_some}
 use Rattle.lif_model.specs.Tape.{Tape}
-use Rattle.lif_model.specs.Redo.{settled}
+use Rattle.lif_model.specs.Commit.{IsSettleWrite}
+use Rattle.lif_model.specs.Redo.{redo_of, settled}
 use Rattle.il_ports.specs.Stores.{GoesOn, RunLeaves}
+use Rattle.il_ports.specs.Transfers.{AddsOnly, GoesOnBy}
 use Rattle.il_ports.proofs.Stores.{goes_further, goes_within}
 use Rattle.lif_commit.proofs.Staging.{goes_failed, goes_told}
-use Rattle.lif_volume.specs.Answers.{troubled}
+use Rattle.lif_volume.specs.Answers.{store_answer, troubled}
+use Rattle.lif_volume.specs.Commands.{SettlesOnly}
+use Rattle.lif_pack.specs.declared.pack.Packed.{Packed}
+use Rattle.lif_pack.specs.declared.reading.Readable.{Readable}
 use Rattle.lif_pack.specs.Packers.{slots_held}
 use Rattle.lif_pack.specs.Tasks.{KeepsFiles}
 use Rattle.lif_pack.specs.Packs.{PacksTo, IsPacking, AreThoseOf, StaysFiled}
 use Rattle.lif_pack.proofs.Placing.{end_below}
 use Rattle.lif_pack.proofs.Keeping.{filed_by_shown, filed_further}
-use Rattle.lif_pack.proofs.PackedTape.{packing_of}
-use Rattle.lif_pack.proofs.Answered.{passed_on, same_tape, refused_packing, packable_own}
+use Rattle.lif_pack.proofs.PackedTape.{packed_those, packing_of}
+use Rattle.lif_pack.proofs.Answered.{adds_alike, passed_on, same_tape, refused_packing, packable_own}
 use Rattle.lif_pack.proofs.memory.Packer.pack.Goals as goal
 
 -- ---- what is read refuses it
@@ -117,3 +122,39 @@ pub returns-clause-foreign : goal.returns-clause-foreign
 returns-clause-foreign g c t is on =
     let those = c.in_ok-found.ensures.those t is in
     absurd (packable_own _ t those.1 ((g.met.R.Records.is_store _).is_tape t is) those.2 those.3.version on)
+
+-- ---- it was packed already
+
+pub returns-in_err-found-clause-again : goal.returns-in_err-found-clause-again
+returns-in_err-found-clause-again g c = λ t is on.
+    let n : ℕ = (g.R.Records.view c.args.volume.now.records).record_count in
+    let fault = c.in_err-found.field-0.0 in
+    let lent : c.records_mut-records.result.now ≡ c.read-read.new.volume.records = c.records_mut-records.ensures.value in
+    let passed : c.from_residual.result ≡ Err fault = passed_on c.from_residual.result fault c.from_residual.ensures.0 c.from_residual.ensures.1 in (
+      λ u told. subst (λ r. SettlesOnly (g.R.Records.view c.args.volume.now.records) (g.R.Records.view r) u) (sym lent) (c.in_err-found.ensures.settling u told),
+      λ u told. subst (λ answer. AddsOnly (IsSettleWrite n (redo_of u)) (g.R.Records.view c.args.volume.now.records).transferred (g.R.Records.view c.records_mut-records.result.now).transferred (store_answer answer))
+          (sym passed)
+          (subst (λ r. AddsOnly (IsSettleWrite n (redo_of u)) (g.R.Records.view c.args.volume.now.records).transferred (g.R.Records.view r).transferred (store_answer {T = Packed} (Err fault))) (sym lent)
+          (adds_alike Readable Packed fault _ _ _ (c.in_err-found.ensures.writes u told))),
+    )
+
+pub returns-in_err-packed-clause-again : goal.returns-in_err-packed-clause-again
+returns-in_err-packed-clause-again g c = λ t is on.
+    let read = c.in_ok-found.ensures in
+    let found = c.in_ok-found.found in
+    let those = read.those t is in
+    let stands = packed_those (g.R.Records.view c.args.volume.now.records).record_count found.first found.end found.redo found.task (slots_held c.read-read.new.self) t those.1 those.2 on read.may.0 those.3 in
+    let no : false ≡ true = ap is_ok (sym c.in_err-packed.was) ∙ (c.pack_held.ensures.idle stands.none stands.live stands.placed).0 in
+    absurd (cc)
+
+pub returns-clause-again : goal.returns-clause-again
+returns-clause-again g c = λ t is on.
+    let n : ℕ = (g.R.Records.view c.args.volume.now.records).record_count in
+    let read = c.in_ok-found.ensures in
+    let found = c.in_ok-found.found in
+    let those = read.those t is in
+    let stands = packed_those n found.first found.end found.redo found.task (slots_held c.read-read.new.self) t those.1 those.2 on read.may.0 those.3 in
+    let still : c.pack_held.new.records ≡ c.read-read.new.volume.records = (c.pack_held.ensures.idle stands.none stands.live stands.placed).1 ∙ c.records_mut-records.ensures.value in (
+      λ u told. subst (λ r. SettlesOnly (g.R.Records.view c.args.volume.now.records) (g.R.Records.view r) u) (sym still) (read.settling u told),
+      λ u told. subst (λ r. GoesOnBy (IsSettleWrite n (redo_of u)) (g.R.Records.view c.args.volume.now.records).transferred (g.R.Records.view r).transferred) (sym still) (read.writes u told),
+    )

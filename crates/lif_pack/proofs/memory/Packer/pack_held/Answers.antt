@@ -1,5 +1,5 @@
-use Rattle.std.proofs.Common.{◌≡◌, ◌+◌, ◌-◌, ◌*◌, ◌/◌, ◌∙◌, ℕ, length, filter, refl, sym, ap, subst, arith, rules}
-use Rattle.std.specs.Prelude.{Err}
+use Rattle.std.proofs.Common.{◌≡◌, ◌+◌, ◌-◌, ◌*◌, ◌/◌, ◌∙◌, ℕ, length, take, filter, refl, sym, ap, subst, arith}
+use Rattle.std.specs.Prelude.{Ok, Err}
 use Rattle.std.proofs.lemmas.List.{length-map}
 use Rattle.lif_model.specs.Tape.{IsTape}
 use Rattle.lif_model.specs.declared.version.Version.TheVariants.{Two}
@@ -9,15 +9,16 @@ use Rattle.il_ports.specs.Stores.{RunLeaves}
 use Rattle.il_ports.proofs.Stores.{goes_further, goes_within}
 use Rattle.lif_commit.proofs.Staging.{goes_failed, goes_told}
 use Rattle.lif_dir.specs.Entries.{slot_bytes}
-use Rattle.lif_model.specs.Packing.{records_free}
+use Rattle.lif_model.specs.Packing.{are_packed, records_free}
 use Rattle.lif_pack.specs.Packers.{slots_held}
-use Rattle.lif_pack.specs.Steps.{MayPack, ArePackedAlike, TapeHasSlots}
+use Rattle.lif_pack.specs.Steps.{AreLive, MayPack, ArePackedAlike, TapeHasSlots}
 use Rattle.lif_pack.specs.Tasks.{KeepsFiles}
 use Rattle.lif_pack.specs.Packs.{calls_left_to}
+use Rattle.lif_pack.proofs.Answered.{passed_on}
 use Rattle.lif_pack.proofs.Placing.{redo_lies, end_below}
 use Rattle.lif_pack.proofs.Keeping.{kept_further}
 use Rattle.lif_pack.proofs.Held.{left_few, packing_few}
-use Rattle.lif_pack.proofs.PackedTape.{packed_after, packed_may, packed_shown}
+use Rattle.lif_pack.proofs.PackedTape.{packed_after, packed_may, packed_on, packed_shown}
 use Rattle.lif_pack.proofs.memory.Packer.pack_held.Goals as goal
 
 pub returns-in_err-finish_held-clause-goes_on : goal.returns-in_err-finish_held-clause-goes_on
@@ -25,7 +26,7 @@ returns-in_err-finish_held-clause-goes_on g c =
     let n : ℕ = (g.R.Records.view c.args.records.now).record_count in
     let below = end_below n c.args.found.now.first c.args.found.now.end c.args.found.now.redo (slots_held c.args.self.now) c.requires.may in
     let few = left_few n c.args.found.now.end c.args.found.now.redo (slots_held c.args.self.now) c.args.found.now.task c.requires.task below in
-    let is : c.from_residual.result ≡ Err c.in_err-finish_held.field-0.0 = search rules in
+    let is : c.from_residual.result ≡ Err c.in_err-finish_held.field-0.0 = passed_on c.from_residual.result c.in_err-finish_held.field-0.0 c.from_residual.ensures.0 c.from_residual.ensures.1 in
     rw is (goes_within (calls_left_to c.args.found.now.task) (15 * n + 49 - (c.args.found.now.end - c.args.found.now.first)) _ _ _ (omega (arith, few, below)) (goes_failed (calls_left_to c.args.found.now.task) _ _ c.in_err-finish_held.field-0.0 c.in_err-finish_held.ensures.goes_on))
 
 pub returns-in_err-finish_held-clause-stops : goal.returns-in_err-finish_held-clause-stops
@@ -82,7 +83,8 @@ returns-in_err-move_files-clause-goes_on g c =
     let may1 = (fin.may c.args.found.now.first c.args.found.now.end c.args.found.now.redo c.requires.may c.requires.task) in
     let front = c.placed_front-from.ensures in
     let few = packing_few n c.args.found.now.first c.args.found.now.end c.args.found.now.redo c.placed_front-from.result.0 c.placed_front-from.result.1 (slots_held c.args.self.now) slots1 slots1 c.args.found.now.task c.requires.may c.requires.task may1 front.placed front.within front.longest may1.0 in
-    let is : c.from_residual-in_err-move_files.result ≡ Err c.in_err-move_files.field-0.0 = search rules in
+    let is : c.from_residual-in_err-move_files.result ≡ Err c.in_err-move_files.field-0.0 =
+    passed_on c.from_residual-in_err-move_files.result c.in_err-move_files.field-0.0 c.from_residual-in_err-move_files.ensures.0 c.from_residual-in_err-move_files.ensures.1 in
     let calls : ℕ = 15 * (redo_start Two (g.R.Records.view c.finish_held.new.records).record_count - c.placed_front-from.result.1) in
     rw is (goes_within (calls_left_to c.args.found.now.task + calls) (15 * n + 49 - (c.args.found.now.end - c.args.found.now.first)) _ _ _ (omega (arith, few, size1))
     (goes_further (calls_left_to c.args.found.now.task) calls _ _ _ _ _ fin.goes_on (goes_failed calls _ _ c.in_err-move_files.field-0.0 c.in_err-move_files.ensures.goes_on)))
@@ -128,7 +130,8 @@ returns-in_err-close_directory-clause-goes_on g c =
     let may2 : MayPack n c.args.found.now.first c.args.found.now.end c.args.found.now.redo slots2 = subst (λ (m : ℕ). MayPack m c.args.found.now.first c.args.found.now.end c.args.found.now.redo slots2) size1 mv.may in
     let front = c.placed_front-from.ensures in
     let few = packing_few n c.args.found.now.first c.args.found.now.end c.args.found.now.redo c.placed_front-from.result.0 c.placed_front-from.result.1 (slots_held c.args.self.now) slots1 slots2 c.args.found.now.task c.requires.may c.requires.task may1 front.placed front.within front.longest may2 in
-    let is : c.from_residual-in_err-close_directory.result ≡ Err c.in_err-close_directory.field-0.0 = search rules in
+    let is : c.from_residual-in_err-close_directory.result ≡ Err c.in_err-close_directory.field-0.0 =
+    passed_on c.from_residual-in_err-close_directory.result c.in_err-close_directory.field-0.0 c.from_residual-in_err-close_directory.ensures.0 c.from_residual-in_err-close_directory.ensures.1 in
     let calls : ℕ = 15 * (redo_start Two (g.R.Records.view c.finish_held.new.records).record_count - c.placed_front-from.result.1) in
     let last : ℕ = 13 * (length slots2 / 8 + 1) + 9 in
     rw is (goes_within (calls_left_to c.args.found.now.task + calls + last) (15 * n + 49 - (c.args.found.now.end - c.args.found.now.first)) _ _ _ (omega (arith, few, size1))
@@ -204,6 +207,7 @@ returns-clause-packs g c t v is some those =
         may = packed_may n c.args.found.now.first c.args.found.now.end c.args.found.now.redo slots1 slots2 t x.0 x.2 may1.0;
         after = after;
         shown_after = packed_shown n c.args.found.now.first c.args.found.now.end c.args.found.now.redo slots1 slots2 t x.0 x.2 tape_x may1.0 u.0 size_u after;
+        is_packed = packed_on n c.args.found.now.first c.args.found.now.end c.args.found.now.redo slots1 slots2 t x.0 x.2 tape_x may1.0 u.0 after;
         is_settled = c.in_ok-close_directory.ensures.settled u.0 u.1;
         files = c.files_moved.ensures.count n c.args.found.now.first may1.0 x.2.volume x.2.slots_are x.2.ends;
         free = c.from.ensures ∙ c.records_free.ensures x.2.volume x.2.slots_are x.2.ends ∙ ap (λ (m : ℕ). records_free m x.2.volume) (c.size-size.ensures ∙ size1);
@@ -231,3 +235,27 @@ returns-clause-stops g c t v is some those =
     (subst (λ (m : ℕ). RunLeaves (g.R.Records.view c.move_files.new.records) (g.R.Records.view c.close_directory.new.records) (KeepsFiles m y.0)) size2
     (c.close_directory.ensures.stops y.0 y.1 c.args.found.now.end c.args.found.now.redo (subst (λ (m : ℕ). MayPack m c.args.found.now.first c.args.found.now.end c.args.found.now.redo slots2) (sym size2) may2)
     (record x.2.volume { slots = slots2 }) moved refl x.2.starts x.2.ends))
+
+-- ---- it was packed already
+
+pub returns-in_err-close_directory-clause-idle : goal.returns-in_err-close_directory-clause-idle
+returns-in_err-close_directory-clause-idle g c none live placed =
+    let held = ap slots_held (c.in_ok-finish_held.ensures.idle none).2 in
+    let front = c.placed_front-from.ensures in
+    let all = front.longest c.args.found.now.redo (omega arith) (ap (λ xs. are_packed c.args.found.now.end (take c.args.found.now.redo xs)) held ∙ placed) in
+    let there : c.placed_front-from.result.0 ≡ c.args.found.now.redo = omega (arith, all, front.within) in
+    let kept = (c.in_ok-move_files.ensures.idle there).2 ∙ held in
+    let done = c.close_directory.ensures.idle (subst AreLive (sym kept) live) in
+    let no : Err c.in_err-close_directory.field-0.0 ≡ Ok tt = sym c.in_err-close_directory.was ∙ done.0 in
+    absurd (cc)
+
+pub returns-clause-idle : goal.returns-clause-idle
+returns-clause-idle g c none live placed =
+    let fin = c.in_ok-finish_held.ensures.idle none in
+    let held = ap slots_held fin.2 in
+    let front = c.placed_front-from.ensures in
+    let all = front.longest c.args.found.now.redo (omega arith) (ap (λ xs. are_packed c.args.found.now.end (take c.args.found.now.redo xs)) held ∙ placed) in
+    let there : c.placed_front-from.result.0 ≡ c.args.found.now.redo = omega (arith, all, front.within) in
+    let kept = c.in_ok-move_files.ensures.idle there in
+    let done = c.in_ok-close_directory.ensures.idle (subst AreLive (sym (kept.2 ∙ held)) live) in
+    (refl, done.1 ∙ kept.1 ∙ fin.1)
