@@ -14,6 +14,9 @@ use Rattle.il_frames.specs.Frames.{byte_of, framed}
 use Rattle.il_frames.specs.NamedFrames.{aau, entry, ifc}
 use Rattle.loop_model.specs.Exchanges.{Answer, Echo, Stopped, Command, Address, Piece, Whole, NotTaken}
 use Rattle.loop_model.specs.Hearing.{roles_at}
+use Rattle.loop_model.specs.Reach.{links, met}
+use Rattle.il_device.specs.State.{risen_by}
+use Rattle.il_ring.specs.Plans.{hops_of}
 use Rattle.il_script.specs.declared.reply.Code.TheVariants as code
 use Rattle.il_script.specs.declared.reply.Reply.TheVariants as reply
 use Rattle.il_ring.specs.declared.plan.Planned.{Planned}
@@ -23,7 +26,7 @@ use Rattle.il_ring.specs.Lends.{Lend as Lending, AtHost, NoTaker, NoTakerCut, Le
 use Rattle.il_ring.specs.Statuses.{is_back}
 use Rattle.host_model.specs.Courses.{keeps_to}
 use Rattle.host_model.specs.Requests.{Status, Lend, Item, Asks, NoCommand, items_of}
-use Rattle.host_model.specs.LoopStates.{LoopState, addresses_asked, last_address}
+use Rattle.host_model.specs.LoopStates.{LoopState, addresses_asked, device_count, last_address}
 use Rattle.host_model.specs.HostStates.{HostState, fresh_host}
 use Rattle.host_model.specs.Replies.{reply_of, reply_text, trace_text}
 use Rattle.host_model.specs.Histories.{IsLostWhere, joined_exchanges}
@@ -173,8 +176,8 @@ one_lent tape n = record {
   begun = λ h. refl;
   cause = λ h. absurd (false_is_not_true h);
   untaken = λ h g. refl;
-  faults = omega arith;
-  unfailed = λ fine. refl;
+  unmet = λ h. refl;
+  faults = refl;
   told = λ h. refl;
 }
 
@@ -300,8 +303,8 @@ ten_lent tape n = record {
   begun = λ h. refl;
   cause = λ h. absurd (false_is_not_true h);
   untaken = λ h g. refl;
-  faults = omega arith;
-  unfailed = λ fine. refl;
+  unmet = λ h. refl;
+  faults = refl;
   told = λ h. (refl, All-nil (λ b. b ≡ 0), refl);
 }
 
@@ -365,8 +368,8 @@ none_lent tape n = record {
   begun = λ h. refl;
   cause = λ h. absurd (false_is_not_true h);
   untaken = λ h g. refl;
-  faults = omega arith;
-  unfailed = λ fine. refl;
+  unmet = λ h. refl;
+  faults = refl;
   told = λ h. refl;
 }
 
@@ -424,8 +427,8 @@ first_lent tape n = record {
   begun = λ h. refl;
   cause = λ h. absurd (false_is_not_true h);
   untaken = λ h g. refl;
-  faults = omega arith;
-  unfailed = λ fine. refl;
+  unmet = λ h. refl;
+  faults = refl;
   told = λ h. refl;
 }
 
@@ -521,8 +524,8 @@ cut_lent tape n = record {
   begun = λ h. refl;
   cause = λ h met. cc;
   untaken = λ h g. absurd (false_is_not_true (sym g));
-  faults = omega arith;
-  unfailed = λ fine. refl;
+  unmet = λ h. refl;
+  faults = refl;
   told = λ h. absurd (false_is_not_true (sym h));
 }
 
@@ -562,6 +565,10 @@ cut_acts tape n = record {
 cut_without_plan : IsStep (loss_at 19) (cut_on base.formatted 12) → ⊥
 cut_without_plan s = (s.acts.lent 1 refl).cause refl refl
 
+-- the medium fails in no lend, not in one that is broken off either
+medium_failed : IsStep (loss_at 18) (record (cut_on base.formatted 12) { after = record (cut_on base.formatted 12).after { faults = 1 } }) → ⊥
+medium_failed s = numbers_differ _ _ refl (s.acts.lent 1 refl).faults
+
 still_ready : IsStep (loss_at 18) (record (cut_on base.formatted 12) { after = record (cut_on base.formatted 12).after { ready = true } }) → ⊥
 still_ready s = false_is_not_true (sym (s.acts.ready refl))
 
@@ -582,10 +589,19 @@ unbegun_lent tape n = record {
   begun = λ h. absurd (false_is_not_true (sym h));
   cause = λ h met. cc;
   untaken = λ h g. absurd (false_is_not_true (sym g));
-  faults = omega arith;
-  unfailed = λ fine. refl;
+  unmet = λ h. absurd (false_is_not_true h);
+  faults = refl;
   told = λ h. absurd (false_is_not_true (sym h));
 }
+
+-- a hop of the addressing was met, and yet a lend began
+met_before : (e : Event) → e.before.crossings ≡ 0 → e.before.loop ≡ (fresh_on base.formatted 12).loop → (lent : Lent (loss_at 8) 1 e) → lent.front ≡ log_of front_pieces → is_some lent.lent ≡ true → ⊥
+met_before e none loop lent front begun = some_met (subst (λ n. met (hops_of (loss_at 8)) n (risen_by (links 3 (log_of front_pieces)) n) ≡ []) none
+    (subst (λ z. met (hops_of (loss_at 8)) e.before.crossings (risen_by (links (device_count z) (log_of front_pieces)) e.before.crossings) ≡ []) loop
+    (subst (λ es. met (hops_of (loss_at 8)) e.before.crossings (risen_by (links (device_count e.before.loop) es) e.before.crossings) ≡ []) front (lent.unmet begun))))
+  where
+    some_met : met (hops_of (loss_at 8)) 0 (risen_by (links 3 (log_of front_pieces)) 0) ≡ [] → ⊥
+    some_met h = cc
 
 -- an IFC goes before, also where it is lost
 back_first : (takes_back_first (log_of front_pieces ++ entries one) ≡ true) × (takes_back_first (entry 0 ifc (outcome.Lost 2) ∷ []) ≡ true)

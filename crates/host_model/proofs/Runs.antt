@@ -171,7 +171,7 @@ answered_once (reply.No c) found units item s t cause none same low whole = whol
 failed_at_most : (plan : List Planned) (e : Event) → IsStep plan e → min (e.before.faults + cond (is_medium_fault e.reply) 1 0) last_count ≤ e.after.faults
 failed_at_most plan e s = ⊎_elim (λ is. by is.0 e.reply (subst (λ item. MayReply item e.reply) is.1 s.acts.replied.may) (s.acts.lent is.0 is.1).faults) (λ other. failed_once e.reply _ _ _ _ (s.acts.exchanged other).cause) (is_lend_or e.item)
   where
-    by : (frames : ℕ) (r : Reply) → MayReply (Asks (Lend frames)) r → e.before.faults ≤ e.after.faults → min (e.before.faults + cond (is_medium_fault r) 1 0) last_count ≤ e.after.faults
+    by : (frames : ℕ) (r : Reply) → MayReply (Asks (Lend frames)) r → e.after.faults ≡ e.before.faults → min (e.before.faults + cond (is_medium_fault r) 1 0) last_count ≤ e.after.faults
     by frames reply.FaultFrame may same = omega (arith, same)
     by frames reply.FaultMedium may same = cc
     by frames reply.Ok may same = omega (arith, same)

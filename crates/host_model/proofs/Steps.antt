@@ -138,7 +138,7 @@ lost_at_most plan e s =
 -- the medium's count never falls
 pub faults_later : (plan : List Planned) (e : Event) → IsStep plan e → e.before.faults ≤ e.after.faults
 faults_later plan e s =
-    ⊎_elim (λ is. (s.acts.lent is.0 is.1).faults) (λ other. faults_grow e.reply _ _ _ _ (s.acts.exchanged other).cause) (is_lend_or e.item)
+    ⊎_elim (λ is. let same = (s.acts.lent is.0 is.1).faults in omega (arith, same)) (λ other. faults_grow e.reply _ _ _ _ (s.acts.exchanged other).cause) (is_lend_or e.item)
 
 -- what settles to the same as the tape before
 pub alike : {before : Option Tape} (t x : Tape) → before ≡ Some t → SettlesAs (settled t) x → SettlesAlike before x

@@ -212,8 +212,9 @@ pub record IsLendOf (z : LoopState) (frames : ℕ) (reply : Reply) (lend : Lendi
   pub answered : answers_always (device_count z) (drive_at z) None (entries_lent z (Some lend)) ≡ true
 
 -- The exchanges of the host before a lend are the addressing of a loop that was not ready, and break off at most where the lend did not
--- begin. It is `fault frame` only where a planned hop was met; and where nobody takes control it is so exactly there. The medium does not
--- fail in a lend that is whole. The drive told its status first, which is 0 then, and 0 each further time; all that came of it in the lend is these bytes.
+-- begin; where it began they met no planned hop. It is `fault frame` only where one was met; and where nobody takes control it is so
+-- exactly there. The medium does not fail. In a lend that is whole the drive told its status first, which is 0 then, and 0 each further
+-- time; all that came of it is these bytes.
 pub record Lent (plan : List Planned) (frames : ℕ) (e : Event) : Type 0 where
   pub front : List Entry
   pub reading : Reading (ring_of e.before.loop) front
@@ -225,8 +226,8 @@ pub record Lent (plan : List Planned) (frames : ℕ) (e : Event) : Type 0 where
   pub begun : is_frame_fault e.reply ≡ false → is_some lent ≡ true
   pub cause : is_frame_fault e.reply ≡ true → met (hops_of plan) e.before.crossings e.after.crossings ≢ []
   pub untaken : e.before.loop.guest ≡ None → is_frame_fault e.reply ≡ false → met (hops_of plan) e.before.crossings e.after.crossings ≡ []
-  pub faults : e.before.faults ≤ e.after.faults
-  pub unfailed : is_frame_fault e.reply ≡ false → e.after.faults ≡ e.before.faults
+  pub unmet : is_some lent ≡ true → met (hops_of plan) e.before.crossings (risen_by (links (device_count e.before.loop) front) e.before.crossings) ≡ []
+  pub faults : e.after.faults ≡ e.before.faults
   pub told : is_frame_fault e.reply ≡ false → ToldStatus e.before.loop.status (told_by (device_count e.before.loop) (drive_at e.before.loop) e.log) e.after.loop.status
 
 -- ---- a step

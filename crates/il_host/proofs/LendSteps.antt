@@ -56,7 +56,7 @@ use Rattle.il_host.proofs.CommandTravels.{event_by, event_on, travels_came}
 use Rattle.il_host.proofs.Devices.{boxed_first}
 use Rattle.il_host.proofs.Images.{KeepsMedium, came_images, same_images}
 use Rattle.il_host.proofs.Keeping.{Keeps, keeps_asked}
-use Rattle.il_host.proofs.LendTravels.{Went, some_device, travels_went, went_came, went_lent, went_none, went_then}
+use Rattle.il_host.proofs.LendTravels.{Went, some_device, travels_went, went_came, went_crossings, went_lent, went_none, went_then}
 use Rattle.il_host.proofs.LoopEvents.{Readies, keeps_interrupted, meets_addressing}
 use Rattle.il_host.proofs.LoopNext.{Still, loop_interrupted_next, ready_still}
 use Rattle.il_host.proofs.LoopReady.{ReadyBroke}
@@ -319,8 +319,8 @@ module _ {M : Type 0} (view : M → MediumView) (frames : ℕ) (was sound : Bool
       begun = λ whole. refl;
       cause = cause;
       untaken = untaken;
-      faults = let same = ap (λ m. (view m).faults) still_medium in omega (arith, same);
-      unfailed = λ fine. ap (λ m. (view m).faults) still_medium;
+      unmet = λ begun. subst (λ n. met (hops_of r.books.plan) r.books.crossings n ≡ []) (went_crossings r m front.front went_first) (met_ready view r empty was m ready);
+      faults = ap (λ m. (view m).faults) still_medium;
       told = told;
     }
 
@@ -530,8 +530,8 @@ unready_step {M} view frames sound r s empty broke shortens begins ring =
       begun = λ fine. cc;
       cause = λ fault. came.talked.met;
       untaken = λ none fine. cc;
-      faults = cut.drive.count;
-      unfailed = λ fine. cc;
+      unmet = λ begun. cc;
+      faults = ap (λ m. (view m).faults) broke.leaves.medium;
       told = λ fine. cc;
     }
 

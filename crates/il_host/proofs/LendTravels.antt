@@ -32,7 +32,7 @@ use Rattle.il_record.specs.Came.{CameBy}
 use Rattle.il_record.specs.Talks.{all_entries}
 use Rattle.il_script.specs.declared.reply.Reply.{Reply}
 use Rattle.host_model.specs.Requests.{Item}
-use Rattle.host_model.specs.LoopStates.{all_roles}
+use Rattle.host_model.specs.LoopStates.{all_roles, device_count}
 use Rattle.host_model.specs.HostStates.{log_room}
 use Rattle.host_model.specs.Next.{BoxedBecome}
 use Rattle.host_model.specs.RingStates.{loop_on}
@@ -178,6 +178,16 @@ went_lent a limit whole m s lends =
       size = lends.size;
     }
 
+-- it counts for the crossings, in the words of the loop
+pub went_crossings : {M : Type 0} (r s : RingView M) (log : List Entry) → Went r s log → s.books.crossings ≡ risen_by (links (device_count (loop_on r)) log) r.books.crossings
+went_crossings r s log went =
+    went.crossings
+    ∙ ap (λ n. risen_by n r.books.crossings)
+    (links_are (length (devices_of r)) log (none_unheld None log went.unheld) ∙ ap (λ j. links j log) (sym (count_on r)))
+  where
+    links_are : (k : ℕ) (log : List Entry) → held_at_end None log ≡ None → sum_by (links_of k) log ≡ links k log
+    links_are k log held = rw held (omega arith)
+
 -- ---- an event
 
 -- by a log that was empty at first
@@ -186,12 +196,11 @@ pub travels_went : {M : Type 0} (view : M → MediumView) (item : Item) (answer 
 travels_went view item answer was is sound sound_now r s log logged went short =
     let k = length (devices_of r) in
     let held : held_at_end None s.books.log ≡ None = ap (held_at_end None) logged ∙ none_unheld None log went.unheld in
-    let linked : sum_by (links_of k) log ≡ links k s.books.log = ap (sum_by (links_of k)) (sym logged) ∙ sym (links_are k s.books.log held) in
     record {
       one_talker = subst (λ es. OneTalkerLed 0 (all_roles (loop_on r)) es) (sym logged) (subst (λ rs. OneTalkerLed 0 rs log) (sym (roles_on r)) went.one);
       commands = ap (are_commands_led 0) logged ∙ went.commands;
       roles = roles_on s ∙ went.roles ∙ ap (λ rs. roles_led 0 rs log) (sym (roles_on r)) ∙ ap (roles_led 0 (all_roles (loop_on r))) (sym logged);
-      crossings = went.crossings ∙ ap (λ n. risen_by n r.books.crossings) (linked ∙ ap (λ j. links j s.books.log) (sym (count_on r)));
+      crossings = went_crossings r s log went ∙ ap (λ es. risen_by (links (device_count (loop_on r)) es) r.books.crossings) (sym logged);
       frames = subst (λ j. BoxedBecome (TookFrames j s.books.log) (loop_on r) (loop_on s)) (sym (count_on r))
           (beside_drive (TookFrames k s.books.log) (loop_on r) (loop_on s) (device_of r.drive.state) (device_of s.drive.state) went.before
           (each_weaker (λ q d e. e.frames ≡ risen_by (count_by (brings_to k q) log) d.frames) (TookFrames k s.books.log)
@@ -200,8 +209,5 @@ travels_went view item answer was is sound sound_now r s log logged went short =
       short = short;
     }
   where
-    links_are : (k : ℕ) (log : List Entry) → held_at_end None log ≡ None → links k log ≡ sum_by (links_of k) log
-    links_are k log held = rw held (omega arith)
-
     passes_are : (k q : ℕ) (log : List Entry) → held_at_end None log ≡ None → passes k q log ≡ count_by (brings_to k q) log
     passes_are k q log held = rw held (omega arith)

@@ -99,8 +99,8 @@ module _ (e : Event) (was was_kept is is_kept : Bool) where
     begun = so.begun;
     cause = so.cause;
     untaken = so.untaken;
+    unmet = so.unmet;
     faults = so.faults;
-    unfailed = so.unfailed;
     told = so.told;
   }
 

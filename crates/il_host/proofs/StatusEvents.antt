@@ -31,7 +31,7 @@ ready_leaves {M} view true r m ready = record {
 ready_leaves view false r m ready = record {
   place = ready.1.came.units.came.talked.adds.before;
   status = ready.1.leaves.status;
-  medium = ready.1.medium;
+  medium = ready.1.leaves.medium;
 }
 
 -- ---- its exchanges

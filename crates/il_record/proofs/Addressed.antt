@@ -55,8 +55,7 @@ readied view n r s low done stays =
     record {
       came = record { units = came_still view true ps [] r s talked refl refl (λ t. refl) (ap (λ m. (view m).tape) drive.medium); asked = (refl, (refl, (refl, tt))) };
       unheard = heard_none q r s (none_whole view r s (addressing n) refl done.whole);
-      leaves = record { stays = stays; status = drive.status };
-      medium = drive.medium;
+      leaves = record { stays = stays; status = drive.status; medium = drive.medium };
       idle = done.idle;
     }
 
@@ -139,16 +138,22 @@ first_came k q zero gs came = ⊎_elim (λ nothing. inl nothing) (λ one. inr ([
 first_came k q (suc n) [] came = absurd came
 first_came k q (suc n) (g ∷ gs) came = inr (gs, ap (λ g. g ∷ gs) (came.0.other refl refl))
 
-nothing_ran : {M : Type 0} (view : M → MediumView) (outs : List Out) (v w : DriveView M) → Ran view v [] outs w → status_of w.state ≡ status_of v.state
-nothing_ran view [] v w ran = ap (λ (v : DriveView _). status_of v.state) ran
+-- the drive's status and its medium
+record KeepsDrive {M : Type 0} (v w : DriveView M) : Type 0 where
+  status : status_of w.state ≡ status_of v.state
+  medium : w.medium ≡ v.medium
+
+nothing_ran : {M : Type 0} (view : M → MediumView) (outs : List Out) (v w : DriveView M) → Ran view v [] outs w → KeepsDrive v w
+nothing_ran view [] v w ran = subst (KeepsDrive v) (sym ran) (record { status = refl; medium = refl })
 nothing_ran view (out ∷ outs) v w ran = absurd ran
 
-status_kept : {M : Type 0} (view : M → MediumView) (k q n : ℕ) (gs : List Frame) (outs : List Out) (v w : DriveView M) → q ≤ 30 → CutBrought k q (addressing k) n gs → Ran view v gs outs w → status_of w.state ≡ status_of v.state
-status_kept view k q n gs outs v w low came ran = ⊎_elim
+drive_kept : {M : Type 0} (view : M → MediumView) (k q n : ℕ) (gs : List Frame) (outs : List Out) (v w : DriveView M) → q ≤ 30 → CutBrought k q (addressing k) n gs → Ran view v gs outs w → KeepsDrive v w
+drive_kept view k q n gs outs v w low came ran = ⊎_elim
     (λ nothing. nothing_ran view outs v w (subst (λ gs. Ran view v gs outs w) nothing ran))
     (λ some.
     let all : AllHave Harmless (ifc ∷ some.0) = subst (AllHave Harmless) some.1 (cut_have Harmless k q n (addressing k) gs (addressing_may k q low) came) in
-    (ifc_ran view some.0 outs v w (all_mild some.0 all.1) (subst (λ gs. Ran view v gs outs w) some.1 ran)).status)
+    let mild = ifc_ran view some.0 outs v w (all_mild some.0 all.1) (subst (λ gs. Ran view v gs outs w) some.1 ran) in
+    record { status = mild.status; medium = mild.medium })
     (first_came k q n gs came)
 
 pub not_readied : {M : Type 0} (view : M → MediumView) (r s : RingView M) → drive_party r ≤ 30 → NotResumed view r s → AllStay true r s → Interrupted view address_asks (drive_party r) r s × LeavesDevices r s
@@ -171,12 +176,13 @@ not_readied view r s low not stays =
     let left : LeavesRecords view r.drive s.drive = record {
       still = leaves_records view broke.adds.came broke.adds.answers r.drive s.drive (none_puts broke.adds.came (cut_have Harmless k q broke.standing (addressing k) broke.adds.came (addressing_may k q low) (broke.brought refl))) broke.adds.drive;
       count = counts_up view broke.adds.came broke.adds.answers r.drive s.drive broke.adds.drive;
-    } in (
+    } in
+    let kept = drive_kept view k q broke.standing broke.adds.came broke.adds.answers r.drive s.drive low (broke.brought refl) broke.adds.drive in (
       record {
         came = record { units = came_still view false cut.pieces [] r s talked (ends_within-broken (loop_of r) cut.pieces cut.ends) cut.none (λ t. refl) left.still.tape; asked = cut.asked };
         unheard = heard_none q r s (none_broke view r s (addressing k) refl broke);
         places = kept_stays r s true stays;
         drive = left;
       },
-      record { stays = stays; status = status_kept view k q broke.standing broke.adds.came broke.adds.answers r.drive s.drive low (broke.brought refl) broke.adds.drive },
+      record { stays = stays; status = kept.status; medium = kept.medium },
     )

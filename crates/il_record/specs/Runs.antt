@@ -61,17 +61,17 @@ abbrev pub address_asks : List Ask
 address_asks = AskCommand ifc ∷ AskCommand aau ∷ AskAddresses ∷ []
 
 -- What addressing leaves, whole or broken off: what each device heard, its place in the poll and its wish for service, and the
--- drive's status.
+-- drive's status and medium.
 pub record LeavesDevices {M : Type 0} (r s : RingView M) : Type 0 where
   pub stays : AllStay true r s
   pub status : status_of s.drive.state ≡ status_of r.drive.state
+  pub medium : s.drive.medium ≡ r.drive.medium
 
 -- each device has its number as address, and none has a role
 pub record Readied {M : Type 0} (view : M → MediumView) (r s : RingView M) : Type 0 where
   pub came : CameAsked view true address_asks r s
   pub unheard : OnlyHeard (drive_party r) r s
   pub leaves : LeavesDevices r s
-  pub medium : s.drive.medium ≡ r.drive.medium
   pub idle : IsIdle s
 
 -- ---- clearing
