@@ -17,7 +17,6 @@ use Rattle.il_device.specs.Passing.{served, identified, counted_on, passed}
 use Rattle.il_device.specs.Takes.{eto, ete, turn_of, heard_after, count_after, may_change_service, identity, AnswersEcho, Takes}
 use Rattle.il_device.specs.Interfaces.{fresh_interface, turn_on, interface_after, device_on}
 use Rattle.il_device.specs.Plain.{status_answer, plain_answer, fresh_plain, TakesAsPlain}
-use Rattle.il_device.specs.Walks.{sent_on, Walk}
 
 -- a talker, a listener and an idle device, all with address 2
 abbrev talker : Roles
@@ -249,8 +248,12 @@ stopped_echo : AnswersEcho true (record letter { stopped = true }) (Source eto) 
 stopped_echo = record { answer = refl; off_loop = refl }
 
 -- a stopped device sends no other byte
+abbrev frame_of : Out → Frame
+frame_of (Pass f) = f
+frame_of (Source f) = f
+
 stopped_sends_none : AnswersEcho true (record letter { stopped = true }) (Source (framed class.Dab 0x42)) (standing talker None) → ⊥
-stopped_sends_none h = let clash : class.Dab ≡ class.Rdy = ap (λ (o : Out). class_of (sent_on o)) h.answer in absurd (cc)
+stopped_sends_none h = let clash : class.Dab ≡ class.Rdy = ap (λ (o : Out). class_of (frame_of o)) h.answer in absurd (cc)
 
 -- the part that every device has alike, behind AAD 01
 interface_aad : (interface_after (fresh_interface None) (framed class.Rdy 0x81)).roles.address ≡ Some 1
@@ -279,10 +282,3 @@ quiet_passes room s f out t h = h.answer
 
 quiet_is : fresh_plain None 0 0 [] ≡ fresh None 0
 quiet_is = refl
-
--- behind a device that sends goes its frame
-sent : sent_on (Source eto) ≡ eto
-sent = refl
-
-nobody : Walk [] eto [] eto
-nobody = refl

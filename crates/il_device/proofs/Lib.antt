@@ -1,5 +1,4 @@
 pub mod StandingLemmas
 pub mod TurnLemmas
-pub mod WalkLemmas
 pub mod Laws
 mod Examples

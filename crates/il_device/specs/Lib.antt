@@ -4,4 +4,3 @@ pub mod Passing
 pub mod Takes
 pub mod Interfaces
 pub mod Plain
-pub mod Walks

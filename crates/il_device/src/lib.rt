@@ -8,7 +8,6 @@ mod plain;
 mod printer;
 mod quiet;
 mod roles;
-mod walk;
 
 pub use device::{Device, Out};
 pub use interface::{Interface, OwnFrame, Turn};
@@ -16,6 +15,3 @@ pub use plain::{Kind, Plain};
 pub use printer::Printer;
 pub use quiet::Quiet;
 pub use roles::Roles;
-
-#[cfg(test)]
-mod tests;

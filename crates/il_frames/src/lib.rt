@@ -12,6 +12,3 @@ mod text;
 pub use entry::{Entry, Outcome};
 pub use frame::{Class, Frame};
 pub use message::Message;
-
-#[cfg(test)]
-mod tests;

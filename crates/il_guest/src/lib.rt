@@ -7,6 +7,3 @@ mod guest;
 
 pub use control::{Command, Control, Place};
 pub use guest::{Guest, GuestOut};
-
-#[cfg(test)]
-mod tests;

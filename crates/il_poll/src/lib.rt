@@ -5,6 +5,3 @@
 mod service;
 
 pub use service::{Assignment, ServiceState};
-
-#[cfg(test)]
-mod tests;

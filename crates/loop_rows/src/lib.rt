@@ -16,6 +16,8 @@ mod lent_rows;
 #[cfg(test)]
 mod naming_rows;
 #[cfg(test)]
+mod reader_rows;
+#[cfg(test)]
 mod store_rows;
 #[cfg(test)]
 mod tools;

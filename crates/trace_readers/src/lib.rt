@@ -11,6 +11,3 @@ pub use effects::{Effects, Progress, Stage, Told};
 pub use exchanges::{Exchanges, Place, Tail};
 pub use expected::{Expected, UnitFault};
 pub use talkers::Talkers;
-
-#[cfg(test)]
-mod tests;

@@ -1,13 +1,12 @@
-use super::*;
+//! A second controller: its rounds, what it answers to a wrong frame, and what it does as a device.
+
+use crate::texts::frame_of;
 use GuestOut::{Pass, Relay, Source, Stop};
 use il_device::{Device, Out, Quiet};
 use il_frames::{Class, Frame};
+use il_guest::{Guest, GuestOut};
 use il_same::same;
 use std::test::Fail;
-
-fn frame_of(text: &'static str) -> Result<Frame, &'static str> {
-    Frame::read_text(text.as_bytes()).ok_or(text)
-}
 
 fn command(byte: u8) -> Frame {
     Frame::new(Class::Cmd, byte)
@@ -244,22 +243,13 @@ static WRONG: [(&[&str], &[&str]); 8] = [
     ),
 ];
 
-/// Whether the second controller goes on at each of these frames.
-fn goes_on(guest: &mut Guest, texts: &[&'static str]) -> Result<bool, &'static str> {
-    let mut goes = true;
+/// Whether the second controller is silent at each of these frames, or at none of them.
+fn stays(guest: &mut Guest, texts: &[&'static str], is_silent: bool) -> Result<bool, &'static str> {
+    let mut stays = true;
     for text in texts {
-        goes &= !same(guest.take(frame_of(text)?), Stop);
+        stays &= same(guest.take(frame_of(text)?), Stop) == is_silent;
     }
-    Ok(goes)
-}
-
-/// Whether it answers nothing at each of these frames.
-fn is_silent(guest: &mut Guest, texts: &[&'static str]) -> Result<bool, &'static str> {
-    let mut silent = true;
-    for text in texts {
-        silent &= same(guest.take(frame_of(text)?), Stop);
-    }
-    Ok(silent)
+    Ok(stays)
 }
 
 /// Whether IFC ends its control, and it has kept its address and talks no more.
@@ -278,10 +268,10 @@ fn silent_after_a_wrong_frame(rt: HostRuntime) -> Result<(), Fail> {
     for (before, frames) in WRONG {
         for wrong in frames {
             let mut guest = taken(3, 2).ok_or("not taken")?;
-            assert!(rt; goes_on(&mut guest, before)?, "before {wrong}");
+            assert!(rt; stays(&mut guest, before, false)?, "before {wrong}");
             assert!(rt; same(guest.take(frame_of(wrong)?), Stop), "{wrong}");
             let after = ["NOP", "ETO", "DAB 05", "TCT", "TAD 03", "TCT"];
-            assert!(rt; is_silent(&mut guest, &after)?, "after {wrong}");
+            assert!(rt; stays(&mut guest, &after, true)?, "after {wrong}");
             assert!(rt; guest.found().iter().all(|found| found.is_none()));
             assert!(rt; is_given_back(&mut guest)?, "IFC after {wrong}");
         }

@@ -1,5 +1,7 @@
-use super::*;
-use crate::walk::pass_along;
+//! Devices: a printer, one that sends nothing, and the part that all have alike.
+
+use crate::texts::frame_of;
+use il_device::{Device, Interface, Out, Printer, Quiet};
 use il_frames::Frame;
 use il_same::{same, same_bytes};
 use std::test::Fail;
@@ -105,10 +107,6 @@ static DAY: [(&str, Answer, &str); 76] = [
     ("DAB 4B", Passes("DAB 4B"), "DAB 4B"),
 ];
 
-fn frame_of(text: &'static str) -> Result<Frame, &'static str> {
-    Frame::read_text(text.as_bytes()).ok_or(text)
-}
-
 #[test]
 fn a_day(rt: HostRuntime) -> Result<(), Fail> {
     let mut printer = Printer::new(rt.alloc())?;
@@ -177,15 +175,24 @@ static ROUNDS: [(&str, &str); 14] = [
     ("SAI", "SAI"),
 ];
 
+/// The frame after all of the devices, each of which takes what the one before sent on.
+fn past_all(devices: &mut [Box<dyn Device>], frame: Frame) -> Frame {
+    let mut on = frame;
+    for device in devices.iter_mut() {
+        on = match device.take(on) {
+            Out::Pass(frame) | Out::Source(frame) => frame,
+        };
+    }
+    on
+}
+
 #[test]
 fn past_boxes(rt: HostRuntime) -> Result<(), Fail> {
     let printer: Box<dyn Device> = Box::new(rt.alloc(), Printer::new(rt.alloc())?)?;
     let quiet: Box<dyn Device> = Box::new(rt.alloc(), Quiet::new())?;
-    let mut devices = Vec::new(rt.alloc());
-    devices.push(printer)?;
-    devices.push(quiet)?;
+    let mut devices = Vec::from_array(rt.alloc(), [printer, quiet])?;
     for (text, behind) in ROUNDS {
-        let passed = pass_along(&mut devices, frame_of(text)?);
+        let passed = past_all(&mut devices, frame_of(text)?);
         assert!(rt; same(passed, frame_of(behind)?), "{text}");
     }
     for (device, heard_count) in devices.iter().zip([0, 1]) {

@@ -1,8 +1,9 @@
+//! The readers of traces: one talker, exchanges, what may stand in a record, and units.
 ghost use Rattle.std.specs.Prelude.{◌≡◌, length};
 
-use super::*;
 use il_frames::Entry;
 use std::test::Fail;
+use trace_readers::{Effects, Exchanges, Expected, Talkers, UnitFault};
 
 // Logs of two devices without roles: the lines of a log, and whether there was one talker at most after each.
 static LOGS: [(&[&str], &[bool]); 3] = [

@@ -1,5 +1,7 @@
-use super::*;
+//! Frames, their texts, and the lines of entries.
+
 use arrayvec::ArrayVec;
+use il_frames::{Class, Entry, Frame, Message, Outcome};
 use std::test::Fail;
 
 // Frames by number, text and message, from the tables of the HP-IL Interface Specification: each

@@ -1,4 +1,6 @@
-use super::*;
+//! Places in a parallel poll, and status bytes.
+
+use il_poll::ServiceState;
 
 // A row: what PPE set, the status, an identify byte and what it is behind the device.
 static POLLS: [(Option<u8>, u8, u8, u8); 8] = [
