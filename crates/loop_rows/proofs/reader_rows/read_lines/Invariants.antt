@@ -1,5 +1,5 @@
 use Rattle.std.proofs.Common.{◌≡◌, length}
-use Rattle.trace_readers.proofs.tests.read_lines.Given as goal
+use Rattle.loop_rows.proofs.reader_rows.read_lines.Given as goal
 
 -- the tape has as many records as before
 abbrev pub invariant-loop-line : goal.invariant-loop-line
