@@ -198,8 +198,8 @@ impl Books {
         }
     }
 
-    /// Whether a round meets nothing planned: nothing is planned at the next crossings, one for each link, and all of
-    /// them are counted.
+    /// Whether it is known that a round meets nothing planned: that nothing is planned at the next crossings, one for
+    /// each link, and that all of them are counted.
     #[inline(always)]
     pub fn is_clear(&self) -> bool
         ensures { result ≡ true → IsClear self.now.plan self.now.crossings 31 }

@@ -1,7 +1,8 @@
 -- Worked examples of packing, computed by the checker. On the tape of forty records files stand in records 4 and 5, after
 -- a directory of two records, and the redo file of version 2 begins at record 6; on that of forty-four it begins at
 -- record 10.
-use Rattle.std.proofs.Common.{◌≡◌, ◌++◌, ℕ, List, [], ◌∷◌, Option, Some, None, Bool, true, false, get_or, Ok, refl, sym, ap, arith, replicate, codes}
+use Rattle.std.proofs.Common.{◌≡◌, ◌++◌, ℕ, List, [], ◌∷◌, Option, Some, None, Bool, true, false, get_or, length, Ok, refl, sym, ◌∙◌, ap, arith, replicate, codes}
+use Rattle.std.specs.Prelude.{unwrap_or}
 use Rattle.std.specs.FinMap.{empty, insert}
 use Rattle.lif_model.specs.Numbers.{two_at, four_at}
 use Rattle.lif_model.specs.Tape.{Tape}
@@ -19,6 +20,7 @@ use Rattle.il_ports.specs.Stores.{RecordsView}
 use Rattle.lif_volume.specs.Views.{VolumeView}
 use Rattle.lif_volume.specs.Commands.{mounting_on}
 use Rattle.lif_pack.specs.Tasks.{MountsAlone, IsShownAs}
+use Rattle.lif_pack.specs.Packs.{IsPackedOn}
 use Rattle.lif_pack.specs.Steps.{ArePlaced, IsGap}
 use Rattle.lif_model.proofs.Examples as base
 use Rattle.lif_model.proofs.VolumeExamples.{file, a_name, b_name, numbered}
@@ -105,6 +107,27 @@ after = (refl, refl, refl)
 again : (packed 40 (packed 40 before) ≡ packed 40 before) × (files_moved 40 (packed 40 before) ≡ 0)
 unfolding two_at four_at name_of with_type new_entry with_start unmarked
 again = (refl, refl)
+
+-- a tape with that volume is packed
+abbrev packed_tape : Tape
+packed_tape = small (file c_name 4 1 ++ small_redo ++ base.end_entry) (numbered 5) (numbered 4)
+
+is_packed : IsPackedOn 40 packed_tape
+unfolding two_at four_at entries_of entry_at name_of is_open with_type new_entry with_start unmarked
+is_packed = record { volume = with (file c_name 4 1 ∷ small_redo ∷ []) c_alone; has = refl; unmarked = refl; same = refl }
+
+-- and one with a gap is not
+abbrev slots_of : Volume → ℕ
+slots_of v = length v.slots
+
+not_three : ◌≡◌ {A = ℕ} 2 3 → ⊥
+not_three e = cc
+
+has_gap : IsPackedOn 40 (small (gone (file a_name 4 1) ++ file c_name 5 1 ++ small_redo ++ base.end_entry) (numbered 4) (numbered 5)) → ⊥
+unfolding two_at four_at entries_of entry_at name_of is_open with_type new_entry with_start unmarked
+has_gap is =
+    let volume : is.volume ≡ before = ap (λ (o : Option Volume). unwrap_or o before) (sym is.has) in
+    not_three (ap slots_of (ap (packed 40) (sym volume) ∙ is.same ∙ volume))
 
 -- purged slots are packed away, and a file out of order is refused
 abbrev packs_to : List (List ℕ) → Option Refusal × Option Volume → Type 0

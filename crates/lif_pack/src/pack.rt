@@ -47,8 +47,8 @@ impl Packer {
     ///
     /// A packing can be stopped at any moment, and can fail: the files are kept, and `finish` makes whole the one that
     /// was being moved. Of a volume that is packed no record is written, but by settling. On a medium of N records at
-    /// most 15 N + 120 are read and written. The medium has 8,192 records
-    /// at most, since the mark of a file that is being moved has two bytes for its slot.
+    /// most 15 N + 120 are read and written. The medium has 8,192 records at most, since the mark of a file that is
+    /// being moved has two bytes for its slot.
     pub fn pack<R: Records>(&mut self, volume: &mut Volume<R>) -> Result<Packed, VolumeFault>
         requires open { IsOpen R.view (seen volume.old) }
         requires ready { IsReady (15 * (R.view (seen volume.old).records).record_count + 120)
