@@ -1,16 +1,15 @@
 // Logs of runs of records, handed to the readers of finished logs.
 ghost use Rattle.std.specs.Prelude.{◌≡◌, ◌≤◌, IfOk, length};
 
-use crate::store_rows::{read, resume, store, write};
+use crate::store_rows::{read, resume, status, store, write};
 use crate::tools;
-use il_device::{Device, Quiet};
 use il_frames::{Entry, Frame, Outcome};
 use il_ports::{Medium, MemoryMedium, Records, Trouble};
 use il_record::LoopRecords;
 use il_ring::PlanFault::{Alter, Lose};
 use il_ring::{Planned, Ring};
 use il_same::same;
-use ring_rows::tape;
+use ring_rows::{quiets, tape};
 use std::process::Abort;
 use std::test::Fail;
 use trace_readers::{Effects, Exchanges, Talkers, UnitFault};
@@ -36,8 +35,7 @@ fn write_and_read(rt: &impl Abort, records: &mut LoopRecords<MemoryMedium>) -> R
     resume(rt, records)?;
     write(rt, records, 7, 2, &[6; 512])?;
     read(rt, records, 7, &mut [0; 256])?;
-    assert!(rt; records.is_ready() && records.ring().spare() >= 1000);
-    records.drive_status()?;
+    status(rt, records)?;
     Ok(())
 }
 
@@ -124,27 +122,11 @@ fn compare_tape(rt: &impl Abort, medium: &mut MemoryMedium, effects: &Effects)
     }
 }
 
-/// The log of a run that broke off at this crossing, if at any, is exchanges with one talker. It ends by a unit that is
-/// unclear exactly where both records had been sent whole and the status had not come; else it allows the tape that the
-/// run left, and not every other.
-fn compare_run(
-    rt: &(impl Abort + AllocGlobal),
-    ring: Ring<MemoryMedium>,
-    crossing: u64,
-) -> Result<(), Fail> {
-    let log = ring.log();
-    assert!(rt; out_of_turn(2, log).is_none(), "{crossing}");
-    assert!(rt; out_of_order(2, log).is_none(), "{crossing}");
-    let mut effects = on_zeros(rt, 2)?;
-    let fault = first_fault(&mut effects, log);
-    if BOTH_SENT <= crossing && crossing <= TOLD {
-        let last = log.len().saturating_sub(1);
-        assert!(rt; same(fault, Some((last, UnitFault::Unclear))), "{crossing}");
-        return Ok(());
-    }
-    assert!(rt; fault.is_none(), "{crossing}");
-    compare_tape(rt, &mut ring.into_rig().medium, &effects);
-    // The first record may hold anything from its last byte on until the status came, and the second holds zeros.
+/// After a run that broke off at this crossing, if at any, the first record may hold anything from its last byte on
+/// until the status came, and the second holds zeros.
+fn compare_records(rt: &impl Abort, effects: &Effects, crossing: u64)
+    requires { length effects.now.expected.records ≡ 512 }
+{
     let rows = [
         (7, 0, crossing <= TOLD),
         (7, 6, crossing >= FIRST_SENT),
@@ -156,6 +138,28 @@ fn compare_run(
         let found = effects.allows(place, &[byte; 256]);
         assert!(rt; found == is_allowed, "{crossing} {place} {byte}");
     }
+}
+
+/// The log of a run that broke off at this crossing, if at any, is exchanges with one talker. It ends by a unit that is
+/// unclear exactly where both records had been sent whole and the status had not come; else it allows the tape that the
+/// run left, and not every other.
+fn compare_run(
+    rt: &(impl Abort + AllocGlobal),
+    ring: Ring<MemoryMedium>,
+    crossing: u64,
+) -> Result<(), Fail> {
+    let log = ring.log();
+    assert!(rt; is_read(2, log), "{crossing}");
+    let mut effects = on_zeros(rt, 2)?;
+    let fault = first_fault(&mut effects, log);
+    if BOTH_SENT <= crossing && crossing <= TOLD {
+        let last = log.len().saturating_sub(1);
+        assert!(rt; same(fault, Some((last, UnitFault::Unclear))), "{crossing}");
+        return Ok(());
+    }
+    assert!(rt; fault.is_none(), "{crossing}");
+    compare_tape(rt, &mut ring.into_rig().medium, &effects);
+    compare_records(rt, &effects, crossing);
     Ok(())
 }
 
@@ -191,25 +195,22 @@ fn runs_with_faults(rt: HostRuntime) -> Result<(), Fail> {
     Ok(())
 }
 
-/// Quiet devices.
-fn quiets(rt: &impl AllocGlobal, count: u8) -> Result<Vec<Box<dyn Device>>, Fail> {
+/// The ring of thirty devices after that run, where the drive stands at this party.
+fn run_at(rt: &(impl Abort + AllocGlobal), party: u8) -> Result<Ring<MemoryMedium>, Fail>
+    requires { (1 ≤ party) × (party ≤ 30) }
+{
     let alloc = rt.alloc();
-    let mut devices = Vec::new(alloc);
-    for _number in 0..count {
-        let quiet: Box<dyn Device> = Box::new(alloc, Quiet::new())?;
-        devices.push(quiet)?;
-    }
-    Ok(devices)
+    let (before, after) = (quiets(alloc, party - 1)?, quiets(alloc, 30 - party)?);
+    let mut records = tools::store(rt, tape(alloc, 0, 0)?, before, after, &[])?;
+    assert!(rt; write_and_read(rt, &mut records).is_ok(), "{party}");
+    Ok(records.into_ring())
 }
 
 /// The drive stands at this party among thirty devices.
 fn compare_party(rt: &(impl Abort + AllocGlobal), party: u8) -> Result<(), Fail>
     requires { (1 ≤ party) × (party ≤ 30) }
 {
-    let (before, after) = (quiets(rt, party - 1)?, quiets(rt, 30 - party)?);
-    let mut records = tools::store(rt, tape(rt.alloc(), 0, 0)?, before, after, &[])?;
-    assert!(rt; write_and_read(rt, &mut records).is_ok(), "{party}");
-    let ring = records.into_ring();
+    let ring = run_at(rt, party)?;
     assert!(rt; is_read(30, ring.log()), "{party}");
     let mut effects = on_zeros(rt, party)?;
     assert!(rt; first_fault(&mut effects, ring.log()).is_none(), "{party}");
@@ -323,22 +324,47 @@ static IN_ORDER: [(Change, usize, Option<usize>, Option<(usize, UnitFault)>); 7]
     (Change::Twice, 600, None, None),
 ];
 
+/// The log with this change is no list of exchanges, as this entry shows.
+fn compare_refused(
+    rt: &(impl Abort + AllocGlobal),
+    log: &[Entry],
+    change: Change,
+    place: usize,
+    refused: usize,
+) -> Result<(), Fail> {
+    let log = changed(rt, log, change, place)?;
+    assert!(rt;
+        same(out_of_order(2, &log), Some(refused)),
+        "{place} {refused}"
+    );
+    Ok(())
+}
+
+/// The log with this change is such a list; this entry is not the talker's, and this unit has this fault.
+fn compare_taken(
+    rt: &(impl Abort + AllocGlobal),
+    log: &[Entry],
+    change: Change,
+    place: usize,
+    turn: Option<usize>,
+    fault: Option<(usize, UnitFault)>,
+) -> Result<(), Fail> {
+    let log = changed(rt, log, change, place)?;
+    assert!(rt; out_of_order(2, &log).is_none(), "{place}");
+    assert!(rt; same(out_of_turn(2, &log), turn), "{place}");
+    let mut effects = on_zeros(rt, 2)?;
+    assert!(rt; same(first_fault(&mut effects, &log), fault), "{place}");
+    Ok(())
+}
+
 #[test]
 fn changed_logs(rt: HostRuntime) -> Result<(), Fail> {
     let (ring, _) = run(&rt, &[])?;
     for (change, place, refused) in OUT_OF_ORDER {
-        let log = changed(&rt, ring.log(), change, place)?;
-        assert!(rt;
-            same(out_of_order(2, &log), Some(refused)),
-            "{place} {refused}"
-        );
+        compare_refused(&rt, ring.log(), change, place, refused)?;
     }
     for (change, place, turn, fault) in IN_ORDER {
-        let log = changed(&rt, ring.log(), change, place)?;
-        assert!(rt; out_of_order(2, &log).is_none(), "{place}");
-        assert!(rt; same(out_of_turn(2, &log), turn), "{place}");
-        let mut effects = on_zeros(&rt, 2)?;
-        assert!(rt; same(first_fault(&mut effects, &log), fault), "{place}");
+        compare_taken(&rt, ring.log(), change, place, turn, fault)?;
     }
     Ok(())
 }

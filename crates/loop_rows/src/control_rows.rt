@@ -481,26 +481,36 @@ const LOSSES: [(u64, u64, usize, u8, &str); 11] = [
     (40, 42, 9, 0, "RFC"),
 ];
 
+/// A receive whose frame at this crossing is lost: the entries that stand, and then the lost frame of this source.
+fn compare_lost(
+    rt: &(impl Abort + AllocGlobal),
+    hop: u64,
+    want: &[&str],
+    source: u8,
+    text: &str,
+) -> Result<(), Fail> {
+    let printer: Box<dyn Device> = Box::new(rt.alloc(), Printer::new(rt.alloc())?)?;
+    let lost = controller(rt, printer, &[Planned { hop, fault: Lose }])?;
+    let (ring, came) = receive(rt, lost, &CALLS[0], &mut [0]);
+    assert!(rt; came.is_none() && same(ring.crossings(), hop), "{hop}");
+    let (entry, before) = ring.log().split_last().expect(rt, "an entry");
+    assert!(rt; is_log(received(rt, before), want), "{text}");
+    let lost_entry = Entry {
+        source,
+        frame: frame_of(text)?,
+        outcome: Outcome::Lost((hop % 3) as u8),
+    };
+    assert!(rt; same(*entry, lost_entry), "{hop}");
+    Ok(())
+}
+
 /// A frame of a receive is lost at each crossing in turn.
 #[test]
 fn receive_lost_at_each_crossing(rt: HostRuntime) -> Result<(), Fail> {
-    let alloc = rt.alloc();
-    let call = &CALLS[0];
     for (first, last, standing, source, text) in LOSSES {
-        let want = call.log.get(..standing).expect(&rt, "the entries");
+        let want = CALLS[0].log.get(..standing).expect(&rt, "the entries");
         for hop in first..=last {
-            let printer: Box<dyn Device> = Box::new(alloc, Printer::new(alloc)?)?;
-            let lost = controller(&rt, printer, &[Planned { hop, fault: Lose }])?;
-            let (ring, came) = receive(&rt, lost, call, &mut [0]);
-            assert!(rt; came.is_none() && same(ring.crossings(), hop), "{hop}");
-            let (entry, before) = ring.log().split_last().expect(&rt, "an entry");
-            assert!(rt; is_log(received(&rt, before), want), "{text}");
-            let lost_entry = Entry {
-                source,
-                frame: frame_of(text)?,
-                outcome: Outcome::Lost((hop % 3) as u8),
-            };
-            assert!(rt; same(*entry, lost_entry), "{hop}");
+            compare_lost(&rt, hop, want, source, text)?;
         }
     }
     Ok(())

@@ -3,7 +3,7 @@ ghost use Rattle.std.specs.Prelude.{IfOk};
 
 use crate::lend_reckoning::Lineup;
 use crate::lend_rows::{found, rig};
-use crate::store_rows::{read, resume, write};
+use crate::store_rows::{read, resume_well, write};
 use crate::tools;
 use PlanFault::{Alter, Lose};
 use il_ports::{Medium, MemoryMedium, Records, Trouble};
@@ -55,7 +55,7 @@ fn written(
     ensures { IfOk result (λ records. (⟦<LoopRecords<MemoryMedium> as Records>⟧.view records).valid) }
 {
     let mut records = store(rt, plan)?;
-    assert!(rt; same(resume(rt, &mut records), Ok(())), "resumed");
+    resume_well(rt, &mut records, "resumed");
     let wrote = write(rt, &mut records, 7, 2, &[5; 512]);
     assert!(rt; same(wrote, Ok(())), "written");
     records.begin();
@@ -81,20 +81,23 @@ fn compare_tape(rt: &impl Abort, records: LoopRecords<MemoryMedium>, ninth: u8) 
     Ok(())
 }
 
-/// The store is not sound, is resumed with so many entries in the log, and reads, writes and reads back.
-fn resume_and_use(
-    rt: &impl Abort,
-    records: &mut LoopRecords<MemoryMedium>,
-    entries: usize,
-) -> Result<(), Fail>
+/// The store is not sound, and is resumed with so many entries in the log.
+fn resume_in(rt: &impl Abort, records: &mut LoopRecords<MemoryMedium>, entries: usize)
     requires { (⟦<LoopRecords<MemoryMedium> as Records>⟧.view records.old).valid }
-    ensures { IfOk result (λ x. (⟦<LoopRecords<MemoryMedium> as Records>⟧.view records.new).valid) }
+    ensures { (⟦<LoopRecords<MemoryMedium> as Records>⟧.view records.new).valid }
 {
     assert!(rt; !records.is_sound());
     records.begin();
-    assert!(rt; same(resume(rt, records), Ok(())), "resumed");
+    resume_well(rt, records, "resumed");
     assert!(rt; records.is_sound() && records.is_ready());
     assert!(rt; same(records.ring().log().len(), entries), "its entries");
+}
+
+/// The store reads the 5s, writes 6s to record 9, and reads them back.
+fn use_well(rt: &impl Abort, records: &mut LoopRecords<MemoryMedium>)
+    requires { (⟦<LoopRecords<MemoryMedium> as Records>⟧.view records.old).valid }
+    ensures { (⟦<LoopRecords<MemoryMedium> as Records>⟧.view records.new).valid }
+{
     let mut image = [9; 512];
     assert!(rt; same(read(rt, records, 7, &mut image), Ok(())), "read");
     assert!(rt; same_bytes(&image, &[5; 512]), "5s");
@@ -103,7 +106,46 @@ fn resume_and_use(
     let mut image = [9; 256];
     assert!(rt; same(read(rt, records, 9, &mut image), Ok(())), "read");
     assert!(rt; same_bytes(&image, &[6; 256]), "6s");
-    Ok(())
+}
+
+/// The store is not sound, is resumed with so many entries in the log, reads, writes and reads back, and no other
+/// record has changed.
+fn resume_and_use(
+    rt: &impl Abort,
+    mut records: LoopRecords<MemoryMedium>,
+    entries: usize,
+) -> Result<(), Fail>
+    requires { (⟦<LoopRecords<MemoryMedium> as Records>⟧.view records).valid }
+{
+    resume_in(rt, &mut records, entries);
+    use_well(rt, &mut records);
+    compare_tape(rt, records, 6)
+}
+
+/// A lend with this limit to this party, which takes control where it is the second controller; the status of the drive
+/// is told as here.
+fn compare_lend(
+    rt: &(impl Abort + AllocGlobal),
+    party: u8,
+    limit: u16,
+    told: Option<u8>,
+) -> Result<(), Fail> {
+    let mut records = written(rt, &[])?;
+    let answer = lend(rt, &mut records, party, limit);
+    assert!(rt; same(answer, Ok(party == 3)), "{party} {limit}");
+    assert!(rt; records.is_ready() && !records.is_sound(), "{limit}");
+    assert!(rt; same(found(records.ring())[2], told), "{party} {limit}");
+    resume_and_use(rt, records, 6)
+}
+
+/// A lend in which this fault is planned: the answer is a fault of frames.
+fn compare_fault(rt: &(impl Abort + AllocGlobal), planned: Planned) -> Result<(), Fail> {
+    let mut records = written(rt, &[planned])?;
+    let answer = lend(rt, &mut records, 3, 20);
+    let hop = planned.hop;
+    assert!(rt; same(answer, Err(Trouble::Frame)), "{hop}");
+    assert!(rt; !records.is_ready() && !records.is_sound(), "{hop}");
+    resume_and_use(rt, records, 11)
 }
 
 /// Lends with these limits, to a second controller and to a device that takes no control. The loop is addressed after
@@ -121,13 +163,7 @@ fn a_store_after_a_lend(rt: HostRuntime) -> Result<(), Fail> {
         (5, 60, None),
     ];
     for (party, limit, told) in rows {
-        let mut records = written(&rt, &[])?;
-        let answer = lend(&rt, &mut records, party, limit);
-        assert!(rt; same(answer, Ok(party == 3)), "{party} {limit}");
-        assert!(rt; records.is_ready() && !records.is_sound(), "{limit}");
-        assert!(rt; same(found(records.ring())[2], told), "{party} {limit}");
-        resume_and_use(&rt, &mut records, 6)?;
-        compare_tape(&rt, records, 6)?;
+        compare_lend(&rt, party, limit, told)?;
     }
     Ok(())
 }
@@ -143,12 +179,7 @@ fn a_store_after_a_fault(rt: HostRuntime) -> Result<(), Fail> {
     assert!(rt; before < after && after < 10_000);
     for hop in before + 1..=after {
         for fault in [Lose, Alter(4)] {
-            let mut records = written(&rt, &[Planned { hop, fault }])?;
-            let answer = lend(&rt, &mut records, 3, 20);
-            assert!(rt; same(answer, Err(Trouble::Frame)), "{hop}");
-            assert!(rt; !records.is_ready() && !records.is_sound(), "{hop}");
-            resume_and_use(&rt, &mut records, 11)?;
-            compare_tape(&rt, records, 6)?;
+            compare_fault(&rt, Planned { hop, fault })?;
         }
     }
     Ok(())

@@ -1,7 +1,8 @@
 //! The readers of traces: one talker, exchanges, what may stand in a record, and units.
-ghost use Rattle.std.specs.Prelude.{◌≡◌, length};
+ghost use Rattle.std.specs.Prelude.{◌≡◌, length, IfOk};
 
 use il_frames::Entry;
+use std::process::Abort;
 use std::test::Fail;
 use trace_readers::{Effects, Exchanges, Expected, Talkers, UnitFault};
 
@@ -125,24 +126,37 @@ static WRITES: [(u16, usize, bool, Option<UnitFault>, [(bool, bool); 3]); 10] = 
     (0, 768, true, None, [NEW, NEW, NEW]),
 ];
 
+/// What a tape of three records of zeros may hold after such a write is what the row tells.
+fn compare_write(
+    rt: &(impl Abort + AllocGlobal),
+    first: u16,
+    count: usize,
+    is_good: bool,
+    fault: Option<UnitFault>,
+    stands: &[(bool, bool); 3],
+) -> Result<(), Fail> {
+    let mut expected = Expected::new(rt.alloc(), 3)?;
+    expected.push(&[0; 256]);
+    expected.push(&[0; 256]);
+    expected.push(&[0; 256]);
+    let sevens = [7; 768];
+    let bytes = sevens.get(..count).ok_or("count")?;
+    let answer = expected.write(first, bytes, is_good);
+    assert!(rt; answer.err() == fault, "{first} {count}");
+    for place in 0..3 {
+        let found = (
+            expected.allows(place, &[0; 256]),
+            expected.allows(place, &[7; 256]),
+        );
+        assert!(rt; found == stands[place as usize], "{first} {count} {place}");
+    }
+    Ok(())
+}
+
 #[test]
 fn writes_of_sevens(rt: HostRuntime) -> Result<(), Fail> {
     for (first, count, is_good, fault, stands) in WRITES {
-        let mut expected = Expected::new(rt.alloc(), 3)?;
-        expected.push(&[0; 256]);
-        expected.push(&[0; 256]);
-        expected.push(&[0; 256]);
-        let sevens = [7; 768];
-        let bytes = sevens.get(..count).ok_or("count")?;
-        let answer = expected.write(first, bytes, is_good);
-        assert!(rt; answer.err() == fault, "{first} {count}");
-        for place in 0..3 {
-            let found = (
-                expected.allows(place, &[0; 256]),
-                expected.allows(place, &[7; 256]),
-            );
-            assert!(rt; found == stands[place as usize], "{first} {count} {place}");
-        }
+        compare_write(&rt, first, count, is_good, fault, &stands)?;
     }
     Ok(())
 }
@@ -234,29 +248,72 @@ fn read_lines(effects: &mut Effects, lines: &[&str]) -> Result<Option<UnitFault>
     Ok(fault)
 }
 
+/// The reader of effects of the first device on a tape of three records of zeros.
+fn on_three_zeros(rt: &impl AllocGlobal) -> Result<Effects, Fail>
+    ensures { IfOk result (λ effects. length effects.expected.records ≡ 3) }
+{
+    let mut effects = Effects::new(rt.alloc(), 1, 3)?;
+    effects.push(&[0; 256]);
+    effects.push(&[0; 256]);
+    effects.push(&[0; 256]);
+    Ok(effects)
+}
+
+/// Reads the seek of record 1 and so many bytes that came back as they were, of which none shows a fault.
+fn read_sevens(rt: &impl Abort, effects: &mut Effects, count: usize) -> Result<(), Fail>
+    ensures { length effects.new.expected.records ≡ length effects.old.expected.records }
+{
+    let sevens = ["~ 0 DAB 07 = DAB 07"; 768];
+    let bytes = sevens.get(..count).ok_or("count")?;
+    assert!(rt; read_lines(effects, &SEEK)?.is_none(), "{count}");
+    assert!(rt; read_lines(effects, bytes)?.is_none(), "{count}");
+    Ok(())
+}
+
+/// Reads how a unit goes on, in the poll of the status or without it. The answer is the last fault.
+fn read_rest(
+    rt: &impl Abort,
+    effects: &mut Effects,
+    is_told: bool,
+    rest: &[&str],
+) -> Result<Option<UnitFault>, Fail>
+    ensures { length effects.new.expected.records ≡ length effects.old.expected.records }
+{
+    if !is_told {
+        return read_lines(effects, rest);
+    }
+    assert!(rt; read_lines(effects, &POLL)?.is_none(), "the poll");
+    let found = read_lines(effects, rest)?;
+    Ok(read_lines(effects, &END)?.or(found))
+}
+
+/// What the tape may hold after such a unit is what the row tells.
+fn compare_unit(
+    rt: &(impl Abort + AllocGlobal),
+    count: usize,
+    is_told: bool,
+    rest: &[&str],
+    fault: Option<UnitFault>,
+    stands: &[(bool, bool); 3],
+) -> Result<(), Fail> {
+    let mut effects = on_three_zeros(rt)?;
+    read_sevens(rt, &mut effects, count)?;
+    let found = read_rest(rt, &mut effects, is_told, rest)?;
+    assert!(rt; found == fault, "{count}");
+    for place in 0..3 {
+        let found = (
+            effects.allows(place, &[0; 256]),
+            effects.allows(place, &[7; 256]),
+        );
+        assert!(rt; found == stands[place as usize], "{count} {place}");
+    }
+    Ok(())
+}
+
 #[test]
 fn units_of_sevens(rt: HostRuntime) -> Result<(), Fail> {
     for (count, is_told, rest, fault, stands) in UNITS {
-        let mut effects = Effects::new(rt.alloc(), 1, 3)?;
-        effects.push(&[0; 256]);
-        effects.push(&[0; 256]);
-        effects.push(&[0; 256]);
-        let sevens = ["~ 0 DAB 07 = DAB 07"; 768];
-        let bytes = sevens.get(..count).ok_or("count")?;
-        assert!(rt; read_lines(&mut effects, &SEEK)?.is_none(), "{count}");
-        assert!(rt; read_lines(&mut effects, bytes)?.is_none(), "{count}");
-        let (front, end): (&[&str], &[&str]) = if is_told { (&POLL, &END) } else { (&[], &[]) };
-        assert!(rt; read_lines(&mut effects, front)?.is_none(), "{count}");
-        let found = read_lines(&mut effects, rest)?;
-        let found = read_lines(&mut effects, end)?.or(found);
-        assert!(rt; found == fault, "{count}");
-        for place in 0..3 {
-            let found = (
-                effects.allows(place, &[0; 256]),
-                effects.allows(place, &[7; 256]),
-            );
-            assert!(rt; found == stands[place as usize], "{count} {place}");
-        }
+        compare_unit(&rt, count, is_told, rest, fault, &stands)?;
     }
     Ok(())
 }

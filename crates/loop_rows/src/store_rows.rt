@@ -1,5 +1,5 @@
 // Runs of records over the loop, whole, with faults of frames, and with a medium that fails.
-ghost use Rattle.std.specs.Prelude.{IfOk};
+ghost use Rattle.std.specs.Prelude.{◌≤◌, IfOk};
 
 use crate::tools;
 use il_device::{Device, Printer};
@@ -77,6 +77,28 @@ pub(crate) fn read<R: Records>(
     records.read_run(first, into)
 }
 
+/// Makes the store sound, which goes well.
+pub(crate) fn resume_well<R: Records>(rt: &impl Abort, records: &mut R, what: &str)
+    requires { (R.view records.old).valid }
+    ensures { (R.view records.new).valid }
+{
+    assert!(rt; same(resume(rt, records), Ok(())), "{what}");
+}
+
+/// A store as by `store`, which is made sound.
+fn resumed(
+    rt: &(impl Abort + AllocGlobal),
+    medium: MemoryMedium,
+    printer: bool,
+    plan: &[Planned],
+) -> Result<LoopRecords<MemoryMedium>, Fail>
+    ensures { IfOk result (λ records. (⟦<LoopRecords<MemoryMedium> as Records>⟧.view records).valid) }
+{
+    let mut records = store(rt, medium, printer, plan)?;
+    resume_well(rt, &mut records, "resumed");
+    Ok(records)
+}
+
 /// The log since it was last emptied.
 fn log(records: &LoopRecords<MemoryMedium>) -> &[Entry]
     requires { (⟦<LoopRecords<MemoryMedium> as Records>⟧.view records.now).valid }
@@ -94,34 +116,50 @@ fn are_all(bytes: &[u8], byte: u8) -> bool {
     true
 }
 
-/// A run of so many records, at most three, goes out and comes back, the last record filled up with zeros, by one
-/// transmission each, and each frame of the log comes past a device that stands before the drive.
-fn round_trip(rt: &(impl Abort + AllocGlobal), count: u16) -> Result<(), Fail> {
-    assert!(rt; count >= 1 && count <= 3);
+/// Writes sixes, which fill so many records but for 100 bytes, from record 7 on, by one transmission.
+fn write_sixes(rt: &impl Abort, records: &mut LoopRecords<MemoryMedium>, count: u16)
+    requires valid { (⟦<LoopRecords<MemoryMedium> as Records>⟧.view records.old).valid }
+    requires few { (1 ≤ count) × (count ≤ 3) }
+    ensures { (⟦<LoopRecords<MemoryMedium> as Records>⟧.view records.new).valid }
+{
     let size = 256 * usize::from(count);
-    let mut records = store(rt, tape(rt.alloc(), 0, 0)?, true, &[])?;
-    assert!(rt; same(resume(rt, &mut records), Ok(())), "resumed");
-    assert!(rt; same(log(&records).len(), 11), "log of the resume");
-    let bytes = [6; 768];
     records.begin();
-    let written = write(rt, &mut records, 7, count, &bytes[..size - 100]);
+    let written = write(rt, records, 7, count, &[6; 768][..size - 100]);
     assert!(rt; same(written, Ok(())), "written");
-    assert!(rt; same(log(&records).len(), 24 + size), "log of the write");
-    records.begin();
+    assert!(rt; same(log(records).len(), 24 + size), "log of the write");
+}
+
+/// Reads them back by one transmission, the last record filled up with zeros.
+fn read_sixes(rt: &impl Abort, records: &mut LoopRecords<MemoryMedium>, count: u16)
+    requires valid { (⟦<LoopRecords<MemoryMedium> as Records>⟧.view records.old).valid }
+    requires few { (1 ≤ count) × (count ≤ 3) }
+    ensures { (⟦<LoopRecords<MemoryMedium> as Records>⟧.view records.new).valid }
+{
+    let size = 256 * usize::from(count);
     let mut into = [9; 768];
-    assert!(rt;
-        same(read(rt, &mut records, 7, &mut into[..size]), Ok(())),
-        "read back"
-    );
-    assert!(rt; same(log(&records).len(), 29 + size), "log of the read");
+    records.begin();
+    let answer = read(rt, records, 7, &mut into[..size]);
+    assert!(rt; same(answer, Ok(())), "read back");
+    assert!(rt; same(log(records).len(), 29 + size), "log of the read");
     assert!(rt; are_all(&into[..size - 100], 6));
     assert!(rt; are_all(&into[size - 100..size], 0));
     assert!(rt; are_all(&into[size..], 9));
+}
+
+/// A run of so many records, at most three, goes out and comes back, and each frame of the log comes past a device that
+/// stands before the drive.
+fn round_trip(rt: &(impl Abort + AllocGlobal), count: u16) -> Result<(), Fail>
+    requires { (1 ≤ count) × (count ≤ 3) }
+{
+    let mut records = resumed(rt, tape(rt.alloc(), 0, 0)?, true, &[])?;
+    assert!(rt; same(log(&records).len(), 11), "log of the resume");
+    write_sixes(rt, &mut records, count);
+    read_sixes(rt, &mut records, count);
     let rig = records.into_ring().into_rig();
     let printer = rig.before.get(0).expect(rt, "a printer");
     // All entries but the ETO of each receive, which goes from the drive to the host.
     assert!(rt;
-        same(printer.frames(), (61 + 2 * size) as u64),
+        same(printer.frames(), 61 + 512 * u64::from(count)),
         "frames of the printer"
     );
     Ok(())
@@ -140,8 +178,7 @@ fn written_with(
     planned: Planned,
     image: &mut [u8; 512],
 ) -> Result<Result<(), Trouble>, Fail> {
-    let mut records = store(rt, tape(rt.alloc(), 0, 0)?, false, &[planned])?;
-    assert!(rt; same(resume(rt, &mut records), Ok(())), "resumed");
+    let mut records = resumed(rt, tape(rt.alloc(), 0, 0)?, false, &[planned])?;
     records.begin();
     let mut bytes = [1; 512];
     for place in 256..512 {
@@ -152,7 +189,7 @@ fn written_with(
         same(records.is_sound(), answer.is_ok()),
         "sound where all went well"
     );
-    assert!(rt; same(resume(rt, &mut records), Ok(())), "resumed again");
+    resume_well(rt, &mut records, "resumed again");
     assert!(rt; same(read(rt, &mut records, 7, image), Ok(())), "read");
     Ok(answer)
 }
@@ -201,28 +238,29 @@ fn faults_at_every_crossing(rt: HostRuntime) -> Result<(), Fail> {
     Ok(())
 }
 
+/// A write of fives to the last three records fails by the medium, and its exchanges are whole.
+fn write_fails(rt: &impl Abort, records: &mut LoopRecords<MemoryMedium>)
+    requires { (⟦<LoopRecords<MemoryMedium> as Records>⟧.view records.old).valid }
+    ensures { (⟦<LoopRecords<MemoryMedium> as Records>⟧.view records.new).valid }
+{
+    records.begin();
+    let answer = write(rt, records, 508, 3, &[5; 768]);
+    assert!(rt; same(answer, Err(Trouble::Medium)), "a fault of the medium");
+    assert!(rt; same(log(records).len(), 24 + 768), "log of the write");
+    assert!(rt; records.is_ready() && !records.is_sound());
+}
+
 /// A medium that fails to write record k of a run of three, 1 to 3: the answer is a fault of the medium, the exchanges
 /// are whole, the records before it stand, it holds what the medium left, and those behind it are as before.
-fn failing_write(rt: &(impl Abort + AllocGlobal), k: usize) -> Result<(), Fail> {
-    assert!(rt; k >= 1 && k <= 3);
-    let mut records = store(rt, tape(rt.alloc(), 0, k as u64)?, false, &[])?;
-    assert!(rt; same(resume(rt, &mut records), Ok(())), "resumed");
-    records.begin();
-    assert!(rt;
-        same(
-            write(rt, &mut records, 508, 3, &[5; 768]),
-            Err(Trouble::Medium)
-        ),
-        "a fault of the medium"
-    );
-    assert!(rt; same(log(&records).len(), 24 + 768), "log of the write");
-    assert!(rt; records.is_ready() && !records.is_sound());
-    assert!(rt; same(resume(rt, &mut records), Ok(())), "resumed again");
+fn failing_write(rt: &(impl Abort + AllocGlobal), k: usize) -> Result<(), Fail>
+    requires { (1 ≤ k) × (k ≤ 3) }
+{
+    let mut records = resumed(rt, tape(rt.alloc(), 0, k as u64)?, false, &[])?;
+    write_fails(rt, &mut records);
+    resume_well(rt, &mut records, "resumed again");
     let mut into = [9; 768];
-    assert!(rt;
-        same(read(rt, &mut records, 508, &mut into), Ok(())),
-        "read"
-    );
+    let answer = read(rt, &mut records, 508, &mut into);
+    assert!(rt; same(answer, Ok(())), "read");
     assert!(rt; are_all(&into[..256 * (k - 1)], 5));
     assert!(rt; are_all(&into[256 * (k - 1)..256 * k], 7));
     assert!(rt; are_all(&into[256 * k..], 0));
@@ -231,27 +269,23 @@ fn failing_write(rt: &(impl Abort + AllocGlobal), k: usize) -> Result<(), Fail> 
 
 /// One that fails to read record k of a run of three: the receive ends behind the records before it, without NRD, and
 /// the status tells it.
-fn failing_read(rt: &(impl Abort + AllocGlobal), k: usize) -> Result<(), Fail> {
-    assert!(rt; k >= 1 && k <= 3);
-    let mut records = store(rt, tape(rt.alloc(), k as u64, 0)?, false, &[])?;
-    assert!(rt; same(resume(rt, &mut records), Ok(())), "resumed");
+fn failing_read(rt: &(impl Abort + AllocGlobal), k: usize) -> Result<(), Fail>
+    requires { (1 ≤ k) × (k ≤ 3) }
+{
+    let mut records = resumed(rt, tape(rt.alloc(), k as u64, 0)?, false, &[])?;
     records.begin();
     let mut into = [9; 768];
-    assert!(rt;
-        same(read(rt, &mut records, 508, &mut into), Err(Trouble::Medium)),
-        "a fault of the medium"
-    );
+    let answer = read(rt, &mut records, 508, &mut into);
+    assert!(rt; same(answer, Err(Trouble::Medium)), "a fault of the medium");
     // Where the first record fails, SDA comes back, and there is no ETO.
     let no_end = usize::from(k == 1);
     assert!(rt;
         same(log(&records).len(), 28 + 256 * (k - 1) - no_end),
         "log of the read"
     );
-    assert!(rt; same(resume(rt, &mut records), Ok(())), "resumed again");
-    assert!(rt;
-        same(read(rt, &mut records, 508, &mut into), Ok(())),
-        "read again"
-    );
+    resume_well(rt, &mut records, "resumed again");
+    let answer = read(rt, &mut records, 508, &mut into);
+    assert!(rt; same(answer, Ok(())), "read again");
     Ok(())
 }
 
@@ -264,6 +298,18 @@ fn failing_medium(rt: HostRuntime) -> Result<(), Fail> {
     Ok(())
 }
 
+/// Asks the drive for its status, and says what it answered.
+pub(crate) fn status(
+    rt: &impl Abort,
+    records: &mut LoopRecords<MemoryMedium>,
+) -> Result<u8, Trouble>
+    requires { (⟦<LoopRecords<MemoryMedium> as Records>⟧.view records.old).valid }
+    ensures { (⟦<LoopRecords<MemoryMedium> as Records>⟧.view records.new).valid }
+{
+    assert!(rt; records.is_ready() && records.ring().spare() >= 1000);
+    records.drive_status()
+}
+
 /// A drive that failed to read, and whose poll was lost: it tells status 1 once, with bit 6 set, and 0 behind that.
 #[test]
 fn tells_the_status_once(rt: HostRuntime) -> Result<(), Fail> {
@@ -272,18 +318,12 @@ fn tells_the_status_once(rt: HostRuntime) -> Result<(), Fail> {
         hop: 57,
         fault: Lose,
     };
-    let mut records = store(&rt, tape(rt.alloc(), 1, 0)?, false, &[planned])?;
-    assert!(rt; same(resume(&rt, &mut records), Ok(())), "resumed");
-    let mut into = [9; 256];
-    assert!(rt;
-        same(read(&rt, &mut records, 508, &mut into), Err(Trouble::Frame)),
-        "a fault of frames"
-    );
+    let mut records = resumed(&rt, tape(rt.alloc(), 1, 0)?, false, &[planned])?;
+    let answer = read(&rt, &mut records, 508, &mut [9; 256]);
+    assert!(rt; same(answer, Err(Trouble::Frame)), "a fault of frames");
     assert!(rt; records.ring().spare() >= 64);
     assert!(rt; same(records.ready(), Ok(())), "ready");
-    assert!(rt; records.is_ready() && records.ring().spare() >= 1000);
-    assert!(rt; same(records.drive_status(), Ok(0x41)), "status 1 once");
-    assert!(rt; records.is_ready() && records.ring().spare() >= 1000);
-    assert!(rt; same(records.drive_status(), Ok(0)), "status 0 then");
+    assert!(rt; same(status(&rt, &mut records), Ok(0x41)), "status 1 once");
+    assert!(rt; same(status(&rt, &mut records), Ok(0)), "status 0 then");
     Ok(())
 }

@@ -4,9 +4,9 @@ ghost use Rattle.std.specs.Prelude.{◌≡◌, ◌≤◌};
 ghost use Rattle.il_ring.specs.Rings.{spare_of};
 ghost use Rattle.il_ring.specs.Lending.{leads};
 
-use crate::{frame_of, has_paper, is_log, second_drive, tape};
+use crate::{frame_of, has_paper, is_log, quiets, second_drive, tape};
 use PlanFault::{Alter, Lose};
-use il_device::{Device, Printer, Quiet};
+use il_device::{Device, Printer};
 use il_frames::{Class, Frame};
 use il_guest::Guest;
 use il_ports::{Medium, MemoryMedium};
@@ -566,17 +566,29 @@ pub(crate) fn live_through(
     Ok(ring)
 }
 
+/// A day without a second controller.
+fn compare_day_of_two(rt: &(impl Abort + AllocGlobal), day: &Day) -> Result<(), Fail> {
+    let ring = live_through(rt, None, day)?;
+    assert!(rt; ring.guest().is_none() && same(ring.devices(), 2));
+    Ok(())
+}
+
+/// A day with one, which never controls the loop.
+fn compare_day_of_three(rt: &(impl Abort + AllocGlobal), day: &Day) -> Result<(), Fail> {
+    let ring = live_through(rt, Some(Guest::new(2)), day)?;
+    assert!(rt; same(ring.devices(), 3), "{}", day.name);
+    assert!(rt; is_still(ring.guest()), "{}", day.name);
+    assert!(rt; is_still(ring.into_rig().guest.as_ref()), "{}", day.name);
+    Ok(())
+}
+
 #[test]
 fn days(rt: HostRuntime) -> Result<(), Fail> {
     for day in &DAYS {
-        let ring = live_through(&rt, None, day)?;
-        assert!(rt; ring.guest().is_none() && same(ring.devices(), 2));
+        compare_day_of_two(&rt, day)?;
     }
     for day in &GUEST_DAYS {
-        let ring = live_through(&rt, Some(Guest::new(2)), day)?;
-        assert!(rt; same(ring.devices(), 3), "{}", day.name);
-        assert!(rt; is_still(ring.guest()), "{}", day.name);
-        assert!(rt; is_still(ring.into_rig().guest.as_ref()), "{}", day.name);
+        compare_day_of_three(&rt, day)?;
     }
     Ok(())
 }
@@ -593,24 +605,32 @@ fn is_still(guest: Option<&Guest>) -> bool {
     }
 }
 
-/// A loop as long as it may be with a second controller: 28 boxed devices.
-#[test]
-fn guest_of_thirty(rt: HostRuntime) -> Result<(), Fail> {
+/// The ring of a loop as long as it may be, with so many quiet devices before and after the drive: one more does not
+/// fit.
+fn full_ring(
+    rt: &(impl Abort + AllocGlobal),
+    before: u8,
+    after: u8,
+    guest: Option<Guest>,
+) -> Result<Ring<MemoryMedium>, Fail>
+    requires { after ≤ 30 }
+{
     let alloc = rt.alloc();
-    let mut after = Vec::new(alloc);
-    for _ in 0..29 {
-        let quiet: Box<dyn Device> = Box::new(alloc, Quiet::new())?;
-        after.push(quiet)?;
-    }
     let mut rig = Rig {
         medium: tape(alloc, 0, 0)?,
-        before: Vec::new(alloc),
-        after,
-        guest: Some(Guest::new(2)),
+        before: quiets(alloc, before)?,
+        after: quiets(alloc, after + 1)?,
+        guest,
     };
     assert!(rt; !rig.fits());
     let _ = rig.after.pop();
-    let mut ring = ring_of(&rt, rig, &[]);
+    Ok(ring_of(rt, rig, &[]))
+}
+
+/// A loop as long as it may be with a second controller: 28 boxed devices.
+#[test]
+fn guest_of_thirty(rt: HostRuntime) -> Result<(), Fail> {
+    let mut ring = full_ring(&rt, 0, 28, Some(Guest::new(2)))?;
     assert!(rt;
         same(ring.devices(), 30) && ring.paper().is_none(),
         "thirty"
@@ -649,44 +669,32 @@ static AMONG_THIRTY_LOG: [&str; 7] = [
     "~ 0 DAB 41 = DAB 41",
 ];
 
+/// Each device of a rig of ten devices before the drive and nineteen after it took six frames.
+fn took_six(rt: &impl Abort, rig: &Rig<MemoryMedium>) {
+    assert!(rt;
+        same((rig.before.len(), rig.after.len()), (10, 19)),
+        "the rig"
+    );
+    for device in rig.before.iter().chain(rig.after.iter()) {
+        assert!(rt; same(device.frames(), 6), "frames");
+    }
+}
+
 /// A loop as long as it may be: 29 devices beside the drive.
 #[test]
 fn thirty_devices(rt: HostRuntime) -> Result<(), Fail> {
-    let alloc = rt.alloc();
-    let (mut before, mut after) = (Vec::new(alloc), Vec::new(alloc));
-    for k in 0..30 {
-        let quiet: Box<dyn Device> = Box::new(alloc, Quiet::new())?;
-        if k < 10 {
-            before.push(quiet)?;
-        } else {
-            after.push(quiet)?;
-        }
-    }
-    let mut rig = Rig {
-        medium: tape(alloc, 0, 0)?,
-        before,
-        after,
-        guest: None,
-    };
-    assert!(rt; !rig.fits());
-    let _ = rig.after.pop();
-    let mut ring = ring_of(&rt, rig, &[]);
+    let mut ring = full_ring(&rt, 10, 19, None)?;
     assert!(rt; same(ring.party(), 11), "the drive");
     assert!(rt; ring.paper().is_none(), "no printer");
     go_rounds(&rt, &mut ring, &AMONG_THIRTY)?;
     assert!(rt; is_log(ring.log(), &AMONG_THIRTY_LOG), "thirty devices");
     assert!(rt; same(ring.crossings(), 6 * 31), "crossings");
     ring.clear_log();
-    assert!(rt; same(ring.spare(), ROOM), "no log");
-    assert!(rt; same(ring.crossings(), 6 * 31), "crossings then");
-    let rig = ring.into_rig();
     assert!(rt;
-        same(rig.before.len(), 10) && same(rig.after.len(), 19),
-        "the rig"
+        same((ring.spare(), ring.crossings()), (ROOM, 6 * 31)),
+        "no log, and the crossings"
     );
-    for device in rig.before.iter().chain(rig.after.iter()) {
-        assert!(rt; same(device.frames(), 6), "frames");
-    }
+    took_six(&rt, &ring.into_rig());
     Ok(())
 }
 
@@ -702,37 +710,49 @@ static PRINTED: [(&str, &str); 8] = [
     ("DAB 3F", "DAB 3F"),
 ];
 
-/// A printer stands before the drive, and another after it. A second drive may not stand there.
-#[test]
-fn printer_first(rt: HostRuntime) -> Result<(), Fail> {
+/// A printer stands before the drive, and another after it.
+fn between_printers(rt: &impl AllocGlobal) -> Result<Rig<MemoryMedium>, Fail> {
     let alloc = rt.alloc();
     let first: Box<dyn Device> = Box::new(alloc, Printer::new(alloc)?)?;
     let second: Box<dyn Device> = Box::new(alloc, Printer::new(alloc)?)?;
-    let (mut before, mut after) = (Vec::new(alloc), Vec::new(alloc));
-    let drive: Box<dyn Device> = Box::new(alloc, second_drive())?;
-    before.push(first)?;
-    after.push(second)?;
-    after.push(drive)?;
-    let mut rig = Rig {
+    Ok(Rig {
         medium: tape(alloc, 0, 0)?,
-        before,
-        after,
+        before: Vec::from_array(alloc, [first])?,
+        after: Vec::from_array(alloc, [second])?,
         guest: None,
-    };
+    })
+}
+
+/// A second drive may not stand on the loop.
+#[test]
+fn a_second_drive(rt: HostRuntime) -> Result<(), Fail> {
+    let mut rig = between_printers(&rt)?;
+    let drive: Box<dyn Device> = Box::new(rt.alloc(), second_drive())?;
+    rig.after.push(drive)?;
     assert!(rt; !rig.fits());
     let _ = rig.after.pop();
-    let mut ring = ring_of(&rt, rig, &[]);
-    assert!(rt; same(ring.party(), 2) && has_paper(&ring, b""), "a printer");
-    go_rounds(&rt, &mut ring, &PRINTED)?;
-    assert!(rt; has_paper(&ring, b"HP!"), "the paper of the first");
-    assert!(rt; same(ring.medium().size(), 512), "the tape on the ring");
-    let rig = ring.into_rig();
+    assert!(rt; rig.fits());
+    Ok(())
+}
+
+/// The printers of the rig heard what they were to hear, and the tape is in it. Devices that have an address already
+/// make no new ring.
+fn heard_by_printers(rt: &impl Abort, rig: &Rig<MemoryMedium>) {
     assert!(rt; same(rig.medium.size(), 512), "the tape in the rig");
     let heard = rig.before.iter().chain(rig.after.iter());
     for (device, want) in heard.zip([b"HP!".as_slice(), b"!".as_slice()]) {
         assert!(rt; same_bytes(device.heard(), want), "heard");
     }
-    // Devices that have an address already make no new ring.
     assert!(rt; !rig.fits());
+}
+
+#[test]
+fn printer_first(rt: HostRuntime) -> Result<(), Fail> {
+    let mut ring = ring_of(&rt, between_printers(&rt)?, &[]);
+    assert!(rt; same(ring.party(), 2) && has_paper(&ring, b""), "a printer");
+    go_rounds(&rt, &mut ring, &PRINTED)?;
+    assert!(rt; has_paper(&ring, b"HP!"), "the paper of the first");
+    assert!(rt; same(ring.medium().size(), 512), "the tape on the ring");
+    heard_by_printers(&rt, &ring.into_rig());
     Ok(())
 }
