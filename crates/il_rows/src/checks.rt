@@ -2,13 +2,17 @@
 
 ghost use Rattle.std.specs.Prelude.{◌≡◌, IfOk};
 
-use crate::images::{formatted, with_header, with_packing_mark, with_redo_of_header};
+use crate::images::{
+    END_ENTRY, HEADER, REDO_ENTRY, formatted, image_of, on_a_disc, with_header, with_packing_mark,
+    with_redo_of_header,
+};
+use crate::lines::{joined, store_of_three_records};
 use crate::loops::{ALTERED_TRACE, STATUS_TRACE};
 use crate::runs;
 use crate::runs::{shelf_of, words_of};
 use il_check::run_check;
 use il_ports::{Medium, MemoryMedium, MemorySink, MemorySource};
-use il_same::{same, same_bytes};
+use il_same::same;
 use std::alloc::{AllocError, Global};
 use std::process::Abort;
 use std::test::Fail;
@@ -48,6 +52,11 @@ impl<'a> Given<'a> {
             failing_reads: NONE,
         }
     }
+
+    /// The same with these words.
+    fn with_words(self, words: &'a str) -> Given<'a> {
+        Given { words, ..self }
+    }
 }
 
 /// A medium with an image of this name, of which these inserts and reads fail. No tape is in.
@@ -70,27 +79,18 @@ fn medium(
     )
 }
 
-/// Checks over the ports in memory: the status, and what was written.
-fn check(alloc: Global, given: &Given) -> Result<(u8, Vec<u8>), AllocError> {
+/// Checks over the ports in memory, with this trace and into this sink: the status.
+fn check_into(
+    alloc: Global,
+    given: &Given,
+    trace: &mut MemorySource,
+    out: &mut MemorySink,
+) -> Result<u8, AllocError> {
     let words = words_of(alloc, given.words)?;
-    let mut trace = MemorySource::new(
-        Vec::from_slice(alloc, given.trace)?,
-        1000,
-        Vec::from_slice(alloc, given.failing_takes)?,
-    );
-    let mut out = MemorySink::new(alloc, 1000, Vec::from_slice(alloc, given.failing_puts)?)?;
     let (inserts, reads) = (given.failing_inserts, given.failing_reads);
     let mut before = medium(alloc, "B", given.before, inserts.0, reads.0)?;
     let mut after = medium(alloc, "A", given.after, inserts.1, reads.1)?;
-    let status = run_check(
-        alloc,
-        words.as_slice(),
-        &mut trace,
-        &mut out,
-        &mut before,
-        &mut after,
-    );
-    Ok((status, Vec::from_slice(alloc, out.written())?))
+    Ok(run_check(alloc, words.as_slice(), trace, out, &mut before, &mut after))
 }
 
 /// A check ends with this status and this output.
@@ -101,9 +101,16 @@ fn answers(
     status: u8,
     output: &[u8],
 ) -> Result<(), Fail> {
-    let (ended, written) = check(alloc, given)?;
-    assert!(rt; same_bytes(&written, output), "the output");
-    assert!(rt; same(ended, status), "the status");
+    let bytes = Vec::from_slice(alloc, given.trace)?;
+    let takes = Vec::from_slice(alloc, given.failing_takes)?;
+    let mut trace = MemorySource::new(bytes, 1000, takes);
+    let puts = Vec::from_slice(alloc, given.failing_puts)?;
+    let mut out = MemorySink::new(alloc, 1000, puts)?;
+    let ended = check_into(alloc, given, &mut trace, &mut out)?;
+    assert!(rt;
+        same((ended, out.written()), (status, output)),
+        "the status and the output"
+    );
     Ok(())
 }
 
@@ -156,146 +163,128 @@ static ENDS: [(&[u8], &[u8], u8); 9] = [
     ),
 ];
 
+/// A check of this trace over formatted tapes ends with this status and this output.
+fn says_of(
+    rt: &impl Abort,
+    alloc: Global,
+    trace: &[u8],
+    status: u8,
+    output: &[u8],
+) -> Result<(), Fail> {
+    let tape = formatted(alloc)?;
+    let given = Given::trace(trace, &tape, &tape);
+    answers(rt, alloc, &given, status, output)
+}
+
 #[test]
 fn what_is_said_of_traces(rt: HostRuntime) -> Result<(), Fail> {
     let alloc = rt.alloc();
-    let tape = formatted(alloc)?;
-    for (end, output, status) in ENDS {
-        let mut trace = Vec::from_slice(alloc, ALTERED_TRACE)?;
-        trace.extend_from_slice(end)?;
-        answers(
-            &rt,
-            alloc,
-            &Given::trace(&trace, &tape, &tape),
-            status,
-            output,
-        )?;
+    for (end, output, status) in &ENDS {
+        let trace = joined(alloc, &[ALTERED_TRACE, end])?;
+        says_of(&rt, alloc, &trace, *status, output)?;
     }
     Ok(())
 }
 
 /// The trace of a run of this script with these words.
 fn traced(alloc: Global, words: &str, script: &[u8]) -> Result<Vec<u8>, Fail> {
-    let tape = formatted(alloc)?;
-    let words = String::from_str(alloc, words)?;
-    let given = runs::Given::script(&tape, script).with_words(&words);
-    Ok(runs::run(alloc, &given)?.output)
+    Ok(runs::run_formatted(alloc, words, script)?.output)
 }
 
-/// What is said of a trace over this tape, with these words.
-fn says<'x>(
+/// What a check with these words says of this trace over formatted tapes.
+fn says_with(
     rt: &impl Abort,
     alloc: Global,
-    words: &'x str,
-    tape: &'x [u8],
-    trace: &'x [u8],
+    words: &str,
+    trace: Vec<u8>,
     output: &[u8],
 ) -> Result<(), Fail> {
-    let given = Given {
-        words,
-        ..Given::trace(trace, tape, tape)
-    };
+    let tape = formatted(alloc)?;
+    let given = Given::trace(&trace, &tape, &tape).with_words(words);
     answers(rt, alloc, &given, 1, output)
 }
 
 #[test]
 fn a_lend_is_read_up_to_take_control(rt: HostRuntime) -> Result<(), Fail> {
     let alloc = rt.alloc();
-    let tape = formatted(alloc)?;
     let (three, two) = ("check 3 1 B A", "check 2 1 B A");
-    let trace = traced(alloc, "--guest TAPE", b"lend 10\n")?;
-    says(
-        &rt,
-        alloc,
-        three,
-        &tape,
-        &trace,
-        b"check no 10 3 NoExchange\n",
-    )?;
-    let later = traced(alloc, "--guest TAPE", b"status\nlend 10\ndir\n")?;
-    says(
-        &rt,
-        alloc,
-        three,
-        &tape,
-        &later,
-        b"check no 22 3 NoExchange\n",
-    )?;
+    let tenth = b"check no 10 3 NoExchange\n";
+    let first = traced(alloc, "--guest TAPE", b"lend 10\n")?;
+    says_with(&rt, alloc, three, first, tenth)?;
+    let second = traced(alloc, "--guest TAPE", b"status\nlend 10\ndir\n")?;
+    says_with(&rt, alloc, three, second, b"check no 22 3 NoExchange\n")?;
     let refused = traced(alloc, "TAPE", b"lend 1\n")?;
-    says(
-        &rt,
-        alloc,
-        two,
-        &tape,
-        &refused,
-        b"check no 10 3 NoExchange\n",
-    )
+    says_with(&rt, alloc, two, refused, tenth)
+}
+
+/// A check of this byte and a long line behind it ends with this status and this output.
+fn says_of_a_long_line(
+    rt: &impl Abort,
+    alloc: Global,
+    first: u8,
+    status: u8,
+    output: &[u8],
+) -> Result<(), Fail> {
+    let mut trace = vec![in alloc; first; 1]?;
+    trace.resize(50_000, b'~')?;
+    says_of(rt, alloc, &trace, status, output)
 }
 
 #[test]
 fn lines_of_any_length(rt: HostRuntime) -> Result<(), Fail> {
     let alloc = rt.alloc();
+    says_of_a_long_line(&rt, alloc, b'x', 0, TOGETHER)?;
+    says_of_a_long_line(&rt, alloc, b'~', 1, b"check no 1 1 BadText\n")
+}
+
+/// A check of this trace over a formatted tape and this one ends with the status 1 and this output.
+fn differs(
+    rt: &impl Abort,
+    alloc: Global,
+    trace: &[u8],
+    after: &[u8],
+    output: &[u8],
+) -> Result<(), Fail> {
     let tape = formatted(alloc)?;
-    for (first, output, status) in [
-        (b'x', TOGETHER, 0),
-        (b'~', b"check no 1 1 BadText\n" as &[u8], 1),
-    ] {
-        let mut trace = vec![in alloc; first; 1]?;
-        trace.resize(50_000, b'~')?;
-        answers(
-            &rt,
-            alloc,
-            &Given::trace(&trace, &tape, &tape),
-            status,
-            output,
-        )?;
-    }
-    Ok(())
+    answers(rt, alloc, &Given::trace(trace, &tape, after), 1, output)
 }
 
 #[test]
 fn what_is_said_of_tapes(rt: HostRuntime) -> Result<(), Fail> {
     let alloc = rt.alloc();
-    let tape = formatted(alloc)?;
-    let mut other = formatted(alloc)?;
-    other.resize(256 * 7, 0)?;
-    other.push(1)?;
-    let mut disc = formatted(alloc)?;
-    disc.resize(131_073, 0)?;
-    let rows: [(&[u8], &[u8], &[u8], &[u8]); 3] = [
-        (b"", &tape, &other, b"check no 7 4 NoEffect\n"),
-        (STATUS_TRACE, &tape, &other, b"check no 7 4 NoEffect\n"),
-        (b"", &tape, &disc, b"check no 0 7 SizeDiffers\n"),
-    ];
-    for (trace, before, after, output) in rows {
-        let given = Given::trace(trace, before, after);
-        answers(&rt, alloc, &given, 1, output)?;
-    }
-    Ok(())
+    let other = image_of(
+        alloc,
+        &[
+            (0, &[HEADER]),
+            (2, &[REDO_ENTRY, END_ENTRY]),
+            (7, &[b"\x01"]),
+        ],
+    )?;
+    let effect = b"check no 7 4 NoEffect\n";
+    differs(&rt, alloc, b"", &other, effect)?;
+    differs(&rt, alloc, STATUS_TRACE, &other, effect)?;
+    let disc = on_a_disc(alloc)?;
+    differs(&rt, alloc, b"", &disc, b"check no 0 7 SizeDiffers\n")
 }
 
 /// The output where tapes without a volume go together.
 const NO_VOLUMES: &[u8] = b"check ok\nbefore notlif\nafter notlif\n";
 
+/// This tape goes together with itself, with this output.
+fn goes_together(rt: &impl Abort, alloc: Global, tape: Vec<u8>, output: &[u8]) -> Result<(), Fail> {
+    answers(rt, alloc, &Given::trace(b"", &tape, &tape), 0, output)
+}
+
 #[test]
 fn labels_are_those_of_the_settled_tapes(rt: HostRuntime) -> Result<(), Fail> {
     let alloc = rt.alloc();
-    let mut disc = formatted(alloc)?;
-    disc.resize(131_073, 0)?;
+    goes_together(&rt, alloc, Vec::new(alloc), NO_VOLUMES)?;
     let unmarked = with_header(alloc, 0, b"\x80\x01")?;
+    goes_together(&rt, alloc, unmarked, NO_VOLUMES)?;
+    goes_together(&rt, alloc, on_a_disc(alloc)?, TOGETHER)?;
+    goes_together(&rt, alloc, with_packing_mark(alloc)?, TOGETHER)?;
     let open = with_redo_of_header(alloc, b"\x80\0SECOND")?;
-    let moving = with_packing_mark(alloc)?;
-    let rows: [(&[u8], &[u8]); 5] = [
-        (&[], NO_VOLUMES),
-        (&unmarked, NO_VOLUMES),
-        (&disc, TOGETHER),
-        (&moving, TOGETHER),
-        (&open, b"check ok\nbefore SECOND\nafter SECOND\n"),
-    ];
-    for (tape, output) in rows {
-        answers(&rt, alloc, &Given::trace(b"", tape, tape), 0, output)?;
-    }
-    Ok(())
+    goes_together(&rt, alloc, open, b"check ok\nbefore SECOND\nafter SECOND\n")
 }
 
 /// A day of commands that write.
@@ -318,72 +307,90 @@ fn is_told_of_a_run(
     rt: &impl Abort,
     alloc: Global,
     given: &runs::Given,
-    ended: u8,
-    status: u8,
+    (ended, status): (u8, u8),
     output: &[u8],
 ) -> Result<(), Fail> {
     let before = given.image.ok_or("an image")?;
     let left = runs::run(alloc, given)?;
     assert!(rt; same(left.status, ended), "the run");
-    let after = left.image.ok_or("an image")?;
-    answers(
-        rt,
-        alloc,
-        &Given::trace(&left.output, before, &after),
-        status,
-        output,
-    )
+    let after = left.image.as_deref().ok_or("an image")?;
+    let given = Given::trace(&left.output, before, after);
+    answers(rt, alloc, &given, status, output)
 }
 
 #[test]
 fn what_a_run_leaves_goes_together_with_its_trace(rt: HostRuntime) -> Result<(), Fail> {
     let alloc = rt.alloc();
     let tape = formatted(alloc)?;
-    let mut store = Vec::from_slice(alloc, b"store A 0001 00000000 ")?;
-    store.resize(store.len() + 1200, b'4')?;
-    // The first crossing that is lost lies in the write of the file's three records, the second after it.
-    let unclear = b"check no 1506 5 Unclear\n".as_slice();
-    let made = b"check ok\nbefore notlif\nafter SECOND\n".as_slice();
-    let rows: [(&str, &[u8], &[u8], u8, u8, &[u8]); 5] = [
-        ("TAPE", &tape, &store, 0, 0, TOGETHER),
-        ("TAPE", &tape, DAY, 0, 0, TOGETHER),
-        ("TAPE", &[], b"format SECOND 16\n", 0, 0, made),
-        ("--lose 4500 TAPE", &tape, &store, 1, 1, unclear),
-        ("--lose 5000 TAPE", &tape, &store, 1, 0, TOGETHER),
-    ];
-    for (words, before, script, ended, status, output) in rows {
-        let given = runs::Given::script(before, script).with_words(words);
-        is_told_of_a_run(&rt, alloc, &given, ended, status, output)?;
-    }
-    Ok(())
+    let day = runs::Given::script(&tape, DAY).with_words("TAPE");
+    is_told_of_a_run(&rt, alloc, &day, (0, 0), TOGETHER)?;
+    let made = runs::Given::script(&[], b"format SECOND 16\n").with_words("TAPE");
+    let output = b"check ok\nbefore notlif\nafter SECOND\n";
+    is_told_of_a_run(&rt, alloc, &made, (0, 0), output)
+}
+
+/// The same of a run with these words that stores a file of three records.
+fn is_told_of_a_store(
+    rt: &impl Abort,
+    alloc: Global,
+    words: &str,
+    statuses: (u8, u8),
+    output: &[u8],
+) -> Result<(), Fail> {
+    let tape = formatted(alloc)?;
+    let script = store_of_three_records(alloc)?;
+    let given = runs::Given::script(&tape, &script).with_words(words);
+    is_told_of_a_run(rt, alloc, &given, statuses, output)
 }
 
 #[test]
-fn checks_without_words_or_images_write_nothing(rt: HostRuntime) -> Result<(), Fail> {
+fn a_frame_lost_within_a_write_leaves_the_tape_unclear(rt: HostRuntime) -> Result<(), Fail> {
+    let alloc = rt.alloc();
+    is_told_of_a_store(&rt, alloc, "TAPE", (0, 0), TOGETHER)?;
+    // The first crossing that is lost lies in the write of the file's three records, the second after it.
+    let unclear = b"check no 1506 5 Unclear\n";
+    is_told_of_a_store(&rt, alloc, "--lose 4500 TAPE", (1, 1), unclear)?;
+    is_told_of_a_store(&rt, alloc, "--lose 5000 TAPE", (1, 0), TOGETHER)
+}
+
+/// A check with these words ends with this status, and writes nothing.
+fn is_refused(rt: &impl Abort, alloc: Global, words: &str, status: u8) -> Result<(), Fail> {
+    let tape = formatted(alloc)?;
+    let given = Given::trace(b"ok\n", &tape, &tape).with_words(words);
+    answers(rt, alloc, &given, status, b"")
+}
+
+#[test]
+fn checks_with_other_words_write_nothing(rt: HostRuntime) -> Result<(), Fail> {
+    let alloc = rt.alloc();
+    for words in [
+        "check 0 1 B A",
+        "check 31 1 B A",
+        "check 2 0 B A",
+        "check 2 3 B A",
+        "check 02 1 B A",
+        "check 2 1 B",
+        "check 2 1 B A A",
+        "Check 2 1 B A",
+    ] {
+        is_refused(&rt, alloc, words, 2)?;
+    }
+    is_refused(&rt, alloc, "check 2 1 A B", 3)
+}
+
+#[test]
+fn checks_without_images_write_nothing(rt: HostRuntime) -> Result<(), Fail> {
     let alloc = rt.alloc();
     let tape = formatted(alloc)?;
     let long = vec![in alloc; 0; 630_785]?;
     let given = Given::trace(b"ok\n", &tape, &tape);
-    for (words, status) in [
-        ("check 0 1 B A", 2),
-        ("check 31 1 B A", 2),
-        ("check 2 0 B A", 2),
-        ("check 2 3 B A", 2),
-        ("check 02 1 B A", 2),
-        ("check 2 1 B", 2),
-        ("check 2 1 B A A", 2),
-        ("Check 2 1 B A", 2),
-        ("check 2 1 A B", 3),
+    let (one, other): (Option<&[u8]>, Option<&[u8]>) = (Some(&tape), Some(&long));
+    for (before, after, status) in [
+        (None, one, 3),
+        (one, None, 3),
+        (other, one, 4),
+        (one, other, 4),
     ] {
-        answers(&rt, alloc, &Given { words, ..given }, status, b"")?;
-    }
-    let rows: [(Option<&[u8]>, Option<&[u8]>, u8); 4] = [
-        (None, Some(&tape), 3),
-        (Some(&tape), None, 3),
-        (Some(&long), Some(&tape), 4),
-        (Some(&tape), Some(&long), 4),
-    ];
-    for (before, after, status) in rows {
         let given = Given {
             before,
             after,
@@ -394,8 +401,16 @@ fn checks_without_words_or_images_write_nothing(rt: HostRuntime) -> Result<(), F
     Ok(())
 }
 
-/// Traces, the takes of them and the puts that fail, the inserts of either tape, the reads of either, and the status.
-const FAILURES: [(&[u8], (Calls, Calls), (Calls, Calls), (Calls, Calls), u8); 9] = [
+/// A trace, the takes of it and the puts that fail, the inserts of either tape, the reads of either, and the status.
+type Failure = (
+    &'static [u8],
+    (Calls<'static>, Calls<'static>),
+    (Calls<'static>, Calls<'static>),
+    (Calls<'static>, Calls<'static>),
+    u8,
+);
+
+static FAILURES: [Failure; 9] = [
     (b"ok\n", (&[1], &[]), NONE, NONE, 5),
     (b"ok\n", (&[2], &[]), NONE, NONE, 5),
     (b"~\n", (&[2], &[]), NONE, NONE, 5),
@@ -407,21 +422,24 @@ const FAILURES: [(&[u8], (Calls, Calls), (Calls, Calls), (Calls, Calls), u8); 9]
     (b"ok\n", NONE, NONE, (&[], &[512]), 10),
 ];
 
+/// A check over formatted tapes with this failure ends with its status, and writes nothing.
+fn fails_so(rt: &impl Abort, alloc: Global, failure: &Failure) -> Result<(), Fail> {
+    let tape = formatted(alloc)?;
+    let (trace, calls, failing_inserts, failing_reads, status) = *failure;
+    let given = Given {
+        failing_takes: calls.0,
+        failing_puts: calls.1,
+        failing_inserts,
+        failing_reads,
+        ..Given::trace(trace, &tape, &tape)
+    };
+    answers(rt, alloc, &given, status, b"")
+}
+
 #[test]
 fn checks_of_which_a_call_fails_write_nothing(rt: HostRuntime) -> Result<(), Fail> {
-    let alloc = rt.alloc();
-    let tape = formatted(alloc)?;
-    let given = Given::trace(b"ok\n", &tape, &tape);
-    for (trace, calls, failing_inserts, failing_reads, status) in FAILURES {
-        let given = Given {
-            trace,
-            failing_takes: calls.0,
-            failing_puts: calls.1,
-            failing_inserts,
-            failing_reads,
-            ..given
-        };
-        answers(&rt, alloc, &given, status, b"")?;
+    for failure in &FAILURES {
+        fails_so(&rt, rt.alloc(), failure)?;
     }
     Ok(())
 }

@@ -1,36 +1,47 @@
 //! What `dir` answers, by the bytes of the tape.
 
 use crate::images::{END_ENTRY, REDO_ENTRY, formatted, with_entries, with_open_gate};
-use crate::runs::{Given, answers, run};
-use il_same::{same, same_bytes};
+use crate::lines::LISTED;
+use crate::runs::{Given, answers, each_answers, run_formatted};
+use il_same::same;
+use std::alloc::{AllocError, Global};
 use std::test::Fail;
-
-const FORMATTED: &[u8] = b"volume HPTAPE 2 2 1 16\nfile REDOFILE E0D0 508 4 00000000\nok\n";
 
 #[test]
 fn dir_lists_the_volume(rt: HostRuntime) -> Result<(), Fail> {
     let alloc = rt.alloc();
     let tape = formatted(alloc)?;
+    each_answers(
+        &rt,
+        alloc,
+        &tape,
+        &[
+            (b"dir\n", 0, LISTED),
+            (b"\n\ndir", 0, LISTED),
+            (
+                b"list\n dir\n",
+                1,
+                b"error 1 BadLine\nvolume HPTAPE 2 2 1 16\nfile REDOFILE E0D0 508 4 00000000\nok\n",
+            ),
+        ],
+    )
+}
+
+#[test]
+fn dir_lists_a_volume_by_its_bytes(rt: HostRuntime) -> Result<(), Fail> {
+    let alloc = rt.alloc();
     let open = with_open_gate(alloc)?;
-    let zeros = vec![in alloc; 0; 768]?;
-    let none = b"volume HPTAPE 2 2 0 16\nok\n".as_slice();
     let ended = with_entries(alloc, &[END_ENTRY, REDO_ENTRY])?;
-    let cases: [(&[u8], &[u8], u8, &[u8]); 7] = [
-        (&tape, b"dir\n", 0, FORMATTED),
-        (&tape, b"\n\ndir", 0, FORMATTED),
-        (
-            &tape,
-            b"list\n dir\n",
-            1,
-            b"error 1 BadLine\nvolume HPTAPE 2 2 1 16\nfile REDOFILE E0D0 508 4 00000000\nok\n",
-        ),
-        (&zeros, b"dir\n", 1, b"error 3 NotLif\n"),
-        (&open, b"dir\n", 0, FORMATTED),
-        (&ended, b"dir\n", 0, none),
-        (&[], b"dir\n", 1, b"error 3 NotLif\n"),
+    let none = b"volume HPTAPE 2 2 0 16\nok\n".as_slice();
+    let refused = b"error 3 NotLif\n".as_slice();
+    let cases: [(&[u8], u8, &[u8]); 4] = [
+        (&open, 0, LISTED),
+        (&ended, 0, none),
+        (&[0; 768], 1, refused),
+        (&[], 1, refused),
     ];
-    for (image, script, status, output) in cases {
-        answers(&rt, alloc, &Given::script(image, script), status, output)?;
+    for (image, status, output) in &cases {
+        answers(&rt, alloc, &Given::script(image, b"dir\n"), *status, output)?;
     }
     Ok(())
 }
@@ -38,11 +49,11 @@ fn dir_lists_the_volume(rt: HostRuntime) -> Result<(), Fail> {
 #[test]
 fn an_empty_script_sends_no_frame(rt: HostRuntime) -> Result<(), Fail> {
     let alloc = rt.alloc();
-    let tape = formatted(alloc)?;
-    let left = run(alloc, &Given::script(&tape, b""))?;
-    assert!(rt; same_bytes(&left.output, b""), "no output");
-    assert!(rt; same(left.frames, Some(0)), "no frames");
-    assert!(rt; same(left.status, 0), "the status");
+    let left = run_formatted(alloc, "--quiet TAPE", b"")?;
+    assert!(rt;
+        same((left.ended_with(0, b""), left.frames), (true, Some(0))),
+        "no output, and no frames"
+    );
     Ok(())
 }
 
@@ -54,22 +65,35 @@ fn entry(letter: u8, number: u8) -> [u8; 32] {
     bytes
 }
 
+/// An image whose directory has sixteen such entries and no end.
+fn with_full_directory(alloc: Global) -> Result<Vec<u8>, AllocError> {
+    let mut image = with_entries(alloc, &[])?;
+    image.truncate(512);
+    for k in 0..16u8 {
+        image.extend_from_slice(&entry(b'A' + k, 10 + k))?;
+    }
+    Ok(image)
+}
+
+/// How it is listed.
+fn full_listing(alloc: Global) -> Result<Vec<u8>, AllocError> {
+    let mut listing = Vec::from_slice(alloc, b"volume HPTAPE 2 2 16 16\n")?;
+    for k in 0..16u8 {
+        let mut line = *b"file ? 0001 ?? 1 00000000\n";
+        line[5] = b'A' + k;
+        line[12] = b'1' + k / 10;
+        line[13] = b'0' + k % 10;
+        listing.extend_from_slice(&line)?;
+    }
+    listing.extend_from_slice(b"ok\n")?;
+    Ok(listing)
+}
+
 #[test]
 fn a_full_directory_needs_no_end(rt: HostRuntime) -> Result<(), Fail> {
     let alloc = rt.alloc();
-    let mut image = with_entries(alloc, &[])?;
-    image.truncate(512);
-    let mut wanted = Vec::from_slice(alloc, b"volume HPTAPE 2 2 16 16\n")?;
-    for k in 0..16u8 {
-        image.extend_from_slice(&entry(b'A' + k, 10 + k))?;
-        wanted.extend_from_slice(b"file ")?;
-        wanted.push(b'A' + k)?;
-        wanted.extend_from_slice(b" 0001 ")?;
-        wanted.push(b'1' + k / 10)?;
-        wanted.push(b'0' + k % 10)?;
-        wanted.extend_from_slice(b" 1 00000000\n")?;
-    }
-    wanted.extend_from_slice(b"ok\n")?;
+    let image = with_full_directory(alloc)?;
+    let wanted = full_listing(alloc)?;
     answers(&rt, alloc, &Given::script(&image, b"dir\n"), 0, &wanted)
 }
 

@@ -1,25 +1,33 @@
 //! How runs end, and what they leave.
 
-use crate::images::{END_ENTRY, FILE_ENTRY, SECOND_REDO_ENTRY, formatted, with_entries};
-use crate::runs::{Given, answers, run};
+use crate::images::{END_ENTRY, FILE_ENTRY, SECOND_REDO_ENTRY, formatted, put_at, with_entries};
+use crate::lines::{LISTED, joined};
+use crate::runs::{Given, answers, image_after, run};
 use il_same::{same, same_bytes};
 use std::alloc::Global;
 use std::process::Abort;
 use std::test::Fail;
 
-const LISTED: &[u8] = b"volume HPTAPE 2 2 1 16\nfile REDOFILE E0D0 508 4 00000000\nok\n";
-
-/// The status of a run, how many bytes it wrote, and whether it left the image.
-fn ending_of(alloc: Global, given: &Given) -> Result<(u8, usize, bool), Fail> {
+/// A run ends with this status. It writes nothing, and leaves the image.
+fn ends_early(rt: &impl Abort, alloc: Global, given: &Given, status: u8) -> Result<(), Fail> {
     let left = run(alloc, given)?;
-    Ok((left.status, left.output.len(), left.writes.is_empty()))
+    let words = given.words;
+    assert!(rt;
+        same(
+            (left.status, left.output.len(), left.writes.is_empty()),
+            (status, 0, true)
+        ),
+        "status {status} of {words}"
+    );
+    Ok(())
 }
 
 #[test]
 fn words_that_are_refused(rt: HostRuntime) -> Result<(), Fail> {
     let alloc = rt.alloc();
     let image = formatted(alloc)?;
-    let refused = [
+    let dir = Given::script(&image, b"dir\n");
+    for words in [
         "",
         "-TAPE",
         "TAPE TAPE",
@@ -27,34 +35,45 @@ fn words_that_are_refused(rt: HostRuntime) -> Result<(), Fail> {
         "--lose 0 TAPE",
         "--lose 5 --alter 5:01 TAPE",
         "--new --new-disc TAPE",
-    ];
-    for words in refused {
-        let given = Given::script(&image, b"dir\n").with_words(words);
-        assert!(rt; same(ending_of(alloc, &given)?, (2, 0, true)), "{words}");
+    ] {
+        ends_early(&rt, alloc, &dir.with_words(words), 2)?;
     }
     Ok(())
 }
 
 #[test]
-fn each_early_ending_has_its_status_and_writes_nothing(rt: HostRuntime) -> Result<(), Fail> {
+fn an_early_ending_by_the_image_has_its_status_and_writes_nothing(
+    rt: HostRuntime,
+) -> Result<(), Fail> {
+    let alloc = rt.alloc();
+    let none = Given::without_image(b"dir\n", "--quiet TAPE");
+    ends_early(&rt, alloc, &none, 3)?;
+    let image = formatted(alloc)?;
+    let other = Given::script(&image, b"dir\n").with_words("tape");
+    ends_early(&rt, alloc, &other, 3)?;
+    let long = vec![in alloc; 0; 630_785]?;
+    ends_early(&rt, alloc, &Given::script(&long, b"dir\n"), 4)
+}
+
+#[test]
+fn an_early_ending_by_a_call_has_its_status_and_writes_nothing(
+    rt: HostRuntime,
+) -> Result<(), Fail> {
     let alloc = rt.alloc();
     let image = formatted(alloc)?;
-    let long = vec![in alloc; 0; 630_785]?;
     let dir = Given::script(&image, b"dir\n");
-    let cases = [
-        (Given { image: None, ..dir }, 3),
-        (dir.with_words("tape"), 3),
-        (Given::script(&long, b"dir\n"), 4),
+    let first: &[u64] = &[1];
+    let rows: [(Given, u8); 4] = [
         (
             Given {
-                failing_takes: &[1],
+                failing_takes: first,
                 ..dir
             },
             5,
         ),
         (
             Given {
-                failing_puts: &[1],
+                failing_puts: first,
                 ..dir
             },
             6,
@@ -62,54 +81,60 @@ fn each_early_ending_has_its_status_and_writes_nothing(rt: HostRuntime) -> Resul
         (Given { room: 0, ..dir }, 6),
         (
             Given {
-                failing_inserts: &[1],
+                failing_inserts: first,
                 ..dir
             },
             9,
         ),
     ];
-    for (given, status) in cases {
-        assert!(rt;
-            same(ending_of(alloc, &given)?, (status, 0, true)),
-            "status {status}"
-        );
+    for (given, status) in &rows {
+        ends_early(&rt, alloc, given, *status)?;
     }
     Ok(())
+}
+
+/// A run of `label` with these words, into a sink with so much room, ends with this status and this output.
+fn fits_in(
+    rt: &impl Abort,
+    alloc: Global,
+    (words, room): (&str, usize),
+    status: u8,
+    output: &[u8],
+) -> Result<(), Fail> {
+    let image = formatted(alloc)?;
+    let given = Given {
+        words,
+        room,
+        ..Given::script(&image, b"label")
+    };
+    answers(rt, alloc, &given, status, output)
 }
 
 #[test]
 fn a_sink_takes_what_it_has_room_for(rt: HostRuntime) -> Result<(), Fail> {
     let alloc = rt.alloc();
-    let image = formatted(alloc)?;
-    let quiet = Given::script(&image, b"label");
     // The text of a reply is one piece, and so is a trace of few lines.
-    let cases: [(Given, u8, &[u8]); 3] = [
-        (Given { room: 10, ..quiet }, 6, b""),
-        (Given { room: 16, ..quiet }, 0, b"label HPTAPE\nok\n"),
-        (
-            Given {
-                room: 40,
-                ..quiet.with_words("TAPE")
-            },
-            6,
-            b"",
-        ),
-    ];
-    for (given, status, output) in cases {
-        answers(&rt, alloc, &given, status, output)?;
-    }
-    // Of a longer trace the first piece: whole lines, as many as 4,096 bytes hold.
+    fits_in(&rt, alloc, ("--quiet TAPE", 10), 6, b"")?;
+    fits_in(&rt, alloc, ("--quiet TAPE", 16), 0, LABELLED)?;
+    fits_in(&rt, alloc, ("TAPE", 40), 6, b"")
+}
+
+#[test]
+fn a_sink_takes_the_first_piece_of_a_long_trace(rt: HostRuntime) -> Result<(), Fail> {
+    let alloc = rt.alloc();
+    let image = formatted(alloc)?;
     let traced = Given {
         room: 5000,
-        ..quiet.with_words("TAPE")
+        ..Given::script(&image, b"label").with_words("TAPE")
     };
     let left = run(alloc, &traced)?;
-    assert!(rt; same(left.status, 6), "the status of a long trace");
+    // Whole lines, as many as 4,096 bytes hold.
+    let is_full = left.output.len() > 4055 && left.output.len() <= 4096;
+    let is_whole = left.output.ends_with(b"\n");
     assert!(rt;
-        left.output.len() > 4055 && left.output.len() <= 4096,
-        "the length of a piece"
+        same((left.status, is_full, is_whole), (6, true, true)),
+        "the status, the length and the end of a long trace"
     );
-    assert!(rt; left.output.ends_with(b"\n"), "whole lines");
     Ok(())
 }
 
@@ -118,29 +143,25 @@ fn a_long_comment_is_skipped(rt: HostRuntime) -> Result<(), Fail> {
     let alloc = rt.alloc();
     let image = formatted(alloc)?;
     let comment = vec![in alloc; b'#'; 262_144]?;
-    assert!(rt;
-        same(
-            ending_of(alloc, &Given::script(&image, &comment))?,
-            (0, 0, true)
-        ),
-        "a comment"
-    );
-    Ok(())
+    ends_early(&rt, alloc, &Given::script(&image, &comment), 0)
+}
+
+/// Of two commands over a formatted volume the first has this fault, which is one of the medium.
+fn ends_its_command(rt: &impl Abort, alloc: Global, failing_reads: &[u64]) -> Result<(), Fail> {
+    let image = formatted(alloc)?;
+    let wanted = joined(alloc, &[b"fault medium\n", LISTED])?;
+    let given = Given {
+        failing_reads,
+        ..Given::script(&image, b"dir\ndir\n")
+    };
+    answers(rt, alloc, &given, 1, &wanted)
 }
 
 #[test]
 fn a_fault_of_the_medium_ends_only_its_command(rt: HostRuntime) -> Result<(), Fail> {
-    let alloc = rt.alloc();
-    let image = formatted(alloc)?;
     // One `dir` reads the gate, record 0 and one record of the directory.
     for fault in 1..=3 {
-        let mut wanted = Vec::from_slice(alloc, b"fault medium\n")?;
-        wanted.extend_from_slice(LISTED)?;
-        let given = Given {
-            failing_reads: &[fault],
-            ..Given::script(&image, b"dir\ndir\n")
-        };
-        answers(&rt, alloc, &given, 1, &wanted)?;
+        ends_its_command(&rt, rt.alloc(), &[fault])?;
     }
     Ok(())
 }
@@ -149,12 +170,9 @@ fn a_fault_of_the_medium_ends_only_its_command(rt: HostRuntime) -> Result<(), Fa
 fn a_run_changes_nothing_on_the_tape(rt: HostRuntime) -> Result<(), Fail> {
     let alloc = rt.alloc();
     let mut image = formatted(alloc)?;
-    let left = run(alloc, &Given::script(&image, b"dir\nlist\ndir"))?;
+    let left = image_after(alloc, &Given::script(&image, b"dir\nlist\ndir"))?;
     image.resize(131_072, 0)?;
-    assert!(rt;
-        same(left.image.as_deref(), Some(image.as_slice())),
-        "the image"
-    );
+    assert!(rt; same_bytes(&left, &image), "the image");
     Ok(())
 }
 
@@ -188,9 +206,13 @@ fn is_cut_off<'x>(
         ..Given::script(tape, script)
     };
     let left = run(alloc, &given)?;
-    assert!(rt; same_bytes(&left.output, output), "the output");
-    assert!(rt; same(left.status, 5), "the status");
-    assert!(rt; same(left.writes.is_empty(), is_left), "the writes");
+    assert!(rt;
+        same(
+            (left.ended_with(5, output), left.writes.is_empty()),
+            (true, is_left)
+        ),
+        "the output and the writes"
+    );
     Ok(())
 }
 
@@ -207,15 +229,18 @@ fn complete_lines_before_a_fault_are_answered(rt: HostRuntime) -> Result<(), Fai
 }
 
 #[test]
+fn a_script_of_the_greatest_length(rt: HostRuntime) -> Result<(), Fail> {
+    let alloc = rt.alloc();
+    let image = formatted(alloc)?;
+    let feeds = vec![in alloc; b'\n'; 16_777_216]?;
+    answers(&rt, alloc, &Given::script(&image, &feeds), 0, b"")
+}
+
+#[test]
 fn a_script_has_a_greatest_length(rt: HostRuntime) -> Result<(), Fail> {
     let alloc = rt.alloc();
     let image = formatted(alloc)?;
-    let mut feeds = vec![in alloc; b'\n'; 16_777_216]?;
-    answers(&rt, alloc, &Given::script(&image, &feeds), 0, b"")?;
-    feeds.push(b'\n')?;
-    for (byte, letter) in feeds.iter_mut().zip(b"label\nbegin\n") {
-        *byte = *letter;
-    }
-    let given = Given::script(&image, &feeds);
-    answers(&rt, alloc, &given, 8, LABELLED)
+    let mut script = vec![in alloc; b'\n'; 16_777_217]?;
+    put_at(&mut script, 0, b"label\nbegin\n");
+    answers(&rt, alloc, &Given::script(&image, &script), 8, LABELLED)
 }

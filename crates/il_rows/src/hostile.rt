@@ -1,8 +1,9 @@
 //! Images that hold no volume, each with one change in one that does.
 
-use crate::images::{END_ENTRY, REDO_ENTRY, with_entries, with_header};
+use crate::images::{END_ENTRY, REDO_ENTRY, put_at, with_entries, with_header};
+use crate::lines::repeated;
 use crate::runs::{Given, answers, run};
-use il_same::{same, same_bytes};
+use il_same::same;
 use std::alloc::{AllocError, Global};
 use std::process::Abort;
 use std::test::Fail;
@@ -28,15 +29,15 @@ lend 1
 
 /// No command of a volume finds one on the image, or writes to it.
 fn is_no_volume(rt: &impl Abort, alloc: Global, image: &[u8]) -> Result<(), Fail> {
-    let mut wanted = Vec::new(alloc);
-    for _ in 0..12 {
-        wanted.extend_from_slice(b"error 3 NotLif\n")?;
-    }
-    wanted.extend_from_slice(b"error 17 NoTaker\n")?;
+    let wanted = repeated(alloc, b"", (12, b"error 3 NotLif\n"), b"error 17 NoTaker\n")?;
     let left = run(alloc, &Given::script(image, COMMANDS))?;
-    assert!(rt; same_bytes(&left.output, &wanted), "the output");
-    assert!(rt; same(left.status, 1), "the status");
-    assert!(rt; left.writes.is_empty(), "no write");
+    assert!(rt;
+        same(
+            (left.ended_with(1, &wanted), left.writes.is_empty()),
+            (true, true)
+        ),
+        "the output, and no write"
+    );
     Ok(())
 }
 
@@ -60,9 +61,7 @@ fn headers_that_cannot_be_read(rt: HostRuntime) -> Result<(), Fail> {
 fn with_extent(alloc: Global, kind: u8, extent: &[u8; 8]) -> Result<Vec<u8>, AllocError> {
     let mut entry = *b"X         \0?\0\0\0\0\0\0\0\0\0\0\0\0\0\0\x80\x01\0\0\0\0";
     entry[11] = kind;
-    for (byte, new) in entry.iter_mut().skip(12).zip(extent) {
-        *byte = *new;
-    }
+    put_at(&mut entry, 12, extent);
     with_entries(alloc, &[&entry, REDO_ENTRY, END_ENTRY])
 }
 

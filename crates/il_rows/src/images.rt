@@ -14,6 +14,9 @@ pub const SECOND_REDO_ENTRY: &[u8] =
 pub const END_ENTRY: &[u8] =
     b"\0\0\0\0\0\0\0\0\0\0\xFF\xFF\0\0\0\0\0\0\0\0\0\0\0\0\0\0\0\0\0\0\0\0";
 
+/// How an open gate of a redo file begins.
+pub const OPEN_GATE: &[u8] = b"LIFREDO1 OPEN   ";
+
 /// The entry of a file A of one record, the first behind the directory.
 pub const FILE_ENTRY: &[u8] = b"A         \0\x01\0\0\0\x04\0\0\0\x01\0\0\0\0\0\0\x80\x01\0\0\0\0";
 
@@ -25,7 +28,7 @@ const MOVING_REDO_ENTRY: &[u8] =
 const MOVING_ENTRY: &[u8] = b"A         \0\x01\0\0\0\x05\0\0\0\x02\0\0\0\0\0\0\x80\x01\0\0\0\0";
 
 /// The header of a volume HPTAPE with room for sixteen entries in records 2 and 3.
-const HEADER: &[u8] =
+pub const HEADER: &[u8] =
     b"\x80\0HPTAPE\0\0\0\x02\x10\0\0\0\0\0\0\x02\0\x01\0\0\0\0\0\x02\0\0\0\x01\0\0\x01\0\0\0\0\0\0\0";
 
 /// The header of a volume without a label, as an HP-41 leaves it.
@@ -34,20 +37,46 @@ const FOREIGN_HEADER: &[u8] = b"\x80\0      \0\0\0\x02\x10\0\0\0\0\0\0\x02";
 const FOREIGN_ENTRY: &[u8] =
     b"PROG1     \xE0\x80\0\0\0\x04\0\0\0\x02\0\0\0\0\0\0\x80\x01\0\0\x01\x80";
 
+/// Puts these bytes at a place.
+pub(crate) fn put_at(image: &mut [u8], place: usize, bytes: &[u8]) {
+    for (byte, new) in image.iter_mut().skip(place).zip(bytes) {
+        *byte = *new;
+    }
+}
+
+/// Zeros up to this record, and then these pieces.
+fn put_record(image: &mut Vec<u8>, record: u16, pieces: &[&[u8]]) -> Result<(), AllocError> {
+    image.resize(256 * usize::from(record), 0)?;
+    for piece in pieces {
+        image.extend_from_slice(piece)?;
+    }
+    Ok(())
+}
+
+/// An image with these pieces from these records on, and zeros between them.
+pub(crate) fn image_of(alloc: Global, records: &[(u16, &[&[u8]])]) -> Result<Vec<u8>, AllocError> {
+    let mut image = Vec::new(alloc);
+    for (record, pieces) in records {
+        put_record(&mut image, *record, pieces)?;
+    }
+    Ok(image)
+}
+
 /// An image of four records: a header, and a directory of these entries.
 pub(crate) fn with_entries(alloc: Global, entries: &[&[u8]]) -> Result<Vec<u8>, AllocError> {
-    let mut image = Vec::from_slice(alloc, HEADER)?;
-    image.resize(512, 0)?;
-    for entry in entries {
-        image.extend_from_slice(entry)?;
-    }
-    image.resize(1024, 0)?;
-    Ok(image)
+    image_of(alloc, &[(0, &[HEADER]), (2, entries), (4, &[])])
 }
 
 /// A volume as it is formatted: the redo file alone.
 pub(crate) fn formatted(alloc: Global) -> Result<Vec<u8>, AllocError> {
     with_entries(alloc, &[REDO_ENTRY, END_ENTRY])
+}
+
+/// A formatted volume of one byte more than a tape has, which is on a disc.
+pub(crate) fn on_a_disc(alloc: Global) -> Result<Vec<u8>, AllocError> {
+    let mut disc = formatted(alloc)?;
+    disc.resize(131_073, 0)?;
+    Ok(disc)
 }
 
 /// A volume on which a file is being moved.
@@ -62,65 +91,64 @@ pub(crate) fn with_header(
     bytes: &[u8],
 ) -> Result<Vec<u8>, AllocError> {
     let mut image = formatted(alloc)?;
-    for (byte, new) in image.iter_mut().skip(place).zip(bytes) {
-        *byte = *new;
-    }
+    put_at(&mut image, place, bytes);
     Ok(image)
 }
 
 /// A formatted volume with an open redo, by which its record 0 begins with these bytes.
 pub(crate) fn with_redo_of_header(alloc: Global, header: &[u8]) -> Result<Vec<u8>, AllocError> {
-    let mut image = with_open_gate(alloc)?;
-    image.resize(256 * 509, 0)?;
-    image.extend_from_slice(b"LIFREDO1\0\x01\0\0")?;
-    image.resize(256 * 510, 0)?;
-    image.extend_from_slice(header)?;
-    for byte in HEADER.iter().skip(header.len()) {
-        image.push(*byte)?;
-    }
+    let mut image = image_of(
+        alloc,
+        &[
+            (0, &[HEADER]),
+            (2, &[REDO_ENTRY, END_ENTRY]),
+            (508, &[OPEN_GATE]),
+            (509, &[b"LIFREDO1\0\x01\0\0"]),
+            (510, &[HEADER]),
+        ],
+    )?;
+    put_at(&mut image, 256 * 510, header);
     Ok(image)
 }
 
-/// A volume of another make, with one program and these entries behind it, and no redo file.
-pub(crate) fn foreign_with(alloc: Global, entries: &[&[u8]]) -> Result<Vec<u8>, AllocError> {
-    let mut image = Vec::from_slice(alloc, FOREIGN_HEADER)?;
-    image.resize(512, 0)?;
-    image.extend_from_slice(FOREIGN_ENTRY)?;
-    for entry in entries {
-        image.extend_from_slice(entry)?;
-    }
-    image.resize(1024, 0)?;
+/// A volume of another make, with one program and this entry behind it, or none, and no redo file.
+pub(crate) fn foreign_with(alloc: Global, entry: &[u8]) -> Result<Vec<u8>, AllocError> {
+    let mut image = image_of(
+        alloc,
+        &[(0, &[FOREIGN_HEADER]), (2, &[FOREIGN_ENTRY]), (4, &[])],
+    )?;
+    put_at(&mut image, 544, entry);
+    put_at(&mut image, entry.len().saturating_add(544), END_ENTRY);
     image.resize(256 * 6, 0x11)?;
     Ok(image)
-}
-
-/// The same with that program alone.
-pub(crate) fn foreign(alloc: Global) -> Result<Vec<u8>, AllocError> {
-    foreign_with(alloc, &[END_ENTRY])
 }
 
 /// A formatted volume with a redo file that puts the file A into the directory: behind a gate that begins so, with so
 /// many targets.
 pub(crate) fn with_redo(alloc: Global, gate: &[u8], targets: u8) -> Result<Vec<u8>, AllocError> {
-    let mut image = formatted(alloc)?;
-    image.resize(256 * 508, 0)?;
-    image.extend_from_slice(gate)?;
-    image.resize(256 * 509, 0)?;
-    image.extend_from_slice(b"LIFREDO1\0")?;
-    image.push(targets)?;
-    image.extend_from_slice(b"\0\x02")?;
-    image.resize(256 * 510, 0)?;
-    image.extend_from_slice(FILE_ENTRY)?;
-    image.extend_from_slice(REDO_ENTRY)?;
-    image.extend_from_slice(END_ENTRY)?;
-    image.resize(256 * 511, 0)?;
+    let mut image = image_of(
+        alloc,
+        &[
+            (0, &[HEADER]),
+            (2, &[REDO_ENTRY, END_ENTRY]),
+            (509, &[b"LIFREDO1\0\0\0\x02"]),
+            (510, &[FILE_ENTRY, REDO_ENTRY, END_ENTRY]),
+            (511, &[]),
+        ],
+    )?;
+    put_at(&mut image, 256 * 508, gate);
+    put_at(&mut image, 256 * 509 + 9, &[targets]);
     Ok(image)
 }
 
 /// A formatted volume whose redo file has an open gate.
 pub(crate) fn with_open_gate(alloc: Global) -> Result<Vec<u8>, AllocError> {
-    let mut image = formatted(alloc)?;
-    image.resize(256 * 508, 0)?;
-    image.extend_from_slice(b"LIFREDO1 OPEN   ")?;
-    Ok(image)
+    image_of(
+        alloc,
+        &[
+            (0, &[HEADER]),
+            (2, &[REDO_ENTRY, END_ENTRY]),
+            (508, &[OPEN_GATE]),
+        ],
+    )
 }

@@ -22,6 +22,8 @@ mod images;
 #[cfg(test)]
 mod lending;
 #[cfg(test)]
+mod lines;
+#[cfg(test)]
 mod loops;
 #[cfg(test)]
 mod packing;

@@ -1,8 +1,9 @@
 //! What the commands of the loop answer, and the frames of a run.
 
 use crate::images::formatted;
-use crate::runs::{Behind, Given, answers, run};
-use il_same::{same, same_bytes};
+use crate::lines::{LISTED, joined, repeated, store_of_three_records};
+use crate::runs::{Behind, Given, answers, formatted_answers, run_formatted};
+use il_same::same;
 use std::alloc::Global;
 use std::process::Abort;
 use std::test::Fail;
@@ -18,44 +19,53 @@ pub(crate) const ALTERED_TRACE: &[u8] =
 #[test]
 fn the_status_and_its_frames(rt: HostRuntime) -> Result<(), Fail> {
     let alloc = rt.alloc();
-    let tape = formatted(alloc)?;
-    let left = run(alloc, &Given::script(&tape, b"status\n").with_words("TAPE"))?;
-    assert!(rt; same_bytes(&left.output, STATUS_TRACE), "the trace");
-    assert!(rt; same(left.status, 0), "the status");
-    // Every frame but SST, which the drive took.
-    assert!(rt; same(left.frames, Some(14)), "the frames of the printer");
+    let left = run_formatted(alloc, "TAPE", b"status\n")?;
+    // The printer has every frame but SST, which the drive took.
+    assert!(rt;
+        same(
+            (left.ended_with(0, STATUS_TRACE), left.frames),
+            (true, Some(14))
+        ),
+        "the trace, and the frames of the printer"
+    );
     Ok(())
+}
+
+/// A run of this script with these words, which has a fault, writes this trace.
+fn has_trace(
+    rt: &impl Abort,
+    alloc: Global,
+    words: &str,
+    script: &[u8],
+    trace: &[&[u8]],
+) -> Result<(), Fail> {
+    let tape = formatted(alloc)?;
+    let wanted = joined(alloc, trace)?;
+    let given = Given::script(&tape, script).with_words(words);
+    answers(rt, alloc, &given, 1, &wanted)
 }
 
 #[test]
 fn a_frame_that_is_lost(rt: HostRuntime) -> Result<(), Fail> {
-    let alloc = rt.alloc();
-    let tape = formatted(alloc)?;
-    let given = Given::script(&tape, b"status\nstatus\n").with_words("--lose 6 TAPE");
-    let mut wanted = Vec::from_slice(alloc, b"~ 0 IFC = IFC\n~ 0 RFC ! 0\nfault frame\n")?;
-    wanted.extend_from_slice(STATUS_TRACE)?;
-    answers(&rt, alloc, &given, 1, &wanted)
+    has_trace(
+        &rt,
+        rt.alloc(),
+        "--lose 6 TAPE",
+        b"status\nstatus\n",
+        &[b"~ 0 IFC = IFC\n~ 0 RFC ! 0\nfault frame\n", STATUS_TRACE],
+    )
 }
 
 #[test]
 fn a_byte_that_is_altered(rt: HostRuntime) -> Result<(), Fail> {
     let alloc = rt.alloc();
-    let tape = formatted(alloc)?;
     // How the frames end where that byte is altered.
-    let rows: [(&str, &[u8]); 2] = [
-        (
-            "--alter 30:01 TAPE",
-            b"~ 1 DAB 00 = DAB 01\n~ 1 ETE > 0\nfault frame\n",
-        ),
-        ("--alter 30:01,34:01 TAPE", b"~ 1 DAB 00 ! 1\nfault frame\n"),
-    ];
-    for (words, last) in rows {
-        let mut wanted = Vec::from_slice(alloc, ALTERED_TRACE)?;
-        wanted.extend_from_slice(last)?;
-        let given = Given::script(&tape, b"status\n").with_words(words);
-        answers(&rt, alloc, &given, 1, &wanted)?;
-    }
-    Ok(())
+    let once = b"~ 1 DAB 00 = DAB 01\n~ 1 ETE > 0\nfault frame\n";
+    let words = "--alter 30:01 TAPE";
+    has_trace(&rt, alloc, words, b"status\n", &[ALTERED_TRACE, once])?;
+    let twice = b"~ 1 DAB 00 ! 1\nfault frame\n";
+    let words = "--alter 30:01,34:01 TAPE";
+    has_trace(&rt, alloc, words, b"status\n", &[ALTERED_TRACE, twice])
 }
 
 /// A quiet run over a loop of the drive and this device.
@@ -83,10 +93,9 @@ fn answers_with(
 #[test]
 fn devices_polls_and_the_printer(rt: HostRuntime) -> Result<(), Fail> {
     let alloc = rt.alloc();
-    answers_with(
+    formatted_answers(
         &rt,
         alloc,
-        Behind::Printer,
         b"devices\npoll\nsay 4849\npaper\n",
         0,
         b"device 1 10\ndevice 2 20\nok\npoll 00 quiet\nok\nok\npaper 4849 2\nok\n",
@@ -112,41 +121,36 @@ fn devices_polls_and_the_printer(rt: HostRuntime) -> Result<(), Fail> {
 #[test]
 fn a_long_text_for_the_printer(rt: HostRuntime) -> Result<(), Fail> {
     let alloc = rt.alloc();
-    let tape = formatted(alloc)?;
-    let mut script = Vec::from_slice(alloc, b"say ")?;
-    let mut wanted = Vec::from_slice(alloc, b"ok\npaper ")?;
-    script.resize(script.len() + 20_000, b'4')?;
+    let script = repeated(alloc, b"say ", (10_000, b"44"), b"\npaper\n")?;
     // The paper keeps 8,192 bytes.
-    wanted.resize(wanted.len() + 16_384, b'4')?;
-    script.extend_from_slice(b"\npaper\n")?;
-    wanted.extend_from_slice(b" 10000\nok\n")?;
-    answers(&rt, alloc, &Given::script(&tape, &script), 0, &wanted)
+    let wanted = repeated(alloc, b"ok\npaper ", (8_192, b"44"), b" 10000\nok\n")?;
+    formatted_answers(&rt, alloc, &script, 0, &wanted)
 }
 
 #[test]
 fn a_kept_directory_needs_no_frame(rt: HostRuntime) -> Result<(), Fail> {
     let alloc = rt.alloc();
-    let tape = formatted(alloc)?;
-    let listed = b"volume HPTAPE 2 2 1 16\nfile REDOFILE E0D0 508 4 00000000\nok\n";
-    let left = run(
-        alloc,
-        &Given::script(&tape, b"dir\ndir\n").with_words("TAPE"),
-    )?;
-    let mut twice = Vec::from_slice(alloc, listed)?;
-    twice.extend_from_slice(listed)?;
-    assert!(rt; left.output.ends_with(&twice), "two listings");
-    assert!(rt; same(left.status, 0), "their status");
-    let lost = run(
-        alloc,
-        &Given::script(&tape, b"dir\ndir\n").with_words("--lose 1 TAPE"),
-    )?;
-    let mut wanted = Vec::from_slice(alloc, b"~ 0 IFC ! 1\nfault frame\n")?;
-    // Then the loop is addressed anew.
-    assert!(rt; lost.output.starts_with(&wanted), "the lost frame");
-    wanted.extend_from_slice(b"~ 0 IFC = IFC\n~ 0 RFC = RFC\n~ 0 AAU = AAU\n")?;
-    assert!(rt; lost.output.starts_with(&wanted), "the addressing after it");
-    assert!(rt; lost.output.ends_with(listed), "the listing after it");
-    assert!(rt; same(lost.status, 1), "the status");
+    let left = run_formatted(alloc, "TAPE", b"dir\ndir\n")?;
+    let twice = joined(alloc, &[LISTED, LISTED])?;
+    assert!(rt;
+        same((left.output.ends_with(&twice), left.status), (true, 0)),
+        "two listings and their status"
+    );
+    Ok(())
+}
+
+#[test]
+fn a_loop_that_lost_a_frame_is_addressed_anew(rt: HostRuntime) -> Result<(), Fail> {
+    let alloc = rt.alloc();
+    let left = run_formatted(alloc, "--lose 1 TAPE", b"dir\ndir\n")?;
+    // The lost frame, and the addressing after it.
+    let front = b"~ 0 IFC ! 1\nfault frame\n~ 0 IFC = IFC\n~ 0 RFC = RFC\n~ 0 AAU = AAU\n";
+    let is_addressed = left.output.starts_with(front);
+    let is_listed = left.output.ends_with(LISTED);
+    assert!(rt;
+        same((is_addressed, is_listed, left.status), (true, true, 1)),
+        "the addressing, the listing after it, and the status"
+    );
     Ok(())
 }
 
@@ -160,15 +164,13 @@ fn count_of(text: &[u8], line: &[u8]) -> usize {
 #[test]
 fn the_records_of_a_file_go_in_one_run(rt: HostRuntime) -> Result<(), Fail> {
     let alloc = rt.alloc();
-    let tape = formatted(alloc)?;
-    let mut script = Vec::from_slice(alloc, b"store A 0001 00000000 ")?;
-    script.resize(script.len() + 1200, b'4')?;
-    let left = run(alloc, &Given::script(&tape, &script).with_words("TAPE"))?;
+    let script = store_of_three_records(alloc)?;
+    let left = run_formatted(alloc, "TAPE", &script)?;
     // One run for the file's three records, and five writes of the commit.
+    let runs = count_of(&left.output, b"~ 0 DDL 02 = DDL 02");
     assert!(rt;
-        same(count_of(&left.output, b"~ 0 DDL 02 = DDL 02"), 6),
-        "the runs of writes"
+        same((runs, left.status), (6, 0)),
+        "the runs of writes, and the status"
     );
-    assert!(rt; same(left.status, 0), "the status");
     Ok(())
 }

@@ -3,8 +3,8 @@
 ghost use Rattle.std.specs.Prelude.{◌≤◌};
 
 use crate::faults::stopped_at;
-use crate::images::{END_ENTRY, foreign_with, formatted};
-use crate::runs::{Given, answers, run, words_with};
+use crate::images::{foreign_with, formatted, put_at};
+use crate::runs::{Given, answers, each_answers, image_after, nth_answers, run, words_with};
 use il_same::{same, same_bytes};
 use std::alloc::{AllocError, Global};
 use std::process::Abort;
@@ -33,8 +33,7 @@ fn with_gap(alloc: Global, count: u8) -> Result<Vec<u8>, Fail> {
     )?;
     push_records(&mut script, count)?;
     script.extend_from_slice(b"\nstore C 0001 00000000 43\npurge A\n")?;
-    let left = run(alloc, &Given::script(&tape, &script))?;
-    Ok(left.image.ok_or("an image")?)
+    image_after(alloc, &Given::script(&tape, &script))
 }
 
 /// This reply, and then that to a fetch of B.
@@ -56,25 +55,63 @@ fn files_move_together(rt: HostRuntime) -> Result<(), Fail> {
         &Given::script(&tape, b"pack\ndir\npack\n"),
         0,
         b"packed 2 433\nok\nvolume HPTAPE 2 2 3 16\nfile B 0001 4 40 00000000\nfile C 0001 44 1 00000000\nfile REDOFILE E0D0 478 34 00000000\nok\npacked 0 433\nok\n",
+    )
+}
+
+#[test]
+fn what_is_not_packed(rt: HostRuntime) -> Result<(), Fail> {
+    let alloc = rt.alloc();
+    let tape = formatted(alloc)?;
+    each_answers(
+        &rt,
+        alloc,
+        &tape,
+        &[
+            (b"pack\n", 1, b"error 14 NeedsUpgrade\n"),
+            (b"pack A\n", 1, b"error 1 BadLine\n"),
+        ],
     )?;
-    let formatted = formatted(alloc)?;
-    let mut crossed = foreign_with(alloc, &[LOWER_ENTRY, END_ENTRY])?;
-    if let Some(records) = crossed.get_mut(19) {
-        *records = 1;
-    }
-    for (image, script, output) in [
-        (
-            crossed.as_slice(),
-            b"pack\nadopt\nupgrade\npack\n".as_slice(),
-            b"error 8 NoRedo\nok\nok\nerror 15 OutOfOrder\n".as_slice(),
-        ),
-        (&formatted, b"pack\n", b"error 14 NeedsUpgrade\n"),
-        (&[0; 1024], b"pack\n", b"error 3 NotLif\n"),
-        (&formatted, b"pack A\n", b"error 1 BadLine\n"),
-    ] {
-        answers(&rt, alloc, &Given::script(image, script), 1, output)?;
-    }
-    Ok(())
+    let blank = Given::script(&[0; 1024], b"pack\n");
+    answers(&rt, alloc, &blank, 1, b"error 3 NotLif\n")
+}
+
+#[test]
+fn files_out_of_order_are_not_packed(rt: HostRuntime) -> Result<(), Fail> {
+    let alloc = rt.alloc();
+    let mut crossed = foreign_with(alloc, LOWER_ENTRY)?;
+    put_at(&mut crossed, 19, b"\x01");
+    answers(
+        &rt,
+        alloc,
+        &Given::script(&crossed, b"pack\nadopt\nupgrade\npack\n"),
+        1,
+        b"error 8 NoRedo\nok\nok\nerror 15 OutOfOrder\n",
+    )
+}
+
+/// The writes of a packing of this tape, which are so many.
+fn writes_of(
+    rt: &impl Abort,
+    alloc: Global,
+    tape: &[u8],
+    count: usize,
+) -> Result<Vec<(u16, [u8; 256])>, Fail> {
+    let writes = run(alloc, &Given::script(tape, b"pack\n"))?.writes;
+    assert!(rt; same(writes.len(), count), "the writes");
+    Ok(writes)
+}
+
+/// A stop within the last of these writes, before any of its bytes, leaves a file that is fetched so.
+fn stops_at(
+    rt: &impl Abort,
+    alloc: Global,
+    tape: &[u8],
+    writes: &[(u16, [u8; 256])],
+    wanted: &[u8],
+) -> Result<(), Fail> {
+    let image = stopped_at(alloc, tape, writes, &[0; 256])?;
+    let given = Given::script(&image, b"fetch B\n");
+    nth_answers(rt, alloc, writes.len(), &given, 0, wanted)
 }
 
 #[test]
@@ -82,17 +119,27 @@ fn a_stop_within_each_write_of_a_packing(rt: HostRuntime) -> Result<(), Fail> {
     let alloc = rt.alloc();
     let tape = with_gap(alloc, 40)?;
     let wanted = then_fetched(alloc, b"", 40)?;
-    let made = run(alloc, &Given::script(&tape, b"pack\n"))?;
-    assert!(rt; same(made.writes.len(), 107), "the writes");
+    let writes = writes_of(&rt, alloc, &tape, 107)?;
     for write in 1..=107 {
-        let Some(writes) = made.writes.get(..write) else {
-            continue;
-        };
-        let image = stopped_at(alloc, &tape, writes, &[0; 256])?;
-        let left = run(alloc, &Given::script(&image, b"fetch B\n"))?;
-        assert!(rt; same_bytes(&left.output, &wanted), "write {write}");
+        let made = writes.get(..write).unwrap_or(&[]);
+        stops_at(&rt, alloc, &tape, made, &wanted)?;
     }
     Ok(())
+}
+
+/// A failure of this write leaves a file that is fetched so.
+fn fails_at(
+    rt: &impl Abort,
+    alloc: Global,
+    tape: &[u8],
+    write: u64,
+    wanted: &[u8],
+) -> Result<(), Fail> {
+    let given = Given {
+        failing_writes: &[(write, [0; 256])],
+        ..Given::script(tape, b"pack\nfetch B\n")
+    };
+    nth_answers(rt, alloc, write as usize, &given, 1, wanted)
 }
 
 #[test]
@@ -100,18 +147,28 @@ fn each_write_of_a_packing_fails(rt: HostRuntime) -> Result<(), Fail> {
     let alloc = rt.alloc();
     let tape = with_gap(alloc, 2)?;
     let wanted = then_fetched(alloc, b"fault medium\n", 2)?;
-    let made = run(alloc, &Given::script(&tape, b"pack\n"))?;
-    assert!(rt; same(made.writes.len(), 26), "the writes");
+    writes_of(&rt, alloc, &tape, 26)?;
     for write in 1..=26 {
-        let given = Given {
-            failing_writes: &[(write, [0; 256])],
-            ..Given::script(&tape, b"pack\nfetch B\n")
-        };
-        let left = run(alloc, &given)?;
-        assert!(rt; same_bytes(&left.output, &wanted), "write {write}");
-        assert!(rt; same(left.status, 1), "the status of write {write}");
+        fails_at(&rt, alloc, &tape, write, &wanted)?;
     }
     Ok(())
+}
+
+/// Whether a run with these words is past the last fault that a packing can have. Before it, the reply is this.
+fn is_past(
+    rt: &impl Abort,
+    alloc: Global,
+    tape: &[u8],
+    words: &str,
+    faulted: &[u8],
+) -> Result<bool, Fail> {
+    let given = Given::script(tape, b"pack\nfetch B\n").with_words(words);
+    let left = run(alloc, &given)?;
+    if left.output.starts_with(b"packed 2 471\nok\n") {
+        return Ok(true);
+    }
+    assert!(rt; same_bytes(&left.output, faulted), "{words}");
+    Ok(false)
 }
 
 /// How many of the crossings 1, 1 + step and so on a packing has. A fault at each of them keeps the files.
@@ -128,12 +185,9 @@ fn crossings_tried(
     let faulted = then_fetched(alloc, b"fault frame\n", 2)?;
     for tried in 0..1000 {
         let words = words_with(alloc, option, step * tried + 1, change)?;
-        let given = Given::script(tape, b"pack\nfetch B\n").with_words(&words);
-        let left = run(alloc, &given)?;
-        if left.output.starts_with(b"packed 2 471\nok\n") {
+        if is_past(rt, alloc, tape, &words, &faulted)? {
             return Ok(tried);
         }
-        assert!(rt; same_bytes(&left.output, &faulted), "crossing {tried}");
     }
     Ok(1000)
 }
@@ -142,10 +196,12 @@ fn crossings_tried(
 fn a_packing_whose_frames_are_lost_or_altered_keeps_the_files(rt: HostRuntime) -> Result<(), Fail> {
     let alloc = rt.alloc();
     let tape = with_gap(alloc, 2)?;
-    for (option, change, step, count) in [("--lose ", "", 97, 348), ("--alter ", ":01", 970, 35)] {
-        let tried = crossings_tried(&rt, alloc, &tape, option, change, step)?;
-        assert!(rt; same(tried, count), "the crossings of {option}");
-    }
+    let lost = crossings_tried(&rt, alloc, &tape, "--lose ", "", 97)?;
+    let altered = crossings_tried(&rt, alloc, &tape, "--alter ", ":01", 970)?;
+    assert!(rt;
+        same((lost, altered), (348, 35)),
+        "the crossings lost and altered"
+    );
     Ok(())
 }
 
@@ -175,21 +231,40 @@ const FINISHED: [(&[u8], &[u8]); 7] = [
     (b"pack\n", b"packed 1 433\nok\n"),
 ];
 
+/// A volume of which the file B is being moved.
+fn being_moved(alloc: Global) -> Result<Vec<u8>, Fail> {
+    let tape = with_gap(alloc, 40)?;
+    let writes = run(alloc, &Given::script(&tape, b"pack\n"))?.writes;
+    // Thirty records of B and the mark have become one commit, in sixty-five writes; the stop is within the next one.
+    let made = writes.get(..66).ok_or("sixty-six writes")?;
+    Ok(stopped_at(alloc, &tape, made, &[0; 256])?)
+}
+
+/// A script over a volume on which a file is being moved has this reply, and moves the rest.
+fn finishes(
+    rt: &impl Abort,
+    alloc: Global,
+    tape: &[u8],
+    script: &[u8],
+    output: &[u8],
+) -> Result<(), Fail> {
+    let left = run(alloc, &Given::script(tape, script))?;
+    assert!(rt;
+        same(
+            (left.ended_with(0, output), left.writes.is_empty()),
+            (true, false)
+        ),
+        "the output, and that the rest is moved"
+    );
+    Ok(())
+}
+
 #[test]
 fn the_next_command_finishes_a_packing(rt: HostRuntime) -> Result<(), Fail> {
     let alloc = rt.alloc();
-    let tape = with_gap(alloc, 40)?;
-    let made = run(alloc, &Given::script(&tape, b"pack\n"))?;
-    // Thirty records of B and the mark have become one commit, in sixty-five writes; the stop is within the next one.
-    let Some(writes) = made.writes.get(..66) else {
-        return Err("sixty-six writes")?;
-    };
-    let marked = stopped_at(alloc, &tape, writes, &[0; 256])?;
+    let tape = being_moved(alloc)?;
     for (script, output) in FINISHED {
-        let left = run(alloc, &Given::script(&marked, script))?;
-        assert!(rt; same_bytes(&left.output, output), "the output");
-        assert!(rt; same(left.status, 0), "the status");
-        assert!(rt; !left.writes.is_empty(), "the rest is moved");
+        finishes(&rt, alloc, &tape, script, output)?;
     }
     Ok(())
 }

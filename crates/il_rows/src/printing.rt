@@ -1,9 +1,10 @@
 //! Bytes for the printer under faults, and a loop of thirty devices.
 
 use crate::images::formatted;
-use crate::runs::{Behind, Given, answers, run, words_with};
+use crate::lines::put_number;
+use crate::runs::{Behind, Given, answers, run_formatted, words_with};
 use il_same::same;
-use std::alloc::Global;
+use std::alloc::{AllocError, Global};
 use std::process::Abort;
 use std::test::Fail;
 
@@ -18,6 +19,20 @@ fn shows_a_front(reply: &[u8]) -> bool {
         || (shown.starts_with(b"4849") && shown.get(6..) == Some(b" 3\nok\n".as_slice()))
 }
 
+/// Whether a run with these words is past the last fault that `say 4849` can have. Before it, a front of the bytes is
+/// on the paper.
+fn is_past(rt: &impl Abort, alloc: Global, words: &str) -> Result<bool, Fail> {
+    let left = run_formatted(alloc, words, b"say 4849\npaper\n")?;
+    if left.output.starts_with(b"ok\n") {
+        return Ok(true);
+    }
+    assert!(rt;
+        same((shows_a_front(&left.output), left.status), (true, 1)),
+        "the paper and the status, {words}"
+    );
+    Ok(false)
+}
+
 /// How many crossings `say 4849` has. A fault at each of them leaves a front of the bytes on the paper.
 fn crossings_of_say(
     rt: &impl Abort,
@@ -25,18 +40,11 @@ fn crossings_of_say(
     option: &str,
     change: &str,
 ) -> Result<u64, Fail> {
-    let tape = formatted(alloc)?;
     for crossing in 1..1000 {
         let words = words_with(alloc, option, crossing, change)?;
-        let left = run(
-            alloc,
-            &Given::script(&tape, b"say 4849\npaper\n").with_words(&words),
-        )?;
-        if left.output.starts_with(b"ok\n") {
+        if is_past(rt, alloc, &words)? {
             return Ok(crossing - 1);
         }
-        assert!(rt; shows_a_front(&left.output), "crossing {crossing}");
-        assert!(rt; same(left.status, 1), "the status of crossing {crossing}");
     }
     Ok(1000)
 }
@@ -51,29 +59,25 @@ fn a_fault_at_each_crossing_of_say(rt: HostRuntime) -> Result<(), Fail> {
     Ok(())
 }
 
+/// What `devices` and then the printer of a full loop reply.
+fn full_loop(alloc: Global) -> Result<Vec<u8>, AllocError> {
+    let mut output = Vec::from_slice(alloc, b"device 1 10\n")?;
+    for address in 2..30 {
+        put_number(&mut output, b"device ", address, b" --\n")?;
+    }
+    output.extend_from_slice(b"device 30 20\nok\npoll 00 quiet\nok\nok\npaper 41 1\nok\n")?;
+    Ok(output)
+}
+
 #[test]
 fn thirty_devices(rt: HostRuntime) -> Result<(), Fail> {
     let alloc = rt.alloc();
     let tape = formatted(alloc)?;
-    let mut wanted = Vec::from_slice(alloc, b"device 1 10\n")?;
-    for address in 2..30u8 {
-        wanted.extend_from_slice(b"device ")?;
-        if 9 < address {
-            wanted.push(b'0' + address / 10)?;
-        }
-        wanted.push(b'0' + address % 10)?;
-        wanted.extend_from_slice(b" --\n")?;
-    }
-    wanted.extend_from_slice(b"device 30 20\nok\npoll 00 quiet\nok\nok\npaper 41 1\nok\n")?;
-    answers(
-        &rt,
-        alloc,
-        &Given {
-            behind: Behind::Full,
-            guest: false,
-            ..Given::script(&tape, b"devices\npoll\nsay 41\npaper\n")
-        },
-        0,
-        &wanted,
-    )
+    let wanted = full_loop(alloc)?;
+    let given = Given {
+        behind: Behind::Full,
+        guest: false,
+        ..Given::script(&tape, b"devices\npoll\nsay 41\npaper\n")
+    };
+    answers(&rt, alloc, &given, 0, &wanted)
 }

@@ -4,11 +4,12 @@ ghost use Rattle.std.specs.Prelude.{◌≡◌, ◌≤◌, length, IfOk};
 ghost use Rattle.std.specs.List.{All};
 ghost use Rattle.il_ring.specs.Rings.{MayStand};
 
+use crate::images::formatted;
 use il_device::{Device, Printer, Quiet};
 use il_guest::Guest;
 use il_host::{Ended, Rig, run_il};
 use il_ports::{Medium, MemoryMedium, MemorySink, MemorySource};
-use il_same::{same, same_bytes};
+use il_same::same;
 use itoa::Buffer;
 use std::alloc::{AllocError, Global};
 use std::process::Abort;
@@ -63,6 +64,18 @@ pub struct Left {
     pub guest: Option<(u8, bool)>,
 }
 
+impl Left {
+    /// Whether the run ended with this status and wrote this output.
+    pub(crate) fn ended_with(&self, status: u8, output: &[u8]) -> bool {
+        same((self.output.as_slice(), self.status), (output, status))
+    }
+
+    /// These bytes of the image TAPE, where it has them.
+    pub(crate) fn part(&self, from: usize, to: usize) -> Option<&[u8]> {
+        self.image.as_deref()?.get(from..to)
+    }
+}
+
 impl<'a> Given<'a> {
     /// A quiet run of a script over an image, without a fault, with a printer behind the drive and a second controller.
     pub(crate) fn script(image: &'a [u8], script: &'a [u8]) -> Given<'a> {
@@ -79,6 +92,15 @@ impl<'a> Given<'a> {
             failing_takes: &[],
             failing_puts: &[],
             room: 2_000_000,
+        }
+    }
+
+    /// A run of a script with these words, where there is no image.
+    pub(crate) fn without_image(script: &'a [u8], words: &'a str) -> Given<'a> {
+        Given {
+            image: None,
+            words,
+            ..Given::script(&[], script)
         }
     }
 
@@ -173,61 +195,75 @@ pub(crate) fn words_with(
 ) -> Result<String, AllocError> {
     let mut digits = Buffer::new();
     let mut words = String::from_str(alloc, "--quiet ")?;
-    words.push_str(option)?;
-    words.push_str(digits.format(crossing))?;
-    words.push_str(change)?;
-    words.push_str(" TAPE")?;
+    for part in [option, digits.format(crossing), change, " TAPE"] {
+        words.push_str(part)?;
+    }
     Ok(words)
 }
 
-/// The rig of a run. No tape is in.
-fn rig_of(alloc: Global, given: &Given) -> Result<Rig<MemoryMedium>, AllocError>
-    ensures { IfOk result (λ rig. (⟦<MemoryMedium as Medium>⟧.view rig.medium).record_count ≡ 0) }
+/// The medium of a run. No tape is in.
+fn medium_of(alloc: Global, given: &Given) -> Result<MemoryMedium, AllocError>
+    ensures { IfOk result (λ m. (⟦<MemoryMedium as Medium>⟧.view m).record_count ≡ 0) }
 {
-    let medium = MemoryMedium::new(
+    MemoryMedium::new(
         alloc,
         shelf_of(alloc, "TAPE", given.image)?,
         Vec::from_slice(alloc, given.failing_reads)?,
         Vec::from_slice(alloc, given.failing_writes)?,
         Vec::from_slice(alloc, given.failing_inserts)?,
         6_000,
-    )?;
+    )
+}
+
+/// The rig of a run. No tape is in.
+fn rig_of(alloc: Global, given: &Given) -> Result<Rig<MemoryMedium>, AllocError>
+    ensures { IfOk result (λ rig. (⟦<MemoryMedium as Medium>⟧.view rig.medium).record_count ≡ 0) }
+{
     let guest = if given.guest {
         Some(Guest::new(2))
     } else {
         None
     };
     Ok(Rig {
-        medium,
-        before: Vec::new(alloc),
         after: devices_of(alloc, given.behind)?,
+        medium: medium_of(alloc, given)?,
+        before: Vec::new(alloc),
         guest,
     })
 }
 
-/// What a run leaves that ended with this status and wrote this output.
+/// The source that holds the script of a run.
+fn source_of(alloc: Global, given: &Given) -> Result<MemorySource, AllocError> {
+    let script = Vec::from_slice(alloc, given.script)?;
+    let failing = Vec::from_slice(alloc, given.failing_takes)?;
+    Ok(MemorySource::new(script, given.piece.max(1), failing))
+}
+
+/// The image TAPE on this medium.
+fn image_on(alloc: Global, medium: &MemoryMedium) -> Result<Option<Vec<u8>>, AllocError> {
+    match medium.image("TAPE") {
+        Some(bytes) => Ok(Some(Vec::from_slice(alloc, bytes)?)),
+        None => Ok(None),
+    }
+}
+
+/// What a run leaves that ended with this status, this output and this rig.
 fn left_of(
     alloc: Global,
     status: u8,
     output: &[u8],
-    rig: Rig<MemoryMedium>,
+    rig: &Rig<MemoryMedium>,
 ) -> Result<Left, AllocError> {
-    let image = match rig.medium.image("TAPE") {
-        Some(bytes) => Some(Vec::from_slice(alloc, bytes)?),
-        None => None,
-    };
-    let writes = Vec::from_slice(alloc, rig.medium.writes())?;
     let frames = rig.after.first().map(|device| device.frames());
     let guest = match &rig.guest {
         Some(guest) => Some((guest.last(), guest.is_idle())),
         None => None,
     };
-    drop(rig);
     Ok(Left {
         status,
         output: Vec::from_slice(alloc, output)?,
-        image,
-        writes,
+        image: image_on(alloc, &rig.medium)?,
+        writes: Vec::from_slice(alloc, rig.medium.writes())?,
         frames,
         guest,
     })
@@ -236,22 +272,43 @@ fn left_of(
 /// Runs `il` over the ports in memory.
 pub(crate) fn run(alloc: Global, given: &Given) -> Result<Left, Fail> {
     let words = words_of(alloc, given.words)?;
-    let mut script = MemorySource::new(
-        Vec::from_slice(alloc, given.script)?,
-        given.piece.max(1),
-        Vec::from_slice(alloc, given.failing_takes)?,
-    );
-    let mut out = MemorySink::new(
-        alloc,
-        given.room,
-        Vec::from_slice(alloc, given.failing_puts)?,
-    )?;
+    let mut script = source_of(alloc, given)?;
+    let failing_puts = Vec::from_slice(alloc, given.failing_puts)?;
+    let mut out = MemorySink::new(alloc, given.room, failing_puts)?;
     let rig = rig_of(alloc, given)?;
     if !rig.fits() {
         return Err(Fail::from("a rig that fits"));
     }
     let Ended { status, rig } = run_il(alloc, words.as_slice(), &mut script, &mut out, rig);
-    Ok(left_of(alloc, status, out.written(), rig)?)
+    Ok(left_of(alloc, status, out.written(), &rig)?)
+}
+
+/// What a run of this script with these words leaves over a formatted volume.
+pub(crate) fn run_formatted(alloc: Global, words: &str, script: &[u8]) -> Result<Left, Fail> {
+    let tape = formatted(alloc)?;
+    run(alloc, &Given::script(&tape, script).with_words(words))
+}
+
+/// The image that a run leaves.
+pub(crate) fn image_after(alloc: Global, given: &Given) -> Result<Vec<u8>, Fail> {
+    Ok(run(alloc, given)?.image.ok_or("an image")?)
+}
+
+/// A run ends with this status and this output. The number tells it from others of its kind.
+pub(crate) fn nth_answers(
+    rt: &impl Abort,
+    alloc: Global,
+    number: usize,
+    given: &Given,
+    status: u8,
+    output: &[u8],
+) -> Result<(), Fail> {
+    let left = run(alloc, given)?;
+    assert!(rt;
+        left.ended_with(status, output),
+        "the status and the output, {number}"
+    );
+    Ok(())
 }
 
 /// A run ends with this status and this output.
@@ -262,8 +319,31 @@ pub(crate) fn answers(
     status: u8,
     output: &[u8],
 ) -> Result<(), Fail> {
-    let left = run(alloc, given)?;
-    assert!(rt; same_bytes(&left.output, output), "the output");
-    assert!(rt; same(left.status, status), "the status");
+    nth_answers(rt, alloc, 1, given, status, output)
+}
+
+/// Quiet runs of these scripts over this image end with these statuses and outputs.
+pub(crate) fn each_answers(
+    rt: &impl Abort,
+    alloc: Global,
+    image: &[u8],
+    rows: &[(&[u8], u8, &[u8])],
+) -> Result<(), Fail> {
+    for (number, (script, status, output)) in rows.iter().enumerate() {
+        let given = Given::script(image, script);
+        nth_answers(rt, alloc, number, &given, *status, output)?;
+    }
     Ok(())
+}
+
+/// A quiet run of this script over a formatted volume ends with this status and this output.
+pub(crate) fn formatted_answers(
+    rt: &impl Abort,
+    alloc: Global,
+    script: &[u8],
+    status: u8,
+    output: &[u8],
+) -> Result<(), Fail> {
+    let tape = formatted(alloc)?;
+    answers(rt, alloc, &Given::script(&tape, script), status, output)
 }

@@ -1,27 +1,29 @@
 //! Batches: what they answer, what they make of a tape, and what a stop or a trouble leaves of them.
-ghost use Rattle.std.specs.Prelude.{◌<◌, ◌+◌, IfOk};
+ghost use Rattle.std.specs.Prelude.{◌<◌, ◌+◌};
 ghost use Rattle.lif_volume.specs.Seen.{seen};
 ghost use Rattle.lif_volume.specs.Views.{IsOpen};
 
-use crate::labels::row;
-use crate::stops::{C, D, E, F, G, stopped, stops, torn_contents};
-use crate::tapes::put;
+use crate::labels::{check, row};
+use crate::names::{name_of, new_name};
+use crate::stops::{C, D, E, F, G, stops};
+use crate::tapes::{stopped, torn_contents};
 use crate::volumes::{
-    EXISTS, FILE, HEADER, NO_FILE, NO_REDO, NOT_LIF, PURGED, REDO, REDO_TWO, RENAMED, SECOND_FILE,
-    Step, change_now, dir_now, fetch_now, holds, new_name, open_now, resume_now, shows, tape_with,
+    Answer, EXISTS, FILE, HEADER, NO_FILE, NO_REDO, NOT_LIF, PURGED, REDO, REDO_TWO, RENAMED,
+    SECOND_FILE, Step, TROUBLE, change_now, dir_now, failing_on, fetch_now, file_of, forgets,
+    holds, open_now, resume_now, room_of, shows_again, tape_with, volume_with,
 };
-use il_ports::{Records, Trouble};
+use il_ports::{MemoryRecords, Records};
 use il_same::same;
-use lif_dir::{Batch, Name};
+use lif_dir::Batch;
 use lif_model::{RECORD, Record};
 use lif_volume::{Refusal, Volume, VolumeFault};
 use std::alloc::Global;
 use std::process::Abort;
 use std::test::Fail;
 
-const NEEDS_UPGRADE: Result<(), VolumeFault> = Err(VolumeFault::Refused(Refusal::NeedsUpgrade));
+const NEEDS_UPGRADE: Answer = Err(VolumeFault::Refused(Refusal::NeedsUpgrade));
 
-const NO_SLOT: Result<(), VolumeFault> = Err(VolumeFault::Refused(Refusal::NoSlot));
+const NO_SLOT: Answer = Err(VolumeFault::Refused(Refusal::NoSlot));
 
 /// A file in record 5, the one that was stored first, purged, a purged file in records 5 and 6, and files in records 6
 /// and 5.
@@ -40,7 +42,7 @@ const BESIDE: &[u8] = b"B         \0\x01\0\0\0\x05\0\0\0\x01\0\0\0\0\0\0\x80\x01
 type Row = (
     &'static [&'static [u8]],
     &'static [Step<'static>],
-    Result<(), VolumeFault>,
+    Answer,
     &'static [&'static [u8]],
     usize,
     usize,
@@ -54,7 +56,7 @@ const FOUR: &[Step<'static>] = &[
     Step::Purge(b"B"),
 ];
 
-const ROWS: [Row; 14] = [
+const ROWS: &[Row] = &[
     (&[REDO_TWO], FOUR, Ok(()), &[GONE, LATER, REDO_TWO], 1, 1),
     // A name that the batch has purged is free.
     (
@@ -159,134 +161,146 @@ fn writes_of(files: usize, records: usize) -> usize
     }
 }
 
-/// Adds a part, and says whether there was room for it and it has names that can be given.
-fn add(batch: &mut Batch, part: Step) -> bool {
+/// Adds a part, and says whether there was room for it.
+fn add(rt: &impl Abort, batch: &mut Batch, part: Step) -> bool {
     match part {
-        Step::Store(name, bytes) => match new_name(name) {
-            Some(name) => batch.add_store(name, 1, [0; 4], bytes),
-            None => false,
-        },
-        Step::Rename(old, new) => match (Name::of(old), new_name(new)) {
-            (Some(old), Some(new)) => batch.add_rename(old, new),
-            _ => false,
-        },
-        Step::Purge(name) => match Name::of(name) {
-            Some(name) => batch.add_purge(name),
-            None => false,
-        },
+        Step::Store(name, bytes) => batch.add_store(new_name(rt, name), 1, [0; 4], bytes),
+        Step::Rename(old, new) => batch.add_rename(name_of(rt, old), new_name(rt, new)),
+        Step::Purge(name) => batch.add_purge(name_of(rt, name)),
         _ => false,
     }
 }
 
+/// A batch of these parts.
 fn batch_of(rt: &impl Abort, alloc: Global, parts: &[Step]) -> Result<Batch, Fail> {
     let mut batch = Batch::new(alloc)?;
     for part in parts {
-        row(rt, add(&mut batch, *part), "a part", 0);
+        row(rt, add(rt, &mut batch, *part), "a part", 0);
     }
     Ok(batch)
 }
 
 /// Makes the changes of a batch on a volume whose store is ready for it.
-fn batch_now<R: Records>(
-    rt: &impl Abort,
-    volume: &mut Volume<R>,
-    batch: &Batch,
-) -> Result<(), VolumeFault>
+fn batch_now<R: Records>(rt: &impl Abort, volume: &mut Volume<R>, batch: &Batch) -> Answer
     requires { IsOpen R.view (seen volume.old) }
     ensures { IsOpen R.view (seen volume.new) }
 {
     let size = u32::from(volume.records().size());
+    let left = volume.records().left();
     assert!(rt; volume.records().is_sound());
-    assert!(rt; 2 * size + 40 <= volume.records().left());
-    assert!(rt; size + 138 <= volume.records().left());
+    assert!(rt; 2 * size + 40 <= left && size + 138 <= left);
     volume.batch(batch)
 }
 
-#[test]
-fn a_batch_is_answered_as_one(rt: HostRuntime) -> Result<(), Fail> {
-    let alloc = rt.alloc();
-    for (k, (slots, parts, answer, after, files, records)) in ROWS.iter().enumerate() {
-        assert!(rt; *files + *records < 10);
-        let batch = batch_of(&rt, alloc, parts)?;
-        let tape = tape_with(&rt, alloc, HEADER, slots)?;
-        let mut volume = open_now(&rt, alloc, tape, Vec::new(alloc))?;
-        row(
-            &rt,
-            same(batch_now(&rt, &mut volume, &batch), *answer),
-            "answer",
-            k as u64,
-        );
-        row(
-            &rt,
-            volume.is_kept() == answer.is_ok() && (answer.is_err() || holds(&volume, after)),
-            "slots",
-            k as u64,
-        );
-        row(
-            &rt,
-            volume.records().writes().len() == writes_of(*files, *records),
-            "writes",
-            k as u64,
-        );
-        // The same as it is read again.
-        assert!(rt; resume_now(&rt, &mut volume).is_ok(), "resumed");
-        let front = if after.is_empty() { b"" } else { HEADER };
-        row(&rt, shows(&rt, &mut volume, front, after), "tape", k as u64);
-    }
+/// What a batch answers, the slots that it leaves, and how many records it writes.
+fn is_answered(
+    rt: &impl Abort,
+    volume: &mut Volume<MemoryRecords>,
+    batch: &Batch,
+    table: &Row,
+    k: u64,
+)
+    requires { IsOpen ⟦<MemoryRecords as Records>⟧.view
+        (seen volume.old) }
+    ensures { IsOpen ⟦<MemoryRecords as Records>⟧.view
+        (seen volume.new) }
+{
+    let (_, _, answer, after, files, records) = *table;
+    assert!(rt; files < 10 && records < 10 - files);
+    row(rt, same(batch_now(rt, volume, batch), answer), "answer", k);
+    let has_slots = answer.is_err() || holds(volume, after);
+    row(
+        rt,
+        volume.is_kept() == answer.is_ok() && has_slots,
+        "slots",
+        k,
+    );
+    let writes = volume.records().writes().len();
+    row(rt, writes == writes_of(files, records), "writes", k);
+}
+
+/// The batch of a row, and the tape as it is read anew.
+fn changes(rt: &impl Abort, alloc: Global, table: &Row, k: u64) -> Result<(), Fail> {
+    let batch = batch_of(rt, alloc, table.1)?;
+    let mut volume = volume_with(rt, alloc, HEADER, table.0)?;
+    is_answered(rt, &mut volume, &batch, table, k);
+    let after = table.3;
+    let front = if after.is_empty() { b"" } else { HEADER };
+    row(rt, shows_again(rt, &mut volume, front, after), "tape", k);
+    drop(volume);
     Ok(())
 }
 
 #[test]
+fn a_batch_is_answered_as_one(rt: HostRuntime) -> Result<(), Fail> {
+    for (k, table) in ROWS.iter().enumerate() {
+        changes(&rt, rt.alloc(), table, k as u64)?;
+    }
+    Ok(())
+}
+
+/// The store after a batch of these parts on a volume with these slots.
+fn carried_out(
+    rt: &impl Abort,
+    alloc: Global,
+    slots: &[&[u8]],
+    parts: &[Step],
+) -> Result<MemoryRecords, Fail> {
+    let batch = batch_of(rt, alloc, parts)?;
+    let mut volume = volume_with(rt, alloc, HEADER, slots)?;
+    check(rt, batch_now(rt, &mut volume, &batch).is_ok(), "answer");
+    Ok(volume.into_records())
+}
+
+/// A stop within any write of the batch of a row leaves the old or the new volume.
+fn stops_in(rt: &impl Abort, alloc: Global, table: &Row) -> Result<(), Fail> {
+    let (slots, parts, _, after, files, records) = *table;
+    assert!(rt; files < 10 && records < 10 - files);
+    let store = carried_out(rt, alloc, slots, parts)?;
+    // The files come first, the contents, the targets, and then the gate.
+    let opening = files + records + 1;
+    let (old, new) = ((HEADER, slots), (HEADER, after));
+    stops(rt, alloc, old, new, opening, store.writes())
+}
+
+#[test]
 fn a_stop_leaves_a_batch_whole_or_not_at_all(rt: HostRuntime) -> Result<(), Fail> {
-    let alloc = rt.alloc();
-    for (slots, parts, _, after, files, records) in ROWS {
-        if 0 < records {
-            assert!(rt; files + records < 10);
-            let batch = batch_of(&rt, alloc, parts)?;
-            let tape = tape_with(&rt, alloc, HEADER, slots)?;
-            let mut volume = open_now(&rt, alloc, tape, Vec::new(alloc))?;
-            assert!(rt; batch_now(&rt, &mut volume, &batch).is_ok(), "answer");
-            // The files come first, the contents, the targets, and then the gate.
-            stops(
-                &rt,
-                alloc,
-                (HEADER, slots),
-                (HEADER, after),
-                files + records + 1,
-                volume.into_records().writes(),
-            )?;
+    for table in ROWS {
+        if 0 < table.5 {
+            stops_in(&rt, rt.alloc(), table)?;
         }
     }
     Ok(())
 }
 
+/// How many calls the batch of a row makes, each of which may fail.
+fn calls_of(rt: &impl Abort, table: &Row) -> u64 {
+    let (_, _, _, _, files, records) = *table;
+    assert!(rt; files < 10 && records < 10 - files);
+    // The gate, record 0 and the directory as far as its end are read first, and for the commit what is past it.
+    match records {
+        0 => 0,
+        _ => (2 + records + writes_of(files, records)) as u64,
+    }
+}
+
+/// The batch of a row of which this call fails leaves the old or the new volume.
+fn fails_in(rt: &impl Abort, alloc: Global, table: &Row, call: u64) -> Result<(), Fail> {
+    let batch = batch_of(rt, alloc, table.1)?;
+    let tape = tape_with(rt, alloc, HEADER, table.0)?;
+    let mut volume = failing_on(rt, alloc, tape, call)?;
+    let answer = batch_now(rt, &mut volume, &batch);
+    row(rt, same(answer, TROUBLE), "call fails", call);
+    forgets(rt, &mut volume, (HEADER, table.0), (HEADER, table.3));
+    drop(volume);
+    Ok(())
+}
+
 #[test]
 fn a_trouble_leaves_a_batch_whole_or_not_at_all(rt: HostRuntime) -> Result<(), Fail> {
-    let alloc = rt.alloc();
-    let trouble = Err(VolumeFault::Trouble(Trouble::Medium));
-    for (slots, parts, _, after, files, records) in ROWS {
-        assert!(rt; files + records < 10);
-        // The gate, record 0 and the directory as far as its end are read first, and for the commit what is past it.
-        let calls = match records {
-            0 => 0,
-            _ => 2 + records + writes_of(files, records),
-        };
-        let batch = batch_of(&rt, alloc, parts)?;
-        for call in 1..=calls as u64 {
-            let mut fails = Vec::new(alloc);
-            fails.push((call, Trouble::Medium))?;
-            let tape = tape_with(&rt, alloc, HEADER, slots)?;
-            let mut volume = open_now(&rt, alloc, tape, fails)?;
-            row(
-                &rt,
-                same(batch_now(&rt, &mut volume, &batch), trouble),
-                "call fails",
-                call,
-            );
-            assert!(rt; !volume.is_kept(), "forgotten");
-            assert!(rt; resume_now(&rt, &mut volume).is_ok(), "resumed");
-            let old = shows(&rt, &mut volume, HEADER, slots);
-            assert!(rt; old || shows(&rt, &mut volume, HEADER, after), "old or new");
+    for table in ROWS {
+        for call in 1..=calls_of(&rt, table) {
+            fails_in(&rt, rt.alloc(), table, call)?;
         }
     }
     Ok(())
@@ -296,19 +310,19 @@ fn a_trouble_leaves_a_batch_whole_or_not_at_all(rt: HostRuntime) -> Result<(), F
 const MOST: u8 = 31;
 
 /// The name of the file `k`, two letters.
-fn name_of(k: u8) -> [u8; 2]
+fn letters_of(k: u8) -> [u8; 2]
     requires { k < 250 }
 {
     [b'A' + k / 26 % 26, b'A' + k % 26]
 }
 
-/// A batch of 31 stores, of a file of one byte each, which is its number.
-fn stores(rt: &impl Abort, alloc: Global) -> Result<Batch, Fail> {
+/// A batch of so many stores, of a file of one byte each, which is its number.
+fn stores(rt: &impl Abort, alloc: Global, count: u8) -> Result<Batch, Fail> {
     let mut batch = Batch::new(alloc)?;
-    for k in 0..MOST {
+    for k in 0..count.min(MOST) {
         row(
             rt,
-            add(&mut batch, Step::Store(&name_of(k), &[k])),
+            add(rt, &mut batch, Step::Store(&letters_of(k), &[k])),
             "a store",
             u64::from(k),
         );
@@ -316,169 +330,238 @@ fn stores(rt: &impl Abort, alloc: Global) -> Result<Batch, Fail> {
     Ok(batch)
 }
 
-/// The files that it leaves, each with its byte.
+/// The files that the largest of them leaves, each with its byte.
 fn stored(alloc: Global) -> Result<Vec<([u8; 2], u8)>, Fail> {
     let mut files = Vec::new(alloc);
     for k in 0..MOST {
-        files.push((name_of(k), k))?;
+        files.push((letters_of(k), k))?;
     }
     Ok(files)
 }
 
 /// The tape of a new volume of so many slots with a redo file of version 2.
-fn new_volume(rt: &impl Abort, alloc: Global, slots: u16) -> Result<Vec<Record>, Fail> {
-    let tape = tape_with(rt, alloc, b"", &[])?;
-    let mut volume = open_now(rt, alloc, tape, Vec::new(alloc))?;
-    assert!(rt; change_now(rt, &mut volume, Step::Format(b"BATCH", slots)).is_ok());
-    assert!(rt; change_now(rt, &mut volume, Step::Upgrade).is_ok());
+fn new_tape(rt: &impl Abort, alloc: Global, slots: u16) -> Result<Vec<Record>, Fail> {
+    let mut volume = volume_with(rt, alloc, b"", &[])?;
+    let formatted = change_now(rt, &mut volume, Step::Format(b"BATCH", slots));
+    let upgraded = change_now(rt, &mut volume, Step::Upgrade);
+    check(rt, formatted.is_ok() && upgraded.is_ok(), "a new volume");
     copied(alloc, volume.into_records().records())
 }
 
+/// The same records once more.
 fn copied(alloc: Global, records: &[Record]) -> Result<Vec<Record>, Fail> {
     let mut tape = Vec::with_capacity(alloc, records.len())?;
     tape.extend_from_slice(records)?;
     Ok(tape)
 }
 
-/// Whether the volume has the redo file alone, or so many slots and all these files with their bytes.
+/// How many slots a volume with all files of a batch has, and those files, each with its byte.
+type Files<'a> = (usize, &'a [([u8; 2], u8)]);
+
+/// Stops the test where the volume has not all these files with their bytes, or the redo file alone.
 fn has_all_or_none<R: Records>(
     rt: &impl Abort,
     volume: &mut Volume<R>,
     all: bool,
-    slots: usize,
-    files: &[([u8; 2], u8)],
+    wanted: Files,
     into: &mut [u8],
-) -> Result<(), Fail>
+)
     requires { IsOpen R.view (seen volume.old) }
-    ensures { IfOk result (λ x. IsOpen R.view (seen volume.new)) }
+    ensures { IsOpen R.view (seen volume.new) }
 {
-    assert!(rt; dir_now(rt, volume).is_ok(), "listed");
+    let (slots, files) = wanted;
+    check(rt, dir_now(rt, volume).is_ok(), "listed");
     let count = if all { slots } else { 1 };
-    assert!(rt; volume.slots().len() == count, "slots");
+    check(rt, volume.slots().len() == count, "slots");
     if all {
         for (name, byte) in files {
-            let fetched = fetch_now(rt, volume, name, into)?;
-            let first = into.first().copied();
-            row(
-                rt,
-                fetched.length == RECORD && first == Some(*byte),
-                "file",
-                u64::from(*byte),
-            );
+            let fetched = fetch_now(rt, volume, name, into);
+            let good = same(fetched, file_of(RECORD)) && into.first().copied() == Some(*byte);
+            row(rt, good, "file", u64::from(*byte));
+        }
+    }
+}
+
+/// The store after a batch on this tape, which makes all its files.
+fn made_whole(
+    rt: &impl Abort,
+    alloc: Global,
+    tape: Vec<Record>,
+    batch: &Batch,
+    files: Files,
+    into: &mut [u8],
+) -> Result<MemoryRecords, Fail> {
+    let mut volume = open_now(rt, alloc, tape, Vec::new(alloc))?;
+    check(rt, batch_now(rt, &mut volume, batch).is_ok(), "made");
+    has_all_or_none(rt, &mut volume, true, files, into);
+    Ok(volume.into_records())
+}
+
+/// A tape that a stop left has all files or none.
+fn left_whole(
+    rt: &impl Abort,
+    alloc: Global,
+    tape: Vec<Record>,
+    all: bool,
+    files: Files,
+    into: &mut [u8],
+) -> Result<(), Fail> {
+    let mut volume = open_now(rt, alloc, tape, Vec::new(alloc))?;
+    has_all_or_none(rt, &mut volume, all, files, into);
+    drop(volume);
+    Ok(())
+}
+
+/// A stop within any of these writes leaves all files or none, by the write that opens the gate.
+fn stops_within(
+    rt: &impl Abort,
+    alloc: Global,
+    tape: &[Record],
+    writes: &[(u16, Record)],
+    opening: usize,
+    files: Files,
+    into: &mut [u8],
+) -> Result<(), Fail> {
+    for k in 0..=writes.len() {
+        for (torn, opens) in torn_contents() {
+            let left = stopped(rt, copied(alloc, tape)?, writes, k, &torn);
+            let all = opening < k || k == opening && opens;
+            left_whole(rt, alloc, left, all, files, into)?;
         }
     }
     Ok(())
 }
 
-/// A stop within any write of a batch leaves all files or none: on a new volume, by the write that opens the gate.
+/// A stop within any write of a batch on a new volume leaves all files or none.
 fn stops_whole(
     rt: &impl Abort,
     alloc: Global,
     batch: &Batch,
     opening: usize,
-    slots: usize,
-    files: &[([u8; 2], u8)],
+    files: Files,
 ) -> Result<(), Fail> {
-    let tape = new_volume(rt, alloc, 40)?;
-    let mut into = Vec::with_capacity(alloc, 512 * RECORD)?;
-    into.resize(512 * RECORD, 0x55)?;
-    let mut volume = open_now(rt, alloc, copied(alloc, &tape)?, Vec::new(alloc))?;
-    assert!(rt; batch_now(rt, &mut volume, batch).is_ok(), "made");
-    has_all_or_none(rt, &mut volume, true, slots, files, &mut into)?;
-    let records = volume.into_records();
-    let writes = records.writes();
-    for k in 0..=writes.len() {
-        for (torn, opens) in torn_contents() {
-            let left = stopped(rt, copied(alloc, &tape)?, writes, k, &torn);
-            let mut volume = open_now(rt, alloc, left, Vec::new(alloc))?;
-            let all = opening < k || k == opening && opens;
-            has_all_or_none(rt, &mut volume, all, slots, files, &mut into)?;
-        }
-    }
-    Ok(())
+    let tape = new_tape(rt, alloc, 40)?;
+    let mut into = room_of(alloc, 0x55)?;
+    let before = copied(alloc, &tape)?;
+    let store = made_whole(rt, alloc, before, batch, files, &mut into)?;
+    stops_within(rt, alloc, &tape, store.writes(), opening, files, &mut into)
 }
 
 /// Thirty-one stores at the end of a directory, of which four records past the one with the end change.
 #[test]
 fn a_stop_leaves_all_files_or_none(rt: HostRuntime) -> Result<(), Fail> {
-    let alloc = rt.alloc();
-    let batch = stores(&rt, alloc)?;
-    // The files, the contents of five records, the targets, and then the gate.
-    let opening = usize::from(MOST) + 6;
-    let slots = usize::from(MOST) + 1;
-    stops_whole(&rt, alloc, &batch, opening, slots, &stored(alloc)?)?;
-    let batch = batch_of(&rt, alloc, FOUR)?;
-    stops_whole(&rt, alloc, &batch, 3, 3, &[(*b"A ", b'B')])
+    let batch = stores(&rt, rt.alloc(), MOST)?;
+    let files = stored(rt.alloc())?;
+    // The 31 files, the contents of five records, the targets, and then the gate.
+    stops_whole(&rt, rt.alloc(), &batch, 37, (32, &files))
 }
 
-/// A failure of any of its first calls leaves all files of a batch or none.
+#[test]
+fn a_stop_leaves_the_last_file_or_none(rt: HostRuntime) -> Result<(), Fail> {
+    let batch = batch_of(&rt, rt.alloc(), FOUR)?;
+    stops_whole(&rt, rt.alloc(), &batch, 3, (3, &[(*b"A ", b'B')]))
+}
+
+/// A failure of this call of a batch on this tape leaves all files or none.
+fn fails_on(
+    rt: &impl Abort,
+    alloc: Global,
+    tape: &[Record],
+    batch: &Batch,
+    call: u64,
+    files: Files,
+    into: &mut [u8],
+) -> Result<(), Fail> {
+    let mut volume = failing_on(rt, alloc, copied(alloc, tape)?, call)?;
+    let answer = batch_now(rt, &mut volume, batch);
+    row(rt, same(answer, TROUBLE), "call fails", call);
+    check(rt, resume_now(rt, &mut volume).is_ok(), "resumed");
+    check(rt, dir_now(rt, &mut volume).is_ok(), "listed");
+    let all = 1 < volume.slots().len();
+    has_all_or_none(rt, &mut volume, all, files, into);
+    drop(volume);
+    Ok(())
+}
+
+/// A failure of any of its first calls leaves all files of a batch on a new volume or none.
 fn fails_whole(
     rt: &impl Abort,
     alloc: Global,
     batch: &Batch,
     calls: u64,
-    slots: usize,
-    files: &[([u8; 2], u8)],
+    files: Files,
 ) -> Result<(), Fail> {
-    let trouble = Err(VolumeFault::Trouble(Trouble::Medium));
-    let tape = new_volume(rt, alloc, 40)?;
-    let mut into = Vec::with_capacity(alloc, 512 * RECORD)?;
-    into.resize(512 * RECORD, 0x55)?;
+    let tape = new_tape(rt, alloc, 40)?;
+    let mut into = room_of(alloc, 0x55)?;
     for call in 1..=calls {
-        let mut fails = Vec::new(alloc);
-        fails.push((call, Trouble::Medium))?;
-        let mut volume = open_now(rt, alloc, copied(alloc, &tape)?, fails)?;
-        row(
-            rt,
-            same(batch_now(rt, &mut volume, batch), trouble),
-            "call fails",
-            call,
-        );
-        assert!(rt; resume_now(rt, &mut volume).is_ok(), "resumed");
-        assert!(rt; dir_now(rt, &mut volume).is_ok(), "listed");
-        let all = 1 < volume.slots().len();
-        has_all_or_none(rt, &mut volume, all, slots, files, &mut into)?;
+        fails_on(rt, alloc, &tape, batch, call, files, &mut into)?;
     }
     Ok(())
 }
 
 #[test]
 fn a_failing_call_leaves_all_files_or_none(rt: HostRuntime) -> Result<(), Fail> {
-    let alloc = rt.alloc();
-    let batch = stores(&rt, alloc)?;
-    let slots = usize::from(MOST) + 1;
+    let batch = stores(&rt, rt.alloc(), MOST)?;
+    let files = stored(rt.alloc())?;
     // The gate, record 0, the directory as far as its end, the files, four records past the end, and the commit.
-    fails_whole(&rt, alloc, &batch, 51, slots, &stored(alloc)?)?;
-    let batch = batch_of(&rt, alloc, FOUR)?;
-    fails_whole(&rt, alloc, &batch, 9, 3, &[(*b"A ", b'B')])
+    fails_whole(&rt, rt.alloc(), &batch, 51, (32, &files))
+}
+
+#[test]
+fn a_failing_call_leaves_the_last_file_or_none(rt: HostRuntime) -> Result<(), Fail> {
+    let batch = batch_of(&rt, rt.alloc(), FOUR)?;
+    fails_whole(&rt, rt.alloc(), &batch, 9, (3, &[(*b"A ", b'B')]))
+}
+
+/// A purge, and a store that can take the slot then.
+const PURGE: Step<'static> = Step::Purge(b"AA");
+
+const STORE: Step<'static> = Step::Store(b"X", b"1");
+
+/// The batch fills a directory of eight slots.
+fn fills(rt: &impl Abort, volume: &mut Volume<MemoryRecords>, batch: &Batch)
+    requires { IsOpen ⟦<MemoryRecords as Records>⟧.view
+        (seen volume.old) }
+    ensures { IsOpen ⟦<MemoryRecords as Records>⟧.view
+        (seen volume.new) }
+{
+    check(rt, batch_now(rt, volume, batch).is_ok(), "filled");
+    check(rt, volume.slots().len() == 8, "eight slots");
+}
+
+/// The batch has no slot in that directory, and what was kept is forgotten.
+fn has_no_slot(rt: &impl Abort, volume: &mut Volume<MemoryRecords>, batch: &Batch)
+    requires { IsOpen ⟦<MemoryRecords as Records>⟧.view
+        (seen volume.old) }
+    ensures { IsOpen ⟦<MemoryRecords as Records>⟧.view
+        (seen volume.new) }
+{
+    check(rt, same(batch_now(rt, volume, batch), NO_SLOT), "no slot");
+    check(rt, !volume.is_kept(), "forgotten");
+    check(rt, resume_now(rt, volume).is_ok(), "resumed");
+    check(rt, dir_now(rt, volume).is_ok(), "listed");
+    check(rt, volume.slots().len() == 8, "eight slots still");
+}
+
+/// The first batch fills a new volume of eight slots, the second one has no slot there, and its parts have one after
+/// the other.
+fn fits(rt: &impl Abort, alloc: Global, full: &Batch, more: &Batch) -> Result<(), Fail> {
+    let tape = new_tape(rt, alloc, 8)?;
+    let mut volume = open_now(rt, alloc, tape, Vec::new(alloc))?;
+    fills(rt, &mut volume, full);
+    has_no_slot(rt, &mut volume, more);
+    let purged = change_now(rt, &mut volume, PURGE);
+    let stored = change_now(rt, &mut volume, STORE);
+    drop(volume);
+    check(rt, purged.is_ok() && stored.is_ok(), "one after the other");
+    Ok(())
 }
 
 /// A directory of which every slot is taken has no slot for a store, also where the batch has purged one, and a
 /// directory that the batch fills has no end.
 #[test]
 fn a_full_directory_takes_what_fits(rt: HostRuntime) -> Result<(), Fail> {
-    let alloc = rt.alloc();
-    let tape = new_volume(&rt, alloc, 8)?;
-    let mut volume = open_now(&rt, alloc, tape, Vec::new(alloc))?;
-    let mut batch = Batch::new(alloc)?;
-    for k in 0..7 {
-        row(
-            &rt,
-            add(&mut batch, Step::Store(&name_of(k), &[k])),
-            "a store",
-            u64::from(k),
-        );
-    }
-    assert!(rt; batch_now(&rt, &mut volume, &batch).is_ok(), "filled");
-    assert!(rt; volume.slots().len() == 8, "eight slots");
-    let more = batch_of(&rt, alloc, &[Step::Purge(b"AA"), Step::Store(b"X", b"1")])?;
-    let answer = batch_now(&rt, &mut volume, &more);
-    assert!(rt; same(answer, NO_SLOT), "no slot");
-    assert!(rt; !volume.is_kept(), "forgotten");
-    assert!(rt; resume_now(&rt, &mut volume).is_ok(), "resumed");
-    assert!(rt; dir_now(&rt, &mut volume).is_ok(), "listed");
-    assert!(rt; volume.slots().len() == 8, "eight slots still");
-    assert!(rt; change_now(&rt, &mut volume, Step::Purge(b"AA")).is_ok());
-    assert!(rt; change_now(&rt, &mut volume, Step::Store(b"X", b"1")).is_ok());
-    Ok(())
+    let full = stores(&rt, rt.alloc(), 7)?;
+    let more = batch_of(&rt, rt.alloc(), &[PURGE, STORE])?;
+    fits(&rt, rt.alloc(), &full, &more)
 }

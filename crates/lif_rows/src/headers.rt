@@ -1,10 +1,11 @@
 //! Headers of volumes, as they are read and as they are made.
 ghost use Rattle.std.specs.Prelude.{◌+◌, ◌≤◌, length};
 
-use crate::labels::row;
+use crate::labels::{check, row};
 use il_same::{same, same_bytes};
 use lif_header::{Header, HeaderFault};
 use lif_model::{RECORD, Record};
+use std::process::Abort;
 use std::test::Fail;
 
 /// The header of a volume HPTAPE whose directory has records 2 and 3, as the LIF format has it.
@@ -25,7 +26,9 @@ fn record_with(at: usize, bytes: &[u8]) -> Record
 /// Bytes that differ from place `at` on, the size of the medium, and what is read: the label, the directory's first
 /// record, how many records it has, and the first after them. The directory ends at record 4, so a medium of 8
 /// records is the smallest that has room.
-const READ: [(usize, &[u8], u16, [u8; 6], (u16, u16, u16)); 5] = [
+type Read = (usize, &'static [u8], u16, [u8; 6], (u16, u16, u16));
+
+const READ: &[Read] = &[
     (0, b"", 8, *b"HPTAPE", (2, 2, 4)),
     (0, b"", 512, *b"HPTAPE", (2, 2, 4)),
     (0, b"", u16::MAX, *b"HPTAPE", (2, 2, 4)),
@@ -33,39 +36,41 @@ const READ: [(usize, &[u8], u16, [u8; 6], (u16, u16, u16)); 5] = [
     (8, b"\x00\x00\x01\x02", 512, *b"HPTAPE", (258, 2, 260)),
 ];
 
-#[test]
-fn reads_a_header(rt: HostRuntime) -> Result<(), Fail> {
-    for (k, (at, bytes, size, label, places)) in READ.iter().enumerate() {
-        assert!(rt; *at <= 256 && bytes.len() <= 256 - *at && 4 <= *size);
-        let header = Header::read(&record_with(*at, bytes), *size)?;
-        row(&rt, same(header.label(), *label), "label", k as u64);
-        row(
-            &rt,
-            same((header.start(), header.length(), header.end()), *places),
-            "places",
-            k as u64,
-        );
-    }
-    Ok(())
+/// Reads record 0 of a medium of so many records, with these bytes from place `at` on.
+fn read_now(rt: &impl Abort, at: usize, bytes: &[u8], size: u16) -> Result<Header, HeaderFault> {
+    assert!(rt; at <= 256 && bytes.len() <= 256 - at && 4 <= size);
+    Header::read(&record_with(at, bytes), size)
 }
 
 #[test]
-fn fresh_headers(rt: HostRuntime) -> Result<(), Fail> {
+fn reads_a_header(rt: HostRuntime) {
+    for (k, (at, bytes, size, label, places)) in READ.iter().enumerate() {
+        let header = read_now(&rt, *at, bytes, *size).expect(&rt, "a header");
+        let came = (header.start(), header.length(), header.end());
+        let good = same((header.label(), came), (*label, *places));
+        row(&rt, good, "label and places", k as u64);
+    }
+}
+
+#[test]
+fn fresh_headers(rt: HostRuntime) {
     // The LIF format's header of a cassette, and a disc's: 77 tracks, 2 surfaces, 16 records.
-    assert!(rt;
-        same(Header::fresh(b"HPTAPE", 2, 512), record_with(0, b"")),
-        "a cassette"
-    );
+    let cassette = record_with(0, b"");
+    let fresh = Header::fresh(b"HPTAPE", 2, 512);
+    check(&rt, same(fresh, cassette), "a cassette");
     let disc = record_with(24, b"\x00\x00\x00\x4D\x00\x00\x00\x02\x00\x00\x00\x10");
-    assert!(rt; same(Header::fresh(b"HPTAPE", 2, 2464), disc), "a disc");
-    let full = Header::read(&Header::fresh(b"A     ", 2458, 2464), 2464)?;
-    assert!(rt; same(full.label(), *b"A     "), "a short label");
-    assert!(rt; full.length() == 2458, "a full disc");
-    Ok(())
+    let fresh = Header::fresh(b"HPTAPE", 2, 2464);
+    check(&rt, same(fresh, disc), "a disc");
+    let full = Header::fresh(b"A     ", 2458, 2464);
+    let full = Header::read(&full, 2464).expect(&rt, "a header");
+    check(&rt, same(full.label(), *b"A     "), "a short label");
+    check(&rt, full.length() == 2458, "a full disc");
 }
 
 /// Bytes that differ from place `at` on, the size of the medium, the first fault, and its text.
-const FAULTS: [(usize, &[u8], u16, HeaderFault, &str); 6] = [
+type Fault = (usize, &'static [u8], u16, HeaderFault, &'static str);
+
+const FAULTS: &[Fault] = &[
     (0, b"\x00\x80", 512, HeaderFault::Id(0x0080), "Id"),
     (0, &[0; 20], 512, HeaderFault::Id(0), "Id"),
     (8, &[0; 12], 512, HeaderFault::Start(0), "Start"),
@@ -77,19 +82,11 @@ const FAULTS: [(usize, &[u8], u16, HeaderFault, &str); 6] = [
 #[test]
 fn tells_the_first_fault(rt: HostRuntime) -> Result<(), Fail> {
     for (k, (at, bytes, size, fault, text)) in FAULTS.iter().enumerate() {
-        assert!(rt; *at <= 256 && bytes.len() <= 256 - *at && 4 <= *size);
-        row(
-            &rt,
-            same(Header::read(&record_with(*at, bytes), *size), Err(*fault)),
-            "fault",
-            k as u64,
-        );
-        row(
-            &rt,
-            same_bytes(fault.to_string(rt.alloc())?.as_bytes(), text.as_bytes()),
-            "text",
-            k as u64,
-        );
+        let answer = read_now(&rt, *at, bytes, *size);
+        row(&rt, same(answer, Err(*fault)), "fault", k as u64);
+        let told = fault.to_string(rt.alloc())?;
+        let good = same_bytes(told.as_bytes(), text.as_bytes());
+        row(&rt, good, "text", k as u64);
     }
     Ok(())
 }

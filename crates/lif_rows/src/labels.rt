@@ -1,5 +1,10 @@
-//! What stops a test at a row of a table, and tells which.
+//! What stops a test, and tells where.
 use std::process::Abort;
+
+/// Stops the test where what is asserted does not hold.
+pub fn check(rt: &impl Abort, good: bool, label: &str) {
+    assert!(rt; good, "{label}");
+}
 
 /// Stops the test where what is asserted of the row of this name does not hold.
 pub fn named(rt: &impl Abort, good: bool, label: &str, name: &str) {

@@ -6,7 +6,11 @@ mod batched;
 #[cfg(test)]
 mod batches;
 #[cfg(test)]
+mod changing;
+#[cfg(test)]
 mod directories;
+#[cfg(test)]
+mod formats;
 #[cfg(test)]
 mod headers;
 #[cfg(test)]
@@ -17,6 +21,8 @@ mod names;
 mod places;
 #[cfg(test)]
 mod plain;
+#[cfg(test)]
+mod reading;
 #[cfg(test)]
 mod redo;
 #[cfg(test)]

@@ -1,11 +1,23 @@
 //! Names of files and labels of volumes.
-use crate::labels::row;
+use crate::labels::{check, row};
 use il_same::{same, same_bytes};
 use lif_dir::{Name, NewLabel, NewName, without_end_spaces};
-use std::test::Fail;
+use std::process::Abort;
+
+/// The name of these bytes.
+pub fn name_of(rt: &impl Abort, bytes: &[u8]) -> Name {
+    Name::of(bytes).expect(rt, "a name")
+}
+
+/// The name of these bytes, which a file can be given.
+pub fn new_name(rt: &impl Abort, bytes: &[u8]) -> NewName {
+    NewName::of(&name_of(rt, bytes)).expect(rt, "a new name")
+}
 
 /// Bytes, the name that they are, and whether a file can be given that name, and a volume these bytes as its label.
-const ROWS: [(&[u8], Option<[u8; 10]>, bool, bool); 15] = [
+type Row = (&'static [u8], Option<[u8; 10]>, bool, bool);
+
+const ROWS: &[Row] = &[
     (b"", None, false, false),
     (b"A", Some(*b"A         "), true, true),
     (b"Z_0", Some(*b"Z_0       "), true, true),
@@ -28,37 +40,41 @@ const ROWS: [(&[u8], Option<[u8; 10]>, bool, bool); 15] = [
     (b"ELEVENCHARS", None, false, false),
 ];
 
+/// What the bytes of a row are.
+fn is_told(rt: &impl Abort, table: &Row, k: u64) {
+    let (bytes, filled, new, label) = *table;
+    let name = Name::of(bytes);
+    row(rt, same(name.map(|name| name.bytes()), filled), "name", k);
+    let has_new = name.and_then(|name| NewName::of(&name)).is_some();
+    row(rt, has_new == new, "new name", k);
+    row(rt, NewLabel::of(bytes).is_some() == label, "label", k);
+}
+
 #[test]
-fn names_and_labels(rt: HostRuntime) -> Result<(), Fail> {
-    for (k, (bytes, filled, new, label)) in ROWS.iter().enumerate() {
-        let name = Name::of(bytes);
-        row(
-            &rt,
-            same(name.map(|name| name.bytes()), *filled),
-            "name",
-            k as u64,
-        );
-        row(
-            &rt,
-            name.and_then(|name| NewName::of(&name)).is_some() == *new,
-            "new name",
-            k as u64,
-        );
-        row(
-            &rt,
-            NewLabel::of(bytes).is_some() == *label,
-            "label",
-            k as u64,
-        );
+fn names_and_labels(rt: HostRuntime) {
+    for (k, table) in ROWS.iter().enumerate() {
+        is_told(&rt, table, k as u64);
     }
-    let name = Name::of(b"DATA_1").ok_or("a name")?;
-    let new = NewName::of(&name).ok_or("a new name")?;
-    assert!(rt; same(new.name(), name), "the same name");
-    let label = NewLabel::of(b"TAPE").ok_or("a label")?;
-    assert!(rt; same(label.bytes(), *b"TAPE  "), "a label with its spaces");
-    assert!(rt;
-        same_bytes(without_end_spaces(b" A  "), b" A"),
-        "without the spaces at the end"
+}
+
+#[test]
+fn names_and_labels_keep_their_bytes(rt: HostRuntime) {
+    let new = new_name(&rt, b"DATA_1");
+    check(
+        &rt,
+        same(new.name(), name_of(&rt, b"DATA_1")),
+        "the same name",
     );
-    Ok(())
+    let label = NewLabel::of(b"TAPE").expect(&rt, "a label");
+    check(
+        &rt,
+        same(label.bytes(), *b"TAPE  "),
+        "a label with its spaces",
+    );
+    let short = without_end_spaces(b" A  ");
+    check(
+        &rt,
+        same_bytes(short, b" A"),
+        "without the spaces at the end",
+    );
 }

@@ -2,9 +2,11 @@
 ghost use Rattle.std.specs.Prelude.{◌<◌, length};
 
 use crate::labels::named;
+use crate::names::name_of;
+use crate::tables::{entry_of, slot_of};
 use il_same::same;
 use lif_alloc::{Choice, choose};
-use lif_dir::{FileEntry, Name, Slot, SlotTable};
+use lif_dir::{FileEntry, SlotTable};
 use lif_model::{Spot, plain_fit};
 use std::process::Abort;
 use std::test::Fail;
@@ -16,54 +18,68 @@ const KIND: u16 = 0xE0D0;
 type Row = (u16, u32, u32);
 
 /// The entry of that row: REDOFILE where it has the redo entry's type.
-fn entry_of(row: Row) -> Result<FileEntry, Fail> {
+fn row_entry(rt: &impl Abort, row: Row) -> FileEntry {
     let (kind, start, length) = row;
     let name = match kind {
-        KIND => Name::of(b"REDOFILE"),
-        _ => Name::of(b"FILE"),
+        KIND => b"REDOFILE".as_slice(),
+        _ => b"FILE",
     };
-    Ok(FileEntry {
-        name: name.ok_or("a name")?,
-        kind,
-        start,
-        length,
-        date: [0; 6],
-        volume: 0x8001,
-        implementation: [0; 4],
-    })
+    entry_of(name_of(rt, name), kind, start, length)
 }
 
-/// What `choose` and the plain function answer for a directory with these slots.
-fn answers(
+/// A table with these slots.
+fn table_of(rt: &(impl Abort + AllocGlobal), rows: &[Row]) -> Result<SlotTable, Fail>
+    requires { length rows.now < 100 }
+{
+    let mut table = SlotTable::new(rt.alloc(), rows.len())?;
+    for row in rows {
+        assert!(rt; table.len() < table.room());
+        table.push(slot_of(row_entry(rt, *row)));
+    }
+    Ok(table)
+}
+
+/// The bytes of these slots.
+fn bytes_of(rt: &(impl Abort + AllocGlobal), rows: &[Row]) -> Result<Vec<[u8; 32]>, Fail> {
+    let mut bytes = Vec::new(rt.alloc());
+    for row in rows {
+        bytes.push(row_entry(rt, *row).bytes())?;
+    }
+    Ok(bytes)
+}
+
+/// What the plain function answers for a directory with these slots.
+fn plain_answer(
     rt: &(impl Abort + AllocGlobal),
     rows: &[Row],
     directory: (u32, u32),
     count: u32,
     size: u16,
-) -> Result<(Choice, Spot), Fail>
-    requires { length rows.now < 100 }
-{
+) -> Result<Spot, Fail> {
     let (end, capacity) = directory;
-    let mut table = SlotTable::new(rt.alloc(), rows.len())?;
-    let mut bytes = Vec::new(rt.alloc());
-    for row in rows {
-        let entry = entry_of(*row)?;
-        bytes.push(entry.bytes())?;
-        assert!(rt; table.len() < table.room());
-        table.push(if entry.kind == 0 {
-            Slot::Purged(entry)
-        } else {
-            Slot::Live(entry)
-        });
-    }
-    let plain = plain_fit(
+    let bytes = bytes_of(rt, rows)?;
+    Ok(plain_fit(
         u64::from(size),
         u64::from(end),
         capacity as usize,
         bytes.as_slice(),
         u64::from(count),
-    );
-    Ok((choose(&table, end, capacity, count, size), plain))
+    ))
+}
+
+/// What `choose` answers for it.
+fn answer(
+    rt: &(impl Abort + AllocGlobal),
+    rows: &[Row],
+    directory: (u32, u32),
+    count: u32,
+    size: u16,
+) -> Result<Choice, Fail>
+    requires { length rows.now < 100 }
+{
+    let (end, capacity) = directory;
+    let table = table_of(rt, rows)?;
+    Ok(choose(&table, end, capacity, count, size))
 }
 
 /// The same choice in the words of the plain function.
@@ -91,7 +107,9 @@ const SMALL: Row = (KIND, 8, 4);
 const HOLES: &[Row] = &[(0, 4, 1), (0, 5, 1), (1, 6, 2), SMALL];
 
 /// A name, the size of the medium, its directory and slots, the records of the new file, and where it goes.
-const ROWS: [(&str, u16, (u32, u32), &[Row], u32, Spot); 24] = [
+type Place = (&'static str, u16, (u32, u32), &'static [Row], u32, Spot);
+
+const PLACES: &[Place] = &[
     ("empty", 512, TWO, &[REDO], 1, Spot::At(0, 4)),
     (
         "as long as it may be",
@@ -246,13 +264,21 @@ const ROWS: [(&str, u16, (u32, u32), &[Row], u32, Spot); 24] = [
     ("small and too long", 12, TWO, &[SMALL], 5, Spot::NoRoom),
 ];
 
+/// Chooses the place of a row.
+fn is_placed(rt: &(impl Abort + AllocGlobal), table: &Place) -> Result<(), Fail> {
+    let (name, size, directory, slots, count, spot) = *table;
+    assert!(rt; slots.len() < 100);
+    let plain = plain_answer(rt, slots, directory, count, size)?;
+    named(rt, same(plain, spot), "the plain function", name);
+    let choice = answer(rt, slots, directory, count, size)?;
+    named(rt, same(spot_of(choice), spot), "the answer", name);
+    Ok(())
+}
+
 #[test]
 fn places_of_new_files(rt: HostRuntime) -> Result<(), Fail> {
-    for (name, size, directory, slots, count, spot) in ROWS {
-        assert!(rt; slots.len() < 100);
-        let (choice, plain) = answers(&rt, slots, directory, count, size)?;
-        named(&rt, same(plain, spot), "the plain function", name);
-        named(&rt, same(spot_of(choice), spot), "the answer", name);
+    for table in PLACES {
+        is_placed(&rt, table)?;
     }
     Ok(())
 }

@@ -2,12 +2,16 @@
 ghost use Rattle.std.specs.Prelude.{◌≡◌, ◌<◌};
 ghost use Rattle.lif_model.specs.Header.{directory_end};
 
-use crate::labels::named;
+use crate::labels::{check, named};
 use lif_model::{RECORD, Record, plain_is_legal, plain_slots};
 use std::test::Fail;
 
-/// An entry of that type and name, with its first record and its number of records.
-fn entry(name: u8, kind: u8, start: u8, count: u8) -> [u8; 32] {
+/// The name, the type, the first record and the number of records of a file.
+type File = (u8, u8, u8, u8);
+
+/// The entry of a file.
+fn entry(file: File) -> [u8; 32] {
+    let (name, kind, start, count) = file;
     let mut bytes = [0; 32];
     bytes[..10].copy_from_slice(b"          ");
     bytes[0] = name;
@@ -31,7 +35,7 @@ fn header() -> Record
 
 /// The redo file's entry on a tape of twelve records.
 fn redo() -> [u8; 32] {
-    let mut bytes = entry(b'R', 0, 8, 4);
+    let mut bytes = entry((b'R', 0, 8, 4));
     bytes[..12].copy_from_slice(b"REDOFILE  \xE0\xD0");
     bytes
 }
@@ -47,71 +51,63 @@ fn put_entry(directory: &mut Record, k: usize, entry: &[u8; 32])
 #[test]
 fn slots_stop_at_the_end(rt: HostRuntime) -> Result<(), Fail> {
     let mut directory = [0; RECORD];
-    put_entry(&mut directory, 0, &entry(b'A', 1, 4, 1));
-    put_entry(&mut directory, 1, &entry(b'B', 0, 5, 1));
+    put_entry(&mut directory, 0, &entry((b'A', 1, 4, 1)));
+    put_entry(&mut directory, 1, &entry((b'B', 0, 5, 1)));
     put_entry(&mut directory, 2, &redo());
     for (high, low, count) in [(0, 0, 16), (0, 0xFF, 16), (0xFF, 0xFF, 3)] {
         directory[106] = high;
         directory[107] = low;
         let tape = [header(), [0; RECORD], directory, [0; RECORD]];
-        assert!(rt;
+        check(
+            &rt,
             plain_slots(rt.alloc(), &tape)?.len() == count,
-            "slots before the end"
+            "slots before the end",
         );
     }
     Ok(())
 }
 
+/// A name, two files, and whether a tape of twelve records may have them.
+type Legal = (&'static str, [File; 2], bool);
+
+const LEGAL: &[Legal] = &[
+    ("neighbours", [(b'A', 1, 4, 2), (b'B', 1, 6, 6)], true),
+    ("overlap", [(b'A', 1, 4, 2), (b'B', 1, 5, 1)], false),
+    (
+        "overlap a purged one",
+        [(b'A', 0, 4, 2), (b'B', 1, 5, 1)],
+        true,
+    ),
+    ("twins", [(b'A', 1, 4, 1), (b'A', 1, 5, 1)], false),
+    (
+        "twin of a purged one",
+        [(b'A', 0, 4, 1), (b'A', 1, 5, 1)],
+        true,
+    ),
+    (
+        "in the directory",
+        [(b'A', 1, 3, 1), (b'B', 1, 5, 1)],
+        false,
+    ),
+    (
+        "far without records",
+        [(b'A', 1, 11, 1), (b'B', 1, 200, 0)],
+        true,
+    ),
+    ("past the end", [(b'A', 1, 11, 2), (b'B', 1, 5, 1)], false),
+];
+
+/// Whether a tape of twelve records may have these files.
+fn is_legal(files: &[File; 2]) -> bool {
+    let slots = [entry(files[0]), entry(files[1])];
+    plain_is_legal(12, &header(), &slots)
+}
+
 #[test]
 fn legal_directories(rt: HostRuntime) {
-    let rows = [
-        (
-            "neighbours",
-            [entry(b'A', 1, 4, 2), entry(b'B', 1, 6, 6)],
-            true,
-        ),
-        (
-            "overlap",
-            [entry(b'A', 1, 4, 2), entry(b'B', 1, 5, 1)],
-            false,
-        ),
-        (
-            "overlap a purged one",
-            [entry(b'A', 0, 4, 2), entry(b'B', 1, 5, 1)],
-            true,
-        ),
-        ("twins", [entry(b'A', 1, 4, 1), entry(b'A', 1, 5, 1)], false),
-        (
-            "twin of a purged one",
-            [entry(b'A', 0, 4, 1), entry(b'A', 1, 5, 1)],
-            true,
-        ),
-        (
-            "in the directory",
-            [entry(b'A', 1, 3, 1), entry(b'B', 1, 5, 1)],
-            false,
-        ),
-        (
-            "far without records",
-            [entry(b'A', 1, 11, 1), entry(b'B', 1, 200, 0)],
-            true,
-        ),
-        (
-            "past the end",
-            [entry(b'A', 1, 11, 2), entry(b'B', 1, 5, 1)],
-            false,
-        ),
-    ];
-    for (name, slots, legal) in rows {
-        named(
-            &rt,
-            plain_is_legal(12, &header(), &slots) == legal,
-            "the answer",
-            name,
-        );
+    for (name, files, legal) in LEGAL {
+        named(&rt, is_legal(files) == *legal, "the answer", name);
     }
-    assert!(rt;
-        !plain_is_legal(7, &header(), &[]),
-        "no room for the redo file"
-    );
+    let good = !plain_is_legal(7, &header(), &[]);
+    check(&rt, good, "no room for the redo file");
 }

@@ -1,15 +1,14 @@
 //! Stops and troubles: each leaves the volume before a command or the one after it.
 use crate::labels::row;
-use crate::tapes::put;
+use crate::tapes::{stopped, torn_contents};
 use crate::volumes::{
-    FILE, FOREIGN_HEADER, GATE, HEADER, JUNK, PROGRAM, PURGED, REDO, REDO_TWO, RENAMED,
-    SECOND_FILE, SECOND_HEADER, Shown, Step, TWO, change_now, open_now, resume_now, shows,
-    tape_with,
+    FILE, FOREIGN_HEADER, HEADER, JUNK, PROGRAM, PURGED, REDO, REDO_TWO, RENAMED, SECOND_FILE,
+    Shown, Step, TROUBLE, TWO, change_now, failing_on, forgets, open_now, shows, tape_with,
+    volume_with,
 };
-use il_ports::{Records, Trouble};
+use il_ports::{MemoryRecords, Records};
 use il_same::same;
 use lif_model::{RECORD, Record};
-use lif_volume::VolumeFault;
 use std::alloc::Global;
 use std::process::Abort;
 use std::test::Fail;
@@ -18,6 +17,10 @@ use std::test::Fail;
 /// commit makes; which write opens the gate, how many writes there are, and how many calls of the
 /// store.
 type Turn = (Shown, Step<'static>, Shown, usize, usize, u64);
+
+/// The header that is formatted with another label.
+const SECOND_HEADER: &[u8] =
+    b"\x80\0SECOND\0\0\0\x02\x10\0\0\0\0\0\0\x01\0\x01\0\0\0\0\0\x02\0\0\0\x01\0\0\x01\0";
 
 const ONE: Shown = (HEADER, &[FILE, REDO]);
 
@@ -45,7 +48,7 @@ pub const G: &[u8] = b"G         \0\x01\0\0\0\x04\0\0\0\0\0\0\0\0\0\0\x80\x01\0\
 /// place, and the gate again. What is read is the gate, record 0 and the directory as far as its end;
 /// and for the commit a record past the one with the end. A tape without a header has no directory to
 /// be read.
-const TURNS: [Turn; 10] = [
+const TURNS: &[Turn] = &[
     (ONE, Step::Purge(b"A"), (HEADER, &[PURGED, REDO]), 2, 5, 8),
     (
         ONE,
@@ -86,28 +89,19 @@ const TURNS: [Turn; 10] = [
     ),
 ];
 
-/// The tape after the first `k` writes, torn within the next.
-pub fn stopped(
+/// Stops the test where a tape that is left in write `k` does not show this.
+fn shows_on(
     rt: &impl Abort,
-    mut tape: Vec<Record>,
-    writes: &[(u16, Record)],
+    alloc: Global,
+    tape: Vec<Record>,
+    shown: Shown,
     k: usize,
-    torn: &Record,
-) -> Vec<Record> {
-    for (n, bytes) in writes.iter().take(k) {
-        put(rt, &mut tape, usize::from(*n), 0, bytes);
-    }
-    if let Some((n, _)) = writes.get(k) {
-        put(rt, &mut tape, usize::from(*n), 0, torn);
-    }
-    tape
-}
-
-/// What a stop within a write may leave in its record, and whether that opens the gate where it is the gate.
-pub fn torn_contents() -> [(Record, bool); 3] {
-    let mut gate = [0; RECORD];
-    gate[..GATE.len()].copy_from_slice(GATE);
-    [([0; RECORD], false), ([0xFF; RECORD], false), (gate, true)]
+) -> Result<(), Fail> {
+    let mut volume = open_now(rt, alloc, tape, Vec::new(alloc))?;
+    let good = shows(rt, &mut volume, shown.0, shown.1);
+    drop(volume);
+    row(rt, good, "stopped in write", k as u64);
+    Ok(())
 }
 
 /// A stop within any of these writes leaves what was shown before, and from the write that opens the
@@ -124,75 +118,64 @@ pub fn stops(
         for (torn, opens) in torn_contents() {
             let tape = tape_with(rt, alloc, before.0, before.1)?;
             let tape = stopped(rt, tape, writes, k, &torn);
-            let mut volume = open_now(rt, alloc, tape, Vec::new(alloc))?;
-            let (header, slots) = if k > opening || k == opening && opens {
-                after
-            } else {
-                before
-            };
-            row(
-                rt,
-                shows(rt, &mut volume, header, slots),
-                "stopped in write",
-                k as u64,
-            );
+            let is_new = k > opening || k == opening && opens;
+            shows_on(rt, alloc, tape, if is_new { after } else { before }, k)?;
         }
     }
     Ok(())
 }
 
+/// A command that is carried out, and what is shown then; its store.
+fn carried_out(
+    rt: &impl Abort,
+    alloc: Global,
+    (header, slots): Shown,
+    step: Step,
+    after: Shown,
+    k: u64,
+) -> Result<MemoryRecords, Fail> {
+    let mut volume = volume_with(rt, alloc, header, slots)?;
+    row(rt, change_now(rt, &mut volume, step).is_ok(), "answer", k);
+    row(rt, shows(rt, &mut volume, after.0, after.1), "after", k);
+    Ok(volume.into_records())
+}
+
+/// A command makes so many writes and calls, and a stop within any of these writes leaves the old or
+/// the new volume.
+fn stops_in(rt: &impl Abort, alloc: Global, turn: &Turn, k: u64) -> Result<(), Fail> {
+    let (before, step, after, opening, writes, calls) = *turn;
+    let records = carried_out(rt, alloc, before, step, after, k)?;
+    row(rt, records.writes().len() == writes, "writes", k);
+    assert!(rt; calls < 20);
+    row(rt, u64::from(records.left()) + calls == 10000, "calls", k);
+    stops(rt, alloc, before, after, opening, records.writes())
+}
+
 #[test]
 fn a_stop_leaves_the_old_or_the_new_volume(rt: HostRuntime) -> Result<(), Fail> {
-    let alloc = rt.alloc();
-    for (k, (before, step, after, opening, writes, calls)) in TURNS.iter().enumerate() {
-        let tape = tape_with(&rt, alloc, before.0, before.1)?;
-        let mut volume = open_now(&rt, alloc, tape, Vec::new(alloc))?;
-        row(
-            &rt,
-            change_now(&rt, &mut volume, *step).is_ok(),
-            "answer",
-            k as u64,
-        );
-        row(
-            &rt,
-            shows(&rt, &mut volume, after.0, after.1),
-            "after",
-            k as u64,
-        );
-        let records = volume.into_records();
-        row(&rt, records.writes().len() == *writes, "writes", k as u64);
-        assert!(rt; *calls < 20);
-        row(
-            &rt,
-            u64::from(records.left()) + *calls == 10000,
-            "calls",
-            k as u64,
-        );
-        stops(&rt, alloc, *before, *after, *opening, records.writes())?;
+    for (k, turn) in TURNS.iter().enumerate() {
+        stops_in(&rt, rt.alloc(), turn, k as u64)?;
     }
+    Ok(())
+}
+
+/// A command of which this call fails leaves the old or the new volume.
+fn fails_in(rt: &impl Abort, alloc: Global, turn: &Turn, call: u64) -> Result<(), Fail> {
+    let (before, step, after, _, _, _) = *turn;
+    let tape = tape_with(rt, alloc, before.0, before.1)?;
+    let mut volume = failing_on(rt, alloc, tape, call)?;
+    let answer = change_now(rt, &mut volume, step);
+    row(rt, same(answer, TROUBLE), "call fails", call);
+    forgets(rt, &mut volume, before, after);
+    drop(volume);
     Ok(())
 }
 
 #[test]
 fn a_trouble_leaves_the_old_or_the_new_volume(rt: HostRuntime) -> Result<(), Fail> {
-    let alloc = rt.alloc();
-    let trouble = Err(VolumeFault::Trouble(Trouble::Medium));
-    for ((header, slots), step, (front, listed), _, _, calls) in TURNS {
-        for call in 1..=calls {
-            let mut fails = Vec::new(alloc);
-            fails.push((call, Trouble::Medium))?;
-            let tape = tape_with(&rt, alloc, header, slots)?;
-            let mut volume = open_now(&rt, alloc, tape, fails)?;
-            row(
-                &rt,
-                same(change_now(&rt, &mut volume, step), trouble),
-                "call fails",
-                call,
-            );
-            assert!(rt; !volume.is_kept(), "forgotten");
-            assert!(rt; resume_now(&rt, &mut volume).is_ok(), "resumed");
-            let old = shows(&rt, &mut volume, header, slots);
-            assert!(rt; old || shows(&rt, &mut volume, front, listed), "old or new");
+    for turn in TURNS {
+        for call in 1..=turn.5 {
+            fails_in(&rt, rt.alloc(), turn, call)?;
         }
     }
     Ok(())
