@@ -3,13 +3,15 @@ ghost use Rattle.std.specs.Prelude.{◌≡◌, ◌≤◌, IfOk, length};
 
 use crate::store_rows::{read, resume, status, store, write};
 use crate::tools;
+use il_device::{Device, Quiet};
 use il_frames::{Entry, Frame, Outcome};
 use il_ports::{Medium, MemoryMedium, Records, Trouble};
 use il_record::LoopRecords;
 use il_ring::PlanFault::{Alter, Lose};
 use il_ring::{Planned, Ring};
 use il_same::same;
-use ring_rows::{quiets, tape};
+use ring_rows::tape;
+use std::alloc::{AllocError, Global};
 use std::process::Abort;
 use std::test::Fail;
 use trace_readers::{Effects, Exchanges, Talkers, UnitFault};
@@ -193,6 +195,16 @@ fn runs_with_faults(rt: HostRuntime) -> Result<(), Fail> {
         compare_broken_off(&rt, hop)?;
     }
     Ok(())
+}
+
+/// So many devices that send nothing.
+fn quiets(alloc: Global, count: u8) -> Result<Vec<Box<dyn Device>>, AllocError> {
+    let mut devices = Vec::new(alloc);
+    for _ in 0..count {
+        let quiet: Box<dyn Device> = Box::new(alloc, Quiet::new())?;
+        devices.push(quiet)?;
+    }
+    Ok(devices)
 }
 
 /// The ring of thirty devices after that run, where the drive stands at this party.

@@ -6,7 +6,7 @@ mod plain;
 mod tools;
 
 pub use plain::{Calling, caller, second_drive};
-pub use tools::{frame_of, has_paper, is_log, quiets, tape, tape_of};
+pub use tools::{frame_of, has_paper, is_log, tape, tape_of};
 
 #[cfg(test)]
 mod drive_rows;

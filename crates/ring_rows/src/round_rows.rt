@@ -4,14 +4,15 @@ ghost use Rattle.std.specs.Prelude.{◌≡◌, ◌≤◌};
 ghost use Rattle.il_ring.specs.Rings.{spare_of};
 ghost use Rattle.il_ring.specs.Lending.{leads};
 
-use crate::{frame_of, has_paper, is_log, quiets, second_drive, tape};
+use crate::{frame_of, has_paper, is_log, second_drive, tape};
 use PlanFault::{Alter, Lose};
-use il_device::{Device, Printer};
+use il_device::{Device, Printer, Quiet};
 use il_frames::{Class, Frame};
 use il_guest::Guest;
 use il_ports::{Medium, MemoryMedium};
 use il_ring::{Arrival, PlanFault, Planned, Rig, Ring, Seen, is_plan};
 use il_same::{same, same_bytes};
+use std::alloc::{AllocError, Global};
 use std::process::Abort;
 use std::test::Fail;
 
@@ -603,6 +604,16 @@ fn is_still(guest: Option<&Guest>) -> bool {
                 && guest.found().iter().all(|status| status.is_none())
         }
     }
+}
+
+/// So many devices that send nothing.
+fn quiets(alloc: Global, count: u8) -> Result<Vec<Box<dyn Device>>, AllocError> {
+    let mut devices = Vec::new(alloc);
+    for _ in 0..count {
+        let quiet: Box<dyn Device> = Box::new(alloc, Quiet::new())?;
+        devices.push(quiet)?;
+    }
+    Ok(devices)
 }
 
 /// The ring of a loop as long as it may be, with so many quiet devices before and after the drive: one more does not

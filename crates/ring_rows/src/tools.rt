@@ -1,12 +1,11 @@
 // What tests share: a tape, the frames of texts, and what a ring printed and logged.
 
 use arrayvec::ArrayVec;
-use il_device::{Device, Quiet};
 use il_frames::{Entry, Frame};
 use il_ports::{Inserted, Medium, MemoryMedium, New};
 use il_ring::Ring;
 use il_same::{same, same_bytes};
-use std::alloc::{AllocError, Global};
+use std::alloc::Global;
 use std::test::Fail;
 
 /// A medium of 512 records that begin with the image, and are zeros after it. This read and this write fail, counted
@@ -31,16 +30,6 @@ pub fn tape_of(
 /// A medium of 512 records of zeros, of which this read and this write fail; a write that fails leaves 7s.
 pub fn tape(alloc: Global, read: u64, write: u64) -> Result<MemoryMedium, Fail> {
     tape_of(alloc, Vec::new(alloc), read, write, 7)
-}
-
-/// So many devices that send nothing.
-pub fn quiets(alloc: Global, count: u8) -> Result<Vec<Box<dyn Device>>, AllocError> {
-    let mut devices = Vec::new(alloc);
-    for _ in 0..count {
-        let quiet: Box<dyn Device> = Box::new(alloc, Quiet::new())?;
-        devices.push(quiet)?;
-    }
-    Ok(devices)
 }
 
 /// The frame of a text.
