@@ -197,7 +197,7 @@ fn is_answered(
     rt: &impl Abort,
     volume: &mut Volume<MemoryRecords>,
     batch: &Batch,
-    table: &Row,
+    example: &Row,
     k: u64,
 )
     requires { IsOpen ⟦<MemoryRecords as Records>⟧.view
@@ -205,7 +205,7 @@ fn is_answered(
     ensures { IsOpen ⟦<MemoryRecords as Records>⟧.view
         (seen volume.new) }
 {
-    let (_, _, answer, after, files, records) = *table;
+    let (_, _, answer, after, files, records) = *example;
     assert!(rt; files < 10 && records < 10 - files);
     row(rt, same(batch_now(rt, volume, batch), answer), "answer", k);
     let has_slots = answer.is_err() || holds(volume, after);
@@ -220,11 +220,11 @@ fn is_answered(
 }
 
 /// The batch of a row, and the tape as it is read anew.
-fn changes(rt: &impl Abort, alloc: Global, table: &Row, k: u64) -> Result<(), Fail> {
-    let batch = batch_of(rt, alloc, table.1)?;
-    let mut volume = volume_with(rt, alloc, HEADER, table.0)?;
-    is_answered(rt, &mut volume, &batch, table, k);
-    let after = table.3;
+fn changes(rt: &impl Abort, alloc: Global, example: &Row, k: u64) -> Result<(), Fail> {
+    let batch = batch_of(rt, alloc, example.1)?;
+    let mut volume = volume_with(rt, alloc, HEADER, example.0)?;
+    is_answered(rt, &mut volume, &batch, example, k);
+    let after = example.3;
     let front = if after.is_empty() { b"" } else { HEADER };
     row(rt, shows_again(rt, &mut volume, front, after), "tape", k);
     drop(volume);
@@ -233,8 +233,8 @@ fn changes(rt: &impl Abort, alloc: Global, table: &Row, k: u64) -> Result<(), Fa
 
 #[test]
 fn a_batch_is_answered_as_one(rt: HostRuntime) -> Result<(), Fail> {
-    for (k, table) in ROWS.iter().enumerate() {
-        changes(&rt, rt.alloc(), table, k as u64)?;
+    for (k, example) in ROWS.iter().enumerate() {
+        changes(&rt, rt.alloc(), example, k as u64)?;
     }
     Ok(())
 }
@@ -253,8 +253,8 @@ fn carried_out(
 }
 
 /// A stop within any write of the batch of a row leaves the old or the new volume.
-fn stops_in(rt: &impl Abort, alloc: Global, table: &Row) -> Result<(), Fail> {
-    let (slots, parts, _, after, files, records) = *table;
+fn stops_in(rt: &impl Abort, alloc: Global, example: &Row) -> Result<(), Fail> {
+    let (slots, parts, _, after, files, records) = *example;
     assert!(rt; files < 10 && records < 10 - files);
     let store = carried_out(rt, alloc, slots, parts)?;
     // The files come first, the contents, the targets, and then the gate.
@@ -265,17 +265,17 @@ fn stops_in(rt: &impl Abort, alloc: Global, table: &Row) -> Result<(), Fail> {
 
 #[test]
 fn a_stop_leaves_a_batch_whole_or_not_at_all(rt: HostRuntime) -> Result<(), Fail> {
-    for table in ROWS {
-        if 0 < table.5 {
-            stops_in(&rt, rt.alloc(), table)?;
+    for example in ROWS {
+        if 0 < example.5 {
+            stops_in(&rt, rt.alloc(), example)?;
         }
     }
     Ok(())
 }
 
 /// How many calls the batch of a row makes, each of which may fail.
-fn calls_of(rt: &impl Abort, table: &Row) -> u64 {
-    let (_, _, _, _, files, records) = *table;
+fn calls_of(rt: &impl Abort, example: &Row) -> u64 {
+    let (_, _, _, _, files, records) = *example;
     assert!(rt; files < 10 && records < 10 - files);
     // The gate, record 0 and the directory as far as its end are read first, and for the commit what is past it.
     match records {
@@ -285,22 +285,22 @@ fn calls_of(rt: &impl Abort, table: &Row) -> u64 {
 }
 
 /// The batch of a row of which this call fails leaves the old or the new volume.
-fn fails_in(rt: &impl Abort, alloc: Global, table: &Row, call: u64) -> Result<(), Fail> {
-    let batch = batch_of(rt, alloc, table.1)?;
-    let tape = tape_with(rt, alloc, HEADER, table.0)?;
+fn fails_in(rt: &impl Abort, alloc: Global, example: &Row, call: u64) -> Result<(), Fail> {
+    let batch = batch_of(rt, alloc, example.1)?;
+    let tape = tape_with(rt, alloc, HEADER, example.0)?;
     let mut volume = failing_on(rt, alloc, tape, call)?;
     let answer = batch_now(rt, &mut volume, &batch);
     row(rt, same(answer, TROUBLE), "call fails", call);
-    forgets(rt, &mut volume, (HEADER, table.0), (HEADER, table.3));
+    forgets(rt, &mut volume, (HEADER, example.0), (HEADER, example.3));
     drop(volume);
     Ok(())
 }
 
 #[test]
 fn a_trouble_leaves_a_batch_whole_or_not_at_all(rt: HostRuntime) -> Result<(), Fail> {
-    for table in ROWS {
-        for call in 1..=calls_of(&rt, table) {
-            fails_in(&rt, rt.alloc(), table, call)?;
+    for example in ROWS {
+        for call in 1..=calls_of(&rt, example) {
+            fails_in(&rt, rt.alloc(), example, call)?;
         }
     }
     Ok(())

@@ -97,8 +97,8 @@ const ROWS: &[Row] = &[
 ];
 
 /// The answer of a command, and the directory that it makes, as it is kept and as it is read again.
-fn changes(rt: &impl Abort, alloc: Global, table: &Row, k: u64) -> Result<(), Fail> {
-    let (slots, step, answer, after) = *table;
+fn changes(rt: &impl Abort, alloc: Global, example: &Row, k: u64) -> Result<(), Fail> {
+    let (slots, step, answer, after) = *example;
     let mut volume = volume_with(rt, alloc, HEADER, slots)?;
     row(
         rt,
@@ -120,8 +120,8 @@ fn changes(rt: &impl Abort, alloc: Global, table: &Row, k: u64) -> Result<(), Fa
 
 #[test]
 fn changes_the_directory(rt: HostRuntime) -> Result<(), Fail> {
-    for (k, table) in ROWS.iter().enumerate() {
-        changes(&rt, rt.alloc(), table, k as u64)?;
+    for (k, example) in ROWS.iter().enumerate() {
+        changes(&rt, rt.alloc(), example, k as u64)?;
     }
     Ok(())
 }

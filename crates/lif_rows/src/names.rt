@@ -41,8 +41,8 @@ const ROWS: &[Row] = &[
 ];
 
 /// What the bytes of a row are.
-fn is_told(rt: &impl Abort, table: &Row, k: u64) {
-    let (bytes, filled, new, label) = *table;
+fn is_told(rt: &impl Abort, example: &Row, k: u64) {
+    let (bytes, filled, new, label) = *example;
     let name = Name::of(bytes);
     row(rt, same(name.map(|name| name.bytes()), filled), "name", k);
     let has_new = name.and_then(|name| NewName::of(&name)).is_some();
@@ -52,8 +52,8 @@ fn is_told(rt: &impl Abort, table: &Row, k: u64) {
 
 #[test]
 fn names_and_labels(rt: HostRuntime) {
-    for (k, table) in ROWS.iter().enumerate() {
-        is_told(&rt, table, k as u64);
+    for (k, example) in ROWS.iter().enumerate() {
+        is_told(&rt, example, k as u64);
     }
 }
 

@@ -265,8 +265,8 @@ const PLACES: &[Place] = &[
 ];
 
 /// Chooses the place of a row.
-fn is_placed(rt: &(impl Abort + AllocGlobal), table: &Place) -> Result<(), Fail> {
-    let (name, size, directory, slots, count, spot) = *table;
+fn is_placed(rt: &(impl Abort + AllocGlobal), example: &Place) -> Result<(), Fail> {
+    let (name, size, directory, slots, count, spot) = *example;
     assert!(rt; slots.len() < 100);
     let plain = plain_answer(rt, slots, directory, count, size)?;
     named(rt, same(plain, spot), "the plain function", name);
@@ -277,8 +277,8 @@ fn is_placed(rt: &(impl Abort + AllocGlobal), table: &Place) -> Result<(), Fail>
 
 #[test]
 fn places_of_new_files(rt: HostRuntime) -> Result<(), Fail> {
-    for table in PLACES {
-        is_placed(&rt, table)?;
+    for example in PLACES {
+        is_placed(&rt, example)?;
     }
     Ok(())
 }

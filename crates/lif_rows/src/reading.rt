@@ -217,8 +217,8 @@ const SETTLED: &[Settled] = &[
 ];
 
 /// Lists the volume of a row.
-fn settles(rt: &impl Abort, alloc: Global, table: &Settled) -> Result<(), Fail> {
-    let (name, redo, gate, targets, content, slots, left) = *table;
+fn settles(rt: &impl Abort, alloc: Global, example: &Settled) -> Result<(), Fail> {
+    let (name, redo, gate, targets, content, slots, left) = *example;
     let tape = redo_tape(rt, alloc, redo, gate, targets, content)?;
     named(rt, lists(rt, alloc, tape, slots, left)?, "the answer", name);
     Ok(())
@@ -226,8 +226,8 @@ fn settles(rt: &impl Abort, alloc: Global, table: &Settled) -> Result<(), Fail> 
 
 #[test]
 fn settles_before_it_lists(rt: HostRuntime) -> Result<(), Fail> {
-    for table in SETTLED {
-        settles(&rt, rt.alloc(), table)?;
+    for example in SETTLED {
+        settles(&rt, rt.alloc(), example)?;
     }
     Ok(())
 }

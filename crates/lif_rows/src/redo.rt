@@ -127,8 +127,8 @@ fn settling_tape(
 }
 
 /// Settles the tape of a row.
-fn settles(rt: &impl Abort, alloc: Global, table: &Settled) -> Result<(), Fail> {
-    let (name, gate, targets, want) = *table;
+fn settles(rt: &impl Abort, alloc: Global, example: &Settled) -> Result<(), Fail> {
+    let (name, gate, targets, want) = *example;
     let tape = settling_tape(rt, alloc, gate, targets)?;
     let mut store = store(rt, alloc, tape, Vec::new(alloc))?;
     let answer = settle_now(rt, &mut store);
@@ -139,8 +139,8 @@ fn settles(rt: &impl Abort, alloc: Global, table: &Settled) -> Result<(), Fail> 
 
 #[test]
 fn settling(rt: HostRuntime) -> Result<(), Fail> {
-    for table in SETTLED {
-        settles(&rt, rt.alloc(), table)?;
+    for example in SETTLED {
+        settles(&rt, rt.alloc(), example)?;
     }
     Ok(())
 }
