@@ -55,8 +55,7 @@ class Tries:
         self.tried += 1
         if got != want:
             self.wrong += 1
-            print(f"{what}\n  is:     {got!r:.400}\n  wanted: {want!r:.400}")
-        return got == want
+            print(f"{what}\n  is:     {got!r:.3000}\n  wanted: {want!r:.3000}")
 
     def end(self, of_what):
         """Prints the counts, and ends the script with exit status 0 if and only if something was tried and nothing is wrong."""
