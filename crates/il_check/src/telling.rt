@@ -14,7 +14,7 @@ pub(crate) type Label = Option<[u8; 6]>;
 pub(crate) const ROOM: usize = 100;
 
 /// Writes all of the bytes, in as many pieces as the sink takes. After a fault a front of them was written.
-pub(crate) fn write_all<K: Sink>(out: &mut K, bytes: &[u8]) -> Result<(), Failed>
+pub fn write_all<K: Sink>(out: &mut K, bytes: &[u8]) -> Result<(), Failed>
     ensures bytes { PutsAll (K.written out.old) (K.written out.new) bytes.now result }
     ensures cause { HasCause (K.faults out.old) (K.faults out.new) result }
 {

@@ -1,9 +1,8 @@
-ghost use Rattle.std.specs.Prelude.{◌≡◌, map, string_bytes};
-ghost use Rattle.il_check.specs.Whole.{CheckLeaves};
-ghost use Rattle.il_ports.specs.FileDrives.{empty_drive};
+ghost use Rattle.std.specs.Prelude.{map, string_bytes};
+ghost use Rattle.il_command.specs.Performing.{ChecksWith, streams};
 
 use il_check::run_check;
-use il_ports::{FileMedium, Images, Medium, Sink, Source, StdSink, StdSource, TapeFile};
+use il_ports::{FileMedium, Images, Sink, Source, StdSink, StdSource, TapeFile, ToRead};
 use std::alloc::Global;
 use std::io::{Read, Write};
 
@@ -17,33 +16,11 @@ pub struct Checked<R: Read + Drop, W: Write + Drop, F: TapeFile + Drop, I: Image
     /// What was written.
     pub out: StdSink<W>,
     /// The drives with the images before the trace and after it.
-    pub before: FileMedium<F, I>,
-    pub after: FileMedium<F, I>,
+    pub before: FileMedium<F, I, ToRead>,
+    pub after: FileMedium<F, I, ToRead>,
 }
 
-impl<R: Read + Drop, W: Write + Drop, F: TapeFile + Drop, I: Images<F> + Drop> Checked<R, W, F, I> {
-    ghost use Rattle.std.specs.Prelude.{◌≡◌};
-
-    /// Closes the images, and says the exit status.
-    pub fn close(self) -> u8
-        ensures { result ≡ self.status }
-    {
-        let Checked {
-            status,
-            trace,
-            out,
-            before,
-            after,
-        } = self;
-        drop(trace);
-        drop(out);
-        drop(before);
-        drop(after);
-        status
-    }
-}
-
-/// A check over a reader and a writer of std, and over named images, which are opened to be read alone, as `run_check`
+/// A check over a reader and a writer of std, and over named images, which are opened only to read them, as `run_check`
 /// makes it.
 pub fn check_with<R: Read + Drop, W: Write + Drop, F: TapeFile + Drop, I: Images<F> + Drop>(
     alloc: Global,
@@ -52,16 +29,20 @@ pub fn check_with<R: Read + Drop, W: Write + Drop, F: TapeFile + Drop, I: Images
     writer: W,
     images: (I, I),
 ) -> Checked<R, W, F, I>
-    ensures { CheckLeaves result.status (map string_bytes words.now) (empty_drive (I.shelf images.0) 0) (⟦<FileMedium<F, I> as Medium>⟧.view result.before)
-        (empty_drive (I.shelf images.1) 0) (⟦<FileMedium<F, I> as Medium>⟧.view result.after)
-        (R.remaining reader) (⟦<StdSource<R> as Source>⟧.left result.trace) (W.contents writer) (⟦<StdSink<W> as Sink>⟧.written result.out)
-        0 (⟦<StdSource<R> as Source>⟧.faults result.trace) 0 (⟦<StdSink<W> as Sink>⟧.faults result.out) }
+    ensures { ChecksWith F.view I.view result.status (map string_bytes words.now) images.0 images.1
+        result.before result.after
+        (streams (R.remaining reader) (W.contents writer))
+        (streams (⟦<StdSource<R> as Source>⟧.left result.trace) (⟦<StdSink<W> as Sink>⟧.written result.out))
+        (⟦<StdSource<R> as Source>⟧.faults result.trace) (⟦<StdSink<W> as Sink>⟧.faults result.out) }
 {
     let mut trace = StdSource::new(reader);
     let mut out = StdSink::new(writer);
     let mut before = FileMedium::to_read(images.0);
     let mut after = FileMedium::to_read(images.1);
     let status = run_check(alloc, words, &mut trace, &mut out, &mut before, &mut after);
+    // What each tape is used for, its drive says itself.
+    before.file();
+    after.file();
     Checked {
         status,
         trace,

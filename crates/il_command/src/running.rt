@@ -2,13 +2,12 @@ ghost use Rattle.std.specs.Prelude.{◌≡◌, ◌≤◌, ◌+◌, [], length, m
 ghost use Rattle.std.specs.List.{All};
 ghost use Rattle.il_ring.specs.Guests.{IsIdleGuest, MayBeGuest, guest_devices};
 ghost use Rattle.il_ring.specs.Rings.{MayStand};
-ghost use Rattle.il_ports.specs.FileDrives.{empty_drive};
-ghost use Rattle.il_host.specs.Whole.{RunLeaves, outside};
+ghost use Rattle.il_command.specs.Performing.{RunsWith, devices, streams};
 
 use il_device::Device;
 use il_guest::Guest;
 use il_host::{Ended, Rig, run_il};
-use il_ports::{FileMedium, Images, Medium, Sink, Source, StdSink, StdSource, TapeFile};
+use il_ports::{FileMedium, Images, Sink, Source, StdSink, StdSource, TapeFile, ToChange};
 use std::alloc::Global;
 use std::io::{Read, Write};
 
@@ -21,33 +20,8 @@ pub struct Finished<R: Read + Drop, W: Write + Drop, F: TapeFile + Drop, I: Imag
     pub script: StdSource<R>,
     /// What was written.
     pub out: StdSink<W>,
-    /// The drive with the image, and the devices after it.
-    pub rig: Rig<FileMedium<F, I>>,
-}
-
-impl<R: Read + Drop, W: Write + Drop, F: TapeFile + Drop, I: Images<F> + Drop> Finished<
-    R,
-    W,
-    F,
-    I,
-> {
-    ghost use Rattle.std.specs.Prelude.{◌≡◌};
-
-    /// Closes the image, and says the exit status.
-    pub fn close(self) -> u8
-        ensures { result ≡ self.status }
-    {
-        let Finished {
-            status,
-            script,
-            out,
-            rig,
-        } = self;
-        drop(script);
-        drop(out);
-        drop(rig);
-        status
-    }
+    /// The drive, which opens images to change them, and the devices after it.
+    pub rig: Rig<FileMedium<F, I, ToChange>>,
 }
 
 /// A run over a reader and a writer of std, over named images, and over the devices after the drive and a second
@@ -64,11 +38,12 @@ pub fn run_with<R: Read + Drop, W: Write + Drop, F: TapeFile + Drop, I: Images<F
     requires few { length after.items + length (guest_devices guest) ≤ 29 }
     requires stand { All (λ b. MayStand (⟦<Box<dyn Device> as Device>⟧.state b)) after.items }
     requires guest { IsIdleGuest guest × MayBeGuest guest }
-    ensures { RunLeaves result.status (map string_bytes words.now) (empty_drive (I.shelf images) 0) (⟦<FileMedium<F, I> as Medium>⟧.view result.rig.medium)
-        (outside (empty_drive (I.shelf images) 0) (R.remaining reader) (W.contents writer) [] (map ⟦<Box<dyn Device> as Device>⟧.state after.items) guest)
-        (outside (⟦<FileMedium<F, I> as Medium>⟧.view result.rig.medium) (⟦<StdSource<R> as Source>⟧.left result.script) (⟦<StdSink<W> as Sink>⟧.written result.out) (map ⟦<Box<dyn Device> as Device>⟧.state result.rig.before.items) (map ⟦<Box<dyn Device> as Device>⟧.state result.rig.after.items) result.rig.guest)
-        0 (⟦<StdSource<R> as Source>⟧.faults result.script) 0 (⟦<StdSink<W> as Sink>⟧.faults result.out)
-        ((⟦<StdSource<R> as Source>⟧.left result.script ≡ R.remaining reader) × (⟦<StdSink<W> as Sink>⟧.written result.out ≡ W.contents writer)) }
+    ensures { RunsWith F.view I.view result.status (map string_bytes words.now) images result.rig.medium
+        (streams (R.remaining reader) (W.contents writer))
+        (streams (⟦<StdSource<R> as Source>⟧.left result.script) (⟦<StdSink<W> as Sink>⟧.written result.out))
+        (devices ⟦<Box<dyn Device> as Device>⟧.state [] after.items guest)
+        (devices ⟦<Box<dyn Device> as Device>⟧.state result.rig.before.items result.rig.after.items result.rig.guest)
+        (⟦<StdSource<R> as Source>⟧.faults result.script) (⟦<StdSink<W> as Sink>⟧.faults result.out) }
 {
     let mut script = StdSource::new(reader);
     let mut out = StdSink::new(writer);
@@ -79,6 +54,8 @@ pub fn run_with<R: Read + Drop, W: Write + Drop, F: TapeFile + Drop, I: Images<F
         guest,
     };
     let Ended { status, rig } = run_il(alloc, words, &mut script, &mut out, rig);
+    // What the tape is used for, the drive says itself.
+    rig.medium.file();
     Finished {
         status,
         script,

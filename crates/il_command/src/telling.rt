@@ -1,17 +1,57 @@
-ghost use Rattle.std.specs.Prelude.{OnOk};
+ghost use Rattle.lif_model.specs.Causes.{HasCause};
+ghost use Rattle.std.specs.Prelude.{◌≡◌, OnOk};
 ghost use Rattle.std.specs.Io.KnownBytes.{Appends};
+ghost use Rattle.std.specs.IoError.{error_kind};
+ghost use Rattle.std.specs.Process.{exit_status};
 ghost use Rattle.il_command.specs.Messages.{line_of};
+ghost use Rattle.il_command.specs.Performing.{IsUnreadStatus};
+ghost use Rattle.il_command.specs.declared.messages.Way.TheVariants.{Script};
 
 use crate::messages::{Way, message};
-use std::io::{self, Write};
+use il_check::write_all;
+use il_ports::{Failed, Sink};
+use std::io::{self, ErrorKind};
+use std::process::ExitCode;
 
-/// Tells what there is to tell of an exit status, as a line.
-pub fn told<W: Write>(to: &mut W, way: Way, status: u8) -> io::Result<()>
-    ensures { OnOk result (Appends (W.contents to.old) (W.contents to.new) (line_of way status)) }
+const BAD_WORDS: u8 = 2;
+
+const OUT_OF_MEMORY: u8 = 7;
+
+/// The exit status if the arguments were not read. One that is not UTF-8 is no argument of the program.
+pub fn unread_status(error: &io::Error) -> u8
+    ensures { IsUnreadStatus (error_kind error.now) result }
+{
+    match error.kind() {
+        ErrorKind::OutOfMemory => OUT_OF_MEMORY,
+        _ => BAD_WORDS,
+    }
+}
+
+/// Writes what there is to tell of an exit status, as a line.
+pub fn told<K: Sink>(to: &mut K, way: Way, status: u8) -> Result<(), Failed>
+    ensures line { OnOk result (Appends (K.written to.old) (K.written to.new) (line_of way status)) }
+    ensures cause { HasCause (K.faults to.old) (K.faults to.new) result }
 {
     let Some(text) = message(way, status) else {
         return Ok(());
     };
-    to.write_all(text.as_bytes())?;
-    to.write_all(b"\n")
+    write_all(to, text.as_bytes())?;
+    write_all(to, b"\n")
+}
+
+/// How the process ends with that exit status.
+pub fn exit(status: u8) -> ExitCode
+    ensures { exit_status result ≡ status }
+{
+    ExitCode::from(status)
+}
+
+/// Tells that there is no memory to begin with. The first value is how the process ends, and the second is whether the
+/// line was written.
+pub fn no_memory<K: Sink>(to: &mut K) -> (ExitCode, Result<(), Failed>)
+    ensures status { exit_status result.0 ≡ 7 }
+    ensures line { OnOk result.1 (Appends (K.written to.old) (K.written to.new) (line_of Script 7)) }
+    ensures cause { HasCause (K.faults to.old) (K.faults to.new) result.1 }
+{
+    (exit(OUT_OF_MEMORY), told(to, Way::Script, OUT_OF_MEMORY))
 }

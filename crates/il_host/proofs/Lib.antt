@@ -53,6 +53,7 @@ pub mod LoopPerforms
 pub mod PaperPerforms
 pub mod PlainCommands
 pub mod NewRings
+pub mod EarlyEndings
 pub mod Wholes
 pub mod HostChanges
 pub mod HostReads

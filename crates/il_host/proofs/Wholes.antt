@@ -29,7 +29,7 @@ use Rattle.host_model.proofs.Runs.{run_tells}
 use Rattle.il_host.specs.HostView.{HostView, IsHost, KeepsImages}
 use Rattle.il_host.specs.Hosts.{IsOpened, IsClosed}
 use Rattle.il_host.specs.Run.{AnswersScript, end_of}
-use Rattle.il_host.specs.Whole.{AnswersOver, MayHaveLeft, outside, outside_of, tape_in}
+use Rattle.il_host.specs.Whole.{AnswersOver, FailsBy, MayHaveLeft, outside, outside_of, tape_in}
 use Rattle.il_host.specs.declared.ending.Ending.{Ending}
 use Rattle.il_host.specs.declared.ending.Ending.TheVariants as ending
 use Rattle.il_host.proofs.Images.{images_kept}
@@ -134,6 +134,19 @@ answers_over_rig {M} {S} {K} {I} {D} view left written state order script script
     (option_or aside closed.guest) v w e (left script) (left script_now) (written out) (written out_now) plan planned
     (subst (λ guest. IsOpened view rig.medium (map state rig.before.items) (map state rig.after.items) guest plan v) took opens) host size a closes count
     (ap (λ g. option_or g closed.guest) kept))
+
+-- a tape is in, and so the insert did not fail
+pub not_failed : (e : Ending) (order : Option Order) (refused : List ℕ → Option ℕ → Type 0) → (HasNoTape (end_of e) → ⊥) → FailsBy (end_of e) order refused
+not_failed ending.InsertFailed order refused inside = absurd (inside tt)
+not_failed ending.AllOk order refused inside = tt
+not_failed ending.SomeNotOk order refused inside = tt
+not_failed ending.BadWords order refused inside = tt
+not_failed ending.NoImage order refused inside = tt
+not_failed ending.ImageTooLarge order refused inside = tt
+not_failed ending.SourceFailed order refused inside = tt
+not_failed ending.SinkFailed order refused inside = tt
+not_failed ending.OutOfMemory order refused inside = tt
+not_failed ending.ScriptTooLong order refused inside = tt
 
 -- ---- the image that was inserted
 

@@ -3,6 +3,7 @@ pub mod Standings
 pub mod Shorts
 pub mod Hosts
 pub mod Preparing
+pub mod EarlyEndings
 pub mod Run
 pub mod Writing
 pub mod Texts

@@ -1,5 +1,5 @@
 -- What a whole run leaves, by how it ends.
-use Rattle.std.specs.Prelude.{◌≡◌, ◌≤◌, ◌+◌, ◌++◌, ◌==◌, ℕ, true, List, length, map, Option, None, if◌then◌else◌, is_some}
+use Rattle.std.specs.Prelude.{◌≡◌, ◌≤◌, ◌+◌, ◌++◌, ◌==◌, ℕ, true, List, length, map, Option, Some, None, if◌then◌else◌, is_some}
 use Rattle.std.specs.List.{All}
 use Rattle.std.specs.declared.dyn_box.DynBox.{DynBox}
 use Rattle.std.specs.Global.{Global}
@@ -15,7 +15,7 @@ use Rattle.il_ring.specs.Rings.{MayStand}
 use Rattle.host_model.specs.HostStates.{HostState, fresh_host}
 use Rattle.host_model.specs.Stops.{LeftWithin}
 use Rattle.host_model.specs.Histories.{RunTells}
-use Rattle.host_model.specs.Endings.{RunEnd, HasNoTape, HasEndingCause, IsEarly, exit_status}
+use Rattle.host_model.specs.Endings.{RunEnd, InsertFailed, HasNoTape, HasEndingCause, IsEarly, exit_status}
 use Rattle.host_model.specs.Orders.{Order, Outside, HandsBack, asks_last, mode_of, taking_part}
 use Rattle.host_model.specs.Leaves.{RunSoFar, LeavesBy}
 use Rattle.il_host.specs.HostView.{KeepsImages}
@@ -74,12 +74,20 @@ pub record AnswersOver (order : Order) (end : RunEnd) (v w : MediumView) (old no
 
 -- ---- the whole run
 
+-- why the image could not be put into the drive, where it could not
+abbrev pub FailsBy : RunEnd → Option Order → (List ℕ → Option ℕ → Type 0) → Type 0
+FailsBy InsertFailed (Some order) refused = refused order.image order.made
+FailsBy InsertFailed None refused = ⊥
+FailsBy end order refused = Unit {0}
+
 -- A run by these words, over the medium v and what is outside, has this status: by one ending, of which all else is told. Where no
 -- item was answered, source and sink are `untouched`.
-pub record RunLeaves (status : ℕ) (words : List (List ℕ)) (v w : MediumView) (old now : Outside) (source_before source_now sink_before sink_now : ℕ) (untouched : Type 0) : Type 0 where
+pub record RunLeaves (status : ℕ) (words : List (List ℕ)) (v w : MediumView) (old now : Outside) (source_before source_now sink_before sink_now : ℕ)
+    (refused : List ℕ → Option ℕ → Type 0) (untouched : Type 0) : Type 0 where
   pub end : RunEnd
   pub status_is : status ≡ exit_status end
   pub cause : HasEndingCause end source_before source_now sink_before sink_now v.faults w.faults
   pub leaves : LeavesBy end (order_in words) old now (MayHaveLeft v w)
+  pub failed : FailsBy end (order_in words) refused
   pub empty : HasNoTape end → w.record_count ≡ 0
   pub early : IsEarly end → untouched

@@ -6,8 +6,9 @@ ghost use Rattle.il_ring.specs.Rings.{MayStand};
 ghost use Rattle.host_model.specs.Endings.{HasEndingCause, HasNoTape, IsEarly};
 ghost use Rattle.host_model.specs.Leaves.{LeavesBy};
 ghost use Rattle.host_model.specs.Orders.{taking_part};
+ghost use Rattle.il_host.specs.EarlyEndings.{uninserted_ending, unread_ending};
 ghost use Rattle.il_host.specs.Run.{end_of};
-ghost use Rattle.il_host.specs.Whole.{AnswersOver, MayHaveLeft, MayStandBeside, RunLeaves, outside_of};
+ghost use Rattle.il_host.specs.Whole.{AnswersOver, FailsBy, MayHaveLeft, MayStandBeside, RunLeaves, outside_of};
 ghost use Rattle.il_host.specs.Words.{order_in, order_of};
 ghost use Rattle.il_words.specs.Asked.{asked_by};
 ghost use Rattle.il_ring.specs.Plans.{IsPlan};
@@ -18,7 +19,7 @@ use crate::host::Host;
 use crate::scripts::{Buffers, answer_script};
 use il_device::Device;
 use il_guest::Guest;
-use il_ports::{Inserted, Medium, Sink, Source};
+use il_ports::{Failed, Inserted, Medium, Sink, Source};
 use il_ring::Rig;
 use il_words::{Words, WordsFault, read_words};
 use std::alloc::Global;
@@ -50,6 +51,28 @@ fn put_back<M: Medium + Drop>(rig: Rig<M>, aside: Option<Guest>) -> Rig<M>
             ..rig
         },
         None => rig,
+    }
+}
+
+/// How a run ends if its arguments were not read.
+fn ending_by(fault: WordsFault) -> Ending
+    ensures { result ≡ unread_ending fault }
+{
+    match fault {
+        WordsFault::Refused => Ending::BadWords,
+        WordsFault::OutOfMemory => Ending::OutOfMemory,
+    }
+}
+
+/// How a run ends if the image was not inserted, or `None` if it was.
+fn ending_of(answer: &Result<Inserted, Failed>) -> Option<Ending>
+    ensures { result ≡ uninserted_ending answer.now }
+{
+    match answer {
+        Ok(Inserted::Tape) => None,
+        Ok(Inserted::NoSuch) => Some(Ending::NoImage),
+        Ok(Inserted::BadSize(_)) => Some(Ending::ImageTooLarge),
+        Err(_) => Some(Ending::InsertFailed),
     }
 }
 
@@ -114,19 +137,18 @@ fn run<S: Source, K: Sink, M: Medium + Drop>(
         (MayHaveLeft (M.view rig.medium) (M.view result.1.medium)) }
     ensures cause { HasEndingCause (end_of result.0) (S.faults script.old) (S.faults script.new)
         (K.faults out.old) (K.faults out.new) (M.view rig.medium).faults (M.view result.1.medium).faults }
+    ensures failed { FailsBy (end_of result.0) (order_in (map string_bytes words.now)) (M.refuses rig.medium result.1.medium) }
     ensures empty { HasNoTape (end_of result.0) → (M.view result.1.medium).record_count ≡ 0 }
     ensures untouched { IsEarly (end_of result.0) → (script.new ≡ script.old) × (out.new ≡ out.old) }
 {
     let words = match read_words(alloc, words) {
         Ok(words) => words,
-        Err(WordsFault::Refused) => return (Ending::BadWords, rig),
-        Err(WordsFault::OutOfMemory) => return (Ending::OutOfMemory, rig),
+        Err(fault) => return (ending_by(fault), rig),
     };
-    match rig.medium.insert(words.image, words.made) {
-        Ok(Inserted::Tape) => run_script(alloc, &words, script, out, rig),
-        Ok(Inserted::NoSuch) => (Ending::NoImage, rig),
-        Ok(Inserted::BadSize(_)) => (Ending::ImageTooLarge, rig),
-        Err(_) => (Ending::InsertFailed, rig),
+    let answer = rig.medium.insert(words.image, words.made);
+    match ending_of(&answer) {
+        None => run_script(alloc, &words, script, out, rig),
+        Some(ending) => (ending, rig),
     }
 }
 
@@ -145,7 +167,7 @@ pub fn run_il<S: Source, K: Sink, M: Medium + Drop>(
     ensures leaves { RunLeaves result.status (map string_bytes words.now) (M.view rig.medium) (M.view result.rig.medium)
         (outside_of M.view S.left K.written ⟦<Box<dyn Device> as Device>⟧.state script.old out.old rig)
         (outside_of M.view S.left K.written ⟦<Box<dyn Device> as Device>⟧.state script.new out.new result.rig)
-        (S.faults script.old) (S.faults script.new) (K.faults out.old) (K.faults out.new)
+        (S.faults script.old) (S.faults script.new) (K.faults out.old) (K.faults out.new) (M.refuses rig.medium result.rig.medium)
         ((script.new ≡ script.old) × (out.new ≡ out.old)) }
 {
     let (ending, rig) = run(alloc, words, script, out, rig);

@@ -3,20 +3,31 @@ use Rattle.std.proofs.Common.{◌≡◌, ◌≤◌, ◌+◌, ℕ, List, length, 
 use Rattle.std.specs.Prelude.{Some, Result, Ok, Err, IsErr}
 use Rattle.std.proofs.lemmas.List.{length-drop, take_all}
 use Rattle.lif_model.specs.Causes.{HasCause, Rose, next_count}
-use Rattle.il_ports.specs.Files.{FileView, IsOutside, Overlaid, Mixed, TornAt, FileAnswers, TimePasses, Rests, TookBytes, Synced, IsClean, IsSettledFile}
+use Rattle.il_ports.specs.Files.{FileView, IsOutside, Overlaid, Mixed, TornAt, FileAnswers, StaysItself, TimePasses, Rests, TookBytes, Synced, IsClean, IsSettledFile}
 use Rattle.il_ports.specs.Storing.{Writing, Put, StoredBytes}
 use Rattle.il_ports.specs.declared.file_tape.StoreFault.TheVariants as fault
 use Rattle.il_ports.proofs.FileBytes.{laid_more, mixed_more, laid_is_mixed}
 
 -- ---- answers
 
+pub itself_first : (v : FileView) → StaysItself v v
+itself_first v = record { opened = λ access was. was; made = λ was. was; apart = λ was. was }
+
+pub itself_on : (v u w : FileView) → StaysItself v u → StaysItself u w → StaysItself v w
+itself_on v u w first next = record {
+  opened = λ access was. next.opened access (first.opened access was);
+  made = λ was. next.made (first.made was);
+  apart = λ was. next.apart (first.apart was);
+}
+
 -- nothing was asked of it yet
 pub answers_first : (v : FileView) → FileAnswers {T = Unit {0}} {E = Unit {0}} v v (Ok tt)
-answers_first v = record { named = refl; told = refl; held = λ access held. held; cause = refl }
+answers_first v = record { itself = itself_first v; named = refl; told = refl; held = λ access held. held; cause = refl }
 
 -- after calls that went well
 pub answers_on : {S T D E : Type 0} (x : S) (v u w : FileView) (answer : Result T E) → FileAnswers {T = S} {E = D} v u (Ok x) → FileAnswers u w answer → FileAnswers v w answer
 answers_on x v u w answer first next = record {
+  itself = itself_on v u w first.itself next.itself;
   named = next.named ∙ first.named;
   told = next.told ∙ first.told;
   held = λ access held. next.held access (first.held access held);
@@ -29,10 +40,10 @@ answers_on x v u w answer first next = record {
 
 -- the same answer in other words
 pub answers_as : {S T D E : Type 0} (x : S) (y : T) (v w : FileView) → FileAnswers {T = S} {E = D} v w (Ok x) → FileAnswers {T = T} {E = E} v w (Ok y)
-answers_as x y v w answers = record { named = answers.named; told = answers.told; held = answers.held; cause = answers.cause }
+answers_as x y v w answers = record { itself = answers.itself; named = answers.named; told = answers.told; held = answers.held; cause = answers.cause }
 
 pub failed_as : {S T D E : Type 0} (x : D) (y : E) (v w : FileView) → FileAnswers {T = S} {E = D} v w (Err x) → FileAnswers {T = T} {E = E} v w (Err y)
-failed_as x y v w answers = record { named = answers.named; told = answers.told; held = answers.held; cause = answers.cause }
+failed_as x y v w answers = record { itself = answers.itself; named = answers.named; told = answers.told; held = answers.held; cause = answers.cause }
 
 -- ---- calls that change nothing
 
@@ -107,7 +118,7 @@ module _ (from : ℕ) (bytes : List ℕ) where
     };
   }
 
-  -- what was laid in is within the places of all bytes
+  -- what was written is within the places of all bytes
   beside : (a : ℕ) (v u : FileView) → a ≤ length bytes → Writing from a bytes v u → StaysBeside from (length bytes) v u
   beside a v u fits so_far s is =
       let t = so_far.seen s is in
@@ -198,6 +209,7 @@ module _ (from : ℕ) (bytes : List ℕ) where
       → StoredBytes {T = X} from bytes v w (Err fault.Failed)
   stored_not v u w x y did synced = record {
     answers = record {
+      itself = itself_on v u w did.answers.itself synced.answers.itself;
       named = synced.answers.named ∙ did.answers.named;
       told = synced.answers.told ∙ did.answers.told;
       held = λ access held. synced.answers.held access (did.answers.held access held);
@@ -216,6 +228,7 @@ module _ (from : ℕ) (bytes : List ℕ) where
       → StoredBytes {T = X} from bytes v w (Err fault.Unsynced)
   unsynced v u w wrote y did synced = record {
     answers = record {
+      itself = itself_on v u w did.answers.itself synced.answers.itself;
       named = synced.answers.named ∙ did.answers.named;
       told = synced.answers.told ∙ did.answers.told;
       held = λ access held. synced.answers.held access (did.answers.held access held);

@@ -10,7 +10,7 @@ use Rattle.il_ports.specs.Inserting.{records_made, TakesImage}
 use Rattle.il_ports.specs.Media.{DidInsert}
 use Rattle.il_ports.specs.declared.medium.Inserted.TheVariants as inserting
 use Rattle.il_ports.specs.declared.medium.New.{New}
-use Rattle.il_ports.specs.Files.{FileView, Rests, Claimed, Measured, Unchanged, IsSettledFile, byte_at}
+use Rattle.il_ports.specs.Files.{FileView, Rests, Claimed, Measured, SetApart, IsSettledFile, byte_at}
 use Rattle.il_ports.specs.NamedImages.{Bears}
 use Rattle.il_ports.specs.FileDrives.{drive_view, IsContent, IsFoundFile, IsNewTape}
 use Rattle.il_ports.specs.FindingFiles.{IsTaken, WasMade}
@@ -36,14 +36,15 @@ module _ (v claimed apart measured : FileView) where
   long : {E : Type 0} (count : ℕ) → Rests v claimed → Rests claimed apart → Measured {E = E} apart measured (Ok count) → (s : List ℕ) → v.seen ≡ Some s → length s ≡ count
   long count a b c s is = c.answer_is s (b.seen ∙ a.seen ∙ is)
 
-  -- it is read alone
-  pub read_alone : {U D E : Type 0} (count : ℕ) (x : U) → Claimed access.Read v claimed true → Unchanged {T = U} {E = D} claimed apart (Ok x) → Measured {E = E} apart measured (Ok count)
+  -- it is only read
+  pub read_alone : {U D E : Type 0} (count : ℕ) (x : U) → Claimed access.Read v claimed true → SetApart {T = U} {E = D} claimed apart (Ok x) → Measured {E = E} apart measured (Ok count)
       → IsSettledFile v → IsTaken access.Read v measured count
   read_alone count x a b c settled =
       let rests = untouched a.rests b.rests c.rests in (
         record {
           settled = still_settled v measured rests settled;
           held = c.answers.held access.Read (b.answers.held access.Read (a.held refl));
+          apart = c.answers.itself.apart b.apart;
           named = c.answers.named ∙ b.answers.named ∙ a.named;
           told = ap (λ (o : Option (List ℕ)). is_some o) (rests.kept ∙ sym settled.clean.synced);
         },
@@ -53,7 +54,7 @@ module _ (v claimed apart measured : FileView) where
 
 -- ---- a file that was made
 
--- so many zeros read as a blank medium
+-- the zeros of a whole medium read as a blank one
 blank_of : (n : ℕ) (b : List ℕ) → length b ≡ image_bytes n → ((i : ℕ) → i < image_bytes n → byte_at b i ≡ 0) → cut n b ≡ blank n
 unfolding blank
 blank_of n b size zeros =
@@ -86,7 +87,7 @@ there_is name s made n b size is long so_many fits =
     ∙ ap (λ (t : Bool). if t then Some (tape_of b) else None) (le-leb (length b) largest_image (omega (arith, long, fits)))
     ∙ ap (λ (m : ℕ). Some (cut m b)) (ap records_for long ∙ sym so_many)
 
--- ---- a file that comes in
+-- ---- a file that is inserted
 
 module _ {F : Type 0} (view : F → FileView) (name : List ℕ) (new : New) (images : Option Shelf) where
   -- one that was there
@@ -96,6 +97,7 @@ module _ {F : Type 0} (view : F → FileView) (name : List ℕ) (new : New) (ima
     record {
       settled = claims.0.settled;
       held = claims.0.held;
+      apart = claims.0.apart;
       named = λ s is. claims.0.named ∙ bears.named s is;
       told = claims.0.told ∙ bears.told;
     },
@@ -178,7 +180,7 @@ module _ {F : Type 0} (view : F → FileView) (name : List ℕ) (new : New) (ima
       let b = is.1 s told in
       inr (ap (tape_of_file n) b.1 ∙ ap (λ (x : List ℕ). Some (cut n x)) (sym (is.0.settled.since b.0 b.1 m left.0 left.1)) ∙ ap Some (sym left.2))
 
-  -- the tape that comes in
+  -- the tape that is inserted
   pub did_insert : (tape : Option (TapeState F)) → (drive_view view images tape faults).record_count ≡ 0 → IsFoundFile view name new images (found.Tape file size access)
       → DidInsert name new (drive_view view images tape faults) (tape_view view images (record { file = file; size = size; access = access; is_broken = false; faults = faults })) (Ok inserting.Tape)
   did_insert (Some tape) none is = no_size tape.size none

@@ -5,6 +5,7 @@ pub mod FileBytes
 pub mod FileCalls
 pub mod FileTapes
 pub mod FoundFiles
+pub mod InsertFaults
 pub mod Examples
 pub mod Transfers
 pub mod Stores

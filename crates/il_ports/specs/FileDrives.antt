@@ -1,5 +1,5 @@
 -- A drive whose images are files.
-use Rattle.std.specs.Prelude.{◌≡◌, ◌<◌, ℕ, List, length, false, Option, Some, None, Result, Ok, is_some}
+use Rattle.std.specs.Prelude.{◌≡◌, ◌⊎◌, ◌<◌, ℕ, List, length, false, Option, Some, None, Result, Ok, Err, is_some}
 use Rattle.std.specs.Option.{option_map}
 use Rattle.lif_model.specs.Shelf.{Shelf, image_of, inserted, cut, image_bytes, largest_image}
 use Rattle.il_ports.specs.Media.{MediumView}
@@ -14,18 +14,20 @@ use Rattle.il_ports.specs.Sizes.{records_of_size}
 use Rattle.il_ports.specs.declared.file_medium.Found.{Found}
 use Rattle.il_ports.specs.declared.file_medium.Found.TheVariants as found
 use Rattle.il_ports.specs.declared.tape_file.Access.{Access}
+use Rattle.il_ports.specs.declared.tape_file.Access.TheVariants.{Read}
+use Rattle.il_ports.specs.declared.images.Look.TheVariants as look
+use Rattle.il_ports.specs.declared.images.Naming.{Naming}
+use Rattle.il_ports.specs.NamedImages.{ImagesView}
 
-pub record FileDrive (F : Type 0) : Type 0 where
-  -- the images as they were when the drive was empty, where they are told
-  pub images : Option Shelf
-  -- what images are opened for at most
-  pub access : Access
-  -- the tape that is in
+pub record FileDrive (F I : Type 0) : Type 0 where
+  -- the images, each as it was while the drive was empty
+  pub images : I
+  -- the tape that is inserted
   pub tape : Option (TapeState F)
-  -- how many calls failed while none was in
+  -- how many calls failed while no tape was inserted
   pub faults : ℕ
 
--- Where no tape is in, a stop leaves none, if the images are told.
+-- an empty drive: if contracts see the images, a stop leaves no tape
 abbrev pub empty_drive : Option Shelf → ℕ → MediumView
 empty_drive images faults = record {
   shelf = images;
@@ -41,22 +43,24 @@ abbrev pub drive_view : {F : Type 0} → (F → FileView) → Option Shelf → O
 drive_view view images None faults = empty_drive images faults
 drive_view view images (Some tape) faults = tape_view view images tape
 
-abbrev pub drive_of : {F : Type 0} → (F → FileView) → FileDrive F → MediumView
-drive_of view drive = drive_view view drive.images drive.tape drive.faults
+abbrev pub drive_of : {F I : Type 0} → (F → FileView) → (I → ImagesView) → FileDrive F I → MediumView
+drive_of view seen drive = drive_view view (seen drive.images).shelf drive.tape drive.faults
 
--- a file that can be put in: it has its name and its lock, a stop leaves what it reads as, and it is told with the images
+-- A file that can be inserted: it has its name and its lock, its number is above those of the standard streams, and a
+-- stop leaves what it reads as. Contracts see its bytes if and only if they see the images.
 pub record IsFit (name : List ℕ) (images : Option Shelf) (access : Access) (v : FileView) : Type 0 where
   pub settled : IsSettledFile v
   pub held : v.held access
+  pub apart : v.apart
   pub named : (s : Shelf) → images ≡ Some s → v.named ≡ Some name
   pub told : is_some v.kept ≡ is_some images
 
--- The bytes of the file: those of the image that was there, and else those of a whole medium.
+-- The bytes of the file: those of the image if it was there, and otherwise those of a whole medium.
 pub record IsContent (name : List ℕ) (s : Shelf) (n : ℕ) (b : List ℕ) : Type 0 where
   pub there : (c : List ℕ) → image_of name s ≡ Some c → b ≡ c
   pub made : image_of name s ≡ None → length b ≡ image_bytes n
 
--- what is found by a name
+-- what a find by that name answers
 abbrev pub IsFoundFile : {F : Type 0} → (F → FileView) → List ℕ → New → Option Shelf → Found F → Type 0
 IsFoundFile view name new images (found.Tape file size access) =
     IsFit name images access (view file)
@@ -65,24 +69,55 @@ IsFoundFile view name new images found.NoSuch = (new ≡ making.No) × ((s : She
 IsFoundFile view name new images (found.BadSize size) =
     (largest_image < size) × ((s : Shelf) → images ≡ Some s → (b : List ℕ) × (image_of name s ≡ Some b) × (length b ≡ size))
 
--- the file of the tape that is in
+-- What an image is used for: for the drive's access; or it is only read, if it may not be changed.
+abbrev pub UsesAs : Access → Type 0 → Access → Type 0
+UsesAs drive denied used = (used ≡ drive) ⊎ ((used ≡ Read) × denied)
+
+-- A look found the image; or a look found nothing, the image was made, and it is known whether the disk has its name.
+abbrev pub FoundOrMade : List ℕ → ImagesView → Type 0
+FoundOrMade name w = w.was_found name look.File ⊎ (w.was_found name look.Missing × (how : Naming) × w.settled name how)
+
+-- what a found file is used for, and whether it was there or was made
+abbrev pub FoundFor : {F : Type 0} → List ℕ → Access → ImagesView → Found F → Type 0
+FoundFor name drive w (found.Tape file size used) = UsesAs drive (w.denied name) used × FoundOrMade name w
+FoundFor name drive w found.NoSuch = w.was_found name look.Missing
+FoundFor name drive w (found.BadSize size) = w.was_found name look.File
+
+-- the file of the tape that is inserted
 abbrev pub file_in : {F : Type 0} → Option (TapeState F) → Option F
 file_in tape = option_map (λ t. t.file) tape
 
--- ---- what no medium promises, and a drive of files does
+-- What the inserted tape is used for, at any time: for the drive's access; or it is only read, and the images refused
+-- to open an image to change it.
+abbrev pub IsUsedFor : {F : Type 0} → Access → ImagesView → Option (TapeState F) → Type 0
+IsUsedFor drive w (Some tape) = UsesAs drive ((name : List ℕ) × w.denied name) tape.access
+IsUsedFor drive w None = Unit {0}
 
--- A tape that was put in: its file may be asked, and nothing of its bytes was changed.
+-- ---- what a drive of files promises beyond a medium
+
+-- A tape that was just inserted: its file may be asked, and none of its bytes was changed.
 abbrev pub IsNewTape : {F : Type 0} → (F → FileView) → List ℕ → Option Shelf → Option (TapeState F) → Type 0
 IsNewTape view name images (Some tape) =
     (tape.is_broken ≡ false)
     × ((s : Shelf) → images ≡ Some s → (b : List ℕ) × ((view tape.file).kept ≡ Some b) × IsContent name s (records_of_size tape.size) b)
 IsNewTape view name images None = ⊥
 
-abbrev pub PutsIn : {F E : Type 0} → (F → FileView) → List ℕ → FileDrive F → FileDrive F → Result Inserted E → Type 0
-PutsIn view name old new (Ok inserting.Tape) = IsNewTape view name old.images new.tape
-PutsIn view name old new _ = new.tape ≡ old.tape
+abbrev pub PutsIn : {F I E : Type 0} → (F → FileView) → (I → ImagesView) → List ℕ → FileDrive F I → FileDrive F I → Result Inserted E → Type 0
+PutsIn view seen name old new (Ok inserting.Tape) = IsNewTape view name (seen old.images).shelf new.tape
+PutsIn view seen name old new _ = new.tape ≡ old.tape
 
--- the tape that was in is in, and this holds of it before and after
+-- what the inserted tape is used for, and whether its image was there or was made
+abbrev pub IsTapeFor : {F : Type 0} → List ℕ → Access → ImagesView → Option (TapeState F) → Type 0
+IsTapeFor name drive w (Some tape) = UsesAs drive (w.denied name) tape.access × FoundOrMade name w
+IsTapeFor name drive w None = ⊥
+
+abbrev pub PutsInFor : {F E : Type 0} → List ℕ → Access → ImagesView → Option (TapeState F) → Result Inserted E → Type 0
+PutsInFor name drive w tape (Ok inserting.Tape) = IsTapeFor name drive w tape
+PutsInFor name drive w tape (Ok inserting.NoSuch) = w.was_found name look.Missing
+PutsInFor name drive w tape (Ok (inserting.BadSize size)) = w.was_found name look.File
+PutsInFor name drive w tape (Err e) = Unit {0}
+
+-- the inserted tape stays inserted, and this holds for it before and after
 abbrev pub OnTape : {F : Type 0} → (TapeState F → TapeState F → Type 0) → Option (TapeState F) → Option (TapeState F) → Type 0
 OnTape P (Some old) (Some new) = P old new
 OnTape P (Some old) None = ⊥

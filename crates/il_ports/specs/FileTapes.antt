@@ -15,14 +15,15 @@ pub record TapeState (F : Type 0) : Type 0 where
   pub file : F
   pub size : Size
   pub access : Access
-  -- a sync has failed: nothing more is asked of the file
+  -- a sync failed: nothing more is asked of the file
   pub is_broken : Bool
   pub faults : ℕ
 
--- what holds of the file of a tape between calls
+-- what holds for the file of a tape between calls
 pub record IsInOrder {F : Type 0} (view : F → FileView) (tape : TapeState F) : Type 0 where
   pub clean : tape.is_broken ≡ false → IsClean (view tape.file)
   pub held : (view tape.file).held tape.access
+  pub apart : (view tape.file).apart
 
 -- the file's bytes as records
 abbrev pub tape_of_file : ℕ → Option (List ℕ) → Option Tape
@@ -32,7 +33,7 @@ tape_of_file n bytes = option_map (cut n) bytes
 abbrev pub LeavesTape : ℕ → (ℕ → List ℕ → Type 0) → ℕ → Tape → Type 0
 LeavesTape n left_since m c = (b : List ℕ) × left_since m b × (c ≡ cut n b)
 
--- the images, with the tape's bytes under the name of the one that is in
+-- the images, with the tape's bytes under the name of the one that is inserted
 abbrev pub shelf_in : Option Shelf → Option (List ℕ) → Option Tape → Option Shelf
 shelf_in (Some images) (Some name) (Some tape) = Some ((name, bytes_of tape) ∷ images)
 shelf_in (Some images) (Some name) None = None
@@ -51,23 +52,23 @@ tape_view view images tape = record {
   left_since = LeavesTape (records_of_size tape.size) (view tape.file).left_since;
 }
 
--- ---- what no medium promises, and a tape in a file does
+-- ---- what a tape in a file promises beyond a medium
 
--- a call of the file has failed
+-- a call of the file failed
 abbrev pub FileFailed : {F : Type 0} → (F → FileView) → TapeState F → TapeState F → Type 0
 FileFailed view old new = Rose (view old.file).failures (view new.file).failures
 
--- Why a read fails: nothing more is asked of the file, or a call of it has failed.
+-- Why a read fails: nothing more is asked of the file, or a call of it failed.
 abbrev pub ReadFails : {F T E : Type 0} → (F → FileView) → TapeState F → TapeState F → Result T E → Type 0
 ReadFails view old new (Ok _) = Unit {0}
 ReadFails view old new (Err _) = (old.is_broken ≡ true) ⊎ FileFailed view old new
 
--- why a write fails: besides, the file is open to be read alone
+-- Why a write fails: the file is only read, or for a reason of a read.
 abbrev pub WriteFails : {F T E : Type 0} → (F → FileView) → TapeState F → TapeState F → Result T E → Type 0
 WriteFails view old new (Ok _) = Unit {0}
 WriteFails view old new (Err _) = (old.access ≡ Read) ⊎ ((old.is_broken ≡ true) ⊎ FileFailed view old new)
 
--- The file stays open for what it was, and it is given up only where a call of it failed.
+-- The file stays open for what it was, and it is given up only if a call of it failed.
 pub record StaysOpen {F : Type 0} (view : F → FileView) (old new : TapeState F) : Type 0 where
   pub size : new.size ≡ old.size
   pub access : new.access ≡ old.access

@@ -1,18 +1,26 @@
--- A file of bytes: what reads give, what a power stop leaves, and what its calls do. The file may be one of the system,
--- which tells nothing.
+-- A file of bytes: what reads give, what a power stop leaves, and what its calls do. Contracts may see its bytes or
+-- not; they do not see those of a file of the system.
 use Rattle.std.specs.Prelude.{◌≡◌, ◌⊎◌, ◌<◌, ◌≤◌, ◌+◌, ℕ, Bool, true, false, min, max, List, length, take, get_or, Option, Some, Result, Ok, Err, is_some}
 use Rattle.lif_model.specs.Causes.{HasCause}
 use Rattle.il_ports.specs.declared.tape_file.Access.{Access}
 
 pub record FileView : Type 1 where
-  -- the name of the image that it is, where it is told
+  -- the name of the image that it is, if contracts see it
   pub named : Option (List ℕ)
-  -- what reads give, where it is told
+  -- what reads give, if contracts see it
   pub seen : Option (List ℕ)
-  -- what a power stop now leaves, told with it
+  -- what a power stop now leaves, seen or not as what reads give
   pub kept : Option (List ℕ)
-  -- its lock may have been granted for that
+  -- it may have been opened for that access
+  pub opened : Access → Type 0
+  -- a call of `make` may have made it
+  pub made : Type 0
+  -- its number may be above those of the standard streams
+  pub apart : Type 0
+  -- its lock may have been granted for that access
   pub held : Access → Type 0
+  -- another program may hold its lock
+  pub refused : Type 0
   -- a sync has failed: nothing more may be asked of the file
   pub broken : Bool
   -- how many of its calls have failed, or more: the count never falls
@@ -46,8 +54,8 @@ pub record Mixed (from count : ℕ) (old new : List ℕ) : Type 0 where
   pub elsewhere : (i : ℕ) → IsOutside from count i → byte_at new i ≡ byte_at old i
   pub size : GrowsTo (from + count) old new
 
--- What a stop leaves while these places are being written: any bytes there, and elsewhere what was on the disk, where
--- reads gave the same. What waited for a sync may come to the disk too.
+-- What a stop leaves while these places are being written: any bytes there, and elsewhere what was on the disk, if
+-- reads gave the same. What waited for a sync may be on the disk too.
 pub record TornAt (from count : ℕ) (seen old new : List ℕ) : Type 0 where
   pub elsewhere : (i : ℕ) → IsOutside from count i → byte_at old i ≡ byte_at seen i → byte_at new i ≡ byte_at old i
   pub no_shorter : min (length old) (length seen) ≤ length new
@@ -62,23 +70,30 @@ pub record IsFile (v : FileView) : Type 0 where
 
 -- ---- what calls need
 
--- somebody was granted the lock, for something
+-- the lock was granted for some access
 abbrev pub HasLock : FileView → Type 0
 HasLock v = (access : Access) × v.held access
 
--- nothing waits to be on the disk, and the file may be asked for more
+-- the disk has all that was written, and more may be asked of the file
 pub record IsClean (v : FileView) : Type 0 where
   pub sound : v.broken ≡ false
   pub synced : v.seen ≡ v.kept
 
--- besides, a power stop since any moment leaves what reads give: of the time before nothing is left
+-- besides, a power stop since any moment leaves what reads give: what was there earlier cannot return
 pub record IsSettledFile (v : FileView) : Type 0 where
   pub clean : IsClean v
   pub since : (b : List ℕ) → v.kept ≡ Some b → (m : ℕ) (c : List ℕ) → v.left_since m c → c ≡ b
 
 -- ---- what every call keeps to
 
+-- it stays open for what it was, made if it was made, and apart from the standard streams
+pub record StaysItself (v w : FileView) : Type 0 where
+  pub opened : (access : Access) → v.opened access → w.opened access
+  pub made : v.made → w.made
+  pub apart : v.apart → w.apart
+
 pub record FileAnswers {T E : Type 0} (v w : FileView) (answer : Result T E) : Type 0 where
+  pub itself : StaysItself v w
   pub named : w.named ≡ v.named
   pub told : is_some w.seen ≡ is_some v.seen
   pub held : (access : Access) → v.held access → w.held access
@@ -105,17 +120,25 @@ pub record TimePasses (from count : ℕ) (v w : FileView) : Type 0 where
 
 -- ---- what each call does
 
--- nothing but the lock and the numbers of the system change
-pub record Unchanged {T E : Type 0} (v w : FileView) (answer : Result T E) : Type 0 where
+-- at Ok its number is above those of the standard streams
+abbrev pub ApartAnswers : {T E : Type 0} → FileView → Result T E → Type 0
+ApartAnswers w (Ok _) = w.apart
+ApartAnswers w (Err _) = Unit {0}
+
+-- nothing else changes
+pub record SetApart {T E : Type 0} (v w : FileView) (answer : Result T E) : Type 0 where
   pub answers : FileAnswers v w answer
   pub rests : Rests v w
+  pub apart : ApartAnswers w answer
 
--- the lock is asked for, and granted or not
+-- The lock is asked for, and granted or not. If another program holds it, that counts as no failure.
 pub record Claimed (access : Access) (v w : FileView) (granted : Bool) : Type 0 where
+  pub itself : StaysItself v w
   pub named : w.named ≡ v.named
   pub failures : w.failures ≡ v.failures
   pub rests : Rests v w
   pub held : granted ≡ true → w.held access
+  pub refused : granted ≡ false → w.refused
 
 -- how many bytes the file has
 abbrev pub LengthAnswers : {E : Type 0} → Option (List ℕ) → Result ℕ E → Type 0
@@ -156,7 +179,7 @@ pub record TookBytes {E : Type 0} (from : ℕ) (bytes : List ℕ) (v w : FileVie
   pub time : TimePasses from (length bytes) v w
   pub answer_is : WriteAnswers from bytes v w answer
 
--- with Ok the file is so long, and reads as it did, with zeros where it had fewer bytes
+-- with Ok the file has that size, and reads as it did, with zeros after its old end
 abbrev pub ResizeAnswers : {T E : Type 0} → ℕ → FileView → FileView → Result T E → Type 0
 ResizeAnswers size v w (Ok _) =
     (s : List ℕ) → v.seen ≡ Some s → (t : List ℕ) × (w.seen ≡ Some t) × (length t ≡ size) × ((i : ℕ) → i < size → byte_at t i ≡ byte_at s i)

@@ -17,7 +17,6 @@ pub mod FileTapes
 pub mod FileDrives
 pub mod FindingFiles
 pub mod FileLaws
-pub mod UntoldFiles
 pub mod Past
 pub mod MemoryFiles
 pub mod MemoryRecords

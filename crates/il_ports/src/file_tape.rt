@@ -10,7 +10,7 @@ use lif_model::RECORD;
 use std::io;
 use std::marker::Model;
 
-/// Reads 256 bytes. What the file lacks are zeros.
+/// Reads 256 bytes. After the file's end they are zeros.
 fn fetch<F: TapeFile>(file: &mut F, from: u64, into: &mut [u8; 256]) -> io::Result<()>
     requires small { from < 2 ^ 32 }
     requires held { HasLock (F.view file.old) }
@@ -32,6 +32,7 @@ fn fetch<F: TapeFile>(file: &mut F, from: u64, into: &mut [u8; 256]) -> io::Resu
 /// Writes 256 bytes, which then wait for a sync.
 fn put<F: TapeFile>(file: &mut F, from: u64, bytes: &[u8; 256]) -> io::Result<()>
     requires small { from < 2 ^ 32 }
+    requires apart { (F.view file.old).apart }
     requires held { (F.view file.old).held Change }
     requires clean { IsClean (F.view file.old) }
     ensures { Put from bytes.now (F.view file.old) (F.view file.new) result }
@@ -46,15 +47,16 @@ fn put<F: TapeFile>(file: &mut F, from: u64, bytes: &[u8; 256]) -> io::Result<()
 /// Why bytes were not stored.
 #[derive(Clone, Copy, Debug, PartialEq, Eq)]
 enum StoreFault {
-    /// The file is as the disk has it, with any bytes where some were to be written.
+    /// The disk has what the file reads as, with any bytes in the places that were to be written.
     Failed,
     /// The file was not synced: what it reads as may never reach the disk.
     Unsynced,
 }
 
-/// Writes 256 bytes, and waits until the disk has them: also where they were not written whole.
+/// Writes 256 bytes, and waits until the disk has them. It also syncs if only some of them were written.
 fn store<F: TapeFile>(file: &mut F, from: u64, bytes: &[u8; 256]) -> Result<(), StoreFault>
     requires small { from < 2 ^ 32 }
+    requires apart { (F.view file.old).apart }
     requires held { (F.view file.old).held Change }
     requires clean { IsClean (F.view file.old) }
     ensures { StoredBytes from bytes.now (F.view file.old) (F.view file.new) result }
@@ -67,8 +69,8 @@ fn store<F: TapeFile>(file: &mut F, from: u64, bytes: &[u8; 256]) -> Result<(), 
     }
 }
 
-/// A tape in a file. After a sync that failed each further call is a counted fault, and nothing more is asked of the
-/// file; so is each write where the file is open to be read alone.
+/// A tape in a file. After a failed sync each later call is a counted fault, and nothing more is asked of the file. If
+/// the file is only read, each write is a counted fault.
 #[derive(Drop)]
 pub struct FileTape<F: TapeFile + Drop> {
     file: F,
@@ -97,10 +99,11 @@ impl<F: TapeFile + Drop> FileTape<F> {
     ghost use Rattle.il_ports.specs.Files.{IsClean};
     ghost use Rattle.il_ports.specs.FileTapes.{tape_view, ReadFails, WriteFails, StaysOpen, ReachesRecord};
 
-    /// The tape in that file, which has the lock for that access, in a drive whose calls have failed so often.
+    /// The tape in that file, which has the lock for that access, in a drive of which `faults` calls have failed.
     pub(crate) fn new(file: F, size: Size, access: Access, faults: u64) -> FileTape<F>
         requires clean { IsClean (F.view file) }
         requires held { (F.view file).held access }
+        requires apart { (F.view file).apart }
         ensures { result ≡ record { file = file; size = size; access = access; is_broken = false; faults = faults } }
     {
         FileTape {
@@ -126,7 +129,7 @@ impl<F: TapeFile + Drop> FileTape<F> {
         &self.file
     }
 
-    /// Reads record `n`, which the tape has. What the file lacks are zeros.
+    /// Reads record `n`, which the tape has. After the file's end its bytes are zeros.
     pub fn read(&mut self, n: u16, into: &mut [u8; 256]) -> Result<(), Failed>
         requires { n < records_of_size self.old.size }
         ensures did { (images : Option Shelf) → DidReadRecord n into.new (tape_view F.view images self.old) (tape_view F.view images self.new) result }
@@ -142,8 +145,8 @@ impl<F: TapeFile + Drop> FileTape<F> {
         }
     }
 
-    /// Writes record `n`, which the tape has: at `Ok` it is on the disk. The file becomes no shorter, and no longer
-    /// than up to the end of the record.
+    /// Writes record `n`, which the tape has. After `Ok` it is on the disk. The file becomes no shorter, and it grows
+    /// no further than to the end of the record.
     pub fn write(&mut self, n: u16, from: &[u8; 256]) -> Result<(), Failed>
         requires { n < records_of_size self.old.size }
         ensures did { (images : Option Shelf) → DidWriteRecord n from.now (tape_view F.view images self.old) (tape_view F.view images self.new) result }

@@ -1,7 +1,7 @@
 use crate::tape_file::{Access, TapeFile};
 use std::io;
 
-/// What stands under a name.
+/// What has a name.
 #[derive(Clone, Copy, Debug, PartialEq, Eq)]
 pub enum Look {
     Missing,
@@ -10,36 +10,46 @@ pub enum Look {
     Other,
 }
 
-/// Named images, of which each is a file. An image that was made counts as one of them when it is in a drive.
+/// What is known of an image's name after the call that brings it to the disk.
+#[derive(Clone, Copy, Debug, PartialEq, Eq)]
+pub enum Naming {
+    /// The disk has the name.
+    OnDisk,
+    /// The folder could not be opened, so it was not synced: the disk may lack the name.
+    FolderClosed,
+    /// The file system cannot sync folders: the disk may lack the name.
+    NoSync,
+}
+
+/// Named images, of which each is a file. An image that was made counts as one of them once it is inserted in a drive.
 pub trait Images<F: TapeFile> {
-    ghost use Rattle.std.specs.Prelude.{◌≡◌, Option};
-    ghost use Rattle.lif_model.specs.Shelf.{Shelf};
-    ghost use Rattle.il_ports.specs.NamedImages.{Looked, Opened, Created};
+    ghost use Rattle.std.specs.IoError.{error_kind};
+    ghost use Rattle.il_ports.specs.NamedImages.{ImagesView, Looked, Opened, Created, NameSettled, IsOwn, Removed};
+    ghost use Rattle.il_ports.specs.declared.images.Look.TheVariants as look;
 
-    /// The images, where they are told.
-    ghost shelf: { Self → Option Shelf };
+    ghost view: { Self → ImagesView };
 
-    /// What stands under a name. It is not opened.
+    /// Finds what has that name, and does not open it.
     fn look(&mut self, name: &str) -> io::Result<Look>
-        ensures same { shelf self.new ≡ shelf self.old }
-        ensures did { Looked name.now (shelf self.old) result };
+        ensures { Looked name.now (view self.old) (view self.new) result };
 
-    /// Opens the image of that name. For reading alone it is opened only where it may not be written.
+    /// Opens the image of that name, which a look has found. If it is opened only to be read, the disk has what it
+    /// reads as.
     fn open(&mut self, name: &str, access: Access) -> io::Result<F>
-        ensures same { shelf self.new ≡ shelf self.old }
-        ensures did { Opened F.view name.now access (shelf self.old) result };
+        requires { (view self.old).was_found name.now look.File }
+        ensures { Opened F.view error_kind name.now access (view self.old) (view self.new) result };
 
-    /// Makes an image of that name, without a byte, where there is none.
+    /// Makes an image of that name, without a byte. A look has found nothing of that name.
     fn make(&mut self, name: &str) -> io::Result<F>
-        ensures same { shelf self.new ≡ shelf self.old }
-        ensures did { Created F.view name.now (shelf self.old) result };
+        requires { (view self.old).was_found name.now look.Missing }
+        ensures { Created F.view name.now (view self.old) (view self.new) result };
 
-    /// Waits until the disk has the names of the images in the folder of this one. A folder that may not be read is
-    /// left out.
-    fn settle_name(&mut self, name: &str) -> io::Result<()>
-        ensures { shelf self.new ≡ shelf self.old };
+    /// Waits until the disk has the names of all images in the folder of this one, and says whether it has them.
+    fn settle_name(&mut self, name: &str) -> io::Result<Naming>
+        ensures { NameSettled name.now (view self.old) (view self.new) result };
 
-    /// Removes the image of that name, which was just made.
-    fn remove(&mut self, name: &str) -> io::Result<()>
-        ensures { shelf self.new ≡ shelf self.old };
+    /// Closes the image of that name and removes it. A call of `make` made it, and no other program holds it.
+    fn remove(&mut self, name: &str, file: F) -> io::Result<()>
+        requires { IsOwn name.now (view self.old).shelf (F.view file) }
+        ensures { Removed (view self.old) (view self.new) result };
 }

@@ -17,7 +17,7 @@ pub enum Inserted {
     BadSize(u64),
 }
 
-/// What an insert makes where the image is missing.
+/// What an insert makes if the image is missing.
 #[derive(Clone, Copy, Debug, PartialEq, Eq)]
 pub enum New {
     /// Nothing.
@@ -43,21 +43,28 @@ impl New {
 
 /// A shelf of named images, and the tape that is in the drive. A disc is a tape of another size.
 pub trait Medium {
-    ghost use Rattle.std.specs.Prelude.{◌≡◌, ◌<◌};
+    ghost use Rattle.std.specs.Prelude.{◌≡◌, ◌<◌, ℕ, List, Option, OnErr};
+    ghost use Rattle.il_ports.specs.Inserting.{records_made};
     ghost use Rattle.il_ports.specs.Media.{MediumView, IsMedium, DidInsert, DidReadRecord, DidWriteRecord};
 
     ghost view: { Self → MediumView };
 
-    /// Puts the image of that name into the drive, where no tape is in. An image of at most 131,072 bytes is a tape of
-    /// 512 records, and one of at most 630,784 a disc of 2,464; either reads as if followed by zeros. An image that is
-    /// missing is made as `new` says, and one that is there is used as it is. `NoSuch` comes exactly where the image is
-    /// missing and `new` is `No`, `BadSize` exactly where it has more bytes than a disc. After these two and a fault no
-    /// tape is in, and every image is as before; otherwise every other image is.
+    // Why an insert of an image fails: by the medium before and after it, the image's name, and the number of records
+    // of the medium that it would make, if any.
+    ghost refuses: { Self → Self → List ℕ → Option ℕ → Type 0 };
+
+    /// Inserts the image of that name into the drive, which is empty. An image of at most 131,072 bytes is a tape of
+    /// 512 records, and a larger one of at most 630,784 bytes is a disc of 2,464; either reads as if zeros followed it.
+    /// If the image is missing, it is made as `new` says; if it is there, `new` changes nothing. Unless the insert is a
+    /// fault, it answers `NoSuch` if and only if the image is missing and `new` is `No`, and `BadSize` if and only if
+    /// the image has more bytes than a disc. After these two and after a fault no tape is inserted, and every image is
+    /// as before. After `Tape` every other image is as before.
     fn insert(&mut self, name: &str, new: New) -> Result<Inserted, Failed>
         requires { (view self.old).record_count ≡ 0 }
-        ensures { DidInsert name.now new (view self.old) (view self.new) result };
+        ensures did { DidInsert name.now new (view self.old) (view self.new) result }
+        ensures cause { OnErr result (refuses self.old self.new name.now (records_made new)) };
 
-    /// The number of records of the tape in the drive, 512 or 2,464, or 0 where none is in.
+    /// The number of records of the tape in the drive: 512 or 2,464, or 0 if no tape is inserted.
     fn size(&self) -> u16
         ensures { result ≡ (view self.now).record_count };
 

@@ -8,7 +8,7 @@ use std::io::{self, ErrorKind};
 /// The bytes that a file in memory may have, 2^40.
 const MOST_BYTES: u64 = 1 << 40;
 
-/// Makes the file so long, by zeros.
+/// Makes the file at least `end` bytes long: it adds zeros.
 fn grow(bytes: &mut Vec<u8>, end: usize) -> Result<(), AllocError>
     ensures same { (i : ℕ) → byte_at bytes.new.items i ≡ byte_at bytes.old.items i }
     ensures size { GrowsTo end bytes.old.items bytes.new.items }
@@ -73,10 +73,9 @@ fn bring(
     replace(alloc, kept, past, next)
 }
 
-/// A file in memory. Its calls are counted from 1; those that are listed fail with the kind that the list gives, the
-/// first entry of a number counting: a claim is then refused, a write leaves half of its bytes, and a sync drops what
-/// waited for it. Each read and write moves at most so many bytes. The bytes that were on the disk before each sync
-/// are kept.
+/// A file in memory. Its calls are counted from 1. A listed call fails with the kind that the list gives, by the first
+/// entry of its number: a claim is then refused, a write leaves half of its bytes, and a sync drops what waited for it.
+/// Each read and write moves at most `most` bytes. The file keeps the bytes that were on the disk before each sync.
 #[derive(Drop)]
 pub struct MemoryFile {
     alloc: Global,
@@ -142,8 +141,10 @@ impl MemoryFile {
         &self.past
     }
 
-    /// How many calls were made.
-    pub fn calls(&self) -> u64 {
+    /// How many calls were made, up to the largest number of the type.
+    pub fn calls(&self) -> u64
+        ensures { result ≡ self.now.calls }
+    {
         self.calls
     }
 
@@ -180,7 +181,7 @@ impl MemoryFile {
         }
     }
 
-    /// Lays bytes over what reads give.
+    /// Writes bytes over what reads give.
     fn lay(&mut self, from: u64, bytes: &[u8]) -> Result<(), ErrorKind>
         ensures same { self.new ≡ record self.old { seen = self.new.seen } }
         ensures ok { OnOk result (Overlaid from bytes.now self.old.seen.items self.new.seen.items) }

@@ -1,7 +1,7 @@
 ghost use Rattle.std.specs.Prelude.{Some};
 ghost use Rattle.il_ports.specs.Drive.{images_of};
 
-use crate::images::{Images, Look};
+use crate::images::{Images, Look, Naming};
 use crate::memory_file::MemoryFile;
 use crate::memory_medium::find;
 use crate::tape_file::Access;
@@ -9,9 +9,9 @@ use std::alloc::Global;
 use std::io::{self, ErrorKind};
 use std::mem;
 
-/// Images in memory, the first of each name counting. Their calls are counted from 1; those that are listed fail with
-/// the kind that the list gives, the first entry of a number counting. The first file that is opened or made fails at
-/// the calls of the second list. Each read and write of a file moves at most so many bytes.
+/// Images in memory. Of several with one name, the first counts. Their calls are counted from 1. A listed call fails
+/// with the kind that `fails` gives, by the first entry of its number. The first file that is opened or made fails at
+/// the calls of `file_fails`. Each read and write of a file moves at most `most` bytes.
 #[derive(Drop)]
 pub struct MemoryImages {
     alloc: Global,
@@ -60,10 +60,10 @@ impl MemoryImages {
 }
 
 impl Images<MemoryFile> for MemoryImages {
-    ghost use Rattle.std.specs.Prelude.{Some};
     ghost use Rattle.il_ports.specs.Drive.{images_of};
+    ghost use Rattle.il_ports.specs.MemoryFiles.{memory_images};
 
-    ghost shelf = { λ m. Some (images_of m.images.items) };
+    ghost view = { λ m. memory_images (images_of m.images.items) };
 
     fn look(&mut self, name: &str) -> io::Result<Look> {
         self.ask()?;
@@ -91,11 +91,12 @@ impl Images<MemoryFile> for MemoryImages {
         }
     }
 
-    fn settle_name(&mut self, _: &str) -> io::Result<()> {
-        self.ask()
+    fn settle_name(&mut self, _: &str) -> io::Result<Naming> {
+        self.ask()?;
+        Ok(Naming::OnDisk)
     }
 
-    fn remove(&mut self, _: &str) -> io::Result<()> {
+    fn remove(&mut self, _: &str, _: MemoryFile) -> io::Result<()> {
         self.ask()
     }
 }

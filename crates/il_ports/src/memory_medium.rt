@@ -311,6 +311,9 @@ impl Medium for MemoryMedium {
       left_since = IsLeft (state_of m).first (state_of m).history;
     } };
 
+    ghost refuses = { λ m w name made. Contains (state_of m).inserts (next_count (state_of m).inserts_made)
+        ⊎ ((image_of name (state_of m).shelf ≡ None) × (made ≢ None) × (longest_name < length name)) };
+
     ghost is_medium = { λ m. record {
       sizes = λ some. size_is m.drive m.tape.items m.size some;
       is_tape = λ t is. tape_is m.drive m.tape.items m.shaped t is;

@@ -6,7 +6,7 @@ use crate::faults::{SCRIPT, STORE, store_on};
 use crate::images::formatted;
 use crate::runs::{Behind, Given, devices_of, run, shelf_of, words_of};
 use il_host::{Ended, Rig, run_il};
-use il_ports::{FileMedium, Medium, MemoryFile, MemoryImages, MemorySink, MemorySource};
+use il_ports::{FileMedium, Medium, MemoryFile, MemoryImages, MemorySink, MemorySource, ToChange};
 use il_same::{same, same_bytes};
 use std::alloc::{AllocError, Global};
 use std::io::ErrorKind;
@@ -23,7 +23,7 @@ struct OnDisk {
 }
 
 /// A medium over images as files in memory.
-type Disk = FileMedium<MemoryFile, MemoryImages>;
+type Disk = FileMedium<MemoryFile, MemoryImages, ToChange>;
 
 /// The image as a file, of which at most `most` bytes come or go at once. It fails at that call. No tape is in.
 fn disk_with(
@@ -32,7 +32,7 @@ fn disk_with(
     most: usize,
     fail: (u64, ErrorKind),
 ) -> Result<Disk, AllocError>
-    ensures { IfOk result (λ m. (⟦<FileMedium<MemoryFile, MemoryImages> as Medium>⟧.view m).record_count ≡ 0) }
+    ensures { IfOk result (λ m. (⟦<FileMedium<MemoryFile, MemoryImages, ToChange> as Medium>⟧.view m).record_count ≡ 0) }
 {
     let shelf = shelf_of(alloc, "TAPE", Some(image))?;
     let fails = Vec::from_slice(alloc, &[fail])?;

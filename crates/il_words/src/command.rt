@@ -1,8 +1,9 @@
-ghost use Rattle.std.specs.Prelude.{◌≡◌, IfOk, map, false, Some, None, Err, option_map};
+ghost use Rattle.std.specs.Prelude.{◌≡◌, ◌≢◌, IfOk, map, false, Some, None, Err, option_map};
 ghost use Rattle.std.specs.String.{string_bytes};
 ghost use Rattle.clap.specs.Words.{app_of, rule_of, found_of, rows_of, first_of};
 ghost use Rattle.il_words.specs.Simple.{flag_rule, valued_rule, image_rule, bare_app, il_app, rows_in, is_set};
-ghost use Rattle.il_words.specs.declared.words.WordsFault.TheVariants.{Refused};
+ghost use Rattle.clap.specs.declared.error.kind.ErrorKind.TheVariants as kinds;
+ghost use Rattle.il_words.specs.declared.words.WordsFault.TheVariants.{Refused, OutOfMemory};
 
 use crate::words::WordsFault;
 use clap::error::ErrorKind;
@@ -60,6 +61,17 @@ fn command<'a>(alloc: Global) -> Result<Command<'a>, AllocError>
     Ok(command)
 }
 
+/// What a fault of the command is told as.
+fn told_as(kind: ErrorKind) -> WordsFault
+    ensures memory { kind ≡ kinds.OutOfMemory → result ≡ OutOfMemory }
+    ensures words { kind ≢ kinds.OutOfMemory → result ≡ Refused }
+{
+    match kind {
+        ErrorKind::OutOfMemory => WordsFault::OutOfMemory,
+        _ => WordsFault::Refused,
+    }
+}
+
 /// What the simple command finds in the words. `Refused` comes exactly where it does not take them.
 pub(crate) fn parse<'a>(alloc: Global, words: &'a [String]) -> Result<ArgMatches<'a>, WordsFault>
     ensures read { IfOk result (λ m. rows_in (map string_bytes words.entry.now) ≡ Some (rows_of (found_of m))) }
@@ -70,10 +82,7 @@ pub(crate) fn parse<'a>(alloc: Global, words: &'a [String]) -> Result<ArgMatches
     };
     match command.try_get_matches_from(words) {
         Ok(matches) => Ok(matches),
-        Err(error) => match error.kind() {
-            ErrorKind::OutOfMemory => Err(WordsFault::OutOfMemory),
-            _ => Err(WordsFault::Refused),
-        },
+        Err(error) => Err(told_as(error.kind())),
     }
 }
 

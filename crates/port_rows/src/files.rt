@@ -1,14 +1,15 @@
 //! Images in files: how they are found, made, read and written.
 use crate::media::{DISC_BYTES, SIZES, TAPE_BYTES, inserts, reads, record_of, writes};
-use il_ports::{Failed, FileMedium, Inserted, New, SystemImages};
+use il_ports::{Failed, FileMedium, Inserted, New};
 use il_same::{same, same_bytes};
 use lif_model::RECORD;
 use std::alloc::AllocError;
 use std::fs;
 use std::process::Abort;
 use std::test::Fail;
+use system_files::SystemImages;
 
-/// Whether the file is of so many zeros.
+/// Whether the file has `length` bytes, all of them zeros.
 fn is_of_zeros(bytes: &[u8], length: usize) -> bool {
     bytes.len() == length && bytes.iter().all(|byte| *byte == 0)
 }

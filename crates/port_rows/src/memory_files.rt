@@ -1,6 +1,8 @@
 //! Images in files in memory: short reads and writes, and calls that fail.
 use crate::media::{inserts, writes};
-use il_ports::{Failed, FileMedium, Inserted, Medium, MemoryFile, MemoryImages, New};
+use il_ports::{
+    Failed, FileMedium, Inserted, Medium, MemoryFile, MemoryImages, New, Opening, ToChange,
+};
 use il_same::{same, same_bytes};
 use lif_model::RECORD;
 use std::alloc::{AllocError, Global};
@@ -42,7 +44,7 @@ fn with_failing_file(
     alloc: Global,
     call: u64,
     kind: ErrorKind,
-) -> Result<FileMedium<MemoryFile, MemoryImages>, AllocError> {
+) -> Result<FileMedium<MemoryFile, MemoryImages, ToChange>, AllocError> {
     let images = images(alloc, Vec::new(alloc), failing(alloc, call, kind)?)?;
     Ok(FileMedium::new(images))
 }
@@ -52,13 +54,17 @@ fn with_failing_images(
     alloc: Global,
     call: u64,
     kind: ErrorKind,
-) -> Result<FileMedium<MemoryFile, MemoryImages>, AllocError> {
+) -> Result<FileMedium<MemoryFile, MemoryImages, ToChange>, AllocError> {
     let images = images(alloc, failing(alloc, call, kind)?, Vec::new(alloc))?;
     Ok(FileMedium::new(images))
 }
 
-/// Whether a record on the disk is of this byte alone.
-fn is_on_disk(medium: &FileMedium<MemoryFile, MemoryImages>, n: u16, byte: u8) -> bool {
+/// Whether each byte of a record on the disk is this one.
+fn is_on_disk<A: Opening>(
+    medium: &FileMedium<MemoryFile, MemoryImages, A>,
+    n: u16,
+    byte: u8,
+) -> bool {
     match medium.file() {
         None => false,
         Some(file) => {
@@ -70,7 +76,11 @@ fn is_on_disk(medium: &FileMedium<MemoryFile, MemoryImages>, n: u16, byte: u8) -
 }
 
 /// A read of record `n`: whether it went well, with this byte all over.
-fn reads_as(medium: &mut FileMedium<MemoryFile, MemoryImages>, n: u16, byte: u8) -> Option<bool> {
+fn reads_as<A: Opening>(
+    medium: &mut FileMedium<MemoryFile, MemoryImages, A>,
+    n: u16,
+    byte: u8,
+) -> Option<bool> {
     let mut into = [0; RECORD];
     if n >= medium.size() {
         return None;
@@ -84,7 +94,7 @@ fn reads_as(medium: &mut FileMedium<MemoryFile, MemoryImages>, n: u16, byte: u8)
 /// An insert that puts a tape in, or that fails.
 fn puts_in(
     rt: &impl Abort,
-    medium: &mut FileMedium<MemoryFile, MemoryImages>,
+    medium: &mut FileMedium<MemoryFile, MemoryImages, ToChange>,
     call: u64,
     name: &str,
     new: New,
@@ -120,7 +130,11 @@ fn each_call_of_a_file_fails(rt: HostRuntime) -> Result<(), Fail> {
     Ok(())
 }
 
-fn written_and_read(rt: &impl Abort, medium: &mut FileMedium<MemoryFile, MemoryImages>, call: u64) {
+fn written_and_read(
+    rt: &impl Abort,
+    medium: &mut FileMedium<MemoryFile, MemoryImages, ToChange>,
+    call: u64,
+) {
     // A write that failed leaves the file as the disk has it; after a sync that failed nothing more is asked of it.
     let first = if (5..=8).contains(&call) {
         Err(Failed)
@@ -195,7 +209,7 @@ fn each_call_that_makes_an_image_fails(rt: HostRuntime) -> Result<(), Fail> {
     Ok(())
 }
 
-/// An image that may not be written is opened to be read; so is each where the drive reads alone.
+/// An image that may not be written is opened only to be read; so is each image in a drive that only reads.
 #[test]
 fn an_image_that_is_read_alone(rt: HostRuntime) -> Result<(), Fail> {
     let alloc = rt.alloc();
@@ -207,7 +221,7 @@ fn an_image_that_is_read_alone(rt: HostRuntime) -> Result<(), Fail> {
         let mut medium = with_failing_images(alloc, 2, kind)?;
         puts_in(&rt, &mut medium, 2, "TAPE", New::No, is_ok);
         if is_ok {
-            read_alone(&rt, &mut medium);
+            read_only(&rt, &mut medium);
         }
     }
     let mut medium = FileMedium::to_read(images(alloc, Vec::new(alloc), Vec::new(alloc))?);
@@ -222,11 +236,11 @@ fn an_image_that_is_read_alone(rt: HostRuntime) -> Result<(), Fail> {
         Ok(Inserted::Tape),
         512,
     );
-    read_alone(&rt, &mut medium);
+    read_only(&rt, &mut medium);
     Ok(())
 }
 
-fn read_alone(rt: &impl Abort, medium: &mut FileMedium<MemoryFile, MemoryImages>) {
+fn read_only<A: Opening>(rt: &impl Abort, medium: &mut FileMedium<MemoryFile, MemoryImages, A>) {
     if medium.size() != 512 {
         return;
     }

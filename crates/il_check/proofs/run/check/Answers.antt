@@ -1,8 +1,8 @@
-use Rattle.std.proofs.Common.{[], Option, get_or, map, subst, sym}
+use Rattle.std.proofs.Common.{[], None, Option, get_or, map, subst, sym}
 use Rattle.std.specs.Prelude.{string_bytes}
 use Rattle.il_check.specs.Orders.{CheckOrder, check_order}
-use Rattle.il_check.specs.Whole.{CheckedBy}
-use Rattle.il_check.proofs.CheckLemmas.{leaves_told, leaves_out}
+use Rattle.il_check.specs.Whole.{CheckedBy, FailsBy}
+use Rattle.il_check.proofs.CheckLemmas.{leaves_told, leaves_out, fails_out, fails_not}
 use Rattle.il_check.proofs.run.check.Goals as goal
 
 pub returns-in-Ok-clause-leaves : goal.returns-in-Ok-clause-leaves
@@ -23,3 +23,14 @@ returns-in-Err-clause-leaves g c =
     subst (λ (o : Option CheckOrder). CheckedBy c.in-Err.end o (g.M.Medium.view c.args.before.now) (g.M.Medium.view c.insert_both.new.before) (g.M.Medium.view c.args.after.now)
     (g.M.Medium.view c.insert_both.new.after) (g.S.Source.left c.args.trace.now) (g.S.Source.left c.args.trace.now) (g.K.Sink.written c.args.out.now) (g.K.Sink.written c.args.out.now)) c.in-Some.ensures.party
     (leaves_out order _ _ _ _ _ _ c.in-Err.end (rw (first, second) c.in-Err.ensures.inserts))
+
+pub returns-in-Ok-clause-failed : goal.returns-in-Ok-clause-failed
+returns-in-Ok-clause-failed g c = fails_not _ _ _ _ _ _ _ _ _ _ c.check_media.result _ _ _ c.check_media.ensures.tells
+
+pub returns-in-Err-clause-failed : goal.returns-in-Err-clause-failed
+returns-in-Err-clause-failed g c =
+    let first = sym c.word.ensures in
+    let second = sym c.word-2.ensures in
+    let order = check_order (get_or (map string_bytes c.args.words.now) 3 []) (get_or (map string_bytes c.args.words.now) 4 []) (c.in-Some.party.0, c.in-Some.party.1) in
+    subst (λ (o : Option CheckOrder). FailsBy c.in-Err.end o (λ name. g.M.Medium.refuses c.args.before.now c.insert_both.new.before name None) (λ name. g.M.Medium.refuses c.args.after.now c.insert_both.new.after name None)) c.in-Some.ensures.party
+    (fails_out order (λ name. g.M.Medium.refuses c.args.before.now c.insert_both.new.before name None) (λ name. g.M.Medium.refuses c.args.after.now c.insert_both.new.after name None) c.in-Err.end (rw (first, second) c.in-Err.ensures.failed))

@@ -28,15 +28,12 @@ returns-in-Ok-try_get_matches_from-clause-read c =
     let rows = (e.matches (ap is_simple app ∙ simple)).0 ∙ ap (λ a. matches_of a words) app in
     ap₂ unless_fault none (sym rows)
 
-pub returns : goal.returns
-returns c =
+pub returns-in-Err-clause-refused : goal.returns-in-Err-clause-refused
+returns-in-Err-clause-refused c r =
     let app : app_of c.in-Ok.command ≡ il_app = c.in-Ok.ensures in
     let words = map string_bytes c.args.words.now in
     let f = c.in-Err.ensures.kinds (ap is_simple_and_free app ∙ free) in
-    record {
-      read = tt;
-      refused = λ r. elim f [
-        | inl memory ↦ absurd (c.in_default-kind.not-OutOfMemory (c.kind.ensures ∙ memory))
-        | inr h ↦ ap (λ a. unless_fault (fault_of a words) (matches_of il_app words)) (sym app) ∙ faulty (kind_of c.in-Err.error) (fault_of (app_of c.in-Ok.command) words) (matches_of il_app words) h
-      ];
-    }
+    elim f [
+      | inl memory ↦ let o = c.told_as.ensures.memory (c.kind.ensures ∙ memory) in cc
+      | inr h ↦ ap (λ a. unless_fault (fault_of a words) (matches_of il_app words)) (sym app) ∙ faulty (kind_of c.in-Err.error) (fault_of (app_of c.in-Ok.command) words) (matches_of il_app words) h
+    ]

@@ -1,0 +1,2 @@
+pub mod HiddenFiles
+pub mod Folders
