@@ -1,5 +1,5 @@
-"""What the scripts of checks/ share: where the repository and its program are, the tools that a script needs, and tries that are
-counted."""
+"""What the scripts of checks/ share: where the repository and its program are, the tools that a script needs, and tries
+that are counted."""
 import os
 import shutil
 import sys
@@ -34,8 +34,10 @@ def missing_tools(tools):
 
 
 def need(*tools, root=False, program=PROGRAM):
-    """Ends the script with exit status 1, and names what it lacks, if it lacks one of these tools, root's rights or the program."""
-    lacks = [f"{tool} ({PACKAGES[tool] and 'Debian: ' + PACKAGES[tool] or 'of the kit'})" for tool in missing_tools(tools)]
+    """Ends the script with exit status 1 if it lacks a tool, root's rights or the program, and names what it lacks."""
+    lacks = [
+        f"{tool} ({PACKAGES[tool] and 'Debian: ' + PACKAGES[tool] or 'of the kit'})" for tool in missing_tools(tools)
+    ]
     if root and os.geteuid() != 0:
         lacks.append("root's rights")
     if program and not os.access(program, os.X_OK):
@@ -58,6 +60,6 @@ class Tries:
             print(f"{what}\n  is:     {got!r:.3000}\n  wanted: {want!r:.3000}")
 
     def end(self, of_what):
-        """Prints the counts, and ends the script with exit status 0 if and only if something was tried and nothing is wrong."""
+        """Prints the counts, and ends the script: with exit status 0 if something was tried and nothing is wrong."""
         print(f"{self.tried} tries of {of_what}, {self.wrong} of them wrong")
         sys.exit(1 if self.wrong or not self.tried else 0)
