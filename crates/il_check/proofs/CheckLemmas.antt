@@ -18,7 +18,7 @@ use Rattle.il_check.specs.Orders.{CheckOrder}
 use Rattle.il_check.specs.Tapes.{IsTakenFrom, TapeCause}
 use Rattle.il_check.specs.Telling.{label_on, verdict_text}
 use Rattle.il_check.specs.Verdicts.{IsVerdict}
-use Rattle.il_check.specs.Whole.{FailedBy, FailsBy, AreTold, IsAs, IsIn, IsOneOut, IsOut, CheckedBy, ReadsFor, StaysSo, TellsAs, TellsOf, PutsAs}
+use Rattle.il_check.specs.Whole.{InsertFailedBy, CheckFailedBy, AreTold, IsAs, IsIn, IsOneOut, IsOut, CheckedBy, ReadsFor, StaysSo, TellsAs, TellsOf, PutsAs}
 
 pub telling : (k d n m : ℕ) (old new : Tape) (P : Type 0) (left now written written_now : Option (List ℕ)) (end : Ending) (said : Option (ℕ × TraceFault)) (before after : Option (List ℕ))
     → before ≡ label_on old → after ≡ label_on new → Says end said → ReadsFor n m left now
@@ -189,7 +189,7 @@ leaves_out order v v' w w' left written ending.ReadFailed out = absurd (none_out
 leaves_out order v v' w w' left written ending.BadWords out = absurd (none_out order v v' w w' ending.BadWords (λ h. h) (λ h. h) out)
 
 -- an image did not go into its drive by this ending
-pub fails_out : (order : CheckOrder) (first second : List ℕ → Type 0) (end : Ending) → FailedBy {T = Unit {0}} (Err end) (first order.before ⊎ second order.after) → FailsBy end (Some order) first second
+pub fails_out : (order : CheckOrder) (first second : List ℕ → Type 0) (end : Ending) → InsertFailedBy {T = Unit {0}} (Err end) (first order.before ⊎ second order.after) → CheckFailedBy end (Some order) first second
 fails_out order first second ending.InsertFailed failed = failed
 fails_out order first second ending.Together failed = tt
 fails_out order first second ending.Differ failed = tt
@@ -204,7 +204,7 @@ fails_out order first second ending.ImageTooLarge failed = tt
 
 -- what is told of the tapes is no such ending
 pub fails_not : (k d n m : ℕ) (before after : Option Tape) (left now written written_now : Option (List ℕ)) (end : Ending) (order : Option CheckOrder) (first second : List ℕ → Type 0)
-    → TellsOf k d n m before after left now written written_now end → FailsBy end order first second
+    → TellsOf k d n m before after left now written written_now end → CheckFailedBy end order first second
 fails_not k d n m before after left now written written_now ending.InsertFailed order first second t = absurd t.tells.says
 fails_not k d n m before after left now written written_now ending.Together order first second t = tt
 fails_not k d n m before after left now written written_now ending.Differ order first second t = tt

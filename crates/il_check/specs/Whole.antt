@@ -106,10 +106,10 @@ InsertCause before now (Ok _) = now ≡ before
 InsertCause before now (Err ending.InsertFailed) = Rose before now
 InsertCause before now (Err end) = now ≡ before
 
--- why an image did not go into its drive, where that failed
-abbrev pub FailedBy : {T : Type 0} → Result T Ending → Type 0 → Type 0
-FailedBy (Err ending.InsertFailed) cause = cause
-FailedBy answer cause = Unit {0}
+-- why the insert of an image failed, if it failed
+abbrev pub InsertFailedBy : {T : Type 0} → Result T Ending → Type 0 → Type 0
+InsertFailedBy (Err ending.InsertFailed) cause = cause
+InsertFailedBy answer cause = Unit {0}
 
 -- ---- the whole
 
@@ -138,11 +138,11 @@ CheckedBy end (Some order) v v_now w w_now left now written written_now =
     IsIn order.before v v_now × IsIn order.after w w_now
     × TellsOf order.devices order.drive v_now.record_count w_now.record_count v_now.tape w_now.tape left now written written_now end
 
--- why one of the images that the words ask for did not go into its drive, where that failed
-abbrev pub FailsBy : Ending → Option CheckOrder → (first second : List ℕ → Type 0) → Type 0
-FailsBy ending.InsertFailed (Some order) first second = first order.before ⊎ second order.after
-FailsBy ending.InsertFailed None first second = ⊥
-FailsBy end order first second = Unit {0}
+-- why the insert of one of the two images failed, if one failed
+abbrev pub CheckFailedBy : Ending → Option CheckOrder → (first second : List ℕ → Type 0) → Type 0
+CheckFailedBy ending.InsertFailed (Some order) first second = first order.before ⊎ second order.after
+CheckFailedBy ending.InsertFailed None first second = ⊥
+CheckFailedBy end order first second = Unit {0}
 
 -- A check by these words, over the medium v of the tape before and the medium w of the tape after, has this status: by one
 -- ending, of which all else is told.
@@ -154,4 +154,4 @@ pub record CheckLeaves (status : ℕ) (words : List (List ℕ)) (v v_now w w_now
   pub sink_cause : OutputCause end sink sink_now
   pub media_cause : MediaCause end v.faults v_now.faults w.faults w_now.faults
   pub leaves : CheckedBy end (check_asked words) v v_now w w_now left now written written_now
-  pub failed : FailsBy end (check_asked words) refused refused_after
+  pub failed : CheckFailedBy end (check_asked words) refused refused_after

@@ -4,7 +4,7 @@ ghost use Rattle.lif_model.specs.Tape.{IsTape};
 ghost use Rattle.il_check.specs.Endings.{Says, TraceCause, OutputCause, MediaCause, MediaCauseOf};
 ghost use Rattle.il_check.specs.Orders.{check_asked};
 ghost use Rattle.il_check.specs.Telling.{verdict_text};
-ghost use Rattle.il_check.specs.Whole.{CheckLeaves, CheckedBy, FailedBy, FailsBy, InsertsBoth, StaysSo, TellsAs, TellsOf, PutsAs};
+ghost use Rattle.il_check.specs.Whole.{CheckLeaves, CheckedBy, InsertFailedBy, CheckFailedBy, InsertsBoth, StaysSo, TellsAs, TellsOf, PutsAs};
 
 use crate::ending::Ending;
 use crate::reading::{Cut, read_trace};
@@ -125,7 +125,7 @@ fn insert_both<M: Medium>(
     requires { ((M.view before.old).record_count ≡ 0) × ((M.view after.old).record_count ≡ 0) }
     ensures inserts { InsertsBoth first.now second.now (M.view before.old) (M.view before.new) (M.view after.old) (M.view after.new) result }
     ensures cause { MediaCauseOf result (M.view before.old).faults (M.view before.new).faults (M.view after.old).faults (M.view after.new).faults }
-    ensures failed { FailedBy result (M.refuses before.old before.new first.now None ⊎ M.refuses after.old after.new second.now None) }
+    ensures failed { InsertFailedBy result (M.refuses before.old before.new first.now None ⊎ M.refuses after.old after.new second.now None) }
 {
     insert(before, first)?;
     insert(after, second)
@@ -143,7 +143,7 @@ fn check<S: Source, K: Sink, M: Medium>(
     requires { ((M.view before.old).record_count ≡ 0) × ((M.view after.old).record_count ≡ 0) }
     ensures leaves { CheckedBy result (check_asked (map string_bytes words.now)) (M.view before.old) (M.view before.new) (M.view after.old) (M.view after.new)
         (S.left trace.old) (S.left trace.new) (K.written out.old) (K.written out.new) }
-    ensures failed { FailsBy result (check_asked (map string_bytes words.now)) (λ name. M.refuses before.old before.new name None) (λ name. M.refuses after.old after.new name None) }
+    ensures failed { CheckFailedBy result (check_asked (map string_bytes words.now)) (λ name. M.refuses before.old before.new name None) (λ name. M.refuses after.old after.new name None) }
     ensures source { TraceCause result (S.faults trace.old) (S.faults trace.new) }
     ensures sink { OutputCause result (K.faults out.old) (K.faults out.new) }
     ensures media { MediaCause result (M.view before.old).faults (M.view before.new).faults (M.view after.old).faults (M.view after.new).faults }

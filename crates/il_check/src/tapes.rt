@@ -3,7 +3,7 @@ ghost use Rattle.lif_model.specs.Shelf.{IsSize};
 ghost use Rattle.trace_readers.specs.Effects.{IsEffectAfter};
 ghost use Rattle.il_check.specs.Telling.{label_on};
 ghost use Rattle.il_check.specs.Tapes.{IsTakenFrom, TapeCause};
-ghost use Rattle.il_check.specs.Whole.{FailedBy, InsertedAs, InsertCause, StaysSo};
+ghost use Rattle.il_check.specs.Whole.{InsertFailedBy, InsertedAs, InsertCause, StaysSo};
 
 use crate::ending::Ending;
 use crate::telling::Label;
@@ -18,7 +18,7 @@ pub(crate) fn insert<M: Medium>(medium: &mut M, name: &str) -> Result<(), Ending
     requires { (M.view medium.old).record_count ≡ 0 }
     ensures inserts { InsertedAs name.now (M.view medium.old) (M.view medium.new) result }
     ensures cause { InsertCause (M.view medium.old).faults (M.view medium.new).faults result }
-    ensures failed { FailedBy result (M.refuses medium.old medium.new name.now None) }
+    ensures failed { InsertFailedBy result (M.refuses medium.old medium.new name.now None) }
 {
     match medium.insert(name, New::No) {
         Ok(Inserted::Tape) => Ok(()),

@@ -15,7 +15,8 @@ abbrev pub usage_of : Way → List ℕ
 usage_of Script = codes "il: usage: il [--new] [--new-disc] [--quiet] [--guest] [--lose LIST] [--alter LIST] [--generate SEED:COUNT] IMAGE"
 usage_of Check = codes "il: usage: il check K D BEFORE AFTER"
 
--- the text for an exit status; a run that reads its script to the end tells nothing, and a check that reads its trace
+-- The text for an exit status. There is none after a run that read its whole script, or a check that read its whole
+-- trace.
 abbrev pub message_of : Way → ℕ → Option (List ℕ)
 message_of way status =
     if status == 2 then Some (usage_of way) else

@@ -10,7 +10,7 @@ use std::alloc::{AllocError, Global};
 /// The last address that the second controller asks: it asks the drive and the printer.
 const LAST_ASKED: u8 = 2;
 
-/// A printer that nothing has come to yet.
+/// A new printer, which has received no frame.
 pub fn new_printer(alloc: Global) -> Result<Box<Printer>, AllocError>
     ensures { IfOk result (λ printer. printer.value ≡ fresh (Some 32) 8192) }
 {

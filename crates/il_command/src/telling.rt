@@ -17,7 +17,7 @@ const BAD_WORDS: u8 = 2;
 
 const OUT_OF_MEMORY: u8 = 7;
 
-/// The exit status if the arguments were not read. One that is not UTF-8 is no argument of the program.
+/// The exit status if the arguments were not read: for want of memory, or since one of them is not UTF-8.
 pub fn unread_status(error: &io::Error) -> u8
     ensures { IsUnreadStatus (error_kind error.now) result }
 {

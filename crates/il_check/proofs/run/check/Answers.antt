@@ -1,7 +1,7 @@
 use Rattle.std.proofs.Common.{[], None, Option, get_or, map, subst, sym}
 use Rattle.std.specs.Prelude.{string_bytes}
 use Rattle.il_check.specs.Orders.{CheckOrder, check_order}
-use Rattle.il_check.specs.Whole.{CheckedBy, FailsBy}
+use Rattle.il_check.specs.Whole.{CheckedBy, CheckFailedBy}
 use Rattle.il_check.proofs.CheckLemmas.{leaves_told, leaves_out, fails_out, fails_not}
 use Rattle.il_check.proofs.run.check.Goals as goal
 
@@ -32,5 +32,5 @@ returns-in-Err-clause-failed g c =
     let first = sym c.word.ensures in
     let second = sym c.word-2.ensures in
     let order = check_order (get_or (map string_bytes c.args.words.now) 3 []) (get_or (map string_bytes c.args.words.now) 4 []) (c.in-Some.party.0, c.in-Some.party.1) in
-    subst (λ (o : Option CheckOrder). FailsBy c.in-Err.end o (λ name. g.M.Medium.refuses c.args.before.now c.insert_both.new.before name None) (λ name. g.M.Medium.refuses c.args.after.now c.insert_both.new.after name None)) c.in-Some.ensures.party
+    subst (λ (o : Option CheckOrder). CheckFailedBy c.in-Err.end o (λ name. g.M.Medium.refuses c.args.before.now c.insert_both.new.before name None) (λ name. g.M.Medium.refuses c.args.after.now c.insert_both.new.after name None)) c.in-Some.ensures.party
     (fails_out order (λ name. g.M.Medium.refuses c.args.before.now c.insert_both.new.before name None) (λ name. g.M.Medium.refuses c.args.after.now c.insert_both.new.after name None) c.in-Err.end (rw (first, second) c.in-Err.ensures.failed))
