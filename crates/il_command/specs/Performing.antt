@@ -45,10 +45,10 @@ module _ {F I : Type 0} (view : F → FileView) (seen : I → ImagesView) where
   -- used for that, or it is only read, since an image may not be changed. The last two numbers count the calls of the input and of the
   -- output that failed.
   abbrev pub RunsWith : (status : ℕ) → (words : List (List ℕ)) → I → FileDrive F I → (old now : Streams) → (old now : Devices) → (input output : ℕ) → Type 0
-  RunsWith status words images drive old now stood stands input output =
+  RunsWith status words images drive old now devices_old devices_now input output =
       RunLeaves status words (empty_drive (seen images).shelf 0) (drive_of view seen drive)
-      (outside (empty_drive (seen images).shelf 0) old.left old.written stood.before stood.after stood.guest)
-      (outside (drive_of view seen drive) now.left now.written stands.before stands.after stands.guest)
+      (outside (empty_drive (seen images).shelf 0) old.left old.written devices_old.before devices_old.after devices_old.guest)
+      (outside (drive_of view seen drive) now.left now.written devices_now.before devices_now.after devices_now.guest)
       0 input 0 output
       (λ name made. InsertFails view name made Change (seen images) (seen drive.images))
       ((now.left ≡ old.left) × (now.written ≡ old.written))

@@ -6,7 +6,7 @@ use il_ports::{FileMedium, Images, Sink, Source, StdSink, StdSource, TapeFile, T
 use std::alloc::Global;
 use std::io::{Read, Write};
 
-/// How a check ended, and what it hands back.
+/// How a check ended, and what it returns.
 #[derive(Drop)]
 pub struct Checked<R: Read + Drop, W: Write + Drop, F: TapeFile + Drop, I: Images<F> + Drop> {
     /// The exit status.

@@ -22,7 +22,7 @@ use std::alloc::Global;
 use std::io::{self, Read, Write};
 use std::process::ExitCode;
 
-/// What the program did by its arguments, and what it hands back.
+/// What the program did by its arguments, and what it returns.
 #[derive(Drop)]
 pub enum Performed<A: Drop, B: Drop> {
     /// The arguments were not read. This is the exit status.

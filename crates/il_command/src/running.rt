@@ -11,7 +11,7 @@ use il_ports::{FileMedium, Images, Sink, Source, StdSink, StdSource, TapeFile, T
 use std::alloc::Global;
 use std::io::{Read, Write};
 
-/// How a run ended, and what it hands back.
+/// How a run ended, and what it returns.
 #[derive(Drop)]
 pub struct Finished<R: Read + Drop, W: Write + Drop, F: TapeFile + Drop, I: Images<F> + Drop> {
     /// The exit status.
