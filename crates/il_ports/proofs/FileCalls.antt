@@ -11,13 +11,14 @@ use Rattle.il_ports.proofs.FileBytes.{laid_more, mixed_more, laid_is_mixed}
 -- ---- answers
 
 pub itself_first : (v : FileView) → StaysItself v v
-itself_first v = record { opened = λ access was. was; made = λ was. was; apart = λ was. was }
+itself_first v = record { opened = λ access was. was; made = λ was. was; apart = λ was. was; unsynced = λ was. was }
 
 pub itself_on : (v u w : FileView) → StaysItself v u → StaysItself u w → StaysItself v w
 itself_on v u w first next = record {
   opened = λ access was. next.opened access (first.opened access was);
   made = λ was. next.made (first.made was);
   apart = λ was. next.apart (first.apart was);
+  unsynced = λ was. next.unsynced (first.unsynced was);
 }
 
 -- nothing was asked of it yet
@@ -238,5 +239,5 @@ module _ (from : ℕ) (bytes : List ℕ) where
       };
     };
     time = time_of v u w wrote did (Err y) synced;
-    answer_is = tt;
+    answer_is = synced.answer_is;
   }

@@ -54,7 +54,7 @@ module _ (name seen kept kept₂ : List ℕ) (held : Option Access) (past later 
   pub brought : {T E : Type 0} (x : T) (broken broken₂ : Bool) (failures failures₂ : ℕ) → broken₂ ≡ false → failures₂ ≡ failures
       → Synced {T = T} {E = E} (memory_view name seen kept held broken failures past) (memory_view name seen kept₂ held broken₂ failures₂ later) (Ok x)
   brought x broken broken₂ failures failures₂ sound none = record {
-    answers = record { itself = record { opened = λ access was. tt; made = λ was. tt; apart = λ was. tt }; named = refl; told = refl; held = λ access held. held; cause = none };
+    answers = record { itself = record { opened = λ access was. tt; made = λ was. tt; apart = λ was. tt; unsynced = λ was. tt }; named = refl; told = refl; held = λ access held. held; cause = none };
     time = record {
       later = omega (arith, ap (λ (l : Contents). length l) more, length-append past (v ∷ []));
       nothing_else = λ s b seen_is kept_is m c le left. before s b seen_is m c le left;

@@ -17,7 +17,7 @@ use Rattle.il_ports.specs.declared.tape_file.Access.{Access}
 use Rattle.il_ports.specs.declared.tape_file.Access.TheVariants.{Read}
 use Rattle.il_ports.specs.declared.images.Look.TheVariants as look
 use Rattle.il_ports.specs.declared.images.Naming.{Naming}
-use Rattle.il_ports.specs.NamedImages.{ImagesView}
+use Rattle.il_ports.specs.NamedImages.{ImagesView, MakesNone}
 
 pub record FileDrive (F I : Type 0) : Type 0 where
   -- the images, each as it was while the drive was empty
@@ -73,15 +73,15 @@ IsFoundFile view name new images (found.BadSize size) =
 abbrev pub UsesAs : Access → Type 0 → Access → Type 0
 UsesAs drive denied used = (used ≡ drive) ⊎ ((used ≡ Read) × denied)
 
--- A look found the image; or a look found nothing, the image was made, and it is known whether the disk has its name.
-abbrev pub FoundOrMade : List ℕ → ImagesView → Type 0
-FoundOrMade name w = w.was_found name look.File ⊎ (w.was_found name look.Missing × (how : Naming) × w.settled name how)
+-- A look found the image, and none was made; or a look found nothing, the image was made, and it is known whether the disk has its name.
+abbrev pub FoundOrMade : List ℕ → ImagesView → ImagesView → Type 0
+FoundOrMade name v w = w.was_found name look.File × MakesNone v w ⊎ (w.was_found name look.Missing × (how : Naming) × w.settled name how)
 
 -- what a found file is used for, and whether it was there or was made
-abbrev pub FoundFor : {F : Type 0} → List ℕ → Access → ImagesView → Found F → Type 0
-FoundFor name drive w (found.Tape file size used) = UsesAs drive (w.denied name) used × FoundOrMade name w
-FoundFor name drive w found.NoSuch = w.was_found name look.Missing
-FoundFor name drive w (found.BadSize size) = w.was_found name look.File
+abbrev pub FoundFor : {F : Type 0} → List ℕ → Access → ImagesView → ImagesView → Found F → Type 0
+FoundFor name drive v w (found.Tape file size used) = UsesAs drive (w.denied name) used × FoundOrMade name v w
+FoundFor name drive v w found.NoSuch = w.was_found name look.Missing × MakesNone v w
+FoundFor name drive v w (found.BadSize size) = w.was_found name look.File × MakesNone v w
 
 -- the file of the tape that is inserted
 abbrev pub file_in : {F : Type 0} → Option (TapeState F) → Option F
@@ -107,15 +107,15 @@ PutsIn view seen name old new (Ok inserting.Tape) = IsNewTape view name (seen ol
 PutsIn view seen name old new _ = new.tape ≡ old.tape
 
 -- what the inserted tape is used for, and whether its image was there or was made
-abbrev pub IsTapeFor : {F : Type 0} → List ℕ → Access → ImagesView → Option (TapeState F) → Type 0
-IsTapeFor name drive w (Some tape) = UsesAs drive (w.denied name) tape.access × FoundOrMade name w
-IsTapeFor name drive w None = ⊥
+abbrev pub IsTapeFor : {F : Type 0} → List ℕ → Access → ImagesView → ImagesView → Option (TapeState F) → Type 0
+IsTapeFor name drive v w (Some tape) = UsesAs drive (w.denied name) tape.access × FoundOrMade name v w
+IsTapeFor name drive v w None = ⊥
 
-abbrev pub PutsInFor : {F E : Type 0} → List ℕ → Access → ImagesView → Option (TapeState F) → Result Inserted E → Type 0
-PutsInFor name drive w tape (Ok inserting.Tape) = IsTapeFor name drive w tape
-PutsInFor name drive w tape (Ok inserting.NoSuch) = w.was_found name look.Missing
-PutsInFor name drive w tape (Ok (inserting.BadSize size)) = w.was_found name look.File
-PutsInFor name drive w tape (Err e) = Unit {0}
+abbrev pub PutsInFor : {F E : Type 0} → List ℕ → Access → ImagesView → ImagesView → Option (TapeState F) → Result Inserted E → Type 0
+PutsInFor name drive v w tape (Ok inserting.Tape) = IsTapeFor name drive v w tape
+PutsInFor name drive v w tape (Ok inserting.NoSuch) = w.was_found name look.Missing × MakesNone v w
+PutsInFor name drive v w tape (Ok (inserting.BadSize size)) = w.was_found name look.File × MakesNone v w
+PutsInFor name drive v w tape (Err e) = Unit {0}
 
 -- the inserted tape stays inserted, and this holds for it before and after
 abbrev pub OnTape : {F : Type 0} → (TapeState F → TapeState F → Type 0) → Option (TapeState F) → Option (TapeState F) → Type 0

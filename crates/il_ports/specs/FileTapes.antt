@@ -68,11 +68,11 @@ abbrev pub WriteFails : {F T E : Type 0} → (F → FileView) → TapeState F �
 WriteFails view old new (Ok _) = Unit {0}
 WriteFails view old new (Err _) = (old.access ≡ Read) ⊎ ((old.is_broken ≡ true) ⊎ FileFailed view old new)
 
--- The file stays open for what it was, and it is given up only if a call of it failed.
+-- The file stays open for what it was, and it is given up only if a sync of it failed.
 pub record StaysOpen {F : Type 0} (view : F → FileView) (old new : TapeState F) : Type 0 where
   pub size : new.size ≡ old.size
   pub access : new.access ≡ old.access
-  pub broken : new.is_broken ≡ true → (old.is_broken ≡ true) ⊎ FileFailed view old new
+  pub broken : new.is_broken ≡ true → (old.is_broken ≡ true) ⊎ (view new.file).unsynced
 
 -- the file becomes no shorter, and no longer than up to the end of that record
 abbrev pub ReachesRecord : {F : Type 0} → (F → FileView) → ℕ → TapeState F → TapeState F → Type 0

@@ -21,6 +21,8 @@ pub record FileView : Type 1 where
   pub held : Access → Type 0
   -- another program may hold its lock
   pub refused : Type 0
+  -- a sync of it may have failed
+  pub unsynced : Type 0
   -- a sync has failed: nothing more may be asked of the file
   pub broken : Bool
   -- how many of its calls have failed, or more: the count never falls
@@ -91,6 +93,7 @@ pub record StaysItself (v w : FileView) : Type 0 where
   pub opened : (access : Access) → v.opened access → w.opened access
   pub made : v.made → w.made
   pub apart : v.apart → w.apart
+  pub unsynced : v.unsynced → w.unsynced
 
 pub record FileAnswers {T E : Type 0} (v w : FileView) (answer : Result T E) : Type 0 where
   pub itself : StaysItself v w
@@ -193,7 +196,7 @@ pub record Resized {T E : Type 0} (size : ℕ) (v w : FileView) (answer : Result
 -- with Ok a stop leaves what reads give, and with an error nothing more may be asked
 abbrev pub SyncAnswers : {T E : Type 0} → FileView → FileView → Result T E → Type 0
 SyncAnswers v w (Ok _) = (w.broken ≡ false) × (w.seen ≡ v.seen) × (w.kept ≡ v.seen)
-SyncAnswers v w (Err _) = Unit {0}
+SyncAnswers v w (Err _) = w.unsynced
 
 pub record Synced {T E : Type 0} (v w : FileView) (answer : Result T E) : Type 0 where
   pub answers : FileAnswers v w answer

@@ -3,7 +3,7 @@ use Rattle.std.specs.Prelude.{◌≡◌, ◌⊎◌, ◌<◌, ℕ, List, true, fa
 use Rattle.lif_model.specs.Shelf.{Shelf, image_of}
 use Rattle.lif_model.specs.Causes.{Rose}
 use Rattle.il_ports.specs.Files.{FileView, IsSettledFile, StaysItself, byte_at}
-use Rattle.il_ports.specs.NamedImages.{ImagesView, IsOpenedFor, SettledIfRead, Looks, Opens, Makes, Names, Removes}
+use Rattle.il_ports.specs.NamedImages.{ImagesView, MakesNone, IsOpenedFor, SettledIfRead, Looks, Opens, Makes, Names, Removes}
 use Rattle.il_ports.specs.FileDrives.{IsFit}
 use Rattle.il_ports.specs.declared.images.Look.TheVariants as look
 use Rattle.il_ports.specs.declared.tape_file.Access.{Access}
@@ -32,9 +32,10 @@ IsTaken access v w count = Ready access v w × (w.kept ≡ v.seen) × ((s : List
 abbrev pub FileRefuses : FileView → FileView → Type 0
 FileRefuses v w = Rose v.failures w.failures ⊎ w.refused
 
+-- After an error it is still the same file.
 abbrev pub Claims : {E : Type 0} → Access → FileView → FileView → Result ℕ E → Type 0
 Claims access v w (Ok count) = IsTaken access v w count
-Claims access v w (Err _) = FileRefuses v w
+Claims access v w (Err _) = StaysItself v w × (w.named ≡ v.named) × FileRefuses v w
 
 -- what a file keeps that is its maker's and may be removed again
 pub record StaysOwn (v w : FileView) : Type 0 where
@@ -65,15 +66,17 @@ pub record WasMade (name : List ℕ) (images : Option Shelf) (size : ℕ) (v : F
 pub data MakeFails {F : Type 0} (view : F → FileView) (v w : ImagesView) : Type 0 where
   NotCreated : Rose (v.failures Makes) (w.failures Makes) → MakeFails view v w
   HeldByAnother : (f : F) → (view f).made → (view f).refused → MakeFails view v w
-  NotLaidOut : (f g : F) → (view f).made → LayingFails (view f) (view g) v w → Rose v.removals w.removals ⊎ Rose (v.failures Removes) (w.failures Removes) → MakeFails view v w
+  NotLaidOut : (f g : F) → (view f).made → StaysOwn (view f) (view g) → LayingFails (view f) (view g) v w
+      → Rose v.removals w.removals ⊎ Rose (v.failures Removes) (w.failures Removes) → MakeFails view v w
 
 -- Why an insert into a drive with that access failed: a call of the images failed, or a call of the file that was
 -- opened; or another program holds the lock; or something that is no file has the name; or an image had to be made, and
--- the drive only reads.
+-- the drive only reads. An image was made only if one had to be made, by a drive that changes images.
 pub data InsertFails {F : Type 0} (view : F → FileView) (name : List ℕ) (made : Option ℕ) (drive : Access) (v w : ImagesView) : Type 0 where
-  NotLooked : Rose (v.failures Looks) (w.failures Looks) → InsertFails view name made drive v w
-  NoFile : w.was_found name look.Other → InsertFails view name made drive v w
-  NotOpened : w.was_found name look.File → Rose (v.failures Opens) (w.failures Opens) → InsertFails view name made drive v w
-  NotTaken : w.was_found name look.File → (access : Access) (f g : F) → IsOpenedFor name access w.shelf (view f) → FileRefuses (view f) (view g) → InsertFails view name made drive v w
-  ReadsOnly : w.was_found name look.Missing → is_some made ≡ true → drive ≡ Read → InsertFails view name made drive v w
+  NotLooked : MakesNone v w → Rose (v.failures Looks) (w.failures Looks) → InsertFails view name made drive v w
+  NoFile : MakesNone v w → w.was_found name look.Other → InsertFails view name made drive v w
+  NotOpened : MakesNone v w → w.was_found name look.File → Rose (v.failures Opens) (w.failures Opens) → InsertFails view name made drive v w
+  NotTaken : MakesNone v w → w.was_found name look.File → (access : Access) (f g : F) → IsOpenedFor name access w.shelf (view f)
+      → StaysItself (view f) (view g) → (view g).named ≡ (view f).named → FileRefuses (view f) (view g) → InsertFails view name made drive v w
+  ReadsOnly : MakesNone v w → w.was_found name look.Missing → is_some made ≡ true → drive ≡ Read → InsertFails view name made drive v w
   NotMade : w.was_found name look.Missing → is_some made ≡ true → drive ≡ Change → MakeFails view v w → InsertFails view name made drive v w

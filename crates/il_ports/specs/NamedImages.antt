@@ -34,6 +34,8 @@ pub record ImagesView : Type 1 where
   pub failures : ImageCall → ℕ
   -- how many images were removed, or more
   pub removals : ℕ
+  -- how many images were made, or more
+  pub makes : ℕ
 
 -- what holds after every call: nothing that was found out is lost, and no count falls
 pub record ImagesGoOn (v w : ImagesView) : Type 0 where
@@ -43,6 +45,11 @@ pub record ImagesGoOn (v w : ImagesView) : Type 0 where
   pub settled : (name : List ℕ) (how : Naming) → v.settled name how → w.settled name how
   pub later : (call : ImageCall) → v.failures call ≤ w.failures call
   pub removals : v.removals ≤ w.removals
+  pub makes : v.makes ≤ w.makes
+
+-- no image was made
+abbrev pub MakesNone : ImagesView → ImagesView → Type 0
+MakesNone v w = w.makes ≡ v.makes
 
 -- what has a name
 abbrev pub IsNamed : List ℕ → Option Shelf → Look → Type 0
@@ -56,6 +63,7 @@ LookFinds name w (Err _) = Unit {0}
 
 pub record Looked {E : Type 0} (name : List ℕ) (v w : ImagesView) (answer : Result Look E) : Type 0 where
   pub goes_on : ImagesGoOn v w
+  pub unmade : MakesNone v w
   pub cause : HasCause (v.failures Looks) (w.failures Looks) answer
   pub finds : LookFinds name w answer
 
@@ -95,6 +103,7 @@ OpenAnswers view kind name access v w (Err e) = OpenFails (kind e) name access v
 
 pub record Opened {F E : Type 0} (view : F → FileView) (kind : E → ErrorKind) (name : List ℕ) (access : Access) (v w : ImagesView) (answer : Result F E) : Type 0 where
   pub goes_on : ImagesGoOn v w
+  pub unmade : MakesNone v w
   pub answer_is : OpenAnswers view kind name access v w answer
 
 -- a new file without a byte
@@ -120,6 +129,7 @@ NameAnswers name w (Err _) = Unit {0}
 
 pub record NameSettled {E : Type 0} (name : List ℕ) (v w : ImagesView) (answer : Result Naming E) : Type 0 where
   pub goes_on : ImagesGoOn v w
+  pub unmade : MakesNone v w
   pub cause : HasCause (v.failures Names) (w.failures Names) answer
   pub answer_is : NameAnswers name w answer
 
@@ -135,4 +145,5 @@ RemoveAnswers v w (Err _) = Rose (v.failures Removes) (w.failures Removes)
 
 pub record Removed {T E : Type 0} (v w : ImagesView) (answer : Result T E) : Type 0 where
   pub goes_on : ImagesGoOn v w
+  pub unmade : MakesNone v w
   pub answer_is : RemoveAnswers v w answer

@@ -41,7 +41,7 @@ pub record Put {T E : Type 0} (from : ℕ) (bytes : List ℕ) (v w : FileView) (
 abbrev pub StoreAnswers : {T : Type 0} → ℕ → List ℕ → FileView → FileView → Result T StoreFault → Type 0
 StoreAnswers from bytes v w (Ok _) = IsClean w × ((s : List ℕ) → v.seen ≡ Some s → (t : List ℕ) × (w.kept ≡ Some t) × Overlaid from bytes s t)
 StoreAnswers from bytes v w (Err fault.Failed) = IsClean w
-StoreAnswers from bytes v w (Err fault.Unsynced) = Unit {0}
+StoreAnswers from bytes v w (Err fault.Unsynced) = w.unsynced
 
 pub record StoredBytes {T : Type 0} (from : ℕ) (bytes : List ℕ) (v w : FileView) (answer : Result T StoreFault) : Type 0 where
   pub answers : FileAnswers v w answer

@@ -2,7 +2,7 @@ ghost use Rattle.std.specs.Prelude.{◌≡◌, IfOk, OnOk, OnErr, None, Some, fa
 ghost use Rattle.lif_model.specs.Causes.{Rose};
 ghost use Rattle.lif_model.specs.Shelf.{Shelf, image_of, image_bytes};
 ghost use Rattle.il_ports.specs.Inserting.{records_made};
-ghost use Rattle.il_ports.specs.NamedImages.{ImagesGoOn, IsOpenedFor, Opens};
+ghost use Rattle.il_ports.specs.NamedImages.{ImagesGoOn, IsOpenedFor, MakesNone, Opens};
 ghost use Rattle.il_ports.specs.FileDrives.{IsFoundFile, FoundFor, UsesAs};
 ghost use Rattle.il_ports.specs.FindingFiles.{Claims, LaidOut, LayingFails, Claimable, WasMade, MakeFails, InsertFails};
 ghost use Rattle.il_ports.specs.Sizes.{records_of_size};
@@ -20,8 +20,9 @@ use crate::tape_file::{Access, TapeFile};
 use std::io::{self, ErrorKind};
 use std::marker::Model;
 
-/// Claims a file that was opened, and returns its length in bytes. If the file may be changed, it first brings to the
-/// disk what an earlier program may have left in the system's memory.
+/// Claims a file that was opened, sets it apart from the standard streams and measures it, in this order. If the file
+/// may be changed, it then waits until the disk has all that an earlier program wrote to the file. It returns the
+/// length in bytes.
 fn take<F: TapeFile>(file: &mut F, access: Access) -> io::Result<u64>
     requires sound { Claimable access (F.view file.old) }
     ensures { Claims access (F.view file.old) (F.view file.new) result }
@@ -37,7 +38,8 @@ fn take<F: TapeFile>(file: &mut F, access: Access) -> io::Result<u64>
     Ok(length)
 }
 
-/// Gives a new file its full size, in zeros, and waits until the disk has the file and its name.
+/// Gives a new file its full size, in zeros. It waits until the disk has the file, and then brings the file's name to
+/// the disk.
 fn lay_out<F: TapeFile, I: Images<F>>(
     images: &mut I,
     file: &mut F,
@@ -46,6 +48,8 @@ fn lay_out<F: TapeFile, I: Images<F>>(
 ) -> io::Result<()>
     requires sound { (F.view file.old).broken ≡ false }
     requires held { (F.view file.old).held Change }
+    requires made { (F.view file.old).made }
+    requires named { (s : Shelf) → (I.view images.old).shelf ≡ Some s → (F.view file.old).named ≡ Some name.now }
     ensures goes_on { ImagesGoOn (I.view images.old) (I.view images.new) }
     ensures did { LaidOut (image_bytes (records_of_size size)) (F.view file.old) (F.view file.new) result }
     ensures named { OnOk result ((how : Naming) × (I.view images.new).settled name.now how) }
@@ -54,7 +58,7 @@ fn lay_out<F: TapeFile, I: Images<F>>(
     file.apart()?;
     file.set_len(size.bytes())?;
     file.settle()?;
-    images.settle_name(name)?;
+    images.settle_name(name, file)?;
     Ok(())
 }
 
@@ -88,6 +92,7 @@ fn open<F: TapeFile, I: Images<F>>(
 ) -> io::Result<(F, Access)>
     requires there { (I.view images.old).was_found name.now look.File }
     ensures goes_on { ImagesGoOn (I.view images.old) (I.view images.new) }
+    ensures unmade { MakesNone (I.view images.old) (I.view images.new) }
     ensures did { IfOk result (λ opened. IsOpenedFor name.now opened.1 (I.view images.new).shelf (F.view opened.0)) }
     ensures used { IfOk result (λ opened. UsesAs access ((I.view images.new).denied name.now) opened.1) }
     ensures fails { OnErr result (Rose ((I.view images.old).failures Opens) ((I.view images.new).failures Opens)) }
@@ -123,7 +128,7 @@ fn find_file<F: TapeFile + Drop, I: Images<F>>(
     requires there { (I.view images.old).was_found name.now look.File }
     ensures goes_on { ImagesGoOn (I.view images.old) (I.view images.new) }
     ensures did { IfOk result (λ found. IsFoundFile F.view name.now new (I.view images.new).shelf found) }
-    ensures used { IfOk result (λ found. FoundFor name.now access (I.view images.new) found) }
+    ensures used { IfOk result (λ found. FoundFor name.now access (I.view images.old) (I.view images.new) found) }
     ensures fails { OnErr result (InsertFails F.view name.now (records_made new) access (I.view images.old) (I.view images.new)) }
 {
     let (mut file, access) = open(images, name, access)?;
@@ -145,7 +150,7 @@ fn make_file<F: TapeFile + Drop, I: Images<F>>(
     requires none { (s : Shelf) → (I.view images.old).shelf ≡ Some s → image_of name.now s ≡ None }
     ensures goes_on { ImagesGoOn (I.view images.old) (I.view images.new) }
     ensures did { IfOk result (λ found. IsFoundFile F.view name.now new (I.view images.new).shelf found) }
-    ensures used { IfOk result (λ found. FoundFor name.now access (I.view images.new) found) }
+    ensures used { IfOk result (λ found. FoundFor name.now access (I.view images.old) (I.view images.new) found) }
     ensures fails { OnErr result (InsertFails F.view name.now (records_made new) access (I.view images.old) (I.view images.new)) }
 {
     let Some(size) = new.size() else {
@@ -166,7 +171,7 @@ fn find<F: TapeFile + Drop, I: Images<F>>(
 ) -> io::Result<Found<F>>
     ensures goes_on { ImagesGoOn (I.view images.old) (I.view images.new) }
     ensures did { IfOk result (λ found. IsFoundFile F.view name.now new (I.view images.new).shelf found) }
-    ensures used { IfOk result (λ found. FoundFor name.now access (I.view images.new) found) }
+    ensures used { IfOk result (λ found. FoundFor name.now access (I.view images.old) (I.view images.new) found) }
     ensures fails { OnErr result (InsertFails F.view name.now (records_made new) access (I.view images.old) (I.view images.new)) }
 {
     match images.look(name)? {
@@ -221,8 +226,8 @@ impl Opening for ToRead {
 /// An insert answers `NoSuch` if the file is missing and `new` is `No`; otherwise it makes a missing file, of 131,072
 /// or of 630,784 zeros. It answers `BadSize` if the file has more bytes than a disc. It is a counted fault if
 /// something that is no file has that name, such as a folder or a device, if another program holds the image, if the
-/// folder of a new image is missing, or if the system gives any other error. But a file that may not be written is
-/// opened only to be read, and then each write to it is a fault.
+/// folder of a new image is missing, or if another call of the images or of the file fails. One error counts as no
+/// fault: if the image may not be changed, it is opened only to be read, and then each write to it is a fault.
 ///
 /// A write is on the disk before it answers Ok. A write past the file's end makes the file longer, up to the end of
 /// the record, with zeros in between. No file grows past the bytes of its tape or disc, or becomes shorter. The drive
@@ -314,7 +319,7 @@ impl<F: TapeFile + Drop, I: Images<F> + Drop, A: Opening> Medium for FileMedium<
         ensures did { DidInsert name.now new (drive_of F.view I.view self.old) (drive_of F.view I.view self.new) result }
         ensures cause { OnErr result (InsertFails F.view name.now (records_made new) A.access (I.view self.old.images) (I.view self.new.images)) }
         ensures file { PutsIn F.view I.view name.now self.old self.new result }
-        ensures used { PutsInFor name.now A.access (I.view self.new.images) self.new.tape result }
+        ensures used { PutsInFor name.now A.access (I.view self.old.images) (I.view self.new.images) self.new.tape result }
     {
         match find(&mut self.images, name, new, self.opening.access()) {
             Ok(Found::Tape(file, size, access)) => {

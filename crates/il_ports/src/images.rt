@@ -23,7 +23,10 @@ pub enum Naming {
 
 /// Named images, of which each is a file. An image that was made counts as one of them once it is inserted in a drive.
 pub trait Images<F: TapeFile> {
+    ghost use Rattle.std.specs.Prelude.{◌≡◌, Some};
     ghost use Rattle.std.specs.IoError.{error_kind};
+    ghost use Rattle.lif_model.specs.Shelf.{Shelf};
+    ghost use Rattle.il_ports.specs.Files.{IsSettledFile};
     ghost use Rattle.il_ports.specs.NamedImages.{ImagesView, Looked, Opened, Created, NameSettled, IsOwn, Removed};
     ghost use Rattle.il_ports.specs.declared.images.Look.TheVariants as look;
 
@@ -44,11 +47,15 @@ pub trait Images<F: TapeFile> {
         requires { (view self.old).was_found name.now look.Missing }
         ensures { Created F.view name.now (view self.old) (view self.new) result };
 
-    /// Waits until the disk has the names of all images in the folder of this one, and says whether it has them.
-    fn settle_name(&mut self, name: &str) -> io::Result<Naming>
+    /// Waits until the disk has the name of this image, if its folder can be synced, and says whether the disk has it.
+    /// The file is settled before this call, so this call brings no name to the disk before the bytes of its file.
+    fn settle_name(&mut self, name: &str, file: &F) -> io::Result<Naming>
+        requires settled { IsSettledFile (F.view file.now) }
+        requires named { (s : Shelf) → (view self.old).shelf ≡ Some s → (F.view file.now).named ≡ Some name.now }
         ensures { NameSettled name.now (view self.old) (view self.new) result };
 
-    /// Closes the image of that name and removes it. A call of `make` made it, and no other program holds it.
+    /// Removes the image of that name, and then closes its file. The lock of the file is held until the name is gone. A
+    /// call of `make` made the image.
     fn remove(&mut self, name: &str, file: F) -> io::Result<()>
         requires { IsOwn name.now (view self.old).shelf (F.view file) }
         ensures { Removed (view self.old) (view self.new) result };

@@ -1,5 +1,6 @@
 ghost use Rattle.std.specs.Prelude.{◌≡◌, ◌*◌, ◌+◌, ◌<◌, ◌≤◌, ◌^◌, ◌++◌, ◌∷◌, [], ℕ, List, length, take, get_or, OnOk, OnErr, IfOk};
 ghost use Rattle.il_ports.specs.Files.{byte_at, Overlaid, Mixed, GrowsTo};
+ghost use Rattle.il_ports.specs.MemoryFiles.{failing_kind};
 
 use crate::tape_file::{Access, TapeFile};
 use std::alloc::{AllocError, Global};
@@ -73,6 +74,18 @@ fn bring(
     replace(alloc, kept, past, next)
 }
 
+/// How the first entry of that call says that it fails.
+pub(crate) fn listed(fails: &[(u64, ErrorKind)], call: u64) -> Option<ErrorKind>
+    ensures { result ≡ failing_kind call fails.now }
+{
+    for fail in fails {
+        if fail.0 == call {
+            return Some(fail.1);
+        }
+    }
+    None
+}
+
 /// A file in memory. Its calls are counted from 1. A listed call fails with the kind that the list gives, by the first
 /// entry of its number: a claim is then refused, a write leaves half of its bytes, and a sync drops what waited for it.
 /// Each read and write moves at most `most` bytes. The file keeps the bytes that were on the disk before each sync.
@@ -93,10 +106,12 @@ pub struct MemoryFile {
 }
 
 impl MemoryFile {
-    ghost use Rattle.std.specs.Prelude.{◌≡◌, ◌<◌, ◌≤◌, length, false, None, Some, IfOk, OnOk, OnErr, get_or};
-    ghost use Rattle.lif_model.specs.Causes.{HasCause, Rose};
+    ghost use Rattle.std.specs.Prelude.{◌≡◌, ◌⊎◌, length, false, None, Some, IfErr, IfOk, OnOk, OnErr};
+    ghost use Rattle.std.specs.IoError.{error_kind};
+    ghost use Rattle.std.specs.declared.io.ErrorKind.TheVariants.{OutOfMemory, FileTooLarge};
+    ghost use Rattle.lif_model.specs.Causes.{HasCause, Rose, next_count};
     ghost use Rattle.il_ports.specs.Files.{IsSettledFile, Mixed, Overlaid};
-    ghost use Rattle.il_ports.specs.MemoryFiles.{memory_view};
+    ghost use Rattle.il_ports.specs.MemoryFiles.{memory_view, FailsAsListed};
 
     /// A file of that name with these bytes, all of them on the disk.
     pub(crate) fn new(
@@ -111,6 +126,11 @@ impl MemoryFile {
         ensures kept { IfOk result (λ f. f.kept.items ≡ bytes.now) }
         ensures past { IfOk result (λ f. f.past.items ≡ []) }
         ensures sound { IfOk result (λ f. f.is_broken ≡ false) }
+        ensures most { IfOk result (λ f. f.most ≡ most) }
+        ensures fails { IfOk result (λ f. f.fails ≡ fails) }
+        ensures calls { IfOk result (λ f. f.calls ≡ 0) }
+        ensures failures { IfOk result (λ f. f.failures ≡ 0) }
+        ensures held { IfOk result (λ f. f.held ≡ None) }
     {
         Ok(MemoryFile {
             alloc,
@@ -134,7 +154,7 @@ impl MemoryFile {
         &self.kept
     }
 
-    /// What was on the disk before each sync since the file was opened, oldest first.
+    /// What was on the disk before each successful sync, oldest first. A successful settle empties this list.
     pub fn past(&self) -> &[Vec<u8>]
         ensures { length result.now ≡ (⟦<MemoryFile as TapeFile>⟧.view self.now).moment }
     {
@@ -150,21 +170,19 @@ impl MemoryFile {
 
     /// Counts a call, and says how it fails, if it does.
     fn next_call(&mut self) -> Option<ErrorKind>
-        ensures { self.new ≡ record self.old { calls = self.new.calls } }
+        ensures same { self.new ≡ record self.old { calls = self.new.calls } }
+        ensures counts { self.new.calls ≡ next_count self.old.calls }
+        ensures listed { result ≡ failing_kind (next_count self.old.calls) self.old.fails.items }
     {
         self.calls = self.calls.saturating_add(1);
-        for fail in &self.fails {
-            if fail.0 == self.calls {
-                return Some(fail.1);
-            }
-        }
-        None
+        listed(&self.fails, self.calls)
     }
 
     /// Counts a failure.
     fn failed(&mut self, kind: ErrorKind) -> io::Error
         ensures rose { Rose self.old.failures self.new.failures }
         ensures same { self.new ≡ record self.old { failures = self.new.failures } }
+        ensures kind { error_kind result ≡ kind }
     {
         self.failures = self.failures.saturating_add(1);
         kind.into()
@@ -174,6 +192,8 @@ impl MemoryFile {
     fn ask(&mut self) -> io::Result<()>
         ensures cause { HasCause self.old.failures self.new.failures result }
         ensures same { self.new ≡ record self.old { calls = self.new.calls; failures = self.new.failures } }
+        ensures counts { self.new.calls ≡ next_count self.old.calls }
+        ensures listed { FailsAsListed error_kind self.old.calls self.old.fails.items result }
     {
         match self.next_call() {
             None => Ok(()),
@@ -186,6 +206,7 @@ impl MemoryFile {
         ensures same { self.new ≡ record self.old { seen = self.new.seen } }
         ensures ok { OnOk result (Overlaid from bytes.now self.old.seen.items self.new.seen.items) }
         ensures err { OnErr result (Mixed from (length bytes.now) self.old.seen.items self.new.seen.items) }
+        ensures kind { IfErr result (λ kind. (kind ≡ OutOfMemory) ⊎ (kind ≡ FileTooLarge)) }
     {
         if from >= MOST_BYTES || bytes.len() as u64 >= MOST_BYTES {
             return Err(ErrorKind::FileTooLarge);
@@ -198,14 +219,23 @@ impl MemoryFile {
 }
 
 impl TapeFile for MemoryFile {
-    ghost use Rattle.std.specs.Prelude.{◌≡◌};
+    ghost use Rattle.std.specs.Prelude.{◌≡◌, is_none};
+    ghost use Rattle.il_ports.specs.Files.{SetApart, Claimed, Measured, Resized};
+    ghost use Rattle.std.specs.IoError.{error_kind};
+    ghost use Rattle.lif_model.specs.Causes.{next_count};
     ghost use Rattle.il_ports.specs.MemoryFiles.{memory_view, memory_is_file};
+    ghost use Rattle.il_ports.specs.MemoryFiles.{failing_kind, FailsAsListed, FailsIfListed};
 
     ghost view = { λ f. memory_view f.name.items f.seen.items f.kept.items f.held f.is_broken f.failures f.past.items };
 
     ghost is_file = { λ f. memory_is_file f.name.items f.seen.items f.kept.items f.held f.is_broken f.failures f.past.items };
 
-    fn claim(&mut self, access: Access) -> bool {
+    fn claim(&mut self, access: Access) -> bool
+        ensures did { Claimed access
+            (⟦<MemoryFile as TapeFile>⟧.view self.old) (⟦<MemoryFile as TapeFile>⟧.view self.new) result }
+        ensures listed { result ≡ is_none (failing_kind (next_count self.old.calls) self.old.fails.items) }
+        ensures counts { self.new.calls ≡ next_count self.old.calls }
+    {
         let granted = self.next_call().is_none();
         if granted {
             self.held = Some(access);
@@ -213,11 +243,21 @@ impl TapeFile for MemoryFile {
         granted
     }
 
-    fn apart(&mut self) -> io::Result<()> {
+    fn apart(&mut self) -> io::Result<()>
+        ensures did { SetApart
+            (⟦<MemoryFile as TapeFile>⟧.view self.old) (⟦<MemoryFile as TapeFile>⟧.view self.new) result }
+        ensures listed { FailsAsListed error_kind self.old.calls self.old.fails.items result }
+        ensures counts { self.new.calls ≡ next_count self.old.calls }
+    {
         self.ask()
     }
 
-    fn len(&mut self) -> io::Result<u64> {
+    fn len(&mut self) -> io::Result<u64>
+        ensures did { Measured
+            (⟦<MemoryFile as TapeFile>⟧.view self.old) (⟦<MemoryFile as TapeFile>⟧.view self.new) result }
+        ensures listed { FailsAsListed error_kind self.old.calls self.old.fails.items result }
+        ensures counts { self.new.calls ≡ next_count self.old.calls }
+    {
         self.ask()?;
         Ok(self.seen.len() as u64)
     }
@@ -246,7 +286,12 @@ impl TapeFile for MemoryFile {
         }
     }
 
-    fn set_len(&mut self, size: u64) -> io::Result<()> {
+    fn set_len(&mut self, size: u64) -> io::Result<()>
+        ensures did { Resized size
+            (⟦<MemoryFile as TapeFile>⟧.view self.old) (⟦<MemoryFile as TapeFile>⟧.view self.new) result }
+        ensures listed { FailsIfListed error_kind self.old.calls self.old.fails.items result }
+        ensures counts { self.new.calls ≡ next_count self.old.calls }
+    {
         self.ask()?;
         if size >= MOST_BYTES {
             return Err(self.failed(ErrorKind::FileTooLarge));

@@ -9,9 +9,10 @@ pub enum Access {
     Read,
 }
 
-/// A file of bytes, which reads as zeros from its end on. What was written is on the disk after a sync, and not before.
-/// After a failed sync nothing more may be asked of the file: what it reads as may never reach the disk. If the system
-/// brings bytes to the disk between two calls, that counts as part of the earlier call.
+/// A file of bytes, which reads as zeros from its end on. After a successful sync the disk has all that was written.
+/// Until then the disk may have any part of it. After a failed sync nothing more may be asked of the file: what it
+/// reads as may never reach the disk. If the system brings bytes to the disk between two calls, that counts as part of
+/// the earlier call.
 pub trait TapeFile {
     ghost use Rattle.std.specs.Prelude.{◌≡◌, ◌<◌, false, length};
     ghost use Rattle.il_ports.specs.Files.{FileView, IsFile, HasLock, IsClean, SetApart, Claimed, Measured, Gave, TookBytes, Resized, Synced, Settled};
@@ -20,8 +21,8 @@ pub trait TapeFile {
     ghost view: { Self → FileView };
 
     /// Asks for the lock of the file, which lasts until the file is closed: a lock to change it, which nobody shares,
-    /// or one to read it, which others who read share. Says whether it was granted. A file system without locks grants
-    /// it.
+    /// or one to read it, which others who read share. Says whether it was granted. It is refused if another program
+    /// holds a lock that bars it. If the system cannot lock this file, the lock counts as granted.
     fn claim(&mut self, access: Access) -> bool
         requires opened { (view self.old).opened access }
         ensures { Claimed access (view self.old) (view self.new) result };
@@ -52,8 +53,9 @@ pub trait TapeFile {
         requires sound { (view self.old).broken ≡ false }
         ensures { TookBytes from bytes.now (view self.old) (view self.new) result };
 
-    /// Gives the file `size` bytes. New bytes are zeros.
+    /// Gives the file, which a call of `make` made, `size` bytes. New bytes are zeros.
     fn set_len(&mut self, size: u64) -> io::Result<()>
+        requires made { (view self.old).made }
         requires apart { (view self.old).apart }
         requires held { (view self.old).held Change }
         requires sound { (view self.old).broken ≡ false }

@@ -14,6 +14,7 @@ hidden_file = record {
   apart = Unit {0};
   held = λ access. Unit {0};
   refused = Unit {0};
+  unsynced = Unit {0};
   broken = false;
   failures = 2 ^ 64 - 1;
   moment = 0;
@@ -31,4 +32,5 @@ hidden_images = record {
   settled = λ name how. Unit {0};
   failures = λ call. 2 ^ 64 - 1;
   removals = 2 ^ 64 - 1;
+  makes = 2 ^ 64 - 1;
 }

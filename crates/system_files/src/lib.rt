@@ -143,7 +143,7 @@ impl<R: Files<File = File> + Drop> Images<SystemFile> for SystemImages<R> {
         Ok(SystemFile { file })
     }
 
-    fn settle_name(&mut self, name: &str) -> io::Result<Naming> {
+    fn settle_name(&mut self, name: &str, _: &SystemFile) -> io::Result<Naming> {
         match File::open(&self.files, folder_of(name)) {
             Ok(folder) => Ok(if sync_if_it_can(folder.sync_all())? {
                 Naming::OnDisk

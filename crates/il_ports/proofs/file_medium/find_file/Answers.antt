@@ -13,4 +13,4 @@ returns-in-None-clause-did g c =
     too_large g.F.TapeFile.view c.args.name.now c.args.new (g.I.Images.view c.open.new.images).shelf c.in_ok-file.file c.take.new.file c.in_ok-file.access c.in_ok-length.length c.in_ok-file.ensures.did.bears c.in_ok-length.ensures c.in-None.ensures
 
 pub returns-in_err-length-clause-fails : goal.returns-in_err-length-clause-fails
-returns-in_err-length-clause-fails g c = fails_by _ (NotTaken (search rules) c.in_ok-file.access c.in_ok-file.file c.take.new.file c.in_ok-file.ensures.did c.in_err-length.ensures)
+returns-in_err-length-clause-fails g c = fails_by _ (NotTaken c.open.ensures.unmade (search rules) c.in_ok-file.access c.in_ok-file.file c.take.new.file c.in_ok-file.ensures.did c.in_err-length.ensures.0 c.in_err-length.ensures.1 c.in_err-length.ensures.2)

@@ -9,4 +9,4 @@ returns-then-not-claim-clause-fails g c = HeldByAnother c.claim.new.self (c.clai
 pub returns-in-Err-clause-fails : goal.returns-in-Err-clause-fails
 returns-in-Err-clause-fails g c =
     not_laid_out g.F.TapeFile.view (g.I.Images.view c.args.images.now) (g.I.Images.view c.make.new.self) (g.I.Images.view c.lay_out.new.images) (g.I.Images.view c.remove.new.self) c.claim.new.self c.lay_out.new.file _
-    c.make.ensures.goes_on (search rules) (c.claim.ensures.itself.made c.in_ok-file.ensures.answer_is.made) c.in-Err.ensures.fails c.remove.ensures
+    c.make.ensures.goes_on (search rules) (c.claim.ensures.itself.made c.in_ok-file.ensures.answer_is.made) c.in-Err.ensures.did c.in-Err.ensures.fails c.remove.ensures
